@@ -1,0 +1,73 @@
+-- The answer's words and what solving a question comes to.
+use Prim.Native.Nat.{ℕ, zero, suc, _+_, _-_}
+use mathlib.Core.Bool.{Bool, true, false}
+use mathlib.Core.List.{List, [], _∷_, _++_, map}
+use lib.Dec.{ltb}
+use lib.ListN.{length}
+use Rattle.language.specs.declared.Refusal.{Refusal}
+use Rattle.language.specs.declared.Refusal.the-variants.{ShortSlice}
+use Rattle.language.specs.Limits.{Limits}
+use Rattle.language.specs.Kinds.{pick}
+use Rattle.language.specs.Trees.{Conj, Question}
+use Rattle.language.specs.Writing.{conjWords}
+use Rattle.language.specs.Question.{Asked, asks, refuses, readQuestion}
+use Rattle.meaning.specs.Values.{times, offsetsOf, joined}
+use Rattle.rules.specs.Solved.{solved}
+use Rattle.rules.specs.Run.{linesAt, Outcome, finished, refused, run}
+
+-- "a mark (1 solved, 2 open)"
+abbrev pub markOf : Conj → ℕ
+markOf k = pick (solved k) 1 2
+
+abbrev pub lineWords : Conj → List ℕ
+lineWords k = markOf k ∷ conjWords k
+
+abbrev pub countOpen : List Conj → ℕ
+countOpen [] = 0
+countOpen (k ∷ ks) = pick (solved k) (countOpen ks) (suc (countOpen ks))
+
+-- zeros up to n words
+abbrev pub padded : ℕ → List ℕ → List ℕ
+padded n ws = ws ++ times (n - length ws) 0
+
+-- "Word 0: lines; word 1: open lines; words 2..514: the offset of each line and the end of the last, then zeros; from 515 the lines ..; then zeros"
+unfoldable pub answerWords : Limits → List Conj → List ℕ
+answerWords L ls =
+    let ws = map lineWords ls in
+    padded (L .room) (padded (linesAt L) (length ls ∷ countOpen ls ∷ offsetsOf (linesAt L) ws) ++ joined ws)
+
+unfoldable pub zeros : Limits → List ℕ
+zeros L = times (L .room) 0
+
+-- ---- solving
+
+-- "none, all solved, some open"
+pub data Verdict : Type 0 where
+  noLine allSolved someOpen : Verdict
+
+abbrev pub verdictOf : List Conj → Verdict
+verdictOf [] = noLine
+verdictOf (k ∷ ks) = pick (ltb 0 (countOpen (k ∷ ks))) someOpen allSolved
+
+-- the lines and the steps of an answered question; a refusal before the run, which changes nothing; a refusal of the run, which leaves zeros
+pub data Solving : Type 0 where
+  answered : List Conj → ℕ → Solving
+  unread : Refusal → Solving
+  given-up : Refusal → Solving
+
+abbrev pub ran : Outcome → Solving
+ran (finished ls n) = answered ls n
+ran (refused r) = given-up r
+
+abbrev pub solvingOf : Limits → Asked → Solving
+solvingOf L (asks q) = ran (run L (q .alternatives))
+solvingOf L (refuses r) = unread r
+
+-- for a work and an answer slice of so many words: 1 before 2 to 10
+unfoldable pub solving : Limits → ℕ → ℕ → List ℕ → Solving
+solving L work answer ws =
+    elim (ltb work (L .room)) [
+      | true ↦ unread ShortSlice
+      | false ↦
+          elim (ltb answer (L .room)) [ true ↦ unread ShortSlice | false ↦ solvingOf L (readQuestion L ws) ]
+    ]

@@ -1,0 +1,75 @@
+-- The run with its limits: what becomes of the waiting conjunctions, which of 7 to 10 is given and when, and the count of steps.
+use Prim.Native.Nat.{ℕ, zero, suc, _+_}
+use mathlib.Core.Bool.{Bool, true, false, _&&_, _||_}
+use mathlib.Core.List.{List, [], _∷_, _++_}
+use mathlib.Core.Option.{Option, none, some}
+use lib.Dec.{leb, ltb}
+use lib.ListN.{length}
+use Rattle.language.specs.declared.Refusal.{Refusal}
+use Rattle.language.specs.declared.Refusal.the-variants.{LongResult, LongWaiting, LineRoom, StepLimit}
+use Rattle.language.specs.Limits.{Limits}
+use Rattle.language.specs.Trees.{Conj}
+use Rattle.language.specs.Writing.{conjWords}
+use Rattle.rules.specs.Step.{step}
+
+-- ---- lengths in words
+
+abbrev pub size : Conj → ℕ
+size k = length (conjWords k)
+
+-- "7: a step's result passes 1,024 words"
+abbrev pub anyLong : Limits → List Conj → Bool
+anyLong L [] = false
+anyLong L (k ∷ ks) = ltb (L .question) (size k) || anyLong L ks
+
+-- "lengths of waiting conjunctions, plus one for each"
+abbrev pub waitingSize : List Conj → ℕ
+waitingSize [] = 0
+waitingSize (k ∷ ks) = suc (size k) + waitingSize ks
+
+-- where the lines begin: behind two counts, an offset for each line that can be and the end of the last
+abbrev pub linesAt : Limits → ℕ
+linesAt L = L .lines + 3
+
+-- the words of lines, a mark each
+abbrev pub linesSize : List Conj → ℕ
+linesSize [] = 0
+linesSize (k ∷ ks) = suc (size k) + linesSize ks
+
+-- no line too many, and none past the answer's end
+abbrev pub linesFit : Limits → List Conj → Bool
+linesFit L ks = leb (length ks) (L .lines) && leb (linesAt L + linesSize ks) (L .room)
+
+-- ---- the run
+
+-- the lines and the steps made, or the refusal
+pub data Outcome : Type 0 where
+  finished : List Conj → ℕ → Outcome
+  refused : Refusal → Outcome
+
+-- a step whose results are ks, so that w waits: 7, 8, or the run goes on
+abbrev pub checked : Limits → List Conj → List Conj → (List Conj → Outcome) → Outcome
+checked L ks w go =
+    elim (anyLong L ks) [
+      | true ↦ refused LongResult
+      | false ↦
+          elim (ltb (L .room) (waitingSize w)) [ true ↦ refused LongWaiting | false ↦ go w ]
+    ]
+
+-- a line more: 9, or the run goes on
+abbrev pub lined : Limits → List Conj → (List Conj → Outcome) → Outcome
+lined L ls go = elim (linesFit L ls) [ true ↦ go ls | false ↦ refused LineRoom ]
+
+-- The first waiting conjunction, and what `go` makes of the lines and the waiting ones after a step. "If no rule applies, the conjunction
+-- becomes the next line; that is no step." "Results stand in the place of the conjunction, in order."
+abbrev pub turn : Limits → (List Conj → List Conj → List Conj → Outcome) → ℕ → List Conj → List Conj → Outcome
+turn L go n ls [] = finished ls n
+turn L go n ls (k ∷ w) = elim (step k) [ some ks ↦ go ls ks (ks ++ w) | none ↦ lined L (ls ++ (k ∷ [])) (λ ms. turn L go n ms w) ]
+
+-- n steps are made and d may still be: "10,000 steps made and a rule still applies" is 10. In a step: 10, 7, 8.
+unfoldable pub runFrom : Limits → ℕ → ℕ → List Conj → List Conj → Outcome
+runFrom L zero n ls w = turn L (λ _ _ _. refused StepLimit) n ls w
+runFrom L (suc d) n ls w = turn L (λ ms ks v. checked L ks v (runFrom L d (suc n) ms)) n ls w
+
+unfoldable pub run : Limits → List Conj → Outcome
+run L w = runFrom L (L .steps) 0 [] w
