@@ -3,5 +3,6 @@ pub mod Kinds
 pub mod Numbers
 pub mod Trees
 pub mod Writing
+pub mod Fine
 pub mod Reading
 pub mod Question

@@ -1,0 +1,5 @@
+pub mod Looks
+pub mod Views
+pub mod Results
+pub mod Sizes
+pub mod Ranks

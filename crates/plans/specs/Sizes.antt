@@ -1,0 +1,45 @@
+-- Results in a row, each with its length before it, and how long they are together.
+use Prim.Native.Nat.{ℕ, _+_, _≤_}
+use mathlib.Core.List.{List, [], _∷_, _++_, map}
+use lib.Dec.{leb}
+use lib.ListN.{length}
+use Rattle.language.specs.Limits.{desk}
+use Rattle.language.specs.Kinds.{pick}
+use Rattle.language.specs.Trees.{Hedge, Expr, Conj}
+use Rattle.language.specs.Writing.{conjWords}
+use Rattle.rules.specs.Rules.{Branch, monomialResult}
+use Rattle.rules.specs.Expressions.{linear}
+use Rattle.rules.specs.Step.{place}
+use Rattle.plans.specs.Looks.{head, tail}
+use Rattle.plans.specs.declared.Size.{Size}
+use Rattle.plans.specs.declared.Size.the-variants.{Fits, Over}
+
+-- each with its length before it
+abbrev pub framed : List (List ℕ) → List ℕ
+framed [] = []
+framed (w ∷ ws) = (length w ∷ w) ++ framed ws
+
+-- none passes the limit of a conjunction
+abbrev pub Short : List (List ℕ) → Type 0
+Short [] = Unit {0}
+Short (w ∷ ws) = (length w ≤ desk .question) × Short ws
+
+-- one more of l words; past a slice's room there is no need to count on
+abbrev pub grown : ℕ → ℕ → ℕ
+grown n l = pick (leb n (desk .room)) (n + 1 + l) n
+
+-- n words and those of the results
+abbrev pub sizedFrom : ℕ → List (List ℕ) → Size
+sizedFrom n [] = Fits n
+sizedFrom n (w ∷ ws) = pick (leb (length w) (desk .question)) (sizedFrom (grown n (length w)) ws) Over
+
+unfoldable pub sized : List (List ℕ) → Size
+sized ws = sizedFrom 0 ws
+
+-- the words of a rule's results, in place
+unfoldable pub placedWords : Conj → Conj → List Branch → List (List ℕ)
+placedWords before behind bs = map (λ b. conjWords (place before behind b)) bs
+
+-- the words of M2's results: one for each monomial of R
+unfoldable pub monomialWords : Conj → Hedge → Expr → Conj → List (List ℕ)
+monomialWords before h R behind = placedWords before behind (map (monomialResult (head h) (tail h)) (linear R))
