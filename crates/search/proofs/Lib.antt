@@ -1,0 +1,3 @@
+pub mod Ranks
+pub mod First
+pub mod Pass

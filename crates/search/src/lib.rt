@@ -1,0 +1,1 @@
+// The search for the first rule that applies to a conjunction.
