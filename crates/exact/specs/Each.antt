@@ -1,0 +1,7 @@
+-- Each of a list.
+use mathlib.Core.List.{List, [], _∷_}
+
+-- each of a list is as P says
+abbrev pub Each : {A : Type 0} → (A → Type 0) → List A → Type 0
+Each P [] = Unit {0}
+Each P (x ∷ xs) = P x × Each P xs
