@@ -1,2 +1,13 @@
 pub mod Each
 pub mod Invariant
+pub mod Tests
+pub mod Names
+pub mod Complete
+pub mod Fillings
+pub mod Sizes
+pub mod Answers
+pub mod Looks
+pub mod Cuts
+pub mod Expressions
+pub mod Equations
+pub mod Memberships
