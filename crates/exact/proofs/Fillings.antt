@@ -1,6 +1,6 @@
 -- Laws of fillings: a hedge with a substitution put in, where the substitution changes nothing under the filling.
 use mathlib.Core.Path.{_≡_, refl, sym, ap}
-use mathlib.Core.Logic.{_⊎_, inl, inr, _↔_}
+use mathlib.Core.Logic.{_⊎_, inl, inr, _↔_, Iff·trans}
 use mathlib.Core.List.{List, [], _∷_, _++_}
 use lib.Dec.{T}
 use Rattle.language.specs.declared.TermVar.{TermVar}
@@ -10,6 +10,8 @@ use Rattle.language.specs.Trees.{Functor, symbol, fvar, Hedge, ε, tvar, hvar, 
 use Rattle.meaning.specs.Complete.{Complete, nil, tree, _·_}
 use Rattle.meaning.specs.Meaning.{Filling, fillF, fill, Meets, MeetsAll, MeetsOne}
 use Rattle.rules.specs.Substitution.{Subst, setT, setH, setF, putF, put, putL, putC}
+use Rattle.exact.specs.Each.{Some}
+use Rattle.exact.proofs.Each.{some-++}
 use Rattle.exact.proofs.Tests.{picks}
 use Rattle.exact.proofs.Names.{eqT-is, eqH-is, eqX-is}
 use Rattle.exact.proofs.Complete.{·-nil, ·-assoc}
@@ -75,8 +77,13 @@ all-++ ρ [] d = (λ m. (tt, m), λ m. m .1)
 all-++ ρ (l ∷ c) d =
     (λ m. ((m .0, all-++ ρ c d .0 (m .1) .0), all-++ ρ c d .0 (m .1) .1), λ m. (m .0 .0, all-++ ρ c d .1 (m .0 .1, m .1)))
 
+pub one-some : (ρ : Filling) (ks : List Conj) → MeetsOne ρ ks ↔ Some (MeetsAll ρ) ks
+one-some ρ [] = (λ z. z, λ z. z)
+one-some ρ (k ∷ ks) =
+    (λ o. elim o [ inl m ↦ inl m | inr s ↦ inr (one-some ρ ks .0 s) ], λ o. elim o [ inl m ↦ inl m | inr s ↦ inr (one-some ρ ks .1 s) ])
+
 pub one-++ : (ρ : Filling) (c d : List Conj) → MeetsOne ρ (c ++ d) ↔ (MeetsOne ρ c ⊎ MeetsOne ρ d)
-one-++ ρ [] d = (λ m. inr m, λ o. elim o [ inl z ↦ absurd z | inr m ↦ m ])
-one-++ ρ (k ∷ c) d =
-    (λ o. elim o [ inl x ↦ inl (inl x) | inr x ↦ elim (one-++ ρ c d .0 x) [ inl y ↦ inl (inr y) | inr y ↦ inr y ] ],
-    λ o. elim o [ inl x ↦ elim x [ inl y ↦ inl y | inr y ↦ inr (one-++ ρ c d .1 (inl y)) ] | inr y ↦ inr (one-++ ρ c d .1 (inr y)) ])
+one-++ ρ c d =
+    Iff·trans (one-some ρ (c ++ d))
+    (Iff·trans (some-++ (MeetsAll ρ) c d)
+    (λ o. elim o [ inl s ↦ inl (one-some ρ c .1 s) | inr s ↦ inr (one-some ρ d .1 s) ], λ o. elim o [ inl s ↦ inl (one-some ρ c .0 s) | inr s ↦ inr (one-some ρ d .0 s) ]))

@@ -11,3 +11,5 @@ pub mod Cuts
 pub mod Expressions
 pub mod Equations
 pub mod Memberships
+pub mod Steps
+pub mod Places
