@@ -13,3 +13,4 @@ pub mod Equations
 pub mod Memberships
 pub mod Steps
 pub mod Places
+pub mod Run
