@@ -85,6 +85,8 @@ becomes h = exactly (λ ρ. only (h ρ)) (tt, tt)
 pub becomes-either : {l : Literal} {j k : Conj} → ((ρ : Filling) → Meets ρ l ↔ (MeetsAll ρ j ⊎ MeetsAll ρ k)) → ExactAnswer l (rules.either j k)
 becomes-either h =
     exactly
-    (λ ρ. (λ m. elim (h ρ .0 m) [ inl x ↦ inl x | inr y ↦ inr (inl y) ],
-    λ o. elim o [ inl x ↦ h ρ .1 (inl x) | inr y ↦ elim y [ inl z ↦ h ρ .1 (inr z) | inr z ↦ absurd z ] ]))
+    (λ ρ. (
+      λ m. elim (h ρ .0 m) [ inl x ↦ inl x | inr y ↦ inr (inl y) ],
+      λ o. elim o [ inl x ↦ h ρ .1 (inl x) | inr y ↦ elim y [ inl z ↦ h ρ .1 (inr z) | inr z ↦ absurd z ] ],
+    ))
     (tt, (tt, tt))

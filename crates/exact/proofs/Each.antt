@@ -33,9 +33,10 @@ module _ {A : Type 0} where
 
   pub some-++ : (P : A → Type 0) (xs ys : List A) → Some P (xs ++ ys) ↔ (Some P xs ⊎ Some P ys)
   some-++ P [] ys = (λ s. inr s, λ o. elim o [ inl z ↦ absurd z | inr s ↦ s ])
-  some-++ P (x ∷ xs) ys =
-      (λ o. elim o [ inl p ↦ inl (inl p) | inr s ↦ elim (some-++ P xs ys .0 s) [ inl t ↦ inl (inr t) | inr t ↦ inr t ] ],
-      λ o. elim o [ inl s ↦ elim s [ inl p ↦ inl p | inr t ↦ inr (some-++ P xs ys .1 (inl t)) ] | inr t ↦ inr (some-++ P xs ys .1 (inr t)) ])
+  some-++ P (x ∷ xs) ys = (
+    λ o. elim o [ inl p ↦ inl (inl p) | inr s ↦ elim (some-++ P xs ys .0 s) [ inl t ↦ inl (inr t) | inr t ↦ inr t ] ],
+    λ o. elim o [ inl s ↦ elim s [ inl p ↦ inl p | inr t ↦ inr (some-++ P xs ys .1 (inl t)) ] | inr t ↦ inr (some-++ P xs ys .1 (inr t)) ],
+  )
 
   pub some-map : {B : Type 0} (P : B → Type 0) (f : A → B) (xs : List A) → Some P (map f xs) ↔ Some (λ x. P (f x)) xs
   some-map P f [] = (λ z. z, λ z. z)
@@ -51,9 +52,10 @@ module _ {A : Type 0} where
   -- where each is P exactly when it is Q
   pub some-same : (P Q : A → Type 0) (xs : List A) → Each (λ x. P x ↔ Q x) xs → Some P xs ↔ Some Q xs
   some-same P Q [] e = (λ z. z, λ z. z)
-  some-same P Q (x ∷ xs) e =
-      (λ o. elim o [ inl p ↦ inl (e .0 .0 p) | inr s ↦ inr (some-same P Q xs (e .1) .0 s) ],
-      λ o. elim o [ inl p ↦ inl (e .0 .1 p) | inr s ↦ inr (some-same P Q xs (e .1) .1 s) ])
+  some-same P Q (x ∷ xs) e = (
+    λ o. elim o [ inl p ↦ inl (e .0 .0 p) | inr s ↦ inr (some-same P Q xs (e .1) .0 s) ],
+    λ o. elim o [ inl p ↦ inl (e .0 .1 p) | inr s ↦ inr (some-same P Q xs (e .1) .1 s) ],
+  )
 
   pub some-iff : (P Q : A → Type 0) → ((x : A) → P x ↔ Q x) → (xs : List A) → Some P xs ↔ Some Q xs
   some-iff P Q h xs = some-same P Q xs (each-all (λ x. P x ↔ Q x) h xs)

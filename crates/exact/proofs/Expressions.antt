@@ -22,14 +22,16 @@ use Rattle.exact.proofs.Looks.{isEps-is}
 -- The test says that ε is a member exactly where it is.
 pub nullable-exact : (R : Expr) → T (nullable R) ↔ Member R nil
 nullable-exact eps = (λ t. refl, λ m. tt)
-nullable-exact (cat a b) =
-    (λ t. let (s, u) = and-parts (nullable a) (nullable b) t in (nil, nil, refl, nullable-exact a .0 s, nullable-exact b .0 u),
-    λ m.
+nullable-exact (cat a b) = (
+  λ t. let (s, u) = and-parts (nullable a) (nullable b) t in (nil, nil, refl, nullable-exact a .0 s, nullable-exact b .0 u),
+  λ m.
       let (e, d) = nil-parts (m .0) (m .1) (m .2) in
-      and-both (nullable a) (nullable b) (nullable-exact a .1 (rw e at (m .3))) (nullable-exact b .1 (rw d at (m .4))))
-nullable-exact (alt a b) =
-    (λ t. elim (or-cases (nullable a) (nullable b) t) [ inl s ↦ inl (nullable-exact a .0 s) | inr s ↦ inr (nullable-exact b .0 s) ],
-    λ m. elim m [ inl s ↦ or-left (nullable a) (nullable b) (nullable-exact a .1 s) | inr s ↦ or-right (nullable a) (nullable b) (nullable-exact b .1 s) ])
+      and-both (nullable a) (nullable b) (nullable-exact a .1 (rw e at (m .3))) (nullable-exact b .1 (rw d at (m .4))),
+)
+nullable-exact (alt a b) = (
+  λ t. elim (or-cases (nullable a) (nullable b) t) [ inl s ↦ inl (nullable-exact a .0 s) | inr s ↦ inr (nullable-exact b .0 s) ],
+  λ m. elim m [ inl s ↦ or-left (nullable a) (nullable b) (nullable-exact a .1 s) | inr s ↦ or-right (nullable a) (nullable b) (nullable-exact b .1 s) ],
+)
 nullable-exact (star a) = (λ t. stop refl, λ m. tt)
 nullable-exact (over f a) = (λ t. absurd t, λ m. nil≢tree (m .1))
 
@@ -47,15 +49,16 @@ Parts f c g l R = (u : Complete) × (v : Complete) × (g ≡ u · v) × Some (Ta
 
 parts-joined : (f : Sym) (c g : Complete) (R : Expr) (l : List Monomial) → Some (λ m. Takes f c g (joined R m)) l ↔ Parts f c g l R
 parts-joined f c g R [] = (λ z. absurd z, λ p. p .3)
-parts-joined f c g R (m ∷ l) =
-    (λ o. elim o [
-      | inl t ↦ let (u, v, e, a, b) = rest-joins (m .rest) R g .0 (t .2) in (u, v, e, inl (t .0, t .1, a), b)
-      | inr s ↦ let (u, v, e, a, b) = parts-joined f c g R l .0 s in (u, v, e, inr a, b)
-    ],
-    λ p. elim (p .3) [
-      | inl t ↦ inl (t .0, t .1, rest-joins (m .rest) R g .1 (p .0, p .1, p .2, t .2, p .4))
-      | inr s ↦ inr (parts-joined f c g R l .1 (p .0, p .1, p .2, s, p .4))
-    ])
+parts-joined f c g R (m ∷ l) = (
+  λ o. elim o [
+    | inl t ↦ let (u, v, e, a, b) = rest-joins (m .rest) R g .0 (t .2) in (u, v, e, inl (t .0, t .1, a), b)
+    | inr s ↦ let (u, v, e, a, b) = parts-joined f c g R l .0 s in (u, v, e, inr a, b)
+  ],
+  λ p. elim (p .3) [
+    | inl t ↦ inl (t .0, t .1, rest-joins (m .rest) R g .1 (p .0, p .1, p .2, t .2, p .4))
+    | inr s ↦ inr (parts-joined f c g R l .1 (p .0, p .1, p .2, s, p .4))
+  ],
+)
 
 -- l ⊙ R
 pub takes-⊙ : (f : Sym) (c g : Complete) (l : List Monomial) (R : Expr) → Some (Takes f c g) (l ⊙ R) ↔ Parts f c g l R
@@ -109,12 +112,14 @@ pub linear-exact : (R : Expr) (f : Sym) (c g : Complete) → Member R (tree f c 
 linear-exact eps f c g = (λ e. nil≢tree (sym e), λ z. absurd z)
 linear-exact (cat a b) f c g = linear-cat a b (linear-exact a) (linear-exact b) f c g
 linear-exact (alt a b) f c g =
-    Iff·trans
-    (λ m. elim m [ inl x ↦ inl (linear-exact a f c g .0 x) | inr x ↦ inr (linear-exact b f c g .0 x) ],
-    λ o. elim o [ inl x ↦ inl (linear-exact a f c g .1 x) | inr x ↦ inr (linear-exact b f c g .1 x) ])
+    Iff·trans (
+      λ m. elim m [ inl x ↦ inl (linear-exact a f c g .0 x) | inr x ↦ inr (linear-exact b f c g .0 x) ],
+      λ o. elim o [ inl x ↦ inl (linear-exact a f c g .1 x) | inr x ↦ inr (linear-exact b f c g .1 x) ],
+    )
     (Iff·symm (some-++ (Takes f c g) (linear a) (linear b)))
-linear-exact (star a) f c g =
-    (λ m. let (u, v, e, p, k) = many-first f c g m refl in takes-⊙ f c g (linear a) (star a) .1 (u, v, e, linear-exact a f c u .0 p, k),
-    λ o. let (u, v, e, y, m) = takes-⊙ f c g (linear a) (star a) .0 o in more (ap (tree f c) e) (linear-exact a f c u .1 y) m)
+linear-exact (star a) f c g = (
+  λ m. let (u, v, e, p, k) = many-first f c g m refl in takes-⊙ f c g (linear a) (star a) .1 (u, v, e, linear-exact a f c u .0 p, k),
+  λ o. let (u, v, e, y, m) = takes-⊙ f c g (linear a) (star a) .0 o in more (ap (tree f c) e) (linear-exact a f c u .1 y) m,
+)
 linear-exact (over h a) f c g =
     (λ m. let e : m .0 ≡ c = cc in inl (cc, rw e at (m .2), cc), λ o. elim o [ inl x ↦ (c, cc, x .1) | inr z ↦ absurd z ])

@@ -112,12 +112,13 @@ M3-exact K h R =
     look (firstRun h) (firstRun-is h) λ a e.
     test _ λ _ _.
     look (asOver R) (asOver-is R) λ g q.
-    becomes-either {l = mem h R} λ ρ. rw (e, q, ·-nil (ρ .run (a .0)))
-    (λ m. elim (one-tree (ρ .run (a .0)) (fill ρ (a .1)) (g .0) (m .0) (m .1)) [
-      | inl x ↦ inl ((m .0, x .0, m .2), (x .1, tt))
-      | inr x ↦ inr (x .0, ((m .0, x .1, m .2), tt))
-    ],
-    λ o. elim o [ inl x ↦ (x .0 .0, rw (x .0 .1, x .1 .0), x .0 .2) | inr x ↦ (x .1 .0 .0, rw (x .0) (x .1 .0 .1), x .1 .0 .2) ])
+    becomes-either {l = mem h R} λ ρ. rw (e, q, ·-nil (ρ .run (a .0))) (
+      λ m. elim (one-tree (ρ .run (a .0)) (fill ρ (a .1)) (g .0) (m .0) (m .1)) [
+        | inl x ↦ inl ((m .0, x .0, m .2), (x .1, tt))
+        | inr x ↦ inr (x .0, ((m .0, x .1, m .2), tt))
+      ],
+      λ o. elim o [ inl x ↦ (x .0 .0, rw (x .0 .1, x .1 .0), x .0 .2) | inr x ↦ (x .1 .0 .0, rw (x .0) (x .1 .0 .1), x .1 .0 .2) ],
+    )
 
 pub M4-exact : ExactMem rules.M4
 M4-exact K h R =
@@ -130,12 +131,13 @@ pub M5-exact : ExactMem rules.M5
 M5-exact K h R =
     look (loneTerm h) (loneTerm-is h) λ t p.
     look (asCat R) (asCat-is R) λ S q.
-    becomes-either {l = mem h R} λ ρ. let (f, c, e) = p .1 ρ in rw (p .0, q, e)
-    (λ m. elim (one-tree (m .0) (m .1) f c (sym (m .2))) [
-      | inl x ↦ inl (rw (x .0) at (m .3), (rw (x .1) at (m .4), tt))
-      | inr x ↦ inr (rw (x .0) at (m .3), (rw (x .1) at (m .4), tt))
-    ],
-    λ o. elim o [ inl x ↦ (tree f c nil, nil, refl, x .0, x .1 .0) | inr x ↦ (nil, tree f c nil, refl, x .0, x .1 .0) ])
+    becomes-either {l = mem h R} λ ρ. let (f, c, e) = p .1 ρ in rw (p .0, q, e) (
+      λ m. elim (one-tree (m .0) (m .1) f c (sym (m .2))) [
+        | inl x ↦ inl (rw (x .0) at (m .3), (rw (x .1) at (m .4), tt))
+        | inr x ↦ inr (rw (x .0) at (m .3), (rw (x .1) at (m .4), tt))
+      ],
+      λ o. elim o [ inl x ↦ (tree f c nil, nil, refl, x .0, x .1 .0) | inr x ↦ (nil, tree f c nil, refl, x .0, x .1 .0) ],
+    )
 
 -- a choice: in the one or in the other
 chosen : {A B : Type 0} → (A ⊎ B) ↔ ((A × Unit {0}) ⊎ (B × Unit {0}))
