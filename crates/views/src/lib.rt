@@ -1,15 +1,18 @@
 // Reading places and shapes off a conjunction's words.
 ghost use Prim.Native.Nat.{ℕ, _+_, _≤_, _<_};
 ghost use mathlib.Core.Path.{_≡_};
-ghost use mathlib.Core.List.{List, _++_};
+ghost use mathlib.Core.List.{List};
 ghost use lib.ListN.{length, getD, take, drop};
 ghost use lib.Seq.{slice};
-ghost use Rattle.language.specs.Limits.{desk};
-ghost use Rattle.language.specs.Trees.{Hedge, Conj};
-ghost use Rattle.language.specs.Writing.{hedgeWords};
-ghost use Rattle.language.specs.Fine.{fineHedge};
+ghost use Rattle.language.specs.Trees.{Hedge, Expr, eqn, mem, Conj};
+ghost use Rattle.plans.specs.Looks.{lookOf, head, bodyWords};
 ghost use Rattle.plans.specs.Results.{member, opens, span, elementEnd};
-ghost use Rattle.plans.specs.Views.{Sided, Sees};
+ghost use Rattle.plans.specs.Views.{Sided, Sees, Shows};
+ghost use Rattle.views.specs.Places.{untilLiteral};
+ghost use Rattle.views.specs.Standing.{Stands, LiteralAt};
+use plans::Look;
+use plans::Shape;
+use plans::Side;
 use plans::View;
 
 // The word at a place, 0 past the end.
@@ -77,6 +80,95 @@ pub fn element_end(k: &[u16], i: usize) -> usize
     }
     let n = opened(x);
     passed(k, i + 1, n - 1)
+}
+
+// The place of the next literal, or the length.
+pub fn next_literal(k: &[u16], at: usize) -> usize
+    requires { ⌜ at < length (now k) ⌝ }
+    ensures { λ r. ⌜ r ≡ at + 1 + untilLiteral (drop (at + 1) (now (k .entry))) ⌝ }
+{
+    let mut i = at + 1;
+    while i < k.len() {
+        if k[i] == 5000 {
+            return i;
+        }
+        if k[i] == 6000 {
+            return i;
+        }
+        i += 1;
+    }
+    i
+}
+
+// How the hedge at a place begins; `rest` is the place after its first element.
+fn look_at(k: &[u16], from: usize, rest: usize) -> Look
+    ensures { λ r. ⌜ ((h : Hedge) (beyond : List ℕ) → Stands (now (k .entry)) from h beyond → rest ≡ from + length (bodyWords (head h)) → r ≡ lookOf h) ⌝ }
+{
+    let x = word(k, from);
+    if x == 0 {
+        return Look::Empty;
+    }
+    let y = word(k, rest);
+    if x <= 1999 {
+        return Look::Term(x, y == 0);
+    }
+    if x <= 2999 {
+        return Look::Run(x, y == 0);
+    }
+    let z = word(k, from + 1);
+    Look::Node(x, y == 0, z == 0)
+}
+
+// The hedge at a place as a side.
+pub fn side_at(k: &[u16], from: usize) -> Side
+    ensures { λ s. ⌜ (s .from ≡ from) × ((h : Hedge) (beyond : List ℕ) → Stands (now (k .entry)) from h beyond → Sided (now (k .entry)) s h) ⌝ }
+{
+    let rest = element_end(k, from);
+    let to = passed(k, from, 1);
+    let look = look_at(k, from, rest);
+    Side {
+        from,
+        rest,
+        to,
+        look,
+    }
+}
+
+// The equation at a place.
+pub fn see(k: &[u16], at: usize) -> View
+    requires { ⌜ at < length (now k) ⌝ }
+    ensures { λ v. ⌜ ((before : Conj) (l r : Hedge) (behind : Conj) → LiteralAt (now (k .entry)) at before (eqn l r) behind → Sees (now (k .entry)) v before l r behind) ⌝ }
+{
+    let l = side_at(k, at + 1);
+    let middle = l.to;
+    let r = side_at(k, middle);
+    let end = r.to;
+    View {
+        at,
+        l,
+        r,
+        end,
+        len: k.len(),
+    }
+}
+
+// The membership at a place.
+pub fn show_membership(k: &[u16], at: usize) -> Shape
+    requires { ⌜ at < length (now k) ⌝ }
+    ensures { λ v. ⌜ ((before : Conj) (h : Hedge) (R : Expr) (behind : Conj) → LiteralAt (now (k .entry)) at before (mem h R) behind → Shows (now (k .entry)) v before h R behind) ⌝ }
+{
+    let h = side_at(k, at + 1);
+    let expr = h.to;
+    let first = word(k, expr);
+    let end = next_literal(k, at);
+    Shape {
+        at,
+        h,
+        expr,
+        first,
+        end,
+        len: k.len(),
+    }
 }
 
 // The same equation, seen from the other side.
