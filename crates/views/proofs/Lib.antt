@@ -7,3 +7,4 @@ pub mod Replaced
 pub mod Looks
 pub mod Literals
 pub mod Seen
+pub mod Same

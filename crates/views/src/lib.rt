@@ -1,6 +1,7 @@
 // Reading places and shapes off a conjunction's words.
-ghost use Prim.Native.Nat.{ℕ, _+_, _≤_, _<_};
+ghost use Prim.Native.Nat.{ℕ, _+_, _≤_, _<_, min};
 ghost use mathlib.Core.Path.{_≡_};
+ghost use mathlib.Core.Bool.{_||_};
 ghost use mathlib.Core.List.{List};
 ghost use lib.ListN.{length, getD, take, drop};
 ghost use lib.Seq.{slice};
@@ -8,7 +9,7 @@ ghost use Rattle.language.specs.Trees.{Hedge, Expr, eqn, mem, Conj};
 ghost use Rattle.plans.specs.Looks.{lookOf, head, bodyWords};
 ghost use Rattle.plans.specs.Results.{member, opens, span, elementEnd};
 ghost use Rattle.plans.specs.Views.{Sided, Sees, Shows};
-ghost use Rattle.views.specs.Places.{untilLiteral};
+ghost use Rattle.views.specs.Places.{untilLiteral, sameList};
 ghost use Rattle.views.specs.Standing.{Stands, LiteralAt};
 use plans::Look;
 use plans::Shape;
@@ -20,6 +21,12 @@ pub fn word(k: &[u16], i: usize) -> u16
     ensures { λ r. ⌜ r ≡ getD (now (k .entry)) i 0 ⌝ }
 {
     if i < k.len() { k[i] } else { 0 }
+}
+
+fn least(a: usize, b: usize) -> usize
+    ensures { λ r. ⌜ r ≡ min a b ⌝ }
+{
+    if a < b { a } else { b }
 }
 
 // Whether a word stands in a part.
@@ -184,4 +191,35 @@ pub fn swapped(v: View) -> View
         end: v.end,
         len: v.len,
     }
+}
+
+// Whether a word stands before a literal or behind it.
+pub fn elsewhere(k: &[u16], at: usize, end: usize, x: u16) -> bool
+    ensures { λ r. ⌜ r ≡ (member x (take at (now (k .entry))) || member x (drop end (now (k .entry)))) ⌝ }
+{
+    if stands(k, 0, at, x) {
+        return true;
+    }
+    stands(k, end, k.len(), x)
+}
+
+// Whether two parts are the same words.
+pub fn same_part(k: &[u16], from: usize, to: usize, start: usize, end: usize) -> bool
+    ensures { λ r. ⌜ r ≡ sameList (slice from to (now (k .entry))) (slice start end (now (k .entry))) ⌝ }
+{
+    let m = least(to, k.len());
+    let n = least(end, k.len());
+    let mut i = from;
+    let mut j = start;
+    while i < m {
+        if n <= j {
+            return false;
+        }
+        if k[i] != k[j] {
+            return false;
+        }
+        i += 1;
+        j += 1;
+    }
+    n <= j
 }
