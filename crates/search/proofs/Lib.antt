@@ -4,3 +4,4 @@ pub mod Pass
 pub mod FineParts
 pub mod FineRules
 pub mod FineSteps
+pub mod Walks
