@@ -3,15 +3,16 @@ use Prim.Native.Nat.{ℕ, zero, suc, _+_, _<_, _≤_}
 use native.Mathlib.Omega.{arith}
 use mathlib.Core.Path.{_≡_, refl, sym, ap, _∙_, subst}
 use mathlib.Core.List.{List, [], _∷_, _++_, append-assoc, append-nil}
-use lib.ListN.{length, drop, length-append}
+use lib.ListN.{length, getD, drop, length-append}
 use Rattle.language.specs.Limits.{desk}
-use Rattle.language.specs.Trees.{Literal, eqn, mem, Conj}
+use Rattle.language.specs.Trees.{Hedge, Expr, Literal, eqn, mem, Conj}
 use Rattle.language.specs.Writing.{literalWords, conjWords}
 use Rattle.language.specs.Fine.{fineLiteral, fineConj}
 use Rattle.views.specs.Places.{untilLiteral}
 use Rattle.views.specs.Standing.{LiteralAt}
 use Rattle.views.proofs.Words.{words-append}
-use Rattle.views.proofs.Seen.{literal-next}
+use Rattle.views.proofs.Parts.{word-of}
+use Rattle.views.proofs.Seen.{literal-here, literal-next}
 use Rattle.search.proofs.FineParts.{fine-split}
 
 -- the literals `done` are passed, those of `rest` are to come, and P says what the walk knows
@@ -28,6 +29,19 @@ walk-starts P c p = record { done = []; rest = c; whole = refl; place = refl; kn
 literal-some : (l : Literal) → 0 < length (literalWords l)
 literal-some (eqn l r) = omega arith
 literal-some (mem h R) = omega arith
+
+-- ---- which literal stands at a place, by the word there
+
+module _ (k : List ℕ) (at : ℕ) (Q : Conj → Literal → Conj → Type 0) where
+  pub at-equation : getD k at 0 ≡ 5000 → ((before : Conj) (l r : Hedge) (behind : Conj) → LiteralAt k at before (eqn l r) behind → Q before (eqn l r) behind)
+      → (before : Conj) (l : Literal) (behind : Conj) → LiteralAt k at before l behind → Q before l behind
+  at-equation e f before (eqn l r) behind p = f before l r behind p
+  at-equation e f before (mem h R) behind p = absurd (let z = word-of k at (literalWords (mem h R) ++ conjWords behind) (literal-here p) in omega arith)
+
+  pub at-membership : (getD k at 0 ≡ 5000 → ⊥) → ((before : Conj) (h : Hedge) (R : Expr) (behind : Conj) → LiteralAt k at before (mem h R) behind → Q before (mem h R) behind)
+      → (before : Conj) (l : Literal) (behind : Conj) → LiteralAt k at before l behind → Q before l behind
+  at-membership e f before (eqn l r) behind p = absurd (e (word-of k at (literalWords (eqn l r) ++ conjWords behind) (literal-here p)))
+  at-membership e f before (mem h R) behind p = f before h R behind p
 
 module _ (k : List ℕ) (c : Conj) (fine : fineConj desk c) (words : k ≡ conjWords c) (i : ℕ) where
   stands-here : (done : Conj) (l : Literal) (rest : Conj) → c ≡ done ++ (l ∷ rest) → i ≡ length (conjWords done) → LiteralAt k i done l rest
