@@ -8,3 +8,5 @@ pub mod Looks
 pub mod Literals
 pub mod Seen
 pub mod Same
+pub mod Walks
+pub mod Finds
