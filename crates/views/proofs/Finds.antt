@@ -25,7 +25,7 @@ use Rattle.views.specs.Walks.{size, Ahead, Spotted}
 use Rattle.views.specs.declared.Found.{Found}
 use Rattle.views.specs.declared.Spot.{Spot}
 use Rattle.views.proofs.Parts.{part-none, part-of}
-use Rattle.views.proofs.Words.{join-nil, join-assoc, firstWord}
+use Rattle.views.proofs.Words.{join-nil, join-assoc, fine-head, firstWord}
 use Rattle.views.proofs.Spans.{stands-word, stands-split, stands-place}
 use Rattle.views.proofs.Looks.{stands-children}
 use Rattle.views.proofs.Members.{or-false, member-hedge, member-body}
@@ -98,12 +98,6 @@ same-pair e = ap first e
     first (some a) = a .0
 
 -- ---- the terms up to one that holds q
-
-fine-head : (h : Hedge) → fineHedge desk h → fineHedge desk (head h)
-fine-head ε f = f
-fine-head (tvar x r) f = (f .0, tt)
-fine-head (hvar p r) f = (f .0, tt)
-fine-head (node g c r) f = (f .0, f .1, tt)
 
 head-part : {k : List ℕ} {i e x : ℕ} {q : HedgeVar} {h : Hedge} {beyond : List ℕ} {b : Bool} → fineVar desk (hv q) → x ≡ variableWord (hv q) → Stands k i h beyond → e ≡ elementEnd k i → b ≡ member x (slice i e k) → b ≡ holds (hv q) (head h)
 head-part {k} {i} {e} {x} {q} {h} {beyond} {b} f w s d m =

@@ -10,3 +10,4 @@ pub mod Seen
 pub mod Same
 pub mod Walks
 pub mod Finds
+pub mod Cuts
