@@ -11,3 +11,4 @@ pub mod Same
 pub mod Walks
 pub mod Finds
 pub mod Cuts
+pub mod Joins
