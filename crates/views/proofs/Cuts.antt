@@ -12,6 +12,8 @@ use Rattle.language.specs.Fine.{fineHedge}
 use Rattle.rules.specs.Looks.{cuts}
 use Rattle.plans.specs.Looks.{head, tail, bodyWords}
 use Rattle.plans.specs.Results.{elementEnd, places}
+use Rattle.plans.specs.Views.{Sided}
+use Rattle.plans.specs.declared.Side.{Side}
 use Rattle.views.specs.Standing.{Stands}
 use Rattle.views.specs.Walks.{size}
 use Rattle.views.proofs.Parts.{part-of, drop-of}
@@ -89,3 +91,11 @@ module _ {A : Type 0} (k : List ℕ) (b to : ℕ) (rest : Hedge) (beyond : List 
   -- what is made at each place is what is made of each cut
   pub cuts-places : (T : Hedge) → Stands k b (T ⧺ rest) beyond → to ≡ b + length (hedgeWords (T ⧺ rest)) → map at (places (suc (size T)) k b) ≡ map of (cuts T)
   cuts-places T s e = from T ε b (record { fineDone = tt; fine = s .fine; start = s .here; place = omega arith; end = e })
+
+-- the same of a side whose hedge is (T, rest)
+pub side-cuts : {A : Type 0} {k : List ℕ} {s : Side} {h : Hedge} → Sided k s h → (T rest : Hedge) → h ≡ T ⧺ rest → (at : ℕ → A) (of : Hedge × Hedge → A) → ((i : ℕ) (c : Hedge × Hedge) → Cut k (s .from) (s .to) rest i c → at i ≡ of c)
+    → map at (places (suc (size T)) k (s .from)) ≡ map of (cuts T)
+side-cuts {A} {k} {s} {h} v T rest e at of fit =
+    cuts-places k (s .from) (s .to) rest (v .beyond) at of fit T
+    (record { fine = rw e at (v .fine); here = v .here ∙ ap (λ g. hedgeWords g ++ v .beyond) e })
+    (v .to ∙ ap (λ g. s .from + length (hedgeWords g)) e)
