@@ -1,19 +1,18 @@
 -- Searches along the elements of a hedge: a variable below a functor, the terms up to one that holds p, a p behind another element.
 use mathlib.Core.Path.{_≡_, refl, sym, ap, _∙_}
 use mathlib.Core.Bool.{Bool, true, false, _||_}
-use mathlib.Core.List.{List, [], _∷_, _++_, append-nil}
-use mathlib.Core.Option.{Option, none, some, Option·map}
-use Prim.Native.Nat.{ℕ, suc, _+_, _<_, _≤_}
+use mathlib.Core.List.{List, _++_, append-nil}
+use mathlib.Core.Option.{Option, none, some}
+use Prim.Native.Nat.{ℕ, _+_}
 use native.Mathlib.Omega.{arith}
-use lib.Dec.{eqb}
-use lib.ListN.{length, getD, drop}
+use lib.ListN.{length, getD}
 use lib.Seq.{slice}
 use borrow.Author.Tests.{eq-eqb, ne-eqb}
 use Rattle.language.specs.declared.HedgeVar.{HedgeVar}
 use Rattle.language.specs.Limits.{desk}
 use Rattle.language.specs.Kinds.{pick}
 use Rattle.language.specs.Trees.{Functor, symbol, fvar, Hedge, ε, tvar, hvar, node, _⧺_, Var, hv, inFunctor, holds}
-use Rattle.language.specs.Writing.{functorWord, hedgeWords}
+use Rattle.language.specs.Writing.{hedgeWords}
 use Rattle.language.specs.Fine.{fineHedge}
 use Rattle.rules.specs.Looks.{under, onto, around, inside, upTo}
 use Rattle.rules.specs.Solved.{isSome}
@@ -22,8 +21,6 @@ use Rattle.plans.specs.Results.{member, elementEnd}
 use Rattle.views.specs.Variables.{variableWord, fineVar}
 use Rattle.views.specs.Standing.{Stands}
 use Rattle.views.specs.Walks.{size, Ahead, Spotted}
-use Rattle.views.specs.declared.Found.{Found}
-use Rattle.views.specs.declared.Spot.{Spot}
 use Rattle.views.proofs.Parts.{part-none, part-of}
 use Rattle.views.proofs.Words.{join-nil, join-assoc, fine-head, firstWord}
 use Rattle.views.proofs.Spans.{stands-word, stands-split, stands-place}

@@ -1,5 +1,5 @@
 -- What a search gives back is the hedge itself, taken apart: the terms up to one that holds q, and what stands around q; and their words.
-use mathlib.Core.Path.{_≡_, refl, sym, ap, subst, _∙_}
+use mathlib.Core.Path.{_≡_, refl, sym, ap, _∙_}
 use mathlib.Core.Bool.{Bool, true, false}
 use mathlib.Core.List.{List, [], _∷_, _++_, append-assoc}
 use mathlib.Core.Option.{Option, none, some}
@@ -16,34 +16,26 @@ use Rattle.language.specs.Trees.{Hedge, ε, tvar, hvar, node, _⧺_, hv, holds}
 use Rattle.language.specs.Writing.{hedgeWords}
 use Rattle.language.specs.Fine.{fineHedge}
 use Rattle.rules.specs.Looks.{onto, around, inside, upTo}
-use Rattle.plans.specs.Looks.{head, tail, bodyWords}
+use Rattle.plans.specs.Looks.{bodyWords}
 use Rattle.views.specs.Standing.{Stands}
 use Rattle.views.proofs.Parts.{part-of, drop-of}
-use Rattle.views.proofs.Words.{words-join, head-tail, fine-parts}
-use Rattle.views.proofs.Finds.{inside-split}
+use Rattle.views.proofs.Words.{words-join, fine-parts}
 
 -- the two parts, joined by `glue`, are h
 abbrev Joins : (Hedge → Hedge → Hedge) → Hedge → Option (Hedge × Hedge) → Type 0
 Joins glue h m = (a b : Hedge) → m ≡ some (a, b) → h ≡ glue a b
 
+abbrev glued : (Hedge → Hedge → Hedge) → Option (Hedge × Hedge) → Hedge
+glued glue none = ε
+glued glue (some c) = glue (c .0) (c .1)
+
 -- an element put before both
 joins-onto : (glue : Hedge → Hedge → Hedge) (g r : Hedge) (m : Option (Hedge × Hedge)) → ((a b : Hedge) → glue (g ⧺ a) b ≡ g ⧺ glue a b) → Joins glue r m → Joins glue (g ⧺ r) (onto (λ h. g ⧺ h) m)
 joins-onto glue g r none law j a b e = absurd (let y : _≡_ {A = ℕ} 0 1 = cc in omega arith)
-joins-onto glue g r (some c) law j a b e = ap (λ h. g ⧺ h) (j (c .0) (c .1) refl) ∙ sym (law (c .0) (c .1)) ∙ same e
-  where
-    front : Option (Hedge × Hedge) → Hedge
-    front none = ε
-    front (some d) = glue (d .0) (d .1)
-
-    same : _≡_ {A = Option (Hedge × Hedge)} (some (g ⧺ c .0, c .1)) (some (a, b)) → glue (g ⧺ c .0) (c .1) ≡ glue a b
-    same e = ap front e
+joins-onto glue g r (some c) law j a b e = ap (λ h. g ⧺ h) (j (c .0) (c .1) refl) ∙ sym (law (c .0) (c .1)) ∙ ap (glued glue) e
 
 joins-pick : (glue : Hedge → Hedge → Hedge) (h : Hedge) (c : Bool) (a b : Hedge) (m : Option (Hedge × Hedge)) → (c ≡ true → h ≡ glue a b) → Joins glue h m → Joins glue h (pick c (some (a, b)) m)
-joins-pick glue h true a b m e j x y d = e refl ∙ ap front d
-  where
-    front : Option (Hedge × Hedge) → Hedge
-    front none = ε
-    front (some d) = glue (d .0) (d .1)
+joins-pick glue h true a b m e j x y d = e refl ∙ ap (glued glue) d
 joins-pick glue h false a b m e j x y d = j x y d
 
 -- ---- the terms up to one that holds q

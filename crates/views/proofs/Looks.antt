@@ -1,6 +1,6 @@
 -- How a hedge that stands at a place begins, told by its words there.
 use mathlib.Core.Path.{_≡_, refl, sym, ap, _∙_}
-use mathlib.Core.Bool.{Bool, true, false}
+use mathlib.Core.Bool.{Bool}
 use mathlib.Core.List.{List, [], _∷_, _++_, append-assoc, append-nil}
 use Prim.Native.Nat.{ℕ, _+_, _<_, _≤_}
 use native.Mathlib.Omega.{arith}
@@ -13,20 +13,19 @@ use Rattle.language.specs.declared.HedgeVar.{HedgeVar}
 use Rattle.language.specs.Limits.{desk}
 use Rattle.language.specs.Trees.{Functor, symbol, fvar, Hedge, ε, tvar, hvar, node}
 use Rattle.language.specs.Writing.{functorWord, hedgeWords}
-use Rattle.language.specs.Fine.{fineFunctor, fineHedge}
+use Rattle.language.specs.Fine.{fineFunctor}
 use Rattle.rules.specs.Looks.{empty, asBlank}
 use Rattle.rules.specs.Solved.{isSome}
 use Rattle.plans.specs.Looks.{lookOf, head, tail, bodyWords}
 use Rattle.plans.specs.Results.{span, elementEnd}
 use Rattle.plans.specs.Views.{Sided}
-use Rattle.plans.specs.declared.Look.{Look}
 use Rattle.plans.specs.declared.Look.the-variants.{Empty, Term, Run, Node}
 use Rattle.plans.specs.declared.Side.{Side}
 use Rattle.views.specs.Standing.{Stands}
 use Rattle.views.proofs.Parts.{part-of, drop-of}
 use Rattle.views.proofs.Words.{firstWord}
 use Rattle.views.proofs.Sides.{side-stands}
-use Rattle.views.proofs.Spans.{functor-some, stands-word, stands-rest, stands-place, stands-end}
+use Rattle.views.proofs.Spans.{functor-least, functor-some, stands-word, stands-rest, stands-place, stands-end}
 
 pub empty-word : (h : Hedge) → eqb (firstWord h) 0 ≡ empty h
 empty-word ε = refl
@@ -40,10 +39,6 @@ stands-children {k} {i} {f} {c} {r} {beyond} s = record {
   fine = s .fine .1;
   here = drop-of k i (i + 1) (functorWord f ∷ []) ((hedgeWords c ++ hedgeWords r) ++ beyond) (s .here) refl ∙ append-assoc (hedgeWords c) (hedgeWords r) beyond;
 }
-
-functor-high : (f : Functor) → 3000 ≤ functorWord f
-functor-high (symbol g) = omega arith
-functor-high (fvar X) = omega arith
 
 same-term : {a b : ℕ} {p q : Bool} → a ≡ b → p ≡ q → Term a p ≡ Term b q
 same-term e d = cc
@@ -69,13 +64,13 @@ pub look-term : {k : List ℕ} {i : ℕ} (h : Hedge) {beyond : List ℕ} {x j y 
 look-term ε s e o d q a = absurd (o (e ∙ stands-word s))
 look-term (tvar z r) s e o d q a = same-term (e ∙ stands-word s) (last s e o d q)
 look-term (hvar p r) s e o d q a = absurd (let w = stands-word s in omega arith)
-look-term (node f c r) s e o d q a = absurd (let w = stands-word s in let g = functor-high f in omega arith)
+look-term (node f c r) s e o d q a = absurd (let w = stands-word s in let g = functor-least f in omega arith)
 
 pub look-run : {k : List ℕ} {i : ℕ} (h : Hedge) {beyond : List ℕ} {x j y : ℕ} → Stands k i h beyond → x ≡ getD k i 0 → (x ≡ 0 → ⊥) → j ≡ i + length (bodyWords (head h)) → y ≡ getD k j 0 → 1999 < x → x ≤ 2999 → Run x (eqb y 0) ≡ lookOf h
 look-run ε s e o d q a b = absurd (o (e ∙ stands-word s))
 look-run (tvar z r) s e o d q a b = absurd (let w = stands-word s in let f = s .fine .0 in omega arith)
 look-run (hvar p r) s e o d q a b = same-run (e ∙ stands-word s) (last s e o d q)
-look-run (node f c r) s e o d q a b = absurd (let w = stands-word s in let g = functor-high f in omega arith)
+look-run (node f c r) s e o d q a b = absurd (let w = stands-word s in let g = functor-least f in omega arith)
 
 pub look-node : {k : List ℕ} {i : ℕ} (h : Hedge) {beyond : List ℕ} {x j y z : ℕ} → Stands k i h beyond → x ≡ getD k i 0 → (x ≡ 0 → ⊥) → j ≡ i + length (bodyWords (head h)) → y ≡ getD k j 0 → 2999 < x → z ≡ getD k (i + 1) 0 → Node x (eqb y 0) (eqb z 0) ≡ lookOf h
 look-node ε s e o d q a b = absurd (o (e ∙ stands-word s))

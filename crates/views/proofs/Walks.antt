@@ -1,22 +1,20 @@
 -- A walk along the elements of a hedge, and what each step of it keeps.
-use mathlib.Core.Path.{_≡_, refl, sym, ap, _∙_}
-use mathlib.Core.Bool.{Bool, true, false, not, _&&_, _||_}
-use mathlib.Core.List.{List, [], _∷_, _++_, append-assoc}
+use mathlib.Core.Path.{_≡_, refl, ap, _∙_}
+use mathlib.Core.Bool.{Bool, true, false, not}
+use mathlib.Core.List.{List}
 use Prim.Native.Nat.{ℕ, suc, _+_, _<_, _≤_}
 use native.Mathlib.Omega.{arith}
-use lib.Dec.{eqb, leb}
-use lib.ListN.{length, getD, drop, length-append}
-use borrow.Author.Tests.{eq-eqb, ne-eqb, le-leb, lt-leb}
+use lib.Dec.{eqb}
+use lib.ListN.{length, getD, length-append}
+use borrow.Author.Tests.{le-leb, lt-leb}
 use Rattle.language.specs.Limits.{desk}
-use Rattle.language.specs.Trees.{Functor, symbol, fvar, Hedge, ε, tvar, hvar, node, _⧺_}
-use Rattle.language.specs.Writing.{functorWord, hedgeWords}
+use Rattle.language.specs.Trees.{symbol, fvar, Hedge, ε, tvar, hvar, node, _⧺_}
 use Rattle.language.specs.Fine.{fineHedge}
 use Rattle.rules.specs.Looks.{empty, hasTerm, allTerms, allRuns}
 use Rattle.plans.specs.Looks.{head, tail, bodyWords}
 use Rattle.plans.specs.Results.{elementEnd}
 use Rattle.views.specs.Standing.{Stands}
-use Rattle.views.specs.Walks.{termWord, runWord, size, Counted}
-use Rattle.views.specs.declared.Terms.{Terms}
+use Rattle.views.specs.Walks.{termWord, runWord, size}
 use Rattle.views.proofs.Words.{body-join, firstWord}
 use Rattle.views.proofs.Spans.{element-more, stands-word, stands-next, stands-place}
 use Rattle.views.proofs.Looks.{empty-word}

@@ -2,9 +2,9 @@
 use mathlib.Core.Path.{_≡_, refl, sym, ap, _∙_}
 use mathlib.Core.List.{List, [], _∷_, _++_, append-assoc, append-nil}
 use Prim.Native.Nat.{ℕ, _+_}
-use lib.ListN.{length, getD}
+use lib.ListN.{getD}
 use Rattle.language.specs.Limits.{desk}
-use Rattle.language.specs.Trees.{Hedge, ε, tvar, hvar, node, Literal, eqn, mem, Conj, _⧺_}
+use Rattle.language.specs.Trees.{Hedge, ε, tvar, hvar, node, Conj, _⧺_}
 use Rattle.language.specs.Writing.{functorWord, hedgeWords, literalWords, conjWords}
 use Rattle.language.specs.Fine.{fineHedge}
 use Rattle.plans.specs.Looks.{head, tail, bodyWords}

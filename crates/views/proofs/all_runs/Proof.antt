@@ -1,5 +1,4 @@
 -- `all_runs`: there is no term.
-use native.Mathlib.Omega.{arith}
 use borrow.Author.Needs.{needs}
 use mathlib.Core.Path.{ap, _∙_}
 use mathlib.Core.Bool.{not}
