@@ -5,3 +5,4 @@ pub mod Trees
 pub mod Writing
 pub mod Reading
 pub mod Question
+pub mod Fine
