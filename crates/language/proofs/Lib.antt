@@ -6,3 +6,4 @@ pub mod Expressions
 pub mod Literals
 pub mod Conjunctions
 pub mod Laws
+pub mod Undeclared

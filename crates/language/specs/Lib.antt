@@ -6,3 +6,4 @@ pub mod Writing
 pub mod Reading
 pub mod Question
 pub mod Fine
+pub mod Undeclared
