@@ -1,5 +1,6 @@
 -- The kind of a word: what it says of the word, and the kind of each word that is written.
 use mathlib.Core.Path.{_≡_, refl, ap, _∙_}
+use mathlib.Core.Logic.{_⊎_, inl, inr}
 use mathlib.Core.Bool.{Bool, true, false, _&&_, and-false}
 use Prim.Native.Nat.{ℕ, _+_, _-_, _<_, _≤_}
 use native.Mathlib.Omega.{arith}
@@ -107,6 +108,21 @@ module _ (L : Limits) (w : ℕ) where
   pub at-mark : 5000 ≤ w → kindOf L w ≡ mark
   unfolding kindOf
   at-mark p = rw (ne-eqb w 0 (omega arith), above 1000 (omega arith), above 2000 (omega arith), above 3000 (omega arith), above 4000 (omega arith))
+
+  -- no mark
+  pub no-mark : (w ≡ 5000 → ⊥) → (w ≡ 6000 → ⊥) → (w ≡ 7000 → ⊥) → (w ≡ 7001 → ⊥) → (w ≡ 7002 → ⊥) → (w ≡ 7003 → ⊥) → mark ≡ Other
+  no-mark a b c d e f = rw (ne-eqb w 5000 a, ne-eqb w 6000 b, ne-eqb w 7000 c, ne-eqb w 7001 d, ne-eqb w 7002 e, ne-eqb w 7003 f)
+
+  abbrev pub Outside : ℕ → Type 0
+  Outside base = (w < base) ⊎ (base + L .each ≤ w)
+
+  outside : (base : ℕ) → Outside base → within L base w ≡ false
+  outside base (inl p) = below base p
+  outside base (inr p) = above base p
+
+  pub at-other : (w ≡ 0 → ⊥) → Outside 1000 → Outside 2000 → Outside 3000 → Outside 4000 → mark ≡ Other → kindOf L w ≡ Other
+  unfolding kindOf
+  at-other z a b c d e = rw (ne-eqb w 0 z, outside 1000 a, outside 2000 b, outside 3000 c, outside 4000 d) e
 
 -- ---- the kind of each word that is written
 
