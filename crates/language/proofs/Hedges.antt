@@ -11,7 +11,7 @@ use Rattle.language.specs.Kinds.{kindOf}
 use Rattle.language.specs.Trees.{Functor, symbol, fvar, Hedge, ε, tvar, hvar, node}
 use Rattle.language.specs.Writing.{functorWord, hedgeWords}
 use Rattle.language.specs.Fine.{fineFunctor, fineHedge}
-use Rattle.language.specs.Reading.{got, stop, after, both, next, hedgeOn, hedgeBy, readHedge}
+use Rattle.language.specs.Reading.{got, stop, after, both, next, hedgeOn, hedgeBy, readHedge, termOn, readTerm}
 use Rattle.language.proofs.Words.{is, kind-end, kind-term, kind-run, kind-symbol, kind-function}
 use Rattle.language.proofs.Words.{Is as IsKind}
 use Rattle.language.proofs.Words.Is.{end, term, run, symbol as symb, function, equation, membership, eps, cat, alt, star, other}
@@ -25,6 +25,10 @@ module _ (L : Limits) where
   -- reading at a word of a kind
   pub hedge-at : (w : ℕ) (ws : List ℕ) (k : Kind) → kindOf L w ≡ k → readHedge L (w ∷ ws) ≡ hedgeOn (readHedge L) k ws
   hedge-at w ws k e = readHedge-step L (w ∷ ws) ∙ ap (λ j. hedgeOn (readHedge L) j ws) e
+
+  pub term-at : (w : ℕ) (ws : List ℕ) (k : Kind) → kindOf L w ≡ k → readTerm L (w ∷ ws) ≡ termOn (readHedge L) k ws
+  unfolding readTerm
+  term-at w ws k e = ap (λ j. termOn (readHedge L) j ws) e
 
   functor-at : (f : Functor) (ws : List ℕ) → fineFunctor L f → readHedge L (functorWord f ∷ ws) ≡ next (both (node f) (readHedge L) (readHedge L) ws)
   functor-at (symbol f) ws b = hedge-at _ ws (Symbol f) (kind-symbol L f b)

@@ -7,3 +7,4 @@ pub mod Literals
 pub mod Conjunctions
 pub mod Laws
 pub mod Undeclared
+pub mod Arms
