@@ -14,6 +14,7 @@ use Rattle.language.specs.declared.FunVar.{FunVar}
 use Rattle.language.specs.declared.Sym.{Sym}
 use Rattle.language.specs.Limits.{Limits}
 use Rattle.language.specs.Kinds.{pick, within, kindOf}
+use Rattle.language.proofs.Bools.{both-true}
 
 -- ---- what a kind says of its word
 
@@ -30,10 +31,6 @@ pub data Is (L : Limits) (w : ℕ) : Kind → Type 0 where
   alt : w ≡ 7002 → Is L w Alt
   star : w ≡ 7003 → Is L w Star
   other : Is L w Other
-
-both-true : (a b : Bool) → (a && b) ≡ true → (a ≡ true) × (b ≡ true)
-both-true true b e = (refl, e)
-both-true false b e = absurd (let z : _≡_ {A = ℕ} 0 1 = cc in omega arith)
 
 module _ (L : Limits) (w : ℕ) where
   -- what a test says, put to use in the kind that it picks

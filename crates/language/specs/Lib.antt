@@ -7,3 +7,4 @@ pub mod Reading
 pub mod Question
 pub mod Fine
 pub mod Undeclared
+pub mod Between
