@@ -35,6 +35,9 @@ module _ (at stop from end : ℕ) (ws : List ℕ) where
     one : rising from (between at stop ws) end ≡ (leb from o && rising o (between (at + 1) stop ws) end)
     one = ap (λ os. rising from os end) (between-cons at stop ws p q) ∙ ap (λ x. leb from x && rising x (between (at + 1) stop ws) end) (sym e)
 
+    pub rising-step : rising from (between at stop ws) end ≡ true → (from ≤ o) × (rising o (between (at + 1) stop ws) end ≡ true)
+    rising-step t = let s = both-true (leb from o) (rising o (between (at + 1) stop ws) end) (sym one ∙ t) in (leb-true from o (s .0), s .1)
+
     pub rising-falls : o < from → false ≡ rising from (between at stop ws) end
     rising-falls l = sym (one ∙ ap (λ b. b && rising o (between (at + 1) stop ws) end) (lt-leb from o l))
 
@@ -79,3 +82,39 @@ module _ (head n : ℕ) (ws : List ℕ) where
         laid-starts
         ∙ ap (λ b. b && rising (getD ws head 0) (between (head + 1) (head + n + 1) ws) (length ws)) (eq-eqb _ _ e)
         ∙ ap (λ o. rising o (between (head + 1) (head + n + 1) ws) (length ws)) e
+
+  module _ (l : laidOut head n ws ≡ true) where
+    pub laid-length : head + n + 1 ≤ length ws
+    unfolding laidOut
+    laid-length = let t = leb-true (head + suc n) (length ws) (both-true (leb (head + suc n) (length ws)) (rises (head + suc n) (offsets head n ws) (length ws)) l .0) in omega arith
+
+    starts : (getD ws head 0 ≡ head + n + 1) × (rising (getD ws head 0) (between (head + 1) (head + n + 1) ws) (length ws) ≡ true)
+    starts =
+        let t = both-true (eqb (getD ws head 0) (head + n + 1)) (rising (getD ws head 0) (between (head + 1) (head + n + 1) ws) (length ws)) (sym (laid-starts laid-length) ∙ l) in
+        (eqb-true (getD ws head 0) (head + n + 1) (t .0), t .1)
+
+    pub laid-begins : getD ws head 0 ≡ head + n + 1
+    laid-begins = starts .0
+
+    pub laid-rises : rising (head + n + 1) (between (head + 1) (head + n + 1) ws) (length ws) ≡ true
+    laid-rises = ap (λ o. rising o (between (head + 1) (head + n + 1) ws) (length ws)) (sym (starts .0)) ∙ starts .1
+
+    -- the first part begins behind the table
+    pub parts-start : parts head n ws ≡ partsFrom (head + n + 1) (between (head + 1) (head + n + 1) ws) (drop (head + n + 1) ws)
+    unfolding parts
+    parts-start =
+        ap (λ m. partsFrom m (drop 1 (offsets head n ws)) (drop m ws)) first
+        ∙ ap (λ os. partsFrom (head + n + 1) (drop 1 os) (drop (head + n + 1) ws)) (table ∙ between-cons head (head + n + 1) ws (omega arith) laid-length)
+
+-- ---- the parts, one by one
+
+module _ (at stop from : ℕ) (ws : List ℕ) where
+  pub parts-done : (vs : List ℕ) → stop ≤ at → partsFrom from (between at stop ws) vs ≡ []
+  parts-done vs p = ap (λ n. partsFrom from (take n (drop at ws)) vs) (let z : stop - at ≡ 0 = omega arith in z)
+
+  pub parts-cons : at < stop → stop ≤ length ws → (o : ℕ) → o ≡ getD ws at 0 → from ≤ o
+      → partsFrom from (between at stop ws) (drop from ws) ≡ between from o ws ∷ partsFrom o (between (at + 1) stop ws) (drop o ws)
+  parts-cons p q o e l =
+      ap (λ os. partsFrom from os (drop from ws)) (between-cons at stop ws p q)
+      ∙ ap (λ x. between from x ws ∷ partsFrom x (between (at + 1) stop ws) (drop (x - from) (drop from ws))) (sym e)
+      ∙ ap (λ vs. between from o ws ∷ partsFrom o (between (at + 1) stop ws) vs) (drop-drop (o - from) from ws ∙ ap (λ n. drop n ws) (let z : from + (o - from) ≡ o = omega arith in z))
