@@ -1,16 +1,15 @@
 -- The laws of reading, for hedges, expressions, literals and conjunctions: what was written is read back, what is found was written,
 -- words have one reading, and reading stops at the first word that cannot go on.
-use mathlib.Core.Path.{_≡_, refl, sym, subst, ap, _∙_}
-use mathlib.Core.List.{List, _++_, append-nil}
+use mathlib.Core.Path.{_≡_, sym, subst, ap, _∙_}
+use mathlib.Core.List.{List, _++_}
 use Prim.Native.Nat.{ℕ, suc, _<_, _≤_}
 use native.Mathlib.Omega.{arith}
 use lib.ListN.{length, take, drop, take-append-drop}
 use lib.Seq.{take-all, drop-append-seam, length-take-le}
 use Rattle.language.specs.Limits.{Limits}
-use Rattle.language.specs.Trees.{Hedge, Expr, Literal, Conj}
 use Rattle.language.specs.Writing.{hedgeWords, exprWords, literalWords, conjWords}
 use Rattle.language.specs.Fine.{fineHedge, fineExpr, fineLiteral, fineConj}
-use Rattle.language.specs.Reading.{Got, got, stop, Reader, readHedge, readExpr, readLiteral, readConj}
+use Rattle.language.specs.Reading.{got, stop, Reader, readHedge, readExpr, readLiteral, readConj}
 use Rattle.language.proofs.Formats.{Trees, Is, Right, Stopped, ReadsBack, RightAt}
 use Rattle.language.proofs.Hedges.{hedges, back-hedge, right-hedge}
 use Rattle.language.proofs.Expressions.{expressions, back-expr, right-expr}
