@@ -1,1 +1,1 @@
-// The search for the first rule that applies to a conjunction.
+// The law of the search for the first rule that applies to a conjunction.
