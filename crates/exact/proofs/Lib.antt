@@ -14,3 +14,5 @@ pub mod Memberships
 pub mod Steps
 pub mod Places
 pub mod Run
+pub mod Made
+pub mod MadeByRules
