@@ -16,3 +16,4 @@ pub mod Places
 pub mod Run
 pub mod Made
 pub mod MadeByRules
+pub mod Declared

@@ -12,7 +12,7 @@ use Rattle.rules.specs.Substitution.{Subst, setT, setH, setF, emptied, putF, pu
 use Rattle.rules.specs.Looks.{isEps}
 use Rattle.rules.specs.Expressions.{nullable, Monomial, joined, _⊙_, linear}
 use Rattle.exact.specs.Each.{Each}
-use Rattle.exact.specs.Made.{Name, sym, var, MadeF, Made, MadeE, MadeL, MadeC}
+use Rattle.exact.specs.Made.{Name, aSymbol, aVariable, MadeF, Made, MadeE, MadeL, MadeC}
 use Rattle.exact.proofs.Each.{each-++, each-map}
 use Rattle.exact.proofs.Tests.{picks}
 
@@ -34,9 +34,9 @@ module _ (A : Name → Type 0) where
 
   -- what the substitution puts for a variable that is as A says
   pub record Puts (s : Subst) : Type 0 where
-    pub term : (x : TermVar) → A (var (tv x)) → Made A (s .term x)
-    pub hedge : (p : HedgeVar) → A (var (hv p)) → Made A (s .hedge p)
-    pub functor : (X : FunVar) → A (var (fv X)) → MadeF A (s .functor X)
+    pub term : (x : TermVar) → A (aVariable (tv x)) → Made A (s .term x)
+    pub hedge : (p : HedgeVar) → A (aVariable (hv p)) → Made A (s .hedge p)
+    pub functor : (X : FunVar) → A (aVariable (fv X)) → MadeF A (s .functor X)
 
   module _ (s : Subst) (q : Puts s) where
     putF-made : (f : Functor) → MadeF A f → MadeF A (putF s f)
@@ -72,7 +72,7 @@ module _ (A : Name → Type 0) where
   -- ---- linear forms
 
   abbrev pub MadeMonomial : Monomial → Type 0
-  MadeMonomial m = A (sym (m .name)) × MadeE A (m .inner) × MadeE A (m .rest)
+  MadeMonomial m = A (aSymbol (m .name)) × MadeE A (m .inner) × MadeE A (m .rest)
 
   ⊙-made : (l : List Monomial) (R : Expr) → Each MadeMonomial l → MadeE A R → Each MadeMonomial (l ⊙ R)
   ⊙-made l R p m =

@@ -13,7 +13,7 @@ use Rattle.rules.specs.Rules as rules
 use Rattle.rules.specs.Step.{attempt, place, resultsAt, step}
 use Rattle.exact.specs.Each.{Each}
 use Rattle.exact.specs.Places.{AtPlaces}
-use Rattle.exact.specs.Made.{Name, sym, var, MadeF, Made, MadeE, MadeL, MadeC}
+use Rattle.exact.specs.Made.{Name, aSymbol, aVariable, MadeF, Made, MadeE, MadeL, MadeC}
 use Rattle.exact.proofs.Each.{each-map, each-imp}
 use Rattle.exact.proofs.Answers.{Where, Answers, look, test, answers}
 use Rattle.exact.proofs.Looks.{loneT-is, loneH-is, loneNode-is, loneTerm-is, firstTerm-is, firstRun-is, asSymbol-is, asBlank-is, inside-is, upTo-is, asCat-is, asAlt-is, asStar-is, asOver-is}
@@ -91,7 +91,7 @@ module _ (A : Name → Type 0) where
       test _ λ _ _. test _ λ _ _. test _ λ _ _.
       let m = rw e at a in answers ((((m, b), tt), tt, setH-made A p r b), tt)
 
-  cuts-made : (p : HedgeVar) (h rest t : Hedge) → A (var (hv p)) → Made A h → Made A rest → Made A t → Each MadeBranch (map (cutResult p h rest) (cuts t))
+  cuts-made : (p : HedgeVar) (h rest t : Hedge) → A (aVariable (hv p)) → Made A h → Made A rest → Made A t → Each MadeBranch (map (cutResult p h rest) (cuts t))
   cuts-made p h rest t a b c d = each-map (CutOf t) MadeBranch (cutResult p h rest) one (cuts t) (cuts-join t)
     where
       one : (k : Hedge × Hedge) → CutOf t k → MadeBranch (cutResult p h rest k)

@@ -5,17 +5,17 @@ use Rattle.language.specs.Trees.{Functor, symbol, fvar, Hedge, ε, tvar, hvar, 
 
 -- a symbol, or a variable of one of the three kinds
 pub data Name : Type 0 where
-  sym : Sym → Name
-  var : Var → Name
+  aSymbol : Sym → Name
+  aVariable : Var → Name
 
 abbrev pub MadeF : (Name → Type 0) → Functor → Type 0
-MadeF A (symbol f) = A (sym f)
-MadeF A (fvar X) = A (var (fv X))
+MadeF A (symbol f) = A (aSymbol f)
+MadeF A (fvar X) = A (aVariable (fv X))
 
 abbrev pub Made : (Name → Type 0) → Hedge → Type 0
 Made A ε = Unit {0}
-Made A (tvar x r) = A (var (tv x)) × Made A r
-Made A (hvar p r) = A (var (hv p)) × Made A r
+Made A (tvar x r) = A (aVariable (tv x)) × Made A r
+Made A (hvar p r) = A (aVariable (hv p)) × Made A r
 Made A (node f c r) = MadeF A f × Made A c × Made A r
 
 abbrev pub MadeE : (Name → Type 0) → Expr → Type 0
@@ -23,7 +23,7 @@ MadeE A eps = Unit {0}
 MadeE A (cat a b) = MadeE A a × MadeE A b
 MadeE A (alt a b) = MadeE A a × MadeE A b
 MadeE A (star a) = MadeE A a
-MadeE A (over f a) = A (sym f) × MadeE A a
+MadeE A (over f a) = A (aSymbol f) × MadeE A a
 
 abbrev pub MadeL : (Name → Type 0) → Literal → Type 0
 MadeL A (eqn l r) = Made A l × Made A r
