@@ -17,3 +17,4 @@ pub mod Run
 pub mod Made
 pub mod MadeByRules
 pub mod Declared
+pub mod Exact

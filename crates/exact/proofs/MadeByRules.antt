@@ -1,24 +1,24 @@
 -- The rules make no new names: what stands for a literal is made of what the literal is made of.
 use mathlib.Core.Path.{_≡_}
-use mathlib.Core.Logic.{_↔_}
-use mathlib.Core.List.{List, [], _∷_, _++_, map}
-use mathlib.Core.Option.{Option, none, some, Option·map}
+use mathlib.Core.Bool.{Bool, true, false}
+use mathlib.Core.List.{List, _∷_, _++_, map}
+use mathlib.Core.Option.{none, some, Option·map}
 use Rattle.language.specs.declared.HedgeVar.{HedgeVar}
-use Rattle.language.specs.Trees.{Functor, symbol, fvar, Hedge, ε, tvar, hvar, node, Expr, over, Literal, eqn, mem, Conj, _⧺_, hv}
+use Rattle.language.specs.Trees.{symbol, Hedge, ε, tvar, hvar, node, Expr, Literal, eqn, mem, Conj, _⧺_, hv}
 use Rattle.rules.specs.Looks.{firstTerm, firstRun, loneTerm, loneT, loneH, loneNode, asSymbol, asBlank, inside, upTo, cuts, asCat, asAlt, asStar, asOver}
 use Rattle.rules.specs.Substitution.{putC}
 use Rattle.rules.specs.Expressions.{linear}
 use Rattle.rules.specs.Rules.{Branch, plain, elims, Answer, EqRule, InRule, Rule, onEqn, onMem, cutResult, vanish, monomialResult}
 use Rattle.rules.specs.Rules as rules
-use Rattle.rules.specs.Step.{attempt, place, resultsAt, step}
+use Rattle.rules.specs.Step.{place, step}
 use Rattle.exact.specs.Each.{Each}
-use Rattle.exact.specs.Places.{AtPlaces}
-use Rattle.exact.specs.Made.{Name, aSymbol, aVariable, MadeF, Made, MadeE, MadeL, MadeC}
-use Rattle.exact.proofs.Each.{each-map, each-imp}
+use Rattle.exact.specs.Places.{sided, sidedAt, AtSides}
+use Rattle.exact.specs.Made.{Name, aVariable, Made, MadeE, MadeL, MadeC}
+use Rattle.exact.proofs.Each.{_also_, each-map, each-imp}
 use Rattle.exact.proofs.Answers.{Where, Answers, look, test, answers}
 use Rattle.exact.proofs.Looks.{loneT-is, loneH-is, loneNode-is, loneTerm-is, firstTerm-is, firstRun-is, asSymbol-is, asBlank-is, inside-is, upTo-is, asCat-is, asAlt-is, asStar-is, asOver-is}
 use Rattle.exact.proofs.Cuts.{CutOf, cuts-join}
-use Rattle.exact.proofs.Steps.{orElse-is, where-some, step-at-places}
+use Rattle.exact.proofs.Steps.{where-some, each-at-places, step-at-places}
 use Rattle.exact.proofs.Made.{made-⧺, made-++, Puts, putC-made, setT-made, setH-made, setF-made, emptied-made, MadeMonomial, linear-made}
 
 module _ (A : Name → Type 0) where
@@ -211,12 +211,15 @@ module _ (A : Name → Type 0) where
   RuleMakes (onEqn rule) = MakesEqn rule
   RuleMakes (onMem rule) = MakesMem rule
 
-  attempt-makes : (rule : Rule) → RuleMakes rule → (K : Conj) (l : Literal) → MadeL A l → MadeAnswer (attempt rule K l)
-  attempt-makes (onEqn rule) p K (eqn l r) m =
-      record { given = orElse-is (Each MadeBranch) (rule K l r) _ (p K l r (m .0) (m .1) .given) (p K r l (m .1) (m .0) .given) }
-  attempt-makes (onEqn rule) p K (mem h R) m = record { given = tt }
-  attempt-makes (onMem rule) p K (eqn l r) m = record { given = tt }
-  attempt-makes (onMem rule) p K (mem h R) m = p K h R (m .0) (m .1)
+  sided-makes : (rule : Rule) → RuleMakes rule → (swap : Bool) (K : Conj) (l : Literal) → MadeL A l → MadeAnswer (sided swap rule K l)
+  sided-makes (onEqn rule) p false K (eqn l r) m = p K l r (m .0) (m .1)
+  sided-makes (onEqn rule) p true K (eqn l r) m = p K r l (m .1) (m .0)
+  sided-makes (onEqn rule) p false K (mem h R) m = record { given = tt }
+  sided-makes (onEqn rule) p true K (mem h R) m = record { given = tt }
+  sided-makes (onMem rule) p false K (eqn l r) m = record { given = tt }
+  sided-makes (onMem rule) p true K (eqn l r) m = record { given = tt }
+  sided-makes (onMem rule) p false K (mem h R) m = p K h R (m .0) (m .1)
+  sided-makes (onMem rule) p true K (mem h R) m = record { given = tt }
 
   -- made of what k is made of
   abbrev MadeLike : Conj → List Conj → Type 0
@@ -227,22 +230,23 @@ module _ (A : Name → Type 0) where
   at-literal-made before behind none m n p = tt
   at-literal-made before behind (some bs) m n p = each-map MadeBranch (MadeC A) (place before behind) (λ b q. place-made before behind b m n q) bs (p .given)
 
-  rule-makes : (rule : Rule) → RuleMakes rule → AtPlaces MadeLike rule
-  rule-makes rule p before l behind ks e m =
+  rule-makes : (rule : Rule) → RuleMakes rule → AtSides MadeLike rule
+  rule-makes rule p swap before l behind ks e m =
       let (x, y) = made-++ A before (l ∷ behind) .0 m in
-      where-some (Each (MadeC A)) (resultsAt rule before l behind) ks
-      (at-literal-made before behind (attempt rule (before ++ behind) l) x (y .1) (attempt-makes rule p (before ++ behind) l (y .0))) e
+      where-some (Each (MadeC A)) (sidedAt swap rule before l behind) ks
+      (at-literal-made before behind (sided swap rule (before ++ behind) l) x (y .1) (sided-makes rule p swap (before ++ behind) l (y .0))) e
 
   -- A rule's results, wherever it applies, are made of what the conjunction is made of.
-  pub each-rule-makes : Each (AtPlaces MadeLike) rules.rules
+  pub each-rule-makes : Each (AtSides MadeLike) rules.rules
   each-rule-makes =
-      each-imp RuleMakes (AtPlaces MadeLike) rule-makes rules.rules
-      (R1-makes, (R2-makes,
-      (F1-makes, (F2-makes, (F3-makes, (F4-makes, (F5-makes, (F6-makes, (F7-makes,
-      (Del1-makes, (Del3-makes,
-      (D2-makes, (D0-makes,
-      (E1-makes, (E2-makes, (E3-makes, (E4-makes, (E5-makes, (E6-makes,
-      (M1-makes, (M2-makes, (M3-makes, (M4-makes, (M5-makes, (M6-makes, (M7-makes, (M10-makes, (M11-makes, tt))))))))))))))))))))))))))))
+      each-imp RuleMakes (AtSides MadeLike) rule-makes rules.rules
+      (R1-makes also R2-makes
+      also F1-makes also F2-makes also F3-makes also F4-makes also F5-makes also F6-makes also F7-makes
+      also Del1-makes also Del3-makes
+      also D2-makes also D0-makes
+      also E1-makes also E2-makes also E3-makes also E4-makes also E5-makes also E6-makes
+      also M1-makes also M2-makes also M3-makes also M4-makes also M5-makes also M6-makes also M7-makes also M10-makes also M11-makes
+      also tt)
 
   pub step-made : (k : Conj) (ks : List Conj) → step k ≡ some ks → MadeC A k → Each (MadeC A) ks
-  step-made = step-at-places MadeLike each-rule-makes
+  step-made = step-at-places MadeLike (each-at-places MadeLike each-rule-makes)
