@@ -91,7 +91,7 @@ answer-exact L work answer ws ls n e =
     let (q, asked, ran) = answered-run L work answer ws ls n e in
     (q, asked, run-same L (q .alternatives) ls n ran)
 
--- "Answering "none" always": where there is no line, no filling meets the question.
+-- 'Answering "none" always breaks 3': "none" is said only rightly, for where there is no line, no filling meets the question.
 pub none-is-none : (L : Limits) (work answer : ℕ) (ws : List ℕ) (n : ℕ) → solving L work answer ws ≡ answered [] n
     → (q : Question) × (readQuestion L ws ≡ asks q) × ((ρ : Filling) → ¬ MeetsQuestion ρ q)
 none-is-none L work answer ws n e = let (q, asked, same) = answer-exact L work answer ws [] n e in (q, asked, λ ρ m. same ρ .0 m)
