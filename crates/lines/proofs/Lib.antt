@@ -5,3 +5,7 @@ pub mod Solving
 pub mod Quiet
 pub mod Bound
 pub mod Example
+pub mod Ground
+pub mod Places
+pub mod Settled
+pub mod Unopened
