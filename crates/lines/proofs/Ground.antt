@@ -19,7 +19,7 @@ ground-parts f c r t =
 pub ground-node : (f : Functor) (c r : Hedge) → T (isSymbol f) → T (ground c) → T (ground r) → T (ground (node f c r))
 ground-node f c r s t u = T-both (isSymbol f && ground c) (ground r) (T-both (isSymbol f) (ground c) s t) u
 
-symbol-free : (v : Var) (f : Functor) → T (isSymbol f) → ¬ T (inFunctor v f)
+pub symbol-free : (v : Var) (f : Functor) → T (isSymbol f) → ¬ T (inFunctor v f)
 symbol-free v (symbol f) s t = t
 symbol-free v (fvar X) s t = absurd s
 

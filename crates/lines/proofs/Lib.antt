@@ -9,3 +9,6 @@ pub mod Ground
 pub mod Places
 pub mod Settled
 pub mod Unopened
+pub mod Keeping
+pub mod Replacing
+pub mod Fitting
