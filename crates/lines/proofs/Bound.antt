@@ -10,8 +10,11 @@ use Rattle.meaning.specs.Meaning.{Filling, fill}
 use Rattle.rules.specs.Expressions.{sample}
 use Rattle.rules.specs.Solved.{solves, inMember}
 use Rattle.rules.specs.Example.{Values, of, expressionOf, sampled, unsolved, binds, bound, followed, example}
-use Rattle.lines.proofs.Tests.{T-or-left, T-or-right, pick-true, pick-false, picked, given-some, given-none, Opt}
-use Rattle.lines.proofs.Variables.{eqV-self, eqV-is, inConj-right, inConj-at}
+use Rattle.exact.proofs.Tests.{or-left, or-right, picks}
+use Rattle.exact.proofs.Names.{eqV-is}
+use Rattle.exact.proofs.Answers.{Where}
+use Rattle.lines.proofs.Tests.{pick-true, pick-false, given-some, given-none}
+use Rattle.lines.proofs.Variables.{eqV-self, inConj-right, inConj-at}
 use Rattle.lines.proofs.Solving.{Solves, solves-is}
 
 -- the value of each variable in a line's example
@@ -25,7 +28,7 @@ example-is k = refl
 -- ---- what binds a variable
 
 -- an equation does not bind what stands elsewhere
-not-bound : (K : Conj) (l : Literal) (v : Var) (m : Option (Var × Hedge)) → Opt (Solves K l) m → T (inConj v K) → binds v m ≡ none
+not-bound : (K : Conj) (l : Literal) (v : Var) (m : Option (Var × Hedge)) → Where (Solves K l) m → T (inConj v K) → binds v m ≡ none
 not-bound K l v none p t = refl
 not-bound K l v (some b) p t = given-none (eqV (b .0) v) (b .1) (λ e. p .nowhere (rw (eqV-is (b .0) v e) t))
 
@@ -33,7 +36,7 @@ not-bound K l v (some b) p t = given-none (eqV (b .0) v) (b .1) (λ e. p .nowher
 pub unbound : (v : Var) (before mid behind : Conj) (l : Literal)
     → T (inLiteral v l) → binds v (solves (before ++ (mid ++ behind)) l) ≡ none → bound v before (mid ++ (l ∷ behind)) ≡ none
 unbound v before [] behind l t e = pick-true (inLiteral v l) _ _ t ∙ e
-unbound v before (m ∷ mid) behind l t e = picked (λ (z : Option Hedge). z ≡ none) (inLiteral v m)
+unbound v before (m ∷ mid) behind l t e = picks (λ (z : Option Hedge). z ≡ none) (inLiteral v m)
     (λ s. not-bound _ m v (solves (before ++ (mid ++ (l ∷ behind))) m) (solves-is _ m) (inConj-right v before _ (inConj-at v mid behind l t)))
     (unbound v (before ++ (m ∷ [])) mid behind l t (rw append-assoc e))
 
@@ -53,8 +56,8 @@ expression-here : (v : Var) (mid behind : Conj) (h : Hedge) (R : Expr) → T (ho
 expression-here v [] behind h R t n = pick-true (holds v h) _ _ t
 expression-here v (eqn l r ∷ mid) behind h R t n = expression-here v mid behind h R t n
 expression-here v (mem k S ∷ mid) behind h R t n =
-    pick-false (holds v k) _ _ (λ s. n (T-or-left (holds v k) (inMember v (mid ++ behind)) s))
-    ∙ expression-here v mid behind h R t (λ s. n (T-or-right (holds v k) (inMember v (mid ++ behind)) s))
+    pick-false (holds v k) _ _ (λ s. n (or-left (holds v k) (inMember v (mid ++ behind)) s))
+    ∙ expression-here v mid behind h R t (λ s. n (or-right (holds v k) (inMember v (mid ++ behind)) s))
 
 -- ---- the values
 

@@ -16,17 +16,22 @@ use Rattle.rules.specs.Looks.{empty}
 use Rattle.rules.specs.Expressions.{sample}
 use Rattle.rules.specs.Solved.{isSome, given, solves, inMember, loneVar, onlyMember, solvedLiteral, solvedFrom, solved}
 use Rattle.rules.specs.Example.{Values, of, unsolved, binds, example}
-use Rattle.lines.proofs.Tests.{T-true, T-and, Opt, given-none}
-use Rattle.lines.proofs.Variables.{eqV-is, holds-tvar, holds-hvar}
+use Rattle.exact.proofs.Tests.{and-parts}
+use Rattle.exact.proofs.Names.{eqV-is}
+use Rattle.exact.proofs.Complete.{·-nil}
+use Rattle.exact.proofs.Answers.{Where}
+use Rattle.exact.proofs.Looks.{empty-is}
+use Rattle.lines.proofs.Tests.{T-true, given-none}
+use Rattle.lines.proofs.Variables.{holds-tvar, holds-hvar}
 use Rattle.lines.proofs.Sample.{sample-member}
-use Rattle.lines.proofs.Solving.{agree, empty-is, ·-nil, Solves, solves-is}
+use Rattle.lines.proofs.Solving.{agree, Solves, solves-is}
 use Rattle.lines.proofs.Quiet.{NoRule, step-none, QuietMem, quiet-mem}
 use Rattle.lines.proofs.Bound.{values, example-is, unbound-value, solved-value, sample-value}
 
 -- ---- an equation
 
 module _ (before behind : Conj) (l : Literal) where
-  by-equation : (m : Option (Var × Hedge)) → solves (before ++ behind) l ≡ m → Opt (Solves (before ++ behind) l) m → T (isSome m) → Meets (of (values (before ++ (l ∷ behind)))) l
+  by-equation : (m : Option (Var × Hedge)) → solves (before ++ behind) l ≡ m → Where (Solves (before ++ behind) l) m → T (isSome m) → Meets (of (values (before ++ (l ∷ behind)))) l
   by-equation none e p s = absurd s
   by-equation (some b) e p s = p .meets (values (before ++ (l ∷ behind))) (unsolved (before ++ (l ∷ behind)))
       (solved-value before behind l (b .0) (b .1) (p .here) (p .nowhere) e)
@@ -75,12 +80,12 @@ module _ (before behind : Conj) where
 meets-from : (before behind : Conj) → T (solvedFrom before behind) → step (before ++ behind) ≡ none → MeetsAll (of (values (before ++ behind))) behind
 meets-from before [] t q = tt
 meets-from before (eqn l r ∷ behind) t q =
-    let (a, b) = T-and (solvedLiteral (before ++ behind) (eqn l r)) (solvedFrom (before ++ (eqn l r ∷ [])) behind) t in (
+    let (a, b) = and-parts (solvedLiteral (before ++ behind) (eqn l r)) (solvedFrom (before ++ (eqn l r ∷ [])) behind) t in (
       by-equation before behind (eqn l r) (solves (before ++ behind) (eqn l r)) refl (solves-is _ (eqn l r)) a,
       rw append-assoc at (meets-from (before ++ (eqn l r ∷ [])) behind b (rw append-assoc q)),
     )
 meets-from before (mem h R ∷ behind) t q =
-    let (a, b) = T-and (solvedLiteral (before ++ behind) (mem h R)) (solvedFrom (before ++ (mem h R ∷ [])) behind) t in (
+    let (a, b) = and-parts (solvedLiteral (before ++ behind) (mem h R)) (solvedFrom (before ++ (mem h R ∷ [])) behind) t in (
       by-membership before behind h R a (quiet-mem (before ++ behind) h R (step-none before behind (mem h R) q)),
       rw append-assoc at (meets-from (before ++ (mem h R ∷ [])) behind b (rw append-assoc q)),
     )

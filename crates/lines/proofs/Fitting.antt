@@ -1,4 +1,4 @@
--- What each result of a rule has to be so that the conjunction stays in the matching fragment, and how a rule's proof follows its text.
+-- What each result of a rule has to be so that the conjunction stays in the matching fragment.
 use mathlib.Core.Path.{_≡_, refl, ap}
 use mathlib.Core.Logic.{_⊎_, inl, inr}
 use mathlib.Core.Bool.{Bool, true, false, _&&_, _||_}
@@ -6,12 +6,15 @@ use mathlib.Core.List.{List, [], _∷_, _++_, map}
 use mathlib.Core.Option.{Option, none, some}
 use lib.Dec.{T}
 use Rattle.language.specs.Trees.{Hedge, ε, tvar, hvar, node, Expr, Literal, eqn, mem, Conj, Var, holds, inLiteral}
-use Rattle.rules.specs.Rules.{Branch, plain, elims, Answer, _>>=_, check, Rule, onEqn, onMem}
-use Rattle.rules.specs.Step.{place, attempt}
+use Rattle.rules.specs.Rules as rules
+use Rattle.rules.specs.Rules.{Branch, plain, elims, Answer}
+use Rattle.rules.specs.Step.{place}
 use Rattle.rules.specs.Substitution.{putC}
 use Rattle.rules.specs.Solved.{inMember}
+use Rattle.exact.proofs.Tests.{or-cases, or-left, or-right}
+use Rattle.exact.specs.Each.{Each}
+use Rattle.exact.proofs.Answers.{Answers, answers}
 use Rattle.lines.specs.Matching.{ground, sidedL, sided, inEquation, Matching}
-use Rattle.lines.proofs.Tests.{T-or, T-or-left, T-or-right, Opt}
 use Rattle.lines.proofs.Places.{equation-left, equation-right}
 use Rattle.lines.proofs.Keeping.{Keeps, keeps-self, keeps-row, keeps-then, keeps-matching, Replaces, put-keeps}
 
@@ -21,10 +24,6 @@ use Rattle.lines.proofs.Keeping.{Keeps, keeps-self, keeps-row, keeps-th
 abbrev pub Fits : Literal → Branch → Type 0
 Fits l (plain ls) = Keeps [] (l ∷ []) ls
 Fits l (elims es ls s) = Keeps es [] es × Keeps es (l ∷ []) ls × Replaces es s
-
-abbrev pub AllFit : Literal → List Branch → Type 0
-AllFit l [] = Unit {0}
-AllFit l (b ∷ bs) = Fits l b × AllFit l bs
 
 pub placed : (before behind : Conj) (l : Literal) (b : Branch) → Fits l b → Matching (before ++ (l ∷ behind)) → Matching (place before behind b)
 placed before behind l (plain ls) p = keeps-matching [] (before ++ (l ∷ behind)) (before ++ (ls ++ behind))
@@ -37,32 +36,25 @@ placed before behind l (elims es ls s) (p, q, r) = keeps-matching es (before ++ 
 
 -- ---- an answer
 
-abbrev Stay : Literal → Answer → Type 0
-Stay l none = Unit {0}
-Stay l (some bs) = AllFit l bs
-
 -- whatever the rule answers fits
-pub record Stays (l : Literal) (w : Answer) : Type 0 where
-  pub stay : Stay l w
+abbrev pub FitAnswer : Literal → Answer → Type 0
+FitAnswer l w = Answers (Each (Fits l)) w
 
-pub stays : {l : Literal} (bs : List Branch) → AllFit l bs → Stays l (some bs)
-stays bs p = record { stay = p }
+-- the conjunction is dropped
+pub dropped : {l : Literal} → FitAnswer l rules.drop
+dropped = answers tt
 
-pub stays-bind : {A : Type 0} {P : A → Type 0} {l : Literal} {f : A → Answer} (m : Option A) → Opt P m → ((a : A) → P a → Stays l (f a)) → Stays l (m >>= f)
-unfolding _>>=_
-stays-bind none p h = record { stay = tt }
-stays-bind (some a) p h = h a p
+pub becomes : {l : Literal} {ls : Conj} → Keeps [] (l ∷ []) ls → FitAnswer l (rules.into ls)
+becomes p = answers (p, tt)
 
-pub stays-check : {l : Literal} {f : Unit {0} → Answer} (b : Bool) → ((u : Unit {0}) → T b → Stays l (f u)) → Stays l (check b >>= f)
-unfolding _>>=_ check
-stays-check true h = h tt tt
-stays-check false h = record { stay = tt }
+pub becomes-either : {l : Literal} {ls ms : Conj} → Keeps [] (l ∷ []) ls → Keeps [] (l ∷ []) ms → FitAnswer l (rules.either ls ms)
+becomes-either p q = answers (p, (q, tt))
 
 -- ---- what stands for a membership, and for an equation
 
 -- a membership has no variable of an equation to lose
 pub for-membership : (E ls : Conj) (h : Hedge) (R : Expr) → T (sided ls) → ((v : Var) → T (inMember v ls) → T (holds v h)) → Keeps E (mem h R ∷ []) ls
-for-membership E ls h R s m = record { sides = λ t. s; members = λ v t. T-or-left (holds v h) false (m v t); equations = λ v t. absurd t }
+for-membership E ls h R s m = record { sides = λ t. s; members = λ v t. or-left (holds v h) false (m v t); equations = λ v t. absurd t }
 
 -- an equation has no variable of a membership
 pub for-equation : (E ls : Conj) (l r : Hedge) → T (sided ls) → ((v : Var) → ¬ T (inMember v ls))
@@ -70,7 +62,7 @@ pub for-equation : (E ls : Conj) (l r : Hedge) → T (sided ls) → ((v : Var) �
 for-equation E ls l r s n e = record {
   sides = λ t. s;
   members = λ v t. absurd (n v t);
-  equations = λ v t. elim (T-or (inLiteral v (eqn l r)) false t) [ inl u ↦ e v u | inr z ↦ absurd z ];
+  equations = λ v t. elim (or-cases (inLiteral v (eqn l r)) false t) [ inl u ↦ e v u | inr z ↦ absurd z ];
 }
 
 -- equations that eliminate

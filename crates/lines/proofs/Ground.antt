@@ -6,18 +6,18 @@ use mathlib.Core.Option.{Option, none, some}
 use lib.Dec.{T}
 use Rattle.language.specs.Trees.{Functor, symbol, fvar, Hedge, ε, tvar, hvar, node, Var, inFunctor, holds}
 use Rattle.rules.specs.Looks.{allTerms, loneH}
+use Rattle.exact.proofs.Tests.{and-parts, and-both, or-cases}
 use Rattle.lines.specs.Matching.{isSymbol, ground}
-use Rattle.lines.proofs.Tests.{T-and, T-both, T-or}
 
 -- the parts of a hedge without blanks
 pub ground-parts : (f : Functor) (c r : Hedge) → T (ground (node f c r)) → T (isSymbol f) × T (ground c) × T (ground r)
 ground-parts f c r t =
-    let (a, b) = T-and (isSymbol f && ground c) (ground r) t in
-    let (d, e) = T-and (isSymbol f) (ground c) a in
+    let (a, b) = and-parts (isSymbol f && ground c) (ground r) t in
+    let (d, e) = and-parts (isSymbol f) (ground c) a in
     (d, e, b)
 
 pub ground-node : (f : Functor) (c r : Hedge) → T (isSymbol f) → T (ground c) → T (ground r) → T (ground (node f c r))
-ground-node f c r s t u = T-both (isSymbol f && ground c) (ground r) (T-both (isSymbol f) (ground c) s t) u
+ground-node f c r s t u = and-both (isSymbol f && ground c) (ground r) (and-both (isSymbol f) (ground c) s t) u
 
 pub symbol-free : (v : Var) (f : Functor) → T (isSymbol f) → ¬ T (inFunctor v f)
 symbol-free v (symbol f) s t = t
@@ -29,8 +29,8 @@ ground-free v (tvar x r) g t = absurd g
 ground-free v (hvar p r) g t = absurd g
 ground-free v (node f c r) g t =
     let (a, b, d) = ground-parts f c r g in
-    elim (T-or (inFunctor v f || holds v c) (holds v r) t) [
-      | inl s ↦ elim (T-or (inFunctor v f) (holds v c) s) [ inl u ↦ symbol-free v f a u | inr u ↦ ground-free v c b u ]
+    elim (or-cases (inFunctor v f || holds v c) (holds v r) t) [
+      | inl s ↦ elim (or-cases (inFunctor v f) (holds v c) s) [ inl u ↦ symbol-free v f a u | inr u ↦ ground-free v c b u ]
       | inr s ↦ ground-free v r d s
     ]
 

@@ -10,9 +10,10 @@ use Rattle.language.specs.declared.FunVar.{FunVar}
 use Rattle.language.specs.Trees.{Functor, symbol, fvar, Hedge, ε, tvar, hvar, node, Expr, Literal, eqn, mem, Conj, _⧺_, Var, tv, hv, fv, eqV, inFunctor, holds, inLiteral}
 use Rattle.rules.specs.Substitution.{Subst, put, putF, putL, putC}
 use Rattle.rules.specs.Solved.{inMember}
+use Rattle.exact.proofs.Tests.{or-cases, or-left, or-right, and-parts, and-both}
+use Rattle.exact.proofs.Names.{eqV-is}
 use Rattle.lines.specs.Matching.{isSymbol, ground, sidedL, sided, inEquation, Matching}
-use Rattle.lines.proofs.Tests.{T-or, T-or-left, T-or-right, T-and, T-both}
-use Rattle.lines.proofs.Variables.{eqV-is, holds-tvar, holds-hvar, holds-fvar, after-tvar, after-hvar, in-functor, in-children, after-node}
+use Rattle.lines.proofs.Variables.{holds-tvar, holds-hvar, holds-fvar, after-tvar, after-hvar, in-functor, in-children, after-node}
 use Rattle.lines.proofs.Ground.{symbol-free, ground-free, ground-parts, ground-node}
 use Rattle.lines.proofs.Places.{sided-parts, sided-row, member-parts, member-left, member-right, equation-parts, equation-left, equation-right}
 
@@ -61,16 +62,16 @@ pub record Replaces (E : Conj) (s : Subst) : Type 0 where
 module _ (v : Var) where
   holds-parts : (h k : Hedge) → T (holds v (h ⧺ k)) → T (holds v h) ⊎ T (holds v k)
   holds-parts ε k t = inr t
-  holds-parts (tvar x r) k t = elim (T-or (eqV v (tv x)) (holds v (r ⧺ k)) t) [
-    | inl s ↦ inl (T-or-left (eqV v (tv x)) (holds v r) s)
+  holds-parts (tvar x r) k t = elim (or-cases (eqV v (tv x)) (holds v (r ⧺ k)) t) [
+    | inl s ↦ inl (or-left (eqV v (tv x)) (holds v r) s)
     | inr s ↦ elim (holds-parts r k s) [ inl u ↦ inl (after-tvar v x r u) | inr u ↦ inr u ]
   ]
-  holds-parts (hvar p r) k t = elim (T-or (eqV v (hv p)) (holds v (r ⧺ k)) t) [
-    | inl s ↦ inl (T-or-left (eqV v (hv p)) (holds v r) s)
+  holds-parts (hvar p r) k t = elim (or-cases (eqV v (hv p)) (holds v (r ⧺ k)) t) [
+    | inl s ↦ inl (or-left (eqV v (hv p)) (holds v r) s)
     | inr s ↦ elim (holds-parts r k s) [ inl u ↦ inl (after-hvar v p r u) | inr u ↦ inr u ]
   ]
-  holds-parts (node f c r) k t = elim (T-or (inFunctor v f || holds v c) (holds v (r ⧺ k)) t) [
-    | inl s ↦ inl (T-or-left (inFunctor v f || holds v c) (holds v r) s)
+  holds-parts (node f c r) k t = elim (or-cases (inFunctor v f || holds v c) (holds v (r ⧺ k)) t) [
+    | inl s ↦ inl (or-left (inFunctor v f || holds v c) (holds v r) s)
     | inr s ↦ elim (holds-parts r k s) [ inl u ↦ inl (after-node v f c r u) | inr u ↦ inr u ]
   ]
 
@@ -105,7 +106,7 @@ module _ (E : Conj) (s : Subst) (e : Replaces E s) where
   put-fewer v (tvar x r) t = elim (holds-parts v (s .term x) (put s r) t) [
     | inl u ↦
         elim (e .term x) [
-          | inl d ↦ elim (T-or (eqV v (tv x)) false (rw d at u)) [ inl w ↦ T-or-left (eqV v (tv x)) (holds v r) w | inr z ↦ absurd z ]
+          | inl d ↦ elim (or-cases (eqV v (tv x)) false (rw d at u)) [ inl w ↦ or-left (eqV v (tv x)) (holds v r) w | inr z ↦ absurd z ]
           | inr d ↦ absurd (ground-free v (s .term x) (d .0) u)
         ]
     | inr u ↦ after-tvar v x r (put-fewer v r u)
@@ -113,14 +114,14 @@ module _ (E : Conj) (s : Subst) (e : Replaces E s) where
   put-fewer v (hvar p r) t = elim (holds-parts v (s .hedge p) (put s r) t) [
     | inl u ↦
         elim (e .hedge p) [
-          | inl d ↦ elim (T-or (eqV v (hv p)) false (rw d at u)) [ inl w ↦ T-or-left (eqV v (hv p)) (holds v r) w | inr z ↦ absurd z ]
+          | inl d ↦ elim (or-cases (eqV v (hv p)) false (rw d at u)) [ inl w ↦ or-left (eqV v (hv p)) (holds v r) w | inr z ↦ absurd z ]
           | inr d ↦ absurd (ground-free v (s .hedge p) (d .0) u)
         ]
     | inr u ↦ after-hvar v p r (put-fewer v r u)
   ]
-  put-fewer v (node f c r) t = elim (T-or (inFunctor v (putF s f) || holds v (put s c)) (holds v (put s r)) t) [
+  put-fewer v (node f c r) t = elim (or-cases (inFunctor v (putF s f) || holds v (put s c)) (holds v (put s r)) t) [
     | inl u ↦
-        elim (T-or (inFunctor v (putF s f)) (holds v (put s c)) u) [
+        elim (or-cases (inFunctor v (putF s f)) (holds v (put s c)) u) [
           | inl w ↦ in-functor v f c r (functor-fewer v f w)
           | inr w ↦ in-children v f c r (put-fewer v c w)
         ]
@@ -134,25 +135,25 @@ module _ (E : Conj) (s : Subst) (e : Replaces E s) where
   -- a variable stays, or E holds it
   put-others : (v : Var) (h : Hedge) → T (holds v h) → T (holds v (put s h)) ⊎ T (inEquation v E)
   put-others v ε t = absurd t
-  put-others v (tvar x r) t = elim (T-or (eqV v (tv x)) (holds v r) t) [
+  put-others v (tvar x r) t = elim (or-cases (eqV v (tv x)) (holds v r) t) [
     | inl u ↦
         elim (e .term x) [
-          | inl d ↦ inl (rw d (T-or-left (eqV v (tv x)) (holds v (put s r)) u))
+          | inl d ↦ inl (rw d (or-left (eqV v (tv x)) (holds v (put s r)) u))
           | inr d ↦ inr (rw (eqV-is v (tv x) u) (d .1))
         ]
     | inr u ↦ elim (put-others v r u) [ inl w ↦ inl (holds-right v (s .term x) (put s r) w) | inr w ↦ inr w ]
   ]
-  put-others v (hvar p r) t = elim (T-or (eqV v (hv p)) (holds v r) t) [
+  put-others v (hvar p r) t = elim (or-cases (eqV v (hv p)) (holds v r) t) [
     | inl u ↦
         elim (e .hedge p) [
-          | inl d ↦ inl (rw d (T-or-left (eqV v (hv p)) (holds v (put s r)) u))
+          | inl d ↦ inl (rw d (or-left (eqV v (hv p)) (holds v (put s r)) u))
           | inr d ↦ inr (rw (eqV-is v (hv p) u) (d .1))
         ]
     | inr u ↦ elim (put-others v r u) [ inl w ↦ inl (holds-right v (s .hedge p) (put s r) w) | inr w ↦ inr w ]
   ]
-  put-others v (node f c r) t = elim (T-or (inFunctor v f || holds v c) (holds v r) t) [
+  put-others v (node f c r) t = elim (or-cases (inFunctor v f || holds v c) (holds v r) t) [
     | inl u ↦
-        elim (T-or (inFunctor v f) (holds v c) u) [
+        elim (or-cases (inFunctor v f) (holds v c) u) [
           | inl w ↦ elim (functor-others v f w) [ inl z ↦ inl (in-functor v (putF s f) (put s c) (put s r) z) | inr z ↦ inr z ]
           | inr w ↦ elim (put-others v c w) [ inl z ↦ inl (in-children v (putF s f) (put s c) (put s r) z) | inr z ↦ inr z ]
         ]
@@ -162,28 +163,28 @@ module _ (E : Conj) (s : Subst) (e : Replaces E s) where
   -- ---- and in a conjunction
 
   put-sided : (l : Literal) → T (sidedL l) → T (sidedL (putL s l))
-  put-sided (eqn l r) t = elim (T-or (ground l) (ground r) t) [
-    | inl g ↦ T-or-left (ground (put s l)) (ground (put s r)) (put-ground l g)
-    | inr g ↦ T-or-right (ground (put s l)) (ground (put s r)) (put-ground r g)
+  put-sided (eqn l r) t = elim (or-cases (ground l) (ground r) t) [
+    | inl g ↦ or-left (ground (put s l)) (ground (put s r)) (put-ground l g)
+    | inr g ↦ or-right (ground (put s l)) (ground (put s r)) (put-ground r g)
   ]
   put-sided (mem h R) t = tt
 
   put-literal : (l : Literal) → Keeps E (l ∷ []) (putL s l ∷ [])
   put-literal (eqn l r) = record {
-    sides = λ t. T-both (sidedL (putL s (eqn l r))) true (put-sided (eqn l r) (T-and (sidedL (eqn l r)) true t .0)) tt;
+    sides = λ t. and-both (sidedL (putL s (eqn l r))) true (put-sided (eqn l r) (and-parts (sidedL (eqn l r)) true t .0)) tt;
     members = λ v t. t;
-    equations = λ v t. elim (T-or (inLiteral v (eqn l r)) false t) [
+    equations = λ v t. elim (or-cases (inLiteral v (eqn l r)) false t) [
       | inl u ↦
-          elim (T-or (holds v l) (holds v r) u) [
-            | inl w ↦ elim (put-others v l w) [ inl z ↦ inl (T-or-left (holds v (put s l) || holds v (put s r)) false (T-or-left (holds v (put s l)) (holds v (put s r)) z)) | inr z ↦ inr z ]
-            | inr w ↦ elim (put-others v r w) [ inl z ↦ inl (T-or-left (holds v (put s l) || holds v (put s r)) false (T-or-right (holds v (put s l)) (holds v (put s r)) z)) | inr z ↦ inr z ]
+          elim (or-cases (holds v l) (holds v r) u) [
+            | inl w ↦ elim (put-others v l w) [ inl z ↦ inl (or-left (holds v (put s l) || holds v (put s r)) false (or-left (holds v (put s l)) (holds v (put s r)) z)) | inr z ↦ inr z ]
+            | inr w ↦ elim (put-others v r w) [ inl z ↦ inl (or-left (holds v (put s l) || holds v (put s r)) false (or-right (holds v (put s l)) (holds v (put s r)) z)) | inr z ↦ inr z ]
           ]
       | inr z ↦ absurd z
     ];
   }
   put-literal (mem h R) = record {
     sides = λ t. t;
-    members = λ v t. elim (T-or (holds v (put s h)) false t) [ inl u ↦ T-or-left (holds v h) false (put-fewer v h u) | inr z ↦ absurd z ];
+    members = λ v t. elim (or-cases (holds v (put s h)) false t) [ inl u ↦ or-left (holds v h) false (put-fewer v h u) | inr z ↦ absurd z ];
     equations = λ v t. absurd t;
   }
 

@@ -6,63 +6,63 @@ use mathlib.Core.List.{List, [], _∷_, _++_}
 use lib.Dec.{T}
 use Rattle.language.specs.Trees.{Hedge, Literal, eqn, mem, Conj, Var, holds, inLiteral, inConj}
 use Rattle.rules.specs.Solved.{inMember}
+use Rattle.exact.proofs.Tests.{or-cases, or-left, or-right, and-parts, and-both}
 use Rattle.lines.specs.Matching.{sidedL, sided, inEquation}
-use Rattle.lines.proofs.Tests.{T-or, T-or-left, T-or-right, T-and, T-both}
 
 -- ---- in a row
 
 pub sided-parts : (c d : Conj) → T (sided (c ++ d)) → T (sided c) × T (sided d)
 sided-parts [] d t = (tt, t)
 sided-parts (l ∷ c) d t =
-    let (a, b) = T-and (sidedL l) (sided (c ++ d)) t in
+    let (a, b) = and-parts (sidedL l) (sided (c ++ d)) t in
     let (p, q) = sided-parts c d b in
-    (T-both (sidedL l) (sided c) a p, q)
+    (and-both (sidedL l) (sided c) a p, q)
 
 pub sided-row : (c d : Conj) → T (sided c) → T (sided d) → T (sided (c ++ d))
 sided-row [] d s t = t
-sided-row (l ∷ c) d s t = let (a, b) = T-and (sidedL l) (sided c) s in T-both (sidedL l) (sided (c ++ d)) a (sided-row c d b t)
+sided-row (l ∷ c) d s t = let (a, b) = and-parts (sidedL l) (sided c) s in and-both (sidedL l) (sided (c ++ d)) a (sided-row c d b t)
 
 module _ (v : Var) where
   pub member-parts : (c d : Conj) → T (inMember v (c ++ d)) → T (inMember v c) ⊎ T (inMember v d)
   member-parts [] d t = inr t
   member-parts (eqn l r ∷ c) d t = member-parts c d t
-  member-parts (mem h R ∷ c) d t = elim (T-or (holds v h) (inMember v (c ++ d)) t) [
-    | inl s ↦ inl (T-or-left (holds v h) (inMember v c) s)
-    | inr s ↦ elim (member-parts c d s) [ inl u ↦ inl (T-or-right (holds v h) (inMember v c) u) | inr u ↦ inr u ]
+  member-parts (mem h R ∷ c) d t = elim (or-cases (holds v h) (inMember v (c ++ d)) t) [
+    | inl s ↦ inl (or-left (holds v h) (inMember v c) s)
+    | inr s ↦ elim (member-parts c d s) [ inl u ↦ inl (or-right (holds v h) (inMember v c) u) | inr u ↦ inr u ]
   ]
 
   pub member-left : (c d : Conj) → T (inMember v c) → T (inMember v (c ++ d))
   member-left [] d t = absurd t
   member-left (eqn l r ∷ c) d t = member-left c d t
-  member-left (mem h R ∷ c) d t = elim (T-or (holds v h) (inMember v c) t) [
-    | inl s ↦ T-or-left (holds v h) (inMember v (c ++ d)) s
-    | inr s ↦ T-or-right (holds v h) (inMember v (c ++ d)) (member-left c d s)
+  member-left (mem h R ∷ c) d t = elim (or-cases (holds v h) (inMember v c) t) [
+    | inl s ↦ or-left (holds v h) (inMember v (c ++ d)) s
+    | inr s ↦ or-right (holds v h) (inMember v (c ++ d)) (member-left c d s)
   ]
 
   pub member-right : (c d : Conj) → T (inMember v d) → T (inMember v (c ++ d))
   member-right [] d t = t
   member-right (eqn l r ∷ c) d t = member-right c d t
-  member-right (mem h R ∷ c) d t = T-or-right (holds v h) (inMember v (c ++ d)) (member-right c d t)
+  member-right (mem h R ∷ c) d t = or-right (holds v h) (inMember v (c ++ d)) (member-right c d t)
 
   pub equation-parts : (c d : Conj) → T (inEquation v (c ++ d)) → T (inEquation v c) ⊎ T (inEquation v d)
   equation-parts [] d t = inr t
-  equation-parts (eqn l r ∷ c) d t = elim (T-or (inLiteral v (eqn l r)) (inEquation v (c ++ d)) t) [
-    | inl s ↦ inl (T-or-left (inLiteral v (eqn l r)) (inEquation v c) s)
-    | inr s ↦ elim (equation-parts c d s) [ inl u ↦ inl (T-or-right (inLiteral v (eqn l r)) (inEquation v c) u) | inr u ↦ inr u ]
+  equation-parts (eqn l r ∷ c) d t = elim (or-cases (inLiteral v (eqn l r)) (inEquation v (c ++ d)) t) [
+    | inl s ↦ inl (or-left (inLiteral v (eqn l r)) (inEquation v c) s)
+    | inr s ↦ elim (equation-parts c d s) [ inl u ↦ inl (or-right (inLiteral v (eqn l r)) (inEquation v c) u) | inr u ↦ inr u ]
   ]
   equation-parts (mem h R ∷ c) d t = equation-parts c d t
 
   pub equation-left : (c d : Conj) → T (inEquation v c) → T (inEquation v (c ++ d))
   equation-left [] d t = absurd t
-  equation-left (eqn l r ∷ c) d t = elim (T-or (inLiteral v (eqn l r)) (inEquation v c) t) [
-    | inl s ↦ T-or-left (inLiteral v (eqn l r)) (inEquation v (c ++ d)) s
-    | inr s ↦ T-or-right (inLiteral v (eqn l r)) (inEquation v (c ++ d)) (equation-left c d s)
+  equation-left (eqn l r ∷ c) d t = elim (or-cases (inLiteral v (eqn l r)) (inEquation v c) t) [
+    | inl s ↦ or-left (inLiteral v (eqn l r)) (inEquation v (c ++ d)) s
+    | inr s ↦ or-right (inLiteral v (eqn l r)) (inEquation v (c ++ d)) (equation-left c d s)
   ]
   equation-left (mem h R ∷ c) d t = equation-left c d t
 
   pub equation-right : (c d : Conj) → T (inEquation v d) → T (inEquation v (c ++ d))
   equation-right [] d t = t
-  equation-right (eqn l r ∷ c) d t = T-or-right (inLiteral v (eqn l r)) (inEquation v (c ++ d)) (equation-right c d t)
+  equation-right (eqn l r ∷ c) d t = or-right (inLiteral v (eqn l r)) (inEquation v (c ++ d)) (equation-right c d t)
   equation-right (mem h R ∷ c) d t = equation-right c d t
 
 -- ---- at a literal
@@ -81,7 +81,7 @@ further v l k s = record { before = l ∷ s .before; left = s .left; right = s .
 
 pub equation-at : (v : Var) (k : Conj) → T (inEquation v k) → Stands v k
 equation-at v [] t = absurd t
-equation-at v (eqn l r ∷ k) t = elim (T-or (inLiteral v (eqn l r)) (inEquation v k) t) [
+equation-at v (eqn l r ∷ k) t = elim (or-cases (inLiteral v (eqn l r)) (inEquation v k) t) [
   | inl s ↦ record { before = []; left = l; right = r; behind = k; split = refl; there = s }
   | inr s ↦ further v (eqn l r) k (equation-at v k s)
 ]
@@ -89,10 +89,10 @@ equation-at v (mem h R ∷ k) t = further v (mem h R) k (equation-at v k t)
 
 pub member-inConj : (v : Var) (c : Conj) → T (inMember v c) → T (inConj v c)
 member-inConj v [] t = t
-member-inConj v (eqn l r ∷ c) t = T-or-right (inLiteral v (eqn l r)) (inConj v c) (member-inConj v c t)
-member-inConj v (mem h R ∷ c) t = elim (T-or (holds v h) (inMember v c) t) [
-  | inl s ↦ T-or-left (holds v h) (inConj v c) s
-  | inr s ↦ T-or-right (holds v h) (inConj v c) (member-inConj v c s)
+member-inConj v (eqn l r ∷ c) t = or-right (inLiteral v (eqn l r)) (inConj v c) (member-inConj v c t)
+member-inConj v (mem h R ∷ c) t = elim (or-cases (holds v h) (inMember v c) t) [
+  | inl s ↦ or-left (holds v h) (inConj v c) s
+  | inr s ↦ or-right (holds v h) (inConj v c) (member-inConj v c s)
 ]
 
 -- a variable of a membership stands elsewhere than in a given equation

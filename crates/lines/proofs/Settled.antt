@@ -13,11 +13,12 @@ use Rattle.language.specs.Trees.{Functor, symbol, fvar, Hedge, ε, tvar, hvar, 
 use Rattle.rules.specs.Rules.{Answer, _>>=_, check, D2, too}
 use Rattle.rules.specs.Looks.{empty, firstTerm, loneH}
 use Rattle.rules.specs.Solved.{isSome, given, variable, alone}
+use Rattle.exact.proofs.Tests.{or-cases, and-parts, and-both}
+use Rattle.exact.proofs.Names.{eqV-is}
+use Rattle.exact.proofs.Looks.{empty-is}
 use Rattle.lines.specs.Matching.{isSymbol, ground}
-use Rattle.lines.proofs.Tests.{T-or, T-and, T-both, T-true}
-use Rattle.lines.proofs.Variables.{eqV-is}
+use Rattle.lines.proofs.Tests.{T-true}
 use Rattle.lines.proofs.Ground.{ground-free, ground-parts, ground-terms, ground-loneH}
-use Rattle.lines.proofs.Solving.{empty-is}
 use Rattle.lines.proofs.Quiet.{QuietEqn}
 
 -- ---- a rule that does not apply
@@ -38,7 +39,7 @@ must false n = n tt
 -- D2: both first terms stand alone
 both-alone : (K : Conj) (l r : Hedge) (a b : Hedge × Hedge) → firstTerm l ≡ some a → firstTerm r ≡ some b → D2 K l r ≡ none → (a .1 ≡ ε) × (b .1 ≡ ε)
 both-alone K l r a b d e q =
-    let (s, t) = T-and (empty (a .1)) (empty (b .1))
+    let (s, t) = and-parts (empty (a .1)) (empty (b .1))
     (must (empty (a .1) && empty (b .1)) λ n. Option·some-ne-none _ (passes _ _ (found b _ (rw e at (found a _ (rw d at q)))) n)) in
     (empty-is (a .1) s, empty-is (b .1) t)
 
@@ -59,23 +60,23 @@ given-alone false false x n m = tt
 settles : (K : Conj) (l r : Hedge) (v : Var) → variable l r ≡ some v → ((u : Var) → T (holds u l) → u ≡ v) → T (ground r) → ¬ T (inConj v K) → Settles K l r
 settles K l r v e only g n = record {
   solved = rw e (given-alone (holds v r) (inConj v K) (v, r) (ground-free v r g) n);
-  nowhere = λ u t. elim (T-or (holds u l) (holds u r) t) [ inl s ↦ rw (only u s) n | inr s ↦ absurd (ground-free u r g s) ];
+  nowhere = λ u t. elim (or-cases (holds u l) (holds u r) t) [ inl s ↦ rw (only u s) n | inr s ↦ absurd (ground-free u r g s) ];
 }
 
 -- E1 does not apply
 settled-term : (K : Conj) (x : TermVar) (f : Functor) (c : Hedge) → T (ground (node f c ε)) → QuietEqn K (tvar x ε) (node f c ε) → Settles K (tvar x ε) (node f c ε)
-settled-term K x f c g q = settles K (tvar x ε) (node f c ε) (tv x) refl (λ u t. elim (T-or (eqV u (tv x)) false t) [ inl s ↦ eqV-is u (tv x) s | inr z ↦ absurd z ]) g
+settled-term K x f c g q = settles K (tvar x ε) (node f c ε) (tv x) refl (λ u t. elim (or-cases (eqV u (tv x)) false t) [ inl s ↦ eqV-is u (tv x) s | inr z ↦ absurd z ]) g
     λ t. Option·some-ne-none _ (passes _ _ (passes _ _ (passes _ _ (found _ _ (found _ _ (q .e1))) (not-T (holds (tv x) (node f c ε)) (ground-free (tv x) (node f c ε) g))) t) tt)
 
 -- E2 does not apply
 settled-run : (K : Conj) (p : HedgeVar) (r : Hedge) → T (ground r) → QuietEqn K (hvar p ε) r → Settles K (hvar p ε) r
-settled-run K p r g q = settles K (hvar p ε) r (hv p) refl (λ u t. elim (T-or (eqV u (hv p)) false t) [ inl s ↦ eqV-is u (hv p) s | inr z ↦ absurd z ]) g
+settled-run K p r g q = settles K (hvar p ε) r (hv p) refl (λ u t. elim (or-cases (eqV u (hv p)) false t) [ inl s ↦ eqV-is u (hv p) s | inr z ↦ absurd z ]) g
     λ t. Option·some-ne-none _ (passes _ _ (passes _ _ (passes _ _ (found _ _ (q .e2)) (not-T (holds (hv p) r) (ground-free (hv p) r g))) t) (rw (ground-loneH r g) tt))
 
 -- E5 does not apply
 settled-name : (K : Conj) (X : FunVar) (g : Sym) → QuietEqn K (node (fvar X) ε ε) (node (symbol g) ε ε) → Settles K (node (fvar X) ε ε) (node (symbol g) ε ε)
 settled-name K X g q = settles K (node (fvar X) ε ε) (node (symbol g) ε ε) (fv X) refl
-    (λ u t. elim (T-or (eqV u (fv X) || false) false t) [ inl s ↦ elim (T-or (eqV u (fv X)) false s) [ inl w ↦ eqV-is u (fv X) w | inr z ↦ absurd z ] | inr z ↦ absurd z ]) tt
+    (λ u t. elim (or-cases (eqV u (fv X) || false) false t) [ inl s ↦ elim (or-cases (eqV u (fv X)) false s) [ inl w ↦ eqV-is u (fv X) w | inr z ↦ absurd z ] | inr z ↦ absurd z ]) tt
     λ t. Option·some-ne-none _ (passes _ _ (passes _ _ (passes _ _ (passes _ _ (passes _ _ (found _ _ (found _ _ (found _ _ (q .e5)))) tt) tt) tt) t) tt)
 
 -- two single terms, the second without blanks: F3 or D0 for two symbols; E6, and then E5, for a blank
@@ -83,7 +84,7 @@ settled-node : (K : Conj) (f g : Functor) (c d : Hedge) → T (ground (node g d 
 settled-node K (symbol f) (symbol g) c d t q = absurd (Option·some-ne-none _ (passes _ _ (found _ _ (found _ _ (q .d0)))
     (must (eqS f g) λ n. Option·some-ne-none _ (passes _ _ (found _ _ (found _ _ (found _ _ (found _ _ (q .f3))))) n))))
 settled-node K (fvar X) (symbol g) c d t q =
-    let (s, u) = T-and (empty c) (empty d)
+    let (s, u) = and-parts (empty c) (empty d)
     (must (empty c && empty d) λ n. Option·some-ne-none _ (passes _ _ (passes _ _ (found _ _ (found _ _ (found _ _ (q .e6)))) n) tt)) in
     rw (empty-is c s, empty-is d u) (settled-name K X g (rw (empty-is c s, empty-is d u) at q))
 settled-node K (symbol f) (fvar Y) c d t q = absurd t

@@ -12,7 +12,12 @@ use Rattle.meaning.specs.Values.{rootOf, childrenOf}
 use Rattle.rules.specs.Looks.{empty}
 use Rattle.rules.specs.Solved.{given, isTerm, isFunctor, variable, alone, solves}
 use Rattle.rules.specs.Example.{Values, of}
-use Rattle.lines.proofs.Tests.{T-or-left, T-or-right, T-and, not-both, Opt, given-opt, orElse-opt}
+use Rattle.exact.proofs.Tests.{or-left, or-right, and-parts}
+use Rattle.exact.proofs.Answers.{Where}
+use Rattle.exact.proofs.Complete.{·-nil}
+use Rattle.exact.proofs.Looks.{empty-is}
+use Rattle.exact.proofs.Steps.{orElse-is}
+use Rattle.lines.proofs.Tests.{not-both, given-is}
 use Rattle.lines.proofs.Variables.{holds-tvar, holds-hvar, holds-fvar, after-tvar, after-hvar, in-functor, in-children, after-node}
 
 -- ---- values that agree
@@ -31,16 +36,6 @@ agree β γ (node f c r) a =
 
 -- ---- the look of a side
 
-pub empty-is : (h : Hedge) → T (empty h) → h ≡ ε
-empty-is ε t = refl
-empty-is (tvar x r) t = absurd t
-empty-is (hvar p r) t = absurd t
-empty-is (node f c r) t = absurd t
-
-pub ·-nil : (g : Complete) → g · nil ≡ g
-·-nil nil = refl
-·-nil (tree f c r) = ap (tree f c) (·-nil r)
-
 isTerm-is : (ρ : Filling) (r : Hedge) → T (isTerm r) → fill ρ r ≡ tree (rootOf (fill ρ r)) (childrenOf (fill ρ r)) nil
 isTerm-is ρ ε t = absurd t
 isTerm-is ρ (tvar x r) t = rw (empty-is r t)
@@ -51,7 +46,7 @@ isFunctor-is : (ρ : Filling) (r : Hedge) → T (isFunctor r) → fill ρ r ≡ 
 isFunctor-is ρ ε t = absurd t
 isFunctor-is ρ (tvar x r) t = absurd t
 isFunctor-is ρ (hvar p r) t = absurd t
-isFunctor-is ρ (node f c r) t = let (s, u) = T-and (empty c) (empty r) t in rw (empty-is c s, empty-is r u)
+isFunctor-is ρ (node f c r) t = let (s, u) = and-parts (empty c) (empty r) t in rw (empty-is c s, empty-is r u)
 
 -- ---- the variable that a side is
 
@@ -60,22 +55,22 @@ record Stands (l r : Hedge) (v : Var) : Type 0 where
   stands : T (holds v l)
   value : (β γ : Values) → β v ≡ fill (of γ) r → fill (of β) l ≡ fill (of γ) r
 
-variable-stands : (l r : Hedge) → Opt (Stands l r) (variable l r)
+variable-stands : (l r : Hedge) → Where (Stands l r) (variable l r)
 variable-stands ε r = tt
-variable-stands (tvar x s) r = given-opt (Stands (tvar x s) r) (empty s && isTerm r) (tv x) λ t. record {
+variable-stands (tvar x s) r = given-is (Stands (tvar x s) r) (empty s && isTerm r) (tv x) λ t. record {
   stands = holds-tvar x s;
-  value = λ β γ e. let (a, b) = T-and (empty s) (isTerm r) t in rw (empty-is s a, e) (sym (isTerm-is (of γ) r b));
+  value = λ β γ e. let (a, b) = and-parts (empty s) (isTerm r) t in rw (empty-is s a, e) (sym (isTerm-is (of γ) r b));
 }
-variable-stands (hvar p s) r = given-opt (Stands (hvar p s) r) (empty s) (hv p) λ t. record {
+variable-stands (hvar p s) r = given-is (Stands (hvar p s) r) (empty s) (hv p) λ t. record {
   stands = holds-hvar p s;
   value = λ β γ e. rw (empty-is s t, e, ·-nil (fill (of γ) r));
 }
 variable-stands (node (symbol f) c s) r = tt
-variable-stands (node (fvar X) c s) r = given-opt (Stands (node (fvar X) c s) r) (empty c && empty s && isFunctor r) (fv X) λ t. record {
+variable-stands (node (fvar X) c s) r = given-is (Stands (node (fvar X) c s) r) (empty c && empty s && isFunctor r) (fv X) λ t. record {
   stands = holds-fvar X c s;
   value = λ β γ e.
-      let (a, b) = T-and (empty c && empty s) (isFunctor r) t in
-      let (a₁, a₂) = T-and (empty c) (empty s) a in
+      let (a, b) = and-parts (empty c && empty s) (isFunctor r) t in
+      let (a₁, a₂) = and-parts (empty c) (empty s) a in
       rw (empty-is c a₁, empty-is s a₂, e) (sym (isFunctor-is (of γ) r b));
 }
 
@@ -89,27 +84,27 @@ pub record Solves (K : Conj) (l : Literal) (b : Var × Hedge) : Type 0 where
   pub within : (u : Var) → T (holds u (b .1)) → T (inLiteral u l)
   pub meets : (β γ : Values) → β (b .0) ≡ fill (of γ) (b .1) → fill (of β) (b .1) ≡ fill (of γ) (b .1) → Meets (of β) l
 
-alone-left : (K : Conj) (l r : Hedge) (m : Option Var) → Opt (Stands l r) m → Opt (Solves K (eqn l r)) (alone K r m)
+alone-left : (K : Conj) (l r : Hedge) (m : Option Var) → Where (Stands l r) m → Where (Solves K (eqn l r)) (alone K r m)
 alone-left K l r none p = tt
-alone-left K l r (some v) p = given-opt (Solves K (eqn l r)) (not (holds v r || inConj v K)) (v, r) λ t. record {
-  here = T-or-left (holds v l) (holds v r) (p .stands);
+alone-left K l r (some v) p = given-is (Solves K (eqn l r)) (not (holds v r || inConj v K)) (v, r) λ t. record {
+  here = or-left (holds v l) (holds v r) (p .stands);
   own = not-both (holds v r) (inConj v K) t .0;
   nowhere = not-both (holds v r) (inConj v K) t .1;
-  within = λ u s. T-or-right (holds u l) (holds u r) s;
+  within = λ u s. or-right (holds u l) (holds u r) s;
   meets = λ β γ e a. p .value β γ e ∙ sym a;
 }
 
-alone-right : (K : Conj) (l r : Hedge) (m : Option Var) → Opt (Stands r l) m → Opt (Solves K (eqn l r)) (alone K l m)
+alone-right : (K : Conj) (l r : Hedge) (m : Option Var) → Where (Stands r l) m → Where (Solves K (eqn l r)) (alone K l m)
 alone-right K l r none p = tt
-alone-right K l r (some v) p = given-opt (Solves K (eqn l r)) (not (holds v l || inConj v K)) (v, l) λ t. record {
-  here = T-or-right (holds v l) (holds v r) (p .stands);
+alone-right K l r (some v) p = given-is (Solves K (eqn l r)) (not (holds v l || inConj v K)) (v, l) λ t. record {
+  here = or-right (holds v l) (holds v r) (p .stands);
   own = not-both (holds v l) (inConj v K) t .0;
   nowhere = not-both (holds v l) (inConj v K) t .1;
-  within = λ u s. T-or-left (holds u l) (holds u r) s;
+  within = λ u s. or-left (holds u l) (holds u r) s;
   meets = λ β γ e a. a ∙ sym (p .value β γ e);
 }
 
-pub solves-is : (K : Conj) (l : Literal) → Opt (Solves K l) (solves K l)
-solves-is K (eqn l r) = orElse-opt (Solves K (eqn l r)) (alone K r (variable l r)) _
+pub solves-is : (K : Conj) (l : Literal) → Where (Solves K l) (solves K l)
+solves-is K (eqn l r) = orElse-is (Solves K (eqn l r)) (alone K r (variable l r)) _
     (alone-left K l r (variable l r) (variable-stands l r)) (alone-right K l r (variable r l) (variable-stands r l))
 solves-is K (mem h R) = tt

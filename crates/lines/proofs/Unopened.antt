@@ -11,8 +11,9 @@ use Rattle.rules.specs.Step.{orElse, step}
 use Rattle.rules.specs.Looks.{empty, isEps}
 use Rattle.rules.specs.Expressions.{nullable}
 use Rattle.rules.specs.Solved.{isSome, variable, alone, inMember, solvedLiteral, solvedFrom, solved}
+use Rattle.exact.proofs.Tests.{or-cases, or-left, or-right, and-parts, and-both}
 use Rattle.lines.specs.Matching.{ground, sidedL, sided, inEquation, Matching}
-use Rattle.lines.proofs.Tests.{T-or, T-or-left, T-or-right, T-and, T-both, true-T}
+use Rattle.lines.proofs.Tests.{true-T}
 use Rattle.lines.proofs.Variables.{holds-tvar, holds-hvar, holds-fvar, in-functor, in-children, after-node}
 use Rattle.lines.proofs.Ground.{ground-parts, ground-node}
 use Rattle.lines.proofs.Quiet.{NoRule, step-none, QuietEqn, quiet-eqn, QuietMem, quiet-mem}
@@ -79,10 +80,10 @@ second-some none k t = t
 second-some (some a) k t = tt
 
 either-way : (v : Var) (l r : Hedge) → T (inLiteral v (eqn l r)) → T (inLiteral v (eqn r l))
-either-way v l r t = elim (T-or (holds v l) (holds v r) t) [ inl s ↦ T-or-right (holds v r) (holds v l) s | inr s ↦ T-or-left (holds v r) (holds v l) s ]
+either-way v l r t = elim (or-cases (holds v l) (holds v r) t) [ inl s ↦ or-right (holds v r) (holds v l) s | inr s ↦ or-left (holds v r) (holds v l) s ]
 
 settled-eqn : (K : Conj) (l r : Hedge) → T (sidedL (eqn l r)) → QuietEqn K l r × QuietEqn K r l → SettledEqn K l r
-settled-eqn K l r t q = elim (T-or (ground l) (ground r) t) [
+settled-eqn K l r t q = elim (or-cases (ground l) (ground r) t) [
   | inl g ↦
       let s = settled.settled K r l g (q .1) (q .0) in
       record { isSolved = second-some (alone K r (variable l r)) (λ _. alone K l (variable r l)) (s .solved); nowhere = λ v u. s .nowhere v (either-way v l r u) }
@@ -101,18 +102,18 @@ no-member : (k : Conj) → Matching k → step k ≡ none → (v : Var) → ¬ T
 no-member k m q v t =
     let s = equation-at v k (m .covered v t) in
     let sides = rw (s .split) at (m .sides) in
-    let side = T-and (sidedL (eqn (s .left) (s .right))) (sided (s .behind)) (sided-parts (s .before) (eqn (s .left) (s .right) ∷ s .behind) sides .1) .0 in
+    let side = and-parts (sidedL (eqn (s .left) (s .right))) (sided (s .behind)) (sided-parts (s .before) (eqn (s .left) (s .right) ∷ s .behind) sides .1) .0 in
     at-equation (s .before) (s .behind) (s .left) (s .right) side (rw (s .split) at q) .nowhere v (s .there)
     (member-elsewhere v (s .before) (s .behind) (s .left) (s .right) (rw (s .split) at t))
 
 solved-from : (before behind : Conj) → T (sided behind) → ((v : Var) → ¬ T (inMember v behind)) → step (before ++ behind) ≡ none → T (solvedFrom before behind)
 solved-from before [] s n q = tt
 solved-from before (eqn l r ∷ behind) s n q =
-    let (a, b) = T-and (sidedL (eqn l r)) (sided behind) s in
-    T-both (solvedLiteral (before ++ behind) (eqn l r)) (solvedFrom (before ++ (eqn l r ∷ [])) behind)
+    let (a, b) = and-parts (sidedL (eqn l r)) (sided behind) s in
+    and-both (solvedLiteral (before ++ behind) (eqn l r)) (solvedFrom (before ++ (eqn l r ∷ [])) behind)
     (at-equation before behind l r a q .isSolved) (solved-from (before ++ (eqn l r ∷ [])) behind b n (rw append-assoc q))
 solved-from before (mem h R ∷ behind) s n q =
-    absurd (never-ground (before ++ behind) h R (free-ground h (λ v t. n v (T-or-left (holds v h) (inMember v behind) t)))
+    absurd (never-ground (before ++ behind) h R (free-ground h (λ v t. n v (or-left (holds v h) (inMember v behind) t)))
     (quiet-mem (before ++ behind) h R (step-none before behind (mem h R) q)))
 
 pub matching-solved : (k : Conj) → Matching k → step k ≡ none → solved k ≡ true

@@ -8,68 +8,48 @@ use Rattle.language.specs.declared.TermVar.{TermVar}
 use Rattle.language.specs.declared.HedgeVar.{HedgeVar}
 use Rattle.language.specs.declared.FunVar.{FunVar}
 use Rattle.language.specs.Trees.{Functor, symbol, fvar, Hedge, ε, tvar, hvar, node, Literal, Conj, eqT, eqH, eqX, Var, tv, hv, fv, eqV, inFunctor, holds, inLiteral, inConj}
-use Rattle.lines.proofs.Tests.{T-or, T-or-left, T-or-right}
-
-pub eqT-is : (x y : TermVar) → T (eqT x y) → x ≡ y
-eqT-is x y t = ap (λ n. record { 0 = n }) (eqb→eq (x .0) (y .0) t)
-
-pub eqH-is : (p q : HedgeVar) → T (eqH p q) → p ≡ q
-eqH-is p q t = ap (λ n. record { 0 = n }) (eqb→eq (p .0) (q .0) t)
-
-pub eqX-is : (X Y : FunVar) → T (eqX X Y) → X ≡ Y
-eqX-is X Y t = ap (λ n. record { 0 = n }) (eqb→eq (X .0) (Y .0) t)
+use Rattle.exact.proofs.Tests.{or-cases, or-left, or-right}
 
 pub eqV-self : (v : Var) → T (eqV v v)
 eqV-self (tv x) = eqb-refl (x .0)
 eqV-self (hv p) = eqb-refl (p .0)
 eqV-self (fv X) = eqb-refl (X .0)
 
-pub eqV-is : (u v : Var) → T (eqV u v) → u ≡ v
-eqV-is (tv x) (tv y) t = ap tv (eqT-is x y t)
-eqV-is (tv x) (hv q) t = absurd t
-eqV-is (tv x) (fv Y) t = absurd t
-eqV-is (hv p) (tv y) t = absurd t
-eqV-is (hv p) (hv q) t = ap hv (eqH-is p q t)
-eqV-is (hv p) (fv Y) t = absurd t
-eqV-is (fv X) (tv y) t = absurd t
-eqV-is (fv X) (hv q) t = absurd t
-eqV-is (fv X) (fv Y) t = ap fv (eqX-is X Y t)
-
 -- ---- a variable stands where it is written
 
 pub holds-tvar : (x : TermVar) (r : Hedge) → T (holds (tv x) (tvar x r))
-holds-tvar x r = T-or-left (eqT x x) (holds (tv x) r) (eqb-refl (x .0))
+holds-tvar x r = or-left (eqT x x) (holds (tv x) r) (eqb-refl (x .0))
 
 pub holds-hvar : (p : HedgeVar) (r : Hedge) → T (holds (hv p) (hvar p r))
-holds-hvar p r = T-or-left (eqH p p) (holds (hv p) r) (eqb-refl (p .0))
+holds-hvar p r = or-left (eqH p p) (holds (hv p) r) (eqb-refl (p .0))
 
 pub holds-fvar : (X : FunVar) (c r : Hedge) → T (holds (fv X) (node (fvar X) c r))
-holds-fvar X c r = T-or-left (eqX X X || holds (fv X) c) (holds (fv X) r) (T-or-left (eqX X X) (holds (fv X) c) (eqb-refl (X .0)))
+holds-fvar X c r = or-left (eqX X X || holds (fv X) c) (holds (fv X) r) (or-left (eqX X X) (holds (fv X) c) (eqb-refl (X .0)))
 
 -- ---- or in a part of where it stands
 
 module _ (v : Var) where
   pub after-tvar : (x : TermVar) (r : Hedge) → T (holds v r) → T (holds v (tvar x r))
-  after-tvar x r t = T-or-right (eqV v (tv x)) (holds v r) t
+  after-tvar x r t = or-right (eqV v (tv x)) (holds v r) t
 
   pub after-hvar : (p : HedgeVar) (r : Hedge) → T (holds v r) → T (holds v (hvar p r))
-  after-hvar p r t = T-or-right (eqV v (hv p)) (holds v r) t
+  after-hvar p r t = or-right (eqV v (hv p)) (holds v r) t
 
   pub in-functor : (f : Functor) (c r : Hedge) → T (inFunctor v f) → T (holds v (node f c r))
-  in-functor f c r t = T-or-left (inFunctor v f || holds v c) (holds v r) (T-or-left (inFunctor v f) (holds v c) t)
+  in-functor f c r t = or-left (inFunctor v f || holds v c) (holds v r) (or-left (inFunctor v f) (holds v c) t)
 
   pub in-children : (f : Functor) (c r : Hedge) → T (holds v c) → T (holds v (node f c r))
-  in-children f c r t = T-or-left (inFunctor v f || holds v c) (holds v r) (T-or-right (inFunctor v f) (holds v c) t)
+  in-children f c r t = or-left (inFunctor v f || holds v c) (holds v r) (or-right (inFunctor v f) (holds v c) t)
 
   pub after-node : (f : Functor) (c r : Hedge) → T (holds v r) → T (holds v (node f c r))
-  after-node f c r t = T-or-right (inFunctor v f || holds v c) (holds v r) t
+  after-node f c r t = or-right (inFunctor v f || holds v c) (holds v r) t
 
 -- ---- conjunctions in a row
 
 pub inConj-right : (v : Var) (c d : Conj) → T (inConj v d) → T (inConj v (c ++ d))
 inConj-right v [] d t = t
-inConj-right v (l ∷ c) d t = T-or-right (inLiteral v l) (inConj v (c ++ d)) (inConj-right v c d t)
+inConj-right v (l ∷ c) d t = or-right (inLiteral v l) (inConj v (c ++ d)) (inConj-right v c d t)
 
 -- v stands in a literal somewhere in the line
 pub inConj-at : (v : Var) (before behind : Conj) (l : Literal) → T (inLiteral v l) → T (inConj v (before ++ (l ∷ behind)))
-inConj-at v before behind l t = inConj-right v before (l ∷ behind) (T-or-left (inLiteral v l) (inConj v behind) t)
+inConj-at v before behind l t = inConj-right v before (l ∷ behind) (or-left (inLiteral v l) (inConj v behind) t)
