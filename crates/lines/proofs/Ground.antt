@@ -4,7 +4,7 @@ use mathlib.Core.Logic.{_⊎_, inl, inr}
 use mathlib.Core.Bool.{Bool, true, false, _&&_, _||_}
 use mathlib.Core.Option.{Option, none, some}
 use lib.Dec.{T}
-use Rattle.language.specs.Trees.{Functor, symbol, fvar, Hedge, ε, tvar, hvar, node, Var, inFunctor, holds}
+use Rattle.language.specs.Trees.{Functor, symbol, fvar, Hedge, ε, tvar, hvar, node, _⧺_, Var, inFunctor, holds}
 use Rattle.rules.specs.Looks.{allTerms, loneH}
 use Rattle.exact.proofs.Tests.{and-parts, and-both, or-cases}
 use Rattle.lines.specs.Matching.{isSymbol, ground}
@@ -18,6 +18,16 @@ ground-parts f c r t =
 
 pub ground-node : (f : Functor) (c r : Hedge) → T (isSymbol f) → T (ground c) → T (ground r) → T (ground (node f c r))
 ground-node f c r s t u = and-both (isSymbol f && ground c) (ground r) (and-both (isSymbol f) (ground c) s t) u
+
+-- two hedges in a row
+pub ground-row : (h k : Hedge) → T (ground (h ⧺ k)) → T (ground h) × T (ground k)
+ground-row ε k g = (tt, g)
+ground-row (tvar x r) k g = absurd g
+ground-row (hvar p r) k g = absurd g
+ground-row (node f c r) k g =
+    let (a, b, d) = ground-parts f c (r ⧺ k) g in
+    let (s, t) = ground-row r k d in
+    (ground-node f c r a b s, t)
 
 pub symbol-free : (v : Var) (f : Functor) → T (isSymbol f) → ¬ T (inFunctor v f)
 symbol-free v (symbol f) s t = t

@@ -13,7 +13,7 @@ use Rattle.rules.specs.Solved.{inMember}
 use Rattle.exact.proofs.Tests.{or-cases, or-left, or-right, and-parts, and-both}
 use Rattle.exact.proofs.Names.{eqV-is}
 use Rattle.lines.specs.Matching.{isSymbol, ground, sidedL, sided, inEquation, Matching}
-use Rattle.lines.proofs.Variables.{holds-tvar, holds-hvar, holds-fvar, after-tvar, after-hvar, in-functor, in-children, after-node}
+use Rattle.lines.proofs.Variables.{holds-tvar, holds-hvar, holds-fvar, after-tvar, after-hvar, in-functor, in-children, after-node, holds-parts, holds-right}
 use Rattle.lines.proofs.Ground.{symbol-free, ground-free, ground-parts, ground-node}
 use Rattle.lines.proofs.Places.{sided-parts, sided-row, member-parts, member-left, member-right, equation-parts, equation-left, equation-right}
 
@@ -58,28 +58,6 @@ pub record Replaces (E : Conj) (s : Subst) : Type 0 where
   pub term : (x : TermVar) → (s .term x ≡ tvar x ε) ⊎ (T (ground (s .term x)) × T (inEquation (tv x) E))
   pub hedge : (p : HedgeVar) → (s .hedge p ≡ hvar p ε) ⊎ (T (ground (s .hedge p)) × T (inEquation (hv p) E))
   pub functor : (X : FunVar) → (s .functor X ≡ fvar X) ⊎ (T (isSymbol (s .functor X)) × T (inEquation (fv X) E))
-
-module _ (v : Var) where
-  holds-parts : (h k : Hedge) → T (holds v (h ⧺ k)) → T (holds v h) ⊎ T (holds v k)
-  holds-parts ε k t = inr t
-  holds-parts (tvar x r) k t = elim (or-cases (eqV v (tv x)) (holds v (r ⧺ k)) t) [
-    | inl s ↦ inl (or-left (eqV v (tv x)) (holds v r) s)
-    | inr s ↦ elim (holds-parts r k s) [ inl u ↦ inl (after-tvar v x r u) | inr u ↦ inr u ]
-  ]
-  holds-parts (hvar p r) k t = elim (or-cases (eqV v (hv p)) (holds v (r ⧺ k)) t) [
-    | inl s ↦ inl (or-left (eqV v (hv p)) (holds v r) s)
-    | inr s ↦ elim (holds-parts r k s) [ inl u ↦ inl (after-hvar v p r u) | inr u ↦ inr u ]
-  ]
-  holds-parts (node f c r) k t = elim (or-cases (inFunctor v f || holds v c) (holds v (r ⧺ k)) t) [
-    | inl s ↦ inl (or-left (inFunctor v f || holds v c) (holds v r) s)
-    | inr s ↦ elim (holds-parts r k s) [ inl u ↦ inl (after-node v f c r u) | inr u ↦ inr u ]
-  ]
-
-  holds-right : (h k : Hedge) → T (holds v k) → T (holds v (h ⧺ k))
-  holds-right ε k t = t
-  holds-right (tvar x r) k t = after-tvar v x (r ⧺ k) (holds-right r k t)
-  holds-right (hvar p r) k t = after-hvar v p (r ⧺ k) (holds-right r k t)
-  holds-right (node f c r) k t = after-node v f c (r ⧺ k) (holds-right r k t)
 
 -- ---- it is made in a hedge
 

@@ -11,4 +11,7 @@ pub mod Settled
 pub mod Unopened
 pub mod Keeping
 pub mod Replacing
+pub mod Sides
 pub mod Fitting
+pub mod EquationRules
+pub mod EliminationRules

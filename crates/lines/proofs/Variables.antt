@@ -7,7 +7,7 @@ use lib.Dec.{T, eqb, eqb→eq, eqb-refl}
 use Rattle.language.specs.declared.TermVar.{TermVar}
 use Rattle.language.specs.declared.HedgeVar.{HedgeVar}
 use Rattle.language.specs.declared.FunVar.{FunVar}
-use Rattle.language.specs.Trees.{Functor, symbol, fvar, Hedge, ε, tvar, hvar, node, Literal, Conj, eqT, eqH, eqX, Var, tv, hv, fv, eqV, inFunctor, holds, inLiteral, inConj}
+use Rattle.language.specs.Trees.{Functor, symbol, fvar, Hedge, ε, tvar, hvar, node, Literal, Conj, _⧺_, eqT, eqH, eqX, Var, tv, hv, fv, eqV, inFunctor, holds, inLiteral, inConj}
 use Rattle.exact.proofs.Tests.{or-cases, or-left, or-right}
 
 pub eqV-self : (v : Var) → T (eqV v v)
@@ -43,6 +43,29 @@ module _ (v : Var) where
 
   pub after-node : (f : Functor) (c r : Hedge) → T (holds v r) → T (holds v (node f c r))
   after-node f c r t = or-right (inFunctor v f || holds v c) (holds v r) t
+
+  -- ---- two hedges in a row
+
+  pub holds-parts : (h k : Hedge) → T (holds v (h ⧺ k)) → T (holds v h) ⊎ T (holds v k)
+  holds-parts ε k t = inr t
+  holds-parts (tvar x r) k t = elim (or-cases (eqV v (tv x)) (holds v (r ⧺ k)) t) [
+    | inl s ↦ inl (or-left (eqV v (tv x)) (holds v r) s)
+    | inr s ↦ elim (holds-parts r k s) [ inl u ↦ inl (after-tvar x r u) | inr u ↦ inr u ]
+  ]
+  holds-parts (hvar p r) k t = elim (or-cases (eqV v (hv p)) (holds v (r ⧺ k)) t) [
+    | inl s ↦ inl (or-left (eqV v (hv p)) (holds v r) s)
+    | inr s ↦ elim (holds-parts r k s) [ inl u ↦ inl (after-hvar p r u) | inr u ↦ inr u ]
+  ]
+  holds-parts (node f c r) k t = elim (or-cases (inFunctor v f || holds v c) (holds v (r ⧺ k)) t) [
+    | inl s ↦ inl (or-left (inFunctor v f || holds v c) (holds v r) s)
+    | inr s ↦ elim (holds-parts r k s) [ inl u ↦ inl (after-node f c r u) | inr u ↦ inr u ]
+  ]
+
+  pub holds-right : (h k : Hedge) → T (holds v k) → T (holds v (h ⧺ k))
+  holds-right ε k t = t
+  holds-right (tvar x r) k t = after-tvar x (r ⧺ k) (holds-right r k t)
+  holds-right (hvar p r) k t = after-hvar p (r ⧺ k) (holds-right r k t)
+  holds-right (node f c r) k t = after-node f c (r ⧺ k) (holds-right r k t)
 
 -- ---- conjunctions in a row
 
