@@ -27,10 +27,11 @@ use Rattle.lines.proofs.EquationRules.{StaysEqn}
 
 -- the equation a = b stays as it is, b without blanks, and nothing else stands
 eliminated : (l r a b : Hedge) (s : Subst) → T (ground b) → l ≡ a → r ≡ b → Replaces (eqn a b ∷ []) s → Fits (eqn l r) (elims (eqn a b ∷ []) [] s)
-eliminated l r a b s g p q w =
-    (from-nothing (eqn a b ∷ []) (one-sided a b (or-right (ground a) (ground b) g)) (λ v z. z)
-    , for-equation (eqn a b ∷ []) [] l r tt (λ v z. z) (λ v u. inr (or-left (inLiteral v (eqn a b)) false (rw (p, q) at u)))
-    , w)
+eliminated l r a b s g p q w = (
+  from-nothing (eqn a b ∷ []) (one-sided a b (or-right (ground a) (ground b) g)) (λ v z. z),
+  for-equation (eqn a b ∷ []) [] l r tt (λ v z. z) (λ v u. inr (or-left (inLiteral v (eqn a b)) false (rw (p, q) at u))),
+  w,
+)
 
 pub E1-stays : StaysEqn rules.E1
 E1-stays K l r s =
@@ -52,10 +53,11 @@ cut-fits : (p : HedgeVar) (h l r : Hedge) → l ≡ hvar p h → T (ground r) �
 cut-fits p h l r e g c d =
     let (x, y) = ground-row (c .0) (c .1) (rw (← d) at g) in
     let es = eqn (hvar p ε) (c .0) ∷ [] in
-    let ls = eqn h (c .1 ⧺ ε) ∷ [] in
-    (from-nothing es (one-sided (hvar p ε) (c .0) x) (λ v z. z)
-    , for-equation es ls l r (one-sided h (c .1 ⧺ ε) (or-right (ground h) (ground (c .1 ⧺ ε)) (ground-end (c .1) y))) (λ v z. z) (λ v u. kept v u)
-    , setH-replaces es p (c .0) x (on-left (hv p) (hvar p ε) (c .0) [] (holds-hvar p ε)))
+    let ls = eqn h (c .1 ⧺ ε) ∷ [] in (
+      from-nothing es (one-sided (hvar p ε) (c .0) x) (λ v z. z),
+      for-equation es ls l r (one-sided h (c .1 ⧺ ε) (or-right (ground h) (ground (c .1 ⧺ ε)) (ground-end (c .1) y))) (λ v z. z) (λ v u. kept v u),
+      setH-replaces es p (c .0) x (on-left (hv p) (hvar p ε) (c .0) [] (holds-hvar p ε)),
+    )
   where
     ground-end : (k : Hedge) → T (ground k) → T (ground (k ⧺ ε))
     ground-end ε t = tt
@@ -65,13 +67,13 @@ cut-fits p h l r e g c d =
 
     kept : (v : Var) → T (inLiteral v (eqn l r)) → T (inEquation v (eqn h (c .1 ⧺ ε) ∷ [])) ⊎ T (inEquation v (eqn (hvar p ε) (c .0) ∷ []))
     kept v u = elim (or-cases (holds v l) (holds v r) u) [
-        | inl w ↦
-            elim (or-cases (eqV v (hv p)) (holds v h) (rw e at w)) [
-              | inl z ↦ inr (on-left v (hvar p ε) (c .0) [] (or-left (eqV v (hv p)) false z))
-              | inr z ↦ inl (on-left v h (c .1 ⧺ ε) [] z)
-            ]
-        | inr w ↦ absurd (ground-free v r g w)
-      ]
+      | inl w ↦
+          elim (or-cases (eqV v (hv p)) (holds v h) (rw e at w)) [
+            | inl z ↦ inr (on-left v (hvar p ε) (c .0) [] (or-left (eqV v (hv p)) false z))
+            | inr z ↦ inl (on-left v h (c .1 ⧺ ε) [] z)
+          ]
+      | inr w ↦ absurd (ground-free v r g w)
+    ]
 
 pub E3-stays : StaysEqn rules.E3
 E3-stays K l r s =
@@ -99,8 +101,11 @@ E5-stays K l r s =
     let p′ : l ≡ node (fvar X) ε ε = rw (f, empty-is (a .1) i) at p in
     let q′ : r ≡ node (b .0) ε ε = rw (empty-is (b .1) j) at q in
     let g : T (ground (node (b .0) ε ε)) = rw q′ at (right-side l r s (ap ground p′)) in
-    answers (eliminated l r (node (fvar X) ε ε) (node (b .0) ε ε) (setF X (b .0)) g p′ q′
-      (setF-replaces (eqn (node (fvar X) ε ε) (node (b .0) ε ε) ∷ []) X (b .0) (ground-parts (b .0) ε ε g .0) (on-left (fv X) (node (fvar X) ε ε) (node (b .0) ε ε) [] (holds-fvar X ε ε))), tt)
+    answers (
+      eliminated l r (node (fvar X) ε ε) (node (b .0) ε ε) (setF X (b .0)) g p′ q′
+          (setF-replaces (eqn (node (fvar X) ε ε) (node (b .0) ε ε) ∷ []) X (b .0) (ground-parts (b .0) ε ε g .0) (on-left (fv X) (node (fvar X) ε ε) (node (b .0) ε ε) [] (holds-fvar X ε ε))),
+      tt,
+    )
 
 pub E6-stays : StaysEqn rules.E6
 E6-stays K l r s =
@@ -116,15 +121,16 @@ E6-stays K l r s =
         → Fits (eqn l r) (elims (eqn (node (fvar X) ε ε) (node g ε ε) ∷ []) (eqn (node g c ε) (node g d ε) ∷ []) (setF X g))
     both X c g d p q t =
         let (i, j, _) = ground-parts g d ε t in
-        let es = eqn (node (fvar X) ε ε) (node g ε ε) ∷ [] in
-        (from-nothing es (one-sided (node (fvar X) ε ε) (node g ε ε) (ground-node g ε ε i tt tt)) (λ v z. z)
-        , for-equation es (eqn (node g c ε) (node g d ε) ∷ []) l r (one-sided (node g c ε) (node g d ε) (or-right (ground (node g c ε)) (ground (node g d ε)) t)) (λ v z. z)
-          (λ v u. elim (or-cases (holds v l) (holds v r) u) [
-            | inl w ↦
-                elim (single-parts v (fvar X) c (rw p at w)) [
-                  | inl z ↦ inr (on-left v (node (fvar X) ε ε) (node g ε ε) [] (in-functor v (fvar X) ε ε z))
-                  | inr z ↦ inl (on-left v (node g c ε) (node g d ε) [] (in-children v g c ε z))
-                ]
-            | inr w ↦ absurd (ground-free v (node g d ε) t (rw q at w))
-          ])
-        , setF-replaces es X g i (on-left (fv X) (node (fvar X) ε ε) (node g ε ε) [] (holds-fvar X ε ε)))
+        let es = eqn (node (fvar X) ε ε) (node g ε ε) ∷ [] in (
+          from-nothing es (one-sided (node (fvar X) ε ε) (node g ε ε) (ground-node g ε ε i tt tt)) (λ v z. z),
+          for-equation es (eqn (node g c ε) (node g d ε) ∷ []) l r (one-sided (node g c ε) (node g d ε) (or-right (ground (node g c ε)) (ground (node g d ε)) t)) (λ v z. z)
+              (λ v u. elim (or-cases (holds v l) (holds v r) u) [
+                | inl w ↦
+                    elim (single-parts v (fvar X) c (rw p at w)) [
+                      | inl z ↦ inr (on-left v (node (fvar X) ε ε) (node g ε ε) [] (in-functor v (fvar X) ε ε z))
+                      | inr z ↦ inl (on-left v (node g c ε) (node g d ε) [] (in-children v g c ε z))
+                    ]
+                | inr w ↦ absurd (ground-free v (node g d ε) t (rw q at w))
+              ]),
+          setF-replaces es X g i (on-left (fv X) (node (fvar X) ε ε) (node g ε ε) [] (holds-fvar X ε ε)),
+        )

@@ -73,48 +73,48 @@ D2-stays K l r s =
   where
     sides : (a b : Hedge × Hedge) → l ≡ a .0 ⧺ a .1 → r ≡ b .0 ⧺ b .1 → T (sided (eqn (a .0) (b .0) ∷ eqn (a .1) (b .1) ∷ []))
     sides a b p q = elim (or-cases (ground l) (ground r) s) [
-        | inl g ↦
-            let (x, y) = ground-row (a .0) (a .1) (rw p at g) in
-            and-both (ground (a .0) || ground (b .0)) (sided (eqn (a .1) (b .1) ∷ [])) (or-left (ground (a .0)) (ground (b .0)) x)
-              (one-sided (a .1) (b .1) (or-left (ground (a .1)) (ground (b .1)) y))
-        | inr g ↦
-            let (x, y) = ground-row (b .0) (b .1) (rw q at g) in
-            and-both (ground (a .0) || ground (b .0)) (sided (eqn (a .1) (b .1) ∷ [])) (or-right (ground (a .0)) (ground (b .0)) x)
-              (one-sided (a .1) (b .1) (or-right (ground (a .1)) (ground (b .1)) y))
-      ]
+      | inl g ↦
+          let (x, y) = ground-row (a .0) (a .1) (rw p at g) in
+          and-both (ground (a .0) || ground (b .0)) (sided (eqn (a .1) (b .1) ∷ [])) (or-left (ground (a .0)) (ground (b .0)) x)
+          (one-sided (a .1) (b .1) (or-left (ground (a .1)) (ground (b .1)) y))
+      | inr g ↦
+          let (x, y) = ground-row (b .0) (b .1) (rw q at g) in
+          and-both (ground (a .0) || ground (b .0)) (sided (eqn (a .1) (b .1) ∷ [])) (or-right (ground (a .0)) (ground (b .0)) x)
+          (one-sided (a .1) (b .1) (or-right (ground (a .1)) (ground (b .1)) y))
+    ]
 
     kept : (a b : Hedge × Hedge) → l ≡ a .0 ⧺ a .1 → r ≡ b .0 ⧺ b .1 → (v : Var) → T (inLiteral v (eqn l r)) → T (inEquation v (eqn (a .0) (b .0) ∷ eqn (a .1) (b .1) ∷ []))
     kept a b p q v u = elim (or-cases (holds v l) (holds v r) u) [
-        | inl w ↦
-            elim (holds-parts v (a .0) (a .1) (rw p at w)) [
-              | inl x ↦ on-left v (a .0) (b .0) (eqn (a .1) (b .1) ∷ []) x
-              | inr x ↦ later v (a .0) (b .0) (eqn (a .1) (b .1) ∷ []) (on-left v (a .1) (b .1) [] x)
-            ]
-        | inr w ↦
-            elim (holds-parts v (b .0) (b .1) (rw q at w)) [
-              | inl x ↦ on-right v (a .0) (b .0) (eqn (a .1) (b .1) ∷ []) x
-              | inr x ↦ later v (a .0) (b .0) (eqn (a .1) (b .1) ∷ []) (on-right v (a .1) (b .1) [] x)
-            ]
-      ]
+      | inl w ↦
+          elim (holds-parts v (a .0) (a .1) (rw p at w)) [
+            | inl x ↦ on-left v (a .0) (b .0) (eqn (a .1) (b .1) ∷ []) x
+            | inr x ↦ later v (a .0) (b .0) (eqn (a .1) (b .1) ∷ []) (on-left v (a .1) (b .1) [] x)
+          ]
+      | inr w ↦
+          elim (holds-parts v (b .0) (b .1) (rw q at w)) [
+            | inl x ↦ on-right v (a .0) (b .0) (eqn (a .1) (b .1) ∷ []) x
+            | inr x ↦ later v (a .0) (b .0) (eqn (a .1) (b .1) ∷ []) (on-right v (a .1) (b .1) [] x)
+          ]
+    ]
 
 pub D0-stays : StaysEqn rules.D0
 D0-stays K l r s =
     look (loneNode l) (loneNode-is l) λ a p.
     look (loneNode r) (loneNode-is r) λ b q.
     test _ λ _ t. becomes (for-equation [] (eqn (a .1) (b .1) ∷ []) l r
-      (one-sided (a .1) (b .1) (sides a b p q)) (λ v z. z) (λ v u. inl (kept a b (eqF-is (a .0) (b .0) t) p q v u)))
+    (one-sided (a .1) (b .1) (sides a b p q)) (λ v z. z) (λ v u. inl (kept a b (eqF-is (a .0) (b .0) t) p q v u)))
   where
     sides : (a b : Functor × Hedge) → l ≡ node (a .0) (a .1) ε → r ≡ node (b .0) (b .1) ε → T (ground (a .1) || ground (b .1))
     sides a b p q = elim (or-cases (ground l) (ground r) s) [
-        | inl g ↦ or-left (ground (a .1)) (ground (b .1)) (ground-parts (a .0) (a .1) ε (rw p at g) .1)
-        | inr g ↦ or-right (ground (a .1)) (ground (b .1)) (ground-parts (b .0) (b .1) ε (rw q at g) .1)
-      ]
+      | inl g ↦ or-left (ground (a .1)) (ground (b .1)) (ground-parts (a .0) (a .1) ε (rw p at g) .1)
+      | inr g ↦ or-right (ground (a .1)) (ground (b .1)) (ground-parts (b .0) (b .1) ε (rw q at g) .1)
+    ]
 
     names : (a b : Functor × Hedge) → a .0 ≡ b .0 → l ≡ node (a .0) (a .1) ε → r ≡ node (b .0) (b .1) ε → T (isSymbol (a .0)) × T (isSymbol (b .0))
     names a b e p q = elim (or-cases (ground l) (ground r) s) [
-        | inl g ↦ let f = ground-parts (a .0) (a .1) ε (rw p at g) .0 in (f, rw e at f)
-        | inr g ↦ let f = ground-parts (b .0) (b .1) ε (rw q at g) .0 in (rw (← e) at f, f)
-      ]
+      | inl g ↦ let f = ground-parts (a .0) (a .1) ε (rw p at g) .0 in (f, rw e at f)
+      | inr g ↦ let f = ground-parts (b .0) (b .1) ε (rw q at g) .0 in (rw (← e) at f, f)
+    ]
 
     kept : (a b : Functor × Hedge) → a .0 ≡ b .0 → l ≡ node (a .0) (a .1) ε → r ≡ node (b .0) (b .1) ε → (v : Var) → T (inLiteral v (eqn l r)) → T (inEquation v (eqn (a .1) (b .1) ∷ []))
     kept a b e p q v u =

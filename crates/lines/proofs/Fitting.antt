@@ -11,10 +11,12 @@ use Rattle.rules.specs.Rules.{Branch, plain, elims, Answer}
 use Rattle.rules.specs.Step.{place}
 use Rattle.rules.specs.Substitution.{putC}
 use Rattle.rules.specs.Solved.{inMember}
-use Rattle.exact.proofs.Tests.{or-cases, or-left, or-right}
+use Rattle.exact.proofs.Tests.{or-cases, or-left, or-right, and-parts, and-both}
 use Rattle.exact.specs.Each.{Each}
+use Rattle.exact.proofs.Each.{each-imp}
 use Rattle.exact.proofs.Answers.{Answers, answers}
 use Rattle.lines.specs.Matching.{ground, sidedL, sided, inEquation, Matching}
+use Rattle.lines.proofs.Tests.{or-exchanged}
 use Rattle.lines.proofs.Places.{equation-left, equation-right}
 use Rattle.lines.proofs.Keeping.{Keeps, keeps-self, keeps-row, keeps-then, keeps-matching, Replaces, put-keeps}
 
@@ -39,6 +41,25 @@ placed before behind l (elims es ls s) (p, q, r) = keeps-matching es (before ++ 
 -- whatever the rule answers fits
 abbrev pub FitAnswer : Literal → Answer → Type 0
 FitAnswer l w = Answers (Each (Fits l)) w
+
+-- an equation with its sides exchanged
+keeps-exchanged : (E ls : Conj) (l r : Hedge) → Keeps E (eqn r l ∷ []) ls → Keeps E (eqn l r ∷ []) ls
+keeps-exchanged E ls l r p = record {
+  sides = λ t. p .sides (and-both (ground r || ground l) true (or-exchanged (ground l) (ground r) (and-parts (ground l || ground r) true t .0)) tt);
+  members = p .members;
+  equations = λ v t. elim (or-cases (inLiteral v (eqn l r)) false t) [
+    | inl u ↦ p .equations v (or-left (inLiteral v (eqn r l)) false (or-exchanged (holds v l) (holds v r) u))
+    | inr z ↦ absurd z
+  ];
+}
+
+fits-exchanged : (l r : Hedge) (b : Branch) → Fits (eqn r l) b → Fits (eqn l r) b
+fits-exchanged l r (plain ls) p = keeps-exchanged [] ls l r p
+fits-exchanged l r (elims es ls s) (p, q, w) = (p, keeps-exchanged es ls l r q, w)
+
+pub exchanged : (l r : Hedge) (w : Answer) → FitAnswer (eqn r l) w → FitAnswer (eqn l r) w
+exchanged l r none p = record { given = tt }
+exchanged l r (some bs) p = record { given = each-imp (Fits (eqn r l)) (Fits (eqn l r)) (fits-exchanged l r) bs (p .given) }
 
 -- the conjunction is dropped
 pub dropped : {l : Literal} → FitAnswer l rules.drop

@@ -15,3 +15,5 @@ pub mod Sides
 pub mod Fitting
 pub mod EquationRules
 pub mod EliminationRules
+pub mod MembershipRules
+pub mod MatchingRun

@@ -1,11 +1,13 @@
 -- Laws of tests and of what is found or not, besides those of exact steps: `not`, `pick`, `given`, `orElse`.
 use mathlib.Core.Path.{_≡_, refl, sym}
+use mathlib.Core.Logic.{inl, inr}
 use mathlib.Core.Bool.{Bool, true, false, not, _&&_, _||_}
 use mathlib.Core.Option.{Option, none, some, Option·some-ne-none}
 use lib.Dec.{T}
 use Rattle.language.specs.Kinds.{pick}
 use Rattle.rules.specs.Step.{orElse}
 use Rattle.rules.specs.Solved.{given}
+use Rattle.exact.proofs.Tests.{or-cases, or-left, or-right}
 use Rattle.exact.proofs.Answers.{Where}
 
 -- ---- tests
@@ -21,6 +23,9 @@ pub not-both : (a b : Bool) → T (not (a || b)) → (¬ T a) × (¬ T b)
 not-both true b t = absurd t
 not-both false true t = absurd t
 not-both false false t = (λ z. z, λ z. z)
+
+pub or-exchanged : (a b : Bool) → T (a || b) → T (b || a)
+or-exchanged a b t = elim (or-cases a b t) [ inl s ↦ or-right b a s | inr s ↦ or-left b a s ]
 
 -- ---- what is picked, what is given
 

@@ -13,7 +13,7 @@ use Rattle.rules.specs.Expressions.{nullable}
 use Rattle.rules.specs.Solved.{isSome, variable, alone, inMember, solvedLiteral, solvedFrom, solved}
 use Rattle.exact.proofs.Tests.{or-cases, or-left, or-right, and-parts, and-both}
 use Rattle.lines.specs.Matching.{ground, sidedL, sided, inEquation, Matching}
-use Rattle.lines.proofs.Tests.{true-T}
+use Rattle.lines.proofs.Tests.{true-T, or-exchanged}
 use Rattle.lines.proofs.Variables.{holds-tvar, holds-hvar, holds-fvar, in-functor, in-children, after-node}
 use Rattle.lines.proofs.Ground.{ground-parts, ground-node}
 use Rattle.lines.proofs.Quiet.{NoRule, step-none, QuietEqn, quiet-eqn, QuietMem, quiet-mem}
@@ -79,14 +79,11 @@ second-some : {A : Type 0} (m : Option A) (k : Unit {0} → Option A) → T (isS
 second-some none k t = t
 second-some (some a) k t = tt
 
-either-way : (v : Var) (l r : Hedge) → T (inLiteral v (eqn l r)) → T (inLiteral v (eqn r l))
-either-way v l r t = elim (or-cases (holds v l) (holds v r) t) [ inl s ↦ or-right (holds v r) (holds v l) s | inr s ↦ or-left (holds v r) (holds v l) s ]
-
 settled-eqn : (K : Conj) (l r : Hedge) → T (sidedL (eqn l r)) → QuietEqn K l r × QuietEqn K r l → SettledEqn K l r
 settled-eqn K l r t q = elim (or-cases (ground l) (ground r) t) [
   | inl g ↦
       let s = settled.settled K r l g (q .1) (q .0) in
-      record { isSolved = second-some (alone K r (variable l r)) (λ _. alone K l (variable r l)) (s .solved); nowhere = λ v u. s .nowhere v (either-way v l r u) }
+      record { isSolved = second-some (alone K r (variable l r)) (λ _. alone K l (variable r l)) (s .solved); nowhere = λ v u. s .nowhere v (or-exchanged (holds v l) (holds v r) u) }
   | inr g ↦
       let s = settled.settled K l r g (q .0) (q .1) in
       record { isSolved = first-some (alone K r (variable l r)) (λ _. alone K l (variable r l)) (s .solved); nowhere = s .nowhere }

@@ -67,6 +67,21 @@ module _ (v : Var) where
   holds-right (hvar p r) k t = after-hvar p (r ⧺ k) (holds-right r k t)
   holds-right (node f c r) k t = after-node f c (r ⧺ k) (holds-right r k t)
 
+  pub holds-left : (h k : Hedge) → T (holds v h) → T (holds v (h ⧺ k))
+  holds-left ε k t = absurd t
+  holds-left (tvar x r) k t = elim (or-cases (eqV v (tv x)) (holds v r) t) [
+    | inl s ↦ or-left (eqV v (tv x)) (holds v (r ⧺ k)) s
+    | inr s ↦ after-tvar x (r ⧺ k) (holds-left r k s)
+  ]
+  holds-left (hvar p r) k t = elim (or-cases (eqV v (hv p)) (holds v r) t) [
+    | inl s ↦ or-left (eqV v (hv p)) (holds v (r ⧺ k)) s
+    | inr s ↦ after-hvar p (r ⧺ k) (holds-left r k s)
+  ]
+  holds-left (node f c r) k t = elim (or-cases (inFunctor v f || holds v c) (holds v r) t) [
+    | inl s ↦ or-left (inFunctor v f || holds v c) (holds v (r ⧺ k)) s
+    | inr s ↦ after-node f c (r ⧺ k) (holds-left r k s)
+  ]
+
 -- ---- conjunctions in a row
 
 pub inConj-right : (v : Var) (c d : Conj) → T (inConj v d) → T (inConj v (c ++ d))
