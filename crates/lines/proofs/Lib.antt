@@ -17,3 +17,4 @@ pub mod EquationRules
 pub mod EliminationRules
 pub mod MembershipRules
 pub mod MatchingRun
+pub mod WrittenTable
