@@ -18,3 +18,5 @@ pub mod EliminationRules
 pub mod MembershipRules
 pub mod MatchingRun
 pub mod WrittenTable
+pub mod WrittenValues
+pub mod ReadBack

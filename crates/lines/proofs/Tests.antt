@@ -37,6 +37,11 @@ pub pick-false : {A : Type 0} (b : Bool) (x y : A) → ¬ T b → pick b x y ≡
 pick-false true x y n = absurd (n tt)
 pick-false false x y n = refl
 
+-- the same of an `elim`, whose cases wait
+pub taken : {A : Type 0} (b : Bool) (x y : A) → T b → elim b [ true ↦ x | false ↦ y ] ≡ x
+taken true x y t = refl
+taken false x y t = absurd t
+
 pub given-some : {A : Type 0} (b : Bool) (a : A) → T b → given b a ≡ some a
 given-some true a t = refl
 given-some false a t = absurd t
