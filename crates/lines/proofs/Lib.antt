@@ -17,6 +17,9 @@ pub mod EquationRules
 pub mod EliminationRules
 pub mod MembershipRules
 pub mod MatchingRun
+pub mod ValueLists
 pub mod WrittenTable
 pub mod WrittenValues
 pub mod ReadBack
+pub mod Agreement
+pub mod DeclaredExample

@@ -4,9 +4,8 @@ use mathlib.Core.Path.{_≡_, refl, sym, _∙_, ap}
 use mathlib.Core.Bool.{Bool, true, false, _&&_}
 use mathlib.Core.List.{List, [], _∷_, _++_, map}
 use mathlib.Core.Option.{Option, none, some}
-use native.Mathlib.Omega.{arith}
 use lib.Dec.{T, leb, eqb, le→leb, leb→le, eqb-refl}
-use lib.ListN.{length, getD, length-append, length-map}
+use lib.ListN.{length, length-map}
 use Rattle.language.specs.declared.Sym.{Sym}
 use Rattle.language.specs.declared.Refusal.the-variants.{FillingLayout, FillingValue}
 use Rattle.language.specs.Limits.{Limits}
@@ -19,12 +18,9 @@ use Rattle.exact.specs.Each.{Each}
 use Rattle.exact.proofs.Tests.{and-parts, and-both}
 use Rattle.lines.specs.Fillings.{declaredG, DeclaredFilling}
 use Rattle.lines.proofs.Tests.{T-true, taken}
+use Rattle.lines.proofs.ValueLists.{termAt, runAt, nameAt, listed, length-values, each-parts}
 use Rattle.lines.proofs.WrittenTable.{table, table-laidOut, table-parts}
 use Rattle.lines.proofs.WrittenValues.{Formed, values-back}
-
-each-parts : {A : Type 0} (P : A → Type 0) (xs ys : List A) → Each P (xs ++ ys) → Each P xs × Each P ys
-each-parts P [] ys p = (tt, p)
-each-parts P (x ∷ xs) ys p = let (a, b) = each-parts P xs ys (p .1) in ((p .0, a), b)
 
 -- ---- the values have the forms asked for
 
@@ -41,23 +37,12 @@ module _ (n : Counts) where
 
   values-formed : (ρ : Filling) → DeclaredFilling n ρ → Formed n (forms n) (valuesIn n ρ)
   values-formed ρ d =
-      let term : ℕ → Complete = λ x. tree (ρ .root (record { 0 = x })) (ρ .children (record { 0 = x })) nil in
-      let run : ℕ → Complete = λ p. ρ .run (record { 0 = p }) in
-      let name : ℕ → Complete = λ X. tree (ρ .name (record { 0 = X })) nil nil in
-      let (a, b) = each-parts (λ g. T (declaredG n g)) (map term (numbers 0 (n .terms))) (map run (numbers 0 (n .hedges)) ++ map name (numbers 0 (n .functions))) d in
-      let (c, e) = each-parts (λ g. T (declaredG n g)) (map run (numbers 0 (n .hedges))) (map name (numbers 0 (n .functions))) b in
-      formed-row (times (n .terms) aTerm) (times (n .hedges) aHedge ++ times (n .functions) aName) _ _
-        (formed-times aTerm term (λ i. tt) 0 (n .terms) a)
-        (formed-row (times (n .hedges) aHedge) (times (n .functions) aName) _ _ (formed-times aHedge run (λ i. tt) 0 (n .hedges) c) (formed-times aName name (λ i. tt) 0 (n .functions) e))
-
--- ---- there is one for each variable
-
-pub length-numbers : (from m : ℕ) → length (numbers from m) ≡ m
-length-numbers from zero = refl
-length-numbers from (suc m) = ap suc (length-numbers (suc from) m)
-
-pub length-values : (n : Counts) (ρ : Filling) → length (valuesIn n ρ) ≡ variables n
-length-values n ρ = simp (length-append, length-map, length-numbers)
+      let (a, b) = each-parts (λ g. T (declaredG n g)) (listed (termAt ρ) (n .terms)) (listed (runAt ρ) (n .hedges) ++ listed (nameAt ρ) (n .functions)) d in
+      let (c, e) = each-parts (λ g. T (declaredG n g)) (listed (runAt ρ) (n .hedges)) (listed (nameAt ρ) (n .functions)) b in
+      formed-row (times (n .terms) aTerm) (times (n .hedges) aHedge ++ times (n .functions) aName) (listed (termAt ρ) (n .terms)) (listed (runAt ρ) (n .hedges) ++ listed (nameAt ρ) (n .functions))
+      (formed-times aTerm (termAt ρ) (λ i. tt) 0 (n .terms) a)
+      (formed-row (times (n .hedges) aHedge) (times (n .functions) aName) (listed (runAt ρ) (n .hedges)) (listed (nameAt ρ) (n .functions))
+      (formed-times aHedge (runAt ρ) (λ i. tt) 0 (n .hedges) c) (formed-times aName (nameAt ρ) (λ i. tt) 0 (n .functions) e))
 
 -- ---- the filling
 
@@ -83,9 +68,9 @@ module _ (L : Limits) (n : Counts) (ρ : Filling) where
   unfolding readFilling fillingWords
   filling-back m s d =
       taken (leb (length (fillingWords n ρ)) (L .filling) && eqb (variables n) (variables n) && laidOut 1 (variables n) (fillingWords n ρ))
-        (elim (valuesOf L n (forms n) (parts 1 (variables n) (fillingWords n ρ))) [ none ↦ refuses FillingValue | some vs ↦ gives (filling n vs) ]) (refuses FillingLayout)
-        (and-both (leb (length (fillingWords n ρ)) (L .filling) && eqb (variables n) (variables n)) (laidOut 1 (variables n) (fillingWords n ρ))
-          (and-both (leb (length (fillingWords n ρ)) (L .filling)) (eqb (variables n) (variables n)) (le→leb _ (L .filling) s) (eqb-refl (variables n)))
-          (table-laidOut words (variables n) one-each (variables n)))
+      (elim (valuesOf L n (forms n) (parts 1 (variables n) (fillingWords n ρ))) [ none ↦ refuses FillingValue | some vs ↦ gives (filling n vs) ]) (refuses FillingLayout)
+      (and-both (leb (length (fillingWords n ρ)) (L .filling) && eqb (variables n) (variables n)) (laidOut 1 (variables n) (fillingWords n ρ))
+      (and-both (leb (length (fillingWords n ρ)) (L .filling)) (eqb (variables n) (variables n)) (le→leb _ (L .filling) s) (eqb-refl (variables n)))
+      (table-laidOut words (variables n) one-each (variables n)))
       ∙ ap (λ (v : Option (List Complete)). elim v as (λ _. Given) [ none ↦ refuses FillingValue | some vs ↦ gives (filling n vs) ])
-        (ap (valuesOf L n (forms n)) (table-parts words (variables n) one-each (variables n)) ∙ values-back L n (forms n) (valuesIn n ρ) m (values-formed n ρ d))
+      (ap (valuesOf L n (forms n)) (table-parts words (variables n) one-each (variables n)) ∙ values-back L n (forms n) (valuesIn n ρ) m (values-formed n ρ d))

@@ -23,13 +23,13 @@ rising-offsets : (from at end : ℕ) (vs : List (List ℕ)) → from ≤ at → 
 rising-offsets from at end [] p e = and-both (leb from at) (eqb at end) (le→leb from at p) (eqb-same at end (omega arith))
 rising-offsets from at end (v ∷ vs) p e =
     and-both (leb from at) (rising at (offsetsOf (at + length v) vs) end) (le→leb from at p)
-      (rising-offsets at (at + length v) end vs (omega arith) (omega (arith, length-append v (joined vs))))
+    (rising-offsets at (at + length v) end vs (omega arith) (omega (arith, length-append v (joined vs))))
 
 rises-offsets : (first at end : ℕ) (vs : List (List ℕ)) → at ≡ first → at + length (joined vs) ≡ end → T (rises first (offsetsOf at vs) end)
 rises-offsets first at end [] p e = and-both (eqb at first) (eqb at end) (eqb-same at first p) (eqb-same at end (omega arith))
 rises-offsets first at end (v ∷ vs) p e =
     and-both (eqb at first) (rising at (offsetsOf (at + length v) vs) end) (eqb-same at first p)
-      (rising-offsets at (at + length v) end vs (omega arith) (omega (arith, length-append v (joined vs))))
+    (rising-offsets at (at + length v) end vs (omega arith) (omega (arith, length-append v (joined vs))))
 
 first-offset : (at : ℕ) (vs : List (List ℕ)) → offsetsOf at vs ≡ at ∷ drop 1 (offsetsOf at vs)
 first-offset at [] = refl
@@ -42,7 +42,7 @@ parts-offsets at (v ∷ vs) =
     let size : length v ≡ (at + length v) - at = omega arith in
     ap (λ os. partsFrom at os (v ++ joined vs)) (first-offset (at + length v) vs)
     ∙ ap₂ (λ (w : List ℕ) (k : List ℕ). w ∷ partsFrom (at + length v) (drop 1 (offsetsOf (at + length v) vs)) k)
-      (take-at v (joined vs) ((at + length v) - at) size) (drop-at v (joined vs) ((at + length v) - at) size)
+    (take-at v (joined vs) ((at + length v) - at) size) (drop-at v (joined vs) ((at + length v) - at) size)
     ∙ ap (λ ws. v ∷ ws) (parts-offsets (at + length v) vs)
 
 -- ---- a word, the offsets, the parts

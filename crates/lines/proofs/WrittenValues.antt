@@ -58,7 +58,7 @@ read-complete L n g m t =
 value-back : (n : Counts) (form : Form) (g : Complete) (size : ℕ) → T (fits form g) → T (declaredG n g) → valueOf n form size (got (asHedge g) size) ≡ some g
 value-back n form g size t d =
     taken (eqb size size && declared n (asHedge g)) (fitting form (complete (asHedge g))) none
-      (and-both (eqb size size) (declared n (asHedge g)) (eqb-refl size) (rw (as-declared n g) d))
+    (and-both (eqb size size) (declared n (asHedge g)) (eqb-refl size) (rw (as-declared n g) d))
     ∙ ap (fitting form) (as-complete g)
     ∙ taken (fits form g) (some g) none t
 
