@@ -16,10 +16,10 @@ use Rattle.exact.proofs.Each.{each-map}
 use Rattle.exact.proofs.Answers.{look, test, answers}
 use Rattle.exact.proofs.Looks.{empty-is, loneT-is, loneH-is, loneNode-is, loneTerm-is, firstRun-is, asBlank-is, UpTo, upTo-is}
 use Rattle.exact.proofs.Cuts.{CutOf, cuts-join}
-use Rattle.lines.specs.Matching.{isSymbol, ground, sidedL, sided, inEquation}
+use Rattle.lines.specs.Matching.{isSymbol, ground, groundSide, groundSides, inEquation}
 use Rattle.lines.proofs.Variables.{holds-tvar, holds-hvar, holds-fvar, in-functor, in-children, holds-right}
 use Rattle.lines.proofs.Ground.{ground-parts, ground-node, ground-row, ground-free}
-use Rattle.lines.proofs.Sides.{right-side, on-left, on-right, single-parts, one-sided}
+use Rattle.lines.proofs.Sides.{right-side, on-left, on-right, single-parts, one-side}
 use Rattle.lines.proofs.Keeping.{Keeps, Replaces}
 use Rattle.lines.proofs.Replacing.{setT-replaces, setH-replaces, setF-replaces}
 use Rattle.lines.proofs.Fitting.{Fits, FitAnswer, for-equation, from-nothing}
@@ -28,7 +28,7 @@ use Rattle.lines.proofs.EquationRules.{StaysEqn}
 -- the equation a = b stays as it is, b without blanks, and nothing else stands
 eliminated : (l r a b : Hedge) (s : Subst) → T (ground b) → l ≡ a → r ≡ b → Replaces (eqn a b ∷ []) s → Fits (eqn l r) (elims (eqn a b ∷ []) [] s)
 eliminated l r a b s g p q w = (
-  from-nothing (eqn a b ∷ []) (one-sided a b (or-right (ground a) (ground b) g)) (λ v z. z),
+  from-nothing (eqn a b ∷ []) (one-side a b (or-right (ground a) (ground b) g)) (λ v z. z),
   for-equation (eqn a b ∷ []) [] l r tt (λ v z. z) (λ v u. inr (or-left (inLiteral v (eqn a b)) false (rw (p, q) at u))),
   w,
 )
@@ -54,8 +54,8 @@ cut-fits p h l r e g c d =
     let (x, y) = ground-row (c .0) (c .1) (rw (← d) at g) in
     let es = eqn (hvar p ε) (c .0) ∷ [] in
     let ls = eqn h (c .1 ⧺ ε) ∷ [] in (
-      from-nothing es (one-sided (hvar p ε) (c .0) x) (λ v z. z),
-      for-equation es ls l r (one-sided h (c .1 ⧺ ε) (or-right (ground h) (ground (c .1 ⧺ ε)) (ground-end (c .1) y))) (λ v z. z) (λ v u. kept v u),
+      from-nothing es (one-side (hvar p ε) (c .0) x) (λ v z. z),
+      for-equation es ls l r (one-side h (c .1 ⧺ ε) (or-right (ground h) (ground (c .1 ⧺ ε)) (ground-end (c .1) y))) (λ v z. z) (λ v u. kept v u),
       setH-replaces es p (c .0) x (on-left (hv p) (hvar p ε) (c .0) [] (holds-hvar p ε)),
     )
   where
@@ -122,8 +122,8 @@ E6-stays K l r s =
     both X c g d p q t =
         let (i, j, _) = ground-parts g d ε t in
         let es = eqn (node (fvar X) ε ε) (node g ε ε) ∷ [] in (
-          from-nothing es (one-sided (node (fvar X) ε ε) (node g ε ε) (ground-node g ε ε i tt tt)) (λ v z. z),
-          for-equation es (eqn (node g c ε) (node g d ε) ∷ []) l r (one-sided (node g c ε) (node g d ε) (or-right (ground (node g c ε)) (ground (node g d ε)) t)) (λ v z. z)
+          from-nothing es (one-side (node (fvar X) ε ε) (node g ε ε) (ground-node g ε ε i tt tt)) (λ v z. z),
+          for-equation es (eqn (node g c ε) (node g d ε) ∷ []) l r (one-side (node g c ε) (node g d ε) (or-right (ground (node g c ε)) (ground (node g d ε)) t)) (λ v z. z)
               (λ v u. elim (or-cases (holds v l) (holds v r) u) [
                 | inl w ↦
                     elim (single-parts v (fvar X) c (rw p at w)) [

@@ -12,15 +12,15 @@ use Rattle.exact.proofs.Tests.{or-cases, or-left, or-right, and-both, and-parts
 use Rattle.exact.proofs.Names.{eqF-is, sameWords-is}
 use Rattle.exact.proofs.Answers.{look, test}
 use Rattle.exact.proofs.Looks.{loneT-is, loneH-is, loneNode-is, firstTerm-is, firstRun-is, asSymbol-is, inside-is}
-use Rattle.lines.specs.Matching.{isSymbol, ground, sidedL, sided, inEquation}
+use Rattle.lines.specs.Matching.{isSymbol, ground, groundSide, groundSides, inEquation}
 use Rattle.lines.proofs.Variables.{holds-parts}
 use Rattle.lines.proofs.Ground.{ground-parts, ground-row, ground-free}
-use Rattle.lines.proofs.Sides.{right-side, on-left, on-right, later, in-single, one-sided}
+use Rattle.lines.proofs.Sides.{right-side, on-left, on-right, later, in-single, one-side}
 use Rattle.lines.proofs.Fitting.{FitAnswer, dropped, becomes, for-equation}
 
 -- what is shown of a rule of equations
 abbrev pub StaysEqn : EqRule → Type 0
-StaysEqn rule = (K : Conj) (l r : Hedge) → T (sidedL (eqn l r)) → FitAnswer (eqn l r) (rule K l r)
+StaysEqn rule = (K : Conj) (l r : Hedge) → T (groundSide (eqn l r)) → FitAnswer (eqn l r) (rule K l r)
 
 -- ---- removed, or dropped
 
@@ -71,16 +71,16 @@ D2-stays K l r s =
     look (firstTerm r) (firstTerm-is r) λ b q.
     test _ λ _ _. becomes (for-equation [] (eqn (a .0) (b .0) ∷ eqn (a .1) (b .1) ∷ []) l r (sides a b (p .0) (q .0)) (λ v z. z) (λ v u. inl (kept a b (p .0) (q .0) v u)))
   where
-    sides : (a b : Hedge × Hedge) → l ≡ a .0 ⧺ a .1 → r ≡ b .0 ⧺ b .1 → T (sided (eqn (a .0) (b .0) ∷ eqn (a .1) (b .1) ∷ []))
+    sides : (a b : Hedge × Hedge) → l ≡ a .0 ⧺ a .1 → r ≡ b .0 ⧺ b .1 → T (groundSides (eqn (a .0) (b .0) ∷ eqn (a .1) (b .1) ∷ []))
     sides a b p q = elim (or-cases (ground l) (ground r) s) [
       | inl g ↦
           let (x, y) = ground-row (a .0) (a .1) (rw p at g) in
-          and-both (ground (a .0) || ground (b .0)) (sided (eqn (a .1) (b .1) ∷ [])) (or-left (ground (a .0)) (ground (b .0)) x)
-          (one-sided (a .1) (b .1) (or-left (ground (a .1)) (ground (b .1)) y))
+          and-both (ground (a .0) || ground (b .0)) (groundSides (eqn (a .1) (b .1) ∷ [])) (or-left (ground (a .0)) (ground (b .0)) x)
+          (one-side (a .1) (b .1) (or-left (ground (a .1)) (ground (b .1)) y))
       | inr g ↦
           let (x, y) = ground-row (b .0) (b .1) (rw q at g) in
-          and-both (ground (a .0) || ground (b .0)) (sided (eqn (a .1) (b .1) ∷ [])) (or-right (ground (a .0)) (ground (b .0)) x)
-          (one-sided (a .1) (b .1) (or-right (ground (a .1)) (ground (b .1)) y))
+          and-both (ground (a .0) || ground (b .0)) (groundSides (eqn (a .1) (b .1) ∷ [])) (or-right (ground (a .0)) (ground (b .0)) x)
+          (one-side (a .1) (b .1) (or-right (ground (a .1)) (ground (b .1)) y))
     ]
 
     kept : (a b : Hedge × Hedge) → l ≡ a .0 ⧺ a .1 → r ≡ b .0 ⧺ b .1 → (v : Var) → T (inLiteral v (eqn l r)) → T (inEquation v (eqn (a .0) (b .0) ∷ eqn (a .1) (b .1) ∷ []))
@@ -102,7 +102,7 @@ D0-stays K l r s =
     look (loneNode l) (loneNode-is l) λ a p.
     look (loneNode r) (loneNode-is r) λ b q.
     test _ λ _ t. becomes (for-equation [] (eqn (a .1) (b .1) ∷ []) l r
-    (one-sided (a .1) (b .1) (sides a b p q)) (λ v z. z) (λ v u. inl (kept a b (eqF-is (a .0) (b .0) t) p q v u)))
+    (one-side (a .1) (b .1) (sides a b p q)) (λ v z. z) (λ v u. inl (kept a b (eqF-is (a .0) (b .0) t) p q v u)))
   where
     sides : (a b : Functor × Hedge) → l ≡ node (a .0) (a .1) ε → r ≡ node (b .0) (b .1) ε → T (ground (a .1) || ground (b .1))
     sides a b p q = elim (or-cases (ground l) (ground r) s) [

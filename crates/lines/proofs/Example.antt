@@ -16,16 +16,16 @@ use Rattle.rules.specs.Looks.{empty}
 use Rattle.rules.specs.Expressions.{sample}
 use Rattle.rules.specs.Solved.{isSome, given, solves, inMember, loneVar, onlyMember, solvedLiteral, solvedFrom, solved}
 use Rattle.rules.specs.Example.{Values, of, unsolved, binds, example}
-use Rattle.exact.proofs.Tests.{and-parts}
+use Rattle.exact.proofs.Tests.{and-parts, true-test}
 use Rattle.exact.proofs.Names.{eqV-is}
 use Rattle.exact.proofs.Complete.{·-nil}
 use Rattle.exact.proofs.Answers.{Where}
 use Rattle.exact.proofs.Looks.{empty-is}
-use Rattle.lines.proofs.Tests.{T-true, given-none}
+use Rattle.lines.proofs.Tests.{given-none}
 use Rattle.lines.proofs.Variables.{holds-tvar, holds-hvar}
 use Rattle.lines.proofs.Sample.{sample-member}
 use Rattle.lines.proofs.Solving.{agree, Solves, solves-is}
-use Rattle.lines.proofs.Quiet.{NoRule, step-none, QuietMem, quiet-mem}
+use Rattle.lines.proofs.Quiet.{at-literal, QuietMem, quiet-mem}
 use Rattle.lines.proofs.Bound.{values, example-is, unbound-value, solved-value, sample-value}
 
 -- ---- an equation
@@ -86,10 +86,10 @@ meets-from before (eqn l r ∷ behind) t q =
     )
 meets-from before (mem h R ∷ behind) t q =
     let (a, b) = and-parts (solvedLiteral (before ++ behind) (mem h R)) (solvedFrom (before ++ (mem h R ∷ [])) behind) t in (
-      by-membership before behind h R a (quiet-mem (before ++ behind) h R (step-none before behind (mem h R) q)),
+      by-membership before behind h R a (quiet-mem (before ++ behind) h R (at-literal before behind (mem h R) q)),
       rw append-assoc at (meets-from (before ++ (mem h R ∷ [])) behind b (rw append-assoc q)),
     )
 
 pub example-meets : (k : Conj) → solved k ≡ true → step k ≡ none → MeetsAll (example k) k
 unfolding solved
-example-meets k t q = rw (example-is k) (meets-from [] k (T-true (solvedFrom [] k) t) q)
+example-meets k t q = rw (example-is k) (meets-from [] k (true-test (solvedFrom [] k) t) q)

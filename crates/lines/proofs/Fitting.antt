@@ -15,7 +15,7 @@ use Rattle.exact.proofs.Tests.{or-cases, or-left, or-right, and-parts, and-both
 use Rattle.exact.specs.Each.{Each}
 use Rattle.exact.proofs.Each.{each-imp}
 use Rattle.exact.proofs.Answers.{Answers, answers}
-use Rattle.lines.specs.Matching.{ground, sidedL, sided, inEquation, Matching}
+use Rattle.lines.specs.Matching.{ground, groundSide, groundSides, inEquation, Matching}
 use Rattle.lines.proofs.Tests.{or-exchanged}
 use Rattle.lines.proofs.Places.{equation-left, equation-right}
 use Rattle.lines.proofs.Keeping.{Keeps, keeps-self, keeps-row, keeps-then, keeps-matching, Replaces, put-keeps}
@@ -74,11 +74,11 @@ becomes-either p q = answers (p, (q, tt))
 -- ---- what stands for a membership, and for an equation
 
 -- a membership has no variable of an equation to lose
-pub for-membership : (E ls : Conj) (h : Hedge) (R : Expr) → T (sided ls) → ((v : Var) → T (inMember v ls) → T (holds v h)) → Keeps E (mem h R ∷ []) ls
+pub for-membership : (E ls : Conj) (h : Hedge) (R : Expr) → T (groundSides ls) → ((v : Var) → T (inMember v ls) → T (holds v h)) → Keeps E (mem h R ∷ []) ls
 for-membership E ls h R s m = record { sides = λ t. s; members = λ v t. or-left (holds v h) false (m v t); equations = λ v t. absurd t }
 
 -- an equation has no variable of a membership
-pub for-equation : (E ls : Conj) (l r : Hedge) → T (sided ls) → ((v : Var) → ¬ T (inMember v ls))
+pub for-equation : (E ls : Conj) (l r : Hedge) → T (groundSides ls) → ((v : Var) → ¬ T (inMember v ls))
     → ((v : Var) → T (inLiteral v (eqn l r)) → T (inEquation v ls) ⊎ T (inEquation v E)) → Keeps E (eqn l r ∷ []) ls
 for-equation E ls l r s n e = record {
   sides = λ t. s;
@@ -87,5 +87,5 @@ for-equation E ls l r s n e = record {
 }
 
 -- equations that eliminate
-pub from-nothing : (es : Conj) → T (sided es) → ((v : Var) → ¬ T (inMember v es)) → Keeps es [] es
+pub from-nothing : (es : Conj) → T (groundSides es) → ((v : Var) → ¬ T (inMember v es)) → Keeps es [] es
 from-nothing es s n = record { sides = λ t. s; members = λ v t. absurd (n v t); equations = λ v t. absurd t }

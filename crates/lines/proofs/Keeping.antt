@@ -12,16 +12,16 @@ use Rattle.rules.specs.Substitution.{Subst, put, putF, putL, putC}
 use Rattle.rules.specs.Solved.{inMember}
 use Rattle.exact.proofs.Tests.{or-cases, or-left, or-right, and-parts, and-both}
 use Rattle.exact.proofs.Names.{eqV-is}
-use Rattle.lines.specs.Matching.{isSymbol, ground, sidedL, sided, inEquation, Matching}
+use Rattle.lines.specs.Matching.{isSymbol, ground, groundSide, groundSides, inEquation, Matching}
 use Rattle.lines.proofs.Variables.{holds-tvar, holds-hvar, holds-fvar, after-tvar, after-hvar, in-functor, in-children, after-node, holds-parts, holds-right}
 use Rattle.lines.proofs.Ground.{symbol-free, ground-free, ground-parts, ground-node}
-use Rattle.lines.proofs.Places.{sided-parts, sided-row, member-parts, member-left, member-right, equation-parts, equation-left, equation-right}
+use Rattle.lines.proofs.Places.{sides-parts, sides-row, member-parts, member-left, member-right, equation-parts, equation-left, equation-right}
 
 -- ---- one conjunction for another
 
 -- d may stand for c where the equations E stand too: sides without blanks stay, memberships gain no variable, equations lose none but those of E
 pub record Keeps (E c d : Conj) : Type 0 where
-  pub sides : T (sided c) → T (sided d)
+  pub sides : T (groundSides c) → T (groundSides d)
   pub members : (v : Var) → T (inMember v d) → T (inMember v c)
   pub equations : (v : Var) → T (inEquation v c) → T (inEquation v d) ⊎ T (inEquation v E)
 
@@ -30,7 +30,7 @@ keeps-self E c = record { sides = λ t. t; members = λ v t. t; equations = λ v
 
 pub keeps-row : (E a b c d : Conj) → Keeps E a b → Keeps E c d → Keeps E (a ++ c) (b ++ d)
 keeps-row E a b c d p q = record {
-  sides = λ t. let (s, u) = sided-parts a c t in sided-row b d (p .sides s) (q .sides u);
+  sides = λ t. let (s, u) = sides-parts a c t in sides-row b d (p .sides s) (q .sides u);
   members = λ v t. elim (member-parts v b d t) [ inl s ↦ member-left v a c (p .members v s) | inr s ↦ member-right v a c (q .members v s) ];
   equations = λ v t. elim (equation-parts v a c t) [
     | inl s ↦ elim (p .equations v s) [ inl u ↦ inl (equation-left v b d u) | inr u ↦ inr u ]
@@ -140,16 +140,16 @@ module _ (E : Conj) (s : Subst) (e : Replaces E s) where
 
   -- ---- and in a conjunction
 
-  put-sided : (l : Literal) → T (sidedL l) → T (sidedL (putL s l))
-  put-sided (eqn l r) t = elim (or-cases (ground l) (ground r) t) [
+  put-side : (l : Literal) → T (groundSide l) → T (groundSide (putL s l))
+  put-side (eqn l r) t = elim (or-cases (ground l) (ground r) t) [
     | inl g ↦ or-left (ground (put s l)) (ground (put s r)) (put-ground l g)
     | inr g ↦ or-right (ground (put s l)) (ground (put s r)) (put-ground r g)
   ]
-  put-sided (mem h R) t = tt
+  put-side (mem h R) t = tt
 
   put-literal : (l : Literal) → Keeps E (l ∷ []) (putL s l ∷ [])
   put-literal (eqn l r) = record {
-    sides = λ t. and-both (sidedL (putL s (eqn l r))) true (put-sided (eqn l r) (and-parts (sidedL (eqn l r)) true t .0)) tt;
+    sides = λ t. and-both (groundSide (putL s (eqn l r))) true (put-side (eqn l r) (and-parts (groundSide (eqn l r)) true t .0)) tt;
     members = λ v t. t;
     equations = λ v t. elim (or-cases (inLiteral v (eqn l r)) false t) [
       | inl u ↦

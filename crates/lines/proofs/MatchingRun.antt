@@ -9,20 +9,20 @@ use lib.Dec.{T}
 use Rattle.language.specs.Limits.{Limits}
 use Rattle.language.specs.Trees.{Hedge, Literal, eqn, mem, Conj}
 use Rattle.rules.specs.Rules.{Branch, Answer, Rule, onEqn, onMem, rules}
-use Rattle.rules.specs.Step.{attempt, place, resultsAt, step}
+use Rattle.rules.specs.Step.{place, step}
 use Rattle.rules.specs.Solved.{solved}
 use Rattle.rules.specs.Run.{finished, run}
 use Rattle.rules.specs.Answer.{countOpen}
 use Rattle.exact.specs.Each.{Each}
-use Rattle.exact.specs.Places.{AtPlaces}
+use Rattle.exact.specs.Places.{sided, sidedAt, AtSides}
 use Rattle.exact.proofs.Tests.{and-parts}
-use Rattle.exact.proofs.Each.{each-map, each-imp}
+use Rattle.exact.proofs.Each.{_also_, each-map, each-imp}
 use Rattle.exact.proofs.Answers.{Where}
-use Rattle.exact.proofs.Steps.{orElse-is, where-some, step-at-places}
+use Rattle.exact.proofs.Steps.{where-some, each-at-places, step-at-places}
 use Rattle.exact.proofs.Invariant.{lines-keep, lines-rest}
-use Rattle.lines.specs.Matching.{ground, sidedL, sided, Matching}
+use Rattle.lines.specs.Matching.{ground, groundSide, groundSides, Matching}
 use Rattle.lines.proofs.Tests.{or-exchanged}
-use Rattle.lines.proofs.Places.{sided-parts}
+use Rattle.lines.proofs.Places.{sides-parts}
 use Rattle.lines.proofs.Fitting.{Fits, FitAnswer, exchanged, placed}
 use Rattle.lines.proofs.EquationRules.{StaysEqn, R1-stays, F1-stays, F2-stays, F3-stays, F4-stays, Del1-stays, Del3-stays, D2-stays, D0-stays}
 use Rattle.lines.proofs.EliminationRules.{E1-stays, E2-stays, E3-stays, E4-stays, E5-stays, E6-stays}
@@ -35,16 +35,20 @@ abbrev RuleStays : Rule → Type 0
 RuleStays (onEqn rule) = StaysEqn rule
 RuleStays (onMem rule) = StaysMem rule
 
-attempt-stays : (rule : Rule) → RuleStays rule → (K : Conj) (l : Literal) → T (sidedL l) → Where (Each (Fits l)) (attempt rule K l)
-attempt-stays (onEqn rule) p K (eqn l r) t =
-    orElse-is (Each (Fits (eqn l r))) (rule K l r) _ (p K l r t .given) (exchanged l r (rule K r l) (p K r l (or-exchanged (ground l) (ground r) t)) .given)
-attempt-stays (onEqn rule) p K (mem h R) t = tt
-attempt-stays (onMem rule) p K (eqn l r) t = tt
-attempt-stays (onMem rule) p K (mem h R) t = p K h R .given
+-- the written side, or swapped
+side-stays : (swap : Bool) (rule : Rule) → RuleStays rule → (K : Conj) (l : Literal) → T (groundSide l) → Where (Each (Fits l)) (sided swap rule K l)
+side-stays false (onEqn rule) p K (eqn l r) t = p K l r t .given
+side-stays true (onEqn rule) p K (eqn l r) t = exchanged l r (rule K r l) (p K r l (or-exchanged (ground l) (ground r) t)) .given
+side-stays false (onEqn rule) p K (mem h R) t = tt
+side-stays true (onEqn rule) p K (mem h R) t = tt
+side-stays false (onMem rule) p K (eqn l r) t = tt
+side-stays true (onMem rule) p K (eqn l r) t = tt
+side-stays false (onMem rule) p K (mem h R) t = p K h R .given
+side-stays true (onMem rule) p K (mem h R) t = tt
 
 -- ---- in its place
 
-abbrev KeepsMatching : Conj → List Conj → Type 0
+abbrev pub KeepsMatching : Conj → List Conj → Type 0
 KeepsMatching k ks = Matching k → Each Matching ks
 
 at-literal : (before behind : Conj) (l : Literal) (w : Answer) → Where (Each (Fits l)) w → Matching (before ++ (l ∷ behind))
@@ -52,76 +56,27 @@ at-literal : (before behind : Conj) (l : Literal) (w : Answer) → Where (Each (
 at-literal before behind l none p m = tt
 at-literal before behind l (some bs) p m = each-map (Fits l) Matching (place before behind) (λ b f. placed before behind l b f m) bs p
 
-rule-stays : (rule : Rule) → RuleStays rule → AtPlaces KeepsMatching rule
-rule-stays rule p before l behind ks e m =
-    let side = and-parts (sidedL l) (sided behind) (sided-parts before (l ∷ behind) (m .sides) .1) .0 in
-    where-some (Each Matching) (resultsAt rule before l behind) ks
-    (at-literal before behind l (attempt rule (before ++ behind) l) (attempt-stays rule p (before ++ behind) l side) m) e
+rule-stays : (rule : Rule) → RuleStays rule → AtSides KeepsMatching rule
+rule-stays rule p swap before l behind ks e m =
+    let side = and-parts (groundSide l) (groundSides behind) (sides-parts before (l ∷ behind) (m .sides) .1) .0 in
+    where-some (Each Matching) (sidedAt swap rule before l behind) ks
+    (at-literal before behind l (sided swap rule (before ++ behind) l) (side-stays swap rule p (before ++ behind) l side) m) e
 
-each-rule-stays : Each (AtPlaces KeepsMatching) rules
+-- each rule, at whatever literal and on whatever side it applies
+pub each-rule-stays : Each (AtSides KeepsMatching) rules
 each-rule-stays =
-    each-imp RuleStays (AtPlaces KeepsMatching) rule-stays rules (
-      R1-stays,
-      (
-        R2-stays,
-        (
-          F1-stays,
-          (
-            F2-stays,
-            (
-              F3-stays,
-              (
-                F4-stays,
-                (
-                  F5-stays,
-                  (
-                    F6-stays,
-                    (
-                      F7-stays,
-                      (
-                        Del1-stays,
-                        (
-                          Del3-stays,
-                          (
-                            D2-stays,
-                            (
-                              D0-stays,
-                              (
-                                E1-stays,
-                                (
-                                  E2-stays,
-                                  (
-                                    E3-stays,
-                                    (
-                                      E4-stays,
-                                      (
-                                        E5-stays,
-                                        (
-                                          E6-stays,
-                                          (M1-stays, (M2-stays, (M3-stays, (M4-stays, (M5-stays, (M6-stays, (M7-stays, (M10-stays, (M11-stays, tt))))))))),
-                                        ),
-                                      ),
-                                    ),
-                                  ),
-                                ),
-                              ),
-                            ),
-                          ),
-                        ),
-                      ),
-                    ),
-                  ),
-                ),
-              ),
-            ),
-          ),
-        ),
-      ),
-    )
+    each-imp RuleStays (AtSides KeepsMatching) rule-stays rules
+    (R1-stays also R2-stays
+    also F1-stays also F2-stays also F3-stays also F4-stays also F5-stays also F6-stays also F7-stays
+    also Del1-stays also Del3-stays
+    also D2-stays also D0-stays
+    also E1-stays also E2-stays also E3-stays also E4-stays also E5-stays also E6-stays
+    also M1-stays also M2-stays also M3-stays also M4-stays also M5-stays also M6-stays also M7-stays also M10-stays also M11-stays
+    also tt)
 
 -- Matching is kept by every step.
 pub step-matching : (k : Conj) (ks : List Conj) → Matching k → step k ≡ some ks → Each Matching ks
-step-matching k ks m e = step-at-places KeepsMatching each-rule-stays k ks e m
+step-matching k ks m e = step-at-places KeepsMatching (each-at-places KeepsMatching each-rule-stays) k ks e m
 
 -- ---- the run
 

@@ -17,9 +17,9 @@ use Rattle.exact.proofs.Tests.{or-cases, or-left, or-right, and-both}
 use Rattle.exact.proofs.Each.{each-map, each-all}
 use Rattle.exact.proofs.Answers.{look, test, answers}
 use Rattle.exact.proofs.Looks.{loneNode-is, loneTerm-is, firstTerm-is, firstRun-is, asSymbol-is, asBlank-is, asCat-is, asAlt-is, asStar-is, asOver-is}
-use Rattle.lines.specs.Matching.{ground, sided, inEquation}
+use Rattle.lines.specs.Matching.{ground, groundSides, inEquation}
 use Rattle.lines.proofs.Variables.{holds-fvar, in-children, after-hvar, holds-left, holds-right}
-use Rattle.lines.proofs.Sides.{on-left, in-single, one-sided}
+use Rattle.lines.proofs.Sides.{on-left, in-single, one-side}
 use Rattle.lines.proofs.Replacing.{setF-replaces, emptied-replaces}
 use Rattle.lines.proofs.Fitting.{Fits, FitAnswer, dropped, becomes, becomes-either, for-membership, from-nothing}
 
@@ -51,11 +51,11 @@ F7-stays K h R = test _ λ _ _. test _ λ _ _. dropped
 
 -- ---- hedge variables alone in eps
 
-vanish-sided : (h : Hedge) → T (sided (vanish h))
-vanish-sided ε = tt
-vanish-sided (tvar x r) = vanish-sided r
-vanish-sided (hvar p r) = vanish-sided r
-vanish-sided (node f c r) = vanish-sided r
+vanish-sides : (h : Hedge) → T (groundSides (vanish h))
+vanish-sides ε = tt
+vanish-sides (tvar x r) = vanish-sides r
+vanish-sides (hvar p r) = vanish-sides r
+vanish-sides (node f c r) = vanish-sides r
 
 vanish-no-member : (v : Var) (h : Hedge) → ¬ T (inMember v (vanish h))
 vanish-no-member v ε t = t
@@ -68,7 +68,7 @@ M1-stays K h R =
     test _ λ _ _. test _ λ _ a. test _ λ _ _.
     answers (
       (
-        from-nothing (vanish h) (vanish-sided h) (λ v. vanish-no-member v h),
+        from-nothing (vanish h) (vanish-sides h) (λ v. vanish-no-member v h),
         for-membership (vanish h) [] h R tt (λ v z. absurd z),
         emptied-replaces h a,
       ),
@@ -96,7 +96,7 @@ M3-stays K h R =
     test _ λ _ _.
     look (asOver R) (asOver-is R) λ g _.
     becomes-either
-    (for-membership [] (mem (hvar (a .0) ε) R ∷ eqn (a .1) ε ∷ []) h R (one-sided (a .1) ε (or-right (ground (a .1)) true tt)) λ v t.
+    (for-membership [] (mem (hvar (a .0) ε) R ∷ eqn (a .1) ε ∷ []) h R (one-side (a .1) ε (or-right (ground (a .1)) true tt)) λ v t.
     elim (or-cases (holds v (hvar (a .0) ε)) false t) [
       | inl s ↦ elim (or-cases (eqV v (hv (a .0))) false s) [ inl w ↦ rw p (or-left (eqV v (hv (a .0))) (holds v (a .1)) w) | inr z ↦ absurd z ]
       | inr z ↦ absurd z

@@ -7,20 +7,20 @@ use lib.Dec.{T}
 use Rattle.language.specs.Trees.{Hedge, Literal, eqn, mem, Conj, Var, holds, inLiteral, inConj}
 use Rattle.rules.specs.Solved.{inMember}
 use Rattle.exact.proofs.Tests.{or-cases, or-left, or-right, and-parts, and-both}
-use Rattle.lines.specs.Matching.{sidedL, sided, inEquation}
+use Rattle.lines.specs.Matching.{groundSide, groundSides, inEquation}
 
 -- ---- in a row
 
-pub sided-parts : (c d : Conj) → T (sided (c ++ d)) → T (sided c) × T (sided d)
-sided-parts [] d t = (tt, t)
-sided-parts (l ∷ c) d t =
-    let (a, b) = and-parts (sidedL l) (sided (c ++ d)) t in
-    let (p, q) = sided-parts c d b in
-    (and-both (sidedL l) (sided c) a p, q)
+pub sides-parts : (c d : Conj) → T (groundSides (c ++ d)) → T (groundSides c) × T (groundSides d)
+sides-parts [] d t = (tt, t)
+sides-parts (l ∷ c) d t =
+    let (a, b) = and-parts (groundSide l) (groundSides (c ++ d)) t in
+    let (p, q) = sides-parts c d b in
+    (and-both (groundSide l) (groundSides c) a p, q)
 
-pub sided-row : (c d : Conj) → T (sided c) → T (sided d) → T (sided (c ++ d))
-sided-row [] d s t = t
-sided-row (l ∷ c) d s t = let (a, b) = and-parts (sidedL l) (sided c) s in and-both (sidedL l) (sided (c ++ d)) a (sided-row c d b t)
+pub sides-row : (c d : Conj) → T (groundSides c) → T (groundSides d) → T (groundSides (c ++ d))
+sides-row [] d s t = t
+sides-row (l ∷ c) d s t = let (a, b) = and-parts (groundSide l) (groundSides c) s in and-both (groundSide l) (groundSides (c ++ d)) a (sides-row c d b t)
 
 module _ (v : Var) where
   pub member-parts : (c d : Conj) → T (inMember v (c ++ d)) → T (inMember v c) ⊎ T (inMember v d)

@@ -1,31 +1,23 @@
 -- What it says that no rule applies to a line: none applies to any of its literals among the others.
 use mathlib.Core.Path.{_≡_, refl}
-use mathlib.Core.List.{List, [], _∷_, _++_, map, append-assoc}
-use mathlib.Core.Option.{Option, none, some, Option·map, map-eq-none-iff}
+use mathlib.Core.List.{List, [], _∷_, _++_, map}
+use mathlib.Core.Option.{none, map-eq-none-iff}
 use Rattle.language.specs.Trees.{Hedge, Expr, Literal, eqn, mem, Conj}
 use Rattle.rules.specs.Rules.{Rule, EqRule, onEqn, onMem, rules, R1, R2, F3, F4, F5, F6, F7, D2, D0, E1, E2, E3, E5, E6, M2, M4, M5, M6, M11}
-use Rattle.rules.specs.Step.{attempt, place, resultsAt, earliest, first, step}
-use Rattle.lines.proofs.Tests.{orElse-none}
+use Rattle.rules.specs.Step.{attempt, place, step}
+use Rattle.exact.specs.Each.{Each}
+use Rattle.exact.specs.Places.{Idle}
+use Rattle.exact.proofs.Each.{each-imp}
+use Rattle.exact.proofs.Steps.{orElse-none, step-none}
 
 -- none of the rules applies to l among K
-abbrev pub NoRule : List Rule → Conj → Literal → Type 0
-NoRule [] K l = Unit {0}
-NoRule (rule ∷ rs) K l = (attempt rule K l ≡ none) × NoRule rs K l
+abbrev pub NoRule : Conj → Literal → Type 0
+NoRule K l = Each (λ rule. attempt rule K l ≡ none) rules
 
-earliest-none : (rule : Rule) (before mid behind : Conj) (l : Literal) → earliest rule before (mid ++ (l ∷ behind)) ≡ none → attempt rule (before ++ (mid ++ behind)) l ≡ none
-earliest-none rule before [] behind l e = map-eq-none-iff _ (attempt rule (before ++ behind) l) .0 (orElse-none (resultsAt rule before l behind) _ e .0)
-earliest-none rule before (m ∷ mid) behind l e =
-    rw append-assoc at (earliest-none rule (before ++ (m ∷ [])) mid behind l (orElse-none (resultsAt rule before m (mid ++ (l ∷ behind))) _ e .1))
-
-first-none : (rs : List Rule) (before behind : Conj) (l : Literal) → first rs (before ++ (l ∷ behind)) ≡ none → NoRule rs (before ++ behind) l
-first-none [] before behind l e = tt
-first-none (rule ∷ rs) before behind l e =
-    let (a, b) = orElse-none (earliest rule [] (before ++ (l ∷ behind))) _ e in
-    (earliest-none rule [] before behind l a, first-none rs before behind l b)
-
-pub step-none : (before behind : Conj) (l : Literal) → step (before ++ (l ∷ behind)) ≡ none → NoRule rules (before ++ behind) l
-unfolding step
-step-none before behind l e = first-none rules before behind l e
+pub at-literal : (before behind : Conj) (l : Literal) → step (before ++ (l ∷ behind)) ≡ none → NoRule (before ++ behind) l
+at-literal before behind l e =
+    each-imp (Idle (before ++ (l ∷ behind))) (λ rule. attempt rule (before ++ behind) l ≡ none)
+    (λ rule i. map-eq-none-iff (map (place before behind)) (attempt rule (before ++ behind) l) .0 (i before l behind refl)) rules (step-none (before ++ (l ∷ behind)) e)
 
 -- ---- by the rules' names
 
@@ -57,7 +49,7 @@ pub record QuietMem (K : Conj) (h : Hedge) (R : Expr) : Type 0 where
 both-sides : (rule : EqRule) (K : Conj) (l r : Hedge) → attempt (onEqn rule) K (eqn l r) ≡ none → (rule K l r ≡ none) × (rule K r l ≡ none)
 both-sides rule K l r e = orElse-none (rule K l r) _ e
 
-pub quiet-eqn : (K : Conj) (l r : Hedge) → NoRule rules K (eqn l r) → QuietEqn K l r × QuietEqn K r l
+pub quiet-eqn : (K : Conj) (l r : Hedge) → NoRule K (eqn l r) → QuietEqn K l r × QuietEqn K r l
 quiet-eqn K l r q =
     let (a1, (_, (_, (_, (a3, (a4, (_, (_, (_, (_, (_, (b2, (b0, (c1, (c2, (c3, (_, (c5, (c6, _))))))))))))))))))) = q in
     let r1 = both-sides R1 K l r a1 in
@@ -74,7 +66,7 @@ quiet-eqn K l r q =
       record { r1 = r1 .1; f3 = f3 .1; f4 = f4 .1; d2 = d2 .1; d0 = d0 .1; e1 = e1 .1; e2 = e2 .1; e3 = e3 .1; e5 = e5 .1; e6 = e6 .1 },
     )
 
-pub quiet-mem : (K : Conj) (h : Hedge) (R : Expr) → NoRule rules K (mem h R) → QuietMem K h R
+pub quiet-mem : (K : Conj) (h : Hedge) (R : Expr) → NoRule K (mem h R) → QuietMem K h R
 quiet-mem K h R q =
     let (_, (r2, (_, (_, (_, (_, (f5, (f6, (f7, (_, (_, (_, (_, (_, (_, (_, (_, (_, (_, (_, (m2, (_, (m4, (m5, (m6, (_, (_, (m11, _)))))))))))))))))))))))))))) = q in
     record { r2 = r2; f5 = f5; f6 = f6; f7 = f7; m2 = m2; m4 = m4; m5 = m5; m6 = m6; m11 = m11 }

@@ -15,9 +15,9 @@ use Rattle.meaning.specs.Complete.{Complete, nil, tree, completeWords}
 use Rattle.meaning.specs.Meaning.{Filling}
 use Rattle.meaning.specs.Values.{Form, aTerm, aHedge, aName, fits, times, forms, variables, valuesOf, Given, gives, refuses, filling, readFilling, offsetsOf, joined, numbers, valuesIn, fillingWords}
 use Rattle.exact.specs.Each.{Each}
-use Rattle.exact.proofs.Tests.{and-parts, and-both}
+use Rattle.exact.proofs.Tests.{and-parts, and-both, true-test}
 use Rattle.lines.specs.Fillings.{declaredG, DeclaredFilling}
-use Rattle.lines.proofs.Tests.{T-true, taken}
+use Rattle.lines.proofs.Tests.{taken}
 use Rattle.lines.proofs.ValueLists.{termAt, runAt, nameAt, listed, length-values, each-parts}
 use Rattle.lines.proofs.WrittenTable.{table, table-laidOut, table-parts}
 use Rattle.lines.proofs.WrittenValues.{Formed, values-back}
@@ -54,7 +54,7 @@ first-two a b c d e f t =
 pub symbols-fit : (L : Limits) (n : Counts) (c : ℕ) → countsFit L n c ≡ true → (1 ≤ n .symbols) × (n .symbols ≤ L .each)
 unfolding countsFit
 symbols-fit L n c e =
-    let (a, b) = first-two (leb 1 (n .symbols)) (leb (n .symbols) (L .each)) (leb (n .terms) (L .each)) (leb (n .hedges) (L .each)) (leb (n .functions) (L .each)) (leb c (L .alternatives)) (T-true _ e) in
+    let (a, b) = first-two (leb 1 (n .symbols)) (leb (n .symbols) (L .each)) (leb (n .terms) (L .each)) (leb (n .hedges) (L .each)) (leb (n .functions) (L .each)) (leb c (L .alternatives)) (true-test _ e) in
     (leb→le 1 (n .symbols) a, leb→le (n .symbols) (L .each) b)
 
 module _ (L : Limits) (n : Counts) (ρ : Filling) where

@@ -14,7 +14,7 @@ use Rattle.rules.specs.Rules.{vanish}
 use Rattle.rules.specs.Substitution.{Subst, setT, setH, setF, emptied}
 use Rattle.exact.proofs.Tests.{or-cases, or-left, or-right, picks}
 use Rattle.exact.proofs.Names.{eqT-is, eqH-is, eqX-is, eqV-is}
-use Rattle.lines.specs.Matching.{isSymbol, ground, sided, inEquation}
+use Rattle.lines.specs.Matching.{isSymbol, ground, groundSides, inEquation}
 use Rattle.lines.proofs.Keeping.{Replaces}
 
 pub setT-replaces : (E : Conj) (x : TermVar) (t : Hedge) → T (ground t) → T (inEquation (tv x) E) → Replaces E (setT x t)

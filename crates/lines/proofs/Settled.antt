@@ -17,7 +17,6 @@ use Rattle.exact.proofs.Tests.{or-cases, and-parts, and-both}
 use Rattle.exact.proofs.Names.{eqV-is}
 use Rattle.exact.proofs.Looks.{empty-is}
 use Rattle.lines.specs.Matching.{isSymbol, ground}
-use Rattle.lines.proofs.Tests.{T-true}
 use Rattle.lines.proofs.Ground.{ground-free, ground-parts, ground-terms, ground-loneH}
 use Rattle.lines.proofs.Quiet.{QuietEqn}
 

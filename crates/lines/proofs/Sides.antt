@@ -6,16 +6,16 @@ use mathlib.Core.List.{List, [], _∷_}
 use lib.Dec.{T}
 use Rattle.language.specs.Trees.{Functor, Hedge, ε, node, Literal, eqn, Conj, Var, inFunctor, holds, inLiteral}
 use Rattle.exact.proofs.Tests.{or-cases, or-left, or-right, and-both}
-use Rattle.lines.specs.Matching.{isSymbol, ground, sidedL, sided, inEquation}
+use Rattle.lines.specs.Matching.{isSymbol, ground, groundSide, groundSides, inEquation}
 use Rattle.lines.proofs.Ground.{symbol-free}
 
 -- ---- the side without blanks
 
 -- l has a blank
-pub right-side : (l r : Hedge) → T (sidedL (eqn l r)) → ground l ≡ false → T (ground r)
+pub right-side : (l r : Hedge) → T (groundSide (eqn l r)) → ground l ≡ false → T (ground r)
 right-side l r t e = rw e at t
 
-pub left-side : (l r : Hedge) → T (sidedL (eqn l r)) → ground r ≡ false → T (ground l)
+pub left-side : (l r : Hedge) → T (groundSide (eqn l r)) → ground r ≡ false → T (ground l)
 left-side l r t e = elim (or-cases (ground l) (ground r) t) [ inl g ↦ g | inr g ↦ absurd (rw e at g) ]
 
 -- ---- where a variable stands
@@ -38,5 +38,5 @@ pub in-single : (v : Var) (f : Functor) (c : Hedge) → T (isSymbol f) → T (ho
 in-single v f c s t = elim (single-parts v f c t) [ inl u ↦ absurd (symbol-free v f s u) | inr u ↦ u ]
 
 -- one equation alone
-pub one-sided : (l r : Hedge) → T (ground l || ground r) → T (sided (eqn l r ∷ []))
-one-sided l r t = and-both (ground l || ground r) true t tt
+pub one-side : (l r : Hedge) → T (ground l || ground r) → T (groundSides (eqn l r ∷ []))
+one-side l r t = and-both (ground l || ground r) true t tt

@@ -12,13 +12,6 @@ use Rattle.exact.proofs.Answers.{Where}
 
 -- ---- tests
 
-pub T-true : (b : Bool) → b ≡ true → T b
-T-true b e = rw e tt
-
-pub true-T : (b : Bool) → T b → b ≡ true
-true-T true t = refl
-true-T false t = absurd t
-
 pub not-both : (a b : Bool) → T (not (a || b)) → (¬ T a) × (¬ T b)
 not-both true b t = absurd t
 not-both false true t = absurd t
@@ -55,8 +48,3 @@ given-none false a n = refl
 pub given-is : {A : Type 0} (P : A → Type 0) (b : Bool) (a : A) → (T b → P a) → Where P (given b a)
 given-is P true a h = h tt
 given-is P false a h = tt
-
--- neither the first nor the second
-pub orElse-none : {A : Type 0} (m : Option A) (k : Unit {0} → Option A) → orElse m k ≡ none → (m ≡ none) × (k tt ≡ none)
-orElse-none (some a) k e = absurd (Option·some-ne-none a e)
-orElse-none none k e = (refl, e)

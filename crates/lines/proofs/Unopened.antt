@@ -11,15 +11,15 @@ use Rattle.rules.specs.Step.{orElse, step}
 use Rattle.rules.specs.Looks.{empty, isEps}
 use Rattle.rules.specs.Expressions.{nullable}
 use Rattle.rules.specs.Solved.{isSome, variable, alone, inMember, solvedLiteral, solvedFrom, solved}
-use Rattle.exact.proofs.Tests.{or-cases, or-left, or-right, and-parts, and-both}
-use Rattle.lines.specs.Matching.{ground, sidedL, sided, inEquation, Matching}
-use Rattle.lines.proofs.Tests.{true-T, or-exchanged}
+use Rattle.exact.proofs.Tests.{or-cases, or-left, or-right, and-parts, and-both, test-true}
+use Rattle.lines.specs.Matching.{ground, groundSide, groundSides, inEquation, Matching}
+use Rattle.lines.proofs.Tests.{or-exchanged}
 use Rattle.lines.proofs.Variables.{holds-tvar, holds-hvar, holds-fvar, in-functor, in-children, after-node}
 use Rattle.lines.proofs.Ground.{ground-parts, ground-node}
-use Rattle.lines.proofs.Quiet.{NoRule, step-none, QuietEqn, quiet-eqn, QuietMem, quiet-mem}
+use Rattle.lines.proofs.Quiet.{at-literal, QuietEqn, quiet-eqn, QuietMem, quiet-mem}
 use Rattle.lines.proofs.Settled.{found, passes, must, Settles}
 use Rattle.lines.proofs.Settled as settled
-use Rattle.lines.proofs.Places.{sided-parts, Stands, equation-at, member-elsewhere, member-right}
+use Rattle.lines.proofs.Places.{sides-parts, Stands, equation-at, member-elsewhere, member-right}
 
 -- ---- memberships without variables
 
@@ -79,7 +79,7 @@ second-some : {A : Type 0} (m : Option A) (k : Unit {0} → Option A) → T (isS
 second-some none k t = t
 second-some (some a) k t = tt
 
-settled-eqn : (K : Conj) (l r : Hedge) → T (sidedL (eqn l r)) → QuietEqn K l r × QuietEqn K r l → SettledEqn K l r
+settled-eqn : (K : Conj) (l r : Hedge) → T (groundSide (eqn l r)) → QuietEqn K l r × QuietEqn K r l → SettledEqn K l r
 settled-eqn K l r t q = elim (or-cases (ground l) (ground r) t) [
   | inl g ↦
       let s = settled.settled K r l g (q .1) (q .0) in
@@ -91,28 +91,28 @@ settled-eqn K l r t q = elim (or-cases (ground l) (ground r) t) [
 
 -- ---- the line
 
-at-equation : (before behind : Conj) (l r : Hedge) → T (sidedL (eqn l r)) → step (before ++ (eqn l r ∷ behind)) ≡ none → SettledEqn (before ++ behind) l r
-at-equation before behind l r t q = settled-eqn (before ++ behind) l r t (quiet-eqn (before ++ behind) l r (step-none before behind (eqn l r) q))
+at-equation : (before behind : Conj) (l r : Hedge) → T (groundSide (eqn l r)) → step (before ++ (eqn l r ∷ behind)) ≡ none → SettledEqn (before ++ behind) l r
+at-equation before behind l r t q = settled-eqn (before ++ behind) l r t (quiet-eqn (before ++ behind) l r (at-literal before behind (eqn l r) q))
 
 -- the variable of a membership would stand in an equation, which is solved
 no-member : (k : Conj) → Matching k → step k ≡ none → (v : Var) → ¬ T (inMember v k)
 no-member k m q v t =
     let s = equation-at v k (m .covered v t) in
     let sides = rw (s .split) at (m .sides) in
-    let side = and-parts (sidedL (eqn (s .left) (s .right))) (sided (s .behind)) (sided-parts (s .before) (eqn (s .left) (s .right) ∷ s .behind) sides .1) .0 in
+    let side = and-parts (groundSide (eqn (s .left) (s .right))) (groundSides (s .behind)) (sides-parts (s .before) (eqn (s .left) (s .right) ∷ s .behind) sides .1) .0 in
     at-equation (s .before) (s .behind) (s .left) (s .right) side (rw (s .split) at q) .nowhere v (s .there)
     (member-elsewhere v (s .before) (s .behind) (s .left) (s .right) (rw (s .split) at t))
 
-solved-from : (before behind : Conj) → T (sided behind) → ((v : Var) → ¬ T (inMember v behind)) → step (before ++ behind) ≡ none → T (solvedFrom before behind)
+solved-from : (before behind : Conj) → T (groundSides behind) → ((v : Var) → ¬ T (inMember v behind)) → step (before ++ behind) ≡ none → T (solvedFrom before behind)
 solved-from before [] s n q = tt
 solved-from before (eqn l r ∷ behind) s n q =
-    let (a, b) = and-parts (sidedL (eqn l r)) (sided behind) s in
+    let (a, b) = and-parts (groundSide (eqn l r)) (groundSides behind) s in
     and-both (solvedLiteral (before ++ behind) (eqn l r)) (solvedFrom (before ++ (eqn l r ∷ [])) behind)
     (at-equation before behind l r a q .isSolved) (solved-from (before ++ (eqn l r ∷ [])) behind b n (rw append-assoc q))
 solved-from before (mem h R ∷ behind) s n q =
     absurd (never-ground (before ++ behind) h R (free-ground h (λ v t. n v (or-left (holds v h) (inMember v behind) t)))
-    (quiet-mem (before ++ behind) h R (step-none before behind (mem h R) q)))
+    (quiet-mem (before ++ behind) h R (at-literal before behind (mem h R) q)))
 
 pub matching-solved : (k : Conj) → Matching k → step k ≡ none → solved k ≡ true
 unfolding solved
-matching-solved k m q = true-T (solvedFrom [] k) (solved-from [] k (m .sides) (no-member k m q) q)
+matching-solved k m q = test-true (solvedFrom [] k) .0 (solved-from [] k (m .sides) (no-member k m q) q)

@@ -20,13 +20,13 @@ ground (node f c r) = isSymbol f && ground c && ground r
 -- ---- a conjunction
 
 -- an equation has a side without blanks
-abbrev pub sidedL : Literal → Bool
-sidedL (eqn l r) = ground l || ground r
-sidedL (mem h R) = true
+abbrev pub groundSide : Literal → Bool
+groundSide (eqn l r) = ground l || ground r
+groundSide (mem h R) = true
 
-abbrev pub sided : Conj → Bool
-sided [] = true
-sided (l ∷ k) = sidedL l && sided k
+abbrev pub groundSides : Conj → Bool
+groundSides [] = true
+groundSides (l ∷ k) = groundSide l && groundSides k
 
 -- v stands in an equation
 abbrev pub inEquation : Var → Conj → Bool
@@ -35,5 +35,5 @@ inEquation v (eqn l r ∷ k) = inLiteral v (eqn l r) || inEquation v k
 inEquation v (mem h R ∷ k) = inEquation v k
 
 pub record Matching (k : Conj) : Type 0 where
-  pub sides : T (sided k)
+  pub sides : T (groundSides k)
   pub covered : (v : Var) → T (inMember v k) → T (inEquation v k)
