@@ -1,16 +1,15 @@
 -- The example of a solved line, to which no rule applies, meets the line.
 use mathlib.Core.Path.{_≡_, refl, _∙_, ap}
-use mathlib.Core.Bool.{Bool, true, false, not, _&&_}
-use mathlib.Core.List.{List, [], _∷_, _++_, append-assoc}
+use mathlib.Core.Bool.{true}
+use mathlib.Core.List.{[], _∷_, _++_, append-assoc}
 use mathlib.Core.Option.{Option, none, some, Option·some-ne-none}
 use lib.Dec.{T, T-not}
 use Rattle.language.specs.declared.TermVar.{TermVar}
 use Rattle.language.specs.declared.HedgeVar.{HedgeVar}
 use Rattle.language.specs.declared.Sym.{Sym}
 use Rattle.language.specs.Trees.{Hedge, ε, tvar, hvar, node, Expr, eps, cat, alt, star, over, Literal, eqn, mem, Conj, eqV, Var, tv, hv}
-use Rattle.meaning.specs.Complete.{Complete}
-use Rattle.meaning.specs.Meaning.{Filling, fill, Member, Meets, MeetsAll}
-use Rattle.rules.specs.Rules.{_>>=_, check, rules}
+use Rattle.meaning.specs.Meaning.{fill, Member, Meets, MeetsAll}
+use Rattle.rules.specs.Rules.{_>>=_, check}
 use Rattle.rules.specs.Step.{step}
 use Rattle.rules.specs.Looks.{empty}
 use Rattle.rules.specs.Expressions.{sample}
@@ -20,7 +19,6 @@ use Rattle.exact.proofs.Tests.{and-parts, true-test}
 use Rattle.exact.proofs.Names.{eqV-is}
 use Rattle.exact.proofs.Complete.{·-nil}
 use Rattle.exact.proofs.Answers.{Where}
-use Rattle.exact.proofs.Looks.{empty-is}
 use Rattle.lines.proofs.Tests.{given-none}
 use Rattle.lines.proofs.Variables.{holds-tvar, holds-hvar}
 use Rattle.lines.proofs.Sample.{sample-member}

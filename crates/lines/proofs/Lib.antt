@@ -23,3 +23,5 @@ pub mod WrittenValues
 pub mod ReadBack
 pub mod Agreement
 pub mod DeclaredExample
+pub mod Shown
+pub mod Lines

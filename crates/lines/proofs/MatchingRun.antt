@@ -1,14 +1,13 @@
 -- A step keeps the matching fragment, so that every line of a finished run from it is solved.
 use Prim.Native.Nat.{ℕ}
-use mathlib.Core.Path.{_≡_, refl, ap}
-use mathlib.Core.Logic.{_⊎_, inl, inr}
-use mathlib.Core.Bool.{Bool, true, false, _||_}
+use mathlib.Core.Path.{_≡_, refl}
+use mathlib.Core.Bool.{Bool, true, false}
 use mathlib.Core.List.{List, [], _∷_, _++_, map}
-use mathlib.Core.Option.{Option, none, some, Option·map}
+use mathlib.Core.Option.{none, some, Option·map}
 use lib.Dec.{T}
 use Rattle.language.specs.Limits.{Limits}
-use Rattle.language.specs.Trees.{Hedge, Literal, eqn, mem, Conj}
-use Rattle.rules.specs.Rules.{Branch, Answer, Rule, onEqn, onMem, rules}
+use Rattle.language.specs.Trees.{Literal, eqn, mem, Conj}
+use Rattle.rules.specs.Rules.{Answer, Rule, onEqn, onMem, rules}
 use Rattle.rules.specs.Step.{place, step}
 use Rattle.rules.specs.Solved.{solved}
 use Rattle.rules.specs.Run.{finished, run}
@@ -23,7 +22,7 @@ use Rattle.exact.proofs.Invariant.{lines-keep, lines-rest}
 use Rattle.lines.specs.Matching.{ground, groundSide, groundSides, Matching}
 use Rattle.lines.proofs.Tests.{or-exchanged}
 use Rattle.lines.proofs.Places.{sides-parts}
-use Rattle.lines.proofs.Fitting.{Fits, FitAnswer, exchanged, placed}
+use Rattle.lines.proofs.Fitting.{Fits, exchanged, placed}
 use Rattle.lines.proofs.EquationRules.{StaysEqn, R1-stays, F1-stays, F2-stays, F3-stays, F4-stays, Del1-stays, Del3-stays, D2-stays, D0-stays}
 use Rattle.lines.proofs.EliminationRules.{E1-stays, E2-stays, E3-stays, E4-stays, E5-stays, E6-stays}
 use Rattle.lines.proofs.MembershipRules.{StaysMem, R2-stays, F5-stays, F6-stays, F7-stays, M1-stays, M2-stays, M3-stays, M4-stays, M5-stays, M6-stays, M7-stays, M10-stays, M11-stays}

@@ -1,9 +1,9 @@
 -- What it says that no rule applies to a line: none applies to any of its literals among the others.
 use mathlib.Core.Path.{_≡_, refl}
-use mathlib.Core.List.{List, [], _∷_, _++_, map}
+use mathlib.Core.List.{_∷_, _++_, map}
 use mathlib.Core.Option.{none, map-eq-none-iff}
 use Rattle.language.specs.Trees.{Hedge, Expr, Literal, eqn, mem, Conj}
-use Rattle.rules.specs.Rules.{Rule, EqRule, onEqn, onMem, rules, R1, R2, F3, F4, F5, F6, F7, D2, D0, E1, E2, E3, E5, E6, M2, M4, M5, M6, M11}
+use Rattle.rules.specs.Rules.{EqRule, onEqn, rules, R1, R2, F3, F4, F5, F6, F7, D2, D0, E1, E2, E3, E5, E6, M2, M4, M5, M6, M11}
 use Rattle.rules.specs.Step.{attempt, place, step}
 use Rattle.exact.specs.Each.{Each}
 use Rattle.exact.specs.Places.{Idle}

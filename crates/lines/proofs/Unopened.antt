@@ -1,25 +1,25 @@
 -- A line of the matching fragment to which no rule applies is solved: each equation is, and no membership is left.
-use mathlib.Core.Path.{_≡_, refl, ap}
-use mathlib.Core.Logic.{_⊎_, inl, inr}
-use mathlib.Core.Bool.{Bool, true, false, not, _&&_, _||_}
-use mathlib.Core.List.{List, [], _∷_, _++_, append-assoc}
+use mathlib.Core.Path.{_≡_}
+use mathlib.Core.Logic.{inl, inr}
+use mathlib.Core.Bool.{true, not}
+use mathlib.Core.List.{[], _∷_, _++_, append-assoc}
 use mathlib.Core.Option.{Option, none, some, Option·some-ne-none}
 use lib.Dec.{T}
 use Rattle.language.specs.declared.Sym.{Sym}
-use Rattle.language.specs.Trees.{Functor, symbol, fvar, Hedge, ε, tvar, hvar, node, Expr, eps, cat, alt, star, over, Literal, eqn, mem, Conj, eqS, Var, tv, hv, fv, holds, inLiteral, inConj}
+use Rattle.language.specs.Trees.{Functor, symbol, fvar, Hedge, ε, tvar, hvar, node, Expr, eps, cat, alt, star, over, eqn, mem, Conj, eqS, Var, tv, hv, fv, holds, inLiteral, inConj}
 use Rattle.rules.specs.Step.{orElse, step}
 use Rattle.rules.specs.Looks.{empty, isEps}
 use Rattle.rules.specs.Expressions.{nullable}
 use Rattle.rules.specs.Solved.{isSome, variable, alone, inMember, solvedLiteral, solvedFrom, solved}
-use Rattle.exact.proofs.Tests.{or-cases, or-left, or-right, and-parts, and-both, test-true}
-use Rattle.lines.specs.Matching.{ground, groundSide, groundSides, inEquation, Matching}
+use Rattle.exact.proofs.Tests.{or-cases, or-left, and-parts, and-both, test-true}
+use Rattle.lines.specs.Matching.{ground, groundSide, groundSides, Matching}
 use Rattle.lines.proofs.Tests.{or-exchanged}
-use Rattle.lines.proofs.Variables.{holds-tvar, holds-hvar, holds-fvar, in-functor, in-children, after-node}
-use Rattle.lines.proofs.Ground.{ground-parts, ground-node}
+use Rattle.lines.proofs.Variables.{holds-tvar, holds-hvar, holds-fvar, in-children, after-node}
+use Rattle.lines.proofs.Ground.{ground-node}
 use Rattle.lines.proofs.Quiet.{at-literal, QuietEqn, quiet-eqn, QuietMem, quiet-mem}
-use Rattle.lines.proofs.Settled.{found, passes, must, Settles}
+use Rattle.lines.proofs.Settled.{found, passes, must}
 use Rattle.lines.proofs.Settled as settled
-use Rattle.lines.proofs.Places.{sides-parts, Stands, equation-at, member-elsewhere, member-right}
+use Rattle.lines.proofs.Places.{sides-parts, equation-at, member-elsewhere}
 
 -- ---- memberships without variables
 

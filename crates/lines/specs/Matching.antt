@@ -1,6 +1,6 @@
 -- The matching fragment: every equation has a side without blanks, and each variable of a membership also stands in an equation.
 use mathlib.Core.Bool.{Bool, true, false, _&&_, _||_}
-use mathlib.Core.List.{List, [], _∷_}
+use mathlib.Core.List.{[], _∷_}
 use lib.Dec.{T}
 use Rattle.language.specs.Trees.{Functor, symbol, fvar, Hedge, ε, tvar, hvar, node, Literal, eqn, mem, Conj, Var, inLiteral}
 use Rattle.rules.specs.Solved.{inMember}
