@@ -2,13 +2,13 @@
 -- The proofs are cited; the definitions in the statements are those of the language, the meaning, the rules, and of this crate's specs.
 use Prim.Native.Nat.{ℕ, _<_, _≤_}
 use mathlib.Core.Path.{_≡_}
-use mathlib.Core.Logic.{_↔_}
-use mathlib.Core.Bool.{true}
+use mathlib.Core.Logic.{inl, inr, _↔_}
+use mathlib.Core.Bool.{true, false, _||_}
 use mathlib.Core.List.{List}
 use mathlib.Core.Option.{none, some}
 use lib.ListN.{length}
 use Rattle.language.specs.Limits.{Limits}
-use Rattle.language.specs.Trees.{Expr, Conj, Counts, Question}
+use Rattle.language.specs.Trees.{Expr, _⧺_, holds, Conj, Counts, Question}
 use Rattle.language.specs.Question.{asks, countsOf, alternativesOf, countsFit, declaredC, readQuestion}
 use Rattle.meaning.specs.Meaning.{Filling, Member, MeetsAll, MeetsOne}
 use Rattle.meaning.specs.Values.{gives, filling, readFilling, valuesIn, fillingWords}
@@ -19,21 +19,22 @@ use Rattle.rules.specs.Solved.{solved}
 use Rattle.rules.specs.Run.{finished, run}
 use Rattle.rules.specs.Answer.{countOpen, answered, solving}
 use Rattle.rules.specs.Example.{example}
+use Rattle.rules.specs.Table.{Case, a, b, f, p, P9}
 use Rattle.rules.specs.Calls.{lineAt, shows, showing}
 use Rattle.exact.specs.Each.{Each}
 use Rattle.exact.specs.Places.{AtSides}
-use Rattle.exact.proofs.Tests.{true-test}
+use Rattle.exact.proofs.Tests.{true-test, or-cases, or-left}
 use Rattle.exact.proofs.Invariant.{lines-rest}
 use Rattle.exact.proofs.Run.{run-same, answered-run}
 use Rattle.exact.proofs.Declared.{lines-declared, read-declared}
-use Rattle.lines.specs.Matching.{Matching}
+use Rattle.lines.specs.Matching.{Matching, KeepsMatching}
 use Rattle.lines.specs.Fillings.{DeclaredFilling, Agree, WordsMeet}
 use Rattle.lines.proofs.Sample.{sample-member}
 use Rattle.lines.proofs.Example.{example-meets}
 use Rattle.lines.proofs.ReadBack.{symbols-fit, filling-back}
 use Rattle.lines.proofs.Agreement.{filling-agrees, agree-meets}
 use Rattle.lines.proofs.DeclaredExample.{example-declared}
-use Rattle.lines.proofs.MatchingRun.{KeepsMatching, each-rule-stays, step-matching, run-solved, none-open}
+use Rattle.lines.proofs.MatchingRun.{each-rule-stays, step-matching, run-solved, none-open}
 use Rattle.lines.proofs.Unopened.{matching-solved}
 use Rattle.lines.proofs.Shown.{each-line, meets-lines, shown-is, words-meet, read-counts}
 
@@ -134,3 +135,7 @@ matching-none-open L work answer ws ls n e m =
     let (q, asked, ran) = answered-run L work answer ws ls n e in
     let all = run-solved L (q .alternatives) ls n (m q asked) ran in
     (all, none-open ls all)
+
+-- Case P9, "p in f(a*)·b*, p = (f(a,a),b)", is such a question.
+pub P9-matching : Each Matching (P9 .question)
+P9-matching = (record { sides = tt; covered = λ v t. elim (or-cases (holds v p) false t) [ inl s ↦ or-left (holds v p || holds v (f (a ⧺ a) ⧺ b)) false (or-left (holds v p) (holds v (f (a ⧺ a) ⧺ b)) s) | inr z ↦ absurd z ] }, tt)

@@ -19,7 +19,7 @@ use Rattle.exact.proofs.Each.{_also_, each-map, each-imp}
 use Rattle.exact.proofs.Answers.{Where}
 use Rattle.exact.proofs.Steps.{where-some, each-at-places, step-at-places}
 use Rattle.exact.proofs.Invariant.{lines-keep, lines-rest}
-use Rattle.lines.specs.Matching.{ground, groundSide, groundSides, Matching}
+use Rattle.lines.specs.Matching.{ground, groundSide, groundSides, Matching, KeepsMatching}
 use Rattle.lines.proofs.Tests.{or-exchanged}
 use Rattle.lines.proofs.Places.{sides-parts}
 use Rattle.lines.proofs.Fitting.{Fits, exchanged, placed}
@@ -46,9 +46,6 @@ side-stays false (onMem rule) p K (mem h R) t = p K h R .given
 side-stays true (onMem rule) p K (mem h R) t = tt
 
 -- ---- in its place
-
-abbrev pub KeepsMatching : Conj → List Conj → Type 0
-KeepsMatching k ks = Matching k → Each Matching ks
 
 at-literal : (before behind : Conj) (l : Literal) (w : Answer) → Where (Each (Fits l)) w → Matching (before ++ (l ∷ behind))
     → Where (Each Matching) (Option·map (map (place before behind)) w)
