@@ -1,0 +1,1 @@
+// The first rule at an equation, and the plan of its results.
