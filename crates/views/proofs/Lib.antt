@@ -1,0 +1,4 @@
+pub mod Parts
+pub mod Words
+pub mod Spans
+pub mod Sides

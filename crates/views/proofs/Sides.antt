@@ -1,0 +1,44 @@
+-- The parts of a side: its first element, what follows it, the whole, as words of the hedge that stands there.
+use mathlib.Core.Path.{_≡_, refl, sym, ap, _∙_}
+use mathlib.Core.List.{List, [], _∷_, _++_}
+use Prim.Native.Nat.{ℕ, _+_}
+use native.Mathlib.Omega.{arith}
+use lib.ListN.{length, getD, drop, length-append}
+use lib.Seq.{slice}
+use Rattle.language.specs.Trees.{Hedge}
+use Rattle.language.specs.Writing.{hedgeWords}
+use Rattle.plans.specs.Looks.{head, tail, bodyWords}
+use Rattle.plans.specs.Views.{Sided}
+use Rattle.plans.specs.declared.Side.{Side}
+use Rattle.views.proofs.Parts.{part-of, drop-of}
+use Rattle.views.proofs.Words.{words-split, firstWord}
+use Rattle.views.proofs.Spans.{Stands, stands-word, stands-split, stands-rest}
+
+module _ {k : List ℕ} {s : Side} {h : Hedge} (v : Sided k s h) where
+  pub side-stands : Stands k (s .from) h (v .beyond)
+  side-stands = record { fine = v .fine; here = v .here }
+
+  -- from..to
+  pub side-whole : slice (s .from) (s .to) k ≡ hedgeWords h
+  side-whole = part-of k (s .from) (s .to) (hedgeWords h) (v .beyond) (v .here) (v .to)
+
+  -- from..rest
+  pub side-head : slice (s .from) (s .rest) k ≡ bodyWords (head h)
+  side-head = part-of k (s .from) (s .rest) (bodyWords (head h)) (hedgeWords (tail h) ++ v .beyond) (stands-split side-stands) (v .rest)
+
+  pub side-rest : Stands k (s .rest) (tail h) (v .beyond)
+  side-rest = stands-rest side-stands (v .rest)
+
+  pub side-size : s .to ≡ s .rest + length (hedgeWords (tail h))
+  side-size = let l = ap length (words-split h) ∙ length-append (bodyWords (head h)) (hedgeWords (tail h)) in let a = v .to in let b = v .rest in omega arith
+
+  -- rest..to
+  pub side-tail : slice (s .rest) (s .to) k ≡ hedgeWords (tail h)
+  side-tail = part-of k (s .rest) (s .to) (hedgeWords (tail h)) (v .beyond) (side-rest .here) side-size
+
+  -- the words behind the side
+  pub side-beyond : drop (s .to) k ≡ v .beyond
+  side-beyond = drop-of k (s .from) (s .to) (hedgeWords h) (v .beyond) (v .here) (v .to)
+
+  pub side-word : getD k (s .from) 0 ≡ firstWord h
+  side-word = stands-word side-stands
