@@ -1,1 +1,2 @@
 // The first rule at an equation, and the plan of its results.
+mod plan;

@@ -22,28 +22,32 @@ use Rattle.exact.proofs.Memberships.{ExactMem, R2-exact, F5-exact, F6-e
 -- a result in its place says what it says beside the other literals
 place-same : (ρ : Filling) (before behind : Conj) (b : Branch) → Faithful b
     → MeetsAll ρ (place before behind b) ↔ (MeetsAll ρ before × MeetsBranch ρ b × MeetsAll ρ behind)
-place-same ρ before behind (plain ls) f =
-    (λ m. let (a, c) = all-++ ρ before (ls ++ behind) .0 m in let (d, e) = all-++ ρ ls behind .0 c in (a, d, e),
-    λ m. all-++ ρ before (ls ++ behind) .1 (m .0, all-++ ρ ls behind .1 (m .1, m .2)))
-place-same ρ before behind (elims es ls s) f =
-    (λ m.
+place-same ρ before behind (plain ls) f = (
+  λ m. let (a, c) = all-++ ρ before (ls ++ behind) .0 m in let (d, e) = all-++ ρ ls behind .0 c in (a, d, e),
+  λ m. all-++ ρ before (ls ++ behind) .1 (m .0, all-++ ρ ls behind .1 (m .1, m .2)),
+)
+place-same ρ before behind (elims es ls s) f = (
+  λ m.
       let (a, c) = all-++ ρ (putC s before) _ .0 m in
       let (d, e) = all-++ ρ es _ .0 c in
       let (g, h) = all-++ ρ (putC s ls) _ .0 e in
       let r = f ρ d in
       (putC-meets ρ s r before .0 a, (d, putC-meets ρ s r ls .0 g), putC-meets ρ s r behind .0 h),
-    λ m.
+  λ m.
       let r = f ρ (m .1 .0) in
-      all-++ ρ (putC s before) _ .1
-      (putC-meets ρ s r before .1 (m .0),
-      all-++ ρ es _ .1 (m .1 .0, all-++ ρ (putC s ls) _ .1 (putC-meets ρ s r ls .1 (m .1 .1), putC-meets ρ s r behind .1 (m .2)))))
+      all-++ ρ (putC s before) _ .1 (
+        putC-meets ρ s r before .1 (m .0),
+        all-++ ρ es _ .1 (m .1 .0, all-++ ρ (putC s ls) _ .1 (putC-meets ρ s r ls .1 (m .1 .1), putC-meets ρ s r behind .1 (m .2))),
+      ),
+)
 
 -- one of several beside two others
 some-beside : {X : Type 0} (A B : Type 0) (P : X → Type 0) (xs : List X) → Some (λ x. A × P x × B) xs ↔ (A × Some P xs × B)
 some-beside A B P [] = (λ z. absurd z, λ m. m .1)
-some-beside A B P (x ∷ xs) =
-    (λ o. elim o [ inl m ↦ (m .0, inl (m .1), m .2) | inr s ↦ let (a, p, b) = some-beside A B P xs .0 s in (a, inr p, b) ],
-    λ m. elim (m .1) [ inl p ↦ inl (m .0, p, m .2) | inr s ↦ inr (some-beside A B P xs .1 (m .0, s, m .2)) ])
+some-beside A B P (x ∷ xs) = (
+  λ o. elim o [ inl m ↦ (m .0, inl (m .1), m .2) | inr s ↦ let (a, p, b) = some-beside A B P xs .0 s in (a, inr p, b) ],
+  λ m. elim (m .1) [ inl p ↦ inl (m .0, p, m .2) | inr s ↦ inr (some-beside A B P xs .1 (m .0, s, m .2)) ],
+)
 
 places-same : (ρ : Filling) (before behind : Conj) (bs : List Branch) → Each Faithful bs
     → MeetsOne ρ (map (place before behind) bs) ↔ (MeetsAll ρ before × MeetsBranches ρ bs × MeetsAll ρ behind)
@@ -64,9 +68,10 @@ pub at-literal : (before behind : Conj) (l : Literal) (w : Answer) → ExactAnsw
     → Where (SameFillings (before ++ (l ∷ behind))) (Option·map (map (place before behind)) w)
 at-literal before behind l none p = tt
 at-literal before behind l (some bs) p = λ ρ.
-    Iff·trans (all-++ ρ before (l ∷ behind))
-    (λ m. places-same ρ before behind bs (p .given .faithful) .1 (m .0, p .given .same ρ .0 (m .1 .0), m .1 .1),
-    λ m. let (x, y, z) = places-same ρ before behind bs (p .given .faithful) .0 m in (x, (p .given .same ρ .1 y, z)))
+    Iff·trans (all-++ ρ before (l ∷ behind)) (
+      λ m. places-same ρ before behind bs (p .given .faithful) .1 (m .0, p .given .same ρ .0 (m .1 .0), m .1 .1),
+      λ m. let (x, y, z) = places-same ρ before behind bs (p .given .faithful) .0 m in (x, (p .given .same ρ .1 y, z)),
+    )
 
 -- ---- a rule at a literal, its sides as written or exchanged
 
@@ -95,10 +100,61 @@ rule-exact rule p before l behind ks e =
 
 pub each-rule-exact : Each (AtPlaces SameFillings) rules
 each-rule-exact =
-    each-imp RuleExact (AtPlaces SameFillings) rule-exact rules
-    (R1-exact, (R2-exact,
-    (F1-exact, (F2-exact, (F3-exact, (F4-exact, (F5-exact, (F6-exact, (F7-exact,
-    (Del1-exact, (Del3-exact,
-    (D2-exact, (D0-exact,
-    (E1-exact, (E2-exact, (E3-exact, (E4-exact, (E5-exact, (E6-exact,
-    (M1-exact, (M2-exact, (M3-exact, (M4-exact, (M5-exact, (M6-exact, (M7-exact, (M10-exact, (M11-exact, tt))))))))))))))))))))))))))))
+    each-imp RuleExact (AtPlaces SameFillings) rule-exact rules (
+      R1-exact,
+      (
+        R2-exact,
+        (
+          F1-exact,
+          (
+            F2-exact,
+            (
+              F3-exact,
+              (
+                F4-exact,
+                (
+                  F5-exact,
+                  (
+                    F6-exact,
+                    (
+                      F7-exact,
+                      (
+                        Del1-exact,
+                        (
+                          Del3-exact,
+                          (
+                            D2-exact,
+                            (
+                              D0-exact,
+                              (
+                                E1-exact,
+                                (
+                                  E2-exact,
+                                  (
+                                    E3-exact,
+                                    (
+                                      E4-exact,
+                                      (
+                                        E5-exact,
+                                        (
+                                          E6-exact,
+                                          (M1-exact, (M2-exact, (M3-exact, (M4-exact, (M5-exact, (M6-exact, (M7-exact, (M10-exact, (M11-exact, tt))))))))),
+                                        ),
+                                      ),
+                                    ),
+                                  ),
+                                ),
+                              ),
+                            ),
+                          ),
+                        ),
+                      ),
+                    ),
+                  ),
+                ),
+              ),
+            ),
+          ),
+        ),
+      ),
+    )

@@ -30,9 +30,10 @@ step-same = step-at-places SameFillings each-rule-exact
 in-place : (ρ : Filling) (ls ks w : List Conj) (k : Conj) → MeetsAll ρ k ↔ MeetsOne ρ ks → MeetsOne ρ (ls ++ (k ∷ w)) ↔ MeetsOne ρ (ls ++ (ks ++ w))
 in-place ρ ls ks w k e =
     Iff·trans (one-++ ρ ls (k ∷ w))
-    (Iff·trans
-    (λ o. elim o [ inl x ↦ inl x | inr x ↦ inr (one-++ ρ ks w .1 (elim x [ inl m ↦ inl (e .0 m) | inr m ↦ inr m ])) ],
-    λ o. elim o [ inl x ↦ inl x | inr x ↦ inr (elim (one-++ ρ ks w .0 x) [ inl m ↦ inl (e .1 m) | inr m ↦ inr m ]) ])
+    (Iff·trans (
+      λ o. elim o [ inl x ↦ inl x | inr x ↦ inr (one-++ ρ ks w .1 (elim x [ inl m ↦ inl (e .0 m) | inr m ↦ inr m ])) ],
+      λ o. elim o [ inl x ↦ inl x | inr x ↦ inr (elim (one-++ ρ ks w .0 x) [ inl m ↦ inl (e .1 m) | inr m ↦ inr m ]) ],
+    )
     (Iff·symm (one-++ ρ ls (ks ++ w))))
 
 pub run-same : (L : Limits) (w ls : List Conj) (n : ℕ) → run L w ≡ finished ls n → (ρ : Filling) → MeetsOne ρ w ↔ MeetsOne ρ ls
