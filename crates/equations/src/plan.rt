@@ -62,46 +62,193 @@ fn plan_by(ways: Ways, slots: [Slot; 12], old: usize, until: usize, new: usize) 
 }
 
 // The literal is removed.
-pub fn plan_r1(k: &[u16], v: View) -> Plan
+fn plan_r1(k: &[u16], v: View) -> Plan
     ensures { λ p. ⌜ Plans R1 (now (k .entry)) v p ⌝ }
 {
     let slots = [
-        Slot {
-            piece: Piece::Copy(0, v.at),
-        },
-        Slot {
-            piece: Piece::Copy(v.end, v.len),
-        },
-        Slot {
-            piece: Piece::Copy(0, 0),
-        },
-        Slot {
-            piece: Piece::Copy(0, 0),
-        },
-        Slot {
-            piece: Piece::Copy(0, 0),
-        },
-        Slot {
-            piece: Piece::Copy(0, 0),
-        },
-        Slot {
-            piece: Piece::Copy(0, 0),
-        },
-        Slot {
-            piece: Piece::Copy(0, 0),
-        },
-        Slot {
-            piece: Piece::Copy(0, 0),
-        },
-        Slot {
-            piece: Piece::Copy(0, 0),
-        },
-        Slot {
-            piece: Piece::Copy(0, 0),
-        },
-        Slot {
-            piece: Piece::Copy(0, 0),
-        },
+        Slot { piece: Piece::Copy(0, v.at) },
+        Slot { piece: Piece::Copy(v.end, v.len) },
+        Slot { piece: Piece::Copy(0, 0) },
+        Slot { piece: Piece::Copy(0, 0) },
+        Slot { piece: Piece::Copy(0, 0) },
+        Slot { piece: Piece::Copy(0, 0) },
+        Slot { piece: Piece::Copy(0, 0) },
+        Slot { piece: Piece::Copy(0, 0) },
+        Slot { piece: Piece::Copy(0, 0) },
+        Slot { piece: Piece::Copy(0, 0) },
+        Slot { piece: Piece::Copy(0, 0) },
+        Slot { piece: Piece::Copy(0, 0) },
     ];
     plan_by(Ways::One(0), slots, 0, 0, 0)
+}
+
+// The hedge variable is struck from both sides.
+fn plan_del1(k: &[u16], v: View) -> Plan
+    ensures { λ p. ⌜ Plans Del1 (now (k .entry)) v p ⌝ }
+{
+    let l = v.l;
+    let r = v.r;
+    let slots = [
+        Slot { piece: Piece::Copy(0, v.at) },
+        Slot { piece: Piece::Word(5000) },
+        Slot { piece: Piece::Copy(l.rest, l.to) },
+        Slot { piece: Piece::Copy(r.rest, r.to) },
+        Slot { piece: Piece::Copy(v.end, v.len) },
+        Slot { piece: Piece::Copy(0, 0) },
+        Slot { piece: Piece::Copy(0, 0) },
+        Slot { piece: Piece::Copy(0, 0) },
+        Slot { piece: Piece::Copy(0, 0) },
+        Slot { piece: Piece::Copy(0, 0) },
+        Slot { piece: Piece::Copy(0, 0) },
+        Slot { piece: Piece::Copy(0, 0) },
+    ];
+    plan_by(Ways::One(0), slots, 0, 0, 0)
+}
+
+// t1 = t2, H1 = H2.
+fn plan_d2(k: &[u16], v: View) -> Plan
+    ensures { λ p. ⌜ Plans D2 (now (k .entry)) v p ⌝ }
+{
+    let l = v.l;
+    let r = v.r;
+    let slots = [
+        Slot { piece: Piece::Copy(0, v.at) },
+        Slot { piece: Piece::Word(5000) },
+        Slot { piece: Piece::Copy(l.from, l.rest) },
+        Slot { piece: Piece::Word(0) },
+        Slot { piece: Piece::Copy(r.from, r.rest) },
+        Slot { piece: Piece::Word(0) },
+        Slot { piece: Piece::Word(5000) },
+        Slot { piece: Piece::Copy(l.rest, l.to) },
+        Slot { piece: Piece::Copy(r.rest, r.to) },
+        Slot { piece: Piece::Copy(v.end, v.len) },
+        Slot { piece: Piece::Copy(0, 0) },
+        Slot { piece: Piece::Copy(0, 0) },
+    ];
+    plan_by(Ways::One(0), slots, 0, 0, 0)
+}
+
+// Children are equal.
+fn plan_d0(k: &[u16], v: View) -> Plan
+    ensures { λ p. ⌜ Plans D0 (now (k .entry)) v p ⌝ }
+{
+    let l = v.l;
+    let r = v.r;
+    let left = forth(k, l.from);
+    let left_to = back(l.to);
+    let right = forth(k, r.from);
+    let right_to = back(r.to);
+    let slots = [
+        Slot { piece: Piece::Copy(0, v.at) },
+        Slot { piece: Piece::Word(5000) },
+        Slot { piece: Piece::Copy(left, left_to) },
+        Slot { piece: Piece::Copy(right, right_to) },
+        Slot { piece: Piece::Copy(v.end, v.len) },
+        Slot { piece: Piece::Copy(0, 0) },
+        Slot { piece: Piece::Copy(0, 0) },
+        Slot { piece: Piece::Copy(0, 0) },
+        Slot { piece: Piece::Copy(0, 0) },
+        Slot { piece: Piece::Copy(0, 0) },
+        Slot { piece: Piece::Copy(0, 0) },
+        Slot { piece: Piece::Copy(0, 0) },
+    ];
+    plan_by(Ways::One(0), slots, 0, 0, 0)
+}
+
+// The equation stays, and t stands for x in all others.
+fn plan_e1(k: &[u16], v: View) -> Plan
+    ensures { λ p. ⌜ Plans E1 (now (k .entry)) v p ⌝ }
+{
+    let l = v.l;
+    let r = v.r;
+    let cut = back(r.to);
+    let slots = [
+        Slot { piece: Piece::Put(0, v.at) },
+        Slot { piece: Piece::Word(5000) },
+        Slot { piece: Piece::Copy(l.from, l.to) },
+        Slot { piece: Piece::Copy(r.from, r.to) },
+        Slot { piece: Piece::Put(v.end, v.len) },
+        Slot { piece: Piece::Copy(0, 0) },
+        Slot { piece: Piece::Copy(0, 0) },
+        Slot { piece: Piece::Copy(0, 0) },
+        Slot { piece: Piece::Copy(0, 0) },
+        Slot { piece: Piece::Copy(0, 0) },
+        Slot { piece: Piece::Copy(0, 0) },
+        Slot { piece: Piece::Copy(0, 0) },
+    ];
+    plan_by(Ways::One(cut), slots, l.from, l.rest, r.from)
+}
+
+// The equation stays, and H stands for p in all others.
+fn plan_e2(k: &[u16], v: View) -> Plan
+    ensures { λ p. ⌜ Plans E2 (now (k .entry)) v p ⌝ }
+{
+    let l = v.l;
+    let r = v.r;
+    let cut = back(r.to);
+    let slots = [
+        Slot { piece: Piece::Put(0, v.at) },
+        Slot { piece: Piece::Word(5000) },
+        Slot { piece: Piece::Copy(l.from, l.to) },
+        Slot { piece: Piece::Copy(r.from, r.to) },
+        Slot { piece: Piece::Put(v.end, v.len) },
+        Slot { piece: Piece::Copy(0, 0) },
+        Slot { piece: Piece::Copy(0, 0) },
+        Slot { piece: Piece::Copy(0, 0) },
+        Slot { piece: Piece::Copy(0, 0) },
+        Slot { piece: Piece::Copy(0, 0) },
+        Slot { piece: Piece::Copy(0, 0) },
+        Slot { piece: Piece::Copy(0, 0) },
+    ];
+    plan_by(Ways::One(cut), slots, l.from, l.rest, r.from)
+}
+
+// The equation stays, and F stands for X in all others.
+fn plan_e5(k: &[u16], v: View) -> Plan
+    ensures { λ p. ⌜ Plans E5 (now (k .entry)) v p ⌝ }
+{
+    let l = v.l;
+    let r = v.r;
+    let until = forth(k, l.from);
+    let cut = forth(k, r.from);
+    let slots = [
+        Slot { piece: Piece::Put(0, v.at) },
+        Slot { piece: Piece::Word(5000) },
+        Slot { piece: Piece::Copy(l.from, l.to) },
+        Slot { piece: Piece::Copy(r.from, r.to) },
+        Slot { piece: Piece::Put(v.end, v.len) },
+        Slot { piece: Piece::Copy(0, 0) },
+        Slot { piece: Piece::Copy(0, 0) },
+        Slot { piece: Piece::Copy(0, 0) },
+        Slot { piece: Piece::Copy(0, 0) },
+        Slot { piece: Piece::Copy(0, 0) },
+        Slot { piece: Piece::Copy(0, 0) },
+        Slot { piece: Piece::Copy(0, 0) },
+    ];
+    plan_by(Ways::One(cut), slots, l.from, until, r.from)
+}
+
+// X() = F(), F(H1) = F(H2), and F stands for X in all others.
+fn plan_e6(k: &[u16], v: View) -> Plan
+    ensures { λ p. ⌜ Plans E6 (now (k .entry)) v p ⌝ }
+{
+    let l = v.l;
+    let r = v.r;
+    let until = forth(k, l.from);
+    let cut = forth(k, r.from);
+    let slots = [
+        Slot { piece: Piece::Put(0, v.at) },
+        Slot { piece: Piece::Word(5000) },
+        Slot { piece: Piece::Copy(l.from, until) },
+        Slot { piece: Piece::Word(0) },
+        Slot { piece: Piece::Word(0) },
+        Slot { piece: Piece::Copy(r.from, cut) },
+        Slot { piece: Piece::Word(0) },
+        Slot { piece: Piece::Word(0) },
+        Slot { piece: Piece::Word(5000) },
+        Slot { piece: Piece::Put(l.from, l.to) },
+        Slot { piece: Piece::Put(r.from, r.to) },
+        Slot { piece: Piece::Put(v.end, v.len) },
+    ];
+    plan_by(Ways::One(cut), slots, l.from, until, r.from)
 }
