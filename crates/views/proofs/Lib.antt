@@ -4,3 +4,7 @@ pub mod Spans
 pub mod Sides
 pub mod Members
 pub mod Replaced
+pub mod Looks
+pub mod Literals
+pub mod Seen
+pub mod Same

@@ -12,9 +12,10 @@ use Rattle.plans.specs.Views.{Sided, Sees, Shows}
 use Rattle.plans.specs.declared.Side.{Side}
 use Rattle.plans.specs.declared.View.{View}
 use Rattle.plans.specs.declared.Shape.{Shape}
+use Rattle.views.specs.Standing.{Stands}
 use Rattle.views.proofs.Parts.{part-of, drop-of}
 use Rattle.views.proofs.Words.{words-split, firstWord}
-use Rattle.views.proofs.Spans.{Stands, stands-word, stands-split, stands-rest}
+use Rattle.views.proofs.Spans.{stands-word, stands-split, stands-rest}
 
 module _ {k : List ℕ} {s : Side} {h : Hedge} (v : Sided k s h) where
   pub side-stands : Stands k (s .from) h (v .beyond)

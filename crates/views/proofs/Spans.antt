@@ -14,6 +14,7 @@ use Rattle.language.specs.Writing.{functorWord, hedgeWords}
 use Rattle.language.specs.Fine.{fineFunctor, fineHedge}
 use Rattle.plans.specs.Looks.{head, tail, bodyWords}
 use Rattle.plans.specs.Results.{opens, span, elementEnd}
+use Rattle.views.specs.Standing.{Stands}
 use Rattle.views.proofs.Parts.{drop-here, below-of-word, drop-of, word-of}
 use Rattle.views.proofs.Words.{words-split, fine-tail, firstWord, first-word}
 
@@ -129,10 +130,7 @@ element-place k i (node g c r) beyond f e =
     let l = ap length (append-nil (hedgeWords c)) in
     omega arith
 
--- a hedge that stands at i, and what follows its first element
-pub record Stands (k : List ℕ) (i : ℕ) (h : Hedge) (beyond : List ℕ) : Type 0 where
-  pub fine : fineHedge desk h
-  pub here : drop i k ≡ hedgeWords h ++ beyond
+-- ---- a hedge that stands at i, and what follows its first element
 
 module _ {k : List ℕ} {i : ℕ} {h : Hedge} {beyond : List ℕ} (s : Stands k i h beyond) where
   pub stands-word : getD k i 0 ≡ firstWord h
