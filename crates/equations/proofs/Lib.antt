@@ -1,3 +1,4 @@
 pub mod Rank
 pub mod Plain
 pub mod Eliminating
+pub mod Names

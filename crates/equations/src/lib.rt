@@ -1,2 +1,3 @@
 // The first rule at an equation, and the plan of its results.
+mod functors;
 mod plan;
