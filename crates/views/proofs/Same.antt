@@ -55,7 +55,7 @@ module _ (k : List ℕ) (i t j u : ℕ) {m n : ℕ} (p : m ≡ min t (length k))
 
 -- ---- trees
 
-same-functor : (f g : Functor) → fineFunctor desk f → fineFunctor desk g → eqb (functorWord f) (functorWord g) ≡ eqF f g
+pub same-functor : (f g : Functor) → fineFunctor desk f → fineFunctor desk g → eqb (functorWord f) (functorWord g) ≡ eqF f g
 same-functor (symbol f) (symbol g) p q = eqb-base 3000 (f .0) (g .0)
 same-functor (symbol f) (fvar Y) p q = ne-eqb (3000 + f .0) (4000 + Y .0) (omega arith)
 same-functor (fvar X) (symbol g) p q = ne-eqb (4000 + X .0) (3000 + g .0) (omega arith)
