@@ -11,7 +11,7 @@ use Rattle.language.specs.declared.Refusal.the-variants.{LongResult, LongWaitin
 use Rattle.language.specs.Limits.{Limits}
 use Rattle.language.specs.Trees.{Conj}
 use Rattle.rules.specs.Step.{step}
-use Rattle.rules.specs.Run.{anyLong, waitingSize, linesFit, Outcome, finished, refused, checked, lined, turn, runFrom, run}
+use Rattle.rules.specs.Run.{anyLong, waitingSize, linesFit, Outcome, finished, refused, lined, turn, runFrom, run}
 use Rattle.exact.specs.Each.{Each}
 use Rattle.exact.proofs.Each.{each-++}
 

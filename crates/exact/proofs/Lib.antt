@@ -14,3 +14,7 @@ pub mod Memberships
 pub mod Steps
 pub mod Places
 pub mod Run
+pub mod Made
+pub mod MadeByRules
+pub mod Declared
+pub mod Exact

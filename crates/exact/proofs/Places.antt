@@ -1,19 +1,20 @@
 -- Each rule is exact wherever it applies: its results, in place and with their substitutions made, say what the conjunction says.
-use mathlib.Core.Path.{_≡_, refl, sym}
-use mathlib.Core.Logic.{_⊎_, inl, inr, _↔_, Iff·trans, Iff·symm}
+use mathlib.Core.Path.{sym}
+use mathlib.Core.Logic.{inl, inr, _↔_, Iff·trans}
+use mathlib.Core.Bool.{Bool, true, false}
 use mathlib.Core.List.{List, [], _∷_, _++_, map}
-use mathlib.Core.Option.{Option, none, some, Option·map}
-use Rattle.language.specs.Trees.{Hedge, Expr, Literal, eqn, mem, Conj}
-use Rattle.meaning.specs.Meaning.{Filling, Meets, MeetsAll, MeetsOne}
+use mathlib.Core.Option.{none, some, Option·map}
+use Rattle.language.specs.Trees.{Hedge, Literal, eqn, mem, Conj}
+use Rattle.meaning.specs.Meaning.{Filling, MeetsAll, MeetsOne}
 use Rattle.rules.specs.Substitution.{putC}
-use Rattle.rules.specs.Rules.{Branch, plain, elims, Answer, EqRule, InRule, Rule, onEqn, onMem, rules}
-use Rattle.rules.specs.Step.{orElse, attempt, place, resultsAt}
+use Rattle.rules.specs.Rules.{Branch, plain, elims, Answer, Rule, onEqn, onMem, rules}
+use Rattle.rules.specs.Step.{place}
 use Rattle.exact.specs.Each.{Each, Some}
-use Rattle.exact.specs.Places.{AtPlaces, swapped}
-use Rattle.exact.proofs.Each.{each-imp, some-map, some-same}
+use Rattle.exact.specs.Places.{sided, sidedAt, AtSides, SameFillings}
+use Rattle.exact.proofs.Each.{_also_, each-imp, some-map, some-same}
 use Rattle.exact.proofs.Fillings.{putC-meets, all-++, one-some}
-use Rattle.exact.proofs.Answers.{Where, Answers, MeetsBranch, MeetsBranches, Faithful, Exactly, ExactAnswer}
-use Rattle.exact.proofs.Steps.{orElse-is, where-some}
+use Rattle.exact.proofs.Answers.{Where, MeetsBranch, MeetsBranches, Faithful, ExactAnswer}
+use Rattle.exact.proofs.Steps.{where-some}
 use Rattle.exact.proofs.Equations.{ExactEqn, R1-exact, F1-exact, F2-exact, F3-exact, F4-exact, Del1-exact, Del3-exact, D2-exact, D0-exact, E1-exact, E2-exact, E3-exact, E4-exact, E5-exact, E6-exact}
 use Rattle.exact.proofs.Memberships.{ExactMem, R2-exact, F5-exact, F6-exact, F7-exact, M1-exact, M2-exact, M3-exact, M4-exact, M5-exact, M6-exact, M7-exact, M10-exact, M11-exact}
 
@@ -60,10 +61,6 @@ places-same ρ before behind bs f =
     Beside : Branch → Type 0
     Beside b = MeetsAll ρ before × MeetsBranch ρ b × MeetsAll ρ behind
 
--- a filling meets k exactly when it meets one of ks
-abbrev pub SameFillings : Conj → List Conj → Type 0
-SameFillings k ks = (ρ : Filling) → MeetsAll ρ k ↔ MeetsOne ρ ks
-
 pub at-literal : (before behind : Conj) (l : Literal) (w : Answer) → ExactAnswer l w
     → Where (SameFillings (before ++ (l ∷ behind))) (Option·map (map (place before behind)) w)
 at-literal before behind l none p = tt
@@ -73,7 +70,7 @@ at-literal before behind l (some bs) p = λ ρ.
       λ m. let (x, y, z) = places-same ρ before behind bs (p .given .faithful) .0 m in (x, (p .given .same ρ .1 y, z)),
     )
 
--- ---- a rule at a literal, its sides as written or exchanged
+-- ---- a rule at a literal, its sides as written or swapped
 
 abbrev RuleExact : Rule → Type 0
 RuleExact (onEqn rule) = ExactEqn rule
@@ -84,77 +81,30 @@ exchanged l r none p = record { given = tt }
 exchanged l r (some bs) p =
     record { given = record { same = λ ρ. Iff·trans (λ e. sym e, λ e. sym e) (p .given .same ρ); faithful = p .given .faithful } }
 
-pub attempt-exact : (rule : Rule) → RuleExact rule → (K : Conj) (l : Literal) → ExactAnswer l (attempt rule K l)
-attempt-exact (onEqn rule) p K (eqn l r) =
-    record { given = orElse-is (Exactly (eqn l r)) (rule K l r) _ (p K l r .given) (exchanged l r (rule K r l) (p K r l) .given) }
-attempt-exact (onEqn rule) p K (mem h R) = record { given = tt }
-attempt-exact (onMem rule) p K (eqn l r) = record { given = tt }
-attempt-exact (onMem rule) p K (mem h R) = p K h R
+sided-exact : (rule : Rule) → RuleExact rule → (swap : Bool) (K : Conj) (l : Literal) → ExactAnswer l (sided swap rule K l)
+sided-exact (onEqn rule) p false K (eqn l r) = p K l r
+sided-exact (onEqn rule) p true K (eqn l r) = exchanged l r (rule K r l) (p K r l)
+sided-exact (onEqn rule) p false K (mem h R) = record { given = tt }
+sided-exact (onEqn rule) p true K (mem h R) = record { given = tt }
+sided-exact (onMem rule) p false K (eqn l r) = record { given = tt }
+sided-exact (onMem rule) p true K (eqn l r) = record { given = tt }
+sided-exact (onMem rule) p false K (mem h R) = p K h R
+sided-exact (onMem rule) p true K (mem h R) = record { given = tt }
 
-rule-exact : (rule : Rule) → RuleExact rule → AtPlaces SameFillings rule
-rule-exact rule p before l behind ks e =
-    where-some (SameFillings (before ++ (l ∷ behind))) (resultsAt rule before l behind) ks
-    (at-literal before behind l (attempt rule (before ++ behind) l) (attempt-exact rule p (before ++ behind) l)) e
+rule-exact : (rule : Rule) → RuleExact rule → AtSides SameFillings rule
+rule-exact rule p swap before l behind ks e =
+    where-some (SameFillings (before ++ (l ∷ behind))) (sidedAt swap rule before l behind) ks
+    (at-literal before behind l (sided swap rule (before ++ behind) l) (sided-exact rule p swap (before ++ behind) l)) e
 
 -- ---- the rules in their order
 
-pub each-rule-exact : Each (AtPlaces SameFillings) rules
+pub each-rule-exact : Each (AtSides SameFillings) rules
 each-rule-exact =
-    each-imp RuleExact (AtPlaces SameFillings) rule-exact rules (
-      R1-exact,
-      (
-        R2-exact,
-        (
-          F1-exact,
-          (
-            F2-exact,
-            (
-              F3-exact,
-              (
-                F4-exact,
-                (
-                  F5-exact,
-                  (
-                    F6-exact,
-                    (
-                      F7-exact,
-                      (
-                        Del1-exact,
-                        (
-                          Del3-exact,
-                          (
-                            D2-exact,
-                            (
-                              D0-exact,
-                              (
-                                E1-exact,
-                                (
-                                  E2-exact,
-                                  (
-                                    E3-exact,
-                                    (
-                                      E4-exact,
-                                      (
-                                        E5-exact,
-                                        (
-                                          E6-exact,
-                                          (M1-exact, (M2-exact, (M3-exact, (M4-exact, (M5-exact, (M6-exact, (M7-exact, (M10-exact, (M11-exact, tt))))))))),
-                                        ),
-                                      ),
-                                    ),
-                                  ),
-                                ),
-                              ),
-                            ),
-                          ),
-                        ),
-                      ),
-                    ),
-                  ),
-                ),
-              ),
-            ),
-          ),
-        ),
-      ),
-    )
+    each-imp RuleExact (AtSides SameFillings) rule-exact rules
+    (R1-exact also R2-exact
+    also F1-exact also F2-exact also F3-exact also F4-exact also F5-exact also F6-exact also F7-exact
+    also Del1-exact also Del3-exact
+    also D2-exact also D0-exact
+    also E1-exact also E2-exact also E3-exact also E4-exact also E5-exact also E6-exact
+    also M1-exact also M2-exact also M3-exact also M4-exact also M5-exact also M6-exact also M7-exact also M10-exact also M11-exact
+    also tt)

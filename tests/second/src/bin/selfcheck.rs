@@ -1,0 +1,244 @@
+//! Puts random cases of a fixed seed to the desk and checks that it agrees
+//! with itself. The number of cases may be given as an argument.
+
+use std::process::ExitCode;
+
+use second::example::{example as line_example, write};
+use second::filling::read_filling;
+use second::gen::pieces::question_words;
+use second::gen::random::Random;
+use second::gen::{case, planted, Case, SEED};
+use second::literal::Conjunction;
+use second::read::{self, Question};
+use second::rules::{ALL, RULES};
+use second::run::{run, Run};
+use second::words::{ANSWER, FIRST_LINE, MARK_OPEN, MARK_SOLVED};
+use second::{example, solve, try_filling, SolveOut, Verdict};
+
+const CASES: u64 = 20_000;
+/// Examples looked at in one case.
+const LINES_LOOKED_AT: usize = 60;
+
+/// How often each outcome came up.
+#[derive(Default)]
+struct Counts {
+    solve: [u32; 17],
+    tried: [u32; 17],
+    example: [u32; 17],
+    verdicts: [u32; 3],
+    yes: u32,
+    lines: u64,
+    uses: [u64; RULES],
+    examples_met: u32,
+    examples_13: u32,
+    examples_16: u32,
+}
+
+type Checked = Result<(), String>;
+
+fn ensure(holds: bool, what: &str) -> Checked {
+    holds.then_some(()).ok_or_else(|| what.to_string())
+}
+
+fn main() -> ExitCode {
+    let cases = std::env::args().nth(1).map_or(CASES, |text| text.parse().expect("a number"));
+    let mut counts = Counts::default();
+    let (mut passed, mut failed) = (0, 0);
+    for index in 0..cases {
+        let case = case(SEED, index);
+        match check(&case, index, &mut counts) {
+            Ok(()) => passed += 1,
+            Err(what) => {
+                failed += 1;
+                println!("case {index} ({}): {what}", case.kind);
+                println!("  question {:?}", case.question);
+            }
+        }
+    }
+    print_counts(&counts);
+    println!("{passed} passed, {failed} failed");
+    if failed > 0 {
+        ExitCode::FAILURE
+    } else {
+        ExitCode::SUCCESS
+    }
+}
+
+/// All checks of one case.
+fn check(case: &Case, index: u64, counts: &mut Counts) -> Checked {
+    let out = solve(&case.question);
+    counts.solve[out.refusal as usize] += 1;
+    counts.lines += out.lines as u64;
+    for (sum, uses) in counts.uses.iter_mut().zip(out.uses) {
+        *sum += uses as u64;
+    }
+    check_numbers(&out)?;
+    for (line, room) in &case.asks {
+        check_ask(case, &out, *line, *room, counts)?;
+    }
+    let mut fillings = case.fillings.clone();
+    let question = read::question(&case.question);
+    if let Ok(question) = &question {
+        let mut random = Random::of_case(!SEED, index);
+        for _ in 0..3 {
+            fillings.push(write(&planted::filling(&mut random, &question.declared, 1, 2)));
+        }
+    }
+    for filling in &fillings {
+        match try_filling(&case.question, filling) {
+            Ok(yes) => {
+                counts.tried[0] += 1;
+                counts.yes += yes as u32;
+            }
+            Err(refusal) => counts.tried[refusal as usize] += 1,
+        }
+    }
+    if out.refusal != 0 {
+        return Ok(());
+    }
+    let question = question.map_err(|_| "solved, but not read")?;
+    let run = run(&question).map_err(|_| "solved, but not run")?;
+    check_lines(&question, &out, counts)?;
+    check_examples(case, &question, &run, counts)?;
+    fillings.iter().try_for_each(|filling| check_filling(&question, &run, filling))
+}
+
+/// Refusal, verdict, counts and the answer's size belong together.
+fn check_numbers(out: &SolveOut) -> Checked {
+    let verdict = match (out.refusal, out.lines, out.open) {
+        (0, 0, 0) => Verdict::None,
+        (0, _, 0) => Verdict::AllSolved,
+        (0, ..) => Verdict::SomeOpen,
+        _ => Verdict::Refused,
+    };
+    ensure(verdict == out.verdict, "verdict and lines disagree")?;
+    ensure(out.open <= out.lines && out.lines <= 512, "wrong number of lines")?;
+    let used: u32 = out.uses.iter().sum();
+    ensure(used == out.steps && out.steps <= 10_000, "wrong number of steps")?;
+    match out.refusal {
+        0 => ensure(out.answer.len() == ANSWER, "the answer is short"),
+        2..=6 => ensure(out.answer.is_empty() && out.steps == 0, "refused, yet changed"),
+        7..=10 => ensure(out.answer == [0; ANSWER] && out.steps == 0, "refused without zeros"),
+        _ => Err("a number that solving does not give".to_string()),
+    }
+}
+
+/// The answer can be read back, and each of its lines, asked again, is left
+/// as it is, in no step and with the same mark.
+fn check_lines(question: &Question, out: &SolveOut, counts: &mut Counts) -> Checked {
+    counts.verdicts[match out.verdict {
+        Verdict::None => 0,
+        Verdict::AllSolved => 1,
+        _ => 2,
+    }] += 1;
+    let lines = out.lines as usize;
+    let offsets = &out.answer[2..3 + lines];
+    ensure(offsets[0] as usize == FIRST_LINE, "the first line is elsewhere")?;
+    ensure(out.answer[3 + lines..FIRST_LINE].iter().all(|word| *word == 0), "no zeros")?;
+    let end = offsets[lines] as usize;
+    ensure(out.answer[end..].iter().all(|word| *word == 0), "no zeros at the end")?;
+    for ends in offsets.windows(2) {
+        let words = &out.answer[ends[0] as usize..ends[1] as usize];
+        let line = read::conjunction(&words[1..]).ok_or("a line cannot be read")?;
+        check_line(question, words, line)?;
+    }
+    Ok(())
+}
+
+fn check_line(question: &Question, words: &[u16], line: Conjunction) -> Checked {
+    let alone = Question { declared: question.declared, conjunctions: vec![line] };
+    let again = solve(&question_words(&alone));
+    if again.refusal == 2 {
+        return Ok(());
+    }
+    let mark = if again.open == 0 { MARK_SOLVED } else { MARK_OPEN };
+    ensure(again.refusal == 0 && again.lines == 1, "a line is no line")?;
+    ensure(again.steps == 0, "a rule applies to a line")?;
+    ensure(mark == words[0], "a line has another mark")?;
+    let same = again.answer[FIRST_LINE..].starts_with(words);
+    ensure(same, "a line changes")
+}
+
+/// The example of each solved line is an answer to the question.
+fn check_examples(case: &Case, question: &Question, run: &Run, counts: &mut Counts) -> Checked {
+    for number in 0..run.lines.len().min(LINES_LOOKED_AT) {
+        match line_example(run, &question.declared, number, 4096) {
+            Ok(filling) => match try_filling(&case.question, &filling) {
+                Ok(yes) => {
+                    ensure(yes, "an example is no answer")?;
+                    counts.examples_met += 1;
+                }
+                Err(13) => counts.examples_13 += 1,
+                Err(_) => return Err("an example is no filling".to_string()),
+            },
+            Err(refusal) => match refusal.number() {
+                15 => ensure(!run.lines[number].solved, "a solved line called open")?,
+                16 => counts.examples_16 += 1,
+                _ => return Err("no example of a line".to_string()),
+            },
+        }
+    }
+    Ok(())
+}
+
+/// A filling meets the question exactly if it meets one of the lines.
+fn check_filling(question: &Question, run: &Run, filling: &[u16]) -> Checked {
+    let Ok(filling) = read_filling(filling, &question.declared) else { return Ok(()) };
+    let lines = Question {
+        declared: question.declared,
+        conjunctions: run.lines.iter().map(|line| line.conjunction.clone()).collect(),
+    };
+    match (filling.answers(question), filling.answers(&lines)) {
+        (Ok(of_question), Ok(of_lines)) => {
+            ensure(of_question == of_lines, "question and lines differ on a filling")
+        }
+        _ => Ok(()),
+    }
+}
+
+/// An example asked for is what the room and the line allow.
+fn check_ask(
+    case: &Case,
+    out: &SolveOut,
+    line: usize,
+    room: usize,
+    counts: &mut Counts,
+) -> Checked {
+    let asked = example(&case.question, line, room);
+    counts.example[asked.as_ref().err().map_or(0, |refusal| *refusal as usize)] += 1;
+    match asked {
+        Ok(filling) => {
+            let shown = line < out.lines as usize && out.refusal == 0;
+            ensure(shown && filling.len() <= room.min(4096), "an example that cannot be")
+        }
+        Err(14) => ensure(out.refusal == 0 && line >= out.lines as usize, "the line is there"),
+        Err(15) => ensure(out.open > 0 && line < out.lines as usize, "no line is open"),
+        Err(16) => ensure(out.refusal == 0 && line < out.lines as usize, "no line to show"),
+        Err(refusal) => ensure(refusal == out.refusal, "refused unlike solving"),
+    }
+}
+
+fn print_counts(counts: &Counts) {
+    println!("refusal     solve       try   example");
+    for number in (0..17).filter(|number| *number != 1) {
+        println!(
+            "{number:7} {:9} {:9} {:9}",
+            counts.solve[number], counts.tried[number], counts.example[number]
+        );
+    }
+    println!();
+    println!("verdict none        {:9}", counts.verdicts[0]);
+    println!("verdict all solved  {:9}", counts.verdicts[1]);
+    println!("verdict some open   {:9}", counts.verdicts[2]);
+    println!("fillings met        {:9}", counts.yes);
+    println!("lines               {:9}", counts.lines);
+    println!("examples met        {:9}", counts.examples_met);
+    println!("examples giving 13  {:9}", counts.examples_13);
+    println!("examples giving 16  {:9}", counts.examples_16);
+    println!();
+    println!("rule        uses");
+    for (rule, uses) in ALL.iter().zip(counts.uses) {
+        println!("{:5} {uses:10}", format!("{rule:?}"));
+    }
+    println!();
+}

@@ -1,0 +1,97 @@
+//! The example of a solved line, written as a filling.
+
+use crate::filling::Filling;
+use crate::literal::{Claim, Conjunction};
+use crate::read::Declared;
+use crate::run::Run;
+use crate::solved::solved_side;
+use crate::tree::{repeated, Functor, Hedge, Item};
+use crate::words::{Refusal, END, FILLING_MOST};
+
+/// The words of a line's example, or 14, 15 or 16.
+pub fn example(
+    run: &Run,
+    declared: &Declared,
+    line: usize,
+    room: usize,
+) -> Result<Vec<u16>, Refusal> {
+    let line = run.lines.get(line).ok_or(Refusal::NoSuchLine)?;
+    if !line.solved {
+        return Err(Refusal::OpenLine);
+    }
+    let filling = values(&line.conjunction, declared, room.min(FILLING_MOST))?;
+    if words(&filling) > room.min(FILLING_MOST) {
+        return Err(Refusal::ExampleTooLong);
+    }
+    Ok(write(&filling))
+}
+
+/// The value of each variable; 16 as soon as one alone passes `most` words.
+fn values(line: &Conjunction, declared: &Declared, most: usize) -> Result<Filling, Refusal> {
+    let free = free_values(line, declared);
+    let mut filling = free.clone();
+    let shared = repeated(line.literals().iter().map(|literal| literal.variables()));
+    for literal in line.literals() {
+        let Claim::Equation(left, right) = literal.claim() else { continue };
+        let (variable, value) =
+            solved_side(left, right, shared).expect("a solved line's equations are solved");
+        if free.filled_words(value) > most {
+            return Err(Refusal::ExampleTooLong);
+        }
+        let value = free.filled(value);
+        match variable.lone() {
+            Some(Item::TermVariable(x)) => filling.terms[*x as usize] = value,
+            Some(Item::HedgeVariable(p)) => filling.hedges[*p as usize] = value,
+            Some(Item::Over(Functor::Variable(x), _)) => {
+                filling.functions[*x as usize] =
+                    value.lone_bare().expect("a functor without children");
+            }
+            _ => unreachable!("the solved side is one variable"),
+        }
+    }
+    Ok(filling)
+}
+
+/// The values of the variables that no equation solves: the sample of their
+/// membership, or else the simplest value of their kind.
+fn free_values(line: &Conjunction, declared: &Declared) -> Filling {
+    let simplest = Functor::Symbol(0);
+    let mut filling = Filling {
+        terms: vec![Hedge::bare(simplest); declared.terms as usize],
+        hedges: vec![Hedge::EMPTY; declared.hedges as usize],
+        functions: vec![simplest; declared.functions as usize],
+    };
+    for literal in line.literals() {
+        let Claim::Membership(hedge, expression) = literal.claim() else { continue };
+        match hedge.lone() {
+            Some(Item::TermVariable(x)) => filling.terms[*x as usize] = expression.sample(),
+            Some(Item::HedgeVariable(p)) => filling.hedges[*p as usize] = expression.sample(),
+            _ => unreachable!("a solved membership is of one variable"),
+        }
+    }
+    filling
+}
+
+/// The length in words of a filling.
+fn words(filling: &Filling) -> usize {
+    let hedges = filling.terms.iter().chain(&filling.hedges);
+    let count = filling.terms.len() + filling.hedges.len() + filling.functions.len();
+    let values: usize = hedges.map(|hedge| hedge.words() + 1).sum();
+    2 + count + values + 3 * filling.functions.len()
+}
+
+/// Writes a filling: the count, the offsets, the values.
+pub fn write(filling: &Filling) -> Vec<u16> {
+    let functions: Vec<Hedge> = filling.functions.iter().map(|f| Hedge::bare(*f)).collect();
+    let count = filling.terms.len() + filling.hedges.len() + functions.len();
+    let mut out = vec![0; count + 2];
+    out[0] = count as u16;
+    out[1] = (count + 2) as u16;
+    let values = filling.terms.iter().chain(&filling.hedges).chain(&functions);
+    for (number, value) in values.enumerate() {
+        value.write(&mut out);
+        out.push(END);
+        out[number + 2] = out.len() as u16;
+    }
+    out
+}

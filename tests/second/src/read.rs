@@ -1,0 +1,168 @@
+//! Reading: from words to trees, the question's header and the numbers 2 to 6.
+
+use crate::expression::Expression;
+use crate::literal::{Conjunction, Literal};
+use crate::tree::{Functor, Hedge, Item};
+use crate::words::{classify, Refusal, Word, KIND, QUESTION_LEAST, QUESTION_MOST};
+use std::rc::Rc;
+
+/// How many symbols and variables a question declares.
+#[derive(Clone, Copy, Debug)]
+pub struct Declared {
+    pub symbols: u16,
+    pub terms: u16,
+    pub hedges: u16,
+    pub functions: u16,
+}
+
+impl Declared {
+    pub fn variables(&self) -> usize {
+        (self.terms + self.hedges + self.functions) as usize
+    }
+
+    /// Whether a word is no number of a symbol or variable left undeclared.
+    pub fn allows(&self, word: u16) -> bool {
+        match classify(word) {
+            Word::TermVariable(number) => (number as u16) < self.terms,
+            Word::HedgeVariable(number) => (number as u16) < self.hedges,
+            Word::Symbol(number) => (number as u16) < self.symbols,
+            Word::FunctionVariable(number) => (number as u16) < self.functions,
+            _ => true,
+        }
+    }
+}
+
+/// A question that was read whole.
+#[derive(Clone, Debug)]
+pub struct Question {
+    pub declared: Declared,
+    pub conjunctions: Vec<Conjunction>,
+}
+
+/// Reads a question, or gives the first of the numbers 2 to 6 that holds.
+pub fn question(words: &[u16]) -> Result<Question, Refusal> {
+    if words.len() < QUESTION_LEAST || words.len() > QUESTION_MOST {
+        return Err(Refusal::Length);
+    }
+    let in_range = (1..=KIND).contains(&words[0])
+        && words[1..4].iter().all(|count| *count <= KIND)
+        && words[4] <= 16;
+    if !in_range {
+        return Err(Refusal::Count);
+    }
+    let declared =
+        Declared { symbols: words[0], terms: words[1], hedges: words[2], functions: words[3] };
+    let count = words[4] as usize;
+    let offsets = offsets(words, 5, count).ok_or(Refusal::Offset)?;
+    let mut conjunctions = Vec::with_capacity(count);
+    for ends in offsets.windows(2) {
+        let part = &words[ends[0] as usize..ends[1] as usize];
+        conjunctions.push(conjunction(part).ok_or(Refusal::Form)?);
+    }
+    if !words[6 + count..].iter().all(|word| declared.allows(*word)) {
+        return Err(Refusal::Undeclared);
+    }
+    Ok(Question { declared, conjunctions })
+}
+
+/// The `count + 1` offsets that stand from word `at`, where they are as they
+/// should be: the first just behind them, none falling, the last the length.
+pub fn offsets(words: &[u16], at: usize, count: usize) -> Option<&[u16]> {
+    let behind = at + count + 1;
+    let offsets = words.get(at..behind)?;
+    let right = offsets[0] as usize == behind
+        && offsets.windows(2).all(|two| two[0] <= two[1])
+        && offsets[count] as usize == words.len();
+    right.then_some(offsets)
+}
+
+/// Reads words that are exactly literals.
+pub fn conjunction(words: &[u16]) -> Option<Conjunction> {
+    let mut reader = Reader::new(words);
+    let mut conjunction = Conjunction::default();
+    while !reader.at_end() {
+        conjunction.push(reader.literal()?);
+    }
+    Some(conjunction)
+}
+
+/// Reads words that are exactly one hedge and its 0.
+pub fn whole_hedge(words: &[u16]) -> Option<Hedge> {
+    let mut reader = Reader::new(words);
+    let hedge = reader.hedge()?;
+    reader.at_end().then_some(hedge)
+}
+
+/// Words and how many of them are read. Each call gives nothing on words
+/// that are malformed or end too soon.
+struct Reader<'a> {
+    words: &'a [u16],
+    at: usize,
+}
+
+impl<'a> Reader<'a> {
+    fn new(words: &'a [u16]) -> Reader<'a> {
+        Reader { words, at: 0 }
+    }
+
+    fn at_end(&self) -> bool {
+        self.at == self.words.len()
+    }
+
+    fn next(&mut self) -> Option<Word> {
+        let word = *self.words.get(self.at)?;
+        self.at += 1;
+        Some(classify(word))
+    }
+
+    fn literal(&mut self) -> Option<Rc<Literal>> {
+        match self.next()? {
+            Word::Equation => {
+                let left = self.hedge()?;
+                let right = self.hedge()?;
+                Some(Literal::equation(left, right))
+            }
+            Word::Membership => {
+                let hedge = self.hedge()?;
+                let expression = self.expression()?;
+                Some(Literal::membership(hedge, expression))
+            }
+            _ => None,
+        }
+    }
+
+    /// A hedge and its 0.
+    fn hedge(&mut self) -> Option<Hedge> {
+        let mut items = Vec::new();
+        loop {
+            let item = match self.next()? {
+                Word::End => return Some(Hedge::new(items)),
+                Word::TermVariable(number) => Item::TermVariable(number),
+                Word::HedgeVariable(number) => Item::HedgeVariable(number),
+                Word::Symbol(number) => Item::Over(Functor::Symbol(number), self.hedge()?),
+                Word::FunctionVariable(number) => {
+                    Item::Over(Functor::Variable(number), self.hedge()?)
+                }
+                _ => return None,
+            };
+            items.push(item);
+        }
+    }
+
+    fn expression(&mut self) -> Option<Expression> {
+        match self.next()? {
+            Word::Eps => Some(Expression::Eps),
+            Word::Concatenation => {
+                let left = self.expression()?;
+                Some(Expression::concatenation(left, self.expression()?))
+            }
+            Word::Choice => {
+                let left = self.expression()?;
+                Some(Expression::choice(left, self.expression()?))
+            }
+            Word::Star => Some(Expression::star(self.expression()?)),
+            Word::Symbol(number) => Some(Expression::over(number, self.expression()?)),
+            _ => None,
+        }
+    }
+}

@@ -1,0 +1,103 @@
+//! The words of questions, answers and fillings, and the limits on them.
+
+/// The end of a hedge.
+pub const END: u16 = 0;
+/// First word of each numbered kind; each kind has `KIND` words.
+pub const TERM_VARIABLE: u16 = 1000;
+pub const HEDGE_VARIABLE: u16 = 2000;
+pub const SYMBOL: u16 = 3000;
+pub const FUNCTION_VARIABLE: u16 = 4000;
+pub const KIND: u16 = 32;
+/// The heads of literals.
+pub const EQUATION: u16 = 5000;
+pub const MEMBERSHIP: u16 = 6000;
+/// The operators of expressions.
+pub const EPS: u16 = 7000;
+pub const CONCATENATION: u16 = 7001;
+pub const CHOICE: u16 = 7002;
+pub const STAR: u16 = 7003;
+
+/// Marks of an answer's lines.
+pub const MARK_SOLVED: u16 = 1;
+pub const MARK_OPEN: u16 = 2;
+
+/// The least and the greatest length of a question.
+pub const QUESTION_LEAST: usize = 6;
+pub const QUESTION_MOST: usize = 1024;
+/// The greatest length of a conjunction that a step may leave.
+pub const RESULT_MOST: usize = 1024;
+/// The greatest sum of the waiting conjunctions' lengths, each plus one.
+pub const WAITING_MOST: usize = 8192;
+/// The length of an answer, the place of its first line, and its most lines.
+pub const ANSWER: usize = 8192;
+pub const FIRST_LINE: usize = 515;
+pub const LINES_MOST: usize = 512;
+/// The most steps of a run.
+pub const STEPS_MOST: u32 = 10_000;
+/// The greatest length of a filling.
+pub const FILLING_MOST: usize = 4096;
+/// The greatest length of a literal with a filling put in.
+pub const FILLED_MOST: usize = 8192;
+
+/// What a word is, by its range alone.
+#[derive(Clone, Copy, PartialEq, Eq, Debug)]
+pub enum Word {
+    End,
+    TermVariable(u8),
+    HedgeVariable(u8),
+    Symbol(u8),
+    FunctionVariable(u8),
+    Equation,
+    Membership,
+    Eps,
+    Concatenation,
+    Choice,
+    Star,
+    Malformed,
+}
+
+/// Tells what a word is.
+pub fn classify(word: u16) -> Word {
+    let number = |first: u16| (word - first) as u8;
+    match word {
+        END => Word::End,
+        1000..=1031 => Word::TermVariable(number(TERM_VARIABLE)),
+        2000..=2031 => Word::HedgeVariable(number(HEDGE_VARIABLE)),
+        3000..=3031 => Word::Symbol(number(SYMBOL)),
+        4000..=4031 => Word::FunctionVariable(number(FUNCTION_VARIABLE)),
+        EQUATION => Word::Equation,
+        MEMBERSHIP => Word::Membership,
+        EPS => Word::Eps,
+        CONCATENATION => Word::Concatenation,
+        CHOICE => Word::Choice,
+        STAR => Word::Star,
+        _ => Word::Malformed,
+    }
+}
+
+/// A number that comes back, 2 to 16.
+#[derive(Clone, Copy, PartialEq, Eq, Debug)]
+pub enum Refusal {
+    Length = 2,
+    Count = 3,
+    Offset = 4,
+    Form = 5,
+    Undeclared = 6,
+    ResultTooLong = 7,
+    WaitingTooLong = 8,
+    Lines = 9,
+    Steps = 10,
+    FillingLayout = 11,
+    FillingValue = 12,
+    FilledTooLong = 13,
+    NoSuchLine = 14,
+    OpenLine = 15,
+    ExampleTooLong = 16,
+}
+
+impl Refusal {
+    /// The number itself.
+    pub fn number(self) -> u16 {
+        self as u16
+    }
+}
