@@ -1,7 +1,10 @@
 // Expressions standing in words: where one ends and whether it is nullable, the monomials of its linear form, its sample.
 ghost use mathlib.Core.Path.{_≡_};
 ghost use mathlib.Core.Bool.{_&&_, _||_};
+ghost use Prim.Native.Nat.{_≤_, _+_};
+ghost use lib.ListN.{length};
 ghost use Rattle.exprs.specs.Standing.{Parted};
+ghost use Rattle.exprs.specs.Spots.{further, longer, Sought};
 
 // Of an expression in the words: the place after it, whether it is nullable, whether it is eps.
 pub struct Part {
@@ -72,5 +75,53 @@ pub fn pass(k: &[u16], at: usize) -> Part
         end,
         null,
         bare: false,
+    }
+}
+
+// ---- the linear form
+
+// Where a monomial f(R1), R2 stands: whether it is met or how many are still to be passed, the part of f(R1), how many parts R2 has, and their words.
+pub struct Spot {
+    pub hit: bool,
+    pub left: usize,
+    pub place: usize,
+    pub past: usize,
+    pub parts: usize,
+    pub words: usize,
+}
+
+// Of an expression in the words: the place after it, whether it is nullable, and one of its monomials.
+pub struct Found {
+    pub end: usize,
+    pub null: bool,
+    pub spot: Spot,
+}
+
+// A monomial that stands further on.
+pub fn miss(left: usize) -> Spot
+    ensures { λ s. ⌜ s ≡ further left ⌝ }
+{
+    Spot {
+        hit: false,
+        left,
+        place: 0,
+        past: 0,
+        parts: 0,
+        words: 0,
+    }
+}
+
+// A monomial with one part more in its rest.
+pub fn lengthen(s: Spot, n: usize) -> Spot
+    requires { ⌜ (s .parts ≤ 1024) × (s .words ≤ 1048576) × (n ≤ 1024) ⌝ }
+    ensures { λ t. ⌜ t ≡ longer s n ⌝ }
+{
+    Spot {
+        hit: s.hit,
+        left: s.left,
+        place: s.place,
+        past: s.past,
+        parts: s.parts + 1,
+        words: s.words + n,
     }
 }
