@@ -1,0 +1,116 @@
+-- What makes "none" a promise: the theorems of this crate, each under the sentence of the paper that it is about.
+-- Their proofs are cited; the definitions in the statements are those of the language, the meaning and the rules.
+use Prim.Native.Nat.{ℕ}
+use mathlib.Core.Path.{_≡_}
+use mathlib.Core.Logic.{_↔_, Iff·trans, Iff·symm}
+use mathlib.Core.Bool.{Bool, true}
+use mathlib.Core.List.{List, [], _∷_, _++_, List·Memᴰ}
+use mathlib.Core.Option.{none, some}
+use Rattle.language.specs.declared.Sym.{Sym}
+use Rattle.language.specs.Limits.{Limits}
+use Rattle.language.specs.Trees.{Expr, Literal, Conj, Counts, Question}
+use Rattle.language.specs.Question.{asks, declaredC, countsOf, readQuestion}
+use Rattle.meaning.specs.Complete.{Complete, nil, tree}
+use Rattle.meaning.specs.Meaning.{Filling, Member, MeetsAll, MeetsOne, MeetsQuestion}
+use Rattle.rules.specs.Expressions.{nullable, linear}
+use Rattle.rules.specs.Rules.{Rule, rules}
+use Rattle.rules.specs.Step.{resultsAt, step}
+use Rattle.rules.specs.Run.{finished, run}
+use Rattle.rules.specs.Answer.{answered, solving}
+use Rattle.exact.specs.Each.{Each, Some}
+use Rattle.exact.specs.Monomials.{Takes}
+use Rattle.exact.specs.Places.{sidedAt, AtSides, AtPlaces, Idle, SameFillings}
+use Rattle.exact.specs.Made.{Name, MadeC}
+use Rattle.exact.proofs.Each.{each-in, each-imp}
+use Rattle.exact.proofs.Tests.{test-true}
+use Rattle.exact.proofs.Expressions.{nullable-exact, linear-exact}
+use Rattle.exact.proofs.Steps.{each-at-places, step-none}
+use Rattle.exact.proofs.Places.{each-rule-exact}
+use Rattle.exact.proofs.Run.{step-same, run-same, answered-run}
+use Rattle.exact.proofs.Invariant.{lines-keep, lines-rest}
+use Rattle.exact.proofs.MadeByRules.{step-made}
+use Rattle.exact.proofs.Declared.{lines-declared, read-declared}
+
+-- ---- expressions
+
+-- "ε in R, where ε is in the language": the emptiness test says so exactly where ε is a member.
+pub emptiness : (R : Expr) → (nullable R ≡ true) ↔ Member R nil
+emptiness R = Iff·trans (Iff·symm (test-true (nullable R))) (nullable-exact R)
+
+-- "M2 uses its linear form": a hedge that begins with the term f over c, and then h, is a member exactly where some monomial takes it.
+pub linear-form : (R : Expr) (f : Sym) (c h : Complete) → Member R (tree f c h) ↔ Some (Takes f c h) (linear R)
+linear-form = linear-exact
+
+-- ---- rules and steps
+
+-- "the first rule below that applies to any literal, .. the earliest literal, .. the written side first, then swapped": but wherever any
+-- rule applies, first or not, earliest or not, swapped or not, a filling meets the conjunction exactly when it meets one of the results.
+pub rule-exact : (rule : Rule) → List·Memᴰ rule rules → (swap : Bool) (before : Conj) (l : Literal) (behind : Conj) (ks : List Conj)
+    → sidedAt swap rule before l behind ≡ some ks → (ρ : Filling) → MeetsAll ρ (before ++ (l ∷ behind)) ↔ MeetsOne ρ ks
+rule-exact rule i = each-in (AtSides SameFillings) each-rule-exact i
+
+-- the same for the rule at a literal, the written side first
+pub rule-exact-at : (rule : Rule) → List·Memᴰ rule rules → (before : Conj) (l : Literal) (behind : Conj) (ks : List Conj)
+    → resultsAt rule before l behind ≡ some ks → (ρ : Filling) → MeetsAll ρ (before ++ (l ∷ behind)) ↔ MeetsOne ρ ks
+rule-exact-at rule i = each-in (AtPlaces SameFillings) (each-at-places SameFillings each-rule-exact) i
+
+-- the same of the whole table of rules at once
+pub rules-exact : Each (AtSides SameFillings) rules
+rules-exact = each-rule-exact
+
+-- "That is one step": a filling meets the conjunction exactly when it meets one of the step's results.
+pub step-exact : (k : Conj) (ks : List Conj) → step k ≡ some ks → (ρ : Filling) → MeetsAll ρ k ↔ MeetsOne ρ ks
+step-exact = step-same
+
+-- ---- the run with its limits, whatever they are
+
+-- "Results stand in the place of the conjunction, in order": a filling meets a waiting conjunction exactly when it meets a line.
+pub run-exact : (L : Limits) (w ls : List Conj) (n : ℕ) → run L w ≡ finished ls n → (ρ : Filling) → MeetsOne ρ w ↔ MeetsOne ρ ls
+run-exact = run-same
+
+-- "If no rule applies, the conjunction becomes the next line": no rule applies to a line.
+pub lines-settled : (L : Limits) (w ls : List Conj) (n : ℕ) → run L w ≡ finished ls n → Each (λ k. step k ≡ none) ls
+lines-settled = lines-rest
+
+-- the same in full: no rule of the list applies at any literal of a line
+pub lines-idle : (L : Limits) (w ls : List Conj) (n : ℕ) → run L w ≡ finished ls n → Each (λ k. Each (Idle k) rules) ls
+lines-idle L w ls n e = each-imp (λ k. step k ≡ none) (λ k. Each (Idle k) rules) step-none ls (lines-rest L w ls n e)
+
+-- "Waiting conjunctions stand in order": what every step keeps and every waiting conjunction has, every line has.
+pub lines-inherit : (P : Conj → Type 0) → ((k : Conj) (ks : List Conj) → P k → step k ≡ some ks → Each P ks)
+    → (L : Limits) (w ls : List Conj) (n : ℕ) → run L w ≡ finished ls n → Each P w → Each P ls
+lines-inherit = lines-keep
+
+-- ---- questions
+
+-- "A conjunction needs all its literals, a question one conjunction": an answer is of a question that was read, and a filling meets the
+-- question exactly when it meets a line.
+pub answer-exact : (L : Limits) (work answer : ℕ) (ws : List ℕ) (ls : List Conj) (n : ℕ) → solving L work answer ws ≡ answered ls n
+    → (q : Question) × (readQuestion L ws ≡ asks q) × ((ρ : Filling) → MeetsQuestion ρ q ↔ MeetsOne ρ ls)
+answer-exact L work answer ws ls n e =
+    let (q, asked, ran) = answered-run L work answer ws ls n e in
+    (q, asked, run-same L (q .alternatives) ls n ran)
+
+-- 'Answering "none" always breaks 3': "none" is said only rightly, for where there is no line, no filling meets the question.
+pub none-is-none : (L : Limits) (work answer : ℕ) (ws : List ℕ) (n : ℕ) → solving L work answer ws ≡ answered [] n
+    → (q : Question) × (readQuestion L ws ≡ asks q) × ((ρ : Filling) → ¬ MeetsQuestion ρ q)
+none-is-none L work answer ws n e = let (q, asked, same) = answer-exact L work answer ws [] n e in (q, asked, λ ρ m. same ρ .0 m)
+
+-- ---- what lines are made of
+
+-- "New literals stand in the place of the old": each symbol and each variable of a result was there before the step.
+pub step-names : (A : Name → Type 0) (k : Conj) (ks : List Conj) → step k ≡ some ks → MadeC A k → Each (MadeC A) ks
+step-names = step-made
+
+-- "6: an undeclared number": where every alternative is declared, so is every line.
+pub lines-all-declared : (c : Counts) (L : Limits) (w ls : List Conj) (n : ℕ) → run L w ≡ finished ls n
+    → Each (λ k. declaredC c k ≡ true) w → Each (λ k. declaredC c k ≡ true) ls
+lines-all-declared = lines-declared
+
+-- every line of an answer is declared by the counts in the question's words
+pub answer-declared : (L : Limits) (work answer : ℕ) (ws : List ℕ) (ls : List Conj) (n : ℕ) → solving L work answer ws ≡ answered ls n
+    → Each (λ k. declaredC (countsOf ws) k ≡ true) ls
+answer-declared L work answer ws ls n e =
+    let (q, asked, ran) = answered-run L work answer ws ls n e in
+    let (counts, declared) = read-declared L ws q asked in
+    rw counts at (lines-declared (q .counts) L (q .alternatives) ls n ran declared)

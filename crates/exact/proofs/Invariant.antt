@@ -1,0 +1,72 @@
+-- What holds all along a run. Whatever a step and a new line keep of the lines and the waiting conjunctions holds of the lines at the end:
+-- every other theorem on whole runs is a case of this one.
+use Prim.Native.Nat.{ℕ, zero, suc}
+use mathlib.Core.Path.{_≡_, refl}
+use mathlib.Core.Bool.{Bool, true, false}
+use mathlib.Core.List.{List, [], _∷_, _++_}
+use mathlib.Core.Option.{Option, none, some}
+use lib.Dec.{ltb}
+use Rattle.language.specs.declared.Refusal.{Refusal}
+use Rattle.language.specs.declared.Refusal.the-variants.{LongResult, LongWaiting, LineRoom, StepLimit}
+use Rattle.language.specs.Limits.{Limits}
+use Rattle.language.specs.Trees.{Conj}
+use Rattle.rules.specs.Step.{step}
+use Rattle.rules.specs.Run.{anyLong, waitingSize, linesFit, Outcome, finished, refused, lined, turn, runFrom, run}
+use Rattle.exact.specs.Each.{Each}
+use Rattle.exact.proofs.Each.{each-++}
+
+-- `I ls w`: lines ls are there, and w waits
+module _ (I : List Conj → List Conj → Type 0) where
+  -- it holds when the run ends
+  abbrev pub Ended : Outcome → Type 0
+  Ended (finished ls n) = I ls []
+  Ended (refused r) = Unit {0}
+
+  module _
+      (stepped : (ls : List Conj) (k : Conj) (w ks : List Conj) → I ls (k ∷ w) → step k ≡ some ks → I ls (ks ++ w))
+      (rests : (ls : List Conj) (k : Conj) (w : List Conj) → I ls (k ∷ w) → step k ≡ none → I (ls ++ (k ∷ [])) w)
+    where
+      -- a refusal, or the run goes on
+      stops : (b : Bool) (r : Refusal) (o : Outcome) → Ended o → Ended (elim b [ true ↦ refused r | false ↦ o ])
+      stops true r o p = tt
+      stops false r o p = p
+
+      goes : (b : Bool) (r : Refusal) (o : Outcome) → Ended o → Ended (elim b [ true ↦ o | false ↦ refused r ])
+      goes true r o p = p
+      goes false r o p = tt
+
+      turn-ends : (L : Limits) (go : List Conj → List Conj → List Conj → Outcome)
+          → ((ls ks w : List Conj) → I ls w → Ended (go ls ks w)) → (n : ℕ) (ls w : List Conj) → I ls w → Ended (turn L go n ls w)
+      turn-ends L go on n ls [] p = p
+      turn-ends L go on n ls (k ∷ w) p = taken (step k) refl (λ q. goes (linesFit L (ls ++ (k ∷ []))) LineRoom _ (turn-ends L go on n (ls ++ (k ∷ [])) w q))
+        where
+          taken : (m : Option (List Conj)) → step k ≡ m → (I (ls ++ (k ∷ [])) w → Ended (lined L (ls ++ (k ∷ [])) (λ ms. turn L go n ms w)))
+              → Ended (elim m [ some ks ↦ go ls ks (ks ++ w) | none ↦ lined L (ls ++ (k ∷ [])) (λ ms. turn L go n ms w) ])
+          taken none e line = line (rests ls k w p e)
+          taken (some ks) e line = on ls ks (ks ++ w) (stepped ls k w ks p e)
+
+      from-ends : (L : Limits) (d n : ℕ) (ls w : List Conj) → I ls w → Ended (runFrom L d n ls w)
+      unfolding runFrom
+      from-ends L zero n ls w p = turn-ends L (λ _ _ _. refused StepLimit) (λ _ _ _ _. tt) n ls w p
+      from-ends L (suc d) n ls w p =
+          turn-ends L _ (λ ms ks v q. stops (anyLong L ks) LongResult _ (stops (ltb (L .room) (waitingSize v)) LongWaiting _ (from-ends L d (suc n) ms v q))) n ls w p
+
+      -- What a step and a new line keep holds of the lines of a finished run.
+      pub along : (L : Limits) (w ls : List Conj) (n : ℕ) → run L w ≡ finished ls n → I [] w → I ls []
+      unfolding run
+      along L w ls n e p = rw e at (from-ends L (L .steps) 0 [] w p)
+
+-- If P is kept by a step, and every waiting conjunction satisfies it, then every line does.
+pub lines-keep : (P : Conj → Type 0) → ((k : Conj) (ks : List Conj) → P k → step k ≡ some ks → Each P ks)
+    → (L : Limits) (w ls : List Conj) (n : ℕ) → run L w ≡ finished ls n → Each P w → Each P ls
+lines-keep P kept L w ls n e p =
+    along (λ ms v. Each P ms × Each P v)
+    (λ ms k v ks q d. (q .0, each-++ P ks v (kept k ks (q .1 .0) d) (q .1 .1)))
+    (λ ms k v q d. (each-++ P ms (k ∷ []) (q .0) (q .1 .0, tt), q .1 .1))
+    L w ls n e (tt, p) .0
+
+-- To a line of a finished run no rule applies.
+pub lines-rest : (L : Limits) (w ls : List Conj) (n : ℕ) → run L w ≡ finished ls n → Each (λ k. step k ≡ none) ls
+lines-rest L w ls n e =
+    along (λ ms v. Each (λ k. step k ≡ none) ms) (λ ms k v ks q d. q)
+    (λ ms k v q d. each-++ (λ k. step k ≡ none) ms (k ∷ []) q (d, tt)) L w ls n e tt

@@ -1,0 +1,252 @@
+-- The rules make no new names: what stands for a literal is made of what the literal is made of.
+use mathlib.Core.Path.{_≡_}
+use mathlib.Core.Bool.{Bool, true, false}
+use mathlib.Core.List.{List, _∷_, _++_, map}
+use mathlib.Core.Option.{none, some, Option·map}
+use Rattle.language.specs.declared.HedgeVar.{HedgeVar}
+use Rattle.language.specs.Trees.{symbol, Hedge, ε, tvar, hvar, node, Expr, Literal, eqn, mem, Conj, _⧺_, hv}
+use Rattle.rules.specs.Looks.{firstTerm, firstRun, loneTerm, loneT, loneH, loneNode, asSymbol, asBlank, inside, upTo, cuts, asCat, asAlt, asStar, asOver}
+use Rattle.rules.specs.Substitution.{putC}
+use Rattle.rules.specs.Expressions.{linear}
+use Rattle.rules.specs.Rules.{Branch, plain, elims, Answer, EqRule, InRule, Rule, onEqn, onMem, cutResult, vanish, monomialResult}
+use Rattle.rules.specs.Rules as rules
+use Rattle.rules.specs.Step.{place, step}
+use Rattle.exact.specs.Each.{Each}
+use Rattle.exact.specs.Places.{sided, sidedAt, AtSides}
+use Rattle.exact.specs.Made.{Name, aVariable, Made, MadeE, MadeL, MadeC}
+use Rattle.exact.proofs.Each.{_also_, each-map, each-imp}
+use Rattle.exact.proofs.Answers.{Where, Answers, look, test, answers}
+use Rattle.exact.proofs.Looks.{loneT-is, loneH-is, loneNode-is, loneTerm-is, firstTerm-is, firstRun-is, asSymbol-is, asBlank-is, inside-is, upTo-is, asCat-is, asAlt-is, asStar-is, asOver-is}
+use Rattle.exact.proofs.Cuts.{CutOf, cuts-join}
+use Rattle.exact.proofs.Steps.{where-some, each-at-places, step-at-places}
+use Rattle.exact.proofs.Made.{made-⧺, made-++, Puts, putC-made, setT-made, setH-made, setF-made, emptied-made, MadeMonomial, linear-made}
+
+module _ (A : Name → Type 0) where
+  abbrev MadeBranch : Branch → Type 0
+  MadeBranch (plain ls) = MadeC A ls
+  MadeBranch (elims es ls s) = MadeC A es × MadeC A ls × Puts A s
+
+  abbrev MadeAnswer : Answer → Type 0
+  MadeAnswer w = Answers (Each MadeBranch) w
+
+  abbrev MakesEqn : EqRule → Type 0
+  MakesEqn rule = (K : Conj) (l r : Hedge) → Made A l → Made A r → MadeAnswer (rule K l r)
+
+  abbrev MakesMem : InRule → Type 0
+  MakesMem rule = (K : Conj) (h : Hedge) (R : Expr) → Made A h → MadeE A R → MadeAnswer (rule K h R)
+
+  -- ---- equations
+
+  R1-makes : MakesEqn rules.R1
+  R1-makes K l r a b = test _ λ _ _. answers (tt, tt)
+
+  F1-makes : MakesEqn rules.F1
+  F1-makes K l r a b = look (loneT l) (loneT-is l) λ x p. test _ λ _ _. answers tt
+
+  F2-makes : MakesEqn rules.F2
+  F2-makes K l r a b = look (loneH l) (loneH-is l) λ p e. test _ λ _ _. test _ λ _ _. answers tt
+
+  F3-makes : MakesEqn rules.F3
+  F3-makes K l r a b =
+      look (loneNode l) (loneNode-is l) λ c p. look (loneNode r) (loneNode-is r) λ d q.
+      look (asSymbol (c .0)) (asSymbol-is (c .0)) λ f s. look (asSymbol (d .0)) (asSymbol-is (d .0)) λ g t. test _ λ _ _. answers tt
+
+  F4-makes : MakesEqn rules.F4
+  F4-makes K l r a b = test _ λ _ _. test _ λ _ _. answers tt
+
+  Del1-makes : MakesEqn rules.Del1
+  Del1-makes K l r a b =
+      look (firstRun l) (firstRun-is l) λ c p. look (firstRun r) (firstRun-is r) λ d q.
+      test _ λ _ _. let m = rw p at a in let n = rw q at b in answers (((m .1, n .1), tt), tt)
+
+  Del3-makes : MakesEqn rules.Del3
+  Del3-makes K l r a b =
+      look (loneH l) (loneH-is l) λ p d. look (inside p r) (inside-is p r) λ c e.
+      let (m, n) = made-⧺ A (c .0) (hvar p (c .1)) .0 (rw e at b) in
+      answers (((m, tt), ((n .1, tt), tt)), tt)
+
+  D2-makes : MakesEqn rules.D2
+  D2-makes K l r a b =
+      look (firstTerm l) (firstTerm-is l) λ c p. look (firstTerm r) (firstTerm-is r) λ d q.
+      test _ λ _ _.
+      let m = made-⧺ A (c .0) (c .1) .0 (rw (p .0) at a) in
+      let n = made-⧺ A (d .0) (d .1) .0 (rw (q .0) at b) in
+      answers (((m .0, n .0), ((m .1, n .1), tt)), tt)
+
+  D0-makes : MakesEqn rules.D0
+  D0-makes K l r a b =
+      look (loneNode l) (loneNode-is l) λ c p. look (loneNode r) (loneNode-is r) λ d q.
+      test _ λ _ _. let m = rw p at a in let n = rw q at b in answers (((m .1, n .1), tt), tt)
+
+  E1-makes : MakesEqn rules.E1
+  E1-makes K l r a b =
+      look (loneT l) (loneT-is l) λ x p. look (loneTerm r) (loneTerm-is r) λ t q.
+      test _ λ _ _. test _ λ _ _. test _ λ _ _.
+      let m = rw p at a in let n = rw (q .0) at b in
+      answers ((((m, n), tt), tt, setT-made A x t n), tt)
+
+  E2-makes : MakesEqn rules.E2
+  E2-makes K l r a b =
+      look (loneH l) (loneH-is l) λ p e.
+      test _ λ _ _. test _ λ _ _. test _ λ _ _.
+      let m = rw e at a in answers ((((m, b), tt), tt, setH-made A p r b), tt)
+
+  cuts-made : (p : HedgeVar) (h rest t : Hedge) → A (aVariable (hv p)) → Made A h → Made A rest → Made A t → Each MadeBranch (map (cutResult p h rest) (cuts t))
+  cuts-made p h rest t a b c d = each-map (CutOf t) MadeBranch (cutResult p h rest) one (cuts t) (cuts-join t)
+    where
+      one : (k : Hedge × Hedge) → CutOf t k → MadeBranch (cutResult p h rest k)
+      one k e =
+          let (m, n) = made-⧺ A (k .0) (k .1) .0 (rw e d) in
+          ((((a, tt), m), tt), ((b, made-⧺ A (k .1) rest .1 (n, c)), tt), setH-made A p (k .0) m)
+
+  E3-makes : MakesEqn rules.E3
+  E3-makes K l r a b =
+      look (firstRun l) (firstRun-is l) λ c e.
+      test _ λ _ _. test _ λ _ _. test _ λ _ _.
+      let m = rw e at a in answers (cuts-made (c .0) (c .1) ε r (m .0) (m .1) tt b)
+
+  E4-makes : MakesEqn rules.E4
+  E4-makes K l r a b =
+      look (firstRun l) (firstRun-is l) λ c e.
+      test _ λ _ _.
+      look (upTo (c .0) r) (upTo-is (c .0) r) λ d u.
+      let m = rw e at a in
+      let n = made-⧺ A (d .0) (d .1) .0 (rw (u .whole) at b) in
+      answers (cuts-made (c .0) (c .1) (d .1) (d .0) (m .0) (m .1) (n .1) (n .0))
+
+  E5-makes : MakesEqn rules.E5
+  E5-makes K l r a b =
+      look (loneNode l) (loneNode-is l) λ c p. look (asBlank (c .0)) (asBlank-is (c .0)) λ X s. look (loneNode r) (loneNode-is r) λ d q.
+      test _ λ _ _. test _ λ _ _. test _ λ _ _. test _ λ _ _. test _ λ _ _.
+      let m = rw (p, s) at a in let n = rw q at b in
+      answers (((((m .0, tt, tt), (n .0, tt, tt)), tt), tt, setF-made A X (d .0) (n .0)), tt)
+
+  E6-makes : MakesEqn rules.E6
+  E6-makes K l r a b =
+      look (loneNode l) (loneNode-is l) λ c p. look (asBlank (c .0)) (asBlank-is (c .0)) λ X s. look (loneNode r) (loneNode-is r) λ d q.
+      test _ λ _ _. test _ λ _ _.
+      let m = rw (p, s) at a in let n = rw q at b in
+      answers (((((m .0, tt, tt), (n .0, tt, tt)), tt), (((n .0, m .1, tt), (n .0, n .1, tt)), tt), setF-made A X (d .0) (n .0)), tt)
+
+  -- ---- memberships
+
+  R2-makes : MakesMem rules.R2
+  R2-makes K h R a b = test _ λ _ _. test _ λ _ _. answers (tt, tt)
+
+  F5-makes : MakesMem rules.F5
+  F5-makes K h R a b =
+      look (loneNode h) (loneNode-is h) λ c p. look (asSymbol (c .0)) (asSymbol-is (c .0)) λ f s. look (asOver R) (asOver-is R) λ g q.
+      test _ λ _ _. answers tt
+
+  F6-makes : MakesMem rules.F6
+  F6-makes K h R a b = test _ λ _ _. test _ λ _ _. answers tt
+
+  F7-makes : MakesMem rules.F7
+  F7-makes K h R a b = test _ λ _ _. test _ λ _ _. answers tt
+
+  vanish-made : (h : Hedge) → Made A h → MadeC A (vanish h)
+  vanish-made ε m = tt
+  vanish-made (tvar x r) m = vanish-made r (m .1)
+  vanish-made (hvar p r) m = (((m .0, tt), tt), vanish-made r (m .1))
+  vanish-made (node f c r) m = vanish-made r (m .2)
+
+  M1-makes : MakesMem rules.M1
+  M1-makes K h R a b = test _ λ _ _. test _ λ _ _. test _ λ _ _. answers ((vanish-made h a, tt, emptied-made A h), tt)
+
+  M2-makes : MakesMem rules.M2
+  M2-makes K h R a b =
+      look (firstTerm h) (firstTerm-is h) λ c p.
+      test _ λ _ _. test _ λ _ _.
+      let n = made-⧺ A (c .0) (c .1) .0 (rw (p .0) at a) in
+      answers (each-map (MadeMonomial A) MadeBranch (monomialResult (c .0) (c .1)) (λ m k. ((n .0, (k .0, k .1)), ((n .1, k .2), tt))) (linear R) (linear-made A R b))
+
+  M3-makes : MakesMem rules.M3
+  M3-makes K h R a b =
+      look (firstRun h) (firstRun-is h) λ c e.
+      test _ λ _ _.
+      look (asOver R) (asOver-is R) λ g q.
+      let m = rw e at a in
+      answers (((((m .0, tt), b), ((m .1, tt), tt))), (((((m .0, tt), tt), ((m .1, b), tt))), tt))
+
+  M4-makes : MakesMem rules.M4
+  M4-makes K h R a b =
+      look (loneTerm h) (loneTerm-is h) λ t p. look (asStar R) (asStar-is R) λ S q.
+      let m = rw (p .0) at a in let n = rw q at b in answers (((m, n), tt), tt)
+
+  M5-makes : MakesMem rules.M5
+  M5-makes K h R a b =
+      look (loneTerm h) (loneTerm-is h) λ t p. look (asCat R) (asCat-is R) λ S q.
+      let m = rw (p .0) at a in let n = rw q at b in answers (((m, n .0), ((tt, n .1), tt)), (((tt, n .0), ((m, n .1), tt)), tt))
+
+  M6-makes : MakesMem rules.M6
+  M6-makes K h R a b =
+      look (loneTerm h) (loneTerm-is h) λ t p. look (asAlt R) (asAlt-is R) λ S q.
+      let m = rw (p .0) at a in let n = rw q at b in answers (((m, n .0), tt), (((m, n .1), tt), tt))
+
+  M7-makes : MakesMem rules.M7
+  M7-makes K h R a b =
+      look (firstRun h) (firstRun-is h) λ c e. look (asAlt R) (asAlt-is R) λ S q.
+      let n = rw q at b in answers (((a, n .0), tt), (((a, n .1), tt), tt))
+
+  M10-makes : MakesMem rules.M10
+  M10-makes K h R a b =
+      look (loneNode h) (loneNode-is h) λ c p. look (asBlank (c .0)) (asBlank-is (c .0)) λ X s. look (asOver R) (asOver-is R) λ g q.
+      let m = rw (p, s) at a in let n = rw q at b in
+      answers (((((m .0, tt, tt), (n .0, tt, tt)), tt), (((n .0, m .1, tt), b), tt), setF-made A X (symbol (g .0)) (n .0)), tt)
+
+  M11-makes : MakesMem rules.M11
+  M11-makes K h R a b =
+      look (loneNode h) (loneNode-is h) λ c p. look (asSymbol (c .0)) (asSymbol-is (c .0)) λ f s. look (asOver R) (asOver-is R) λ g q.
+      test _ λ _ _. let m = rw p at a in let n = rw q at b in answers (((m .1, n .1), tt), tt)
+
+  -- ---- at a place
+
+  place-made : (before behind : Conj) (b : Branch) → MadeC A before → MadeC A behind → MadeBranch b → MadeC A (place before behind b)
+  place-made before behind (plain ls) m n p = made-++ A before _ .1 (m, made-++ A ls behind .1 (p, n))
+  place-made before behind (elims es ls s) m n p =
+      made-++ A (putC s before) _ .1
+      (putC-made A s (p .2) before m, made-++ A es _ .1 (p .0, made-++ A (putC s ls) _ .1 (putC-made A s (p .2) ls (p .1), putC-made A s (p .2) behind n)))
+
+  abbrev RuleMakes : Rule → Type 0
+  RuleMakes (onEqn rule) = MakesEqn rule
+  RuleMakes (onMem rule) = MakesMem rule
+
+  sided-makes : (rule : Rule) → RuleMakes rule → (swap : Bool) (K : Conj) (l : Literal) → MadeL A l → MadeAnswer (sided swap rule K l)
+  sided-makes (onEqn rule) p false K (eqn l r) m = p K l r (m .0) (m .1)
+  sided-makes (onEqn rule) p true K (eqn l r) m = p K r l (m .1) (m .0)
+  sided-makes (onEqn rule) p false K (mem h R) m = record { given = tt }
+  sided-makes (onEqn rule) p true K (mem h R) m = record { given = tt }
+  sided-makes (onMem rule) p false K (eqn l r) m = record { given = tt }
+  sided-makes (onMem rule) p true K (eqn l r) m = record { given = tt }
+  sided-makes (onMem rule) p false K (mem h R) m = p K h R (m .0) (m .1)
+  sided-makes (onMem rule) p true K (mem h R) m = record { given = tt }
+
+  -- made of what k is made of
+  abbrev MadeLike : Conj → List Conj → Type 0
+  MadeLike k ks = MadeC A k → Each (MadeC A) ks
+
+  at-literal-made : (before behind : Conj) (w : Answer) → MadeC A before → MadeC A behind → MadeAnswer w
+      → Where (Each (MadeC A)) (Option·map (map (place before behind)) w)
+  at-literal-made before behind none m n p = tt
+  at-literal-made before behind (some bs) m n p = each-map MadeBranch (MadeC A) (place before behind) (λ b q. place-made before behind b m n q) bs (p .given)
+
+  rule-makes : (rule : Rule) → RuleMakes rule → AtSides MadeLike rule
+  rule-makes rule p swap before l behind ks e m =
+      let (x, y) = made-++ A before (l ∷ behind) .0 m in
+      where-some (Each (MadeC A)) (sidedAt swap rule before l behind) ks
+      (at-literal-made before behind (sided swap rule (before ++ behind) l) x (y .1) (sided-makes rule p swap (before ++ behind) l (y .0))) e
+
+  -- A rule's results, wherever it applies, are made of what the conjunction is made of.
+  pub each-rule-makes : Each (AtSides MadeLike) rules.rules
+  each-rule-makes =
+      each-imp RuleMakes (AtSides MadeLike) rule-makes rules.rules
+      (R1-makes also R2-makes
+      also F1-makes also F2-makes also F3-makes also F4-makes also F5-makes also F6-makes also F7-makes
+      also Del1-makes also Del3-makes
+      also D2-makes also D0-makes
+      also E1-makes also E2-makes also E3-makes also E4-makes also E5-makes also E6-makes
+      also M1-makes also M2-makes also M3-makes also M4-makes also M5-makes also M6-makes also M7-makes also M10-makes also M11-makes
+      also tt)
+
+  pub step-made : (k : Conj) (ks : List Conj) → step k ≡ some ks → MadeC A k → Each (MadeC A) ks
+  step-made = step-at-places MadeLike (each-at-places MadeLike each-rule-makes)
