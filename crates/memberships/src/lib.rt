@@ -1,0 +1,2 @@
+// The first rule at a membership, and the plan of its results.
+pub mod rank;
