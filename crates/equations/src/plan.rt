@@ -71,42 +71,18 @@ fn plan_r1(k: &[u16], v: View) -> Plan
     ensures { λ p. ⌜ Plans R1 (now (k .entry)) v p ⌝ }
 {
     let slots = [
-        Slot {
-            piece: Piece::Copy(0, v.at),
-        },
-        Slot {
-            piece: Piece::Copy(v.end, v.len),
-        },
-        Slot {
-            piece: Piece::Copy(0, 0),
-        },
-        Slot {
-            piece: Piece::Copy(0, 0),
-        },
-        Slot {
-            piece: Piece::Copy(0, 0),
-        },
-        Slot {
-            piece: Piece::Copy(0, 0),
-        },
-        Slot {
-            piece: Piece::Copy(0, 0),
-        },
-        Slot {
-            piece: Piece::Copy(0, 0),
-        },
-        Slot {
-            piece: Piece::Copy(0, 0),
-        },
-        Slot {
-            piece: Piece::Copy(0, 0),
-        },
-        Slot {
-            piece: Piece::Copy(0, 0),
-        },
-        Slot {
-            piece: Piece::Copy(0, 0),
-        },
+        Slot { piece: Piece::Copy(0, v.at) },
+        Slot { piece: Piece::Copy(v.end, v.len) },
+        Slot { piece: Piece::Copy(0, 0) },
+        Slot { piece: Piece::Copy(0, 0) },
+        Slot { piece: Piece::Copy(0, 0) },
+        Slot { piece: Piece::Copy(0, 0) },
+        Slot { piece: Piece::Copy(0, 0) },
+        Slot { piece: Piece::Copy(0, 0) },
+        Slot { piece: Piece::Copy(0, 0) },
+        Slot { piece: Piece::Copy(0, 0) },
+        Slot { piece: Piece::Copy(0, 0) },
+        Slot { piece: Piece::Copy(0, 0) },
     ];
     plan_by(Ways::One(0), slots, 0, 0, 0)
 }
@@ -118,42 +94,18 @@ fn plan_del1(k: &[u16], v: View) -> Plan
     let l = v.l;
     let r = v.r;
     let slots = [
-        Slot {
-            piece: Piece::Copy(0, v.at),
-        },
-        Slot {
-            piece: Piece::Word(5000),
-        },
-        Slot {
-            piece: Piece::Copy(l.rest, l.to),
-        },
-        Slot {
-            piece: Piece::Copy(r.rest, r.to),
-        },
-        Slot {
-            piece: Piece::Copy(v.end, v.len),
-        },
-        Slot {
-            piece: Piece::Copy(0, 0),
-        },
-        Slot {
-            piece: Piece::Copy(0, 0),
-        },
-        Slot {
-            piece: Piece::Copy(0, 0),
-        },
-        Slot {
-            piece: Piece::Copy(0, 0),
-        },
-        Slot {
-            piece: Piece::Copy(0, 0),
-        },
-        Slot {
-            piece: Piece::Copy(0, 0),
-        },
-        Slot {
-            piece: Piece::Copy(0, 0),
-        },
+        Slot { piece: Piece::Copy(0, v.at) },
+        Slot { piece: Piece::Word(5000) },
+        Slot { piece: Piece::Copy(l.rest, l.to) },
+        Slot { piece: Piece::Copy(r.rest, r.to) },
+        Slot { piece: Piece::Copy(v.end, v.len) },
+        Slot { piece: Piece::Copy(0, 0) },
+        Slot { piece: Piece::Copy(0, 0) },
+        Slot { piece: Piece::Copy(0, 0) },
+        Slot { piece: Piece::Copy(0, 0) },
+        Slot { piece: Piece::Copy(0, 0) },
+        Slot { piece: Piece::Copy(0, 0) },
+        Slot { piece: Piece::Copy(0, 0) },
     ];
     plan_by(Ways::One(0), slots, 0, 0, 0)
 }
@@ -165,42 +117,18 @@ fn plan_d2(k: &[u16], v: View) -> Plan
     let l = v.l;
     let r = v.r;
     let slots = [
-        Slot {
-            piece: Piece::Copy(0, v.at),
-        },
-        Slot {
-            piece: Piece::Word(5000),
-        },
-        Slot {
-            piece: Piece::Copy(l.from, l.rest),
-        },
-        Slot {
-            piece: Piece::Word(0),
-        },
-        Slot {
-            piece: Piece::Copy(r.from, r.rest),
-        },
-        Slot {
-            piece: Piece::Word(0),
-        },
-        Slot {
-            piece: Piece::Word(5000),
-        },
-        Slot {
-            piece: Piece::Copy(l.rest, l.to),
-        },
-        Slot {
-            piece: Piece::Copy(r.rest, r.to),
-        },
-        Slot {
-            piece: Piece::Copy(v.end, v.len),
-        },
-        Slot {
-            piece: Piece::Copy(0, 0),
-        },
-        Slot {
-            piece: Piece::Copy(0, 0),
-        },
+        Slot { piece: Piece::Copy(0, v.at) },
+        Slot { piece: Piece::Word(5000) },
+        Slot { piece: Piece::Copy(l.from, l.rest) },
+        Slot { piece: Piece::Word(0) },
+        Slot { piece: Piece::Copy(r.from, r.rest) },
+        Slot { piece: Piece::Word(0) },
+        Slot { piece: Piece::Word(5000) },
+        Slot { piece: Piece::Copy(l.rest, l.to) },
+        Slot { piece: Piece::Copy(r.rest, r.to) },
+        Slot { piece: Piece::Copy(v.end, v.len) },
+        Slot { piece: Piece::Copy(0, 0) },
+        Slot { piece: Piece::Copy(0, 0) },
     ];
     plan_by(Ways::One(0), slots, 0, 0, 0)
 }
@@ -216,42 +144,18 @@ fn plan_d0(k: &[u16], v: View) -> Plan
     let right = forth(k, r.from);
     let right_to = back(r.to);
     let slots = [
-        Slot {
-            piece: Piece::Copy(0, v.at),
-        },
-        Slot {
-            piece: Piece::Word(5000),
-        },
-        Slot {
-            piece: Piece::Copy(left, left_to),
-        },
-        Slot {
-            piece: Piece::Copy(right, right_to),
-        },
-        Slot {
-            piece: Piece::Copy(v.end, v.len),
-        },
-        Slot {
-            piece: Piece::Copy(0, 0),
-        },
-        Slot {
-            piece: Piece::Copy(0, 0),
-        },
-        Slot {
-            piece: Piece::Copy(0, 0),
-        },
-        Slot {
-            piece: Piece::Copy(0, 0),
-        },
-        Slot {
-            piece: Piece::Copy(0, 0),
-        },
-        Slot {
-            piece: Piece::Copy(0, 0),
-        },
-        Slot {
-            piece: Piece::Copy(0, 0),
-        },
+        Slot { piece: Piece::Copy(0, v.at) },
+        Slot { piece: Piece::Word(5000) },
+        Slot { piece: Piece::Copy(left, left_to) },
+        Slot { piece: Piece::Copy(right, right_to) },
+        Slot { piece: Piece::Copy(v.end, v.len) },
+        Slot { piece: Piece::Copy(0, 0) },
+        Slot { piece: Piece::Copy(0, 0) },
+        Slot { piece: Piece::Copy(0, 0) },
+        Slot { piece: Piece::Copy(0, 0) },
+        Slot { piece: Piece::Copy(0, 0) },
+        Slot { piece: Piece::Copy(0, 0) },
+        Slot { piece: Piece::Copy(0, 0) },
     ];
     plan_by(Ways::One(0), slots, 0, 0, 0)
 }
@@ -264,42 +168,18 @@ fn plan_e1(k: &[u16], v: View) -> Plan
     let r = v.r;
     let cut = back(r.to);
     let slots = [
-        Slot {
-            piece: Piece::Put(0, v.at),
-        },
-        Slot {
-            piece: Piece::Word(5000),
-        },
-        Slot {
-            piece: Piece::Copy(l.from, l.to),
-        },
-        Slot {
-            piece: Piece::Copy(r.from, r.to),
-        },
-        Slot {
-            piece: Piece::Put(v.end, v.len),
-        },
-        Slot {
-            piece: Piece::Copy(0, 0),
-        },
-        Slot {
-            piece: Piece::Copy(0, 0),
-        },
-        Slot {
-            piece: Piece::Copy(0, 0),
-        },
-        Slot {
-            piece: Piece::Copy(0, 0),
-        },
-        Slot {
-            piece: Piece::Copy(0, 0),
-        },
-        Slot {
-            piece: Piece::Copy(0, 0),
-        },
-        Slot {
-            piece: Piece::Copy(0, 0),
-        },
+        Slot { piece: Piece::Put(0, v.at) },
+        Slot { piece: Piece::Word(5000) },
+        Slot { piece: Piece::Copy(l.from, l.to) },
+        Slot { piece: Piece::Copy(r.from, r.to) },
+        Slot { piece: Piece::Put(v.end, v.len) },
+        Slot { piece: Piece::Copy(0, 0) },
+        Slot { piece: Piece::Copy(0, 0) },
+        Slot { piece: Piece::Copy(0, 0) },
+        Slot { piece: Piece::Copy(0, 0) },
+        Slot { piece: Piece::Copy(0, 0) },
+        Slot { piece: Piece::Copy(0, 0) },
+        Slot { piece: Piece::Copy(0, 0) },
     ];
     plan_by(Ways::One(cut), slots, l.from, l.rest, r.from)
 }
@@ -312,42 +192,18 @@ fn plan_e2(k: &[u16], v: View) -> Plan
     let r = v.r;
     let cut = back(r.to);
     let slots = [
-        Slot {
-            piece: Piece::Put(0, v.at),
-        },
-        Slot {
-            piece: Piece::Word(5000),
-        },
-        Slot {
-            piece: Piece::Copy(l.from, l.to),
-        },
-        Slot {
-            piece: Piece::Copy(r.from, r.to),
-        },
-        Slot {
-            piece: Piece::Put(v.end, v.len),
-        },
-        Slot {
-            piece: Piece::Copy(0, 0),
-        },
-        Slot {
-            piece: Piece::Copy(0, 0),
-        },
-        Slot {
-            piece: Piece::Copy(0, 0),
-        },
-        Slot {
-            piece: Piece::Copy(0, 0),
-        },
-        Slot {
-            piece: Piece::Copy(0, 0),
-        },
-        Slot {
-            piece: Piece::Copy(0, 0),
-        },
-        Slot {
-            piece: Piece::Copy(0, 0),
-        },
+        Slot { piece: Piece::Put(0, v.at) },
+        Slot { piece: Piece::Word(5000) },
+        Slot { piece: Piece::Copy(l.from, l.to) },
+        Slot { piece: Piece::Copy(r.from, r.to) },
+        Slot { piece: Piece::Put(v.end, v.len) },
+        Slot { piece: Piece::Copy(0, 0) },
+        Slot { piece: Piece::Copy(0, 0) },
+        Slot { piece: Piece::Copy(0, 0) },
+        Slot { piece: Piece::Copy(0, 0) },
+        Slot { piece: Piece::Copy(0, 0) },
+        Slot { piece: Piece::Copy(0, 0) },
+        Slot { piece: Piece::Copy(0, 0) },
     ];
     plan_by(Ways::One(cut), slots, l.from, l.rest, r.from)
 }
@@ -361,42 +217,18 @@ fn plan_e5(k: &[u16], v: View) -> Plan
     let until = forth(k, l.from);
     let cut = forth(k, r.from);
     let slots = [
-        Slot {
-            piece: Piece::Put(0, v.at),
-        },
-        Slot {
-            piece: Piece::Word(5000),
-        },
-        Slot {
-            piece: Piece::Copy(l.from, l.to),
-        },
-        Slot {
-            piece: Piece::Copy(r.from, r.to),
-        },
-        Slot {
-            piece: Piece::Put(v.end, v.len),
-        },
-        Slot {
-            piece: Piece::Copy(0, 0),
-        },
-        Slot {
-            piece: Piece::Copy(0, 0),
-        },
-        Slot {
-            piece: Piece::Copy(0, 0),
-        },
-        Slot {
-            piece: Piece::Copy(0, 0),
-        },
-        Slot {
-            piece: Piece::Copy(0, 0),
-        },
-        Slot {
-            piece: Piece::Copy(0, 0),
-        },
-        Slot {
-            piece: Piece::Copy(0, 0),
-        },
+        Slot { piece: Piece::Put(0, v.at) },
+        Slot { piece: Piece::Word(5000) },
+        Slot { piece: Piece::Copy(l.from, l.to) },
+        Slot { piece: Piece::Copy(r.from, r.to) },
+        Slot { piece: Piece::Put(v.end, v.len) },
+        Slot { piece: Piece::Copy(0, 0) },
+        Slot { piece: Piece::Copy(0, 0) },
+        Slot { piece: Piece::Copy(0, 0) },
+        Slot { piece: Piece::Copy(0, 0) },
+        Slot { piece: Piece::Copy(0, 0) },
+        Slot { piece: Piece::Copy(0, 0) },
+        Slot { piece: Piece::Copy(0, 0) },
     ];
     plan_by(Ways::One(cut), slots, l.from, until, r.from)
 }
@@ -410,42 +242,18 @@ fn plan_e6(k: &[u16], v: View) -> Plan
     let until = forth(k, l.from);
     let cut = forth(k, r.from);
     let slots = [
-        Slot {
-            piece: Piece::Put(0, v.at),
-        },
-        Slot {
-            piece: Piece::Word(5000),
-        },
-        Slot {
-            piece: Piece::Copy(l.from, until),
-        },
-        Slot {
-            piece: Piece::Word(0),
-        },
-        Slot {
-            piece: Piece::Word(0),
-        },
-        Slot {
-            piece: Piece::Copy(r.from, cut),
-        },
-        Slot {
-            piece: Piece::Word(0),
-        },
-        Slot {
-            piece: Piece::Word(0),
-        },
-        Slot {
-            piece: Piece::Word(5000),
-        },
-        Slot {
-            piece: Piece::Put(l.from, l.to),
-        },
-        Slot {
-            piece: Piece::Put(r.from, r.to),
-        },
-        Slot {
-            piece: Piece::Put(v.end, v.len),
-        },
+        Slot { piece: Piece::Put(0, v.at) },
+        Slot { piece: Piece::Word(5000) },
+        Slot { piece: Piece::Copy(l.from, until) },
+        Slot { piece: Piece::Word(0) },
+        Slot { piece: Piece::Word(0) },
+        Slot { piece: Piece::Copy(r.from, cut) },
+        Slot { piece: Piece::Word(0) },
+        Slot { piece: Piece::Word(0) },
+        Slot { piece: Piece::Word(5000) },
+        Slot { piece: Piece::Put(l.from, l.to) },
+        Slot { piece: Piece::Put(r.from, r.to) },
+        Slot { piece: Piece::Put(v.end, v.len) },
     ];
     plan_by(Ways::One(cut), slots, l.from, until, r.from)
 }
@@ -458,42 +266,18 @@ fn plan_e3(k: &[u16], v: View) -> Plan
     let r = v.r;
     let terms = all_terms(k, r.from);
     let slots = [
-        Slot {
-            piece: Piece::Put(0, v.at),
-        },
-        Slot {
-            piece: Piece::Word(5000),
-        },
-        Slot {
-            piece: Piece::Copy(l.from, l.rest),
-        },
-        Slot {
-            piece: Piece::Word(0),
-        },
-        Slot {
-            piece: Piece::ToCut(r.from),
-        },
-        Slot {
-            piece: Piece::Word(0),
-        },
-        Slot {
-            piece: Piece::Word(5000),
-        },
-        Slot {
-            piece: Piece::Put(l.rest, l.to),
-        },
-        Slot {
-            piece: Piece::PutFromCut(r.to),
-        },
-        Slot {
-            piece: Piece::Put(v.end, v.len),
-        },
-        Slot {
-            piece: Piece::Copy(0, 0),
-        },
-        Slot {
-            piece: Piece::Copy(0, 0),
-        },
+        Slot { piece: Piece::Put(0, v.at) },
+        Slot { piece: Piece::Word(5000) },
+        Slot { piece: Piece::Copy(l.from, l.rest) },
+        Slot { piece: Piece::Word(0) },
+        Slot { piece: Piece::ToCut(r.from) },
+        Slot { piece: Piece::Word(0) },
+        Slot { piece: Piece::Word(5000) },
+        Slot { piece: Piece::Put(l.rest, l.to) },
+        Slot { piece: Piece::PutFromCut(r.to) },
+        Slot { piece: Piece::Put(v.end, v.len) },
+        Slot { piece: Piece::Copy(0, 0) },
+        Slot { piece: Piece::Copy(0, 0) },
     ];
     let cuts = terms.count + 1;
     plan_by(Ways::Cuts(r.from, cuts), slots, l.from, l.rest, r.from)
@@ -507,42 +291,18 @@ fn plan_e4(k: &[u16], v: View) -> Plan
     let r = v.r;
     let ahead = up_to(k, r.from, word(k, l.from));
     let slots = [
-        Slot {
-            piece: Piece::Put(0, v.at),
-        },
-        Slot {
-            piece: Piece::Word(5000),
-        },
-        Slot {
-            piece: Piece::Copy(l.from, l.rest),
-        },
-        Slot {
-            piece: Piece::Word(0),
-        },
-        Slot {
-            piece: Piece::ToCut(r.from),
-        },
-        Slot {
-            piece: Piece::Word(0),
-        },
-        Slot {
-            piece: Piece::Word(5000),
-        },
-        Slot {
-            piece: Piece::Put(l.rest, l.to),
-        },
-        Slot {
-            piece: Piece::PutFromCut(r.to),
-        },
-        Slot {
-            piece: Piece::Put(v.end, v.len),
-        },
-        Slot {
-            piece: Piece::Copy(0, 0),
-        },
-        Slot {
-            piece: Piece::Copy(0, 0),
-        },
+        Slot { piece: Piece::Put(0, v.at) },
+        Slot { piece: Piece::Word(5000) },
+        Slot { piece: Piece::Copy(l.from, l.rest) },
+        Slot { piece: Piece::Word(0) },
+        Slot { piece: Piece::ToCut(r.from) },
+        Slot { piece: Piece::Word(0) },
+        Slot { piece: Piece::Word(5000) },
+        Slot { piece: Piece::Put(l.rest, l.to) },
+        Slot { piece: Piece::PutFromCut(r.to) },
+        Slot { piece: Piece::Put(v.end, v.len) },
+        Slot { piece: Piece::Copy(0, 0) },
+        Slot { piece: Piece::Copy(0, 0) },
     ];
     let cuts = ahead.count + 1;
     plan_by(Ways::Cuts(r.from, cuts), slots, l.from, l.rest, r.from)
@@ -557,42 +317,18 @@ fn plan_del3(k: &[u16], v: View) -> Plan
     let spot = inside(k, r.from, word(k, l.from));
     let next = forth(k, spot.place);
     let slots = [
-        Slot {
-            piece: Piece::Copy(0, v.at),
-        },
-        Slot {
-            piece: Piece::Word(5000),
-        },
-        Slot {
-            piece: Piece::Copy(r.from, spot.place),
-        },
-        Slot {
-            piece: Piece::Word(0),
-        },
-        Slot {
-            piece: Piece::Word(0),
-        },
-        Slot {
-            piece: Piece::Word(5000),
-        },
-        Slot {
-            piece: Piece::Copy(next, r.to),
-        },
-        Slot {
-            piece: Piece::Word(0),
-        },
-        Slot {
-            piece: Piece::Copy(v.end, v.len),
-        },
-        Slot {
-            piece: Piece::Copy(0, 0),
-        },
-        Slot {
-            piece: Piece::Copy(0, 0),
-        },
-        Slot {
-            piece: Piece::Copy(0, 0),
-        },
+        Slot { piece: Piece::Copy(0, v.at) },
+        Slot { piece: Piece::Word(5000) },
+        Slot { piece: Piece::Copy(r.from, spot.place) },
+        Slot { piece: Piece::Word(0) },
+        Slot { piece: Piece::Word(0) },
+        Slot { piece: Piece::Word(5000) },
+        Slot { piece: Piece::Copy(next, r.to) },
+        Slot { piece: Piece::Word(0) },
+        Slot { piece: Piece::Copy(v.end, v.len) },
+        Slot { piece: Piece::Copy(0, 0) },
+        Slot { piece: Piece::Copy(0, 0) },
+        Slot { piece: Piece::Copy(0, 0) },
     ];
     plan_by(Ways::One(0), slots, 0, 0, 0)
 }
@@ -601,9 +337,7 @@ fn plan_del3(k: &[u16], v: View) -> Plan
 fn plan_drop() -> Plan
     ensures { λ p. ⌜ p ≡ planBy Drop (blankRecipe .slots) 0 0 0 ⌝ }
 {
-    let slots = [Slot {
-        piece: Piece::Copy(0, 0),
-    }; 12];
+    let slots = [Slot { piece: Piece::Copy(0, 0) }; 12];
     plan_by(Ways::Drop, slots, 0, 0, 0)
 }
 
