@@ -141,14 +141,14 @@ pub fn lone(place: usize, past: usize, i: usize) -> Spot
 pub fn lay_part(k: &[u16], from: usize, until: usize, out: &mut [u16], at: usize) -> usize
     ensures { λ e. ⌜ Laid (now (out .entry)) at (slice from until (now (k .entry))) (now (out .exit)) e ⌝ }
 {
-    let n = pieces::part_len(k, from, until);
+    let n = pieces::copying::part_len(k, from, until);
     if out.len() < at {
         return at;
     }
     if out.len() - at < n {
         return at;
     }
-    pieces::copy(k, from, until, out, at)
+    pieces::copying::copy(k, from, until, out, at)
 }
 
 // A part more in the rest of a monomial that is met, written after its other parts.
@@ -332,9 +332,9 @@ pub fn result_len(k: &[u16], s: Shape, p: Spot) -> usize
     requires { ⌜ (length (now k) ≤ 1024) × Bounded p ⌝ }
     ensures { λ n. ⌜ n ≡ resultLength (now (k .entry)) s p ⌝ }
 {
-    let a = pieces::made_len(k, front(s, p), 0);
+    let a = pieces::making::made_len(k, front(s, p), 0);
     let b = opening_len(p.parts);
-    let c = pieces::part_len(k, s.end, s.len);
+    let c = pieces::copying::part_len(k, s.end, s.len);
     a + (b + p.words) + c
 }
 
@@ -396,10 +396,10 @@ pub fn write_monomial(
     ensures { λ e. ⌜ Result (now (k .entry)) s i p (now (out .entry)) at (now (out .exit)) e ⌝ }
 {
     out[at] = one as u16;
-    let a = pieces::write_made(k, front(s, p), 0, out, at + 1);
+    let a = pieces::making::write_made(k, front(s, p), 0, out, at + 1);
     let b = open_rest(out, a, p.parts);
     seek(k, s.expr, i, out, b);
-    pieces::copy(k, s.end, s.len, out, b + p.words)
+    pieces::copying::copy(k, s.end, s.len, out, b + p.words)
 }
 
 // M2's results, each with its length before it; what has no room or is too long is not written.
