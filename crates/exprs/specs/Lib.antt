@@ -1,0 +1,4 @@
+pub mod Standing
+pub mod Loose
+pub mod Spots
+pub mod Results
