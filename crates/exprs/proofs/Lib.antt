@@ -8,3 +8,4 @@ pub mod Rests
 pub mod Rows
 pub mod Steps
 pub mod Written
+pub mod Drawn

@@ -2,3 +2,4 @@ pub mod Standing
 pub mod Loose
 pub mod Spots
 pub mod Results
+pub mod Samples

@@ -1,25 +1,29 @@
 // Expressions standing in words: where one ends and whether it is nullable, the monomials of its linear form, its sample.
+pub mod results;
+pub mod samples;
+pub use results::size_monomials;
+pub use results::write_monomials;
+
 ghost use mathlib.Core.Path.{_≡_};
 ghost use mathlib.Core.Bool.{_&&_, _||_};
 ghost use Prim.Native.Nat.{_≤_, _+_};
 ghost use lib.ListN.{length};
 ghost use lib.Seq.{slice};
 ghost use Rattle.exprs.specs.Standing.{Parted};
-ghost use Rattle.pieces.specs.Written.{Wrote};
-ghost use Rattle.exprs.specs.Loose.{opening};
-ghost use Rattle.exprs.specs.Spots.{further, only, Laid, Tacked, Bounded, Sought};
-ghost use Rattle.exprs.specs.Results.{Looked, frontOf, resultLength, Result, Sized, Written};
-use plans::Piece;
-use plans::Recipe;
-use plans::Shape;
-use plans::Size;
-use plans::Slot;
+ghost use Rattle.exprs.specs.Spots.{further, only, Laid, Tacked, Sought};
+ghost use Rattle.exprs.specs.Results.{Looked};
 
 // Of an expression in the words: the place after it, whether it is nullable, whether it is eps.
 pub struct Part {
     pub end: usize,
     pub null: bool,
     pub bare: bool,
+}
+
+// Of an expression in the words: the place after it, and how many words its sample has.
+pub struct Sample {
+    pub end: usize,
+    pub len: usize,
 }
 
 pub fn both(a: bool, b: bool) -> bool
@@ -265,167 +269,4 @@ pub fn find(k: &[u16], at: usize, i: usize) -> Found
 {
     let mut none = [0; 1];
     seek(k, at, i, &mut none, 1)
-}
-
-// ---- the results of M2
-
-// What stands before the rest in a result.
-pub fn front(s: Shape, p: Spot) -> Recipe
-    ensures { λ r. ⌜ r ≡ frontOf s p ⌝ }
-{
-    let h = s.h;
-    let slots = [
-        Slot {
-            piece: Piece::Copy(0, s.at),
-        },
-        Slot {
-            piece: Piece::Word(6000),
-        },
-        Slot {
-            piece: Piece::Copy(h.from, h.rest),
-        },
-        Slot {
-            piece: Piece::Word(0),
-        },
-        Slot {
-            piece: Piece::Copy(p.place, p.past),
-        },
-        Slot {
-            piece: Piece::Word(6000),
-        },
-        Slot {
-            piece: Piece::Copy(h.rest, h.to),
-        },
-        Slot {
-            piece: Piece::Copy(0, 0),
-        },
-        Slot {
-            piece: Piece::Copy(0, 0),
-        },
-        Slot {
-            piece: Piece::Copy(0, 0),
-        },
-        Slot {
-            piece: Piece::Copy(0, 0),
-        },
-        Slot {
-            piece: Piece::Copy(0, 0),
-        },
-    ];
-    Recipe {
-        slots,
-        old: 0,
-        until: 0,
-        new: 0,
-    }
-}
-
-// How many words stand before the parts of a rest.
-pub fn opening_len(parts: usize) -> usize
-    ensures { λ n. ⌜ n ≡ length (opening parts) ⌝ }
-{
-    if parts == 0 { 1 } else { parts - 1 }
-}
-
-// How long a result is.
-pub fn result_len(k: &[u16], s: Shape, p: Spot) -> usize
-    requires { ⌜ (length (now k) ≤ 1024) × Bounded p ⌝ }
-    ensures { λ n. ⌜ n ≡ resultLength (now (k .entry)) s p ⌝ }
-{
-    let a = pieces::making::made_len(k, front(s, p), 0);
-    let b = opening_len(p.parts);
-    let c = pieces::copying::part_len(k, s.end, s.len);
-    a + (b + p.words) + c
-}
-
-// How many words M2's results take, each with its length before it; or that one of them is too long.
-pub fn size_monomials(k: &[u16], s: Shape) -> Size
-    requires { ⌜ length (now k) ≤ 1024 ⌝ }
-    ensures { λ n. ⌜ Sized (now (k .entry)) s n ⌝ }
-{
-    let expr = s.expr;
-    let mut n: usize = 0;
-    let mut i = 0;
-    while i < k.len() {
-        let f = find(k, expr, i);
-        let p = f.spot;
-        let hit = p.hit;
-        if !hit {
-            return Size::Fits(n);
-        }
-        let one = result_len(k, s, p);
-        if 1024 < one {
-            return Size::Over;
-        }
-        n = pieces::grow(n, one);
-        i += 1;
-    }
-    Size::Fits(n)
-}
-
-// What stands before the parts of a rest.
-pub fn open_rest(out: &mut [u16], at: usize, parts: usize) -> usize
-    requires { ⌜ at + length (opening parts) ≤ length (now out) ⌝ }
-    ensures { λ e. ⌜ Wrote (now (out .entry)) at (opening parts) (now (out .exit)) e ⌝ }
-{
-    if parts == 0 {
-        out[at] = 7000;
-        return at + 1;
-    }
-    let mut left = parts - 1;
-    let mut e = at;
-    while left != 0 {
-        out[e] = 7001;
-        e += 1;
-        left -= 1;
-    }
-    e
-}
-
-// A result with its length before it.
-pub fn write_monomial(
-    k: &[u16],
-    s: Shape,
-    i: usize,
-    p: Spot,
-    one: usize,
-    out: &mut [u16],
-    at: usize,
-) -> usize
-    requires { ⌜ (length (now k) ≤ 1024) × (one ≡ resultLength (now k) s p) × (one ≤ 1024) × (at + 1 + one ≤ length (now out)) ⌝ }
-    ensures { λ e. ⌜ Result (now (k .entry)) s i p (now (out .entry)) at (now (out .exit)) e ⌝ }
-{
-    out[at] = one as u16;
-    let a = pieces::making::write_made(k, front(s, p), 0, out, at + 1);
-    let b = open_rest(out, a, p.parts);
-    seek(k, s.expr, i, out, b);
-    pieces::copying::copy(k, s.end, s.len, out, b + p.words)
-}
-
-// M2's results, each with its length before it; what has no room or is too long is not written.
-pub fn write_monomials(k: &[u16], s: Shape, out: &mut [u16], at: usize) -> usize
-    requires { ⌜ (length (now k) ≤ 1024) × (at ≤ length (now out)) ⌝ }
-    ensures { λ e. ⌜ Written (now (k .entry)) s (now (out .entry)) at (now (out .exit)) e ⌝ }
-{
-    let expr = s.expr;
-    let mut e = at;
-    let mut i = 0;
-    while i < k.len() {
-        let f = find(k, expr, i);
-        let p = f.spot;
-        let hit = p.hit;
-        if !hit {
-            return e;
-        }
-        let one = result_len(k, s, p);
-        if 1024 < one {
-            return e;
-        }
-        if out.len() - e < one + 1 {
-            return e;
-        }
-        e = write_monomial(k, s, i, p, one, out, e);
-        i += 1;
-    }
-    e
 }

@@ -6,8 +6,8 @@ use lib.ListN.{length}
 use Rattle.exprs.specs.Loose.{joins, opening}
 use Rattle.pieces.proofs.Still.{Still, still-all, still-none, still-fits, still-run, wrote-word, wrote-as}
 use Rattle.exprs.proofs.Rests.{opening-joins, opening-none, joins-split, joins-none}
-use Rattle.exprs.proofs.open_rest.Statement.{statement}
-use Rattle.exprs.proofs.open_rest.Tie as tie
+use Rattle.exprs.proofs.results.open_rest.Statement.{statement}
+use Rattle.exprs.proofs.results.open_rest.Tie as tie
 
 abbrev Inv-loop : tie.InvT-loop
 Inv-loop out₀ at parts left₀ e₀ out left e = Still out₀ at (opening parts) out e (joins left)

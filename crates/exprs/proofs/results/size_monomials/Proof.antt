@@ -5,8 +5,8 @@ use Prim.Native.Nat.{_-_}
 use lib.ListN.{length}
 use borrow.Author.Tests.{not-true, not-false}
 use Rattle.exprs.proofs.Steps.{Counting, counting-start, counting-end, counting-last, counting-over, counting-more}
-use Rattle.exprs.proofs.size_monomials.Statement.{statement}
-use Rattle.exprs.proofs.size_monomials.Tie as tie
+use Rattle.exprs.proofs.results.size_monomials.Statement.{statement}
+use Rattle.exprs.proofs.results.size_monomials.Tie as tie
 
 abbrev Inv-loop : tie.InvT-loop
 Inv-loop k s expr n₀ i₀ n i = Counting k s n i

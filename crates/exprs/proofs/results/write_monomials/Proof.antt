@@ -5,8 +5,8 @@ use native.Mathlib.Omega.{arith}
 use Prim.Native.Nat.{_-_}
 use lib.ListN.{length}
 use Rattle.exprs.proofs.Steps.{Writing, writing-start, writing-end, writing-last, writing-over, writing-full, writing-more}
-use Rattle.exprs.proofs.write_monomials.Statement.{statement}
-use Rattle.exprs.proofs.write_monomials.Tie as tie
+use Rattle.exprs.proofs.results.write_monomials.Statement.{statement}
+use Rattle.exprs.proofs.results.write_monomials.Tie as tie
 
 abbrev Inv-loop : tie.InvT-loop
 Inv-loop k s out₀ at expr e₀ i₀ out e i = Writing k s out₀ at out e i

@@ -3,8 +3,8 @@ use borrow.Author.Needs.{needs}
 use native.Mathlib.Omega.{arith}
 use lib.ListN.{length-set}
 use Rattle.exprs.proofs.Written.{result-length, result-wrote}
-use Rattle.exprs.proofs.write_monomial.Statement.{statement}
-use Rattle.exprs.proofs.write_monomial.Tie as tie
+use Rattle.exprs.proofs.results.write_monomial.Statement.{statement}
+use Rattle.exprs.proofs.results.write_monomial.Tie as tie
 
 write-made-requires : tie.Need-write-made-requires
 write-made-requires c κs =

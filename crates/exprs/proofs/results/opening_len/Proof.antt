@@ -2,8 +2,8 @@ use borrow.Author.Needs.{needs}
 use mathlib.Core.Path.{sym, ap}
 use lib.ListN.{length}
 use Rattle.exprs.proofs.Rests.{opening-length, opening-none}
-use Rattle.exprs.proofs.opening_len.Statement.{statement}
-use Rattle.exprs.proofs.opening_len.Tie as tie
+use Rattle.exprs.proofs.results.opening_len.Statement.{statement}
+use Rattle.exprs.proofs.results.opening_len.Tie as tie
 
 returns : tie.Need-returns
 returns c = sym (ap length (opening-none _ (c .if1 .taken)))

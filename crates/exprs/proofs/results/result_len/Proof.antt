@@ -10,8 +10,8 @@ use Rattle.pieces.proofs.Parts.{part-short}
 use Rattle.exprs.specs.Results.{frontOf, frontWords, backWords, resultLength}
 use Rattle.exprs.proofs.Rests.{opening-short}
 use Rattle.exprs.proofs.Rows.{made-short}
-use Rattle.exprs.proofs.result_len.Statement.{statement}
-use Rattle.exprs.proofs.result_len.Tie as tie
+use Rattle.exprs.proofs.results.result_len.Statement.{statement}
+use Rattle.exprs.proofs.results.result_len.Tie as tie
 
 add-result : tie.Need-add-result
 add-result c = let a = c .before .before .before .before .before .before .args in let z = opening-short (a .p .parts) in let b = c .before .before .before .before .before .before .pre .1 in omega arith
