@@ -1,4 +1,4 @@
-// The search for the first rule that applies to a conjunction.
+// A step in words: the search for the first rule that applies to a conjunction, and its results in place.
 ghost use Prim.Native.Nat.{ℕ, _+_, _≤_, _<_};
 ghost use mathlib.Core.Path.{_≡_};
 ghost use mathlib.Core.List.{List, _++_};
@@ -10,25 +10,23 @@ ghost use Rattle.language.specs.Kinds.{pick};
 ghost use Rattle.language.specs.Trees.{Hedge, Expr, Literal, mem, Conj};
 ghost use Rattle.language.specs.Writing.{conjWords};
 ghost use Rattle.language.specs.Fine.{fineConj};
-ghost use Rattle.plans.specs.Views.{Sees, Shows};
 ghost use Rattle.plans.specs.Results.{resultsOf};
 ghost use Rattle.plans.specs.Sizes.{placedWords, monomialWords};
-ghost use Rattle.plans.specs.Ranks.{eqnRank, memRank, eqnAnswer, memAnswer};
 ghost use Rattle.views.specs.Standing.{LiteralAt};
 ghost use Rattle.rules.specs.Rules.{Branch};
 ghost use Rattle.search.specs.Ranking.{sideAnswer, Ranked, Found};
 ghost use Rattle.steps.specs.Taking.{Took};
-ghost use Rattle.steps.specs.Stub.{Planned, Sized, Written};
+ghost use Rattle.equations.specs.Planned.{Planned};
+use equations::plan::plan_equation;
+use equations::rank::rank_equation;
+use exprs::size_monomials;
+use exprs::write_monomials;
+use memberships::plan::plan_membership;
+use memberships::rank::rank_membership;
 use pieces::size_results;
 use pieces::write_results;
-use plans::Piece;
 use plans::Plan;
-use plans::Recipe;
-use plans::Shape;
 use plans::Size;
-use plans::Slot;
-use plans::View;
-use plans::Ways;
 use views::next_literal;
 use views::see;
 use views::show_membership;
@@ -39,18 +37,6 @@ pub struct Best {
     pub rank: usize,
     pub at: usize,
     pub swap: bool,
-}
-
-fn rank_equation(k: &[u16], v: View) -> usize
-    ensures { λ n. ⌜ ((before behind : Conj) (l r : Hedge) → Sees (now (k .entry)) v before l r behind → n ≡ eqnRank (before ++ behind) l r) ⌝ }
-{
-    0
-}
-
-fn rank_membership(k: &[u16], s: Shape) -> usize
-    ensures { λ n. ⌜ ((before behind : Conj) (h : Hedge) (R : Expr) → Shows (now (k .entry)) s before h R behind → n ≡ memRank (before ++ behind) h R) ⌝ }
-{
-    0
 }
 
 // The rank of the literal at a place: of an equation the lesser of its two sides, the written one where they are equal.
@@ -108,49 +94,6 @@ pub fn find(k: &[u16]) -> Best
         i = next;
     }
     best
-}
-
-fn plan_equation(rank: usize, k: &[u16], v: View) -> Plan
-    ensures { λ p. ⌜ ((before behind : Conj) (l r : Hedge) → Sees (now (k .entry)) v before l r behind → Planned (now (k .entry)) p before behind (eqnAnswer rank (before ++ behind) l r)) ⌝ }
-{
-    blank()
-}
-
-fn plan_membership(rank: usize, k: &[u16], s: Shape) -> Plan
-    ensures { λ p. ⌜ ((before behind : Conj) (h : Hedge) (R : Expr) → Shows (now (k .entry)) s before h R behind → (rank ≡ 20 → ⊥) → Planned (now (k .entry)) p before behind (memAnswer rank (before ++ behind) h R)) ⌝ }
-{
-    blank()
-}
-
-fn size_monomials(k: &[u16], s: Shape) -> Size
-    requires { ⌜ length (now k) ≤ 1024 ⌝ }
-    ensures { λ n. ⌜ Sized (now (k .entry)) s n ⌝ }
-{
-    Size::Over
-}
-
-fn write_monomials(k: &[u16], s: Shape, out: &mut [u16], at: usize) -> usize
-    requires { ⌜ (length (now k) ≤ 1024) × (at ≤ length (now out)) ⌝ }
-    ensures { λ e. ⌜ Written (now (k .entry)) s (now (out .entry)) at (now (out .exit)) e ⌝ }
-{
-    0
-}
-
-fn blank() -> Plan {
-    let slots = [Slot {
-        piece: Piece::Copy(0, 0),
-    }; 12];
-    let first = Recipe {
-        slots,
-        old: 0,
-        until: 0,
-        new: 0,
-    };
-    Plan {
-        ways: Ways::Drop,
-        first,
-        second: first,
-    }
 }
 
 // What a step comes to: a result is too long; the results have no room before those that wait; or they are written, from a place on.

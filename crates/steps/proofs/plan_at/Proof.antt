@@ -5,7 +5,7 @@ use mathlib.Core.Bool.{true, false}
 use borrow.Author.Needs.{needs}
 use Rattle.search.specs.Ranking.{sideAnswer}
 use Rattle.search.proofs.Walks.{at-equation, at-membership}
-use Rattle.steps.specs.Stub.{Planned}
+use Rattle.equations.specs.Planned.{Planned}
 use Rattle.steps.proofs.plan_at.Statement.{statement}
 use Rattle.steps.proofs.plan_at.Tie as tie
 
@@ -30,7 +30,7 @@ returns-3 c =
     let b = c .before .before .before .before .before .args .b in
     let k = c .before .before .before .before .before .args .k .now in
     at-membership k (b .at) (λ before l behind. (b .rank ≡ 20 → ⊥) → Planned k (c .plan-membership .result) before behind (sideAnswer (b .swap) (b .rank) (before ++ behind) l)) (c .before .before .if1 .left)
-    λ before h R behind p n. c .plan-membership .ensures before behind h R (c .before .show-membership .ensures before h R behind p) n
+    λ before h R behind p n. c .plan-membership .ensures .results n before h R behind (c .before .show-membership .ensures before h R behind p)
 
 pub plan-at-spec : {M : Type 1} → statement M
 plan-at-spec =

@@ -33,7 +33,7 @@ returns-3 : tie.Need-returns-3
 returns-3 c = (
   refl,
   at-membership (c .before .before .before .before .before .args .k .now) (c .before .before .before .before .before .args .at) (λ before l behind. Ranked (before ++ behind) l (c .rank-membership .result) false) (c .before .before .if1 .left)
-      λ before h R behind p. rank-member (before ++ behind) h R (c .rank-membership .result) (c .rank-membership .ensures before behind h R (c .before .show-membership .ensures before h R behind p)),
+      λ before h R behind p. rank-member (before ++ behind) h R (c .rank-membership .result) (c .rank-membership .ensures before h R behind (c .before .show-membership .ensures before h R behind p)),
 )
 
 pub rank-at-spec : {M : Type 1} → statement M
