@@ -18,9 +18,9 @@ use Rattle.search.proofs.Walks.{stands-here}
 use Rattle.views.specs.Standing.{LiteralAt}
 use Rattle.solver.specs.declared.State.{State}
 use Rattle.solver.specs.declared.Turned.the-variants.{On, Stop}
-use Rattle.solver.specs.declared.Stepped.{Stepped}
-use Rattle.solver.specs.declared.Stepped.the-variants.{Long, Room, Done}
-use Rattle.solver.specs.Stub.{Took, long, room, done}
+use Rattle.steps.specs.declared.Stepped.{Stepped}
+use Rattle.steps.specs.declared.Stepped.the-variants.{Long, Room, Done}
+use Rattle.steps.specs.Taking.{Took, long, room, done}
 use Rattle.solver.specs.Running.{Running, Turns}
 use Rattle.solver.proofs.Going.{placed-words, no-more-steps, step-long, step-room, step-on}
 

@@ -37,9 +37,9 @@ use Rattle.answers.proofs.Rows.{count-more, lines-size-more, open-most, length-
 use Rattle.solver.specs.declared.State.{State}
 use Rattle.solver.specs.declared.Turned.{Turned}
 use Rattle.solver.specs.declared.Turned.the-variants.{On, Stop}
-use Rattle.solver.specs.declared.Stepped.{Stepped}
-use Rattle.solver.specs.declared.Stepped.the-variants.{Long, Room, Done}
-use Rattle.solver.specs.Stub.{Took, long, room, done}
+use Rattle.steps.specs.declared.Stepped.{Stepped}
+use Rattle.steps.specs.declared.Stepped.the-variants.{Long, Room, Done}
+use Rattle.steps.specs.Taking.{Took, long, room, done}
 use Rattle.solver.specs.Running.{Running, leftOf, measure, Kept, Turns, on, stop}
 use Rattle.solver.proofs.Turns.{run-line, run-full, run-limit, run-long, run-room, run-step}
 use Rattle.solver.proofs.Lengths.{waiting-append, short-words, lines-fit, lines-many, lines-past}

@@ -18,7 +18,6 @@ ghost use Rattle.views.specs.Standing.{LiteralAt};
 ghost use Rattle.search.specs.Ranking.{sideAnswer, Found};
 ghost use Rattle.reader.specs.Checking.{checked};
 ghost use Rattle.reader.specs.declared.Checked.the-variants.{Fine};
-ghost use Rattle.solver.specs.Stub.{Took};
 ghost use Rattle.solver.specs.Running.{Running, leftOf, Turns, Begun, Ends, conjunctionsOf};
 ghost use Rattle.solver.specs.Leaves.{leaves, refusedBy, verdictFor};
 use answers::Tally;
@@ -32,35 +31,10 @@ use stack::clear;
 use stack::copy;
 use stack::lay_out;
 use stack::wide;
-
-pub struct Best {
-    pub rank: usize,
-    pub at: usize,
-    pub swap: bool,
-}
-
-pub enum Stepped {
-    Long,
-    Room,
-    Done(usize),
-}
-
-fn find(k: &[u16]) -> Best
-    ensures { λ b. ⌜ (b .rank < 28 → b .at < length (now (k .entry))) × ((c : Conj) → fineConj desk c → now (k .entry) ≡ conjWords c → Found c (b .rank) (b .at) (b .swap)) ⌝ }
-{
-    Best {
-        rank: 0,
-        at: 0,
-        swap: false,
-    }
-}
-
-fn take_step(k: &[u16], b: Best, out: &mut [u16], next: usize) -> Stepped
-    requires { ⌜ (length (now k) ≤ 1024) × (b .at < length (now k)) × (next ≤ length (now out)) × (next ≤ 8192) ⌝ }
-    ensures { λ r. ⌜ ((before : Conj) (l : Literal) (behind : Conj) (bs : List Branch) → LiteralAt (now (k .entry)) (b .at) before l behind → sideAnswer (b .swap) (b .rank) (before ++ behind) l ≡ some bs → Took (placedWords before behind bs) (now (out .entry)) next r (now (out .exit))) ⌝ }
-{
-    Stepped::Long
-}
+use steps::Best;
+use steps::Stepped;
+use steps::find;
+use steps::take_step;
 
 // Where the waiting conjunctions begin, the steps made, and the lines.
 pub struct State {
