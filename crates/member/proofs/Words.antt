@@ -2,16 +2,16 @@
 use Prim.Native.Nat.{ℕ, _+_, _<_, _≤_}
 use mathlib.Core.Path.{_≡_, refl, sym, _∙_, ap}
 use mathlib.Core.Logic.{_↔_}
-use mathlib.Core.Bool.{Bool, true, false, _&&_}
+use mathlib.Core.Bool.{Bool, true}
 use mathlib.Core.List.{List, [], _∷_, _++_, append-assoc}
 use native.Mathlib.Numerals.{add-one}
 use native.Mathlib.Omega.{arith}
-use borrow.Author.Tests.{ltb-true}
 use lib.ListN.{length, getD, drop, length-drop}
 use lib.Seq.{drop-cons}
-use Rattle.language.specs.Trees.{Expr, eps, cat, alt, star, over, Counts}
+use Rattle.language.specs.Limits.{desk}
+use Rattle.language.specs.Trees.{Expr, eps, cat, alt, star, over}
 use Rattle.language.specs.Writing.{exprWords}
-use Rattle.language.specs.Question.{declaredS, declaredE}
+use Rattle.language.specs.Fine.{fineExpr}
 use Rattle.meaning.specs.Complete.{Complete, nil, tree, completeWords}
 use Rattle.meaning.specs.Meaning.{Member}
 use Rattle.member.specs.Places.{sizeE, At, at-eps, at-cat, at-alt, at-star, at-over, sizeC, Holds, at-nil, at-tree, Expression, Hedge, Accepted, Stands, StandsC, Both, Decided}
@@ -27,34 +27,26 @@ module _ (s : List ℕ) (at : ℕ) {x : ℕ} {t : List ℕ} (h : drop at s ≡ x
   tail-of : drop (at + 1) s ≡ t
   tail-of = rw add-one (cc (drop-cons s at 0 lt-of))
 
-both-true : (a b : Bool) → (a && b) ≡ true → (a ≡ true) × (b ≡ true)
-both-true true b e = (refl, e)
-both-true false b e = let z : false ≡ true = e in (z, cc)
-
-module _ (n : Counts) (few : n .symbols ≤ 4000) where
-  placed : (e : List ℕ) (at : ℕ) (R : Expr) (k : List ℕ) → declaredE n R ≡ true → drop at e ≡ exprWords R ++ k → At e at R × (drop (at + sizeE R) e ≡ k)
-  placed e at eps k f h = (at-eps (lt-of e at h) (word-of e at h), tail-of e at h)
-  placed e at (cat a b) k f h =
-      let (fa, fb) = both-true (declaredE n a) (declaredE n b) f in
-      let (x, p) = placed e (at + 1) a (exprWords b ++ k) fa (tail-of e at h ∙ append-assoc (exprWords a) (exprWords b) k) in
-      let (y, q) = placed e (at + 1 + sizeE a) b k fb p in
-      let z : at + (1 + sizeE a + sizeE b) ≡ at + 1 + sizeE a + sizeE b = omega arith in
-      (at-cat (lt-of e at h) (word-of e at h) x y, rw z q)
-  placed e at (alt a b) k f h =
-      let (fa, fb) = both-true (declaredE n a) (declaredE n b) f in
-      let (x, p) = placed e (at + 1) a (exprWords b ++ k) fa (tail-of e at h ∙ append-assoc (exprWords a) (exprWords b) k) in
-      let (y, q) = placed e (at + 1 + sizeE a) b k fb p in
-      let z : at + (1 + sizeE a + sizeE b) ≡ at + 1 + sizeE a + sizeE b = omega arith in
-      (at-alt (lt-of e at h) (word-of e at h) x y, rw z q)
-  placed e at (star a) k f h =
-      let (x, p) = placed e (at + 1) a k f (tail-of e at h) in
-      let z : at + (1 + sizeE a) ≡ at + 1 + sizeE a = omega arith in
-      (at-star (lt-of e at h) (word-of e at h) x, rw z p)
-  placed e at (over g a) k f h =
-      let (fg, fa) = both-true (declaredS n g) (declaredE n a) f in
-      let (x, p) = placed e (at + 1) a k fa (tail-of e at h) in
-      let z : at + (1 + sizeE a) ≡ at + 1 + sizeE a = omega arith in
-      (at-over (lt-of e at h) (word-of e at h) (omega (arith, ltb-true (g .0) (n .symbols) fg)) x, rw z p)
+placed : (e : List ℕ) (at : ℕ) (R : Expr) (k : List ℕ) → fineExpr desk R → drop at e ≡ exprWords R ++ k → At e at R × (drop (at + sizeE R) e ≡ k)
+placed e at eps k f h = (at-eps (lt-of e at h) (word-of e at h), tail-of e at h)
+placed e at (cat a b) k f h =
+    let (x, p) = placed e (at + 1) a (exprWords b ++ k) (f .0) (tail-of e at h ∙ append-assoc (exprWords a) (exprWords b) k) in
+    let (y, q) = placed e (at + 1 + sizeE a) b k (f .1) p in
+    let z : at + (1 + sizeE a + sizeE b) ≡ at + 1 + sizeE a + sizeE b = omega arith in
+    (at-cat (lt-of e at h) (word-of e at h) x y, rw z q)
+placed e at (alt a b) k f h =
+    let (x, p) = placed e (at + 1) a (exprWords b ++ k) (f .0) (tail-of e at h ∙ append-assoc (exprWords a) (exprWords b) k) in
+    let (y, q) = placed e (at + 1 + sizeE a) b k (f .1) p in
+    let z : at + (1 + sizeE a + sizeE b) ≡ at + 1 + sizeE a + sizeE b = omega arith in
+    (at-alt (lt-of e at h) (word-of e at h) x y, rw z q)
+placed e at (star a) k f h =
+    let (x, p) = placed e (at + 1) a k f (tail-of e at h) in
+    let z : at + (1 + sizeE a) ≡ at + 1 + sizeE a = omega arith in
+    (at-star (lt-of e at h) (word-of e at h) x, rw z p)
+placed e at (over g a) k f h =
+    let (x, p) = placed e (at + 1) a k (f .1) (tail-of e at h) in
+    let z : at + (1 + sizeE a) ≡ at + 1 + sizeE a = omega arith in
+    (at-over (lt-of e at h) (word-of e at h) (omega arith) x, rw z p)
 
 placedC : (h : List ℕ) (j : ℕ) (g : Complete) (k : List ℕ) → drop j h ≡ completeWords g ++ k → Holds h j g × (drop (j + sizeC g) h ≡ k)
 placedC h j nil k e = (at-nil (lt-of h j e) (word-of h j e), tail-of h j e)
@@ -66,7 +58,7 @@ placedC h j (tree f c r) k e =
 
 module _ {e : List ℕ} {at : ℕ} {R : Expr} where
   at-of : Stands e at R → At e at R
-  at-of s = placed (s .counts) (s .few) e at R (s .others) (s .known) (s .words) .0
+  at-of s = placed e at R (s .others) (s .fine) (s .words) .0
 
 module _ {h : List ℕ} {j : ℕ} {g : Complete} where
   holds-of : StandsC h j g → Holds h j g

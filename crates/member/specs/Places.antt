@@ -6,9 +6,10 @@ use mathlib.Core.Bool.{Bool, true, false}
 use mathlib.Core.List.{List, _++_}
 use lib.ListN.{length, getD, drop}
 use Rattle.language.specs.declared.Sym.{Sym}
-use Rattle.language.specs.Trees.{Expr, eps, cat, alt, star, over, Counts}
+use Rattle.language.specs.Limits.{desk}
+use Rattle.language.specs.Trees.{Expr, eps, cat, alt, star, over}
 use Rattle.language.specs.Writing.{exprWords}
-use Rattle.language.specs.Question.{declaredE}
+use Rattle.language.specs.Fine.{fineExpr}
 use Rattle.meaning.specs.Complete.{Complete, nil, tree, completeWords}
 use Rattle.meaning.specs.Meaning.{Member}
 use Rattle.rules.specs.Expressions.{nullable}
@@ -99,12 +100,10 @@ pub record Accepted (e : List ℕ) (at : ℕ) (h : List ℕ) (j : ℕ) (k k′ :
 
 -- ---- the same in words
 
--- These words are those of R, all of whose symbols have words of their own, and then others.
+-- These words are those of R, whose symbols have words of their own, and then others.
 pub record Stands (e : List ℕ) (at : ℕ) (R : Expr) : Type 0 where
-  pub counts : Counts
   pub others : List ℕ
-  pub few : counts .symbols ≤ 4000
-  pub known : declaredE counts R ≡ true
+  pub fine : fineExpr desk R
   pub words : drop at e ≡ exprWords R ++ others
 
 pub record StandsC (h : List ℕ) (j : ℕ) (g : Complete) : Type 0 where
