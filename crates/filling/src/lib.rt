@@ -1,0 +1,97 @@
+// A filling in words: how each word of the question is shown under it, and what the words of a hedge become.
+use language::Kind;
+ghost use mathlib.Core.Path.{_≡_};
+ghost use Prim.Native.Nat.{_+_, _≤_, _<_};
+ghost use lib.ListN.{length, drop};
+ghost use lib.Seq.{sets};
+ghost use Rattle.filling.specs.Showing.{part, bodyAt, nameAt, termSize, shown, taken, filled, HasValue, Shows};
+
+fn wide(x: u16) -> usize
+    ensures { λ r. ⌜ r ≡ x ⌝ }
+{
+    x as usize
+}
+
+// The words of the value numbered i, without the 0 that ends it.
+fn body<'a>(filling: &'a [u16], i: usize) -> &'a [u16]
+    requires { ⌜ HasValue (now filling) i ⌝ }
+    ensures { λ r. ⌜ now r ≡ bodyAt (now (filling .entry)) i ⌝ }
+{
+    let from = wide(filling[i + 1]);
+    let to = wide(filling[i + 2]) - 1;
+    &filling[from..to]
+}
+
+// Its first word.
+fn name<'a>(filling: &'a [u16], i: usize) -> &'a [u16]
+    requires { ⌜ HasValue (now filling) i ⌝ }
+    ensures { λ r. ⌜ now r ≡ nameAt (now (filling .entry)) i ⌝ }
+{
+    let from = wide(filling[i + 1]);
+    let to = from + 1;
+    &filling[from..to]
+}
+
+// The place after the term that begins at `at`, if it has no variable, and else after its first word.
+fn term_end(words: &[u16], at: usize) -> usize
+    requires { ⌜ at < length (now words) ⌝ }
+    ensures { λ r. ⌜ r ≡ at + termSize (drop at (now (words .entry))) ⌝ }
+    ensures { λ r. ⌜ r ≤ length (now (words .entry)) ⌝ }
+{
+    let mut depth: usize = 1;
+    let mut i = at + 1;
+    while i < words.len() {
+        match reader::classify(words[i]) {
+            Kind::End => {
+                i += 1;
+                if depth == 1 {
+                    return i;
+                }
+                depth -= 1;
+            }
+            Kind::Symbol(_) => {
+                i += 1;
+                depth += 1;
+            }
+            _ => return at + 1,
+        }
+    }
+    at + 1
+}
+
+// The value of the word at `at`, as the part of the filling that holds it or, for a term without variables, as the part of the question itself.
+pub fn lookup<'a>(
+    filling: &'a [u16],
+    question: &'a [u16],
+    at: usize,
+    terms: usize,
+    hedges: usize,
+) -> &'a [u16]
+    requires { ⌜ at < length (now question) ⌝ }
+    requires { ⌜ Shows terms hedges (now filling) (now question) ⌝ }
+    ensures { λ r. ⌜ now r ≡ shown terms hedges (now (filling .entry)) (drop at (now (question .entry))) ⌝ }
+{
+    let word = question[at];
+    match reader::classify(word) {
+        Kind::Term(x) => {
+            let i = wide(x.0);
+            body(filling, i)
+        }
+        Kind::Run(p) => {
+            let i = terms + wide(p.0);
+            body(filling, i)
+        }
+        Kind::Function(f) => {
+            let i = terms + hedges + wide(f.0);
+            name(filling, i)
+        }
+        Kind::Symbol(_) => {
+            let to = term_end(question, at);
+            &question[at..to]
+        }
+        _ => {
+            let to = at + 1;
+            &question[at..to]
+        }
+    }
+}
