@@ -20,9 +20,13 @@ part a e ws = take (e - a) (drop a ws)
 abbrev pub offset : List ℕ → ℕ → ℕ
 offset fs i = getD fs (i + 1) 0
 
+-- where the next one begins
+abbrev pub ending : List ℕ → ℕ → ℕ
+ending fs i = getD fs (i + 2) 0
+
 -- the words of a value without the 0 that ends it
 abbrev pub bodyAt : List ℕ → ℕ → List ℕ
-bodyAt fs i = part (offset fs i) (offset fs (i + 1) - 1) fs
+bodyAt fs i = part (offset fs i) (ending fs i - 1) fs
 
 -- its first word alone
 abbrev pub nameAt : List ℕ → ℕ → List ℕ
@@ -61,6 +65,12 @@ orOne n (some k) = n + k
 -- a symbol's words: those of its term where that has no variable, and else its own word
 unfoldable pub termSize : List ℕ → ℕ
 termSize ws = orOne 1 (closes 1 (drop 1 ws))
+
+-- r is the place after what a symbol at `at` stands for
+pub record TermEnd (ws : List ℕ) (at r : ℕ) : Type 0 where
+  pub size : r ≡ at + termSize (drop at ws)
+  pub on : at < r
+  pub inside : r ≤ length ws
 
 -- ---- how the first of some words is shown, t and h being the numbers of term and of hedge variables
 
@@ -124,8 +134,8 @@ filled t h fs (w ∷ ws) = wordOn t h fs w (kindOf desk w) ++ filled t h fs ws
 -- the filling has a value of that number, and it has a word
 pub record HasValue (fs : List ℕ) (i : ℕ) : Type 0 where
   pub there : i + 2 < length fs
-  pub some-word : offset fs i < offset fs (i + 1)
-  pub inside : offset fs (i + 1) ≤ length fs
+  pub some-word : offset fs i < ending fs i
+  pub inside : ending fs i ≤ length fs
 
 abbrev pub ShowsOn : ℕ → ℕ → List ℕ → Kind → Type 0
 ShowsOn t h fs (Term x) = HasValue fs (x .0)

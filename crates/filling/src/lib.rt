@@ -4,7 +4,7 @@ ghost use mathlib.Core.Path.{_≡_};
 ghost use Prim.Native.Nat.{_+_, _≤_, _<_};
 ghost use lib.ListN.{length, drop};
 ghost use lib.Seq.{sets};
-ghost use Rattle.filling.specs.Showing.{part, bodyAt, nameAt, termSize, shown, taken, filled, HasValue, Shows};
+ghost use Rattle.filling.specs.Showing.{part, bodyAt, nameAt, TermEnd, shown, taken, filled, HasValue, Shows};
 
 fn wide(x: u16) -> usize
     ensures { λ r. ⌜ r ≡ x ⌝ }
@@ -35,8 +35,7 @@ fn name<'a>(filling: &'a [u16], i: usize) -> &'a [u16]
 // The place after the term that begins at `at`, if it has no variable, and else after its first word.
 fn term_end(words: &[u16], at: usize) -> usize
     requires { ⌜ at < length (now words) ⌝ }
-    ensures { λ r. ⌜ r ≡ at + termSize (drop at (now (words .entry))) ⌝ }
-    ensures { λ r. ⌜ r ≤ length (now (words .entry)) ⌝ }
+    ensures { λ r. ⌜ TermEnd (now (words .entry)) at r ⌝ }
 {
     let mut depth: usize = 1;
     let mut i = at + 1;
