@@ -1,2 +1,5 @@
 pub mod Terms
 pub mod Lookups
+pub mod Filled
+pub mod Stores
+pub mod Writes

@@ -6,6 +6,7 @@ use mathlib.Core.List.{List, [], _∷_, _++_}
 use mathlib.Core.Option.{Option, none, some}
 use lib.Dec.{eqb}
 use lib.ListN.{length, getD, take, drop}
+use lib.Seq.{sets}
 use Rattle.language.specs.declared.Kind.{Kind}
 use Rattle.language.specs.declared.Kind.the-variants.{End, Term, Run, Symbol, Function, Equation, Membership, Eps, Cat, Alt, Star, Other}
 use Rattle.language.specs.Limits.{desk}
@@ -109,6 +110,21 @@ takenOn ws Other = 1
 unfoldable pub taken : List ℕ → ℕ
 taken ws = takenOn ws (kindOf desk (getD ws 0 0))
 
+-- the same, from how many words were shown: those of a symbol are its own
+abbrev pub stepOn : ℕ → Kind → ℕ
+stepOn n (Symbol f) = n
+stepOn n (Term x) = 1
+stepOn n (Run p) = 1
+stepOn n (Function X) = 1
+stepOn n End = 1
+stepOn n Equation = 1
+stepOn n Membership = 1
+stepOn n Eps = 1
+stepOn n Cat = 1
+stepOn n Alt = 1
+stepOn n Star = 1
+stepOn n Other = 1
+
 -- ---- what words become: each variable its value, any other word itself
 
 abbrev pub wordOn : ℕ → ℕ → List ℕ → ℕ → Kind → List ℕ
@@ -154,3 +170,9 @@ ShowsOn t h fs Other = Unit {0}
 -- every variable among these words has a value
 pub record Shows (t h : ℕ) (fs ws : List ℕ) : Type 0 where
   pub each : (i : ℕ) → i < length ws → ShowsOn t h fs (kindOf desk (getD ws i 0))
+
+-- ---- what writing them leaves
+
+pub record Written (t h : ℕ) (fs ws room : List ℕ) (start : ℕ) (room′ : List ℕ) (r : ℕ) : Type 0 where
+  pub place : r ≡ start + length (filled t h fs ws)
+  pub words : room′ ≡ sets room start (filled t h fs ws)

@@ -4,7 +4,9 @@ ghost use mathlib.Core.Path.{_≡_};
 ghost use Prim.Native.Nat.{_+_, _≤_, _<_};
 ghost use lib.ListN.{length, drop};
 ghost use lib.Seq.{sets};
-ghost use Rattle.filling.specs.Showing.{part, bodyAt, nameAt, TermEnd, shown, taken, filled, HasValue, Shows};
+ghost use Rattle.filling.specs.Showing.{bodyAt, nameAt, TermEnd, shown, stepOn, filled, HasValue, Shows, Written};
+ghost use Rattle.language.specs.Limits.{desk};
+ghost use Rattle.language.specs.Kinds.{kindOf};
 
 fn wide(x: u16) -> usize
     ensures { λ r. ⌜ r ≡ x ⌝ }
@@ -93,4 +95,69 @@ pub fn lookup<'a>(
             &question[at..to]
         }
     }
+}
+
+// How many words of the question the value stands for that was shown for a word, in so many words.
+fn step(word: u16, shown: usize) -> usize
+    ensures { λ r. ⌜ r ≡ stepOn shown (kindOf desk word) ⌝ }
+{
+    match reader::classify(word) {
+        Kind::Symbol(_) => shown,
+        _ => 1,
+    }
+}
+
+// How many words these become, without writing them.
+pub fn filled_len<'a>(filling: &'a [u16], words: &'a [u16], terms: usize, hedges: usize) -> usize
+    requires { ⌜ length (now filling) ≤ 4096 ⌝ }
+    requires { ⌜ length (now words) ≤ 4096 ⌝ }
+    requires { ⌜ Shows terms hedges (now filling) (now words) ⌝ }
+    ensures { λ r. ⌜ r ≡ length (filled terms hedges (now (filling .entry)) (now (words .entry))) ⌝ }
+{
+    let mut at: usize = 0;
+    let mut total: usize = 0;
+    while at < words.len() {
+        let value = lookup(filling, words, at, terms, hedges);
+        let n = value.len();
+        total += n;
+        at += step(words[at], n);
+    }
+    total
+}
+
+// The words of `from`, into `room` at `at`.
+fn copy(room: &mut [u16], at: usize, from: &[u16])
+    requires { ⌜ at + length (now from) ≤ length (now room) ⌝ }
+    ensures { λ _. ⌜ now (room .exit) ≡ sets (now (room .entry)) at (now (from .entry)) ⌝ }
+{
+    let mut i: usize = 0;
+    while i < from.len() {
+        room[at + i] = from[i];
+        i += 1;
+    }
+}
+
+// What these words become, into `room` at `start`. The place after them.
+pub fn fill_in<'a>(
+    filling: &'a [u16],
+    words: &'a [u16],
+    terms: usize,
+    hedges: usize,
+    room: &mut [u16],
+    start: usize,
+) -> usize
+    requires { ⌜ Shows terms hedges (now filling) (now words) ⌝ }
+    requires { ⌜ start + length (filled terms hedges (now filling) (now words)) ≤ length (now room) ⌝ }
+    ensures { λ r. ⌜ Written terms hedges (now (filling .entry)) (now (words .entry)) (now (room .entry)) start (now (room .exit)) r ⌝ }
+{
+    let mut at: usize = 0;
+    let mut to = start;
+    while at < words.len() {
+        let value = lookup(filling, words, at, terms, hedges);
+        let n = value.len();
+        copy(room, to, value);
+        to += n;
+        at += step(words[at], n);
+    }
+    to
 }
