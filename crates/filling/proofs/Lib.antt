@@ -3,3 +3,5 @@ pub mod Lookups
 pub mod Filled
 pub mod Stores
 pub mod Writes
+pub mod Values
+pub mod Becomes
