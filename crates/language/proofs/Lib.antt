@@ -1,3 +1,4 @@
+pub mod Bools
 pub mod Words
 pub mod Steps
 pub mod Formats
@@ -8,3 +9,4 @@ pub mod Conjunctions
 pub mod Laws
 pub mod Undeclared
 pub mod Arms
+pub mod Offsets

@@ -5,10 +5,13 @@ use language::Kind;
 use language::Sym;
 use language::TermVar;
 ghost use mathlib.Core.Path.{_≡_};
-ghost use lib.ListN.{drop};
+ghost use Prim.Native.Nat.{_≤_};
+ghost use lib.ListN.{length, drop};
 ghost use Rattle.language.specs.Limits.{desk};
 ghost use Rattle.language.specs.Kinds.{kindOf};
 ghost use Rattle.language.specs.Reading.{readTerm, readHedge, readExpr, readLiteral, readConj};
+ghost use Rattle.language.specs.Question.{rising, laidOut};
+ghost use Rattle.language.specs.Between.{between};
 ghost use Rattle.reader.specs.Places.{placed};
 
 // The place after what was read, or the place of the first word that cannot go on.
@@ -119,4 +122,44 @@ pub fn read_conj(w: &[u16]) -> Read
         }
     }
     Read::Next(i)
+}
+
+// A word as a place.
+fn wide(word: u16) -> usize
+    ensures { λ r. ⌜ r ≡ word ⌝ }
+{
+    word as usize
+}
+
+// Whether the offsets from place `at` up to `stop` never fall, from `from` on, and the last is the length.
+fn rises(w: &[u16], at: usize, stop: usize, from: usize) -> bool
+    requires { ⌜ (at ≤ stop) × (stop ≤ length (now w)) ⌝ }
+    ensures { λ r. ⌜ r ≡ rising from (between at stop (now (w .entry))) (length (now (w .entry))) ⌝ }
+{
+    let mut i = at;
+    let mut last = from;
+    while i < stop {
+        let next = wide(w[i]);
+        if next < last {
+            return false;
+        }
+        last = next;
+        i += 1;
+    }
+    last == w.len()
+}
+
+// Whether the table of offsets of `n` parts, after `head` words, is as it should be.
+pub fn laid_out(w: &[u16], head: u16, n: u16) -> bool
+    ensures { λ r. ⌜ r ≡ laidOut head n (now (w .entry)) ⌝ }
+{
+    let at = wide(head);
+    let first = at + wide(n) + 1;
+    if w.len() < first {
+        return false;
+    }
+    if wide(w[at]) != first {
+        return false;
+    }
+    rises(w, at + 1, first, first)
 }
