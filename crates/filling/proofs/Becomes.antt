@@ -16,11 +16,12 @@ use Rattle.language.specs.Writing.{functorWord, hedgeWords, exprWords, literalW
 use Rattle.language.specs.Fine.{fineFunctor, fineHedge, fineExpr, fineLiteral}
 use Rattle.language.specs.Question.{declaredF, declared, declaredL}
 use Rattle.language.proofs.Words.{kind-end, kind-term, kind-run, kind-symbol, kind-function, kind-equation, kind-membership, kind-eps, kind-cat, kind-alt, kind-star}
+use Rattle.language.proofs.Bools.{both-true}
 use Rattle.meaning.specs.Complete.{Complete, nil, tree, _·_, completeWords}
 use Rattle.meaning.specs.Meaning.{Filling, fillF, fill}
 use Rattle.meaning.specs.Values.{aTerm, aName, fits, variables, rootOf, childrenOf, filling}
 use Rattle.filling.specs.Showing.{bodyAt, nameAt, wordOn, filled}
-use Rattle.filling.proofs.Values.{both-true, Value, Values, topWords, top-end, body-words, name-words}
+use Rattle.filling.proofs.Values.{Value, Values, topWords, top-end, body-words, name-words}
 
 -- two in a row
 pub words-in-row : (g k : Complete) → completeWords (g · k) ≡ topWords g ++ completeWords k

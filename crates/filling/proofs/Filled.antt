@@ -14,7 +14,8 @@ use Rattle.language.specs.declared.Kind.{Kind}
 use Rattle.language.specs.declared.Kind.the-variants.{End, Term, Run, Symbol, Function, Equation, Membership, Eps, Cat, Alt, Star, Other}
 use Rattle.language.specs.Limits.{desk}
 use Rattle.language.specs.Kinds.{pick, kindOf}
-use Rattle.filling.specs.Showing.{part, offset, ending, bodyAt, nameAt, more, closesOn, closes, orOne, termSize, shownOn, shown, stepOn, wordOn, filled}
+use Rattle.language.specs.Between.{between}
+use Rattle.filling.specs.Showing.{offset, ending, bodyAt, nameAt, more, closesOn, closes, orOne, termSize, shownOn, shown, stepOn, wordOn, filled}
 
 none≢ : {k : ℕ} → _≡_ {A = Option ℕ} none (some k) → ⊥
 none≢ e = let z : _≡_ {A = ℕ} 0 1 = cc in omega arith
@@ -89,7 +90,7 @@ module _ (t h : ℕ) (fs : List ℕ) where
     pub rest : v ++ filled t h fs (drop k us) ≡ filled t h fs us
     pub few : (n : ℕ) → length fs ≤ n → length us ≤ n → length v ≤ n
 
-  part-few : (a e : ℕ) (ws : List ℕ) → length (part a e ws) ≤ length ws
+  part-few : (a e : ℕ) (ws : List ℕ) → length (between a e ws) ≤ length ws
   part-few a e ws = omega (arith, length-take (e - a) (drop a ws), length-drop a ws)
 
   body-few : (i : ℕ) → length (bodyAt fs i) ≤ length fs

@@ -15,7 +15,8 @@ use Rattle.language.specs.declared.Sym.{Sym}
 use Rattle.language.specs.Limits.{desk}
 use Rattle.language.specs.Kinds.{kindOf}
 use Rattle.language.proofs.Arms.{Among, each-kind}
-use Rattle.filling.specs.Showing.{part, bodyAt, nameAt, termSize, TermEnd, shownOn, shown, HasValue, ShowsOn, Shows}
+use Rattle.language.specs.Between.{between}
+use Rattle.filling.specs.Showing.{bodyAt, nameAt, termSize, TermEnd, shownOn, shown, HasValue, ShowsOn, Shows}
 
 module _ (t h : ℕ) (fs ws : List ℕ) (at : ℕ) (k : Kind) (e : k ≡ kindOf desk (getD ws at 0)) where
   -- what the filling has for it
@@ -45,12 +46,12 @@ module _ (t h : ℕ) (fs ws : List ℕ) (at : ℕ) (k : Kind) (e : k ≡ kindOf 
   pub shown-name : {x : FunVar} → k ≡ Function x → nameAt fs (t + h + x .0) ≡ shown t h fs (drop at ws)
   shown-name {x} g = shown-here (Function x) g
 
-  pub shown-symbol : {f : Sym} {to : ℕ} → k ≡ Symbol f → TermEnd ws at to → part at to ws ≡ shown t h fs (drop at ws)
+  pub shown-symbol : {f : Sym} {to : ℕ} → k ≡ Symbol f → TermEnd ws at to → between at to ws ≡ shown t h fs (drop at ws)
   shown-symbol {f} {to} g s =
       let z : to - at ≡ termSize (drop at ws) = omega (arith, s .size) in
       ap (λ n. take n (drop at ws)) z ∙ shown-here (Symbol f) g
 
-  pub shown-other : Among (0 ∷ 5 ∷ 6 ∷ 7 ∷ 8 ∷ 9 ∷ 10 ∷ 11 ∷ []) k → part at (at + 1) ws ≡ shown t h fs (drop at ws)
+  pub shown-other : Among (0 ∷ 5 ∷ 6 ∷ 7 ∷ 8 ∷ 9 ∷ 10 ∷ 11 ∷ []) k → between at (at + 1) ws ≡ shown t h fs (drop at ws)
   shown-other o =
       let z : at + 1 - at ≡ 1 = omega arith in
       ap (λ n. take n (drop at ws)) z

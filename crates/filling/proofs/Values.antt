@@ -13,15 +13,17 @@ use Rattle.language.specs.Limits.{desk}
 use Rattle.language.specs.Kinds.{kindOf}
 use Rattle.language.specs.Trees.{Counts}
 use Rattle.language.specs.Undeclared.{declaredKind, declaredWord, declaredWords}
+use Rattle.language.proofs.Bools.{both-true}
 use Rattle.meaning.specs.Complete.{Complete, nil, tree, completeWords}
 use Rattle.meaning.specs.Values.{Form, aTerm, aHedge, aName, fits, variables, rootOf}
-use Rattle.filling.specs.Showing.{part, offset, ending, bodyAt, nameAt, HasValue, ShowsOn, Shows}
+use Rattle.language.specs.Between.{between}
+use Rattle.filling.specs.Showing.{offset, ending, bodyAt, nameAt, HasValue, ShowsOn, Shows}
 
 -- the value numbered i is g
 pub record Value (fs : List ℕ) (i : ℕ) (g : Complete) : Type 0 where
   pub there : i + 2 < length fs
   pub inside : ending fs i ≤ length fs
-  pub words : part (offset fs i) (ending fs i) fs ≡ completeWords g
+  pub words : between (offset fs i) (ending fs i) fs ≡ completeWords g
 
 -- what a filling has for the variables of each kind
 pub record Values (n : Counts) (fs : List ℕ) (vs : List Complete) : Type 0 where
@@ -66,10 +68,6 @@ module _ {fs : List ℕ} {i : ℕ} {g : Complete} (v : Value fs i g) where
       ∙ ap (take 1) (v .words)
 
 -- ---- every declared word is shown
-
-pub both-true : (a b : Bool) → (a && b) ≡ true → (a ≡ true) × (b ≡ true)
-both-true true b e = (refl, e)
-both-true false b e = absurd (let z : _≡_ {A = ℕ} 0 1 = cc in omega arith)
 
 module _ (n : Counts) where
   declared-at : (ws : List ℕ) → declaredWords desk n ws ≡ true → (i : ℕ) → i < length ws → declaredWord desk n (getD ws i 0) ≡ true

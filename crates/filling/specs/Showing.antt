@@ -11,10 +11,7 @@ use Rattle.language.specs.declared.Kind.{Kind}
 use Rattle.language.specs.declared.Kind.the-variants.{End, Term, Run, Symbol, Function, Equation, Membership, Eps, Cat, Alt, Star, Other}
 use Rattle.language.specs.Limits.{desk}
 use Rattle.language.specs.Kinds.{pick, kindOf}
-
--- the words from a to e
-abbrev pub part : ℕ → ℕ → List ℕ → List ℕ
-part a e ws = take (e - a) (drop a ws)
+use Rattle.language.specs.Between.{between}
 
 -- ---- the filling's values, numbered from 0
 
@@ -27,11 +24,11 @@ ending fs i = getD fs (i + 2) 0
 
 -- the words of a value without the 0 that ends it
 abbrev pub bodyAt : List ℕ → ℕ → List ℕ
-bodyAt fs i = part (offset fs i) (ending fs i - 1) fs
+bodyAt fs i = between (offset fs i) (ending fs i - 1) fs
 
 -- its first word alone
 abbrev pub nameAt : List ℕ → ℕ → List ℕ
-nameAt fs i = part (offset fs i) (offset fs i + 1) fs
+nameAt fs i = between (offset fs i) (offset fs i + 1) fs
 
 -- ---- a term without variables
 
