@@ -5,3 +5,4 @@ pub mod Stores
 pub mod Writes
 pub mod Values
 pub mod Becomes
+pub mod Plain
