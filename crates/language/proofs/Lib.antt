@@ -10,3 +10,6 @@ pub mod Laws
 pub mod Undeclared
 pub mod Arms
 pub mod Offsets
+pub mod Questions
+pub mod Alternatives
+pub mod Asking

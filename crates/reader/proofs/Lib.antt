@@ -1,2 +1,4 @@
 pub mod Placing
 pub mod Parts
+pub mod Checks
+pub mod Verdicts

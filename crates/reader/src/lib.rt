@@ -2,17 +2,21 @@
 use language::FunVar;
 use language::HedgeVar;
 use language::Kind;
+use language::Refusal;
 use language::Sym;
 use language::TermVar;
 ghost use mathlib.Core.Path.{_≡_};
+ghost use mathlib.Core.Bool.{true};
 ghost use Prim.Native.Nat.{_≤_};
 ghost use lib.ListN.{length, drop};
 ghost use Rattle.language.specs.Limits.{desk};
 ghost use Rattle.language.specs.Kinds.{kindOf};
 ghost use Rattle.language.specs.Reading.{readTerm, readHedge, readExpr, readLiteral, readConj};
-ghost use Rattle.language.specs.Question.{rising, laidOut};
+ghost use Rattle.language.specs.Question.{rising, laidOut, parts, readAll, countsFit, readQuestion};
+ghost use Rattle.language.specs.Undeclared.{declaredWord};
 ghost use Rattle.language.specs.Between.{between};
 ghost use Rattle.reader.specs.Places.{placed};
+ghost use Rattle.reader.specs.Checking.{readable, headerOf, countsIn, firstUndeclared, checked};
 
 // The place after what was read, or the place of the first word that cannot go on.
 pub enum Read {
@@ -162,4 +166,134 @@ pub fn laid_out(w: &[u16], head: u16, n: u16) -> bool
         return false;
     }
     rises(w, at + 1, first, first)
+}
+
+// Whether each part of a question with `n` conjunctions is exactly literals.
+fn all_literals(w: &[u16], n: u16) -> bool
+    requires { ⌜ laidOut 5 n (now w) ≡ true ⌝ }
+    ensures { λ r. ⌜ r ≡ readable (readAll desk (parts 5 n (now (w .entry)))) ⌝ }
+{
+    let stop = wide(n) + 6;
+    let mut from = stop;
+    let mut i = 6;
+    while i < stop {
+        let to = wide(w[i]);
+        match read_conj(&w[from..to]) {
+            Read::Next(_) => {
+                from = to;
+                i += 1;
+            }
+            Read::Stop(_) => return false,
+        }
+    }
+    true
+}
+
+// The first five words of a question: how many of each are declared, and how many conjunctions follow.
+pub struct Header {
+    pub symbols: u16,
+    pub terms: u16,
+    pub hedges: u16,
+    pub functions: u16,
+    pub alternatives: u16,
+}
+
+fn read_header(w: &[u16]) -> Header
+    requires { ⌜ 5 ≤ length (now w) ⌝ }
+    ensures { λ r. ⌜ r ≡ headerOf (now (w .entry)) ⌝ }
+{
+    Header {
+        symbols: w[0],
+        terms: w[1],
+        hedges: w[2],
+        functions: w[3],
+        alternatives: w[4],
+    }
+}
+
+// Whether the counts are in range.
+pub fn counts_fit(h: Header) -> bool
+    ensures { λ r. ⌜ r ≡ countsFit desk (countsIn h) (h .alternatives) ⌝ }
+{
+    if h.symbols < 1 {
+        return false;
+    }
+    if 32 < h.symbols {
+        return false;
+    }
+    if 32 < h.terms {
+        return false;
+    }
+    if 32 < h.hedges {
+        return false;
+    }
+    if 32 < h.functions {
+        return false;
+    }
+    h.alternatives <= 16
+}
+
+// Whether a word's number is below the count of its kind.
+pub fn is_declared(h: Header, word: u16) -> bool
+    ensures { λ r. ⌜ r ≡ declaredWord desk (countsIn h) word ⌝ }
+{
+    match classify(word) {
+        Kind::Term(x) => x.0 < h.terms,
+        Kind::Run(p) => p.0 < h.hedges,
+        Kind::Symbol(f) => f.0 < h.symbols,
+        Kind::Function(x) => x.0 < h.functions,
+        _ => true,
+    }
+}
+
+// The place of the first undeclared number.
+pub enum Scan {
+    Declared,
+    Undeclared(usize),
+}
+
+pub fn find_undeclared(h: Header, w: &[u16], from: usize) -> Scan
+    ensures { λ r. ⌜ r ≡ firstUndeclared desk (countsIn h) from (drop from (now (w .entry))) ⌝ }
+{
+    let mut i = from;
+    while i < w.len() {
+        if !is_declared(h, w[i]) {
+            return Scan::Undeclared(i);
+        }
+        i += 1;
+    }
+    Scan::Declared
+}
+
+// What comes of reading a question.
+pub enum Checked {
+    Fine,
+    Refused(Refusal),
+}
+
+// Whether a question can be worked on, or which of 2 to 6 is given: in their order, each over the whole question.
+pub fn read_question(question: &[u16]) -> Checked
+    ensures { λ r. ⌜ r ≡ checked (readQuestion desk (now (question .entry))) ⌝ }
+{
+    if question.len() < 6 {
+        return Checked::Refused(Refusal::QuestionLength);
+    }
+    if 1024 < question.len() {
+        return Checked::Refused(Refusal::QuestionLength);
+    }
+    let h = read_header(question);
+    if !counts_fit(h) {
+        return Checked::Refused(Refusal::CountRange);
+    }
+    let n = h.alternatives;
+    if !laid_out(question, 5, n) {
+        return Checked::Refused(Refusal::BadOffset);
+    }
+    if !all_literals(question, n) {
+        return Checked::Refused(Refusal::NotLiterals);
+    }
+    match find_undeclared(h, question, wide(n) + 6) {
+        Scan::Undeclared(_) => Checked::Refused(Refusal::Undeclared),
+        Scan::Declared => Checked::Fine,
+    }
 }
