@@ -6,3 +6,4 @@ pub mod Writes
 pub mod Values
 pub mod Becomes
 pub mod Plain
+pub mod Forms

@@ -15,7 +15,10 @@ use Rattle.language.specs.Writing.{hedgeWords}
 use Rattle.language.specs.Fine.{fineHedge}
 use Rattle.language.specs.Reading.{readHedge}
 use Rattle.meaning.specs.Complete.{Complete}
-use Rattle.meaning.specs.Values.{complete, Form, aTerm, aHedge, aName, fits, valueOf}
+use Rattle.language.specs.Question.{parts}
+use Rattle.meaning.specs.Values.{complete, Form, aTerm, aHedge, aName, fits, forms, variables, valueOf, valuesOf, Given, gives, refuses}
+use Rattle.reader.specs.declared.Checked.{Checked}
+use Rattle.reader.specs.declared.Checked.the-variants.{Fine, Refused}
 
 abbrev pub isSome : {A : Type 0} → Option A → Bool
 isSome none = false
@@ -60,10 +63,22 @@ pub record Plain (n : Counts) (ws : List ℕ) : Type 0 where
   pub form : (f : Form) → ofForm n f ws ≡ fits f g
 
 -- whether the words are those of a complete hedge whose symbols are declared
-pub record Read (n : Counts) (ws : List ℕ) (r : Bool) : Type 0 where
+pub record Judged (n : Counts) (ws : List ℕ) (r : Bool) : Type 0 where
   pub plain : r ≡ true → Plain n ws
   pub not-plain : r ≡ false → (f : Form) → ofForm n f ws ≡ false
+
+-- whether it is one term
+pub record OneTerm (ws : List ℕ) (r : Bool) : Type 0 where
+  pub each : (h : Hedge) (g : Complete) → Of ws h g → r ≡ fits aTerm g
 
 -- what the value numbered i is to be
 abbrev pub formAt : Counts → ℕ → Form
 formAt n i = pick (ltb i (n .terms)) aTerm (pick (ltb i (n .terms + n .hedges)) aHedge aName)
+
+unfoldable pub allOfForm : Counts → List ℕ → Bool
+allOfForm n fs = isSome (valuesOf desk n (forms n) (parts 1 (variables n) fs))
+
+-- a filling that is not refused is fine
+unfoldable pub given : Given → Checked
+given (gives ρ) = Fine
+given (refuses r) = Refused r
