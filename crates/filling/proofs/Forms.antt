@@ -5,7 +5,7 @@ use mathlib.Core.Bool.{Bool, true, false, _&&_}
 use mathlib.Core.List.{List, [], _∷_, _++_}
 use mathlib.Core.Option.{Option, none, some}
 use native.Mathlib.Omega.{arith}
-use lib.Dec.{ltb}
+use lib.Dec.{ltb, eqb}
 use lib.ListN.{length, getD, drop, length-append, List·getD-append, drop-of-length-le}
 use lib.Seq.{drop-cons, getD-append-add}
 use borrow.Author.Tests.{lt-ltb, le-ltb, ltb-true, ltb-false}
@@ -19,7 +19,8 @@ use Rattle.language.proofs.Offsets.{laid-length, laid-rises, parts-start, parts
 use Rattle.meaning.specs.Complete.{Complete}
 use Rattle.meaning.specs.Values.{Form, aTerm, aHedge, aName, times, forms, variables, valueOf, withValue, valuesOf}
 use Rattle.reader.proofs.Checks.{Rises}
-use Rattle.filling.specs.Checking.{isSome, ofForm, formAt, allOfForm}
+use Rattle.filling.specs.Checking.{isSome, ofForm, formAt, Judged, OneTerm, allOfForm}
+use Rattle.filling.proofs.Plain.{complete-words, name-size}
 
 -- ---- the form at a number
 
@@ -81,6 +82,23 @@ module _ (n : Counts) where
   pub forms-cons : (i : ℕ) → i < variables n → drop i (forms n) ≡ formAt n i ∷ drop (suc i) (forms n)
   forms-cons i p = drop-cons (forms n) i aTerm (omega (arith, forms-length)) ∙ ap (λ f. f ∷ drop (suc i) (forms n)) (form-is i p (ltb i (n .terms)) (ltb i (n .terms + n .hedges)) refl refl)
 
+-- ---- whether a value has its form
+
+module _ (n : Counts) (ws : List ℕ) (i : ℕ) {b : Bool} (j : Judged n ws b) where
+  pub fits-none : b ≡ false → false ≡ ofForm n (formAt n i) ws
+  fits-none e = sym (j .not-plain e (formAt n i))
+
+  pub fits-term : b ≡ true → i < n .terms → {r : Bool} → OneTerm ws r → r ≡ ofForm n (formAt n i) ws
+  fits-term e l o = let p = j .plain e in o .each (p .h) (p .g) (p .it) ∙ sym (ap (λ f. ofForm n f ws) (at-term n i l) ∙ p .form aTerm)
+
+  pub fits-hedge : b ≡ true → n .terms ≤ i → i < n .terms + n .hedges → true ≡ ofForm n (formAt n i) ws
+  fits-hedge e l m = let p = j .plain e in sym (ap (λ f. ofForm n f ws) (at-hedge n i l m) ∙ p .form aHedge)
+
+  pub fits-name : b ≡ true → n .terms + n .hedges ≤ i → eqb (length ws) 3 ≡ ofForm n (formAt n i) ws
+  fits-name e m =
+      let p = j .plain e in
+      ap (λ l. eqb (length l) 3) (p .it .words ∙ complete-words (p .h) (p .g) (p .it .is)) ∙ name-size (p .g) ∙ sym (ap (λ f. ofForm n f ws) (at-name n i m) ∙ p .form aName)
+
 -- ---- the values that are left, from the part that begins at `from`, with the offsets between `at` and `end`
 
 unfoldable pub left : Counts → List ℕ → ℕ → ℕ → ℕ → Bool
@@ -107,7 +125,7 @@ left-done n w at end from p =
     sym (ap (λ fs. isSome (valuesOf desk n fs (partsFrom from (between at end w) (drop from w)))) (drop-of-length-le (forms n) z))
 
 module _ (n : Counts) (w : List ℕ) (at end from : ℕ) (lo : 2 ≤ at) (p : at < end) (m : end ≡ variables n + 2) (q : end ≤ length w) (o : ℕ) (e : o ≡ getD w at 0) (l : from ≤ o) where
-  pub left-step : left n w at end from ≡ (ofForm n (formAt n (at - 2)) (between from o w) && left n w (at + 1) end o)
+  left-step : left n w at end from ≡ (ofForm n (formAt n (at - 2)) (between from o w) && left n w (at + 1) end o)
   unfolding left ofForm
   left-step =
       let z : suc (at - 2) ≡ at + 1 - 2 = omega arith in
@@ -115,3 +133,9 @@ module _ (n : Counts) (w : List ℕ) (at end from : ℕ) (lo : 2 ≤ at) (p : at
       ∙ ap (λ fs. isSome (valuesOf desk n fs (between from o w ∷ partsFrom o (between (at + 1) end w) (drop o w)))) (forms-cons n (at - 2) (omega arith))
       ∙ with-some (valueOf n (formAt n (at - 2)) (length (between from o w)) (readHedge desk (between from o w))) (valuesOf desk n (drop (suc (at - 2)) (forms n)) (partsFrom o (between (at + 1) end w) (drop o w)))
       ∙ ap (λ j. isSome (valueOf n (formAt n (at - 2)) (length (between from o w)) (readHedge desk (between from o w))) && isSome (valuesOf desk n (drop j (forms n)) (partsFrom o (between (at + 1) end w) (drop o w)))) z
+
+  pub left-on : (b : Bool) → b ≡ ofForm n (formAt n (at - 2)) (between from o w) → b ≡ true → left n w (at + 1) end o ≡ left n w at end from
+  left-on b g t = sym (left-step ∙ ap (λ b. b && left n w (at + 1) end o) (sym g ∙ t))
+
+  pub left-fails : (b : Bool) → b ≡ ofForm n (formAt n (at - 2)) (between from o w) → b ≡ false → false ≡ left n w at end from
+  left-fails b g t = sym (left-step ∙ ap (λ b. b && left n w (at + 1) end o) (sym g ∙ t))

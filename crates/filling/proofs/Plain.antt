@@ -1,12 +1,14 @@
 -- The words of a hedge without variables, and which forms it has.
-use Prim.Native.Nat.{ℕ, suc, _+_, _<_, _≤_}
+use Prim.Native.Nat.{ℕ, suc, _+_, _-_, _<_, _≤_}
 use mathlib.Core.Path.{_≡_, refl, sym, ap, subst, _∙_}
 use mathlib.Core.Bool.{Bool, true, false, _&&_, and-false, and-assoc}
 use mathlib.Core.List.{List, [], _∷_, _++_, append-nil}
 use mathlib.Core.Option.{Option, none, some}
 use native.Mathlib.Omega.{arith}
 use lib.Dec.{eqb}
-use lib.ListN.{length, drop, length-append, drop-of-length-le}
+use native.Mathlib.Numerals.{add-one}
+use lib.Seq.{drop-cons}
+use lib.ListN.{length, getD, drop, length-append, drop-of-length-le}
 use borrow.Author.Tests.{eq-eqb, ne-eqb}
 use Rattle.language.specs.declared.Kind.{Kind}
 use Rattle.language.specs.declared.Kind.the-variants.{End, Term, Run, Symbol, Function, Equation, Membership, Eps, Cat, Alt, Star, Other}
@@ -40,6 +42,23 @@ module _ (s : ℕ) where
   plain-none : plainWords s [] ≡ true
   unfolding plainWords
   plain-none = refl
+
+-- ---- word by word
+
+module _ (s : ℕ) (ws : List ℕ) (i : ℕ) where
+  plain-here : i < length ws → plainWords s (drop i ws) ≡ (plainOn s (kindOf desk (getD ws i 0)) && plainWords s (drop (i + 1) ws))
+  unfolding plainWords
+  plain-here p = rw (add-one, drop-cons ws i 0 p)
+
+  pub plain-on : i < length ws → (b : Bool) → b ≡ plainOn s (kindOf desk (getD ws i 0)) → b ≡ true → plainWords s (drop (i + 1) ws) ≡ plainWords s (drop i ws)
+  plain-on p b e t = sym (plain-here p ∙ ap (λ b. b && plainWords s (drop (i + 1) ws)) (sym e ∙ t))
+
+  pub plain-fails : i < length ws → (b : Bool) → b ≡ plainOn s (kindOf desk (getD ws i 0)) → b ≡ false → false ≡ plainWords s (drop i ws)
+  plain-fails p b e t = sym (plain-here p ∙ ap (λ b. b && plainWords s (drop (i + 1) ws)) (sym e ∙ t))
+
+  pub plain-done : length ws ≤ i → true ≡ plainWords s (drop i ws)
+  unfolding plainWords
+  plain-done p = sym (ap (plainWords s) (drop-of-length-le ws p))
 
 node-some : (f : Sym) (x y : Option Complete) → isSome (withNode f x y) ≡ (isSome x && isSome y)
 node-some f none y = refl
@@ -236,11 +255,11 @@ module _ (ws : List ℕ) where
   unfolding placed
   children-end h g s = ap (λ l. placed 1 (readHedge desk l)) (s .rest) ∙ ap (placed 1) (hedges-read desk .read-back (s .c) (hedgeWords (s .r)) (s .fine))
 
-  last : (f : Sym) (u v : Complete) (n m : ℕ) → m ≡ n + length (completeWords v) → eqb (n + 1) m ≡ fits aTerm (tree f u v)
-  last f u nil n m e = eq-eqb (n + 1) m (sym e)
-  last f u (tree g c r) n m e = ne-eqb (n + 1) m (let a = length-append (completeWords c) (completeWords r) in let b = some-words c in omega arith)
+  last : (f : Sym) (u v : Complete) (n m : ℕ) → m ≡ n + length (completeWords v) → eqb n (m - 1) ≡ fits aTerm (tree f u v)
+  last f u nil n m e = eq-eqb n (m - 1) (omega arith)
+  last f u (tree g c r) n m e = ne-eqb n (m - 1) (let a = length-append (completeWords c) (completeWords r) in let b = some-words c in omega arith)
 
-  pub term-next : (q : ℕ) → 2 ≤ length ws → placed 1 (readHedge desk (drop 1 ws)) ≡ Next q → OneTerm ws (eqb (q + 1) (length ws))
+  pub term-next : (q : ℕ) → 2 ≤ length ws → placed 1 (readHedge desk (drop 1 ws)) ≡ Next q → OneTerm ws (eqb q (length ws - 1))
   term-next q p e = record {
     each = λ h g o.
         let s = split p h g o in

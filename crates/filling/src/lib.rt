@@ -220,7 +220,7 @@ fn is_term(value: &[u16]) -> bool
         return false;
     }
     match reader::read_hedge(value, 1) {
-        Read::Next(end) => end + 1 == value.len(),
+        Read::Next(end) => end == value.len() - 1,
         Read::Stop(_) => false,
     }
 }
