@@ -7,3 +7,4 @@ pub mod Values
 pub mod Becomes
 pub mod Plain
 pub mod Forms
+pub mod Readings

@@ -79,7 +79,7 @@ plain-hedge n (hvar p r) i = plain-word (n .symbols) _ (Run p) (hedgeWords r) (k
 plain-hedge n (node (symbol f) c r) i =
     plain-word (n .symbols) _ (Symbol f) (hedgeWords c ++ hedgeWords r) (kind-symbol desk f (i .0))
     ∙ ap (λ b. declaredF n (symbol f) && b)
-      (plain-append (n .symbols) (hedgeWords c) (hedgeWords r) ∙ ap (λ b. b && plainWords (n .symbols) (hedgeWords r)) (plain-hedge n c (i .1)) ∙ ap (λ b. (declared n c && isSome (complete c)) && b) (plain-hedge n r (i .2)))
+    (plain-append (n .symbols) (hedgeWords c) (hedgeWords r) ∙ ap (λ b. b && plainWords (n .symbols) (hedgeWords r)) (plain-hedge n c (i .1)) ∙ ap (λ b. (declared n c && isSome (complete c)) && b) (plain-hedge n r (i .2)))
     ∙ regroup (declaredF n (symbol f)) (declared n c) (declared n r) (isSome (complete c)) (isSome (complete r))
     ∙ ap (λ b. declared n (node (symbol f) c r) && b) (sym (node-some f (complete c) (complete r)))
 plain-hedge n (node (fvar X) c r) i = plain-word (n .symbols) _ (Function X) (hedgeWords c ++ hedgeWords r) (kind-function desk X (i .0)) ∙ sym (and-false (declared n (node (fvar X) c r)))

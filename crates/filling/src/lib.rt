@@ -261,6 +261,13 @@ fn values_fit(h: Header, filling: &[u16], n: u16) -> bool
     true
 }
 
+fn count_variables(h: Header) -> u16
+    requires { ⌜ countsFit desk (countsIn h) (h .alternatives) ≡ true ⌝ }
+    ensures { λ r. ⌜ r ≡ variables (countsIn h) ⌝ }
+{
+    h.terms + (h.hedges + h.functions)
+}
+
 // Whether these words are a filling for a question with this header, or which of 11 and 12 is given.
 pub fn read_filling(h: Header, filling: &[u16]) -> Checked
     requires { ⌜ countsFit desk (countsIn h) (h .alternatives) ≡ true ⌝ }
@@ -272,7 +279,7 @@ pub fn read_filling(h: Header, filling: &[u16]) -> Checked
     if filling.len() < 1 {
         return Checked::Refused(Refusal::FillingLayout);
     }
-    let n = h.terms + h.hedges + h.functions;
+    let n = count_variables(h);
     if filling[0] != n {
         return Checked::Refused(Refusal::FillingLayout);
     }
