@@ -58,7 +58,7 @@ module _ (n : Counts) where
       let b = length-append (times (n .hedges) aHedge) (times (n .functions) aName) in
       omega (arith, length-times (n .terms) aTerm, length-times (n .hedges) aHedge, length-times (n .functions) aName)
 
-  form-is : (i : ℕ) → i < variables n → (b c : Bool) → ltb i (n .terms) ≡ b → ltb i (n .terms + n .hedges) ≡ c → getD (forms n) i aTerm ≡ formAt n i
+  pub form-is : (i : ℕ) → i < variables n → (b c : Bool) → ltb i (n .terms) ≡ b → ltb i (n .terms + n .hedges) ≡ c → getD (forms n) i aTerm ≡ formAt n i
   form-is i p true c e g =
       let l = ltb-true i (n .terms) e in
       getD-left (times (n .terms) aTerm) others aTerm i (omega (arith, length-times (n .terms) aTerm)) ∙ getD-times (n .terms) aTerm aTerm i l ∙ sym (at-term i l)

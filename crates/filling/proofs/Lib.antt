@@ -8,3 +8,4 @@ pub mod Becomes
 pub mod Plain
 pub mod Forms
 pub mod Readings
+pub mod Given

@@ -139,7 +139,7 @@ module _ (n : Counts) (ws : List ℕ) where
       on true = refl
       on false = refl
 
-  its-words : (h : Hedge) (k : ℕ) → readHedge desk ws ≡ got h k → k ≡ length ws → fineHedge desk h × (ws ≡ hedgeWords h)
+  pub its-words : (h : Hedge) (k : ℕ) → readHedge desk ws ≡ got h k → k ≡ length ws → fineHedge desk h × (ws ≡ hedgeWords h)
   its-words h k e x =
       let f = hedges-read desk .found ws h k e in
       let z : length ws ≤ k = omega arith in
