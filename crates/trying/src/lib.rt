@@ -1,0 +1,107 @@
+// Trying a filling: whether it meets a question, or why that cannot be said.
+use language::Refusal;
+use reader::Checked;
+use reader::Header;
+use reader::Read;
+ghost use mathlib.Core.Path.{_≡_};
+ghost use Prim.Native.Nat.{_+_, _≤_, _<_};
+ghost use lib.ListN.{length};
+ghost use Rattle.language.specs.Limits.{desk};
+ghost use Rattle.rules.specs.Calls.{trying};
+ghost use Rattle.reader.specs.Checking.{headerOf, countsIn};
+ghost use Rattle.filling.specs.Showing.{filled, Shows};
+ghost use Rattle.trying.specs.Tasks.{SameWords, FirstEnd, EquationMet, Testable, MembershipMet, FittingLiteral, LiteralMet, SomeConj, FittingConj, ConjTooLong, ConjMet, SomeQuestion, FittingQuestion, QuestionTooLong, QuestionMet};
+ghost use Rattle.trying.specs.Outcome.{cleared, Outcome};
+
+// What comes of trying a filling.
+pub enum Tried {
+    Yes,
+    No,
+    Refused(Refusal),
+}
+
+fn wide(x: u16) -> usize
+    ensures { λ r. ⌜ r ≡ x ⌝ }
+{
+    x as usize
+}
+
+fn same(a: &[u16], b: &[u16]) -> bool
+    ensures { λ r. ⌜ SameWords (now (a .entry)) (now (b .entry)) r ⌝ }
+{
+    if a.len() != b.len() {
+        return false;
+    }
+    let mut i: usize = 0;
+    while i < a.len() {
+        if a[i] != b[i] {
+            return false;
+        }
+        i += 1;
+    }
+    true
+}
+
+fn clear(work: &mut [u16])
+    requires { ⌜ 8192 ≤ length (now work) ⌝ }
+    ensures { λ _. ⌜ now (work .exit) ≡ cleared (now (work .entry)) ⌝ }
+{
+    let mut i: usize = 0;
+    while i < 8192 {
+        work[i] = 0;
+        i += 1;
+    }
+}
+
+// ---- A literal.
+
+// The place after its first hedge.
+fn first_end(literal: &[u16]) -> usize
+    ensures { λ r. ⌜ FirstEnd (now (literal .entry)) r ⌝ }
+{
+    match reader::read_hedge(literal, 1) {
+        Read::Next(end) => end,
+        Read::Stop(place) => place,
+    }
+}
+
+// Both sides are written into the work slice, one after the other.
+fn meets_equation<'a>(
+    filling: &'a [u16],
+    left: &'a [u16],
+    right: &'a [u16],
+    terms: usize,
+    hedges: usize,
+    work: &mut [u16],
+) -> bool
+    requires { ⌜ Shows terms hedges (now filling) (now left) ⌝ }
+    requires { ⌜ Shows terms hedges (now filling) (now right) ⌝ }
+    requires { ⌜ length (filled terms hedges (now filling) (now left)) + length (filled terms hedges (now filling) (now right)) ≤ 8192 ⌝ }
+    requires { ⌜ 8192 ≤ length (now work) ⌝ }
+    ensures { λ r. ⌜ EquationMet terms hedges (now (filling .entry)) (now (left .entry)) (now (right .entry)) (now (work .entry)) (now (work .exit)) r ⌝ }
+{
+    let mid = filling::fill_in(filling, left, terms, hedges, work, 0);
+    let end = filling::fill_in(filling, right, terms, hedges, work, mid);
+    let words = &work[..];
+    same(&words[0..mid], &words[mid..end])
+}
+
+// The hedge is written into the work slice.
+fn meets_membership<'a>(
+    filling: &'a [u16],
+    hedge: &'a [u16],
+    expression: &'a [u16],
+    terms: usize,
+    hedges: usize,
+    work: &mut [u16],
+) -> bool
+    requires { ⌜ Shows terms hedges (now filling) (now hedge) ⌝ }
+    requires { ⌜ Testable terms hedges (now filling) (now hedge) (now expression) ⌝ }
+    requires { ⌜ length (now expression) ≤ 1024 ⌝ }
+    requires { ⌜ length (filled terms hedges (now filling) (now hedge)) ≤ 8192 ⌝ }
+    requires { ⌜ 8192 ≤ length (now work) ⌝ }
+    ensures { λ r. ⌜ MembershipMet terms hedges (now (filling .entry)) (now (hedge .entry)) (now (expression .entry)) (now (work .entry)) (now (work .exit)) r ⌝ }
+{
+    let end = filling::fill_in(filling, hedge, terms, hedges, work, 0);
+    member::member(expression, 0, &work[..], 0)
+}
