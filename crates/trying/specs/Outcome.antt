@@ -11,7 +11,7 @@ use Rattle.trying.specs.declared.Tried.{Tried}
 use Rattle.trying.specs.declared.Tried.the-variants.{Yes, No, Refused}
 
 -- "Zeros" covers the first 8,192 words; later words of a longer slice stay.
-abbrev pub cleared : List ℕ → List ℕ
+unfoldable pub cleared : List ℕ → List ℕ
 cleared w = replicate 8192 0 ++ drop 8192 w
 
 -- yes exactly where it holds

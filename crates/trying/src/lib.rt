@@ -105,3 +105,32 @@ fn meets_membership<'a>(
     let end = filling::fill_in(filling, hedge, terms, hedges, work, 0);
     member::member(expression, 0, &work[..], 0)
 }
+
+fn meets_literal<'a>(h: Header, filling: &'a [u16], literal: &'a [u16], work: &mut [u16]) -> bool
+    requires { ⌜ FittingLiteral (countsIn h) (now filling) (now literal) ⌝ }
+    requires { ⌜ 8192 ≤ length (now work) ⌝ }
+    ensures { λ r. ⌜ LiteralMet (countsIn h) (now (filling .entry)) (now (literal .entry)) (now (work .entry)) (now (work .exit)) r ⌝ }
+{
+    let terms = wide(h.terms);
+    let hedges = wide(h.hedges);
+    let mid = first_end(literal);
+    let end = literal.len();
+    if literal[0] == 5000 {
+        return meets_equation(
+            filling,
+            &literal[1..mid],
+            &literal[mid..end],
+            terms,
+            hedges,
+            work,
+        );
+    }
+    meets_membership(
+        filling,
+        &literal[1..mid],
+        &literal[mid..end],
+        terms,
+        hedges,
+        work,
+    )
+}

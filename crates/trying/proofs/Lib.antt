@@ -1,0 +1,5 @@
+pub mod Rooms
+pub mod Literals
+pub mod Tests
+pub mod Parts
+pub mod Meeting
