@@ -46,11 +46,11 @@ module _ (t h : ℕ) (fs : List ℕ) where
   filled-append (u ∷ us) vs = ap (λ l. wordOn t h fs u (kindOf desk u) ++ l) (filled-append us vs) ∙ sym (append-assoc (wordOn t h fs u (kindOf desk u)) (filled t h fs us) (filled t h fs vs))
 
   -- a word of a kind
-  filled-word : (w : ℕ) (k : Kind) (ws us : List ℕ) → kindOf desk w ≡ k → filled t h fs ws ≡ us → filled t h fs (w ∷ ws) ≡ wordOn t h fs w k ++ us
+  pub filled-word : (w : ℕ) (k : Kind) (ws us : List ℕ) → kindOf desk w ≡ k → filled t h fs ws ≡ us → filled t h fs (w ∷ ws) ≡ wordOn t h fs w k ++ us
   unfolding filled
   filled-word w k ws us e f = ap (λ k. wordOn t h fs w k ++ filled t h fs ws) e ∙ ap (λ l. wordOn t h fs w k ++ l) f
 
-  filled-parts : (us vs us′ vs′ : List ℕ) → filled t h fs us ≡ us′ → filled t h fs vs ≡ vs′ → filled t h fs (us ++ vs) ≡ us′ ++ vs′
+  pub filled-parts : (us vs us′ vs′ : List ℕ) → filled t h fs us ≡ us′ → filled t h fs vs ≡ vs′ → filled t h fs (us ++ vs) ≡ us′ ++ vs′
   filled-parts us vs us′ vs′ e f = filled-append us vs ∙ ap (λ l. l ++ filled t h fs vs) e ∙ ap (λ l. us′ ++ l) f
 
   none : filled t h fs [] ≡ []

@@ -3,3 +3,5 @@ pub mod Literals
 pub mod Tests
 pub mod Parts
 pub mod Meeting
+pub mod Conjunctions
+pub mod Scans

@@ -3,7 +3,7 @@ use Prim.Native.Nat.{ℕ, _+_, _≤_}
 use mathlib.Core.Path.{_≡_}
 use mathlib.Core.Logic.{_↔_}
 use mathlib.Core.Bool.{Bool, true, false}
-use mathlib.Core.List.{List}
+use mathlib.Core.List.{List, _++_}
 use lib.ListN.{length, drop, getD}
 use Rattle.language.specs.Limits.{desk}
 use Rattle.language.specs.Trees.{Hedge, Expr, Literal, eqn, mem, Conj, Counts, Question}
@@ -76,6 +76,10 @@ pub record LiteralMet (n : Counts) (fs ws w w′ : List ℕ) (r : Bool) : Type 0
   pub each : (l : Literal) (ρ : Filling) → ALiteral n fs ws l ρ → (r ≡ true) ↔ Meets ρ l
 
 -- ---- a conjunction
+
+-- the place after the literal at `at`
+pub record LiteralEnd (ws : List ℕ) (at r : ℕ) : Type 0 where
+  pub each : (l : Literal) (k : Conj) → fineLiteral desk l → drop at ws ≡ literalWords l ++ conjWords k → r ≡ at + length (literalWords l)
 
 pub record AConj (n : Counts) (fs ws : List ℕ) (k : Conj) (ρ : Filling) : Type 0 where
   pub given : readFilling desk n fs ≡ gives ρ

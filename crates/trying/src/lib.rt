@@ -10,7 +10,7 @@ ghost use Rattle.language.specs.Limits.{desk};
 ghost use Rattle.rules.specs.Calls.{trying};
 ghost use Rattle.reader.specs.Checking.{headerOf, countsIn};
 ghost use Rattle.filling.specs.Showing.{filled, Shows};
-ghost use Rattle.trying.specs.Tasks.{SameWords, FirstEnd, EquationMet, Testable, MembershipMet, FittingLiteral, LiteralMet, SomeConj, FittingConj, ConjTooLong, ConjMet, SomeQuestion, FittingQuestion, QuestionTooLong, QuestionMet};
+ghost use Rattle.trying.specs.Tasks.{SameWords, FirstEnd, EquationMet, Testable, MembershipMet, FittingLiteral, LiteralMet, LiteralEnd, SomeConj, FittingConj, ConjTooLong, ConjMet, SomeQuestion, FittingQuestion, QuestionTooLong, QuestionMet};
 ghost use Rattle.trying.specs.Outcome.{cleared, Outcome};
 
 // What comes of trying a filling.
@@ -133,4 +133,51 @@ fn meets_literal<'a>(h: Header, filling: &'a [u16], literal: &'a [u16], work: &m
         hedges,
         work,
     )
+}
+
+// ---- A conjunction.
+
+// The place after the literal at `at`.
+fn literal_end(conj: &[u16], at: usize) -> usize
+    ensures { λ r. ⌜ LiteralEnd (now (conj .entry)) at r ⌝ }
+{
+    match reader::read_literal(conj, at) {
+        Read::Next(end) => end,
+        Read::Stop(place) => place,
+    }
+}
+
+// Whether one of its literals, filled in, is too long.
+fn too_long<'a>(h: Header, filling: &'a [u16], conj: &'a [u16]) -> bool
+    requires { ⌜ SomeConj (countsIn h) (now filling) (now conj) ⌝ }
+    ensures { λ r. ⌜ ConjTooLong (countsIn h) (now (filling .entry)) (now (conj .entry)) r ⌝ }
+{
+    let mut i: usize = 0;
+    while i < conj.len() {
+        let end = literal_end(conj, i);
+        let terms = wide(h.terms);
+        let hedges = wide(h.hedges);
+        if 8192 < filling::filled_len(filling, &conj[i..end], terms, hedges) {
+            return true;
+        }
+        i = end;
+    }
+    false
+}
+
+// Whether all its literals are met.
+fn meets_all<'a>(h: Header, filling: &'a [u16], conj: &'a [u16], work: &mut [u16]) -> bool
+    requires { ⌜ FittingConj (countsIn h) (now filling) (now conj) ⌝ }
+    requires { ⌜ 8192 ≤ length (now work) ⌝ }
+    ensures { λ r. ⌜ ConjMet (countsIn h) (now (filling .entry)) (now (conj .entry)) (now (work .entry)) (now (work .exit)) r ⌝ }
+{
+    let mut i: usize = 0;
+    while i < conj.len() {
+        let end = literal_end(conj, i);
+        if !meets_literal(h, filling, &conj[i..end], work) {
+            return false;
+        }
+        i = end;
+    }
+    true
 }
