@@ -5,3 +5,4 @@ pub mod Parts
 pub mod Meeting
 pub mod Conjunctions
 pub mod Scans
+pub mod Questions

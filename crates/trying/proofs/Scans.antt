@@ -25,11 +25,11 @@ none-left [] e = refl
 none-left (eqn l r ∷ k) e = absurd (let z = ap length e in omega arith)
 none-left (mem h R ∷ k) e = absurd (let z = ap length e in omega arith)
 
-or-false : (a b : Bool) → (a || b) ≡ false → (a ≡ false) × (b ≡ false)
+pub or-false : (a b : Bool) → (a || b) ≡ false → (a ≡ false) × (b ≡ false)
 or-false true b e = absurd (let z : _≡_ {A = ℕ} 0 1 = cc in omega arith)
 or-false false b e = (refl, e)
 
-true≢false : {A : Type 0} {b : Bool} → b ≡ true → b ≡ false → A
+pub true≢false : {A : Type 0} {b : Bool} → b ≡ true → b ≡ false → A
 true≢false p q = absurd (let z : _≡_ {A = ℕ} 0 1 = cc in omega arith)
 
 module _ (n : Counts) (fs ws : List ℕ) where

@@ -181,3 +181,55 @@ fn meets_all<'a>(h: Header, filling: &'a [u16], conj: &'a [u16], work: &mut [u16
     }
     true
 }
+
+// ---- A question.
+
+fn header(question: &[u16]) -> Header
+    requires { ⌜ 5 ≤ length (now question) ⌝ }
+    ensures { λ r. ⌜ r ≡ headerOf (now (question .entry)) ⌝ }
+{
+    Header {
+        symbols: question[0],
+        terms: question[1],
+        hedges: question[2],
+        functions: question[3],
+        alternatives: question[4],
+    }
+}
+
+// Whether some literal of the question, filled in, is too long: of all its alternatives, before any is tested.
+fn any_too_long<'a>(h: Header, filling: &'a [u16], question: &'a [u16]) -> bool
+    requires { ⌜ SomeQuestion h (now filling) (now question) ⌝ }
+    ensures { λ r. ⌜ QuestionTooLong h (now (filling .entry)) (now (question .entry)) r ⌝ }
+{
+    let n = wide(h.alternatives);
+    let mut i: usize = 0;
+    while i < n {
+        let from = wide(question[5 + i]);
+        let to = wide(question[6 + i]);
+        if too_long(h, filling, &question[from..to]) {
+            return true;
+        }
+        i += 1;
+    }
+    false
+}
+
+// Whether one of its alternatives is met.
+fn meets_one<'a>(h: Header, filling: &'a [u16], question: &'a [u16], work: &mut [u16]) -> bool
+    requires { ⌜ FittingQuestion h (now filling) (now question) ⌝ }
+    requires { ⌜ 8192 ≤ length (now work) ⌝ }
+    ensures { λ r. ⌜ QuestionMet h (now (filling .entry)) (now (question .entry)) (now (work .entry)) (now (work .exit)) r ⌝ }
+{
+    let n = wide(h.alternatives);
+    let mut i: usize = 0;
+    while i < n {
+        let from = wide(question[5 + i]);
+        let to = wide(question[6 + i]);
+        if meets_all(h, filling, &question[from..to], work) {
+            return true;
+        }
+        i += 1;
+    }
+    false
+}
