@@ -6,3 +6,4 @@ pub mod Meeting
 pub mod Conjunctions
 pub mod Scans
 pub mod Questions
+pub mod Outcomes

@@ -108,6 +108,12 @@ pub record ConjMet (n : Counts) (fs ws w w′ : List ℕ) (r : Bool) : Type 0 wh
 
 -- ---- a question
 
+-- a question that is not refused, and its header
+pub record AskedQuestion (h : Header) (ws : List ℕ) : Type 0 where
+  pub q : Question
+  pub read : readQuestion desk ws ≡ asks q
+  pub head : h ≡ headerOf ws
+
 pub record AQuestion (h : Header) (fs ws : List ℕ) (q : Question) (ρ : Filling) : Type 0 where
   pub read : readQuestion desk ws ≡ asks q
   pub head : h ≡ headerOf ws

@@ -10,8 +10,8 @@ ghost use Rattle.language.specs.Limits.{desk};
 ghost use Rattle.rules.specs.Calls.{trying};
 ghost use Rattle.reader.specs.Checking.{headerOf, countsIn};
 ghost use Rattle.filling.specs.Showing.{filled, Shows};
-ghost use Rattle.trying.specs.Tasks.{SameWords, FirstEnd, EquationMet, Testable, MembershipMet, FittingLiteral, LiteralMet, LiteralEnd, SomeConj, FittingConj, ConjTooLong, ConjMet, SomeQuestion, FittingQuestion, QuestionTooLong, QuestionMet};
-ghost use Rattle.trying.specs.Outcome.{cleared, Outcome};
+ghost use Rattle.trying.specs.Tasks.{SameWords, FirstEnd, EquationMet, Testable, MembershipMet, FittingLiteral, LiteralMet, LiteralEnd, SomeConj, FittingConj, ConjTooLong, ConjMet, SomeQuestion, FittingQuestion, QuestionTooLong, QuestionMet, AskedQuestion};
+ghost use Rattle.trying.specs.Outcome.{cleared, Outcome, TriedGiven, TriedAsked};
 
 // What comes of trying a filling.
 pub enum Tried {
@@ -232,4 +232,52 @@ fn meets_one<'a>(h: Header, filling: &'a [u16], question: &'a [u16], work: &mut 
         i += 1;
     }
     false
+}
+
+// ---- The call.
+
+// For a question and a filling that are not refused: 13, or the answer.
+fn try_given<'a>(h: Header, question: &'a [u16], filling: &'a [u16], work: &mut [u16]) -> Tried
+    requires { ⌜ SomeQuestion h (now filling) (now question) ⌝ }
+    requires { ⌜ 8192 ≤ length (now work) ⌝ }
+    ensures { λ r. ⌜ TriedGiven h (now (filling .entry)) (now (question .entry)) r (now (work .entry)) (now (work .exit)) ⌝ }
+{
+    if any_too_long(h, filling, question) {
+        clear(work);
+        return Tried::Refused(Refusal::LongLiteral);
+    }
+    let met = meets_one(h, filling, question, work);
+    clear(work);
+    if met {
+        return Tried::Yes;
+    }
+    Tried::No
+}
+
+// For a question that is not refused: 11 and 12 come next.
+fn try_asked<'a>(h: Header, question: &'a [u16], filling: &'a [u16], work: &mut [u16]) -> Tried
+    requires { ⌜ AskedQuestion h (now question) ⌝ }
+    requires { ⌜ 8192 ≤ length (now work) ⌝ }
+    ensures { λ r. ⌜ TriedAsked h (now (filling .entry)) (now (question .entry)) r (now (work .entry)) (now (work .exit)) ⌝ }
+{
+    match filling::read_filling(h, filling) {
+        Checked::Refused(refusal) => Tried::Refused(refusal),
+        Checked::Fine => try_given(h, question, filling, work),
+    }
+}
+
+// Whether the filling meets the question; or 1 to 6, 11, 12 with the work slice as it was; or 13. Else it is left with zeros.
+pub fn try_filling<'a>(question: &'a [u16], filling: &'a [u16], work: &mut [u16]) -> Tried
+    ensures { λ r. ⌜ Outcome (trying desk (length (now (work .entry))) (now (question .entry)) (now (filling .entry))) r (now (work .entry)) (now (work .exit)) ⌝ }
+{
+    if work.len() < 8192 {
+        return Tried::Refused(Refusal::ShortSlice);
+    }
+    match reader::read_question(question) {
+        Checked::Refused(refusal) => Tried::Refused(refusal),
+        Checked::Fine => {
+            let h = header(question);
+            try_asked(h, question, filling, work)
+        }
+    }
 }
