@@ -18,9 +18,7 @@ use Rattle.language.specs.Between.{between}
 use Rattle.language.specs.Undeclared.{declaredKind, declaredWord, declaredWords}
 use Rattle.language.proofs.Arms.{Among, each-kind}
 use Rattle.language.proofs.Offsets.{rising-step, rising-le, laid-length, laid-rises, parts-start, parts-done, parts-cons}
-use Rattle.reader.specs.declared.Read.{Read}
 use Rattle.reader.specs.declared.Read.the-variants.{Next, Stop}
-use Rattle.reader.specs.declared.Scan.{Scan}
 use Rattle.reader.specs.declared.Scan.the-variants.{Declared, Undeclared}
 use Rattle.reader.specs.declared.Header.{Header}
 use Rattle.reader.specs.Places.{placed}

@@ -2,3 +2,4 @@ pub mod Placing
 pub mod Parts
 pub mod Checks
 pub mod Verdicts
+pub mod Answers

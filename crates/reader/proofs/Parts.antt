@@ -6,20 +6,19 @@ use native.Mathlib.Omega.{arith}
 use lib.ListN.{length, drop, getD, drop-of-length-le}
 use Rattle.language.proofs.Arms.{Among, each-kind}
 use Rattle.language.specs.declared.Kind.{Kind}
-use Rattle.language.specs.declared.Kind.the-variants.{End, Term, Run, Symbol, Function, Equation, Membership, Eps, Cat, Alt, Star, Other}
+use Rattle.language.specs.declared.Kind.the-variants.{End, Term, Run, Equation, Membership, Eps}
 use Rattle.language.specs.declared.TermVar.{TermVar}
 use Rattle.language.specs.declared.HedgeVar.{HedgeVar}
 use Rattle.language.specs.Limits.{desk}
 use Rattle.language.specs.Kinds.{kindOf}
-use Rattle.language.specs.Trees.{Functor, Hedge, ε, tvar, hvar, node, symbol, fvar, Expr, eps, cat, alt, star, over, Literal, eqn, mem}
-use Rattle.language.specs.Reading.{Got, got, stop, after, both, next, Reader, termOn, readTerm, hedgeOn, readHedge, exprOn, readExpr, literalOn, readLiteral, readConj}
+use Rattle.language.specs.Trees.{Functor, Hedge, ε, tvar, hvar, node, symbol, fvar, Expr, cat, alt, star, over, Literal, eqn, mem}
+use Rattle.language.specs.Reading.{Got, got, stop, after, both, next, termOn, readTerm, hedgeOn, readHedge, exprOn, readExpr, literalOn, readLiteral, readConj}
 use Rattle.language.proofs.Steps.{readHedge-step, readExpr-step}
 use Rattle.language.proofs.Hedges.{term-at, hedge-at}
 use Rattle.language.proofs.Expressions.{expr-at}
 use Rattle.language.proofs.Formats.{Is, Right}
 use Rattle.language.proofs.Literals.{literals, literal-at, literal-some, right-literal}
 use Rattle.language.proofs.Conjunctions.{readConj-step}
-use Rattle.reader.specs.declared.Read.{Read}
 use Rattle.reader.specs.declared.Read.the-variants.{Next, Stop}
 use Rattle.reader.specs.Places.{placed}
 use Rattle.reader.proofs.Placing.{placed-after, placed-next, placed-none, moves, thenAt, past, both-at, here, at-kind}

@@ -1,6 +1,6 @@
 -- What `read_question` answers, check by check: each test that failed, with those before it passed, is the refusal that the question gets.
 use mathlib.Core.Path.{_≡_, refl, sym, ap, _∙_}
-use mathlib.Core.Bool.{Bool, true, false}
+use mathlib.Core.Bool.{true, false}
 use mathlib.Core.List.{List}
 use mathlib.Core.Option.{Option, none, some}
 use Prim.Native.Nat.{ℕ, _+_, _<_, _≤_}
@@ -16,9 +16,7 @@ use Rattle.language.specs.Undeclared.{declaredWords}
 use Rattle.language.proofs.Questions.{bad-length, bad-counts, bad-offset, bad-literals, not-declared, asked}
 use Rattle.language.proofs.Alternatives.{question-declared}
 use Rattle.reader.specs.declared.Header.{Header}
-use Rattle.reader.specs.declared.Scan.{Scan}
 use Rattle.reader.specs.declared.Scan.the-variants.{Declared, Undeclared}
-use Rattle.reader.specs.declared.Checked.{Checked}
 use Rattle.reader.specs.declared.Checked.the-variants.{Fine, Refused}
 use Rattle.reader.specs.Checking.{readable, headerOf, countsIn, firstUndeclared, checked}
 use Rattle.reader.proofs.Checks.{scan-clean, scan-finds}

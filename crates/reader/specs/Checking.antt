@@ -6,6 +6,7 @@ use mathlib.Core.Option.{Option, none, some}
 use lib.ListN.{getD}
 use Rattle.language.specs.Limits.{Limits}
 use Rattle.language.specs.Kinds.{pick}
+use Rattle.language.specs.Numbers.{numberOf}
 use Rattle.language.specs.Trees.{Conj, Counts}
 use Rattle.language.specs.Question.{Asked, asks, refuses}
 use Rattle.language.specs.Undeclared.{declaredWord}
@@ -36,3 +37,8 @@ firstUndeclared L n at (w ∷ ws) = pick (declaredWord L n w) (firstUndeclared L
 unfoldable pub checked : Asked → Checked
 checked (asks q) = Fine
 checked (refuses r) = Refused r
+
+-- the number that comes back
+abbrev pub checkedNumber : Checked → ℕ
+checkedNumber Fine = 0
+checkedNumber (Refused r) = numberOf r

@@ -5,6 +5,7 @@ use language::Kind;
 use language::Refusal;
 use language::Sym;
 use language::TermVar;
+use language::number;
 ghost use mathlib.Core.Path.{_≡_};
 ghost use mathlib.Core.Bool.{true};
 ghost use Prim.Native.Nat.{_≤_};
@@ -16,7 +17,7 @@ ghost use Rattle.language.specs.Question.{rising, laidOut, parts, readAll, coun
 ghost use Rattle.language.specs.Undeclared.{declaredWord};
 ghost use Rattle.language.specs.Between.{between};
 ghost use Rattle.reader.specs.Places.{placed};
-ghost use Rattle.reader.specs.Checking.{readable, headerOf, countsIn, firstUndeclared, checked};
+ghost use Rattle.reader.specs.Checking.{readable, headerOf, countsIn, firstUndeclared, checked, checkedNumber};
 
 // The place after what was read, or the place of the first word that cannot go on.
 pub enum Read {
@@ -295,5 +296,15 @@ pub fn read_question(question: &[u16]) -> Checked
     match find_undeclared(h, question, wide(n) + 6) {
         Scan::Undeclared(_) => Checked::Refused(Refusal::Undeclared),
         Scan::Declared => Checked::Fine,
+    }
+}
+
+// The number that comes back for it: 0 for a question that is not refused.
+pub fn verdict_number(verdict: Checked) -> u16
+    ensures { λ r. ⌜ r ≡ checkedNumber verdict ⌝ }
+{
+    match verdict {
+        Checked::Fine => 0,
+        Checked::Refused(refusal) => number(refusal),
     }
 }

@@ -1,7 +1,7 @@
 -- The proof of `reader::read_expr`, which calls itself: the words left fall.
 -- Assumes nothing.
 use Prim.Native.Nat.{ℕ, _<_, _-_}
-use mathlib.Core.Path.{_≡_, sym, _∙_}
+use mathlib.Core.Path.{sym, _∙_}
 use native.Mathlib.Omega.{arith}
 use lib.ListN.{length}
 use borrow.Author.Needs.{needs}

@@ -1,12 +1,12 @@
 -- `reader::find_undeclared` meets its contract. The loop keeps what is to be returned.
 -- Assumes nothing.
-use Prim.Native.Nat.{ℕ, _-_}
-use mathlib.Core.Path.{_≡_, refl, sym, _∙_}
+use Prim.Native.Nat.{_-_}
+use mathlib.Core.Path.{_≡_, refl, _∙_}
 use native.Mathlib.Omega.{arith}
 use lib.ListN.{length, drop}
 use borrow.Author.Needs.{needs}
-use borrow.Author.Tests.{not-true, not-false}
 use Rattle.language.specs.Limits.{desk}
+use Rattle.language.proofs.Bools.{holds, fails}
 use Rattle.reader.specs.Checking.{countsIn, firstUndeclared}
 use Rattle.reader.proofs.Checks.{scan-done, scan-on, scan-here}
 use Rattle.reader.proofs.find_undeclared.Statement.{statement}
@@ -26,8 +26,8 @@ find-undeclared-spec =
     (λ c. search needs)
     (λ c. search needs)
     (λ c κs. search needs)
-    (λ c. scan-here _ _ _ (omega arith) (sym (c .before .is-declared .ensures) ∙ not-true _ (c .if1 .taken)) ∙ c .before .before .before .before .loop .inv)
+    (λ c. scan-here _ _ _ (omega arith) (fails _ _ (c .before .is-declared .ensures) (c .if1 .taken)) ∙ c .before .before .before .before .loop .inv)
     (λ c. search needs)
     (λ c. search needs)
-    (λ c. scan-on _ _ _ (omega arith) (sym (c .before .is-declared .ensures) ∙ not-false _ (c .if1 .left)) ∙ c .before .before .before .before .loop .inv)
+    (λ c. scan-on _ _ _ (omega arith) (holds _ _ (c .before .is-declared .ensures) (c .if1 .left)) ∙ c .before .before .before .before .loop .inv)
     (λ c. scan-done _ _ _ (omega arith) ∙ c .before .loop .inv))

@@ -1,6 +1,6 @@
 -- `reader::read_conj` meets its contract. The loop keeps what is to be returned: what reading at `i` gives is what reading all words gives.
 -- Assumes nothing.
-use Prim.Native.Nat.{ℕ, _-_}
+use Prim.Native.Nat.{_-_}
 use mathlib.Core.Path.{_≡_, refl, sym, _∙_}
 use native.Mathlib.Omega.{arith}
 use lib.ListN.{length, drop}

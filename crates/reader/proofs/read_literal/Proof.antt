@@ -1,6 +1,6 @@
 -- `reader::read_literal` meets its contract: the word there says which two parts follow.
 -- Assumes nothing.
-use mathlib.Core.Path.{_≡_, sym, _∙_}
+use mathlib.Core.Path.{sym, _∙_}
 use native.Mathlib.Omega.{arith}
 use borrow.Author.Needs.{needs}
 use Rattle.language.specs.Limits.{desk}
