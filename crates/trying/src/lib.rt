@@ -1,5 +1,6 @@
 // Trying a filling: whether it meets a question, or why that cannot be said.
 use language::Refusal;
+use language::number;
 use reader::Checked;
 use reader::Header;
 use reader::Read;
@@ -11,7 +12,7 @@ ghost use Rattle.rules.specs.Calls.{trying};
 ghost use Rattle.reader.specs.Checking.{headerOf, countsIn};
 ghost use Rattle.filling.specs.Showing.{filled, Shows};
 ghost use Rattle.trying.specs.Tasks.{SameWords, FirstEnd, EquationMet, Testable, MembershipMet, FittingLiteral, LiteralMet, LiteralEnd, SomeConj, FittingConj, ConjTooLong, ConjMet, SomeQuestion, FittingQuestion, QuestionTooLong, QuestionMet, AskedQuestion};
-ghost use Rattle.trying.specs.Outcome.{cleared, Outcome, TriedGiven, TriedAsked};
+ghost use Rattle.trying.specs.Outcome.{cleared, Outcome, TriedGiven, TriedAsked, triedNumber, triedValue};
 
 // What comes of trying a filling.
 pub enum Tried {
@@ -279,5 +280,29 @@ pub fn try_filling<'a>(question: &'a [u16], filling: &'a [u16], work: &mut [u16]
             let h = header(question);
             try_asked(h, question, filling, work)
         }
+    }
+}
+
+// ---- What comes back.
+
+// The number in the table, 0 for none.
+pub fn tried_number(tried: Tried) -> u16
+    ensures { λ r. ⌜ r ≡ triedNumber tried ⌝ }
+{
+    match tried {
+        Tried::Yes => 0,
+        Tried::No => 0,
+        Tried::Refused(refusal) => number(refusal),
+    }
+}
+
+// 1 for yes, and else 0.
+pub fn tried_value(tried: Tried) -> u16
+    ensures { λ r. ⌜ r ≡ triedValue tried ⌝ }
+{
+    match tried {
+        Tried::Yes => 1,
+        Tried::No => 0,
+        Tried::Refused(_) => 0,
     }
 }
