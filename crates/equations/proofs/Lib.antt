@@ -1,4 +1,4 @@
-pub mod Rank
+pub mod Decisions
 pub mod Plain
 pub mod Eliminating
 pub mod Cutting
@@ -6,3 +6,5 @@ pub mod Dispatch
 pub mod Names
 pub mod Looked
 pub mod Nodes
+pub mod Variables
+pub mod Leading

@@ -49,3 +49,7 @@ at-empty P ε e k = k
 at-empty P (tvar x r) e k = absurd (let z : _≡_ {A = ℕ} 0 1 = cc in omega arith)
 at-empty P (hvar p r) e k = absurd (let z : _≡_ {A = ℕ} 0 1 = cc in omega arith)
 at-empty P (node f c r) e k = absurd (let z : _≡_ {A = ℕ} 0 1 = cc in omega arith)
+
+-- a test beside another
+pub both-on : {a x t : Bool} (u : Bool) → t ≡ (a && u) → a ≡ x → t ≡ (x && u)
+both-on {a} {x} {t} u r p = r ∙ ap (λ (z : Bool). z && u) p

@@ -4,7 +4,7 @@ use mathlib.Core.Path.{_≡_}
 use mathlib.Core.Bool.{Bool, true, false, not, _&&_, _||_}
 use mathlib.Core.List.{List, _++_}
 use Rattle.language.specs.Kinds.{pick}
-use Rattle.language.specs.Trees.{Functor, symbol, fvar, Hedge, Conj, fv, inConj}
+use Rattle.language.specs.Trees.{Functor, symbol, fvar, Hedge, ε, tvar, hvar, node, Conj, fv, inConj}
 use Rattle.plans.specs.declared.View.{View}
 use Rattle.plans.specs.Views.{Sees}
 use Rattle.equations.specs.Rank.{rankOf}
@@ -29,3 +29,10 @@ blanksIn F G K = blankIn F K && (not (isBlank G) || blankIn G K)
 -- single terms with the functors F and G: whether they are blanks, the same, both without children, and E5's test
 abbrev pub functorsBy : Bool → Bool → Bool → Bool → Bool → ℕ
 functorsBy blankF blankG same bare e5 = pick blankF (pick same 12 (pick bare (pick e5 17 28) 18)) (pick blankG 28 (pick same 12 4))
+
+-- a hedge that begins with a term
+abbrev pub Begins : Hedge → Type 0
+Begins ε = ⊥
+Begins (tvar x r) = Unit {0}
+Begins (hvar p r) = ⊥
+Begins (node f c r) = Unit {0}

@@ -1,4 +1,7 @@
 // The first rule at an equation, and the plan of its results.
 mod functors;
-mod plan;
+pub mod plan;
+pub mod rank;
+mod runs;
+mod terms;
 mod tests;
