@@ -13,6 +13,7 @@ use Rattle.rules.specs.Rules.{Branch, plain, Answer, R1, Del1, Del3, D2, D0}
 use Rattle.rules.specs.Step.{place}
 use Rattle.plans.specs.declared.Slot.{Slot}
 use Rattle.plans.specs.declared.Recipe.{Recipe}
+use Rattle.plans.specs.declared.Ways.{Ways}
 use Rattle.plans.specs.declared.Ways.the-variants.{One}
 use Rattle.plans.specs.declared.Plan.{Plan}
 use Rattle.plans.specs.declared.Side.{Side}
@@ -36,6 +37,10 @@ planned {k} {p} {before} {behind} {a} s = record { results = λ bs e. go a bs e 
     go : (a : Answer) (bs : List Branch) → a ≡ some bs → Where (λ bs. resultsOf k p ≡ placedWords before behind bs) a → resultsOf k p ≡ placedWords before behind bs
     go none bs e s = absurd (let z : _≡_ {A = ℕ} 0 1 = cc in omega arith)
     go (some cs) bs e s = let d : cs ≡ bs = cc in s ∙ ap (placedWords before behind) d
+
+-- the slots may be named
+pub via-slots : {ways : Ways} {slots s : List Slot} {old until new : ℕ} {p : Plan} → slots ≡ s → p ≡ planBy ways slots old until new → p ≡ planBy ways s old until new
+via-slots {ways} {slots} {s} {old} {until} {new} e d = d ∙ ap (λ (m : List Slot). planBy ways m old until new) e
 
 -- one result
 pub one-result : (k : List ℕ) (before behind : Conj) (slots : List Slot) (old until new cut : ℕ) (b : Branch)

@@ -5,6 +5,7 @@ use mathlib.Core.List.{List, [], _∷_, _++_}
 use mathlib.Core.Option.{Option, some}
 use Rattle.language.specs.Trees.{Hedge, Conj}
 use Rattle.rules.specs.Rules.{Branch, Answer, EqRule}
+use Rattle.plans.specs.declared.Piece.{Piece}
 use Rattle.plans.specs.declared.Piece.the-variants.{Word, Copy, Put, ToCut, PutFromCut}
 use Rattle.plans.specs.declared.Slot.{Slot}
 use Rattle.plans.specs.declared.Recipe.{Recipe}
@@ -42,6 +43,16 @@ fromCut to = record { piece = PutFromCut to }
 
 abbrev pub noPiece : Slot
 noPiece = copy 0 0
+
+abbrev pub slot : Piece → Slot
+slot a = record { piece = a }
+
+-- five pieces, and ten
+abbrev pub fewSlots : Piece → Piece → Piece → Piece → Piece → List Slot
+fewSlots a b c d e = slot a ∷ slot b ∷ slot c ∷ slot d ∷ slot e ∷ noPiece ∷ noPiece ∷ noPiece ∷ noPiece ∷ noPiece ∷ noPiece ∷ noPiece ∷ []
+
+abbrev pub tenSlots : Piece → Piece → Piece → Piece → Piece → Piece → Piece → Piece → Piece → Piece → List Slot
+tenSlots a b c d e f g h i j = slot a ∷ slot b ∷ slot c ∷ slot d ∷ slot e ∷ slot f ∷ slot g ∷ slot h ∷ slot i ∷ slot j ∷ noPiece ∷ noPiece ∷ []
 
 abbrev pub blankRecipe : Recipe
 blankRecipe = record {

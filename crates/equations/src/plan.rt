@@ -5,7 +5,7 @@ ghost use lib.ListN.{length};
 ghost use Rattle.rules.specs.Rules.{R1, Del1, Del3, D2, D0, E1, E2, E3, E4, E5, E6};
 ghost use Rattle.plans.specs.declared.Ways.the-variants.{Drop};
 ghost use Rattle.plans.specs.Ranks.{eqnAnswer};
-ghost use Rattle.equations.specs.Planned.{Plans, blankRecipe, planBy};
+ghost use Rattle.equations.specs.Planned.{Plans, blankRecipe, planBy, fewSlots, tenSlots};
 use plans::Look;
 use plans::Piece;
 use plans::Plan;
@@ -66,24 +66,57 @@ fn plan_by(ways: Ways, slots: [Slot; 12], old: usize, until: usize, new: usize) 
     }
 }
 
+// A recipe of up to five pieces.
+fn few(a: Piece, b: Piece, c: Piece, d: Piece, e: Piece) -> [Slot; 12]
+    ensures { λ s. ⌜ s ≡ fewSlots a b c d e ⌝ }
+{
+    [
+        Slot { piece: a },
+        Slot { piece: b },
+        Slot { piece: c },
+        Slot { piece: d },
+        Slot { piece: e },
+        Slot { piece: Piece::Copy(0, 0) },
+        Slot { piece: Piece::Copy(0, 0) },
+        Slot { piece: Piece::Copy(0, 0) },
+        Slot { piece: Piece::Copy(0, 0) },
+        Slot { piece: Piece::Copy(0, 0) },
+        Slot { piece: Piece::Copy(0, 0) },
+        Slot { piece: Piece::Copy(0, 0) },
+    ]
+}
+
+// A recipe of up to ten pieces.
+fn ten(a: Piece, b: Piece, c: Piece, d: Piece, e: Piece, f: Piece, g: Piece, h: Piece, i: Piece, j: Piece) -> [Slot; 12]
+    ensures { λ s. ⌜ s ≡ tenSlots a b c d e f g h i j ⌝ }
+{
+    [
+        Slot { piece: a },
+        Slot { piece: b },
+        Slot { piece: c },
+        Slot { piece: d },
+        Slot { piece: e },
+        Slot { piece: f },
+        Slot { piece: g },
+        Slot { piece: h },
+        Slot { piece: i },
+        Slot { piece: j },
+        Slot { piece: Piece::Copy(0, 0) },
+        Slot { piece: Piece::Copy(0, 0) },
+    ]
+}
+
 // The literal is removed.
 fn plan_r1(k: &[u16], v: View) -> Plan
     ensures { λ p. ⌜ Plans R1 (now (k .entry)) v p ⌝ }
 {
-    let slots = [
-        Slot { piece: Piece::Copy(0, v.at) },
-        Slot { piece: Piece::Copy(v.end, v.len) },
-        Slot { piece: Piece::Copy(0, 0) },
-        Slot { piece: Piece::Copy(0, 0) },
-        Slot { piece: Piece::Copy(0, 0) },
-        Slot { piece: Piece::Copy(0, 0) },
-        Slot { piece: Piece::Copy(0, 0) },
-        Slot { piece: Piece::Copy(0, 0) },
-        Slot { piece: Piece::Copy(0, 0) },
-        Slot { piece: Piece::Copy(0, 0) },
-        Slot { piece: Piece::Copy(0, 0) },
-        Slot { piece: Piece::Copy(0, 0) },
-    ];
+    let slots = few(
+        Piece::Copy(0, v.at),
+        Piece::Copy(v.end, v.len),
+        Piece::Copy(0, 0),
+        Piece::Copy(0, 0),
+        Piece::Copy(0, 0),
+    );
     plan_by(Ways::One(0), slots, 0, 0, 0)
 }
 
@@ -93,20 +126,13 @@ fn plan_del1(k: &[u16], v: View) -> Plan
 {
     let l = v.l;
     let r = v.r;
-    let slots = [
-        Slot { piece: Piece::Copy(0, v.at) },
-        Slot { piece: Piece::Word(5000) },
-        Slot { piece: Piece::Copy(l.rest, l.to) },
-        Slot { piece: Piece::Copy(r.rest, r.to) },
-        Slot { piece: Piece::Copy(v.end, v.len) },
-        Slot { piece: Piece::Copy(0, 0) },
-        Slot { piece: Piece::Copy(0, 0) },
-        Slot { piece: Piece::Copy(0, 0) },
-        Slot { piece: Piece::Copy(0, 0) },
-        Slot { piece: Piece::Copy(0, 0) },
-        Slot { piece: Piece::Copy(0, 0) },
-        Slot { piece: Piece::Copy(0, 0) },
-    ];
+    let slots = few(
+        Piece::Copy(0, v.at),
+        Piece::Word(5000),
+        Piece::Copy(l.rest, l.to),
+        Piece::Copy(r.rest, r.to),
+        Piece::Copy(v.end, v.len),
+    );
     plan_by(Ways::One(0), slots, 0, 0, 0)
 }
 
@@ -116,20 +142,18 @@ fn plan_d2(k: &[u16], v: View) -> Plan
 {
     let l = v.l;
     let r = v.r;
-    let slots = [
-        Slot { piece: Piece::Copy(0, v.at) },
-        Slot { piece: Piece::Word(5000) },
-        Slot { piece: Piece::Copy(l.from, l.rest) },
-        Slot { piece: Piece::Word(0) },
-        Slot { piece: Piece::Copy(r.from, r.rest) },
-        Slot { piece: Piece::Word(0) },
-        Slot { piece: Piece::Word(5000) },
-        Slot { piece: Piece::Copy(l.rest, l.to) },
-        Slot { piece: Piece::Copy(r.rest, r.to) },
-        Slot { piece: Piece::Copy(v.end, v.len) },
-        Slot { piece: Piece::Copy(0, 0) },
-        Slot { piece: Piece::Copy(0, 0) },
-    ];
+    let slots = ten(
+        Piece::Copy(0, v.at),
+        Piece::Word(5000),
+        Piece::Copy(l.from, l.rest),
+        Piece::Word(0),
+        Piece::Copy(r.from, r.rest),
+        Piece::Word(0),
+        Piece::Word(5000),
+        Piece::Copy(l.rest, l.to),
+        Piece::Copy(r.rest, r.to),
+        Piece::Copy(v.end, v.len),
+    );
     plan_by(Ways::One(0), slots, 0, 0, 0)
 }
 
@@ -143,20 +167,13 @@ fn plan_d0(k: &[u16], v: View) -> Plan
     let left_to = back(l.to);
     let right = forth(k, r.from);
     let right_to = back(r.to);
-    let slots = [
-        Slot { piece: Piece::Copy(0, v.at) },
-        Slot { piece: Piece::Word(5000) },
-        Slot { piece: Piece::Copy(left, left_to) },
-        Slot { piece: Piece::Copy(right, right_to) },
-        Slot { piece: Piece::Copy(v.end, v.len) },
-        Slot { piece: Piece::Copy(0, 0) },
-        Slot { piece: Piece::Copy(0, 0) },
-        Slot { piece: Piece::Copy(0, 0) },
-        Slot { piece: Piece::Copy(0, 0) },
-        Slot { piece: Piece::Copy(0, 0) },
-        Slot { piece: Piece::Copy(0, 0) },
-        Slot { piece: Piece::Copy(0, 0) },
-    ];
+    let slots = few(
+        Piece::Copy(0, v.at),
+        Piece::Word(5000),
+        Piece::Copy(left, left_to),
+        Piece::Copy(right, right_to),
+        Piece::Copy(v.end, v.len),
+    );
     plan_by(Ways::One(0), slots, 0, 0, 0)
 }
 
@@ -167,20 +184,13 @@ fn plan_e1(k: &[u16], v: View) -> Plan
     let l = v.l;
     let r = v.r;
     let cut = back(r.to);
-    let slots = [
-        Slot { piece: Piece::Put(0, v.at) },
-        Slot { piece: Piece::Word(5000) },
-        Slot { piece: Piece::Copy(l.from, l.to) },
-        Slot { piece: Piece::Copy(r.from, r.to) },
-        Slot { piece: Piece::Put(v.end, v.len) },
-        Slot { piece: Piece::Copy(0, 0) },
-        Slot { piece: Piece::Copy(0, 0) },
-        Slot { piece: Piece::Copy(0, 0) },
-        Slot { piece: Piece::Copy(0, 0) },
-        Slot { piece: Piece::Copy(0, 0) },
-        Slot { piece: Piece::Copy(0, 0) },
-        Slot { piece: Piece::Copy(0, 0) },
-    ];
+    let slots = few(
+        Piece::Put(0, v.at),
+        Piece::Word(5000),
+        Piece::Copy(l.from, l.to),
+        Piece::Copy(r.from, r.to),
+        Piece::Put(v.end, v.len),
+    );
     plan_by(Ways::One(cut), slots, l.from, l.rest, r.from)
 }
 
@@ -191,20 +201,13 @@ fn plan_e2(k: &[u16], v: View) -> Plan
     let l = v.l;
     let r = v.r;
     let cut = back(r.to);
-    let slots = [
-        Slot { piece: Piece::Put(0, v.at) },
-        Slot { piece: Piece::Word(5000) },
-        Slot { piece: Piece::Copy(l.from, l.to) },
-        Slot { piece: Piece::Copy(r.from, r.to) },
-        Slot { piece: Piece::Put(v.end, v.len) },
-        Slot { piece: Piece::Copy(0, 0) },
-        Slot { piece: Piece::Copy(0, 0) },
-        Slot { piece: Piece::Copy(0, 0) },
-        Slot { piece: Piece::Copy(0, 0) },
-        Slot { piece: Piece::Copy(0, 0) },
-        Slot { piece: Piece::Copy(0, 0) },
-        Slot { piece: Piece::Copy(0, 0) },
-    ];
+    let slots = few(
+        Piece::Put(0, v.at),
+        Piece::Word(5000),
+        Piece::Copy(l.from, l.to),
+        Piece::Copy(r.from, r.to),
+        Piece::Put(v.end, v.len),
+    );
     plan_by(Ways::One(cut), slots, l.from, l.rest, r.from)
 }
 
@@ -216,20 +219,13 @@ fn plan_e5(k: &[u16], v: View) -> Plan
     let r = v.r;
     let until = forth(k, l.from);
     let cut = forth(k, r.from);
-    let slots = [
-        Slot { piece: Piece::Put(0, v.at) },
-        Slot { piece: Piece::Word(5000) },
-        Slot { piece: Piece::Copy(l.from, l.to) },
-        Slot { piece: Piece::Copy(r.from, r.to) },
-        Slot { piece: Piece::Put(v.end, v.len) },
-        Slot { piece: Piece::Copy(0, 0) },
-        Slot { piece: Piece::Copy(0, 0) },
-        Slot { piece: Piece::Copy(0, 0) },
-        Slot { piece: Piece::Copy(0, 0) },
-        Slot { piece: Piece::Copy(0, 0) },
-        Slot { piece: Piece::Copy(0, 0) },
-        Slot { piece: Piece::Copy(0, 0) },
-    ];
+    let slots = few(
+        Piece::Put(0, v.at),
+        Piece::Word(5000),
+        Piece::Copy(l.from, l.to),
+        Piece::Copy(r.from, r.to),
+        Piece::Put(v.end, v.len),
+    );
     plan_by(Ways::One(cut), slots, l.from, until, r.from)
 }
 
@@ -265,20 +261,18 @@ fn plan_e3(k: &[u16], v: View) -> Plan
     let l = v.l;
     let r = v.r;
     let terms = all_terms(k, r.from);
-    let slots = [
-        Slot { piece: Piece::Put(0, v.at) },
-        Slot { piece: Piece::Word(5000) },
-        Slot { piece: Piece::Copy(l.from, l.rest) },
-        Slot { piece: Piece::Word(0) },
-        Slot { piece: Piece::ToCut(r.from) },
-        Slot { piece: Piece::Word(0) },
-        Slot { piece: Piece::Word(5000) },
-        Slot { piece: Piece::Put(l.rest, l.to) },
-        Slot { piece: Piece::PutFromCut(r.to) },
-        Slot { piece: Piece::Put(v.end, v.len) },
-        Slot { piece: Piece::Copy(0, 0) },
-        Slot { piece: Piece::Copy(0, 0) },
-    ];
+    let slots = ten(
+        Piece::Put(0, v.at),
+        Piece::Word(5000),
+        Piece::Copy(l.from, l.rest),
+        Piece::Word(0),
+        Piece::ToCut(r.from),
+        Piece::Word(0),
+        Piece::Word(5000),
+        Piece::Put(l.rest, l.to),
+        Piece::PutFromCut(r.to),
+        Piece::Put(v.end, v.len),
+    );
     let cuts = terms.count + 1;
     plan_by(Ways::Cuts(r.from, cuts), slots, l.from, l.rest, r.from)
 }
@@ -290,20 +284,18 @@ fn plan_e4(k: &[u16], v: View) -> Plan
     let l = v.l;
     let r = v.r;
     let ahead = up_to(k, r.from, word(k, l.from));
-    let slots = [
-        Slot { piece: Piece::Put(0, v.at) },
-        Slot { piece: Piece::Word(5000) },
-        Slot { piece: Piece::Copy(l.from, l.rest) },
-        Slot { piece: Piece::Word(0) },
-        Slot { piece: Piece::ToCut(r.from) },
-        Slot { piece: Piece::Word(0) },
-        Slot { piece: Piece::Word(5000) },
-        Slot { piece: Piece::Put(l.rest, l.to) },
-        Slot { piece: Piece::PutFromCut(r.to) },
-        Slot { piece: Piece::Put(v.end, v.len) },
-        Slot { piece: Piece::Copy(0, 0) },
-        Slot { piece: Piece::Copy(0, 0) },
-    ];
+    let slots = ten(
+        Piece::Put(0, v.at),
+        Piece::Word(5000),
+        Piece::Copy(l.from, l.rest),
+        Piece::Word(0),
+        Piece::ToCut(r.from),
+        Piece::Word(0),
+        Piece::Word(5000),
+        Piece::Put(l.rest, l.to),
+        Piece::PutFromCut(r.to),
+        Piece::Put(v.end, v.len),
+    );
     let cuts = ahead.count + 1;
     plan_by(Ways::Cuts(r.from, cuts), slots, l.from, l.rest, r.from)
 }
@@ -316,20 +308,18 @@ fn plan_del3(k: &[u16], v: View) -> Plan
     let r = v.r;
     let spot = inside(k, r.from, word(k, l.from));
     let next = forth(k, spot.place);
-    let slots = [
-        Slot { piece: Piece::Copy(0, v.at) },
-        Slot { piece: Piece::Word(5000) },
-        Slot { piece: Piece::Copy(r.from, spot.place) },
-        Slot { piece: Piece::Word(0) },
-        Slot { piece: Piece::Word(0) },
-        Slot { piece: Piece::Word(5000) },
-        Slot { piece: Piece::Copy(next, r.to) },
-        Slot { piece: Piece::Word(0) },
-        Slot { piece: Piece::Copy(v.end, v.len) },
-        Slot { piece: Piece::Copy(0, 0) },
-        Slot { piece: Piece::Copy(0, 0) },
-        Slot { piece: Piece::Copy(0, 0) },
-    ];
+    let slots = ten(
+        Piece::Copy(0, v.at),
+        Piece::Word(5000),
+        Piece::Copy(r.from, spot.place),
+        Piece::Word(0),
+        Piece::Word(0),
+        Piece::Word(5000),
+        Piece::Copy(next, r.to),
+        Piece::Word(0),
+        Piece::Copy(v.end, v.len),
+        Piece::Copy(0, 0),
+    );
     plan_by(Ways::One(0), slots, 0, 0, 0)
 }
 
