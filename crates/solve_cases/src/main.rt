@@ -1,14 +1,19 @@
 // Reads cases, a line of a question's words each, and writes the refusal's number, the lines, the open lines, the steps and, where nothing is
 // refused, the answer's words up to the end of its last line.
-ghost use lib.ListN.{length};
-ghost use Prim.Native.Nat.{_≤_};
+ghost use Prim.Native.Nat.{_<_};
 
 fn number(n: u64) {
     io::print_decimal(1, n);
     io::write_all(1, b" ");
 }
 
-fn wide(x: u16) -> usize {
+fn wide(x: u16) -> u64 {
+    x as u64
+}
+
+fn place(x: u16) -> usize
+    ensures { λ r. ⌜ r < 65536 ⌝ }
+{
     x as usize
 }
 
@@ -19,7 +24,7 @@ fn words(answer: &[u16], end: usize) {
         if end <= i {
             return;
         }
-        number(answer[i] as u64);
+        number(wide(answer[i]));
         i += 1;
     }
 }
@@ -36,13 +41,13 @@ fn one(question: &[u8]) {
     let s = solver::solve(&asked[0..n], &mut work, &mut answer);
     let outcome = s.outcome;
     let refusal = solver::outcome_number(outcome);
-    number(refusal as u64);
+    number(wide(refusal));
     number(s.lines as u64);
     number(s.open as u64);
     number(s.steps as u64);
     if refusal == 0 {
-        let at = wide(word(&answer, 0)) + 2;
-        let end = wide(word(&answer, at));
+        let at = place(word(&answer, 0)) + 2;
+        let end = place(word(&answer, at));
         words(&answer, end);
     }
     io::write_all(1, b"\n");
