@@ -1,0 +1,10 @@
+pub mod Parts
+pub mod Words
+pub mod Spans
+pub mod Sides
+pub mod Members
+pub mod Replaced
+pub mod Looks
+pub mod Literals
+pub mod Seen
+pub mod Same
