@@ -1,0 +1,4 @@
+pub mod Standing
+pub mod Passed
+pub mod Linear
+pub mod Spots
