@@ -1,0 +1,38 @@
+-- A line in words, and what is found in it of a variable.
+use Prim.Native.Nat.{ℕ, _+_}
+use mathlib.Core.Path.{_≡_}
+use mathlib.Core.Bool.{true}
+use mathlib.Core.List.{List, [], _∷_, _++_}
+use mathlib.Core.Option.{Option, none, some}
+use lib.ListN.{length}
+use Rattle.language.specs.Limits.{desk}
+use Rattle.language.specs.Trees.{Expr, Literal, Conj, Var, inLiteral}
+use Rattle.language.specs.Writing.{conjWords}
+use Rattle.language.specs.Fine.{fineConj}
+use Rattle.rules.specs.Solved.{solves}
+use Rattle.rules.specs.Example.{expressionOf, binds, bound}
+use Rattle.views.specs.Variables.{variableWord, fineVar}
+use Rattle.views.specs.Standing.{LiteralAt}
+use Rattle.exprs.specs.Standing.{Here}
+use Rattle.values.specs.declared.Place.{Place}
+use Rattle.values.specs.declared.Place.the-variants.{At, Nowhere}
+
+-- k are the words of c
+pub record Line (k : List ℕ) (c : Conj) : Type 0 where
+  pub words : k ≡ conjWords c
+  pub fine : fineConj desk c
+
+-- x is the word of v
+pub record Word (v : Var) (x : ℕ) : Type 0 where
+  pub fine : fineVar desk v
+  pub is : x ≡ variableWord v
+
+-- the place of v's expression
+pub data Expressed (k : List ℕ) (c : Conj) (v : Var) : Place → Type 0 where
+  expressed : {e : ℕ} (R : Expr) (beyond : List ℕ) → expressionOf v c ≡ some R → Here k e R beyond → Expressed k c v (At e)
+  unexpressed : expressionOf v c ≡ none → Expressed k c v Nowhere
+
+-- the place of the first literal that holds v
+pub data Held (k : List ℕ) (c : Conj) (v : Var) : Place → Type 0 where
+  held : {at : ℕ} (before : Conj) (l : Literal) (behind : Conj) → LiteralAt k at before l behind → bound v [] c ≡ binds v (solves (before ++ behind) l) → Held k c v (At at)
+  unheld : bound v [] c ≡ none → Held k c v Nowhere
