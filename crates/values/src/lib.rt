@@ -3,8 +3,9 @@ ghost use Prim.Native.Nat.{ℕ, _+_, _≤_, _<_};
 ghost use mathlib.Core.Path.{_≡_};
 ghost use mathlib.Core.List.{List, [], _∷_};
 ghost use lib.ListN.{length};
-ghost use Rattle.language.specs.Trees.{Conj, Var};
-ghost use Rattle.values.specs.Lines.{Line, Word, Expressed, Held};
+ghost use Rattle.language.specs.Trees.{Literal, Conj, Var};
+ghost use Rattle.values.specs.Lines.{Line, Word, Shown, Expressed, Held};
+ghost use Rattle.views.specs.Standing.{LiteralAt};
 use views::next_literal;
 use views::side_at;
 use views::stands;
@@ -16,18 +17,31 @@ pub enum Place {
 
 // ---- where a variable stands
 
+// The place of the expression of the literal at a place, where it is a membership that holds a variable, and 0 where it is not.
+fn expression_at(k: &[u16], at: usize, x: u16) -> usize
+    requires { ⌜ at < length (now k) ⌝ }
+    ensures { λ r. ⌜ ((before : Conj) (l : Literal) (behind : Conj) (v : Var) → LiteralAt (now (k .entry)) at before l behind → Word v x → Shown (now (k .entry)) l behind v r) ⌝ }
+{
+    if k[at] != 6000 {
+        return 0;
+    }
+    let h = side_at(k, at + 1);
+    let e = h.to;
+    if stands(k, at + 1, e, x) {
+        return e;
+    }
+    0
+}
+
 // The place of the expression of the first membership that holds a variable.
 fn expression_of(k: &[u16], x: u16) -> Place
     ensures { λ p. ⌜ ((c : Conj) (v : Var) → Line (now (k .entry)) c → Word v x → Expressed (now (k .entry)) c v p) ⌝ }
 {
     let mut at = 0;
     while at < k.len() {
-        if k[at] == 6000 {
-            let h = side_at(k, at + 1);
-            let e = h.to;
-            if stands(k, at + 1, e, x) {
-                return Place::At(e);
-            }
+        let e = expression_at(k, at, x);
+        if e != 0 {
+            return Place::At(e);
         }
         at = next_literal(k, at);
     }
