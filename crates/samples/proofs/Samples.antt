@@ -22,13 +22,14 @@ module _ {k : List ℕ} {at : ℕ} where
   -- ---- measured
 
   pub measured-end : length k ≤ at → Measured k at (record { end = at; words = 0 })
-  measured-end z = record { after = omega arith; within = λ y. omega arith; short = omega arith; each = past-end _ z }
+  measured-end z = record { after = omega arith; within = λ y. omega arith; short = omega arith; few = omega arith; each = past-end _ z }
 
   pub measured-eps : at < length k → getD k at 0 ≡ 7000 → Measured k at (record { end = at + 1; words = 0 })
   measured-eps i z = record {
     after = omega arith;
     within = λ y. omega arith;
     short = omega arith;
+    few = omega arith;
     each = by-eps _ z (λ w. record { end = refl; words = refl });
   }
 
@@ -39,6 +40,7 @@ module _ {k : List ℕ} {at : ℕ} where
         after = omega arith;
         within = λ y. a .within (omega arith);
         short = omega arith;
+        few = let m = a .within (omega arith) in omega arith;
         each = by-star _ z (λ A w h. let e = a .each A w h .end in record { end = omega arith; words = refl });
       }
 
@@ -50,6 +52,7 @@ module _ {k : List ℕ} {at : ℕ} where
         after = omega arith;
         within = λ y. a .within (omega arith);
         short = omega arith;
+        few = let m = a .within (omega arith) in omega arith;
         each = by-over _ z (λ f y u A w h.
             let e = a .each A w h .end in
             let n = a .each A w h .words in
@@ -69,6 +72,7 @@ module _ {k : List ℕ} {at : ℕ} where
           after = omega arith;
           within = λ y. b .within (a .within (omega arith));
           short = omega arith;
+          few = let v = a .within (omega arith) in let w = b .within v in omega arith;
           each = by-cat _ z (λ A B w h o.
               let l = a .each A _ h in
               let r = b .each B w (second-of h o (l .end)) in
@@ -91,6 +95,7 @@ module _ {k : List ℕ} {at : ℕ} where
           after = omega arith;
           within = λ y. b .within (a .within (omega arith));
           short = omega arith;
+          few = let v = a .within (omega arith) in let w = b .within v in omega arith;
           each = λ R v g. by-alt (λ R v. SampleOf at R (record { end = q .end; words = p .words })) (is-alt g n0 n1 n3 lo) (λ A B w h o.
               let l = a .each A _ h in
               let r = b .each B w (second-of h o (l .end)) in

@@ -22,6 +22,7 @@ pub record Measured (k : List ℕ) (at : ℕ) (s : Sample) : Type 0 where
   pub after : at ≤ s .end
   pub within : at ≤ length k → s .end ≤ length k
   pub short : 2 * at + s .words ≤ 2 * s .end
+  pub few : s .words ≤ 2 * length k
   pub each : (R : Expr) (beyond : List ℕ) → Here k at R beyond → SampleOf at R s
 
 -- the sample of R is written from `to` on

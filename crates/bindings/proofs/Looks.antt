@@ -25,7 +25,7 @@ use Rattle.plans.specs.declared.View.{View}
 use Rattle.views.specs.Variables.{variableWord, fineVar}
 use Rattle.views.proofs.Sides.{side-whole}
 use Rattle.views.proofs.Members.{eqb-base, member-hedge, elsewhere-sees}
-use Rattle.values.specs.Binding.{termLook, functorLook, seen, wordOf, soleWord}
+use Rattle.bindings.specs.Binding.{termLook, functorLook, seen, wordOf, soleWord}
 
 abbrev pub FineOption : Option Var → Type 0
 FineOption none = Unit {0}

@@ -5,11 +5,11 @@ use borrow.Author.Needs.{needs}
 use native.Mathlib.Omega.{arith}
 use lib.ListN.{length}
 use Rattle.language.specs.Trees.{Conj, Var}
-use Rattle.values.specs.Lines.{Line, Word, Walk}
-use Rattle.values.proofs.Walks.{walk-start}
-use Rattle.values.proofs.Places.{Binding, held-here, binding-on, held-nowhere}
-use Rattle.values.proofs.holder.Statement.{statement}
-use Rattle.values.proofs.holder.Tie as tie
+use Rattle.bindings.specs.Lines.{Line, Word, Walk}
+use Rattle.bindings.proofs.Walks.{walk-start}
+use Rattle.bindings.proofs.Places.{Binding, held-here, binding-on, held-nowhere}
+use Rattle.bindings.proofs.holder.Statement.{statement}
+use Rattle.bindings.proofs.holder.Tie as tie
 
 abbrev Inv-loop : tie.InvT-loop
 Inv-loop k x at₀ at = (c : Conj) (v : Var) → Line k c → Word v x → Walk k at c (Binding c v)

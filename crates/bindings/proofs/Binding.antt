@@ -22,14 +22,14 @@ use Rattle.views.specs.Standing.{Stands, LiteralAt}
 use Rattle.views.proofs.Sides.{side-stands}
 use Rattle.views.proofs.Members.{eqb-base}
 use Rattle.views.proofs.Parts.{word-of}
-use Rattle.values.specs.Lines.{Line, Word, Held, held, unheld}
-use Rattle.values.specs.Binding.{soleWord, BoundBy, to, free}
-use Rattle.values.specs.declared.Place.{Place}
-use Rattle.values.specs.declared.Place.the-variants.{At, Nowhere}
-use Rattle.values.specs.declared.Bound.{Bound}
-use Rattle.values.specs.declared.Bound.the-variants.{To, Free}
-use Rattle.values.proofs.Walks.{literal-here}
-use Rattle.values.proofs.Looks.{FineOption, variable-fine}
+use Rattle.bindings.specs.Lines.{Line, Word, Held, held, unheld}
+use Rattle.bindings.specs.Binding.{soleWord, BoundBy, to, free}
+use Rattle.bindings.specs.declared.Place.{Place}
+use Rattle.bindings.specs.declared.Place.the-variants.{At, Nowhere}
+use Rattle.bindings.specs.declared.Bound.{Bound}
+use Rattle.bindings.specs.declared.Bound.the-variants.{To, Free}
+use Rattle.bindings.proofs.Walks.{literal-here}
+use Rattle.bindings.proofs.Looks.{FineOption, variable-fine}
 
 -- different words are of different variables
 pub eqb-words : (u v : Var) → fineVar desk u → fineVar desk v → eqb (variableWord u) (variableWord v) ≡ eqV u v

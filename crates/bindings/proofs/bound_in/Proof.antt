@@ -1,8 +1,8 @@
 -- What a literal binds a variable to: an equation, the side that solves the variable, the left before the right.
 use borrow.Author.Needs.{needs}
-use Rattle.values.proofs.Binding.{bound-past, free-other, in-left, not-left, in-right, not-right}
-use Rattle.values.proofs.bound_in.Statement.{statement}
-use Rattle.values.proofs.bound_in.Tie as tie
+use Rattle.bindings.proofs.Binding.{bound-past, free-other, in-left, not-left, in-right, not-right}
+use Rattle.bindings.proofs.bound_in.Statement.{statement}
+use Rattle.bindings.proofs.bound_in.Tie as tie
 
 pub bound-in-spec : {M : Type 1} → statement M
 bound-in-spec =

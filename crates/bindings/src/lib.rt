@@ -1,4 +1,4 @@
-// The values of a line's variables, as words: measured first, then written straight to their place.
+// What a line says of a variable: the expression of its membership, and what an equation binds it to.
 ghost use Prim.Native.Nat.{ℕ, _+_, _≤_, _<_};
 ghost use mathlib.Core.Path.{_≡_};
 ghost use mathlib.Core.Bool.{not, _&&_, _||_};
@@ -11,8 +11,8 @@ ghost use Rattle.plans.specs.Results.{member};
 ghost use Rattle.plans.specs.Views.{Sees};
 ghost use Rattle.rules.specs.Solved.{variable, alone, solves};
 ghost use Rattle.rules.specs.Example.{binds, bound};
-ghost use Rattle.values.specs.Lines.{Line, Word, Shown, Expressed, Held};
-ghost use Rattle.values.specs.Binding.{termLook, functorLook, seen, soleWord, BoundBy};
+ghost use Rattle.bindings.specs.Lines.{Line, Word, Shown, Expressed, Held};
+ghost use Rattle.bindings.specs.Binding.{termLook, functorLook, seen, soleWord, BoundBy};
 ghost use Rattle.views.specs.Standing.{LiteralAt};
 use plans::Look;
 use plans::View;
@@ -53,7 +53,7 @@ fn expression_at(k: &[u16], at: usize, x: u16) -> usize
 }
 
 // The place of the expression of the first membership that holds a variable.
-fn expression_of(k: &[u16], x: u16) -> Place
+pub fn expression_of(k: &[u16], x: u16) -> Place
     ensures { λ p. ⌜ ((c : Conj) (v : Var) → Line (now (k .entry)) c → Word v x → Expressed (now (k .entry)) c v p) ⌝ }
 {
     let mut at = 0;
@@ -193,7 +193,7 @@ fn bound_in(k: &[u16], at: usize, x: u16) -> Bound
 }
 
 // What a variable is bound to in its line.
-fn bound_to(k: &[u16], x: u16) -> Bound
+pub fn bound_to(k: &[u16], x: u16) -> Bound
     ensures { λ b. ⌜ ((c : Conj) (v : Var) → Line (now (k .entry)) c → Word v x → BoundBy (now (k .entry)) (bound v [] c) b) ⌝ }
 {
     let p = holder(k, x);

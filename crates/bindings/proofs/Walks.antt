@@ -13,7 +13,7 @@ use Rattle.views.specs.Places.{untilLiteral}
 use Rattle.views.specs.Standing.{LiteralAt}
 use Rattle.views.proofs.Words.{words-append}
 use Rattle.views.proofs.Literals.{next-literal}
-use Rattle.values.specs.Lines.{Line, Walk}
+use Rattle.bindings.specs.Lines.{Line, Walk}
 
 fine-parts : (a b : Conj) → fineConj desk (a ++ b) → fineConj desk a × fineConj desk b
 fine-parts [] b f = (tt, f)

@@ -1,14 +1,14 @@
 use borrow.Author.Needs.{needs}
-use Rattle.values.specs.Binding.{seen}
-use Rattle.values.proofs.Looks.{seen-term, seen-run, seen-node}
-use Rattle.values.proofs.variable_of.Statement.{statement}
-use Rattle.values.proofs.variable_of.Tie as tie
-use Rattle.values.proofs.variable_of.Reads as reads
-use Rattle.values.proofs.variable_of.Lts as lts
-use Rattle.values.proofs.both.Reads as both-reads
-use Rattle.values.proofs.functor_look.Reads as functor-look-reads
-use Rattle.values.proofs.if_so.Reads as if-so-reads
-use Rattle.values.proofs.term_look.Reads as term-look-reads
+use Rattle.bindings.specs.Binding.{seen}
+use Rattle.bindings.proofs.Looks.{seen-term, seen-run, seen-node}
+use Rattle.bindings.proofs.variable_of.Statement.{statement}
+use Rattle.bindings.proofs.variable_of.Tie as tie
+use Rattle.bindings.proofs.variable_of.Reads as reads
+use Rattle.bindings.proofs.variable_of.Lts as lts
+use Rattle.bindings.proofs.both.Reads as both-reads
+use Rattle.bindings.proofs.functor_look.Reads as functor-look-reads
+use Rattle.bindings.proofs.if_so.Reads as if-so-reads
+use Rattle.bindings.proofs.term_look.Reads as term-look-reads
 
 -- src/lib.rt:128:9
 term-look-requires : tie.Need-term-look-requires

@@ -1,8 +1,8 @@
 -- A variable is bound by the first literal that holds it, or not at all.
 use borrow.Author.Needs.{needs}
-use Rattle.values.proofs.Binding.{bound-held, bound-nowhere}
-use Rattle.values.proofs.bound_to.Statement.{statement}
-use Rattle.values.proofs.bound_to.Tie as tie
+use Rattle.bindings.proofs.Binding.{bound-held, bound-nowhere}
+use Rattle.bindings.proofs.bound_to.Statement.{statement}
+use Rattle.bindings.proofs.bound_to.Tie as tie
 
 pub bound-to-spec : {M : Type 1} → statement M
 bound-to-spec =

@@ -1,8 +1,8 @@
 -- The literal at a place shows a variable's expression if it is a membership in whose hedge the variable's word stands.
 use borrow.Author.Needs.{needs}
-use Rattle.values.proofs.Places.{shown-other, shown-held, shown-unheld}
-use Rattle.values.proofs.expression_at.Statement.{statement}
-use Rattle.values.proofs.expression_at.Tie as tie
+use Rattle.bindings.proofs.Places.{shown-other, shown-held, shown-unheld}
+use Rattle.bindings.proofs.expression_at.Statement.{statement}
+use Rattle.bindings.proofs.expression_at.Tie as tie
 
 pub expression-at-spec : {M : Type 1} → statement M
 expression-at-spec =

@@ -22,10 +22,10 @@ use Rattle.views.specs.Variables.{variableWord}
 use Rattle.views.specs.Standing.{Stands, LiteralAt}
 use Rattle.views.proofs.Parts.{part-of, drop-of, word-of}
 use Rattle.views.proofs.Members.{member-hedge, member-literal}
-use Rattle.values.specs.Lines.{Line, Word, Found, Shown, Expressed, expressed, unexpressed, Held, held, unheld, Walk}
-use Rattle.values.specs.declared.Place.{Place}
-use Rattle.values.specs.declared.Place.the-variants.{At, Nowhere}
-use Rattle.values.proofs.Walks.{literal-here, literal-ends, walk-start, walk-literal, walk-next, walk-end}
+use Rattle.bindings.specs.Lines.{Line, Word, Found, Shown, Expressed, expressed, unexpressed, Held, held, unheld, Walk}
+use Rattle.bindings.specs.declared.Place.{Place}
+use Rattle.bindings.specs.declared.Place.the-variants.{At, Nowhere}
+use Rattle.bindings.proofs.Walks.{literal-here, literal-ends, walk-start, walk-literal, walk-next, walk-end}
 
 -- ---- at one literal
 

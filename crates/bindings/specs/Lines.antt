@@ -14,8 +14,8 @@ use Rattle.rules.specs.Example.{expressionOf, binds, bound}
 use Rattle.views.specs.Variables.{variableWord, fineVar}
 use Rattle.views.specs.Standing.{LiteralAt}
 use Rattle.exprs.specs.Standing.{Here}
-use Rattle.values.specs.declared.Place.{Place}
-use Rattle.values.specs.declared.Place.the-variants.{At, Nowhere}
+use Rattle.bindings.specs.declared.Place.{Place}
+use Rattle.bindings.specs.declared.Place.the-variants.{At, Nowhere}
 
 -- k are the words of c
 pub record Line (k : List ℕ) (c : Conj) : Type 0 where

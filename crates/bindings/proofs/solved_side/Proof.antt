@@ -1,8 +1,8 @@
 -- The side seen first solves the variable that it is, where that stands nowhere else.
 use borrow.Author.Needs.{needs}
-use Rattle.values.proofs.Looks.{solved-side}
-use Rattle.values.proofs.solved_side.Statement.{statement}
-use Rattle.values.proofs.solved_side.Tie as tie
+use Rattle.bindings.proofs.Looks.{solved-side}
+use Rattle.bindings.proofs.solved_side.Statement.{statement}
+use Rattle.bindings.proofs.solved_side.Tie as tie
 
 pub solved-side-spec : {M : Type 1} → statement M
 solved-side-spec =

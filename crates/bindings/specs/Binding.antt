@@ -13,8 +13,8 @@ use Rattle.plans.specs.declared.Look.{Look}
 use Rattle.plans.specs.declared.Look.the-variants.{Empty, Term, Run, Node}
 use Rattle.views.specs.Variables.{variableWord}
 use Rattle.views.specs.Standing.{Stands}
-use Rattle.values.specs.declared.Bound.{Bound}
-use Rattle.values.specs.declared.Bound.the-variants.{To, Free}
+use Rattle.bindings.specs.declared.Bound.{Bound}
+use Rattle.bindings.specs.declared.Bound.the-variants.{To, Free}
 
 -- a single term
 abbrev pub termLook : Look → Bool
