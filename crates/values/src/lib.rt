@@ -1,0 +1,81 @@
+// The values of a line's variables, as words: measured first, then written straight to their place.
+ghost use Prim.Native.Nat.{ℕ, _+_, _≤_, _<_};
+ghost use mathlib.Core.Path.{_≡_};
+ghost use mathlib.Core.List.{List};
+ghost use lib.ListN.{length};
+ghost use lib.Seq.{slice};
+ghost use Rattle.language.specs.Trees.{Conj, Var};
+ghost use Rattle.rules.specs.Example.{defaultSymbol, default, unsolved};
+ghost use Rattle.samples.specs.Bodies.{body};
+ghost use Rattle.samples.specs.Laid.{Laid};
+ghost use Rattle.bindings.specs.Lines.{Line, Word};
+ghost use Rattle.values.specs.Spelling.{becomes, spelled, HedgeWord, HedgeWords, runs};
+ghost use Rattle.values.specs.Values.{Settled, valueWords, UnsolvedLength, WordLength, PartLength, ValueLength};
+use bindings::Bound;
+use bindings::Place;
+use bindings::bound_to;
+use bindings::expression_of;
+use samples::measure;
+use samples::put;
+use samples::write_sample;
+
+// ---- a variable that no equation solves
+
+// The word of the symbol that a variable takes for want of another.
+pub fn default_word() -> u16
+    ensures { λ r. ⌜ r ≡ 3000 + defaultSymbol .0 ⌝ }
+{
+    3000
+}
+
+fn is_run(x: u16) -> bool
+    ensures { λ r. ⌜ ((v : Var) → Word v x → r ≡ runs v) ⌝ }
+{
+    if x < 2000 {
+        return false;
+    }
+    x < 3000
+}
+
+fn default_len(x: u16) -> usize
+    ensures { λ r. ⌜ (r ≤ 2) × ((v : Var) → Word v x → r ≡ length (body (default v))) ⌝ }
+{
+    if is_run(x) { 0 } else { 2 }
+}
+
+fn write_default(x: u16, out: &mut [u16], at: usize) -> usize
+    ensures { λ e. ⌜ ((v : Var) → Word v x → Laid (now (out .entry)) at (body (default v)) (now (out .exit)) e) ⌝ }
+{
+    if is_run(x) {
+        return at;
+    }
+    let d = default_word();
+    let e = put(out, at, d);
+    put(out, e, 0)
+}
+
+fn unsolved_len(k: &[u16], x: u16) -> usize
+    ensures { λ r. ⌜ UnsolvedLength (now (k .entry)) x r ⌝ }
+{
+    let p = expression_of(k, x);
+    match p {
+        Place::At(e) => {
+            let s = measure(k, e);
+            s.words
+        }
+        Place::Nowhere => default_len(x),
+    }
+}
+
+fn write_unsolved(k: &[u16], x: u16, out: &mut [u16], at: usize) -> usize
+    ensures { λ e. ⌜ ((c : Conj) (v : Var) → Line (now (k .entry)) c → Word v x → Laid (now (out .entry)) at (body (unsolved c v)) (now (out .exit)) e) ⌝ }
+{
+    let p = expression_of(k, x);
+    match p {
+        Place::At(e) => {
+            let w = write_sample(k, e, out, at);
+            w.to
+        }
+        Place::Nowhere => write_default(x, out, at),
+    }
+}
