@@ -1,1 +1,3 @@
 pub mod Unsolved
+pub mod Spelling
+pub mod Parts

@@ -79,3 +79,66 @@ fn write_unsolved(k: &[u16], x: u16, out: &mut [u16], at: usize) -> usize
         Place::Nowhere => write_default(x, out, at),
     }
 }
+
+// ---- a hedge, word by word
+
+// How many words a word of a hedge becomes.
+fn word_len(k: &[u16], x: u16) -> usize
+    ensures { λ r. ⌜ WordLength (now (k .entry)) x r ⌝ }
+{
+    if x < 1000 {
+        return 1;
+    }
+    if x < 3000 {
+        return unsolved_len(k, x);
+    }
+    1
+}
+
+fn write_word(k: &[u16], x: u16, out: &mut [u16], at: usize) -> usize
+    ensures { λ e. ⌜ ((c : Conj) → Line (now (k .entry)) c → Settled c → HedgeWord x → Laid (now (out .entry)) at (becomes (unsolved c) x) (now (out .exit)) e) ⌝ }
+{
+    if x < 1000 {
+        return put(out, at, x);
+    }
+    if x < 3000 {
+        return write_unsolved(k, x, out, at);
+    }
+    if x < 4000 {
+        return put(out, at, x);
+    }
+    let d = default_word();
+    put(out, at, d)
+}
+
+// How many words a part becomes.
+fn part_len(k: &[u16], from: usize, to: usize) -> usize
+    requires { ⌜ length (now k) ≤ 65536 ⌝ }
+    ensures { λ r. ⌜ PartLength (now (k .entry)) from to r ⌝ }
+{
+    let mut i = from;
+    let mut n: usize = 0;
+    while i < to {
+        if k.len() <= i {
+            return n;
+        }
+        n += word_len(k, k[i]);
+        i += 1;
+    }
+    n
+}
+
+fn write_part(k: &[u16], from: usize, to: usize, out: &mut [u16], at: usize) -> usize
+    ensures { λ e. ⌜ ((c : Conj) → Line (now (k .entry)) c → Settled c → HedgeWords (slice from to (now (k .entry))) → Laid (now (out .entry)) at (spelled (becomes (unsolved c)) (slice from to (now (k .entry)))) (now (out .exit)) e) ⌝ }
+{
+    let mut i = from;
+    let mut e = at;
+    while i < to {
+        if k.len() <= i {
+            return e;
+        }
+        e = write_word(k, k[i], out, e);
+        i += 1;
+    }
+    e
+}
