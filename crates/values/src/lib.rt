@@ -10,6 +10,7 @@ ghost use Rattle.samples.specs.Bodies.{body};
 ghost use Rattle.samples.specs.Laid.{Laid};
 ghost use Rattle.bindings.specs.Lines.{Line, Word};
 ghost use Rattle.values.specs.Spelling.{becomes, spelled, HedgeWord, HedgeWords, runs};
+ghost use Rattle.values.specs.Rows.{KindLength, KindStarts, KindWritten};
 ghost use Rattle.values.specs.Values.{Settled, valueWords, UnsolvedLength, WordLength, PartLength, ValueLength};
 use bindings::Bound;
 use bindings::Place;
@@ -18,6 +19,22 @@ use bindings::expression_of;
 use samples::measure;
 use samples::put;
 use samples::write_sample;
+
+// A row of offsets that is written: the place after it, and the offset that is next.
+pub struct Row {
+    pub to: usize,
+    pub next: usize,
+}
+
+// A number as a word, where it is one.
+pub fn short(n: usize) -> u16
+    ensures { λ r. ⌜ (n < 65536 → r ≡ n) ⌝ }
+{
+    if n < 65536 {
+        return n as u16;
+    }
+    0
+}
 
 // ---- a variable that no equation solves
 
@@ -139,6 +156,92 @@ fn write_part(k: &[u16], from: usize, to: usize, out: &mut [u16], at: usize) -> 
         }
         e = write_word(k, k[i], out, e);
         i += 1;
+    }
+    e
+}
+
+// ---- the value of a variable
+
+// How many words the value of a variable has.
+fn value_len(k: &[u16], x: u16) -> usize
+    requires { ⌜ length (now k) ≤ 65536 ⌝ }
+    ensures { λ r. ⌜ ValueLength (now (k .entry)) x r ⌝ }
+{
+    let b = bound_to(k, x);
+    match b {
+        Bound::To(from, to) => part_len(k, from, to),
+        Bound::Free => unsolved_len(k, x) + 1,
+    }
+}
+
+fn write_value(k: &[u16], x: u16, out: &mut [u16], at: usize) -> usize
+    ensures { λ e. ⌜ ((c : Conj) (v : Var) → Line (now (k .entry)) c → Settled c → Word v x → Laid (now (out .entry)) at (valueWords c v) (now (out .exit)) e) ⌝ }
+{
+    let b = bound_to(k, x);
+    match b {
+        Bound::To(from, to) => write_part(k, from, to, out, at),
+        Bound::Free => {
+            let e = write_unsolved(k, x, out, at);
+            put(out, e, 0)
+        }
+    }
+}
+
+// ---- the values of the variables of one kind, whose words begin at `base`
+
+// How many words they have together.
+pub fn values_len(k: &[u16], base: u16, count: usize) -> usize
+    requires { ⌜ (length (now k) ≤ 65536) × (base ≤ 4000) × (count ≤ 32) ⌝ }
+    ensures { λ r. ⌜ KindLength (now (k .entry)) base count r ⌝ }
+{
+    let mut x = base;
+    let mut j: usize = 0;
+    let mut n: usize = 0;
+    while j < count {
+        n += value_len(k, x);
+        x += 1;
+        j += 1;
+    }
+    n
+}
+
+// Writes where each begins, the first at `offset`; the answer has the place where the next would begin.
+pub fn write_starts(
+    k: &[u16],
+    base: u16,
+    count: usize,
+    out: &mut [u16],
+    at: usize,
+    offset: usize,
+) -> Row
+    requires { ⌜ (length (now k) ≤ 65536) × (base ≤ 4000) × (count ≤ 32) × (offset ≤ 1000000000000) ⌝ }
+    ensures { λ r. ⌜ KindStarts (now (k .entry)) base count (now (out .entry)) at offset (now (out .exit)) r ⌝ }
+{
+    let mut x = base;
+    let mut j: usize = 0;
+    let mut e = at;
+    let mut next = offset;
+    while j < count {
+        e = put(out, e, short(next));
+        next += value_len(k, x);
+        x += 1;
+        j += 1;
+    }
+    Row { to: e, next }
+}
+
+// Writes them in a row.
+pub fn write_values(k: &[u16], base: u16, count: usize, out: &mut [u16], at: usize) -> usize
+    requires { ⌜ (base ≤ 4000) × (count ≤ 32) ⌝ }
+    ensures { λ e. ⌜ KindWritten (now (k .entry)) base count (now (out .entry)) at (now (out .exit)) e ⌝ }
+{
+    let mut x = base;
+    let mut j: usize = 0;
+    let mut e = at;
+    while j < count {
+        e = write_value(k, x, out, e);
+        x += 1;
+        j += 1;
     }
     e
 }
