@@ -8,3 +8,7 @@ pub mod Looks
 pub mod Literals
 pub mod Seen
 pub mod Same
+pub mod Walks
+pub mod Finds
+pub mod Cuts
+pub mod Joins

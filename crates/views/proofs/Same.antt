@@ -7,7 +7,7 @@ use native.Mathlib.Decide.{decLe}
 use native.Mathlib.Nat.{min-le-left, min-le-right}
 use native.Mathlib.Omega.{arith}
 use lib.Dec.{eqb, leb}
-use lib.ListN.{length, getD, take, drop, length-take, drop-of-length-le}
+use lib.ListN.{length, getD, take, length-take, drop-of-length-le}
 use lib.Seq.{slice}
 use borrow.Author.Tests.{eq-eqb, ne-eqb, le-leb, lt-leb}
 use Rattle.language.specs.Limits.{desk}
@@ -18,6 +18,7 @@ use Rattle.plans.specs.Views.{Sided}
 use Rattle.plans.specs.declared.Side.{Side}
 use Rattle.views.specs.Places.{sameList}
 use Rattle.views.proofs.Parts.{part-cons}
+use Rattle.views.proofs.Spans.{functor-least}
 use Rattle.views.proofs.Members.{eqb-base}
 use Rattle.views.proofs.Sides.{side-whole}
 
@@ -55,15 +56,11 @@ module _ (k : List ℕ) (i t j u : ℕ) {m n : ℕ} (p : m ≡ min t (length k))
 
 -- ---- trees
 
-same-functor : (f g : Functor) → fineFunctor desk f → fineFunctor desk g → eqb (functorWord f) (functorWord g) ≡ eqF f g
+pub same-functor : (f g : Functor) → fineFunctor desk f → fineFunctor desk g → eqb (functorWord f) (functorWord g) ≡ eqF f g
 same-functor (symbol f) (symbol g) p q = eqb-base 3000 (f .0) (g .0)
 same-functor (symbol f) (fvar Y) p q = ne-eqb (3000 + f .0) (4000 + Y .0) (omega arith)
 same-functor (fvar X) (symbol g) p q = ne-eqb (4000 + X .0) (3000 + g .0) (omega arith)
 same-functor (fvar X) (fvar Y) p q = eqb-base 4000 (X .0) (Y .0)
-
-functor-low : (f : Functor) → 3000 ≤ functorWord f
-functor-low (symbol g) = omega arith
-functor-low (fvar X) = omega arith
 
 and-assoc : (p q r : Bool) → (p && (q && r)) ≡ ((p && q) && r)
 and-assoc true q r = refl
@@ -74,18 +71,18 @@ same-words : (l r : Hedge) → fineHedge desk l → fineHedge desk r → (us vs 
 same-words ε ε f g us vs = refl
 same-words ε (tvar y s) f g us vs = rw (ne-eqb 0 (1000 + y .0) (omega arith))
 same-words ε (hvar q s) f g us vs = rw (ne-eqb 0 (2000 + q .0) (omega arith))
-same-words ε (node b d s) f g us vs = let h = functor-low b in rw (ne-eqb 0 (functorWord b) (omega arith))
+same-words ε (node b d s) f g us vs = let h = functor-least b in rw (ne-eqb 0 (functorWord b) (omega arith))
 same-words (tvar x r) ε f g us vs = rw (ne-eqb (1000 + x .0) 0 (omega arith))
 same-words (tvar x r) (tvar y s) f g us vs = both-and (eqb-base 1000 (x .0) (y .0)) (same-words r s (f .1) (g .1) us vs) ∙ and-assoc (eqb (x .0) (y .0)) (sameWords r s) (sameList us vs)
 same-words (tvar x r) (hvar q s) f g us vs = rw (ne-eqb (1000 + x .0) (2000 + q .0) (omega arith))
-same-words (tvar x r) (node b d s) f g us vs = let h = functor-low b in rw (ne-eqb (1000 + x .0) (functorWord b) (omega arith))
+same-words (tvar x r) (node b d s) f g us vs = let h = functor-least b in rw (ne-eqb (1000 + x .0) (functorWord b) (omega arith))
 same-words (hvar p r) ε f g us vs = rw (ne-eqb (2000 + p .0) 0 (omega arith))
 same-words (hvar p r) (tvar y s) f g us vs = rw (ne-eqb (2000 + p .0) (1000 + y .0) (omega arith))
 same-words (hvar p r) (hvar q s) f g us vs = both-and (eqb-base 2000 (p .0) (q .0)) (same-words r s (f .1) (g .1) us vs) ∙ and-assoc (eqb (p .0) (q .0)) (sameWords r s) (sameList us vs)
-same-words (hvar p r) (node b d s) f g us vs = let h = functor-low b in rw (ne-eqb (2000 + p .0) (functorWord b) (omega arith))
-same-words (node a c r) ε f g us vs = let h = functor-low a in rw (ne-eqb (functorWord a) 0 (omega arith))
-same-words (node a c r) (tvar y s) f g us vs = let h = functor-low a in rw (ne-eqb (functorWord a) (1000 + y .0) (omega arith))
-same-words (node a c r) (hvar q s) f g us vs = let h = functor-low a in rw (ne-eqb (functorWord a) (2000 + q .0) (omega arith))
+same-words (hvar p r) (node b d s) f g us vs = let h = functor-least b in rw (ne-eqb (2000 + p .0) (functorWord b) (omega arith))
+same-words (node a c r) ε f g us vs = let h = functor-least a in rw (ne-eqb (functorWord a) 0 (omega arith))
+same-words (node a c r) (tvar y s) f g us vs = let h = functor-least a in rw (ne-eqb (functorWord a) (1000 + y .0) (omega arith))
+same-words (node a c r) (hvar q s) f g us vs = let h = functor-least a in rw (ne-eqb (functorWord a) (2000 + q .0) (omega arith))
 same-words (node a c r) (node b d s) f g us vs =
     both-and
     (same-functor a b (f .0) (g .0))

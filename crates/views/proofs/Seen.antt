@@ -1,5 +1,5 @@
 -- The view of an equation and the shape of a membership, from the sides found at its places.
-use mathlib.Core.Path.{_≡_, refl, sym, ap, _∙_}
+use mathlib.Core.Path.{_≡_, refl, ap, _∙_}
 use mathlib.Core.List.{List, [], _∷_, _++_, append-assoc}
 use Prim.Native.Nat.{ℕ, _+_}
 use native.Mathlib.Omega.{arith}
@@ -9,11 +9,9 @@ use Rattle.language.specs.Trees.{Hedge, Expr, eps, cat, alt, star, over, Litera
 use Rattle.language.specs.Writing.{hedgeWords, exprWords, literalWords, conjWords}
 use Rattle.plans.specs.Views.{Sided, Sees, Shows}
 use Rattle.plans.specs.declared.Side.{Side}
-use Rattle.plans.specs.declared.View.{View}
-use Rattle.plans.specs.declared.Shape.{Shape}
 use Rattle.views.specs.Places.{untilLiteral}
 use Rattle.views.specs.Standing.{Stands, LiteralAt}
-use Rattle.views.proofs.Parts.{part-of, drop-of, word-of}
+use Rattle.views.proofs.Parts.{drop-of, word-of}
 use Rattle.views.proofs.Literals.{next-literal}
 
 module _ {k : List ℕ} {at : ℕ} {before : Conj} {l : Literal} {behind : Conj} (s : LiteralAt k at before l behind) where

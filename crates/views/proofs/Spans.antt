@@ -2,7 +2,7 @@
 use mathlib.Core.Path.{_≡_, refl, sym, ap, _∙_}
 use mathlib.Core.Bool.{Bool, true, false}
 use mathlib.Core.List.{List, [], _∷_, _++_, append-assoc, append-nil}
-use Prim.Native.Nat.{ℕ, zero, suc, _+_, _-_, _<_, _≤_}
+use Prim.Native.Nat.{ℕ, suc, _+_, _-_, _<_, _≤_}
 use native.Mathlib.Omega.{arith}
 use lib.Dec.{eqb, leb}
 use lib.ListN.{length, getD, drop, length-append, drop-of-length-le}
@@ -11,7 +11,7 @@ use Rattle.language.specs.Limits.{desk}
 use Rattle.language.specs.Kinds.{pick}
 use Rattle.language.specs.Trees.{Functor, symbol, fvar, Hedge, ε, tvar, hvar, node}
 use Rattle.language.specs.Writing.{functorWord, hedgeWords}
-use Rattle.language.specs.Fine.{fineFunctor, fineHedge}
+use Rattle.language.specs.Fine.{fineHedge}
 use Rattle.plans.specs.Looks.{head, tail, bodyWords}
 use Rattle.plans.specs.Results.{opens, span, elementEnd}
 use Rattle.views.specs.Standing.{Stands}
@@ -49,13 +49,15 @@ opens-2 : (x : ℕ) → 2999 < x → opens x ≡ 2
 unfolding opens
 opens-2 x p = rw (ne-eqb x 0 (omega arith), lt-leb x 2999 p)
 
+pub functor-least : (f : Functor) → 3000 ≤ functorWord f
+functor-least (symbol g) = omega arith
+functor-least (fvar X) = omega arith
+
 opens-functor : (f : Functor) → opens (functorWord f) ≡ 2
-opens-functor (symbol g) = opens-2 (3000 + g .0) (omega arith)
-opens-functor (fvar X) = opens-2 (4000 + X .0) (omega arith)
+opens-functor f = let h = functor-least f in opens-2 (functorWord f) (omega arith)
 
 pub functor-some : (f : Functor) → functorWord f ≡ 0 → ⊥
-functor-some (symbol g) = omega arith
-functor-some (fvar X) = omega arith
+functor-some f e = let h = functor-least f in omega arith
 
 -- ---- how many words n hedges take
 

@@ -2,9 +2,9 @@
 use mathlib.Core.Path.{_≡_, refl, sym, ap, _∙_}
 use mathlib.Core.List.{List, [], _∷_, _++_, append-assoc, append-nil}
 use Prim.Native.Nat.{ℕ, _+_}
-use lib.ListN.{length, getD}
+use lib.ListN.{getD}
 use Rattle.language.specs.Limits.{desk}
-use Rattle.language.specs.Trees.{Hedge, ε, tvar, hvar, node, Literal, eqn, mem, Conj, _⧺_}
+use Rattle.language.specs.Trees.{Hedge, ε, tvar, hvar, node, Conj, _⧺_}
 use Rattle.language.specs.Writing.{functorWord, hedgeWords, literalWords, conjWords}
 use Rattle.language.specs.Fine.{fineHedge}
 use Rattle.plans.specs.Looks.{head, tail, bodyWords}
@@ -63,6 +63,25 @@ fine-tail ε f = f
 fine-tail (tvar x r) f = f .1
 fine-tail (hvar p r) f = f .1
 fine-tail (node g c r) f = f .2
+
+pub fine-head : (h : Hedge) → fineHedge desk h → fineHedge desk (head h)
+fine-head ε f = f
+fine-head (tvar x r) f = (f .0, tt)
+fine-head (hvar p r) f = (f .0, tt)
+fine-head (node g c r) f = (f .0, f .1, tt)
+
+pub fine-join : (a b : Hedge) → fineHedge desk a → fineHedge desk b → fineHedge desk (a ⧺ b)
+fine-join ε b f g = g
+fine-join (tvar x r) b f g = (f .0, fine-join r b (f .1) g)
+fine-join (hvar p r) b f g = (f .0, fine-join r b (f .1) g)
+fine-join (node h c r) b f g = (f .0, f .1, fine-join r b (f .2) g)
+
+-- the parts of a fine hedge are fine
+pub fine-parts : (a b : Hedge) → fineHedge desk (a ⧺ b) → fineHedge desk a × fineHedge desk b
+fine-parts ε b f = (tt, f)
+fine-parts (tvar x r) b f = let p = fine-parts r b (f .1) in ((f .0, p .0), p .1)
+fine-parts (hvar p r) b f = let q = fine-parts r b (f .1) in ((f .0, q .0), q .1)
+fine-parts (node h c r) b f = let p = fine-parts r b (f .2) in ((f .0, f .1, p .0), p .1)
 
 -- the first word: 0 of the empty hedge
 abbrev pub firstWord : Hedge → ℕ

@@ -5,16 +5,39 @@ ghost use mathlib.Core.Bool.{_||_};
 ghost use mathlib.Core.List.{List};
 ghost use lib.ListN.{length, getD, take, drop};
 ghost use lib.Seq.{slice};
-ghost use Rattle.language.specs.Trees.{Hedge, Expr, eqn, mem, Conj};
+ghost use Rattle.language.specs.declared.HedgeVar.{HedgeVar};
+ghost use Rattle.language.specs.Limits.{desk};
+ghost use Rattle.language.specs.Trees.{Hedge, Expr, eqn, mem, Conj, Var, hv};
+ghost use Rattle.rules.specs.Looks.{hasTerm, allRuns, under as belowTop};
 ghost use Rattle.plans.specs.Looks.{lookOf, head, bodyWords};
 ghost use Rattle.plans.specs.Results.{member, opens, span, elementEnd};
 ghost use Rattle.plans.specs.Views.{Sided, Sees, Shows};
 ghost use Rattle.views.specs.Places.{untilLiteral, sameList};
+ghost use Rattle.views.specs.Variables.{variableWord, fineVar};
+ghost use Rattle.views.specs.Walks.{termWord, runWord, Counted, Ahead, Spotted};
 ghost use Rattle.views.specs.Standing.{Stands, LiteralAt};
 use plans::Look;
 use plans::Shape;
 use plans::Side;
 use plans::View;
+
+// Whether a hedge is terms alone, and how many.
+pub struct Terms {
+    pub all: bool,
+    pub count: usize,
+}
+
+// Whether a term is found, and how many stand before it.
+pub struct Found {
+    pub found: bool,
+    pub count: usize,
+}
+
+// Whether a word is found, and where.
+pub struct Spot {
+    pub found: bool,
+    pub place: usize,
+}
 
 // The word at a place, 0 past the end.
 pub fn word(k: &[u16], i: usize) -> u16
@@ -222,4 +245,128 @@ pub fn same_part(k: &[u16], from: usize, to: usize, start: usize, end: usize) ->
         j += 1;
     }
     n <= j
+}
+
+fn is_term(x: u16) -> bool
+    ensures { λ r. ⌜ r ≡ termWord x ⌝ }
+{
+    if x < 1000 {
+        return false;
+    }
+    if x <= 1999 {
+        return true;
+    }
+    3000 <= x
+}
+
+fn is_run(x: u16) -> bool
+    ensures { λ r. ⌜ r ≡ runWord x ⌝ }
+{
+    if x < 2000 {
+        return false;
+    }
+    x <= 2999
+}
+
+// Whether the hedge at a place has a top-level term.
+pub fn has_term(k: &[u16], at: usize) -> bool
+    ensures { λ r. ⌜ ((h : Hedge) (beyond : List ℕ) → Stands (now (k .entry)) at h beyond → r ≡ hasTerm h) ⌝ }
+{
+    let mut i = at;
+    let mut x = word(k, at);
+    while is_run(x) {
+        i = element_end(k, i);
+        x = word(k, i);
+    }
+    x != 0
+}
+
+// Whether it is hedge variables alone.
+pub fn all_runs(k: &[u16], at: usize) -> bool
+    ensures { λ r. ⌜ ((h : Hedge) (beyond : List ℕ) → Stands (now (k .entry)) at h beyond → r ≡ allRuns h) ⌝ }
+{
+    let term = has_term(k, at);
+    !term
+}
+
+// Whether it is terms alone, and how many.
+pub fn all_terms(k: &[u16], at: usize) -> Terms
+    ensures { λ t. ⌜ ((h : Hedge) (beyond : List ℕ) → Stands (now (k .entry)) at h beyond → Counted t h) × (t .count ≤ length (now (k .entry))) ⌝ }
+{
+    let mut i = at;
+    let mut n: usize = 0;
+    let mut x = word(k, at);
+    while is_term(x) {
+        i = element_end(k, i);
+        n += 1;
+        x = word(k, i);
+    }
+    Terms {
+        all: x == 0,
+        count: n,
+    }
+}
+
+// Whether a variable, whose word is v, stands below a functor at the top.
+pub fn under(k: &[u16], at: usize, v: u16) -> bool
+    ensures { λ r. ⌜ ((y : Var) (h : Hedge) (beyond : List ℕ) → fineVar desk y → v ≡ variableWord y → Stands (now (k .entry)) at h beyond → r ≡ belowTop y h) ⌝ }
+{
+    let mut i = at;
+    let mut x = word(k, at);
+    while x != 0 {
+        let e = element_end(k, i);
+        if stands(k, i + 1, e, v) {
+            return true;
+        }
+        i = e;
+        x = word(k, i);
+    }
+    false
+}
+
+// Whether terms stand up to one that holds the hedge variable p, and how many before it.
+pub fn up_to(k: &[u16], at: usize, p: u16) -> Found
+    ensures { λ t. ⌜ ((q : HedgeVar) (h : Hedge) (beyond : List ℕ) → fineVar desk (hv q) → p ≡ variableWord (hv q) → Stands (now (k .entry)) at h beyond → Ahead q t h) × (t .count ≤ length (now (k .entry))) ⌝ }
+{
+    let mut i = at;
+    let mut n: usize = 0;
+    let mut x = word(k, at);
+    while is_term(x) {
+        let e = element_end(k, i);
+        if stands(k, i, e, p) {
+            return Found {
+                found: true,
+                count: n,
+            };
+        }
+        i = e;
+        n += 1;
+        x = word(k, i);
+    }
+    Found {
+        found: false,
+        count: 0,
+    }
+}
+
+// Whether the hedge variable p stands at the top behind another element, and where it does so first.
+pub fn inside(k: &[u16], at: usize, p: u16) -> Spot
+    ensures { λ t. ⌜ ((q : HedgeVar) (h : Hedge) (beyond : List ℕ) → fineVar desk (hv q) → p ≡ variableWord (hv q) → Stands (now (k .entry)) at h beyond → Spotted q at t h) ⌝ }
+{
+    let mut i = element_end(k, at);
+    let mut x = word(k, i);
+    while x != 0 {
+        if x == p {
+            return Spot {
+                found: true,
+                place: i,
+            };
+        }
+        i = element_end(k, i);
+        x = word(k, i);
+    }
+    Spot {
+        found: false,
+        place: 0,
+    }
 }

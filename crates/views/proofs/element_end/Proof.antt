@@ -1,5 +1,5 @@
 -- `element_end`: what the first word opens is passed.
-use mathlib.Core.Path.{_≡_, sym, ap, _∙_}
+use mathlib.Core.Path.{sym, ap, _∙_}
 use Prim.Native.Nat.{_+_, _-_}
 use lib.ListN.{drop}
 use native.Mathlib.Omega.{arith}

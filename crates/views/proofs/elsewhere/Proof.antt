@@ -1,8 +1,7 @@
 -- `elsewhere`: the words before the literal, then those behind it.
-use mathlib.Core.Path.{_≡_, refl, sym, ap, _∙_}
+use mathlib.Core.Path.{refl, sym, ap, _∙_}
 use mathlib.Core.Bool.{_||_}
 use lib.ListN.{length, drop}
-use native.Mathlib.Omega.{arith}
 use borrow.Author.Needs.{needs}
 use Rattle.plans.specs.Results.{member}
 use Rattle.views.proofs.Sides.{part-rest}

@@ -3,7 +3,6 @@ use mathlib.Core.Path.{_≡_, refl, _∙_}
 use Prim.Native.Nat.{_-_, min}
 use lib.ListN.{length}
 use lib.Seq.{slice}
-use native.Mathlib.Omega.{arith}
 use borrow.Author.Needs.{needs}
 use Rattle.views.specs.Places.{sameList}
 use Rattle.views.proofs.Same.{same-short, same-differ, same-next, same-end}

@@ -1,5 +1,4 @@
 -- `see`: the second side stands where the first ends.
-use native.Mathlib.Omega.{arith}
 use borrow.Author.Needs.{needs}
 use Rattle.views.proofs.Seen.{sees-of}
 use Rattle.views.proofs.see.Statement.{statement}

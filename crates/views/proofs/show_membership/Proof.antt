@@ -1,5 +1,4 @@
 -- `show_membership`: the expression stands where the hedge ends, and goes on to the next literal.
-use native.Mathlib.Omega.{arith}
 use borrow.Author.Needs.{needs}
 use Rattle.views.proofs.Seen.{shows-of}
 use Rattle.views.proofs.show_membership.Statement.{statement}

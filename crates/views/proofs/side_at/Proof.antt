@@ -1,6 +1,5 @@
 -- `side_at`: the places and the look that the walk finds are the hedge's own.
 use mathlib.Core.Path.{refl, _∙_}
-use native.Mathlib.Omega.{arith}
 use borrow.Author.Needs.{needs}
 use Rattle.views.proofs.Spans.{stands-place}
 use Rattle.views.proofs.Looks.{side-of}

@@ -3,7 +3,6 @@ use Prim.Native.Nat.{_-_}
 use mathlib.Core.Path.{_≡_, refl, _∙_}
 use lib.Seq.{slice}
 use borrow.Author.Needs.{needs}
-use native.Mathlib.Omega.{arith}
 use Rattle.plans.specs.Results.{member}
 use Rattle.views.proofs.Parts.{member-none, member-past, member-here, member-next}
 use Rattle.views.proofs.stands.Statement.{statement}

@@ -1,7 +1,6 @@
 -- `word`: past the end the default stands.
 use mathlib.Core.Path.{sym}
 use lib.ListN.{List·getD-eq-default}
-use native.Mathlib.Omega.{arith}
 use borrow.Author.Needs.{needs}
 use Rattle.views.proofs.word.Statement.{statement}
 use Rattle.views.proofs.word.Tie as tie

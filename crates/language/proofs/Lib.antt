@@ -1,0 +1,15 @@
+pub mod Bools
+pub mod Words
+pub mod Steps
+pub mod Formats
+pub mod Hedges
+pub mod Expressions
+pub mod Literals
+pub mod Conjunctions
+pub mod Laws
+pub mod Undeclared
+pub mod Arms
+pub mod Offsets
+pub mod Questions
+pub mod Alternatives
+pub mod Asking
