@@ -1,3 +1,5 @@
 pub mod Tables
 pub mod Examples
 pub mod Writing
+pub mod Lines
+pub mod Reading

@@ -1,13 +1,16 @@
 // The example of a line, written as a filling.
-ghost use Prim.Native.Nat.{_≤_};
+ghost use Prim.Native.Nat.{_<_, _≤_};
 ghost use lib.ListN.{length};
+ghost use Rattle.showing.specs.Answers.{Ranged, Answered, WordsShown, PartShown, AnswerShown};
 ghost use Rattle.showing.specs.Fillings.{FillingLength, TableWritten, ValuesWritten, LineShown};
 use language::Refusal;
 use samples::put;
+use stack::wide;
 use values::short;
 use values::values_len;
 use values::write_starts;
 use values::write_values;
+use views::word;
 
 // The length of the filling that the room holds, or why there is none.
 pub enum Shown {
@@ -71,4 +74,41 @@ fn fill_line(k: &[u16], terms: usize, hedges: usize, functions: usize, room: &mu
     let e = write_table(k, terms, hedges, functions, room);
     write_all(k, terms, hedges, functions, room, e);
     Shown::Shows(n)
+}
+
+// The example of the line that these words are, with the variables that a question declares.
+fn show_words(question: &[u16], k: &[u16], room: &mut [u16]) -> Shown
+    requires { ⌜ Ranged (now question) × (length (now k) ≤ 65536) ⌝ }
+    ensures { λ r. ⌜ WordsShown (now (question .entry)) (now (k .entry)) (now (room .entry)) (now (room .exit)) r ⌝ }
+{
+    let terms = wide(question[1]);
+    let hedges = wide(question[2]);
+    let functions = wide(question[3]);
+    fill_line(k, terms, hedges, functions, room)
+}
+
+// The example of the line that stands in a part of an answer, its mark first.
+fn show_part(question: &[u16], answer: &[u16], from: usize, to: usize, room: &mut [u16]) -> Shown
+    requires { ⌜ Ranged (now question) × (from < to) × (to ≤ length (now answer)) × (to ≤ 65536) ⌝ }
+    ensures { λ r. ⌜ PartShown (now (question .entry)) (now (answer .entry)) from to (now (room .entry)) (now (room .exit)) r ⌝ }
+{
+    let mark = word(answer, from);
+    if mark != 1 {
+        return Shown::Denied(Refusal::OpenLine);
+    }
+    show_words(question, &answer[from + 1..to], room)
+}
+
+// The example of a line of an answer, read where it stands.
+fn show_line(question: &[u16], line: usize, answer: &[u16], room: &mut [u16]) -> Shown
+    requires { ⌜ Ranged (now question) × Answered (now answer) ⌝ }
+    ensures { λ r. ⌜ AnswerShown (now (question .entry)) line (now (answer .entry)) (now (room .entry)) (now (room .exit)) r ⌝ }
+{
+    let lines = wide(word(answer, 0));
+    if lines <= line {
+        return Shown::Denied(Refusal::NoSuchLine);
+    }
+    let from = wide(word(answer, line + 2));
+    let to = wide(word(answer, line + 3));
+    show_part(question, answer, from, to, room)
 }
