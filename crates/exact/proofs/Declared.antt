@@ -86,16 +86,16 @@ module _ (n : Counts) where
 
 module _ (P : Question → Type 0) where
   -- P of a question that is asked
-  abbrev Asks : Asked → Type 0
+  abbrev pub Asks : Asked → Type 0
   Asks (asks q) = P q
   Asks (refuses r) = Unit {0}
 
   -- a refusal, or on
-  passes : (b : Bool) (r : Refusal) (a : Asked) → (T b → Asks a) → Asks (elim b [ false ↦ refuses r | true ↦ a ])
+  pub passes : (b : Bool) (r : Refusal) (a : Asked) → (T b → Asks a) → Asks (elim b [ false ↦ refuses r | true ↦ a ])
   passes true r a p = p tt
   passes false r a p = tt
 
-  reads : (m : Option (List Conj)) (r : Refusal) (a : List Conj → Asked) → ((ks : List Conj) → Asks (a ks)) → Asks (elim m [ none ↦ refuses r | some ks ↦ a ks ])
+  pub reads : (m : Option (List Conj)) (r : Refusal) (a : List Conj → Asked) → ((ks : List Conj) → Asks (a ks)) → Asks (elim m [ none ↦ refuses r | some ks ↦ a ks ])
   reads none r a p = tt
   reads (some ks) r a p = p ks
 

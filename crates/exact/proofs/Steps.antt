@@ -65,7 +65,7 @@ module _ (P : Conj → List Conj → Type 0) where
 
 -- ---- no step
 
-orElse-none : {A : Type 0} (m : Option A) (k : Unit {0} → Option A) → orElse m k ≡ none → (m ≡ none) × (k tt ≡ none)
+pub orElse-none : {A : Type 0} (m : Option A) (k : Unit {0} → Option A) → orElse m k ≡ none → (m ≡ none) × (k tt ≡ none)
 orElse-none none k e = (refl, e)
 orElse-none (some a) k e = let z : _≡_ {A = ℕ} 0 1 = cc in absurd (omega arith)
 

@@ -1,0 +1,141 @@
+-- What is promised of lines and of their examples: each theorem under the sentence of the paper that it is about.
+-- The proofs are cited; the definitions in the statements are those of the language, the meaning, the rules, and of this crate's specs.
+use Prim.Native.Nat.{ℕ, _<_, _≤_}
+use mathlib.Core.Path.{_≡_}
+use mathlib.Core.Logic.{inl, inr, _↔_}
+use mathlib.Core.Bool.{true, false, _||_}
+use mathlib.Core.List.{List}
+use mathlib.Core.Option.{none, some}
+use lib.ListN.{length}
+use Rattle.language.specs.Limits.{Limits}
+use Rattle.language.specs.Trees.{Expr, _⧺_, holds, Conj, Counts, Question}
+use Rattle.language.specs.Question.{asks, countsOf, alternativesOf, countsFit, declaredC, readQuestion}
+use Rattle.meaning.specs.Meaning.{Filling, Member, MeetsAll, MeetsOne}
+use Rattle.meaning.specs.Values.{gives, filling, readFilling, valuesIn, fillingWords}
+use Rattle.rules.specs.Expressions.{sample}
+use Rattle.rules.specs.Rules.{rules}
+use Rattle.rules.specs.Step.{step}
+use Rattle.rules.specs.Solved.{solved}
+use Rattle.rules.specs.Run.{finished, run}
+use Rattle.rules.specs.Answer.{countOpen, answered, solving}
+use Rattle.rules.specs.Example.{example}
+use Rattle.rules.specs.Table.{Case, a, b, f, p, P9}
+use Rattle.rules.specs.Calls.{lineAt, shows, showing}
+use Rattle.exact.specs.Each.{Each}
+use Rattle.exact.specs.Places.{AtSides}
+use Rattle.exact.proofs.Tests.{true-test, or-cases, or-left}
+use Rattle.exact.proofs.Invariant.{lines-rest}
+use Rattle.exact.proofs.Run.{run-same, answered-run}
+use Rattle.exact.proofs.Declared.{lines-declared, read-declared}
+use Rattle.lines.specs.Matching.{Matching, KeepsMatching}
+use Rattle.lines.specs.Fillings.{DeclaredFilling, Agree, WordsMeet}
+use Rattle.lines.proofs.Sample.{sample-member}
+use Rattle.lines.proofs.Example.{example-meets}
+use Rattle.lines.proofs.ReadBack.{symbols-fit, filling-back}
+use Rattle.lines.proofs.Agreement.{filling-agrees, agree-meets}
+use Rattle.lines.proofs.DeclaredExample.{example-declared}
+use Rattle.lines.proofs.MatchingRun.{each-rule-stays, step-matching, run-solved, none-open}
+use Rattle.lines.proofs.Unopened.{matching-solved}
+use Rattle.lines.proofs.Shown.{each-line, meets-lines, shown-is, words-meet, read-counts}
+
+-- ---- the example of a solved line
+
+-- "eps and star give ε, choice its left, concatenation both, f(R) the term over R's sample": the sample is a member.
+pub sample-is-member : (R : Expr) → Member R (sample R)
+sample-is-member = sample-member
+
+-- "Example of a solved line": it meets the line, where no rule applies to it.
+pub example-meets-line : (k : Conj) → solved k ≡ true → step k ≡ none → MeetsAll (example k) k
+example-meets-line = example-meets
+
+-- so the example of a solved line of a finished run meets the line, and one of the conjunctions that the run began with
+pub example-meets-run : (L : Limits) (w ls : List Conj) (n : ℕ) → run L w ≡ finished ls n
+    → (i : ℕ) (k : Conj) → lineAt i ls ≡ some k → solved k ≡ true → MeetsAll (example k) k × MeetsOne (example k) w
+example-meets-run L w ls n e i k there is-solved =
+    let m = example-meets k is-solved (each-line (λ j. step j ≡ none) i ls k there (lines-rest L w ls n e)) in
+    (m, run-same L w ls n e (example k) .1 (meets-lines (example k) i ls k there m))
+
+-- ---- its words
+
+-- "A term variable takes exactly one term without variables, a hedge variable any hedge without variables, a function variable one
+-- symbol without children": the words of a filling with declared symbols, where they are not too many, are read back as its values.
+pub filling-read : (L : Limits) (n : Counts) (c : ℕ) (ρ : Filling) → countsFit L n c ≡ true → DeclaredFilling n ρ → length (fillingWords n ρ) ≤ L .filling
+    → readFilling L n (fillingWords n ρ) ≡ gives (filling n (valuesIn n ρ))
+filling-read L n c ρ e d s = filling-back L n ρ (symbols-fit L n c e .1) s d
+
+-- and what is read agrees with the filling on every declared variable,
+pub filling-agree : (n : Counts) (ρ : Filling) → Agree n (filling n (valuesIn n ρ)) ρ
+filling-agree = filling-agrees
+
+-- so that it meets the same declared conjunctions.
+pub filling-same : (n : Counts) (ρ : Filling) (k : Conj) → declaredC n k ≡ true → MeetsAll (filling n (valuesIn n ρ)) k ↔ MeetsAll ρ k
+filling-same n ρ k d = agree-meets n (filling n (valuesIn n ρ)) ρ (filling-agrees n ρ) k (true-test (declaredC n k) d)
+
+-- "Others unsolved take symbol 0": the example of a declared line has declared symbols only.
+pub example-all-declared : (n : Counts) (k : Conj) → 0 < n .symbols → declaredC n k ≡ true → DeclaredFilling n (example k)
+example-all-declared n k s d = example-declared n s k (true-test (declaredC n k) d)
+
+-- "It is written as a filling": its words, where they are not too many, are read back, and what is read meets the line.
+pub example-written : (L : Limits) (n : Counts) (c : ℕ) (k : Conj) → countsFit L n c ≡ true → declaredC n k ≡ true → solved k ≡ true → step k ≡ none
+    → length (fillingWords n (example k)) ≤ L .filling
+    → (ρ : Filling) × (readFilling L n (fillingWords n (example k)) ≡ gives ρ) × Agree n ρ (example k) × MeetsAll ρ k
+example-written L n c k e d is-solved quiet s = (
+  filling n (valuesIn n (example k)),
+  filling-read L n c (example k) e (example-all-declared n k (symbols-fit L n c e .0) d) s,
+  filling-agrees n (example k),
+  filling-same n (example k) k d .1 (example-meets k is-solved quiet),
+)
+
+-- So the example of a solved line of a finished run, written and read back, meets one of the declared conjunctions that the run began with.
+pub example-written-run : (L : Limits) (n : Counts) (c : ℕ) (w ls : List Conj) (steps : ℕ) → countsFit L n c ≡ true → Each (λ k. declaredC n k ≡ true) w
+    → run L w ≡ finished ls steps → (i : ℕ) (k : Conj) → lineAt i ls ≡ some k → solved k ≡ true → length (fillingWords n (example k)) ≤ L .filling
+    → WordsMeet L n (fillingWords n (example k)) w
+example-written-run L n c w ls steps e d ran i k there is-solved s =
+    let declared = each-line (λ j. declaredC n j ≡ true) i ls k there (lines-declared n L w ls steps ran d) in
+    let quiet = each-line (λ j. step j ≡ none) i ls k there (lines-rest L w ls steps ran) in
+    let (ρ, back, _, m) = example-written L n c k e declared is-solved quiet s in
+    (ρ, back, run-same L w ls steps ran ρ .1 (meets-lines ρ i ls k there m))
+
+-- "the example solves anew": the words that the example call shows are a filling of the question that was asked, and it meets the question.
+pub shown-meets : (L : Limits) (work answer room line : ℕ) (ws fs : List ℕ) → showing L work answer room line ws ≡ shows fs
+    → (q : Question) × (readQuestion L ws ≡ asks q) × WordsMeet L (q .counts) fs (q .alternatives)
+shown-meets L work answer room line ws fs e =
+    let s = shown-is L work answer room line ws fs e in
+    let (q, asked, ran) = answered-run L work answer ws (s .lines) (s .steps) (s .was-answered) in
+    let (counts, declared) = read-declared L ws q asked in (
+      q,
+      asked,
+      words-meet L (q .counts) (countsOf ws) fs (s .literals) (q .alternatives) counts (s .written) (s .fits)
+          (example-written-run L (q .counts) (alternativesOf ws) (q .alternatives) (s .lines) (s .steps) (rw counts (read-counts L ws q asked)) declared ran
+          line (s .literals) (s .there) (s .is-solved)),
+    )
+
+-- ---- no line is open in the matching fragment: every equation has a side without blanks, and each variable of a membership stands in one
+
+-- Wherever any rule applies, first or not, as written or swapped, its results stay in the fragment.
+pub rules-keep-matching : Each (AtSides KeepsMatching) rules
+rules-keep-matching = each-rule-stays
+
+-- "That is one step": so do the results of a step.
+pub step-keeps-matching : (k : Conj) (ks : List Conj) → Matching k → step k ≡ some ks → Each Matching ks
+step-keeps-matching = step-matching
+
+-- "A line is solved if each literal is": a conjunction of the fragment to which no rule applies is solved.
+pub matching-line-solved : (k : Conj) → Matching k → step k ≡ none → solved k ≡ true
+matching-line-solved = matching-solved
+
+-- Every line of a finished run that began in the fragment is solved,
+pub matching-lines-solved : (L : Limits) (w ls : List Conj) (n : ℕ) → run L w ≡ finished ls n → Each Matching w → Each (λ k. solved k ≡ true) ls
+matching-lines-solved L w ls n e m = run-solved L w ls n m e
+
+-- and in the answer to a question whose alternatives are in the fragment no line is open.
+pub matching-none-open : (L : Limits) (work answer : ℕ) (ws : List ℕ) (ls : List Conj) (n : ℕ) → solving L work answer ws ≡ answered ls n
+    → ((q : Question) → readQuestion L ws ≡ asks q → Each Matching (q .alternatives)) → Each (λ k. solved k ≡ true) ls × (countOpen ls ≡ 0)
+matching-none-open L work answer ws ls n e m =
+    let (q, asked, ran) = answered-run L work answer ws ls n e in
+    let all = run-solved L (q .alternatives) ls n (m q asked) ran in
+    (all, none-open ls all)
+
+-- Case P9, "p in f(a*)·b*, p = (f(a,a),b)", is such a question.
+pub P9-matching : Each Matching (P9 .question)
+P9-matching = (record { sides = tt; covered = λ v t. elim (or-cases (holds v p) false t) [ inl s ↦ or-left (holds v p || holds v (f (a ⧺ a) ⧺ b)) false (or-left (holds v p) (holds v (f (a ⧺ a) ⧺ b)) s) | inr z ↦ absurd z ] }, tt)
