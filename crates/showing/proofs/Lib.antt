@@ -3,3 +3,5 @@ pub mod Examples
 pub mod Writing
 pub mod Lines
 pub mod Reading
+pub mod Settling
+pub mod Finished
