@@ -29,7 +29,8 @@ use Rattle.bindings.specs.declared.Place.the-variants.{At, Nowhere}
 use Rattle.bindings.specs.declared.Bound.{Bound}
 use Rattle.bindings.specs.declared.Bound.the-variants.{To, Free}
 use Rattle.bindings.proofs.Walks.{literal-here}
-use Rattle.bindings.proofs.Looks.{FineOption, variable-fine}
+use Rattle.exact.proofs.Answers.{Where}
+use Rattle.marks.proofs.Sides.{side-fine, word-some}
 
 -- different words are of different variables
 pub eqb-words : (u v : Var) → fineVar desk u → fineVar desk v → eqb (variableWord u) (variableWord v) ≡ eqV u v
@@ -43,22 +44,17 @@ eqb-words (fv X) (tv y) f g = ne-eqb (4000 + X .0) (1000 + y .0) (omega arith)
 eqb-words (fv X) (hv q) f g = ne-eqb (4000 + X .0) (2000 + q .0) (omega arith)
 eqb-words (fv X) (fv Y) f g = eqb-base 4000 (X .0) (Y .0)
 
-pub some-word : (v : Var) → variableWord v ≡ 0 → ⊥
-some-word (tv x) e = omega arith
-some-word (hv p) e = omega arith
-some-word (fv X) e = omega arith
-
 -- ---- one side
 
 module _ (K : Conj) (r : Hedge) where
   -- where a side solves a variable, the other side is what it is equal to
-  sole : (m : Option Var) → FineOption m → (v : Var) (x y : ℕ) → Word v x → y ≡ soleWord (alone K r m) → binds v (alone K r m) ≡ given (eqb y x) r
-  sole none f v x y w e = ap (λ b. given b r) (sym (ne-eqb y x (λ z. some-word v (sym (w .is) ∙ sym z ∙ e))))
+  sole : (m : Option Var) → Where (fineVar desk) m → (v : Var) (x y : ℕ) → Word v x → y ≡ soleWord (alone K r m) → binds v (alone K r m) ≡ given (eqb y x) r
+  sole none f v x y w e = ap (λ b. given b r) (sym (ne-eqb y x (λ z. word-some v (sym (w .is) ∙ sym z ∙ e))))
   sole (some u) f v x y w e = by (not (holds u r || inConj u K)) e
     where
       by : (b : Bool) → y ≡ soleWord (given b (u, r)) → binds v (given b (u, r)) ≡ given (eqb y x) r
       by true e = ap (λ b. given b r) (sym (ap (λ z. eqb z x) e ∙ ap (eqb (variableWord u)) (w .is) ∙ eqb-words u v f (w .fine)))
-      by false e = ap (λ b. given b r) (sym (ne-eqb y x (λ z. some-word v (sym (w .is) ∙ sym z ∙ e))))
+      by false e = ap (λ b. given b r) (sym (ne-eqb y x (λ z. word-some v (sym (w .is) ∙ sym z ∙ e))))
 
 -- ---- both sides
 
@@ -68,17 +64,17 @@ first (some b) more n = refl
 
 second : (a : Option (Var × Hedge)) (more : Unit {0} → Option (Var × Hedge)) → soleWord a ≡ 0 → orElse a more ≡ more tt
 second none more n = refl
-second (some b) more n = absurd (some-word (b .0) n)
+second (some b) more n = absurd (word-some (b .0) n)
 
 module _ {k : List ℕ} {u : View} {before behind : Conj} {l r : Hedge} {v : Var} {x y : ℕ} (s : Sees k u before l r behind) (w : Word v x)
     (e : y ≡ soleWord (alone (before ++ behind) r (variable l r))) where
   on-left : binds v (alone (before ++ behind) r (variable l r)) ≡ given (eqb y x) r
-  on-left = sole (before ++ behind) r (variable l r) (variable-fine l r (s .left .fine)) v x y w e
+  on-left = sole (before ++ behind) r (variable l r) (side-fine l r (s .left .fine)) v x y w e
 
   pub bound-left : y ≡ x → BoundBy k (binds v (solves (before ++ behind) (eqn l r))) (To (u .r .from) (u .r .to))
   bound-left z =
       to r (s .right .beyond)
-      (ap (binds v) (first (alone (before ++ behind) r (variable l r)) _ (λ n. some-word v (sym (w .is) ∙ sym z ∙ e ∙ n))) ∙ on-left ∙ ap (λ b. given b r) (eq-eqb y x z))
+      (ap (binds v) (first (alone (before ++ behind) r (variable l r)) _ (λ n. word-some v (sym (w .is) ∙ sym z ∙ e ∙ n))) ∙ on-left ∙ ap (λ b. given b r) (eq-eqb y x z))
       (side-stands (s .right)) (s .right .to)
 
   pub free-left : (y ≡ x → ⊥) → (y ≡ 0 → ⊥) → BoundBy k (binds v (solves (before ++ behind) (eqn l r))) Free
@@ -89,7 +85,7 @@ module _ {k : List ℕ} {u : View} {before behind : Conj} {l r : Hedge} {v : Var
     on-right : binds v (solves (before ++ behind) (eqn l r)) ≡ given (eqb z x) l
     on-right =
         ap (binds v) (second (alone (before ++ behind) r (variable l r)) _ (sym e ∙ n))
-        ∙ sole (before ++ behind) l (variable r l) (variable-fine r l (s .right .fine)) v x z w d
+        ∙ sole (before ++ behind) l (variable r l) (side-fine r l (s .right .fine)) v x z w d
 
     pub bound-right : z ≡ x → BoundBy k (binds v (solves (before ++ behind) (eqn l r))) (To (t .r .from) (t .r .to))
     bound-right i = to l (q .right .beyond) (on-right ∙ ap (λ b. given b l) (eq-eqb z x i)) (side-stands (q .right)) (q .right .to)

@@ -16,32 +16,6 @@ use Rattle.views.specs.Standing.{Stands}
 use Rattle.bindings.specs.declared.Bound.{Bound}
 use Rattle.bindings.specs.declared.Bound.the-variants.{To, Free}
 
--- a single term
-abbrev pub termLook : Look → Bool
-termLook Empty = false
-termLook (Term x end) = end
-termLook (Run x end) = false
-termLook (Node x end bare) = end
-
--- a functor without children
-abbrev pub functorLook : Look → Bool
-functorLook Empty = false
-functorLook (Term x end) = false
-functorLook (Run x end) = false
-functorLook (Node x end bare) = bare && end
-
--- the word of the one variable that a side is, against the other, or 0
-unfoldable pub seen : Look → Look → ℕ
-seen Empty r = 0
-seen (Term x end) r = pick (end && termLook r) x 0
-seen (Run x end) r = pick end x 0
-seen (Node x end bare) r = pick ((leb 4000 x && (bare && end)) && functorLook r) x 0
-
--- the word of a variable, or 0 where there is none
-abbrev pub wordOf : Option Var → ℕ
-wordOf none = 0
-wordOf (some v) = variableWord v
-
 -- the word of the variable that a side solves, or 0
 abbrev pub soleWord : Option (Var × Hedge) → ℕ
 soleWord none = 0

@@ -1,22 +1,18 @@
 // What a line says of a variable: the expression of its membership, and what an equation binds it to.
 ghost use Prim.Native.Nat.{ℕ, _+_, _≤_, _<_};
 ghost use mathlib.Core.Path.{_≡_};
-ghost use mathlib.Core.Bool.{not, _&&_, _||_};
 ghost use mathlib.Core.List.{List, [], _∷_, _++_};
-ghost use lib.ListN.{length, take, drop};
-ghost use lib.Seq.{slice};
-ghost use Rattle.language.specs.Kinds.{pick};
+ghost use lib.ListN.{length};
 ghost use Rattle.language.specs.Trees.{Hedge, Literal, Conj, Var};
-ghost use Rattle.plans.specs.Results.{member};
 ghost use Rattle.plans.specs.Views.{Sees};
 ghost use Rattle.rules.specs.Solved.{variable, alone, solves};
 ghost use Rattle.rules.specs.Example.{binds, bound};
 ghost use Rattle.bindings.specs.Lines.{Line, Word, Shown, Expressed, Held};
-ghost use Rattle.bindings.specs.Binding.{termLook, functorLook, seen, soleWord, BoundBy};
+ghost use Rattle.bindings.specs.Binding.{soleWord, BoundBy};
 ghost use Rattle.views.specs.Standing.{LiteralAt};
-use plans::Look;
+use marks::alone_side;
+use marks::side_variable;
 use plans::View;
-use views::elsewhere;
 use views::next_literal;
 use views::see;
 use views::side_at;
@@ -84,84 +80,18 @@ fn holder(k: &[u16], x: u16) -> Place
 
 // ---- what a variable is bound to
 
-fn term_look(look: Look) -> bool
-    ensures { λ r. ⌜ r ≡ termLook look ⌝ }
-{
-    match look {
-        Look::Empty => false,
-        Look::Term(_, end) => end,
-        Look::Run(_, _) => false,
-        Look::Node(_, end, _) => end,
-    }
-}
-
-fn functor_look(look: Look) -> bool
-    ensures { λ r. ⌜ r ≡ functorLook look ⌝ }
-{
-    match look {
-        Look::Empty => false,
-        Look::Term(_, _) => false,
-        Look::Run(_, _) => false,
-        Look::Node(_, end, bare) => { if bare { end } else { false } }
-    }
-}
-
-// x where the test holds, and else 0.
-fn if_so(test: bool, x: u16) -> u16
-    ensures { λ r. ⌜ r ≡ pick test x 0 ⌝ }
-{
-    if test { x } else { 0 }
-}
-
-fn both(a: bool, b: bool) -> bool
-    ensures { λ r. ⌜ r ≡ (a && b) ⌝ }
-{
-    if a { b } else { false }
-}
-
-// The word of the one variable that a side is, against the other, or 0.
-fn variable_of(l: Look, r: Look) -> u16
-    ensures { λ x. ⌜ x ≡ seen l r ⌝ }
-{
-    let term = term_look(r);
-    let functor = functor_look(r);
-    match l {
-        Look::Empty => 0,
-        Look::Term(x, end) => if_so(both(end, term), x),
-        Look::Run(x, end) => if_so(end, x),
-        Look::Node(x, end, bare) => if_so(both(both(4000 <= x, both(bare, end)), functor), x),
-    }
-}
-
-fn neither(a: bool, b: bool) -> bool
-    ensures { λ r. ⌜ r ≡ not (a || b) ⌝ }
-{
-    if a {
-        return false;
-    }
-    if b { false } else { true }
-}
-
-// Whether a word stands neither in a part nor elsewhere.
-fn lonely(k: &[u16], at: usize, end: usize, from: usize, to: usize, x: u16) -> bool
-    ensures { λ r. ⌜ r ≡ not (member x (slice from to (now (k .entry))) || (member x (take at (now (k .entry))) || member x (drop end (now (k .entry))))) ⌝ }
-{
-    let here = stands(k, from, to, x);
-    let there = elsewhere(k, at, end, x);
-    neither(here, there)
-}
-
 // The word of the variable that the side seen first solves, or 0.
 fn solved_side(k: &[u16], v: View) -> u16
     ensures { λ x. ⌜ ((before : Conj) (l r : Hedge) (behind : Conj) → Sees (now (k .entry)) v before l r behind → x ≡ soleWord (alone (before ++ behind) r (variable l r))) ⌝ }
 {
-    let l = v.l;
-    let r = v.r;
-    let look = l.look;
-    let against = r.look;
-    let x = variable_of(look, against);
-    let so = lonely(k, v.at, v.end, r.from, r.to, x);
-    if_so(so, x)
+    if alone_side(k, v) {
+        let l = v.l;
+        let r = v.r;
+        let look = l.look;
+        let against = r.look;
+        return side_variable(look, against);
+    }
+    0
 }
 
 // What the literal at a place binds a variable to.

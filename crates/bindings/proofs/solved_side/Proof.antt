@@ -1,6 +1,6 @@
 -- The side seen first solves the variable that it is, where that stands nowhere else.
 use borrow.Author.Needs.{needs}
-use Rattle.bindings.proofs.Looks.{solved-side}
+use Rattle.bindings.proofs.Looks.{solved-word, unsolved-word}
 use Rattle.bindings.proofs.solved_side.Statement.{statement}
 use Rattle.bindings.proofs.solved_side.Tie as tie
 
@@ -10,6 +10,7 @@ solved-side-spec =
     (tie.spec
     (λ c κs. search needs)
     (λ c κs. search needs)
-    (λ c κs. search needs)
     -- returns
-    (λ c before l r behind s. solved-side s (c .before .before .variable-of .ensures) (c .before .lonely .ensures) (c .if-so .ensures)))
+    (λ c before l r behind s. solved-word s (c .before .before .before .before .alone-side .ensures before l r behind s) (c .before .before .before .if1 .taken) (c .side-variable .ensures))
+    -- returns-2
+    (λ c before l r behind s. unsolved-word s (c .before .alone-side .ensures before l r behind s) (c .if1 .left)))
