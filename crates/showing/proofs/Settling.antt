@@ -3,32 +3,23 @@ use Prim.Native.Nat.{ℕ, _+_, _<_, _≤_}
 use mathlib.Core.Path.{_≡_, refl, sym, ap, _∙_}
 use mathlib.Core.Bool.{Bool, true, false, not, _&&_, _||_}
 use mathlib.Core.List.{List, [], _∷_, _++_, append-assoc}
-use mathlib.Core.Option.{Option, none, some, Option·some-ne-none}
+use mathlib.Core.Option.{Option, none, some}
 use native.Mathlib.Omega.{arith}
 use Rattle.language.specs.declared.TermVar.{TermVar}
 use Rattle.language.specs.declared.FunVar.{FunVar}
 use Rattle.language.specs.declared.Sym.{Sym}
 use Rattle.language.specs.Kinds.{pick}
-use Rattle.language.specs.Trees.{Hedge, ε, tvar, hvar, node, Expr, eps, cat, alt, star, over, Literal, eqn, mem, Conj, Var, tv, hv, fv, holds}
+use Rattle.language.specs.Trees.{Hedge, ε, tvar, hvar, node, Expr, over, Literal, eqn, mem, Conj, Var, tv, hv, fv, holds}
 use Rattle.language.proofs.Bools.{both-true}
-use Rattle.rules.specs.Rules.{_>>=_, check}
 use Rattle.rules.specs.Step.{step}
 use Rattle.rules.specs.Looks.{empty}
 use Rattle.rules.specs.Solved.{given, loneVar, onlyMember, solvedLiteral, solvedFrom, solved}
 use Rattle.rules.specs.Example.{expressionOf}
-use Rattle.lines.proofs.Quiet.{QuietMem, quiet-mem, at-literal}
+use Rattle.lines.proofs.Quiet.{quiet-mem, at-literal}
+use Rattle.lines.proofs.Example.{over-only}
 use Rattle.values.specs.Values.{Settled}
 
 -- ---- a membership
-
--- the only expressions of a lone term variable to which no rule applies
-over-only : (K : Conj) (x : TermVar) (R : Expr) → QuietMem K (tvar x ε) R → (f : Sym) × (S : Expr) × (R ≡ over f S)
-unfolding _>>=_ check
-over-only K x eps q = absurd (Option·some-ne-none _ (q .f7))
-over-only K x (cat a b) q = absurd (Option·some-ne-none _ (q .m5))
-over-only K x (alt a b) q = absurd (Option·some-ne-none _ (q .m6))
-over-only K x (star a) q = absurd (Option·some-ne-none _ (q .m4))
-over-only K x (over f a) q = (f, a, refl)
 
 nothing-after : (K : Conj) (r : Hedge) (v : Var) → onlyMember K (given (empty r) v) ≡ true → r ≡ ε
 nothing-after K ε v e = refl
