@@ -102,3 +102,18 @@ in-a-row ls few =
     ∙ append-assoc first (joined (map lineWords ls)) (times (8192 - (515 + linesSize ls)) 0)
     ∙ append-assoc (header ls) (times (515 - length (header ls)) 0) _
     ∙ ap (λ n. header ls ++ (times n 0 ++ (joined (map lineWords ls) ++ times (8192 - (515 + linesSize ls)) 0))) z₁
+
+pub length-answer : (ls : List Conj) → length ls ≤ 512 → 515 + linesSize ls ≤ 8192 → length (answerWords desk ls) ≡ 8192
+length-answer ls few room =
+    let a = ap length (in-a-row ls few) in
+    let z₁ : List ℕ = times (512 - length ls) 0 in
+    let b : List ℕ = joined (map lineWords ls) in
+    let z₂ : List ℕ = times (8192 - (515 + linesSize ls)) 0 in
+    let l₁ = length-append (header ls) (z₁ ++ (b ++ z₂)) in
+    let l₂ = length-append z₁ (b ++ z₂) in
+    let l₃ = length-append b z₂ in
+    let t₁ = length-times (512 - length ls) in
+    let t₂ = length-times (8192 - (515 + linesSize ls)) in
+    let h = length-header ls in
+    let n = length-lines ls in
+    omega arith

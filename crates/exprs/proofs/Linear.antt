@@ -10,16 +10,16 @@ use Rattle.language.specs.Trees.{Expr, eps, cat, alt, star, over}
 use Rattle.language.specs.Writing.{exprWords}
 use Rattle.rules.specs.Looks.{isEps}
 use Rattle.rules.specs.Expressions.{nullable, Monomial, joined, linear, _⊙_}
-use Rattle.exprs.specs.Loose.{Loose, more, _⊕_, loose, joins, chained, restWords}
+use Rattle.exprs.specs.Loose.{Loose, more, _⊕_, loose, joins, opening, restWords}
 
 -- a rest r of n parts, whose words in a row are ws
 pub data Rest (r : Expr) (n : ℕ) (ws : List ℕ) : Type 0 where
   none : r ≡ eps → n ≡ 0 → ws ≡ [] → Rest r n ws
   some : (j : ℕ) → isEps r ≡ false → n ≡ suc j → exprWords r ≡ joins j ++ ws → Rest r n ws
 
-rest-words : {r : Expr} {n : ℕ} {ws : List ℕ} → Rest r n ws → exprWords r ≡ chained n ws
-rest-words {r} {n} {ws} (none e z w) = ap exprWords e ∙ ap (λ n. chained n ws) (sym z)
-rest-words {r} {n} {ws} (some j e z w) = w ∙ ap (λ n. chained n ws) (sym z)
+rest-words : {r : Expr} {n : ℕ} {ws : List ℕ} → Rest r n ws → exprWords r ≡ opening n ++ ws
+rest-words {r} {n} {ws} (none e z w) = rw (e, z, w)
+rest-words {r} {n} {ws} (some j e z w) = w ∙ ap (λ n. opening n ++ ws) (sym z)
 
 rest-more : {r : Expr} {n : ℕ} {ws : List ℕ} (R : Expr) → isEps R ≡ false → Rest r n ws → Rest (pick (isEps r) R (cat r R)) (suc n) (ws ++ exprWords R)
 rest-more {r} {n} {ws} R f (none e z w) = rw (e, w) (some n f refl (rw z))

@@ -1,16 +1,17 @@
 -- Which expression can stand where a word stands, and where its parts stand then.
 use Prim.Native.Nat.{ℕ, _+_, _<_, _≤_}
-use mathlib.Core.Path.{_≡_, refl, ap, sym, _∙_}
+use mathlib.Core.Path.{_≡_, ap, _∙_}
 use mathlib.Core.List.{List, [], _∷_, _++_, append-assoc}
 use native.Mathlib.Numerals.{add-one}
 use native.Mathlib.Omega.{arith}
-use lib.ListN.{length, drop, getD, length-drop, length-append}
-use lib.Seq.{drop-cons, drop-drop, drop-append-seam}
+use lib.ListN.{length, drop, getD, length-drop}
+use lib.Seq.{slice, drop-cons}
 use Rattle.language.specs.Limits.{desk}
 use Rattle.language.specs.declared.Sym.{Sym}
 use Rattle.language.specs.Trees.{Expr, eps, cat, alt, star, over}
 use Rattle.language.specs.Writing.{exprWords}
 use Rattle.language.specs.Fine.{fineExpr}
+use Rattle.views.proofs.Parts.{part-of, drop-of}
 use Rattle.exprs.specs.Standing.{Here}
 
 -- a list that goes on with x ∷ t at `at`
@@ -24,10 +25,10 @@ module _ (k : List ℕ) (at : ℕ) {x : ℕ} {t : List ℕ} (h : drop at k ≡ x
   pub tail-of : drop (at + 1) k ≡ t
   tail-of = let i = inside in rw add-one (cc (drop-cons k at 0 i))
 
--- the place after words that stand at a place
-pub drop-past : (k : List ℕ) (at m : ℕ) (us vs : List ℕ) → drop at k ≡ us ++ vs → m ≡ at + length us → drop m k ≡ vs
-drop-past k at m us vs e d =
-    ap (λ n. drop n k) d ∙ sym (drop-drop (length us) at k) ∙ ap (drop (length us)) e ∙ drop-append-seam us vs
+-- the words of an expression that stands at a place
+pub words-here : {k : List ℕ} {at m : ℕ} {R : Expr} {beyond : List ℕ} → Here k at R beyond → m ≡ at + length (exprWords R)
+    → slice at m k ≡ exprWords R
+words-here {k} {at} {m} {R} {beyond} h d = part-of k at m (exprWords R) beyond (h .words) d
 
 -- two expressions in a row
 pub first-of : (k : List ℕ) (at x : ℕ) (a b : Expr) (beyond : List ℕ) → fineExpr desk a → drop at k ≡ (x ∷ (exprWords a ++ exprWords b)) ++ beyond
@@ -37,7 +38,7 @@ first-of k at x a b beyond f e = record { fine = f; words = tail-of k at e ∙ a
 pub second-of : {k : List ℕ} {at m : ℕ} {a b : Expr} {beyond : List ℕ} → Here k at a (exprWords b ++ beyond) → fineExpr desk b
     → m ≡ at + length (exprWords a) → Here k m b beyond
 second-of {k} {at} {m} {a} {b} {beyond} h f d =
-    record { fine = f; words = drop-past k at m (exprWords a) (exprWords b ++ beyond) (h .words) d }
+    record { fine = f; words = drop-of k at m (exprWords a) (exprWords b ++ beyond) (h .words) d }
 
 -- by cases on the expression that stands at `at`: each case has the word there, and what stands after it
 pub cases : {k : List ℕ} {at : ℕ} (P : Expr → List ℕ → Type 0)

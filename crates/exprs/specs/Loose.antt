@@ -37,13 +37,13 @@ abbrev pub joins : ℕ → List ℕ
 joins zero = []
 joins (suc n) = 7001 ∷ joins n
 
--- the words of a rest of n parts
-abbrev pub chained : ℕ → List ℕ → List ℕ
-chained zero ws = 7000 ∷ []
-chained (suc n) ws = joins n ++ ws
+-- what stands before a rest's parts: as many 7001 as join them, or 7000 where there is none
+abbrev pub opening : ℕ → List ℕ
+opening zero = 7000 ∷ []
+opening (suc n) = joins n
 
 abbrev pub restWords : Loose → List ℕ
-restWords m = chained (m .parts) (m .words)
+restWords m = opening (m .parts) ++ m .words
 
 abbrev pub firstWords : Loose → List ℕ
 firstWords m = (3000 + m .name .0) ∷ exprWords (m .inner)

@@ -10,7 +10,7 @@ use lib.Seq.{getD-set-same, getD-set-other}
 use borrow.Author.Tests.{eqb-true, eqb-false, le-leb, lt-leb, leb-true}
 use Rattle.plans.specs.Results.{member}
 use Rattle.pieces.specs.Marked.{marked, Marked}
-use Rattle.pieces.specs.declared.Marks.{Marks}
+use Rattle.pieces.specs.declared.replacing.Marks.{Marks}
 
 module _ (s : List Bool) (x : ℕ) where
   pub marked-low : x < 2000 → false ≡ marked s x

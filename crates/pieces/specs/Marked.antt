@@ -7,7 +7,7 @@ use lib.Dec.{leb}
 use lib.ListN.{getD}
 use Rattle.language.specs.Kinds.{pick}
 use Rattle.plans.specs.Results.{member}
-use Rattle.pieces.specs.declared.Marks.{Marks}
+use Rattle.pieces.specs.declared.replacing.Marks.{Marks}
 
 -- a hedge variable's word whose number is marked
 unfoldable pub marked : List Bool → ℕ → Bool

@@ -44,7 +44,7 @@ module _ (k : List ℕ) (at : ℕ) (Q : Conj → Literal → Conj → Type 0) wh
   at-membership e f before (mem h R) behind p = f before h R behind p
 
 module _ (k : List ℕ) (c : Conj) (fine : fineConj desk c) (words : k ≡ conjWords c) (i : ℕ) where
-  stands-here : (done : Conj) (l : Literal) (rest : Conj) → c ≡ done ++ (l ∷ rest) → i ≡ length (conjWords done) → LiteralAt k i done l rest
+  pub stands-here : (done : Conj) (l : Literal) (rest : Conj) → c ≡ done ++ (l ∷ rest) → i ≡ length (conjWords done) → LiteralAt k i done l rest
   stands-here done l rest e p =
       let f = fine-split desk done (l ∷ rest) (subst (fineConj desk) e fine) in
       record {
