@@ -5,3 +5,4 @@ pub mod Lines
 pub mod Reading
 pub mod Settling
 pub mod Finished
+pub mod Exhibits

@@ -1,10 +1,14 @@
 // The example of a line, written as a filling.
 ghost use Prim.Native.Nat.{_<_, _≤_};
 ghost use lib.ListN.{length};
+ghost use mathlib.Core.Path.{_≡_};
+ghost use Rattle.showing.specs.Exhibits.{exhibits};
 ghost use Rattle.showing.specs.Answers.{Ranged, Answered, WordsShown, PartShown, AnswerShown};
 ghost use Rattle.showing.specs.Fillings.{FillingLength, TableWritten, ValuesWritten, LineShown};
 use language::Refusal;
 use samples::put;
+use solver::Outcome;
+use solver::solve;
 use stack::wide;
 use values::short;
 use values::values_len;
@@ -111,4 +115,22 @@ fn show_line(question: &[u16], line: usize, answer: &[u16], room: &mut [u16]) ->
     let from = wide(word(answer, line + 2));
     let to = wide(word(answer, line + 3));
     show_part(question, answer, from, to, room)
+}
+
+// The example of a line of a question, which is solved anew.
+pub fn example(
+    question: &[u16],
+    line: usize,
+    work: &mut [u16],
+    answer: &mut [u16],
+    room: &mut [u16],
+) -> Shown
+    ensures { λ r. ⌜ (r, now (work .exit), now (answer .exit), now (room .exit)) ≡ exhibits line (now (question .entry)) (now (work .entry)) (now (answer .entry)) (now (room .entry)) ⌝ }
+{
+    let s = solve(question, work, answer);
+    let outcome = s.outcome;
+    if let Outcome::Refused(e) = outcome {
+        return Shown::Denied(e);
+    }
+    show_line(question, line, answer, room)
 }
