@@ -1,7 +1,6 @@
 -- `solve_cases::words` is safe and ends: each turn goes past a word.
 use Prim.Native.Nat.{_-_}
 use lib.ListN.{length}
-use native.Mathlib.Omega.{arith}
 use borrow.Author.Needs.{needs}
 use Rattle.solve_cases.proofs.words.Statement.{statement}
 use Rattle.solve_cases.proofs.words.Tie as tie
