@@ -1,0 +1,84 @@
+// Reads cases, a line each: the number of the line asked for, the words of the room, and the words of a question.
+// Writes the refusal's number, or 0 and the words of the filling; and then, of a filling, the number and the value that trying it gives.
+ghost use Rattle.cases.specs.Lines.{Parsed};
+use showing::Shown;
+
+fn wide(x: u16) -> usize {
+    x as usize
+}
+
+fn print(x: u16) {
+    io::print_decimal(1, x as u64);
+}
+
+fn print_next(x: u16) {
+    io::write_all(1, b" ");
+    print(x);
+}
+
+// The first n words, each behind a space.
+fn print_words(words: &[u16], n: usize) {
+    let mut i = 0;
+    while i < n {
+        print_next(views::word(words, i));
+        i += 1;
+    }
+}
+
+fn try_filling<'a>(question: &'a [u16], filling: &'a [u16]) {
+    let mut work = [0u16; 8192];
+    let tried = trying::try_filling(question, filling, &mut work);
+    print(trying::tried_number(tried));
+    io::write_all(1, b" ");
+    print(trying::tried_value(tried));
+    io::write_all(1, b"\n");
+}
+
+fn show(question: &[u16], line: usize, room: &mut [u16]) {
+    let mut work = [0u16; 8192];
+    let mut answer = [0u16; 8192];
+    let shown = showing::example(question, line, &mut work, &mut answer, room);
+    match shown {
+        Shown::Shows(n) => {
+            io::write_all(1, b"0");
+            print_words(room, n);
+            io::write_all(1, b"\n");
+            if n <= room.len() {
+                try_filling(question, &room[0..n]);
+            }
+        }
+        Shown::Denied(e) => {
+            print(language::number(e));
+            io::write_all(1, b"\n");
+        }
+    }
+}
+
+fn one(text: &[u8]) {
+    let mut words = [0u16; 2048];
+    let mut room = [0u16; 8192];
+    let n = cases::words_of(text, &mut words);
+    if n < 2 {
+        return;
+    }
+    let line = wide(words[0]);
+    let size = wide(words[1]);
+    if size <= 8192 {
+        show(&words[2..n], line, &mut room[0..size]);
+    }
+}
+
+fn all(text: &[u8]) {
+    let mut at = 0;
+    while at < text.len() {
+        let end = cases::line_end(text, at);
+        one(&text[at..end]);
+        at = end + 1;
+    }
+}
+
+fn main() {
+    let mut buffer = io::large_buffer();
+    let n = io::read_full(0, &mut buffer);
+    all(&buffer[..n]);
+}
