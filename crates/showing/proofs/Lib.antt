@@ -6,3 +6,4 @@ pub mod Reading
 pub mod Settling
 pub mod Finished
 pub mod Exhibits
+pub mod Determined

@@ -2,9 +2,19 @@
 use Prim.Native.Nat.{ℕ}
 use mathlib.Core.List.{List, _++_}
 use lib.ListN.{length, drop}
+use Rattle.language.specs.Numbers.{numberOf}
 use Rattle.rules.specs.Calls.{Showing, shows, denied}
 use Rattle.showing.specs.declared.Shown.{Shown}
 use Rattle.showing.specs.declared.Shown.the-variants.{Shows, Denied}
+
+-- the paper's number, and the length that comes back
+abbrev pub shownNumber : Shown → ℕ
+shownNumber (Shows n) = 0
+shownNumber (Denied r) = numberOf r
+
+abbrev pub shownLength : Shown → ℕ
+shownLength (Shows n) = n
+shownLength (Denied r) = 0
 
 -- the filling's length, or the refusal
 abbrev pub resultOf : Showing → Shown

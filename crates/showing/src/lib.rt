@@ -4,8 +4,10 @@ ghost use lib.ListN.{length};
 ghost use mathlib.Core.Path.{_≡_};
 ghost use Rattle.showing.specs.Exhibits.{exhibits};
 ghost use Rattle.showing.specs.Answers.{Ranged, Answered, WordsShown, PartShown, AnswerShown};
+ghost use Rattle.showing.specs.Shown.{shownNumber, shownLength};
 ghost use Rattle.showing.specs.Fillings.{FillingLength, TableWritten, ValuesWritten, LineShown};
 use language::Refusal;
+use language::number;
 use samples::put;
 use solver::Outcome;
 use solver::solve;
@@ -133,4 +135,24 @@ pub fn example(
         return Shown::Denied(e);
     }
     show_line(question, line, answer, room)
+}
+
+// The number that stands in the table, 0 for a filling.
+pub fn shown_number(shown: Shown) -> u16
+    ensures { λ r. ⌜ r ≡ shownNumber shown ⌝ }
+{
+    match shown {
+        Shown::Shows(_) => 0,
+        Shown::Denied(e) => number(e),
+    }
+}
+
+// The filling's length, 0 for a refusal.
+pub fn shown_length(shown: Shown) -> usize
+    ensures { λ r. ⌜ r ≡ shownLength shown ⌝ }
+{
+    match shown {
+        Shown::Shows(n) => n,
+        Shown::Denied(_) => 0,
+    }
 }
