@@ -1,0 +1,2 @@
+// The calls of the control room's host, on bytes.
+mod bytes;
