@@ -5,9 +5,10 @@ use mathlib.Core.List.{List, [], _∷_, _++_}
 use native.Mathlib.Omega.{arith}
 use native.Mathlib.Nat.{zero-add, not-suc-le-zero, le-of-suc-le-suc}
 use native.Mathlib.Numerals.{add-one}
-use lib.ListN.{length, getD, set, drop, length-drop}
-use lib.Seq.{sets, drop-cons, drop-length, sets-eq}
-use Rattle.host.specs.Bytes.{wordOf, wordsOf, bytesOf}
+use lib.ListN.{length, getD, set, take, drop, length-drop}
+use borrow.Author.Tests.{eq-eqb, ne-eqb, le-leb, lt-leb}
+use lib.Seq.{sets, drop-cons, drop-length, sets-eq, take-at}
+use Rattle.host.specs.Bytes.{wordOf, wordsOf, bytesOf, wordsIn, fitting}
 
 -- ---- lengths
 
@@ -86,3 +87,43 @@ pub written : (bytes ws : List ℕ) → 2 * length ws ≤ length bytes → sets 
 written bytes ws h =
     let e : length (bytesOf ws) ≡ 2 * length ws = length-bytesOf ws in
     sets-eq (bytesOf ws) bytes 0 (omega arith) ∙ ap (λ (n : ℕ). bytesOf ws ++ drop n bytes) (zero-add (length (bytesOf ws)) ∙ e)
+
+-- ---- the words that bytes from outside hold
+
+module _ (bs : List ℕ) where
+  pub odd-holds-none : (length bs % 2 ≡ 0 → ⊥) → wordsIn bs ≡ []
+  unfolding wordsIn
+  odd-holds-none h = simp (ne-eqb _ _ h)
+
+  pub even-holds : length bs % 2 ≡ 0 → wordsIn bs ≡ wordsOf bs
+  unfolding wordsIn
+  even-holds h = simp (eq-eqb _ _ h)
+
+module _ (room : ℕ) (ws : List ℕ) where
+  pub fitting-all : length ws ≤ room → fitting room ws ≡ ws
+  unfolding fitting
+  fitting-all h = simp (le-leb _ _ h)
+
+  pub fitting-none : room < length ws → fitting room ws ≡ []
+  unfolding fitting
+  fitting-none h = simp (lt-leb _ _ h)
+
+pub none-fits : (room : ℕ) → fitting room [] ≡ []
+none-fits room = fitting-all room [] (omega arith)
+
+module _ (bs : List ℕ) (room : ℕ) where
+  pub takes-none-of-odd : (length bs % 2 ≡ 0 → ⊥) → [] ≡ fitting room (wordsIn bs)
+  takes-none-of-odd h = sym (ap (fitting room) (odd-holds-none bs h) ∙ none-fits room)
+
+  module _ (even : length bs % 2 ≡ 0) where
+    pub takes-none-of-long : room < length bs / 2 → [] ≡ fitting room (wordsIn bs)
+    takes-none-of-long h =
+        let e : length (wordsOf bs) ≡ length bs / 2 = length-wordsOf bs in
+        sym (ap (fitting room) (even-holds bs even) ∙ fitting-none room (wordsOf bs) (omega arith))
+
+    pub takes-all : (words words′ : List ℕ) → length words ≡ room → length bs / 2 ≤ room → words′ ≡ sets words 0 (wordsOf bs)
+        → take (length bs / 2) words′ ≡ fitting room (wordsIn bs)
+    takes-all words words′ n h e =
+        let f : length (wordsOf bs) ≡ length bs / 2 = length-wordsOf bs in
+        ap (take (length bs / 2)) (e ∙ sets-eq (wordsOf bs) words 0 (omega arith)) ∙ take-at (wordsOf bs) _ (length bs / 2) f
+        ∙ sym (ap (fitting room) (even-holds bs even) ∙ fitting-all room (wordsOf bs) (omega arith))

@@ -1,9 +1,9 @@
 -- Words as bytes, the low byte first.
 use Prim.Native.Nat.{ℕ, _+_, _*_, _/_, _%_}
-use mathlib.Core.Bool.{Bool, true, false}
 use mathlib.Core.List.{List, [], _∷_}
-use lib.Dec.{eqb}
+use lib.Dec.{eqb, leb}
 use lib.ListN.{length}
+use Rattle.language.specs.Kinds.{pick}
 
 -- the word of two bytes
 abbrev pub wordOf : ℕ → ℕ → ℕ
@@ -22,4 +22,8 @@ bytesOf (w ∷ ws) = (w % 256) ∷ ((w / 256) ∷ bytesOf ws)
 
 -- The words that bytes from outside hold: an odd count holds none, so that what was to be read there is refused for its length.
 unfoldable pub wordsIn : List ℕ → List ℕ
-wordsIn bs = elim (eqb (length bs % 2) 0) [ true ↦ wordsOf bs | false ↦ [] ]
+wordsIn bs = pick (eqb (length bs % 2) 0) (wordsOf bs) []
+
+-- words that fit a room of so many, and else none
+unfoldable pub fitting : ℕ → List ℕ → List ℕ
+fitting room ws = pick (leb (length ws) room) ws []

@@ -4,7 +4,7 @@ ghost use mathlib.Core.Path.{_≡_};
 ghost use mathlib.Core.List.{List};
 ghost use lib.ListN.{length, take};
 ghost use lib.Seq.{sets};
-ghost use Rattle.host.specs.Bytes.{wordOf, wordsOf, bytesOf};
+ghost use Rattle.host.specs.Bytes.{wordOf, wordsOf, bytesOf, wordsIn, fitting};
 
 fn word(low: u8, high: u8) -> u16
     ensures { λ r. ⌜ r ≡ wordOf low high ⌝ }
@@ -35,6 +35,22 @@ fn read_words(bytes: &[u8], words: &mut [u16])
         words[i] = word(bytes[2 * i], bytes[2 * i + 1]);
         i += 1;
     }
+}
+
+// The words that these bytes hold, at the start of `words`, and how many they are: none where the count of bytes is odd or they do not fit.
+pub fn take_words(bytes: &[u8], words: &mut [u16]) -> usize
+    ensures { λ r. ⌜ (r ≤ length (now (words .exit))) × (r ≡ length (take r (now (words .exit)))) ⌝ }
+    ensures { λ r. ⌜ take r (now (words .exit)) ≡ fitting (length (now (words .entry))) (wordsIn (now (bytes .entry))) ⌝ }
+{
+    let n = bytes.len() / 2;
+    if bytes.len() % 2 != 0 {
+        return 0;
+    }
+    if words.len() < n {
+        return 0;
+    }
+    read_words(bytes, words);
+    n
 }
 
 // The bytes of these words, at the start of `bytes`.
