@@ -1,7 +1,9 @@
 // Words as a person writes them and reads them.
+mod file;
 mod show;
 mod text;
 
+pub use file::load;
 pub use show::filling;
 pub use show::lines;
 pub use show::number;
