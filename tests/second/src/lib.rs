@@ -12,6 +12,7 @@ pub mod gen;
 pub mod literal;
 pub mod member;
 pub mod read;
+pub mod records;
 pub mod rules;
 pub mod run;
 pub mod solved;
