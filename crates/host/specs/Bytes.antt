@@ -27,3 +27,7 @@ wordsIn bs = pick (eqb (length bs % 2) 0) (wordsOf bs) []
 -- words that fit a room of so many, and else none
 unfoldable pub fitting : ℕ → List ℕ → List ℕ
 fitting room ws = pick (leb (length ws) room) ws []
+
+-- of so many words lent, as many as are ever used
+unfoldable pub used : ℕ → ℕ → ℕ
+used most lent = pick (leb lent most) lent most
