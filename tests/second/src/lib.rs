@@ -11,6 +11,7 @@ pub mod filling;
 pub mod gen;
 pub mod literal;
 pub mod member;
+pub mod proved;
 pub mod read;
 pub mod records;
 pub mod rules;

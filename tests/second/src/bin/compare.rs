@@ -1,25 +1,22 @@
 //! Puts the same questions, fillings and lines to the proved desk and to this
 //! one, and compares what comes back and every byte lent: the worked answers,
-//! then random cases of a fixed seed. The number of cases may be given as an
-//! argument.
-
-mod proved;
+//! then random cases of a fixed seed.
+//!
+//!     compare CASES COMMAND..    COMMAND starts the bridge to the proved desk
 
 use std::path::Path;
 use std::process::ExitCode;
 
 use second::gen::random::Random;
 use second::gen::{case, SEED};
+use second::proved::{bytes, words, Proved, Request, LENT, NO, SHOWN, YES};
 use second::records::{cases, Case};
 use second::words::ANSWER;
-
-const CASES: u64 = 20_000;
-/// What a lent byte holds before a call.
-const BEFORE: u8 = 0xA5;
 
 /// How many comparisons there were, how many disagreed, and how often each
 /// number came back.
 struct Tally {
+    proved: Proved,
     passed: u64,
     failed: u64,
     solve: [u64; 102],
@@ -27,22 +24,9 @@ struct Tally {
     example: [u64; 102],
 }
 
-fn bytes(words: &[u16]) -> Vec<u8> {
-    words.iter().flat_map(|word| word.to_le_bytes()).collect()
-}
-
-/// The words of bytes as the desk takes them: an odd count is no question and
-/// no filling.
-fn words(bytes: &[u8]) -> Vec<u16> {
-    if bytes.len() % 2 == 1 {
-        return Vec::new();
-    }
-    bytes.chunks(2).map(|pair| u16::from_le_bytes([pair[0], pair[1]])).collect()
-}
-
 /// Lent bytes after a call that wrote `written` at their start.
 fn left(length: usize, written: &[u8]) -> Vec<u8> {
-    let mut left = vec![BEFORE; length];
+    let mut left = vec![LENT; length];
     left[..written.len()].copy_from_slice(written);
     left
 }
@@ -58,8 +42,7 @@ impl Tally {
     }
 
     fn solve(&mut self, name: &str, question: &[u8], length: usize) {
-        let mut answer = vec![BEFORE; length];
-        let number = proved::solve(question, &mut answer);
+        let (number, answer) = self.proved.call(Request::Solve { question, answer: length });
         let (expected, expected_left) = if length < 2 * ANSWER {
             (1, left(length, &[]))
         } else {
@@ -74,10 +57,10 @@ impl Tally {
     }
 
     fn tried(&mut self, name: &str, question: &[u8], filling: &[u8]) {
-        let number = proved::try_filling(question, filling);
+        let (number, _) = self.proved.call(Request::Try { question, filling });
         let expected = match second::try_filling(&words(question), &words(filling)) {
-            Ok(true) => proved::YES,
-            Ok(false) => proved::NO,
+            Ok(true) => YES,
+            Ok(false) => NO,
             Err(refusal) => refusal as u32,
         };
         self.tried[number.min(101) as usize] += 1;
@@ -87,13 +70,10 @@ impl Tally {
     }
 
     fn example(&mut self, name: &str, question: &[u8], line: u32, length: usize) {
-        let mut room = vec![BEFORE; length];
-        let number = proved::example(question, line, &mut room);
+        let (number, room) = self.proved.call(Request::Example { question, line, room: length });
         let (expected, expected_left) =
             match second::example(&words(question), line as usize, length / 2) {
-                Ok(filling) => {
-                    (proved::SHOWN + filling.len() as u32, left(length, &bytes(&filling)))
-                }
+                Ok(filling) => (SHOWN + filling.len() as u32, left(length, &bytes(&filling))),
                 Err(refusal) => (refusal as u32, left(length, &[])),
             };
         self.example[number.min(101) as usize] += 1;
@@ -107,8 +87,8 @@ impl Tally {
 fn worked(tally: &mut Tally, folder: &Path) {
     for case in cases(&folder.join("solve.txt")) {
         let question = bytes(&case.words('Q'));
-        let mut answer = vec![BEFORE; 2 * ANSWER];
-        let number = proved::solve(&question, &mut answer);
+        let (number, answer) =
+            tally.proved.call(Request::Solve { question: &question, answer: 2 * ANSWER });
         let expected = case.needed('R')[0];
         let expected_left = match case.field('A') {
             Some(_) => bytes(&padded(case.words('A'))),
@@ -120,20 +100,23 @@ fn worked(tally: &mut Tally, folder: &Path) {
         });
     }
     for case in cases(&folder.join("try.txt")) {
-        let number = proved::try_filling(&bytes(&case.words('Q')), &bytes(&case.words('F')));
+        let (question, filling) = (bytes(&case.words('Q')), bytes(&case.words('F')));
+        let (number, _) =
+            tally.proved.call(Request::Try { question: &question, filling: &filling });
         let expected = match case.needed('V') {
-            [0, yes] => proved::NO + yes,
+            [0, yes] => NO + yes,
             verdict => verdict[0],
         };
         tally.note(number == expected, || said("try.txt", &case, number));
     }
     for case in cases(&folder.join("example.txt")) {
         let (line, room) = (case.needed('L')[0], 2 * case.needed('L')[1] as usize);
-        let mut lent = vec![BEFORE; room];
-        let number = proved::example(&bytes(&case.words('Q')), line, &mut lent);
+        let question = bytes(&case.words('Q'));
+        let (number, lent) =
+            tally.proved.call(Request::Example { question: &question, line, room });
         let shown = case.words('E');
         let (expected, expected_left) = match shown[0] {
-            0 => (proved::SHOWN + shown.len() as u32 - 1, left(room, &bytes(&shown[1..]))),
+            0 => (SHOWN + shown.len() as u32 - 1, left(room, &bytes(&shown[1..]))),
             refusal => (refusal as u32, left(room, &[])),
         };
         tally.note(number == expected && lent == expected_left, || {
@@ -184,9 +167,11 @@ fn random_case(tally: &mut Tally, index: u64) {
 }
 
 fn main() -> ExitCode {
-    let count = std::env::args().nth(1).map_or(CASES, |text| text.parse().expect("a number"));
+    let args: Vec<String> = std::env::args().skip(1).collect();
+    let count: u64 = args[0].parse().expect("a number of cases");
+    let proved = Proved::start(&args[1..]);
     let mut tally =
-        Tally { passed: 0, failed: 0, solve: [0; 102], tried: [0; 102], example: [0; 102] };
+        Tally { proved, passed: 0, failed: 0, solve: [0; 102], tried: [0; 102], example: [0; 102] };
     worked(&mut tally, &Path::new(env!("CARGO_MANIFEST_DIR")).join("../vectors"));
     println!("worked answers: {} compared", tally.passed + tally.failed);
     for index in 0..count {
@@ -199,8 +184,9 @@ fn main() -> ExitCode {
             (0..102).filter(|n| counts[*n] > 0).map(|n| format!("{n}: {}", counts[n])).collect();
         println!("{call} gave {}", shown.join(", "));
     }
-    println!("{} passed, {} failed", tally.passed, tally.failed);
-    if tally.failed > 0 {
+    let failed = tally.failed + !tally.proved.end() as u64;
+    println!("{} passed, {failed} failed", tally.passed);
+    if failed > 0 {
         ExitCode::FAILURE
     } else {
         ExitCode::SUCCESS
