@@ -1,3 +1,4 @@
+pub mod Bools
 pub mod Words
 pub mod Steps
 pub mod Formats
@@ -7,3 +8,8 @@ pub mod Literals
 pub mod Conjunctions
 pub mod Laws
 pub mod Undeclared
+pub mod Arms
+pub mod Offsets
+pub mod Questions
+pub mod Alternatives
+pub mod Asking

@@ -1,0 +1,5 @@
+pub mod Placing
+pub mod Parts
+pub mod Checks
+pub mod Verdicts
+pub mod Answers

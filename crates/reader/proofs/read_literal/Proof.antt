@@ -1,0 +1,37 @@
+-- `reader::read_literal` meets its contract: the word there says which two parts follow.
+-- Assumes nothing.
+use mathlib.Core.Path.{sym, _∙_}
+use native.Mathlib.Omega.{arith}
+use borrow.Author.Needs.{needs}
+use Rattle.language.specs.Limits.{desk}
+use Rattle.language.specs.Reading.{readHedge, readExpr}
+use Rattle.reader.proofs.Placing.{goes-on, halts}
+use Rattle.reader.proofs.Parts.{past-literal, literal-equation, literal-membership, literal-none}
+use Rattle.reader.proofs.read_literal.Statement.{statement}
+use Rattle.reader.proofs.read_literal.Tie as tie
+
+pub read-literal-spec : {M : Type 1} → statement M
+read-literal-spec =
+    tie.close
+    (tie.spec
+    (λ c. past-literal _ _ (c .if1 .taken))
+    (λ c. search needs)
+    (λ c. search needs)
+    (λ c κs. search needs)
+    (λ c. search needs)
+    (λ c. search needs)
+    (λ c κs. search needs)
+    (λ c. search needs)
+    (λ c κs. search needs)
+    (λ c. search needs)
+    (λ c. search needs)
+    (λ c. search needs)
+    (λ c κs. search needs)
+    (λ c. search needs)
+    (λ c κs. search needs)
+    (λ c. search needs)
+    (λ c. c .read-hedge2 .ensures ∙ goes-on _ _ _ _ (sym (c .before .before .before .before .read-hedge .ensures) ∙ c .before .before .after .given .1) ∙ literal-equation _ _ (omega arith) _ (c .before .before .before .before .before .before .before .classify .ensures) (c .before .before .before .before .before .enum-told .given .1))
+    (λ c. halts (readHedge desk) _ _ _ (sym (c .before .before .before .read-hedge .ensures) ∙ c .before .place .given .1) ∙ literal-equation _ _ (omega arith) _ (c .before .before .before .before .before .before .classify .ensures) (c .before .before .before .before .enum-told .given .1))
+    (λ c. c .read-expr .ensures ∙ goes-on _ _ _ _ (sym (c .before .before .before .before .read-hedge3 .ensures) ∙ c .before .before .after2 .given .1) ∙ literal-membership _ _ (omega arith) _ (c .before .before .before .before .before .before .before .classify .ensures) (c .before .before .before .before .before .enum-told2 .given .1))
+    (λ c. halts (readExpr desk) _ _ _ (sym (c .before .before .before .read-hedge3 .ensures) ∙ c .before .place2 .given .1) ∙ literal-membership _ _ (omega arith) _ (c .before .before .before .before .before .before .classify .ensures) (c .before .before .before .before .enum-told2 .given .1))
+    (λ c. literal-none _ _ (omega arith) _ (c .before .classify .ensures) (c .match .keys3)))

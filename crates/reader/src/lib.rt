@@ -1,0 +1,310 @@
+// Reading a question's words: what a word is, where a hedge, an expression and a literal end, and which of the refusals 2 to 6 is given.
+use language::FunVar;
+use language::HedgeVar;
+use language::Kind;
+use language::Refusal;
+use language::Sym;
+use language::TermVar;
+use language::number;
+ghost use mathlib.Core.Path.{_≡_};
+ghost use mathlib.Core.Bool.{true};
+ghost use Prim.Native.Nat.{_≤_};
+ghost use lib.ListN.{length, drop};
+ghost use Rattle.language.specs.Limits.{desk};
+ghost use Rattle.language.specs.Kinds.{kindOf};
+ghost use Rattle.language.specs.Reading.{readTerm, readHedge, readExpr, readLiteral, readConj};
+ghost use Rattle.language.specs.Question.{rising, laidOut, parts, readAll, countsFit, readQuestion};
+ghost use Rattle.language.specs.Undeclared.{declaredWord};
+ghost use Rattle.language.specs.Between.{between};
+ghost use Rattle.reader.specs.Places.{placed};
+ghost use Rattle.reader.specs.Checking.{readable, headerOf, countsIn, firstUndeclared, checked, checkedNumber};
+
+// The place after what was read, or the place of the first word that cannot go on.
+pub enum Read {
+    Next(usize),
+    Stop(usize),
+}
+
+// What a word is, by the table of words.
+pub fn classify(word: u16) -> Kind
+    ensures { λ r. ⌜ r ≡ kindOf desk word ⌝ }
+{
+    match word {
+        0 => Kind::End,
+        1000..=1031 => Kind::Term(TermVar(word - 1000)),
+        2000..=2031 => Kind::Run(HedgeVar(word - 2000)),
+        3000..=3031 => Kind::Symbol(Sym(word - 3000)),
+        4000..=4031 => Kind::Function(FunVar(word - 4000)),
+        5000 => Kind::Equation,
+        6000 => Kind::Membership,
+        7000 => Kind::Eps,
+        7001 => Kind::Cat,
+        7002 => Kind::Alt,
+        7003 => Kind::Star,
+        _ => Kind::Other,
+    }
+}
+
+// One term: a term variable, or a symbol or function variable with its children.
+pub fn read_term(w: &[u16], at: usize) -> Read
+    ensures { λ r. ⌜ r ≡ placed at (readTerm desk (drop at (now (w .entry)))) ⌝ }
+{
+    if w.len() <= at {
+        return Read::Stop(at);
+    }
+    match classify(w[at]) {
+        Kind::Term(_) => Read::Next(at + 1),
+        Kind::Symbol(_) | Kind::Function(_) => read_hedge(w, at + 1),
+        _ => Read::Stop(at),
+    }
+}
+
+// A hedge and its 0: hedge variables and terms, one after another.
+pub fn read_hedge(w: &[u16], at: usize) -> Read
+    ensures { λ r. ⌜ r ≡ placed at (readHedge desk (drop at (now (w .entry)))) ⌝ }
+{
+    let mut i = at;
+    while i < w.len() {
+        match classify(w[i]) {
+            Kind::End => return Read::Next(i + 1),
+            Kind::Run(_) => i += 1,
+            _ => match read_term(w, i) {
+                Read::Next(after) => i = after,
+                Read::Stop(place) => return Read::Stop(place),
+            },
+        }
+    }
+    Read::Stop(i)
+}
+
+// An expression, by its parts.
+pub fn read_expr(w: &[u16], at: usize) -> Read
+    ensures { λ r. ⌜ r ≡ placed at (readExpr desk (drop at (now (w .entry)))) ⌝ }
+{
+    if w.len() <= at {
+        return Read::Stop(at);
+    }
+    match classify(w[at]) {
+        Kind::Eps => Read::Next(at + 1),
+        Kind::Symbol(_) | Kind::Star => read_expr(w, at + 1),
+        Kind::Cat | Kind::Alt => match read_expr(w, at + 1) {
+            Read::Next(after) => read_expr(w, after),
+            Read::Stop(place) => Read::Stop(place),
+        },
+        _ => Read::Stop(at),
+    }
+}
+
+// A literal: an equation of two hedges, or a hedge's membership in an expression.
+pub fn read_literal(w: &[u16], at: usize) -> Read
+    ensures { λ r. ⌜ r ≡ placed at (readLiteral desk (drop at (now (w .entry)))) ⌝ }
+{
+    if w.len() <= at {
+        return Read::Stop(at);
+    }
+    match classify(w[at]) {
+        Kind::Equation => match read_hedge(w, at + 1) {
+            Read::Next(after) => read_hedge(w, after),
+            Read::Stop(place) => Read::Stop(place),
+        },
+        Kind::Membership => match read_hedge(w, at + 1) {
+            Read::Next(after) => read_expr(w, after),
+            Read::Stop(place) => Read::Stop(place),
+        },
+        _ => Read::Stop(at),
+    }
+}
+
+// A conjunction: literals, to the last word.
+pub fn read_conj(w: &[u16]) -> Read
+    ensures { λ r. ⌜ r ≡ placed 0 (readConj desk (now (w .entry))) ⌝ }
+{
+    let mut i = 0;
+    while i < w.len() {
+        match read_literal(w, i) {
+            Read::Next(after) => i = after,
+            Read::Stop(place) => return Read::Stop(place),
+        }
+    }
+    Read::Next(i)
+}
+
+// A word as a place.
+fn wide(word: u16) -> usize
+    ensures { λ r. ⌜ r ≡ word ⌝ }
+{
+    word as usize
+}
+
+// Whether the offsets from place `at` up to `stop` never fall, from `from` on, and the last is the length.
+fn rises(w: &[u16], at: usize, stop: usize, from: usize) -> bool
+    requires { ⌜ (at ≤ stop) × (stop ≤ length (now w)) ⌝ }
+    ensures { λ r. ⌜ r ≡ rising from (between at stop (now (w .entry))) (length (now (w .entry))) ⌝ }
+{
+    let mut i = at;
+    let mut last = from;
+    while i < stop {
+        let next = wide(w[i]);
+        if next < last {
+            return false;
+        }
+        last = next;
+        i += 1;
+    }
+    last == w.len()
+}
+
+// Whether the table of offsets of `n` parts, after `head` words, is as it should be.
+pub fn laid_out(w: &[u16], head: u16, n: u16) -> bool
+    ensures { λ r. ⌜ r ≡ laidOut head n (now (w .entry)) ⌝ }
+{
+    let at = wide(head);
+    let first = at + wide(n) + 1;
+    if w.len() < first {
+        return false;
+    }
+    if wide(w[at]) != first {
+        return false;
+    }
+    rises(w, at + 1, first, first)
+}
+
+// Whether each part of a question with `n` conjunctions is exactly literals.
+fn all_literals(w: &[u16], n: u16) -> bool
+    requires { ⌜ laidOut 5 n (now w) ≡ true ⌝ }
+    ensures { λ r. ⌜ r ≡ readable (readAll desk (parts 5 n (now (w .entry)))) ⌝ }
+{
+    let stop = wide(n) + 6;
+    let mut from = stop;
+    let mut i = 6;
+    while i < stop {
+        let to = wide(w[i]);
+        match read_conj(&w[from..to]) {
+            Read::Next(_) => {
+                from = to;
+                i += 1;
+            }
+            Read::Stop(_) => return false,
+        }
+    }
+    true
+}
+
+// The first five words of a question: how many of each are declared, and how many conjunctions follow.
+pub struct Header {
+    pub symbols: u16,
+    pub terms: u16,
+    pub hedges: u16,
+    pub functions: u16,
+    pub alternatives: u16,
+}
+
+fn read_header(w: &[u16]) -> Header
+    requires { ⌜ 5 ≤ length (now w) ⌝ }
+    ensures { λ r. ⌜ r ≡ headerOf (now (w .entry)) ⌝ }
+{
+    Header {
+        symbols: w[0],
+        terms: w[1],
+        hedges: w[2],
+        functions: w[3],
+        alternatives: w[4],
+    }
+}
+
+// Whether the counts are in range.
+pub fn counts_fit(h: Header) -> bool
+    ensures { λ r. ⌜ r ≡ countsFit desk (countsIn h) (h .alternatives) ⌝ }
+{
+    if h.symbols < 1 {
+        return false;
+    }
+    if 32 < h.symbols {
+        return false;
+    }
+    if 32 < h.terms {
+        return false;
+    }
+    if 32 < h.hedges {
+        return false;
+    }
+    if 32 < h.functions {
+        return false;
+    }
+    h.alternatives <= 16
+}
+
+// Whether a word's number is below the count of its kind.
+pub fn is_declared(h: Header, word: u16) -> bool
+    ensures { λ r. ⌜ r ≡ declaredWord desk (countsIn h) word ⌝ }
+{
+    match classify(word) {
+        Kind::Term(x) => x.0 < h.terms,
+        Kind::Run(p) => p.0 < h.hedges,
+        Kind::Symbol(f) => f.0 < h.symbols,
+        Kind::Function(x) => x.0 < h.functions,
+        _ => true,
+    }
+}
+
+// The place of the first undeclared number.
+pub enum Scan {
+    Declared,
+    Undeclared(usize),
+}
+
+pub fn find_undeclared(h: Header, w: &[u16], from: usize) -> Scan
+    ensures { λ r. ⌜ r ≡ firstUndeclared desk (countsIn h) from (drop from (now (w .entry))) ⌝ }
+{
+    let mut i = from;
+    while i < w.len() {
+        if !is_declared(h, w[i]) {
+            return Scan::Undeclared(i);
+        }
+        i += 1;
+    }
+    Scan::Declared
+}
+
+// What comes of reading a question.
+pub enum Checked {
+    Fine,
+    Refused(Refusal),
+}
+
+// Whether a question can be worked on, or which of 2 to 6 is given: in their order, each over the whole question.
+pub fn read_question(question: &[u16]) -> Checked
+    ensures { λ r. ⌜ r ≡ checked (readQuestion desk (now (question .entry))) ⌝ }
+{
+    if question.len() < 6 {
+        return Checked::Refused(Refusal::QuestionLength);
+    }
+    if 1024 < question.len() {
+        return Checked::Refused(Refusal::QuestionLength);
+    }
+    let h = read_header(question);
+    if !counts_fit(h) {
+        return Checked::Refused(Refusal::CountRange);
+    }
+    let n = h.alternatives;
+    if !laid_out(question, 5, n) {
+        return Checked::Refused(Refusal::BadOffset);
+    }
+    if !all_literals(question, n) {
+        return Checked::Refused(Refusal::NotLiterals);
+    }
+    match find_undeclared(h, question, wide(n) + 6) {
+        Scan::Undeclared(_) => Checked::Refused(Refusal::Undeclared),
+        Scan::Declared => Checked::Fine,
+    }
+}
+
+// The number that comes back for it: 0 for a question that is not refused.
+pub fn verdict_number(verdict: Checked) -> u16
+    ensures { λ r. ⌜ r ≡ checkedNumber verdict ⌝ }
+{
+    match verdict {
+        Checked::Fine => 0,
+        Checked::Refused(refusal) => number(refusal),
+    }
+}

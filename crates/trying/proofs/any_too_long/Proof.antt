@@ -1,0 +1,96 @@
+-- `trying::any_too_long` meets its contract. The invariant: what is left of the alternatives says of the question what is asked.
+use Prim.Native.Nat.{_-_}
+use native.Mathlib.Omega.{arith}
+use borrow.Author.Needs.{needs}
+use Rattle.trying.proofs.Questions.{Measuring, measuring-starts, measuring-room, measuring-here, measuring-conj, measuring-over, measuring-on, measuring-ends}
+use Rattle.trying.proofs.any_too_long.Statement.{statement}
+use Rattle.trying.proofs.any_too_long.Tie as tie
+
+abbrev Inv-loop : tie.InvT-loop
+Inv-loop h filling question n i₀ i = Measuring h filling question i n
+
+abbrev μ-loop : tie.MeasureT-loop
+μ-loop h filling question n i₀ i = n - i
+
+loop-holds : tie.Need-loop-holds Inv-loop μ-loop
+loop-holds c = measuring-starts _ _ _ (c .before .before .before .pre) (c .wide .ensures)
+
+add-wide : tie.Need-add-wide Inv-loop μ-loop
+add-wide c = let r = measuring-room _ _ _ (c .before .loop .inv) in search needs
+
+mul-wide : tie.Need-mul-wide Inv-loop μ-loop
+mul-wide c = let r = measuring-room _ _ _ (c .before .loop .inv) in search needs
+
+shared-slice-read-wide : tie.Need-shared-slice-read-wide Inv-loop μ-loop
+shared-slice-read-wide c = let r = measuring-room _ _ _ (c .before .before .loop .inv) in search needs
+
+add-wide-2 : tie.Need-add-wide-2 Inv-loop μ-loop
+add-wide-2 c = let r = measuring-room _ _ _ (c .before .before .before .loop .inv) in search needs
+
+mul-wide-2 : tie.Need-mul-wide-2 Inv-loop μ-loop
+mul-wide-2 c = let r = measuring-room _ _ _ (c .before .before .before .loop .inv) in search needs
+
+shared-slice-read-wide-2 : tie.Need-shared-slice-read-wide-2 Inv-loop μ-loop
+shared-slice-read-wide-2 c = let r = measuring-room _ _ _ (c .before .before .before .before .loop .inv) in search needs
+
+mul-too-long : tie.Need-mul-too-long Inv-loop μ-loop
+mul-too-long c =
+    let x = measuring-here _ _ _ (c .before .before .before .before .before .loop .inv) (omega arith) (c .before .before .wide2 .ensures) (c .wide3 .ensures) in
+    search needs
+
+sub-too-long : tie.Need-sub-too-long Inv-loop μ-loop
+sub-too-long c =
+    let x = measuring-here _ _ _ (c .before .before .before .before .before .loop .inv) (omega arith) (c .before .before .wide2 .ensures) (c .wide3 .ensures) in
+    search needs
+
+part-too-long-start : tie.Need-part-too-long-start Inv-loop μ-loop
+part-too-long-start c =
+    let x = measuring-here _ _ _ (c .before .before .before .before .before .loop .inv) (omega arith) (c .before .before .wide2 .ensures) (c .wide3 .ensures) in
+    search needs
+
+part-too-long-end : tie.Need-part-too-long-end Inv-loop μ-loop
+part-too-long-end c =
+    let x = measuring-here _ _ _ (c .before .before .before .before .before .loop .inv) (omega arith) (c .before .before .wide2 .ensures) (c .wide3 .ensures) in
+    search needs
+
+too-long-requires : tie.Need-too-long-requires Inv-loop μ-loop
+too-long-requires c κs = measuring-conj _ _ _ (c .before .before .before .before .before .before .loop .inv) (omega arith) (c .before .before .before .wide2 .ensures) (c .before .wide3 .ensures)
+
+returns : tie.Need-returns Inv-loop μ-loop
+returns c = measuring-over _ _ _ (c .before .before .before .before .before .before .before .before .loop .inv) (omega arith) (c .before .before .before .before .before .wide2 .ensures) (c .before .before .before .wide3 .ensures) (c .before .too-long .ensures) (c .if1 .taken)
+
+add-i : tie.Need-add-i Inv-loop μ-loop
+add-i c = let r = measuring-room _ _ _ (c .before .before .before .before .before .before .before .before .loop .inv) in search needs
+
+loop-again : tie.Need-loop-again Inv-loop μ-loop
+loop-again c = measuring-on _ _ _ (c .before .before .before .before .before .before .before .before .loop .inv) (omega arith) (c .before .before .before .before .before .wide2 .ensures) (c .before .before .before .wide3 .ensures) (c .before .too-long .ensures) (c .if1 .left)
+
+returns-2 : tie.Need-returns-2 Inv-loop μ-loop
+returns-2 c = measuring-ends _ _ _ (c .before .loop .inv) (omega arith)
+
+pub any-too-long-spec : {M : Type 1} → statement M
+any-too-long-spec =
+    tie.close
+    (tie.spec
+    Inv-loop
+    μ-loop
+    (λ c κs. search needs)
+    loop-holds
+    add-wide
+    mul-wide
+    shared-slice-read-wide
+    (λ c κs. search needs)
+    add-wide-2
+    mul-wide-2
+    shared-slice-read-wide-2
+    (λ c κs. search needs)
+    mul-too-long
+    sub-too-long
+    part-too-long-start
+    part-too-long-end
+    too-long-requires
+    returns
+    add-i
+    (λ c. search needs)
+    loop-again
+    returns-2)

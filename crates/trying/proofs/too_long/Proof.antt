@@ -1,0 +1,78 @@
+-- `trying::too_long` meets its contract. The invariant: what is left of the conjunction says of the whole what is asked.
+use Prim.Native.Nat.{_-_}
+use native.Mathlib.Omega.{arith}
+use lib.ListN.{length}
+use borrow.Author.Needs.{needs}
+use borrow.Author.Tests.{not-true, not-false}
+use Rattle.reader.specs.Checking.{countsIn}
+use Rattle.trying.proofs.Scans.{Scanning, scan-starts, scan-here, scan-ready, scan-over, scan-on, scan-ends}
+use Rattle.trying.proofs.too_long.Statement.{statement}
+use Rattle.trying.proofs.too_long.Tie as tie
+
+abbrev Inv-loop : tie.InvT-loop
+Inv-loop h filling conj i₀ i = Scanning (countsIn h) filling conj i
+
+abbrev μ-loop : tie.MeasureT-loop
+μ-loop h filling conj i₀ i = length conj - i
+
+loop-holds : tie.Need-loop-holds Inv-loop μ-loop
+loop-holds c = scan-starts _ _ _ (c .before .before .pre)
+
+mul-filled-len : tie.Need-mul-filled-len Inv-loop μ-loop
+mul-filled-len c =
+    let x = scan-here _ _ _ (c .before .before .before .before .loop .inv) (c .before .before .literal-end .ensures) (omega arith) in
+    search needs
+
+sub-filled-len : tie.Need-sub-filled-len Inv-loop μ-loop
+sub-filled-len c =
+    let x = scan-here _ _ _ (c .before .before .before .before .loop .inv) (c .before .before .literal-end .ensures) (omega arith) in
+    search needs
+
+part-filled-len-start : tie.Need-part-filled-len-start Inv-loop μ-loop
+part-filled-len-start c =
+    let x = scan-here _ _ _ (c .before .before .before .before .loop .inv) (c .before .before .literal-end .ensures) (omega arith) in
+    search needs
+
+part-filled-len-end : tie.Need-part-filled-len-end Inv-loop μ-loop
+part-filled-len-end c =
+    let x = scan-here _ _ _ (c .before .before .before .before .loop .inv) (c .before .before .literal-end .ensures) (omega arith) in
+    search needs
+
+filled-len-requires : tie.Need-filled-len-requires Inv-loop μ-loop
+filled-len-requires c κs =
+    let r = scan-ready _ _ _ (c .before .before .before .before .before .loop .inv) (c .before .before .before .literal-end .ensures) (omega arith) (c .before .before .wide .ensures) (c .before .wide2 .ensures) in
+    (r .0, (r .1, r .2))
+
+returns : tie.Need-returns Inv-loop μ-loop
+returns c = scan-over _ _ _ (c .before .before .before .before .before .before .before .loop .inv) (c .before .before .before .before .before .literal-end .ensures) (omega arith) (c .before .before .before .before .wide .ensures) (c .before .before .before .wide2 .ensures) (c .before .filled-len .ensures) (omega arith)
+
+loop-less : tie.Need-loop-less Inv-loop μ-loop
+loop-less c =
+    let x = scan-here _ _ _ (c .before .before .before .before .before .before .before .loop .inv) (c .before .before .before .before .before .literal-end .ensures) (omega arith) in
+    search needs
+
+loop-again : tie.Need-loop-again Inv-loop μ-loop
+loop-again c = scan-on _ _ _ (c .before .before .before .before .before .before .before .loop .inv) (c .before .before .before .before .before .literal-end .ensures) (omega arith) (c .before .before .before .before .wide .ensures) (c .before .before .before .wide2 .ensures) (c .before .filled-len .ensures) (omega arith)
+
+returns-2 : tie.Need-returns-2 Inv-loop μ-loop
+returns-2 c = scan-ends _ _ _ (c .before .loop .inv) (omega arith)
+
+pub too-long-spec : {M : Type 1} → statement M
+too-long-spec =
+    tie.close
+    (tie.spec
+    Inv-loop
+    μ-loop
+    loop-holds
+    (λ c κs. search needs)
+    (λ c κs. search needs)
+    (λ c κs. search needs)
+    mul-filled-len
+    sub-filled-len
+    part-filled-len-start
+    part-filled-len-end
+    filled-len-requires
+    returns
+    loop-less
+    loop-again
+    returns-2)

@@ -1,0 +1,40 @@
+-- `trying::try_filling` meets its contract: the slice is too short, the question is refused, or it is tried.
+use native.Mathlib.Omega.{arith}
+use borrow.Author.Needs.{needs}
+use Rattle.trying.proofs.Outcomes.{short-slice, refused-question, question-long, question-asked, question-tried}
+use Rattle.trying.proofs.try_filling.Statement.{statement}
+use Rattle.trying.proofs.try_filling.Tie as tie
+
+returns : tie.Need-returns
+returns c = short-slice _ _ (c .before .before .before .before .args .work .now) (omega arith)
+
+header-requires : tie.Need-header-requires
+header-requires c κs =
+    let a = c .before .before .before .before .before .before .before .args in
+    let l = question-long (a .question .now) (a .filling .now) (a .work .now) (omega arith) (c .before .before .read-question .ensures) (c .enum-told .given .1) in
+    search needs
+
+try-asked-requires : tie.Need-try-asked-requires
+try-asked-requires c κs =
+    let a = c .before .before .before .before .before .before .before .before .before .args in
+    (question-asked (a .question .now) (a .filling .now) (a .work .now) (omega arith) (c .before .before .before .before .read-question .ensures) (c .before .before .enum-told .given .1) (c .before .header .ensures), search needs)
+
+returns-2 : tie.Need-returns-2
+returns-2 c = refused-question _ _ (c .before .before .before .before .before .before .before .before .args .work .now) (omega arith) (c .before .before .before .read-question .ensures) (c .before .refusal .given .1)
+
+returns-3 : tie.Need-returns-3
+returns-3 c = question-tried _ _ _ (omega arith) (c .before .before .before .before .before .before .before .read-question .ensures) (c .before .before .before .before .before .enum-told .given .1) (c .before .before .before .before .header .ensures) (c .before .before .try-asked .ensures)
+
+pub try-filling-spec : {M : Type 1} → statement M
+try-filling-spec =
+    tie.close
+    (tie.spec
+    returns
+    (λ c κs. search needs)
+    (λ c. search needs)
+    (λ c. search needs)
+    header-requires
+    try-asked-requires
+    returns-2
+    (λ c. search needs)
+    returns-3)
