@@ -1,0 +1,119 @@
+-- The answer's words laid out in a row, and what one more line adds to each part.
+use Prim.Native.Nat.{ℕ, zero, suc, _+_, _-_, _<_, _≤_}
+use native.Mathlib.Omega.{arith}
+use native.Mathlib.Nat.{add-assoc}
+use mathlib.Core.Path.{_≡_, refl, sym, ap, _∙_}
+use mathlib.Core.Bool.{Bool, true, false}
+use mathlib.Core.List.{List, [], _∷_, _++_, map, append-assoc, append-nil, map-append}
+use lib.ListN.{length, take, drop, set, length-append, length-map}
+use Rattle.language.specs.Limits.{desk}
+use Rattle.language.specs.Kinds.{pick}
+use Rattle.language.specs.Trees.{Conj}
+use Rattle.language.specs.Writing.{conjWords}
+use Rattle.meaning.specs.Values.{times, offsetsOf, joined}
+use Rattle.rules.specs.Solved.{solved}
+use Rattle.rules.specs.Run.{linesSize}
+use Rattle.rules.specs.Answer.{lineWords, countOpen, padded, answerWords}
+
+pub length-times : (n : ℕ) → length (times {A = ℕ} n 0) ≡ n
+length-times zero = refl
+length-times (suc n) = ap suc (length-times n)
+
+pub times-append : (m n : ℕ) → times {A = ℕ} (m + n) 0 ≡ times m 0 ++ times n 0
+times-append zero n = ap (λ k. times k 0) (let z : 0 + n ≡ n = omega arith in z)
+times-append (suc m) n = ap (λ k. times k 0) (let z : suc m + n ≡ suc (m + n) = omega arith in z) ∙ ap (λ l. 0 ∷ l) (times-append m n)
+
+-- ---- one part more
+
+pub joined-more : (ws : List (List ℕ)) (w : List ℕ) → joined (ws ++ (w ∷ [])) ≡ joined ws ++ w
+joined-more [] w = append-nil w
+joined-more (x ∷ ws) w = ap (λ l. x ++ l) (joined-more ws w) ∙ sym (append-assoc x (joined ws) w)
+
+pub offsets-more : (at : ℕ) (ws : List (List ℕ)) (w : List ℕ) → offsetsOf at (ws ++ (w ∷ [])) ≡ offsetsOf at ws ++ ((at + length (joined ws) + length w) ∷ [])
+offsets-more at [] w = ap (λ n. at ∷ n ∷ []) (let z : at + length w ≡ at + 0 + length w = omega arith in z)
+offsets-more at (x ∷ ws) w =
+    ap (λ l. at ∷ l)
+    (offsets-more (at + length x) ws w
+    ∙ ap (λ n. offsetsOf (at + length x) ws ++ (n ∷ []))
+    (let e = length-append x (joined ws) in let z : at + length x + length (joined ws) + length w ≡ at + length (x ++ joined ws) + length w = omega arith in z))
+
+length-offsets : (at : ℕ) (ws : List (List ℕ)) → length (offsetsOf at ws) ≡ suc (length ws)
+length-offsets at [] = refl
+length-offsets at (x ∷ ws) = ap suc (length-offsets (at + length x) ws)
+
+-- ---- lines
+
+pub length-lines : (ls : List Conj) → length (joined (map lineWords ls)) ≡ linesSize ls
+length-lines [] = refl
+length-lines (k ∷ ls) =
+    length-append (lineWords k) (joined (map lineWords ls)) ∙ ap (λ n. suc (length (conjWords k)) + n) (length-lines ls)
+
+pub lines-size-more : (ls : List Conj) (k : Conj) → linesSize (ls ++ (k ∷ [])) ≡ linesSize ls + suc (length (conjWords k))
+lines-size-more [] k = let z : suc (length (conjWords k)) + 0 ≡ 0 + suc (length (conjWords k)) = omega arith in z
+lines-size-more (x ∷ ls) k = let e = lines-size-more ls k in let z : suc (length (conjWords x)) + linesSize (ls ++ (k ∷ [])) ≡ suc (length (conjWords x)) + linesSize ls + suc (length (conjWords k)) = omega arith in z
+
+pub count-more : (ls : List Conj) (k : Conj) → length (ls ++ (k ∷ [])) ≡ length ls + 1
+count-more ls k = length-append ls (k ∷ [])
+
+open-after : Bool → ℕ → ℕ
+open-after s n = pick s n (suc n)
+
+pub open-more : (ls : List Conj) (k : Conj) → countOpen (ls ++ (k ∷ [])) ≡ pick (solved k) (countOpen ls) (suc (countOpen ls))
+open-more [] k = refl
+open-more (x ∷ ls) k = go (solved x) (solved k) (open-more ls k)
+  where
+    go : (a b : Bool) → countOpen (ls ++ (k ∷ [])) ≡ pick b (countOpen ls) (suc (countOpen ls))
+        → pick a (countOpen (ls ++ (k ∷ []))) (suc (countOpen (ls ++ (k ∷ [])))) ≡ pick b (pick a (countOpen ls) (suc (countOpen ls))) (suc (pick a (countOpen ls) (suc (countOpen ls))))
+    go true true e = e
+    go true false e = e
+    go false true e = ap suc e
+    go false false e = ap suc e
+
+pub open-most : (ls : List Conj) → countOpen ls ≤ length ls
+open-most [] = omega arith
+open-most (x ∷ ls) = go (solved x) (open-most ls)
+  where
+    go : (a : Bool) → countOpen ls ≤ length ls → pick a (countOpen ls) (suc (countOpen ls)) ≤ suc (length ls)
+    go true h = omega arith
+    go false h = omega arith
+
+-- ---- the answer in a row: counts and offsets, zeros, the lines, zeros
+
+abbrev pub header : List Conj → List ℕ
+header ls = length ls ∷ countOpen ls ∷ offsetsOf 515 (map lineWords ls)
+
+pub length-header : (ls : List Conj) → length (header ls) ≡ length ls + 3
+length-header ls =
+    let e = length-offsets 515 (map lineWords ls) in
+    let f = length-map ls lineWords in
+    let z : suc (suc (length (offsetsOf 515 (map lineWords ls)))) ≡ length ls + 3 = omega arith in z
+
+pub in-a-row : (ls : List Conj) → length ls ≤ 512
+    → answerWords desk ls ≡ header ls ++ (times (512 - length ls) 0 ++ (joined (map lineWords ls) ++ times (8192 - (515 + linesSize ls)) 0))
+unfolding answerWords
+in-a-row ls few =
+    let h = length-header ls in
+    let z₁ : 515 - length (header ls) ≡ 512 - length ls = omega arith in
+    let first : List ℕ = header ls ++ times (515 - length (header ls)) 0 in
+    let l₁ : length first ≡ length (header ls) + (515 - length (header ls)) = length-append (header ls) (times (515 - length (header ls)) 0) ∙ ap (λ n. length (header ls) + n) (length-times (515 - length (header ls))) in
+    let l₂ : length (first ++ joined (map lineWords ls)) ≡ length first + linesSize ls = length-append first (joined (map lineWords ls)) ∙ ap (λ n. length first + n) (length-lines ls) in
+    let z₂ : 8192 - length (first ++ joined (map lineWords ls)) ≡ 8192 - (515 + linesSize ls) = omega arith in
+    ap (λ n. (first ++ joined (map lineWords ls)) ++ times n 0) z₂
+    ∙ append-assoc first (joined (map lineWords ls)) (times (8192 - (515 + linesSize ls)) 0)
+    ∙ append-assoc (header ls) (times (515 - length (header ls)) 0) _
+    ∙ ap (λ n. header ls ++ (times n 0 ++ (joined (map lineWords ls) ++ times (8192 - (515 + linesSize ls)) 0))) z₁
+
+pub length-answer : (ls : List Conj) → length ls ≤ 512 → 515 + linesSize ls ≤ 8192 → length (answerWords desk ls) ≡ 8192
+length-answer ls few room =
+    let a = ap length (in-a-row ls few) in
+    let z₁ : List ℕ = times (512 - length ls) 0 in
+    let b : List ℕ = joined (map lineWords ls) in
+    let z₂ : List ℕ = times (8192 - (515 + linesSize ls)) 0 in
+    let l₁ = length-append (header ls) (z₁ ++ (b ++ z₂)) in
+    let l₂ = length-append z₁ (b ++ z₂) in
+    let l₃ = length-append b z₂ in
+    let t₁ = length-times (512 - length ls) in
+    let t₂ = length-times (8192 - (515 + linesSize ls)) in
+    let h = length-header ls in
+    let n = length-lines ls in
+    omega arith

@@ -1,0 +1,70 @@
+-- What the functions of the answer leave, from what each of their stores leaves.
+use Prim.Native.Nat.{ℕ, zero, suc, _+_, _-_, _<_, _≤_}
+use native.Mathlib.Omega.{arith}
+use native.Mathlib.Numerals.{add-one}
+use mathlib.Core.Path.{_≡_, refl, sym, ap, _∙_}
+use mathlib.Core.Bool.{Bool, true, false}
+use mathlib.Core.List.{List, [], _∷_, _++_}
+use lib.ListN.{length, drop, set}
+use lib.Seq.{sets, slice, take-length}
+use Rattle.language.specs.Limits.{desk}
+use Rattle.language.specs.Kinds.{pick}
+use Rattle.language.specs.Trees.{Conj}
+use Rattle.language.specs.Writing.{conjWords}
+use Rattle.rules.specs.Solved.{solved}
+use Rattle.rules.specs.Answer.{zeros, countOpen, answerWords}
+use Rattle.answers.specs.declared.Tally.{Tally}
+use Rattle.answers.specs.Lined.{Lined}
+use Rattle.answers.proofs.Rows.{lines-size-more, count-more, open-more}
+use Rattle.answers.proofs.Adding.{answer-none, answer-more}
+
+pub begun : (old a b : List ℕ) → a ≡ zeros desk ++ drop 8192 old → b ≡ set a 2 515 → Lined old [] (record { lines = 0; «open» = 0; end = 515 }) b
+begun old a b e d = record {
+  lines = refl;
+  «open» = refl;
+  end = refl;
+  few = omega arith;
+  room = omega arith;
+  words = d ∙ ap (λ l. set l 2 515) e ∙ answer-none old;
+}
+
+-- a mark and then the words
+pub line-written : (a b c k : List ℕ) (at n m : ℕ) (s : Bool) → b ≡ set a at m → c ≡ sets b (at + 1) (slice 0 n k) → m ≡ pick s 1 2 → n ≡ length k
+    → c ≡ sets a at (pick s 1 2 ∷ k)
+line-written a b c k at n m s e d f g =
+    d ∙ ap (λ j. sets b (at + 1) (slice 0 j k)) g ∙ ap (sets b (at + 1)) (take-length k) ∙ ap (λ j. sets b j k) (add-one at)
+    ∙ ap (λ l. sets l (suc at) k) (e ∙ ap (set a at) f)
+
+module _ (old : List ℕ) (ls : List Conj) (c : Conj) (t : Tally) (a k : List ℕ) (s : Bool) (ek : k ≡ conjWords c) (es : s ≡ solved c) (p : Lined old ls t a) where
+  pub line-added : (a₁ a₂ a₃ a₄ : List ℕ) (v x y opens end : ℕ) → t .lines < 512 → end ≡ t .end + 1 + length k → end ≤ 8192
+      → a₁ ≡ sets a (t .end) (pick s 1 2 ∷ k) → a₂ ≡ set a₁ (t .lines + 1 + 2) v → v ≡ end → a₃ ≡ set a₂ 0 x → x ≡ t .lines + 1 → a₄ ≡ set a₃ 1 y → y ≡ opens
+      → opens ≡ pick s (t .«open») (t .«open» + 1)
+      → Lined old (ls ++ (c ∷ [])) (record { lines = t .lines + 1; «open» = opens; end = end }) a₄
+  line-added a₁ a₂ a₃ a₄ v x y opens end few ee room e₁ e₂ ev e₃ ex e₄ ey eo =
+      let n = ap length ek in
+      let pl = p .lines in
+      let pe = p .end in
+      let sz = lines-size-more ls c in
+      let ct = count-more ls c in
+      let o : opens ≡ countOpen (ls ++ (c ∷ [])) =
+      eo ∙ ap (λ b. pick b (t .«open») (t .«open» + 1)) es ∙ ap (λ n. pick (solved c) (t .«open») n) (add-one (t .«open»))
+      ∙ ap (λ n. pick (solved c) n (suc n)) (p .«open») ∙ sym (open-more ls c)
+      in
+      record {
+        lines = omega arith;
+        «open» = o;
+        end = omega arith;
+        few = omega arith;
+        room = omega arith;
+        words =
+            e₄ ∙ ap (λ l. set l 1 y) e₃ ∙ ap (λ l. set (set l 0 x) 1 y) e₂ ∙ ap (λ l. set (set (set l (t .lines + 1 + 2) v) 0 x) 1 y) e₁
+            ∙ ap (λ l. set (set (set (sets l (t .end) (pick s 1 2 ∷ k)) (t .lines + 1 + 2) v) 0 x) 1 y) (p .words)
+            ∙ ap (λ b. set (set (set (sets (answerWords desk ls ++ drop 8192 old) (t .end) (pick b 1 2 ∷ k)) (t .lines + 1 + 2) v) 0 x) 1 y) es
+            ∙ ap (λ l. set (set (set (sets (answerWords desk ls ++ drop 8192 old) (t .end) (pick (solved c) 1 2 ∷ l)) (t .lines + 1 + 2) v) 0 x) 1 y) ek
+            ∙ ap (λ i. set (set (set (sets (answerWords desk ls ++ drop 8192 old) (t .end) (pick (solved c) 1 2 ∷ conjWords c)) i v) 0 x) 1 y)
+            (let z : t .lines + 1 + 2 ≡ t .lines + 3 = omega arith in z)
+            ∙ ap (λ w. set (set (set (sets (answerWords desk ls ++ drop 8192 old) (t .end) (pick (solved c) 1 2 ∷ conjWords c)) (t .lines + 3) w) 0 x) 1 y)
+            (let z : v ≡ t .end + suc (length (conjWords c)) = omega arith in z)
+            ∙ ap (λ w. set (set (set (sets (answerWords desk ls ++ drop 8192 old) (t .end) (pick (solved c) 1 2 ∷ conjWords c)) (t .lines + 3) (t .end + suc (length (conjWords c)))) 0 w) 1 y) ex
+            ∙ answer-more ls c (drop 8192 old) (t .end) (t .lines) y pl pe (ey ∙ o) (omega arith) (omega arith);
+      }

@@ -1,0 +1,12 @@
+-- A solved line leaves the count, an open one adds to it.
+use native.Mathlib.Omega.{arith}
+use mathlib.Core.Path.{refl}
+use borrow.Author.Needs.{needs}
+use Rattle.answers.proofs.opened.Statement.{statement}
+use Rattle.answers.proofs.opened.Tie as tie
+
+returns-2 : tie.Need-returns-2
+returns-2 c = rw (c .if1 .left) (refl, omega arith)
+
+pub opened-spec : {M : Type 1} → statement M
+opened-spec = tie.close (tie.spec (λ c. search needs) (λ c. search needs) returns-2)

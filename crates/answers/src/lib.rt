@@ -1,0 +1,76 @@
+// The answer slice, line by line: at any time it is the answer that has the lines so far.
+ghost use Prim.Native.Nat.{ℕ, suc, _+_, _≤_, _<_};
+ghost use mathlib.Core.Path.{_≡_};
+ghost use mathlib.Core.List.{List, [], _∷_, _++_};
+ghost use lib.ListN.{length};
+ghost use lib.Seq.{sets};
+ghost use Rattle.language.specs.Kinds.{pick};
+ghost use Rattle.language.specs.Trees.{Conj};
+ghost use Rattle.language.specs.Writing.{conjWords};
+ghost use Rattle.rules.specs.Solved as lines;
+ghost use Rattle.answers.specs.Lined.{Lined};
+use stack::clear;
+use stack::copy;
+use stack::narrow;
+use stack::store;
+
+// How many lines there are, how many of them open, and the place after the last.
+pub struct Tally {
+    pub lines: usize,
+    pub open: usize,
+    pub end: usize,
+}
+
+// The mark of a line.
+fn mark(solved: bool) -> u16
+    ensures { λ r. ⌜ r ≡ pick solved 1 2 ⌝ }
+{
+    if solved { 1 } else { 2 }
+}
+
+// The open lines, one line more.
+fn opened(before: usize, solved: bool) -> usize
+    requires { ⌜ before < 65535 ⌝ }
+    ensures { λ r. ⌜ (r ≡ pick solved before (before + 1)) × (r ≤ before + 1) ⌝ }
+{
+    if solved { before } else { before + 1 }
+}
+
+// The answer that has no line.
+pub fn begin(answer: &mut [u16]) -> Tally
+    requires { ⌜ 8192 ≤ length (now answer) ⌝ }
+    ensures { λ t. ⌜ Lined (now (answer .entry)) [] t (now (answer .exit)) ⌝ }
+{
+    clear(answer);
+    store(answer, 2, 515);
+    Tally {
+        lines: 0,
+        open: 0,
+        end: 515,
+    }
+}
+
+// The line's mark and its words, behind the others.
+fn write_line(k: &[u16], solved: bool, at: usize, answer: &mut [u16])
+    requires { ⌜ at + suc (length (now k)) ≤ length (now answer) ⌝ }
+    ensures { λ _. ⌜ now (answer .exit) ≡ sets (now (answer .entry)) at (pick solved 1 2 ∷ now (k .entry)) ⌝ }
+{
+    store(answer, at, mark(solved));
+    copy(k, 0, k.len(), answer, at + 1);
+}
+
+// A line more.
+pub fn add_line(k: &[u16], solved: bool, t: Tally, answer: &mut [u16]) -> Tally
+    requires { ⌜ (t .lines < 512) × (t .«open» ≤ t .lines) × (t .end + suc (length (now k)) ≤ 8192) × (8192 ≤ length (now answer)) ⌝ }
+    ensures { λ r. ⌜ ((old : List ℕ) (ls : List Conj) (c : Conj) → now (k .entry) ≡ conjWords c → solved ≡ lines.solved c → Lined old ls t (now (answer .entry)) → Lined old (ls ++ (c ∷ [])) r (now (answer .exit))) ⌝ }
+{
+    let at = t.end;
+    let lines = t.lines + 1;
+    let end = at + 1 + k.len();
+    let open = opened(t.open, solved);
+    write_line(k, solved, at, answer);
+    store(answer, lines + 2, narrow(end));
+    store(answer, 0, narrow(lines));
+    store(answer, 1, narrow(open));
+    Tally { lines, open, end }
+}

@@ -1,0 +1,174 @@
+-- An equation whose left side begins with a hedge variable: what each test says of the first rule.
+use Prim.Native.Nat.{ℕ, _+_, _<_}
+use native.Mathlib.Omega.{arith}
+use mathlib.Core.Path.{_≡_, refl, sym, ap, _∙_, subst}
+use mathlib.Core.Bool.{Bool, true, false, not, _&&_, _||_}
+use mathlib.Core.List.{List, _++_}
+use borrow.Author.Tests.{eq-eqb, ne-eqb}
+use lib.Dec.{eqb}
+use lib.ListN.{take, drop}
+use lib.Seq.{slice}
+use Rattle.language.specs.declared.HedgeVar.{HedgeVar}
+use Rattle.language.specs.Kinds.{pick}
+use Rattle.language.specs.Trees.{Functor, Hedge, ε, tvar, hvar, node, Conj, eqH, sameWords, hv, holds, inConj}
+use Rattle.rules.specs.Looks.{empty, hasTerm, allTerms, inside, upTo, lone, loneH}
+use Rattle.rules.specs.Rules.{too}
+use Rattle.rules.specs.Solved.{isSome}
+use Rattle.plans.specs.declared.Look.the-variants.{Empty, Term, Run, Node}
+use Rattle.plans.specs.declared.Side.{Side}
+use Rattle.plans.specs.declared.View.{View}
+use Rattle.plans.specs.Looks.{lookOf}
+use Rattle.plans.specs.Views.{Sided, Sees}
+use Rattle.plans.specs.Results.{member}
+use Rattle.views.proofs.Members.{member-hedge, elsewhere-sees}
+use Rattle.views.proofs.Sides.{side-whole}
+use Rattle.equations.specs.Rank.{lonely, leading, rankOf}
+use Rattle.equations.specs.Ranked.{Begins}
+use Rattle.equations.proofs.Looked.{at-empty, at-term, at-run, at-node}
+
+-- a hedge variable stands elsewhere
+pub run-elsewhere : {k : List ℕ} {v : View} {before : Conj} {l r : Hedge} {behind : Conj} → Sees k v before l r behind → (q : HedgeVar) → q .0 < 32 → {p : ℕ} → p ≡ 2000 + q .0
+    → (member p (take (v .at) k) || member p (drop (v .end) k)) ≡ inConj (hv q) (before ++ behind)
+run-elsewhere {k} {v} w q b {p} e = ap (λ z. member z (take (v .at) k) || member z (drop (v .end) k)) e ∙ elsewhere-sees (hv q) b w
+
+-- and in a side
+pub run-held : {k : List ℕ} {s : Side} {h : Hedge} → Sided k s h → (q : HedgeVar) → q .0 < 32 → {p : ℕ} → p ≡ 2000 + q .0 → member p (slice (s .from) (s .to) k) ≡ holds (hv q) h
+run-held {k} {s} {h} v q b {p} e = ap (λ z. member z (slice (s .from) (s .to) k)) e ∙ ap (member (2000 + q .0)) (side-whole v) ∙ member-hedge (hv q) b h (v .fine)
+
+-- ---- the right side is one hedge variable
+
+lone-too : (q : HedgeVar) (t : Hedge) (K : Conj) → empty t ≡ true → too hv (lone q t) K ≡ inConj (hv q) K
+lone-too q ε K e = refl
+lone-too q (tvar x t) K e = absurd (let z : _≡_ {A = ℕ} 0 1 = cc in omega arith)
+lone-too q (hvar p t) K e = absurd (let z : _≡_ {A = ℕ} 0 1 = cc in omega arith)
+lone-too q (node f c t) K e = absurd (let z : _≡_ {A = ℕ} 0 1 = cc in omega arith)
+
+not-lone : (q : HedgeVar) (t : Hedge) (K : Conj) → empty t ≡ false → too hv (lone q t) K ≡ true
+not-lone q ε K e = absurd (let z : _≡_ {A = ℕ} 0 1 = cc in omega arith)
+not-lone q (tvar x t) K e = refl
+not-lone q (hvar p t) K e = refl
+not-lone q (node f c t) K e = refl
+
+module _ (K : Conj) (r : Hedge) where
+  pub too-empty : Empty ≡ lookOf r → true ≡ too hv (loneH r) K
+  too-empty e = at-empty (λ m. true ≡ too hv (loneH m) K) r e refl
+
+  pub too-term : {w : ℕ} {b : Bool} → Term w b ≡ lookOf r → true ≡ too hv (loneH r) K
+  too-term e = at-term (λ m. true ≡ too hv (loneH m) K) r e (λ x t _. refl)
+
+  pub too-node : {w : ℕ} {b c : Bool} → Node w b c ≡ lookOf r → true ≡ too hv (loneH r) K
+  too-node e = at-node (λ m. true ≡ too hv (loneH m) K) r e (λ f d t _. refl)
+
+-- ---- lonely and leading, by single tests
+
+module _ (K : Conj) (q : HedgeVar) (r : Hedge) where
+  pub lonely-fails : holds (hv q) r ≡ true → hasTerm r ≡ true → 3 ≡ lonely K q r
+  lonely-fails a b = rw (a, b)
+
+  pub lonely-inside : holds (hv q) r ≡ true → hasTerm r ≡ false → isSome (inside q r) ≡ true → 10 ≡ lonely K q r
+  lonely-inside a b c = rw (a, b, c)
+
+  pub lonely-open : holds (hv q) r ≡ true → hasTerm r ≡ false → isSome (inside q r) ≡ false → 28 ≡ lonely K q r
+  lonely-open a b c = rw (a, b, c)
+
+  pub lonely-solves : holds (hv q) r ≡ false → inConj (hv q) K ≡ true → too hv (loneH r) K ≡ true → 14 ≡ lonely K q r
+  lonely-solves a b c = rw (a, b, c)
+
+  pub lonely-rests : holds (hv q) r ≡ false → inConj (hv q) K ≡ true → too hv (loneH r) K ≡ false → 28 ≡ lonely K q r
+  lonely-rests a b c = rw (a, b, c)
+
+  pub lonely-nowhere : holds (hv q) r ≡ false → inConj (hv q) K ≡ false → 28 ≡ lonely K q r
+  lonely-nowhere a b = rw (a, b)
+
+module _ (q : HedgeVar) (r : Hedge) where
+  pub leading-cuts : (allTerms r && not (holds (hv q) r)) ≡ true → 15 ≡ leading q r
+  leading-cuts a = rw a
+
+  pub leading-up-to : (allTerms r && not (holds (hv q) r)) ≡ false → isSome (upTo q r) ≡ true → 16 ≡ leading q r
+  leading-up-to a b = rw (a, b)
+
+  pub leading-open : (allTerms r && not (holds (hv q) r)) ≡ false → isSome (upTo q r) ≡ false → 28 ≡ leading q r
+  leading-open a b = rw (a, b)
+
+  pub terms-held : allTerms r ≡ true → holds (hv q) r ≡ true → false ≡ (allTerms r && not (holds (hv q) r))
+  terms-held a b = rw (a, b)
+
+  pub terms-free : allTerms r ≡ true → holds (hv q) r ≡ false → true ≡ (allTerms r && not (holds (hv q) r))
+  terms-free a b = rw (a, b)
+
+  pub terms-not : allTerms r ≡ false → false ≡ (allTerms r && not (holds (hv q) r))
+  terms-not a = rw a
+
+-- ---- two hedge variables in front
+
+self : (q : HedgeVar) → eqH q q ≡ true
+self q = eq-eqb (q .0) (q .0) refl
+
+module _ (K : Conj) (q : HedgeVar) (s t : Hedge) where
+  struck-words : sameWords (hvar q s) (hvar q t) ≡ sameWords s t
+  struck-words = ap (λ z. z && sameWords s t) (self q)
+
+  pub struck-same : sameWords (hvar q s) (hvar q t) ≡ true → 0 ≡ rankOf K (hvar q s) (hvar q t)
+  struck-same e = let d : sameWords s t ≡ true = sym struck-words ∙ e in rw (self q, d)
+
+  pub struck-fails : sameWords (hvar q s) (hvar q t) ≡ false → empty s ≡ true → hasTerm (hvar q t) ≡ true → 3 ≡ rankOf K (hvar q s) (hvar q t)
+  struck-fails e a b = let d : sameWords s t ≡ false = sym struck-words ∙ e in rw (self q, d, a, b)
+
+  pub struck-lone : sameWords (hvar q s) (hvar q t) ≡ false → empty s ≡ true → hasTerm (hvar q t) ≡ false → 9 ≡ rankOf K (hvar q s) (hvar q t)
+  struck-lone e a b = let d : sameWords s t ≡ false = sym struck-words ∙ e in rw (self q, d, a, b)
+
+  pub struck-more : sameWords (hvar q s) (hvar q t) ≡ false → empty s ≡ false → 9 ≡ rankOf K (hvar q s) (hvar q t)
+  struck-more e a = let d : sameWords s t ≡ false = sym struck-words ∙ e in rw (self q, d, a)
+
+pub same-run : (q w : HedgeVar) {p z : ℕ} → p ≡ 2000 + q .0 → z ≡ 2000 + w .0 → p ≡ z → q ≡ w
+same-run q w e d i = let n : q .0 ≡ w .0 = omega arith in ap (λ (m : ℕ). let v : HedgeVar = record { 0 = m } in v) n
+
+module _ (K : Conj) (q w : HedgeVar) (s t : Hedge) {p z : ℕ} (e : p ≡ 2000 + q .0) (d : z ≡ 2000 + w .0) (i : p ≡ z → ⊥) where
+  apart : eqH q w ≡ false
+  apart = ne-eqb (q .0) (w .0) (λ m. i (omega arith))
+
+  pub runs-lonely : empty s ≡ true → {n : ℕ} → n ≡ lonely K q (hvar w t) → n ≡ rankOf K (hvar q s) (hvar w t)
+  runs-lonely a n =
+      n
+      ∙ sym (ap (λ b. pick b (lonely K q (hvar w t)) 28) a)
+      ∙ sym (ap (λ b. pick b (pick (sameWords s t) 0 (pick (empty s && hasTerm t) 3 9)) (pick (empty s) (lonely K q (hvar w t)) 28)) apart)
+
+  pub runs-open : empty s ≡ false → 28 ≡ rankOf K (hvar q s) (hvar w t)
+  runs-open a = rw (apart, a)
+
+-- ---- a run against a term, or against nothing
+
+module _ (K : Conj) (q : HedgeVar) (s : Hedge) where
+  pub run-lonely : (r : Hedge) → Begins r → empty s ≡ true → {n : ℕ} → n ≡ lonely K q r → n ≡ rankOf K (hvar q s) r
+  run-lonely ε b a n = absurd b
+  run-lonely (tvar x r) b a n = rw a n
+  run-lonely (hvar p r) b a n = absurd b
+  run-lonely (node f c r) b a n = rw a n
+
+  pub run-leading : (r : Hedge) → Begins r → empty s ≡ false → {n : ℕ} → n ≡ leading q r → n ≡ rankOf K (hvar q s) r
+  run-leading ε b a n = absurd b
+  run-leading (tvar x r) b a n = rw a n
+  run-leading (hvar p r) b a n = absurd b
+  run-leading (node f c r) b a n = rw a n
+
+  pub run-ends : (r : Hedge) → Empty ≡ lookOf r → empty s ≡ true → inConj (hv q) K ≡ true → 14 ≡ rankOf K (hvar q s) r
+  run-ends r e a b = at-empty (λ m. 14 ≡ rankOf K (hvar q s) m) r e (rw (a, b))
+
+  pub run-rests : (r : Hedge) → Empty ≡ lookOf r → empty s ≡ true → inConj (hv q) K ≡ false → 28 ≡ rankOf K (hvar q s) r
+  run-rests r e a b = at-empty (λ m. 28 ≡ rankOf K (hvar q s) m) r e (rw (a, b))
+
+  pub run-vanishes : (r : Hedge) → Empty ≡ lookOf r → empty s ≡ false → 15 ≡ rankOf K (hvar q s) r
+  run-vanishes r e a = at-empty (λ m. 15 ≡ rankOf K (hvar q s) m) r e (rw a)
+
+pub begins-term : (r : Hedge) {w : ℕ} {b : Bool} → Term w b ≡ lookOf r → Begins r
+begins-term r e = at-term Begins r e (λ x t _. tt)
+
+pub begins-node : (r : Hedge) {w : ℕ} {b c : Bool} → Node w b c ≡ lookOf r → Begins r
+begins-node r e = at-node Begins r e (λ f d t _. tt)
+
+pub too-run : (K : Conj) (r : Hedge) {w : ℕ} {b : Bool} → Run w b ≡ lookOf r → b ≡ false → true ≡ too hv (loneH r) K
+too-run K r {w} {b} e = at-run (λ m. b ≡ false → true ≡ too hv (loneH m) K) r e (λ q t d f. let i : b ≡ empty t = cc in sym (not-lone q t K (sym i ∙ f)))
+
+pub too-alone : (K : Conj) (r : Hedge) {w : ℕ} {b u : Bool} → Run w b ≡ lookOf r → b ≡ true → ((q : HedgeVar) (t : Hedge) → r ≡ hvar q t → w ≡ 2000 + q .0 → u ≡ inConj (hv q) K) → u ≡ too hv (loneH r) K
+too-alone K r {w} {b} {u} e = at-run (λ m. b ≡ true → ((q : HedgeVar) (t : Hedge) → m ≡ hvar q t → w ≡ 2000 + q .0 → u ≡ inConj (hv q) K) → u ≡ too hv (loneH m) K) r e
+    (λ q t d f h. let i : b ≡ empty t = cc in let j : w ≡ 2000 + q .0 = cc in h q t refl j ∙ sym (lone-too q t K (sym i ∙ f)))

@@ -1,0 +1,10 @@
+pub mod Decisions
+pub mod Plain
+pub mod Eliminating
+pub mod Cutting
+pub mod Dispatch
+pub mod Names
+pub mod Looked
+pub mod Nodes
+pub mod Variables
+pub mod Leading

@@ -1,0 +1,52 @@
+-- The look of the right side, and the tests, lead to the rank.
+use borrow.Author.Needs.{needs}
+use mathlib.Core.Path.{sym, _∙_}
+use mathlib.Core.List.{_++_}
+use Rattle.language.specs.Trees.{node}
+use Rattle.equations.specs.Ranked.{Ranks}
+use Rattle.equations.proofs.Looked.{node-parts, at-node}
+use Rattle.equations.proofs.Nodes.{node-empty, node-run, node-term, node-terms}
+use Rattle.equations.proofs.functors.rank_node.Statement.{statement}
+use Rattle.equations.proofs.functors.rank_node.Tie as tie
+
+enum-told : tie.Need-enum-told
+enum-told c = search needs
+
+enum-told-2 : tie.Need-enum-told-2
+enum-told-2 c = search needs
+
+enum-known-look : tie.Need-enum-known-look
+enum-known-look c = search needs
+
+and-requires : tie.Need-and-requires
+and-requires c κs = search needs
+
+returns : tie.Need-returns
+returns c = λ F h s r e before behind w.
+    node-term (before ++ behind) F h s r (sym (c .before .before .before .look .given .1) ∙ w .right .look) (node-parts e .1) (c .before .and .ensures) (c .if1 .taken)
+
+enum-known-look-2 : tie.Need-enum-known-look-2
+enum-known-look-2 c = search needs
+
+rank-nodes-requires : tie.Need-rank-nodes-requires
+rank-nodes-requires c κs = search needs
+
+returns-2 : tie.Need-returns-2
+returns-2 c = λ F h s r e before behind w. node-empty (before ++ behind) F h s r (sym (c .enum-told .given .1) ∙ w .right .look)
+
+returns-3 : tie.Need-returns-3
+returns-3 c = λ F h s r e before behind w. node-run (before ++ behind) F h s r (sym (c .enum-told2 .given .1) ∙ w .right .look)
+
+returns-4 : tie.Need-returns-4
+returns-4 c = λ F h s r e before behind w.
+    node-terms (before ++ behind) F h s r (sym (c .before .before .before .look .given .1) ∙ w .right .look) (node-parts e .1) (c .before .and .ensures) (c .if1 .left)
+
+returns-5 : tie.Need-returns-5
+returns-5 c = λ F h s r e before behind w.
+    let a = c .before .before .before .before .before .before .args in
+    at-node (λ m. Ranks (a .k .now) (a .v) (node F h s) m (c .rank-nodes .result)) r (sym (c .before .before .look2 .given .1) ∙ w .right .look) (λ G d t f. c .rank-nodes .ensures F G h s d t e f) before behind w
+
+pub rank-node-spec : {M : Type 1} → statement M
+rank-node-spec =
+    tie.close
+    (tie.spec enum-told enum-told-2 enum-known-look and-requires returns enum-known-look-2 rank-nodes-requires returns-2 returns-3 returns-4 returns-5)

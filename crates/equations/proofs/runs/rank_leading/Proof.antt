@@ -1,0 +1,27 @@
+-- The tests in their order lead to the rank.
+use borrow.Author.Needs.{needs}
+use mathlib.Core.Path.{sym, subst, _∙_}
+use mathlib.Core.List.{_++_}
+use Rattle.views.proofs.Sides.{side-stands}
+use Rattle.equations.proofs.Leading.{leading-cuts, leading-up-to, leading-open}
+use Rattle.equations.proofs.runs.rank_leading.Statement.{statement}
+use Rattle.equations.proofs.runs.rank_leading.Tie as tie
+
+free-terms-requires : tie.Need-free-terms-requires
+free-terms-requires c κs = search needs
+
+returns : tie.Need-returns
+returns c = λ before behind q s r w e. leading-cuts q r (sym (c .before .free-terms .ensures before behind q _ r w (w .left .fine .0) e) ∙ c .if1 .taken)
+
+up-to-requires : tie.Need-up-to-requires
+up-to-requires c κs = search needs
+
+returns-2 : tie.Need-returns-2
+returns-2 c = λ before behind q s r w e. leading-up-to q r (sym (c .before .before .before .before .free-terms .ensures before behind q _ r w (w .left .fine .0) e) ∙ c .before .before .before .if1 .left) (sym (c .before .up-to .ensures .0 q r _ (w .left .fine .0) e (side-stands (w .right)) .found) ∙ c .if2 .taken)
+
+returns-3 : tie.Need-returns-3
+returns-3 c = λ before behind q s r w e. leading-open q r (sym (c .before .before .before .before .free-terms .ensures before behind q _ r w (w .left .fine .0) e) ∙ c .before .before .before .if1 .left) (sym (c .before .up-to .ensures .0 q r _ (w .left .fine .0) e (side-stands (w .right)) .found) ∙ c .if2 .left)
+
+pub rank-leading-spec : {M : Type 1} → statement M
+rank-leading-spec =
+    tie.close (tie.spec free-terms-requires returns up-to-requires returns-2 returns-3)

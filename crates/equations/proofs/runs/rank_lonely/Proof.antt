@@ -1,0 +1,45 @@
+-- The tests in their order lead to the rank.
+use borrow.Author.Needs.{needs}
+use mathlib.Core.Path.{sym, subst, _∙_}
+use mathlib.Core.List.{_++_}
+use Rattle.views.proofs.Sides.{side-stands}
+use Rattle.equations.proofs.Leading.{run-held, run-elsewhere, lonely-fails, lonely-inside, lonely-open, lonely-solves, lonely-rests, lonely-nowhere}
+use Rattle.equations.proofs.runs.rank_lonely.Statement.{statement}
+use Rattle.equations.proofs.runs.rank_lonely.Tie as tie
+
+stands-requires : tie.Need-stands-requires
+stands-requires c κs = search needs
+
+has-term-requires : tie.Need-has-term-requires
+has-term-requires c κs = search needs
+
+returns : tie.Need-returns
+returns c = λ before behind q s r w e. lonely-fails (before ++ behind) q r (sym (c .before .before .before .stands .ensures ∙ run-held (w .right) q (w .left .fine .0) e) ∙ c .before .before .if1 .taken) (sym (c .before .has-term .ensures r _ (side-stands (w .right))) ∙ c .if2 .taken)
+
+inside-requires : tie.Need-inside-requires
+inside-requires c κs = search needs
+
+returns-2 : tie.Need-returns-2
+returns-2 c = λ before behind q s r w e. lonely-inside (before ++ behind) q r (sym (c .before .before .before .before .before .stands .ensures ∙ run-held (w .right) q (w .left .fine .0) e) ∙ c .before .before .before .before .if1 .taken) (sym (c .before .before .before .has-term .ensures r _ (side-stands (w .right))) ∙ c .before .before .if2 .left) (sym (c .before .inside .ensures q r _ (w .left .fine .0) e (side-stands (w .right)) .found) ∙ c .if3 .taken)
+
+returns-3 : tie.Need-returns-3
+returns-3 c = λ before behind q s r w e. lonely-open (before ++ behind) q r (sym (c .before .before .before .before .before .stands .ensures ∙ run-held (w .right) q (w .left .fine .0) e) ∙ c .before .before .before .before .if1 .taken) (sym (c .before .before .before .has-term .ensures r _ (side-stands (w .right))) ∙ c .before .before .if2 .left) (sym (c .before .inside .ensures q r _ (w .left .fine .0) e (side-stands (w .right)) .found) ∙ c .if3 .left)
+
+elsewhere-requires : tie.Need-elsewhere-requires
+elsewhere-requires c κs = search needs
+
+too-elsewhere-requires : tie.Need-too-elsewhere-requires
+too-elsewhere-requires c κs = search needs
+
+returns-4 : tie.Need-returns-4
+returns-4 c = λ before behind q s r w e. lonely-solves (before ++ behind) q r (sym (c .before .before .before .before .before .stands .ensures ∙ run-held (w .right) q (w .left .fine .0) e) ∙ c .before .before .before .before .if1 .left) (sym (c .before .before .before .elsewhere .ensures ∙ run-elsewhere w q (w .left .fine .0) e) ∙ c .before .before .if4 .taken) (sym (c .before .too-elsewhere .ensures before behind _ r w) ∙ c .if5 .taken)
+
+returns-5 : tie.Need-returns-5
+returns-5 c = λ before behind q s r w e. lonely-rests (before ++ behind) q r (sym (c .before .before .before .before .before .stands .ensures ∙ run-held (w .right) q (w .left .fine .0) e) ∙ c .before .before .before .before .if1 .left) (sym (c .before .before .before .elsewhere .ensures ∙ run-elsewhere w q (w .left .fine .0) e) ∙ c .before .before .if4 .taken) (sym (c .before .too-elsewhere .ensures before behind _ r w) ∙ c .if5 .left)
+
+returns-6 : tie.Need-returns-6
+returns-6 c = λ before behind q s r w e. lonely-nowhere (before ++ behind) q r (sym (c .before .before .before .stands .ensures ∙ run-held (w .right) q (w .left .fine .0) e) ∙ c .before .before .if1 .left) (sym (c .before .elsewhere .ensures ∙ run-elsewhere w q (w .left .fine .0) e) ∙ c .if4 .left)
+
+pub rank-lonely-spec : {M : Type 1} → statement M
+rank-lonely-spec =
+    tie.close (tie.spec stands-requires has-term-requires returns inside-requires returns-2 returns-3 elsewhere-requires too-elsewhere-requires returns-4 returns-5 returns-6)

@@ -1,0 +1,44 @@
+-- The look of the right side says whether it is one hedge variable.
+use borrow.Author.Needs.{needs}
+use mathlib.Core.Path.{sym, subst, _∙_}
+use mathlib.Core.List.{_++_}
+use Rattle.language.specs.Fine.{fineHedge}
+use Rattle.language.specs.Limits.{desk}
+use Rattle.equations.proofs.Leading.{run-elsewhere, too-empty, too-term, too-node, too-run, too-alone}
+use Rattle.equations.proofs.runs.too_elsewhere.Statement.{statement}
+use Rattle.equations.proofs.runs.too_elsewhere.Tie as tie
+
+enum-told : tie.Need-enum-told
+enum-told c = search needs
+
+enum-told-2 : tie.Need-enum-told-2
+enum-told-2 c = search needs
+
+enum-known-look : tie.Need-enum-known-look
+enum-known-look c = search needs
+
+elsewhere-requires : tie.Need-elsewhere-requires
+elsewhere-requires c κs = search needs
+
+returns : tie.Need-returns
+returns c = λ before behind l r w.
+    too-alone (before ++ behind) r (sym (c .before .before .before .look .given .1) ∙ w .right .look) (c .before .if1 .taken) (λ q t i e. c .elsewhere .ensures ∙ run-elsewhere w q (subst (fineHedge desk) i (w .right .fine) .0) e)
+
+enum-told-3 : tie.Need-enum-told-3
+enum-told-3 c = search needs
+
+returns-2 : tie.Need-returns-2
+returns-2 c = λ before behind l r w. too-empty (before ++ behind) r (sym (c .enum-told .given .1) ∙ w .right .look)
+
+returns-3 : tie.Need-returns-3
+returns-3 c = λ before behind l r w. too-term (before ++ behind) r (sym (c .enum-told2 .given .1) ∙ w .right .look)
+
+returns-4 : tie.Need-returns-4
+returns-4 c = λ before behind l r w. too-run (before ++ behind) r (sym (c .before .before .look .given .1) ∙ w .right .look) (c .if1 .left)
+
+returns-5 : tie.Need-returns-5
+returns-5 c = λ before behind l r w. too-node (before ++ behind) r (sym (c .enum-told3 .given .1) ∙ w .right .look)
+
+pub too-elsewhere-spec : {M : Type 1} → statement M
+too-elsewhere-spec =
+    tie.close (tie.spec enum-told enum-told-2 enum-known-look elsewhere-requires returns enum-told-3 returns-2 returns-3 returns-4 returns-5)

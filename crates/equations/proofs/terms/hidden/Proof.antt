@@ -1,0 +1,23 @@
+-- The test is made where nothing follows the variable.
+use borrow.Author.Needs.{needs}
+use mathlib.Core.Path.{sym, ap, _∙_}
+use mathlib.Core.Bool.{_&&_}
+use mathlib.Core.List.{_++_}
+use Rattle.language.specs.Trees.{tv}
+use Rattle.rules.specs.Looks.{under}
+use Rattle.equations.proofs.Variables.{guard-on, guard-off}
+use Rattle.equations.proofs.terms.hidden.Statement.{statement}
+use Rattle.equations.proofs.terms.hidden.Tie as tie
+
+under-requires : tie.Need-under-requires
+under-requires c κs = search needs
+
+returns : tie.Need-returns
+returns c = λ y h beyond b e s. guard-on (c .before .if1 .taken) (c .under .ensures (tv y) h beyond b e s)
+
+returns-2 : tie.Need-returns-2
+returns-2 c = λ y h beyond b e s. guard-off (under (tv y) h) (c .if1 .left)
+
+pub hidden-spec : {M : Type 1} → statement M
+hidden-spec =
+    tie.close (tie.spec under-requires returns returns-2)

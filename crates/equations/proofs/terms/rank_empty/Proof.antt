@@ -1,0 +1,43 @@
+-- The look of the right side leads to the rank.
+use borrow.Author.Needs.{needs}
+use mathlib.Core.Path.{sym, ap, _∙_}
+use mathlib.Core.Bool.{_&&_}
+use mathlib.Core.List.{_++_}
+use Rattle.equations.proofs.Variables.{empty-empty, empty-term, empty-node, empty-run, empty-runs}
+use Rattle.views.proofs.Sides.{side-stands}
+use Rattle.equations.proofs.terms.rank_empty.Statement.{statement}
+use Rattle.equations.proofs.terms.rank_empty.Tie as tie
+
+enum-told : tie.Need-enum-told
+enum-told c = search needs
+
+enum-told-2 : tie.Need-enum-told-2
+enum-told-2 c = search needs
+
+enum-told-3 : tie.Need-enum-told-3
+enum-told-3 c = search needs
+
+has-term-requires : tie.Need-has-term-requires
+has-term-requires c κs = search needs
+
+returns : tie.Need-returns
+returns c = λ r before behind w. empty-run (before ++ behind) r (sym (c .before .before .enum-told3 .given .1) ∙ w .right .look) (sym (c .before .has-term .ensures r _ (side-stands (w .right))) ∙ c .if1 .taken)
+
+enum-told-4 : tie.Need-enum-told-4
+enum-told-4 c = search needs
+
+returns-2 : tie.Need-returns-2
+returns-2 c = λ r before behind w. empty-empty (before ++ behind) r (sym (c .enum-told .given .1) ∙ w .right .look)
+
+returns-3 : tie.Need-returns-3
+returns-3 c = λ r before behind w. empty-term (before ++ behind) r (sym (c .enum-told2 .given .1) ∙ w .right .look)
+
+returns-4 : tie.Need-returns-4
+returns-4 c = λ r before behind w. empty-runs (before ++ behind) r (sym (c .before .before .enum-told3 .given .1) ∙ w .right .look) (sym (c .before .has-term .ensures r _ (side-stands (w .right))) ∙ c .if1 .left)
+
+returns-5 : tie.Need-returns-5
+returns-5 c = λ r before behind w. empty-node (before ++ behind) r (sym (c .enum-told4 .given .1) ∙ w .right .look)
+
+pub rank-empty-spec : {M : Type 1} → statement M
+rank-empty-spec =
+    tie.close (tie.spec enum-told enum-told-2 enum-told-3 has-term-requires returns enum-told-4 returns-2 returns-3 returns-4 returns-5)

@@ -1,0 +1,38 @@
+-- What a rank promises, and the ranks of two single functors by single tests.
+use Prim.Native.Nat.{ℕ}
+use mathlib.Core.Path.{_≡_}
+use mathlib.Core.Bool.{Bool, true, false, not, _&&_, _||_}
+use mathlib.Core.List.{List, _++_}
+use Rattle.language.specs.Kinds.{pick}
+use Rattle.language.specs.Trees.{Functor, symbol, fvar, Hedge, ε, tvar, hvar, node, Conj, fv, inConj}
+use Rattle.plans.specs.declared.View.{View}
+use Rattle.plans.specs.Views.{Sees}
+use Rattle.equations.specs.Rank.{rankOf}
+
+-- n is the rank of the equation that the view shows
+abbrev pub Ranks : List ℕ → View → Hedge → Hedge → ℕ → Type 0
+Ranks k v l r n = (before behind : Conj) → Sees k v before l r behind → n ≡ rankOf (before ++ behind) l r
+
+abbrev pub isBlank : Functor → Bool
+isBlank (symbol f) = false
+isBlank (fvar X) = true
+
+-- a function variable that is in K
+abbrev pub blankIn : Functor → Conj → Bool
+blankIn (symbol f) K = false
+blankIn (fvar X) K = inConj (fv X) K
+
+-- E5: X in K, and a variable F too
+abbrev pub blanksIn : Functor → Functor → Conj → Bool
+blanksIn F G K = blankIn F K && (not (isBlank G) || blankIn G K)
+
+-- single terms with the functors F and G: whether they are blanks, the same, both without children, and E5's test
+abbrev pub functorsBy : Bool → Bool → Bool → Bool → Bool → ℕ
+functorsBy blankF blankG same bare e5 = pick blankF (pick same 12 (pick bare (pick e5 17 28) 18)) (pick blankG 28 (pick same 12 4))
+
+-- a hedge that begins with a term
+abbrev pub Begins : Hedge → Type 0
+Begins ε = ⊥
+Begins (tvar x r) = Unit {0}
+Begins (hvar p r) = ⊥
+Begins (node f c r) = Unit {0}

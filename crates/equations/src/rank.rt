@@ -1,0 +1,27 @@
+// The first rule at an equation, seen from its left side.
+ghost use mathlib.Core.Path.{_≡_};
+ghost use mathlib.Core.List.{_++_};
+ghost use Rattle.language.specs.Trees.{Hedge, Conj};
+ghost use Rattle.plans.specs.Views.{Sees};
+ghost use Rattle.plans.specs.Ranks.{eqnRank};
+use crate::functors::rank_node;
+use crate::runs::rank_run;
+use crate::terms::rank_empty;
+use crate::terms::rank_term;
+use plans::Look;
+use plans::Side;
+use plans::View;
+
+// The place of the first rule in the list, or 28 where none applies.
+pub fn rank_equation(k: &[u16], v: View) -> usize
+    ensures { λ n. ⌜ ((before behind : Conj) (l r : Hedge) → Sees (now (k .entry)) v before l r behind → n ≡ eqnRank (before ++ behind) l r) ⌝ }
+{
+    let l = v.l;
+    let look = l.look;
+    match look {
+        Look::Empty => rank_empty(k, v),
+        Look::Term(x, lone) => rank_term(k, v, x, lone),
+        Look::Run(p, lone) => rank_run(k, v, p, lone),
+        Look::Node(f, lone, bare) => rank_node(k, v, f, lone, bare),
+    }
+}

@@ -1,0 +1,160 @@
+// The first rule at an equation whose left side begins with a hedge variable.
+ghost use Prim.Native.Nat.{ℕ, _+_, _<_};
+ghost use mathlib.Core.Path.{_≡_};
+ghost use mathlib.Core.Bool.{Bool, not, _&&_};
+ghost use mathlib.Core.List.{List, _++_};
+ghost use Rattle.language.specs.declared.HedgeVar.{HedgeVar};
+ghost use Rattle.language.specs.Trees.{Hedge, hvar, Conj, hv, holds};
+ghost use Rattle.rules.specs.Looks.{empty, allTerms, loneH};
+ghost use Rattle.rules.specs.Rules.{too};
+ghost use Rattle.plans.specs.declared.Look.the-variants.{Run};
+ghost use Rattle.plans.specs.Looks.{lookOf};
+ghost use Rattle.plans.specs.Views.{Sees};
+ghost use Rattle.equations.specs.Rank.{lonely, leading};
+ghost use Rattle.equations.specs.Ranked.{Ranks, Begins};
+use plans::Look;
+use plans::Side;
+use plans::View;
+use views::all_terms;
+use views::elsewhere;
+use views::has_term;
+use views::inside;
+use views::same_part;
+use views::stands;
+use views::up_to;
+
+// Where the right side is one hedge variable, it is in the others too.
+fn too_elsewhere(k: &[u16], v: View) -> bool
+    ensures { λ b. ⌜ ((before behind : Conj) (l r : Hedge) → Sees (now (k .entry)) v before l r behind → b ≡ too hv (loneH r) (before ++ behind)) ⌝ }
+{
+    let r = v.r;
+    let look = r.look;
+    match look {
+        Look::Empty => true,
+        Look::Term(_, _) => true,
+        Look::Run(q, lone) => {
+            if lone {
+                return elsewhere(k, v.at, v.end, q);
+            }
+            true
+        }
+        Look::Node(_, _, _) => true,
+    }
+}
+
+// A lone p against a hedge that does not begin with it: F2, Del3, E2.
+fn rank_lonely(k: &[u16], v: View, p: u16) -> usize
+    ensures { λ n. ⌜ ((before behind : Conj) (q : HedgeVar) (s r : Hedge) → Sees (now (k .entry)) v before (hvar q s) r behind → p ≡ 2000 + q .0 → n ≡ lonely (before ++ behind) q r) ⌝ }
+{
+    let r = v.r;
+    if stands(k, r.from, r.to, p) {
+        if has_term(k, r.from) {
+            return 3;
+        }
+        let spot = inside(k, r.from, p);
+        if spot.found {
+            return 10;
+        }
+        return 28;
+    }
+    if elsewhere(k, v.at, v.end, p) {
+        if too_elsewhere(k, v) {
+            return 14;
+        }
+        return 28;
+    }
+    28
+}
+
+// Whether terms alone stand there, and p in none of them.
+fn free_terms(k: &[u16], v: View, p: u16) -> bool
+    ensures { λ b. ⌜ ((before behind : Conj) (q : HedgeVar) (l r : Hedge) → Sees (now (k .entry)) v before l r behind → q .0 < 32 → p ≡ 2000 + q .0 → b ≡ (allTerms r && not (holds (hv q) r))) ⌝ }
+{
+    let r = v.r;
+    let terms = all_terms(k, r.from);
+    if terms.all {
+        if stands(k, r.from, r.to, p) {
+            return false;
+        }
+        return true;
+    }
+    false
+}
+
+// p with something behind it against a hedge that begins with a term: E3, E4.
+fn rank_leading(k: &[u16], v: View, p: u16) -> usize
+    ensures { λ n. ⌜ ((before behind : Conj) (q : HedgeVar) (s r : Hedge) → Sees (now (k .entry)) v before (hvar q s) r behind → p ≡ 2000 + q .0 → n ≡ leading q r) ⌝ }
+{
+    if free_terms(k, v, p) {
+        return 15;
+    }
+    let r = v.r;
+    let ahead = up_to(k, r.from, p);
+    if ahead.found {
+        return 16;
+    }
+    28
+}
+
+// The same hedge variable in front: R1, F2, Del1.
+fn rank_struck(k: &[u16], v: View, lone: bool) -> usize
+    ensures { λ n. ⌜ ((q : HedgeVar) (s t : Hedge) → lone ≡ empty s → Ranks (now (k .entry)) v (hvar q s) (hvar q t) n) ⌝ }
+{
+    let l = v.l;
+    let r = v.r;
+    if same_part(k, l.from, l.to, r.from, r.to) {
+        return 0;
+    }
+    if lone {
+        if has_term(k, r.from) {
+            return 3;
+        }
+        return 9;
+    }
+    9
+}
+
+// p against another hedge variable.
+fn rank_run_run(k: &[u16], v: View, p: u16, lone: bool, z: u16) -> usize
+    ensures { λ n. ⌜ ((q w : HedgeVar) (s t : Hedge) (more : Bool) → Run p lone ≡ lookOf (hvar q s) → Run z more ≡ lookOf (hvar w t) → Ranks (now (k .entry)) v (hvar q s) (hvar w t) n) ⌝ }
+{
+    if p == z {
+        return rank_struck(k, v, lone);
+    }
+    if lone {
+        return rank_lonely(k, v, p);
+    }
+    28
+}
+
+// p against a hedge that begins with a term.
+fn rank_run_term(k: &[u16], v: View, p: u16, lone: bool) -> usize
+    ensures { λ n. ⌜ ((q : HedgeVar) (s r : Hedge) → Run p lone ≡ lookOf (hvar q s) → Begins r → Ranks (now (k .entry)) v (hvar q s) r n) ⌝ }
+{
+    if lone {
+        return rank_lonely(k, v, p);
+    }
+    rank_leading(k, v, p)
+}
+
+// The left side begins with a hedge variable.
+pub fn rank_run(k: &[u16], v: View, p: u16, lone: bool) -> usize
+    ensures { λ n. ⌜ ((q : HedgeVar) (s r : Hedge) → Run p lone ≡ lookOf (hvar q s) → Ranks (now (k .entry)) v (hvar q s) r n) ⌝ }
+{
+    let r = v.r;
+    let look = r.look;
+    match look {
+        Look::Empty => {
+            if lone {
+                if elsewhere(k, v.at, v.end, p) {
+                    return 14;
+                }
+                return 28;
+            }
+            15
+        }
+        Look::Term(_, _) => rank_run_term(k, v, p, lone),
+        Look::Run(z, _) => rank_run_run(k, v, p, lone, z),
+        Look::Node(_, _, _) => rank_run_term(k, v, p, lone),
+    }
+}

@@ -1,0 +1,120 @@
+// The first rule at an equation whose left side is empty or begins with a term variable.
+ghost use Prim.Native.Nat.{ℕ, _+_, _<_};
+ghost use mathlib.Core.Path.{_≡_};
+ghost use mathlib.Core.Bool.{Bool, not, _&&_};
+ghost use mathlib.Core.List.{List, _++_};
+ghost use Rattle.language.specs.declared.TermVar.{TermVar};
+ghost use Rattle.language.specs.Kinds.{pick};
+ghost use Rattle.language.specs.Trees.{Functor, Hedge, ε, tvar, node, Conj, eqT, tv, inConj};
+ghost use Rattle.rules.specs.Looks.{under as below};
+ghost use Rattle.plans.specs.declared.Look.the-variants.{Term, Node};
+ghost use Rattle.plans.specs.Looks.{lookOf};
+ghost use Rattle.plans.specs.Views.{Sees};
+ghost use Rattle.views.specs.Standing.{Stands};
+ghost use Rattle.equations.specs.Ranked.{Ranks};
+use crate::tests::and;
+use plans::Look;
+use plans::Side;
+use plans::View;
+use views::elsewhere;
+use views::has_term;
+use views::same_part;
+use views::under;
+
+// The left side is empty: R1, F4.
+pub fn rank_empty(k: &[u16], v: View) -> usize
+    ensures { λ n. ⌜ ((r : Hedge) → Ranks (now (k .entry)) v ε r n) ⌝ }
+{
+    let r = v.r;
+    let look = r.look;
+    match look {
+        Look::Empty => 0,
+        Look::Term(_, _) => 5,
+        Look::Run(_, _) => {
+            if has_term(k, r.from) {
+                return 5;
+            }
+            28
+        }
+        Look::Node(_, _, _) => 5,
+    }
+}
+
+// F1: a lone x against a hedge with x below its top.
+fn hidden(k: &[u16], lone: bool, at: usize, x: u16) -> bool
+    ensures { λ b. ⌜ ((y : TermVar) (h : Hedge) (beyond : List ℕ) → y .0 < 32 → x ≡ 1000 + y .0 → Stands (now (k .entry)) at h beyond → b ≡ (lone && below (tv y) h)) ⌝ }
+{
+    if lone {
+        return under(k, at, x);
+    }
+    false
+}
+
+// E1: two lone variables.
+fn rank_variables(k: &[u16], v: View, x: u16, z: u16) -> usize
+    ensures { λ n. ⌜ ((before behind : Conj) (l r : Hedge) (y w : TermVar) → Sees (now (k .entry)) v before l r behind → y .0 < 32 → w .0 < 32 → x ≡ 1000 + y .0 → z ≡ 1000 + w .0 → n ≡ pick (not (eqT y w) && (inConj (tv y) (before ++ behind) && inConj (tv w) (before ++ behind))) 13 28) ⌝ }
+{
+    if x == z {
+        return 28;
+    }
+    let first = elsewhere(k, v.at, v.end, x);
+    let second = elsewhere(k, v.at, v.end, z);
+    if and(first, second) {
+        return 13;
+    }
+    28
+}
+
+// Both sides begin with a term variable: R1, F1, D2, E1.
+fn rank_term_term(k: &[u16], v: View, x: u16, lone: bool, z: u16, more: bool) -> usize
+    ensures { λ n. ⌜ ((y w : TermVar) (s t : Hedge) → Term x lone ≡ lookOf (tvar y s) → Term z more ≡ lookOf (tvar w t) → Ranks (now (k .entry)) v (tvar y s) (tvar w t) n) ⌝ }
+{
+    let l = v.l;
+    let r = v.r;
+    if same_part(k, l.from, l.to, r.from, r.to) {
+        return 0;
+    }
+    if hidden(k, lone, r.from, x) {
+        return 2;
+    }
+    if and(lone, more) {
+        return rank_variables(k, v, x, z);
+    }
+    11
+}
+
+// A term variable against a functor: F1, D2, E1.
+fn rank_term_node(k: &[u16], v: View, x: u16, lone: bool, more: bool) -> usize
+    ensures { λ n. ⌜ ((y : TermVar) (s : Hedge) (g : ℕ) (G : Functor) (d t : Hedge) (bare : Bool) → Term x lone ≡ lookOf (tvar y s) → Node g more bare ≡ lookOf (node G d t) → Ranks (now (k .entry)) v (tvar y s) (node G d t) n) ⌝ }
+{
+    let r = v.r;
+    if hidden(k, lone, r.from, x) {
+        return 2;
+    }
+    if and(lone, more) {
+        if elsewhere(k, v.at, v.end, x) {
+            return 13;
+        }
+        return 28;
+    }
+    11
+}
+
+// The left side begins with a term variable.
+pub fn rank_term(k: &[u16], v: View, x: u16, lone: bool) -> usize
+    ensures { λ n. ⌜ ((y : TermVar) (s r : Hedge) → Term x lone ≡ lookOf (tvar y s) → Ranks (now (k .entry)) v (tvar y s) r n) ⌝ }
+{
+    let r = v.r;
+    let look = r.look;
+    match look {
+        Look::Empty => 28,
+        Look::Term(z, more) => rank_term_term(k, v, x, lone, z, more),
+        Look::Run(_, _) => {
+            if hidden(k, lone, r.from, x) {
+                return 2;
+            }
+            28
+        }
+        Look::Node(_, more, _) => rank_term_node(k, v, x, lone, more),
+    }
+}

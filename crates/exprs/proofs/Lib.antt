@@ -1,0 +1,11 @@
+pub mod Standing
+pub mod Passed
+pub mod Linear
+pub mod Spots
+pub mod Reached
+pub mod Sought
+pub mod Rests
+pub mod Rows
+pub mod Steps
+pub mod Written
+pub mod Drawn

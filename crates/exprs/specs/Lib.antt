@@ -1,0 +1,5 @@
+pub mod Standing
+pub mod Loose
+pub mod Spots
+pub mod Results
+pub mod Samples

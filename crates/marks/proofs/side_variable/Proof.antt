@@ -1,0 +1,87 @@
+-- Case by case.
+use mathlib.Core.Path.{sym, ap, _∙_}
+use Rattle.marks.proofs.Sides.{term-chosen, node-chosen}
+use Rattle.marks.specs.Lone.{singleTerm, bareFunctor, sideVariable, loneVariable}
+use native.Mathlib.Omega.{arith}
+use borrow.Author.Needs.{needs}
+use Rattle.marks.proofs.side_variable.Statement.{statement}
+use Rattle.marks.proofs.side_variable.Tie as tie
+use Rattle.marks.proofs.side_variable.Reads as reads
+use Rattle.marks.proofs.side_variable.Lts as lts
+use Rattle.marks.proofs.and.Reads as and-reads
+use Rattle.marks.proofs.bare_functor.Reads as bare-functor-reads
+use Rattle.marks.proofs.chosen.Reads as chosen-reads
+use Rattle.marks.proofs.single_term.Reads as single-term-reads
+
+enum-told : tie.Need-enum-told
+enum-told c = search needs
+
+enum-known-l : tie.Need-enum-known-l
+enum-known-l c = search needs
+
+single-term-requires : tie.Need-single-term-requires
+single-term-requires c κs = search needs
+
+and-requires : tie.Need-and-requires
+and-requires c κs = search needs
+
+chosen-requires : tie.Need-chosen-requires
+chosen-requires c κs = search needs
+
+enum-known-l-2 : tie.Need-enum-known-l-2
+enum-known-l-2 c = search needs
+
+chosen-requires-2 : tie.Need-chosen-requires-2
+chosen-requires-2 c κs = search needs
+
+enum-known-l-3 : tie.Need-enum-known-l-3
+enum-known-l-3 c = search needs
+
+bare-functor-requires : tie.Need-bare-functor-requires
+bare-functor-requires c κs = search needs
+
+and-requires-2 : tie.Need-and-requires-2
+and-requires-2 c κs = search needs
+
+and-requires-3 : tie.Need-and-requires-3
+and-requires-3 c κs = search needs
+
+and-requires-4 : tie.Need-and-requires-4
+and-requires-4 c κs = search needs
+
+chosen-requires-3 : tie.Need-chosen-requires-3
+chosen-requires-3 c κs = search needs
+
+returns : tie.Need-returns
+returns c = search needs
+
+returns-2 : tie.Need-returns-2
+returns-2 c = term-chosen _ _ _ _ _ _ _ (c .before .before .before .before .l .given .1) (c .before .before .single-term .ensures) (c .before .and .ensures) (c .chosen .ensures)
+
+returns-3 : tie.Need-returns-3
+returns-3 c = c .chosen2 .ensures ∙ ap (λ l. sideVariable l (c .before .before .before .before .args .r)) (sym (c .before .before .l2 .given .1))
+
+returns-4 : tie.Need-returns-4
+returns-4 c = node-chosen _ _ _ _ _ _ _ _ _ _ (c .before .before .before .before .before .before .l3 .given .1) (c .before .before .before .before .bare-functor .ensures) (c .before .before .before .and2 .ensures) (c .before .before .and3 .ensures) (c .before .and4 .ensures) (c .chosen3 .ensures)
+
+pub side-variable-spec : {M : Type 1} → statement M
+side-variable-spec =
+    tie.close
+    (tie.spec
+    enum-told
+    enum-known-l
+    single-term-requires
+    and-requires
+    chosen-requires
+    enum-known-l-2
+    chosen-requires-2
+    enum-known-l-3
+    bare-functor-requires
+    and-requires-2
+    and-requires-3
+    and-requires-4
+    chosen-requires-3
+    returns
+    returns-2
+    returns-3
+    returns-4)

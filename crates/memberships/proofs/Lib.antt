@@ -1,0 +1,6 @@
+pub mod Decisions
+pub mod Worded
+pub mod Parts
+pub mod Plain
+pub mod Eliminating
+pub mod Dispatch

@@ -1,0 +1,42 @@
+-- A result, piece by piece.
+use mathlib.Core.Path.{_≡_, refl, sym, ap, _∙_}
+use mathlib.Core.List.{List, [], _∷_, _++_}
+use Prim.Native.Nat.{ℕ, suc, _+_, _*_, _-_, _<_, _≤_}
+use native.Mathlib.Omega.{arith}
+use lib.ListN.{length, length-append}
+use lib.Seq.{slice}
+use Rattle.plans.specs.Results.{changed, pieceWords, slotAt, piecesFrom, made}
+use Rattle.plans.specs.declared.Piece.{Piece}
+use Rattle.plans.specs.declared.Piece.the-variants.{Word, Copy, Put, ToCut, PutFromCut, Each}
+use Rattle.plans.specs.declared.Recipe.{Recipe}
+use Rattle.pieces.proofs.Parts.{Split, part-short}
+use Rattle.pieces.proofs.Replaced.{put-short, length-empty-each}
+
+module _ (k : List ℕ) (r : Recipe) (cut : ℕ) where
+  -- the pieces from the i-th on
+  abbrev pub from : ℕ → List ℕ
+  from i = piecesFrom (12 - i) i k r cut
+
+  pub made-whole : made k r cut ≡ from 0
+  unfolding made
+  made-whole = refl
+
+  module _ (i : ℕ) where
+    pub made-step : i < 12 → Split (from i) (pieceWords k r cut (slotAt r i)) (from (i + 1))
+    made-step h = let e : 12 - i ≡ suc (12 - (i + 1)) = omega arith in record { eq = ap (λ n. piecesFrom n i k r cut) e }
+
+    pub made-none : 12 ≤ i → from i ≡ []
+    made-none h = let e : 12 - i ≡ 0 = omega arith in ap (λ n. piecesFrom n i k r cut) e
+
+    pub made-length : i < 12 → (n : ℕ) → n ≡ length (pieceWords k r cut (slotAt r i)) → length (from i) ≡ n + length (from (i + 1))
+    made-length h n e = ap length (made-step h .eq) ∙ length-append (pieceWords k r cut (slotAt r i)) (from (i + 1)) ∙ ap (λ m. m + length (from (i + 1))) (sym e)
+
+  -- a piece is bounded, so that sums fit
+  pub piece-short : (p : Piece) → length k ≤ 1024 → length (pieceWords k r cut p) ≤ 1048576
+  unfolding changed
+  piece-short (Word x) h = omega arith
+  piece-short (Copy a b) h = let z = part-short k a b in omega arith
+  piece-short (Put a b) h = put-short k (r .old) (r .new) cut a b (r .until) h
+  piece-short (ToCut a) h = let z = part-short k a cut in omega arith
+  piece-short (PutFromCut b) h = put-short k (r .old) (r .new) cut cut b (r .until) h
+  piece-short (Each a b) h = let z = part-short k a b in let y = length-empty-each (slice a b k) in omega arith

@@ -1,0 +1,23 @@
+-- The length is the distance from the place after it to the end.
+use Rattle.pieces.proofs.Still.{wrote-framed}
+use native.Mathlib.Omega.{arith}
+use borrow.Author.Needs.{needs}
+use Rattle.pieces.proofs.making.write_framed.Statement.{statement}
+use Rattle.pieces.proofs.making.write_framed.Tie as tie
+
+returns : tie.Need-returns
+returns c = wrote-framed _ _ _ _ _ _ (c .before .before .write-made .ensures) (let e = c .before .before .write-made .ensures .end in omega arith)
+
+pub write-framed-spec : {M : Type 1} → statement M
+write-framed-spec =
+    tie.close
+    (tie.spec
+    (λ c. search needs)
+    (λ c κs. search needs)
+    (λ c. search needs)
+    (λ c. search needs)
+    (λ c. search needs)
+    (λ c. search needs)
+    (λ c. search needs)
+    (λ c. search needs)
+    returns)

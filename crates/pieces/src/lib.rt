@@ -1,0 +1,136 @@
+// A plan's results in words: how long they are together, and writing them in a row, each with its length before it.
+pub mod copying;
+pub mod making;
+pub mod replacing;
+pub mod walking;
+
+ghost use Prim.Native.Nat.{_≤_};
+ghost use mathlib.Core.Path.{_≡_};
+ghost use mathlib.Core.List.{[], _∷_, map};
+ghost use lib.ListN.{length};
+ghost use Rattle.plans.specs.Results.{made, places, resultsOf};
+ghost use Rattle.plans.specs.Sizes.{framed, grown, sizedFrom, sized};
+ghost use Rattle.pieces.specs.Written.{Wrote, Ready};
+use making::made_len;
+use making::write_framed;
+use plans::Plan;
+use plans::Recipe;
+use plans::Size;
+use plans::Ways;
+use walking::element_end;
+
+// A result more, counted until a lent slice is passed.
+pub fn grow(n: usize, one: usize) -> usize
+    requires { ⌜ one ≤ 1024 ⌝ }
+    ensures { λ r. ⌜ r ≡ grown n one ⌝ }
+{
+    if n <= 8192 { n + 1 + one } else { n }
+}
+
+// n words and those of one result.
+pub fn size_one(k: &[u16], r: Recipe, cut: usize, n: usize) -> Size
+    requires { ⌜ length (now k) ≤ 1024 ⌝ }
+    ensures { λ s. ⌜ s ≡ sizedFrom n (made (now (k .entry)) r cut ∷ []) ⌝ }
+{
+    let one = made_len(k, r, cut);
+    if 1024 < one {
+        return Size::Over;
+    }
+    let more = grow(n, one);
+    Size::Fits(more)
+}
+
+pub fn size_two(k: &[u16], a: Recipe, b: Recipe) -> Size
+    requires { ⌜ length (now k) ≤ 1024 ⌝ }
+    ensures { λ s. ⌜ s ≡ sized (made (now (k .entry)) a 0 ∷ made (now (k .entry)) b 0 ∷ []) ⌝ }
+{
+    let s = size_one(k, a, 0, 0);
+    match s {
+        Size::Over => Size::Over,
+        Size::Fits(n) => size_one(k, b, 0, n),
+    }
+}
+
+// One result for each cut, element by element.
+pub fn size_cuts(k: &[u16], r: Recipe, cut: usize, times: usize) -> Size
+    requires { ⌜ length (now k) ≤ 1024 ⌝ }
+    ensures { λ s. ⌜ s ≡ sized (map (made (now (k .entry)) r) (places times (now (k .entry)) cut)) ⌝ }
+{
+    let mut left = times;
+    let mut at = cut;
+    let mut n: usize = 0;
+    while left != 0 {
+        let one = made_len(k, r, at);
+        if 1024 < one {
+            return Size::Over;
+        }
+        n = grow(n, one);
+        at = element_end(k, at);
+        left -= 1;
+    }
+    Size::Fits(n)
+}
+
+// How many words a plan's results take, each with its length before it; or that one of them is too long.
+pub fn size_results(k: &[u16], plan: Plan) -> Size
+    requires { ⌜ length (now k) ≤ 1024 ⌝ }
+    ensures { λ s. ⌜ s ≡ sized (resultsOf (now (k .entry)) plan) ⌝ }
+{
+    let ways = plan.ways;
+    let first = plan.first;
+    let second = plan.second;
+    match ways {
+        Ways::Drop => Size::Fits(0),
+        Ways::One(cut) => size_one(k, first, cut, 0),
+        Ways::Two => size_two(k, first, second),
+        Ways::Cuts(cut, n) => size_cuts(k, first, cut, n),
+        Ways::Monomials => Size::Fits(0),
+    }
+}
+
+pub fn write_cuts(
+    k: &[u16],
+    r: Recipe,
+    cut: usize,
+    times: usize,
+    out: &mut [u16],
+    at: usize,
+) -> usize
+    requires { ⌜ Ready (map (made (now k) r) (places times (now k) cut)) (now out) at ⌝ }
+    ensures { λ e. ⌜ Wrote (now (out .entry)) at (framed (map (made (now (k .entry)) r) (places times (now (k .entry)) cut))) (now (out .exit)) e ⌝ }
+{
+    let mut left = times;
+    let mut c = cut;
+    let mut e = at;
+    while left != 0 {
+        e = write_framed(k, r, c, out, e);
+        c = element_end(k, c);
+        left -= 1;
+    }
+    e
+}
+
+pub fn write_two(k: &[u16], a: Recipe, b: Recipe, out: &mut [u16], at: usize) -> usize
+    requires { ⌜ Ready (made (now k) a 0 ∷ made (now k) b 0 ∷ []) (now out) at ⌝ }
+    ensures { λ e. ⌜ Wrote (now (out .entry)) at (framed (made (now (k .entry)) a 0 ∷ made (now (k .entry)) b 0 ∷ [])) (now (out .exit)) e ⌝ }
+{
+    let e = write_framed(k, a, 0, out, at);
+    write_framed(k, b, 0, out, e)
+}
+
+// A plan's results, each with its length before it.
+pub fn write_results(k: &[u16], plan: Plan, out: &mut [u16], at: usize) -> usize
+    requires { ⌜ Ready (resultsOf (now k) plan) (now out) at ⌝ }
+    ensures { λ e. ⌜ Wrote (now (out .entry)) at (framed (resultsOf (now (k .entry)) plan)) (now (out .exit)) e ⌝ }
+{
+    let ways = plan.ways;
+    let first = plan.first;
+    let second = plan.second;
+    match ways {
+        Ways::Drop => at,
+        Ways::One(cut) => write_framed(k, first, cut, out, at),
+        Ways::Two => write_two(k, first, second, out, at),
+        Ways::Cuts(cut, n) => write_cuts(k, first, cut, n, out, at),
+        Ways::Monomials => at,
+    }
+}

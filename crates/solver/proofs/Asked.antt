@@ -1,0 +1,89 @@
+-- A question that was read: its parts are the words of its conjunctions, each fine and short, and the run begins with them.
+use Prim.Native.Nat.{ℕ, suc, _+_, _-_, _≤_}
+use native.Mathlib.Omega.{arith}
+use mathlib.Core.Path.{_≡_, refl, sym, subst}
+use mathlib.Core.Bool.{Bool, true, false, _&&_}
+use mathlib.Core.List.{List, [], _∷_, map}
+use lib.Dec.{leb}
+use lib.ListN.{length, take, drop, getD, length-take, length-drop}
+use borrow.Author.Tests.{leb-true}
+use Rattle.language.specs.Limits.{desk}
+use Rattle.language.specs.Trees.{Conj, Question}
+use Rattle.language.specs.Writing.{conjWords}
+use Rattle.language.specs.Fine.{fineConj}
+use Rattle.language.specs.Question.{offsets, partsFrom, parts, laidOut, lengthFits, asks, readQuestion}
+use Rattle.language.proofs.Bools.{both-true}
+use Rattle.language.proofs.Alternatives.{fineAll, read-all}
+use Rattle.language.proofs.Asking.{Passed, passed}
+use Rattle.rules.specs.Run.{size, run}
+use Rattle.exact.specs.Each.{Each}
+use Rattle.stack.specs.Waiting.{Waiting}
+use Rattle.answers.specs.declared.Tally.{Tally}
+use Rattle.answers.specs.Lined.{Lined}
+use Rattle.reader.proofs.Answers.{question-asked}
+use Rattle.reader.specs.Checking.{checked}
+use Rattle.reader.specs.declared.Checked.the-variants.{Fine}
+use Rattle.solver.specs.Running.{Running, leftOf, conjunctionsOf}
+
+-- no part is longer than the whole
+short-parts : (n from : ℕ) (os ws : List ℕ) → length ws ≤ n → Each (λ b. length b ≤ n) (partsFrom from os ws)
+short-parts n from [] ws h = tt
+short-parts n from (to ∷ os) ws h =
+    (let e = length-take (to - from) ws in omega arith, short-parts n to os (drop (to - from) ws) (let e = length-drop (to - from) ws in omega arith))
+
+short-conjunctions : (ks : List Conj) → Each (λ b. length b ≤ 1024) (map conjWords ks) → Each (λ k. size k ≤ 1024) ks
+short-conjunctions [] p = tt
+short-conjunctions (k ∷ ks) p = (p .0, short-conjunctions ks (p .1))
+
+each-fine : (ks : List Conj) → fineAll desk ks → Each (fineConj desk) ks
+each-fine [] p = tt
+each-fine (k ∷ ks) p = (p .0, each-fine ks (p .1))
+
+module _ (ws : List ℕ) (e : Fine ≡ checked (readQuestion desk ws)) where
+  asked : (q : Question) × (readQuestion desk ws ≡ asks q)
+  asked = question-asked ws e
+
+  checks : Passed desk ws (asked .0)
+  checks = passed desk ws (asked .0) (asked .1)
+
+  pub asked-fits : length ws ≤ 1024
+  unfolding lengthFits
+  asked-fits = leb-true (length ws) 1024 (both-true (leb 6 (length ws)) (leb (length ws) 1024) (checks .length-fits) .1)
+
+  pub asked-laid : laidOut 5 (getD ws 4 0) ws ≡ true
+  asked-laid = checks .laid-out
+
+  abbrev asks-for : List Conj
+  asks-for = conjunctionsOf (readQuestion desk ws)
+
+  asked-read : fineAll desk asks-for × (parts 5 (getD ws 4 0) ws ≡ map conjWords asks-for)
+  asked-read =
+      subst (λ a. fineAll desk (conjunctionsOf a) × (parts 5 (getD ws 4 0) ws ≡ map conjWords (conjunctionsOf a))) (sym (asked .1))
+      (read-all desk (parts 5 (getD ws 4 0) ws) (asked .0 .alternatives) (checks .read))
+
+  asked-short : Each (λ b. length b ≤ 1024) (parts 5 (getD ws 4 0) ws)
+  unfolding parts
+  asked-short =
+      short-parts 1024 (5 + suc (getD ws 4 0)) (drop 1 (offsets 5 (getD ws 4 0) ws)) (drop (5 + suc (getD ws 4 0)) ws)
+      (let z = asked-fits in let y = length-drop (5 + suc (getD ws 4 0)) ws in omega arith)
+
+  -- the run begins
+  pub begins : (oldWork oldAnswer work answer : List ℕ) (at : ℕ) (t : Tally) → 8192 ≤ length oldWork → 8192 ≤ length oldAnswer → length answer ≡ length oldAnswer
+      → Waiting oldWork at (parts 5 (getD ws 4 0) ws) work → Lined oldAnswer [] t answer
+      → Running oldWork oldAnswer [] asks-for (record { at = at; steps = 0; tally = t }) work answer
+  begins oldWork oldAnswer work answer at t room space kept w l =
+      let r = asked-read in
+      record {
+        waiting = subst (λ bs. Waiting oldWork at bs work) (r .1) w;
+        lined = l;
+        fine = each-fine asks-for (r .0);
+        short = short-conjunctions asks-for (subst (Each (λ b. length b ≤ 1024)) (r .1) asked-short);
+        made = omega arith;
+        room = room;
+        kept = kept;
+        space = space;
+      }
+
+  pub begin-left : (at : ℕ) (t : Tally) → leftOf (record { at = at; steps = 0; tally = t }) [] asks-for ≡ run desk asks-for
+  unfolding leftOf run
+  begin-left at t = refl

@@ -1,0 +1,197 @@
+-- A turn of the run in the slices: what stands first, a line more or 9, and a step or 10, 7, 8.
+use Prim.Native.Nat.{ℕ, zero, suc, _+_, _-_, _*_, _<_, _≤_}
+use native.Mathlib.Omega.{arith}
+use native.Mathlib.Decide.{decLe}
+use mathlib.Core.Path.{_≡_, refl, sym, ap, _∙_, subst}
+use mathlib.Core.Bool.{true, false}
+use mathlib.Core.List.{List, [], _∷_, _++_, map, map-append}
+use mathlib.Core.Option.{none, some}
+use lib.Dec.{ltb}
+use lib.ListN.{length, drop, getD, length-append}
+use lib.Seq.{slice, sets, drop-drop, drop-at}
+use borrow.Author.Tests.{lt-ltb, le-ltb}
+use Rattle.language.specs.declared.Refusal.{Refusal}
+use Rattle.language.specs.declared.Refusal.the-variants.{LongResult, LongWaiting, LineRoom, StepLimit}
+use Rattle.language.specs.Limits.{desk}
+use Rattle.language.specs.Trees.{Literal, Conj}
+use Rattle.language.specs.Writing.{conjWords}
+use Rattle.language.specs.Fine.{fineConj}
+use Rattle.rules.specs.Step.{place, step}
+use Rattle.rules.specs.Rules.{Branch}
+use Rattle.rules.specs.Run.{waitingSize, linesSize, linesFit, refused, runFrom}
+use Rattle.rules.specs.Answer.{answerWords}
+use Rattle.exact.specs.Each.{Each}
+use Rattle.exact.proofs.Each.{each-++}
+use Rattle.plans.specs.Sizes.{framed, placedWords, sized}
+use Rattle.plans.specs.declared.Size.the-variants.{Fits, Over}
+use Rattle.pieces.proofs.Sizing.{sized-fits, fits-exact, fits-past, over-anyLong, fits-anyLong, words-waiting}
+use Rattle.search.specs.Ranking.{Found, nowhere, somewhere, sideAnswer}
+use Rattle.search.proofs.FineSteps.{step-fine}
+use Rattle.search.proofs.Walks.{stands-here}
+use Rattle.views.specs.Standing.{LiteralAt}
+use Rattle.stack.specs.Waiting.{Waiting}
+use Rattle.stack.proofs.Blocks.{laid, first-length, first-block, first-room, rest-wait, wait-ends}
+use Rattle.answers.specs.declared.Tally.{Tally}
+use Rattle.answers.specs.Lined.{Lined}
+use Rattle.answers.proofs.Rows.{count-more, lines-size-more, open-most, length-answer}
+use Rattle.solver.specs.declared.State.{State}
+use Rattle.solver.specs.declared.Turned.{Turned}
+use Rattle.solver.specs.declared.Turned.the-variants.{On, Stop}
+use Rattle.steps.specs.declared.Stepped.{Stepped}
+use Rattle.steps.specs.declared.Stepped.the-variants.{Long, Room, Done}
+use Rattle.steps.specs.Taking.{Took, long, room, done}
+use Rattle.solver.specs.Running.{Running, leftOf, measure, Kept, Turns, on, stop}
+use Rattle.solver.proofs.Turns.{run-line, run-full, run-limit, run-long, run-room, run-step}
+use Rattle.solver.proofs.Lengths.{waiting-append, short-words, lines-fit, lines-many, lines-past}
+
+-- ---- the words past the room
+
+pub waiting-kept : (old : List ℕ) (at : ℕ) (bs : List (List ℕ)) (new : List ℕ) → Waiting old at bs new → Kept old new
+waiting-kept old at bs new p =
+    ap (λ n. drop n new) (let z = p .place in let y : 8192 ≡ at + length (framed bs) = omega arith in y)
+    ∙ sym (drop-drop (length (framed bs)) at new) ∙ ap (drop (length (framed bs))) (p .words) ∙ drop-at (framed bs) (drop 8192 old) (length (framed bs)) refl
+
+pub lined-kept : (old : List ℕ) (ls : List Conj) (t : Tally) (new : List ℕ) → Lined old ls t new → Kept old new
+lined-kept old ls t new p = ap (drop 8192) (p .words) ∙ drop-at (answerWords desk ls) (drop 8192 old) 8192 (length-answer ls (p .few) (p .room))
+
+-- the results in words
+pub placed-words : (before behind : Conj) (bs : List Branch) → placedWords before behind bs ≡ map conjWords (map (place before behind) bs)
+unfolding placedWords
+placed-words before behind [] = refl
+placed-words before behind (b ∷ bs) = ap (λ l. conjWords (place before behind b) ∷ l) (placed-words before behind bs)
+
+module _ (oldWork oldAnswer : List ℕ) (ls : List Conj) (c : Conj) (w : List Conj) (s : State) (work answer : List ℕ)
+    (p : Running oldWork oldAnswer ls (c ∷ w) s work answer) where
+  -- ---- what stands first
+
+  pub first-size : getD work (s .at) 0 ≡ length (conjWords c)
+  first-size = first-length oldWork (s .at) (conjWords c) (map conjWords w) work (p .waiting)
+
+  pub first-words : slice (s .at + 1) (s .at + 1 + length (conjWords c)) work ≡ conjWords c
+  first-words = first-block oldWork (s .at) (conjWords c) (map conjWords w) work (p .waiting)
+
+  pub first-fits : s .at + 1 + length (conjWords c) ≤ 8192
+  first-fits = let z = first-room oldWork (s .at) (conjWords c) (map conjWords w) work (p .waiting) in omega arith
+
+  pub open-fits : s .tally .«open» ≤ s .tally .lines
+  open-fits = let a = p .lined .«open» in let b = p .lined .lines in let d = open-most ls in omega arith
+
+  pub end-fits : s .tally .end ≤ 8192
+  end-fits = let a = p .lined .end in let b = p .lined .room in omega arith
+
+  pub work-fits : 8192 ≤ length work
+  work-fits = let a = p .waiting .size in let b = p .room in omega arith
+
+  pub answer-fits : 8192 ≤ length answer
+  answer-fits = let a = p .kept in let b = p .space in omega arith
+
+  stops : (e : Refusal) → refused e ≡ leftOf s ls (c ∷ w) → Turns oldWork oldAnswer ls (c ∷ w) s (Stop e) work answer
+  stops e d = stop e refl d (waiting-kept oldWork (s .at) _ work (p .waiting)) (lined-kept oldAnswer ls (s .tally) answer (p .lined))
+
+  module _ (k : List ℕ) (ek : k ≡ conjWords c) (next : ℕ) (en : next ≡ s .at + 1 + length k) where
+    rests : Waiting oldWork next (map conjWords w) work
+    rests =
+        subst (λ n. Waiting oldWork n (map conjWords w) work) (ap (λ l. s .at + 1 + length l) (sym ek) ∙ sym en)
+        (rest-wait oldWork (s .at) (conjWords c) (map conjWords w) work (p .waiting))
+
+    -- ---- no rule applies
+
+    module _ (e : step c ≡ none) where
+      full : linesFit desk (ls ++ (c ∷ [])) ≡ false → refused LineRoom ≡ leftOf s ls (c ∷ w)
+      unfolding leftOf
+      full f = sym (run-full desk (s .steps) ls c w (10000 - s .steps) e f)
+
+      pub many-lines : 512 ≤ s .tally .lines → Turns oldWork oldAnswer ls (c ∷ w) s (Stop LineRoom) work answer
+      many-lines h = stops LineRoom (full (lines-many (ls ++ (c ∷ [])) (let a = p .lined .lines in let b = count-more ls c in omega arith)))
+
+      pub long-line : s .tally .lines < 512 → 8192 < s .tally .end + 1 + length k → Turns oldWork oldAnswer ls (c ∷ w) s (Stop LineRoom) work answer
+      long-line h g =
+          let a = p .lined .lines in
+          let b = p .lined .end in
+          let m = count-more ls c in
+          let n = lines-size-more ls c in
+          let l = ap length ek in
+          stops LineRoom (full (lines-past (ls ++ (c ∷ [])) (omega arith) (omega arith)))
+
+      pub next-line : (u : Tally) (new : List ℕ) → length new ≡ length answer → Lined oldAnswer (ls ++ (c ∷ [])) u new
+          → Turns oldWork oldAnswer ls (c ∷ w) s (On (record { at = next; steps = s .steps; tally = u })) work new
+      unfolding leftOf
+      next-line u new same l =
+          on (record { at = next; steps = s .steps; tally = u }) (ls ++ (c ∷ [])) w refl
+          (record {
+            waiting = rests;
+            lined = l;
+            fine = p .fine .1;
+            short = p .short .1;
+            made = p .made;
+            room = p .room;
+            kept = same ∙ p .kept;
+            space = p .space;
+          })
+          (sym (run-line desk (s .steps) ls c w (10000 - s .steps) e (lines-fit (ls ++ (c ∷ [])) (l .few) (l .room))))
+          (let z = rests .place in let y : 8192 - next < 8192 - s .at = omega arith in omega arith)
+
+    -- ---- a rule applies
+
+    module _ (ks : List Conj) (e : step c ≡ some ks) where
+      pub no-more-steps : 10000 ≤ s .steps → Turns oldWork oldAnswer ls (c ∷ w) s (Stop StepLimit) work answer
+      unfolding leftOf
+      no-more-steps h =
+          let z : 10000 - s .steps ≡ 0 = omega arith in
+          stops StepLimit (sym (ap (λ d. runFrom desk d (s .steps) ls (c ∷ w)) z ∙ run-limit desk (s .steps) ls c w ks e))
+
+      module _ (h : s .steps < 10000) where
+        one-more : leftOf s ls (c ∷ w) ≡ runFrom desk (suc (10000 - (s .steps + 1))) (s .steps) ls (c ∷ w)
+        unfolding leftOf
+        one-more = ap (λ d. runFrom desk d (s .steps) ls (c ∷ w)) (let z : 10000 - s .steps ≡ suc (10000 - (s .steps + 1)) = omega arith in z)
+
+        module _ (ws : List (List ℕ)) (ew : ws ≡ map conjWords ks) where
+          pub step-long : sized ws ≡ Over → Turns oldWork oldAnswer ls (c ∷ w) s (Stop LongResult) work answer
+          step-long o = stops LongResult (sym (one-more ∙ run-long desk (s .steps) ls c w ks e (10000 - (s .steps + 1)) (over-anyLong ks ws ew o)))
+
+          module _ (n : ℕ) (f : sized ws ≡ Fits n) where
+            together : waitingSize (ks ++ w) + next ≡ length (framed ws) + 8192
+            together =
+                let a = waiting-append ks w in
+                let b = words-waiting ks ∙ ap (λ l. length (framed l)) (sym ew) in
+                let d = words-waiting w in
+                let q = rests .place in
+                omega arith
+
+            past : next < n → 8192 < waitingSize (ks ++ w)
+            past g = elim (decLe n 8192) [
+              | yes m ↦ (let x = fits-exact ws n f m in let t = together in omega arith)
+              | no m ↦ (let x = fits-past ws n f (omega arith) in let t = together in let q = rests .place in omega arith)
+            ]
+
+            pub step-room : next < n → Turns oldWork oldAnswer ls (c ∷ w) s (Stop LongWaiting) work answer
+            step-room g =
+                stops LongWaiting
+                (sym (one-more ∙ run-room desk (s .steps) ls c w ks e (10000 - (s .steps + 1)) (fits-anyLong ks ws ew n f) (lt-ltb 8192 (waitingSize (ks ++ w)) (past g))))
+
+            module _ (at : ℕ) (new : List ℕ) (g : at + n ≡ next) (d : new ≡ sets work at (framed ws)) where
+              within : length (framed ws) ≡ n
+              within = let q = rests .place in fits-exact ws n f (omega arith)
+
+              pub step-on : Turns oldWork oldAnswer ls (c ∷ w) s (On (record { at = at; steps = s .steps + 1; tally = s .tally })) new answer
+              unfolding leftOf
+              step-on =
+                  let x = within in
+                  let q = rests .place in
+                  let t = together in
+                  on (record { at = at; steps = s .steps + 1; tally = s .tally }) ls (ks ++ w) refl
+                  (record {
+                    waiting =
+                        subst (λ bs. Waiting oldWork at bs new) (ap (λ l. l ++ map conjWords w) ew ∙ sym (map-append conjWords ks w))
+                        (laid oldWork next (map conjWords w) work rests (p .room) ws at new (omega arith) d);
+                    lined = p .lined;
+                    fine = each-++ (fineConj desk) ks w (step-fine desk c ks (p .fine .0) e) (p .fine .1);
+                    short = each-++ _ ks w (short-words ks (rw ew at (sized-fits ws n f .short))) (p .short .1);
+                    made = omega arith;
+                    room = p .room;
+                    kept = p .kept;
+                    space = p .space;
+                  })
+                  (ap (λ m. runFrom desk (10000 - (s .steps + 1)) m ls (ks ++ w)) (let z : s .steps + 1 ≡ suc (s .steps) = omega arith in z)
+                  ∙ sym (one-more ∙ run-step desk (s .steps) ls c w ks e (10000 - (s .steps + 1)) (fits-anyLong ks ws ew n f) (le-ltb 8192 (waitingSize (ks ++ w)) (omega arith))))
+                  (omega arith)

@@ -1,0 +1,40 @@
+-- Lengths in words: of waiting conjunctions, of a step's results and of lines.
+use Prim.Native.Nat.{ℕ, zero, suc, _+_, _-_, _<_, _≤_}
+use native.Mathlib.Omega.{arith}
+use mathlib.Core.Path.{_≡_, refl, sym, ap, _∙_}
+use mathlib.Core.Bool.{true, false, _&&_}
+use mathlib.Core.List.{List, [], _∷_, _++_, map}
+use lib.Dec.{leb}
+use lib.ListN.{length}
+use borrow.Author.Tests.{le-leb, lt-leb}
+use Rattle.language.specs.Limits.{desk}
+use Rattle.language.specs.Trees.{Conj}
+use Rattle.language.specs.Writing.{conjWords}
+use Rattle.rules.specs.Run.{size, waitingSize, linesSize, linesFit}
+use Rattle.plans.specs.Sizes.{Short}
+use Rattle.exact.specs.Each.{Each}
+
+pub waiting-append : (ks w : List Conj) → waitingSize (ks ++ w) ≡ waitingSize ks + waitingSize w
+waiting-append [] w = let z : waitingSize w ≡ 0 + waitingSize w = omega arith in z
+waiting-append (k ∷ ks) w =
+    let e = waiting-append ks w in
+    let z : suc (size k) + waitingSize (ks ++ w) ≡ suc (size k) + waitingSize ks + waitingSize w = omega arith in z
+
+-- each is short enough for a step's result
+abbrev pub Shorts : List Conj → Type 0
+Shorts ks = Each (λ k. size k ≤ 1024) ks
+
+pub short-words : (ks : List Conj) → Short (map conjWords ks) → Shorts ks
+short-words [] p = tt
+short-words (k ∷ ks) p = (p .0, short-words ks (p .1))
+
+-- ---- 9
+
+pub lines-fit : (ls : List Conj) → length ls ≤ 512 → 515 + linesSize ls ≤ 8192 → linesFit desk ls ≡ true
+lines-fit ls h g = ap (λ b. b && leb (515 + linesSize ls) 8192) (le-leb (length ls) 512 h) ∙ le-leb (515 + linesSize ls) 8192 g
+
+pub lines-many : (ls : List Conj) → 512 < length ls → linesFit desk ls ≡ false
+lines-many ls h = ap (λ b. b && leb (515 + linesSize ls) 8192) (lt-leb (length ls) 512 h)
+
+pub lines-past : (ls : List Conj) → length ls ≤ 512 → 8192 < 515 + linesSize ls → linesFit desk ls ≡ false
+lines-past ls h g = ap (λ b. b && leb (515 + linesSize ls) 8192) (le-leb (length ls) 512 h) ∙ lt-leb (515 + linesSize ls) 8192 g

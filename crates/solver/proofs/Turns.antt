@@ -1,0 +1,73 @@
+-- The run, turn by turn: what the next turn comes to, from what is found of the first waiting conjunction.
+use Prim.Native.Nat.{ℕ, zero, suc, _+_, _-_, _<_, _≤_}
+use native.Mathlib.Omega.{arith}
+use mathlib.Core.Path.{_≡_, refl, sym, ap, _∙_}
+use mathlib.Core.Bool.{Bool, true, false}
+use mathlib.Core.List.{List, [], _∷_, _++_}
+use mathlib.Core.Option.{Option, none, some}
+use lib.Dec.{ltb}
+use Rattle.language.specs.declared.Refusal.the-variants.{LongResult, LongWaiting, LineRoom, StepLimit}
+use Rattle.language.specs.Limits.{Limits}
+use Rattle.language.specs.Trees.{Conj}
+use Rattle.rules.specs.Step.{step}
+use Rattle.rules.specs.Run.{anyLong, waitingSize, linesFit, Outcome, finished, refused, checked, lined, turn, runFrom}
+
+module _ (L : Limits) where
+  pub run-ends : (d n : ℕ) (ls : List Conj) → runFrom L d n ls [] ≡ finished ls n
+  unfolding runFrom
+  run-ends zero n ls = refl
+  run-ends (suc d) n ls = refl
+
+  module _ (n : ℕ) (ls : List Conj) (k : Conj) (w : List Conj) where
+    -- no rule applies: a line more, or 9
+    module _ (d : ℕ) (e : step k ≡ none) where
+      taken : (go : List Conj → List Conj → List Conj → Outcome) → turn L go n ls (k ∷ w) ≡ lined L (ls ++ (k ∷ [])) (λ ms. turn L go n ms w)
+      taken go = ap (λ m. elim m [ some ks ↦ go ls ks (ks ++ w) | none ↦ lined L (ls ++ (k ∷ [])) (λ ms. turn L go n ms w) ]) e
+
+      fitting : (b : Bool) → linesFit L (ls ++ (k ∷ [])) ≡ b → (go : List Conj → List Conj → List Conj → Outcome)
+          → turn L go n ls (k ∷ w) ≡ elim b [ true ↦ turn L go n (ls ++ (k ∷ [])) w | false ↦ refused LineRoom ]
+      fitting b f go = taken go ∙ ap (λ b. elim b [ true ↦ turn L go n (ls ++ (k ∷ [])) w | false ↦ refused LineRoom ]) f
+
+      pub run-line : linesFit L (ls ++ (k ∷ [])) ≡ true → runFrom L d n ls (k ∷ w) ≡ runFrom L d n (ls ++ (k ∷ [])) w
+      unfolding runFrom
+      run-line f = at d
+        where
+          at : (d : ℕ) → runFrom L d n ls (k ∷ w) ≡ runFrom L d n (ls ++ (k ∷ [])) w
+          at zero = fitting true f _
+          at (suc d) = fitting true f _
+
+      pub run-full : linesFit L (ls ++ (k ∷ [])) ≡ false → runFrom L d n ls (k ∷ w) ≡ refused LineRoom
+      unfolding runFrom
+      run-full f = at d
+        where
+          at : (d : ℕ) → runFrom L d n ls (k ∷ w) ≡ refused LineRoom
+          at zero = fitting false f _
+          at (suc d) = fitting false f _
+
+    -- a rule applies: 10, 7, 8, or a step
+    module _ (ks : List Conj) (e : step k ≡ some ks) where
+      steps : (go : List Conj → List Conj → List Conj → Outcome) → turn L go n ls (k ∷ w) ≡ go ls ks (ks ++ w)
+      steps go = ap (λ m. elim m [ some ks ↦ go ls ks (ks ++ w) | none ↦ lined L (ls ++ (k ∷ [])) (λ ms. turn L go n ms w) ]) e
+
+      pub run-limit : runFrom L 0 n ls (k ∷ w) ≡ refused StepLimit
+      unfolding runFrom
+      run-limit = steps _
+
+      module _ (d : ℕ) where
+        one : runFrom L (suc d) n ls (k ∷ w) ≡ checked L ks (ks ++ w) (runFrom L d (suc n) ls)
+        unfolding runFrom
+        one = steps _
+
+        pub run-long : anyLong L ks ≡ true → runFrom L (suc d) n ls (k ∷ w) ≡ refused LongResult
+        run-long f =
+            one ∙ ap (λ b. elim b [ true ↦ refused LongResult | false ↦ elim (ltb (L .room) (waitingSize (ks ++ w))) [ true ↦ refused LongWaiting | false ↦ runFrom L d (suc n) ls (ks ++ w) ] ]) f
+
+        short : anyLong L ks ≡ false → runFrom L (suc d) n ls (k ∷ w) ≡ elim (ltb (L .room) (waitingSize (ks ++ w))) [ true ↦ refused LongWaiting | false ↦ runFrom L d (suc n) ls (ks ++ w) ]
+        short f =
+            one ∙ ap (λ b. elim b [ true ↦ refused LongResult | false ↦ elim (ltb (L .room) (waitingSize (ks ++ w))) [ true ↦ refused LongWaiting | false ↦ runFrom L d (suc n) ls (ks ++ w) ] ]) f
+
+        pub run-room : anyLong L ks ≡ false → ltb (L .room) (waitingSize (ks ++ w)) ≡ true → runFrom L (suc d) n ls (k ∷ w) ≡ refused LongWaiting
+        run-room f g = short f ∙ ap (λ b. elim b [ true ↦ refused LongWaiting | false ↦ runFrom L d (suc n) ls (ks ++ w) ]) g
+
+        pub run-step : anyLong L ks ≡ false → ltb (L .room) (waitingSize (ks ++ w)) ≡ false → runFrom L (suc d) n ls (k ∷ w) ≡ runFrom L d (suc n) ls (ks ++ w)
+        run-step f g = short f ∙ ap (λ b. elim b [ true ↦ refused LongWaiting | false ↦ runFrom L d (suc n) ls (ks ++ w) ]) g

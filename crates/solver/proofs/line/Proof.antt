@@ -1,0 +1,31 @@
+-- A 513th line, a line past the room, or one line more.
+use native.Mathlib.Omega.{arith}
+use mathlib.Core.Path.{_≡_}
+use borrow.Author.Needs.{needs}
+use Rattle.solver.proofs.Going.{many-lines, long-line, next-line}
+use Rattle.solver.proofs.line.Statement.{statement}
+use Rattle.solver.proofs.line.Tie as tie
+
+returns : tie.Need-returns
+returns c = λ oldWork oldAnswer ls x w work p ek en e. many-lines oldWork oldAnswer ls x w (c .before .before .before .before .before .args .s) work _ p _ ek _ en e (c .if1 .taken)
+
+returns-2 : tie.Need-returns-2
+returns-2 c = λ oldWork oldAnswer ls x w work p ek en e. long-line oldWork oldAnswer ls x w (c .before .before .before .before .before .before .before .args .s) work _ p _ ek _ en e (c .before .before .if1 .left) (c .if2 .taken)
+
+returns-3 : tie.Need-returns-3
+returns-3 c = λ oldWork oldAnswer ls x w work p ek en e.
+    next-line oldWork oldAnswer ls x w (c .before .before .before .before .before .before .before .before .before .before .before .before .args .s) work _ p _ ek _ en e _ _ (c .before .before .add-line .kept .1 .1 .1 .0)
+    (c .before .before .add-line .ensures oldAnswer ls x ek (c .before .before .before .before .is-solved .ensures x (p .fine .0) ek) (p .lined))
+
+pub line-spec : {M : Type 1} → statement M
+line-spec =
+    tie.close
+    (tie.spec
+    returns
+    (λ c. search needs)
+    (λ c. search needs)
+    returns-2
+    (λ c κs. search needs)
+    (λ c κs. search needs)
+    (λ c. search needs)
+    returns-3)

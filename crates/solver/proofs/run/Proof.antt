@@ -1,0 +1,36 @@
+-- The conjunctions are laid out, the answer begun, and the run goes on from there.
+use mathlib.Core.List.{[]}
+use borrow.Author.Needs.{needs}
+use Rattle.language.specs.Limits.{desk}
+use Rattle.language.specs.Question.{readQuestion}
+use Rattle.solver.specs.Running.{Begun, conjunctionsOf}
+use Rattle.solver.proofs.Gone.{ends-as}
+use Rattle.solver.proofs.Asked.{asked-fits, asked-laid, begins, begin-left}
+use Rattle.solver.proofs.run.Statement.{statement}
+use Rattle.solver.proofs.run.Tie as tie
+
+lay-out-requires : tie.Need-lay-out-requires
+lay-out-requires c κs = let p = c .before .before .before .before .pre in (asked-fits _ (p .0), asked-laid _ (p .0), p .1)
+
+go-on-requires : tie.Need-go-on-requires
+go-on-requires c κs =
+    let p = c .before .before .before .before .before .before .before .before .before .before .before .before .before .pre in
+    let q = c .before .before .before .before .before .before .before .before .before .before .before .before .before .args .question .now in
+    record {
+      oldWork = c .before .before .before .before .before .before .before .before .before .before .before .before .before .args .work .now;
+      oldAnswer = c .before .before .before .before .before .before .before .before .before .before .before .before .before .args .answer .now;
+      lines = [];
+      waits = conjunctionsOf (readQuestion desk q);
+      running = begins q (p .0) (c .before .before .before .before .before .before .before .before .before .before .before .before .before .args .work .now) (c .before .before .before .before .before .before .before .before .before .before .before .before .before .args .answer .now) _ _ _ _ (p .1) (p .2) (c .before .before .before .before .begin .kept .0) (c .before .before .before .before .before .before .before .before .lay-out .ensures) (c .before .before .before .before .begin .ensures);
+    }
+
+returns : tie.Need-returns
+returns c =
+    let p = c .before .before .before .before .before .before .before .before .before .before .before .before .before .before .before .before .before .before .pre in
+    let q = c .before .before .before .before .before .before .before .before .before .before .before .before .before .before .before .before .before .before .args .question .now in
+    ends-as (begin-left q (p .0) _ _)
+    (c .before .before .before .before .go-on .ensures (c .before .before .before .before .before .before .before .before .before .before .before .before .before .before .before .before .before .before .args .work .now) (c .before .before .before .before .before .before .before .before .before .before .before .before .before .before .before .before .before .before .args .answer .now) [] (conjunctionsOf (readQuestion desk q))
+    (begins q (p .0) (c .before .before .before .before .before .before .before .before .before .before .before .before .before .before .before .before .before .before .args .work .now) (c .before .before .before .before .before .before .before .before .before .before .before .before .before .before .before .before .before .before .args .answer .now) _ _ _ _ (p .1) (p .2) (c .before .before .before .before .before .before .before .before .before .begin .kept .0) (c .before .before .before .before .before .before .before .before .before .before .before .before .before .lay-out .ensures) (c .before .before .before .before .before .before .before .before .before .begin .ensures)))
+
+pub run-spec : {M : Type 1} → statement M
+run-spec = tie.close (tie.spec lay-out-requires (λ c κs. search needs) go-on-requires (λ c. search needs) (λ c. search needs) returns)

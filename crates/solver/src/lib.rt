@@ -1,0 +1,234 @@
+// Solving a question in two lent slices.
+ghost use Prim.Native.Nat.{ℕ, _+_, _≤_, _<_};
+ghost use mathlib.Core.Path.{_≡_};
+ghost use mathlib.Core.List.{List, _∷_, _++_};
+ghost use mathlib.Core.Option.{none, some};
+ghost use lib.ListN.{length, getD};
+ghost use Rattle.language.specs.Limits.{desk};
+ghost use Rattle.language.specs.Trees.{Literal, Conj};
+ghost use Rattle.language.specs.Writing.{conjWords};
+ghost use Rattle.language.specs.Fine.{fineConj};
+ghost use Rattle.language.specs.Question.{readQuestion};
+ghost use Rattle.rules.specs.Rules.{Branch};
+ghost use Rattle.rules.specs.Step.{step};
+ghost use Rattle.rules.specs.Run.{run as runs};
+ghost use Rattle.rules.specs.Answer.{solvingOf, solving};
+ghost use Rattle.plans.specs.Sizes.{placedWords};
+ghost use Rattle.views.specs.Standing.{LiteralAt};
+ghost use Rattle.search.specs.Ranking.{sideAnswer, Found};
+ghost use Rattle.reader.specs.Checking.{checked};
+ghost use Rattle.reader.specs.declared.Checked.the-variants.{Fine};
+ghost use Rattle.solver.specs.Running.{Running, leftOf, Turns, Begun, Ends, conjunctionsOf};
+ghost use Rattle.solver.specs.Leaves.{leaves, refusedBy, verdictFor};
+use answers::Tally;
+use answers::add_line;
+use answers::begin;
+use language::Refusal;
+use marks::is_solved;
+use reader::Checked;
+use reader::read_question;
+use stack::clear;
+use stack::copy;
+use stack::lay_out;
+use stack::wide;
+use steps::Best;
+use steps::Stepped;
+use steps::find;
+use steps::take_step;
+
+// Where the waiting conjunctions begin, the steps made, and the lines.
+pub struct State {
+    pub at: usize,
+    pub steps: usize,
+    pub tally: Tally,
+}
+
+// What a turn comes to: the run goes on, or stops with a refusal.
+pub enum Turned {
+    On(State),
+    Stop(Refusal),
+}
+
+// What a run comes to: the steps made and the lines, or a refusal.
+pub enum Ran {
+    Done(usize, Tally),
+    Stopped(Refusal),
+}
+
+// "Solving returns the refusal or (none, all solved, some open)."
+pub enum Outcome {
+    Refused(Refusal),
+    NoLine,
+    AllSolved,
+    SomeOpen,
+}
+
+// What comes back from solving.
+pub struct Solved {
+    pub outcome: Outcome,
+    pub lines: usize,
+    pub open: usize,
+    pub steps: usize,
+}
+
+// No rule applies to k: it becomes the next line, and `next` is where those that wait then begin.
+fn line(k: &[u16], next: usize, answer: &mut [u16], s: State) -> Turned
+    requires { ⌜ (length (now k) ≤ 1024) × (s .tally .«open» ≤ s .tally .lines) × (s .tally .end ≤ 8192) × (8192 ≤ length (now answer)) ⌝ }
+    ensures { λ r. ⌜ ((oldWork oldAnswer : List ℕ) (ls : List Conj) (c : Conj) (w : List Conj) (work : List ℕ) → Running oldWork oldAnswer ls (c ∷ w) s work (now (answer .entry)) → now (k .entry) ≡ conjWords c → next ≡ s .at + 1 + length (now (k .entry)) → step c ≡ none → Turns oldWork oldAnswer ls (c ∷ w) s r work (now (answer .exit))) ⌝ }
+{
+    let t = s.tally;
+    if 512 <= t.lines {
+        return Turned::Stop(Refusal::LineRoom);
+    }
+    if 8192 < t.end + 1 + k.len() {
+        return Turned::Stop(Refusal::LineRoom);
+    }
+    let solved = is_solved(k);
+    let u = add_line(k, solved, t, answer);
+    Turned::On(State {
+        at: next,
+        steps: s.steps,
+        tally: u,
+    })
+}
+
+// A rule applies to k: the step is made in its place, unless a number stands against it.
+fn advance(k: &[u16], b: Best, work: &mut [u16], next: usize, s: State) -> Turned
+    requires { ⌜ (length (now k) ≤ 1024) × (b .at < length (now k)) × (next ≤ length (now work)) × (next ≤ 8192) ⌝ }
+    ensures { λ r. ⌜ ((oldWork oldAnswer : List ℕ) (ls : List Conj) (c : Conj) (w : List Conj) (answer : List ℕ) → Running oldWork oldAnswer ls (c ∷ w) s (now (work .entry)) answer → now (k .entry) ≡ conjWords c → next ≡ s .at + 1 + length (now (k .entry)) → b .rank < 28 → Found c (b .rank) (b .at) (b .swap) → Turns oldWork oldAnswer ls (c ∷ w) s r (now (work .exit)) answer) ⌝ }
+{
+    if 10000 <= s.steps {
+        return Turned::Stop(Refusal::StepLimit);
+    }
+    let tally = s.tally;
+    match take_step(k, b, work, next) {
+        Stepped::Long => Turned::Stop(Refusal::LongResult),
+        Stepped::Room => Turned::Stop(Refusal::LongWaiting),
+        Stepped::Done(at) => Turned::On(State {
+            at,
+            steps: s.steps + 1,
+            tally,
+        }),
+    }
+}
+
+// One turn, the first waiting conjunction being k.
+fn turn_with(k: &[u16], next: usize, work: &mut [u16], answer: &mut [u16], s: State) -> Turned
+    requires { ⌜ (length (now k) ≤ 1024) × (next ≤ 8192) × (8192 ≤ length (now work)) × (s .tally .«open» ≤ s .tally .lines) × (s .tally .end ≤ 8192) × (8192 ≤ length (now answer)) ⌝ }
+    ensures { λ r. ⌜ ((oldWork oldAnswer : List ℕ) (ls : List Conj) (c : Conj) (w : List Conj) → Running oldWork oldAnswer ls (c ∷ w) s (now (work .entry)) (now (answer .entry)) → now (k .entry) ≡ conjWords c → next ≡ s .at + 1 + length (now (k .entry)) → Turns oldWork oldAnswer ls (c ∷ w) s r (now (work .exit)) (now (answer .exit))) ⌝ }
+{
+    let b = find(k);
+    if 28 <= b.rank {
+        return line(k, next, answer, s);
+    }
+    advance(k, b, work, next, s)
+}
+
+// One turn: the first waiting conjunction is taken out, so that results can be written over its place.
+fn turn(work: &mut [u16], answer: &mut [u16], s: State) -> Turned
+    requires { ⌜ (s .at + 1 + getD (now work) (s .at) 0 ≤ 8192) × (getD (now work) (s .at) 0 ≤ 1024) × (8192 ≤ length (now work)) × (s .tally .«open» ≤ s .tally .lines) × (s .tally .end ≤ 8192) × (8192 ≤ length (now answer)) ⌝ }
+    ensures { λ r. ⌜ ((oldWork oldAnswer : List ℕ) (ls : List Conj) (c : Conj) (w : List Conj) → Running oldWork oldAnswer ls (c ∷ w) s (now (work .entry)) (now (answer .entry)) → Turns oldWork oldAnswer ls (c ∷ w) s r (now (work .exit)) (now (answer .exit))) ⌝ }
+{
+    let at = s.at;
+    let n = wide(work[at]);
+    let next = at + 1 + n;
+    let mut k = [0; 1024];
+    copy(work, at + 1, next, &mut k, 0);
+    turn_with(&k[0..n], next, work, answer, s)
+}
+
+// Turn after turn, until nothing waits.
+fn go_on(work: &mut [u16], answer: &mut [u16], begin: State) -> Ran
+    requires { ⌜ Begun begin (now work) (now answer) ⌝ }
+    ensures { λ r. ⌜ ((oldWork oldAnswer : List ℕ) (ls w : List Conj) → Running oldWork oldAnswer ls w begin (now (work .entry)) (now (answer .entry)) → Ends (leftOf begin ls w) oldWork oldAnswer r (now (work .exit)) (now (answer .exit))) ⌝ }
+{
+    let mut s = begin;
+    while s.at < 8192 {
+        match turn(work, answer, s) {
+            Turned::On(t) => s = t,
+            Turned::Stop(e) => return Ran::Stopped(e),
+        }
+    }
+    let tally = s.tally;
+    Ran::Done(s.steps, tally)
+}
+
+// The run of a question that was read.
+fn run(question: &[u16], work: &mut [u16], answer: &mut [u16]) -> Ran
+    requires { ⌜ (Fine ≡ checked (readQuestion desk (now question))) × (8192 ≤ length (now work)) × (8192 ≤ length (now answer)) ⌝ }
+    ensures { λ r. ⌜ Ends (runs desk (conjunctionsOf (readQuestion desk (now (question .entry))))) (now (work .entry)) (now (answer .entry)) r (now (work .exit)) (now (answer .exit)) ⌝ }
+{
+    let at = lay_out(question, work);
+    let tally = begin(answer);
+    let s = State {
+        at,
+        steps: 0,
+        tally,
+    };
+    go_on(work, answer, s)
+}
+
+// A refusal reports 0 for all three.
+fn refused(r: Refusal) -> Solved
+    ensures { λ s. ⌜ s ≡ refusedBy r ⌝ }
+{
+    Solved {
+        outcome: Outcome::Refused(r),
+        lines: 0,
+        open: 0,
+        steps: 0,
+    }
+}
+
+// None, all solved, some open.
+fn verdict_of(t: Tally) -> Outcome
+    ensures { λ o. ⌜ o ≡ verdictFor (t .lines) (t .«open») ⌝ }
+{
+    if t.lines == 0 {
+        return Outcome::NoLine;
+    }
+    if 0 < t.open {
+        return Outcome::SomeOpen;
+    }
+    Outcome::AllSolved
+}
+
+// A question that was read is solved.
+fn solve_read(question: &[u16], work: &mut [u16], answer: &mut [u16]) -> Solved
+    requires { ⌜ (Fine ≡ checked (readQuestion desk (now question))) × (8192 ≤ length (now work)) × (8192 ≤ length (now answer)) ⌝ }
+    ensures { λ r. ⌜ (r, now (work .exit), now (answer .exit)) ≡ leaves (solvingOf desk (readQuestion desk (now (question .entry)))) (now (work .entry)) (now (answer .entry)) ⌝ }
+{
+    let ran = run(question, work, answer);
+    clear(work);
+    match ran {
+        Ran::Done(steps, t) => {
+            let outcome = verdict_of(t);
+            Solved {
+                outcome,
+                lines: t.lines,
+                open: t.open,
+                steps,
+            }
+        }
+        Ran::Stopped(e) => {
+            clear(answer);
+            refused(e)
+        }
+    }
+}
+
+// Solves a question: what comes back, and what the two lent slices then hold, is what `solving` says of them.
+pub fn solve(question: &[u16], work: &mut [u16], answer: &mut [u16]) -> Solved
+    ensures { λ r. ⌜ (r, now (work .exit), now (answer .exit)) ≡ leaves (solving desk (length (now (work .entry))) (length (now (answer .entry))) (now (question .entry))) (now (work .entry)) (now (answer .entry)) ⌝ }
+{
+    if work.len() < 8192 {
+        return refused(Refusal::ShortSlice);
+    }
+    if answer.len() < 8192 {
+        return refused(Refusal::ShortSlice);
+    }
+    match read_question(question) {
+        Checked::Fine => solve_read(question, work, answer),
+        Checked::Refused(r) => refused(r),
+    }
+}

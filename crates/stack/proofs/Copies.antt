@@ -1,0 +1,33 @@
+-- A copy word by word: what is still to come, stored from here on, leaves what the whole would. Zeros word by word.
+use Prim.Native.Nat.{ℕ, zero, suc, _+_, _-_, _<_, _≤_}
+use native.Mathlib.Omega.{arith}
+use native.Mathlib.Numerals.{add-one}
+use mathlib.Core.Path.{_≡_, refl, sym, ap, _∙_}
+use mathlib.Core.List.{List, [], _∷_, _++_}
+use lib.ListN.{length, take, drop, getD, set, replicate}
+use lib.Seq.{sets, slice, slice-cons, slice-empty}
+use Rattle.language.specs.Limits.{desk}
+use Rattle.meaning.specs.Values.{times}
+use Rattle.rules.specs.Answer.{zeros}
+use Rattle.stack.proofs.Blocks.{slice-take}
+
+pub slice-none : (f t : ℕ) (l : List ℕ) → t ≤ f → slice f t l ≡ []
+slice-none f t l h = slice-take f t l ∙ ap (λ n. take n (drop f l)) (let z : t - f ≡ 0 = omega arith in z)
+
+module _ (s d x : List ℕ) (i to e : ℕ) (p : sets d e (slice i to s) ≡ x) where
+  pub copied-more : i < to → to ≤ length s → sets (set d e (getD s i 0)) (e + 1) (slice (i + 1) to s) ≡ x
+  copied-more h g =
+      ap (λ n. sets (set d e (getD s i 0)) n (slice (i + 1) to s)) (add-one e)
+      ∙ ap (λ n. sets (set d e (getD s i 0)) (suc e) (slice n to s)) (add-one i)
+      ∙ ap (sets d e) (sym (slice-cons i to s 0 h g)) ∙ p
+
+  pub copied-all : to ≤ i → d ≡ x
+  copied-all h = ap (sets d e) (sym (slice-none i to s h)) ∙ p
+
+times-replicate : (n : ℕ) → replicate {A = ℕ} n 0 ≡ times n 0
+times-replicate zero = refl
+times-replicate (suc n) = ap (λ l. 0 ∷ l) (times-replicate n)
+
+pub zeros-are : (n : ℕ) (d s : List ℕ) → d ≡ replicate n 0 ++ drop n s → n ≡ 8192 → d ≡ zeros desk ++ drop 8192 s
+unfolding zeros
+zeros-are n d s e h = e ∙ ap (λ l. l ++ drop n s) (times-replicate n) ∙ ap (λ m. times m 0 ++ drop m s) h

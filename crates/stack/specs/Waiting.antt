@@ -1,0 +1,13 @@
+-- Blocks of words that wait in a lent slice: the first at the low end, each with its length before it, the last ending at word 8,191.
+use Prim.Native.Nat.{ℕ, _+_}
+use mathlib.Core.Path.{_≡_}
+use mathlib.Core.List.{List, _++_}
+use lib.ListN.{length, drop}
+use Rattle.language.specs.Limits.{desk}
+use Rattle.plans.specs.Sizes.{framed}
+
+-- the blocks wait from `at` on in `new`, whose words past the room are those of `old`
+pub record Waiting (old : List ℕ) (at : ℕ) (blocks : List (List ℕ)) (new : List ℕ) : Type 0 where
+  pub place : at + length (framed blocks) ≡ desk .room
+  pub words : drop at new ≡ framed blocks ++ drop (desk .room) old
+  pub size : length new ≡ length old

@@ -1,0 +1,86 @@
+// Conjunctions that wait in a lent slice: the first at the low end, each with its length before it, the last ending at word 8,191.
+ghost use Prim.Native.Nat.{ℕ, _+_, _-_, _≤_, _<_};
+ghost use mathlib.Core.Path.{_≡_};
+ghost use mathlib.Core.Bool.{true};
+ghost use mathlib.Core.List.{List, _∷_, _++_};
+ghost use lib.ListN.{length, drop, getD, set};
+ghost use lib.Seq.{slice, sets};
+ghost use Rattle.language.specs.Limits.{desk};
+ghost use Rattle.language.specs.Question.{laidOut, parts};
+ghost use Rattle.rules.specs.Answer.{zeros};
+ghost use Rattle.stack.specs.Waiting.{Waiting};
+
+pub fn wide(x: u16) -> usize
+    ensures { λ r. ⌜ r ≡ x ⌝ }
+{
+    x as usize
+}
+
+pub fn narrow(n: usize) -> u16
+    requires { ⌜ n < 65536 ⌝ }
+    ensures { λ r. ⌜ r ≡ n ⌝ }
+{
+    n as u16
+}
+
+// One word stored.
+pub fn store(s: &mut [u16], i: usize, x: u16)
+    requires { ⌜ i < length (now s) ⌝ }
+    ensures { λ _. ⌜ now (s .exit) ≡ set (now (s .entry)) i x ⌝ }
+{
+    s[i] = x;
+}
+
+// The part from..to of src, stored in dst from `at` on.
+pub fn copy(src: &[u16], from: usize, to: usize, dst: &mut [u16], at: usize)
+    requires { ⌜ (from ≤ to) × (to ≤ length (now src)) × (at + (to - from) ≤ length (now dst)) ⌝ }
+    ensures { λ _. ⌜ now (dst .exit) ≡ sets (now (dst .entry)) at (slice from to (now (src .entry))) ⌝ }
+{
+    let mut i = from;
+    let mut e = at;
+    while i < to {
+        dst[e] = src[i];
+        i += 1;
+        e += 1;
+    }
+}
+
+// Zeros in the first 8,192 words.
+pub fn clear(s: &mut [u16])
+    requires { ⌜ 8192 ≤ length (now s) ⌝ }
+    ensures { λ _. ⌜ now (s .exit) ≡ zeros desk ++ drop 8192 (now (s .entry)) ⌝ }
+{
+    let mut i = 0;
+    while i < 8192 {
+        s[i] = 0;
+        i += 1;
+    }
+}
+
+// The part from..to as a block before those that wait from `at` on. The answer is where they now begin.
+pub fn push(src: &[u16], from: usize, to: usize, work: &mut [u16], at: usize) -> usize
+    requires { ⌜ (from ≤ to) × (to ≤ length (now src)) × (to ≤ 1024) × (to - from < at) × (at ≤ length (now work)) ⌝ }
+    ensures { λ r. ⌜ (r + (to - from + 1) ≡ at) × (now (work .exit) ≡ sets (now (work .entry)) r ((to - from) ∷ slice from to (now (src .entry)))) ⌝ }
+{
+    let n = to - from;
+    let start = at - n;
+    store(work, start - 1, narrow(n));
+    copy(src, from, to, work, start);
+    start - 1
+}
+
+// The conjunctions of a question, waiting in order. The answer is where they begin.
+pub fn lay_out(question: &[u16], work: &mut [u16]) -> usize
+    requires { ⌜ (length (now question) ≤ 1024) × (laidOut 5 (getD (now question) 4 0) (now question) ≡ true) × (8192 ≤ length (now work)) ⌝ }
+    ensures { λ r. ⌜ Waiting (now (work .entry)) r (parts 5 (getD (now (question .entry)) 4 0) (now (question .entry))) (now (work .exit)) ⌝ }
+{
+    let mut i = wide(question[4]);
+    let mut at: usize = 8192;
+    while 0 < i {
+        i -= 1;
+        let from = wide(question[i + 5]);
+        let to = wide(question[i + 6]);
+        at = push(question, from, to, work, at);
+    }
+    at
+}

@@ -1,0 +1,76 @@
+-- What a step leaves, from the size of its results and what is written; and M2, whose results are by monomials.
+use Prim.Native.Nat.{ℕ, suc, _+_, _-_, _<_, _≤_}
+use native.Mathlib.Omega.{arith}
+use mathlib.Core.Path.{_≡_, refl, sym, ap, _∙_, subst}
+use mathlib.Core.Bool.{Bool, true, false}
+use mathlib.Core.List.{List, [], _∷_, _++_, map}
+use mathlib.Core.Option.{Option, none, some}
+use lib.ListN.{length}
+use Rattle.language.specs.Kinds.{pick}
+use Rattle.language.specs.Trees.{Hedge, ε, tvar, hvar, node, Expr, Literal, eqn, mem, Conj}
+use Rattle.rules.specs.Looks.{firstTerm}
+use Rattle.rules.specs.Expressions.{linear}
+use Rattle.rules.specs.Rules.{Branch, Answer, monomialResult, M2}
+use Rattle.plans.specs.Looks.{head, tail}
+use Rattle.plans.specs.Ranks.{eqnAnswer, memAnswer}
+use Rattle.plans.specs.Sizes.{framed, sized, placedWords, monomialWords}
+use Rattle.plans.specs.declared.Size.{Size}
+use Rattle.plans.specs.declared.Size.the-variants.{Fits, Over}
+use Rattle.exact.proofs.Answers.{Where, Answers, look, test, answers}
+use Rattle.exact.proofs.Steps.{where-some}
+use Rattle.pieces.specs.Written.{Wrote, Ready}
+use Rattle.pieces.proofs.Sizing.{fits-ready}
+use Rattle.views.specs.Standing.{LiteralAt}
+use Rattle.search.specs.Ranking.{sideAnswer}
+use Rattle.steps.specs.Taking.{Took, long, room, done}
+use Rattle.steps.specs.declared.Stepped.{Stepped}
+use Rattle.steps.specs.declared.Stepped.the-variants.{Long, Room, Done}
+
+module _ (ws : List (List ℕ)) (old : List ℕ) (next : ℕ) (s : Size) (es : s ≡ sized ws) where
+  pub took-long : s ≡ Over → Took ws old next Long old
+  took-long e = long refl (sym es ∙ e) refl
+
+  module _ (n : ℕ) (e : s ≡ Fits n) where
+    pub took-room : next < n → Took ws old next Room old
+    took-room h = room n refl (sym es ∙ e) h refl
+
+    module _ (h : n ≤ next) where
+      pub took-ready : next ≤ 8192 → next ≤ length old → Ready ws old (next - n)
+      took-ready small fits = fits-ready ws n (sym es ∙ e) (omega arith) old (next - n) (omega arith)
+
+      pub took-done : (new : List ℕ) (end : ℕ) → Wrote old (next - n) (framed ws) new end → Took ws old next (Done (next - n)) new
+      took-done new end w = done n (next - n) refl (sym es ∙ e) (omega arith) (w .list)
+
+-- ---- M2
+
+first-parts : (h : Hedge) → Where (λ a. a ≡ (head h, tail h)) (firstTerm h)
+first-parts ε = tt
+first-parts (tvar x r) = refl
+first-parts (hvar p r) = tt
+first-parts (node f c r) = refl
+
+monomials : (K : Conj) (h : Hedge) (R : Expr) → Answers (λ bs. bs ≡ map (monomialResult (head h) (tail h)) (linear R)) (M2 K h R)
+monomials K h R =
+    look (firstTerm h) (first-parts h) λ a e. test _ λ _ _. test _ λ _ _. answers (ap (λ a. map (monomialResult (a .0) (a .1)) (linear R)) e)
+
+no-equation : (swap : Bool) (K : Conj) (l r : Hedge) → sideAnswer swap 20 K (eqn l r) ≡ none
+unfolding eqnAnswer
+no-equation true K l r = refl
+no-equation false K l r = refl
+
+-- where the rule is M2, the literal is a membership
+pub took-monomials : (k old new : List ℕ) (next at n : ℕ) (swap : Bool) (r : Stepped) → n ≡ 20
+    → ((before : Conj) (h : Hedge) (R : Expr) (behind : Conj) → LiteralAt k at before (mem h R) behind → Took (monomialWords before h R behind) old next r new)
+    → (before : Conj) (l : Literal) (behind : Conj) (bs : List Branch) → LiteralAt k at before l behind → sideAnswer swap n (before ++ behind) l ≡ some bs
+    → Took (placedWords before behind bs) old next r new
+unfolding memAnswer monomialWords
+took-monomials k old new next at n swap r e f before (eqn l s) behind bs p a =
+    absurd (let d = sym (no-equation swap (before ++ behind) l s) ∙ ap (λ n. sideAnswer swap n (before ++ behind) (eqn l s)) (sym e) ∙ a in let z : _≡_ {A = ℕ} 0 1 = cc in omega arith)
+took-monomials k old new next at n swap r e f before (mem h R) behind bs p a =
+    let d = where-some (λ bs. bs ≡ map (monomialResult (head h) (tail h)) (linear R)) (M2 (before ++ behind) h R) bs (monomials (before ++ behind) h R .given) (ap (λ n. memAnswer n (before ++ behind) h R) (sym e) ∙ a) in
+    subst (λ bs. Took (placedWords before behind bs) old next r new) (sym d) (f before h R behind p)
+
+-- ---- every other rule
+
+pub took-as : {ws vs : List (List ℕ)} {old : List ℕ} {next : ℕ} {r : Stepped} {new : List ℕ} → ws ≡ vs → Took ws old next r new → Took vs old next r new
+took-as {old = old} {next} {r} {new} e t = subst (λ ws. Took ws old next r new) e t

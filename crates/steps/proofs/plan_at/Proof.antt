@@ -1,0 +1,49 @@
+-- The plan of the side that the rank was found from, or of the membership.
+use mathlib.Core.Path.{_≡_, sym, ap, subst}
+use mathlib.Core.List.{_++_}
+use mathlib.Core.Bool.{true, false}
+use borrow.Author.Needs.{needs}
+use Rattle.search.specs.Ranking.{sideAnswer}
+use Rattle.search.proofs.Walks.{at-equation, at-membership}
+use Rattle.equations.specs.Planned.{Planned}
+use Rattle.steps.proofs.plan_at.Statement.{statement}
+use Rattle.steps.proofs.plan_at.Tie as tie
+
+returns : tie.Need-returns
+returns c =
+    let b = c .before .before .before .before .before .before .before .args .b in
+    let k = c .before .before .before .before .before .before .before .args .k .now in
+    at-equation k (b .at) (λ before l behind. (b .rank ≡ 20 → ⊥) → Planned k (c .plan-equation .result) before behind (sideAnswer (b .swap) (b .rank) (before ++ behind) l)) (c .before .before .before .before .if1 .taken)
+    λ before l r behind p n.
+    let s = c .before .before .before .see .ensures before l r behind p in
+    rw (c .before .before .if2 .taken) (c .plan-equation .ensures before behind r l (c .before .swapped .ensures k before behind l r s))
+
+returns-2 : tie.Need-returns-2
+returns-2 c =
+    let b = c .before .before .before .before .before .before .args .b in
+    let k = c .before .before .before .before .before .before .args .k .now in
+    at-equation k (b .at) (λ before l behind. (b .rank ≡ 20 → ⊥) → Planned k (c .plan-equation2 .result) before behind (sideAnswer (b .swap) (b .rank) (before ++ behind) l)) (c .before .before .before .if1 .taken)
+    λ before l r behind p n. rw (c .before .if2 .left) (c .plan-equation2 .ensures before behind l r (c .before .before .see .ensures before l r behind p))
+
+returns-3 : tie.Need-returns-3
+returns-3 c =
+    let b = c .before .before .before .before .before .args .b in
+    let k = c .before .before .before .before .before .args .k .now in
+    at-membership k (b .at) (λ before l behind. (b .rank ≡ 20 → ⊥) → Planned k (c .plan-membership .result) before behind (sideAnswer (b .swap) (b .rank) (before ++ behind) l)) (c .before .before .if1 .left)
+    λ before h R behind p n. c .plan-membership .ensures .results n before h R behind (c .before .show-membership .ensures before h R behind p)
+
+pub plan-at-spec : {M : Type 1} → statement M
+plan-at-spec =
+    tie.close
+    (tie.spec
+    (λ c. search needs)
+    (λ c. search needs)
+    (λ c κs. search needs)
+    (λ c κs. search needs)
+    (λ c κs. search needs)
+    returns
+    (λ c κs. search needs)
+    returns-2
+    (λ c κs. search needs)
+    (λ c κs. search needs)
+    returns-3)

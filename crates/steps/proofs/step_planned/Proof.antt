@@ -1,0 +1,33 @@
+-- By the size of the results.
+use mathlib.Core.Path.{_≡_, refl}
+use native.Mathlib.Omega.{arith}
+use borrow.Author.Needs.{needs}
+use Rattle.plans.specs.Results.{resultsOf}
+use Rattle.steps.proofs.Taken.{took-long, took-room, took-ready, took-done}
+use Rattle.steps.proofs.step_planned.Statement.{statement}
+use Rattle.steps.proofs.step_planned.Tie as tie
+
+returns : tie.Need-returns
+returns c = took-room _ _ _ _ (c .before .before .before .before .size-results .ensures) _ (c .before .before .n .given .1) (c .if1 .taken)
+
+write-results-requires : tie.Need-write-results-requires
+write-results-requires c κs = let p = c .before .before .before .before .before .before .before .before .pre in took-ready _ _ _ _ (c .before .before .before .before .before .size-results .ensures) _ (c .before .before .before .n .given .1) (c .before .if1 .left) (p .2) (p .1)
+
+returns-2 : tie.Need-returns-2
+returns-2 c = took-long _ _ _ _ (c .before .before .size-results .ensures) (c .enum-told .given .1)
+
+returns-3 : tie.Need-returns-3
+returns-3 c = took-done _ _ _ _ (c .before .before .before .before .before .before .before .before .size-results .ensures) _ (c .before .before .before .before .before .before .n .given .1) (c .before .before .before .before .if1 .left) _ _ (c .before .before .write-results .ensures)
+
+pub step-planned-spec : {M : Type 1} → statement M
+step-planned-spec =
+    tie.close
+    (tie.spec
+    (λ c κs. search needs)
+    (λ c. search needs)
+    (λ c. search needs)
+    returns
+    write-results-requires
+    returns-2
+    (λ c. search needs)
+    returns-3)

@@ -1,0 +1,25 @@
+-- M2 by its monomials, every other rule by its plan.
+use borrow.Author.Needs.{needs}
+use Rattle.steps.proofs.Taken.{took-monomials, took-as}
+use Rattle.steps.proofs.take_step.Statement.{statement}
+use Rattle.steps.proofs.take_step.Tie as tie
+
+returns : tie.Need-returns
+returns c =
+    let b = c .before .before .before .before .before .before .before .before .args .b in
+    took-monomials (c .before .before .before .before .before .before .before .before .args .k .now) _ _ (c .before .before .before .before .before .before .before .before .args .next) (b .at) (b .rank) (b .swap) _ (c .before .before .before .before .if1 .taken) (c .before .before .step-monomials .ensures)
+
+returns-2 : tie.Need-returns-2
+returns-2 c = λ before l behind bs p a. took-as (c .before .before .before .before .plan-at .ensures before l behind p (c .before .before .before .before .before .if1 .left) .results bs a) (c .before .before .step-planned .ensures)
+
+pub take-step-spec : {M : Type 1} → statement M
+take-step-spec =
+    tie.close
+    (tie.spec
+    (λ c κs. search needs)
+    (λ c. search needs)
+    returns
+    (λ c κs. search needs)
+    (λ c κs. search needs)
+    (λ c. search needs)
+    returns-2)

@@ -1,0 +1,171 @@
+// A step in words: the search for the first rule that applies to a conjunction, and its results in place.
+ghost use Prim.Native.Nat.{ℕ, _+_, _≤_, _<_};
+ghost use mathlib.Core.Path.{_≡_};
+ghost use mathlib.Core.List.{List, _++_};
+ghost use mathlib.Core.Option.{some};
+ghost use lib.Dec.{ltb};
+ghost use lib.ListN.{length};
+ghost use Rattle.language.specs.Limits.{desk};
+ghost use Rattle.language.specs.Kinds.{pick};
+ghost use Rattle.language.specs.Trees.{Hedge, Expr, Literal, mem, Conj};
+ghost use Rattle.language.specs.Writing.{conjWords};
+ghost use Rattle.language.specs.Fine.{fineConj};
+ghost use Rattle.plans.specs.Results.{resultsOf};
+ghost use Rattle.plans.specs.Sizes.{placedWords, monomialWords};
+ghost use Rattle.views.specs.Standing.{LiteralAt};
+ghost use Rattle.rules.specs.Rules.{Branch};
+ghost use Rattle.search.specs.Ranking.{sideAnswer, Ranked, Found};
+ghost use Rattle.steps.specs.Taking.{Took};
+ghost use Rattle.equations.specs.Planned.{Planned};
+use equations::plan::plan_equation;
+use equations::rank::rank_equation;
+use exprs::size_monomials;
+use exprs::write_monomials;
+use memberships::plan::plan_membership;
+use memberships::rank::rank_membership;
+use pieces::size_results;
+use pieces::write_results;
+use plans::Plan;
+use plans::Size;
+use views::next_literal;
+use views::see;
+use views::show_membership;
+use views::swapped;
+
+// The literal of the least rank so far: its rank, its place, and whether its equation is seen from the other side.
+pub struct Best {
+    pub rank: usize,
+    pub at: usize,
+    pub swap: bool,
+}
+
+// The rank of the literal at a place: of an equation the lesser of its two sides, the written one where they are equal.
+fn rank_at(k: &[u16], at: usize) -> Best
+    requires { ⌜ at < length (now k) ⌝ }
+    ensures { λ b. ⌜ (b .at ≡ at) × ((before : Conj) (l : Literal) (behind : Conj) → LiteralAt (now (k .entry)) at before l behind → Ranked (before ++ behind) l (b .rank) (b .swap)) ⌝ }
+{
+    if k[at] == 5000 {
+        let v = see(k, at);
+        let written = rank_equation(k, v);
+        let other = rank_equation(k, swapped(v));
+        if other < written {
+            return Best {
+                rank: other,
+                at,
+                swap: true,
+            };
+        }
+        return Best {
+            rank: written,
+            at,
+            swap: false,
+        };
+    }
+    let s = show_membership(k, at);
+    let rank = rank_membership(k, s);
+    Best {
+        rank,
+        at,
+        swap: false,
+    }
+}
+
+// The one of the lesser rank, the first where they are equal.
+fn lesser(a: Best, b: Best) -> Best
+    ensures { λ r. ⌜ r ≡ pick (ltb (b .rank) (a .rank)) b a ⌝ }
+{
+    if b.rank < a.rank { b } else { a }
+}
+
+// The earliest literal of the least rank.
+pub fn find(k: &[u16]) -> Best
+    ensures { λ b. ⌜ (b .rank < 28 → b .at < length (now (k .entry))) × ((c : Conj) → fineConj desk c → now (k .entry) ≡ conjWords c → Found c (b .rank) (b .at) (b .swap)) ⌝ }
+{
+    let mut best = Best {
+        rank: 28,
+        at: 0,
+        swap: false,
+    };
+    let mut i = 0;
+    while i < k.len() {
+        let next = next_literal(k, i);
+        let here = rank_at(k, i);
+        best = lesser(best, here);
+        i = next;
+    }
+    best
+}
+
+// What a step comes to: a result is too long; the results have no room before those that wait; or they are written, from a place on.
+pub enum Stepped {
+    Long,
+    Room,
+    Done(usize),
+}
+
+// The plan of the rule of that rank at that literal.
+fn plan_at(k: &[u16], b: Best) -> Plan
+    requires { ⌜ b .at < length (now k) ⌝ }
+    ensures { λ p. ⌜ ((before : Conj) (l : Literal) (behind : Conj) → LiteralAt (now (k .entry)) (b .at) before l behind → (b .rank ≡ 20 → ⊥) → Planned (now (k .entry)) p before behind (sideAnswer (b .swap) (b .rank) (before ++ behind) l)) ⌝ }
+{
+    let at = b.at;
+    let rank = b.rank;
+    if k[at] == 5000 {
+        let v = see(k, at);
+        let swap = b.swap;
+        if swap {
+            return plan_equation(rank, k, swapped(v));
+        }
+        return plan_equation(rank, k, v);
+    }
+    let s = show_membership(k, at);
+    plan_membership(rank, k, s)
+}
+
+// The results of a plan, right before `next`.
+fn step_planned(k: &[u16], plan: Plan, out: &mut [u16], next: usize) -> Stepped
+    requires { ⌜ (length (now k) ≤ 1024) × (next ≤ length (now out)) × (next ≤ 8192) ⌝ }
+    ensures { λ r. ⌜ Took (resultsOf (now (k .entry)) plan) (now (out .entry)) next r (now (out .exit)) ⌝ }
+{
+    match size_results(k, plan) {
+        Size::Over => Stepped::Long,
+        Size::Fits(n) => {
+            if next < n {
+                return Stepped::Room;
+            }
+            let at = next - n;
+            write_results(k, plan, out, at);
+            Stepped::Done(at)
+        }
+    }
+}
+
+// The results of M2 at the membership at a place, right before `next`.
+fn step_monomials(k: &[u16], literal: usize, out: &mut [u16], next: usize) -> Stepped
+    requires { ⌜ (length (now k) ≤ 1024) × (literal < length (now k)) × (next ≤ length (now out)) × (next ≤ 8192) ⌝ }
+    ensures { λ r. ⌜ ((before : Conj) (h : Hedge) (R : Expr) (behind : Conj) → LiteralAt (now (k .entry)) literal before (mem h R) behind → Took (monomialWords before h R behind) (now (out .entry)) next r (now (out .exit))) ⌝ }
+{
+    let s = show_membership(k, literal);
+    match size_monomials(k, s) {
+        Size::Over => Stepped::Long,
+        Size::Fits(n) => {
+            if next < n {
+                return Stepped::Room;
+            }
+            let at = next - n;
+            write_monomials(k, s, out, at);
+            Stepped::Done(at)
+        }
+    }
+}
+
+// A step of the conjunction k: the results of the rule of that rank at that literal, right before `next`.
+pub fn take_step(k: &[u16], b: Best, out: &mut [u16], next: usize) -> Stepped
+    requires { ⌜ (length (now k) ≤ 1024) × (b .at < length (now k)) × (next ≤ length (now out)) × (next ≤ 8192) ⌝ }
+    ensures { λ r. ⌜ ((before : Conj) (l : Literal) (behind : Conj) (bs : List Branch) → LiteralAt (now (k .entry)) (b .at) before l behind → sideAnswer (b .swap) (b .rank) (before ++ behind) l ≡ some bs → Took (placedWords before behind bs) (now (out .entry)) next r (now (out .exit))) ⌝ }
+{
+    if b.rank == 20 {
+        return step_monomials(k, b.at, out, next);
+    }
+    step_planned(k, plan_at(k, b), out, next)
+}

@@ -1,0 +1,14 @@
+pub mod Parts
+pub mod Words
+pub mod Spans
+pub mod Sides
+pub mod Members
+pub mod Replaced
+pub mod Looks
+pub mod Literals
+pub mod Seen
+pub mod Same
+pub mod Walks
+pub mod Finds
+pub mod Cuts
+pub mod Joins

@@ -1,0 +1,88 @@
+-- The view of an equation and the shape of a membership, from the sides found at its places.
+use mathlib.Core.Path.{_≡_, refl, ap, _∙_}
+use mathlib.Core.List.{List, [], _∷_, _++_, append-assoc}
+use Prim.Native.Nat.{ℕ, _+_}
+use native.Mathlib.Omega.{arith}
+use lib.ListN.{length, getD, take, drop, length-append}
+use lib.Seq.{take-append-seam}
+use Rattle.language.specs.Trees.{Hedge, Expr, eps, cat, alt, star, over, Literal, eqn, mem, Conj}
+use Rattle.language.specs.Writing.{hedgeWords, exprWords, literalWords, conjWords}
+use Rattle.plans.specs.Views.{Sided, Sees, Shows}
+use Rattle.plans.specs.declared.Side.{Side}
+use Rattle.views.specs.Places.{untilLiteral}
+use Rattle.views.specs.Standing.{Stands, LiteralAt}
+use Rattle.views.proofs.Parts.{drop-of, word-of}
+use Rattle.views.proofs.Literals.{next-literal}
+
+module _ {k : List ℕ} {at : ℕ} {before : Conj} {l : Literal} {behind : Conj} (s : LiteralAt k at before l behind) where
+  pub literal-before : take at k ≡ conjWords before
+  literal-before = ap (λ n. take n k) (s .place) ∙ ap (take (length (conjWords before))) (s .words) ∙ take-append-seam (conjWords before) _
+
+  pub literal-here : drop at k ≡ literalWords l ++ conjWords behind
+  literal-here = drop-of k 0 at (conjWords before) (literalWords l ++ conjWords behind) (s .words) (let y = s .place in omega arith)
+
+  -- the words behind it, by its length and by the scan
+  pub literal-behind : drop (at + length (literalWords l)) k ≡ conjWords behind
+  literal-behind = drop-of k at (at + length (literalWords l)) (literalWords l) (conjWords behind) literal-here refl
+
+  pub literal-next : at + 1 + untilLiteral (drop (at + 1) k) ≡ at + length (literalWords l)
+  literal-next = next-literal k at l behind (s .fine) literal-here
+
+-- what `side_at` finds at a place
+abbrev pub SideAt : List ℕ → ℕ → Side → Type 0
+SideAt k i v = (v .from ≡ i) × ((h : Hedge) (beyond : List ℕ) → Stands k i h beyond → Sided k v h)
+
+module _ {k : List ℕ} {i : ℕ} {v : Side} {h : Hedge} {beyond : List ℕ} (a : SideAt k i v) (s : Stands k i h beyond) where
+  side-past : drop (v .to) k ≡ beyond
+  side-past = drop-of k i (v .to) (hedgeWords h) beyond (s .here) (let d = a .1 h beyond s .to in let e = a .0 in omega arith)
+
+module _ {k : List ℕ} {at : ℕ} {before : Conj} {l r : Hedge} {behind : Conj} (s : LiteralAt k at before (eqn l r) behind) where
+  left-stands : Stands k (at + 1) l (hedgeWords r ++ conjWords behind)
+  left-stands = record {
+    fine = s .fine .0;
+    here = drop-of k at (at + 1) (5000 ∷ []) ((hedgeWords l ++ hedgeWords r) ++ conjWords behind) (literal-here s) refl ∙ append-assoc (hedgeWords l) (hedgeWords r) (conjWords behind);
+  }
+
+  pub sees-of : {a b : Side} → SideAt k (at + 1) a → SideAt k (a .to) b → Sees k (record { at = at; l = a; r = b; end = b .to; len = length k }) before l r behind
+  sees-of {a} {b} x y =
+      let t : Stands k (a .to) r (conjWords behind) = record { fine = s .fine .1; here = side-past x left-stands } in
+      record {
+        start = literal-before s;
+        left = x .1 l (hedgeWords r ++ conjWords behind) left-stands;
+        right = y .1 r (conjWords behind) t;
+        finish = side-past y t;
+        len = refl;
+        fineBefore = s .fineBefore;
+        fineBehind = s .fineBehind;
+      }
+
+first-of : (R : Expr) (ws : List ℕ) → getD (exprWords R ++ ws) 0 0 ≡ getD (exprWords R) 0 0
+first-of eps ws = refl
+first-of (cat a b) ws = refl
+first-of (alt a b) ws = refl
+first-of (star a) ws = refl
+first-of (over f a) ws = refl
+
+module _ {k : List ℕ} {at : ℕ} {before : Conj} {h : Hedge} {R : Expr} {behind : Conj} (s : LiteralAt k at before (mem h R) behind) where
+  hedge-stands : Stands k (at + 1) h (exprWords R ++ conjWords behind)
+  hedge-stands = record {
+    fine = s .fine .0;
+    here = drop-of k at (at + 1) (6000 ∷ []) ((hedgeWords h ++ exprWords R) ++ conjWords behind) (literal-here s) refl ∙ append-assoc (hedgeWords h) (exprWords R) (conjWords behind);
+  }
+
+  pub shows-of : {a : Side} {x end : ℕ} → SideAt k (at + 1) a → x ≡ getD k (a .to) 0 → end ≡ at + 1 + untilLiteral (drop (at + 1) k)
+      → Shows k (record { at = at; h = a; expr = a .to; first = x; end = end; len = length k }) before h R behind
+  shows-of {a} {x} {end} y e d =
+      let w = y .1 h (exprWords R ++ conjWords behind) hedge-stands in
+      let here : drop (a .to) k ≡ exprWords R ++ conjWords behind = side-past y hedge-stands in
+      record {
+        start = literal-before s;
+        hedge = w;
+        fine = s .fine .1;
+        here = here;
+        first = e ∙ word-of k (a .to) _ here ∙ first-of R (conjWords behind);
+        end = let n = literal-next s in let m = length-append (hedgeWords h) (exprWords R) in let t = w .to in let f = y .0 in omega arith;
+        len = refl;
+        fineBefore = s .fineBefore;
+        fineBehind = s .fineBehind;
+      }

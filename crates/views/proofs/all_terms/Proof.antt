@@ -1,0 +1,78 @@
+-- `all_terms`: what is left is terms alone exactly if the whole is, and the elements passed are counted.
+use native.Mathlib.Omega.{arith}
+use borrow.Author.Needs.{needs}
+use mathlib.Core.Path.{_≡_, refl, sym, _∙_}
+use mathlib.Core.List.{List}
+use Prim.Native.Nat.{ℕ, _+_, _-_, _≤_}
+use lib.ListN.{length, getD}
+use Rattle.language.specs.Trees.{Hedge}
+use Rattle.rules.specs.Looks.{allTerms}
+use Rattle.views.specs.Standing.{Stands}
+use Rattle.views.specs.Walks.{size}
+use Rattle.views.proofs.Walks.{Passed, pass-start, pass-on, goes-on, term-some, word-term, word-empty, allTerms-on, allTerms-end}
+use Rattle.views.proofs.all_terms.Statement.{statement}
+use Rattle.views.proofs.all_terms.Tie as tie
+
+abbrev Inv-loop : tie.InvT-loop
+Inv-loop k at i₀ n₀ x₀ i n x =
+    ((h : Hedge) (beyond : List ℕ) → Stands k at h beyond → Passed k at i beyond (λ done left. (allTerms left ≡ allTerms h) × (n + size left ≡ size h)))
+    × (x ≡ getD k i 0) × (n ≤ i) × (n ≤ length k)
+
+abbrev μ-loop : tie.MeasureT-loop
+μ-loop k at i₀ n₀ x₀ i n x = length k - i
+
+word-requires : tie.Need-word-requires Inv-loop μ-loop
+word-requires c κs = search needs
+
+loop-holds : tie.Need-loop-holds Inv-loop μ-loop
+loop-holds c = ((λ h beyond s. pass-start s (refl, omega arith)), c .word .ensures, omega arith, omega arith)
+
+is-term-requires : tie.Need-is-term-requires Inv-loop μ-loop
+is-term-requires c κs = search needs
+
+element-end-requires : tie.Need-element-end-requires Inv-loop μ-loop
+element-end-requires c κs = search needs
+
+add-n : tie.Need-add-n Inv-loop μ-loop
+add-n c = let z = goes-on (c .before .before .before .before .before .before .args .k .now) (c .before .before .before .loop .i) (c .before .before .before .loop .inv .1) (c .element-end .ensures) (term-some _ (sym (c .before .before .is-term .ensures) ∙ c .before .if1 .taken)) in omega arith
+
+word-requires-2 : tie.Need-word-requires-2 Inv-loop μ-loop
+word-requires-2 c κs = search needs
+
+loop-less : tie.Need-loop-less Inv-loop μ-loop
+loop-less c = let z = goes-on (c .before .before .before .before .before .before .before .args .k .now) (c .before .before .before .before .loop .i) (c .before .before .before .before .loop .inv .1) (c .before .element-end .ensures) (term-some _ (sym (c .before .before .before .is-term .ensures) ∙ c .before .before .if1 .taken)) in omega arith
+
+loop-again : tie.Need-loop-again Inv-loop μ-loop
+loop-again c =
+    let z = goes-on (c .before .before .before .before .before .before .before .args .k .now) (c .before .before .before .before .loop .i) (c .before .before .before .before .loop .inv .1) (c .before .element-end .ensures) (term-some _ (sym (c .before .before .before .is-term .ensures) ∙ c .before .before .if1 .taken)) in (
+      (λ h beyond s. pass-on (c .before .element-end .ensures) (c .before .before .before .before .loop .inv .0 h beyond s) (λ done left t q. let a = allTerms-on left (sym (word-term t (c .before .before .before .before .loop .inv .1)) ∙ sym (c .before .before .before .is-term .ensures) ∙ c .before .before .if1 .taken) in (a .0 ∙ q .0, omega arith))),
+      c .word2 .ensures,
+      omega arith,
+      omega arith,
+    )
+
+returns : tie.Need-returns Inv-loop μ-loop
+returns c = (
+  (λ h beyond s.
+      let w = c .before .before .loop .inv .0 h beyond s in
+      let e = word-empty (w .here) (c .before .before .loop .inv .1) in
+      let a = allTerms-end (w .left) (sym (word-term (w .here) (c .before .before .loop .inv .1)) ∙ sym (c .before .is-term .ensures) ∙ c .if1 .left) in
+      record { all = e ∙ a .0 ∙ w .keeps .0; count = λ y. let z = a .1 (sym e ∙ y) in let q = w .keeps .1 in omega arith }),
+  omega arith,
+)
+
+pub all-terms-spec : {M : Type 1} → statement M
+all-terms-spec =
+    tie.close
+    (tie.spec
+    Inv-loop
+    μ-loop
+    word-requires
+    loop-holds
+    is-term-requires
+    element-end-requires
+    add-n
+    word-requires-2
+    loop-less
+    loop-again
+    returns)

@@ -1,0 +1,59 @@
+-- `has_term`: what is left has a term exactly if the whole has.
+use native.Mathlib.Omega.{arith}
+use borrow.Author.Needs.{needs}
+use mathlib.Core.Path.{_≡_, refl, sym, ap, _∙_}
+use mathlib.Core.Bool.{not}
+use mathlib.Core.List.{List}
+use Prim.Native.Nat.{ℕ, _-_}
+use lib.ListN.{length, getD}
+use Rattle.language.specs.Trees.{Hedge}
+use Rattle.rules.specs.Looks.{hasTerm}
+use Rattle.views.specs.Standing.{Stands}
+use Rattle.views.proofs.Walks.{Passed, pass-start, pass-on, goes-on, run-some, word-run, word-empty, hasTerm-on, hasTerm-end}
+use Rattle.views.proofs.has_term.Statement.{statement}
+use Rattle.views.proofs.has_term.Tie as tie
+
+abbrev Inv-loop : tie.InvT-loop
+Inv-loop k at i₀ x₀ i x = ((h : Hedge) (beyond : List ℕ) → Stands k at h beyond → Passed k at i beyond (λ done left. hasTerm left ≡ hasTerm h)) × (x ≡ getD k i 0)
+
+abbrev μ-loop : tie.MeasureT-loop
+μ-loop k at i₀ x₀ i x = length k - i
+
+word-requires : tie.Need-word-requires Inv-loop μ-loop
+word-requires c κs = search needs
+
+loop-holds : tie.Need-loop-holds Inv-loop μ-loop
+loop-holds c = ((λ h beyond s. pass-start s refl), c .word .ensures)
+
+is-run-requires : tie.Need-is-run-requires Inv-loop μ-loop
+is-run-requires c κs = search needs
+
+element-end-requires : tie.Need-element-end-requires Inv-loop μ-loop
+element-end-requires c κs = search needs
+
+word-requires-2 : tie.Need-word-requires-2 Inv-loop μ-loop
+word-requires-2 c κs = search needs
+
+loop-less : tie.Need-loop-less Inv-loop μ-loop
+loop-less c = let z = goes-on (c .before .before .before .before .before .before .before .args .k .now) (c .before .before .before .before .loop .i) (c .before .before .before .before .loop .inv .1) (c .before .element-end .ensures) (run-some _ (sym (c .before .before .before .is-run .ensures) ∙ c .before .before .if1 .taken)) in omega arith
+
+loop-again : tie.Need-loop-again Inv-loop μ-loop
+loop-again c = ((λ h beyond s. pass-on (c .before .element-end .ensures) (c .before .before .before .before .loop .inv .0 h beyond s) (λ done left t q. hasTerm-on left (sym (word-run t (c .before .before .before .before .loop .inv .1)) ∙ sym (c .before .before .before .is-run .ensures) ∙ c .before .before .if1 .taken) ∙ q)), c .word2 .ensures)
+
+returns : tie.Need-returns Inv-loop μ-loop
+returns c = λ h beyond s. let w = c .before .before .loop .inv .0 h beyond s in ap not (word-empty (w .here) (c .before .before .loop .inv .1)) ∙ hasTerm-end (w .left) (sym (word-run (w .here) (c .before .before .loop .inv .1)) ∙ sym (c .before .is-run .ensures) ∙ c .if1 .left) ∙ w .keeps
+
+pub has-term-spec : {M : Type 1} → statement M
+has-term-spec =
+    tie.close
+    (tie.spec
+    Inv-loop
+    μ-loop
+    word-requires
+    loop-holds
+    is-run-requires
+    element-end-requires
+    word-requires-2
+    loop-less
+    loop-again
+    returns)

@@ -1,0 +1,24 @@
+-- `show_membership`: the expression stands where the hedge ends, and goes on to the next literal.
+use borrow.Author.Needs.{needs}
+use Rattle.views.proofs.Seen.{shows-of}
+use Rattle.views.proofs.show_membership.Statement.{statement}
+use Rattle.views.proofs.show_membership.Tie as tie
+
+add-side-at : tie.Need-add-side-at
+add-side-at c = search needs
+
+side-at-requires : tie.Need-side-at-requires
+side-at-requires c κs = search needs
+
+word-requires : tie.Need-word-requires
+word-requires c κs = search needs
+
+next-literal-requires : tie.Need-next-literal-requires
+next-literal-requires c κs = search needs
+
+returns : tie.Need-returns
+returns c = λ before h R behind s. shows-of s (c .before .before .side-at .ensures) (c .before .word .ensures) (c .next-literal .ensures)
+
+pub show-membership-spec : {M : Type 1} → statement M
+show-membership-spec =
+    tie.close (tie.spec add-side-at side-at-requires word-requires next-literal-requires returns)

@@ -1,0 +1,22 @@
+-- `side_at`: the places and the look that the walk finds are the hedge's own.
+use mathlib.Core.Path.{refl, _∙_}
+use borrow.Author.Needs.{needs}
+use Rattle.views.proofs.Spans.{stands-place}
+use Rattle.views.proofs.Looks.{side-of}
+use Rattle.views.proofs.side_at.Statement.{statement}
+use Rattle.views.proofs.side_at.Tie as tie
+
+element-end-requires : tie.Need-element-end-requires
+element-end-requires c κs = search needs
+
+passed-requires : tie.Need-passed-requires
+passed-requires c κs = search needs
+
+look-at-requires : tie.Need-look-at-requires
+look-at-requires c κs = search needs
+
+returns : tie.Need-returns
+returns c = (refl, λ h beyond s. side-of s (c .before .before .element-end .ensures) (c .before .passed .ensures) (c .look-at .ensures h beyond s (c .before .before .element-end .ensures ∙ stands-place s)))
+
+pub side-at-spec : {M : Type 1} → statement M
+side-at-spec = tie.close (tie.spec element-end-requires passed-requires look-at-requires returns)

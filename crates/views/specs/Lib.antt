@@ -1,0 +1,4 @@
+pub mod Variables
+pub mod Places
+pub mod Standing
+pub mod Walks
