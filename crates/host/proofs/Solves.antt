@@ -58,16 +58,16 @@ module _ (q a : List ℕ) where
     unfolding solving
     same = fitting-solving 8192 8192 (wordsIn q) ∙ sym (long-answer q (length a) room)
 
-    kept : (s : Solving) (k : ℕ) → Numbered s → k ≡ solveNumber s → 1 ≤ k → k ≤ 6 → Left s k a
+    pub kept : (s : Solving) (k : ℕ) → Numbered s → k ≡ solveNumber s → 1 ≤ k → k ≤ 6 → Left s k a
     unfolding solveNumber solveLeaves
     kept (answered ls n) k b e low high = absurd (omega arith)
     kept (unread r) k b e low high = (e, refl)
     kept (given-up r) k b e low high = absurd (omega arith)
 
-    bytes-left : (own a′ : List ℕ) → length own ≡ 8192 → a′ ≡ sets a 0 (bytesOf own) → a′ ≡ bytesOf own ++ drop 16384 a
+    pub bytes-left : (own a′ : List ℕ) → length own ≡ 8192 → a′ ≡ sets a 0 (bytesOf own) → a′ ≡ bytesOf own ++ drop 16384 a
     bytes-left own a′ n e = e ∙ written a own (omega arith) ∙ ap (λ (m : ℕ). bytesOf own ++ drop (2 * m) a) n
 
-    wrote : (s : Solving) (k : ℕ) (own a′ : List ℕ) → Numbered s → k ≡ solveNumber s → (1 ≤ k → k ≤ 6 → ⊥) → Own s own → a′ ≡ bytesOf own ++ drop 16384 a → Left s k a′
+    pub wrote : (s : Solving) (k : ℕ) (own a′ : List ℕ) → Numbered s → k ≡ solveNumber s → (1 ≤ k → k ≤ 6 → ⊥) → Own s own → a′ ≡ bytesOf own ++ drop 16384 a → Left s k a′
     unfolding solveNumber solveLeaves
     wrote (answered ls n) k own a′ b e h o f = (e, f ∙ ap (λ (ws : List ℕ). bytesOf ws ++ drop 16384 a) o)
     wrote (unread r) k own a′ b e h o f = absurd (h (omega arith) (omega arith))

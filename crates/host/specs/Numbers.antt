@@ -1,8 +1,21 @@
 -- The numbers of what comes back from the calls on words.
 use Prim.Native.Nat.{ℕ}
 use Rattle.language.specs.Numbers.{numberOf}
+use Rattle.solver.specs.declared.Solved.{Solved}
+use Rattle.solver.specs.declared.Outcome.{Outcome}
+use Rattle.solver.specs.declared.Outcome.the-variants.{Refused, NoLine, AllSolved, SomeOpen}
 use Rattle.trying.specs.declared.Tried.{Tried}
 use Rattle.trying.specs.declared.Tried.the-variants as tried
+
+-- the refusal's number, or 0
+abbrev pub outcomeNumber : Outcome → ℕ
+outcomeNumber (Refused r) = numberOf r
+outcomeNumber NoLine = 0
+outcomeNumber AllSolved = 0
+outcomeNumber SomeOpen = 0
+
+abbrev pub solvedNumber : Solved → ℕ
+solvedNumber s = outcomeNumber (s .outcome)
 
 -- 100 is no, 101 is yes
 abbrev pub triedNumber : Tried → ℕ
