@@ -1,19 +1,17 @@
 -- A line added: the stores that make the answer of the lines so far the answer with one line more.
-use Prim.Native.Nat.{ℕ, zero, suc, _+_, _-_, _<_, _≤_}
+use Prim.Native.Nat.{ℕ, suc, _+_, _-_, _<_, _≤_}
 use native.Mathlib.Omega.{arith}
 use mathlib.Core.Path.{_≡_, refl, sym, ap, _∙_}
-use mathlib.Core.List.{List, [], _∷_, _++_, map, append-assoc, append-nil, map-append}
-use lib.ListN.{length, take, drop, set, length-append, length-take}
+use mathlib.Core.List.{List, [], _∷_, _++_, map, append-assoc, map-append}
+use lib.ListN.{length, take, drop, set, length-append}
 use lib.Seq.{sets, sets-eq, take-at, drop-at, set-at}
 use Rattle.language.specs.Limits.{desk}
-use Rattle.language.specs.Kinds.{pick}
 use Rattle.language.specs.Trees.{Conj}
 use Rattle.language.specs.Writing.{conjWords}
 use Rattle.meaning.specs.Values.{times, offsetsOf, joined}
-use Rattle.rules.specs.Solved.{solved}
 use Rattle.rules.specs.Run.{linesSize}
-use Rattle.rules.specs.Answer.{markOf, lineWords, countOpen, answerWords, zeros}
-use Rattle.answers.proofs.Rows.{length-times, times-append, joined-more, offsets-more, length-lines, lines-size-more, count-more, open-more, in-a-row, length-header}
+use Rattle.rules.specs.Answer.{lineWords, countOpen, answerWords, zeros}
+use Rattle.answers.proofs.Rows.{length-times, times-append, joined-more, offsets-more, length-lines, lines-size-more, count-more, in-a-row, length-header}
 
 -- words stored over as many others
 pub sets-over : (p q r v : List ℕ) (n : ℕ) → length p ≡ n → length q ≡ length v → sets (p ++ (q ++ r)) n v ≡ p ++ (v ++ r)

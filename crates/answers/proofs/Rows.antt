@@ -1,11 +1,10 @@
 -- The answer's words laid out in a row, and what one more line adds to each part.
-use Prim.Native.Nat.{ℕ, zero, suc, _+_, _-_, _<_, _≤_}
+use Prim.Native.Nat.{ℕ, zero, suc, _+_, _-_, _≤_}
 use native.Mathlib.Omega.{arith}
-use native.Mathlib.Nat.{add-assoc}
 use mathlib.Core.Path.{_≡_, refl, sym, ap, _∙_}
 use mathlib.Core.Bool.{Bool, true, false}
-use mathlib.Core.List.{List, [], _∷_, _++_, map, append-assoc, append-nil, map-append}
-use lib.ListN.{length, take, drop, set, length-append, length-map}
+use mathlib.Core.List.{List, [], _∷_, _++_, map, append-assoc, append-nil}
+use lib.ListN.{length, length-append, length-map}
 use Rattle.language.specs.Limits.{desk}
 use Rattle.language.specs.Kinds.{pick}
 use Rattle.language.specs.Trees.{Conj}
@@ -13,7 +12,7 @@ use Rattle.language.specs.Writing.{conjWords}
 use Rattle.meaning.specs.Values.{times, offsetsOf, joined}
 use Rattle.rules.specs.Solved.{solved}
 use Rattle.rules.specs.Run.{linesSize}
-use Rattle.rules.specs.Answer.{lineWords, countOpen, padded, answerWords}
+use Rattle.rules.specs.Answer.{lineWords, countOpen, answerWords}
 
 pub length-times : (n : ℕ) → length (times {A = ℕ} n 0) ≡ n
 length-times zero = refl

@@ -60,7 +60,16 @@ fn rank_functors(k: &[u16], v: View, f: u16, bare: bool, g: u16) -> usize
 }
 
 // Both sides begin with a functor: R1, D2, or the two are single terms.
-fn rank_nodes(k: &[u16], v: View, f: u16, lone: bool, bare: bool, g: u16, more: bool, plain: bool) -> usize
+fn rank_nodes(
+    k: &[u16],
+    v: View,
+    f: u16,
+    lone: bool,
+    bare: bool,
+    g: u16,
+    more: bool,
+    plain: bool,
+) -> usize
     ensures { λ n. ⌜ ((F G : Functor) (c s d t : Hedge) → Node f lone bare ≡ lookOf (node F c s) → Node g more plain ≡ lookOf (node G d t) → Ranks (now (k .entry)) v (node F c s) (node G d t) n) ⌝ }
 {
     let l = v.l;

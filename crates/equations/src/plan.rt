@@ -76,18 +76,43 @@ fn few(a: Piece, b: Piece, c: Piece, d: Piece, e: Piece) -> [Slot; 12]
         Slot { piece: c },
         Slot { piece: d },
         Slot { piece: e },
-        Slot { piece: Piece::Copy(0, 0) },
-        Slot { piece: Piece::Copy(0, 0) },
-        Slot { piece: Piece::Copy(0, 0) },
-        Slot { piece: Piece::Copy(0, 0) },
-        Slot { piece: Piece::Copy(0, 0) },
-        Slot { piece: Piece::Copy(0, 0) },
-        Slot { piece: Piece::Copy(0, 0) },
+        Slot {
+            piece: Piece::Copy(0, 0),
+        },
+        Slot {
+            piece: Piece::Copy(0, 0),
+        },
+        Slot {
+            piece: Piece::Copy(0, 0),
+        },
+        Slot {
+            piece: Piece::Copy(0, 0),
+        },
+        Slot {
+            piece: Piece::Copy(0, 0),
+        },
+        Slot {
+            piece: Piece::Copy(0, 0),
+        },
+        Slot {
+            piece: Piece::Copy(0, 0),
+        },
     ]
 }
 
 // A recipe of up to ten pieces.
-fn ten(a: Piece, b: Piece, c: Piece, d: Piece, e: Piece, f: Piece, g: Piece, h: Piece, i: Piece, j: Piece) -> [Slot; 12]
+fn ten(
+    a: Piece,
+    b: Piece,
+    c: Piece,
+    d: Piece,
+    e: Piece,
+    f: Piece,
+    g: Piece,
+    h: Piece,
+    i: Piece,
+    j: Piece,
+) -> [Slot; 12]
     ensures { λ s. ⌜ s ≡ tenSlots a b c d e f g h i j ⌝ }
 {
     [
@@ -101,8 +126,12 @@ fn ten(a: Piece, b: Piece, c: Piece, d: Piece, e: Piece, f: Piece, g: Piece, h: 
         Slot { piece: h },
         Slot { piece: i },
         Slot { piece: j },
-        Slot { piece: Piece::Copy(0, 0) },
-        Slot { piece: Piece::Copy(0, 0) },
+        Slot {
+            piece: Piece::Copy(0, 0),
+        },
+        Slot {
+            piece: Piece::Copy(0, 0),
+        },
     ]
 }
 
@@ -238,18 +267,42 @@ fn plan_e6(k: &[u16], v: View) -> Plan
     let until = forth(k, l.from);
     let cut = forth(k, r.from);
     let slots = [
-        Slot { piece: Piece::Put(0, v.at) },
-        Slot { piece: Piece::Word(5000) },
-        Slot { piece: Piece::Copy(l.from, until) },
-        Slot { piece: Piece::Word(0) },
-        Slot { piece: Piece::Word(0) },
-        Slot { piece: Piece::Copy(r.from, cut) },
-        Slot { piece: Piece::Word(0) },
-        Slot { piece: Piece::Word(0) },
-        Slot { piece: Piece::Word(5000) },
-        Slot { piece: Piece::Put(l.from, l.to) },
-        Slot { piece: Piece::Put(r.from, r.to) },
-        Slot { piece: Piece::Put(v.end, v.len) },
+        Slot {
+            piece: Piece::Put(0, v.at),
+        },
+        Slot {
+            piece: Piece::Word(5000),
+        },
+        Slot {
+            piece: Piece::Copy(l.from, until),
+        },
+        Slot {
+            piece: Piece::Word(0),
+        },
+        Slot {
+            piece: Piece::Word(0),
+        },
+        Slot {
+            piece: Piece::Copy(r.from, cut),
+        },
+        Slot {
+            piece: Piece::Word(0),
+        },
+        Slot {
+            piece: Piece::Word(0),
+        },
+        Slot {
+            piece: Piece::Word(5000),
+        },
+        Slot {
+            piece: Piece::Put(l.from, l.to),
+        },
+        Slot {
+            piece: Piece::Put(r.from, r.to),
+        },
+        Slot {
+            piece: Piece::Put(v.end, v.len),
+        },
     ];
     plan_by(Ways::One(cut), slots, l.from, until, r.from)
 }
@@ -327,7 +380,9 @@ fn plan_del3(k: &[u16], v: View) -> Plan
 fn plan_drop() -> Plan
     ensures { λ p. ⌜ p ≡ planBy Drop (blankRecipe .slots) 0 0 0 ⌝ }
 {
-    let slots = [Slot { piece: Piece::Copy(0, 0) }; 12];
+    let slots = [Slot {
+        piece: Piece::Copy(0, 0),
+    }; 12];
     plan_by(Ways::Drop, slots, 0, 0, 0)
 }
 

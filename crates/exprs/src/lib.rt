@@ -1,9 +1,9 @@
 // Expressions standing in words: where one ends and whether it is nullable, the monomials of its linear form, its sample.
 pub mod results;
 pub mod samples;
+
 pub use results::size_monomials;
 pub use results::write_monomials;
-
 ghost use mathlib.Core.Path.{_≡_};
 ghost use mathlib.Core.Bool.{_&&_, _||_};
 ghost use Prim.Native.Nat.{_≤_, _+_};

@@ -89,25 +89,7 @@ shownOn t h fs ws Other = take 1 ws
 unfoldable pub shown : ℕ → ℕ → List ℕ → List ℕ → List ℕ
 shown t h fs ws = shownOn t h fs ws (kindOf desk (getD ws 0 0))
 
--- how many words are shown so
-abbrev pub takenOn : List ℕ → Kind → ℕ
-takenOn ws (Symbol f) = termSize ws
-takenOn ws (Term x) = 1
-takenOn ws (Run p) = 1
-takenOn ws (Function X) = 1
-takenOn ws End = 1
-takenOn ws Equation = 1
-takenOn ws Membership = 1
-takenOn ws Eps = 1
-takenOn ws Cat = 1
-takenOn ws Alt = 1
-takenOn ws Star = 1
-takenOn ws Other = 1
-
-unfoldable pub taken : List ℕ → ℕ
-taken ws = takenOn ws (kindOf desk (getD ws 0 0))
-
--- the same, from how many words were shown: those of a symbol are its own
+-- how many words are shown so, from how many words they became: those of a symbol are its own
 abbrev pub stepOn : ℕ → Kind → ℕ
 stepOn n (Symbol f) = n
 stepOn n (Term x) = 1

@@ -39,7 +39,7 @@ module _ (before behind : Conj) (l : Literal) where
 -- ---- a membership
 
 -- the only expressions of a lone term variable to which no rule applies
-over-only : (K : Conj) (x : TermVar) (R : Expr) → QuietMem K (tvar x ε) R → (f : Sym) × (S : Expr) × (R ≡ over f S)
+pub over-only : (K : Conj) (x : TermVar) (R : Expr) → QuietMem K (tvar x ε) R → (f : Sym) × (S : Expr) × (R ≡ over f S)
 unfolding _>>=_ check
 over-only K x eps q = absurd (Option·some-ne-none _ (q .f7))
 over-only K x (cat a b) q = absurd (Option·some-ne-none _ (q .m5))

@@ -1,11 +1,11 @@
 -- Whether a literal is solved, and with it the line, literal by literal.
 use Prim.Native.Nat.{ℕ}
 use native.Mathlib.Omega.{arith}
-use mathlib.Core.Path.{_≡_, refl, sym, ap, _∙_}
+use mathlib.Core.Path.{_≡_, refl, ap, _∙_}
 use mathlib.Core.Bool.{Bool, true, false, _&&_}
-use mathlib.Core.List.{List, [], _∷_, _++_}
+use mathlib.Core.List.{[], _∷_, _++_}
 use mathlib.Core.Option.{Option, none, some}
-use Rattle.language.specs.Trees.{Hedge, Literal, eqn, mem, Conj}
+use Rattle.language.specs.Trees.{Hedge, Literal, eqn, Conj}
 use Rattle.rules.specs.Step.{orElse}
 use Rattle.rules.specs.Solved.{variable, alone, isSome, solvedLiteral, solvedFrom, solved}
 

@@ -1,20 +1,20 @@
 -- A variable in memberships, looked for literal by literal.
-use Prim.Native.Nat.{ℕ, zero, suc, _+_, _<_, _≤_}
+use Prim.Native.Nat.{ℕ, _+_, _<_, _≤_}
 use native.Mathlib.Omega.{arith}
-use mathlib.Core.Path.{_≡_, refl, sym, ap, _∙_, subst}
+use mathlib.Core.Path.{_≡_, refl, sym, ap, _∙_}
 use mathlib.Core.Bool.{Bool, true, false, not, _&&_, _||_}
 use mathlib.Core.List.{List, [], _∷_, _++_, append-nil}
 use mathlib.Core.Option.{Option, none, some}
 use lib.Dec.{eqb}
-use lib.ListN.{length, take, drop, getD, length-append, length-drop}
+use lib.ListN.{length, drop, getD, length-append, length-drop}
 use lib.Seq.{slice}
 use Rattle.language.specs.Limits.{desk}
 use Rattle.language.specs.Trees.{Hedge, Expr, eps, cat, alt, star, over, Literal, eqn, mem, Conj, Var, holds}
 use Rattle.language.specs.Writing.{exprWords, literalWords, conjWords}
-use Rattle.language.specs.Fine.{fineLiteral, fineConj}
-use Rattle.rules.specs.Solved.{inMember, loneVar, onlyMember, solvedLiteral}
+use Rattle.language.specs.Fine.{fineLiteral}
+use Rattle.rules.specs.Solved.{inMember, loneVar, onlyMember}
 use Rattle.plans.specs.Results.{member}
-use Rattle.plans.specs.Views.{Sided, Shows}
+use Rattle.plans.specs.Views.{Shows}
 use Rattle.plans.specs.declared.Shape.{Shape}
 use Rattle.exact.proofs.Answers.{Where}
 use Rattle.views.specs.Variables.{variableWord, fineVar}

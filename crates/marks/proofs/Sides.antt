@@ -1,25 +1,25 @@
 -- A side that is one variable, occurring nowhere else; and a membership's lone variable.
-use Prim.Native.Nat.{ℕ, zero, suc, _+_, _<_, _≤_}
+use Prim.Native.Nat.{ℕ, _+_}
 use native.Mathlib.Omega.{arith}
 use mathlib.Core.Path.{_≡_, refl, sym, ap, _∙_}
 use mathlib.Core.Bool.{Bool, true, false, not, _&&_, _||_}
-use mathlib.Core.List.{List, [], _∷_, _++_}
+use mathlib.Core.List.{List, _++_}
 use mathlib.Core.Option.{Option, none, some}
 use lib.Dec.{leb}
-use lib.ListN.{length, take, drop}
+use lib.ListN.{take, drop}
 use lib.Seq.{slice}
 use borrow.Author.Tests.{le-leb, lt-leb}
 use Rattle.language.specs.Limits.{desk}
 use Rattle.language.specs.Kinds.{pick}
-use Rattle.language.specs.Trees.{Functor, symbol, fvar, Hedge, ε, tvar, hvar, node, Expr, Literal, eqn, mem, Conj, Var, tv, hv, fv, holds, inConj}
+use Rattle.language.specs.Trees.{symbol, fvar, Hedge, ε, tvar, hvar, node, Conj, Var, tv, hv, fv, holds, inConj}
 use Rattle.language.specs.Fine.{fineHedge}
 use Rattle.rules.specs.Looks.{empty}
 use Rattle.rules.specs.Solved.{given, isTerm, isFunctor, variable, alone, isSome, loneVar}
 use Rattle.plans.specs.Looks.{lookOf}
 use Rattle.plans.specs.Results.{member}
-use Rattle.plans.specs.Views.{Sided, Sees}
+use Rattle.plans.specs.Views.{Sees}
 use Rattle.plans.specs.declared.Look.{Look}
-use Rattle.plans.specs.declared.Look.the-variants.{Empty, Term, Run, Node}
+use Rattle.plans.specs.declared.Look.the-variants.{Term, Node}
 use Rattle.plans.specs.declared.View.{View}
 use Rattle.exact.proofs.Answers.{Where}
 use Rattle.views.specs.Variables.{variableWord, fineVar}

@@ -1,6 +1,6 @@
 -- The one variable that a side or a membership's hedge is, as its word, or 0; read off how the hedges begin.
 use Prim.Native.Nat.{ℕ}
-use mathlib.Core.Bool.{Bool, true, false, _&&_}
+use mathlib.Core.Bool.{Bool, false, _&&_}
 use mathlib.Core.Option.{Option, none, some}
 use lib.Dec.{leb}
 use Rattle.language.specs.Kinds.{pick}

@@ -1,8 +1,8 @@
 // Whether a line is solved, read off its words.
-ghost use Prim.Native.Nat.{ℕ, _+_, _≤_, _<_};
+ghost use Prim.Native.Nat.{_+_, _≤_, _<_};
 ghost use mathlib.Core.Path.{_≡_};
 ghost use mathlib.Core.Bool.{not, _&&_, _||_};
-ghost use mathlib.Core.List.{List, _++_};
+ghost use mathlib.Core.List.{_++_};
 ghost use lib.Dec.{eqb};
 ghost use lib.ListN.{length, getD};
 ghost use lib.Seq.{slice};
@@ -63,7 +63,7 @@ fn bare_functor(look: Look) -> bool
 }
 
 // The word of the variable that a side is, against the other side, or 0.
-fn side_variable(l: Look, r: Look) -> u16
+pub fn side_variable(l: Look, r: Look) -> u16
     ensures { λ x. ⌜ x ≡ sideVariable l r ⌝ }
 {
     match l {
@@ -90,7 +90,7 @@ fn lone_variable(look: Look) -> u16
 }
 
 // Whether the side that is looked at first is one variable that occurs nowhere else.
-fn alone_side(k: &[u16], v: View) -> bool
+pub fn alone_side(k: &[u16], v: View) -> bool
     ensures { λ t. ⌜ ((before : Conj) (l r : Hedge) (behind : Conj) → Sees (now (k .entry)) v before l r behind → t ≡ isSome (alone (before ++ behind) r (variable l r))) ⌝ }
 {
     let l = v.l;

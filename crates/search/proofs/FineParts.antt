@@ -1,6 +1,6 @@
 -- The parts that rules take of fine hedges and expressions are fine, and a fine substitution keeps hedges fine.
-use Prim.Native.Nat.{ℕ, _<_}
-use mathlib.Core.Path.{_≡_, refl, sym, subst}
+use Prim.Native.Nat.{_<_}
+use mathlib.Core.Path.{sym, subst}
 use mathlib.Core.Bool.{Bool, true, false}
 use mathlib.Core.List.{List, [], _∷_, _++_, map}
 use Rattle.language.specs.Limits.{Limits}
@@ -8,9 +8,9 @@ use Rattle.language.specs.Kinds.{pick}
 use Rattle.language.specs.declared.TermVar.{TermVar}
 use Rattle.language.specs.declared.HedgeVar.{HedgeVar}
 use Rattle.language.specs.declared.FunVar.{FunVar}
-use Rattle.language.specs.Trees.{Functor, symbol, fvar, Hedge, ε, tvar, hvar, node, Expr, eps, cat, alt, star, over, Literal, eqn, mem, Conj, _⧺_, eqT, eqH, eqX, hv, holds}
-use Rattle.language.specs.Fine.{fineFunctor, fineHedge, fineExpr, fineLiteral, fineConj}
-use Rattle.rules.specs.Substitution.{Subst, putF, put, putL, putC, setT, setH, setF, emptied}
+use Rattle.language.specs.Trees.{Functor, symbol, fvar, Hedge, ε, tvar, hvar, node, Expr, eps, cat, alt, star, over, eqn, mem, Conj, _⧺_, eqT, eqH, eqX, hv, holds}
+use Rattle.language.specs.Fine.{fineFunctor, fineHedge, fineExpr, fineConj}
+use Rattle.rules.specs.Substitution.{Subst, putF, put, putC, setT, setH, setF, emptied}
 use Rattle.rules.specs.Looks.{cuts, isEps}
 use Rattle.rules.specs.Expressions.{nullable, Monomial, joined, _⊙_, linear}
 use Rattle.rules.specs.Rules.{vanish}

@@ -1,9 +1,7 @@
 -- Each rule's results are fine where the literal is.
-use Prim.Native.Nat.{ℕ, _<_}
-use mathlib.Core.Path.{_≡_, refl, sym, subst}
-use mathlib.Core.List.{List, [], _∷_, map}
+use mathlib.Core.Path.{_≡_, subst}
 use Rattle.language.specs.Limits.{Limits}
-use Rattle.language.specs.Trees.{Functor, symbol, fvar, Hedge, ε, tvar, hvar, node, Expr, eps, cat, alt, star, over, Literal, eqn, mem, Conj, _⧺_}
+use Rattle.language.specs.Trees.{Functor, symbol, Hedge, ε, hvar, Expr, Conj}
 use Rattle.language.specs.Fine.{fineFunctor, fineHedge, fineExpr, fineConj}
 use Rattle.rules.specs.Looks.{firstTerm, firstRun, loneTerm, loneT, loneH, loneNode, asSymbol, asBlank, inside, upTo, cuts, asCat, asAlt, asStar, asOver}
 use Rattle.rules.specs.Expressions.{linear}
@@ -11,7 +9,7 @@ use Rattle.rules.specs.Rules.{Branch, plain, elims, Answer, EqRule, InRule, Rul
 use Rattle.exact.specs.Each.{Each}
 use Rattle.exact.proofs.Each.{each-map}
 use Rattle.exact.proofs.Answers.{Answers, look, test, answers}
-use Rattle.exact.proofs.Looks.{loneT-is, loneH-is, loneNode-is, loneTerm-is, firstTerm-is, firstRun-is, asSymbol-is, asBlank-is, inside-is, UpTo, upTo-is, asCat-is, asAlt-is, asStar-is, asOver-is}
+use Rattle.exact.proofs.Looks.{loneT-is, loneH-is, loneNode-is, loneTerm-is, firstTerm-is, firstRun-is, asSymbol-is, asBlank-is, inside-is, upTo-is, asCat-is, asAlt-is, asStar-is, asOver-is}
 use Rattle.search.proofs.FineParts.{FineSubst, fine-join, fine-both, FinePair, fine-cuts, fine-vanish, FineMonomial, fine-linear, fine-setT, fine-setH, fine-setF, fine-emptied}
 
 module _ (L : Limits) where

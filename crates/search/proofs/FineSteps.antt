@@ -1,19 +1,19 @@
 -- A step of a fine conjunction has fine results.
-use mathlib.Core.Path.{_≡_, refl, sym, subst}
-use mathlib.Core.List.{List, [], _∷_, _++_, map}
-use mathlib.Core.Option.{Option, none, some, Option·map}
+use mathlib.Core.Path.{_≡_}
+use mathlib.Core.List.{List, _∷_, _++_, map}
+use mathlib.Core.Option.{none, some, Option·map}
 use Rattle.language.specs.Limits.{Limits}
-use Rattle.language.specs.Trees.{Hedge, Expr, Literal, eqn, mem, Conj}
-use Rattle.language.specs.Fine.{fineHedge, fineLiteral, fineConj}
+use Rattle.language.specs.Trees.{Literal, eqn, mem, Conj}
+use Rattle.language.specs.Fine.{fineLiteral, fineConj}
 use Rattle.rules.specs.Substitution.{putC}
 use Rattle.rules.specs.Rules.{Branch, plain, elims, Answer, Rule, onEqn, onMem, rules}
 use Rattle.rules.specs.Step.{attempt, place, resultsAt, step}
 use Rattle.exact.specs.Each.{Each}
 use Rattle.exact.specs.Places.{AtPlaces}
 use Rattle.exact.proofs.Each.{each-imp, each-map}
-use Rattle.exact.proofs.Answers.{Where, Answers}
+use Rattle.exact.proofs.Answers.{Where}
 use Rattle.exact.proofs.Steps.{orElse-is, where-some, step-at-places}
-use Rattle.search.proofs.FineParts.{FineSubst, fine-append, fine-split, fine-putC}
+use Rattle.search.proofs.FineParts.{fine-append, fine-split, fine-putC}
 use Rattle.search.proofs.FineRules.{FineBranch, FineAnswer, RuleFine, each-rule-fine}
 
 module _ (L : Limits) where

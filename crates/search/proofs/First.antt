@@ -2,15 +2,14 @@
 use Prim.Native.Nat.{ℕ, zero, suc, _<_, _≤_}
 use native.Mathlib.Omega.{arith}
 use mathlib.Core.Path.{_≡_, refl, sym, ap, _∙_, subst}
-use mathlib.Core.Bool.{Bool, true, false}
 use mathlib.Core.List.{List, [], _∷_, _++_, map, append-assoc, append-nil}
-use mathlib.Core.Option.{Option, none, some, Option·map}
+use mathlib.Core.Option.{none, some, Option·map}
 use lib.ListN.{length}
 use Rattle.language.specs.Kinds.{pick}
 use Rattle.language.specs.Trees.{Literal, Conj}
 use Rattle.rules.specs.Rules.{Branch, Answer, Rule}
 use Rattle.rules.specs.Solved.{isSome}
-use Rattle.rules.specs.Step.{orElse, attempt, place, resultsAt, earliest, first}
+use Rattle.rules.specs.Step.{orElse, attempt, place, earliest, first}
 use Rattle.plans.specs.Ranks.{firstOf, answerAt}
 use Rattle.search.specs.Ranking.{Each}
 

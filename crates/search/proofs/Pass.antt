@@ -1,17 +1,17 @@
 -- One pass over the literals: what it knows at its start, after a literal that is no better, after a better one, and at the end.
-use Prim.Native.Nat.{ℕ, zero, suc, _<_, _≤_}
+use Prim.Native.Nat.{ℕ, _<_, _≤_}
 use native.Mathlib.Omega.{arith}
 use mathlib.Core.Path.{_≡_, refl, sym, ap, _∙_, subst}
-use mathlib.Core.Bool.{Bool, true, false}
-use mathlib.Core.List.{List, [], _∷_, _++_, map, append-assoc, append-nil}
-use mathlib.Core.Option.{Option, none, some}
+use mathlib.Core.Bool.{Bool}
+use mathlib.Core.List.{[], _∷_, _++_, append-assoc, append-nil}
+use mathlib.Core.Option.{some}
 use lib.ListN.{length}
 use Rattle.language.specs.Trees.{Literal, Conj}
 use Rattle.language.specs.Writing.{conjWords}
-use Rattle.rules.specs.Rules.{Branch, rules}
-use Rattle.rules.specs.Step.{attempt, place, step}
-use Rattle.plans.specs.Ranks.{firstOf, answerAt}
-use Rattle.search.specs.Ranking.{litRank, sideAnswer, Ranked, Each, Sought, nothing, least, Found, nowhere, somewhere}
+use Rattle.rules.specs.Rules.{rules}
+use Rattle.rules.specs.Step.{attempt, step}
+use Rattle.plans.specs.Ranks.{answerAt}
+use Rattle.search.specs.Ranking.{litRank, Ranked, Each, Sought, nothing, least, Found, nowhere, somewhere}
 use Rattle.search.proofs.Ranks.{rank-answers}
 use Rattle.search.proofs.First.{each-map, each-append, none-first, found-first}
 

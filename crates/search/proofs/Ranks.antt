@@ -2,17 +2,17 @@
 use Prim.Native.Nat.{ℕ, zero, suc, _<_, _≤_}
 use native.Mathlib.Omega.{arith}
 use mathlib.Core.Path.{_≡_, refl, sym, ap, _∙_, fun-ext}
-use mathlib.Core.Bool.{Bool, true, false}
+use mathlib.Core.Bool.{true, false}
 use mathlib.Core.List.{List, [], _∷_}
-use mathlib.Core.Option.{Option, none, some}
+use mathlib.Core.Option.{none, some}
 use lib.ListN.{length}
 use Rattle.language.specs.Kinds.{pick}
-use Rattle.language.specs.Trees.{Hedge, Expr, Literal, eqn, mem, Conj}
+use Rattle.language.specs.Trees.{Hedge, Expr, eqn, mem, Conj}
 use Rattle.rules.specs.Rules.{Branch, Answer, Rule, onEqn, onMem, rules}
 use Rattle.rules.specs.Solved.{isSome}
 use Rattle.rules.specs.Step.{orElse, attempt}
 use Rattle.plans.specs.Ranks.{atEqn, atMem, firstOf, answerAt, eqnRank, memRank, eqnAnswer, memAnswer}
-use Rattle.search.specs.Ranking.{litRank, sideAnswer, Ranked}
+use Rattle.search.specs.Ranking.{litRank, Ranked}
 
 -- the answer that stands at a place, of one here and those after it
 abbrev at-place : ℕ → Answer → (ℕ → Answer) → Answer

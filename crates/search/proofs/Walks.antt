@@ -1,5 +1,5 @@
 -- A walk over the literals of a conjunction in its words: where it stands, the literal that stands there, and the next place.
-use Prim.Native.Nat.{ℕ, zero, suc, _+_, _<_, _≤_}
+use Prim.Native.Nat.{ℕ, _+_, _<_, _≤_}
 use native.Mathlib.Omega.{arith}
 use mathlib.Core.Path.{_≡_, refl, sym, ap, _∙_, subst}
 use mathlib.Core.List.{List, [], _∷_, _++_, append-assoc, append-nil}
@@ -7,7 +7,7 @@ use lib.ListN.{length, getD, drop, length-append}
 use Rattle.language.specs.Limits.{desk}
 use Rattle.language.specs.Trees.{Hedge, Expr, Literal, eqn, mem, Conj}
 use Rattle.language.specs.Writing.{literalWords, conjWords}
-use Rattle.language.specs.Fine.{fineLiteral, fineConj}
+use Rattle.language.specs.Fine.{fineConj}
 use Rattle.views.specs.Places.{untilLiteral}
 use Rattle.views.specs.Standing.{LiteralAt}
 use Rattle.views.proofs.Words.{words-append}

@@ -4,20 +4,19 @@ use native.Mathlib.Omega.{arith}
 use mathlib.Core.Path.{_≡_, refl, sym, ap, _∙_}
 use mathlib.Core.Bool.{Bool, true, false}
 use mathlib.Core.List.{List, [], _∷_, _++_}
-use lib.Dec.{eqb, ltb}
+use lib.Dec.{ltb}
 use lib.ListN.{length, drop}
 use borrow.Author.Tests.{ne-eqb, lt-ltb, le-ltb}
 use Rattle.language.specs.declared.Refusal.{Refusal}
 use Rattle.language.specs.declared.Refusal.the-variants.{ShortSlice}
 use Rattle.language.specs.Limits.{desk}
 use Rattle.language.specs.Kinds.{pick}
-use Rattle.language.specs.Trees.{Conj, Question}
-use Rattle.language.specs.Question.{Asked, asks, refuses, readQuestion}
-use Rattle.rules.specs.Run.{Outcome, finished, refused, run}
-use Rattle.rules.specs.Answer.{countOpen, answerWords, zeros, verdictOf, Solving, answered, unread, ran, solvingOf, solving}
+use Rattle.language.specs.Trees.{Conj}
+use Rattle.language.specs.Question.{readQuestion}
+use Rattle.rules.specs.Run.{Outcome, run}
+use Rattle.rules.specs.Answer.{countOpen, zeros, verdictOf, answered, unread, ran, solvingOf, solving}
 use Rattle.rules.specs.Answer as rules
 use Rattle.answers.specs.declared.Tally.{Tally}
-use Rattle.answers.specs.Lined.{Lined}
 use Rattle.reader.proofs.Answers.{question-asked, question-refused}
 use Rattle.reader.specs.Checking.{checked}
 use Rattle.reader.specs.declared.Checked.the-variants.{Fine, Refused}

@@ -1,46 +1,38 @@
 -- A turn of the run in the slices: what stands first, a line more or 9, and a step or 10, 7, 8.
-use Prim.Native.Nat.{ℕ, zero, suc, _+_, _-_, _*_, _<_, _≤_}
+use Prim.Native.Nat.{ℕ, suc, _+_, _-_, _<_, _≤_}
 use native.Mathlib.Omega.{arith}
 use native.Mathlib.Decide.{decLe}
 use mathlib.Core.Path.{_≡_, refl, sym, ap, _∙_, subst}
-use mathlib.Core.Bool.{true, false}
+use mathlib.Core.Bool.{false}
 use mathlib.Core.List.{List, [], _∷_, _++_, map, map-append}
 use mathlib.Core.Option.{none, some}
-use lib.Dec.{ltb}
-use lib.ListN.{length, drop, getD, length-append}
+use lib.ListN.{length, drop, getD}
 use lib.Seq.{slice, sets, drop-drop, drop-at}
 use borrow.Author.Tests.{lt-ltb, le-ltb}
 use Rattle.language.specs.declared.Refusal.{Refusal}
 use Rattle.language.specs.declared.Refusal.the-variants.{LongResult, LongWaiting, LineRoom, StepLimit}
 use Rattle.language.specs.Limits.{desk}
-use Rattle.language.specs.Trees.{Literal, Conj}
+use Rattle.language.specs.Trees.{Conj}
 use Rattle.language.specs.Writing.{conjWords}
 use Rattle.language.specs.Fine.{fineConj}
 use Rattle.rules.specs.Step.{place, step}
 use Rattle.rules.specs.Rules.{Branch}
-use Rattle.rules.specs.Run.{waitingSize, linesSize, linesFit, refused, runFrom}
+use Rattle.rules.specs.Run.{waitingSize, linesFit, refused, runFrom}
 use Rattle.rules.specs.Answer.{answerWords}
-use Rattle.exact.specs.Each.{Each}
 use Rattle.exact.proofs.Each.{each-++}
 use Rattle.plans.specs.Sizes.{framed, placedWords, sized}
 use Rattle.plans.specs.declared.Size.the-variants.{Fits, Over}
 use Rattle.pieces.proofs.Sizing.{sized-fits, fits-exact, fits-past, over-anyLong, fits-anyLong, words-waiting}
-use Rattle.search.specs.Ranking.{Found, nowhere, somewhere, sideAnswer}
 use Rattle.search.proofs.FineSteps.{step-fine}
-use Rattle.search.proofs.Walks.{stands-here}
-use Rattle.views.specs.Standing.{LiteralAt}
 use Rattle.stack.specs.Waiting.{Waiting}
-use Rattle.stack.proofs.Blocks.{laid, first-length, first-block, first-room, rest-wait, wait-ends}
+use Rattle.stack.proofs.Blocks.{laid, first-length, first-block, first-room, rest-wait}
 use Rattle.answers.specs.declared.Tally.{Tally}
 use Rattle.answers.specs.Lined.{Lined}
 use Rattle.answers.proofs.Rows.{count-more, lines-size-more, open-most, length-answer}
 use Rattle.solver.specs.declared.State.{State}
-use Rattle.solver.specs.declared.Turned.{Turned}
 use Rattle.solver.specs.declared.Turned.the-variants.{On, Stop}
-use Rattle.steps.specs.declared.Stepped.{Stepped}
-use Rattle.steps.specs.declared.Stepped.the-variants.{Long, Room, Done}
-use Rattle.steps.specs.Taking.{Took, long, room, done}
-use Rattle.solver.specs.Running.{Running, leftOf, measure, Kept, Turns, on, stop}
+use Rattle.steps.specs.Taking.{room}
+use Rattle.solver.specs.Running.{Running, leftOf, Kept, Turns, on, stop}
 use Rattle.solver.proofs.Turns.{run-line, run-full, run-limit, run-long, run-room, run-step}
 use Rattle.solver.proofs.Lengths.{waiting-append, short-words, lines-fit, lines-many, lines-past}
 

@@ -5,3 +5,4 @@ pub mod Advancing
 pub mod Gone
 pub mod Asked
 pub mod Ending
+pub mod Determined

@@ -5,6 +5,7 @@ use lib.Dec.{eqb, ltb}
 use lib.ListN.{length, drop}
 use Rattle.language.specs.Kinds.{pick}
 use Rattle.language.specs.declared.Refusal.{Refusal}
+use Rattle.language.specs.Numbers.{numberOf}
 use Rattle.language.specs.Limits.{desk}
 use Rattle.rules.specs.Answer.{countOpen, answerWords, zeros, Verdict, noLine, allSolved, someOpen, verdictOf, Solving, answered, unread, given-up}
 use Rattle.solver.specs.declared.Outcome.{Outcome}
@@ -15,6 +16,13 @@ abbrev pub verdict : Verdict → Outcome
 verdict noLine = NoLine
 verdict allSolved = AllSolved
 verdict someOpen = SomeOpen
+
+-- the number that comes back: the refusal's, or 0
+abbrev pub outcomeNumber : Outcome → ℕ
+outcomeNumber (Refused r) = numberOf r
+outcomeNumber NoLine = 0
+outcomeNumber AllSolved = 0
+outcomeNumber SomeOpen = 0
 
 -- the verdict on so many lines, of which so many are open
 abbrev pub verdictFor : ℕ → ℕ → Outcome

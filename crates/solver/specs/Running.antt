@@ -1,15 +1,15 @@
 -- A run under way in the two lent slices, and what a turn makes of it.
 use Prim.Native.Nat.{ℕ, _+_, _-_, _*_, _<_, _≤_}
 use mathlib.Core.Path.{_≡_}
-use mathlib.Core.List.{List, [], _∷_, map}
+use mathlib.Core.List.{List, [], map}
 use lib.ListN.{length, drop}
 use Rattle.language.specs.declared.Refusal.{Refusal}
 use Rattle.language.specs.Limits.{desk}
-use Rattle.language.specs.Trees.{Conj, Question}
+use Rattle.language.specs.Trees.{Conj}
 use Rattle.language.specs.Writing.{conjWords}
 use Rattle.language.specs.Fine.{fineConj}
 use Rattle.language.specs.Question.{Asked, asks, refuses}
-use Rattle.rules.specs.Run.{size, Outcome, finished, refused, runFrom, run}
+use Rattle.rules.specs.Run.{size, Outcome, finished, refused, runFrom}
 use Rattle.exact.specs.Each.{Each}
 use Rattle.stack.specs.Waiting.{Waiting}
 use Rattle.answers.specs.declared.Tally.{Tally}

@@ -1,29 +1,26 @@
 // Solving a question in two lent slices.
 ghost use Prim.Native.Nat.{ℕ, _+_, _≤_, _<_};
 ghost use mathlib.Core.Path.{_≡_};
-ghost use mathlib.Core.List.{List, _∷_, _++_};
-ghost use mathlib.Core.Option.{none, some};
+ghost use mathlib.Core.List.{List, _∷_};
+ghost use mathlib.Core.Option.{none};
 ghost use lib.ListN.{length, getD};
 ghost use Rattle.language.specs.Limits.{desk};
-ghost use Rattle.language.specs.Trees.{Literal, Conj};
+ghost use Rattle.language.specs.Trees.{Conj};
 ghost use Rattle.language.specs.Writing.{conjWords};
-ghost use Rattle.language.specs.Fine.{fineConj};
 ghost use Rattle.language.specs.Question.{readQuestion};
-ghost use Rattle.rules.specs.Rules.{Branch};
 ghost use Rattle.rules.specs.Step.{step};
 ghost use Rattle.rules.specs.Run.{run as runs};
 ghost use Rattle.rules.specs.Answer.{solvingOf, solving};
-ghost use Rattle.plans.specs.Sizes.{placedWords};
-ghost use Rattle.views.specs.Standing.{LiteralAt};
-ghost use Rattle.search.specs.Ranking.{sideAnswer, Found};
+ghost use Rattle.search.specs.Ranking.{Found};
 ghost use Rattle.reader.specs.Checking.{checked};
 ghost use Rattle.reader.specs.declared.Checked.the-variants.{Fine};
 ghost use Rattle.solver.specs.Running.{Running, leftOf, Turns, Begun, Ends, conjunctionsOf};
-ghost use Rattle.solver.specs.Leaves.{leaves, refusedBy, verdictFor};
+ghost use Rattle.solver.specs.Leaves.{leaves, outcomeNumber, refusedBy, verdictFor};
 use answers::Tally;
 use answers::add_line;
 use answers::begin;
 use language::Refusal;
+use language::number;
 use marks::is_solved;
 use reader::Checked;
 use reader::read_question;
@@ -69,6 +66,18 @@ pub struct Solved {
     pub lines: usize,
     pub open: usize,
     pub steps: usize,
+}
+
+// The number that comes back: the refusal's, or 0.
+pub fn outcome_number(outcome: Outcome) -> u16
+    ensures { λ n. ⌜ n ≡ outcomeNumber outcome ⌝ }
+{
+    match outcome {
+        Outcome::Refused(r) => number(r),
+        Outcome::NoLine => 0,
+        Outcome::AllSolved => 0,
+        Outcome::SomeOpen => 0,
+    }
 }
 
 // No rule applies to k: it becomes the next line, and `next` is where those that wait then begin.

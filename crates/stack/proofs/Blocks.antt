@@ -1,12 +1,11 @@
 -- Blocks put before those that wait, and the first of them taken.
-use Prim.Native.Nat.{ℕ, zero, suc, _+_, _-_, _<_, _≤_}
+use Prim.Native.Nat.{ℕ, zero, suc, _+_, _-_, _≤_}
 use native.Mathlib.Omega.{arith}
 use native.Mathlib.Nat.{add-zero}
 use mathlib.Core.Path.{_≡_, refl, sym, ap, _∙_}
-use mathlib.Core.List.{List, [], _∷_, _++_, append-assoc, append-nil}
-use lib.ListN.{length, take, drop, getD, length-append, length-drop}
+use mathlib.Core.List.{List, [], _∷_, _++_, append-assoc}
+use lib.ListN.{length, take, drop, getD, length-append}
 use lib.Seq.{sets, sets-eq, length-sets, slice, drop-at, take-at, take-nil, drop-drop, getD-drop, length-take-le}
-use Rattle.language.specs.Limits.{desk}
 use Rattle.plans.specs.Sizes.{framed}
 use Rattle.stack.specs.Waiting.{Waiting}
 

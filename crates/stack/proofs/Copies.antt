@@ -5,7 +5,7 @@ use native.Mathlib.Numerals.{add-one}
 use mathlib.Core.Path.{_≡_, refl, sym, ap, _∙_}
 use mathlib.Core.List.{List, [], _∷_, _++_}
 use lib.ListN.{length, take, drop, getD, set, replicate}
-use lib.Seq.{sets, slice, slice-cons, slice-empty}
+use lib.Seq.{sets, slice, slice-cons}
 use Rattle.language.specs.Limits.{desk}
 use Rattle.meaning.specs.Values.{times}
 use Rattle.rules.specs.Answer.{zeros}

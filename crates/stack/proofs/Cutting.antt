@@ -1,27 +1,17 @@
 -- The parts that a question's offsets cut, place by place.
 use Prim.Native.Nat.{ℕ, zero, suc, _+_, _-_, _<_, _≤_}
 use native.Mathlib.Omega.{arith}
-use mathlib.Core.Path.{_≡_, refl, sym, ap, ap₂, _∙_}
-use mathlib.Core.Bool.{Bool, true, false, _&&_}
-use mathlib.Core.List.{List, [], _∷_, _++_}
+use mathlib.Core.Path.{_≡_, refl, sym, ap, _∙_}
+use mathlib.Core.Bool.{true}
+use mathlib.Core.List.{List, [], _∷_}
 use lib.Dec.{leb, eqb}
-use lib.ListN.{length, take, drop, getD, length-drop}
+use lib.ListN.{length, drop, getD, length-drop}
 use lib.Seq.{slice, drop-drop, getD-drop, getD-take, length-take-le}
 use borrow.Author.Tests.{leb-true, eqb-true}
 use Rattle.language.specs.Question.{offsets, rising, rises, laidOut, partsFrom, parts}
+use Rattle.language.proofs.Bools.{both-true}
+use Rattle.language.proofs.Offsets.{rising-le}
 use Rattle.stack.proofs.Blocks.{slice-take}
-
-both : (a b : Bool) → (a && b) ≡ true → (a ≡ true) × (b ≡ true)
-both true b e = (refl, e)
-both false b e = absurd (let z : _≡_ {A = ℕ} 0 1 = cc in omega arith)
-
-rising-le : (from : ℕ) (os : List ℕ) (end : ℕ) → rising from os end ≡ true → from ≤ end
-rising-le from [] end e = let z = eqb-true from end e in omega arith
-rising-le from (o ∷ os) end e =
-    let b = both (leb from o) (rising o os end) e in
-    let l = leb-true from o (b .0) in
-    let m = rising-le o os end (b .1) in
-    omega arith
 
 -- the i-th part, and those after it
 pub record Cut (q : List ℕ) (i from to : ℕ) (ps : List (List ℕ)) : Type 0 where
@@ -33,14 +23,14 @@ cut-from : (from : ℕ) (os q : List ℕ) (i : ℕ) → rising from os (length q
     → Cut q i (getD (from ∷ os) i 0) (getD os i 0) (partsFrom from os (drop from q))
 cut-from from [] q i e h = absurd (omega arith)
 cut-from from (to ∷ os) q zero e h =
-    let b = both (leb from to) (rising to os (length q)) e in
+    let b = both-true (leb from to) (rising to os (length q)) e in
     record {
       here = ap (λ x. x ∷ partsFrom to os (drop (to - from) (drop from q))) (sym (slice-take from to q));
       low = leb-true from to (b .0);
       high = rising-le to os (length q) (b .1);
     }
 cut-from from (to ∷ os) q (suc i) e h =
-    let b = both (leb from to) (rising to os (length q)) e in
+    let b = both-true (leb from to) (rising to os (length q)) e in
     let l = leb-true from to (b .0) in
     let d : drop (to - from) (drop from q) ≡ drop to q = drop-drop (to - from) from q ∙ ap (λ n. drop n q) (let z : from + (to - from) ≡ to = omega arith in z) in
     let c = cut-from to os q i (b .1) (omega arith) in
@@ -58,14 +48,14 @@ count-from from (to ∷ os) ws = ap suc (count-from to os (drop (to - from) ws))
 rises-first : (first : ℕ) (os : List ℕ) (end : ℕ) → rises first os end ≡ true → (os ≡ first ∷ drop 1 os) × (rising first (drop 1 os) end ≡ true)
 rises-first first [] end e = absurd (let z : _≡_ {A = ℕ} 0 1 = cc in omega arith)
 rises-first first (o ∷ os) end e =
-    let b = both (eqb o first) (rising o os end) e in
+    let b = both-true (eqb o first) (rising o os end) e in
     let d = eqb-true o first (b .0) in
     (ap (λ x. x ∷ os) d, ap (λ x. rising x os end) (sym d) ∙ b .1)
 
 module _ (head n : ℕ) (q : List ℕ) (e : laidOut head n q ≡ true) where
   laid-parts : (leb (head + suc n) (length q) ≡ true) × (rises (head + suc n) (offsets head n q) (length q) ≡ true)
   unfolding laidOut
-  laid-parts = both (leb (head + suc n) (length q)) (rises (head + suc n) (offsets head n q) (length q)) e
+  laid-parts = both-true (leb (head + suc n) (length q)) (rises (head + suc n) (offsets head n q) (length q)) e
 
   pub table-fits : head + suc n ≤ length q
   table-fits = leb-true (head + suc n) (length q) (laid-parts .0)

@@ -1,8 +1,8 @@
 // Conjunctions that wait in a lent slice: the first at the low end, each with its length before it, the last ending at word 8,191.
-ghost use Prim.Native.Nat.{ℕ, _+_, _-_, _≤_, _<_};
+ghost use Prim.Native.Nat.{_+_, _-_, _≤_, _<_};
 ghost use mathlib.Core.Path.{_≡_};
 ghost use mathlib.Core.Bool.{true};
-ghost use mathlib.Core.List.{List, _∷_, _++_};
+ghost use mathlib.Core.List.{_∷_, _++_};
 ghost use lib.ListN.{length, drop, getD, set};
 ghost use lib.Seq.{slice, sets};
 ghost use Rattle.language.specs.Limits.{desk};

@@ -1,16 +1,15 @@
 -- What a step leaves, from the size of its results and what is written; and M2, whose results are by monomials.
-use Prim.Native.Nat.{ℕ, suc, _+_, _-_, _<_, _≤_}
+use Prim.Native.Nat.{ℕ, _+_, _-_, _<_, _≤_}
 use native.Mathlib.Omega.{arith}
 use mathlib.Core.Path.{_≡_, refl, sym, ap, _∙_, subst}
 use mathlib.Core.Bool.{Bool, true, false}
-use mathlib.Core.List.{List, [], _∷_, _++_, map}
-use mathlib.Core.Option.{Option, none, some}
+use mathlib.Core.List.{List, _++_, map}
+use mathlib.Core.Option.{none, some}
 use lib.ListN.{length}
-use Rattle.language.specs.Kinds.{pick}
 use Rattle.language.specs.Trees.{Hedge, ε, tvar, hvar, node, Expr, Literal, eqn, mem, Conj}
 use Rattle.rules.specs.Looks.{firstTerm}
 use Rattle.rules.specs.Expressions.{linear}
-use Rattle.rules.specs.Rules.{Branch, Answer, monomialResult, M2}
+use Rattle.rules.specs.Rules.{Branch, monomialResult, M2}
 use Rattle.plans.specs.Looks.{head, tail}
 use Rattle.plans.specs.Ranks.{eqnAnswer, memAnswer}
 use Rattle.plans.specs.Sizes.{framed, sized, placedWords, monomialWords}

@@ -1,13 +1,9 @@
 -- Case by case.
 use mathlib.Core.Path.{sym, ap, _∙_}
-use Rattle.marks.specs.Lone.{singleTerm, bareFunctor, sideVariable, loneVariable}
-use native.Mathlib.Omega.{arith}
+use Rattle.marks.specs.Lone.{bareFunctor}
 use borrow.Author.Needs.{needs}
 use Rattle.marks.proofs.bare_functor.Statement.{statement}
 use Rattle.marks.proofs.bare_functor.Tie as tie
-use Rattle.marks.proofs.bare_functor.Reads as reads
-use Rattle.marks.proofs.bare_functor.Lts as lts
-use Rattle.marks.proofs.and.Reads as and-reads
 
 enum-told : tie.Need-enum-told
 enum-told c = search needs

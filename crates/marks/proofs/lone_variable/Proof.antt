@@ -1,13 +1,9 @@
 -- Case by case.
 use mathlib.Core.Path.{sym, ap, _∙_}
-use Rattle.marks.specs.Lone.{singleTerm, bareFunctor, sideVariable, loneVariable}
-use native.Mathlib.Omega.{arith}
+use Rattle.marks.specs.Lone.{loneVariable}
 use borrow.Author.Needs.{needs}
 use Rattle.marks.proofs.lone_variable.Statement.{statement}
 use Rattle.marks.proofs.lone_variable.Tie as tie
-use Rattle.marks.proofs.lone_variable.Reads as reads
-use Rattle.marks.proofs.lone_variable.Lts as lts
-use Rattle.marks.proofs.chosen.Reads as chosen-reads
 
 enum-told : tie.Need-enum-told
 enum-told c = search needs

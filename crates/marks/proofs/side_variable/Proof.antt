@@ -1,17 +1,10 @@
 -- Case by case.
 use mathlib.Core.Path.{sym, ap, _∙_}
 use Rattle.marks.proofs.Sides.{term-chosen, node-chosen}
-use Rattle.marks.specs.Lone.{singleTerm, bareFunctor, sideVariable, loneVariable}
-use native.Mathlib.Omega.{arith}
+use Rattle.marks.specs.Lone.{sideVariable}
 use borrow.Author.Needs.{needs}
 use Rattle.marks.proofs.side_variable.Statement.{statement}
 use Rattle.marks.proofs.side_variable.Tie as tie
-use Rattle.marks.proofs.side_variable.Reads as reads
-use Rattle.marks.proofs.side_variable.Lts as lts
-use Rattle.marks.proofs.and.Reads as and-reads
-use Rattle.marks.proofs.bare_functor.Reads as bare-functor-reads
-use Rattle.marks.proofs.chosen.Reads as chosen-reads
-use Rattle.marks.proofs.single_term.Reads as single-term-reads
 
 enum-told : tie.Need-enum-told
 enum-told c = search needs

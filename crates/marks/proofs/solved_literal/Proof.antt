@@ -1,9 +1,8 @@
 -- An equation from its written side, then from the other; or a membership.
 use mathlib.Core.Path.{_≡_, sym, _∙_}
-use mathlib.Core.Bool.{true, false}
+use mathlib.Core.Bool.{true}
 use mathlib.Core.List.{_++_}
 use borrow.Author.Needs.{needs}
-use Rattle.language.specs.Trees.{Literal, Conj}
 use Rattle.rules.specs.Solved.{solvedLiteral}
 use Rattle.search.proofs.Walks.{at-equation, at-membership}
 use Rattle.marks.proofs.Marked.{written-solves, other-solves}

@@ -1,6 +1,4 @@
 -- 10, then what taking the step leaves: 7, 8, or the results in place.
-use native.Mathlib.Omega.{arith}
-use mathlib.Core.Path.{_≡_}
 use borrow.Author.Needs.{needs}
 use Rattle.solver.proofs.Advancing.{limit-met, took-too-long, took-no-room, took-step}
 use Rattle.solver.proofs.advance.Statement.{statement}

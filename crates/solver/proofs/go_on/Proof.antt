@@ -1,13 +1,12 @@
 -- The run is under way, and its end is that of the beginning.
-use Prim.Native.Nat.{_+_, _-_, _*_, _<_, _≤_}
-use native.Mathlib.Omega.{arith}
+use Prim.Native.Nat.{_-_}
 use mathlib.Core.Path.{_≡_, refl, _∙_}
 use mathlib.Core.List.{List}
 use Prim.Native.Nat.{ℕ}
 use lib.ListN.{length}
 use borrow.Author.Needs.{needs}
 use Rattle.language.specs.Trees.{Conj}
-use Rattle.solver.specs.Running.{Running, leftOf, measure, Begun}
+use Rattle.solver.specs.Running.{Running, leftOf, measure}
 use Rattle.solver.proofs.Gone.{Gone, turn-ready, run-over, gone-on, gone-less, gone-stop}
 use Rattle.solver.proofs.go_on.Statement.{statement}
 use Rattle.solver.proofs.go_on.Tie as tie

@@ -1,6 +1,4 @@
 -- A 513th line, a line past the room, or one line more.
-use native.Mathlib.Omega.{arith}
-use mathlib.Core.Path.{_≡_}
 use borrow.Author.Needs.{needs}
 use Rattle.solver.proofs.Going.{many-lines, long-line, next-line}
 use Rattle.solver.proofs.line.Statement.{statement}

@@ -3,7 +3,7 @@ use mathlib.Core.List.{[]}
 use borrow.Author.Needs.{needs}
 use Rattle.language.specs.Limits.{desk}
 use Rattle.language.specs.Question.{readQuestion}
-use Rattle.solver.specs.Running.{Begun, conjunctionsOf}
+use Rattle.solver.specs.Running.{conjunctionsOf}
 use Rattle.solver.proofs.Gone.{ends-as}
 use Rattle.solver.proofs.Asked.{asked-fits, asked-laid, begins, begin-left}
 use Rattle.solver.proofs.run.Statement.{statement}

@@ -1,6 +1,5 @@
 -- 1, then 2 to 6 by the reader, then the run.
-use native.Mathlib.Omega.{arith}
-use mathlib.Core.Path.{_≡_, sym, _∙_}
+use mathlib.Core.Path.{sym, _∙_}
 use borrow.Author.Needs.{needs}
 use Rattle.solver.proofs.Ending.{work-short, answer-short, not-read, was-read}
 use Rattle.solver.proofs.solve.Statement.{statement}

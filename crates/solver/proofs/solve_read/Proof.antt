@@ -1,6 +1,4 @@
 -- How the run ended, and what is cleared then.
-use native.Mathlib.Omega.{arith}
-use mathlib.Core.Path.{_≡_}
 use borrow.Author.Needs.{needs}
 use Rattle.solver.proofs.Ending.{leaves-lines, leaves-refusal}
 use Rattle.solver.proofs.solve_read.Statement.{statement}

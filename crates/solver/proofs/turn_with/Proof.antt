@@ -1,6 +1,5 @@
 -- A line where nothing is found, else a step.
 use native.Mathlib.Omega.{arith}
-use mathlib.Core.Path.{_≡_}
 use borrow.Author.Needs.{needs}
 use Rattle.solver.proofs.Advancing.{none-found}
 use Rattle.solver.proofs.turn_with.Statement.{statement}

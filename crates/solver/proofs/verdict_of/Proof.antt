@@ -1,7 +1,5 @@
 -- By the two tests.
-use mathlib.Core.Path.{_≡_}
 use borrow.Author.Tests.{eq-eqb, ne-eqb, lt-ltb, le-ltb}
-use borrow.Author.Needs.{needs}
 use Rattle.solver.proofs.verdict_of.Statement.{statement}
 use Rattle.solver.proofs.verdict_of.Tie as tie
 

@@ -1,12 +1,12 @@
 -- The last conjunctions wait, from the i-th on, and the words before them still fit.
-use Prim.Native.Nat.{ℕ, _+_, _-_, _<_, _≤_}
+use Prim.Native.Nat.{_+_, _-_, _≤_}
 use native.Mathlib.Omega.{arith}
-use mathlib.Core.Path.{_≡_, refl, sym, ap, subst, _∙_}
+use mathlib.Core.Path.{_≡_, ap, subst}
 use lib.ListN.{length, drop, getD}
 use borrow.Author.Needs.{needs}
 use Rattle.language.specs.Question.{parts}
 use Rattle.stack.specs.Waiting.{Waiting}
-use Rattle.stack.proofs.Cutting.{Cut, table-fits}
+use Rattle.stack.proofs.Cutting.{table-fits}
 use Rattle.stack.proofs.Pushing.{cut-before, laid-none, laid-more}
 use Rattle.stack.proofs.lay_out.Statement.{statement}
 use Rattle.stack.proofs.lay_out.Tie as tie

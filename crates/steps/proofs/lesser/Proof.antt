@@ -1,7 +1,6 @@
 -- By the test.
 use mathlib.Core.Path.{sym, ap}
 use borrow.Author.Tests.{lt-ltb, le-ltb}
-use borrow.Author.Needs.{needs}
 use Rattle.language.specs.Kinds.{pick}
 use Rattle.steps.proofs.lesser.Statement.{statement}
 use Rattle.steps.proofs.lesser.Tie as tie

@@ -1,7 +1,6 @@
 -- The plan of the side that the rank was found from, or of the membership.
-use mathlib.Core.Path.{_≡_, sym, ap, subst}
+use mathlib.Core.Path.{_≡_}
 use mathlib.Core.List.{_++_}
-use mathlib.Core.Bool.{true, false}
 use borrow.Author.Needs.{needs}
 use Rattle.search.specs.Ranking.{sideAnswer}
 use Rattle.search.proofs.Walks.{at-equation, at-membership}

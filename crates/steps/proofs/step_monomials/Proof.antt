@@ -1,6 +1,4 @@
 -- By the size of the results.
-use mathlib.Core.Path.{_≡_, refl}
-use native.Mathlib.Omega.{arith}
 use borrow.Author.Needs.{needs}
 use Rattle.plans.specs.Sizes.{monomialWords}
 use Rattle.steps.proofs.Taken.{took-long, took-room, took-ready, took-done}

@@ -1,8 +1,5 @@
 -- By the size of the results.
-use mathlib.Core.Path.{_≡_, refl}
-use native.Mathlib.Omega.{arith}
 use borrow.Author.Needs.{needs}
-use Rattle.plans.specs.Results.{resultsOf}
 use Rattle.steps.proofs.Taken.{took-long, took-room, took-ready, took-done}
 use Rattle.steps.proofs.step_planned.Statement.{statement}
 use Rattle.steps.proofs.step_planned.Tie as tie

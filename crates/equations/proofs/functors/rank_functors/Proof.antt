@@ -29,13 +29,13 @@ returns-6 : tie.Need-returns-6
 returns-6 c = λ before behind l r F G h d w p x q y b.
     sym (ap (λ t. pick t 17 28) (c .if6 .taken))
     ∙ blank-bare (before ++ behind) h d _ _ F G p x q (c .before .before .before .before .if1 .left) (c .before .before .before .if4 .left) (sym b ∙ not-false (c .before .before .if5 .left)) _
-      (λ X e n. c .before .both-elsewhere .ensures before behind l r X G w e n q y)
+    (λ X e n. c .before .both-elsewhere .ensures before behind l r X G w e n q y)
 
 returns-7 : tie.Need-returns-7
 returns-7 c = λ before behind l r F G h d w p x q y b.
     sym (ap (λ t. pick t 17 28) (c .if6 .left))
     ∙ blank-bare (before ++ behind) h d _ _ F G p x q (c .before .before .before .before .if1 .left) (c .before .before .before .if4 .left) (sym b ∙ not-false (c .before .before .if5 .left)) _
-      (λ X e n. c .before .both-elsewhere .ensures before behind l r X G w e n q y)
+    (λ X e n. c .before .both-elsewhere .ensures before behind l r X G w e n q y)
 
 pub rank-functors-spec : {M : Type 1} → statement M
 rank-functors-spec =

@@ -46,7 +46,7 @@ returns-4 : tie.Need-returns-4
 returns-4 c = λ q s r e before behind w. c .rank-run-term .ensures q s r e (begins-term r (sym (c .before .enum-told2 .given .1) ∙ w .right .look)) before behind w
 
 returns-5 : tie.Need-returns-5
-returns-5 c = λ q s r e before behind w. 
+returns-5 c = λ q s r e before behind w.
     at-run (λ m. Ranks (c .before .before .before .before .before .before .args .k .now) (c .before .before .before .before .before .before .args .v) (hvar q s) m (c .rank-run-run .result)) r (sym (c .before .before .look .given .1) ∙ w .right .look) (λ u t f. c .rank-run-run .ensures q u s t _ e f) before behind w
 
 returns-6 : tie.Need-returns-6

@@ -13,7 +13,7 @@ rank-struck-requires : tie.Need-rank-struck-requires
 rank-struck-requires c κs = search needs
 
 returns : tie.Need-returns
-returns c = λ q u s t more e f. 
+returns c = λ q u s t more e f.
     subst (λ u. Ranks (c .before .before .before .args .k .now) (c .before .before .before .args .v) (hvar q s) (hvar u t) (c .rank-struck .result)) (same-run q u (run-parts e .0) (run-parts f .0) (c .before .if1 .taken)) (c .rank-struck .ensures q s t (run-parts e .1))
 
 rank-lonely-requires : tie.Need-rank-lonely-requires

@@ -1,0 +1,4 @@
+pub mod Shown
+pub mod Fillings
+pub mod Answers
+pub mod Exhibits

@@ -1,0 +1,5 @@
+pub mod Unsolved
+pub mod Spelling
+pub mod Parts
+pub mod Bound
+pub mod Rows
