@@ -8,7 +8,7 @@ use native.Mathlib.Numerals.{add-one}
 use lib.ListN.{length, getD, set, take, drop, length-drop}
 use borrow.Author.Tests.{eq-eqb, ne-eqb, le-leb, lt-leb}
 use lib.Seq.{sets, drop-cons, drop-length, sets-eq, take-at}
-use Rattle.host.specs.Bytes.{wordOf, wordsOf, bytesOf, wordsIn, fitting}
+use Rattle.host.specs.Bytes.{wordOf, wordsOf, bytesOf, wordsIn, fitting, used}
 
 -- ---- lengths
 
@@ -127,3 +127,12 @@ module _ (bs : List ℕ) (room : ℕ) where
         let f : length (wordsOf bs) ≡ length bs / 2 = length-wordsOf bs in
         ap (take (length bs / 2)) (e ∙ sets-eq (wordsOf bs) words 0 (omega arith)) ∙ take-at (wordsOf bs) _ (length bs / 2) f
         ∙ sym (ap (fitting room) (even-holds bs even) ∙ fitting-all room (wordsOf bs) (omega arith))
+
+module _ (most lent : ℕ) where
+  pub used-all : lent ≤ most → used most lent ≡ lent
+  unfolding used
+  used-all h = simp (le-leb _ _ h)
+
+  pub used-most : most < lent → used most lent ≡ most
+  unfolding used
+  used-most h = simp (lt-leb _ _ h)
