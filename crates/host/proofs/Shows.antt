@@ -106,8 +106,8 @@ writes (denied x) k n own own′ bytes bytes′ h room eo e f eb = let z : numbe
 -- ---- the returns
 
 module _ (q w o own w′ o′ own′ bytes : List ℕ) (line : ℕ) (r : Shown) (k : ℕ)
-  (work : length w ≡ 8192) (answer : length o ≡ 8192)
-  (e : (r, w′, o′, own′) ≡ exhibits line q w o own) (number : k ≡ shownNumber r) where
+    (work : length w ≡ 8192) (answer : length o ≡ 8192)
+    (e : (r, w′, o′, own′) ≡ exhibits line q w o own) (number : k ≡ shownNumber r) where
   abbrev comes : Showing
   comes = showing desk 8192 8192 (length own) line q
 
