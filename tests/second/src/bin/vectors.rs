@@ -4,46 +4,8 @@
 use std::path::{Path, PathBuf};
 use std::process::ExitCode;
 
+use second::records::{cases, Case};
 use second::{example, solve, try_filling};
-
-/// One record: its name and, for each letter, the numbers behind it.
-struct Case {
-    name: String,
-    fields: Vec<(char, Vec<u32>)>,
-}
-
-impl Case {
-    fn field(&self, letter: char) -> Option<&[u32]> {
-        self.fields.iter().find(|field| field.0 == letter).map(|field| &field.1[..])
-    }
-
-    fn needed(&self, letter: char) -> &[u32] {
-        self.field(letter).unwrap_or_else(|| panic!("case {} has no line {letter}", self.name))
-    }
-
-    fn words(&self, letter: char) -> Vec<u16> {
-        self.needed(letter).iter().map(|number| *number as u16).collect()
-    }
-}
-
-/// Reads the records of a file.
-fn cases(path: &Path) -> Vec<Case> {
-    let text = std::fs::read_to_string(path)
-        .unwrap_or_else(|error| panic!("cannot read {}: {error}", path.display()));
-    let mut cases: Vec<Case> = Vec::new();
-    for line in text.lines() {
-        if let Some(name) = line.strip_prefix('#') {
-            cases.push(Case { name: name.trim().to_string(), fields: Vec::new() });
-        } else if let Some(letter) = line.chars().next() {
-            let numbers = line[1..].split_whitespace().map(|word| {
-                word.parse().unwrap_or_else(|_| panic!("{word} is no number in {line}"))
-            });
-            let case = cases.last_mut().expect("a record starts with its name");
-            case.fields.push((letter, numbers.collect()));
-        }
-    }
-    cases
-}
 
 /// What a case expects and what the desk gives, both as lines of numbers.
 type Compare = fn(&Case) -> (Vec<u32>, Vec<u32>);

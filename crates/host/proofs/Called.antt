@@ -1,0 +1,57 @@
+-- What solving on words ensures, told of the bytes: the words lent come to what the bytes come to.
+use Prim.Native.Nat.{ℕ, _/_, _≤_}
+use mathlib.Core.Path.{_≡_, refl, ap, _∙_}
+use mathlib.Core.List.{List, _++_, append-nil}
+use native.Mathlib.Omega.{arith}
+use lib.ListN.{length, drop, drop-of-length-le}
+use lib.Seq.{sets}
+use Rattle.language.specs.Limits.{desk}
+use Rattle.rules.specs.Answer.{Verdict, noLine, allSolved, someOpen, verdictOf, Solving, answered, unread, given-up, solving}
+use Rattle.solver.specs.declared.Solved.{Solved}
+use Rattle.solver.specs.Leaves.{verdict, leaves}
+use Rattle.host.specs.Bytes.{bytesOf, wordsIn, fitting}
+use Rattle.host.specs.Numbers.{outcomeNumber, solvedNumber}
+use Rattle.host.specs.Host.{solvingBytes, solveNumber}
+use Rattle.host.proofs.Refusals.{Numbered, numbered}
+use Rattle.host.proofs.Solves.{Left, Own, same, kept, wrote, bytes-left}
+
+no-refusal : (v : Verdict) → outcomeNumber (verdict v) ≡ 0
+no-refusal noLine = refl
+no-refusal allSolved = refl
+no-refusal someOpen = refl
+
+none-behind : (ws own : List ℕ) → length own ≡ 8192 → ws ++ drop 8192 own ≡ ws
+none-behind ws own e = ap (λ (l : List ℕ). ws ++ l) (drop-of-length-le own {i = 8192} (omega arith)) ∙ append-nil ws
+
+-- the number and the desk's own answer slice
+read-off : (s : Solving) (r : Solved) (w o w′ o′ : List ℕ) → length o ≡ 8192 → (r, w′, o′) ≡ leaves s w o → (solvedNumber r ≡ solveNumber s) × Own s o′
+unfolding solveNumber
+read-off (answered ls n) r w o w′ o′ n8 e =
+    (ap (λ (t : Solved × List ℕ × List ℕ). solvedNumber (t .0)) e ∙ no-refusal (verdictOf ls), ap (λ (t : Solved × List ℕ × List ℕ). t .2) e ∙ none-behind _ o n8)
+read-off (unread x) r w o w′ o′ n8 e = (ap (λ (t : Solved × List ℕ × List ℕ). solvedNumber (t .0)) e, tt)
+read-off (given-up x) r w o w′ o′ n8 e =
+    (ap (λ (t : Solved × List ℕ × List ℕ). solvedNumber (t .0)) e, ap (λ (t : Solved × List ℕ × List ℕ). t .2) e ∙ none-behind _ o n8)
+
+module _ (q a : List ℕ) (room : 16384 ≤ length a)
+    (ws w o w′ o′ : List ℕ) (r : Solved) (k : ℕ)
+    (lent : ws ≡ fitting 1024 (wordsIn q)) (work : length w ≡ 8192) (own : length o ≡ 8192)
+    (solved : (r, w′, o′) ≡ leaves (solving desk (length w) (length o) ws) w o)
+    (number : k ≡ solvedNumber r) where
+  abbrev comes : Solving
+  comes = solvingBytes desk (length a) q
+
+  comes-to : solving desk (length w) (length o) ws ≡ comes
+  comes-to = rw (work, own, lent) (same q a room)
+
+  told : (solvedNumber r ≡ solveNumber comes) × Own comes o′
+  told = read-off comes r w o w′ o′ own (solved ∙ ap (λ (s : Solving). leaves s w o) comes-to)
+
+  some-number : Numbered comes
+  unfolding solvingBytes
+  some-number = numbered desk 8192 (length a / 2) (wordsIn q)
+
+  pub refused-early : 1 ≤ k → k ≤ 6 → Left q a comes k a
+  refused-early low high = kept q a room comes k some-number (number ∙ told .0) low high
+
+  pub answered-or-late : (a′ : List ℕ) → (1 ≤ k → k ≤ 6 → ⊥) → length o′ ≡ 8192 → a′ ≡ sets a 0 (bytesOf o′) → Left q a comes k a′
+  answered-or-late a′ h n e = wrote q a room comes k o′ a′ some-number (number ∙ told .0) h (told .1) (bytes-left q a room o′ a′ n e)

@@ -1,0 +1,135 @@
+-- What does not fit is refused for its length, and so is nothing at all: the calls answer the words that fit as they answer all words.
+use Prim.Native.Nat.{ℕ, suc, _+_, _≤_, _<_}
+use mathlib.Core.Path.{_≡_, refl, ap, _∙_, sym}
+use mathlib.Core.Bool.{Bool, true, false, _&&_, _||_}
+use mathlib.Core.List.{List, []}
+use mathlib.Core.Option.{Option, none, some}
+use native.Mathlib.Omega.{arith}
+use lib.Dec.{leb, ltb, eqb}
+use lib.ListN.{length, getD}
+use borrow.Author.Tests.{leb-true, leb-false, ltb-false, lt-leb, le-ltb}
+use Rattle.language.specs.declared.Refusal.{Refusal}
+use Rattle.language.specs.declared.Refusal.the-variants.{ShortSlice, QuestionLength, FillingLayout, LongExample, OpenLine}
+use Rattle.language.specs.Kinds.{pick}
+use Rattle.language.specs.Limits.{Limits, desk}
+use Rattle.language.specs.Trees.{Conj, Counts, Question}
+use Rattle.language.specs.Question.{Asked, asks, refuses, readQuestion, lengthFits, countsFit, laidOut, rises, offsets, countsOf}
+use Rattle.meaning.specs.Values.{Given, readFilling, variables, fillingWords}
+use Rattle.meaning.specs.Values as values
+use Rattle.rules.specs.Solved.{solved}
+use Rattle.rules.specs.Example.{example}
+use Rattle.rules.specs.Answer.{Solving, answered, unread, given-up, solvingOf, solving}
+use Rattle.rules.specs.Calls.{Trying, tryingWith, tryingOf, trying, Showing, shows, denied, lineAt, fitted, shown, showingOf, showing}
+use Rattle.rules.specs.Calls as calls
+use Rattle.host.specs.Bytes.{fitting, used}
+
+and-false : (b : Bool) → (b && false) ≡ false
+and-false true = refl
+and-false false = refl
+
+-- ---- a question
+
+at-first : (b : Bool) (x : Asked) → b ≡ false → elim b [ false ↦ refuses QuestionLength | true ↦ x ] ≡ refuses QuestionLength
+at-first b x e = ap (λ (t : Bool). elim t [ false ↦ refuses QuestionLength | true ↦ x ]) e
+
+pub long-question : (ws : List ℕ) → 1024 < length ws → readQuestion desk ws ≡ refuses QuestionLength
+unfolding readQuestion lengthFits
+long-question ws h =
+    let e : leb (length ws) 1024 ≡ false = lt-leb _ _ h in
+    let f : lengthFits desk ws ≡ false = ap (λ (b : Bool). leb 6 (length ws) && b) e ∙ and-false (leb 6 (length ws)) in
+    at-first (lengthFits desk ws) _ f
+
+pub no-question : readQuestion desk [] ≡ refuses QuestionLength
+unfolding readQuestion lengthFits
+no-question = refl
+
+pub fitting-question : (ws : List ℕ) → readQuestion desk (fitting 1024 ws) ≡ readQuestion desk ws
+unfolding fitting
+fitting-question ws = go (leb (length ws) 1024) refl where
+  go : (b : Bool) → leb (length ws) 1024 ≡ b → readQuestion desk (pick b ws []) ≡ readQuestion desk ws
+  go true e = refl
+  go false e = no-question ∙ sym (long-question ws (leb-false _ _ e))
+
+pub fitting-solving : (work answer : ℕ) (ws : List ℕ) → solving desk work answer (fitting 1024 ws) ≡ solving desk work answer ws
+unfolding solving
+fitting-solving work answer ws =
+    ap
+    (λ (a : Asked).
+    elim (ltb work 8192) [
+      | true ↦ unread ShortSlice
+      | false ↦ elim (ltb answer 8192) [ true ↦ unread ShortSlice | false ↦ solvingOf desk a ]
+    ])
+    (fitting-question ws)
+
+-- ---- a filling
+
+at-layout : (b : Bool) (x : Given) → b ≡ false → elim b [ false ↦ values.refuses FillingLayout | true ↦ x ] ≡ values.refuses FillingLayout
+at-layout b x e = ap (λ (t : Bool). elim t [ false ↦ values.refuses FillingLayout | true ↦ x ]) e
+
+module _ (n : Counts) where
+  pub long-filling : (fs : List ℕ) → 4096 < length fs → readFilling desk n fs ≡ values.refuses FillingLayout
+  unfolding readFilling
+  long-filling fs h =
+      at-layout _ _ (ap (λ (b : Bool). b && eqb (getD fs 0 0) (variables n) && laidOut 1 (variables n) fs) (lt-leb (length fs) 4096 h))
+
+  pub no-filling : readFilling desk n [] ≡ values.refuses FillingLayout
+  unfolding readFilling laidOut
+  no-filling =
+      let e : leb (1 + suc (variables n)) 0 ≡ false = lt-leb (1 + suc (variables n)) 0 (omega arith) in
+      let f : laidOut 1 (variables n) [] ≡ false = ap (λ (b : Bool). b && rises (1 + suc (variables n)) (offsets 1 (variables n) []) 0) e in
+      at-layout _ _ (ap (λ (b : Bool). true && eqb 0 (variables n) && b) f ∙ and-false (eqb 0 (variables n)))
+
+  pub fitting-filling : (fs : List ℕ) → readFilling desk n (fitting 4096 fs) ≡ readFilling desk n fs
+  unfolding fitting
+  fitting-filling fs = go (leb (length fs) 4096) refl where
+    go : (b : Bool) → leb (length fs) 4096 ≡ b → readFilling desk n (pick b fs []) ≡ readFilling desk n fs
+    go true e = refl
+    go false e = no-filling ∙ sym (long-filling fs (leb-false _ _ e))
+
+pub fitting-trying : (work : ℕ) (ws fs : List ℕ) → trying desk work (fitting 1024 ws) (fitting 4096 fs) ≡ trying desk work ws fs
+unfolding trying
+fitting-trying work ws fs =
+    ap (λ (a : Asked). elim (ltb work 8192) [ true ↦ calls.unread ShortSlice | false ↦ tryingOf desk a (fitting 4096 fs) ]) (fitting-question ws)
+    ∙ ap (λ (t : Trying). elim (ltb work 8192) [ true ↦ calls.unread ShortSlice | false ↦ t ]) (each (readQuestion desk ws))
+  where
+    each : (a : Asked) → tryingOf desk a (fitting 4096 fs) ≡ tryingOf desk a fs
+    each (asks q) = ap (tryingWith desk q) (fitting-filling (q .counts) fs)
+    each (refuses r) = refl
+
+-- ---- an example
+
+abbrev over : List ℕ → Bool → Showing
+over ws b = elim b [ true ↦ denied LongExample | false ↦ shows ws ]
+
+-- a room of more words than a filling may have is as good as one of so many
+fitted-used : (room : ℕ) (ws : List ℕ) → fitted desk (used 4096 room) ws ≡ fitted desk room ws
+unfolding used
+fitted-used room ws = go (leb room 4096) refl where
+  wide : (b : Bool) → ltb 4096 (length ws) ≡ b → 4096 < room → over ws (b || ltb 4096 (length ws)) ≡ over ws (b || ltb room (length ws))
+  wide true e h = refl
+  wide false e h = let le : length ws ≤ 4096 = ltb-false _ _ e in ap (over ws) (e ∙ sym (le-ltb room (length ws) (omega arith)))
+
+  go : (b : Bool) → leb room 4096 ≡ b → fitted desk (pick b room 4096) ws ≡ fitted desk room ws
+  go true e = refl
+  go false e = wide (ltb 4096 (length ws)) refl (leb-false _ _ e)
+
+shown-used : (n : Counts) (room : ℕ) (o : Option Conj) → shown desk n (used 4096 room) o ≡ shown desk n room o
+shown-used n room none = refl
+shown-used n room (some k) =
+    ap (λ (s : Showing). elim (solved k) [ true ↦ s | false ↦ denied OpenLine ]) (fitted-used room (fillingWords n (example k)))
+
+showing-used : (n : Counts) (room line : ℕ) (s : Solving) → showingOf desk n (used 4096 room) line s ≡ showingOf desk n room line s
+showing-used n room line (answered ls steps) = shown-used n room (lineAt line ls)
+showing-used n room line (unread r) = refl
+showing-used n room line (given-up r) = refl
+
+refused-showing : (room line : ℕ) (ws : List ℕ) → readQuestion desk ws ≡ refuses QuestionLength → showing desk 8192 8192 room line ws ≡ denied QuestionLength
+unfolding showing solving
+refused-showing room line ws e = ap (λ (a : Asked). showingOf desk (countsOf ws) room line (solvingOf desk a)) e
+
+pub fitting-showing : (room line : ℕ) (ws : List ℕ) → showing desk 8192 8192 (used 4096 room) line (fitting 1024 ws) ≡ showing desk 8192 8192 room line ws
+unfolding fitting showing
+fitting-showing room line ws = go (leb (length ws) 1024) refl where
+  go : (b : Bool) → leb (length ws) 1024 ≡ b → showing desk 8192 8192 (used 4096 room) line (pick b ws []) ≡ showing desk 8192 8192 room line ws
+  go true e = showing-used (countsOf ws) room line (solving desk 8192 8192 ws)
+  go false e = refused-showing _ line [] no-question ∙ sym (refused-showing room line ws (long-question ws (leb-false _ _ e)))

@@ -1,0 +1,106 @@
+-- Which numbers a question's reading and its run can give: 1 to 6 before the run, 7 to 10 from it.
+use Prim.Native.Nat.{ℕ, zero, suc, _≤_}
+use mathlib.Core.Bool.{Bool, true, false}
+use mathlib.Core.List.{List, [], _∷_, _++_}
+use mathlib.Core.Option.{Option, none, some}
+use lib.Dec.{lit≤, ltb}
+use Rattle.language.specs.declared.Refusal.{Refusal}
+use Rattle.language.specs.declared.Refusal.the-variants.{ShortSlice, QuestionLength, CountRange, BadOffset, NotLiterals, Undeclared, LongResult, LongWaiting, LineRoom, StepLimit}
+use Rattle.language.specs.Limits.{Limits}
+use Rattle.language.specs.Numbers.{numberOf}
+use Rattle.language.specs.Trees.{Conj, Question}
+use Rattle.language.specs.Question.{Asked, asks, refuses, readQuestion, lengthFits, countsFit, laidOut, readAll, parts, declaredQ, countsOf, alternativesOf}
+use Rattle.rules.specs.Run.{Outcome, finished, refused, turn, lined, checked, anyLong, waitingSize, linesFit, runFrom, run}
+use Rattle.rules.specs.Step.{step}
+use Rattle.rules.specs.Answer.{Solving, answered, unread, given-up, ran, solvingOf, solving}
+
+abbrev pub Between : ℕ → ℕ → Refusal → Type 0
+Between low high r = (low ≤ numberOf r) × (numberOf r ≤ high)
+
+-- ---- the reading
+
+abbrev Early : Asked → Type 0
+Early (asks q) = Unit {0}
+Early (refuses r) = Between 1 6 r
+
+tested : (b : Bool) (r : Refusal) (x : Asked) → Between 1 6 r → Early x → Early (elim b [ false ↦ refuses r | true ↦ x ])
+tested false r x h e = h
+tested true r x h e = e
+
+read : (o : Option (List Conj)) (go : List Conj → Asked) → ((ks : List Conj) → Early (go ks)) → Early (elim o [ none ↦ refuses NotLiterals | some ks ↦ go ks ])
+read none go h = (lit≤ tt, lit≤ tt)
+read (some ks) go h = h ks
+
+early : (L : Limits) (ws : List ℕ) → Early (readQuestion L ws)
+unfolding readQuestion
+early L ws =
+    tested (lengthFits L ws) QuestionLength _ (lit≤ tt, lit≤ tt)
+    (tested (countsFit L (countsOf ws) (alternativesOf ws)) CountRange _ (lit≤ tt, lit≤ tt)
+    (tested (laidOut 5 (alternativesOf ws) ws) BadOffset _ (lit≤ tt, lit≤ tt)
+    (read (readAll L (parts 5 (alternativesOf ws) ws)) _
+    (λ ks. tested (declaredQ (countsOf ws) ks) Undeclared _ (lit≤ tt, lit≤ tt) tt))))
+
+-- ---- the run
+
+abbrev Late : Outcome → Type 0
+Late (finished ls n) = Unit {0}
+Late (refused r) = Between 7 10 r
+
+late-lined : (b : Bool) (x : Outcome) → Late x → Late (elim b [ true ↦ x | false ↦ refused LineRoom ])
+late-lined true x h = h
+late-lined false x h = (lit≤ tt, lit≤ tt)
+
+late-turned : (o : Option (List Conj)) (go : List Conj → Outcome) (x : Outcome) → ((ks : List Conj) → Late (go ks)) → Late x
+    → Late (elim o [ some ks ↦ go ks | none ↦ x ])
+late-turned (some ks) go x h e = h ks
+late-turned none go x h e = e
+
+late-turn : (L : Limits) (go : List Conj → List Conj → List Conj → Outcome) → ((ls ks w : List Conj) → Late (go ls ks w)) → (n : ℕ) (ls w : List Conj)
+    → Late (turn L go n ls w)
+late-turn L go h n ls [] = tt
+late-turn L go h n ls (k ∷ w) =
+    late-turned (step k) (λ ks. go ls ks (ks ++ w)) _ (λ ks. h ls ks (ks ++ w))
+    (late-lined (linesFit L (ls ++ (k ∷ []))) _ (late-turn L go h n (ls ++ (k ∷ [])) w))
+
+late-tested : (b : Bool) (r : Refusal) (x : Outcome) → Between 7 10 r → Late x → Late (elim b [ true ↦ refused r | false ↦ x ])
+late-tested true r x h e = h
+late-tested false r x h e = e
+
+late-from : (L : Limits) (d n : ℕ) (ls w : List Conj) → Late (runFrom L d n ls w)
+unfolding runFrom
+late-from L zero n ls w = late-turn L _ (λ ms ks v. (lit≤ tt, lit≤ tt)) n ls w
+late-from L (suc d) n ls w =
+    late-turn L _
+    (λ ms ks v.
+    late-tested (anyLong L ks) LongResult _ (lit≤ tt, lit≤ tt)
+    (late-tested (ltb (L .room) (waitingSize v)) LongWaiting _ (lit≤ tt, lit≤ tt) (late-from L d (suc n) ms v)))
+    n ls w
+
+late : (L : Limits) (w : List Conj) → Late (run L w)
+unfolding run
+late L w = late-from L (L .steps) 0 [] w
+
+-- ---- solving
+
+-- "1 to 6 ..: unchanged"; "7 to 10: zeros"
+abbrev pub Numbered : Solving → Type 0
+Numbered (answered ls n) = Unit {0}
+Numbered (unread r) = Between 1 6 r
+Numbered (given-up r) = Between 7 10 r
+
+numbered-run : (o : Outcome) → Late o → Numbered (ran o)
+numbered-run (finished ls n) h = tt
+numbered-run (refused r) h = h
+
+numbered-asked : (L : Limits) (a : Asked) → Early a → Numbered (solvingOf L a)
+numbered-asked L (asks q) h = numbered-run (run L (q .alternatives)) (late L (q .alternatives))
+numbered-asked L (refuses r) h = h
+
+numbered-tested : (b : Bool) (s : Solving) → Numbered s → Numbered (elim b [ true ↦ unread ShortSlice | false ↦ s ])
+numbered-tested true s h = (lit≤ tt, lit≤ tt)
+numbered-tested false s h = h
+
+pub numbered : (L : Limits) (work answer : ℕ) (ws : List ℕ) → Numbered (solving L work answer ws)
+unfolding solving
+numbered L work answer ws =
+    numbered-tested (ltb work (L .room)) _ (numbered-tested (ltb answer (L .room)) _ (numbered-asked L (readQuestion L ws) (early L ws)))

@@ -1,0 +1,143 @@
+-- What the returns of desk_example cite: how long an example can be, and how the room's bytes are left.
+use Prim.Native.Nat.{ℕ, _+_, _*_, _/_, _≤_, _<_}
+use mathlib.Core.Path.{_≡_, refl, ap, _∙_}
+use mathlib.Core.Bool.{Bool, true, false, _||_}
+use mathlib.Core.List.{List}
+use mathlib.Core.Option.{Option, none, some}
+use native.Mathlib.Omega.{arith}
+use lib.Dec.{ltb, lit≤}
+use lib.ListN.{length, take, drop}
+use lib.Seq.{sets, take-at}
+use borrow.Author.Tests.{ltb-false}
+use Rattle.language.specs.declared.Refusal.{Refusal}
+use Rattle.language.specs.declared.Refusal.the-variants.{ShortSlice, QuestionLength, CountRange, BadOffset, NotLiterals, Undeclared, LongResult, LongWaiting, LineRoom, StepLimit, FillingLayout, FillingValue, LongLiteral, NoSuchLine, OpenLine, LongExample}
+use Rattle.language.specs.Limits.{desk}
+use Rattle.language.specs.Numbers.{numberOf}
+use Rattle.language.specs.Trees.{Conj, Counts}
+use Rattle.language.specs.Question.{countsOf}
+use Rattle.meaning.specs.Values.{fillingWords}
+use Rattle.rules.specs.Solved.{solved}
+use Rattle.rules.specs.Example.{example}
+use Rattle.rules.specs.Answer.{Solving, answered, unread, given-up, solving}
+use Rattle.rules.specs.Calls.{Showing, shows, denied, lineAt, fitted, shown, showingOf, showing}
+use Rattle.showing.specs.declared.Shown.{Shown}
+use Rattle.showing.specs.Shown.{resultOf, roomOf}
+use Rattle.showing.specs.Exhibits.{exhibits}
+use Rattle.host.specs.Bytes.{bytesOf, wordsIn, fitting, used}
+use Rattle.host.specs.Numbers.{shownNumber}
+use Rattle.host.specs.Host.{showingBytes, showNumber, showLeaves}
+use Rattle.host.proofs.Pairs.{written, used-all}
+use Rattle.host.proofs.Fitting.{fitting-showing}
+
+-- ---- how long an example can be
+
+abbrev pub Fits : ℕ → Showing → Type 0
+Fits room (shows ws) = (length ws ≤ 4096) × (length ws ≤ room)
+Fits room (denied r) = Unit {0}
+
+fits-fitted : (room : ℕ) (ws : List ℕ) → Fits room (fitted desk room ws)
+fits-fitted room ws = go (ltb 4096 (length ws)) (ltb room (length ws)) refl refl where
+  go : (b t : Bool) → ltb 4096 (length ws) ≡ b → ltb room (length ws) ≡ t → Fits room (elim (b || t) [ true ↦ denied LongExample | false ↦ shows ws ])
+  go true t e f = tt
+  go false true e f = tt
+  go false false e f = (ltb-false _ _ e, ltb-false _ _ f)
+
+fits-line : (b : Bool) (room : ℕ) (s : Showing) → Fits room s → Fits room (elim b [ true ↦ s | false ↦ denied OpenLine ])
+fits-line true room s h = h
+fits-line false room s h = tt
+
+fits-shown : (n : Counts) (room : ℕ) (o : Option Conj) → Fits room (shown desk n room o)
+fits-shown n room none = tt
+fits-shown n room (some k) = fits-line (solved k) room _ (fits-fitted room (fillingWords n (example k)))
+
+fits-solved : (n : Counts) (room line : ℕ) (s : Solving) → Fits room (showingOf desk n room line s)
+fits-solved n room line (answered ls steps) = fits-shown n room (lineAt line ls)
+fits-solved n room line (unread r) = tt
+fits-solved n room line (given-up r) = tt
+
+pub fits : (work answer room line : ℕ) (ws : List ℕ) → Fits room (showing desk work answer room line ws)
+unfolding showing
+fits work answer room line ws = fits-solved (countsOf ws) room line (solving desk work answer ws)
+
+-- ---- the number
+
+small : (r : Refusal) → numberOf r ≤ 16
+small ShortSlice = lit≤ tt
+small QuestionLength = lit≤ tt
+small CountRange = lit≤ tt
+small BadOffset = lit≤ tt
+small NotLiterals = lit≤ tt
+small Undeclared = lit≤ tt
+small LongResult = lit≤ tt
+small LongWaiting = lit≤ tt
+small LineRoom = lit≤ tt
+small StepLimit = lit≤ tt
+small FillingLayout = lit≤ tt
+small FillingValue = lit≤ tt
+small LongLiteral = lit≤ tt
+small NoSuchLine = lit≤ tt
+small OpenLine = lit≤ tt
+small LongExample = lit≤ tt
+
+told : (s : Showing) (room k : ℕ) (r : Shown) → Fits room s → r ≡ resultOf s → k ≡ shownNumber r → k ≡ showNumber s
+unfolding showNumber
+told (shows ws) room k r h e f = f ∙ ap shownNumber e ∙ ap (λ (n : ℕ). 100 + n) (used-all 4096 (length ws) (h .0))
+told (denied x) room k r h e f = f ∙ ap shownNumber e
+
+refuses : (s : Showing) (k : ℕ) (bytes : List ℕ) → k ≡ showNumber s → k < 100 → bytes ≡ showLeaves s bytes
+unfolding showNumber showLeaves
+refuses (shows ws) k bytes e h = absurd (omega arith)
+refuses (denied x) k bytes e h = refl
+
+within : (s : Showing) (room k n : ℕ) → Fits room s → k ≡ showNumber s → k ≡ 100 + n → n ≤ room
+unfolding showNumber
+within (shows ws) room k n h e f = omega arith
+within (denied x) room k n h e f = let z : numberOf x ≤ 16 = small x in absurd (omega arith)
+
+writes : (s : Showing) (k n : ℕ) (own own′ bytes bytes′ : List ℕ) → Fits (length own) s → 2 * length own ≤ length bytes → own′ ≡ roomOf s own → k ≡ showNumber s → k ≡ 100 + n
+    → bytes′ ≡ sets bytes 0 (bytesOf (take n own′)) → bytes′ ≡ showLeaves s bytes
+unfolding showNumber showLeaves
+writes (shows ws) k n own own′ bytes bytes′ h room eo e f eb =
+    let m : length ws ≡ n = omega arith in
+    let t : take n own′ ≡ ws = ap (take n) eo ∙ take-at ws (drop (length ws) own) n m in
+    eb ∙ ap (λ (l : List ℕ). sets bytes 0 (bytesOf l)) t ∙ written bytes ws (omega arith)
+writes (denied x) k n own own′ bytes bytes′ h room eo e f eb = let z : numberOf x ≤ 16 = small x in absurd (omega arith)
+
+-- ---- the returns
+
+module _ (q w o own w′ o′ own′ bytes : List ℕ) (line : ℕ) (r : Shown) (k : ℕ)
+    (work : length w ≡ 8192) (answer : length o ≡ 8192)
+    (e : (r, w′, o′, own′) ≡ exhibits line q w o own) (number : k ≡ shownNumber r) where
+  abbrev comes : Showing
+  comes = showing desk 8192 8192 (length own) line q
+
+  same : showing desk (length w) (length o) (length own) line q ≡ comes
+  same = rw (work, answer)
+
+  result : r ≡ resultOf comes
+  unfolding exhibits
+  result = ap (λ (t : Shown × List ℕ × List ℕ × List ℕ). t .0) e ∙ ap resultOf same
+
+  room-left : own′ ≡ roomOf comes own
+  unfolding exhibits
+  room-left = ap (λ (t : Shown × List ℕ × List ℕ × List ℕ). t .3) e ∙ ap (λ (s : Showing). roomOf s own) same
+
+  right : k ≡ showNumber comes
+  right = told comes (length own) k r (fits 8192 8192 (length own) line q) result number
+
+  pub refused-line : k < 100 → (k ≡ showNumber comes) × (bytes ≡ showLeaves comes bytes)
+  refused-line h = (right, refuses comes k bytes right h)
+
+  pub example-within : (n : ℕ) → k ≡ 100 + n → n ≤ length own
+  example-within n f = within comes (length own) k n (fits 8192 8192 (length own) line q) right f
+
+  pub shown-line : (n : ℕ) (bytes′ : List ℕ) → k ≡ 100 + n → 2 * length own ≤ length bytes
+      → bytes′ ≡ sets bytes 0 (bytesOf (take n own′)) → (k ≡ showNumber comes) × (bytes′ ≡ showLeaves comes bytes)
+  shown-line n bytes′ f room eb =
+      (right, writes comes k n own own′ bytes bytes′ (fits 8192 8192 (length own) line q) room room-left right f eb)
+
+-- the words lent come to what the bytes come to
+pub bytes-show : (q ws bytes : List ℕ) (line room : ℕ) → ws ≡ fitting 1024 (wordsIn q) → room ≡ used 4096 (length bytes / 2)
+    → showing desk 8192 8192 room line ws ≡ showingBytes desk (length bytes) line q
+unfolding showingBytes
+bytes-show q ws bytes line room ew er = rw (ew, er) (fitting-showing (length bytes / 2) line (wordsIn q))

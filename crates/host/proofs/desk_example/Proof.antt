@@ -1,0 +1,45 @@
+-- `host::desk_example` meets its contract: the words and the room lent come to what the bytes come to.
+use Prim.Native.Nat.{ℕ}
+use mathlib.Core.Path.{_≡_, ap, _∙_, sym}
+use mathlib.Core.List.{List}
+use native.Mathlib.Omega.{arith}
+use lib.ListN.{length, take, replicate}
+use lib.Seq.{length-take-le}
+use borrow.Author.Needs.{needs}
+use Rattle.rules.specs.Calls.{Showing}
+use Rattle.host.specs.Host.{showNumber, showLeaves}
+use Rattle.host.proofs.Shows.{bytes-show}
+use Rattle.host.proofs.desk_example.Statement.{statement}
+use Rattle.host.proofs.desk_example.Tie as tie
+
+-- the desk's own room at the start
+abbrev clear : List ℕ
+clear = replicate 4096 0
+
+slice-aggregate-show-2 : tie.Need-slice-aggregate-show-2
+slice-aggregate-show-2 c = sym (length-take-le _ clear (omega arith))
+
+show-requires : tie.Need-show-requires
+show-requires c κs = let n : length (take (c .before .before .before .most .result) clear) ≡ c .before .before .before .most .result = length-take-le _ clear (omega arith) in (omega arith, omega arith)
+
+returns : tie.Need-returns
+returns c =
+    let a = c .before .before .before .before .before .before .before .before .before .before .before .before .before .args in
+    let n : length (take (c .before .before .before .before .before .before .before .most .result) clear) ≡ c .before .before .before .before .before .before .before .most .result = length-take-le _ clear (omega arith) in
+    let e = bytes-show (a .question .now) _ (a .room .now) (a .line) _ (c .before .before .before .before .before .before .before .before .before .take-words .ensures .1) (n ∙ c .before .before .before .before .before .before .before .most .ensures .0) in
+    (c .before .before .before .show .ensures .0 ∙ ap showNumber e, c .before .before .before .show .ensures .1 ∙ ap (λ (s : Showing). showLeaves s (a .room .now)) e)
+
+pub desk-example-spec : {M : Type 1} → statement M
+desk-example-spec =
+    tie.close
+    (tie.spec
+    (λ c. search needs)
+    (λ c κs. search needs)
+    (λ c κs. search needs)
+    (λ c. search needs)
+    (λ c. search needs)
+    (λ c. search needs)
+    slice-aggregate-show-2
+    show-requires
+    (λ c. search needs)
+    returns)

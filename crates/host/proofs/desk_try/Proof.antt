@@ -1,0 +1,29 @@
+-- `host::desk_try` meets its contract: the words lent come to what the bytes come to.
+use mathlib.Core.Path.{refl}
+use native.Mathlib.Omega.{arith}
+use lib.ListN.{replicate}
+use borrow.Author.Needs.{needs}
+use Rattle.host.proofs.Tries.{tried}
+use Rattle.host.proofs.desk_try.Statement.{statement}
+use Rattle.host.proofs.desk_try.Tie as tie
+
+returns : tie.Need-returns
+returns c =
+    tried _ _ _ _ (replicate 8192 0) _ _ _ (c .before .before .before .before .before .before .before .before .before .before .take-words .ensures .1) (c .before .before .before .before .before .before .before .take-words2 .ensures .1) refl (c .before .before .try-filling .ensures) (c .tried-number .ensures)
+
+pub desk-try-spec : {M : Type 1} → statement M
+desk-try-spec =
+    tie.close
+    (tie.spec
+    (λ c. search needs)
+    (λ c κs. search needs)
+    (λ c. search needs)
+    (λ c κs. search needs)
+    (λ c. search needs)
+    (λ c. search needs)
+    (λ c. search needs)
+    (λ c. search needs)
+    (λ c. search needs)
+    (λ c κs. search needs)
+    (λ c κs. search needs)
+    returns)

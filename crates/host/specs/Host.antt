@@ -1,0 +1,59 @@
+-- What each call of the host returns, and what it leaves in the bytes lent to it, for every input.
+use Prim.Native.Nat.{ℕ, _+_, _*_, _/_}
+use mathlib.Core.Path.{_≡_}
+use mathlib.Core.Logic.{_⊎_}
+use mathlib.Core.List.{List, [], _++_}
+use lib.ListN.{length, drop}
+use Rattle.language.specs.Limits.{Limits}
+use Rattle.language.specs.Numbers.{numberOf}
+use Rattle.meaning.specs.Meaning.{MeetsQuestion}
+use Rattle.rules.specs.Answer.{Solving, answered, unread, given-up, solving, answerWords, zeros}
+use Rattle.rules.specs.Calls.{Trying, trying, Showing, shows, denied, showing}
+use Rattle.rules.specs.Calls as calls
+use Rattle.host.specs.Bytes.{wordsIn, bytesOf}
+
+-- ---- desk_solve
+
+-- An answer slice of so many bytes, and a question's bytes. The work slice is the desk's own.
+unfoldable pub solvingBytes : Limits → ℕ → List ℕ → Solving
+solvingBytes L answer q = solving L (L .room) (answer / 2) (wordsIn q)
+
+-- "It gets back the refusal number, or 0."
+unfoldable pub solveNumber : Solving → ℕ
+solveNumber (answered ls n) = 0
+solveNumber (unread r) = numberOf r
+solveNumber (given-up r) = numberOf r
+
+-- The answer's bytes at exit: unchanged, or zeros, or the answer; later bytes stay.
+unfoldable pub solveLeaves : Limits → Solving → List ℕ → List ℕ
+solveLeaves L (answered ls n) bytes = bytesOf (answerWords L ls) ++ drop (2 * L .room) bytes
+solveLeaves L (unread r) bytes = bytes
+solveLeaves L (given-up r) bytes = bytesOf (zeros L) ++ drop (2 * L .room) bytes
+
+-- ---- desk_try
+
+-- A question's bytes and a filling's. The work slice is the desk's own.
+unfoldable pub tryingBytes : Limits → List ℕ → List ℕ → Trying
+tryingBytes L q f = trying L (L .room) (wordsIn q) (wordsIn f)
+
+-- 100 is no, 101 is yes, and below stand the refusals
+unfoldable pub TryNumber : Trying → ℕ → Type 0
+TryNumber (calls.decides q ρ) n = ((n ≡ 101) × MeetsQuestion ρ q) ⊎ ((n ≡ 100) × (MeetsQuestion ρ q → ⊥))
+TryNumber (calls.unread r) n = n ≡ numberOf r
+TryNumber (calls.given-up r) n = n ≡ numberOf r
+
+-- ---- desk_example
+
+-- A room of so many bytes, a line's number, and a question's bytes. The work and the answer slice are the desk's own.
+unfoldable pub showingBytes : Limits → ℕ → ℕ → List ℕ → Showing
+showingBytes L room line q = showing L (L .room) (L .room) (room / 2) line (wordsIn q)
+
+-- 100 and the filling's length in words, and below stand the refusals
+unfoldable pub showNumber : Showing → ℕ
+showNumber (shows ws) = 100 + length ws
+showNumber (denied r) = numberOf r
+
+-- "a refusal leaves its room untouched"; else "the room holds the filling, the rest of it unchanged"
+unfoldable pub showLeaves : Showing → List ℕ → List ℕ
+showLeaves (shows ws) bytes = bytesOf ws ++ drop (2 * length ws) bytes
+showLeaves (denied r) bytes = bytes

@@ -1,0 +1,154 @@
+// The calls of the control room's host: bytes and numbers around the calls on words. The slices that a call on words is lent are arrays of
+// the desk's own, cleared at the start.
+mod bytes;
+
+ghost use Prim.Native.Nat.{_+_, _*_, _≤_};
+ghost use mathlib.Core.Path.{_≡_};
+ghost use lib.ListN.{length};
+ghost use Rattle.language.specs.Limits.{desk};
+ghost use Rattle.host.specs.Host.{solvingBytes, solveNumber, solveLeaves, tryingBytes, TryNumber, showingBytes, showNumber, showLeaves};
+ghost use Rattle.rules.specs.Calls.{showing};
+ghost use Rattle.host.specs.Bytes.{used};
+ghost use Rattle.host.specs.Numbers.{solvedNumber, triedNumber, shownNumber};
+use bytes::take_words;
+use bytes::write_words;
+use language::number;
+use showing::Shown;
+use solver::Outcome;
+use solver::Solved;
+use trying::Tried;
+
+fn wide(n: u16) -> u32
+    ensures { λ r. ⌜ r ≡ n ⌝ }
+{
+    n as u32
+}
+
+// The refusal's number, or 0.
+fn solved_number(s: Solved) -> u32
+    ensures { λ r. ⌜ r ≡ solvedNumber s ⌝ }
+{
+    let outcome = s.outcome;
+    match outcome {
+        Outcome::Refused(r) => wide(number(r)),
+        Outcome::NoLine => 0,
+        Outcome::AllSolved => 0,
+        Outcome::SomeOpen => 0,
+    }
+}
+
+// Solves a question: the refusal's number, or 0.
+#[no_mangle]
+pub extern "C" fn desk_solve(question: &[u8], answer: &mut [u8]) -> u32
+    ensures { λ r. ⌜ r ≡ solveNumber (solvingBytes desk (length (now (answer .entry))) (now (question .entry))) ⌝ }
+    ensures { λ _. ⌜ now (answer .exit) ≡ solveLeaves desk (solvingBytes desk (length (now (answer .entry))) (now (question .entry))) (now (answer .entry)) ⌝ }
+{
+    if answer.len() < 16384 {
+        return 1;
+    }
+    let mut words = [0u16; 1024];
+    let mut work = [0u16; 8192];
+    let mut own = [0u16; 8192];
+    let n = take_words(question, &mut words);
+    let k = solved_number(solver::solve(&words[..n], &mut work, &mut own));
+    if k == 0 {
+        write_words(&own, answer);
+        return 0;
+    }
+    if k <= 6 {
+        return k;
+    }
+    write_words(&own, answer);
+    k
+}
+
+// The refusal's number, or 100 for no and 101 for yes.
+fn tried_number(t: Tried) -> u32
+    ensures { λ r. ⌜ r ≡ triedNumber t ⌝ }
+{
+    match t {
+        Tried::Yes => 101,
+        Tried::No => 100,
+        Tried::Refused(r) => wide(number(r)),
+    }
+}
+
+// Whether a filling meets a question: 101 for yes, 100 for no, or the refusal's number.
+#[no_mangle]
+pub extern "C" fn desk_try(question: &[u8], filling: &[u8]) -> u32
+    ensures { λ r. ⌜ TryNumber (tryingBytes desk (now (question .entry)) (now (filling .entry))) r ⌝ }
+{
+    let mut words = [0u16; 1024];
+    let mut values = [0u16; 4096];
+    let mut work = [0u16; 8192];
+    let n = take_words(question, &mut words);
+    let m = take_words(filling, &mut values);
+    tried_number(trying::try_filling(&words[..n], &values[..m], &mut work))
+}
+
+// Of so many words, as many as a filling ever has.
+fn most(n: usize) -> usize
+    ensures { λ r. ⌜ (r ≡ used 4096 n) × (r ≤ 4096) × (r ≤ n) ⌝ }
+{
+    if n <= 4096 { n } else { 4096 }
+}
+
+fn narrow(n: usize) -> u32
+    requires { ⌜ n ≤ 4096 ⌝ }
+    ensures { λ r. ⌜ r ≡ n ⌝ }
+{
+    n as u32
+}
+
+fn counted(n: usize) -> u32
+    ensures { λ r. ⌜ r ≡ 100 + used 4096 n ⌝ }
+{
+    100 + narrow(most(n))
+}
+
+// The refusal's number, or 100 and the filling's length.
+fn shown_number(s: Shown) -> u32
+    ensures { λ r. ⌜ r ≡ shownNumber s ⌝ }
+{
+    match s {
+        Shown::Shows(n) => counted(n),
+        Shown::Denied(r) => wide(number(r)),
+    }
+}
+
+fn length_of(k: u32) -> usize
+    requires { ⌜ 100 ≤ k ⌝ }
+    ensures { λ r. ⌜ k ≡ 100 + r ⌝ }
+{
+    (k - 100) as usize
+}
+
+// The example in the desk's own room, and then in the bytes lent.
+fn show(question: &[u16], line: usize, own: &mut [u16], room: &mut [u8]) -> u32
+    requires { ⌜ (length (now own) ≤ 4096) × (2 * length (now own) ≤ length (now room)) ⌝ }
+    ensures { λ r. ⌜ r ≡ showNumber (showing desk 8192 8192 (length (now (own .entry))) line (now (question .entry))) ⌝ }
+    ensures { λ _. ⌜ now (room .exit) ≡ showLeaves (showing desk 8192 8192 (length (now (own .entry))) line (now (question .entry))) (now (room .entry)) ⌝ }
+{
+    let mut work = [0u16; 8192];
+    let mut answer = [0u16; 8192];
+    let k = shown_number(showing::example(question, line, &mut work, &mut answer, own));
+    if k < 100 {
+        return k;
+    }
+    let n = length_of(k);
+    write_words(&own[..n], room);
+    k
+}
+
+// Shows the example of a settled line: 100 and its length in words, or the refusal's number.
+#[no_mangle]
+pub extern "C" fn desk_example(question: &[u8], line: u32, room: &mut [u8]) -> u32
+    ensures { λ r. ⌜ r ≡ showNumber (showingBytes desk (length (now (room .entry))) line (now (question .entry))) ⌝ }
+    ensures { λ _. ⌜ now (room .exit) ≡ showLeaves (showingBytes desk (length (now (room .entry))) line (now (question .entry))) (now (room .entry)) ⌝ }
+{
+    let mut words = [0u16; 1024];
+    let mut own = [0u16; 4096];
+    let n = take_words(question, &mut words);
+    let m = most(room.len() / 2);
+    show(&words[..n], line as usize, &mut own[..m], room)
+}

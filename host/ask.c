@@ -1,0 +1,94 @@
+/* Asks the desk one question and prints what comes back. A start to copy from.
+ *
+ *     ask FILE    FILE holds the question's words in decimal; # begins a remark
+ */
+#include <stdio.h>
+#include <stdlib.h>
+
+#include "desk.h"
+
+static uint16_t word(const uint8_t *bytes, size_t i)
+{
+    return (uint16_t)(bytes[2 * i] | bytes[2 * i + 1] << 8);
+}
+
+/* Reads decimal words and packs them, low byte first. Gives the count of bytes;
+ * reading ends at the first thing that is no word, or where the bytes are full. */
+static size_t read_words(FILE *file, uint8_t *bytes, size_t most)
+{
+    size_t length = 0;
+    unsigned value;
+    int c;
+    while ((c = fgetc(file)) != EOF) {
+        if (c == '#') {
+            while (c != '\n' && c != EOF)
+                c = fgetc(file);
+            continue;
+        }
+        if (c == ' ' || c == '\t' || c == '\r' || c == '\n')
+            continue;
+        ungetc(c, file);
+        if (fscanf(file, "%u", &value) != 1 || value > 65535 || length + 2 > most)
+            break;
+        bytes[length++] = (uint8_t)(value % 256);
+        bytes[length++] = (uint8_t)(value / 256);
+    }
+    return length;
+}
+
+static void print_words(const uint8_t *bytes, size_t from, size_t to)
+{
+    for (size_t i = from; i < to; i++)
+        printf(" %u", word(bytes, i));
+    printf("\n");
+}
+
+/* The example of a settled line, and what the desk says when it is tried. */
+static void print_example(const uint8_t *question, size_t question_len, uint32_t line)
+{
+    uint8_t room[DESK_FILLING_BYTES];
+    uint32_t shown = desk_example(question, question_len, line, room, sizeof room);
+    if (shown < DESK_SHOWN) {
+        printf("  no example, number %u\n", shown);
+        return;
+    }
+    size_t words = shown - DESK_SHOWN;
+    printf("  example:");
+    print_words(room, 0, words);
+    uint32_t tried = desk_try(question, question_len, room, 2 * words);
+    if (tried == DESK_YES)
+        printf("  tried: yes\n");
+    else if (tried == DESK_NO)
+        printf("  tried: no\n");
+    else
+        printf("  tried: number %u\n", tried);
+}
+
+int main(int argc, char **argv)
+{
+    static uint8_t question[DESK_QUESTION_BYTES + 2], answer[DESK_ANSWER_BYTES];
+    FILE *file = argc == 2 ? fopen(argv[1], "r") : NULL;
+    if (file == NULL) {
+        fprintf(stderr, "usage: ask FILE\n");
+        return EXIT_FAILURE;
+    }
+    size_t length = read_words(file, question, sizeof question);
+    fclose(file);
+
+    uint32_t refusal = desk_solve(question, length, answer, sizeof answer);
+    if (refusal != 0) {
+        printf("refused, number %u\n", refusal);
+        return EXIT_SUCCESS;
+    }
+    uint16_t lines = word(answer, 0);
+    printf("lines: %u, open: %u\n", lines, word(answer, 1));
+    for (uint16_t i = 0; i < lines; i++) {
+        size_t from = word(answer, 2 + i), to = word(answer, 3 + i);
+        int settled = word(answer, from) == 1;
+        printf("line %u, %s:", i, settled ? "settled" : "open");
+        print_words(answer, from + 1, to);
+        if (settled)
+            print_example(question, length, i);
+    }
+    return EXIT_SUCCESS;
+}

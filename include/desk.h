@@ -1,0 +1,84 @@
+/* The desk, for a C program.
+ *
+ * A question, an answer and a filling are 16-bit words. They are passed as
+ * bytes, the low byte of each word first: word w is the bytes w % 256, w / 256.
+ *
+ * Every call is defined for every input. None keeps a pointer, allocates memory,
+ * reads or writes a file, or writes to any byte but those it says. The slices
+ * lent to one call must not overlap. A slice of length 0 may have any pointer.
+ * Calls from several threads at once are independent of each other.
+ *
+ * A call needs some stack: docs/DECISIONS.md has the figure.
+ */
+#ifndef DESK_H
+#define DESK_H
+
+#include <stddef.h>
+#include <stdint.h>
+
+#ifdef __cplusplus
+extern "C" {
+#endif
+
+/* Why a call refuses. A refusal comes back as its number, 1 to 16. */
+enum desk_refusal {
+    DESK_SHORT_SLICE = 1,      /* the answer has under DESK_ANSWER_BYTES bytes */
+    DESK_QUESTION_LENGTH = 2,  /* question: an odd count of bytes, under 6 or over 1,024 words */
+    DESK_COUNT_RANGE = 3,      /* question: a count out of range */
+    DESK_BAD_OFFSET = 4,       /* question: an offset missing or out of place */
+    DESK_NOT_LITERALS = 5,     /* question: a conjunction is not exactly literals */
+    DESK_UNDECLARED = 6,       /* question: a number that is not declared */
+    DESK_LONG_RESULT = 7,      /* run: a step's result passes 1,024 words */
+    DESK_LONG_WAITING = 8,     /* run: the waiting conjunctions pass 8,192 words */
+    DESK_LINE_ROOM = 9,        /* run: a 513th line, or a line past the answer's end */
+    DESK_STEP_LIMIT = 10,      /* run: 10,000 steps made and a rule still applies */
+    DESK_FILLING_LAYOUT = 11,  /* filling: an odd count of bytes, its length, count or offsets */
+    DESK_FILLING_VALUE = 12,   /* filling: a value of the wrong form, or an undeclared symbol */
+    DESK_LONG_LITERAL = 13,    /* filling: a literal, filled in, passes 8,192 words */
+    DESK_NO_SUCH_LINE = 14,    /* example: no such line; the first is 0 */
+    DESK_OPEN_LINE = 15,       /* example: the line is open */
+    DESK_LONG_EXAMPLE = 16     /* example: longer than the room lent or than 4,096 words */
+};
+
+/* Bytes of an answer, of the longest question and of the longest filling. */
+#define DESK_ANSWER_BYTES 16384
+#define DESK_QUESTION_BYTES 2048
+#define DESK_FILLING_BYTES 8192
+
+/* Solves a question. Gives 0, or why not: 1 to 10, in this order.
+ *
+ * After 0 the first DESK_ANSWER_BYTES bytes of the answer hold it: word 0 the
+ * number of lines, word 1 how many of them are open, words 2 to 514 where each
+ * line begins and the last one ends, and from word 515 the lines, each a mark
+ * (1 settled, 2 open) and its literals; then zeros. No line means that nothing
+ * meets the question. After 1 to 6 the answer is unchanged; after 7 to 10 its
+ * first DESK_ANSWER_BYTES bytes are zeros. Later bytes are never touched. */
+uint32_t desk_solve(const uint8_t *question, size_t question_len,
+                    uint8_t *answer, size_t answer_len);
+
+/* What desk_try gives where it does not refuse. */
+#define DESK_NO 100
+#define DESK_YES 101
+
+/* Whether a filling meets a question: DESK_YES or DESK_NO, or why it cannot be
+ * told: 2 to 6, 11, 12, 13, in this order. */
+uint32_t desk_try(const uint8_t *question, size_t question_len,
+                  const uint8_t *filling, size_t filling_len);
+
+/* desk_example gives this and the filling's length in words: DESK_SHOWN + 2 or
+ * more. Every number below is a refusal. */
+#define DESK_SHOWN 100
+
+/* Writes the example of a settled line, the first being line 0, as a filling to
+ * the start of the room, and gives DESK_SHOWN plus its length in words; or why
+ * not: 2 to 10, 14, 15, 16, in this order. After a refusal the room is
+ * unchanged; bytes behind the filling are never touched. A room of
+ * DESK_FILLING_BYTES is never too short for an example that the desk shows. */
+uint32_t desk_example(const uint8_t *question, size_t question_len, uint32_t line,
+                      uint8_t *room, size_t room_len);
+
+#ifdef __cplusplus
+}
+#endif
+
+#endif

@@ -1,0 +1,89 @@
+/* Calls the proved desk for a program on the other side of a pipe.
+ *
+ * Standard input is requests, one after another: a letter, then a question as
+ * its length and its bytes, and then
+ *   s  the answer's length
+ *   t  a filling, as its length and its bytes
+ *   e  the line and the room's length
+ * Numbers are 32 bits, low byte first. Bytes are lent full of LENT. Each answer
+ * is the number that came back and, after s and e, every byte that was lent.
+ * With an argument no call is made, which is what a measurement takes off.
+ */
+#include <stdio.h>
+#include <stdlib.h>
+#include <string.h>
+
+#include "desk.h"
+
+#define LENT 0xA5
+
+static void need(int done)
+{
+    if (!done)
+        exit(EXIT_FAILURE);
+}
+
+static uint32_t number_in(void)
+{
+    uint8_t b[4];
+    need(fread(b, 1, 4, stdin) == 4);
+    return b[0] | (uint32_t)b[1] << 8 | (uint32_t)b[2] << 16 | (uint32_t)b[3] << 24;
+}
+
+static void number_out(uint32_t n)
+{
+    uint8_t b[4] = { (uint8_t)n, (uint8_t)(n >> 8), (uint8_t)(n >> 16), (uint8_t)(n >> 24) };
+    need(fwrite(b, 1, 4, stdout) == 4);
+}
+
+/* A block of exactly this length, so that a byte past it is not the desk's. */
+static uint8_t *block(size_t length)
+{
+    uint8_t *bytes = malloc(length > 0 ? length : 1);
+    need(bytes != NULL);
+    memset(bytes, LENT, length);
+    return bytes;
+}
+
+static uint8_t *bytes_in(size_t *length)
+{
+    *length = number_in();
+    uint8_t *bytes = block(*length);
+    need(fread(bytes, 1, *length, stdin) == *length);
+    return bytes;
+}
+
+static void lent_out(uint8_t *bytes, size_t length)
+{
+    need(fwrite(bytes, 1, length, stdout) == length);
+    free(bytes);
+}
+
+int main(int argc, char **argv)
+{
+    int call = argc == 1, letter;
+    (void)argv;
+    while ((letter = getchar()) != EOF) {
+        size_t question_len, filling_len;
+        uint8_t *question = bytes_in(&question_len);
+        if (letter == 's') {
+            size_t length = number_in();
+            uint8_t *answer = block(length);
+            number_out(call ? desk_solve(question, question_len, answer, length) : 0);
+            lent_out(answer, length);
+        } else if (letter == 't') {
+            uint8_t *filling = bytes_in(&filling_len);
+            number_out(call ? desk_try(question, question_len, filling, filling_len) : 0);
+            free(filling);
+        } else {
+            uint32_t line = number_in();
+            size_t length = number_in();
+            uint8_t *room = block(length);
+            number_out(call ? desk_example(question, question_len, line, room, length) : 0);
+            lent_out(room, length);
+        }
+        free(question);
+        fflush(stdout);
+    }
+    return EXIT_SUCCESS;
+}

@@ -1,0 +1,194 @@
+//! Puts the same questions, fillings and lines to the proved desk and to this
+//! one, and compares what comes back and every byte lent: the worked answers,
+//! then random cases of a fixed seed.
+//!
+//!     compare CASES COMMAND..    COMMAND starts the bridge to the proved desk
+
+use std::path::Path;
+use std::process::ExitCode;
+
+use second::gen::random::Random;
+use second::gen::{case, SEED};
+use second::proved::{bytes, words, Proved, Request, LENT, NO, SHOWN, YES};
+use second::records::{cases, Case};
+use second::words::ANSWER;
+
+/// How many comparisons there were, how many disagreed, and how often each
+/// number came back.
+struct Tally {
+    proved: Proved,
+    passed: u64,
+    failed: u64,
+    solve: [u64; 102],
+    tried: [u64; 102],
+    example: [u64; 102],
+}
+
+/// Lent bytes after a call that wrote `written` at their start.
+fn left(length: usize, written: &[u8]) -> Vec<u8> {
+    let mut left = vec![LENT; length];
+    left[..written.len()].copy_from_slice(written);
+    left
+}
+
+impl Tally {
+    fn note(&mut self, agree: bool, what: impl Fn() -> String) {
+        if agree {
+            self.passed += 1;
+        } else {
+            self.failed += 1;
+            println!("{}", what());
+        }
+    }
+
+    fn solve(&mut self, name: &str, question: &[u8], length: usize) {
+        let (number, answer) = self.proved.call(Request::Solve { question, answer: length });
+        let (expected, expected_left) = if length < 2 * ANSWER {
+            (1, left(length, &[]))
+        } else {
+            let out = second::solve(&words(question));
+            (out.refusal as u32, left(length, &bytes(&out.answer)))
+        };
+        self.solve[number.min(101) as usize] += 1;
+        self.note(number == expected && answer == expected_left, || {
+            let at = answer.iter().zip(&expected_left).position(|(a, b)| a != b);
+            format!("{name}: solve {number}, expected {expected}, first byte apart {at:?}\n  {question:?}")
+        });
+    }
+
+    fn tried(&mut self, name: &str, question: &[u8], filling: &[u8]) {
+        let (number, _) = self.proved.call(Request::Try { question, filling });
+        let expected = match second::try_filling(&words(question), &words(filling)) {
+            Ok(true) => YES,
+            Ok(false) => NO,
+            Err(refusal) => refusal as u32,
+        };
+        self.tried[number.min(101) as usize] += 1;
+        self.note(number == expected, || {
+            format!("{name}: try {number}, expected {expected}\n  {question:?}\n  {filling:?}")
+        });
+    }
+
+    fn example(&mut self, name: &str, question: &[u8], line: u32, length: usize) {
+        let (number, room) = self.proved.call(Request::Example { question, line, room: length });
+        let (expected, expected_left) =
+            match second::example(&words(question), line as usize, length / 2) {
+                Ok(filling) => (SHOWN + filling.len() as u32, left(length, &bytes(&filling))),
+                Err(refusal) => (refusal as u32, left(length, &[])),
+            };
+        self.example[number.min(101) as usize] += 1;
+        self.note(number == expected && room == expected_left, || {
+            format!("{name}: example of line {line} in {length} bytes {number}, expected {expected}\n  {question:?}")
+        });
+    }
+}
+
+/// What is expected of the proved desk by the worked answers themselves.
+fn worked(tally: &mut Tally, folder: &Path) {
+    for case in cases(&folder.join("solve.txt")) {
+        let question = bytes(&case.words('Q'));
+        let (number, answer) =
+            tally.proved.call(Request::Solve { question: &question, answer: 2 * ANSWER });
+        let expected = case.needed('R')[0];
+        let expected_left = match case.field('A') {
+            Some(_) => bytes(&padded(case.words('A'))),
+            None if expected >= 7 => vec![0; 2 * ANSWER],
+            None => left(2 * ANSWER, &[]),
+        };
+        tally.note(number == expected && answer == expected_left, || {
+            said("solve.txt", &case, number)
+        });
+    }
+    for case in cases(&folder.join("try.txt")) {
+        let (question, filling) = (bytes(&case.words('Q')), bytes(&case.words('F')));
+        let (number, _) =
+            tally.proved.call(Request::Try { question: &question, filling: &filling });
+        let expected = match case.needed('V') {
+            [0, yes] => NO + yes,
+            verdict => verdict[0],
+        };
+        tally.note(number == expected, || said("try.txt", &case, number));
+    }
+    for case in cases(&folder.join("example.txt")) {
+        let (line, room) = (case.needed('L')[0], 2 * case.needed('L')[1] as usize);
+        let question = bytes(&case.words('Q'));
+        let (number, lent) =
+            tally.proved.call(Request::Example { question: &question, line, room });
+        let shown = case.words('E');
+        let (expected, expected_left) = match shown[0] {
+            0 => (SHOWN + shown.len() as u32 - 1, left(room, &bytes(&shown[1..]))),
+            refusal => (refusal as u32, left(room, &[])),
+        };
+        tally.note(number == expected && lent == expected_left, || {
+            said("example.txt", &case, number)
+        });
+    }
+}
+
+fn padded(mut words: Vec<u16>) -> Vec<u16> {
+    words.resize(ANSWER, 0);
+    words
+}
+
+fn said(file: &str, case: &Case, number: u32) -> String {
+    format!("{file}: {}: got {number}", case.name)
+}
+
+/// One random case, in whole words and, now and then, in bytes that are none.
+fn random_case(tally: &mut Tally, index: u64) {
+    let case = case(SEED, index);
+    let mut random = Random::of_case(SEED ^ 0xB17E5, index);
+    let name = format!("case {index} ({})", case.kind);
+    let question = bytes(&case.question);
+    let spare = random.pick(&[0, 0, 0, 1, 2, 777]);
+    tally.solve(&name, &question, 2 * ANSWER + spare);
+    if random.chance(1, 8) {
+        tally.solve(&name, &question, random.below(2 * ANSWER));
+        tally.solve(&name, &question, 2 * ANSWER - 1);
+    }
+    if random.chance(1, 8) && !question.is_empty() {
+        tally.solve(&name, &question[..question.len() - 1], 2 * ANSWER);
+        tally.tried(&name, &question[1..], &[]);
+        tally.example(&name, &question[1..], 0, 64);
+    }
+    for filling in &case.fillings {
+        let filling = bytes(filling);
+        tally.tried(&name, &question, &filling);
+        if random.chance(1, 8) && !filling.is_empty() {
+            tally.tried(&name, &question, &filling[..filling.len() - 1]);
+        }
+    }
+    for (line, room) in &case.asks {
+        tally.example(&name, &question, *line as u32, 2 * room + random.below(2));
+    }
+    if random.chance(1, 8) {
+        tally.example(&name, &question, random.pick(&[512, 65_536, u32::MAX]), 100);
+    }
+}
+
+fn main() -> ExitCode {
+    let args: Vec<String> = std::env::args().skip(1).collect();
+    let count: u64 = args[0].parse().expect("a number of cases");
+    let proved = Proved::start(&args[1..]);
+    let mut tally =
+        Tally { proved, passed: 0, failed: 0, solve: [0; 102], tried: [0; 102], example: [0; 102] };
+    worked(&mut tally, &Path::new(env!("CARGO_MANIFEST_DIR")).join("../vectors"));
+    println!("worked answers: {} compared", tally.passed + tally.failed);
+    for index in 0..count {
+        random_case(&mut tally, index);
+    }
+    println!("random cases: {count}, seed {SEED:#x}");
+    for (call, counts) in [("solve", tally.solve), ("try", tally.tried), ("example", tally.example)]
+    {
+        let shown: Vec<String> =
+            (0..102).filter(|n| counts[*n] > 0).map(|n| format!("{n}: {}", counts[n])).collect();
+        println!("{call} gave {}", shown.join(", "));
+    }
+    let failed = tally.failed + !tally.proved.end() as u64;
+    println!("{} passed, {failed} failed", tally.passed);
+    if failed > 0 {
+        ExitCode::FAILURE
+    } else {
+        ExitCode::SUCCESS
+    }
+}
