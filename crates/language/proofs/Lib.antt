@@ -13,3 +13,4 @@ pub mod Offsets
 pub mod Questions
 pub mod Alternatives
 pub mod Asking
+pub mod Determined
