@@ -4,6 +4,7 @@
 //!     measure second CALL FAMILY     the same calls on this desk
 //!     measure neither CALL FAMILY    all but the calls, which a measurement takes off
 //!     measure same TIMES WORD..      requests for so many solves of one question
+//!     measure bad KIND SHAPE RUN     a request to try a run that just fails an expression of so many words
 //!
 //! The second and the third write the number of calls.
 
@@ -104,6 +105,37 @@ fn each(call: &str, name: &str, mut take: impl FnMut(Request)) {
     }
 }
 
+/// Words for an expression that tempts a test to look back, of at most `size` words.
+fn bad(kind: &str, size: usize) -> Vec<u16> {
+    let a = [3000, 7000];
+    match kind {
+        // (..((a*)*)..)*
+        "stars" => [vec![7003; size - 2], a.to_vec()].concat(),
+        // ((a+a)·(a+a)·..)*
+        "doubles" => {
+            let double = [&[7002], &a[..], &a].concat();
+            let more = (size - 6) / 6;
+            let joined = [&[7001], &double[..]].concat().repeat(more);
+            [vec![7003], joined, double].concat()
+        }
+        // (a+(a+(..+a)))*
+        _ => {
+            let more = (size - 3) / 3;
+            [vec![7003], [&[7002], &a[..]].concat().repeat(more), a.to_vec()].concat()
+        }
+    }
+}
+
+/// (p, p, b) in a bad expression, and a run of a's for p, so that only the last term fails.
+fn tried(kind: &str, shape: usize, run: usize) -> (Vec<u16>, Vec<u16>) {
+    let literal = [&[6000, 2000, 2000, 3001, 0, 0], &bad(kind, shape)[..]].concat();
+    let end = 7 + literal.len() as u16;
+    let question = [&[2, 0, 1, 0, 1, 7, end], &literal[..]].concat();
+    let value = [[3000, 0].repeat(run / 4), vec![0]].concat();
+    let filling = [&[1, 3, 3 + value.len() as u16], &value[..]].concat();
+    (question, filling)
+}
+
 fn main() {
     let args: Vec<String> = std::env::args().skip(1).collect();
     let mut out = BufWriter::new(stdout());
@@ -117,6 +149,13 @@ fn main() {
                 let request = Request::Solve { question: &bytes(&question), answer: 2 * ANSWER };
                 request.write(&mut out).expect("written");
             }
+        }
+        "bad" => {
+            let size = |word: &String| word.parse().expect("a number");
+            let (question, filling) = tried(&args[1], size(&args[2]), size(&args[3]));
+            assert_eq!(second::try_filling(&question, &filling), Ok(false));
+            let request = Request::Try { question: &bytes(&question), filling: &bytes(&filling) };
+            request.write(&mut out).expect("written");
         }
         desk => {
             each(&args[1], &args[2], |request| {
