@@ -21,7 +21,7 @@ use Rattle.views.specs.Variables.{variableWord, fineVar}
 use Rattle.views.specs.Standing.{Stands, LiteralAt}
 use Rattle.views.proofs.Sides.{side-stands}
 use Rattle.views.proofs.Members.{eqb-base}
-use Rattle.views.proofs.Parts.{word-of}
+use Rattle.words.proofs.Parts.{word-of}
 use Rattle.bindings.specs.Lines.{Line, Word, Held, held, unheld}
 use Rattle.bindings.specs.Binding.{soleWord, BoundBy, to, free}
 use Rattle.bindings.specs.declared.Place.{Place}

@@ -17,10 +17,10 @@ use Rattle.plans.specs.Results.{member}
 use Rattle.plans.specs.Views.{Sided}
 use Rattle.plans.specs.declared.Side.{Side}
 use Rattle.exprs.specs.Standing.{Here}
-use Rattle.views.specs.Places.{untilLiteral}
+use Rattle.words.specs.Places.{untilLiteral}
 use Rattle.views.specs.Variables.{variableWord}
 use Rattle.views.specs.Standing.{Stands, LiteralAt}
-use Rattle.views.proofs.Parts.{part-of, drop-of, word-of}
+use Rattle.words.proofs.Parts.{part-of, drop-of, word-of}
 use Rattle.views.proofs.Members.{member-hedge, member-literal}
 use Rattle.bindings.specs.Lines.{Line, Word, Found, Shown, Expressed, expressed, unexpressed, Held, held, unheld, Walk}
 use Rattle.bindings.specs.declared.Place.{Place}

@@ -9,7 +9,7 @@ use Rattle.language.specs.Limits.{desk}
 use Rattle.language.specs.Trees.{Literal, eqn, mem, Conj}
 use Rattle.language.specs.Writing.{literalWords, conjWords}
 use Rattle.language.specs.Fine.{fineLiteral, fineConj}
-use Rattle.views.specs.Places.{untilLiteral}
+use Rattle.words.specs.Places.{untilLiteral}
 use Rattle.views.specs.Standing.{LiteralAt}
 use Rattle.views.proofs.Words.{words-append}
 use Rattle.views.proofs.Literals.{next-literal}

@@ -13,11 +13,11 @@ ghost use Rattle.views.specs.Standing.{LiteralAt};
 use marks::alone_side;
 use marks::side_variable;
 use plans::View;
-use views::next_literal;
 use views::see;
 use views::side_at;
-use views::stands;
 use views::swapped;
+use words::next_literal;
+use words::stands;
 
 pub enum Place {
     At(usize),

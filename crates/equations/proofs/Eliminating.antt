@@ -32,7 +32,7 @@ use Rattle.plans.specs.Results.{replaced, changed, made}
 use Rattle.exact.proofs.Answers.{look, test, answers}
 use Rattle.exact.proofs.Looks.{empty-is, loneT-is, loneTerm-is, loneH-is, loneNode-is, asBlank-is}
 use Rattle.views.proofs.Words.{words-body, words-append}
-use Rattle.views.proofs.Parts.{part-of}
+use Rattle.words.proofs.Parts.{part-of}
 use Rattle.views.proofs.Sides.{side-whole, side-head}
 use Rattle.views.proofs.Replaced.{Acts, replaced-hedge, replaced-conj, acts-term, acts-hedge, acts-functor}
 use Rattle.equations.specs.Planned.{Plans, word, copy, noPiece, planBy}

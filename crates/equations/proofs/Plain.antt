@@ -26,7 +26,7 @@ use Rattle.exact.proofs.Answers.{Where, Answers, look, test, answers}
 use Rattle.exact.proofs.Looks.{loneNode-is}
 use Rattle.views.proofs.Words.{words-body, words-append}
 use Rattle.rules.specs.Looks.{firstTerm, firstRun, loneNode}
-use Rattle.views.proofs.Parts.{part-of, drop-of}
+use Rattle.words.proofs.Parts.{part-of, drop-of}
 use Rattle.views.proofs.Sides.{side-whole, side-head, side-tail}
 use Rattle.equations.specs.Planned.{Planned, Plans, word, copy, noPiece, planBy}
 

@@ -18,8 +18,8 @@ use crate::tests::and;
 use plans::Look;
 use plans::Side;
 use plans::View;
-use views::elsewhere;
-use views::same_part;
+use words::elsewhere;
+use words::same_part;
 
 // X() = F(): X in the others, and F too where it is a variable.
 fn both_elsewhere(k: &[u16], v: View, f: u16, g: u16) -> bool

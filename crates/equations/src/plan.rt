@@ -17,7 +17,7 @@ use plans::Ways;
 use views::all_terms;
 use views::inside;
 use views::up_to;
-use views::word;
+use words::word;
 
 // The next place, within the words.
 fn forth(k: &[u16], i: usize) -> usize

@@ -16,12 +16,12 @@ use plans::Look;
 use plans::Side;
 use plans::View;
 use views::all_terms;
-use views::elsewhere;
 use views::has_term;
 use views::inside;
-use views::same_part;
-use views::stands;
 use views::up_to;
+use words::elsewhere;
+use words::same_part;
+use words::stands;
 
 // Where the right side is one hedge variable, it is in the others too.
 fn too_elsewhere(k: &[u16], v: View) -> bool

@@ -16,10 +16,10 @@ use crate::tests::and;
 use plans::Look;
 use plans::Side;
 use plans::View;
-use views::elsewhere;
 use views::has_term;
-use views::same_part;
 use views::under;
+use words::elsewhere;
+use words::same_part;
 
 // The left side is empty: R1, F4.
 pub fn rank_empty(k: &[u16], v: View) -> usize

@@ -20,7 +20,7 @@ fn print_next(x: u16) {
 fn print_words(words: &[u16], n: usize) {
     let mut i = 0;
     while i < n {
-        print_next(views::word(words, i));
+        print_next(words::word(words, i));
         i += 1;
     }
 }

@@ -18,10 +18,10 @@ use Rattle.plans.specs.Views.{Shows}
 use Rattle.plans.specs.declared.Shape.{Shape}
 use Rattle.exact.proofs.Answers.{Where}
 use Rattle.views.specs.Variables.{variableWord, fineVar}
-use Rattle.views.specs.Places.{untilLiteral}
+use Rattle.words.specs.Places.{untilLiteral}
 use Rattle.views.specs.Standing.{LiteralAt}
 use Rattle.views.proofs.Words.{words-append}
-use Rattle.views.proofs.Parts.{part-of, drop-of, word-of}
+use Rattle.words.proofs.Parts.{part-of, drop-of, word-of}
 use Rattle.views.proofs.Literals.{next-literal}
 use Rattle.views.proofs.Members.{member-literal, or-assoc}
 use Rattle.views.proofs.Sides.{shows-finish}

@@ -21,12 +21,12 @@ ghost use Rattle.marks.specs.Ranges.{Between};
 use plans::Look;
 use plans::Shape;
 use plans::View;
-use views::elsewhere;
-use views::next_literal;
 use views::see;
 use views::show_membership;
-use views::stands;
 use views::swapped;
+use words::elsewhere;
+use words::next_literal;
+use words::stands;
 
 fn and(a: bool, b: bool) -> bool
     ensures { λ r. ⌜ r ≡ (a && b) ⌝ }

@@ -11,7 +11,7 @@ use Rattle.language.specs.Writing.{exprWords, conjWords}
 use Rattle.language.specs.Fine.{fineExpr}
 use Rattle.plans.specs.declared.Shape.{Shape}
 use Rattle.plans.specs.Views.{Shows}
-use Rattle.views.proofs.Parts.{part-of, drop-of}
+use Rattle.words.proofs.Parts.{part-of, drop-of}
 use Rattle.exprs.specs.declared.Part.{Part}
 use Rattle.exprs.specs.Standing.{Here, Parted}
 use Rattle.exprs.proofs.Standing.{inside}

@@ -3,7 +3,6 @@ pub mod Still
 pub mod Marking
 pub mod Replaced
 pub mod Made
-pub mod Elements
 pub mod Results
 pub mod Planned
 pub mod Sizing

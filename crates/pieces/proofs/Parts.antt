@@ -1,15 +1,11 @@
 -- Parts of a list of words whose end lies within the list: the first word and the rest, nothing, and how long.
-use mathlib.Core.Path.{_≡_, refl, sym, ap, _∙_}
-use mathlib.Core.Bool.{Bool, true, false, _||_}
+use mathlib.Core.Path.{_≡_, sym, ap, _∙_}
 use mathlib.Core.List.{List, [], _∷_, _++_}
 use Prim.Native.Nat.{ℕ, _+_, _-_, _<_, _≤_}
 use native.Mathlib.Numerals.{add-one}
 use native.Mathlib.Omega.{arith}
-use lib.Dec.{eqb}
 use lib.ListN.{length, getD, drop, take, length-drop, drop-of-length-le}
 use lib.Seq.{slice, slice-cons, length-slice, take-all, take-length, length-take-le}
-use borrow.Author.Tests.{eq-eqb, ne-eqb}
-use Rattle.plans.specs.Results.{member}
 use Rattle.pieces.specs.Written.{Within}
 
 -- ws is us and then vs; a record, so that the three are found from it
@@ -36,16 +32,6 @@ module _ {k : List ℕ} {to e : ℕ} (w : Within k to e) where
 
   pub part-none : (i : ℕ) → e ≤ i → slice i to k ≡ []
   part-none i h = sym (same-part i) ∙ drop-of-length-le (take e k) {i = i} (let l = length-take-le e k (w .low) in omega arith)
-
-  -- ---- a word in a part
-  pub stands-here : (x i : ℕ) → i < e → getD k i 0 ≡ x → true ≡ member x (slice i to k)
-  stands-here x i h q = sym (ap (member x) (part-cons i h) ∙ ap (λ b. b || member x (slice (i + 1) to k)) (eq-eqb _ _ q))
-
-  pub stands-next : (x i : ℕ) → i < e → (getD k i 0 ≡ x → ⊥) → member x (slice (i + 1) to k) ≡ member x (slice i to k)
-  stands-next x i h q = sym (ap (member x) (part-cons i h) ∙ ap (λ b. b || member x (slice (i + 1) to k)) (ne-eqb _ _ q))
-
-  pub stands-none : (x i : ℕ) → e ≤ i → false ≡ member x (slice i to k)
-  stands-none x i h = ap (member x) (sym (part-none i h))
 
 -- a part is no longer than the list
 pub part-short : (k : List ℕ) (from to : ℕ) → length (slice from to k) ≤ length k

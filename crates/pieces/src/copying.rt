@@ -1,10 +1,10 @@
-// Parts of a conjunction's words: how long, whether a word stands there, copied, and made into equations p = ε.
+// Parts of a conjunction's words: how long, copied, and made into equations p = ε.
 ghost use Prim.Native.Nat.{_+_, _≤_};
 ghost use mathlib.Core.Path.{_≡_};
 ghost use mathlib.Core.List.{[], _∷_};
 ghost use lib.ListN.{length};
 ghost use lib.Seq.{slice};
-ghost use Rattle.plans.specs.Results.{member, emptyEach};
+ghost use Rattle.plans.specs.Results.{emptyEach};
 ghost use Rattle.pieces.specs.Written.{Wrote, Within};
 
 // Where a part ends that is to end at a place: there, or at the end of the words.
@@ -20,21 +20,6 @@ pub fn part_len(k: &[u16], from: usize, to: usize) -> usize
 {
     let end = within(k, to);
     if end <= from { 0 } else { end - from }
-}
-
-// Whether a word stands in a part.
-pub fn stands(k: &[u16], from: usize, to: usize, x: u16) -> bool
-    ensures { λ r. ⌜ r ≡ member x (slice from to (now (k .entry))) ⌝ }
-{
-    let end = within(k, to);
-    let mut i = from;
-    while i < end {
-        if k[i] == x {
-            return true;
-        }
-        i += 1;
-    }
-    false
 }
 
 // A part as it is.

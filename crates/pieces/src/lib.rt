@@ -2,7 +2,6 @@
 pub mod copying;
 pub mod making;
 pub mod replacing;
-pub mod walking;
 
 ghost use Prim.Native.Nat.{_≤_};
 ghost use mathlib.Core.Path.{_≡_};
@@ -17,7 +16,7 @@ use plans::Plan;
 use plans::Recipe;
 use plans::Size;
 use plans::Ways;
-use walking::element_end;
+use words::element_end;
 
 // A result more, counted until a lent slice is passed.
 pub fn grow(n: usize, one: usize) -> usize

@@ -9,9 +9,9 @@ ghost use Rattle.pieces.specs.Written.{Wrote};
 ghost use Rattle.pieces.specs.Marked.{marked, Marked, swapped};
 use super::copying::copy;
 use super::copying::part_len;
-use super::copying::stands;
 use super::copying::within;
 use plans::Recipe;
+use words::stands;
 
 // Which hedge variables a part has, where it has no other words.
 pub struct Marks {

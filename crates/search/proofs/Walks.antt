@@ -8,10 +8,10 @@ use Rattle.language.specs.Limits.{desk}
 use Rattle.language.specs.Trees.{Hedge, Expr, Literal, eqn, mem, Conj}
 use Rattle.language.specs.Writing.{literalWords, conjWords}
 use Rattle.language.specs.Fine.{fineConj}
-use Rattle.views.specs.Places.{untilLiteral}
+use Rattle.words.specs.Places.{untilLiteral}
 use Rattle.views.specs.Standing.{LiteralAt}
 use Rattle.views.proofs.Words.{words-append}
-use Rattle.views.proofs.Parts.{word-of}
+use Rattle.words.proofs.Parts.{word-of}
 use Rattle.views.proofs.Seen.{literal-here, literal-next}
 use Rattle.search.proofs.FineParts.{fine-split}
 

@@ -19,7 +19,7 @@ use Rattle.rules.specs.Answer.{markOf, lineWords, answerWords}
 use Rattle.rules.specs.Calls.{lineAt}
 use Rattle.exact.specs.Each.{Each}
 use Rattle.answers.proofs.Rows.{header, in-a-row, length-header, length-lines, length-times}
-use Rattle.views.proofs.Parts.{drop-of, part-of, word-of}
+use Rattle.words.proofs.Parts.{drop-of, part-of, word-of}
 use Rattle.showing.specs.Answers.{Good, Answer}
 use Rattle.showing.proofs.Tables.{joined-row}
 

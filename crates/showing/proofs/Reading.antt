@@ -20,7 +20,7 @@ use Rattle.rules.specs.Example.{example}
 use Rattle.rules.specs.Calls.{Showing, denied, fitted, shown, lineAt}
 use Rattle.bindings.specs.Lines.{Line}
 use Rattle.values.specs.Values.{Settled}
-use Rattle.views.proofs.Parts.{drop-of, word-of}
+use Rattle.words.proofs.Parts.{drop-of, word-of}
 use Rattle.showing.specs.declared.Shown.{Shown}
 use Rattle.showing.specs.declared.Shown.the-variants.{Shows, Denied}
 use Rattle.showing.specs.Shown.{resultOf, roomOf}

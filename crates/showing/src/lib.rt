@@ -16,7 +16,7 @@ use values::short;
 use values::values_len;
 use values::write_starts;
 use values::write_values;
-use views::word;
+use words::word;
 
 // The length of the filling that the room holds, or why there is none.
 pub enum Shown {

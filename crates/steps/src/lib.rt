@@ -27,10 +27,10 @@ use pieces::size_results;
 use pieces::write_results;
 use plans::Plan;
 use plans::Size;
-use views::next_literal;
 use views::see;
 use views::show_membership;
 use views::swapped;
+use words::next_literal;
 
 // The literal of the least rank so far: its rank, its place, and whether its equation is seen from the other side.
 pub struct Best {

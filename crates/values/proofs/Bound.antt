@@ -19,7 +19,7 @@ use Rattle.samples.specs.Laid.{Laid}
 use Rattle.samples.proofs.Bodies.{words-body}
 use Rattle.samples.proofs.Laid.{laid-row, laid-as}
 use Rattle.views.specs.Standing.{Stands}
-use Rattle.views.proofs.Parts.{part-of}
+use Rattle.words.proofs.Parts.{part-of}
 use Rattle.bindings.specs.Lines.{Line, Word}
 use Rattle.bindings.specs.Binding.{BoundBy, to, free}
 use Rattle.bindings.specs.declared.Bound.{Bound}

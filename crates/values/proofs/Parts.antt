@@ -15,7 +15,7 @@ use Rattle.rules.specs.Example.{Values, defaultSymbol, sampled, unsolved}
 use Rattle.samples.specs.Bodies.{body}
 use Rattle.samples.specs.Laid.{Laid}
 use Rattle.samples.proofs.Laid.{laid-none, laid-row, laid-as}
-use Rattle.views.proofs.Parts.{part-cons, part-none, part-past}
+use Rattle.words.proofs.Parts.{part-cons, part-none, part-past}
 use Rattle.bindings.specs.Lines.{Line, Word}
 use Rattle.values.specs.Spelling.{becomes, spelled, HedgeWord, HedgeWords}
 use Rattle.values.specs.Values.{Settled, UnsolvedLength, WordLength, PartLength}

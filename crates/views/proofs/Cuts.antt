@@ -16,7 +16,7 @@ use Rattle.plans.specs.Views.{Sided}
 use Rattle.plans.specs.declared.Side.{Side}
 use Rattle.views.specs.Standing.{Stands}
 use Rattle.views.specs.Walks.{size}
-use Rattle.views.proofs.Parts.{part-of, drop-of}
+use Rattle.words.proofs.Parts.{part-of, drop-of}
 use Rattle.views.proofs.Words.{body-join, words-split, join-nil, join-assoc, fine-tail, fine-head, fine-join}
 use Rattle.views.proofs.Spans.{element-place}
 

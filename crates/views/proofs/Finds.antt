@@ -21,7 +21,7 @@ use Rattle.plans.specs.Results.{member, elementEnd}
 use Rattle.views.specs.Variables.{variableWord, fineVar}
 use Rattle.views.specs.Standing.{Stands}
 use Rattle.views.specs.Walks.{size, Ahead, Spotted}
-use Rattle.views.proofs.Parts.{part-none, part-of}
+use Rattle.words.proofs.Parts.{part-none, part-of}
 use Rattle.views.proofs.Words.{join-nil, join-assoc, fine-head, firstWord}
 use Rattle.views.proofs.Spans.{stands-word, stands-split, stands-place}
 use Rattle.views.proofs.Looks.{stands-children}

@@ -18,7 +18,7 @@ use Rattle.language.specs.Fine.{fineHedge}
 use Rattle.rules.specs.Looks.{onto, around, inside, upTo}
 use Rattle.plans.specs.Looks.{bodyWords}
 use Rattle.views.specs.Standing.{Stands}
-use Rattle.views.proofs.Parts.{part-of, drop-of}
+use Rattle.words.proofs.Parts.{part-of, drop-of}
 use Rattle.views.proofs.Words.{words-join, fine-parts}
 
 -- the two parts, joined by `glue`, are h

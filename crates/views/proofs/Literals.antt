@@ -1,26 +1,17 @@
 -- From literal to literal: no word within a literal begins another.
 use mathlib.Core.Path.{_≡_, refl, ap, _∙_}
 use mathlib.Core.List.{List, [], _∷_, _++_, append-assoc}
-use mathlib.Core.Logic.{_⊎_, inl, inr}
-use Prim.Native.Nat.{ℕ, suc, _+_, _<_, _≤_}
+use mathlib.Core.Logic.{inl, inr}
+use Prim.Native.Nat.{ℕ, suc, _+_}
 use native.Mathlib.Omega.{arith}
-use lib.ListN.{length, getD, drop, length-append, drop-of-length-le}
-use borrow.Author.Tests.{eq-eqb, ne-eqb}
+use lib.ListN.{length, drop, length-append}
 use Rattle.language.specs.Limits.{desk}
 use Rattle.language.specs.Trees.{Functor, symbol, fvar, Hedge, ε, tvar, hvar, node, Expr, eps, cat, alt, star, over, Literal, eqn, mem, Conj}
 use Rattle.language.specs.Writing.{functorWord, hedgeWords, exprWords, literalWords, conjWords}
 use Rattle.language.specs.Fine.{fineFunctor, fineHedge, fineExpr, fineLiteral}
-use Rattle.views.specs.Places.{begins, untilLiteral}
-use Rattle.views.proofs.Parts.{drop-here, drop-of}
-
-on : (x : ℕ) (ws : List ℕ) → (x ≡ 5000 → ⊥) → (x ≡ 6000 → ⊥) → untilLiteral (x ∷ ws) ≡ suc (untilLiteral ws)
-unfolding untilLiteral
-on x ws a b = rw (ne-eqb x 5000 a, ne-eqb x 6000 b)
-
-off : (x : ℕ) (ws : List ℕ) → (x ≡ 5000) ⊎ (x ≡ 6000) → untilLiteral (x ∷ ws) ≡ 0
-unfolding untilLiteral
-off x ws (inl e) = rw (eq-eqb x 5000 e)
-off x ws (inr e) = rw (ap (λ y. untilLiteral (y ∷ ws)) e)
+use Rattle.words.specs.Places.{begins, untilLiteral}
+use Rattle.words.proofs.Parts.{drop-of}
+use Rattle.words.proofs.Literals.{on, off}
 
 past-functor : (f : Functor) (ws : List ℕ) → fineFunctor desk f → untilLiteral (functorWord f ∷ ws) ≡ suc (untilLiteral ws)
 past-functor (symbol g) ws f = on (3000 + g .0) ws (omega arith) (omega arith)
@@ -65,15 +56,3 @@ next-literal k at (mem h R) behind f e =
     let z = at-conj behind in
     let n = length-append (hedgeWords h) (exprWords R) in
     omega arith
-
--- one turn of the scan
-module _ (k : List ℕ) (i : ℕ) (p : i < length k) where
-  pub until-stop : (getD k i 0 ≡ 5000) ⊎ (getD k i 0 ≡ 6000) → untilLiteral (drop i k) ≡ 0
-  until-stop e = ap untilLiteral (drop-here k i p) ∙ off (getD k i 0) (drop (i + 1) k) e
-
-  pub until-on : (getD k i 0 ≡ 5000 → ⊥) → (getD k i 0 ≡ 6000 → ⊥) → untilLiteral (drop i k) ≡ suc (untilLiteral (drop (i + 1) k))
-  until-on a b = ap untilLiteral (drop-here k i p) ∙ on (getD k i 0) (drop (i + 1) k) a b
-
-pub until-end : (k : List ℕ) (i : ℕ) → length k ≤ i → untilLiteral (drop i k) ≡ 0
-unfolding untilLiteral
-until-end k i h = ap untilLiteral (drop-of-length-le k {i = i} h)

@@ -22,7 +22,7 @@ use Rattle.plans.specs.Views.{Sided}
 use Rattle.plans.specs.declared.Look.the-variants.{Empty, Term, Run, Node}
 use Rattle.plans.specs.declared.Side.{Side}
 use Rattle.views.specs.Standing.{Stands}
-use Rattle.views.proofs.Parts.{part-of, drop-of}
+use Rattle.words.proofs.Parts.{part-of, drop-of}
 use Rattle.views.proofs.Words.{firstWord}
 use Rattle.views.proofs.Sides.{side-stands}
 use Rattle.views.proofs.Spans.{functor-least, functor-some, stands-word, stands-rest, stands-place, stands-end}

@@ -9,9 +9,9 @@ use Rattle.language.specs.Trees.{Hedge, Expr, eps, cat, alt, star, over, Litera
 use Rattle.language.specs.Writing.{hedgeWords, exprWords, literalWords, conjWords}
 use Rattle.plans.specs.Views.{Sided, Sees, Shows}
 use Rattle.plans.specs.declared.Side.{Side}
-use Rattle.views.specs.Places.{untilLiteral}
+use Rattle.words.specs.Places.{untilLiteral}
 use Rattle.views.specs.Standing.{Stands, LiteralAt}
-use Rattle.views.proofs.Parts.{drop-of, word-of}
+use Rattle.words.proofs.Parts.{drop-of, word-of}
 use Rattle.views.proofs.Literals.{next-literal}
 
 module _ {k : List ℕ} {at : ℕ} {before : Conj} {l : Literal} {behind : Conj} (s : LiteralAt k at before l behind) where

@@ -3,8 +3,8 @@ use mathlib.Core.Path.{_≡_, ap, _∙_}
 use mathlib.Core.List.{List, _++_}
 use Prim.Native.Nat.{ℕ, _+_}
 use native.Mathlib.Omega.{arith}
-use lib.ListN.{length, getD, take, drop, length-append}
-use lib.Seq.{slice, take-length}
+use lib.ListN.{length, getD, drop, length-append}
+use lib.Seq.{slice}
 use Rattle.language.specs.Trees.{Hedge, Expr, Conj}
 use Rattle.language.specs.Writing.{hedgeWords, exprWords, conjWords}
 use Rattle.plans.specs.Looks.{head, tail, bodyWords}
@@ -13,7 +13,7 @@ use Rattle.plans.specs.declared.Side.{Side}
 use Rattle.plans.specs.declared.View.{View}
 use Rattle.plans.specs.declared.Shape.{Shape}
 use Rattle.views.specs.Standing.{Stands}
-use Rattle.views.proofs.Parts.{part-of, drop-of}
+use Rattle.words.proofs.Parts.{part-of, drop-of, part-rest}
 use Rattle.views.proofs.Words.{words-split, firstWord}
 use Rattle.views.proofs.Spans.{stands-word, stands-split, stands-rest}
 
@@ -45,10 +45,6 @@ module _ {k : List ℕ} {s : Side} {h : Hedge} (v : Sided k s h) where
 
   pub side-word : getD k (s .from) 0 ≡ firstWord h
   side-word = stands-word side-stands
-
--- the words from a place to the length are all from there on
-pub part-rest : (k : List ℕ) (i t : ℕ) → t ≡ length k → slice i t k ≡ drop i k
-part-rest k i t e = ap (λ n. drop i (take n k)) e ∙ ap (drop i) (take-length k)
 
 module _ {k : List ℕ} {v : View} {before : Conj} {l r : Hedge} {behind : Conj} (s : Sees k v before l r behind) where
   -- 0..at

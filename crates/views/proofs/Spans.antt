@@ -1,53 +1,19 @@
 -- How far hedges go in a list of words: `span` passes a hedge's words, `elementEnd` the first element's.
 use mathlib.Core.Path.{_≡_, refl, sym, ap, _∙_}
-use mathlib.Core.Bool.{Bool, true, false}
 use mathlib.Core.List.{List, [], _∷_, _++_, append-assoc, append-nil}
 use Prim.Native.Nat.{ℕ, suc, _+_, _-_, _<_, _≤_}
 use native.Mathlib.Omega.{arith}
-use lib.Dec.{eqb, leb}
-use lib.ListN.{length, getD, drop, length-append, drop-of-length-le}
-use borrow.Author.Tests.{eq-eqb, ne-eqb, le-leb, lt-leb}
+use lib.ListN.{length, getD, drop, length-append}
 use Rattle.language.specs.Limits.{desk}
-use Rattle.language.specs.Kinds.{pick}
 use Rattle.language.specs.Trees.{Functor, symbol, fvar, Hedge, ε, tvar, hvar, node}
 use Rattle.language.specs.Writing.{functorWord, hedgeWords}
 use Rattle.language.specs.Fine.{fineHedge}
 use Rattle.plans.specs.Looks.{head, tail, bodyWords}
 use Rattle.plans.specs.Results.{opens, span, elementEnd}
 use Rattle.views.specs.Standing.{Stands}
-use Rattle.views.proofs.Parts.{drop-here, below-of-word, drop-of, word-of}
+use Rattle.words.proofs.Parts.{drop-of, word-of}
+use Rattle.words.proofs.Spans.{opens-0, opens-1, opens-2, span-none, span-suc, element-stop, element-on}
 use Rattle.views.proofs.Words.{words-split, fine-tail, firstWord, first-word}
-
--- ---- what a word opens
-
-pub opens-le : (x : ℕ) → opens x ≤ 2
-unfolding opens
-opens-le x = go (eqb x 0) (leb x 2999)
-  where
-    go : (a b : Bool) → pick a 0 (pick b 1 2) ≤ 2
-    go true b = omega arith
-    go false true = omega arith
-    go false false = omega arith
-
-pub opens-pos : (x : ℕ) → (x ≡ 0 → ⊥) → 1 ≤ opens x
-unfolding opens
-opens-pos x nz = rw (ne-eqb x 0 nz) (go (leb x 2999))
-  where
-    go : (b : Bool) → 1 ≤ pick b 1 2
-    go true = omega arith
-    go false = omega arith
-
-opens-0 : opens 0 ≡ 0
-unfolding opens
-opens-0 = refl
-
-opens-1 : (x : ℕ) → 0 < x → x ≤ 2999 → opens x ≡ 1
-unfolding opens
-opens-1 x p q = rw (ne-eqb x 0 (omega arith), le-leb x 2999 q)
-
-opens-2 : (x : ℕ) → 2999 < x → opens x ≡ 2
-unfolding opens
-opens-2 x p = rw (ne-eqb x 0 (omega arith), lt-leb x 2999 p)
 
 pub functor-least : (f : Functor) → 3000 ≤ functorWord f
 functor-least (symbol g) = omega arith
@@ -58,28 +24,6 @@ opens-functor f = let h = functor-least f in opens-2 (functorWord f) (omega arit
 
 pub functor-some : (f : Functor) → functorWord f ≡ 0 → ⊥
 functor-some f e = let h = functor-least f in omega arith
-
--- ---- how many words n hedges take
-
-pub span-past : (n : ℕ) (k : List ℕ) (i : ℕ) → length k ≤ i → span n (drop i k) ≡ 0
-unfolding span
-span-past n k i h = ap (span n) (drop-of-length-le k {i = i} h)
-
-pub span-none : (ws : List ℕ) → span 0 ws ≡ 0
-unfolding span
-span-none [] = refl
-span-none (x ∷ ws) = refl
-
-span-suc : (n m x : ℕ) (ws : List ℕ) → n + opens x ≡ m → span (suc n) (x ∷ ws) ≡ suc (span m ws)
-unfolding span
-span-suc n m x ws e = ap (λ j. suc (span j ws)) e
-
--- one word more
-pub span-step : (n : ℕ) (k : List ℕ) (i : ℕ) → (n ≡ 0 → ⊥) → i < length k → i + 1 + span (n - 1 + opens (getD k i 0)) (drop (i + 1) k) ≡ i + span n (drop i k)
-span-step n k i nz h =
-    let e : n ≡ suc (n - 1) = omega arith in
-    let g : span n (drop i k) ≡ suc (span (n - 1 + opens (getD k i 0)) (drop (i + 1) k)) = ap (span n) (drop-here k i h) ∙ ap (λ m. span m (getD k i 0 ∷ drop (i + 1) k)) e ∙ span-suc (n - 1) _ _ _ refl in
-    omega arith
 
 -- the words of a hedge are one hedge
 pub span-hedge : (h : Hedge) → fineHedge desk h → (n : ℕ) (ws : List ℕ) → span (suc n) (hedgeWords h ++ ws) ≡ length (hedgeWords h) + span n ws
@@ -93,19 +37,6 @@ span-hedge (node g c r) f n ws =
     let l = length-append (hedgeWords c) (hedgeWords r) in
     ap (λ t. span (suc n) (functorWord g ∷ t)) (append-assoc (hedgeWords c) (hedgeWords r) ws)
     ∙ span-suc n (suc (suc n)) (functorWord g) (hedgeWords c ++ (hedgeWords r ++ ws)) (omega arith) ∙ omega arith
-
--- ---- the element at a place
-
-pub element-stop : (k : List ℕ) (i : ℕ) → getD k i 0 ≡ 0 → i ≡ elementEnd k i
-unfolding elementEnd
-element-stop k i e = simp (eq-eqb _ 0 e)
-
-pub element-on : (k : List ℕ) (i : ℕ) → (getD k i 0 ≡ 0 → ⊥) → elementEnd k i ≡ i + 1 + span (opens (getD k i 0) - 1) (drop (i + 1) k)
-unfolding elementEnd
-element-on k i e = simp (ne-eqb _ 0 e)
-
-pub element-more : (k : List ℕ) (i : ℕ) → (getD k i 0 ≡ 0 → ⊥) → (i < elementEnd k i) × (i < length k)
-element-more k i nz = let e = element-on k i nz in (omega arith, below-of-word k i nz)
 
 -- an element of one word
 one-word : (k : List ℕ) (i x : ℕ) → getD k i 0 ≡ x → 0 < x → x ≤ 2999 → elementEnd k i ≡ i + 1

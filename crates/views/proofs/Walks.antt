@@ -16,7 +16,8 @@ use Rattle.plans.specs.Results.{elementEnd}
 use Rattle.views.specs.Standing.{Stands}
 use Rattle.views.specs.Walks.{termWord, runWord, size}
 use Rattle.views.proofs.Words.{body-join, firstWord}
-use Rattle.views.proofs.Spans.{element-more, stands-word, stands-next, stands-place}
+use Rattle.words.proofs.Spans.{element-more}
+use Rattle.views.proofs.Spans.{stands-word, stands-next, stands-place}
 use Rattle.views.proofs.Looks.{empty-word}
 
 -- ---- which words begin what

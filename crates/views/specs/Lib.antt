@@ -1,4 +1,3 @@
 pub mod Variables
-pub mod Places
 pub mod Standing
 pub mod Walks

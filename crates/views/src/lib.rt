@@ -1,18 +1,14 @@
-// Reading places and shapes off a conjunction's words.
-ghost use Prim.Native.Nat.{ℕ, _+_, _≤_, _<_, min};
+// What stands in a conjunction's words: shapes of hedges and literals, read off them.
+ghost use Prim.Native.Nat.{ℕ, _+_, _≤_, _<_};
 ghost use mathlib.Core.Path.{_≡_};
-ghost use mathlib.Core.Bool.{_||_};
 ghost use mathlib.Core.List.{List};
-ghost use lib.ListN.{length, getD, take, drop};
-ghost use lib.Seq.{slice};
+ghost use lib.ListN.{length};
 ghost use Rattle.language.specs.declared.HedgeVar.{HedgeVar};
 ghost use Rattle.language.specs.Limits.{desk};
 ghost use Rattle.language.specs.Trees.{Hedge, Expr, eqn, mem, Conj, Var, hv};
 ghost use Rattle.rules.specs.Looks.{hasTerm, allRuns, under as belowTop};
 ghost use Rattle.plans.specs.Looks.{lookOf, head, bodyWords};
-ghost use Rattle.plans.specs.Results.{member, opens, span, elementEnd};
 ghost use Rattle.plans.specs.Views.{Sided, Sees, Shows};
-ghost use Rattle.views.specs.Places.{untilLiteral, sameList};
 ghost use Rattle.views.specs.Variables.{variableWord, fineVar};
 ghost use Rattle.views.specs.Walks.{termWord, runWord, Counted, Ahead, Spotted};
 ghost use Rattle.views.specs.Standing.{Stands, LiteralAt};
@@ -20,6 +16,11 @@ use plans::Look;
 use plans::Shape;
 use plans::Side;
 use plans::View;
+use words::element_end;
+use words::hedge_end;
+use words::next_literal;
+use words::stands;
+use words::word;
 
 // Whether a hedge is terms alone, and how many.
 pub struct Terms {
@@ -37,97 +38,6 @@ pub struct Found {
 pub struct Spot {
     pub found: bool,
     pub place: usize,
-}
-
-// The word at a place, 0 past the end.
-pub fn word(k: &[u16], i: usize) -> u16
-    ensures { λ r. ⌜ r ≡ getD (now (k .entry)) i 0 ⌝ }
-{
-    if i < k.len() { k[i] } else { 0 }
-}
-
-fn least(a: usize, b: usize) -> usize
-    ensures { λ r. ⌜ r ≡ min a b ⌝ }
-{
-    if a < b { a } else { b }
-}
-
-// Whether a word stands in a part.
-pub fn stands(k: &[u16], from: usize, to: usize, x: u16) -> bool
-    ensures { λ r. ⌜ r ≡ member x (slice from to (now (k .entry))) ⌝ }
-{
-    let mut i = from;
-    while i < to {
-        if k.len() <= i {
-            return false;
-        }
-        if k[i] == x {
-            return true;
-        }
-        i += 1;
-    }
-    false
-}
-
-// How many hedges a word opens.
-fn opened(x: u16) -> usize
-    ensures { λ r. ⌜ r ≡ opens x ⌝ }
-{
-    if x == 0 {
-        return 0;
-    }
-    if x <= 2999 {
-        return 1;
-    }
-    2
-}
-
-// The place after the next hedges.
-fn passed(k: &[u16], at: usize, hedges: usize) -> usize
-    requires { ⌜ hedges ≤ 2 ⌝ }
-    ensures { λ r. ⌜ r ≡ at + span hedges (drop at (now (k .entry))) ⌝ }
-{
-    let mut i = at;
-    let mut need = hedges;
-    while need != 0 {
-        if k.len() <= i {
-            return i;
-        }
-        let more = opened(k[i]);
-        need = need - 1 + more;
-        i += 1;
-    }
-    i
-}
-
-// The place after the element at a place, or the place itself where the hedge ends there.
-pub fn element_end(k: &[u16], i: usize) -> usize
-    ensures { λ r. ⌜ r ≡ elementEnd (now (k .entry)) i ⌝ }
-{
-    let x = word(k, i);
-    if x == 0 {
-        return i;
-    }
-    let n = opened(x);
-    passed(k, i + 1, n - 1)
-}
-
-// The place of the next literal, or the length.
-pub fn next_literal(k: &[u16], at: usize) -> usize
-    requires { ⌜ at < length (now k) ⌝ }
-    ensures { λ r. ⌜ r ≡ at + 1 + untilLiteral (drop (at + 1) (now (k .entry))) ⌝ }
-{
-    let mut i = at + 1;
-    while i < k.len() {
-        if k[i] == 5000 {
-            return i;
-        }
-        if k[i] == 6000 {
-            return i;
-        }
-        i += 1;
-    }
-    i
 }
 
 // How the hedge at a place begins; `rest` is the place after its first element.
@@ -154,7 +64,7 @@ pub fn side_at(k: &[u16], from: usize) -> Side
     ensures { λ s. ⌜ (s .from ≡ from) × ((h : Hedge) (beyond : List ℕ) → Stands (now (k .entry)) from h beyond → Sided (now (k .entry)) s h) ⌝ }
 {
     let rest = element_end(k, from);
-    let to = passed(k, from, 1);
+    let to = hedge_end(k, from);
     let look = look_at(k, from, rest);
     Side {
         from,
@@ -214,37 +124,6 @@ pub fn swapped(v: View) -> View
         end: v.end,
         len: v.len,
     }
-}
-
-// Whether a word stands before a literal or behind it.
-pub fn elsewhere(k: &[u16], at: usize, end: usize, x: u16) -> bool
-    ensures { λ r. ⌜ r ≡ (member x (take at (now (k .entry))) || member x (drop end (now (k .entry)))) ⌝ }
-{
-    if stands(k, 0, at, x) {
-        return true;
-    }
-    stands(k, end, k.len(), x)
-}
-
-// Whether two parts are the same words.
-pub fn same_part(k: &[u16], from: usize, to: usize, start: usize, end: usize) -> bool
-    ensures { λ r. ⌜ r ≡ sameList (slice from to (now (k .entry))) (slice start end (now (k .entry))) ⌝ }
-{
-    let m = least(to, k.len());
-    let n = least(end, k.len());
-    let mut i = from;
-    let mut j = start;
-    while i < m {
-        if n <= j {
-            return false;
-        }
-        if k[i] != k[j] {
-            return false;
-        }
-        i += 1;
-        j += 1;
-    }
-    n <= j
 }
 
 fn is_term(x: u16) -> bool

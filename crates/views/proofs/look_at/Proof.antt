@@ -2,7 +2,7 @@
 use mathlib.Core.Path.{_∙_}
 use native.Mathlib.Omega.{arith}
 use borrow.Author.Needs.{needs}
-use Rattle.views.proofs.Parts.{below-of-word}
+use Rattle.words.proofs.Parts.{below-of-word}
 use Rattle.views.proofs.Looks.{look-empty, look-term, look-run, look-node}
 use Rattle.views.proofs.look_at.Statement.{statement}
 use Rattle.views.proofs.look_at.Tie as tie

@@ -9,14 +9,14 @@ use Rattle.views.proofs.side_at.Tie as tie
 element-end-requires : tie.Need-element-end-requires
 element-end-requires c κs = search needs
 
-passed-requires : tie.Need-passed-requires
-passed-requires c κs = search needs
+hedge-end-requires : tie.Need-hedge-end-requires
+hedge-end-requires c κs = search needs
 
 look-at-requires : tie.Need-look-at-requires
 look-at-requires c κs = search needs
 
 returns : tie.Need-returns
-returns c = (refl, λ h beyond s. side-of s (c .before .before .element-end .ensures) (c .before .passed .ensures) (c .look-at .ensures h beyond s (c .before .before .element-end .ensures ∙ stands-place s)))
+returns c = (refl, λ h beyond s. side-of s (c .before .before .element-end .ensures) (c .before .hedge-end .ensures) (c .look-at .ensures h beyond s (c .before .before .element-end .ensures ∙ stands-place s)))
 
 pub side-at-spec : {M : Type 1} → statement M
-side-at-spec = tie.close (tie.spec element-end-requires passed-requires look-at-requires returns)
+side-at-spec = tie.close (tie.spec element-end-requires hedge-end-requires look-at-requires returns)

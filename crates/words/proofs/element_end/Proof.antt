@@ -1,0 +1,40 @@
+-- `element_end`: what the first word opens is passed.
+use mathlib.Core.Path.{sym, ap, _∙_}
+use Prim.Native.Nat.{_+_, _-_}
+use lib.ListN.{drop}
+use native.Mathlib.Omega.{arith}
+use borrow.Author.Needs.{needs}
+use Rattle.plans.specs.Results.{opens, span}
+use Rattle.words.proofs.Parts.{below-of-word}
+use Rattle.words.proofs.Spans.{opens-le, opens-pos, element-stop, element-on}
+use Rattle.words.proofs.element_end.Statement.{statement}
+use Rattle.words.proofs.element_end.Tie as tie
+
+word-requires : tie.Need-word-requires
+word-requires c κs = search needs
+
+returns : tie.Need-returns
+returns c = element-stop (c .before .before .before .args .k .now) (c .before .before .before .args .i) (sym (c .before .word .ensures) ∙ c .if1 .taken)
+
+opened-requires : tie.Need-opened-requires
+opened-requires c κs = search needs
+
+add-passed : tie.Need-add-passed
+add-passed c = let b = below-of-word (c .before .before .before .before .args .k .now) (c .before .before .before .before .args .i) (λ z. c .before .if1 .left (c .before .before .word .ensures ∙ z)) in omega arith
+
+sub-passed : tie.Need-sub-passed
+sub-passed c = let y = c .opened .ensures in let b = opens-pos (c .before .before .word .result) (c .before .if1 .left) in omega arith
+
+passed-requires : tie.Need-passed-requires
+passed-requires c κs = let y = c .opened .ensures in let b = opens-le (c .before .before .word .result) in omega arith
+
+returns-2 : tie.Need-returns-2
+returns-2 c =
+    let k = c .before .before .before .before .before .args .k .now in
+    let i = c .before .before .before .before .before .args .i in
+    c .passed .ensures
+    ∙ ap (λ n. i + 1 + span (n - 1) (drop (i + 1) k)) (c .before .opened .ensures ∙ ap opens (c .before .before .before .word .ensures))
+    ∙ sym (element-on k i (λ z. c .before .before .if1 .left (c .before .before .before .word .ensures ∙ z)))
+
+pub element-end-spec : {M : Type 1} → statement M
+element-end-spec = tie.close (tie.spec word-requires returns opened-requires add-passed sub-passed passed-requires returns-2)

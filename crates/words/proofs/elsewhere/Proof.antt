@@ -1,0 +1,24 @@
+-- `elsewhere`: the words before the literal, then those behind it.
+use mathlib.Core.Path.{refl, sym, ap, _∙_}
+use mathlib.Core.Bool.{_||_}
+use lib.ListN.{length, drop}
+use borrow.Author.Needs.{needs}
+use Rattle.plans.specs.Results.{member}
+use Rattle.words.proofs.Parts.{part-rest}
+use Rattle.words.proofs.elsewhere.Statement.{statement}
+use Rattle.words.proofs.elsewhere.Tie as tie
+
+stands-requires : tie.Need-stands-requires
+stands-requires c κs = search needs
+
+returns : tie.Need-returns
+returns c = sym (ap (λ b. b || member (c .before .before .before .args .x) (drop (c .before .before .before .args .end) (c .before .before .before .args .k .now))) (sym (c .before .stands .ensures) ∙ c .if1 .taken))
+
+stands-requires-2 : tie.Need-stands-requires-2
+stands-requires-2 c κs = search needs
+
+returns-2 : tie.Need-returns-2
+returns-2 c = let k = c .before .before .before .before .args .k .now in let x = c .before .before .before .before .args .x in c .stands2 .ensures ∙ ap (member x) (part-rest k (c .before .before .before .before .args .end) (length k) refl) ∙ sym (ap (λ b. b || member x (drop (c .before .before .before .before .args .end) k)) (sym (c .before .before .stands .ensures) ∙ c .before .if1 .left))
+
+pub elsewhere-spec : {M : Type 1} → statement M
+elsewhere-spec = tie.close (tie.spec stands-requires returns stands-requires-2 returns-2)

@@ -1,0 +1,72 @@
+-- `next_literal`: from each place passed the next literal is the same.
+use Prim.Native.Nat.{_+_, _-_, _≤_}
+use mathlib.Core.Path.{_≡_, refl}
+use mathlib.Core.Logic.{inl, inr}
+use lib.ListN.{length, drop}
+use borrow.Author.Needs.{needs}
+use native.Mathlib.Omega.{arith}
+use Rattle.words.specs.Places.{untilLiteral}
+use Rattle.words.proofs.Literals.{until-stop, until-on, until-end}
+use Rattle.words.proofs.next_literal.Statement.{statement}
+use Rattle.words.proofs.next_literal.Tie as tie
+
+abbrev Inv-loop : tie.InvT-loop
+Inv-loop k at i₀ i = (i ≤ length k) × (i + untilLiteral (drop i k) ≡ at + 1 + untilLiteral (drop (at + 1) k))
+
+abbrev μ-loop : tie.MeasureT-loop
+μ-loop k at i₀ i = length k - i
+
+add-i : tie.Need-add-i Inv-loop μ-loop
+add-i c = search needs
+
+loop-holds : tie.Need-loop-holds Inv-loop μ-loop
+loop-holds c = (omega arith, refl)
+
+mul-if1 : tie.Need-mul-if1 Inv-loop μ-loop
+mul-if1 c = search needs
+
+shared-slice-read-if1 : tie.Need-shared-slice-read-if1 Inv-loop μ-loop
+shared-slice-read-if1 c = search needs
+
+returns : tie.Need-returns Inv-loop μ-loop
+returns c = let y = c .before .before .before .loop .inv .1 in let z = until-stop (c .before .before .before .before .args .k .now) (c .before .before .before .loop .i) (c .before .before .loop-test .taken) (inl (c .if1 .taken)) in omega arith
+
+mul-if2 : tie.Need-mul-if2 Inv-loop μ-loop
+mul-if2 c = search needs
+
+shared-slice-read-if2 : tie.Need-shared-slice-read-if2 Inv-loop μ-loop
+shared-slice-read-if2 c = search needs
+
+returns-2 : tie.Need-returns-2 Inv-loop μ-loop
+returns-2 c = let y = c .before .before .before .before .before .loop .inv .1 in let z = until-stop (c .before .before .before .before .before .before .args .k .now) (c .before .before .before .before .before .loop .i) (c .before .before .before .before .loop-test .taken) (inr (c .if2 .taken)) in omega arith
+
+add-i-2 : tie.Need-add-i-2 Inv-loop μ-loop
+add-i-2 c = search needs
+
+loop-less : tie.Need-loop-less Inv-loop μ-loop
+loop-less c = search needs
+
+loop-again : tie.Need-loop-again Inv-loop μ-loop
+loop-again c = let y = c .before .before .before .before .before .loop .inv .1 in let z = until-on (c .before .before .before .before .before .before .args .k .now) (c .before .before .before .before .before .loop .i) (c .before .before .before .before .loop-test .taken) (c .before .before .if1 .left) (c .if2 .left) in (omega arith, omega arith)
+
+returns-3 : tie.Need-returns-3 Inv-loop μ-loop
+returns-3 c = let y = c .before .loop .inv .1 in let z = until-end (c .before .before .args .k .now) (c .before .loop .i) (c .loop-test .left) in omega arith
+
+pub next-literal-spec : {M : Type 1} → statement M
+next-literal-spec =
+    tie.close
+    (tie.spec
+    Inv-loop
+    μ-loop
+    add-i
+    loop-holds
+    mul-if1
+    shared-slice-read-if1
+    returns
+    mul-if2
+    shared-slice-read-if2
+    returns-2
+    add-i-2
+    loop-less
+    loop-again
+    returns-3)

@@ -1,0 +1,78 @@
+-- `passed`: the words that are left to pass end where those at the start do.
+use mathlib.Core.Path.{_≡_, refl, ap, _∙_}
+use Prim.Native.Nat.{_+_, _-_, _≤_}
+use lib.ListN.{length, drop, getD}
+use borrow.Author.Needs.{needs}
+use native.Mathlib.Omega.{arith}
+use Rattle.plans.specs.Results.{span}
+use Rattle.words.proofs.Spans.{opens-le, span-past, span-none, span-step}
+use Rattle.words.proofs.passed.Statement.{statement}
+use Rattle.words.proofs.passed.Tie as tie
+
+abbrev Inv-loop : tie.InvT-loop
+Inv-loop k at hedges i₀ need₀ i need = (at ≤ i) × (need + at ≤ i + 2) × (i + span need (drop i k) ≡ at + span hedges (drop at k))
+
+abbrev μ-loop : tie.MeasureT-loop
+μ-loop k at hedges i₀ need₀ i need = length k - i
+
+loop-holds : tie.Need-loop-holds Inv-loop μ-loop
+loop-holds c = (omega arith, omega arith, refl)
+
+returns : tie.Need-returns Inv-loop μ-loop
+returns c = let k = c .before .before .before .before .args .k .now in let z = span-past (c .before .before .loop .need) k (c .before .before .loop .i) (c .if1 .taken) in let y = c .before .before .loop .inv .2 in omega arith
+
+mul-opened : tie.Need-mul-opened Inv-loop μ-loop
+mul-opened c = search needs
+
+shared-slice-read-opened : tie.Need-shared-slice-read-opened Inv-loop μ-loop
+shared-slice-read-opened c = search needs
+
+opened-requires : tie.Need-opened-requires Inv-loop μ-loop
+opened-requires c κs = search needs
+
+sub-need : tie.Need-sub-need Inv-loop μ-loop
+sub-need c = search needs
+
+add-need : tie.Need-add-need Inv-loop μ-loop
+add-need c = let k = c .before .before .before .before .before .before .args .k .now in let z = opens-le (getD k (c .before .before .before .before .loop .i) 0) in let y = c .opened .ensures in omega arith
+
+add-i : tie.Need-add-i Inv-loop μ-loop
+add-i c = search needs
+
+loop-less : tie.Need-loop-less Inv-loop μ-loop
+loop-less c = search needs
+
+loop-again : tie.Need-loop-again Inv-loop μ-loop
+loop-again c =
+    let k = c .before .before .before .before .before .before .args .k .now in
+    let i = c .before .before .before .before .loop .i in
+    let need = c .before .before .before .before .loop .need in
+    let z = opens-le (getD k i 0) in
+    let y = c .opened .ensures in
+    (omega arith, omega arith, ap (λ n. i + 1 + span (need - 1 + n) (drop (i + 1) k)) y ∙ span-step need k i (c .before .before .before .loop-test .taken) (c .before .before .if1 .left) ∙ c .before .before .before .before .loop .inv .2)
+
+returns-2 : tie.Need-returns-2 Inv-loop μ-loop
+returns-2 c =
+    let rest = drop (c .before .loop .i) (c .before .before .before .args .k .now) in
+    let y = c .before .loop .inv .2 in
+    let z = span-none rest in
+    let w = ap (λ n. span n rest) (c .loop-test .left) in
+    omega arith
+
+pub passed-spec : {M : Type 1} → statement M
+passed-spec =
+    tie.close
+    (tie.spec
+    Inv-loop
+    μ-loop
+    loop-holds
+    returns
+    mul-opened
+    shared-slice-read-opened
+    opened-requires
+    sub-need
+    add-need
+    add-i
+    loop-less
+    loop-again
+    returns-2)

@@ -1,0 +1,80 @@
+-- `same_part`: what is left of the two parts is compared, word by word.
+use mathlib.Core.Path.{_≡_, refl, _∙_}
+use Prim.Native.Nat.{_-_, min}
+use lib.ListN.{length}
+use lib.Seq.{slice}
+use borrow.Author.Needs.{needs}
+use Rattle.words.specs.Places.{sameList}
+use Rattle.words.proofs.Same.{same-short, same-differ, same-next, same-end}
+use Rattle.words.proofs.same_part.Statement.{statement}
+use Rattle.words.proofs.same_part.Tie as tie
+
+abbrev Inv-loop : tie.InvT-loop
+Inv-loop k from to start end m n i₀ j₀ i j =
+    (m ≡ min to (length k)) × (n ≡ min end (length k)) × (sameList (slice i to k) (slice j end k) ≡ sameList (slice from to k) (slice start end k))
+
+abbrev μ-loop : tie.MeasureT-loop
+μ-loop k from to start end m n i₀ j₀ i j = m - i
+
+least-requires : tie.Need-least-requires Inv-loop μ-loop
+least-requires c κs = search needs
+
+least-requires-2 : tie.Need-least-requires-2 Inv-loop μ-loop
+least-requires-2 c κs = search needs
+
+loop-holds : tie.Need-loop-holds Inv-loop μ-loop
+loop-holds c = (c .before .least .ensures, c .least2 .ensures, refl)
+
+returns : tie.Need-returns Inv-loop μ-loop
+returns c = same-short (c .before .before .before .before .before .before .args .k .now) (c .before .before .loop .i) (c .before .before .before .before .before .before .args .to) (c .before .before .loop .j) (c .before .before .before .before .before .before .args .end) (c .before .before .loop .inv .0) (c .before .before .loop .inv .1) (c .before .loop-test .taken) (c .if1 .taken) ∙ c .before .before .loop .inv .2
+
+mul-if2 : tie.Need-mul-if2 Inv-loop μ-loop
+mul-if2 c = search needs
+
+shared-slice-read-if2 : tie.Need-shared-slice-read-if2 Inv-loop μ-loop
+shared-slice-read-if2 c = search needs
+
+mul-if2-2 : tie.Need-mul-if2-2 Inv-loop μ-loop
+mul-if2-2 c = search needs
+
+shared-slice-read-if2-2 : tie.Need-shared-slice-read-if2-2 Inv-loop μ-loop
+shared-slice-read-if2-2 c = search needs
+
+returns-2 : tie.Need-returns-2 Inv-loop μ-loop
+returns-2 c = same-differ (c .before .before .before .before .before .before .before .before .before .args .k .now) (c .before .before .before .before .before .loop .i) (c .before .before .before .before .before .before .before .before .before .args .to) (c .before .before .before .before .before .loop .j) (c .before .before .before .before .before .before .before .before .before .args .end) (c .before .before .before .before .before .loop .inv .0) (c .before .before .before .before .before .loop .inv .1) (c .before .before .before .before .loop-test .taken) (c .before .before .before .if1 .left) (c .if2 .taken) ∙ c .before .before .before .before .before .loop .inv .2
+
+add-i : tie.Need-add-i Inv-loop μ-loop
+add-i c = search needs
+
+add-j : tie.Need-add-j Inv-loop μ-loop
+add-j c = search needs
+
+loop-less : tie.Need-loop-less Inv-loop μ-loop
+loop-less c = search needs
+
+loop-again : tie.Need-loop-again Inv-loop μ-loop
+loop-again c = (c .before .before .before .before .before .loop .inv .0, c .before .before .before .before .before .loop .inv .1, same-next (c .before .before .before .before .before .before .before .before .before .args .k .now) (c .before .before .before .before .before .loop .i) (c .before .before .before .before .before .before .before .before .before .args .to) (c .before .before .before .before .before .loop .j) (c .before .before .before .before .before .before .before .before .before .args .end) (c .before .before .before .before .before .loop .inv .0) (c .before .before .before .before .before .loop .inv .1) (c .before .before .before .before .loop-test .taken) (c .before .before .before .if1 .left) (c .if2 .left) ∙ c .before .before .before .before .before .loop .inv .2)
+
+returns-3 : tie.Need-returns-3 Inv-loop μ-loop
+returns-3 c = same-end (c .before .before .before .before .before .args .k .now) (c .before .loop .i) (c .before .before .before .before .before .args .to) (c .before .loop .j) (c .before .before .before .before .before .args .end) (c .before .loop .inv .0) (c .before .loop .inv .1) (c .loop-test .left) ∙ c .before .loop .inv .2
+
+pub same-part-spec : {M : Type 1} → statement M
+same-part-spec =
+    tie.close
+    (tie.spec
+    Inv-loop
+    μ-loop
+    least-requires
+    least-requires-2
+    loop-holds
+    returns
+    mul-if2
+    shared-slice-read-if2
+    mul-if2-2
+    shared-slice-read-if2-2
+    returns-2
+    add-i
+    add-j
+    loop-less
+    loop-again
+    returns-3)
