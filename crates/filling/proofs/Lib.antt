@@ -9,3 +9,4 @@ pub mod Plain
 pub mod Forms
 pub mod Readings
 pub mod Given
+pub mod Determined

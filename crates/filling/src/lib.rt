@@ -70,7 +70,7 @@ fn term_end(words: &[u16], at: usize) -> usize
 }
 
 // The value of the word at `at`, as the part of the filling that holds it or, for a term without variables, as the part of the question itself.
-pub fn lookup<'a>(
+fn lookup<'a>(
     filling: &'a [u16],
     question: &'a [u16],
     at: usize,

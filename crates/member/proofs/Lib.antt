@@ -4,3 +4,4 @@ pub mod Rows
 pub mod Moves
 pub mod Runs
 pub mod Words
+pub mod Determined

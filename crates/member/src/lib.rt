@@ -8,13 +8,13 @@ ghost use Rattle.language.specs.Kinds.{pick};
 ghost use Rattle.member.specs.Places.{Expression, Hedge, Term, Looked, Skipped, Cleared, Shifted, Accepted, Both, Decided};
 
 // The place after an expression, and whether the empty hedge is in its language.
-pub struct Seen {
+struct Seen {
     pub end: usize,
     pub null: bool,
 }
 
 // The same, and whether what was read so far may end here.
-pub struct Step {
+struct Step {
     pub end: usize,
     pub null: bool,
     pub fin: bool,

@@ -3,3 +3,4 @@ pub mod Parts
 pub mod Checks
 pub mod Verdicts
 pub mod Answers
+pub mod Determined

@@ -46,7 +46,7 @@ pub fn classify(word: u16) -> Kind
 }
 
 // One term: a term variable, or a symbol or function variable with its children.
-pub fn read_term(w: &[u16], at: usize) -> Read
+fn read_term(w: &[u16], at: usize) -> Read
     ensures { λ r. ⌜ r ≡ placed at (readTerm desk (drop at (now (w .entry)))) ⌝ }
 {
     if w.len() <= at {
@@ -78,7 +78,7 @@ pub fn read_hedge(w: &[u16], at: usize) -> Read
 }
 
 // An expression, by its parts.
-pub fn read_expr(w: &[u16], at: usize) -> Read
+fn read_expr(w: &[u16], at: usize) -> Read
     ensures { λ r. ⌜ r ≡ placed at (readExpr desk (drop at (now (w .entry)))) ⌝ }
 {
     if w.len() <= at {
@@ -116,7 +116,7 @@ pub fn read_literal(w: &[u16], at: usize) -> Read
 }
 
 // A conjunction: literals, to the last word.
-pub fn read_conj(w: &[u16]) -> Read
+fn read_conj(w: &[u16]) -> Read
     ensures { λ r. ⌜ r ≡ placed 0 (readConj desk (now (w .entry))) ⌝ }
 {
     let mut i = 0;
@@ -199,7 +199,7 @@ pub struct Header {
     pub alternatives: u16,
 }
 
-fn read_header(w: &[u16]) -> Header
+pub fn read_header(w: &[u16]) -> Header
     requires { ⌜ 5 ≤ length (now w) ⌝ }
     ensures { λ r. ⌜ r ≡ headerOf (now (w .entry)) ⌝ }
 {
@@ -213,7 +213,7 @@ fn read_header(w: &[u16]) -> Header
 }
 
 // Whether the counts are in range.
-pub fn counts_fit(h: Header) -> bool
+fn counts_fit(h: Header) -> bool
     ensures { λ r. ⌜ r ≡ countsFit desk (countsIn h) (h .alternatives) ⌝ }
 {
     if h.symbols < 1 {
@@ -235,7 +235,7 @@ pub fn counts_fit(h: Header) -> bool
 }
 
 // Whether a word's number is below the count of its kind.
-pub fn is_declared(h: Header, word: u16) -> bool
+fn is_declared(h: Header, word: u16) -> bool
     ensures { λ r. ⌜ r ≡ declaredWord desk (countsIn h) word ⌝ }
 {
     match classify(word) {
@@ -248,12 +248,12 @@ pub fn is_declared(h: Header, word: u16) -> bool
 }
 
 // The place of the first undeclared number.
-pub enum Scan {
+enum Scan {
     Declared,
     Undeclared(usize),
 }
 
-pub fn find_undeclared(h: Header, w: &[u16], from: usize) -> Scan
+fn find_undeclared(h: Header, w: &[u16], from: usize) -> Scan
     ensures { λ r. ⌜ r ≡ firstUndeclared desk (countsIn h) from (drop from (now (w .entry))) ⌝ }
 {
     let mut i = from;

@@ -7,3 +7,4 @@ pub mod Conjunctions
 pub mod Scans
 pub mod Questions
 pub mod Outcomes
+pub mod Determined

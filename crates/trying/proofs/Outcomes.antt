@@ -1,4 +1,4 @@
--- The call, step by step: what each return answers and leaves; and that no input has two outcomes.
+-- The call, step by step: what each return answers and leaves.
 use Prim.Native.Nat.{ℕ, _<_, _≤_}
 use mathlib.Core.Path.{_≡_, refl, sym, ap, subst, _∙_}
 use mathlib.Core.Logic.{_⊎_, inl, inr}
@@ -125,16 +125,3 @@ module _ (ws fs w : List ℕ) where
     question-tried {t = t} {w′} e f g a =
         let (q, i) = fine-asks e f in
         subst (λ x. Outcome x t w w′) (sym (reads-on ∙ ap (λ x. tryingOf desk x fs) i)) (a .each q i g)
-
--- ---- "that any two outcomes allowed by it coincide is a theorem"
-
-one-answer : {P : Type 0} {s t : Tried} → Answers P s → Answers P t → s ≡ t
-one-answer (inl (e, x)) (inl (f, y)) = e ∙ sym f
-one-answer (inl (e, x)) (inr (f, y)) = absurd (y x)
-one-answer (inr (e, x)) (inl (f, y)) = absurd (x y)
-one-answer (inr (e, x)) (inr (f, y)) = e ∙ sym f
-
-pub one-outcome : (x : Trying) (s t : Tried) (w u v : List ℕ) → Outcome x s w u → Outcome x t w v → (s ≡ t) × (u ≡ v)
-one-outcome (decides q ρ) s t w u v a b = (one-answer (a .0) (b .0), a .1 ∙ sym (b .1))
-one-outcome (unread r) s t w u v a b = (a .0 ∙ sym (b .0), a .1 ∙ sym (b .1))
-one-outcome (given-up r) s t w u v a b = (a .0 ∙ sym (b .0), a .1 ∙ sym (b .1))

@@ -9,7 +9,7 @@ ghost use Prim.Native.Nat.{_+_, _≤_, _<_};
 ghost use lib.ListN.{length};
 ghost use Rattle.language.specs.Limits.{desk};
 ghost use Rattle.rules.specs.Calls.{trying};
-ghost use Rattle.reader.specs.Checking.{headerOf, countsIn};
+ghost use Rattle.reader.specs.Checking.{countsIn};
 ghost use Rattle.filling.specs.Showing.{filled, Shows};
 ghost use Rattle.trying.specs.Tasks.{SameWords, FirstEnd, EquationMet, Testable, MembershipMet, FittingLiteral, LiteralMet, LiteralEnd, SomeConj, FittingConj, ConjTooLong, ConjMet, SomeQuestion, FittingQuestion, QuestionTooLong, QuestionMet, AskedQuestion};
 ghost use Rattle.trying.specs.Outcome.{cleared, Outcome, TriedGiven, TriedAsked, triedNumber, triedValue};
@@ -185,19 +185,6 @@ fn meets_all<'a>(h: Header, filling: &'a [u16], conj: &'a [u16], work: &mut [u16
 
 // ---- A question.
 
-fn header(question: &[u16]) -> Header
-    requires { ⌜ 5 ≤ length (now question) ⌝ }
-    ensures { λ r. ⌜ r ≡ headerOf (now (question .entry)) ⌝ }
-{
-    Header {
-        symbols: question[0],
-        terms: question[1],
-        hedges: question[2],
-        functions: question[3],
-        alternatives: question[4],
-    }
-}
-
 // Whether some literal of the question, filled in, is too long: of all its alternatives, before any is tested.
 fn any_too_long<'a>(h: Header, filling: &'a [u16], question: &'a [u16]) -> bool
     requires { ⌜ SomeQuestion h (now filling) (now question) ⌝ }
@@ -277,7 +264,7 @@ pub fn try_filling<'a>(question: &'a [u16], filling: &'a [u16], work: &mut [u16]
     match reader::read_question(question) {
         Checked::Refused(refusal) => Tried::Refused(refusal),
         Checked::Fine => {
-            let h = header(question);
+            let h = reader::read_header(question);
             try_asked(h, question, filling, work)
         }
     }

@@ -8,8 +8,8 @@ use Rattle.trying.proofs.try_filling.Tie as tie
 returns : tie.Need-returns
 returns c = short-slice _ _ (c .before .before .before .before .args .work .now) (omega arith)
 
-header-requires : tie.Need-header-requires
-header-requires c κs =
+read-header-requires : tie.Need-read-header-requires
+read-header-requires c κs =
     let a = c .before .before .before .before .before .before .before .args in
     let l = question-long (a .question .now) (a .filling .now) (a .work .now) (omega arith) (c .before .before .read-question .ensures) (c .enum-told .given .1) in
     search needs
@@ -17,13 +17,13 @@ header-requires c κs =
 try-asked-requires : tie.Need-try-asked-requires
 try-asked-requires c κs =
     let a = c .before .before .before .before .before .before .before .before .before .args in
-    (question-asked (a .question .now) (a .filling .now) (a .work .now) (omega arith) (c .before .before .before .before .read-question .ensures) (c .before .before .enum-told .given .1) (c .before .header .ensures), search needs)
+    (question-asked (a .question .now) (a .filling .now) (a .work .now) (omega arith) (c .before .before .before .before .read-question .ensures) (c .before .before .enum-told .given .1) (c .before .read-header .ensures), search needs)
 
 returns-2 : tie.Need-returns-2
 returns-2 c = refused-question _ _ (c .before .before .before .before .before .before .before .before .args .work .now) (omega arith) (c .before .before .before .read-question .ensures) (c .before .refusal .given .1)
 
 returns-3 : tie.Need-returns-3
-returns-3 c = question-tried _ _ _ (omega arith) (c .before .before .before .before .before .before .before .read-question .ensures) (c .before .before .before .before .before .enum-told .given .1) (c .before .before .before .before .header .ensures) (c .before .before .try-asked .ensures)
+returns-3 c = question-tried _ _ _ (omega arith) (c .before .before .before .before .before .before .before .read-question .ensures) (c .before .before .before .before .before .enum-told .given .1) (c .before .before .before .before .read-header .ensures) (c .before .before .try-asked .ensures)
 
 pub try-filling-spec : {M : Type 1} → statement M
 try-filling-spec =
@@ -33,7 +33,7 @@ try-filling-spec =
     (λ c κs. search needs)
     (λ c. search needs)
     (λ c. search needs)
-    header-requires
+    read-header-requires
     try-asked-requires
     returns-2
     (λ c. search needs)
