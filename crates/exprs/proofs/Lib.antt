@@ -1,3 +1,4 @@
+pub mod Passing
 pub mod Standing
 pub mod Passed
 pub mod Linear
@@ -8,4 +9,4 @@ pub mod Rests
 pub mod Rows
 pub mod Steps
 pub mod Written
-pub mod Drawn
+pub mod Determined

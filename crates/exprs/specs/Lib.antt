@@ -1,5 +1,5 @@
+pub mod Passing
 pub mod Standing
 pub mod Loose
 pub mod Spots
 pub mod Results
-pub mod Samples

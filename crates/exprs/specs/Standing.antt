@@ -10,6 +10,7 @@ use Rattle.language.specs.Fine.{fineExpr}
 use Rattle.rules.specs.Looks.{isEps}
 use Rattle.rules.specs.Expressions.{nullable}
 use Rattle.exprs.specs.declared.Part.{Part}
+use Rattle.exprs.specs.Passing.{partAt}
 
 -- R stands in k at `at`, followed by `beyond`
 pub record Here (k : List ℕ) (at : ℕ) (R : Expr) (beyond : List ℕ) : Type 0 where
@@ -22,8 +23,9 @@ pub record PartOf (at : ℕ) (R : Expr) (p : Part) : Type 0 where
   pub null : p .null ≡ nullable R
   pub bare : p .bare ≡ isEps R
 
--- p tells of whatever stands in k at `at`; other words are passed too, within k
+-- p is what passing the words finds, within k, and tells of whatever stands in k at `at`
 pub record Parted (k : List ℕ) (at : ℕ) (p : Part) : Type 0 where
   pub after : at ≤ p .end
   pub within : at ≤ length k → p .end ≤ length k
+  pub is : p ≡ partAt k at
   pub each : (R : Expr) (beyond : List ℕ) → Here k at R beyond → PartOf at R p

@@ -1,6 +1,5 @@
-// Expressions standing in words: where one ends and whether it is nullable, the monomials of its linear form, its sample.
+// Expressions standing in words: where one ends and whether it is nullable, the monomials of its linear form.
 pub mod results;
-pub mod samples;
 
 pub use results::size_monomials;
 pub use results::write_monomials;
@@ -20,19 +19,13 @@ pub struct Part {
     pub bare: bool,
 }
 
-// Of an expression in the words: the place after it, and how many words its sample has.
-pub struct Sample {
-    pub end: usize,
-    pub len: usize,
-}
-
-pub fn both(a: bool, b: bool) -> bool
+fn both(a: bool, b: bool) -> bool
     ensures { λ r. ⌜ r ≡ (a && b) ⌝ }
 {
     if a { b } else { false }
 }
 
-pub fn either(a: bool, b: bool) -> bool
+fn either(a: bool, b: bool) -> bool
     ensures { λ r. ⌜ r ≡ (a || b) ⌝ }
 {
     if a { true } else { b }
@@ -111,7 +104,7 @@ pub struct Found {
 }
 
 // A monomial that stands further on.
-pub fn miss(left: usize) -> Spot
+fn miss(left: usize) -> Spot
     ensures { λ s. ⌜ s ≡ further left ⌝ }
 {
     Spot {
@@ -125,7 +118,7 @@ pub fn miss(left: usize) -> Spot
 }
 
 // The one monomial of f(R1).
-pub fn lone(place: usize, past: usize, i: usize) -> Spot
+fn lone(place: usize, past: usize, i: usize) -> Spot
     ensures { λ s. ⌜ s ≡ only place past i ⌝ }
 {
     if i == 0 {
@@ -142,7 +135,7 @@ pub fn lone(place: usize, past: usize, i: usize) -> Spot
 }
 
 // A part of the words, written where it has room.
-pub fn lay_part(k: &[u16], from: usize, until: usize, out: &mut [u16], at: usize) -> usize
+fn lay_part(k: &[u16], from: usize, until: usize, out: &mut [u16], at: usize) -> usize
     ensures { λ e. ⌜ Laid (now (out .entry)) at (slice from until (now (k .entry))) (now (out .exit)) e ⌝ }
 {
     let n = pieces::copying::part_len(k, from, until);
@@ -156,7 +149,7 @@ pub fn lay_part(k: &[u16], from: usize, until: usize, out: &mut [u16], at: usize
 }
 
 // A part more in the rest of a monomial that is met, written after its other parts.
-pub fn tack(k: &[u16], from: usize, until: usize, s: Spot, out: &mut [u16], to: usize) -> Spot
+fn tack(k: &[u16], from: usize, until: usize, s: Spot, out: &mut [u16], to: usize) -> Spot
     requires { ⌜ (s .parts ≤ 1024) × (s .words ≤ 1048576) × (from ≤ until) × (until ≤ 1024) × (to ≤ length (now out)) ⌝ }
     ensures { λ t. ⌜ Tacked (now (k .entry)) from until s (now (out .entry)) to (now (out .exit)) t ⌝ }
 {
@@ -177,7 +170,7 @@ pub fn tack(k: &[u16], from: usize, until: usize, s: Spot, out: &mut [u16], to: 
 }
 
 // Looks for the i-th monomial of the expression at a place, and writes the parts of its rest in a row at `to`, where they have room there.
-pub fn seek(k: &[u16], at: usize, i: usize, out: &mut [u16], to: usize) -> Found
+fn seek(k: &[u16], at: usize, i: usize, out: &mut [u16], to: usize) -> Found
     requires { ⌜ (length (now k) ≤ 1024) × (to ≤ length (now out)) ⌝ }
     ensures { λ r. ⌜ Sought (now (k .entry)) at i (now (out .entry)) to (now (out .exit)) r ⌝ }
 {
@@ -263,7 +256,7 @@ pub fn seek(k: &[u16], at: usize, i: usize, out: &mut [u16], to: usize) -> Found
 }
 
 // Where the i-th monomial of the expression at a place stands; nothing is written, as there is no room.
-pub fn find(k: &[u16], at: usize, i: usize) -> Found
+fn find(k: &[u16], at: usize, i: usize) -> Found
     requires { ⌜ length (now k) ≤ 1024 ⌝ }
     ensures { λ r. ⌜ Looked (now (k .entry)) at i r ⌝ }
 {

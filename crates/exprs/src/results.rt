@@ -21,7 +21,7 @@ use plans::Size;
 use plans::Slot;
 
 // What stands before the rest in a result.
-pub fn front(s: Shape, p: Spot) -> Recipe
+fn front(s: Shape, p: Spot) -> Recipe
     ensures { λ r. ⌜ r ≡ frontOf s p ⌝ }
 {
     let h = s.h;
@@ -72,14 +72,14 @@ pub fn front(s: Shape, p: Spot) -> Recipe
 }
 
 // How many words stand before the parts of a rest.
-pub fn opening_len(parts: usize) -> usize
+fn opening_len(parts: usize) -> usize
     ensures { λ n. ⌜ n ≡ length (opening parts) ⌝ }
 {
     if parts == 0 { 1 } else { parts - 1 }
 }
 
 // How long a result is.
-pub fn result_len(k: &[u16], s: Shape, p: Spot) -> usize
+fn result_len(k: &[u16], s: Shape, p: Spot) -> usize
     requires { ⌜ (length (now k) ≤ 1024) × Bounded p ⌝ }
     ensures { λ n. ⌜ n ≡ resultLength (now (k .entry)) s p ⌝ }
 {
@@ -115,7 +115,7 @@ pub fn size_monomials(k: &[u16], s: Shape) -> Size
 }
 
 // What stands before the parts of a rest.
-pub fn open_rest(out: &mut [u16], at: usize, parts: usize) -> usize
+fn open_rest(out: &mut [u16], at: usize, parts: usize) -> usize
     requires { ⌜ at + length (opening parts) ≤ length (now out) ⌝ }
     ensures { λ e. ⌜ Wrote (now (out .entry)) at (opening parts) (now (out .exit)) e ⌝ }
 {
@@ -134,7 +134,7 @@ pub fn open_rest(out: &mut [u16], at: usize, parts: usize) -> usize
 }
 
 // A result with its length before it.
-pub fn write_monomial(
+fn write_monomial(
     k: &[u16],
     s: Shape,
     i: usize,

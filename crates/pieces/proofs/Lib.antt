@@ -6,3 +6,4 @@ pub mod Made
 pub mod Results
 pub mod Planned
 pub mod Sizing
+pub mod Determined

@@ -1,14 +1,12 @@
-// Parts of a conjunction's words: how long, copied, and made into equations p = ε.
+// Parts of a conjunction's words: how long, and copied.
 ghost use Prim.Native.Nat.{_+_, _≤_};
 ghost use mathlib.Core.Path.{_≡_};
-ghost use mathlib.Core.List.{[], _∷_};
 ghost use lib.ListN.{length};
 ghost use lib.Seq.{slice};
-ghost use Rattle.plans.specs.Results.{emptyEach};
 ghost use Rattle.pieces.specs.Written.{Wrote, Within};
 
 // Where a part ends that is to end at a place: there, or at the end of the words.
-pub fn within(k: &[u16], to: usize) -> usize
+pub(crate) fn within(k: &[u16], to: usize) -> usize
     ensures { λ r. ⌜ Within (now (k .entry)) to r ⌝ }
 {
     if to <= k.len() { to } else { k.len() }
@@ -34,33 +32,6 @@ pub fn copy(k: &[u16], from: usize, to: usize, out: &mut [u16], at: usize) -> us
         out[e] = k[i];
         i += 1;
         e += 1;
-    }
-    e
-}
-
-// The equation p = ε.
-pub fn empty_one(p: u16, out: &mut [u16], at: usize) -> usize
-    requires { ⌜ at + 4 ≤ length (now out) ⌝ }
-    ensures { λ r. ⌜ Wrote (now (out .entry)) at (5000 ∷ p ∷ 0 ∷ 0 ∷ []) (now (out .exit)) r ⌝ }
-{
-    out[at] = 5000;
-    out[at + 1] = p;
-    out[at + 2] = 0;
-    out[at + 3] = 0;
-    at + 4
-}
-
-// For each word p of a part the equation p = ε.
-pub fn empty_each(k: &[u16], from: usize, to: usize, out: &mut [u16], at: usize) -> usize
-    requires { ⌜ at + length (emptyEach (slice from to (now k))) ≤ length (now out) ⌝ }
-    ensures { λ r. ⌜ Wrote (now (out .entry)) at (emptyEach (slice from to (now (k .entry)))) (now (out .exit)) r ⌝ }
-{
-    let end = within(k, to);
-    let mut i = from;
-    let mut e = at;
-    while i < end {
-        e = empty_one(k[i], out, e);
-        i += 1;
     }
     e
 }

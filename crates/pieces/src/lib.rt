@@ -1,7 +1,8 @@
 // A plan's results in words: how long they are together, and writing them in a row, each with its length before it.
 pub mod copying;
+mod emptying;
 pub mod making;
-pub mod replacing;
+mod replacing;
 
 ghost use Prim.Native.Nat.{_≤_};
 ghost use mathlib.Core.Path.{_≡_};
@@ -27,7 +28,7 @@ pub fn grow(n: usize, one: usize) -> usize
 }
 
 // n words and those of one result.
-pub fn size_one(k: &[u16], r: Recipe, cut: usize, n: usize) -> Size
+fn size_one(k: &[u16], r: Recipe, cut: usize, n: usize) -> Size
     requires { ⌜ length (now k) ≤ 1024 ⌝ }
     ensures { λ s. ⌜ s ≡ sizedFrom n (made (now (k .entry)) r cut ∷ []) ⌝ }
 {
@@ -39,7 +40,7 @@ pub fn size_one(k: &[u16], r: Recipe, cut: usize, n: usize) -> Size
     Size::Fits(more)
 }
 
-pub fn size_two(k: &[u16], a: Recipe, b: Recipe) -> Size
+fn size_two(k: &[u16], a: Recipe, b: Recipe) -> Size
     requires { ⌜ length (now k) ≤ 1024 ⌝ }
     ensures { λ s. ⌜ s ≡ sized (made (now (k .entry)) a 0 ∷ made (now (k .entry)) b 0 ∷ []) ⌝ }
 {
@@ -51,7 +52,7 @@ pub fn size_two(k: &[u16], a: Recipe, b: Recipe) -> Size
 }
 
 // One result for each cut, element by element.
-pub fn size_cuts(k: &[u16], r: Recipe, cut: usize, times: usize) -> Size
+fn size_cuts(k: &[u16], r: Recipe, cut: usize, times: usize) -> Size
     requires { ⌜ length (now k) ≤ 1024 ⌝ }
     ensures { λ s. ⌜ s ≡ sized (map (made (now (k .entry)) r) (places times (now (k .entry)) cut)) ⌝ }
 {
@@ -87,14 +88,7 @@ pub fn size_results(k: &[u16], plan: Plan) -> Size
     }
 }
 
-pub fn write_cuts(
-    k: &[u16],
-    r: Recipe,
-    cut: usize,
-    times: usize,
-    out: &mut [u16],
-    at: usize,
-) -> usize
+fn write_cuts(k: &[u16], r: Recipe, cut: usize, times: usize, out: &mut [u16], at: usize) -> usize
     requires { ⌜ Ready (map (made (now k) r) (places times (now k) cut)) (now out) at ⌝ }
     ensures { λ e. ⌜ Wrote (now (out .entry)) at (framed (map (made (now (k .entry)) r) (places times (now (k .entry)) cut))) (now (out .exit)) e ⌝ }
 {
@@ -109,7 +103,7 @@ pub fn write_cuts(
     e
 }
 
-pub fn write_two(k: &[u16], a: Recipe, b: Recipe, out: &mut [u16], at: usize) -> usize
+fn write_two(k: &[u16], a: Recipe, b: Recipe, out: &mut [u16], at: usize) -> usize
     requires { ⌜ Ready (made (now k) a 0 ∷ made (now k) b 0 ∷ []) (now out) at ⌝ }
     ensures { λ e. ⌜ Wrote (now (out .entry)) at (framed (made (now (k .entry)) a 0 ∷ made (now (k .entry)) b 0 ∷ [])) (now (out .exit)) e ⌝ }
 {

@@ -8,8 +8,8 @@ ghost use Rattle.plans.specs.Results.{pieceWords, made};
 ghost use Rattle.pieces.specs.Written.{Wrote};
 ghost use Rattle.pieces.specs.Marked.{Marked};
 use super::copying::copy;
-use super::copying::empty_each;
 use super::copying::part_len;
+use super::emptying::empty_each;
 use super::replacing::Marks;
 use super::replacing::note;
 use super::replacing::put;
@@ -18,7 +18,7 @@ use plans::Piece;
 use plans::Recipe;
 use plans::Slot;
 
-pub fn piece_len(k: &[u16], r: Recipe, cut: usize, m: Marks, p: Piece) -> usize
+fn piece_len(k: &[u16], r: Recipe, cut: usize, m: Marks, p: Piece) -> usize
     requires { ⌜ Marked (slice (r .old) (r .until) (now k)) m × (length (now k) ≤ 1024) ⌝ }
     ensures { λ n. ⌜ n ≡ length (pieceWords (now (k .entry)) r cut p) ⌝ }
 {
@@ -32,7 +32,7 @@ pub fn piece_len(k: &[u16], r: Recipe, cut: usize, m: Marks, p: Piece) -> usize
     }
 }
 
-pub fn write_piece(
+fn write_piece(
     k: &[u16],
     r: Recipe,
     cut: usize,
@@ -75,6 +75,7 @@ pub fn made_len(k: &[u16], r: Recipe, cut: usize) -> usize
     n
 }
 
+// The words of a result.
 pub fn write_made(k: &[u16], r: Recipe, cut: usize, out: &mut [u16], at: usize) -> usize
     requires { ⌜ at + length (made (now k) r cut) ≤ length (now out) ⌝ }
     ensures { λ e. ⌜ Wrote (now (out .entry)) at (made (now (k .entry)) r cut) (now (out .exit)) e ⌝ }
@@ -93,7 +94,7 @@ pub fn write_made(k: &[u16], r: Recipe, cut: usize, out: &mut [u16], at: usize) 
 }
 
 // A result with its length before it, which is known once it stands.
-pub fn write_framed(k: &[u16], r: Recipe, cut: usize, out: &mut [u16], at: usize) -> usize
+pub(crate) fn write_framed(k: &[u16], r: Recipe, cut: usize, out: &mut [u16], at: usize) -> usize
     requires { ⌜ (length (made (now k) r cut) ≤ 1024) × (at + length (length (made (now k) r cut) ∷ made (now k) r cut) ≤ length (now out)) ⌝ }
     ensures { λ e. ⌜ Wrote (now (out .entry)) at (length (made (now (k .entry)) r cut) ∷ made (now (k .entry)) r cut) (now (out .exit)) e ⌝ }
 {

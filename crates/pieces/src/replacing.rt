@@ -19,7 +19,7 @@ pub struct Marks {
     pub set: [bool; 32],
 }
 
-pub fn wide(x: u16) -> usize
+fn wide(x: u16) -> usize
     ensures { λ r. ⌜ r ≡ x ⌝ }
 {
     x as usize
@@ -47,7 +47,7 @@ pub fn note(k: &[u16], from: usize, to: usize) -> Marks
     Marks { only: true, set }
 }
 
-pub fn is_marked(m: Marks, x: u16) -> bool
+fn is_marked(m: Marks, x: u16) -> bool
     ensures { λ r. ⌜ r ≡ marked (m .set) x ⌝ }
 {
     if x < 2000 {
@@ -62,7 +62,7 @@ pub fn is_marked(m: Marks, x: u16) -> bool
 }
 
 // Whether a word is one of those replaced: one look, where they are hedge variables; else they are few, and looked through.
-pub fn is_old(k: &[u16], old: usize, until: usize, m: Marks, x: u16) -> bool
+fn is_old(k: &[u16], old: usize, until: usize, m: Marks, x: u16) -> bool
     requires { ⌜ Marked (slice old until (now k)) m ⌝ }
     ensures { λ r. ⌜ r ≡ member x (slice old until (now (k .entry))) ⌝ }
 {
@@ -74,7 +74,7 @@ pub fn is_old(k: &[u16], old: usize, until: usize, m: Marks, x: u16) -> bool
 }
 
 // What stands for one word.
-pub fn put_word(
+fn put_word(
     k: &[u16],
     old: usize,
     until: usize,
@@ -123,7 +123,7 @@ pub fn put(
 }
 
 // How many words stand for one.
-pub fn swap_len(old: bool, gain: usize) -> usize
+fn swap_len(old: bool, gain: usize) -> usize
     ensures { λ n. ⌜ n ≡ pick old gain 1 ⌝ }
 {
     if old { gain } else { 1 }

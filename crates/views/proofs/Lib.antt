@@ -8,6 +8,9 @@ pub mod Literals
 pub mod Seen
 pub mod Same
 pub mod Walks
+pub mod Firsts
+pub mod Stops
 pub mod Finds
 pub mod Cuts
 pub mod Joins
+pub mod Determined

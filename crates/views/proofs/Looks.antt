@@ -7,7 +7,7 @@ use native.Mathlib.Omega.{arith}
 use lib.Dec.{eqb, leb}
 use lib.ListN.{length, getD, drop}
 use lib.Seq.{slice}
-use borrow.Author.Tests.{ne-eqb, le-leb, lt-leb}
+use borrow.Author.Tests.{eq-eqb, ne-eqb, le-leb, lt-leb}
 use Rattle.language.specs.declared.TermVar.{TermVar}
 use Rattle.language.specs.declared.HedgeVar.{HedgeVar}
 use Rattle.language.specs.Limits.{desk}
@@ -19,9 +19,11 @@ use Rattle.rules.specs.Solved.{isSome}
 use Rattle.plans.specs.Looks.{lookOf, head, tail, bodyWords}
 use Rattle.plans.specs.Results.{span, elementEnd}
 use Rattle.plans.specs.Views.{Sided}
+use Rattle.plans.specs.declared.Look.{Look}
 use Rattle.plans.specs.declared.Look.the-variants.{Empty, Term, Run, Node}
 use Rattle.plans.specs.declared.Side.{Side}
 use Rattle.views.specs.Standing.{Stands}
+use Rattle.views.specs.Places.{lookBy, lookAt, sideAt}
 use Rattle.words.proofs.Parts.{part-of, drop-of}
 use Rattle.views.proofs.Words.{firstWord}
 use Rattle.views.proofs.Sides.{side-stands}
@@ -79,7 +81,51 @@ look-node (hvar p r) s e o d q a b = absurd (let w = stands-word s in let f = s 
 look-node (node f c r) s e o d q a b =
     same-node (e ∙ stands-word s) (last s e o d q) (ap (λ n. eqb n 0) (b ∙ stands-word (stands-children s)) ∙ empty-word c)
 
+-- the same look by the words alone
+module _ (x : ℕ) (last bare : Bool) where
+  by-empty : x ≡ 0 → lookBy x last bare ≡ Empty
+  unfolding lookBy
+  by-empty z = rw (eq-eqb x 0 z)
+
+  module _ (o : x ≡ 0 → ⊥) where
+    by-term : x ≤ 1999 → lookBy x last bare ≡ Term x last
+    unfolding lookBy
+    by-term a = rw (ne-eqb x 0 o, le-leb x 1999 a)
+
+    by-run : 1999 < x → x ≤ 2999 → lookBy x last bare ≡ Run x last
+    unfolding lookBy
+    by-run a b = rw (ne-eqb x 0 o, lt-leb x 1999 a, le-leb x 2999 b)
+
+    by-node : 2999 < x → lookBy x last bare ≡ Node x last bare
+    unfolding lookBy
+    by-node a = rw (ne-eqb x 0 o, lt-leb x 1999 (omega arith), lt-leb x 2999 a)
+
+module _ (k : List ℕ) (i j : ℕ) {x : ℕ} (e : x ≡ getD k i 0) where
+  by-words : lookAt k i j ≡ lookBy x (eqb (getD k j 0) 0) (eqb (getD k (i + 1) 0) 0)
+  unfolding lookAt
+  by-words = ap (λ w. lookBy w (eqb (getD k j 0) 0) (eqb (getD k (i + 1) 0) 0)) (sym e)
+
+  pub at-empty : x ≡ 0 → Empty ≡ lookAt k i j
+  at-empty z = sym (by-words ∙ by-empty _ _ _ z)
+
+  module _ {y : ℕ} (o : x ≡ 0 → ⊥) (q : y ≡ getD k j 0) where
+    pub at-term : x ≤ 1999 → Term x (eqb y 0) ≡ lookAt k i j
+    at-term a = ap (λ w. Term x (eqb w 0)) q ∙ sym (by-words ∙ by-term _ _ _ o a)
+
+    pub at-run : 1999 < x → x ≤ 2999 → Run x (eqb y 0) ≡ lookAt k i j
+    at-run a b = ap (λ w. Run x (eqb w 0)) q ∙ sym (by-words ∙ by-run _ _ _ o a b)
+
+    pub at-node : {z : ℕ} → 2999 < x → z ≡ getD k (i + 1) 0 → Node x (eqb y 0) (eqb z 0) ≡ lookAt k i j
+    at-node {z} a b = ap (λ w. Node x (eqb w 0) (eqb z 0)) q ∙ ap (λ w. Node x (eqb (getD k j 0) 0) (eqb w 0)) b ∙ sym (by-words ∙ by-node _ _ _ o a)
+
 -- a side, from what the walk finds at its place
+pub side-is : (k : List ℕ) (i : ℕ) {r t : ℕ} {l : Look} → r ≡ elementEnd k i → t ≡ i + span 1 (drop i k) → l ≡ lookAt k i r → record { from = i; rest = r; to = t; look = l } ≡ sideAt k i
+unfolding sideAt
+side-is k i {r} {t} {l} e d g = ap (λ m. side r t m) g ∙ ap (λ n. side r n (lookAt k i r)) d ∙ ap (λ n. side n (i + span 1 (drop i k)) (lookAt k i n)) e
+  where
+    side : ℕ → ℕ → Look → Side
+    side r t l = record { from = i; rest = r; to = t; look = l }
+
 pub side-of : {k : List ℕ} {v : Side} {h : Hedge} {beyond : List ℕ} → Stands k (v .from) h beyond → v .rest ≡ elementEnd k (v .from) → v .to ≡ v .from + span 1 (drop (v .from) k) → v .look ≡ lookOf h → Sided k v h
 side-of {k} {v} {h} {beyond} s r t l = record { fine = s .fine; beyond = beyond; here = s .here; rest = r ∙ stands-place s; to = t ∙ stands-end s; look = l }
 

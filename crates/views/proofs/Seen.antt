@@ -9,8 +9,10 @@ use Rattle.language.specs.Trees.{Hedge, Expr, eps, cat, alt, star, over, Litera
 use Rattle.language.specs.Writing.{hedgeWords, exprWords, literalWords, conjWords}
 use Rattle.plans.specs.Views.{Sided, Sees, Shows}
 use Rattle.plans.specs.declared.Side.{Side}
+use Rattle.plans.specs.declared.Shape.{Shape}
 use Rattle.words.specs.Places.{untilLiteral}
 use Rattle.views.specs.Standing.{Stands, LiteralAt}
+use Rattle.views.specs.Places.{sideAt, viewOf, viewAt, shapeOf, shapeAt}
 use Rattle.words.proofs.Parts.{drop-of, word-of}
 use Rattle.views.proofs.Literals.{next-literal}
 
@@ -30,7 +32,7 @@ module _ {k : List ℕ} {at : ℕ} {before : Conj} {l : Literal} {behind : Conj}
 
 -- what `side_at` finds at a place
 abbrev pub SideAt : List ℕ → ℕ → Side → Type 0
-SideAt k i v = (v .from ≡ i) × ((h : Hedge) (beyond : List ℕ) → Stands k i h beyond → Sided k v h)
+SideAt k i v = (v .from ≡ i) × ((h : Hedge) (beyond : List ℕ) → Stands k i h beyond → Sided k v h) × (v ≡ sideAt k i)
 
 module _ {k : List ℕ} {i : ℕ} {v : Side} {h : Hedge} {beyond : List ℕ} (a : SideAt k i v) (s : Stands k i h beyond) where
   side-past : drop (v .to) k ≡ beyond
@@ -55,6 +57,18 @@ module _ {k : List ℕ} {at : ℕ} {before : Conj} {l r : Hedge} {behind : Conj}
         fineBefore = s .fineBefore;
         fineBehind = s .fineBehind;
       }
+
+-- the same view by the words alone
+pub view-is : (k : List ℕ) (at : ℕ) {a b : Side} → a ≡ sideAt k (at + 1) → b ≡ sideAt k (a .to) → record { at = at; l = a; r = b; end = b .to; len = length k } ≡ viewAt k at
+unfolding viewOf viewAt
+view-is k at {a} {b} e d = ap (viewOf k at a) d ∙ ap (λ (s : Side). viewOf k at s (sideAt k (s .to))) e
+
+pub shape-is : (k : List ℕ) (at : ℕ) {x end : ℕ} {a : Side} → a ≡ sideAt k (at + 1) → x ≡ getD k (a .to) 0 → end ≡ at + 1 + untilLiteral (drop (at + 1) k) → record { at = at; h = a; expr = a .to; first = x; end = end; len = length k } ≡ shapeAt k at
+unfolding shapeOf shapeAt
+shape-is k at {x} {end} {a} e d g = ap (λ n. shape n end) d ∙ ap (shape (getD k (a .to) 0)) g ∙ ap (shapeOf k at) e
+  where
+    shape : ℕ → ℕ → Shape
+    shape n m = record { at = at; h = a; expr = a .to; first = n; end = m; len = length k }
 
 first-of : (R : Expr) (ws : List ℕ) → getD (exprWords R ++ ws) 0 0 ≡ getD (exprWords R) 0 0
 first-of eps ws = refl

@@ -10,7 +10,7 @@ use borrow.Author.Tests.{le-leb, lt-leb}
 use Rattle.language.specs.Limits.{desk}
 use Rattle.language.specs.Trees.{symbol, fvar, Hedge, ε, tvar, hvar, node, _⧺_}
 use Rattle.language.specs.Fine.{fineHedge}
-use Rattle.rules.specs.Looks.{empty, hasTerm, allTerms, allRuns}
+use Rattle.rules.specs.Looks.{empty, hasTerm, allTerms}
 use Rattle.plans.specs.Looks.{head, tail, bodyWords}
 use Rattle.plans.specs.Results.{elementEnd}
 use Rattle.views.specs.Standing.{Stands}
@@ -137,12 +137,6 @@ hasTerm-end ε e = refl
 hasTerm-end (tvar x r) e = refl
 hasTerm-end (hvar p r) e = absurd (let y : _≡_ {A = ℕ} 0 1 = cc in omega arith)
 hasTerm-end (node f c r) e = refl
-
-pub runs-not : (h : Hedge) → not (hasTerm h) ≡ allRuns h
-runs-not ε = refl
-runs-not (tvar x r) = refl
-runs-not (hvar p r) = runs-not r
-runs-not (node f c r) = refl
 
 pub allTerms-on : (h : Hedge) → beginsTerm h ≡ true → (allTerms (tail h) ≡ allTerms h) × (suc (size (tail h)) ≡ size h)
 allTerms-on ε e = absurd (let y : _≡_ {A = ℕ} 0 1 = cc in omega arith)

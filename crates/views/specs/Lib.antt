@@ -1,3 +1,4 @@
 pub mod Variables
 pub mod Standing
 pub mod Walks
+pub mod Places

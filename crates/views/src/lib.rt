@@ -6,12 +6,13 @@ ghost use lib.ListN.{length};
 ghost use Rattle.language.specs.declared.HedgeVar.{HedgeVar};
 ghost use Rattle.language.specs.Limits.{desk};
 ghost use Rattle.language.specs.Trees.{Hedge, Expr, eqn, mem, Conj, Var, hv};
-ghost use Rattle.rules.specs.Looks.{hasTerm, allRuns, under as belowTop};
+ghost use Rattle.rules.specs.Looks.{hasTerm, under as belowTop};
 ghost use Rattle.plans.specs.Looks.{lookOf, head, bodyWords};
 ghost use Rattle.plans.specs.Views.{Sided, Sees, Shows};
 ghost use Rattle.views.specs.Variables.{variableWord, fineVar};
 ghost use Rattle.views.specs.Walks.{termWord, runWord, Counted, Ahead, Spotted};
 ghost use Rattle.views.specs.Standing.{Stands, LiteralAt};
+ghost use Rattle.views.specs.Places.{lookAt, sideAt, viewAt, shapeAt, turned, HasTerm, AllTerms, Under, UpTo, Inside};
 use plans::Look;
 use plans::Shape;
 use plans::Side;
@@ -42,7 +43,7 @@ pub struct Spot {
 
 // How the hedge at a place begins; `rest` is the place after its first element.
 fn look_at(k: &[u16], from: usize, rest: usize) -> Look
-    ensures { λ r. ⌜ ((h : Hedge) (beyond : List ℕ) → Stands (now (k .entry)) from h beyond → rest ≡ from + length (bodyWords (head h)) → r ≡ lookOf h) ⌝ }
+    ensures { λ r. ⌜ ((h : Hedge) (beyond : List ℕ) → Stands (now (k .entry)) from h beyond → rest ≡ from + length (bodyWords (head h)) → r ≡ lookOf h) × (r ≡ lookAt (now (k .entry)) from rest) ⌝ }
 {
     let x = word(k, from);
     if x == 0 {
@@ -61,7 +62,7 @@ fn look_at(k: &[u16], from: usize, rest: usize) -> Look
 
 // The hedge at a place as a side.
 pub fn side_at(k: &[u16], from: usize) -> Side
-    ensures { λ s. ⌜ (s .from ≡ from) × ((h : Hedge) (beyond : List ℕ) → Stands (now (k .entry)) from h beyond → Sided (now (k .entry)) s h) ⌝ }
+    ensures { λ s. ⌜ (s .from ≡ from) × ((h : Hedge) (beyond : List ℕ) → Stands (now (k .entry)) from h beyond → Sided (now (k .entry)) s h) × (s ≡ sideAt (now (k .entry)) from) ⌝ }
 {
     let rest = element_end(k, from);
     let to = hedge_end(k, from);
@@ -77,7 +78,7 @@ pub fn side_at(k: &[u16], from: usize) -> Side
 // The equation at a place.
 pub fn see(k: &[u16], at: usize) -> View
     requires { ⌜ at < length (now k) ⌝ }
-    ensures { λ v. ⌜ ((before : Conj) (l r : Hedge) (behind : Conj) → LiteralAt (now (k .entry)) at before (eqn l r) behind → Sees (now (k .entry)) v before l r behind) ⌝ }
+    ensures { λ v. ⌜ ((before : Conj) (l r : Hedge) (behind : Conj) → LiteralAt (now (k .entry)) at before (eqn l r) behind → Sees (now (k .entry)) v before l r behind) × (v ≡ viewAt (now (k .entry)) at) ⌝ }
 {
     let l = side_at(k, at + 1);
     let middle = l.to;
@@ -95,7 +96,7 @@ pub fn see(k: &[u16], at: usize) -> View
 // The membership at a place.
 pub fn show_membership(k: &[u16], at: usize) -> Shape
     requires { ⌜ at < length (now k) ⌝ }
-    ensures { λ v. ⌜ ((before : Conj) (h : Hedge) (R : Expr) (behind : Conj) → LiteralAt (now (k .entry)) at before (mem h R) behind → Shows (now (k .entry)) v before h R behind) ⌝ }
+    ensures { λ v. ⌜ ((before : Conj) (h : Hedge) (R : Expr) (behind : Conj) → LiteralAt (now (k .entry)) at before (mem h R) behind → Shows (now (k .entry)) v before h R behind) × (v ≡ shapeAt (now (k .entry)) at) ⌝ }
 {
     let h = side_at(k, at + 1);
     let expr = h.to;
@@ -113,7 +114,7 @@ pub fn show_membership(k: &[u16], at: usize) -> Shape
 
 // The same equation, seen from the other side.
 pub fn swapped(v: View) -> View
-    ensures { λ u. ⌜ ((k : List ℕ) (before behind : Conj) (l r : Hedge) → Sees k v before l r behind → Sees k u before r l behind) ⌝ }
+    ensures { λ u. ⌜ ((k : List ℕ) (before behind : Conj) (l r : Hedge) → Sees k v before l r behind → Sees k u before r l behind) × (u ≡ turned v) ⌝ }
 {
     let l = v.r;
     let r = v.l;
@@ -149,7 +150,7 @@ fn is_run(x: u16) -> bool
 
 // Whether the hedge at a place has a top-level term.
 pub fn has_term(k: &[u16], at: usize) -> bool
-    ensures { λ r. ⌜ ((h : Hedge) (beyond : List ℕ) → Stands (now (k .entry)) at h beyond → r ≡ hasTerm h) ⌝ }
+    ensures { λ r. ⌜ ((h : Hedge) (beyond : List ℕ) → Stands (now (k .entry)) at h beyond → r ≡ hasTerm h) × HasTerm (now (k .entry)) at r ⌝ }
 {
     let mut i = at;
     let mut x = word(k, at);
@@ -160,17 +161,9 @@ pub fn has_term(k: &[u16], at: usize) -> bool
     x != 0
 }
 
-// Whether it is hedge variables alone.
-pub fn all_runs(k: &[u16], at: usize) -> bool
-    ensures { λ r. ⌜ ((h : Hedge) (beyond : List ℕ) → Stands (now (k .entry)) at h beyond → r ≡ allRuns h) ⌝ }
-{
-    let term = has_term(k, at);
-    !term
-}
-
 // Whether it is terms alone, and how many.
 pub fn all_terms(k: &[u16], at: usize) -> Terms
-    ensures { λ t. ⌜ ((h : Hedge) (beyond : List ℕ) → Stands (now (k .entry)) at h beyond → Counted t h) × (t .count ≤ length (now (k .entry))) ⌝ }
+    ensures { λ t. ⌜ ((h : Hedge) (beyond : List ℕ) → Stands (now (k .entry)) at h beyond → Counted t h) × (t .count ≤ length (now (k .entry))) × AllTerms (now (k .entry)) at t ⌝ }
 {
     let mut i = at;
     let mut n: usize = 0;
@@ -188,7 +181,7 @@ pub fn all_terms(k: &[u16], at: usize) -> Terms
 
 // Whether a variable, whose word is v, stands below a functor at the top.
 pub fn under(k: &[u16], at: usize, v: u16) -> bool
-    ensures { λ r. ⌜ ((y : Var) (h : Hedge) (beyond : List ℕ) → fineVar desk y → v ≡ variableWord y → Stands (now (k .entry)) at h beyond → r ≡ belowTop y h) ⌝ }
+    ensures { λ r. ⌜ ((y : Var) (h : Hedge) (beyond : List ℕ) → fineVar desk y → v ≡ variableWord y → Stands (now (k .entry)) at h beyond → r ≡ belowTop y h) × Under (now (k .entry)) at v r ⌝ }
 {
     let mut i = at;
     let mut x = word(k, at);
@@ -205,7 +198,7 @@ pub fn under(k: &[u16], at: usize, v: u16) -> bool
 
 // Whether terms stand up to one that holds the hedge variable p, and how many before it.
 pub fn up_to(k: &[u16], at: usize, p: u16) -> Found
-    ensures { λ t. ⌜ ((q : HedgeVar) (h : Hedge) (beyond : List ℕ) → fineVar desk (hv q) → p ≡ variableWord (hv q) → Stands (now (k .entry)) at h beyond → Ahead q t h) × (t .count ≤ length (now (k .entry))) ⌝ }
+    ensures { λ t. ⌜ ((q : HedgeVar) (h : Hedge) (beyond : List ℕ) → fineVar desk (hv q) → p ≡ variableWord (hv q) → Stands (now (k .entry)) at h beyond → Ahead q t h) × (t .count ≤ length (now (k .entry))) × UpTo (now (k .entry)) at p t ⌝ }
 {
     let mut i = at;
     let mut n: usize = 0;
@@ -230,7 +223,7 @@ pub fn up_to(k: &[u16], at: usize, p: u16) -> Found
 
 // Whether the hedge variable p stands at the top behind another element, and where it does so first.
 pub fn inside(k: &[u16], at: usize, p: u16) -> Spot
-    ensures { λ t. ⌜ ((q : HedgeVar) (h : Hedge) (beyond : List ℕ) → fineVar desk (hv q) → p ≡ variableWord (hv q) → Stands (now (k .entry)) at h beyond → Spotted q at t h) ⌝ }
+    ensures { λ t. ⌜ ((q : HedgeVar) (h : Hedge) (beyond : List ℕ) → fineVar desk (hv q) → p ≡ variableWord (hv q) → Stands (now (k .entry)) at h beyond → Spotted q at t h) × Inside (now (k .entry)) at p t ⌝ }
 {
     let mut i = element_end(k, at);
     let mut x = word(k, i);

@@ -19,10 +19,10 @@ bound-in-spec =
     -- returns-3
     (λ c before l behind v a w. search (in-left))
     -- returns-4
-    (λ c before l behind v a w. not-left v (c .before .before .before .before .if2 .left) (c .before .before .before .see .ensures) (c .before .before .solved-side .ensures) l a w (c .before .if3 .left) (c .if4 .taken))
+    (λ c before l behind v a w. not-left v (c .before .before .before .before .if2 .left) (c .before .before .before .see .ensures .0) (c .before .before .solved-side .ensures) l a w (c .before .if3 .left) (c .if4 .taken))
     (λ c κs. search needs)
     (λ c κs. search needs)
     -- returns-5
-    (λ c before l behind v a w. in-right v (c .before .before .before .before .before .before .before .before .if2 .left) (c .before .before .before .before .before .before .before .see .ensures) (c .before .before .before .before .before .before .solved-side .ensures) (c .before .before .before .before .if4 .left) (c .before .before .before .swapped .ensures) (c .before .before .solved-side2 .ensures) l a w (c .before .if5 .taken))
+    (λ c before l behind v a w. in-right v (c .before .before .before .before .before .before .before .before .if2 .left) (c .before .before .before .before .before .before .before .see .ensures .0) (c .before .before .before .before .before .before .solved-side .ensures) (c .before .before .before .before .if4 .left) (c .before .before .before .swapped .ensures .0) (c .before .before .solved-side2 .ensures) l a w (c .before .if5 .taken))
     -- returns-6
-    (λ c before l behind v a w. not-right v (c .before .before .before .before .before .before .before .if2 .left) (c .before .before .before .before .before .before .see .ensures) (c .before .before .before .before .before .solved-side .ensures) (c .before .before .before .if4 .left) (c .before .before .swapped .ensures) (c .before .solved-side2 .ensures) l a w (c .if5 .left)))
+    (λ c before l behind v a w. not-right v (c .before .before .before .before .before .before .before .if2 .left) (c .before .before .before .before .before .before .see .ensures .0) (c .before .before .before .before .before .solved-side .ensures) (c .before .before .before .if4 .left) (c .before .before .swapped .ensures .0) (c .before .solved-side2 .ensures) l a w (c .if5 .left)))

@@ -14,9 +14,9 @@ returns c = (
   refl,
   at-equation (c .before .before .before .before .before .before .before .before .args .k .now) (c .before .before .before .before .before .before .before .before .args .at) (λ before l behind. Ranked (before ++ behind) l (c .before .rank-equation2 .result) true) (c .before .before .before .before .before .if1 .taken)
       λ before l r behind p.
-      let s = c .before .before .before .before .see .ensures before l r behind p in
+      let s = c .before .before .before .before .see .ensures .0 before l r behind p in
       rank-swapped (before ++ behind) l r (c .before .before .before .rank-equation .result) (c .before .rank-equation2 .result) (c .before .before .before .rank-equation .ensures before behind l r s)
-      (c .before .rank-equation2 .ensures before behind r l (c .before .before .swapped .ensures (c .before .before .before .before .before .before .before .before .args .k .now) before behind l r s)) (c .if2 .taken),
+      (c .before .rank-equation2 .ensures before behind r l (c .before .before .swapped .ensures .0 (c .before .before .before .before .before .before .before .before .args .k .now) before behind l r s)) (c .if2 .taken),
 )
 
 returns-2 : tie.Need-returns-2
@@ -24,16 +24,16 @@ returns-2 c = (
   refl,
   at-equation (c .before .before .before .before .before .before .before .before .args .k .now) (c .before .before .before .before .before .before .before .before .args .at) (λ before l behind. Ranked (before ++ behind) l (c .before .before .before .rank-equation .result) false) (c .before .before .before .before .before .if1 .taken)
       λ before l r behind p.
-      let s = c .before .before .before .before .see .ensures before l r behind p in
+      let s = c .before .before .before .before .see .ensures .0 before l r behind p in
       rank-written (before ++ behind) l r (c .before .before .before .rank-equation .result) (c .before .rank-equation2 .result) (c .before .before .before .rank-equation .ensures before behind l r s)
-      (c .before .rank-equation2 .ensures before behind r l (c .before .before .swapped .ensures (c .before .before .before .before .before .before .before .before .args .k .now) before behind l r s)) (c .if2 .left),
+      (c .before .rank-equation2 .ensures before behind r l (c .before .before .swapped .ensures .0 (c .before .before .before .before .before .before .before .before .args .k .now) before behind l r s)) (c .if2 .left),
 )
 
 returns-3 : tie.Need-returns-3
 returns-3 c = (
   refl,
   at-membership (c .before .before .before .before .before .args .k .now) (c .before .before .before .before .before .args .at) (λ before l behind. Ranked (before ++ behind) l (c .rank-membership .result) false) (c .before .before .if1 .left)
-      λ before h R behind p. rank-member (before ++ behind) h R (c .rank-membership .result) (c .rank-membership .ensures before h R behind (c .before .show-membership .ensures before h R behind p)),
+      λ before h R behind p. rank-member (before ++ behind) h R (c .rank-membership .result) (c .rank-membership .ensures before h R behind (c .before .show-membership .ensures .0 before h R behind p)),
 )
 
 pub rank-at-spec : {M : Type 1} → statement M

@@ -7,17 +7,17 @@ use Rattle.steps.proofs.step_monomials.Tie as tie
 
 returns : tie.Need-returns
 returns c = λ before h R behind p.
-    let s = c .before .before .before .before .before .show-membership .ensures before h R behind p in
+    let s = c .before .before .before .before .before .show-membership .ensures .0 before h R behind p in
     took-room (monomialWords before h R behind) _ _ _ (c .before .before .before .before .size-monomials .ensures .each before h R behind s) _ (c .before .before .n .given .1) (c .if1 .taken)
 
 returns-2 : tie.Need-returns-2
 returns-2 c = λ before h R behind p.
-    let s = c .before .before .before .show-membership .ensures before h R behind p in
+    let s = c .before .before .before .show-membership .ensures .0 before h R behind p in
     took-long (monomialWords before h R behind) _ _ _ (c .before .before .size-monomials .ensures .each before h R behind s) (c .enum-told .given .1)
 
 returns-3 : tie.Need-returns-3
 returns-3 c = λ before h R behind p.
-    let s = c .before .before .before .before .before .before .before .before .before .show-membership .ensures before h R behind p in
+    let s = c .before .before .before .before .before .before .before .before .before .show-membership .ensures .0 before h R behind p in
     let d = c .before .before .before .before .before .before .before .before .before .before .before .before .pre in
     let e = c .before .before .before .before .before .before .before .before .size-monomials .ensures .each before h R behind s in
     took-done (monomialWords before h R behind) (c .before .before .before .before .before .before .before .before .before .before .before .before .args .out .now) (c .before .before .before .before .before .before .before .before .before .before .before .before .args .next) _ e _ (c .before .before .before .before .before .before .n .given .1) (c .before .before .before .before .if1 .left) _ _

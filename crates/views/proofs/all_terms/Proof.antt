@@ -10,13 +10,16 @@ use Rattle.rules.specs.Looks.{allTerms}
 use Rattle.views.specs.Standing.{Stands}
 use Rattle.views.specs.Walks.{size}
 use Rattle.views.proofs.Walks.{Passed, pass-start, pass-on, goes-on, term-some, word-term, word-empty, allTerms-on, allTerms-end}
+use Rattle.views.specs.Places.{termsEnd}
+use Rattle.views.proofs.Firsts.{Gone, gone-start}
+use Rattle.views.proofs.Stops.{terms-on, terms-end}
 use Rattle.views.proofs.all_terms.Statement.{statement}
 use Rattle.views.proofs.all_terms.Tie as tie
 
 abbrev Inv-loop : tie.InvT-loop
 Inv-loop k at i₀ n₀ x₀ i n x =
     ((h : Hedge) (beyond : List ℕ) → Stands k at h beyond → Passed k at i beyond (λ done left. (allTerms left ≡ allTerms h) × (n + size left ≡ size h)))
-    × (x ≡ getD k i 0) × (n ≤ i) × (n ≤ length k)
+    × (x ≡ getD k i 0) × (n ≤ i) × (n ≤ length k) × Gone k at (termsEnd k) n i
 
 abbrev μ-loop : tie.MeasureT-loop
 μ-loop k at i₀ n₀ x₀ i n x = length k - i
@@ -25,7 +28,7 @@ word-requires : tie.Need-word-requires Inv-loop μ-loop
 word-requires c κs = search needs
 
 loop-holds : tie.Need-loop-holds Inv-loop μ-loop
-loop-holds c = ((λ h beyond s. pass-start s (refl, omega arith)), c .word .ensures, omega arith, omega arith)
+loop-holds c = ((λ h beyond s. pass-start s (refl, omega arith)), c .word .ensures, omega arith, omega arith, gone-start)
 
 is-term-requires : tie.Need-is-term-requires Inv-loop μ-loop
 is-term-requires c κs = search needs
@@ -49,6 +52,7 @@ loop-again c =
       c .word2 .ensures,
       omega arith,
       omega arith,
+      terms-on _ _ (c .before .before .before .before .loop .inv .1) (c .before .before .before .is-term .ensures) (c .before .before .if1 .taken) (c .before .element-end .ensures) (c .before .before .before .before .loop .inv .4),
     )
 
 returns : tie.Need-returns Inv-loop μ-loop
@@ -59,6 +63,7 @@ returns c = (
       let a = allTerms-end (w .left) (sym (word-term (w .here) (c .before .before .loop .inv .1)) ∙ sym (c .before .is-term .ensures) ∙ c .if1 .left) in
       record { all = e ∙ a .0 ∙ w .keeps .0; count = λ y. let z = a .1 (sym e ∙ y) in let q = w .keeps .1 in omega arith }),
   omega arith,
+  terms-end _ _ (c .before .before .loop .inv .1) (c .before .is-term .ensures) (c .if1 .left) (c .before .before .loop .inv .4),
 )
 
 pub all-terms-spec : {M : Type 1} → statement M

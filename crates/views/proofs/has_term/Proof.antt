@@ -10,11 +10,14 @@ use Rattle.language.specs.Trees.{Hedge}
 use Rattle.rules.specs.Looks.{hasTerm}
 use Rattle.views.specs.Standing.{Stands}
 use Rattle.views.proofs.Walks.{Passed, pass-start, pass-on, goes-on, run-some, word-run, word-empty, hasTerm-on, hasTerm-end}
+use Rattle.views.specs.Places.{runsEnd}
+use Rattle.views.proofs.Firsts.{Going, going-start}
+use Rattle.views.proofs.Stops.{runs-on, runs-end}
 use Rattle.views.proofs.has_term.Statement.{statement}
 use Rattle.views.proofs.has_term.Tie as tie
 
 abbrev Inv-loop : tie.InvT-loop
-Inv-loop k at i₀ x₀ i x = ((h : Hedge) (beyond : List ℕ) → Stands k at h beyond → Passed k at i beyond (λ done left. hasTerm left ≡ hasTerm h)) × (x ≡ getD k i 0)
+Inv-loop k at i₀ x₀ i x = ((h : Hedge) (beyond : List ℕ) → Stands k at h beyond → Passed k at i beyond (λ done left. hasTerm left ≡ hasTerm h)) × (x ≡ getD k i 0) × Going k at (runsEnd k) i
 
 abbrev μ-loop : tie.MeasureT-loop
 μ-loop k at i₀ x₀ i x = length k - i
@@ -23,7 +26,7 @@ word-requires : tie.Need-word-requires Inv-loop μ-loop
 word-requires c κs = search needs
 
 loop-holds : tie.Need-loop-holds Inv-loop μ-loop
-loop-holds c = ((λ h beyond s. pass-start s refl), c .word .ensures)
+loop-holds c = ((λ h beyond s. pass-start s refl), c .word .ensures, going-start)
 
 is-run-requires : tie.Need-is-run-requires Inv-loop μ-loop
 is-run-requires c κs = search needs
@@ -38,10 +41,10 @@ loop-less : tie.Need-loop-less Inv-loop μ-loop
 loop-less c = let z = goes-on (c .before .before .before .before .before .before .before .args .k .now) (c .before .before .before .before .loop .i) (c .before .before .before .before .loop .inv .1) (c .before .element-end .ensures) (run-some _ (sym (c .before .before .before .is-run .ensures) ∙ c .before .before .if1 .taken)) in omega arith
 
 loop-again : tie.Need-loop-again Inv-loop μ-loop
-loop-again c = ((λ h beyond s. pass-on (c .before .element-end .ensures) (c .before .before .before .before .loop .inv .0 h beyond s) (λ done left t q. hasTerm-on left (sym (word-run t (c .before .before .before .before .loop .inv .1)) ∙ sym (c .before .before .before .is-run .ensures) ∙ c .before .before .if1 .taken) ∙ q)), c .word2 .ensures)
+loop-again c = ((λ h beyond s. pass-on (c .before .element-end .ensures) (c .before .before .before .before .loop .inv .0 h beyond s) (λ done left t q. hasTerm-on left (sym (word-run t (c .before .before .before .before .loop .inv .1)) ∙ sym (c .before .before .before .is-run .ensures) ∙ c .before .before .if1 .taken) ∙ q)), c .word2 .ensures, runs-on _ _ (c .before .before .before .before .loop .inv .1) (c .before .before .before .is-run .ensures) (c .before .before .if1 .taken) (c .before .element-end .ensures) (c .before .before .before .before .loop .inv .2))
 
 returns : tie.Need-returns Inv-loop μ-loop
-returns c = λ h beyond s. let w = c .before .before .loop .inv .0 h beyond s in ap not (word-empty (w .here) (c .before .before .loop .inv .1)) ∙ hasTerm-end (w .left) (sym (word-run (w .here) (c .before .before .loop .inv .1)) ∙ sym (c .before .is-run .ensures) ∙ c .if1 .left) ∙ w .keeps
+returns c = ((λ h beyond s. let w = c .before .before .loop .inv .0 h beyond s in ap not (word-empty (w .here) (c .before .before .loop .inv .1)) ∙ hasTerm-end (w .left) (sym (word-run (w .here) (c .before .before .loop .inv .1)) ∙ sym (c .before .is-run .ensures) ∙ c .if1 .left) ∙ w .keeps), runs-end _ _ (c .before .before .loop .inv .1) (c .before .is-run .ensures) (c .if1 .left) (c .before .before .loop .inv .2))
 
 pub has-term-spec : {M : Type 1} → statement M
 has-term-spec =

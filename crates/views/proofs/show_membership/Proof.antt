@@ -1,6 +1,6 @@
 -- `show_membership`: the expression stands where the hedge ends, and goes on to the next literal.
 use borrow.Author.Needs.{needs}
-use Rattle.views.proofs.Seen.{shows-of}
+use Rattle.views.proofs.Seen.{shows-of, shape-is}
 use Rattle.views.proofs.show_membership.Statement.{statement}
 use Rattle.views.proofs.show_membership.Tie as tie
 
@@ -17,7 +17,7 @@ next-literal-requires : tie.Need-next-literal-requires
 next-literal-requires c κs = search needs
 
 returns : tie.Need-returns
-returns c = λ before h R behind s. shows-of s (c .before .before .side-at .ensures) (c .before .word .ensures) (c .next-literal .ensures)
+returns c = ((λ before h R behind s. shows-of s (c .before .before .side-at .ensures) (c .before .word .ensures) (c .next-literal .ensures)), shape-is _ _ (c .before .before .side-at .ensures .2) (c .before .word .ensures) (c .next-literal .ensures))
 
 pub show-membership-spec : {M : Type 1} → statement M
 show-membership-spec =

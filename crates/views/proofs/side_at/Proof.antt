@@ -2,7 +2,7 @@
 use mathlib.Core.Path.{refl, _∙_}
 use borrow.Author.Needs.{needs}
 use Rattle.views.proofs.Spans.{stands-place}
-use Rattle.views.proofs.Looks.{side-of}
+use Rattle.views.proofs.Looks.{side-of, side-is}
 use Rattle.views.proofs.side_at.Statement.{statement}
 use Rattle.views.proofs.side_at.Tie as tie
 
@@ -16,7 +16,7 @@ look-at-requires : tie.Need-look-at-requires
 look-at-requires c κs = search needs
 
 returns : tie.Need-returns
-returns c = (refl, λ h beyond s. side-of s (c .before .before .element-end .ensures) (c .before .hedge-end .ensures) (c .look-at .ensures h beyond s (c .before .before .element-end .ensures ∙ stands-place s)))
+returns c = (refl, (λ h beyond s. side-of s (c .before .before .element-end .ensures) (c .before .hedge-end .ensures) (c .look-at .ensures .0 h beyond s (c .before .before .element-end .ensures ∙ stands-place s))), side-is _ _ (c .before .before .element-end .ensures) (c .before .hedge-end .ensures) (c .look-at .ensures .1))
 
 pub side-at-spec : {M : Type 1} → statement M
 side-at-spec = tie.close (tie.spec element-end-requires hedge-end-requires look-at-requires returns)

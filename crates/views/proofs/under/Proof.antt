@@ -12,13 +12,16 @@ use Rattle.views.specs.Variables.{variableWord, fineVar}
 use Rattle.views.specs.Standing.{Stands}
 use Rattle.views.proofs.Walks.{Passed, pass-start, pass-on, goes-on}
 use Rattle.views.proofs.Finds.{under-found, under-on, under-end}
+use Rattle.views.specs.Places.{belowEnd}
+use Rattle.views.proofs.Firsts.{Going, going-start}
+use Rattle.views.proofs.Stops.{below-on, below-found, below-none}
 use Rattle.views.proofs.under.Statement.{statement}
 use Rattle.views.proofs.under.Tie as tie
 
 abbrev Inv-loop : tie.InvT-loop
 Inv-loop k at v i₀ x₀ i x =
     ((y : Var) (h : Hedge) (beyond : List ℕ) → fineVar desk y → v ≡ variableWord y → Stands k at h beyond → Passed k at i beyond (λ done left. belowTop y left ≡ belowTop y h))
-    × (x ≡ getD k i 0)
+    × (x ≡ getD k i 0) × Going k at (belowEnd v k) i
 
 abbrev μ-loop : tie.MeasureT-loop
 μ-loop k at v i₀ x₀ i x = length k - i
@@ -27,7 +30,7 @@ word-requires : tie.Need-word-requires Inv-loop μ-loop
 word-requires c κs = search needs
 
 loop-holds : tie.Need-loop-holds Inv-loop μ-loop
-loop-holds c = ((λ y h beyond f w s. pass-start s refl), c .word .ensures)
+loop-holds c = ((λ y h beyond f w s. pass-start s refl), c .word .ensures, going-start)
 
 element-end-requires : tie.Need-element-end-requires Inv-loop μ-loop
 element-end-requires c κs = search needs
@@ -39,7 +42,7 @@ stands-requires : tie.Need-stands-requires Inv-loop μ-loop
 stands-requires c κs = search needs
 
 returns : tie.Need-returns Inv-loop μ-loop
-returns c = λ y h beyond f w s. let u = c .before .before .before .before .loop .inv .0 y h beyond f w s in under-found y (u .left) f w (u .here) (c .before .before .element-end .ensures) (c .before .stands .ensures) (c .if1 .taken) ∙ u .keeps
+returns c = ((λ y h beyond f w s. let u = c .before .before .before .before .loop .inv .0 y h beyond f w s in under-found y (u .left) f w (u .here) (c .before .before .element-end .ensures) (c .before .stands .ensures) (c .if1 .taken) ∙ u .keeps), below-found _ _ (c .before .before .before .before .loop .inv .1) _ (c .before .before .before .loop-test .taken) (c .before .before .element-end .ensures) (c .before .stands .ensures) (c .if1 .taken) (c .before .before .before .before .loop .inv .2))
 
 word-requires-2 : tie.Need-word-requires-2 Inv-loop μ-loop
 word-requires-2 c κs = search needs
@@ -51,10 +54,11 @@ loop-again : tie.Need-loop-again Inv-loop μ-loop
 loop-again c = (
   (λ y h beyond f w s. pass-on (c .before .before .before .element-end .ensures) (c .before .before .before .before .before .loop .inv .0 y h beyond f w s) (λ done left t q. under-on y left f w t (c .before .before .before .element-end .ensures) (c .before .before .stands .ensures) (c .before .if1 .left) ∙ q)),
   c .word2 .ensures,
+  below-on _ _ (c .before .before .before .before .before .loop .inv .1) _ (c .before .before .before .before .loop-test .taken) (c .before .before .before .element-end .ensures) (c .before .before .stands .ensures) (c .before .if1 .left) (c .before .before .before .before .before .loop .inv .2),
 )
 
 returns-2 : tie.Need-returns-2 Inv-loop μ-loop
-returns-2 c = λ y h beyond f w s. let u = c .before .loop .inv .0 y h beyond f w s in under-end y (u .left) (u .here) (c .before .loop .inv .1) (c .loop-test .left) ∙ u .keeps
+returns-2 c = ((λ y h beyond f w s. let u = c .before .loop .inv .0 y h beyond f w s in under-end y (u .left) (u .here) (c .before .loop .inv .1) (c .loop-test .left) ∙ u .keeps), below-none _ _ (c .before .loop .inv .1) _ (c .loop-test .left) (c .before .loop .inv .2))
 
 pub under-spec : {M : Type 1} → statement M
 under-spec =

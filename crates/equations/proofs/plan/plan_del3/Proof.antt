@@ -27,7 +27,7 @@ plan-by-requires c κs = search needs
 returns : tie.Need-returns
 returns c =
     let a = c .before .before .before .before .before .before .before .before .args in
-    subst (Plans Del3 (a .k .now) (a .v)) (sym (via-slots (c .before .ten .ensures) (c .plan-by .ensures))) (del3-plans (a .k .now) (a .v) (c .before .before .before .inside .result) _ (λ p h l r. c .before .before .before .inside .ensures p h _ (l .fine .0) (c .before .before .before .before .word .ensures ∙ side-word l) (side-stands r)) (c .before .before .forth .ensures))
+    subst (Plans Del3 (a .k .now) (a .v)) (sym (via-slots (c .before .ten .ensures) (c .plan-by .ensures))) (del3-plans (a .k .now) (a .v) (c .before .before .before .inside .result) _ (λ p h l r. c .before .before .before .inside .ensures .0 p h _ (l .fine .0) (c .before .before .before .before .word .ensures ∙ side-word l) (side-stands r)) (c .before .before .forth .ensures))
 
 pub plan-del3-spec : {M : Type 1} → statement M
 plan-del3-spec =

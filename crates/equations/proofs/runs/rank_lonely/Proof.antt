@@ -14,16 +14,16 @@ has-term-requires : tie.Need-has-term-requires
 has-term-requires c κs = search needs
 
 returns : tie.Need-returns
-returns c = λ before behind q s r w e. lonely-fails (before ++ behind) q r (sym (c .before .before .before .stands .ensures ∙ run-held (w .right) q (w .left .fine .0) e) ∙ c .before .before .if1 .taken) (sym (c .before .has-term .ensures r _ (side-stands (w .right))) ∙ c .if2 .taken)
+returns c = λ before behind q s r w e. lonely-fails (before ++ behind) q r (sym (c .before .before .before .stands .ensures ∙ run-held (w .right) q (w .left .fine .0) e) ∙ c .before .before .if1 .taken) (sym (c .before .has-term .ensures .0 r _ (side-stands (w .right))) ∙ c .if2 .taken)
 
 inside-requires : tie.Need-inside-requires
 inside-requires c κs = search needs
 
 returns-2 : tie.Need-returns-2
-returns-2 c = λ before behind q s r w e. lonely-inside (before ++ behind) q r (sym (c .before .before .before .before .before .stands .ensures ∙ run-held (w .right) q (w .left .fine .0) e) ∙ c .before .before .before .before .if1 .taken) (sym (c .before .before .before .has-term .ensures r _ (side-stands (w .right))) ∙ c .before .before .if2 .left) (sym (c .before .inside .ensures q r _ (w .left .fine .0) e (side-stands (w .right)) .found) ∙ c .if3 .taken)
+returns-2 c = λ before behind q s r w e. lonely-inside (before ++ behind) q r (sym (c .before .before .before .before .before .stands .ensures ∙ run-held (w .right) q (w .left .fine .0) e) ∙ c .before .before .before .before .if1 .taken) (sym (c .before .before .before .has-term .ensures .0 r _ (side-stands (w .right))) ∙ c .before .before .if2 .left) (sym (c .before .inside .ensures .0 q r _ (w .left .fine .0) e (side-stands (w .right)) .found) ∙ c .if3 .taken)
 
 returns-3 : tie.Need-returns-3
-returns-3 c = λ before behind q s r w e. lonely-open (before ++ behind) q r (sym (c .before .before .before .before .before .stands .ensures ∙ run-held (w .right) q (w .left .fine .0) e) ∙ c .before .before .before .before .if1 .taken) (sym (c .before .before .before .has-term .ensures r _ (side-stands (w .right))) ∙ c .before .before .if2 .left) (sym (c .before .inside .ensures q r _ (w .left .fine .0) e (side-stands (w .right)) .found) ∙ c .if3 .left)
+returns-3 c = λ before behind q s r w e. lonely-open (before ++ behind) q r (sym (c .before .before .before .before .before .stands .ensures ∙ run-held (w .right) q (w .left .fine .0) e) ∙ c .before .before .before .before .if1 .taken) (sym (c .before .before .before .has-term .ensures .0 r _ (side-stands (w .right))) ∙ c .before .before .if2 .left) (sym (c .before .inside .ensures .0 q r _ (w .left .fine .0) e (side-stands (w .right)) .found) ∙ c .if3 .left)
 
 elsewhere-requires : tie.Need-elsewhere-requires
 elsewhere-requires c κs = search needs

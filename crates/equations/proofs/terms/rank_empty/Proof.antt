@@ -21,7 +21,7 @@ has-term-requires : tie.Need-has-term-requires
 has-term-requires c κs = search needs
 
 returns : tie.Need-returns
-returns c = λ r before behind w. empty-run (before ++ behind) r (sym (c .before .before .enum-told3 .given .1) ∙ w .right .look) (sym (c .before .has-term .ensures r _ (side-stands (w .right))) ∙ c .if1 .taken)
+returns c = λ r before behind w. empty-run (before ++ behind) r (sym (c .before .before .enum-told3 .given .1) ∙ w .right .look) (sym (c .before .has-term .ensures .0 r _ (side-stands (w .right))) ∙ c .if1 .taken)
 
 enum-told-4 : tie.Need-enum-told-4
 enum-told-4 c = search needs
@@ -33,7 +33,7 @@ returns-3 : tie.Need-returns-3
 returns-3 c = λ r before behind w. empty-term (before ++ behind) r (sym (c .enum-told2 .given .1) ∙ w .right .look)
 
 returns-4 : tie.Need-returns-4
-returns-4 c = λ r before behind w. empty-runs (before ++ behind) r (sym (c .before .before .enum-told3 .given .1) ∙ w .right .look) (sym (c .before .has-term .ensures r _ (side-stands (w .right))) ∙ c .if1 .left)
+returns-4 c = λ r before behind w. empty-runs (before ++ behind) r (sym (c .before .before .enum-told3 .given .1) ∙ w .right .look) (sym (c .before .has-term .ensures .0 r _ (side-stands (w .right))) ∙ c .if1 .left)
 
 returns-5 : tie.Need-returns-5
 returns-5 c = λ r before behind w. empty-node (before ++ behind) r (sym (c .enum-told4 .given .1) ∙ w .right .look)

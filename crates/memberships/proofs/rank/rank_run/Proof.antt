@@ -7,11 +7,11 @@ use Rattle.memberships.proofs.rank.rank_run.Tie as tie
 
 returns : tie.Need-returns
 unfolding runBy
-returns c = λ h beyond s. rw (eq-eqb _ 7000 (c .before .before .if1 .taken), sym (c .before .has-term .ensures h beyond s) ∙ c .if2 .taken)
+returns c = λ h beyond s. rw (eq-eqb _ 7000 (c .before .before .if1 .taken), sym (c .before .has-term .ensures .0 h beyond s) ∙ c .if2 .taken)
 
 returns-2 : tie.Need-returns-2
 unfolding runBy
-returns-2 c = λ h beyond s. rw (eq-eqb _ 7000 (c .before .before .if1 .taken), sym (c .before .has-term .ensures h beyond s) ∙ c .if2 .left)
+returns-2 c = λ h beyond s. rw (eq-eqb _ 7000 (c .before .before .if1 .taken), sym (c .before .has-term .ensures .0 h beyond s) ∙ c .if2 .left)
 
 returns-3 : tie.Need-returns-3
 unfolding runBy

@@ -3,8 +3,8 @@ use lib.ListN.{length-set}
 use Rattle.pieces.proofs.Still.{wrote-four}
 use native.Mathlib.Omega.{arith}
 use borrow.Author.Needs.{needs}
-use Rattle.pieces.proofs.copying.empty_one.Statement.{statement}
-use Rattle.pieces.proofs.copying.empty_one.Tie as tie
+use Rattle.pieces.proofs.emptying.empty_one.Statement.{statement}
+use Rattle.pieces.proofs.emptying.empty_one.Tie as tie
 
 slice-write-out-2 : tie.Need-slice-write-out-2
 slice-write-out-2 c = simp length-set (omega arith)

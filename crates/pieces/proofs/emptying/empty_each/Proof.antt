@@ -5,8 +5,8 @@ use Rattle.plans.specs.Results.{emptyEach}
 use Rattle.pieces.proofs.Replaced.{each-step, each-none}
 use Rattle.pieces.proofs.Still.{Still, still-all, still-none, still-fits, still-run}
 use borrow.Author.Needs.{needs}
-use Rattle.pieces.proofs.copying.empty_each.Statement.{statement}
-use Rattle.pieces.proofs.copying.empty_each.Tie as tie
+use Rattle.pieces.proofs.emptying.empty_each.Statement.{statement}
+use Rattle.pieces.proofs.emptying.empty_each.Tie as tie
 
 abbrev Inv-loop : tie.InvT-loop
 Inv-loop k from to out₀ at end i₀ e₀ out i e = Still out₀ at (emptyEach (slice from to k)) out e (emptyEach (slice i to k))
