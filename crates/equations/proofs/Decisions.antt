@@ -1,41 +1,18 @@
 -- The tree of decisions finds the first rule at an equation.
-use Prim.Native.Nat.{ℕ, suc}
-use mathlib.Core.Path.{_≡_, refl, sym, ap, _∙_}
+use Prim.Native.Nat.{ℕ}
+use mathlib.Core.Path.{_≡_, refl, ap}
 use mathlib.Core.Bool.{Bool, true, false, not, _&&_, _||_}
 use mathlib.Core.Option.{Option, none, some}
 use Rattle.language.specs.Kinds.{pick}
-use Rattle.language.specs.Trees.{Functor, symbol, fvar, Hedge, ε, tvar, hvar, node, Conj, eqT, eqH, eqS, eqX, eqF, sameWords, tv, hv, fv, holds, inConj}
+use Rattle.language.specs.Trees.{symbol, fvar, Hedge, ε, tvar, hvar, node, Conj, eqT, eqH, eqS, eqX, sameWords, tv, hv, fv, holds, inConj}
 use mathlib.Core.List.{List}
 use Rattle.language.specs.declared.HedgeVar.{HedgeVar}
-use Rattle.rules.specs.Looks.{empty, hasTerm, allTerms, under, onto, around, inside, upTo, loneH, lone}
-use Rattle.rules.specs.Rules.{Branch, Answer, _>>=_, check, too}
+use Rattle.rules.specs.Looks.{empty, hasTerm, allTerms, under, onto, around, inside, upTo, lone}
+use Rattle.rules.specs.Rules.{Branch, _>>=_, too}
 use Rattle.rules.specs.Solved.{isSome}
 use Rattle.plans.specs.Ranks.{eqnRank}
+use Rattle.plans.proofs.Ranking.{check-on, lone-on, pick-suc, and-true, and-false}
 use Rattle.equations.specs.Rank.{rankOf}
-
-check-on : (b : Bool) (f : Unit {0} → Answer) → isSome (check b >>= f) ≡ b && isSome (f tt)
-unfolding check _>>=_
-check-on true f = refl
-check-on false f = refl
-
-lone-on : {A : Type 0} (a : A) (s : Hedge) (f : A → Answer) → isSome (lone a s >>= f) ≡ empty s && isSome (f a)
-unfolding _>>=_
-lone-on a ε f = refl
-lone-on a (tvar x s) f = refl
-lone-on a (hvar p s) f = refl
-lone-on a (node g c s) f = refl
-
-pick-suc : (b : Bool) (x y : ℕ) → suc (pick b x y) ≡ pick b (suc x) (suc y)
-pick-suc true x y = refl
-pick-suc false x y = refl
-
-and-true : (b : Bool) → b && true ≡ b
-and-true true = refl
-and-true false = refl
-
-and-false : (b : Bool) → b && false ≡ false
-and-false true = refl
-and-false false = refl
 
 bind-on : {A : Type 0} (m : Option A) (g : A → List Branch) → isSome (m >>= (λ a. some (g a))) ≡ isSome m
 unfolding _>>=_

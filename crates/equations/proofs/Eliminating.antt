@@ -1,43 +1,37 @@
 -- The plans of the rules that eliminate one variable make the words of their results.
-use Prim.Native.Nat.{ℕ, _+_, _-_, _<_, _≤_}
+use Prim.Native.Nat.{ℕ, _+_, _-_}
 use native.Mathlib.Omega.{arith}
-use mathlib.Core.Path.{_≡_, refl, sym, ap, _∙_, subst}
-use mathlib.Core.Bool.{Bool, true, false, not}
+use mathlib.Core.Path.{_≡_, refl, ap, _∙_, subst}
+use mathlib.Core.Bool.{Bool, true, false}
 use mathlib.Core.List.{List, [], _∷_, _++_, append-assoc, append-nil}
-use mathlib.Core.Option.{Option, none, some}
-use lib.Dec.{eqb, eqb-refl, T}
-use lib.ListN.{length, take, drop, length-append}
+use lib.Dec.{eqb-refl, T}
+use lib.ListN.{length, length-append}
 use lib.Seq.{slice}
-use Rattle.language.specs.declared.TermVar.{TermVar}
-use Rattle.language.specs.declared.HedgeVar.{HedgeVar}
 use Rattle.language.specs.declared.FunVar.{FunVar}
 use Rattle.language.specs.Limits.{desk}
 use Rattle.language.specs.Kinds.{pick}
-use Rattle.language.specs.Trees.{Functor, symbol, fvar, Hedge, ε, tvar, hvar, node, Literal, eqn, Conj, eqX}
+use Rattle.language.specs.Trees.{Functor, symbol, fvar, Hedge, ε, tvar, hvar, node, eqn, Conj, eqX}
 use Rattle.language.specs.Writing.{functorWord, hedgeWords, conjWords}
 use Rattle.language.specs.Fine.{fineHedge, fineConj}
-use Rattle.rules.specs.Substitution.{Subst, setT, setH, setF, putF, put, putC}
-use Rattle.rules.specs.Looks.{empty, loneT, loneTerm, loneH, loneNode, asBlank}
-use Rattle.rules.specs.Rules.{Branch, elims, Answer, E1, E2, E5, E6}
+use Rattle.rules.specs.Substitution.{Subst, setF, putF, put, putC}
+use Rattle.rules.specs.Looks.{loneT, loneTerm, loneH, loneNode, asBlank}
+use Rattle.rules.specs.Rules.{elims, E1, E2, E5, E6}
 use Rattle.rules.specs.Step.{place}
-use Rattle.plans.specs.declared.Slot.{Slot}
 use Rattle.plans.specs.declared.Recipe.{Recipe}
-use Rattle.plans.specs.declared.Ways.the-variants.{One}
-use Rattle.plans.specs.declared.Plan.{Plan}
 use Rattle.plans.specs.declared.Side.{Side}
 use Rattle.plans.specs.declared.View.{View}
-use Rattle.plans.specs.Looks.{head, tail, bodyWords}
+use Rattle.plans.specs.Looks.{head, bodyWords}
 use Rattle.plans.specs.Views.{Sided, Sees}
-use Rattle.plans.specs.Results.{replaced, changed, made}
+use Rattle.plans.specs.Results.{replaced, changed, made, resultsOf}
+use Rattle.plans.specs.Sizes.{placedWords}
 use Rattle.exact.proofs.Answers.{look, test, answers}
 use Rattle.exact.proofs.Looks.{empty-is, loneT-is, loneTerm-is, loneH-is, loneNode-is, asBlank-is}
 use Rattle.views.proofs.Words.{words-body, words-append}
 use Rattle.words.proofs.Parts.{part-of}
-use Rattle.views.proofs.Sides.{side-whole, side-head}
+use Rattle.views.proofs.Sides.{side-whole, side-head, sees-before, sees-behind}
 use Rattle.views.proofs.Replaced.{Acts, replaced-hedge, replaced-conj, acts-term, acts-hedge, acts-functor}
-use Rattle.equations.specs.Planned.{Plans, word, copy, noPiece, planBy}
-use Rattle.equations.specs.Planned as planned
-use Rattle.equations.proofs.Plain.{planned, one-result, before-part, behind-part, side-below, node-here}
+use Rattle.equations.specs.Recipes.{eliminated, leftInner, rightInner, e1Plan, e5Plan, e6Plan}
+use Rattle.equations.proofs.Plain.{planned, Makes, one-result, node-here, side-forth}
 
 -- ---- what is replaced, and by what
 
@@ -65,81 +59,65 @@ side-functor {k} {s} f c v e = let n = node-here f c v e in part-of k (s .from) 
 
 -- ---- E1, E2, E5: the equation stays, and its variable is replaced everywhere else
 
-abbrev pub eliminateSlots : View → List Slot
-eliminateSlots v =
-    planned.put 0 (v .at) ∷ word 5000 ∷ copy (v .l .from) (v .l .to) ∷ copy (v .r .from) (v .r .to) ∷ planned.put (v .end) (v .len)
-    ∷ noPiece ∷ noPiece ∷ noPiece ∷ noPiece ∷ noPiece ∷ noPiece ∷ noPiece ∷ []
+module _ {k : List ℕ} {v : View} {before behind : Conj} {l r : Hedge} (w : Sees k v before l r behind) {s : Subst} {us rs : List ℕ} (a : Acts s us rs) (until cut : ℕ)
+    (eu : slice (v .l .from) until k ≡ us) (er : slice (v .r .from) cut k ≡ rs) where
+  eliminate-words : made k (eliminated v until cut .first) cut ≡ conjWords (place before behind (elims (eqn l r ∷ []) [] s))
+  unfolding made
+  eliminate-words =
+      let q : Recipe = eliminated v until cut .first in
+      let x = put-conj a k q cut eu er 0 (v .at) before (w .fineBefore) (sees-before w) in
+      let y = put-conj a k q cut eu er (v .end) (v .len) behind (w .fineBehind) (sees-behind w) in
+      simp (x, y, side-whole (w .left), side-whole (w .right), words-append, append-assoc, append-nil)
 
-eliminate-words : {k : List ℕ} {v : View} {before behind : Conj} {l r : Hedge} (w : Sees k v before l r behind) {s : Subst} {us rs : List ℕ} (a : Acts s us rs) (old until new cut : ℕ)
-    → slice old until k ≡ us → slice new cut k ≡ rs
-    → made k (record { slots = eliminateSlots v; old = old; until = until; new = new }) cut ≡ conjWords (place before behind (elims (eqn l r ∷ []) [] s))
-unfolding made
-eliminate-words {k} {v} {before} {behind} {l} {r} w {s} a old until new cut eu er =
-    let q : Recipe = record { slots = eliminateSlots v; old = old; until = until; new = new } in
-    let x = put-conj a k q cut eu er 0 (v .at) before (w .fineBefore) (before-part w) in
-    let y = put-conj a k q cut eu er (v .end) (v .len) behind (w .fineBehind) (behind-part w) in
-    simp (x, y, side-whole (w .left), side-whole (w .right), words-append, append-assoc, append-nil)
+  -- the same, for an equation of l′ and r′ that is that of l and r
+  eliminate-plan : (l′ r′ : Hedge) → l ≡ l′ → r ≡ r′ → resultsOf k (eliminated v until cut) ≡ placedWords before behind (elims (eqn l′ r′ ∷ []) [] s ∷ [])
+  eliminate-plan l′ r′ p q =
+      one-result k before behind (eliminated v until cut .first) (eliminated v until cut .first) cut (elims (eqn l′ r′ ∷ []) [] s)
+      (eliminate-words
+      ∙ ap (λ (m : Hedge). conjWords (place before behind (elims (eqn m r ∷ []) [] s))) p
+      ∙ ap (λ (m : Hedge). conjWords (place before behind (elims (eqn l′ m ∷ []) [] s))) q)
 
--- the same, for an equation of l′ and r′ that is that of l and r
-eliminate-plan : {k : List ℕ} {v : View} {before behind : Conj} {l r : Hedge} (w : Sees k v before l r behind) {s : Subst} {us rs : List ℕ} (a : Acts s us rs) (old until new cut : ℕ)
-    → slice old until k ≡ us → slice new cut k ≡ rs → (l′ r′ : Hedge) → l ≡ l′ → r ≡ r′
-    → made k (record { slots = eliminateSlots v; old = old; until = until; new = new }) cut ≡ conjWords (place before behind (elims (eqn l′ r′ ∷ []) [] s))
-eliminate-plan {k} {v} {before} {behind} {l} {r} w {s} a old until new cut eu er l′ r′ p q =
-    eliminate-words w a old until new cut eu er
-    ∙ ap (λ (m : Hedge). conjWords (place before behind (elims (eqn m r ∷ []) [] s))) p
-    ∙ ap (λ (m : Hedge). conjWords (place before behind (elims (eqn l′ m ∷ []) [] s))) q
-
-pub e1-plans : (k : List ℕ) (v : View) (cut : ℕ) → cut ≡ v .r .to - 1 → Plans E1 k v (planBy (One cut) (eliminateSlots v) (v .l .from) (v .l .rest) (v .r .from))
-e1-plans k v cut e before behind l r w = planned
+pub e1-plans : (k : List ℕ) (v : View) → Makes E1 k v (λ l r. e1Plan k v)
+e1-plans k v before behind l r w = planned
     (look (loneT l) (loneT-is l) λ x p. look (loneTerm r) (loneTerm-is r) λ t q. test _ λ _ _. test _ λ _ _. test _ λ _ _.
-    answers (one-result k before behind (eliminateSlots v) (v .l .from) (v .l .rest) (v .r .from) cut (elims (eqn (tvar x ε) t ∷ []) [] (setT x t))
-    (eliminate-plan w (acts-term x t (subst (fineHedge desk) p (w .left .fine) .0)) (v .l .from) (v .l .rest) (v .r .from) cut
-    (side-head (w .left) ∙ ap (λ (h : Hedge). bodyWords (head h)) p) (ap (λ n. slice (v .r .from) n k) e ∙ side-body (w .right) ∙ ap bodyWords (q .0)) (tvar x ε) t p (q .0))))
+    answers (eliminate-plan w (acts-term x t (subst (fineHedge desk) p (w .left .fine) .0)) (v .l .rest) (v .r .to - 1)
+    (side-head (w .left) ∙ ap (λ (h : Hedge). bodyWords (head h)) p) (side-body (w .right) ∙ ap bodyWords (q .0)) (tvar x ε) t p (q .0)))
 
-pub e2-plans : (k : List ℕ) (v : View) (cut : ℕ) → cut ≡ v .r .to - 1 → Plans E2 k v (planBy (One cut) (eliminateSlots v) (v .l .from) (v .l .rest) (v .r .from))
-e2-plans k v cut e before behind l r w = planned
+pub e2-plans : (k : List ℕ) (v : View) → Makes E2 k v (λ l r. e1Plan k v)
+e2-plans k v before behind l r w = planned
     (look (loneH l) (loneH-is l) λ x p. test _ λ _ _. test _ λ _ _. test _ λ _ _.
-    answers (one-result k before behind (eliminateSlots v) (v .l .from) (v .l .rest) (v .r .from) cut (elims (eqn (hvar x ε) r ∷ []) [] (setH x r))
-    (eliminate-plan w (acts-hedge x r (subst (fineHedge desk) p (w .left .fine) .0)) (v .l .from) (v .l .rest) (v .r .from) cut
-    (side-head (w .left) ∙ ap (λ (h : Hedge). bodyWords (head h)) p) (ap (λ n. slice (v .r .from) n k) e ∙ side-body (w .right)) (hvar x ε) r p refl)))
+    answers (eliminate-plan w (acts-hedge x r (subst (fineHedge desk) p (w .left .fine) .0)) (v .l .rest) (v .r .to - 1)
+    (side-head (w .left) ∙ ap (λ (h : Hedge). bodyWords (head h)) p) (side-body (w .right)) (hvar x ε) r p refl))
 
 -- ---- a function variable is replaced by a functor: one word by one word
 
 -- the words at the front of two single terms, where the left is X(H)
-module _ {k : List ℕ} {v : View} {before behind : Conj} {l r : Hedge} (w : Sees k v before l r behind) (until cut : ℕ)
-    (eu : v .l .from < length k → until ≡ v .l .from + 1) (ec : v .r .from < length k → cut ≡ v .r .from + 1)
+module _ {k : List ℕ} {v : View} {before behind : Conj} {l r : Hedge} (w : Sees k v before l r behind)
     (f : Functor) (c : Hedge) (p : l ≡ node f c ε) (X : FunVar) (d : f ≡ fvar X) (g : Functor) (e : Hedge) (q : r ≡ node g e ε) where
   left-blank : l ≡ node (fvar X) c ε
   left-blank = p ∙ ap (λ (f : Functor). node f c ε) d
 
-  old-word : slice (v .l .from) until k ≡ (4000 + X .0) ∷ []
-  old-word = ap (λ n. slice (v .l .from) n k) (eu (side-below (w .left))) ∙ side-functor (fvar X) c (w .left) left-blank
+  old-word : slice (v .l .from) (leftInner k v .from) k ≡ (4000 + X .0) ∷ []
+  old-word = ap (λ n. slice (v .l .from) n k) (side-forth (w .left)) ∙ side-functor (fvar X) c (w .left) left-blank
 
-  new-word : slice (v .r .from) cut k ≡ functorWord g ∷ []
-  new-word = ap (λ n. slice (v .r .from) n k) (ec (side-below (w .right))) ∙ side-functor g e (w .right) q
+  new-word : slice (v .r .from) (rightInner k v .from) k ≡ functorWord g ∷ []
+  new-word = ap (λ n. slice (v .r .from) n k) (side-forth (w .right)) ∙ side-functor g e (w .right) q
 
   blank-acts : Acts (setF X g) ((4000 + X .0) ∷ []) (functorWord g ∷ [])
   blank-acts = acts-functor X g (subst (fineHedge desk) left-blank (w .left .fine) .0)
 
-pub e5-plans : (k : List ℕ) (v : View) (until cut : ℕ) → (v .l .from < length k → until ≡ v .l .from + 1) → (v .r .from < length k → cut ≡ v .r .from + 1)
-    → Plans E5 k v (planBy (One cut) (eliminateSlots v) (v .l .from) until (v .r .from))
-e5-plans k v until cut eu ec before behind l r w = planned
+pub e5-plans : (k : List ℕ) (v : View) → Makes E5 k v (λ l r. e5Plan k v)
+e5-plans k v before behind l r w = planned
     (look (loneNode l) (loneNode-is l) λ a p. look (asBlank (a .0)) (asBlank-is (a .0)) λ X d. look (loneNode r) (loneNode-is r) λ b q.
     test _ λ _ c. test _ λ _ e. test _ λ _ _. test _ λ _ _. test _ λ _ _.
-    answers (one-result k before behind (eliminateSlots v) (v .l .from) until (v .r .from) cut (elims (eqn (node (fvar X) ε ε) (node (b .0) ε ε) ∷ []) [] (setF X (b .0)))
-    (eliminate-plan w (blank-acts w until cut eu ec (a .0) (a .1) p X d (b .0) (b .1) q) (v .l .from) until (v .r .from) cut
-    (old-word w until cut eu ec (a .0) (a .1) p X d (b .0) (b .1) q) (new-word w until cut eu ec (a .0) (a .1) p X d (b .0) (b .1) q)
+    answers (eliminate-plan w (blank-acts w (a .0) (a .1) p X d (b .0) (b .1) q) (leftInner k v .from) (rightInner k v .from)
+    (old-word w (a .0) (a .1) p X d (b .0) (b .1) q) (new-word w (a .0) (a .1) p X d (b .0) (b .1) q)
     (node (fvar X) ε ε) (node (b .0) ε ε)
-    (left-blank w until cut eu ec (a .0) (a .1) p X d (b .0) (b .1) q ∙ ap (λ (h : Hedge). node (fvar X) h ε) (empty-is (a .1) c))
-    (q ∙ ap (λ (h : Hedge). node (b .0) h ε) (empty-is (b .1) e)))))
-
-abbrev pub e6Slots : View → ℕ → ℕ → List Slot
-e6Slots v until cut =
-    planned.put 0 (v .at) ∷ word 5000 ∷ copy (v .l .from) until ∷ word 0 ∷ word 0 ∷ copy (v .r .from) cut ∷ word 0 ∷ word 0
-    ∷ word 5000 ∷ planned.put (v .l .from) (v .l .to) ∷ planned.put (v .r .from) (v .r .to) ∷ planned.put (v .end) (v .len) ∷ []
+    (left-blank w (a .0) (a .1) p X d (b .0) (b .1) q ∙ ap (λ (h : Hedge). node (fvar X) h ε) (empty-is (a .1) c))
+    (q ∙ ap (λ (h : Hedge). node (b .0) h ε) (empty-is (b .1) e))))
 
 -- X ↦ F makes X to F, and leaves F
-set-self : (X : FunVar) (F : Functor) → setF X F .functor X ≡ F
+pub set-self : (X : FunVar) (F : Functor) → setF X F .functor X ≡ F
 set-self X F = go (eqX X X) (eqb-refl (X .0))
   where
     go : (b : Bool) → T b → pick b F (fvar X) ≡ F
@@ -154,16 +132,17 @@ set-kept X (fvar Y) = go (eqX X Y)
     go true = refl
     go false = refl
 
-e6-words : {k : List ℕ} {v : View} {before behind : Conj} {l r : Hedge} (w : Sees k v before l r behind) (until cut : ℕ) (X : FunVar) (F : Functor) (c e : Hedge)
+e6-words : {k : List ℕ} {v : View} {before behind : Conj} {l r : Hedge} (w : Sees k v before l r behind) (X : FunVar) (F : Functor) (c e : Hedge)
     → l ≡ node (fvar X) c ε → r ≡ node F e ε → Acts (setF X F) ((4000 + X .0) ∷ []) (functorWord F ∷ [])
-    → slice (v .l .from) until k ≡ (4000 + X .0) ∷ [] → slice (v .r .from) cut k ≡ functorWord F ∷ []
-    → made k (record { slots = e6Slots v until cut; old = v .l .from; until = until; new = v .r .from }) cut
+    → slice (v .l .from) (leftInner k v .from) k ≡ (4000 + X .0) ∷ [] → slice (v .r .from) (rightInner k v .from) k ≡ functorWord F ∷ []
+    → made k (e6Plan k v .first) (rightInner k v .from)
     ≡ conjWords (place before behind (elims (eqn (node (fvar X) ε ε) (node F ε ε) ∷ []) (eqn (node F c ε) (node F e ε) ∷ []) (setF X F)))
 unfolding made
-e6-words {k} {v} {before} {behind} {l} {r} w until cut X F c e p q a eu er =
-    let n : Recipe = record { slots = e6Slots v until cut; old = v .l .from; until = until; new = v .r .from } in
-    let x = put-conj a k n cut eu er 0 (v .at) before (w .fineBefore) (before-part w) in
-    let y = put-conj a k n cut eu er (v .end) (v .len) behind (w .fineBehind) (behind-part w) in
+e6-words {k} {v} {before} {behind} {l} {r} w X F c e p q a eu er =
+    let n : Recipe = e6Plan k v .first in
+    let cut = rightInner k v .from in
+    let x = put-conj a k n cut eu er 0 (v .at) before (w .fineBefore) (sees-before w) in
+    let y = put-conj a k n cut eu er (v .end) (v .len) behind (w .fineBehind) (sees-behind w) in
     let z : changed k n cut (slice (v .l .from) (v .l .to) k) ≡ hedgeWords (node F (put (setF X F) c) ε) =
     put-hedge a k n cut eu er (v .l .from) (v .l .to) (node (fvar X) c ε) (subst (fineHedge desk) p (w .left .fine)) (side-whole (w .left) ∙ ap hedgeWords p)
     ∙ ap (λ (G : Functor). hedgeWords (node G (put (setF X F) c) ε)) (set-self X F) in
@@ -172,12 +151,11 @@ e6-words {k} {v} {before} {behind} {l} {r} w until cut X F c e p q a eu er =
     ∙ ap (λ (G : Functor). hedgeWords (node G (put (setF X F) e) ε)) (set-kept X F) in
     simp (x, y, z, u, eu, er, set-kept X F, words-append, append-assoc, append-nil)
 
-pub e6-plans : (k : List ℕ) (v : View) (until cut : ℕ) → (v .l .from < length k → until ≡ v .l .from + 1) → (v .r .from < length k → cut ≡ v .r .from + 1)
-    → Plans E6 k v (planBy (One cut) (e6Slots v until cut) (v .l .from) until (v .r .from))
-e6-plans k v until cut eu ec before behind l r w = planned
+pub e6-plans : (k : List ℕ) (v : View) → Makes E6 k v (λ l r. e6Plan k v)
+e6-plans k v before behind l r w = planned
     (look (loneNode l) (loneNode-is l) λ a p. look (asBlank (a .0)) (asBlank-is (a .0)) λ X d. look (loneNode r) (loneNode-is r) λ b q.
     test _ λ _ _. test _ λ _ _.
-    answers (one-result k before behind (e6Slots v until cut) (v .l .from) until (v .r .from) cut
+    answers (one-result k before behind (e6Plan k v .first) (e6Plan k v .first) (rightInner k v .from)
     (elims (eqn (node (fvar X) ε ε) (node (b .0) ε ε) ∷ []) (eqn (node (b .0) (a .1) ε) (node (b .0) (b .1) ε) ∷ []) (setF X (b .0)))
-    (e6-words w until cut X (b .0) (a .1) (b .1) (left-blank w until cut eu ec (a .0) (a .1) p X d (b .0) (b .1) q) q (blank-acts w until cut eu ec (a .0) (a .1) p X d (b .0) (b .1) q)
-    (old-word w until cut eu ec (a .0) (a .1) p X d (b .0) (b .1) q) (new-word w until cut eu ec (a .0) (a .1) p X d (b .0) (b .1) q))))
+    (e6-words w X (b .0) (a .1) (b .1) (left-blank w (a .0) (a .1) p X d (b .0) (b .1) q) q (blank-acts w (a .0) (a .1) p X d (b .0) (b .1) q)
+    (old-word w (a .0) (a .1) p X d (b .0) (b .1) q) (new-word w (a .0) (a .1) p X d (b .0) (b .1) q))))

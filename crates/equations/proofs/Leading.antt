@@ -1,16 +1,15 @@
 -- An equation whose left side begins with a hedge variable: what each test says of the first rule.
 use Prim.Native.Nat.{ℕ, _+_, _<_}
 use native.Mathlib.Omega.{arith}
-use mathlib.Core.Path.{_≡_, refl, sym, ap, _∙_, subst}
+use mathlib.Core.Path.{_≡_, refl, sym, ap, _∙_}
 use mathlib.Core.Bool.{Bool, true, false, not, _&&_, _||_}
 use mathlib.Core.List.{List, _++_}
 use borrow.Author.Tests.{eq-eqb, ne-eqb}
-use lib.Dec.{eqb}
 use lib.ListN.{take, drop}
 use lib.Seq.{slice}
 use Rattle.language.specs.declared.HedgeVar.{HedgeVar}
 use Rattle.language.specs.Kinds.{pick}
-use Rattle.language.specs.Trees.{Functor, Hedge, ε, tvar, hvar, node, Conj, eqH, sameWords, hv, holds, inConj}
+use Rattle.language.specs.Trees.{Hedge, ε, tvar, hvar, node, Conj, eqH, sameWords, hv, holds, inConj}
 use Rattle.rules.specs.Looks.{empty, hasTerm, allTerms, inside, upTo, lone, loneH}
 use Rattle.rules.specs.Rules.{too}
 use Rattle.rules.specs.Solved.{isSome}

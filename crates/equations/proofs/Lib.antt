@@ -8,3 +8,4 @@ pub mod Looked
 pub mod Nodes
 pub mod Variables
 pub mod Leading
+pub mod Determined

@@ -1,14 +1,11 @@
 -- What a look says of the hedge, for a fact about every hedge that looks so.
-use Prim.Native.Nat.{ℕ, _+_}
+use Prim.Native.Nat.{ℕ}
 use native.Mathlib.Omega.{arith}
-use mathlib.Core.Path.{_≡_, refl, ap, _∙_}
+use mathlib.Core.Path.{_≡_, ap, _∙_}
 use mathlib.Core.Bool.{Bool, _&&_}
 use Rattle.language.specs.declared.TermVar.{TermVar}
 use Rattle.language.specs.declared.HedgeVar.{HedgeVar}
 use Rattle.language.specs.Trees.{Functor, Hedge, ε, tvar, hvar, node}
-use Rattle.language.specs.Writing.{functorWord}
-use Rattle.rules.specs.Looks.{empty}
-use Rattle.plans.specs.declared.Look.{Look}
 use Rattle.plans.specs.declared.Look.the-variants.{Empty, Term, Run, Node}
 use Rattle.plans.specs.Looks.{lookOf}
 

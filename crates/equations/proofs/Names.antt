@@ -16,10 +16,9 @@ use Rattle.rules.specs.Looks.{empty}
 use Rattle.plans.specs.declared.View.{View}
 use Rattle.plans.specs.Views.{Sees}
 use Rattle.plans.specs.Results.{member}
-use Rattle.views.specs.Variables.{variableWord}
 use Rattle.views.proofs.Members.{elsewhere-sees}
 use Rattle.equations.specs.Rank.{functors}
-use Rattle.equations.specs.Ranked.{isBlank, blankIn, blanksIn}
+use Rattle.equations.specs.Ranked.{blanksIn}
 
 -- a test's other answer
 pub not-true : {b : Bool} → not b ≡ true → b ≡ false

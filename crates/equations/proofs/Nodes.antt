@@ -1,12 +1,10 @@
 -- An equation whose left side begins with a functor: what each test says of the first rule.
 use Prim.Native.Nat.{ℕ}
-use mathlib.Core.Path.{_≡_, refl, sym, ap, _∙_}
+use mathlib.Core.Path.{_≡_, sym, _∙_}
 use mathlib.Core.Bool.{Bool, true, false, _&&_}
-use mathlib.Core.List.{List, _++_}
-use Rattle.language.specs.Trees.{Functor, Hedge, ε, tvar, hvar, node, Conj, sameWords}
+use Rattle.language.specs.Trees.{Functor, Hedge, node, Conj, sameWords}
 use Rattle.rules.specs.Looks.{empty}
-use Rattle.plans.specs.declared.Look.{Look}
-use Rattle.plans.specs.declared.Look.the-variants.{Empty, Term, Run, Node}
+use Rattle.plans.specs.declared.Look.the-variants.{Empty, Term, Run}
 use Rattle.plans.specs.Looks.{lookOf}
 use Rattle.views.proofs.Looks.{is-empty, is-term, is-run}
 use Rattle.equations.specs.Rank.{functors, rankOf}

@@ -8,7 +8,7 @@ use borrow.Author.Tests.{eq-eqb, ne-eqb}
 use lib.ListN.{take, drop}
 use Rattle.language.specs.declared.TermVar.{TermVar}
 use Rattle.language.specs.Kinds.{pick}
-use Rattle.language.specs.Trees.{Functor, Hedge, ε, tvar, hvar, node, Conj, eqT, sameWords, tv, inConj}
+use Rattle.language.specs.Trees.{Functor, Hedge, ε, tvar, node, Conj, eqT, sameWords, tv, inConj}
 use Rattle.rules.specs.Looks.{empty, hasTerm, under}
 use Rattle.plans.specs.declared.Look.the-variants.{Empty, Term, Run, Node}
 use Rattle.plans.specs.declared.View.{View}
@@ -17,7 +17,7 @@ use Rattle.plans.specs.Views.{Sees}
 use Rattle.plans.specs.Results.{member}
 use Rattle.views.proofs.Members.{elsewhere-sees}
 use Rattle.equations.specs.Rank.{rankOf}
-use Rattle.equations.proofs.Looked.{at-empty, at-term, at-run, at-node, both}
+use Rattle.equations.proofs.Looked.{at-empty, at-term, at-run, at-node}
 
 -- a test that is made only where another holds
 pub guard-on : {a b u : Bool} → a ≡ true → b ≡ u → b ≡ (a && u)

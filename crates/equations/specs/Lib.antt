@@ -1,3 +1,4 @@
 pub mod Rank
+pub mod Recipes
 pub mod Planned
 pub mod Ranked

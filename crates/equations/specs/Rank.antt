@@ -1,8 +1,8 @@
 -- The first rule at an equation, seen from the side l, as a tree of decisions: by how the two sides begin, and then by single tests.
 -- The numbers are the rules' places in their list; 28 is none of them.
 use Prim.Native.Nat.{ℕ}
-use mathlib.Core.Bool.{Bool, true, false, not, _&&_, _||_}
-use mathlib.Core.Option.{Option, none, some}
+use mathlib.Core.Bool.{not, _&&_, _||_}
+use mathlib.Core.Option.{none}
 use Rattle.language.specs.declared.HedgeVar.{HedgeVar}
 use Rattle.language.specs.Kinds.{pick}
 use Rattle.language.specs.Trees.{Functor, symbol, fvar, Hedge, ε, tvar, hvar, node, Conj, eqT, eqH, eqS, eqX, eqF, sameWords, tv, hv, fv, holds, inConj}

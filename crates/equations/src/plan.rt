@@ -1,177 +1,96 @@
 // What each rule of equations makes of the words: its results, described by parts of them.
-ghost use Prim.Native.Nat.{ℕ, _+_, _-_, _<_, _≤_};
+ghost use Prim.Native.Nat.{ℕ, _+_};
 ghost use mathlib.Core.Path.{_≡_};
-ghost use lib.ListN.{length};
-ghost use Rattle.rules.specs.Rules.{R1, Del1, Del3, D2, D0, E1, E2, E3, E4, E5, E6};
-ghost use Rattle.plans.specs.declared.Ways.the-variants.{Drop};
-ghost use Rattle.plans.specs.Ranks.{eqnAnswer};
-ghost use Rattle.equations.specs.Planned.{Plans, blankRecipe, planBy, fewSlots, tenSlots};
+ghost use Rattle.rules.specs.Rules.{E3, E4, Del3};
+ghost use Rattle.plans.specs.Slots.{dropPlan};
+ghost use Rattle.equations.specs.Recipes.{r1Plan, equated, del1Plan, d0Plan, d2Plan, eliminated, e1Plan, e5Plan, e6Plan, cutPlan, struck, e3Plan, e4Plan, del3Plan, spotOf};
+ghost use Rattle.equations.specs.Planned.{Is, Planning};
 use plans::Look;
 use plans::Piece;
 use plans::Plan;
 use plans::Recipe;
 use plans::Side;
-use plans::Slot;
 use plans::View;
 use plans::Ways;
+use plans::few;
+use plans::full;
+use plans::inner;
 use views::all_terms;
 use views::inside;
 use views::up_to;
 use words::word;
 
-// The next place, within the words.
-fn forth(k: &[u16], i: usize) -> usize
-    ensures { λ r. ⌜ (i < length (now (k .entry)) → r ≡ i + 1) ⌝ }
-{
-    if i < k.len() { i + 1 } else { i }
-}
-
-// One place back.
-fn back(i: usize) -> usize
-    ensures { λ r. ⌜ r ≡ i - 1 ⌝ }
-{
-    if i == 0 { 0 } else { i - 1 }
-}
-
-// A recipe without a piece.
-fn blank() -> Recipe
-    ensures { λ r. ⌜ r ≡ blankRecipe ⌝ }
-{
-    let slots = [Slot {
-        piece: Piece::Copy(0, 0),
-    }; 12];
-    Recipe {
-        slots,
-        old: 0,
-        until: 0,
-        new: 0,
-    }
-}
-
-// The results of one recipe.
-fn plan_by(ways: Ways, slots: [Slot; 12], old: usize, until: usize, new: usize) -> Plan
-    ensures { λ p. ⌜ p ≡ planBy ways slots old until new ⌝ }
-{
-    let first = Recipe {
-        slots,
-        old,
-        until,
-        new,
-    };
-    let second = blank();
-    Plan {
-        ways,
-        first,
-        second,
-    }
-}
-
-// A recipe of up to five pieces.
-fn few(a: Piece, b: Piece, c: Piece, d: Piece, e: Piece) -> [Slot; 12]
-    ensures { λ s. ⌜ s ≡ fewSlots a b c d e ⌝ }
-{
-    [
-        Slot { piece: a },
-        Slot { piece: b },
-        Slot { piece: c },
-        Slot { piece: d },
-        Slot { piece: e },
-        Slot {
-            piece: Piece::Copy(0, 0),
-        },
-        Slot {
-            piece: Piece::Copy(0, 0),
-        },
-        Slot {
-            piece: Piece::Copy(0, 0),
-        },
-        Slot {
-            piece: Piece::Copy(0, 0),
-        },
-        Slot {
-            piece: Piece::Copy(0, 0),
-        },
-        Slot {
-            piece: Piece::Copy(0, 0),
-        },
-        Slot {
-            piece: Piece::Copy(0, 0),
-        },
-    ]
-}
-
-// A recipe of up to ten pieces.
-fn ten(
-    a: Piece,
-    b: Piece,
-    c: Piece,
-    d: Piece,
-    e: Piece,
-    f: Piece,
-    g: Piece,
-    h: Piece,
-    i: Piece,
-    j: Piece,
-) -> [Slot; 12]
-    ensures { λ s. ⌜ s ≡ tenSlots a b c d e f g h i j ⌝ }
-{
-    [
-        Slot { piece: a },
-        Slot { piece: b },
-        Slot { piece: c },
-        Slot { piece: d },
-        Slot { piece: e },
-        Slot { piece: f },
-        Slot { piece: g },
-        Slot { piece: h },
-        Slot { piece: i },
-        Slot { piece: j },
-        Slot {
-            piece: Piece::Copy(0, 0),
-        },
-        Slot {
-            piece: Piece::Copy(0, 0),
-        },
-    ]
-}
-
 // The literal is removed.
-fn plan_r1(k: &[u16], v: View) -> Plan
-    ensures { λ p. ⌜ Plans R1 (now (k .entry)) v p ⌝ }
+fn plan_r1(v: View) -> Plan
+    ensures { λ p. ⌜ p ≡ r1Plan v ⌝ }
 {
-    let slots = few(
+    let none = Piece::Copy(0, 0);
+    let first = few(
         Piece::Copy(0, v.at),
         Piece::Copy(v.end, v.len),
-        Piece::Copy(0, 0),
-        Piece::Copy(0, 0),
-        Piece::Copy(0, 0),
+        none,
+        none,
+        none,
+        0,
+        0,
+        0,
     );
-    plan_by(Ways::One(0), slots, 0, 0, 0)
+    Plan {
+        ways: Ways::One(0),
+        first,
+        second: first,
+    }
+}
+
+// The parts from..to and start..end are equal.
+fn equate(v: View, from: usize, to: usize, start: usize, end: usize) -> Plan
+    ensures { λ p. ⌜ p ≡ equated v from to start end ⌝ }
+{
+    let first = few(
+        Piece::Copy(0, v.at),
+        Piece::Word(5000),
+        Piece::Copy(from, to),
+        Piece::Copy(start, end),
+        Piece::Copy(v.end, v.len),
+        0,
+        0,
+        0,
+    );
+    Plan {
+        ways: Ways::One(0),
+        first,
+        second: first,
+    }
 }
 
 // The hedge variable is struck from both sides.
-fn plan_del1(k: &[u16], v: View) -> Plan
-    ensures { λ p. ⌜ Plans Del1 (now (k .entry)) v p ⌝ }
+fn plan_del1(v: View) -> Plan
+    ensures { λ p. ⌜ p ≡ del1Plan v ⌝ }
 {
     let l = v.l;
     let r = v.r;
-    let slots = few(
-        Piece::Copy(0, v.at),
-        Piece::Word(5000),
-        Piece::Copy(l.rest, l.to),
-        Piece::Copy(r.rest, r.to),
-        Piece::Copy(v.end, v.len),
-    );
-    plan_by(Ways::One(0), slots, 0, 0, 0)
+    equate(v, l.rest, l.to, r.rest, r.to)
+}
+
+// Children are equal.
+fn plan_d0(k: &[u16], v: View) -> Plan
+    ensures { λ p. ⌜ p ≡ d0Plan (now (k .entry)) v ⌝ }
+{
+    let l = v.l;
+    let r = v.r;
+    let left = inner(k, l.from, l.to);
+    let right = inner(k, r.from, r.to);
+    equate(v, left.from, left.to, right.from, right.to)
 }
 
 // t1 = t2, H1 = H2.
-fn plan_d2(k: &[u16], v: View) -> Plan
-    ensures { λ p. ⌜ Plans D2 (now (k .entry)) v p ⌝ }
+fn plan_d2(v: View) -> Plan
+    ensures { λ p. ⌜ p ≡ d2Plan v ⌝ }
 {
     let l = v.l;
     let r = v.r;
-    let slots = ten(
+    let none = Piece::Copy(0, 0);
+    let first = full(
         Piece::Copy(0, v.at),
         Piece::Word(5000),
         Piece::Copy(l.from, l.rest),
@@ -182,139 +101,103 @@ fn plan_d2(k: &[u16], v: View) -> Plan
         Piece::Copy(l.rest, l.to),
         Piece::Copy(r.rest, r.to),
         Piece::Copy(v.end, v.len),
+        none,
+        none,
+        0,
+        0,
+        0,
     );
-    plan_by(Ways::One(0), slots, 0, 0, 0)
+    Plan {
+        ways: Ways::One(0),
+        first,
+        second: first,
+    }
 }
 
-// Children are equal.
-fn plan_d0(k: &[u16], v: View) -> Plan
-    ensures { λ p. ⌜ Plans D0 (now (k .entry)) v p ⌝ }
+// The equation stays, and in all others the left side's words before `until` become the right side's before the cut.
+fn eliminate(v: View, until: usize, cut: usize) -> Plan
+    ensures { λ p. ⌜ p ≡ eliminated v until cut ⌝ }
 {
     let l = v.l;
     let r = v.r;
-    let left = forth(k, l.from);
-    let left_to = back(l.to);
-    let right = forth(k, r.from);
-    let right_to = back(r.to);
-    let slots = few(
-        Piece::Copy(0, v.at),
+    let first = few(
+        Piece::Put(0, v.at),
         Piece::Word(5000),
-        Piece::Copy(left, left_to),
-        Piece::Copy(right, right_to),
-        Piece::Copy(v.end, v.len),
+        Piece::Copy(l.from, l.to),
+        Piece::Copy(r.from, r.to),
+        Piece::Put(v.end, v.len),
+        l.from,
+        until,
+        r.from,
     );
-    plan_by(Ways::One(0), slots, 0, 0, 0)
+    Plan {
+        ways: Ways::One(cut),
+        first,
+        second: first,
+    }
 }
 
-// The equation stays, and t stands for x in all others.
+// t stands for x, or H for p.
 fn plan_e1(k: &[u16], v: View) -> Plan
-    ensures { λ p. ⌜ Plans E1 (now (k .entry)) v p ⌝ }
+    ensures { λ p. ⌜ p ≡ e1Plan (now (k .entry)) v ⌝ }
 {
     let l = v.l;
     let r = v.r;
-    let cut = back(r.to);
-    let slots = few(
-        Piece::Put(0, v.at),
-        Piece::Word(5000),
-        Piece::Copy(l.from, l.to),
-        Piece::Copy(r.from, r.to),
-        Piece::Put(v.end, v.len),
-    );
-    plan_by(Ways::One(cut), slots, l.from, l.rest, r.from)
+    let right = inner(k, r.from, r.to);
+    eliminate(v, l.rest, right.to)
 }
 
-// The equation stays, and H stands for p in all others.
-fn plan_e2(k: &[u16], v: View) -> Plan
-    ensures { λ p. ⌜ Plans E2 (now (k .entry)) v p ⌝ }
-{
-    let l = v.l;
-    let r = v.r;
-    let cut = back(r.to);
-    let slots = few(
-        Piece::Put(0, v.at),
-        Piece::Word(5000),
-        Piece::Copy(l.from, l.to),
-        Piece::Copy(r.from, r.to),
-        Piece::Put(v.end, v.len),
-    );
-    plan_by(Ways::One(cut), slots, l.from, l.rest, r.from)
-}
-
-// The equation stays, and F stands for X in all others.
+// F stands for X.
 fn plan_e5(k: &[u16], v: View) -> Plan
-    ensures { λ p. ⌜ Plans E5 (now (k .entry)) v p ⌝ }
+    ensures { λ p. ⌜ p ≡ e5Plan (now (k .entry)) v ⌝ }
 {
     let l = v.l;
     let r = v.r;
-    let until = forth(k, l.from);
-    let cut = forth(k, r.from);
-    let slots = few(
-        Piece::Put(0, v.at),
-        Piece::Word(5000),
-        Piece::Copy(l.from, l.to),
-        Piece::Copy(r.from, r.to),
-        Piece::Put(v.end, v.len),
-    );
-    plan_by(Ways::One(cut), slots, l.from, until, r.from)
+    let left = inner(k, l.from, l.to);
+    let right = inner(k, r.from, r.to);
+    eliminate(v, left.from, right.from)
 }
 
 // X() = F(), F(H1) = F(H2), and F stands for X in all others.
 fn plan_e6(k: &[u16], v: View) -> Plan
-    ensures { λ p. ⌜ Plans E6 (now (k .entry)) v p ⌝ }
+    ensures { λ p. ⌜ p ≡ e6Plan (now (k .entry)) v ⌝ }
 {
     let l = v.l;
     let r = v.r;
-    let until = forth(k, l.from);
-    let cut = forth(k, r.from);
-    let slots = [
-        Slot {
-            piece: Piece::Put(0, v.at),
-        },
-        Slot {
-            piece: Piece::Word(5000),
-        },
-        Slot {
-            piece: Piece::Copy(l.from, until),
-        },
-        Slot {
-            piece: Piece::Word(0),
-        },
-        Slot {
-            piece: Piece::Word(0),
-        },
-        Slot {
-            piece: Piece::Copy(r.from, cut),
-        },
-        Slot {
-            piece: Piece::Word(0),
-        },
-        Slot {
-            piece: Piece::Word(0),
-        },
-        Slot {
-            piece: Piece::Word(5000),
-        },
-        Slot {
-            piece: Piece::Put(l.from, l.to),
-        },
-        Slot {
-            piece: Piece::Put(r.from, r.to),
-        },
-        Slot {
-            piece: Piece::Put(v.end, v.len),
-        },
-    ];
-    plan_by(Ways::One(cut), slots, l.from, until, r.from)
+    let left = inner(k, l.from, l.to);
+    let right = inner(k, r.from, r.to);
+    let first = full(
+        Piece::Put(0, v.at),
+        Piece::Word(5000),
+        Piece::Copy(l.from, left.from),
+        Piece::Word(0),
+        Piece::Word(0),
+        Piece::Copy(r.from, right.from),
+        Piece::Word(0),
+        Piece::Word(0),
+        Piece::Word(5000),
+        Piece::Put(l.from, l.to),
+        Piece::Put(r.from, r.to),
+        Piece::Put(v.end, v.len),
+        l.from,
+        left.from,
+        r.from,
+    );
+    Plan {
+        ways: Ways::One(right.from),
+        first,
+        second: first,
+    }
 }
 
-// p = T1, H = T2 for each cut of T, and T1 stands for p in all others.
-fn plan_e3(k: &[u16], v: View) -> Plan
-    ensures { λ p. ⌜ Plans E3 (now (k .entry)) v p ⌝ }
+// p = T1, H = (T2,..) for each of so many cuts, and T1 stands for p in all others.
+fn cut_by(v: View, cuts: usize) -> Plan
+    ensures { λ p. ⌜ p ≡ cutPlan v cuts ⌝ }
 {
     let l = v.l;
     let r = v.r;
-    let terms = all_terms(k, r.from);
-    let slots = ten(
+    let none = Piece::Copy(0, 0);
+    let first = full(
         Piece::Put(0, v.at),
         Piece::Word(5000),
         Piece::Copy(l.from, l.rest),
@@ -325,79 +208,106 @@ fn plan_e3(k: &[u16], v: View) -> Plan
         Piece::Put(l.rest, l.to),
         Piece::PutFromCut(r.to),
         Piece::Put(v.end, v.len),
+        none,
+        none,
+        l.from,
+        l.rest,
+        r.from,
     );
-    let cuts = terms.count + 1;
-    plan_by(Ways::Cuts(r.from, cuts), slots, l.from, l.rest, r.from)
+    Plan {
+        ways: Ways::Cuts(r.from, cuts),
+        first,
+        second: first,
+    }
 }
 
-// p = T1, H = (T2,t,H2) for each cut of T, and T1 stands for p in all others.
+// A cut behind each term of T, and one before them.
+fn plan_e3(k: &[u16], v: View) -> Plan
+    ensures { λ p. ⌜ Is E3 (now (k .entry)) v (λ l r. e3Plan v r) p ⌝ }
+{
+    let r = v.r;
+    let terms = all_terms(k, r.from);
+    let cuts = terms.count + 1;
+    cut_by(v, cuts)
+}
+
+// A cut behind each term of T up to the one that holds p, and one before them.
 fn plan_e4(k: &[u16], v: View) -> Plan
-    ensures { λ p. ⌜ Plans E4 (now (k .entry)) v p ⌝ }
+    ensures { λ p. ⌜ Is E4 (now (k .entry)) v (e4Plan v) p ⌝ }
 {
     let l = v.l;
     let r = v.r;
     let ahead = up_to(k, r.from, word(k, l.from));
-    let slots = ten(
-        Piece::Put(0, v.at),
-        Piece::Word(5000),
-        Piece::Copy(l.from, l.rest),
-        Piece::Word(0),
-        Piece::ToCut(r.from),
-        Piece::Word(0),
-        Piece::Word(5000),
-        Piece::Put(l.rest, l.to),
-        Piece::PutFromCut(r.to),
-        Piece::Put(v.end, v.len),
-    );
     let cuts = ahead.count + 1;
-    plan_by(Ways::Cuts(r.from, cuts), slots, l.from, l.rest, r.from)
+    cut_by(v, cuts)
+}
+
+// The hedge variable at the place i is struck, and what stands around it is empty.
+fn strike(k: &[u16], v: View, i: usize) -> Plan
+    ensures { λ p. ⌜ p ≡ del3Plan (now (k .entry)) v i ⌝ }
+{
+    let r = v.r;
+    let behind = inner(k, i, r.to);
+    let none = Piece::Copy(0, 0);
+    let first = full(
+        Piece::Copy(0, v.at),
+        Piece::Word(5000),
+        Piece::Copy(r.from, i),
+        Piece::Word(0),
+        Piece::Word(0),
+        Piece::Word(5000),
+        Piece::Copy(behind.from, r.to),
+        Piece::Word(0),
+        Piece::Copy(v.end, v.len),
+        none,
+        none,
+        none,
+        0,
+        0,
+        0,
+    );
+    Plan {
+        ways: Ways::One(0),
+        first,
+        second: first,
+    }
 }
 
 // H1 = ε, H2 = ε.
 fn plan_del3(k: &[u16], v: View) -> Plan
-    ensures { λ p. ⌜ Plans Del3 (now (k .entry)) v p ⌝ }
+    ensures { λ p. ⌜ Is Del3 (now (k .entry)) v (λ l r. del3Plan (now (k .entry)) v (spotOf v l r)) p ⌝ }
 {
     let l = v.l;
     let r = v.r;
     let spot = inside(k, r.from, word(k, l.from));
-    let next = forth(k, spot.place);
-    let slots = ten(
-        Piece::Copy(0, v.at),
-        Piece::Word(5000),
-        Piece::Copy(r.from, spot.place),
-        Piece::Word(0),
-        Piece::Word(0),
-        Piece::Word(5000),
-        Piece::Copy(next, r.to),
-        Piece::Word(0),
-        Piece::Copy(v.end, v.len),
-        Piece::Copy(0, 0),
-    );
-    plan_by(Ways::One(0), slots, 0, 0, 0)
+    strike(k, v, spot.place)
 }
 
 // No result.
 fn plan_drop() -> Plan
-    ensures { λ p. ⌜ p ≡ planBy Drop (blankRecipe .slots) 0 0 0 ⌝ }
+    ensures { λ p. ⌜ p ≡ dropPlan ⌝ }
 {
-    let slots = [Slot {
-        piece: Piece::Copy(0, 0),
-    }; 12];
-    plan_by(Ways::Drop, slots, 0, 0, 0)
+    let none = Piece::Copy(0, 0);
+    let first = few(none, none, none, none, none, 0, 0, 0);
+    Plan {
+        ways: Ways::Drop,
+        first,
+        second: first,
+    }
 }
 
 // The results of the rule of that place in the list, where it applies.
 pub fn plan_equation(rank: usize, k: &[u16], v: View) -> Plan
-    ensures { λ p. ⌜ Plans (eqnAnswer rank) (now (k .entry)) v p ⌝ }
+    ensures { λ p. ⌜ Planning rank (now (k .entry)) v p ⌝ }
 {
     match rank {
-        0 => plan_r1(k, v),
-        9 => plan_del1(k, v),
+        0 => plan_r1(v),
+        9 => plan_del1(v),
         10 => plan_del3(k, v),
-        11 => plan_d2(k, v),
+        11 => plan_d2(v),
         12 => plan_d0(k, v),
         13 => plan_e1(k, v),
-        14 => plan_e2(k, v),
+        14 => plan_e1(k, v),
         15 => plan_e3(k, v),
         16 => plan_e4(k, v),
         17 => plan_e5(k, v),

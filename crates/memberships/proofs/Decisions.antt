@@ -1,41 +1,15 @@
 -- The tree of decisions finds the first rule at a membership.
-use Prim.Native.Nat.{ℕ, suc}
-use mathlib.Core.Path.{_≡_, refl, sym, ap, _∙_}
+use Prim.Native.Nat.{ℕ}
+use mathlib.Core.Path.{_≡_, refl}
 use mathlib.Core.Bool.{Bool, true, false, not, _&&_}
 use Rattle.language.specs.Kinds.{pick}
-use Rattle.language.specs.Trees.{Functor, symbol, fvar, Hedge, ε, tvar, hvar, node, Expr, eps, cat, alt, star, over, Conj, eqS}
-use Rattle.rules.specs.Looks.{empty, hasTerm, allRuns, lone}
+use Rattle.language.specs.Trees.{symbol, fvar, Hedge, ε, tvar, hvar, node, Expr, eps, cat, alt, star, over, Conj, eqS}
+use Rattle.rules.specs.Looks.{empty, hasTerm, allRuns}
 use Rattle.rules.specs.Expressions.{nullable}
-use Rattle.rules.specs.Rules.{Answer, _>>=_, check}
-use Rattle.rules.specs.Solved.{isSome}
+use Rattle.rules.specs.Rules.{_>>=_}
 use Rattle.plans.specs.Ranks.{memRank}
+use Rattle.plans.proofs.Ranking.{check-on, lone-on, pick-suc, and-true, and-false}
 use Rattle.memberships.specs.Rank.{rankIn}
-
--- ---- whether a line of a rule answers
-
-check-on : (b : Bool) (f : Unit {0} → Answer) → isSome (check b >>= f) ≡ b && isSome (f tt)
-unfolding check _>>=_
-check-on true f = refl
-check-on false f = refl
-
-lone-on : {A : Type 0} (a : A) (s : Hedge) (f : A → Answer) → isSome (lone a s >>= f) ≡ empty s && isSome (f a)
-unfolding _>>=_
-lone-on a ε f = refl
-lone-on a (tvar x s) f = refl
-lone-on a (hvar p s) f = refl
-lone-on a (node g c s) f = refl
-
-pick-suc : (b : Bool) (x y : ℕ) → suc (pick b x y) ≡ pick b (suc x) (suc y)
-pick-suc true x y = refl
-pick-suc false x y = refl
-
-and-true : (b : Bool) → b && true ≡ b
-and-true true = refl
-and-true false = refl
-
-and-false : (b : Bool) → b && false ≡ false
-and-false true = refl
-and-false false = refl
 
 -- ---- the tests in the rules' order and in the tree's
 

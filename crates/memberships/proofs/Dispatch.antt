@@ -2,99 +2,43 @@
 use Prim.Native.Nat.{ℕ, zero, suc}
 use mathlib.Core.Path.{_≡_, refl, sym, ap, subst, _∙_}
 use mathlib.Core.List.{List, [], map}
-use mathlib.Core.Option.{Option, none, some}
+use mathlib.Core.Option.{none, some}
 use native.Mathlib.Omega.{arith}
-use Rattle.language.specs.Trees.{Hedge, ε, tvar, hvar, node, Expr, Conj}
+use borrow.Author.Tests.{ne-eqb}
+use Rattle.language.specs.Trees.{Hedge, Expr, Conj}
 use Rattle.rules.specs.Looks.{firstTerm, loneNode, asSymbol, asOver}
-use Rattle.rules.specs.Rules.{Branch, InRule, R2, F5, F6, F7, M1, M2, M3, M4, M5, M6, M7, M10, M11, monomialResult}
+use Rattle.rules.specs.Rules.{Branch, R2, F5, F6, F7, M1, M2, M3, M4, M5, M6, M7, M10, M11, monomialResult}
 use Rattle.rules.specs.Expressions.{linear}
-use Rattle.plans.specs.declared.Ways.the-variants.{Drop, Monomials}
+use Rattle.plans.specs.declared.Ways.the-variants.{Monomials}
 use Rattle.plans.specs.declared.Plan.{Plan}
 use Rattle.plans.specs.declared.Shape.{Shape}
 use Rattle.plans.specs.Looks.{head, tail}
-use Rattle.plans.specs.Views.{Shows}
 use Rattle.plans.specs.Results.{resultsOf}
 use Rattle.plans.specs.Sizes.{placedWords, monomialWords}
 use Rattle.plans.specs.Ranks.{memAnswer}
-use Rattle.exact.proofs.Answers.{Where, Answers, look, test, answers}
+use Rattle.exact.proofs.Answers.{look, test, answers}
 use Rattle.equations.specs.Planned.{Planned}
-use Rattle.equations.proofs.Plain.{planned}
+use Rattle.equations.proofs.Plain.{answered, planned, parts-of-term}
 use Rattle.equations.proofs.Cutting.{it-found}
-use Rattle.memberships.specs.Planned.{PlansIn, Answered, planBare}
-
--- a plan for the rule of that place, which is not M2
-pub for-rank : {k : List ℕ} {s : Shape} {p : Plan} (n m : ℕ) → n ≡ m → (m ≡ 20 → ⊥) → PlansIn (memAnswer m) k s p → Answered n k s p
-for-rank {k} {s} {p} n m e z d =
-    record {
-      monomials = λ q. absurd (z (sym e ∙ q));
-      results = λ _. subst (λ (i : ℕ). PlansIn (memAnswer i) k s p) (sym e) d;
-    }
-
-module _ {k : List ℕ} {s : Shape} {p : Plan} where
-  pub at-r2 : PlansIn R2 k s p → PlansIn (memAnswer 1) k s p
-  unfolding memAnswer
-  at-r2 d = d
-
-  pub at-m1 : PlansIn M1 k s p → PlansIn (memAnswer 19) k s p
-  unfolding memAnswer
-  at-m1 d = d
-
-  pub at-m3 : PlansIn M3 k s p → PlansIn (memAnswer 21) k s p
-  unfolding memAnswer
-  at-m3 d = d
-
-  pub at-m4 : PlansIn M4 k s p → PlansIn (memAnswer 22) k s p
-  unfolding memAnswer
-  at-m4 d = d
-
-  pub at-m5 : PlansIn M5 k s p → PlansIn (memAnswer 23) k s p
-  unfolding memAnswer
-  at-m5 d = d
-
-  pub at-m6 : PlansIn M6 k s p → PlansIn (memAnswer 24) k s p
-  unfolding memAnswer
-  at-m6 d = d
-
-  pub at-m7 : PlansIn M7 k s p → PlansIn (memAnswer 25) k s p
-  unfolding memAnswer
-  at-m7 d = d
-
-  pub at-m10 : PlansIn M10 k s p → PlansIn (memAnswer 26) k s p
-  unfolding memAnswer
-  at-m10 d = d
-
-  pub at-m11 : PlansIn M11 k s p → PlansIn (memAnswer 27) k s p
-  unfolding memAnswer
-  at-m11 d = d
+use Rattle.plans.specs.Slots.{blankRecipe, single, dropPlan}
+use Rattle.memberships.specs.Recipes.{r2Plan, m1Plan, m3Plan, m4Plan, m11Plan, shared, halved, m10Plan, exprInner, midOf, membershipPlan}
+use Rattle.memberships.specs.Planned.{Is, Answered}
+use Rattle.memberships.proofs.Plain.{Makes, r2-plans, m3-plans, m4-plans, m5-plans, m6-plans, m7-plans, m11-plans}
+use Rattle.memberships.proofs.Eliminating.{m1-plans, m10-plans}
 
 -- ---- M2
-
-pub by-monomials : (k : List ℕ) (s : Shape) (n : ℕ) → n ≡ 20 → Answered n k s (planBare Monomials)
-by-monomials k s n e = record { monomials = λ _. refl; results = λ z. absurd (z e) }
-
-parts-of-term : (h : Hedge) → Where (λ a. (a .0 ≡ head h) × (a .1 ≡ tail h)) (firstTerm h)
-parts-of-term ε = tt
-parts-of-term (tvar x r) = (refl, refl)
-parts-of-term (hvar p r) = tt
-parts-of-term (node f c r) = (refl, refl)
 
 -- where M2 answers, its results are those of the monomials
 pub monomial-answer : (K before behind : Conj) (h : Hedge) (R : Expr) (bs : List Branch) → memAnswer 20 K h R ≡ some bs → placedWords before behind bs ≡ monomialWords before h R behind
 unfolding memAnswer monomialWords
-monomial-answer K before behind h R bs e = go (M2 K h R) e (m2-answers .given)
-  where
-    m2-answers : Answers (λ bs. placedWords before behind bs ≡ placedWords before behind (map (monomialResult (head h) (tail h)) (linear R))) (M2 K h R)
-    m2-answers = look (firstTerm h) (parts-of-term h) λ a p. test _ λ _ _. test _ λ _ _.
-        answers (ap (λ (t : Hedge). placedWords before behind (map (monomialResult t (a .1)) (linear R))) (p .0) ∙ ap (λ (t : Hedge). placedWords before behind (map (monomialResult (head h) t) (linear R))) (p .1))
+monomial-answer K before behind h R bs e = answered (λ bs. placedWords before behind bs ≡ placedWords before behind (map (monomialResult (head h) (tail h)) (linear R)))
+    (look (firstTerm h) (parts-of-term h) λ a p. test _ λ _ _. test _ λ _ _.
+    answers (ap (λ (t : Hedge). placedWords before behind (map (monomialResult t (a .1)) (linear R))) (p .0) ∙ ap (λ (t : Hedge). placedWords before behind (map (monomialResult (head h) t) (linear R))) (p .1)))
+    bs e
 
-    go : (w : Option (List Branch)) → w ≡ some bs → Where (λ bs. placedWords before behind bs ≡ placedWords before behind (map (monomialResult (head h) (tail h)) (linear R))) w
-        → placedWords before behind bs ≡ placedWords before behind (map (monomialResult (head h) (tail h)) (linear R))
-    go none e q = absurd (let z : _≡_ {A = ℕ} 0 1 = cc in omega arith)
-    go (some cs) e q = let d : cs ≡ bs = cc in ap (placedWords before behind) (sym d) ∙ q
+-- ---- the F rules leave nothing
 
--- ---- the others leave nothing
-
-nothing-left : (k : List ℕ) (before behind : Conj) → resultsOf k (planBare Drop) ≡ placedWords before behind []
+nothing-left : (k : List ℕ) (before behind : Conj) → resultsOf k (dropPlan) ≡ placedWords before behind []
 unfolding resultsOf placedWords
 nothing-left k before behind = refl
 
@@ -102,51 +46,115 @@ not-there : {k : List ℕ} {p : Plan} {before behind : Conj} → Planned k p bef
 not-there = record { results = λ bs e. absurd (let z : _≡_ {A = ℕ} 0 1 = cc in omega arith) }
 
 module _ (k : List ℕ) (s : Shape) where
-  f5-drops : PlansIn F5 k s (planBare Drop)
+  f5-drops : Makes F5 k s (λ R. dropPlan)
   f5-drops before h R behind v = planned
       (look (loneNode h) (it-found (loneNode h)) λ a _. look (asSymbol (a .0)) (it-found (asSymbol (a .0))) λ _ _. look (asOver R) (it-found (asOver R)) λ _ _. test _ λ _ _. answers (nothing-left k before behind))
 
-  f6-drops : PlansIn F6 k s (planBare Drop)
+  f6-drops : Makes F6 k s (λ R. dropPlan)
   f6-drops before h R behind v = planned (test _ λ _ _. test _ λ _ _. answers (nothing-left k before behind))
 
-  f7-drops : PlansIn F7 k s (planBare Drop)
+  f7-drops : Makes F7 k s (λ R. dropPlan)
   f7-drops before h R behind v = planned (test _ λ _ _. test _ λ _ _. answers (nothing-left k before behind))
 
--- none of the places of the rules that leave something
-abbrev pub Others : ℕ → Type 0
-Others n = (n ≡ 1 → ⊥) × (n ≡ 19 → ⊥) × (n ≡ 20 → ⊥) × (n ≡ 21 → ⊥) × (n ≡ 22 → ⊥) × (n ≡ 23 → ⊥) × (n ≡ 24 → ⊥) × (n ≡ 25 → ⊥) × (n ≡ 26 → ⊥) × (n ≡ 27 → ⊥)
+-- the plan of every place but M2's makes what its rule answers; a rule of equations does not answer
+plan-law : (k : List ℕ) (s : Shape) (n : ℕ) → (n ≡ 20 → ⊥) → Makes (memAnswer n) k s (membershipPlan n k s)
+unfolding memAnswer membershipPlan
+plan-law k s zero z = λ before h R behind v. not-there
+plan-law k s (suc zero) z = r2-plans k s
+plan-law k s (suc (suc zero)) z = λ before h R behind v. not-there
+plan-law k s (suc (suc (suc zero))) z = λ before h R behind v. not-there
+plan-law k s (suc (suc (suc (suc zero)))) z = λ before h R behind v. not-there
+plan-law k s (suc (suc (suc (suc (suc zero))))) z = λ before h R behind v. not-there
+plan-law k s (suc (suc (suc (suc (suc (suc zero)))))) z = f5-drops k s
+plan-law k s (suc (suc (suc (suc (suc (suc (suc zero))))))) z = f6-drops k s
+plan-law k s (suc (suc (suc (suc (suc (suc (suc (suc zero)))))))) z = f7-drops k s
+plan-law k s (suc (suc (suc (suc (suc (suc (suc (suc (suc zero))))))))) z = λ before h R behind v. not-there
+plan-law k s (suc (suc (suc (suc (suc (suc (suc (suc (suc (suc zero)))))))))) z = λ before h R behind v. not-there
+plan-law k s (suc (suc (suc (suc (suc (suc (suc (suc (suc (suc (suc zero))))))))))) z = λ before h R behind v. not-there
+plan-law k s (suc (suc (suc (suc (suc (suc (suc (suc (suc (suc (suc (suc zero)))))))))))) z = λ before h R behind v. not-there
+plan-law k s (suc (suc (suc (suc (suc (suc (suc (suc (suc (suc (suc (suc (suc zero))))))))))))) z = λ before h R behind v. not-there
+plan-law k s (suc (suc (suc (suc (suc (suc (suc (suc (suc (suc (suc (suc (suc (suc zero)))))))))))))) z = λ before h R behind v. not-there
+plan-law k s (suc (suc (suc (suc (suc (suc (suc (suc (suc (suc (suc (suc (suc (suc (suc zero))))))))))))))) z = λ before h R behind v. not-there
+plan-law k s (suc (suc (suc (suc (suc (suc (suc (suc (suc (suc (suc (suc (suc (suc (suc (suc zero)))))))))))))))) z = λ before h R behind v. not-there
+plan-law k s (suc (suc (suc (suc (suc (suc (suc (suc (suc (suc (suc (suc (suc (suc (suc (suc (suc zero))))))))))))))))) z = λ before h R behind v. not-there
+plan-law k s (suc (suc (suc (suc (suc (suc (suc (suc (suc (suc (suc (suc (suc (suc (suc (suc (suc (suc zero)))))))))))))))))) z = λ before h R behind v. not-there
+plan-law k s (suc (suc (suc (suc (suc (suc (suc (suc (suc (suc (suc (suc (suc (suc (suc (suc (suc (suc (suc zero))))))))))))))))))) z = m1-plans k s
+plan-law k s (suc (suc (suc (suc (suc (suc (suc (suc (suc (suc (suc (suc (suc (suc (suc (suc (suc (suc (suc (suc zero)))))))))))))))))))) z = absurd (z refl)
+plan-law k s (suc (suc (suc (suc (suc (suc (suc (suc (suc (suc (suc (suc (suc (suc (suc (suc (suc (suc (suc (suc (suc zero))))))))))))))))))))) z = m3-plans k s
+plan-law k s (suc (suc (suc (suc (suc (suc (suc (suc (suc (suc (suc (suc (suc (suc (suc (suc (suc (suc (suc (suc (suc (suc zero)))))))))))))))))))))) z = m4-plans k s
+plan-law k s (suc (suc (suc (suc (suc (suc (suc (suc (suc (suc (suc (suc (suc (suc (suc (suc (suc (suc (suc (suc (suc (suc (suc zero))))))))))))))))))))))) z = m5-plans k s
+plan-law k s (suc (suc (suc (suc (suc (suc (suc (suc (suc (suc (suc (suc (suc (suc (suc (suc (suc (suc (suc (suc (suc (suc (suc (suc zero)))))))))))))))))))))))) z = m6-plans k s
+plan-law k s (suc (suc (suc (suc (suc (suc (suc (suc (suc (suc (suc (suc (suc (suc (suc (suc (suc (suc (suc (suc (suc (suc (suc (suc (suc zero))))))))))))))))))))))))) z = m7-plans k s
+plan-law k s (suc (suc (suc (suc (suc (suc (suc (suc (suc (suc (suc (suc (suc (suc (suc (suc (suc (suc (suc (suc (suc (suc (suc (suc (suc (suc zero)))))))))))))))))))))))))) z = m10-plans k s
+plan-law k s (suc (suc (suc (suc (suc (suc (suc (suc (suc (suc (suc (suc (suc (suc (suc (suc (suc (suc (suc (suc (suc (suc (suc (suc (suc (suc (suc zero))))))))))))))))))))))))))) z = m11-plans k s
+plan-law k s (suc (suc (suc (suc (suc (suc (suc (suc (suc (suc (suc (suc (suc (suc (suc (suc (suc (suc (suc (suc (suc (suc (suc (suc (suc (suc (suc (suc n)))))))))))))))))))))))))))) z = λ before h R behind v. not-there
 
-drops : (k : List ℕ) (s : Shape) (n : ℕ) → Others n → PlansIn (memAnswer n) k s (planBare Drop)
-unfolding memAnswer
-drops k s zero m = λ before h R behind v. not-there
-drops k s (suc zero) m = absurd (m .0 refl)
-drops k s (suc (suc zero)) m = λ before h R behind v. not-there
-drops k s (suc (suc (suc zero))) m = λ before h R behind v. not-there
-drops k s (suc (suc (suc (suc zero)))) m = λ before h R behind v. not-there
-drops k s (suc (suc (suc (suc (suc zero))))) m = λ before h R behind v. not-there
-drops k s (suc (suc (suc (suc (suc (suc zero)))))) m = f5-drops k s
-drops k s (suc (suc (suc (suc (suc (suc (suc zero))))))) m = f6-drops k s
-drops k s (suc (suc (suc (suc (suc (suc (suc (suc zero)))))))) m = f7-drops k s
-drops k s (suc (suc (suc (suc (suc (suc (suc (suc (suc zero))))))))) m = λ before h R behind v. not-there
-drops k s (suc (suc (suc (suc (suc (suc (suc (suc (suc (suc zero)))))))))) m = λ before h R behind v. not-there
-drops k s (suc (suc (suc (suc (suc (suc (suc (suc (suc (suc (suc zero))))))))))) m = λ before h R behind v. not-there
-drops k s (suc (suc (suc (suc (suc (suc (suc (suc (suc (suc (suc (suc zero)))))))))))) m = λ before h R behind v. not-there
-drops k s (suc (suc (suc (suc (suc (suc (suc (suc (suc (suc (suc (suc (suc zero))))))))))))) m = λ before h R behind v. not-there
-drops k s (suc (suc (suc (suc (suc (suc (suc (suc (suc (suc (suc (suc (suc (suc zero)))))))))))))) m = λ before h R behind v. not-there
-drops k s (suc (suc (suc (suc (suc (suc (suc (suc (suc (suc (suc (suc (suc (suc (suc zero))))))))))))))) m = λ before h R behind v. not-there
-drops k s (suc (suc (suc (suc (suc (suc (suc (suc (suc (suc (suc (suc (suc (suc (suc (suc zero)))))))))))))))) m = λ before h R behind v. not-there
-drops k s (suc (suc (suc (suc (suc (suc (suc (suc (suc (suc (suc (suc (suc (suc (suc (suc (suc zero))))))))))))))))) m = λ before h R behind v. not-there
-drops k s (suc (suc (suc (suc (suc (suc (suc (suc (suc (suc (suc (suc (suc (suc (suc (suc (suc (suc zero)))))))))))))))))) m = λ before h R behind v. not-there
-drops k s (suc (suc (suc (suc (suc (suc (suc (suc (suc (suc (suc (suc (suc (suc (suc (suc (suc (suc (suc zero))))))))))))))))))) m = absurd (m .1 refl)
-drops k s (suc (suc (suc (suc (suc (suc (suc (suc (suc (suc (suc (suc (suc (suc (suc (suc (suc (suc (suc (suc zero)))))))))))))))))))) m = absurd (m .2 refl)
-drops k s (suc (suc (suc (suc (suc (suc (suc (suc (suc (suc (suc (suc (suc (suc (suc (suc (suc (suc (suc (suc (suc zero))))))))))))))))))))) m = absurd (m .3 refl)
-drops k s (suc (suc (suc (suc (suc (suc (suc (suc (suc (suc (suc (suc (suc (suc (suc (suc (suc (suc (suc (suc (suc (suc zero)))))))))))))))))))))) m = absurd (m .4 refl)
-drops k s (suc (suc (suc (suc (suc (suc (suc (suc (suc (suc (suc (suc (suc (suc (suc (suc (suc (suc (suc (suc (suc (suc (suc zero))))))))))))))))))))))) m = absurd (m .5 refl)
-drops k s (suc (suc (suc (suc (suc (suc (suc (suc (suc (suc (suc (suc (suc (suc (suc (suc (suc (suc (suc (suc (suc (suc (suc (suc zero)))))))))))))))))))))))) m = absurd (m .6 refl)
-drops k s (suc (suc (suc (suc (suc (suc (suc (suc (suc (suc (suc (suc (suc (suc (suc (suc (suc (suc (suc (suc (suc (suc (suc (suc (suc zero))))))))))))))))))))))))) m = absurd (m .7 refl)
-drops k s (suc (suc (suc (suc (suc (suc (suc (suc (suc (suc (suc (suc (suc (suc (suc (suc (suc (suc (suc (suc (suc (suc (suc (suc (suc (suc zero)))))))))))))))))))))))))) m = absurd (m .8 refl)
-drops k s (suc (suc (suc (suc (suc (suc (suc (suc (suc (suc (suc (suc (suc (suc (suc (suc (suc (suc (suc (suc (suc (suc (suc (suc (suc (suc (suc zero))))))))))))))))))))))))))) m = absurd (m .9 refl)
-drops k s (suc (suc (suc (suc (suc (suc (suc (suc (suc (suc (suc (suc (suc (suc (suc (suc (suc (suc (suc (suc (suc (suc (suc (suc (suc (suc (suc (suc n)))))))))))))))))))))))))))) m = λ before h R behind v. not-there
+-- what is the plan of its rule wherever the rule applies makes what the rule answers
+answering : {n : ℕ} {k : List ℕ} {s : Shape} {p : Plan} → (n ≡ 20 → p .ways ≡ Monomials) → Is (memAnswer n) k s (membershipPlan n k s) p → Answered n k s p
+answering {n} {k} {s} {p} m e =
+    record {
+      whole = e;
+      monomials = m;
+      results = λ z before h R behind v. record {
+        results = λ bs a.
+            ap (resultsOf k) (e h R (record { before = before; behind = behind; shown = v; results = bs; answer = a })) ∙ plan-law k s n z before h R behind v .results bs a;
+      };
+    }
 
-pub drop-plans : (k : List ℕ) (s : Shape) (n : ℕ) → Others n → Answered n k s (planBare Drop)
-drop-plans k s n m = record { monomials = λ e. absurd (m .2 e); results = λ _. drops k s n m }
+-- the plan of a place is known, and the place, which is not M2's
+pub for-rank : {n : ℕ} {k : List ℕ} {s : Shape} {p : Plan} (m : ℕ) → n ≡ m → (m ≡ 20 → ⊥) → Is (memAnswer m) k s (membershipPlan m k s) p → Answered n k s p
+for-rank {n} {k} {s} {p} m e z d = answering (λ q. absurd (z (sym e ∙ q))) (subst (λ (i : ℕ). Is (memAnswer i) k s (membershipPlan i k s) p) (sym e) d)
+
+-- ---- the rule and the plan of each place
+
+module _ {k : List ℕ} {s : Shape} {p : Plan} where
+  pub at-1 : Is R2 k s (λ R. r2Plan s) p → Is (memAnswer 1) k s (membershipPlan 1 k s) p
+  unfolding memAnswer membershipPlan
+  at-1 d = d
+
+  pub at-19 : Is M1 k s (λ R. m1Plan k s) p → Is (memAnswer 19) k s (membershipPlan 19 k s) p
+  unfolding memAnswer membershipPlan
+  at-19 d = d
+
+  pub at-21 : Is M3 k s (λ R. m3Plan s) p → Is (memAnswer 21) k s (membershipPlan 21 k s) p
+  unfolding memAnswer membershipPlan
+  at-21 d = d
+
+  pub at-22 : Is M4 k s (λ R. m4Plan k s) p → Is (memAnswer 22) k s (membershipPlan 22 k s) p
+  unfolding memAnswer membershipPlan
+  at-22 d = d
+
+  pub at-23 : Is M5 k s (λ R. shared s (exprInner k s .from) (midOf k s R)) p → Is (memAnswer 23) k s (membershipPlan 23 k s) p
+  unfolding memAnswer membershipPlan
+  at-23 d = d
+
+  pub at-24 : Is M6 k s (λ R. halved s (exprInner k s .from) (midOf k s R)) p → Is (memAnswer 24) k s (membershipPlan 24 k s) p
+  unfolding memAnswer membershipPlan
+  at-24 d = d
+
+  pub at-25 : Is M7 k s (λ R. halved s (exprInner k s .from) (midOf k s R)) p → Is (memAnswer 25) k s (membershipPlan 25 k s) p
+  unfolding memAnswer membershipPlan
+  at-25 d = d
+
+  pub at-26 : Is M10 k s (λ R. m10Plan k s) p → Is (memAnswer 26) k s (membershipPlan 26 k s) p
+  unfolding memAnswer membershipPlan
+  at-26 d = d
+
+  pub at-27 : Is M11 k s (λ R. m11Plan k s) p → Is (memAnswer 27) k s (membershipPlan 27 k s) p
+  unfolding memAnswer membershipPlan
+  at-27 d = d
+
+  by-monomials : p ≡ single Monomials blankRecipe → Is (memAnswer 20) k s (membershipPlan 20 k s) p
+  unfolding membershipPlan
+  by-monomials e h R a = e
+
+  pub at-20 : {n : ℕ} → n ≡ 20 → p ≡ single Monomials blankRecipe → Answered n k s p
+  at-20 {n} d e = answering (λ _. ap (λ (q : Plan). q .ways) e) (subst (λ (i : ℕ). Is (memAnswer i) k s (membershipPlan i k s) p) (sym d) (by-monomials e))
+
+  by-default : {n : ℕ} → (n ≡ 1 → ⊥) → (n ≡ 19 → ⊥) → (n ≡ 20 → ⊥) → (n ≡ 21 → ⊥) → (n ≡ 22 → ⊥) → (n ≡ 23 → ⊥) → (n ≡ 24 → ⊥) → (n ≡ 25 → ⊥) → (n ≡ 26 → ⊥) → (n ≡ 27 → ⊥) → p ≡ dropPlan → Is (memAnswer n) k s (membershipPlan n k s) p
+  unfolding membershipPlan
+  by-default {n} h1 h19 h20 h21 h22 h23 h24 h25 h26 h27 e h R a =
+      rw (ne-eqb n 1 h1, ne-eqb n 19 h19, ne-eqb n 20 h20, ne-eqb n 21 h21, ne-eqb n 22 h22, ne-eqb n 23 h23, ne-eqb n 24 h24, ne-eqb n 25 h25, ne-eqb n 26 h26, ne-eqb n 27 h27) e
+
+  pub dropped : {n : ℕ} → (n ≡ 1 → ⊥) → (n ≡ 19 → ⊥) → (n ≡ 20 → ⊥) → (n ≡ 21 → ⊥) → (n ≡ 22 → ⊥) → (n ≡ 23 → ⊥) → (n ≡ 24 → ⊥) → (n ≡ 25 → ⊥) → (n ≡ 26 → ⊥) → (n ≡ 27 → ⊥) → p ≡ dropPlan → Answered n k s p
+  dropped h1 h19 h20 h21 h22 h23 h24 h25 h26 h27 e = answering (λ q. absurd (h20 q)) (by-default h1 h19 h20 h21 h22 h23 h24 h25 h26 h27 e)

@@ -4,3 +4,4 @@ pub mod Parts
 pub mod Plain
 pub mod Eliminating
 pub mod Dispatch
+pub mod Determined

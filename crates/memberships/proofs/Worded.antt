@@ -1,11 +1,10 @@
 -- The tree of decisions by the words that a membership shows.
-use Prim.Native.Nat.{ℕ, _+_, _<_}
+use Prim.Native.Nat.{ℕ, _+_}
 use mathlib.Core.Path.{_≡_, refl, sym, ap, _∙_}
-use mathlib.Core.Bool.{Bool, true, false}
+use mathlib.Core.Bool.{Bool}
 use mathlib.Core.List.{List, _++_}
 use native.Mathlib.Omega.{arith}
-use lib.Dec.{eqb, leb}
-use lib.ListN.{length, getD}
+use lib.ListN.{getD}
 use borrow.Author.Tests.{ne-eqb, le-leb, lt-leb}
 use Rattle.language.specs.declared.Sym.{Sym}
 use Rattle.language.specs.Kinds.{pick}
@@ -22,7 +21,7 @@ use Rattle.plans.specs.Ranks.{memRank}
 use Rattle.views.specs.Standing.{Stands}
 use Rattle.views.proofs.Members.{eqb-base}
 use Rattle.views.proofs.Sides.{side-stands}
-use Rattle.views.proofs.Looks.{is-empty, IsTerm, is-term, IsRun, is-run, IsNode, is-node}
+use Rattle.views.proofs.Looks.{is-empty, is-term, is-run, is-node}
 use Rattle.exprs.specs.Standing.{Here}
 use Rattle.memberships.specs.Rank.{overRank, termRank, runRank, rankIn, overBy, termBy, runBy}
 use Rattle.memberships.proofs.Decisions.{rank-law}

@@ -1,2 +1,3 @@
 pub mod Rank
+pub mod Recipes
 pub mod Planned

@@ -1,7 +1,7 @@
 -- The first rule at a membership as a tree of decisions: by how the hedge begins and by the expression, and then by single tests.
 -- The numbers are the rules' places in their list; 28 is none of them.
-use Prim.Native.Nat.{ℕ, _+_}
-use mathlib.Core.Bool.{Bool, true, false}
+use Prim.Native.Nat.{ℕ}
+use mathlib.Core.Bool.{Bool}
 use lib.Dec.{eqb, leb}
 use Rattle.language.specs.declared.Sym.{Sym}
 use Rattle.language.specs.Kinds.{pick}

@@ -1,57 +1,25 @@
 // What each rule of memberships makes of the words: its results, described by parts of them.
-ghost use Prim.Native.Nat.{ℕ, _+_, _-_, _<_};
 ghost use mathlib.Core.Path.{_≡_};
-ghost use lib.ListN.{length};
-ghost use Rattle.rules.specs.Rules.{R2, M1, M3, M4, M5, M10, M11};
-ghost use Rattle.plans.specs.declared.Ways.the-variants.{One, Two};
-ghost use Rattle.memberships.specs.Planned.{recipeBy, inSlots, planOf, planBare, PlansIn, Halves, Answered};
+ghost use Rattle.rules.specs.Rules.{M5, M6, M7};
+ghost use Rattle.plans.specs.Slots.{blankRecipe, single};
+ghost use Rattle.memberships.specs.Recipes.{r2Plan, vanished, m1Plan, m3First, m3Second, m3Plan, memberIn, m4Plan, m11Plan, m5First, m5Second, shared, halved, named, m10Plan, exprInner, midOf};
+ghost use Rattle.memberships.specs.Planned.{Is, Answered};
 use plans::Piece;
 use plans::Plan;
 use plans::Recipe;
 use plans::Shape;
 use plans::Side;
-use plans::Slot;
 use plans::Ways;
-
-// The next place, within the words.
-fn forth(k: &[u16], i: usize) -> usize
-    ensures { λ r. ⌜ (i < length (now (k .entry)) → r ≡ i + 1) ⌝ }
-{
-    if i < k.len() { i + 1 } else { i }
-}
-
-// One place back.
-fn back(i: usize) -> usize
-    ensures { λ r. ⌜ r ≡ i - 1 ⌝ }
-{
-    if i == 0 { 0 } else { i - 1 }
-}
-
-// A recipe that replaces nothing.
-fn plain(slots: [Slot; 12]) -> Recipe
-    ensures { λ r. ⌜ r ≡ recipeBy slots 0 0 0 ⌝ }
-{
-    Recipe {
-        slots,
-        old: 0,
-        until: 0,
-        new: 0,
-    }
-}
+use plans::few;
+use plans::full;
+use plans::inner;
 
 // A plan without a piece.
 fn bare(ways: Ways) -> Plan
-    ensures { λ p. ⌜ p ≡ planBare ways ⌝ }
+    ensures { λ p. ⌜ p ≡ single ways blankRecipe ⌝ }
 {
-    let slots = [Slot {
-        piece: Piece::Copy(0, 0),
-    }; 12];
-    let first = Recipe {
-        slots,
-        old: 0,
-        until: 0,
-        new: 0,
-    };
+    let none = Piece::Copy(0, 0);
+    let first = few(none, none, none, none, none, 0, 0, 0);
     Plan {
         ways,
         first,
@@ -59,21 +27,124 @@ fn bare(ways: Ways) -> Plan
     }
 }
 
-// One result.
-fn single(first: Recipe, cut: usize) -> Plan
-    ensures { λ p. ⌜ p ≡ planOf (One cut) first first ⌝ }
+// One membership: the hedge from..to in the expression start..end.
+fn member_in(s: Shape, from: usize, to: usize, start: usize, end: usize) -> Recipe
+    ensures { λ r. ⌜ r ≡ memberIn s from to start end ⌝ }
 {
+    few(
+        Piece::Copy(0, s.at),
+        Piece::Word(6000),
+        Piece::Copy(from, to),
+        Piece::Copy(start, end),
+        Piece::Copy(s.end, s.len),
+        0,
+        0,
+        0,
+    )
+}
+
+// The literal is removed.
+fn plan_r2(s: Shape) -> Plan
+    ensures { λ p. ⌜ p ≡ r2Plan s ⌝ }
+{
+    let none = Piece::Copy(0, 0);
+    let first = few(
+        Piece::Copy(0, s.at),
+        Piece::Copy(s.end, s.len),
+        none,
+        none,
+        none,
+        0,
+        0,
+        0,
+    );
     Plan {
-        ways: Ways::One(cut),
+        ways: Ways::One(0),
         first,
         second: first,
     }
 }
 
-// Two results.
-fn two(first: Recipe, second: Recipe) -> Plan
-    ensures { λ p. ⌜ p ≡ planOf Two first second ⌝ }
+// p = ε for each place of a hedge variable, which vanishes everywhere else.
+fn plan_m1(k: &[u16], s: Shape) -> Plan
+    ensures { λ p. ⌜ p ≡ m1Plan (now (k .entry)) s ⌝ }
 {
+    let h = s.h;
+    let part = inner(k, h.from, h.to);
+    let none = Piece::Copy(0, 0);
+    let first = few(
+        Piece::Put(0, s.at),
+        Piece::Each(h.from, part.to),
+        Piece::Put(s.end, s.len),
+        none,
+        none,
+        h.from,
+        part.to,
+        0,
+    );
+    Plan {
+        ways: Ways::One(0),
+        first,
+        second: first,
+    }
+}
+
+// p in f(R), H = ε.
+fn first_in(s: Shape) -> Recipe
+    ensures { λ r. ⌜ r ≡ m3First s ⌝ }
+{
+    let h = s.h;
+    let none = Piece::Copy(0, 0);
+    full(
+        Piece::Copy(0, s.at),
+        Piece::Word(6000),
+        Piece::Copy(h.from, h.rest),
+        Piece::Word(0),
+        Piece::Copy(s.expr, s.end),
+        Piece::Word(5000),
+        Piece::Copy(h.rest, h.to),
+        Piece::Word(0),
+        Piece::Copy(s.end, s.len),
+        none,
+        none,
+        none,
+        0,
+        0,
+        0,
+    )
+}
+
+// p = ε, H in f(R).
+fn rest_in(s: Shape) -> Recipe
+    ensures { λ r. ⌜ r ≡ m3Second s ⌝ }
+{
+    let h = s.h;
+    let none = Piece::Copy(0, 0);
+    full(
+        Piece::Copy(0, s.at),
+        Piece::Word(5000),
+        Piece::Copy(h.from, h.rest),
+        Piece::Word(0),
+        Piece::Word(0),
+        Piece::Word(6000),
+        Piece::Copy(h.rest, h.to),
+        Piece::Copy(s.expr, s.end),
+        Piece::Copy(s.end, s.len),
+        none,
+        none,
+        none,
+        0,
+        0,
+        0,
+    )
+}
+
+// p in f(R), H = ε; or p = ε, H in f(R).
+fn plan_m3(s: Shape) -> Plan
+    ensures { λ p. ⌜ p ≡ m3Plan s ⌝ }
+{
+    let first = first_in(s);
+    let second = rest_in(s);
     Plan {
         ways: Ways::Two,
         first,
@@ -81,411 +152,145 @@ fn two(first: Recipe, second: Recipe) -> Plan
     }
 }
 
-// One membership: the hedge from..to in the expression start..end.
-fn member_in(s: Shape, from: usize, to: usize, start: usize, end: usize) -> Recipe
-    ensures { λ r. ⌜ r ≡ recipeBy (inSlots s from to start end) 0 0 0 ⌝ }
-{
-    let slots = [
-        Slot {
-            piece: Piece::Copy(0, s.at),
-        },
-        Slot {
-            piece: Piece::Word(6000),
-        },
-        Slot {
-            piece: Piece::Copy(from, to),
-        },
-        Slot {
-            piece: Piece::Copy(start, end),
-        },
-        Slot {
-            piece: Piece::Copy(s.end, s.len),
-        },
-        Slot {
-            piece: Piece::Copy(0, 0),
-        },
-        Slot {
-            piece: Piece::Copy(0, 0),
-        },
-        Slot {
-            piece: Piece::Copy(0, 0),
-        },
-        Slot {
-            piece: Piece::Copy(0, 0),
-        },
-        Slot {
-            piece: Piece::Copy(0, 0),
-        },
-        Slot {
-            piece: Piece::Copy(0, 0),
-        },
-        Slot {
-            piece: Piece::Copy(0, 0),
-        },
-    ];
-    Recipe {
-        slots,
-        old: 0,
-        until: 0,
-        new: 0,
-    }
-}
-
-// The literal is removed.
-fn plan_r2(k: &[u16], s: Shape) -> Plan
-    ensures { λ p. ⌜ PlansIn R2 (now (k .entry)) s p ⌝ }
-{
-    let slots = [
-        Slot {
-            piece: Piece::Copy(0, s.at),
-        },
-        Slot {
-            piece: Piece::Copy(s.end, s.len),
-        },
-        Slot {
-            piece: Piece::Copy(0, 0),
-        },
-        Slot {
-            piece: Piece::Copy(0, 0),
-        },
-        Slot {
-            piece: Piece::Copy(0, 0),
-        },
-        Slot {
-            piece: Piece::Copy(0, 0),
-        },
-        Slot {
-            piece: Piece::Copy(0, 0),
-        },
-        Slot {
-            piece: Piece::Copy(0, 0),
-        },
-        Slot {
-            piece: Piece::Copy(0, 0),
-        },
-        Slot {
-            piece: Piece::Copy(0, 0),
-        },
-        Slot {
-            piece: Piece::Copy(0, 0),
-        },
-        Slot {
-            piece: Piece::Copy(0, 0),
-        },
-    ];
-    single(plain(slots), 0)
-}
-
-// p = ε for each place of a hedge variable, which vanishes everywhere else.
-fn plan_m1(k: &[u16], s: Shape) -> Plan
-    ensures { λ p. ⌜ PlansIn M1 (now (k .entry)) s p ⌝ }
-{
-    let h = s.h;
-    let last = back(h.to);
-    let slots = [
-        Slot {
-            piece: Piece::Put(0, s.at),
-        },
-        Slot {
-            piece: Piece::Each(h.from, last),
-        },
-        Slot {
-            piece: Piece::Put(s.end, s.len),
-        },
-        Slot {
-            piece: Piece::Copy(0, 0),
-        },
-        Slot {
-            piece: Piece::Copy(0, 0),
-        },
-        Slot {
-            piece: Piece::Copy(0, 0),
-        },
-        Slot {
-            piece: Piece::Copy(0, 0),
-        },
-        Slot {
-            piece: Piece::Copy(0, 0),
-        },
-        Slot {
-            piece: Piece::Copy(0, 0),
-        },
-        Slot {
-            piece: Piece::Copy(0, 0),
-        },
-        Slot {
-            piece: Piece::Copy(0, 0),
-        },
-        Slot {
-            piece: Piece::Copy(0, 0),
-        },
-    ];
-    let first = Recipe {
-        slots,
-        old: h.from,
-        until: last,
-        new: 0,
-    };
-    single(first, 0)
-}
-
-// p in f(R), H = ε; or p = ε, H in f(R).
-fn plan_m3(k: &[u16], s: Shape) -> Plan
-    ensures { λ p. ⌜ PlansIn M3 (now (k .entry)) s p ⌝ }
-{
-    let h = s.h;
-    let first = [
-        Slot {
-            piece: Piece::Copy(0, s.at),
-        },
-        Slot {
-            piece: Piece::Word(6000),
-        },
-        Slot {
-            piece: Piece::Copy(h.from, h.rest),
-        },
-        Slot {
-            piece: Piece::Word(0),
-        },
-        Slot {
-            piece: Piece::Copy(s.expr, s.end),
-        },
-        Slot {
-            piece: Piece::Word(5000),
-        },
-        Slot {
-            piece: Piece::Copy(h.rest, h.to),
-        },
-        Slot {
-            piece: Piece::Word(0),
-        },
-        Slot {
-            piece: Piece::Copy(s.end, s.len),
-        },
-        Slot {
-            piece: Piece::Copy(0, 0),
-        },
-        Slot {
-            piece: Piece::Copy(0, 0),
-        },
-        Slot {
-            piece: Piece::Copy(0, 0),
-        },
-    ];
-    let second = [
-        Slot {
-            piece: Piece::Copy(0, s.at),
-        },
-        Slot {
-            piece: Piece::Word(5000),
-        },
-        Slot {
-            piece: Piece::Copy(h.from, h.rest),
-        },
-        Slot {
-            piece: Piece::Word(0),
-        },
-        Slot {
-            piece: Piece::Word(0),
-        },
-        Slot {
-            piece: Piece::Word(6000),
-        },
-        Slot {
-            piece: Piece::Copy(h.rest, h.to),
-        },
-        Slot {
-            piece: Piece::Copy(s.expr, s.end),
-        },
-        Slot {
-            piece: Piece::Copy(s.end, s.len),
-        },
-        Slot {
-            piece: Piece::Copy(0, 0),
-        },
-        Slot {
-            piece: Piece::Copy(0, 0),
-        },
-        Slot {
-            piece: Piece::Copy(0, 0),
-        },
-    ];
-    two(plain(first), plain(second))
-}
-
 // t in R.
 fn plan_m4(k: &[u16], s: Shape) -> Plan
-    ensures { λ p. ⌜ PlansIn M4 (now (k .entry)) s p ⌝ }
+    ensures { λ p. ⌜ p ≡ m4Plan (now (k .entry)) s ⌝ }
 {
     let h = s.h;
-    let start = forth(k, s.expr);
-    single(member_in(s, h.from, h.to, start, s.end), 0)
-}
-
-// t in R1, ε in R2; or ε in R1, t in R2.
-fn plan_m5(k: &[u16], s: Shape) -> Plan
-    ensures { λ p. ⌜ PlansIn M5 (now (k .entry)) s p ⌝ }
-{
-    let h = s.h;
-    let start = forth(k, s.expr);
-    let part = exprs::pass(k, start);
-    let mid = part.end;
-    let first = [
-        Slot {
-            piece: Piece::Copy(0, s.at),
-        },
-        Slot {
-            piece: Piece::Word(6000),
-        },
-        Slot {
-            piece: Piece::Copy(h.from, h.to),
-        },
-        Slot {
-            piece: Piece::Copy(start, mid),
-        },
-        Slot {
-            piece: Piece::Word(6000),
-        },
-        Slot {
-            piece: Piece::Word(0),
-        },
-        Slot {
-            piece: Piece::Copy(mid, s.end),
-        },
-        Slot {
-            piece: Piece::Copy(s.end, s.len),
-        },
-        Slot {
-            piece: Piece::Copy(0, 0),
-        },
-        Slot {
-            piece: Piece::Copy(0, 0),
-        },
-        Slot {
-            piece: Piece::Copy(0, 0),
-        },
-        Slot {
-            piece: Piece::Copy(0, 0),
-        },
-    ];
-    let second = [
-        Slot {
-            piece: Piece::Copy(0, s.at),
-        },
-        Slot {
-            piece: Piece::Word(6000),
-        },
-        Slot {
-            piece: Piece::Word(0),
-        },
-        Slot {
-            piece: Piece::Copy(start, mid),
-        },
-        Slot {
-            piece: Piece::Word(6000),
-        },
-        Slot {
-            piece: Piece::Copy(h.from, h.to),
-        },
-        Slot {
-            piece: Piece::Copy(mid, s.end),
-        },
-        Slot {
-            piece: Piece::Copy(s.end, s.len),
-        },
-        Slot {
-            piece: Piece::Copy(0, 0),
-        },
-        Slot {
-            piece: Piece::Copy(0, 0),
-        },
-        Slot {
-            piece: Piece::Copy(0, 0),
-        },
-        Slot {
-            piece: Piece::Copy(0, 0),
-        },
-    ];
-    two(plain(first), plain(second))
-}
-
-// The hedge in R1; or in R2.
-fn halves(k: &[u16], s: Shape) -> Plan
-    ensures { λ p. ⌜ Halves (now (k .entry)) s p ⌝ }
-{
-    let h = s.h;
-    let start = forth(k, s.expr);
-    let part = exprs::pass(k, start);
-    let mid = part.end;
-    two(
-        member_in(s, h.from, h.to, start, mid),
-        member_in(s, h.from, h.to, mid, s.end),
-    )
-}
-
-// X() = f(), f(H) in f(R).
-fn plan_m10(k: &[u16], s: Shape) -> Plan
-    ensures { λ p. ⌜ PlansIn M10 (now (k .entry)) s p ⌝ }
-{
-    let h = s.h;
-    let until = forth(k, h.from);
-    let cut = forth(k, s.expr);
-    let slots = [
-        Slot {
-            piece: Piece::Put(0, s.at),
-        },
-        Slot {
-            piece: Piece::Word(5000),
-        },
-        Slot {
-            piece: Piece::Copy(h.from, until),
-        },
-        Slot {
-            piece: Piece::Word(0),
-        },
-        Slot {
-            piece: Piece::Word(0),
-        },
-        Slot {
-            piece: Piece::Copy(s.expr, cut),
-        },
-        Slot {
-            piece: Piece::Word(0),
-        },
-        Slot {
-            piece: Piece::Word(0),
-        },
-        Slot {
-            piece: Piece::Word(6000),
-        },
-        Slot {
-            piece: Piece::Put(h.from, h.to),
-        },
-        Slot {
-            piece: Piece::Copy(s.expr, s.end),
-        },
-        Slot {
-            piece: Piece::Put(s.end, s.len),
-        },
-    ];
-    let first = Recipe {
-        slots,
-        old: h.from,
-        until,
-        new: s.expr,
-    };
-    single(first, cut)
+    let part = inner(k, s.expr, s.end);
+    let first = member_in(s, h.from, h.to, part.from, s.end);
+    Plan {
+        ways: Ways::One(0),
+        first,
+        second: first,
+    }
 }
 
 // H in R.
 fn plan_m11(k: &[u16], s: Shape) -> Plan
-    ensures { λ p. ⌜ PlansIn M11 (now (k .entry)) s p ⌝ }
+    ensures { λ p. ⌜ p ≡ m11Plan (now (k .entry)) s ⌝ }
 {
     let h = s.h;
-    let from = forth(k, h.from);
-    let to = back(h.to);
-    let start = forth(k, s.expr);
-    single(member_in(s, from, to, start, s.end), 0)
+    let children = inner(k, h.from, h.to);
+    let part = inner(k, s.expr, s.end);
+    let first = member_in(s, children.from, children.to, part.from, s.end);
+    Plan {
+        ways: Ways::One(0),
+        first,
+        second: first,
+    }
+}
+
+// t in R1, ε in R2.
+fn in_first(s: Shape, start: usize, mid: usize) -> Recipe
+    ensures { λ r. ⌜ r ≡ m5First s start mid ⌝ }
+{
+    let h = s.h;
+    let none = Piece::Copy(0, 0);
+    full(
+        Piece::Copy(0, s.at),
+        Piece::Word(6000),
+        Piece::Copy(h.from, h.to),
+        Piece::Copy(start, mid),
+        Piece::Word(6000),
+        Piece::Word(0),
+        Piece::Copy(mid, s.end),
+        Piece::Copy(s.end, s.len),
+        none,
+        none,
+        none,
+        none,
+        0,
+        0,
+        0,
+    )
+}
+
+// ε in R1, t in R2.
+fn in_second(s: Shape, start: usize, mid: usize) -> Recipe
+    ensures { λ r. ⌜ r ≡ m5Second s start mid ⌝ }
+{
+    let h = s.h;
+    let none = Piece::Copy(0, 0);
+    full(
+        Piece::Copy(0, s.at),
+        Piece::Word(6000),
+        Piece::Word(0),
+        Piece::Copy(start, mid),
+        Piece::Word(6000),
+        Piece::Copy(h.from, h.to),
+        Piece::Copy(mid, s.end),
+        Piece::Copy(s.end, s.len),
+        none,
+        none,
+        none,
+        none,
+        0,
+        0,
+        0,
+    )
+}
+
+// t in R1, ε in R2; or ε in R1, t in R2.
+fn plan_m5(k: &[u16], s: Shape) -> Plan
+    ensures { λ p. ⌜ Is M5 (now (k .entry)) s (λ R. shared s (exprInner (now (k .entry)) s .from) (midOf (now (k .entry)) s R)) p ⌝ }
+{
+    let within = inner(k, s.expr, s.end);
+    let part = exprs::pass(k, within.from);
+    let first = in_first(s, within.from, part.end);
+    let second = in_second(s, within.from, part.end);
+    Plan {
+        ways: Ways::Two,
+        first,
+        second,
+    }
+}
+
+// The hedge in R1; or in R2.
+fn halves(k: &[u16], s: Shape) -> Plan
+    ensures { λ p. ⌜ Is M6 (now (k .entry)) s (λ R. halved s (exprInner (now (k .entry)) s .from) (midOf (now (k .entry)) s R)) p × Is M7 (now (k .entry)) s (λ R. halved s (exprInner (now (k .entry)) s .from) (midOf (now (k .entry)) s R)) p ⌝ }
+{
+    let h = s.h;
+    let within = inner(k, s.expr, s.end);
+    let part = exprs::pass(k, within.from);
+    let first = member_in(s, h.from, h.to, within.from, part.end);
+    let second = member_in(s, h.from, h.to, part.end, s.end);
+    Plan {
+        ways: Ways::Two,
+        first,
+        second,
+    }
+}
+
+// X() = f(), f(H) in f(R).
+fn plan_m10(k: &[u16], s: Shape) -> Plan
+    ensures { λ p. ⌜ p ≡ m10Plan (now (k .entry)) s ⌝ }
+{
+    let h = s.h;
+    let left = inner(k, h.from, h.to);
+    let right = inner(k, s.expr, s.end);
+    let first = full(
+        Piece::Put(0, s.at),
+        Piece::Word(5000),
+        Piece::Copy(h.from, left.from),
+        Piece::Word(0),
+        Piece::Word(0),
+        Piece::Copy(s.expr, right.from),
+        Piece::Word(0),
+        Piece::Word(0),
+        Piece::Word(6000),
+        Piece::Put(h.from, h.to),
+        Piece::Copy(s.expr, s.end),
+        Piece::Put(s.end, s.len),
+        h.from,
+        left.from,
+        s.expr,
+    );
+    Plan {
+        ways: Ways::One(right.from),
+        first,
+        second: first,
+    }
 }
 
 // The results of the rule of that place in the list, where it applies; M2's are made elsewhere.
@@ -493,10 +298,10 @@ pub fn plan_membership(rank: usize, k: &[u16], s: Shape) -> Plan
     ensures { λ p. ⌜ Answered rank (now (k .entry)) s p ⌝ }
 {
     match rank {
-        1 => plan_r2(k, s),
+        1 => plan_r2(s),
         19 => plan_m1(k, s),
         20 => bare(Ways::Monomials),
-        21 => plan_m3(k, s),
+        21 => plan_m3(s),
         22 => plan_m4(k, s),
         23 => plan_m5(k, s),
         24 => halves(k, s),

@@ -3,3 +3,4 @@ pub mod Views
 pub mod Results
 pub mod Sizes
 pub mod Ranks
+pub mod Slots

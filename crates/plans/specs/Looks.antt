@@ -1,7 +1,7 @@
 -- How a hedge begins, and its words without the 0 at its end.
 use Prim.Native.Nat.{ℕ, _+_}
 use mathlib.Core.List.{List, [], _∷_, _++_}
-use Rattle.language.specs.Trees.{Functor, symbol, fvar, Hedge, ε, tvar, hvar, node}
+use Rattle.language.specs.Trees.{Hedge, ε, tvar, hvar, node}
 use Rattle.language.specs.Writing.{functorWord, hedgeWords}
 use Rattle.rules.specs.Looks.{empty}
 use Rattle.plans.specs.declared.Look.{Look}

@@ -1,10 +1,10 @@
 -- Which rule comes first at one literal: its place in the list of rules.
 use Prim.Native.Nat.{ℕ, zero, suc}
 use mathlib.Core.List.{List, [], _∷_}
-use mathlib.Core.Option.{Option, none, some}
+use mathlib.Core.Option.{none}
 use Rattle.language.specs.Kinds.{pick}
 use Rattle.language.specs.Trees.{Hedge, Expr, Conj}
-use Rattle.rules.specs.Rules.{Answer, EqRule, InRule, Rule, onEqn, onMem, rules}
+use Rattle.rules.specs.Rules.{Answer, Rule, onEqn, onMem, rules}
 use Rattle.rules.specs.Solved.{isSome}
 
 -- a rule at an equation seen from the side l, and at a membership

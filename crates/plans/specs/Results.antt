@@ -1,14 +1,13 @@
 -- What a plan makes of a conjunction's words: parts of them, copied or with words replaced, and single words.
 use Prim.Native.Nat.{ℕ, zero, suc, _+_, _-_}
-use mathlib.Core.Bool.{Bool, true, false, _||_}
+use mathlib.Core.Bool.{Bool, false, _||_}
 use mathlib.Core.List.{List, [], _∷_, _++_, map}
 use lib.Dec.{eqb, leb}
-use lib.ListN.{length, getD, drop}
+use lib.ListN.{getD, drop}
 use lib.Seq.{slice}
 use Rattle.language.specs.Kinds.{pick}
 use Rattle.plans.specs.declared.Piece.{Piece}
 use Rattle.plans.specs.declared.Piece.the-variants.{Word, Copy, Put, ToCut, PutFromCut, Each}
-use Rattle.plans.specs.declared.Slot.{Slot}
 use Rattle.plans.specs.declared.Recipe.{Recipe}
 use Rattle.plans.specs.declared.Ways.{Ways}
 use Rattle.plans.specs.declared.Ways.the-variants.{Drop, One, Two, Cuts, Monomials}

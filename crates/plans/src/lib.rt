@@ -1,4 +1,8 @@
 // How a literal is seen in a conjunction's words, and how the results of a rule are described by parts of those words.
+ghost use Prim.Native.Nat.{ℕ, _-_};
+ghost use mathlib.Core.Path.{_≡_};
+ghost use lib.ListN.{length};
+ghost use Rattle.plans.specs.Slots.{fullRecipe, fewRecipe, forthIn, innerOf};
 
 // How a hedge begins: the first word, whether nothing follows the first element, and for a functor whether it has no children.
 pub enum Look {
@@ -77,4 +81,111 @@ pub struct Plan {
 pub enum Size {
     Fits(usize),
     Over,
+}
+
+// A part of the words.
+pub struct Within {
+    pub from: usize,
+    pub to: usize,
+}
+
+// A recipe of twelve pieces.
+pub fn full(
+    a: Piece,
+    b: Piece,
+    c: Piece,
+    d: Piece,
+    e: Piece,
+    f: Piece,
+    g: Piece,
+    h: Piece,
+    i: Piece,
+    j: Piece,
+    k: Piece,
+    l: Piece,
+    old: usize,
+    until: usize,
+    new: usize,
+) -> Recipe
+    ensures { λ r. ⌜ r ≡ fullRecipe a b c d e f g h i j k l old until new ⌝ }
+{
+    let slots = [
+        Slot { piece: a },
+        Slot { piece: b },
+        Slot { piece: c },
+        Slot { piece: d },
+        Slot { piece: e },
+        Slot { piece: f },
+        Slot { piece: g },
+        Slot { piece: h },
+        Slot { piece: i },
+        Slot { piece: j },
+        Slot { piece: k },
+        Slot { piece: l },
+    ];
+    Recipe {
+        slots,
+        old,
+        until,
+        new,
+    }
+}
+
+// A recipe of five pieces: the others have no words.
+pub fn few(
+    a: Piece,
+    b: Piece,
+    c: Piece,
+    d: Piece,
+    e: Piece,
+    old: usize,
+    until: usize,
+    new: usize,
+) -> Recipe
+    ensures { λ r. ⌜ r ≡ fewRecipe a b c d e old until new ⌝ }
+{
+    let none = Piece::Copy(0, 0);
+    full(
+        a,
+        b,
+        c,
+        d,
+        e,
+        none,
+        none,
+        none,
+        none,
+        none,
+        none,
+        none,
+        old,
+        until,
+        new,
+    )
+}
+
+// The next place, within the words: past them a place need not have one.
+fn forth(k: &[u16], i: usize) -> usize
+    ensures { λ r. ⌜ r ≡ forthIn (length (now (k .entry))) i ⌝ }
+{
+    if i < k.len() { i + 1 } else { i }
+}
+
+// One place back.
+fn back(i: usize) -> usize
+    ensures { λ r. ⌜ r ≡ i - 1 ⌝ }
+{
+    if i == 0 { 0 } else { i - 1 }
+}
+
+// A part without its first and its last word.
+pub fn inner(k: &[u16], from: usize, to: usize) -> Within
+    ensures { λ r. ⌜ r ≡ innerOf (now (k .entry)) from to ⌝ }
+{
+    let start = forth(k, from);
+    let end = back(to);
+    Within {
+        from: start,
+        to: end,
+    }
 }

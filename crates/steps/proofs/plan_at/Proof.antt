@@ -15,14 +15,14 @@ returns c =
     at-equation k (b .at) (λ before l behind. (b .rank ≡ 20 → ⊥) → Planned k (c .plan-equation .result) before behind (sideAnswer (b .swap) (b .rank) (before ++ behind) l)) (c .before .before .before .before .if1 .taken)
     λ before l r behind p n.
     let s = c .before .before .before .see .ensures .0 before l r behind p in
-    rw (c .before .before .if2 .taken) (c .plan-equation .ensures before behind r l (c .before .swapped .ensures .0 k before behind l r s))
+    rw (c .before .before .if2 .taken) (c .plan-equation .ensures .results before behind r l (c .before .swapped .ensures .0 k before behind l r s))
 
 returns-2 : tie.Need-returns-2
 returns-2 c =
     let b = c .before .before .before .before .before .before .args .b in
     let k = c .before .before .before .before .before .before .args .k .now in
     at-equation k (b .at) (λ before l behind. (b .rank ≡ 20 → ⊥) → Planned k (c .plan-equation2 .result) before behind (sideAnswer (b .swap) (b .rank) (before ++ behind) l)) (c .before .before .before .if1 .taken)
-    λ before l r behind p n. rw (c .before .if2 .left) (c .plan-equation2 .ensures before behind l r (c .before .before .see .ensures .0 before l r behind p))
+    λ before l r behind p n. rw (c .before .if2 .left) (c .plan-equation2 .ensures .results before behind l r (c .before .before .see .ensures .0 before l r behind p))
 
 returns-3 : tie.Need-returns-3
 returns-3 c =

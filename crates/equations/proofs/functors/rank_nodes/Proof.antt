@@ -1,9 +1,7 @@
 -- The tests on two sides that begin with functors lead to their rank.
 use borrow.Author.Needs.{needs}
-use mathlib.Core.Path.{sym, ap, _∙_}
-use mathlib.Core.Bool.{_&&_}
+use mathlib.Core.Path.{sym, _∙_}
 use mathlib.Core.List.{_++_}
-use Rattle.rules.specs.Looks.{empty}
 use Rattle.views.proofs.Same.{same-sides}
 use Rattle.equations.proofs.Looked.{node-parts, both}
 use Rattle.equations.proofs.Nodes.{nodes-same, nodes-longer, nodes-single}

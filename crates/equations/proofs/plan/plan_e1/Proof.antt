@@ -1,24 +1,15 @@
--- What the plan makes is what the rule answers.
+-- By the part within the right side.
 use borrow.Author.Needs.{needs}
-use mathlib.Core.Path.{sym, subst}
-use Rattle.rules.specs.Rules.{E1}
-use Rattle.equations.specs.Planned.{Plans}
-use Rattle.equations.proofs.Eliminating.{e1-plans}
-use Rattle.equations.proofs.Plain.{via-slots}
+use mathlib.Core.Path.{ap, _∙_}
+use Rattle.plans.specs.declared.Within.{Within}
+use Rattle.equations.specs.Recipes.{eliminated}
 use Rattle.equations.proofs.plan.plan_e1.Statement.{statement}
 use Rattle.equations.proofs.plan.plan_e1.Tie as tie
 
-back-requires : tie.Need-back-requires
-back-requires c κs = search needs
-
-few-requires : tie.Need-few-requires
-few-requires c κs = search needs
-
-plan-by-requires : tie.Need-plan-by-requires
-plan-by-requires c κs = search needs
-
 returns : tie.Need-returns
-returns c = let a = c .before .before .before .before .before .before .args in subst (Plans E1 (a .k .now) (a .v)) (sym (via-slots (c .before .few .ensures) (c .plan-by .ensures))) (e1-plans (a .k .now) (a .v) _ (c .before .before .back .ensures))
+returns c =
+    let a = c .before .before .before .before .before .args in
+    c .eliminate .ensures ∙ ap (λ (b : Within). eliminated (a .v) (a .v .l .rest) (b .to)) (c .before .inner .ensures)
 
 pub plan-e1-spec : {M : Type 1} → statement M
-plan-e1-spec = tie.close (tie.spec back-requires few-requires plan-by-requires returns)
+plan-e1-spec = tie.close (tie.spec (λ c κs. search needs) (λ c κs. search needs) returns)

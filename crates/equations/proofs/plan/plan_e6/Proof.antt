@@ -1,23 +1,16 @@
--- What the plan makes is what the rule answers.
+-- By the parts within the sides.
 use borrow.Author.Needs.{needs}
-use mathlib.Core.Path.{sym, subst}
-use Rattle.rules.specs.Rules.{E6}
-use Rattle.equations.specs.Planned.{Plans}
-use Rattle.equations.proofs.Eliminating.{e6-plans}
+use mathlib.Core.Path.{ap}
+use Rattle.plans.specs.Slots.{single}
+use Rattle.equations.specs.Recipes.{functored}
+use Rattle.equations.proofs.Plain.{by-parts}
 use Rattle.equations.proofs.plan.plan_e6.Statement.{statement}
 use Rattle.equations.proofs.plan.plan_e6.Tie as tie
 
-forth-requires : tie.Need-forth-requires
-forth-requires c κs = search needs
-
-forth-requires-2 : tie.Need-forth-requires-2
-forth-requires-2 c κs = search needs
-
-plan-by-requires : tie.Need-plan-by-requires
-plan-by-requires c κs = search needs
-
 returns : tie.Need-returns
-returns c = let a = c .before .before .before .before .before .before .args in subst (Plans E6 (a .k .now) (a .v)) (sym (c .plan-by .ensures)) (e6-plans (a .k .now) (a .v) _ _ (c .before .before .forth .ensures) (c .before .forth2 .ensures))
+returns c =
+    let a = c .before .before .before .before .before .before .args in
+    by-parts (functored (a .v)) (ap (single _) (c .full .ensures)) (c .before .before .inner .ensures) (c .before .inner2 .ensures)
 
 pub plan-e6-spec : {M : Type 1} → statement M
-plan-e6-spec = tie.close (tie.spec forth-requires forth-requires-2 plan-by-requires returns)
+plan-e6-spec = tie.close (tie.spec (λ c κs. search needs) (λ c κs. search needs) (λ c κs. search needs) returns)

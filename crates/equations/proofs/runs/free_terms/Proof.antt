@@ -1,7 +1,6 @@
 -- Terms alone, and then the word of p.
 use borrow.Author.Needs.{needs}
-use mathlib.Core.Path.{sym, subst, _∙_}
-use mathlib.Core.List.{_++_}
+use mathlib.Core.Path.{sym, _∙_}
 use Rattle.views.proofs.Sides.{side-stands}
 use Rattle.equations.proofs.Leading.{run-held, terms-held, terms-free, terms-not}
 use Rattle.equations.proofs.runs.free_terms.Statement.{statement}

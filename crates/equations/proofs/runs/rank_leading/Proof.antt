@@ -1,7 +1,6 @@
 -- The tests in their order lead to the rank.
 use borrow.Author.Needs.{needs}
-use mathlib.Core.Path.{sym, subst, _∙_}
-use mathlib.Core.List.{_++_}
+use mathlib.Core.Path.{sym, _∙_}
 use Rattle.views.proofs.Sides.{side-stands}
 use Rattle.equations.proofs.Leading.{leading-cuts, leading-up-to, leading-open}
 use Rattle.equations.proofs.runs.rank_leading.Statement.{statement}

@@ -1,6 +1,6 @@
 -- A lone variable, or one in front.
 use borrow.Author.Needs.{needs}
-use mathlib.Core.Path.{sym, subst, _∙_}
+use mathlib.Core.Path.{sym, _∙_}
 use mathlib.Core.List.{_++_}
 use Rattle.equations.proofs.Looked.{run-parts}
 use Rattle.equations.proofs.Leading.{run-lonely, run-leading}

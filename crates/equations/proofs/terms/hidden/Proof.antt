@@ -1,8 +1,5 @@
 -- The test is made where nothing follows the variable.
 use borrow.Author.Needs.{needs}
-use mathlib.Core.Path.{sym, ap, _∙_}
-use mathlib.Core.Bool.{_&&_}
-use mathlib.Core.List.{_++_}
 use Rattle.language.specs.Trees.{tv}
 use Rattle.rules.specs.Looks.{under}
 use Rattle.equations.proofs.Variables.{guard-on, guard-off}

@@ -1,7 +1,6 @@
 -- The look of the right side leads to the rank.
 use borrow.Author.Needs.{needs}
-use mathlib.Core.Path.{sym, ap, _∙_}
-use mathlib.Core.Bool.{_&&_}
+use mathlib.Core.Path.{sym, _∙_}
 use mathlib.Core.List.{_++_}
 use Rattle.equations.proofs.Variables.{empty-empty, empty-term, empty-node, empty-run, empty-runs}
 use Rattle.views.proofs.Sides.{side-stands}

@@ -1,7 +1,6 @@
 -- Two lone variables are eliminated where both stand elsewhere.
 use borrow.Author.Needs.{needs}
 use mathlib.Core.Path.{sym, ap, _∙_}
-use mathlib.Core.Bool.{_&&_}
 use mathlib.Core.List.{_++_}
 use Rattle.language.specs.Kinds.{pick}
 use Rattle.equations.proofs.Looked.{both}

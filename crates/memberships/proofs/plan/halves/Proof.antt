@@ -1,23 +1,21 @@
--- What the plan makes is what the rule answers.
+-- By the place where the first part ends.
 use borrow.Author.Needs.{needs}
-use mathlib.Core.Path.{sym, ap, subst, _∙_}
-use Rattle.plans.specs.declared.Recipe.{Recipe}
-use Rattle.plans.specs.declared.Ways.the-variants.{One, Two}
-use Rattle.memberships.specs.Planned.{Halves, planOf}
-use Rattle.memberships.proofs.Plain.{halves-plans}
+use mathlib.Core.Path.{ap, subst, _∙_}
+use Rattle.plans.specs.declared.Within.{Within}
+use Rattle.exprs.specs.Standing.{Parted}
+use Rattle.memberships.specs.Recipes.{halved, exprInner}
+use Rattle.memberships.proofs.Plain.{by-two, m6-is, m7-is}
 use Rattle.memberships.proofs.plan.halves.Statement.{statement}
 use Rattle.memberships.proofs.plan.halves.Tie as tie
 
 returns : tie.Need-returns
-returns c = let a = c .before .before .before .before .before .before .before .args in subst (Halves (a .k .now) (a .s)) (sym (c .two .ensures ∙ ap (λ (r : Recipe). planOf Two r (c .before .member-in2 .result)) (c .before .before .member-in .ensures) ∙ ap (planOf Two _) (c .before .member-in2 .ensures))) (halves-plans (a .k .now) (a .s) _ (c .before .before .before .before .forth .ensures) (c .before .before .before .pass .ensures))
+returns c =
+    let a = c .before .before .before .before .before .before .args in
+    let i = c .before .before .before .inner in
+    let q = c .before .before .pass in
+    let e = by-two (c .before .member-in .ensures) (c .member-in2 .ensures) ∙ ap (λ (x : Within). halved (a .s) (x .from) (q .result .end)) (i .ensures) in
+    let p = subst (λ (x : Within). Parted (a .k .now) (x .from) (q .result)) (i .ensures) (q .ensures) in
+    (λ h R b. e ∙ m6-is p (halved (a .s) (exprInner (a .k .now) (a .s) .from)) h R b, λ h R b. e ∙ m7-is p (halved (a .s) (exprInner (a .k .now) (a .s) .from)) h R b)
 
 pub halves-spec : {M : Type 1} → statement M
-halves-spec =
-    tie.close
-    (tie.spec
-    (λ c κs. search needs)
-    (λ c κs. search needs)
-    (λ c κs. search needs)
-    (λ c κs. search needs)
-    (λ c κs. search needs)
-    returns)
+halves-spec = tie.close (tie.spec (λ c κs. search needs) (λ c κs. search needs) (λ c κs. search needs) (λ c κs. search needs) returns)

@@ -1,22 +1,16 @@
--- What the plan makes is what the rule answers.
+-- By the parts within the hedge and the expression.
 use borrow.Author.Needs.{needs}
-use mathlib.Core.Path.{sym, ap, subst, _∙_}
-use Rattle.rules.specs.Rules.{M10}
-use Rattle.plans.specs.declared.Recipe.{Recipe}
-use Rattle.plans.specs.declared.Ways.the-variants.{One, Two}
-use Rattle.memberships.specs.Planned.{PlansIn, planOf}
-use Rattle.memberships.proofs.Eliminating.{m10-plans}
+use mathlib.Core.Path.{ap}
+use Rattle.plans.specs.Slots.{single}
+use Rattle.equations.proofs.Plain.{by-parts}
+use Rattle.memberships.specs.Recipes.{named}
 use Rattle.memberships.proofs.plan.plan_m10.Statement.{statement}
 use Rattle.memberships.proofs.plan.plan_m10.Tie as tie
 
 returns : tie.Need-returns
-returns c = let a = c .before .before .before .before .before .args in subst (PlansIn M10 (a .k .now) (a .s)) (sym (c .single .ensures)) (m10-plans (a .k .now) (a .s) _ _ (c .before .before .forth .ensures) (c .before .forth2 .ensures))
+returns c =
+    let a = c .before .before .before .before .before .args in
+    by-parts (named (a .s)) (ap (single _) (c .full .ensures)) (c .before .before .inner .ensures) (c .before .inner2 .ensures)
 
 pub plan-m10-spec : {M : Type 1} → statement M
-plan-m10-spec =
-    tie.close
-    (tie.spec
-    (λ c κs. search needs)
-    (λ c κs. search needs)
-    (λ c κs. search needs)
-    returns)
+plan-m10-spec = tie.close (tie.spec (λ c κs. search needs) (λ c κs. search needs) (λ c κs. search needs) returns)

@@ -1,24 +1,17 @@
--- What the plan makes is what the rule answers.
+-- By the parts within the hedge and the expression.
 use borrow.Author.Needs.{needs}
-use mathlib.Core.Path.{sym, ap, subst, _∙_}
-use Rattle.rules.specs.Rules.{M11}
-use Rattle.plans.specs.declared.Recipe.{Recipe}
-use Rattle.plans.specs.declared.Ways.the-variants.{One, Two}
-use Rattle.memberships.specs.Planned.{PlansIn, planOf}
-use Rattle.memberships.proofs.Plain.{m11-plans}
+use mathlib.Core.Path.{ap}
+use Rattle.plans.specs.declared.Ways.the-variants.{One}
+use Rattle.plans.specs.Slots.{single}
+use Rattle.equations.proofs.Plain.{by-parts}
+use Rattle.memberships.specs.Recipes.{memberIn}
 use Rattle.memberships.proofs.plan.plan_m11.Statement.{statement}
 use Rattle.memberships.proofs.plan.plan_m11.Tie as tie
 
 returns : tie.Need-returns
-returns c = let a = c .before .before .before .before .before .before .before .args in subst (PlansIn M11 (a .k .now) (a .s)) (sym (c .single .ensures ∙ ap (λ (r : Recipe). planOf (One 0) r r) (c .before .member-in .ensures))) (m11-plans (a .k .now) (a .s) _ _ _ (c .before .before .before .before .forth .ensures) (c .before .before .before .back .ensures) (c .before .before .forth2 .ensures))
+returns c =
+    let a = c .before .before .before .before .before .args in
+    by-parts (λ x y. single (One 0) (memberIn (a .s) (x .from) (x .to) (y .from) (a .s .end))) (ap (single _) (c .member-in .ensures)) (c .before .before .inner .ensures) (c .before .inner2 .ensures)
 
 pub plan-m11-spec : {M : Type 1} → statement M
-plan-m11-spec =
-    tie.close
-    (tie.spec
-    (λ c κs. search needs)
-    (λ c κs. search needs)
-    (λ c κs. search needs)
-    (λ c κs. search needs)
-    (λ c κs. search needs)
-    returns)
+plan-m11-spec = tie.close (tie.spec (λ c κs. search needs) (λ c κs. search needs) (λ c κs. search needs) returns)

@@ -1,22 +1,17 @@
--- What the plan makes is what the rule answers.
+-- By the part within the expression.
 use borrow.Author.Needs.{needs}
-use mathlib.Core.Path.{sym, ap, subst, _∙_}
-use Rattle.rules.specs.Rules.{M4}
-use Rattle.plans.specs.declared.Recipe.{Recipe}
-use Rattle.plans.specs.declared.Ways.the-variants.{One, Two}
-use Rattle.memberships.specs.Planned.{PlansIn, planOf}
-use Rattle.memberships.proofs.Plain.{m4-plans}
+use mathlib.Core.Path.{ap, _∙_}
+use Rattle.plans.specs.declared.Within.{Within}
+use Rattle.plans.specs.declared.Ways.the-variants.{One}
+use Rattle.plans.specs.Slots.{single}
+use Rattle.memberships.specs.Recipes.{memberIn}
 use Rattle.memberships.proofs.plan.plan_m4.Statement.{statement}
 use Rattle.memberships.proofs.plan.plan_m4.Tie as tie
 
 returns : tie.Need-returns
-returns c = let a = c .before .before .before .before .before .args in subst (PlansIn M4 (a .k .now) (a .s)) (sym (c .single .ensures ∙ ap (λ (r : Recipe). planOf (One 0) r r) (c .before .member-in .ensures))) (m4-plans (a .k .now) (a .s) _ (c .before .before .forth .ensures))
+returns c =
+    let a = c .before .before .before .before .args in
+    ap (single _) (c .member-in .ensures) ∙ ap (λ (b : Within). single (One 0) (memberIn (a .s) (a .s .h .from) (a .s .h .to) (b .from) (a .s .end))) (c .before .inner .ensures)
 
 pub plan-m4-spec : {M : Type 1} → statement M
-plan-m4-spec =
-    tie.close
-    (tie.spec
-    (λ c κs. search needs)
-    (λ c κs. search needs)
-    (λ c κs. search needs)
-    returns)
+plan-m4-spec = tie.close (tie.spec (λ c κs. search needs) (λ c κs. search needs) returns)

@@ -1,4 +1,3 @@
-use borrow.Author.Needs.{needs}
 use borrow.Author.Tests.{eq-eqb, ne-eqb, le-leb, lt-leb}
 use Rattle.memberships.specs.Rank.{overBy}
 use Rattle.memberships.proofs.rank.rank_over.Statement.{statement}

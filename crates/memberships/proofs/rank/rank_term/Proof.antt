@@ -1,4 +1,3 @@
-use borrow.Author.Needs.{needs}
 use borrow.Author.Tests.{eq-eqb, ne-eqb}
 use Rattle.memberships.specs.Rank.{termBy}
 use Rattle.memberships.proofs.rank.rank_term.Statement.{statement}

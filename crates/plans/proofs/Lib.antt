@@ -1,0 +1,3 @@
+pub mod Ranking
+pub mod Places
+pub mod Determined
