@@ -14,7 +14,7 @@ use Rattle.language.specs.Writing.{conjWords}
 use Rattle.rules.specs.Solved.{solved}
 use Rattle.rules.specs.Answer.{zeros, countOpen, answerWords}
 use Rattle.answers.specs.declared.Tally.{Tally}
-use Rattle.answers.specs.Lined.{Lined}
+use Rattle.answers.specs.Lined.{Lined, counted, withLine}
 use Rattle.answers.proofs.Rows.{lines-size-more, count-more, open-more}
 use Rattle.answers.proofs.Adding.{answer-none, answer-more}
 
@@ -35,19 +35,33 @@ line-written a b c k at n m s e d f g =
     d ∙ ap (λ j. sets b (at + 1) (slice 0 j k)) g ∙ ap (sets b (at + 1)) (take-length k) ∙ ap (λ j. sets b j k) (add-one at)
     ∙ ap (λ l. sets l (suc at) k) (e ∙ ap (set a at) f)
 
+-- the stores of a line, one after another
+pub line-stored : (t : Tally) (a k : List ℕ) (s : Bool) (a₁ a₂ a₃ a₄ : List ℕ) (v x y opens : ℕ)
+    → a₁ ≡ sets a (t .end) (pick s 1 2 ∷ k) → a₂ ≡ set a₁ (t .lines + 1 + 2) v → v ≡ t .end + 1 + length k → a₃ ≡ set a₂ 0 x → x ≡ t .lines + 1
+    → a₄ ≡ set a₃ 1 y → y ≡ opens → opens ≡ pick s (t .«open») (t .«open» + 1)
+    → (record { lines = t .lines + 1; «open» = opens; end = t .end + 1 + length k } ≡ counted t s k)
+    × (a₄ ≡ withLine t (record { lines = t .lines + 1; «open» = opens; end = t .end + 1 + length k }) s k a)
+line-stored t a k s a₁ a₂ a₃ a₄ v x y opens e₁ e₂ ev e₃ ex e₄ ey eo = (
+  ap (λ o. record { lines = t .lines + 1; «open» = o; end = t .end + 1 + length k }) eo,
+  e₄ ∙ ap (λ l. set l 1 y) (e₃ ∙ ap (λ l. set l 0 x) (e₂ ∙ ap (λ l. set l (t .lines + 1 + 2) v) e₁))
+      ∙ ap (λ n. set (set (set (sets a (t .end) (pick s 1 2 ∷ k)) (t .lines + 1 + 2) n) 0 x) 1 y) ev
+      ∙ ap (λ n. set (set (set (sets a (t .end) (pick s 1 2 ∷ k)) (t .lines + 1 + 2) (t .end + 1 + length k)) 0 n) 1 y) ex
+      ∙ ap (λ n. set (set (set (sets a (t .end) (pick s 1 2 ∷ k)) (t .lines + 1 + 2) (t .end + 1 + length k)) 0 (t .lines + 1)) 1 n) ey,
+)
+
+-- with the words of a conjunction for a line, an answer's words are those of the answer that has this line too
 module _ (old : List ℕ) (ls : List Conj) (c : Conj) (t : Tally) (a k : List ℕ) (s : Bool) (ek : k ≡ conjWords c) (es : s ≡ solved c) (p : Lined old ls t a) where
-  pub line-added : (a₁ a₂ a₃ a₄ : List ℕ) (v x y opens end : ℕ) → t .lines < 512 → end ≡ t .end + 1 + length k → end ≤ 8192
-      → a₁ ≡ sets a (t .end) (pick s 1 2 ∷ k) → a₂ ≡ set a₁ (t .lines + 1 + 2) v → v ≡ end → a₃ ≡ set a₂ 0 x → x ≡ t .lines + 1 → a₄ ≡ set a₃ 1 y → y ≡ opens
-      → opens ≡ pick s (t .«open») (t .«open» + 1)
-      → Lined old (ls ++ (c ∷ [])) (record { lines = t .lines + 1; «open» = opens; end = end }) a₄
-  line-added a₁ a₂ a₃ a₄ v x y opens end few ee room e₁ e₂ ev e₃ ex e₄ ey eo =
+  pub line-added : (u : Tally) (b : List ℕ) → t .lines < 512 → t .end + suc (length k) ≤ 8192 → u ≡ counted t s k → b ≡ withLine t u s k a → Lined old (ls ++ (c ∷ [])) u b
+  line-added u b few room eu eb =
       let n = ap length ek in
       let pl = p .lines in
       let pe = p .end in
       let sz = lines-size-more ls c in
       let ct = count-more ls c in
-      let o : opens ≡ countOpen (ls ++ (c ∷ [])) =
-      eo ∙ ap (λ b. pick b (t .«open») (t .«open» + 1)) es ∙ ap (λ n. pick (solved c) (t .«open») n) (add-one (t .«open»))
+      let ul = ap (λ (w : Tally). w .lines) eu in
+      let ue = ap (λ (w : Tally). w .end) eu in
+      let o : u .«open» ≡ countOpen (ls ++ (c ∷ [])) =
+      ap (λ (w : Tally). w .«open») eu ∙ ap (λ b. pick b (t .«open») (t .«open» + 1)) es ∙ ap (λ n. pick (solved c) (t .«open») n) (add-one (t .«open»))
       ∙ ap (λ n. pick (solved c) n (suc n)) (p .«open») ∙ sym (open-more ls c)
       in
       record {
@@ -57,14 +71,13 @@ module _ (old : List ℕ) (ls : List Conj) (c : Conj) (t : Tally) (a k : List �
         few = omega arith;
         room = omega arith;
         words =
-            e₄ ∙ ap (λ l. set l 1 y) e₃ ∙ ap (λ l. set (set l 0 x) 1 y) e₂ ∙ ap (λ l. set (set (set l (t .lines + 1 + 2) v) 0 x) 1 y) e₁
-            ∙ ap (λ l. set (set (set (sets l (t .end) (pick s 1 2 ∷ k)) (t .lines + 1 + 2) v) 0 x) 1 y) (p .words)
-            ∙ ap (λ b. set (set (set (sets (answerWords desk ls ++ drop 8192 old) (t .end) (pick b 1 2 ∷ k)) (t .lines + 1 + 2) v) 0 x) 1 y) es
-            ∙ ap (λ l. set (set (set (sets (answerWords desk ls ++ drop 8192 old) (t .end) (pick (solved c) 1 2 ∷ l)) (t .lines + 1 + 2) v) 0 x) 1 y) ek
-            ∙ ap (λ i. set (set (set (sets (answerWords desk ls ++ drop 8192 old) (t .end) (pick (solved c) 1 2 ∷ conjWords c)) i v) 0 x) 1 y)
-            (let z : t .lines + 1 + 2 ≡ t .lines + 3 = omega arith in z)
-            ∙ ap (λ w. set (set (set (sets (answerWords desk ls ++ drop 8192 old) (t .end) (pick (solved c) 1 2 ∷ conjWords c)) (t .lines + 3) w) 0 x) 1 y)
-            (let z : v ≡ t .end + suc (length (conjWords c)) = omega arith in z)
-            ∙ ap (λ w. set (set (set (sets (answerWords desk ls ++ drop 8192 old) (t .end) (pick (solved c) 1 2 ∷ conjWords c)) (t .lines + 3) (t .end + suc (length (conjWords c)))) 0 w) 1 y) ex
-            ∙ answer-more ls c (drop 8192 old) (t .end) (t .lines) y pl pe (ey ∙ o) (omega arith) (omega arith);
+            eb ∙ ap (withLine t u s k) (p .words)
+            ∙ ap (λ b. withLine t u b k (answerWords desk ls ++ drop 8192 old)) es
+            ∙ ap (λ l. withLine t u (solved c) l (answerWords desk ls ++ drop 8192 old)) ek
+            ∙ ap (λ i. set (set (set (sets (answerWords desk ls ++ drop 8192 old) (t .end) (pick (solved c) 1 2 ∷ conjWords c)) i (u .end)) 0 (u .lines)) 1 (u .«open»))
+            (let z : u .lines + 2 ≡ t .lines + 3 = omega arith in z)
+            ∙ ap (λ w. set (set (set (sets (answerWords desk ls ++ drop 8192 old) (t .end) (pick (solved c) 1 2 ∷ conjWords c)) (t .lines + 3) w) 0 (u .lines)) 1 (u .«open»))
+            (let z : u .end ≡ t .end + suc (length (conjWords c)) = omega arith in z)
+            ∙ ap (λ w. set (set (set (sets (answerWords desk ls ++ drop 8192 old) (t .end) (pick (solved c) 1 2 ∷ conjWords c)) (t .lines + 3) (t .end + suc (length (conjWords c)))) 0 w) 1 (u .«open»)) ul
+            ∙ answer-more ls c (drop 8192 old) (t .end) (t .lines) (u .«open») pl pe o (omega arith) (omega arith);
       }

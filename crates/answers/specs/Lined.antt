@@ -1,9 +1,12 @@
 -- The answer slice after some lines: at any time it is the answer that has just these lines.
 use Prim.Native.Nat.{ℕ, _+_, _≤_}
 use mathlib.Core.Path.{_≡_}
-use mathlib.Core.List.{List, _++_}
-use lib.ListN.{length, drop}
+use mathlib.Core.Bool.{Bool}
+use mathlib.Core.List.{List, _∷_, _++_}
+use lib.ListN.{length, drop, set}
+use lib.Seq.{sets}
 use Rattle.language.specs.Limits.{desk}
+use Rattle.language.specs.Kinds.{pick}
 use Rattle.language.specs.Trees.{Conj}
 use Rattle.rules.specs.Run.{linesSize}
 use Rattle.rules.specs.Answer.{countOpen, answerWords}
@@ -17,3 +20,11 @@ pub record Lined (old : List ℕ) (ls : List Conj) (t : Tally) (new : List ℕ) 
   pub few : length ls ≤ 512
   pub room : 515 + linesSize ls ≤ 8192
   pub words : new ≡ answerWords desk ls ++ drop 8192 old
+
+-- the count, one line more, whose words are k
+abbrev pub counted : Tally → Bool → List ℕ → Tally
+counted t solved k = record { lines = t .lines + 1; «open» = pick solved (t .«open») (t .«open» + 1); end = t .end + 1 + length k }
+
+-- an answer's words, one line more: its mark and its words behind the others, where it ends, and the two counts
+abbrev pub withLine : Tally → Tally → Bool → List ℕ → List ℕ → List ℕ
+withLine t u solved k answer = set (set (set (sets answer (t .end) (pick solved 1 2 ∷ k)) (u .lines + 2) (u .end)) 0 (u .lines)) 1 (u .«open»)

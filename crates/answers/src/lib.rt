@@ -1,14 +1,11 @@
 // The answer slice, line by line: at any time it is the answer that has the lines so far.
-ghost use Prim.Native.Nat.{ℕ, suc, _+_, _≤_, _<_};
+ghost use Prim.Native.Nat.{suc, _+_, _≤_, _<_};
 ghost use mathlib.Core.Path.{_≡_};
-ghost use mathlib.Core.List.{List, [], _∷_, _++_};
+ghost use mathlib.Core.List.{[], _∷_};
 ghost use lib.ListN.{length};
 ghost use lib.Seq.{sets};
 ghost use Rattle.language.specs.Kinds.{pick};
-ghost use Rattle.language.specs.Trees.{Conj};
-ghost use Rattle.language.specs.Writing.{conjWords};
-ghost use Rattle.rules.specs.Solved as lines;
-ghost use Rattle.answers.specs.Lined.{Lined};
+ghost use Rattle.answers.specs.Lined.{Lined, counted, withLine};
 use stack::clear;
 use stack::copy;
 use stack::narrow;
@@ -62,7 +59,7 @@ fn write_line(k: &[u16], solved: bool, at: usize, answer: &mut [u16])
 // A line more.
 pub fn add_line(k: &[u16], solved: bool, t: Tally, answer: &mut [u16]) -> Tally
     requires { ⌜ (t .lines < 512) × (t .«open» ≤ t .lines) × (t .end + suc (length (now k)) ≤ 8192) × (8192 ≤ length (now answer)) ⌝ }
-    ensures { λ r. ⌜ ((old : List ℕ) (ls : List Conj) (c : Conj) → now (k .entry) ≡ conjWords c → solved ≡ lines.solved c → Lined old ls t (now (answer .entry)) → Lined old (ls ++ (c ∷ [])) r (now (answer .exit))) ⌝ }
+    ensures { λ r. ⌜ (r ≡ counted t solved (now (k .entry))) × (now (answer .exit) ≡ withLine t r solved (now (k .entry)) (now (answer .entry))) ⌝ }
 {
     let at = t.end;
     let lines = t.lines + 1;

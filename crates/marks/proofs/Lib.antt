@@ -1,3 +1,4 @@
 pub mod Sides
 pub mod Memberships
 pub mod Marked
+pub mod Determined

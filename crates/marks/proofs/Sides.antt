@@ -5,10 +5,10 @@ use mathlib.Core.Path.{_≡_, refl, sym, ap, _∙_}
 use mathlib.Core.Bool.{Bool, true, false, not, _&&_, _||_}
 use mathlib.Core.List.{List, _++_}
 use mathlib.Core.Option.{Option, none, some}
-use lib.Dec.{leb}
+use lib.Dec.{leb, eqb}
 use lib.ListN.{take, drop}
 use lib.Seq.{slice}
-use borrow.Author.Tests.{le-leb, lt-leb}
+use borrow.Author.Tests.{le-leb, lt-leb, eq-eqb, ne-eqb}
 use Rattle.language.specs.Limits.{desk}
 use Rattle.language.specs.Kinds.{pick}
 use Rattle.language.specs.Trees.{symbol, fvar, Hedge, ε, tvar, hvar, node, Conj, Var, tv, hv, fv, holds, inConj}
@@ -25,7 +25,7 @@ use Rattle.exact.proofs.Answers.{Where}
 use Rattle.views.specs.Variables.{variableWord, fineVar}
 use Rattle.views.proofs.Sides.{side-whole}
 use Rattle.views.proofs.Members.{member-hedge, elsewhere-sees}
-use Rattle.marks.specs.Lone.{wordOf, singleTerm, bareFunctor, sideVariable, loneVariable}
+use Rattle.marks.specs.Lone.{wordOf, singleTerm, bareFunctor, sideVariable, loneVariable, aloneSide}
 
 -- ---- what the tests of the code join to
 
@@ -105,31 +105,38 @@ given-some : {A : Type 0} (b : Bool) (a : A) → isSome (given b a) ≡ b
 given-some true a = refl
 given-some false a = refl
 
--- the three returns of the code: no variable; in the other side; by what is elsewhere
-module _ (k : List ℕ) (v : View) (before : Conj) (l r : Hedge) (behind : Conj) (s : Sees k v before l r behind)
-    (x : ℕ) (ex : x ≡ sideVariable (v .l .look) (v .r .look)) where
-  abbrev Alone : Bool
-  Alone = isSome (alone (before ++ behind) r (variable l r))
+-- ---- a variable's word, by what the tests of the code say
 
-  word-is : x ≡ wordOf (variable l r)
-  word-is =
-      ex ∙ ap (λ a. sideVariable a (v .r .look)) (s .left .look) ∙ ap (sideVariable (lookOf l)) (s .right .look) ∙ side-look l r (s .left .fine)
+module _ (k : List ℕ) (v : View) (x : ℕ) (ex : x ≡ sideVariable (v .l .look) (v .r .look)) where
+  pub no-word : x ≡ 0 → false ≡ aloneSide k v
+  unfolding aloneSide
+  no-word z = rw (← ex) (ap (λ t. not t && not (member x (slice (v .r .from) (v .r .to) k) || (member x (take (v .at) k) || member x (drop (v .end) k)))) (sym (eq-eqb x 0 z)))
 
-  -- a variable, and what the words say of it
-  pub no-variable : x ≡ 0 → false ≡ Alone
-  no-variable z = go (variable l r) word-is
-    where
-      go : (o : Option Var) → x ≡ wordOf o → false ≡ isSome (alone (before ++ behind) r o)
-      go none e = refl
-      go (some w) e = absurd (word-some w (sym e ∙ z))
+  pub word-stands : (x ≡ 0 → ⊥) → (here there : Bool) → here ≡ member x (slice (v .r .from) (v .r .to) k)
+      → there ≡ (member x (take (v .at) k) || member x (drop (v .end) k)) → not (here || there) ≡ aloneSide k v
+  unfolding aloneSide
+  word-stands n here there eh et =
+      rw (← ex) (
+      ap (λ b. not (b || there)) eh ∙ ap (λ b. not (member x (slice (v .r .from) (v .r .to) k) || b)) et
+      ∙ ap (λ t. not t && not (member x (slice (v .r .from) (v .r .to) k) || (member x (take (v .at) k) || member x (drop (v .end) k)))) (sym (ne-eqb x 0 n))
+      )
 
-  pub variable-stands : (x ≡ 0 → ⊥) → (here there : Bool) → here ≡ member x (slice (v .r .from) (v .r .to) k)
-      → there ≡ (member x (take (v .at) k) || member x (drop (v .end) k)) → not (here || there) ≡ Alone
-  variable-stands n here there eh et = go (variable l r) word-is (side-fine l r (s .left .fine))
-    where
-      go : (o : Option Var) → x ≡ wordOf o → Where (fineVar desk) o → not (here || there) ≡ isSome (alone (before ++ behind) r o)
-      go none e f = absurd (n e)
-      go (some w) e f =
-          let h : here ≡ holds w r = eh ∙ ap (λ y. member y (slice (v .r .from) (v .r .to) k)) e ∙ ap (member (variableWord w)) (side-whole (s .right)) ∙ member-hedge w f r (s .right .fine) in
-          let t : there ≡ inConj w (before ++ behind) = et ∙ ap (λ y. member y (take (v .at) k) || member y (drop (v .end) k)) e ∙ elsewhere-sees w f s in
-          ap (λ b. not (b || there)) h ∙ ap (λ b. not (holds w r || b)) t ∙ sym (given-some (not (holds w r || inConj w (before ++ behind))) (w, r))
+-- where an equation is seen, it is the variable of the trees
+pub alone-sees : {k : List ℕ} {v : View} {before : Conj} {l r : Hedge} {behind : Conj} → Sees k v before l r behind
+    → aloneSide k v ≡ isSome (alone (before ++ behind) r (variable l r))
+unfolding aloneSide
+alone-sees {k} {v} {before} {l} {r} {behind} s =
+    ap (λ x. not (eqb x 0) && not (member x (slice (v .r .from) (v .r .to) k) || (member x (take (v .at) k) || member x (drop (v .end) k)))) word-is
+    ∙ go (variable l r) (side-fine l r (s .left .fine))
+  where
+    word-is : sideVariable (v .l .look) (v .r .look) ≡ wordOf (variable l r)
+    word-is = ap (λ a. sideVariable a (v .r .look)) (s .left .look) ∙ ap (sideVariable (lookOf l)) (s .right .look) ∙ side-look l r (s .left .fine)
+
+    go : (o : Option Var) → Where (fineVar desk) o
+        → (not (eqb (wordOf o) 0) && not (member (wordOf o) (slice (v .r .from) (v .r .to) k) || (member (wordOf o) (take (v .at) k) || member (wordOf o) (drop (v .end) k))))
+        ≡ isSome (alone (before ++ behind) r o)
+    go none f = refl
+    go (some w) f =
+        ap (λ t. not t && not (member (variableWord w) (slice (v .r .from) (v .r .to) k) || (member (variableWord w) (take (v .at) k) || member (variableWord w) (drop (v .end) k)))) (ne-eqb (variableWord w) 0 (word-some w))
+        ∙ ap (λ b. not (b || (member (variableWord w) (take (v .at) k) || member (variableWord w) (drop (v .end) k)))) (ap (member (variableWord w)) (side-whole (s .right)) ∙ member-hedge w f r (s .right .fine))
+        ∙ ap (λ b. not (holds w r || b)) (elsewhere-sees w f s) ∙ sym (given-some (not (holds w r || inConj w (before ++ behind))) (w, r))

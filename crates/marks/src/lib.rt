@@ -11,12 +11,12 @@ ghost use Rattle.language.specs.Kinds.{pick};
 ghost use Rattle.language.specs.Trees.{Hedge, Expr, Literal, mem, Conj, Var};
 ghost use Rattle.language.specs.Writing.{conjWords};
 ghost use Rattle.language.specs.Fine.{fineConj};
-ghost use Rattle.rules.specs.Solved.{variable, alone, isSome, inMember, solvedLiteral, solved};
+ghost use Rattle.rules.specs.Solved.{inMember, solvedLiteral, solved};
 ghost use Rattle.plans.specs.Results.{member};
-ghost use Rattle.plans.specs.Views.{Sees, Shows};
+ghost use Rattle.plans.specs.Views.{Shows};
 ghost use Rattle.views.specs.Variables.{variableWord, fineVar};
 ghost use Rattle.views.specs.Standing.{LiteralAt};
-ghost use Rattle.marks.specs.Lone.{singleTerm, bareFunctor, sideVariable, loneVariable};
+ghost use Rattle.marks.specs.Lone.{singleTerm, bareFunctor, sideVariable, loneVariable, aloneSide};
 ghost use Rattle.marks.specs.Ranges.{Between};
 use plans::Look;
 use plans::Shape;
@@ -89,9 +89,9 @@ fn lone_variable(look: Look) -> u16
     }
 }
 
-// Whether the side that is looked at first is one variable that occurs nowhere else.
+// Whether the side that is looked at first is one variable whose word stands nowhere else.
 pub fn alone_side(k: &[u16], v: View) -> bool
-    ensures { λ t. ⌜ ((before : Conj) (l r : Hedge) (behind : Conj) → Sees (now (k .entry)) v before l r behind → t ≡ isSome (alone (before ++ behind) r (variable l r))) ⌝ }
+    ensures { λ t. ⌜ t ≡ aloneSide (now (k .entry)) v ⌝ }
 {
     let l = v.l;
     let r = v.r;

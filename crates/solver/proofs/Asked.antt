@@ -17,7 +17,8 @@ use Rattle.language.proofs.Alternatives.{fineAll, read-all}
 use Rattle.language.proofs.Asking.{Passed, passed}
 use Rattle.rules.specs.Run.{size, run}
 use Rattle.exact.specs.Each.{Each}
-use Rattle.stack.specs.Waiting.{Waiting}
+use Rattle.stack.specs.Waiting.{Laid}
+use Rattle.stack.proofs.Blocks.{laid-wait}
 use Rattle.answers.specs.declared.Tally.{Tally}
 use Rattle.answers.specs.Lined.{Lined}
 use Rattle.reader.proofs.Answers.{question-asked}
@@ -69,12 +70,12 @@ module _ (ws : List ℕ) (e : Fine ≡ checked (readQuestion desk ws)) where
 
   -- the run begins
   pub begins : (oldWork oldAnswer work answer : List ℕ) (at : ℕ) (t : Tally) → 8192 ≤ length oldWork → 8192 ≤ length oldAnswer → length answer ≡ length oldAnswer
-      → Waiting oldWork at (parts 5 (getD ws 4 0) ws) work → Lined oldAnswer [] t answer
+      → Laid oldWork at (parts 5 (getD ws 4 0) ws) work → Lined oldAnswer [] t answer
       → Running oldWork oldAnswer [] asks-for (record { at = at; steps = 0; tally = t }) work answer
   begins oldWork oldAnswer work answer at t room space kept w l =
       let r = asked-read in
       record {
-        waiting = subst (λ bs. Waiting oldWork at bs work) (r .1) w;
+        waiting = laid-wait oldWork at _ work room (subst (λ bs. Laid oldWork at bs work) (r .1) w);
         lined = l;
         fine = each-fine asks-for (r .0);
         short = short-conjunctions asks-for (subst (Each (λ b. length b ≤ 1024)) (r .1) asked-short);

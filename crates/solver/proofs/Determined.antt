@@ -1,16 +1,14 @@
--- Any two outcomes that the contract of `solve` allows coincide.
-use Prim.Native.Nat.{ℕ}
-use mathlib.Core.Path.{_≡_, sym, _∙_}
+-- Any two outcomes that a contract of this crate allows coincide: of `solve`, what comes back and what the two lent slices then hold.
+use mathlib.Core.Path.{_≡_, sym, ap, _∙_}
 use mathlib.Core.List.{List}
-use lib.ListN.{length}
-use Rattle.language.specs.Limits.{desk}
-use Rattle.rules.specs.Answer.{solving}
+use Prim.Native.Nat.{ℕ}
+use Rattle.language.proofs.Determined.{Determined}
 use Rattle.solver.specs.declared.Solved.{Solved}
-use Rattle.solver.specs.Leaves.{leaves}
+use Rattle.solver.proofs.outcome_number as outcome_number
+use Rattle.solver.proofs.solve as solve
 
--- what comes back and what the two slices then hold
-abbrev pub Allowed : List ℕ → List ℕ → List ℕ → Solved × List ℕ × List ℕ → Type 0
-Allowed question work answer o = o ≡ leaves (solving desk (length work) (length answer) question) work answer
+outcome_number-determined : Determined outcome_number.ended outcome_number.Reads.Pre outcome_number.Reads.Post
+outcome_number-determined κs a g p o q e d = ap (λ z. (z, o .1)) (e ∙ sym d)
 
-pub solve-determined : (question work answer : List ℕ) (o p : Solved × List ℕ × List ℕ) → Allowed question work answer o → Allowed question work answer p → o ≡ p
-solve-determined question work answer o p e d = e ∙ sym d
+solve-determined : Determined solve.ended solve.Reads.Pre solve.Reads.Post
+solve-determined κs a g p o q e d = ap (λ (z : Solved × List ℕ × List ℕ). (z .0, (tt, (z .1, (z .2, tt))))) (e ∙ sym d)

@@ -1,19 +1,29 @@
 -- Blocks put before those that wait, and the first of them taken.
-use Prim.Native.Nat.{ℕ, zero, suc, _+_, _-_, _≤_}
+use Prim.Native.Nat.{ℕ, zero, suc, _+_, _-_, _<_, _≤_}
 use native.Mathlib.Omega.{arith}
 use native.Mathlib.Nat.{add-zero}
 use mathlib.Core.Path.{_≡_, refl, sym, ap, _∙_}
 use mathlib.Core.List.{List, [], _∷_, _++_, append-assoc}
-use lib.ListN.{length, take, drop, getD, length-append}
-use lib.Seq.{sets, sets-eq, length-sets, slice, drop-at, take-at, take-nil, drop-drop, getD-drop, length-take-le}
+use lib.ListN.{length, take, drop, getD, set, length-append}
+use lib.Seq.{sets, sets-eq, length-sets, set-comm, slice, drop-at, take-at, take-nil, drop-drop, getD-drop, length-take-le}
 use Rattle.plans.specs.Sizes.{framed}
-use Rattle.stack.specs.Waiting.{Waiting}
+use Rattle.stack.specs.Waiting.{Laid, Waiting}
 
 -- what stands from i on after words are stored there
 pub drop-sets : (l : List ℕ) (i : ℕ) (vs : List ℕ) → i + length vs ≤ length l → drop i (sets l i vs) ≡ vs ++ drop (i + length vs) l
 drop-sets l i vs h =
     ap (drop i) (sets-eq vs l i h ∙ append-assoc (take i l) vs (drop (i + length vs) l))
     ∙ drop-at (take i l) (vs ++ drop (i + length vs) l) i (length-take-le i l (omega arith))
+
+-- words stored right before others are stored with them
+set-before : (l : List ℕ) (i x at : ℕ) (ws : List ℕ) → i < at → set (sets l at ws) i x ≡ sets (set l i x) at ws
+set-before l i x at [] h = refl
+set-before l i x at (w ∷ ws) h = set-before (set l at w) i x (suc at) ws (omega arith) ∙ ap (λ m. sets m (suc at) ws) (set-comm l at i w x (λ e. omega arith))
+
+sets-before : (l : List ℕ) (r at : ℕ) (vs ws : List ℕ) → r + length vs ≡ at → sets (sets l at ws) r vs ≡ sets l r (vs ++ ws)
+sets-before l r at [] ws e = ap (λ n. sets l n ws) (let z : at ≡ r = omega arith in z)
+sets-before l r at (v ∷ vs) ws e =
+    ap (λ m. sets m (suc r) vs) (set-before l r v at ws (omega arith)) ∙ sets-before (set l r v) (suc r) at vs ws (omega arith)
 
 pub framed-append : (xs ys : List (List ℕ)) → framed (xs ++ ys) ≡ framed xs ++ framed ys
 framed-append [] ys = refl
@@ -26,10 +36,22 @@ slice-take (suc f) zero l = ap (λ n. take n (drop (suc f) l)) (let z : 0 ≡ 0 
 slice-take (suc f) (suc t) [] = sym (take-nil (suc t - suc f))
 slice-take (suc f) (suc t) (x ∷ l) = slice-take f t l ∙ ap (λ n. take n (drop f l)) (let z : t - f ≡ suc t - suc f = omega arith in z)
 
--- ---- nothing waits
+-- ---- blocks laid out
 
-pub none-wait : (old : List ℕ) → Waiting old 8192 [] old
-none-wait old = record { place = refl; words = refl; size = refl }
+pub laid-size : {old : List ℕ} {at : ℕ} {bs : List (List ℕ)} {new : List ℕ} → Laid old at bs new → length new ≡ length old
+laid-size {old} {at} {bs} p = ap length (p .words) ∙ length-sets old at (framed bs)
+
+pub laid-before : (old : List ℕ) (at : ℕ) (bs : List (List ℕ)) (w : List ℕ) → Laid old at bs w → (xs : List (List ℕ)) (r : ℕ) (new : List ℕ)
+    → r + length (framed xs) ≡ at → new ≡ sets w r (framed xs) → Laid old r (xs ++ bs) new
+laid-before old at bs w p xs r new e d =
+    let q = p .place in
+    let f : length (framed (xs ++ bs)) ≡ length (framed xs) + length (framed bs) = ap length (framed-append xs bs) ∙ length-append (framed xs) (framed bs) in
+    record {
+      place = omega arith;
+      words = d ∙ ap (λ l. sets l r (framed xs)) (p .words) ∙ sets-before old r at (framed xs) (framed bs) e ∙ ap (sets old r) (sym (framed-append xs bs));
+    }
+
+-- ---- blocks that wait
 
 module _ (old : List ℕ) (at : ℕ) where
   pub wait-ends : (bs : List (List ℕ)) (w : List ℕ) → Waiting old at bs w → 8192 ≤ at → bs ≡ []
@@ -51,6 +73,15 @@ module _ (old : List ℕ) (at : ℕ) where
             ∙ sym (append-assoc (framed xs) (framed bs) (drop 8192 old)) ∙ ap (λ l. l ++ drop 8192 old) (sym (framed-append xs bs));
         size = ap length d ∙ length-sets w r (framed xs) ∙ z;
       }
+
+  pub laid-wait : (bs : List (List ℕ)) (new : List ℕ) → 8192 ≤ length old → Laid old at bs new → Waiting old at bs new
+  laid-wait bs new room p = record {
+    place = p .place;
+    words =
+        let q = p .place in
+        ap (drop at) (p .words) ∙ drop-sets old at (framed bs) (omega arith) ∙ ap (λ j. framed bs ++ drop j old) q;
+    size = laid-size p;
+  }
 
   -- ---- the first block
 

@@ -1,15 +1,15 @@
 -- A part of the question pushed: the two stores, and the block that then waits first.
 use Prim.Native.Nat.{ℕ, suc, _+_, _-_, _<_, _≤_}
 use native.Mathlib.Omega.{arith}
-use mathlib.Core.Path.{_≡_, sym, ap, _∙_}
+use mathlib.Core.Path.{_≡_, refl, sym, ap, _∙_}
 use mathlib.Core.Bool.{true}
 use mathlib.Core.List.{List, [], _∷_, _++_, append-nil}
 use lib.ListN.{length, drop, getD, set, drop-of-length-le}
 use lib.Seq.{sets, slice, length-slice}
 use Rattle.language.specs.Question.{laidOut, parts}
 use Rattle.plans.specs.Sizes.{framed}
-use Rattle.stack.specs.Waiting.{Waiting}
-use Rattle.stack.proofs.Blocks.{laid, none-wait}
+use Rattle.stack.specs.Waiting.{Laid}
+use Rattle.stack.proofs.Blocks.{laid-before}
 use Rattle.stack.proofs.Cutting.{Cut, cut-at, cut-count}
 
 -- a length stored before a part
@@ -29,14 +29,14 @@ module _ (q : List ℕ) (e : laidOut 5 (getD q 4 0) q ≡ true) where
       let g : 5 + (i + 1) ≡ i + 6 = omega arith in
       rw (← f, ← g) (cut-at 5 (getD q 4 0) q e i h)
 
-  pub laid-none : (old : List ℕ) → Waiting old 8192 (drop (getD q 4 0) cs) old
-  laid-none old = rw (drop-of-length-le cs {i = getD q 4 0} (let z = cut-count 5 (getD q 4 0) q e in omega arith)) (none-wait old)
+  pub laid-none : (old : List ℕ) → Laid old 8192 (drop (getD q 4 0) cs) old
+  laid-none old = rw (drop-of-length-le cs {i = getD q 4 0} (let z = cut-count 5 (getD q 4 0) q e in omega arith)) (record { place = refl; words = refl })
 
-  pub laid-more : (old w new : List ℕ) (at r i : ℕ) → 0 < i → i ≤ getD q 4 0 → 8192 ≤ length old
+  pub laid-more : (old w new : List ℕ) (at r i : ℕ) → 0 < i → i ≤ getD q 4 0
       → r + (getD q (i - 1 + 6) 0 - getD q (i - 1 + 5) 0 + 1) ≡ at
       → new ≡ sets w r ((getD q (i - 1 + 6) 0 - getD q (i - 1 + 5) 0) ∷ slice (getD q (i - 1 + 5) 0) (getD q (i - 1 + 6) 0) q)
-      → Waiting old at (drop i cs) w → Waiting old r (drop (i - 1) cs) new
-  laid-more old w new at r i h g room place d p =
+      → Laid old at (drop i cs) w → Laid old r (drop (i - 1) cs) new
+  laid-more old w new at r i h g place d p =
       let c = cut-before (i - 1) (omega arith) in
       let from = getD q (i - 1 + 5) 0 in
       let to = getD q (i - 1 + 6) 0 in
@@ -46,4 +46,4 @@ module _ (q : List ℕ) (e : laidOut 5 (getD q 4 0) q ≡ true) where
       let k = c .low in
       let z = ap length f in
       let here : drop (i - 1) cs ≡ (b ∷ []) ++ drop i cs = c .here ∙ ap (λ j. b ∷ drop j cs) (let z : suc (i - 1) ≡ i = omega arith in z) in
-      rw here (laid old at (drop i cs) w p room (b ∷ []) r new (omega arith) (d ∙ ap (sets w r) (sym f)))
+      rw here (laid-before old at (drop i cs) w p (b ∷ []) r new (omega arith) (d ∙ ap (sets w r) (sym f)))

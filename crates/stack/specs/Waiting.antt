@@ -3,8 +3,14 @@ use Prim.Native.Nat.{ℕ, _+_}
 use mathlib.Core.Path.{_≡_}
 use mathlib.Core.List.{List, _++_}
 use lib.ListN.{length, drop}
+use lib.Seq.{sets}
 use Rattle.language.specs.Limits.{desk}
 use Rattle.plans.specs.Sizes.{framed}
+
+-- the blocks are stored in `old` from `at` on, and nothing else is
+pub record Laid (old : List ℕ) (at : ℕ) (blocks : List (List ℕ)) (new : List ℕ) : Type 0 where
+  pub place : at + length (framed blocks) ≡ desk .room
+  pub words : new ≡ sets old at (framed blocks)
 
 -- the blocks wait from `at` on in `new`, whose words past the room are those of `old`
 pub record Waiting (old : List ℕ) (at : ℕ) (blocks : List (List ℕ)) (new : List ℕ) : Type 0 where

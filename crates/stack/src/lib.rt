@@ -8,7 +8,7 @@ ghost use lib.Seq.{slice, sets};
 ghost use Rattle.language.specs.Limits.{desk};
 ghost use Rattle.language.specs.Question.{laidOut, parts};
 ghost use Rattle.rules.specs.Answer.{zeros};
-ghost use Rattle.stack.specs.Waiting.{Waiting};
+ghost use Rattle.stack.specs.Waiting.{Laid};
 
 pub fn wide(x: u16) -> usize
     ensures { λ r. ⌜ r ≡ x ⌝ }
@@ -58,7 +58,7 @@ pub fn clear(s: &mut [u16])
 }
 
 // The part from..to as a block before those that wait from `at` on. The answer is where they now begin.
-pub fn push(src: &[u16], from: usize, to: usize, work: &mut [u16], at: usize) -> usize
+fn push(src: &[u16], from: usize, to: usize, work: &mut [u16], at: usize) -> usize
     requires { ⌜ (from ≤ to) × (to ≤ length (now src)) × (to ≤ 1024) × (to - from < at) × (at ≤ length (now work)) ⌝ }
     ensures { λ r. ⌜ (r + (to - from + 1) ≡ at) × (now (work .exit) ≡ sets (now (work .entry)) r ((to - from) ∷ slice from to (now (src .entry)))) ⌝ }
 {
@@ -72,7 +72,7 @@ pub fn push(src: &[u16], from: usize, to: usize, work: &mut [u16], at: usize) ->
 // The conjunctions of a question, waiting in order. The answer is where they begin.
 pub fn lay_out(question: &[u16], work: &mut [u16]) -> usize
     requires { ⌜ (length (now question) ≤ 1024) × (laidOut 5 (getD (now question) 4 0) (now question) ≡ true) × (8192 ≤ length (now work)) ⌝ }
-    ensures { λ r. ⌜ Waiting (now (work .entry)) r (parts 5 (getD (now (question .entry)) 4 0) (now (question .entry))) (now (work .exit)) ⌝ }
+    ensures { λ r. ⌜ Laid (now (work .entry)) r (parts 5 (getD (now (question .entry)) 4 0) (now (question .entry))) (now (work .exit)) ⌝ }
 {
     let mut i = wide(question[4]);
     let mut at: usize = 8192;

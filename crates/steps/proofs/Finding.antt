@@ -1,28 +1,94 @@
--- One pass by the records that the code keeps.
-use Prim.Native.Nat.{ℕ, _<_}
-use mathlib.Core.Path.{_≡_, refl}
+-- The best literal makes the step: its rank is the rank of the literal, from the side that comes first, and one pass over the literals finds it.
+use Prim.Native.Nat.{ℕ, _<_, _≤_}
+use mathlib.Core.Path.{_≡_, refl, sym, ap, _∙_, subst}
 use mathlib.Core.Bool.{Bool, true, false}
-use mathlib.Core.List.{[], _∷_, _++_}
+use mathlib.Core.List.{[], _∷_, _++_, append-assoc, append-nil}
 use lib.Dec.{ltb}
 use lib.ListN.{length}
-use borrow.Author.Tests.{ltb-true, ltb-false}
+use borrow.Author.Tests.{ltb-true, ltb-false, lt-ltb, le-ltb}
 use Rattle.language.specs.Kinds.{pick}
-use Rattle.language.specs.Trees.{Literal, Conj}
+use Rattle.language.specs.Trees.{Hedge, Expr, Literal, eqn, mem, Conj}
 use Rattle.language.specs.Writing.{conjWords}
-use Rattle.search.specs.Ranking.{Ranked, Sought}
-use Rattle.search.proofs.Pass.{keep, better}
+use Rattle.plans.specs.Ranks.{eqnRank, memRank}
+use Rattle.search.specs.Ranking.{Ranked, Sought, Found}
+use Rattle.search.proofs.Ranks.{rank-written, rank-swapped, rank-member}
+use Rattle.search.proofs.Pass.{start, keep, better, finish}
 use Rattle.steps.specs.declared.Best.{Best}
+use Rattle.steps.specs.Seeking.{best, lesserOf, bestAt, bestFrom, bestOf}
 
--- the better of what was best and what stands here
-pub pass-on : (done : Conj) (l : Literal) (rest : Conj) (a b r : Best) → r ≡ pick (ltb (b .rank) (a .rank)) b a → b .at ≡ length (conjWords done)
-    → Ranked (done ++ rest) l (b .rank) (b .swap) → Sought done (l ∷ rest) (a .rank) (a .at) (a .swap) → Sought (done ++ (l ∷ [])) rest (r .rank) (r .at) (r .swap)
-pass-on done l rest a b r e p k s = rw e (go (ltb (b .rank) (a .rank)) refl)
+-- ---- one literal
+
+-- an equation by the lesser of the ranks of its two sides
+module _ (before : Conj) (l r : Hedge) (behind : Conj) (at a b : ℕ) (ep : at ≡ length (conjWords before))
+    (ea : a ≡ eqnRank (before ++ behind) l r) (eb : b ≡ eqnRank (before ++ behind) r l) where
+  by-ranks : lesserOf (best a at false) (best b at true) ≡ bestAt before (eqn l r) behind
+  unfolding bestAt
+  by-ranks =
+      ap (λ n. lesserOf (best a n false) (best b n true)) ep ∙ ap (λ n. lesserOf (best n (length (conjWords before)) false) (best b (length (conjWords before)) true)) ea
+      ∙ ap (λ n. lesserOf (best (eqnRank (before ++ behind) l r) (length (conjWords before)) false) (best n (length (conjWords before)) true)) eb
+
+  pub best-swapped : b < a → best b at true ≡ bestAt before (eqn l r) behind
+  best-swapped h = ap (λ t. pick t (best b at true) (best a at false)) (sym (lt-ltb b a h)) ∙ by-ranks
+
+  pub best-written : a ≤ b → best a at false ≡ bestAt before (eqn l r) behind
+  best-written h = ap (λ t. pick t (best b at true) (best a at false)) (sym (le-ltb b a h)) ∙ by-ranks
+
+pub best-member : (before : Conj) (h : Hedge) (R : Expr) (behind : Conj) (at a : ℕ) → at ≡ length (conjWords before) → a ≡ memRank (before ++ behind) h R
+    → best a at false ≡ bestAt before (mem h R) behind
+unfolding bestAt
+best-member before h R behind at a ep ea = ap (λ n. best a n false) ep ∙ ap (λ n. best n (length (conjWords before)) false) ea
+
+module _ (before : Conj) (l r : Hedge) (behind : Conj) where
+  abbrev written : Best
+  written = best (eqnRank (before ++ behind) l r) (length (conjWords before)) false
+
+  abbrev other : Best
+  other = best (eqnRank (before ++ behind) r l) (length (conjWords before)) true
+
+  one-place : (t : Bool) → pick t other written .at ≡ length (conjWords before)
+  one-place true = refl
+  one-place false = refl
+
+  lesser-ranked : (t : Bool) → ltb (other .rank) (written .rank) ≡ t → Ranked (before ++ behind) (eqn l r) (pick t other written .rank) (pick t other written .swap)
+  lesser-ranked true e = rank-swapped (before ++ behind) l r _ _ refl refl (ltb-true _ _ e)
+  lesser-ranked false e = rank-written (before ++ behind) l r _ _ refl refl (ltb-false _ _ e)
+
+best-place : (before : Conj) (l : Literal) (behind : Conj) → bestAt before l behind .at ≡ length (conjWords before)
+unfolding bestAt
+best-place before (eqn l r) behind = one-place before l r behind (ltb (eqnRank (before ++ behind) r l) (eqnRank (before ++ behind) l r))
+best-place before (mem h R) behind = refl
+
+best-ranked : (before : Conj) (l : Literal) (behind : Conj) → Ranked (before ++ behind) l (bestAt before l behind .rank) (bestAt before l behind .swap)
+unfolding bestAt
+best-ranked before (eqn l r) behind = lesser-ranked before l r behind _ refl
+best-ranked before (mem h R) behind = rank-member (before ++ behind) h R _ refl
+
+-- ---- all literals
+
+abbrev Seeks : Conj → Conj → Best → Type 0
+Seeks done rest b = Sought done rest (b .rank) (b .at) (b .swap)
+
+pass-on : (done : Conj) (l : Literal) (rest : Conj) (a b : Best) → b .at ≡ length (conjWords done) → Ranked (done ++ rest) l (b .rank) (b .swap)
+    → Seeks done (l ∷ rest) a → Seeks (done ++ (l ∷ [])) rest (lesserOf a b)
+pass-on done l rest a b p k s = go (ltb (b .rank) (a .rank)) refl
   where
-    go : (t : Bool) → ltb (b .rank) (a .rank) ≡ t → Sought (done ++ (l ∷ [])) rest (pick t b a .rank) (pick t b a .at) (pick t b a .swap)
+    go : (t : Bool) → ltb (b .rank) (a .rank) ≡ t → Seeks (done ++ (l ∷ [])) rest (pick t b a)
     go true d = rw p (better done l rest (a .rank) (a .at) (a .swap) (b .rank) (b .swap) k (ltb-true (b .rank) (a .rank) d) s)
     go false d = keep done l rest (a .rank) (a .at) (a .swap) (b .rank) (b .swap) k (ltb-false (b .rank) (a .rank) d) s
 
-pub placed-on : (n : ℕ) (a b r : Best) → r ≡ pick (ltb (b .rank) (a .rank)) b a → (a .rank < 28 → a .at < n) → b .at < n → r .rank < 28 → r .at < n
+pass-all : (b : Best) (done rest : Conj) → Seeks done rest b → Seeks (done ++ rest) [] (bestFrom b done rest)
+pass-all b done [] s = subst (λ d. Seeks d [] b) (sym (append-nil done)) s
+pass-all b done (l ∷ rest) s =
+    subst (λ d. Seeks d [] (bestFrom (lesserOf b (bestAt done l rest)) (done ++ (l ∷ [])) rest)) (append-assoc done (l ∷ []) rest)
+    (pass-all (lesserOf b (bestAt done l rest)) (done ++ (l ∷ [])) rest (pass-on done l rest b (bestAt done l rest) (best-place done l rest) (best-ranked done l rest) s))
+
+pub best-found : (c : Conj) (b : Best) → b ≡ bestOf c → Found c (b .rank) (b .at) (b .swap)
+unfolding bestOf
+best-found c b e = rw e (finish c _ _ _ (pass-all (best 28 0 false) [] c (start c 0 false)))
+
+-- ---- places
+
+pub placed-on : (n : ℕ) (a b r : Best) → r ≡ lesserOf a b → (a .rank < 28 → a .at < n) → b .at < n → r .rank < 28 → r .at < n
 placed-on n a b r e f g = rw e (go (ltb (b .rank) (a .rank)))
   where
     go : (t : Bool) → pick t b a .rank < 28 → pick t b a .at < n

@@ -3,10 +3,8 @@ ghost use Prim.Native.Nat.{_+_, _≤_, _<_};
 ghost use mathlib.Core.Path.{_≡_};
 ghost use mathlib.Core.List.{List, _++_};
 ghost use mathlib.Core.Option.{some};
-ghost use lib.Dec.{ltb};
 ghost use lib.ListN.{length};
 ghost use Rattle.language.specs.Limits.{desk};
-ghost use Rattle.language.specs.Kinds.{pick};
 ghost use Rattle.language.specs.Trees.{Hedge, Expr, Literal, mem, Conj};
 ghost use Rattle.language.specs.Writing.{conjWords};
 ghost use Rattle.language.specs.Fine.{fineConj};
@@ -14,7 +12,8 @@ ghost use Rattle.plans.specs.Results.{resultsOf};
 ghost use Rattle.plans.specs.Sizes.{placedWords, monomialWords};
 ghost use Rattle.views.specs.Standing.{LiteralAt};
 ghost use Rattle.rules.specs.Rules.{Branch};
-ghost use Rattle.search.specs.Ranking.{sideAnswer, Ranked, Found};
+ghost use Rattle.search.specs.Ranking.{sideAnswer};
+ghost use Rattle.steps.specs.Seeking.{lesserOf, bestAt, bestOf};
 ghost use Rattle.steps.specs.Taking.{Took};
 ghost use Rattle.equations.specs.Planned.{Planned};
 use equations::plan::plan_equation;
@@ -42,7 +41,7 @@ pub struct Best {
 // The rank of the literal at a place: of an equation the lesser of its two sides, the written one where they are equal.
 fn rank_at(k: &[u16], at: usize) -> Best
     requires { ⌜ at < length (now k) ⌝ }
-    ensures { λ b. ⌜ (b .at ≡ at) × ((before : Conj) (l : Literal) (behind : Conj) → LiteralAt (now (k .entry)) at before l behind → Ranked (before ++ behind) l (b .rank) (b .swap)) ⌝ }
+    ensures { λ b. ⌜ (b .at ≡ at) × ((before : Conj) (l : Literal) (behind : Conj) → LiteralAt (now (k .entry)) at before l behind → b ≡ bestAt before l behind) ⌝ }
 {
     if k[at] == 5000 {
         let v = see(k, at);
@@ -72,14 +71,14 @@ fn rank_at(k: &[u16], at: usize) -> Best
 
 // The one of the lesser rank, the first where they are equal.
 fn lesser(a: Best, b: Best) -> Best
-    ensures { λ r. ⌜ r ≡ pick (ltb (b .rank) (a .rank)) b a ⌝ }
+    ensures { λ r. ⌜ r ≡ lesserOf a b ⌝ }
 {
     if b.rank < a.rank { b } else { a }
 }
 
 // The earliest literal of the least rank.
 pub fn find(k: &[u16]) -> Best
-    ensures { λ b. ⌜ (b .rank < 28 → b .at < length (now (k .entry))) × ((c : Conj) → fineConj desk c → now (k .entry) ≡ conjWords c → Found c (b .rank) (b .at) (b .swap)) ⌝ }
+    ensures { λ b. ⌜ (b .rank < 28 → b .at < length (now (k .entry))) × ((c : Conj) → fineConj desk c → now (k .entry) ≡ conjWords c → b ≡ bestOf c) ⌝ }
 {
     let mut best = Best {
         rank: 28,

@@ -5,6 +5,7 @@ use mathlib.Core.List.{_++_}
 use borrow.Author.Needs.{needs}
 use Rattle.rules.specs.Solved.{solvedLiteral}
 use Rattle.search.proofs.Walks.{at-equation, at-membership}
+use Rattle.marks.proofs.Sides.{alone-sees}
 use Rattle.marks.proofs.Marked.{written-solves, other-solves}
 use Rattle.marks.proofs.solved_literal.Statement.{statement}
 use Rattle.marks.proofs.solved_literal.Tie as tie
@@ -12,15 +13,15 @@ use Rattle.marks.proofs.solved_literal.Tie as tie
 returns : tie.Need-returns
 returns c =
     at-equation (c .before .before .before .before .before .before .args .k .now) (c .before .before .before .before .before .before .args .at) (λ before l behind. true ≡ solvedLiteral (before ++ behind) l) (c .before .before .before .if1 .taken)
-    λ before l r behind p. written-solves (before ++ behind) l r (sym (c .if2 .taken) ∙ c .before .alone-side .ensures before l r behind (c .before .before .see .ensures .0 before l r behind p))
+    λ before l r behind p. written-solves (before ++ behind) l r (sym (c .if2 .taken) ∙ c .before .alone-side .ensures ∙ alone-sees (c .before .before .see .ensures .0 before l r behind p))
 
 returns-2 : tie.Need-returns-2
 returns-2 c =
     at-equation (c .before .before .before .before .before .before .before .before .args .k .now) (c .before .before .before .before .before .before .before .before .args .at) (λ before l behind. c .alone-side2 .result ≡ solvedLiteral (before ++ behind) l) (c .before .before .before .before .before .if1 .taken)
     λ before l r behind p.
     let s = c .before .before .before .before .see .ensures .0 before l r behind p in
-    other-solves (before ++ behind) l r (sym (c .before .before .if2 .left) ∙ c .before .before .before .alone-side .ensures before l r behind s) _
-    (c .alone-side2 .ensures before r l behind (c .before .swapped .ensures .0 (c .before .before .before .before .before .before .before .before .args .k .now) before behind l r s))
+    other-solves (before ++ behind) l r (sym (c .before .before .if2 .left) ∙ c .before .before .before .alone-side .ensures ∙ alone-sees s) _
+    (c .alone-side2 .ensures ∙ alone-sees (c .before .swapped .ensures .0 (c .before .before .before .before .before .before .before .before .args .k .now) before behind l r s))
 
 returns-3 : tie.Need-returns-3
 returns-3 c =

@@ -1,5 +1,7 @@
 -- A 513th line, a line past the room, or one line more.
+use native.Mathlib.Omega.{arith}
 use borrow.Author.Needs.{needs}
+use Rattle.answers.proofs.Tallies.{line-added}
 use Rattle.solver.proofs.Going.{many-lines, long-line, next-line}
 use Rattle.solver.proofs.line.Statement.{statement}
 use Rattle.solver.proofs.line.Tie as tie
@@ -13,7 +15,7 @@ returns-2 c = λ oldWork oldAnswer ls x w work p ek en e. long-line oldWork oldA
 returns-3 : tie.Need-returns-3
 returns-3 c = λ oldWork oldAnswer ls x w work p ek en e.
     next-line oldWork oldAnswer ls x w (c .before .before .before .before .before .before .before .before .before .before .before .before .args .s) work _ p _ ek _ en e _ _ (c .before .before .add-line .kept .1 .1 .1 .0)
-    (c .before .before .add-line .ensures oldAnswer ls x ek (c .before .before .before .before .is-solved .ensures x (p .fine .0) ek) (p .lined))
+    (line-added oldAnswer ls x _ _ _ _ ek (c .before .before .before .before .is-solved .ensures x (p .fine .0) ek) (p .lined) _ _ (omega arith) (omega arith) (c .before .before .add-line .ensures .0) (c .before .before .add-line .ensures .1))
 
 pub line-spec : {M : Type 1} → statement M
 line-spec =

@@ -5,7 +5,8 @@ use mathlib.Core.Path.{_≡_, ap, subst}
 use lib.ListN.{length, drop, getD}
 use borrow.Author.Needs.{needs}
 use Rattle.language.specs.Question.{parts}
-use Rattle.stack.specs.Waiting.{Waiting}
+use Rattle.stack.specs.Waiting.{Laid}
+use Rattle.stack.proofs.Blocks.{laid-size}
 use Rattle.stack.proofs.Cutting.{table-fits}
 use Rattle.stack.proofs.Pushing.{cut-before, laid-none, laid-more}
 use Rattle.stack.proofs.lay_out.Statement.{statement}
@@ -13,7 +14,7 @@ use Rattle.stack.proofs.lay_out.Tie as tie
 
 abbrev Inv-loop : tie.InvT-loop
 Inv-loop question work₀ i₀ at₀ work i at =
-    (i ≤ getD question 4 0) × (getD question 4 0 + 6 ≤ length question) × (8192 ≤ at + (length question - getD question (i + 5) 0) + (getD question 4 0 - i)) × Waiting work₀ at (drop i (parts 5 (getD question 4 0) question)) work
+    (i ≤ getD question 4 0) × (getD question 4 0 + 6 ≤ length question) × (8192 ≤ at + (length question - getD question (i + 5) 0) + (getD question 4 0 - i)) × Laid work₀ at (drop i (parts 5 (getD question 4 0) question)) work
 
 abbrev μ-loop : tie.MeasureT-loop
 μ-loop question work₀ i₀ at₀ work i at = i
@@ -39,6 +40,7 @@ push-requires c κs =
     let high = d .high in
     let e : l .i - 1 + 6 ≡ l .i + 5 = omega arith in
     let g = ap (λ n. getD q n 0) e in
+    let size = laid-size (l .inv .3) in
     (omega arith, omega arith, omega arith, omega arith, omega arith)
 
 loop-again : tie.Need-loop-again Inv-loop μ-loop
@@ -53,13 +55,13 @@ loop-again c =
     let e : l .i - 1 + 6 ≡ l .i + 5 = omega arith in
     let g = ap (λ n. getD q n 0) e in
     let n = c .before .before .push .ensures .0 in
-    (omega arith, omega arith, omega arith, laid-more q (c .before .before .before .before .before .before .before .before .before .before .before .before .before .before .pre .1) (c .before .before .before .before .before .before .before .before .before .before .before .before .before .before .args .work .now) _ _ (l .at) _ (l .i) (omega arith) (omega arith) (omega arith) (rw (f, t) at n) (rw (f, t) at (c .before .before .push .ensures .1)) (l .inv .3))
+    (omega arith, omega arith, omega arith, laid-more q (c .before .before .before .before .before .before .before .before .before .before .before .before .before .before .pre .1) (c .before .before .before .before .before .before .before .before .before .before .before .before .before .before .args .work .now) _ _ (l .at) _ (l .i) (omega arith) (omega arith) (rw (f, t) at n) (rw (f, t) at (c .before .before .push .ensures .1)) (l .inv .3))
 
 returns : tie.Need-returns Inv-loop μ-loop
 returns c =
     let l = c .before .loop in
     let q = c .before .before .before .before .before .before .args .question .now in
-    subst (λ n. Waiting (c .before .before .before .before .before .before .args .work .now) (l .at) (drop n (parts 5 (getD q 4 0) q)) (l .work)) (let z : l .i ≡ 0 = omega arith in z) (l .inv .3)
+    subst (λ n. Laid (c .before .before .before .before .before .before .args .work .now) (l .at) (drop n (parts 5 (getD q 4 0) q)) (l .work)) (let z : l .i ≡ 0 = omega arith in z) (l .inv .3)
 
 pub lay-out-spec : {M : Type 1} → statement M
 lay-out-spec =
@@ -80,5 +82,5 @@ lay-out-spec =
     push-requires
     (λ c. search needs)
     loop-again
-    (λ c. search needs)
+    (λ c. laid-size (c .before .loop .inv .3))
     returns)

@@ -1,32 +1,33 @@
 -- One pass: what is known of the literals passed.
 use Prim.Native.Nat.{_-_, _<_}
 use native.Mathlib.Omega.{arith}
-use mathlib.Core.Path.{_≡_, _∙_}
+use mathlib.Core.Path.{_≡_, refl, ap, _∙_}
+use mathlib.Core.List.{[], _∷_, _++_}
 use lib.ListN.{length}
 use borrow.Author.Needs.{needs}
 use Rattle.language.specs.Limits.{desk}
 use Rattle.language.specs.Trees.{Conj}
 use Rattle.language.specs.Writing.{conjWords}
 use Rattle.language.specs.Fine.{fineConj}
-use Rattle.search.specs.Ranking.{Sought}
 use Rattle.steps.specs.declared.Best.{Best}
+use Rattle.steps.specs.Seeking.{lesserOf, bestFrom, bestOf}
 use Rattle.search.proofs.Walks.{Walked, walk-starts, walk-on, walk-ends}
-use Rattle.search.proofs.Pass.{start, finish}
-use Rattle.steps.proofs.Finding.{pass-on, placed-on}
+use Rattle.steps.proofs.Finding.{placed-on}
 use Rattle.steps.proofs.find.Statement.{statement}
 use Rattle.steps.proofs.find.Tie as tie
 
-abbrev Known : Best → Conj → Conj → Type 0
-Known b done rest = Sought done rest (b .rank) (b .at) (b .swap)
+abbrev Known : Best → Conj → Conj → Conj → Type 0
+Known b c done rest = bestFrom b done rest ≡ bestOf c
 
 abbrev Inv-loop : tie.InvT-loop
-Inv-loop k best₀ i₀ best i = (best .rank < 28 → best .at < length k) × ((c : Conj) → fineConj desk c → k ≡ conjWords c → Walked (Known best) c i)
+Inv-loop k best₀ i₀ best i = (best .rank < 28 → best .at < length k) × ((c : Conj) → fineConj desk c → k ≡ conjWords c → Walked (Known best c) c i)
 
 abbrev μ-loop : tie.MeasureT-loop
 μ-loop k best₀ i₀ best i = length k - i
 
 loop-holds : tie.Need-loop-holds Inv-loop μ-loop
-loop-holds c = (λ h. absurd (omega arith), λ x f e. walk-starts (Known _) x (start x _ _))
+unfolding bestOf
+loop-holds c = (λ h. absurd (omega arith), λ x f e. walk-starts (Known _ x) x refl)
 
 loop-less : tie.Need-loop-less Inv-loop μ-loop
 loop-less c = let z = c .before .before .next-literal .ensures in omega arith
@@ -35,12 +36,12 @@ loop-again : tie.Need-loop-again Inv-loop μ-loop
 loop-again c = (
   placed-on _ (c .before .before .before .before .loop .best) (c .before .rank-at .result) (c .lesser .result) (c .lesser .ensures) (c .before .before .before .before .loop .inv .0) (let z = c .before .rank-at .ensures .0 in omega arith),
   λ x f e.
-      walk-on (c .before .before .before .before .before .before .args .k .now) x f e (c .before .before .before .before .loop .i) (Known (c .before .before .before .before .loop .best)) (Known (c .lesser .result)) _ (c .before .before .before .before .loop .inv .1 x f e) (c .before .before .before .loop-test .taken) (c .before .before .next-literal .ensures)
-      λ done l rest p d. pass-on done l rest (c .before .before .before .before .loop .best) (c .before .rank-at .result) (c .lesser .result) (c .lesser .ensures) (c .before .rank-at .ensures .0 ∙ p .place) (c .before .rank-at .ensures .1 done l rest p) d,
+      walk-on (c .before .before .before .before .before .before .args .k .now) x f e (c .before .before .before .before .loop .i) (Known (c .before .before .before .before .loop .best) x) (Known (c .lesser .result) x) _ (c .before .before .before .before .loop .inv .1 x f e) (c .before .before .before .loop-test .taken) (c .before .before .next-literal .ensures)
+      λ done l rest p d. ap (λ b. bestFrom b (done ++ (l ∷ [])) rest) (c .lesser .ensures ∙ ap (lesserOf (c .before .before .before .before .loop .best)) (c .before .rank-at .ensures .1 done l rest p)) ∙ d,
 )
 
 returns : tie.Need-returns Inv-loop μ-loop
-returns c = (c .before .loop .inv .0, λ x f e. finish x _ _ _ (walk-ends (c .before .before .before .args .k .now) x f e (c .before .loop .i) (Known (c .before .loop .best)) (c .before .loop .inv .1 x f e) (c .loop-test .left)))
+returns c = (c .before .loop .inv .0, λ x f e. walk-ends (c .before .before .before .args .k .now) x f e (c .before .loop .i) (Known (c .before .loop .best) x) (c .before .loop .inv .1 x f e) (c .loop-test .left))
 
 pub find-spec : {M : Type 1} → statement M
 find-spec =
