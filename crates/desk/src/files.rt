@@ -1,11 +1,10 @@
 // Words from a file, or from standard input where its name is -.
 ghost use Prim.Native.Nat.{_≤_};
-ghost use mathlib.Core.Path.{_≡_};
-ghost use lib.ListN.{length, take};
-use crate::show::number;
-use crate::show::say;
-use crate::text::Text;
-use crate::text::parse;
+ghost use lib.ListN.{length};
+use crate::print::number;
+use crate::print::say;
+use prompt::Text;
+use prompt::parse;
 
 fn is_dash(path: &[u8]) -> bool {
     if path.len() != 1 {
@@ -31,7 +30,7 @@ fn complain(path: &[u8], line: usize) {
 
 // The words of the file that argument `i` names. What cannot be read is said, and `wrong` is not 0.
 pub fn load(i: usize, words: &mut [u16]) -> Text
-    ensures { λ r. ⌜ (r .words ≤ length (now (words .exit))) × (r .words ≡ length (take (r .words) (now (words .exit)))) ⌝ }
+    ensures { λ r. ⌜ r .words ≤ length (now (words .exit)) ⌝ }
 {
     let mut path = io::buffer();
     let n = os::arg(i, &mut path);

@@ -1,12 +1,18 @@
 // The desk at a prompt: a question solved, a filling tried, an example shown, in plain words.
+mod answers;
+mod files;
+mod print;
+mod refusals;
+mod trees;
+
+use answers::filling;
+use answers::lines;
+use files::load;
 use language::Refusal;
-use prompt::filling;
-use prompt::lines;
-use prompt::load;
-use prompt::number;
-use prompt::refusal;
-use prompt::say;
-use prompt::value;
+use print::number;
+use print::say;
+use prompt::parse;
+use refusals::refusal;
 use showing::Shown;
 use solver::Outcome;
 use solver::Solved;
@@ -81,24 +87,29 @@ fn try_file(question: &[u16]) {
         return;
     }
     let n = t.words;
-    attempt(question, &values[..n]);
+    attempt(question, &values[0..n]);
 }
 
-// The number that argument 3 writes.
-fn line_asked() -> u32 {
+fn place(n: u16) -> usize {
+    n as usize
+}
+
+// The line that argument 3 names. What is no word names none, and no answer has a line of this number.
+fn line_asked() -> usize {
     let mut text = io::buffer();
     let n = os::arg(3, &mut text);
-    value(&text[..n], 0, n)
-}
-
-fn wider(n: u32) -> usize {
-    n as usize
+    let mut line = [0u16; 1];
+    let t = parse(&text[..n], &mut line);
+    if t.wrong != 0 {
+        return 65536;
+    }
+    place(line[0])
 }
 
 // The first words of the room, as a filling.
 fn show_words(question: &[u16], room: &[u16], n: usize) {
     if n <= room.len() {
-        filling(question, &room[..n]);
+        filling(question, &room[0..n]);
     }
 }
 
@@ -106,7 +117,7 @@ fn show(question: &[u16]) {
     let mut work = [0u16; 8192];
     let mut answer = [0u16; 8192];
     let mut room = [0u16; 4096];
-    let shown = showing::example(question, wider(line_asked()), &mut work, &mut answer, &mut room);
+    let shown = showing::example(question, line_asked(), &mut work, &mut answer, &mut room);
     match shown {
         Shown::Shows(n) => show_words(question, &room, n),
         Shown::Denied(r) => refuse(r),
@@ -140,5 +151,5 @@ fn main() {
         return;
     }
     let n = t.words;
-    answer_to(&question[..n]);
+    answer_to(&question[0..n]);
 }

@@ -1,14 +1,7 @@
-// Words written out for a reader: x0, p0, X0 are the term, hedge and function variables, a0 a symbol, () nothing at all.
-ghost use Prim.Native.Nat.{_≤_, _<_};
-use libc::STDOUT_FILENO;
-
-pub fn say(text: &[u8]) {
-    io::write_all(STDOUT_FILENO, text);
-}
-
-pub fn number(n: u64) {
-    io::print_decimal(STDOUT_FILENO, n);
-}
+// Hedges, expressions and literals written out for a reader: x0, p0, X0 are the term, hedge and function variables, a0 a symbol, () nothing at all.
+ghost use Prim.Native.Nat.{_≤_};
+use crate::print::number;
+use crate::print::say;
 
 // A letter and a number.
 fn name(letter: &[u8], n: u16) {
@@ -141,7 +134,7 @@ fn is_leaf(ws: &[u16], next: usize, w: u16) -> bool {
 }
 
 // An expression: R . S in a row, R + S either, R* any number, a0(R) one term over R; the place after it.
-pub fn expression(ws: &[u16], at: usize) -> usize
+fn expression(ws: &[u16], at: usize) -> usize
     ensures { λ r. ⌜ at ≤ r ⌝ }
 {
     if at >= ws.len() {
@@ -186,7 +179,7 @@ fn literal(ws: &[u16], at: usize) -> usize
 }
 
 // The literals between two places, a row for each.
-fn literals(ws: &[u16], from: usize, to: usize) {
+pub fn literals(ws: &[u16], from: usize, to: usize) {
     let mut at = from;
     let mut left = to;
     while left > from {
@@ -197,114 +190,4 @@ fn literals(ws: &[u16], from: usize, to: usize) {
             say(b"\n");
         }
     }
-}
-
-fn wide(w: u16) -> usize
-    ensures { λ r. ⌜ r < 65536 ⌝ }
-{
-    w as usize
-}
-
-// Line i of an answer: its number and its mark, then its literals.
-fn line(answer: &[u16], i: usize)
-    requires { ⌜ i < 65536 ⌝ }
-{
-    let from = wide(word(answer, i + 2));
-    let to = wide(word(answer, i + 3));
-    say(b"line ");
-    number(i as u64);
-    if word(answer, from) == 1 {
-        say(b", settled\n");
-    } else {
-        say(b", open\n");
-    }
-    literals(answer, from + 1, to);
-}
-
-// Every line of an answer.
-pub fn lines(answer: &[u16]) {
-    let n = wide(word(answer, 0));
-    let mut i = 0;
-    while i < n {
-        line(answer, i);
-        i += 1;
-    }
-}
-
-fn decimal(w: u16) {
-    number(w as u64);
-}
-
-// Words in decimal, in a row.
-pub fn words(ws: &[u16]) {
-    let mut i = 0;
-    while i < ws.len() {
-        decimal(ws[i]);
-        say(b" ");
-        i += 1;
-    }
-    say(b"\n");
-}
-
-// The name of variable i of a filling: term, hedge, function variables in order.
-fn variable(i: usize, terms: usize, hedges: usize) {
-    if i < terms {
-        say(b"x");
-        number(i as u64);
-        return;
-    }
-    let j = i - terms;
-    if j < hedges {
-        say(b"p");
-        number(j as u64);
-        return;
-    }
-    say(b"X");
-    number((j - hedges) as u64);
-}
-
-// A filling's values as remarks, and then its words, so that what is written here can be read again.
-pub fn filling(question: &[u16], ws: &[u16]) {
-    let n = wide(word(ws, 0));
-    let mut i = 0;
-    while i < n {
-        say(b"# ");
-        variable(i, wide(word(question, 1)), wide(word(question, 2)));
-        say(b" = ");
-        hedge(ws, wide(word(ws, i + 1)));
-        say(b"\n");
-        i += 1;
-    }
-    words(ws);
-}
-
-// What a refusal's number means.
-fn meaning(n: u64) {
-    match n {
-        1 => say(b"a lent slice is too short"),
-        2 => say(b"the question has under 6 or over 1,024 words"),
-        3 => say(b"a count of the question is out of range"),
-        4 => say(b"an offset of the question is missing or out of place"),
-        5 => say(b"a conjunction of the question is not exactly literals"),
-        6 => say(b"the question has a number that it does not declare"),
-        7 => say(b"a step's result is longer than 1,024 words"),
-        8 => say(b"the waiting conjunctions are longer than 8,192 words together"),
-        9 => say(b"there is a 513th line, or a line past the end of the answer"),
-        10 => say(b"10,000 steps are made and a rule still applies"),
-        11 => say(b"the filling's length, count or offsets are not right"),
-        12 => say(b"a value of the filling has the wrong form or a symbol that is not declared"),
-        13 => say(b"a literal of the question, filled in, is longer than 8,192 words"),
-        14 => say(b"there is no such line"),
-        15 => say(b"the line is open"),
-        16 => say(b"the example is longer than 4,096 words"),
-        _ => say(b"no number of the table"),
-    }
-}
-
-pub fn refusal(n: u64) {
-    say(b"refused, number ");
-    number(n);
-    say(b": ");
-    meaning(n);
-    say(b"\n");
 }

@@ -1,10 +1,10 @@
--- `prompt::show::filling` is safe and ends.
+-- `desk::answers::filling` is safe and ends.
 use Prim.Native.Nat.{_≤_, _<_, _-_, _+_}
 use lib.ListN.{length}
 use native.Mathlib.Omega.{arith}
 use borrow.Author.Needs.{needs}
-use Rattle.prompt.proofs.show.filling.Statement.{statement}
-use Rattle.prompt.proofs.show.filling.Tie as tie
+use Rattle.desk.proofs.answers.filling.Statement.{statement}
+use Rattle.desk.proofs.answers.filling.Tie as tie
 
 abbrev Inv-loop : tie.InvT-loop
 Inv-loop question ws n i₀ t5 t6 t7 i = (i ≤ n) × (n < 65536)

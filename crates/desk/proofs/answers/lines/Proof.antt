@@ -1,10 +1,10 @@
--- `prompt::show::lines` is safe and ends.
+-- `desk::answers::lines` is safe and ends.
 use Prim.Native.Nat.{_≤_, _<_, _-_, _+_}
 use lib.ListN.{length}
 use native.Mathlib.Omega.{arith}
 use borrow.Author.Needs.{needs}
-use Rattle.prompt.proofs.show.lines.Statement.{statement}
-use Rattle.prompt.proofs.show.lines.Tie as tie
+use Rattle.desk.proofs.answers.lines.Statement.{statement}
+use Rattle.desk.proofs.answers.lines.Tie as tie
 
 abbrev Inv-loop : tie.InvT-loop
 Inv-loop answer n i₀ i = (i ≤ n) × (n < 65536)

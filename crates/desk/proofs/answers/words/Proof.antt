@@ -1,10 +1,10 @@
--- `prompt::show::words` is safe and ends.
+-- `desk::answers::words` is safe and ends.
 use Prim.Native.Nat.{_≤_, _<_, _-_, _+_}
 use lib.ListN.{length}
 use native.Mathlib.Omega.{arith}
 use borrow.Author.Needs.{needs}
-use Rattle.prompt.proofs.show.words.Statement.{statement}
-use Rattle.prompt.proofs.show.words.Tie as tie
+use Rattle.desk.proofs.answers.words.Statement.{statement}
+use Rattle.desk.proofs.answers.words.Tie as tie
 
 abbrev Inv-loop : tie.InvT-loop
 Inv-loop ws i₀ t3 t4 i = i ≤ length ws

@@ -1,21 +1,21 @@
--- `prompt::show::expression` meets its contract, by recursion over the parts; the words left fall.
+-- `desk::trees::expression` meets its contract, by recursion over the parts; the words left fall.
 use Prim.Native.Nat.{ℕ, _<_, _-_}
 use lib.ListN.{length}
 use native.Mathlib.Omega.{arith}
 use borrow.Author.Needs.{needs}
 use borrow.Fn.Kinds.{In}
 use borrow.Fn.PlainCycle.{Measures, is, falls, and}
-use Rattle.prompt.proofs.show.expression.Reads as f
-use Rattle.prompt.proofs.show.expression.Kinds as kinds
-use Rattle.prompt.proofs.show.+expression.Lts-expression as lts
-use Rattle.prompt.proofs.show.after.Reads as after-reads
-use Rattle.prompt.proofs.show.before.Reads as before-reads
-use Rattle.prompt.proofs.show.behind.Reads as behind-reads
-use Rattle.prompt.proofs.show.between.Reads as between-reads
-use Rattle.prompt.proofs.show.is_leaf.Reads as is-leaf-reads
-use Rattle.prompt.proofs.show.named.Reads as named-reads
-use Rattle.prompt.proofs.show.+expression.{statement}
-use Rattle.prompt.proofs.show.+expression.Tie.{close}
+use Rattle.desk.proofs.trees.expression.Reads as f
+use Rattle.desk.proofs.trees.expression.Kinds as kinds
+use Rattle.desk.proofs.trees.+expression.Lts-expression as lts
+use Rattle.desk.proofs.trees.after.Reads as after-reads
+use Rattle.desk.proofs.trees.before.Reads as before-reads
+use Rattle.desk.proofs.trees.behind.Reads as behind-reads
+use Rattle.desk.proofs.trees.between.Reads as between-reads
+use Rattle.desk.proofs.trees.is_leaf.Reads as is-leaf-reads
+use Rattle.desk.proofs.trees.named.Reads as named-reads
+use Rattle.desk.proofs.trees.+expression.{statement}
+use Rattle.desk.proofs.trees.+expression.Tie.{close}
 
 abbrev μ : Measures 1 kinds.ps ℕ
 μ κs a = length (a .0 .now) - a .1 .0

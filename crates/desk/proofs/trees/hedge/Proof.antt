@@ -1,12 +1,12 @@
--- `prompt::show::hedge` meets its contract: the depth is at most the words passed.
+-- `desk::trees::hedge` meets its contract: the depth is at most the words passed.
 use Prim.Native.Nat.{_≤_, _<_, _-_, _+_}
 use lib.ListN.{length}
 use Prim.Native.Nat.{_≤_, _<_, _-_, _+_}
 use lib.ListN.{length}
 use native.Mathlib.Omega.{arith}
 use borrow.Author.Needs.{needs}
-use Rattle.prompt.proofs.show.hedge.Statement.{statement}
-use Rattle.prompt.proofs.show.hedge.Tie as tie
+use Rattle.desk.proofs.trees.hedge.Statement.{statement}
+use Rattle.desk.proofs.trees.hedge.Tie as tie
 
 abbrev Inv-loop : tie.InvT-loop
 Inv-loop ws from at₀ depth₀ t7 t8 at depth = (from ≤ at) × (depth ≤ at)

@@ -1,10 +1,10 @@
--- `prompt::show::literals` is safe and ends: a turn for each word at most.
+-- `desk::trees::literals` is safe and ends: a turn for each word at most.
 use Prim.Native.Nat.{_≤_, _<_, _-_, _+_}
 use lib.ListN.{length}
 use native.Mathlib.Omega.{arith}
 use borrow.Author.Needs.{needs}
-use Rattle.prompt.proofs.show.literals.Statement.{statement}
-use Rattle.prompt.proofs.show.literals.Tie as tie
+use Rattle.desk.proofs.trees.literals.Statement.{statement}
+use Rattle.desk.proofs.trees.literals.Tie as tie
 
 abbrev Inv-loop : tie.InvT-loop
 Inv-loop ws from to at₀ left₀ t6 t7 at left = Unit {0}

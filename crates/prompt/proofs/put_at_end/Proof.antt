@@ -1,0 +1,16 @@
+-- `prompt::put_at_end` meets its contract: a digit more, or the word is put.
+use native.Mathlib.Omega.{arith}
+use borrow.Author.Needs.{needs}
+use Rattle.prompt.proofs.Reading.{put-none, word-ended, word-goes-on}
+use Rattle.prompt.proofs.put_at_end.Statement.{statement}
+use Rattle.prompt.proofs.put_at_end.Tie as tie
+
+pub put-at-end-spec : {M : Type 1} → statement M
+put-at-end-spec =
+    tie.close
+    (tie.spec
+    (λ c κs. search needs)
+    (λ c. word-goes-on (c .before .before .before .args .b) (c .before .before .before .args .v) (c .before .is-digit .ensures) (c .if1 .taken) (put-none (omega arith)))
+    (λ c κs. search needs)
+    (λ c. search needs)
+    (λ c. word-ended (c .before .before .before .before .before .before .before .args .b) (c .before .before .before .before .before .before .before .args .v) (c .before .before .before .before .before .is-digit .ensures) (c .before .before .before .before .if1 .left) (c .before .before .put .ensures)))
