@@ -1,7 +1,7 @@
 -- What the parts of an expression tell of the sample of the whole, in the shape in which measuring and writing find them.
 use Prim.Native.Nat.{ℕ, _+_, _<_, _≤_}
 use mathlib.Core.Path.{_≡_, refl, ap, sym, _∙_}
-use mathlib.Core.List.{List, [], _∷_, _++_}
+use mathlib.Core.List.{List, [], _∷_, _++_, append-nil}
 use native.Mathlib.Omega.{arith}
 use lib.ListN.{length, getD, length-append}
 use Rattle.language.specs.Trees.{Expr, eps, cat, alt, star, over}
@@ -62,8 +62,10 @@ module _ {k : List ℕ} {at : ℕ} where
       }
 
   module _ {p q : Sample} (i : at < length k) (a : Measured k (at + 1) p) (b : Measured k (p .end) q) where
-    pub measured-cat : getD k at 0 ≡ 7001 → Measured k at (record { end = q .end; words = p .words + q .words })
-    measured-cat z =
+    -- two parts in a row
+    two : {n : ℕ} → n ≤ p .words + q .words → ((R : Expr) (beyond : List ℕ) → Here k at R beyond → SampleOf at R (record { end = q .end; words = n }))
+        → Measured k at (record { end = q .end; words = n })
+    two most each =
         let l = a .after in
         let m = b .after in
         let s = a .short in
@@ -73,37 +75,33 @@ module _ {k : List ℕ} {at : ℕ} where
           within = λ y. b .within (a .within (omega arith));
           short = omega arith;
           few = let v = a .within (omega arith) in let w = b .within v in omega arith;
-          each = by-cat _ z (λ A B w h o.
-              let l = a .each A _ h in
-              let r = b .each B w (second-of h o (l .end)) in
-              let s = length-append (exprWords A) (exprWords B) in
-              let t = ap length (body-row (sample A) (sample B)) ∙ length-append (body (sample A)) (body (sample B)) in
-              let y = l .end in
-              let x = r .end in
-              let m = l .words in
-              let n = r .words in
-              record { end = omega arith; words = omega arith });
+          each = each;
         }
+
+    pub measured-cat : getD k at 0 ≡ 7001 → Measured k at (record { end = q .end; words = p .words + q .words })
+    measured-cat z =
+        two (omega arith)
+        (by-cat _ z (λ A B w h o.
+        let l = a .each A _ h in
+        let r = b .each B w (second-of h o (l .end)) in
+        let s = length-append (exprWords A) (exprWords B) in
+        let t = ap length (body-row (sample A) (sample B)) ∙ length-append (body (sample A)) (body (sample B)) in
+        let y = l .end in
+        let x = r .end in
+        let m = l .words in
+        let n = r .words in
+        record { end = omega arith; words = omega arith }))
 
     pub measured-alt : (getD k at 0 ≡ 7000 → ⊥) → (getD k at 0 ≡ 7001 → ⊥) → (getD k at 0 ≡ 7003 → ⊥) → 7000 ≤ getD k at 0 → Measured k at (record { end = q .end; words = p .words })
     measured-alt n0 n1 n3 lo =
-        let l = a .after in
-        let m = b .after in
-        let s = a .short in
-        let t = b .short in
-        record {
-          after = omega arith;
-          within = λ y. b .within (a .within (omega arith));
-          short = omega arith;
-          few = let v = a .within (omega arith) in let w = b .within v in omega arith;
-          each = λ R v g. by-alt (λ R v. SampleOf at R (record { end = q .end; words = p .words })) (is-alt g n0 n1 n3 lo) (λ A B w h o.
-              let l = a .each A _ h in
-              let r = b .each B w (second-of h o (l .end)) in
-              let s = length-append (exprWords A) (exprWords B) in
-              let y = l .end in
-              let x = r .end in
-              record { end = omega arith; words = l .words }) R v g;
-        }
+        two (omega arith)
+        (λ R v g. by-alt (λ R v. SampleOf at R (record { end = q .end; words = p .words })) (is-alt g n0 n1 n3 lo) (λ A B w h o.
+        let l = a .each A _ h in
+        let r = b .each B w (second-of h o (l .end)) in
+        let s = length-append (exprWords A) (exprWords B) in
+        let y = l .end in
+        let x = r .end in
+        record { end = omega arith; words = l .words }) R v g)
 
   -- ---- written
 
@@ -134,14 +132,10 @@ module _ {k : List ℕ} {at : ℕ} where
               record {
                 end = omega arith;
                 laid = laid-as (ap (λ x. (x ∷ []) ++ (body (sample A) ++ (0 ∷ []))) y ∙ ap (λ l. (3000 + f .0) ∷ l) (sym (words-body (sample A)))
-                    ∙ ap (λ l. (3000 + f .0) ∷ l) (sym (nil-right (completeWords (sample A)))))
+                    ∙ ap (λ l. (3000 + f .0) ∷ l) (sym (append-nil (completeWords (sample A)))))
                     (laid-row (getD k at 0 ∷ []) (body (sample A) ++ (0 ∷ [])) a (laid-row (body (sample A)) (0 ∷ []) (r .laid) c));
               });
         }
-      where
-        nil-right : (l : List ℕ) → l ++ [] ≡ l
-        nil-right [] = refl
-        nil-right (x ∷ l) = ap (λ m. x ∷ m) (nil-right l)
 
     pub written-cat : {mid new : List ℕ} {p q : Wrote} → at < length k → getD k at 0 ≡ 7001 → Written k (at + 1) old to mid p → Written k (p .end) mid (p .to) new q → Written k at old to new q
     written-cat {mid} {new} {p} {q} i z a b =
