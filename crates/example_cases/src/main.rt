@@ -38,18 +38,12 @@ fn show(question: &[u16], line: usize, room: &mut [u16]) {
     let mut work = [0u16; 8192];
     let mut answer = [0u16; 8192];
     let shown = showing::example(question, line, &mut work, &mut answer, room);
-    match shown {
-        Shown::Shows(n) => {
-            io::write_all(1, b"0");
-            print_words(room, n);
-            io::write_all(1, b"\n");
-            if n <= room.len() {
-                try_filling(question, &room[0..n]);
-            }
-        }
-        Shown::Denied(e) => {
-            print(language::number(e));
-            io::write_all(1, b"\n");
+    print(showing::shown_number(shown));
+    print_words(room, showing::shown_length(shown));
+    io::write_all(1, b"\n");
+    if let Shown::Shows(n) = shown {
+        if n <= room.len() {
+            try_filling(question, &room[0..n]);
         }
     }
 }

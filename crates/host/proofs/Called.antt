@@ -8,9 +8,9 @@ use lib.Seq.{sets}
 use Rattle.language.specs.Limits.{desk}
 use Rattle.rules.specs.Answer.{Verdict, noLine, allSolved, someOpen, verdictOf, Solving, answered, unread, given-up, solving}
 use Rattle.solver.specs.declared.Solved.{Solved}
-use Rattle.solver.specs.Leaves.{verdict, leaves}
+use Rattle.solver.specs.Leaves.{verdict, outcomeNumber, leaves}
 use Rattle.host.specs.Bytes.{bytesOf, wordsIn, fitting}
-use Rattle.host.specs.Numbers.{outcomeNumber, solvedNumber}
+use Rattle.host.specs.Numbers.{solvedNumber}
 use Rattle.host.specs.Host.{solvingBytes, solveNumber}
 use Rattle.host.proofs.Refusals.{Numbered, numbered}
 use Rattle.host.proofs.Solves.{Left, Own, same, kept, wrote, bytes-left}

@@ -2,8 +2,7 @@
 use Prim.Native.Nat.{ℕ, _+_}
 use Rattle.language.specs.Numbers.{numberOf}
 use Rattle.solver.specs.declared.Solved.{Solved}
-use Rattle.solver.specs.declared.Outcome.{Outcome}
-use Rattle.solver.specs.declared.Outcome.the-variants.{Refused, NoLine, AllSolved, SomeOpen}
+use Rattle.solver.specs.Leaves.{outcomeNumber}
 use Rattle.trying.specs.declared.Tried.{Tried}
 use Rattle.trying.specs.declared.Tried.the-variants as tried
 use Rattle.showing.specs.declared.Shown.{Shown}
@@ -11,12 +10,6 @@ use Rattle.showing.specs.declared.Shown.the-variants as shown
 use Rattle.host.specs.Bytes.{used}
 
 -- the refusal's number, or 0
-abbrev pub outcomeNumber : Outcome → ℕ
-outcomeNumber (Refused r) = numberOf r
-outcomeNumber NoLine = 0
-outcomeNumber AllSolved = 0
-outcomeNumber SomeOpen = 0
-
 abbrev pub solvedNumber : Solved → ℕ
 solvedNumber s = outcomeNumber (s .outcome)
 

@@ -14,8 +14,8 @@ use bytes::take_words;
 use bytes::write_words;
 use language::number;
 use showing::Shown;
-use solver::Outcome;
 use solver::Solved;
+use solver::outcome_number;
 use trying::Tried;
 
 fn wide(n: u16) -> u32
@@ -29,12 +29,7 @@ fn solved_number(s: Solved) -> u32
     ensures { λ r. ⌜ r ≡ solvedNumber s ⌝ }
 {
     let outcome = s.outcome;
-    match outcome {
-        Outcome::Refused(r) => wide(number(r)),
-        Outcome::NoLine => 0,
-        Outcome::AllSolved => 0,
-        Outcome::SomeOpen => 0,
-    }
+    wide(outcome_number(outcome))
 }
 
 // Solves a question: the refusal's number, or 0.

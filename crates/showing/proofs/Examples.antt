@@ -20,9 +20,9 @@ use Rattle.exact.proofs.Answers.{Where}
 use Rattle.exact.proofs.Looks.{empty-is}
 use Rattle.exact.proofs.Steps.{orElse-is}
 use Rattle.lines.proofs.Tests.{given-is}
-use Rattle.values.specs.Values.{Settled, valueWords}
-use Rattle.values.specs.Rows.{valuesBy}
-use Rattle.values.proofs.Bound.{single}
+use Rattle.showing.specs.Values.{Settled, valueWords}
+use Rattle.showing.specs.Rows.{valuesBy}
+use Rattle.showing.proofs.Following.{single}
 use Rattle.showing.specs.Fillings.{valuesOf, tableOf}
 
 -- ---- what a variable is bound to has the form that the variable takes

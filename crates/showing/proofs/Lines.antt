@@ -18,7 +18,7 @@ use Rattle.rules.specs.Run.{linesSize}
 use Rattle.rules.specs.Answer.{markOf, lineWords, answerWords}
 use Rattle.rules.specs.Calls.{lineAt}
 use Rattle.exact.specs.Each.{Each}
-use Rattle.answers.proofs.Rows.{header, in-a-row, length-header, length-lines, length-times}
+use Rattle.answers.proofs.Rows.{header, in-a-row, length-header, length-lines, length-times, length-answer}
 use Rattle.words.proofs.Parts.{drop-of, part-of, word-of}
 use Rattle.showing.specs.Answers.{Good, Answer}
 use Rattle.showing.proofs.Tables.{joined-row}
@@ -87,19 +87,9 @@ module _ {answer : List ℕ} {ls : List Conj} (a : Answer answer ls) where
   row = a .words ∙ ap (λ w. w ++ a .rest) (in-a-row ls (a .few)) ∙ append-assoc (header ls) _ (a .rest) ∙ ap (λ w. header ls ++ w) (append-assoc (times (512 - length ls) 0) _ (a .rest))
 
   pub whole : 8192 ≤ length answer
-  unfolding tail
   whole =
-      let B : List ℕ = joined (map lineWords ls) ++ times (8192 - (515 + linesSize ls)) 0 in
-      let e = ap length row ∙ length-append (header ls) tail in
-      let d = length-append (times (512 - length ls) 0) (B ++ a .rest) in
-      let f = length-append B (a .rest) in
-      let g = length-append (joined (map lineWords ls)) (times (8192 - (515 + linesSize ls)) 0) in
-      let h = length-header ls in
-      let t = length-times (512 - length ls) in
-      let u = length-times (8192 - (515 + linesSize ls)) in
-      let l = length-lines ls in
-      let z = a .size in
-      let y = a .few in
+      let e = ap length (a .words) ∙ length-append (answerWords desk ls) (a .rest) in
+      let n = length-answer ls (a .few) (a .size) in
       omega arith
 
   pub count-is : getD answer 0 0 ≡ length ls

@@ -18,8 +18,8 @@ use Rattle.rules.specs.Solved.{solved}
 use Rattle.rules.specs.Answer.{markOf, lineWords}
 use Rattle.rules.specs.Example.{example}
 use Rattle.rules.specs.Calls.{Showing, denied, fitted, shown, lineAt}
-use Rattle.bindings.specs.Lines.{Line}
-use Rattle.values.specs.Values.{Settled}
+use Rattle.showing.specs.Lines.{Line}
+use Rattle.showing.specs.Values.{Settled}
 use Rattle.words.proofs.Parts.{drop-of, word-of}
 use Rattle.showing.specs.declared.Shown.{Shown}
 use Rattle.showing.specs.declared.Shown.the-variants.{Shows, Denied}

@@ -17,7 +17,7 @@ use Rattle.rules.specs.Solved.{given, loneVar, onlyMember, solvedLiteral, solve
 use Rattle.rules.specs.Example.{expressionOf}
 use Rattle.lines.proofs.Quiet.{quiet-mem, at-literal}
 use Rattle.lines.proofs.Example.{over-only}
-use Rattle.values.specs.Values.{Settled}
+use Rattle.showing.specs.Values.{Settled}
 
 -- ---- a membership
 

@@ -6,7 +6,7 @@ use native.Mathlib.Omega.{arith}
 use lib.ListN.{length, length-append, length-map}
 use Rattle.meaning.specs.Values.{offsetsOf, joined, numbers}
 use Rattle.language.specs.Trees.{Conj, Var}
-use Rattle.values.specs.Rows.{valuesBy, starts}
+use Rattle.showing.specs.Rows.{valuesBy, starts}
 
 pub joined-row : (a b : List (List ℕ)) → joined (a ++ b) ≡ joined a ++ joined b
 joined-row [] b = refl

@@ -15,12 +15,12 @@ use Rattle.language.specs.Trees.{Conj, Counts, Var, tv, hv, fv}
 use Rattle.meaning.specs.Values.{variables, joined, offsetsOf, fillingWords}
 use Rattle.rules.specs.Example.{example}
 use Rattle.rules.specs.Calls.{Showing, shows, denied, fitted}
-use Rattle.samples.specs.Laid.{Laid}
-use Rattle.samples.proofs.Laid.{laid-none, laid-row, laid-as}
-use Rattle.bindings.specs.Lines.{Line, Word}
-use Rattle.values.specs.Values.{Settled}
-use Rattle.values.specs.Rows.{Makes, valuesBy, starts, KindLength, KindStarts, KindWritten}
-use Rattle.values.specs.declared.Row.{Row}
+use Rattle.showing.specs.Laid.{Laid}
+use Rattle.showing.proofs.Laid.{laid-none, laid-row, laid-as}
+use Rattle.showing.specs.Lines.{Line, Word}
+use Rattle.showing.specs.Values.{Settled}
+use Rattle.showing.specs.Rows.{Makes, valuesBy, starts, KindLength, KindStarts, KindWritten}
+use Rattle.showing.specs.declared.values.Row.{Row}
 use Rattle.showing.specs.declared.Shown.{Shown}
 use Rattle.showing.specs.declared.Shown.the-variants.{Shows, Denied}
 use Rattle.showing.specs.Shown.{resultOf, roomOf}

@@ -10,7 +10,7 @@ use Rattle.language.specs.Trees.{Conj}
 use Rattle.language.specs.Writing.{conjWords}
 use Rattle.language.specs.Fine.{fineConj}
 use Rattle.meaning.specs.Values.{fillingWords}
-use Rattle.bindings.specs.Lines.{Line}
+use Rattle.showing.specs.Lines.{Line}
 use Rattle.language.specs.Question.{countsOf}
 use Rattle.rules.specs.Solved.{solved}
 use Rattle.rules.specs.Run.{linesSize}
@@ -18,7 +18,7 @@ use Rattle.rules.specs.Answer.{lineWords, answerWords}
 use Rattle.rules.specs.Example.{example}
 use Rattle.rules.specs.Calls.{fitted, shown, lineAt}
 use Rattle.exact.specs.Each.{Each}
-use Rattle.values.specs.Values.{Settled}
+use Rattle.showing.specs.Values.{Settled}
 use Rattle.showing.specs.declared.Shown.{Shown}
 use Rattle.showing.specs.Shown.{resultOf, roomOf}
 

@@ -8,10 +8,10 @@ use Rattle.language.specs.Trees.{Conj, Counts, tv, hv, fv}
 use Rattle.meaning.specs.Values.{variables, joined, offsetsOf, fillingWords}
 use Rattle.rules.specs.Example.{example}
 use Rattle.rules.specs.Calls.{fitted}
-use Rattle.samples.specs.Laid.{Laid}
-use Rattle.bindings.specs.Lines.{Line}
-use Rattle.values.specs.Values.{Settled}
-use Rattle.values.specs.Rows.{valuesBy}
+use Rattle.showing.specs.Laid.{Laid}
+use Rattle.showing.specs.Lines.{Line}
+use Rattle.showing.specs.Values.{Settled}
+use Rattle.showing.specs.Rows.{valuesBy}
 use Rattle.showing.specs.declared.Shown.{Shown}
 use Rattle.showing.specs.Shown.{resultOf, roomOf}
 

@@ -1,4 +1,9 @@
-// The example of a line, written as a filling.
+// The example of a line, written as a filling. What a line says of its variables, the sample of an expression and the values that follow are
+// modules of this crate alone: no other call rests on them.
+mod bindings;
+mod samples;
+mod values;
+
 ghost use Prim.Native.Nat.{_<_, _≤_};
 ghost use lib.ListN.{length};
 ghost use mathlib.Core.Path.{_≡_};

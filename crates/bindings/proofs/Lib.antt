@@ -1,4 +1,0 @@
-pub mod Walks
-pub mod Places
-pub mod Looks
-pub mod Binding

@@ -1,5 +1,0 @@
-pub mod Unsolved
-pub mod Spelling
-pub mod Parts
-pub mod Bound
-pub mod Rows
