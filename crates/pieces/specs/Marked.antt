@@ -7,7 +7,9 @@ use lib.Dec.{leb}
 use lib.ListN.{getD}
 use Rattle.language.specs.Kinds.{pick}
 use Rattle.plans.specs.Results.{member}
+use Rattle.plans.specs.declared.Recipe.{Recipe}
 use Rattle.pieces.specs.declared.replacing.Marks.{Marks}
+use Rattle.pieces.specs.declared.replacing.Swap.{Swap}
 
 -- a hedge variable's word whose number is marked
 unfoldable pub marked : List Bool → ℕ → Bool
@@ -20,3 +22,7 @@ pub record Marked (words : List ℕ) (m : Marks) : Type 0 where
 -- what is written for one word
 unfoldable pub swapped : List ℕ → List ℕ → ℕ → List ℕ
 swapped old new x = pick (member x old) new (x ∷ [])
+
+-- the substitution of a recipe, without its pieces
+abbrev pub bare : Swap → Recipe
+bare s = record { slots = []; old = s .old; until = s .until; new = s .new }

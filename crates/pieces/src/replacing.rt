@@ -6,17 +6,23 @@ ghost use lib.Seq.{slice};
 ghost use Rattle.language.specs.Kinds.{pick};
 ghost use Rattle.plans.specs.Results.{member, changed};
 ghost use Rattle.pieces.specs.Written.{Wrote};
-ghost use Rattle.pieces.specs.Marked.{marked, Marked, swapped};
+ghost use Rattle.pieces.specs.Marked.{marked, Marked, swapped, bare};
 use super::copying::copy;
 use super::copying::part_len;
 use super::copying::within;
-use plans::Recipe;
 use words::stands;
 
 // Which hedge variables a part has, where it has no other words.
 pub struct Marks {
     pub only: bool,
     pub set: [bool; 32],
+}
+
+// A recipe's substitution by itself, so that its pieces are not handed on with it: each word of the part old..until is replaced by the part from `new` to the cut.
+pub struct Swap {
+    pub old: usize,
+    pub until: usize,
+    pub new: usize,
 }
 
 fn wide(x: u16) -> usize
@@ -98,7 +104,7 @@ fn put_word(
 // A part under the substitution.
 pub fn put(
     k: &[u16],
-    r: Recipe,
+    s: Swap,
     cut: usize,
     m: Marks,
     from: usize,
@@ -106,12 +112,12 @@ pub fn put(
     out: &mut [u16],
     at: usize,
 ) -> usize
-    requires { ⌜ Marked (slice (r .old) (r .until) (now k)) m × (at + length (changed (now k) r cut (slice from to (now k))) ≤ length (now out)) ⌝ }
-    ensures { λ e. ⌜ Wrote (now (out .entry)) at (changed (now (k .entry)) r cut (slice from to (now (k .entry)))) (now (out .exit)) e ⌝ }
+    requires { ⌜ Marked (slice (s .old) (s .until) (now k)) m × (at + length (changed (now k) (bare s) cut (slice from to (now k))) ≤ length (now out)) ⌝ }
+    ensures { λ e. ⌜ Wrote (now (out .entry)) at (changed (now (k .entry)) (bare s) cut (slice from to (now (k .entry)))) (now (out .exit)) e ⌝ }
 {
-    let old = r.old;
-    let until = r.until;
-    let new = r.new;
+    let old = s.old;
+    let until = s.until;
+    let new = s.new;
     let end = within(k, to);
     let mut i = from;
     let mut e = at;
@@ -130,13 +136,13 @@ fn swap_len(old: bool, gain: usize) -> usize
 }
 
 // How long a part is under the substitution.
-pub fn put_len(k: &[u16], r: Recipe, cut: usize, m: Marks, from: usize, to: usize) -> usize
-    requires { ⌜ Marked (slice (r .old) (r .until) (now k)) m × (length (now k) ≤ 1024) ⌝ }
-    ensures { λ n. ⌜ n ≡ length (changed (now (k .entry)) r cut (slice from to (now (k .entry)))) ⌝ }
+pub fn put_len(k: &[u16], s: Swap, cut: usize, m: Marks, from: usize, to: usize) -> usize
+    requires { ⌜ Marked (slice (s .old) (s .until) (now k)) m × (length (now k) ≤ 1024) ⌝ }
+    ensures { λ n. ⌜ n ≡ length (changed (now (k .entry)) (bare s) cut (slice from to (now (k .entry)))) ⌝ }
 {
-    let old = r.old;
-    let until = r.until;
-    let new = r.new;
+    let old = s.old;
+    let until = s.until;
+    let new = s.new;
     let gain = part_len(k, new, cut);
     let end = within(k, to);
     let mut i = from;

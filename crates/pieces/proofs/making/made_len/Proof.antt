@@ -3,17 +3,18 @@ use Prim.Native.Nat.{_+_, _*_, _-_, _≤_}
 use mathlib.Core.Path.{_≡_, ap}
 use lib.ListN.{length}
 use Rattle.plans.specs.Results.{slotAt, made}
-use Rattle.pieces.proofs.Made.{from, made-length, made-none, piece-short}
+use Rattle.pieces.proofs.Made.{whole, swapOf, from, made-length, made-none, piece-short}
+use Rattle.pieces.specs.Marked.{bare}
 use native.Mathlib.Omega.{arith}
 use borrow.Author.Needs.{needs}
 use Rattle.pieces.proofs.making.made_len.Statement.{statement}
 use Rattle.pieces.proofs.making.made_len.Tie as tie
 
 abbrev Inv-loop : tie.InvT-loop
-Inv-loop k r cut slots m n₀ i₀ n i = (n + length (from k r cut i) ≡ length (from k r cut 0)) × (n ≤ 1048576 * i) × (i ≤ 12)
+Inv-loop k cut slots s m n₀ i₀ n i = (n + length (from k (whole slots s) cut i) ≡ length (from k (whole slots s) cut 0)) × (n ≤ 1048576 * i) × (i ≤ 12)
 
 abbrev μ-loop : tie.MeasureT-loop
-μ-loop k r cut slots m n₀ i₀ n i = 12 - i
+μ-loop k cut slots s m n₀ i₀ n i = 12 - i
 
 loop-holds : tie.Need-loop-holds Inv-loop μ-loop
 unfolding made
@@ -24,14 +25,14 @@ piece-len-requires c κs = (c .before .before .before .note .ensures, c .before 
 
 add-n : tie.Need-add-n Inv-loop μ-loop
 add-n c = let a = c .before .before .before .before .before .before .before .args in
-    let b = piece-short (a .k .now) (a .r) (a .cut) (slotAt (a .r) (c .before .before .before .loop .i)) (c .before .before .before .before .before .before .before .pre) in
+    let b = piece-short (a .k .now) (bare (swapOf (a .r))) (a .cut) (slotAt (a .r) (c .before .before .before .loop .i)) (c .before .before .before .before .before .before .before .pre) in
     let e = c .piece-len .ensures in
     let y = c .before .before .before .loop .inv .1 in
     omega arith
 
 loop-again : tie.Need-loop-again Inv-loop μ-loop
 loop-again c = let a = c .before .before .before .before .before .before .before .args in
-    let b = piece-short (a .k .now) (a .r) (a .cut) (slotAt (a .r) (c .before .before .before .loop .i)) (c .before .before .before .before .before .before .before .pre) in
+    let b = piece-short (a .k .now) (bare (swapOf (a .r))) (a .cut) (slotAt (a .r) (c .before .before .before .loop .i)) (c .before .before .before .before .before .before .before .pre) in
     let e = c .piece-len .ensures in
     let w = made-length (a .k .now) (a .r) (a .cut) (c .before .before .before .loop .i) (c .before .before .loop-test .taken) (c .piece-len .result) e in
     let y = c .before .before .before .loop .inv .0 in

@@ -3,6 +3,7 @@ use Prim.Native.Nat.{_*_}
 use mathlib.Core.Path.{sym, ap, _∙_}
 use lib.Seq.{slice}
 use Rattle.plans.specs.Results.{pieceWords}
+use Rattle.pieces.specs.Marked.{bare}
 use Rattle.pieces.proofs.Parts.{part-short}
 use Rattle.pieces.proofs.Still.{counted-as}
 use Rattle.pieces.proofs.Replaced.{length-empty-each}
@@ -18,21 +19,21 @@ mul-result c = let g = c .before .before .p5 .given .0 in
     omega arith
 
 returns-2 : tie.Need-returns-2
-returns-2 c = let a = c .before .before .before .before .before .args in counted-as (ap (pieceWords (a .k .now) (a .r) (a .cut)) (c .before .before .p .given .1)) (c .part-len .ensures)
+returns-2 c = let a = c .before .before .before .before .before .args in counted-as (ap (pieceWords (a .k .now) (bare (a .s)) (a .cut)) (c .before .before .p .given .1)) (c .part-len .ensures)
 
 returns-3 : tie.Need-returns-3
-returns-3 c = let a = c .before .before .before .before .before .args in counted-as (ap (pieceWords (a .k .now) (a .r) (a .cut)) (c .before .before .p2 .given .1)) (c .put-len .ensures)
+returns-3 c = let a = c .before .before .before .before .before .args in counted-as (ap (pieceWords (a .k .now) (bare (a .s)) (a .cut)) (c .before .before .p2 .given .1)) (c .put-len .ensures)
 
 returns-4 : tie.Need-returns-4
-returns-4 c = let a = c .before .before .before .before .before .args in counted-as (ap (pieceWords (a .k .now) (a .r) (a .cut)) (c .before .before .p3 .given .1)) (c .part-len2 .ensures)
+returns-4 c = let a = c .before .before .before .before .before .args in counted-as (ap (pieceWords (a .k .now) (bare (a .s)) (a .cut)) (c .before .before .p3 .given .1)) (c .part-len2 .ensures)
 
 returns-5 : tie.Need-returns-5
-returns-5 c = let a = c .before .before .before .before .before .args in counted-as (ap (pieceWords (a .k .now) (a .r) (a .cut)) (c .before .before .p4 .given .1)) (c .put-len2 .ensures)
+returns-5 c = let a = c .before .before .before .before .before .args in counted-as (ap (pieceWords (a .k .now) (bare (a .s)) (a .cut)) (c .before .before .p4 .given .1)) (c .put-len2 .ensures)
 
 returns-6 : tie.Need-returns-6
 returns-6 c = let a = c .before .before .before .before .before .args in
     let g = c .before .before .p5 .given .0 in
-    counted-as (ap (pieceWords (a .k .now) (a .r) (a .cut)) (c .before .before .p5 .given .1)) (ap (λ n. 4 * n) (c .part-len3 .ensures) ∙ sym (length-empty-each (slice (g .0) (g .1 .0) (a .k .now))))
+    counted-as (ap (pieceWords (a .k .now) (bare (a .s)) (a .cut)) (c .before .before .p5 .given .1)) (ap (λ n. 4 * n) (c .part-len3 .ensures) ∙ sym (length-empty-each (slice (g .0) (g .1 .0) (a .k .now))))
 
 pub piece-len-spec : {M : Type 1} → statement M
 piece-len-spec =

@@ -26,15 +26,15 @@ add-n : tie.Need-add-n Inv-loop μ-loop
 add-n c = let a = c .before .before .before .before .before .before .before .before .args in
     let k = a .k .now in
     let y = c .before .before .before .before .loop .inv in
-    let b = put-short k (a .r .old) (a .r .new) (a .cut) (a .from) (a .to) (a .r .until) (c .before .before .before .before .before .before .before .before .pre .1) in
-    let w = put-length (c .before .before .before .before .before .within .ensures) (slice (a .r .old) (a .r .until) k) (slice (a .r .new) (a .cut) k) _ (c .before .before .before .loop-test .taken) _ (c .before .is-old .ensures) _ _ (c .before .before .before .before .before .before .part-len .ensures) (c .swap-len .ensures) in
+    let b = put-short k (a .s .old) (a .s .new) (a .cut) (a .from) (a .to) (a .s .until) (c .before .before .before .before .before .before .before .before .pre .1) in
+    let w = put-length (c .before .before .before .before .before .within .ensures) (slice (a .s .old) (a .s .until) k) (slice (a .s .new) (a .cut) k) _ (c .before .before .before .loop-test .taken) _ (c .before .is-old .ensures) _ _ (c .before .before .before .before .before .before .part-len .ensures) (c .swap-len .ensures) in
     omega arith
 
 loop-again : tie.Need-loop-again Inv-loop μ-loop
 loop-again c = let a = c .before .before .before .before .before .before .before .before .args in
     let k = a .k .now in
     let y = c .before .before .before .before .loop .inv in
-    let w = put-length (c .before .before .before .before .before .within .ensures) (slice (a .r .old) (a .r .until) k) (slice (a .r .new) (a .cut) k) _ (c .before .before .before .loop-test .taken) _ (c .before .is-old .ensures) _ _ (c .before .before .before .before .before .before .part-len .ensures) (c .swap-len .ensures) in
+    let w = put-length (c .before .before .before .before .before .within .ensures) (slice (a .s .old) (a .s .until) k) (slice (a .s .new) (a .cut) k) _ (c .before .before .before .loop-test .taken) _ (c .before .is-old .ensures) _ _ (c .before .before .before .before .before .before .part-len .ensures) (c .swap-len .ensures) in
     omega arith
 
 returns : tie.Need-returns Inv-loop μ-loop
@@ -42,7 +42,7 @@ unfolding changed
 returns c = let a = c .before .before .before .before .before .args in
     let k = a .k .now in
     let y = c .before .loop .inv in
-    let w = ap length (put-none (c .before .before .within .ensures) (slice (a .r .old) (a .r .until) k) (slice (a .r .new) (a .cut) k) _ (c .loop-test .left)) in
+    let w = ap length (put-none (c .before .before .within .ensures) (slice (a .s .old) (a .s .until) k) (slice (a .s .new) (a .cut) k) _ (c .loop-test .left)) in
     omega arith
 
 pub put-len-spec : {M : Type 1} → statement M
