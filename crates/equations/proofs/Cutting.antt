@@ -68,7 +68,8 @@ module _ {k : List ℕ} {v : View} {before behind : Conj} {l r : Hedge} (w : See
       side-cuts (w .right) T rest d (made k (cutRecipe v)) (λ c. conjWords (place before behind (cutResult p h rest c))) cut-words
       ∙ sym (map-map (λ b. conjWords (place before behind b)) (cutResult p h rest) (cuts T))
 
-T-true : (b : Bool) → T b → b ≡ true
+-- a test that holds is true
+pub T-true : (b : Bool) → T b → b ≡ true
 T-true true t = refl
 T-true false t = absurd t
 

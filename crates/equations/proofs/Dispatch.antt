@@ -23,11 +23,12 @@ use Rattle.equations.proofs.Cutting.{it-found, e3-plans, e4-plans, del3
 
 -- ---- the F rules leave nothing
 
-nothing-left : (k : List ℕ) (before behind : Conj) → resultsOf k dropPlan ≡ placedWords before behind []
+pub nothing-left : (k : List ℕ) (before behind : Conj) → resultsOf k dropPlan ≡ placedWords before behind []
 unfolding resultsOf placedWords
 nothing-left k before behind = refl
 
-not-there : {k : List ℕ} {p : Plan} {before behind : Conj} → Planned k p before behind none
+-- a rule that does not answer
+pub not-there : {k : List ℕ} {p : Plan} {before behind : Conj} → Planned k p before behind none
 not-there = record { results = λ bs e. absurd (let z : _≡_ {A = ℕ} 0 1 = cc in omega arith) }
 
 module _ (k : List ℕ) (v : View) where

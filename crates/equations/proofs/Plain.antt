@@ -79,7 +79,7 @@ del1-plans k v before behind l r w = planned
 
 -- ---- D2
 
-pub parts-of-term : (h : Hedge) → Where (λ a. (a .0 ≡ head h) × (a .1 ≡ tail h)) (firstTerm h)
+parts-of-term : (h : Hedge) → Where (λ a. (a .0 ≡ head h) × (a .1 ≡ tail h)) (firstTerm h)
 parts-of-term ε = tt
 parts-of-term (tvar x r) = (refl, refl)
 parts-of-term (hvar p r) = tt

@@ -1,49 +1,26 @@
 -- The rule of each place in the list, at a membership.
 use Prim.Native.Nat.{ℕ, zero, suc}
 use mathlib.Core.Path.{_≡_, refl, sym, ap, subst, _∙_}
-use mathlib.Core.List.{List, [], map}
-use mathlib.Core.Option.{none, some}
-use native.Mathlib.Omega.{arith}
+use mathlib.Core.List.{List}
 use borrow.Author.Tests.{ne-eqb}
-use Rattle.language.specs.Trees.{Hedge, Expr, Conj}
-use Rattle.rules.specs.Looks.{firstTerm, loneNode, asSymbol, asOver}
-use Rattle.rules.specs.Rules.{Branch, R2, F5, F6, F7, M1, M2, M3, M4, M5, M6, M7, M10, M11, monomialResult}
-use Rattle.rules.specs.Expressions.{linear}
+use Rattle.rules.specs.Looks.{loneNode, asSymbol, asOver}
+use Rattle.rules.specs.Rules.{R2, F5, F6, F7, M1, M3, M4, M5, M6, M7, M10, M11}
 use Rattle.plans.specs.declared.Ways.the-variants.{Monomials}
 use Rattle.plans.specs.declared.Plan.{Plan}
 use Rattle.plans.specs.declared.Shape.{Shape}
-use Rattle.plans.specs.Looks.{head, tail}
 use Rattle.plans.specs.Results.{resultsOf}
-use Rattle.plans.specs.Sizes.{placedWords, monomialWords}
 use Rattle.plans.specs.Ranks.{memAnswer}
 use Rattle.exact.proofs.Answers.{look, test, answers}
-use Rattle.equations.specs.Planned.{Planned}
-use Rattle.equations.proofs.Plain.{answered, planned, parts-of-term}
+use Rattle.equations.proofs.Plain.{planned}
 use Rattle.equations.proofs.Cutting.{it-found}
+use Rattle.equations.proofs.Dispatch.{nothing-left, not-there}
 use Rattle.plans.specs.Slots.{blankRecipe, single, dropPlan}
 use Rattle.memberships.specs.Recipes.{r2Plan, m1Plan, m3Plan, m4Plan, m11Plan, shared, halved, m10Plan, exprInner, midOf, membershipPlan}
 use Rattle.memberships.specs.Planned.{Is, Answered}
 use Rattle.memberships.proofs.Plain.{Makes, r2-plans, m3-plans, m4-plans, m5-plans, m6-plans, m7-plans, m11-plans}
 use Rattle.memberships.proofs.Eliminating.{m1-plans, m10-plans}
 
--- ---- M2
-
--- where M2 answers, its results are those of the monomials
-pub monomial-answer : (K before behind : Conj) (h : Hedge) (R : Expr) (bs : List Branch) → memAnswer 20 K h R ≡ some bs → placedWords before behind bs ≡ monomialWords before h R behind
-unfolding memAnswer monomialWords
-monomial-answer K before behind h R bs e = answered (λ bs. placedWords before behind bs ≡ placedWords before behind (map (monomialResult (head h) (tail h)) (linear R)))
-    (look (firstTerm h) (parts-of-term h) λ a p. test _ λ _ _. test _ λ _ _.
-    answers (ap (λ (t : Hedge). placedWords before behind (map (monomialResult t (a .1)) (linear R))) (p .0) ∙ ap (λ (t : Hedge). placedWords before behind (map (monomialResult (head h) t) (linear R))) (p .1)))
-    bs e
-
 -- ---- the F rules leave nothing
-
-nothing-left : (k : List ℕ) (before behind : Conj) → resultsOf k (dropPlan) ≡ placedWords before behind []
-unfolding resultsOf placedWords
-nothing-left k before behind = refl
-
-not-there : {k : List ℕ} {p : Plan} {before behind : Conj} → Planned k p before behind none
-not-there = record { results = λ bs e. absurd (let z : _≡_ {A = ℕ} 0 1 = cc in omega arith) }
 
 module _ (k : List ℕ) (s : Shape) where
   f5-drops : Makes F5 k s (λ R. dropPlan)

@@ -1,10 +1,9 @@
 -- The plans of the two rules that eliminate make the words of their results.
 use Prim.Native.Nat.{ℕ, _+_, _-_}
 use mathlib.Core.Path.{_≡_, refl, ap, subst, _∙_}
-use mathlib.Core.Bool.{Bool, true, false}
+use mathlib.Core.Bool.{true}
 use mathlib.Core.List.{List, [], _∷_, append-assoc, append-nil}
 use native.Mathlib.Omega.{arith}
-use lib.Dec.{T}
 use lib.Seq.{slice}
 use Rattle.language.specs.declared.FunVar.{FunVar}
 use Rattle.language.specs.declared.Sym.{Sym}
@@ -27,14 +26,11 @@ use Rattle.views.proofs.Words.{words-append}
 use Rattle.views.proofs.Sides.{side-whole, shows-before, shows-behind, shows-expr}
 use Rattle.views.proofs.Replaced.{Acts, acts-functor, acts-emptied}
 use Rattle.equations.proofs.Plain.{planned, one-result, side-forth}
+use Rattle.equations.proofs.Cutting.{T-true}
 use Rattle.equations.proofs.Eliminating.{put-conj, put-hedge, side-body, side-functor, set-self}
 use Rattle.memberships.specs.Recipes.{vanished, m1Plan, m10Plan, hedgeInner, exprInner}
 use Rattle.memberships.proofs.Parts.{word-part}
 use Rattle.memberships.proofs.Plain.{Makes}
-
-holds-true : (b : Bool) → T b → b ≡ true
-holds-true true t = refl
-holds-true false t = absurd t
 
 -- ---- M1
 
@@ -60,7 +56,7 @@ pub m1-plans : (k : List ℕ) (s : Shape) → Makes M1 k s (λ R. m1Plan k s)
 m1-plans k s before h R behind v = planned
     (test _ λ _ _. test _ λ _ t. test _ λ _ _.
     answers (one-result k before behind (m1Plan k s .first) (m1Plan k s .first) 0 (elims (vanish h) [] (emptied h))
-    (m1-words v (hedgeInner k s .to) (side-body (v .hedge)) (holds-true (allRuns h) t))))
+    (m1-words v (hedgeInner k s .to) (side-body (v .hedge)) (T-true (allRuns h) t))))
 
 -- ---- M10
 

@@ -128,9 +128,9 @@ halved-results {k} {s} {before} {h} {R} {behind} v S d t e =
     let j = exprInner k s .from in
     let mid = midOf k s (alt (S .0) (S .1)) in
     ap (λ (E : Expr). resultsOf k (halved s (exprInner k s .from) (midOf k s E))) d
-    ∙ two-results k before behind (memberIn s (s .h .from) (s .h .to) j mid) (memberIn s (s .h .from) (s .h .to) mid (s .end)) _ _
-    (in-words v (s .h .from) (s .h .to) j mid t (S .0) w (first-part v (ap exprWords d) (S .0) (S .1) refl (fine .0)))
-    (in-words v (s .h .from) (s .h .to) mid (s .end) t (S .1) w (second-part v (ap exprWords d) (S .0) (S .1) refl (fine .0)))
+    ∙ two-results k before behind (halved s j mid .first) (halved s j mid .second) _ _
+    (in-words v _ _ _ _ t (S .0) w (first-part v (ap exprWords d) (S .0) (S .1) refl (fine .0)))
+    (in-words v _ _ _ _ t (S .1) w (second-part v (ap exprWords d) (S .0) (S .1) refl (fine .0)))
 
 module _ (k : List ℕ) (s : Shape) where
   pub m6-plans : Makes M6 k s (λ R. halved s (exprInner k s .from) (midOf k s R))
