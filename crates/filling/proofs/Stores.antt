@@ -1,19 +1,14 @@
--- Words stored one after another.
+-- A copy, word by word.
 use Prim.Native.Nat.{ℕ, suc, _+_, _-_, _<_, _≤_}
 use mathlib.Core.Path.{_≡_, refl, sym, ap, _∙_}
-use mathlib.Core.List.{List, [], _∷_, _++_}
-use native.Mathlib.Nat.{add-zero, add-suc, suc-add}
+use mathlib.Core.List.{List}
+use native.Mathlib.Nat.{add-zero}
 use native.Mathlib.Numerals.{add-one}
 use native.Mathlib.Omega.{arith}
 use lib.ListN.{length, getD, drop, set, length-set, drop-of-length-le}
 use lib.Seq.{sets, drop-cons}
 
--- two runs of stores are one
-pub sets-append : (l : List ℕ) (i : ℕ) (xs ys : List ℕ) → sets (sets l i xs) (i + length xs) ys ≡ sets l i (xs ++ ys)
-sets-append l i [] ys = ap (λ n. sets l n ys) (add-zero i)
-sets-append l i (x ∷ xs) ys = ap (λ n. sets (sets (set l i x) (suc i) xs) n ys) (add-suc i (length xs) ∙ sym (suc-add i (length xs))) ∙ sets-append (set l i x) (suc i) xs ys
-
--- ---- a copy, from i on still to be made
+-- a copy, from i on still to be made
 
 pub record Copying (old : List ℕ) (at : ℕ) (from : List ℕ) (i : ℕ) (new : List ℕ) : Type 0 where
   pub inside : i ≤ length from

@@ -8,9 +8,9 @@ use lib.ListN.{length, getD, drop, length-append, length-drop, drop-of-length-le
 use lib.Seq.{sets, length-sets, drop-drop}
 use Rattle.language.specs.Limits.{desk}
 use Rattle.language.specs.Kinds.{kindOf}
+use Rattle.language.proofs.Stores.{sets-append}
 use Rattle.filling.specs.Showing.{shown, stepOn, filled, Written}
 use Rattle.filling.proofs.Filled.{First, first-at}
-use Rattle.filling.proofs.Stores.{sets-append}
 
 module _ (t h : ℕ) (fs : List ℕ) where
   -- At the place `at` of the words: with what is still to come, the room is as it is to be.
@@ -38,7 +38,7 @@ module _ (t h : ℕ) (fs : List ℕ) where
             inside = omega (arith, f .inside, length-drop at ws, p);
             len = ap length w ∙ length-sets room′ to v ∙ c .len;
             place = rw (← d) (omega (arith, c .place, ap length (f .rest), length-append v (filled t h fs (drop k (drop at ws)))));
-            same = rw (← d, w) (sets-append room′ to v (filled t h fs (drop k (drop at ws))) ∙ ap (sets room′ to) (f .rest) ∙ c .same);
+            same = rw (← d, w) (sym (sets-append v (filled t h fs (drop k (drop at ws))) room′ to) ∙ ap (sets room′ to) (f .rest) ∙ c .same);
           },
           f .on,
         )

@@ -9,8 +9,8 @@ use native.Mathlib.Decide.{ℕ-discrete}
 use lib.ListN.{length, getD, take, drop, replicate, set, length-append}
 use lib.Seq.{sets, length-sets, sets-eq, drop-set-lt, take-at, drop-at, ext-getD}
 use Rattle.language.specs.Between.{between}
+use Rattle.language.proofs.Stores.{sets-append}
 use Rattle.filling.specs.Showing.{filled, Written}
-use Rattle.filling.proofs.Stores.{sets-append}
 use Rattle.trying.specs.Tasks.{SameWords, Keeps}
 use Rattle.trying.specs.Outcome.{cleared}
 
@@ -41,7 +41,7 @@ at-front w vs p = sets-eq vs w 0 (omega arith) ∙ ap (λ n. vs ++ drop n w) (ze
 module _ (w a b : List ℕ) (p : length a + length b ≤ length w) where
   two : sets (sets w 0 a) (0 + length a) b ≡ a ++ (b ++ drop (length a + length b) w)
   two =
-      sets-append w 0 a b
+      sym (sets-append a b w 0)
       ∙ at-front w (a ++ b) (omega (arith, length-append a b))
       ∙ append-assoc a b (drop (length (a ++ b)) w)
       ∙ ap (λ n. a ++ (b ++ drop n w)) (length-append a b)
