@@ -5,12 +5,11 @@ use mathlib.Core.Bool.{Bool, true, false, _||_}
 use mathlib.Core.List.{List}
 use mathlib.Core.Option.{Option, none, some}
 use native.Mathlib.Omega.{arith}
-use lib.Dec.{ltb, lit≤}
+use lib.Dec.{ltb}
 use lib.ListN.{length, take, drop}
 use lib.Seq.{sets, take-at}
 use borrow.Author.Tests.{ltb-false}
-use Rattle.language.specs.declared.Refusal.{Refusal}
-use Rattle.language.specs.declared.Refusal.the-variants.{ShortSlice, QuestionLength, CountRange, BadOffset, NotLiterals, Undeclared, LongResult, LongWaiting, LineRoom, StepLimit, FillingLayout, FillingValue, LongLiteral, NoSuchLine, OpenLine, LongExample}
+use Rattle.language.specs.declared.Refusal.the-variants.{OpenLine, LongExample}
 use Rattle.language.specs.Limits.{desk}
 use Rattle.language.specs.Numbers.{numberOf}
 use Rattle.language.specs.Trees.{Conj, Counts}
@@ -21,12 +20,14 @@ use Rattle.rules.specs.Example.{example}
 use Rattle.rules.specs.Answer.{Solving, answered, unread, given-up, solving}
 use Rattle.rules.specs.Calls.{Showing, shows, denied, lineAt, fitted, shown, showingOf, showing}
 use Rattle.showing.specs.declared.Shown.{Shown}
-use Rattle.showing.specs.Shown.{resultOf, roomOf}
+use Rattle.showing.specs.Shown.{shownNumber, shownLength, resultOf, roomOf}
 use Rattle.showing.specs.Exhibits.{exhibits}
 use Rattle.host.specs.Bytes.{bytesOf, wordsIn, fitting, used}
-use Rattle.host.specs.Numbers.{shownNumber}
+use Rattle.host.specs.Numbers.{toldBy}
 use Rattle.host.specs.Host.{showingBytes, showNumber, showLeaves}
 use Rattle.host.proofs.Pairs.{written, used-all}
+use Rattle.host.proofs.Refusals.{each-number}
+use Rattle.host.proofs.Numbering.{told-value, told-number}
 use Rattle.host.proofs.Fitting.{fitting-showing}
 
 -- ---- how long an example can be
@@ -61,28 +62,13 @@ fits work answer room line ws = fits-solved (countsOf ws) room line (solving des
 
 -- ---- the number
 
-small : (r : Refusal) → numberOf r ≤ 16
-small ShortSlice = lit≤ tt
-small QuestionLength = lit≤ tt
-small CountRange = lit≤ tt
-small BadOffset = lit≤ tt
-small NotLiterals = lit≤ tt
-small Undeclared = lit≤ tt
-small LongResult = lit≤ tt
-small LongWaiting = lit≤ tt
-small LineRoom = lit≤ tt
-small StepLimit = lit≤ tt
-small FillingLayout = lit≤ tt
-small FillingValue = lit≤ tt
-small LongLiteral = lit≤ tt
-small NoSuchLine = lit≤ tt
-small OpenLine = lit≤ tt
-small LongExample = lit≤ tt
+abbrev shownTold : Shown → ℕ
+shownTold r = toldBy (shownNumber r) (shownLength r)
 
-told : (s : Showing) (room k : ℕ) (r : Shown) → Fits room s → r ≡ resultOf s → k ≡ shownNumber r → k ≡ showNumber s
+told : (s : Showing) (room k : ℕ) (r : Shown) → Fits room s → r ≡ resultOf s → k ≡ shownTold r → k ≡ showNumber s
 unfolding showNumber
-told (shows ws) room k r h e f = f ∙ ap shownNumber e ∙ ap (λ (n : ℕ). 100 + n) (used-all 4096 (length ws) (h .0))
-told (denied x) room k r h e f = f ∙ ap shownNumber e
+told (shows ws) room k r h e f = f ∙ ap shownTold e ∙ told-value 0 (length ws) refl ∙ ap (λ (n : ℕ). 100 + n) (used-all 4096 (length ws) (h .0))
+told (denied x) room k r h e f = f ∙ ap shownTold e ∙ told-number x 0
 
 refuses : (s : Showing) (k : ℕ) (bytes : List ℕ) → k ≡ showNumber s → k < 100 → bytes ≡ showLeaves s bytes
 unfolding showNumber showLeaves
@@ -92,7 +78,7 @@ refuses (denied x) k bytes e h = refl
 within : (s : Showing) (room k n : ℕ) → Fits room s → k ≡ showNumber s → k ≡ 100 + n → n ≤ room
 unfolding showNumber
 within (shows ws) room k n h e f = omega arith
-within (denied x) room k n h e f = let z : numberOf x ≤ 16 = small x in absurd (omega arith)
+within (denied x) room k n h e f = let z : numberOf x ≤ 16 = each-number x .1 in absurd (omega arith)
 
 writes : (s : Showing) (k n : ℕ) (own own′ bytes bytes′ : List ℕ) → Fits (length own) s → 2 * length own ≤ length bytes → own′ ≡ roomOf s own → k ≡ showNumber s → k ≡ 100 + n
     → bytes′ ≡ sets bytes 0 (bytesOf (take n own′)) → bytes′ ≡ showLeaves s bytes
@@ -101,13 +87,13 @@ writes (shows ws) k n own own′ bytes bytes′ h room eo e f eb =
     let m : length ws ≡ n = omega arith in
     let t : take n own′ ≡ ws = ap (take n) eo ∙ take-at ws (drop (length ws) own) n m in
     eb ∙ ap (λ (l : List ℕ). sets bytes 0 (bytesOf l)) t ∙ written bytes ws (omega arith)
-writes (denied x) k n own own′ bytes bytes′ h room eo e f eb = let z : numberOf x ≤ 16 = small x in absurd (omega arith)
+writes (denied x) k n own own′ bytes bytes′ h room eo e f eb = let z : numberOf x ≤ 16 = each-number x .1 in absurd (omega arith)
 
 -- ---- the returns
 
 module _ (q w o own w′ o′ own′ bytes : List ℕ) (line : ℕ) (r : Shown) (k : ℕ)
     (work : length w ≡ 8192) (answer : length o ≡ 8192)
-    (e : (r, w′, o′, own′) ≡ exhibits line q w o own) (number : k ≡ shownNumber r) where
+    (e : (r, w′, o′, own′) ≡ exhibits line q w o own) (number : k ≡ shownTold r) where
   abbrev comes : Showing
   comes = showing desk 8192 8192 (length own) line q
 
