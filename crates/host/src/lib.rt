@@ -102,13 +102,6 @@ pub extern "C" fn desk_try(question: &[u8], filling: &[u8]) -> u32
     told(tried_number(t), tried_value(t) as usize)
 }
 
-fn length_of(k: u32) -> usize
-    requires { ⌜ 100 ≤ k ⌝ }
-    ensures { λ r. ⌜ k ≡ 100 + r ⌝ }
-{
-    (k - 100) as usize
-}
-
 // The example in the desk's own room, and then in the bytes lent.
 fn show(question: &[u16], line: usize, own: &mut [u16], room: &mut [u8]) -> u32
     requires { ⌜ (length (now own) ≤ 4096) × (2 * length (now own) ≤ length (now room)) ⌝ }
@@ -118,13 +111,10 @@ fn show(question: &[u16], line: usize, own: &mut [u16], room: &mut [u8]) -> u32
     let mut work = [0u16; 8192];
     let mut answer = [0u16; 8192];
     let s = showing::example(question, line, &mut work, &mut answer, own);
-    let k = told(shown_number(s), shown_length(s));
-    if k < 100 {
-        return k;
-    }
-    let n = length_of(k);
+    let n = shown_length(s);
+    // of a refusal that is 0, and nothing is written
     write_words(&own[..n], room);
-    k
+    told(shown_number(s), n)
 }
 
 // Shows the example of a settled line: 100 and its length in words, or the refusal's number.
