@@ -1,18 +1,16 @@
 -- What the returns of desk_example cite: how long an example can be, and how the room's bytes are left.
-use Prim.Native.Nat.{ℕ, _+_, _*_, _/_, _≤_, _<_}
+use Prim.Native.Nat.{ℕ, _+_, _*_, _/_, _≤_}
 use mathlib.Core.Path.{_≡_, refl, ap, _∙_}
 use mathlib.Core.Bool.{Bool, true, false, _||_}
 use mathlib.Core.List.{List}
 use mathlib.Core.Option.{Option, none, some}
 use native.Mathlib.Omega.{arith}
-use lib.Dec.{ltb, lit≤}
+use lib.Dec.{ltb}
 use lib.ListN.{length, take, drop}
 use lib.Seq.{sets, take-at}
 use borrow.Author.Tests.{ltb-false}
-use Rattle.language.specs.declared.Refusal.{Refusal}
-use Rattle.language.specs.declared.Refusal.the-variants.{ShortSlice, QuestionLength, CountRange, BadOffset, NotLiterals, Undeclared, LongResult, LongWaiting, LineRoom, StepLimit, FillingLayout, FillingValue, LongLiteral, NoSuchLine, OpenLine, LongExample}
+use Rattle.language.specs.declared.Refusal.the-variants.{OpenLine, LongExample}
 use Rattle.language.specs.Limits.{desk}
-use Rattle.language.specs.Numbers.{numberOf}
 use Rattle.language.specs.Trees.{Conj, Counts}
 use Rattle.language.specs.Question.{countsOf}
 use Rattle.meaning.specs.Values.{fillingWords}
@@ -21,12 +19,13 @@ use Rattle.rules.specs.Example.{example}
 use Rattle.rules.specs.Answer.{Solving, answered, unread, given-up, solving}
 use Rattle.rules.specs.Calls.{Showing, shows, denied, lineAt, fitted, shown, showingOf, showing}
 use Rattle.showing.specs.declared.Shown.{Shown}
-use Rattle.showing.specs.Shown.{resultOf, roomOf}
+use Rattle.showing.specs.Shown.{shownNumber, shownLength, resultOf, roomOf}
 use Rattle.showing.specs.Exhibits.{exhibits}
 use Rattle.host.specs.Bytes.{bytesOf, wordsIn, fitting, used}
-use Rattle.host.specs.Numbers.{shownNumber}
+use Rattle.host.specs.Numbers.{toldBy}
 use Rattle.host.specs.Host.{showingBytes, showNumber, showLeaves}
 use Rattle.host.proofs.Pairs.{written, used-all}
+use Rattle.host.proofs.Numbering.{told-value, told-number}
 use Rattle.host.proofs.Fitting.{fitting-showing}
 
 -- ---- how long an example can be
@@ -61,53 +60,39 @@ fits work answer room line ws = fits-solved (countsOf ws) room line (solving des
 
 -- ---- the number
 
-small : (r : Refusal) → numberOf r ≤ 16
-small ShortSlice = lit≤ tt
-small QuestionLength = lit≤ tt
-small CountRange = lit≤ tt
-small BadOffset = lit≤ tt
-small NotLiterals = lit≤ tt
-small Undeclared = lit≤ tt
-small LongResult = lit≤ tt
-small LongWaiting = lit≤ tt
-small LineRoom = lit≤ tt
-small StepLimit = lit≤ tt
-small FillingLayout = lit≤ tt
-small FillingValue = lit≤ tt
-small LongLiteral = lit≤ tt
-small NoSuchLine = lit≤ tt
-small OpenLine = lit≤ tt
-small LongExample = lit≤ tt
+abbrev shownTold : Shown → ℕ
+shownTold r = toldBy (shownNumber r) (shownLength r)
 
-told : (s : Showing) (room k : ℕ) (r : Shown) → Fits room s → r ≡ resultOf s → k ≡ shownNumber r → k ≡ showNumber s
+told : (s : Showing) (room k : ℕ) (r : Shown) → Fits room s → r ≡ resultOf s → k ≡ shownTold r → k ≡ showNumber s
 unfolding showNumber
-told (shows ws) room k r h e f = f ∙ ap shownNumber e ∙ ap (λ (n : ℕ). 100 + n) (used-all 4096 (length ws) (h .0))
-told (denied x) room k r h e f = f ∙ ap shownNumber e
+told (shows ws) room k r h e f = f ∙ ap shownTold e ∙ told-value 0 (length ws) refl ∙ ap (λ (n : ℕ). 100 + n) (used-all 4096 (length ws) (h .0))
+told (denied x) room k r h e f = f ∙ ap shownTold e ∙ told-number x 0
 
-refuses : (s : Showing) (k : ℕ) (bytes : List ℕ) → k ≡ showNumber s → k < 100 → bytes ≡ showLeaves s bytes
-unfolding showNumber showLeaves
-refuses (shows ws) k bytes e h = absurd (omega arith)
-refuses (denied x) k bytes e h = refl
+-- ---- the room
 
-within : (s : Showing) (room k n : ℕ) → Fits room s → k ≡ showNumber s → k ≡ 100 + n → n ≤ room
-unfolding showNumber
-within (shows ws) room k n h e f = omega arith
-within (denied x) room k n h e f = let z : numberOf x ≤ 16 = small x in absurd (omega arith)
+within : (s : Showing) (room : ℕ) → Fits room s → shownLength (resultOf s) ≤ room
+within (shows ws) room h = h .1
+within (denied x) room h = omega arith
 
-writes : (s : Showing) (k n : ℕ) (own own′ bytes bytes′ : List ℕ) → Fits (length own) s → 2 * length own ≤ length bytes → own′ ≡ roomOf s own → k ≡ showNumber s → k ≡ 100 + n
-    → bytes′ ≡ sets bytes 0 (bytesOf (take n own′)) → bytes′ ≡ showLeaves s bytes
-unfolding showNumber showLeaves
-writes (shows ws) k n own own′ bytes bytes′ h room eo e f eb =
-    let m : length ws ≡ n = omega arith in
-    let t : take n own′ ≡ ws = ap (take n) eo ∙ take-at ws (drop (length ws) own) n m in
+none-written : (own bytes : List ℕ) → sets bytes 0 (bytesOf (take 0 own)) ≡ bytes
+unfolding bytesOf
+none-written own bytes = refl
+
+-- a refusal has no words to write
+writes : (s : Showing) (own own′ bytes bytes′ : List ℕ) → Fits (length own) s → 2 * length own ≤ length bytes → own′ ≡ roomOf s own
+    → bytes′ ≡ sets bytes 0 (bytesOf (take (shownLength (resultOf s)) own′)) → bytes′ ≡ showLeaves s bytes
+unfolding showLeaves
+writes (shows ws) own own′ bytes bytes′ h room eo eb =
+    let t : take (length ws) own′ ≡ ws = ap (take (length ws)) eo ∙ take-at ws (drop (length ws) own) (length ws) refl in
+    let m = h .1 in
     eb ∙ ap (λ (l : List ℕ). sets bytes 0 (bytesOf l)) t ∙ written bytes ws (omega arith)
-writes (denied x) k n own own′ bytes bytes′ h room eo e f eb = let z : numberOf x ≤ 16 = small x in absurd (omega arith)
+writes (denied x) own own′ bytes bytes′ h room eo eb = eb ∙ none-written own′ bytes
 
--- ---- the returns
+-- ---- the return
 
-module _ (q w o own w′ o′ own′ bytes : List ℕ) (line : ℕ) (r : Shown) (k : ℕ)
+module _ (q w o own w′ o′ own′ : List ℕ) (line : ℕ) (r : Shown)
     (work : length w ≡ 8192) (answer : length o ≡ 8192)
-    (e : (r, w′, o′, own′) ≡ exhibits line q w o own) (number : k ≡ shownNumber r) where
+    (e : (r, w′, o′, own′) ≡ exhibits line q w o own) where
   abbrev comes : Showing
   comes = showing desk 8192 8192 (length own) line q
 
@@ -122,19 +107,18 @@ module _ (q w o own w′ o′ own′ bytes : List ℕ) (line : ℕ) (r : Shown) 
   unfolding exhibits
   room-left = ap (λ (t : Shown × List ℕ × List ℕ × List ℕ). t .3) e ∙ ap (λ (s : Showing). roomOf s own) same
 
-  right : k ≡ showNumber comes
-  right = told comes (length own) k r (fits 8192 8192 (length own) line q) result number
+  pub example-within : (n : ℕ) → n ≡ shownLength r → n ≤ length own
+  example-within n f =
+      let h : shownLength (resultOf comes) ≤ length own = within comes (length own) (fits 8192 8192 (length own) line q) in
+      let g : n ≡ shownLength (resultOf comes) = f ∙ ap shownLength result in
+      omega arith
 
-  pub refused-line : k < 100 → (k ≡ showNumber comes) × (bytes ≡ showLeaves comes bytes)
-  refused-line h = (right, refuses comes k bytes right h)
-
-  pub example-within : (n : ℕ) → k ≡ 100 + n → n ≤ length own
-  example-within n f = within comes (length own) k n (fits 8192 8192 (length own) line q) right f
-
-  pub shown-line : (n : ℕ) (bytes′ : List ℕ) → k ≡ 100 + n → 2 * length own ≤ length bytes
+  pub shown-line : (k n : ℕ) (bytes bytes′ : List ℕ) → k ≡ toldBy (shownNumber r) (shownLength r) → n ≡ shownLength r → 2 * length own ≤ length bytes
       → bytes′ ≡ sets bytes 0 (bytesOf (take n own′)) → (k ≡ showNumber comes) × (bytes′ ≡ showLeaves comes bytes)
-  shown-line n bytes′ f room eb =
-      (right, writes comes k n own own′ bytes bytes′ (fits 8192 8192 (length own) line q) room room-left right f eb)
+  shown-line k n bytes bytes′ number f room eb = (
+    told comes (length own) k r (fits 8192 8192 (length own) line q) result number,
+    writes comes own own′ bytes bytes′ (fits 8192 8192 (length own) line q) room room-left (eb ∙ ap (λ (m : ℕ). sets bytes 0 (bytesOf (take m own′))) (f ∙ ap shownLength result)),
+  )
 
 -- the words lent come to what the bytes come to
 pub bytes-show : (q ws bytes : List ℕ) (line room : ℕ) → ws ≡ fitting 1024 (wordsIn q) → room ≡ used 4096 (length bytes / 2)

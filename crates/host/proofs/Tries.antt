@@ -8,21 +8,25 @@ use Rattle.language.specs.Limits.{desk}
 use Rattle.rules.specs.Calls.{Trying, trying}
 use Rattle.rules.specs.Calls as calls
 use Rattle.trying.specs.declared.Tried.{Tried}
-use Rattle.trying.specs.Outcome.{Outcome}
-use Rattle.host.specs.Bytes.{wordsIn, fitting}
-use Rattle.host.specs.Numbers.{triedNumber}
+use Rattle.trying.specs.Outcome.{Outcome, triedNumber, triedValue}
+use Rattle.host.specs.Bytes.{wordsIn, fitting, used}
+use Rattle.host.specs.Numbers.{toldBy}
 use Rattle.host.specs.Host.{tryingBytes, TryNumber}
 use Rattle.host.proofs.Fitting.{fitting-trying}
+use Rattle.host.proofs.Numbering.{told-number}
 
-tell : (t : Trying) (r : Tried) (k : ℕ) (w w′ : List ℕ) → Outcome t r w w′ → k ≡ triedNumber r → TryNumber t k
-unfolding TryNumber
+abbrev triedTold : Tried → ℕ
+triedTold r = toldBy (triedNumber r) (triedValue r)
+
+tell : (t : Trying) (r : Tried) (k : ℕ) (w w′ : List ℕ) → Outcome t r w w′ → k ≡ triedTold r → TryNumber t k
+unfolding TryNumber toldBy used
 tell (calls.decides q ρ) r k w w′ (c, z) e =
-    ⊎-elim (λ (y : (r ≡ _) × _). inl (e ∙ ap triedNumber (y .0), y .1)) (λ (y : (r ≡ _) × _). inr (e ∙ ap triedNumber (y .0), y .1)) c
-tell (calls.unread x) r k w w′ c e = e ∙ ap triedNumber (c .0)
-tell (calls.given-up x) r k w w′ c e = e ∙ ap triedNumber (c .0)
+    ⊎-elim (λ (y : (r ≡ _) × _). inl (e ∙ ap triedTold (y .0), y .1)) (λ (y : (r ≡ _) × _). inr (e ∙ ap triedTold (y .0), y .1)) c
+tell (calls.unread x) r k w w′ c e = e ∙ ap triedTold (c .0) ∙ told-number x 0
+tell (calls.given-up x) r k w w′ c e = e ∙ ap triedTold (c .0) ∙ told-number x 0
 
 pub tried : (q f ws fs w w′ : List ℕ) (r : Tried) (k : ℕ) → ws ≡ fitting 1024 (wordsIn q) → fs ≡ fitting 4096 (wordsIn f) → length w ≡ 8192
-    → Outcome (trying desk (length w) ws fs) r w w′ → k ≡ triedNumber r → TryNumber (tryingBytes desk q f) k
+    → Outcome (trying desk (length w) ws fs) r w w′ → k ≡ triedTold r → TryNumber (tryingBytes desk q f) k
 unfolding tryingBytes
 tried q f ws fs w w′ r k ew ef n o e =
     let same : trying desk (length w) ws fs ≡ trying desk 8192 (wordsIn q) (wordsIn f) = rw (n, ew, ef) (fitting-trying 8192 (wordsIn q) (wordsIn f)) in

@@ -9,14 +9,15 @@ ghost use Rattle.language.specs.Limits.{desk};
 ghost use Rattle.host.specs.Host.{solvingBytes, solveNumber, solveLeaves, tryingBytes, TryNumber, showingBytes, showNumber, showLeaves};
 ghost use Rattle.rules.specs.Calls.{showing};
 ghost use Rattle.host.specs.Bytes.{used};
-ghost use Rattle.host.specs.Numbers.{solvedNumber, triedNumber, shownNumber};
+ghost use Rattle.host.specs.Numbers.{solvedNumber, toldBy};
 use bytes::take_words;
 use bytes::write_words;
-use language::number;
-use showing::Shown;
+use showing::shown_length;
+use showing::shown_number;
 use solver::Solved;
 use solver::outcome_number;
-use trying::Tried;
+use trying::tried_number;
+use trying::tried_value;
 
 fn wide(n: u16) -> u32
     ensures { λ r. ⌜ r ≡ n ⌝ }
@@ -57,30 +58,6 @@ pub extern "C" fn desk_solve(question: &[u8], answer: &mut [u8]) -> u32
     k
 }
 
-// The refusal's number, or 100 for no and 101 for yes.
-fn tried_number(t: Tried) -> u32
-    ensures { λ r. ⌜ r ≡ triedNumber t ⌝ }
-{
-    match t {
-        Tried::Yes => 101,
-        Tried::No => 100,
-        Tried::Refused(r) => wide(number(r)),
-    }
-}
-
-// Whether a filling meets a question: 101 for yes, 100 for no, or the refusal's number.
-#[no_mangle]
-pub extern "C" fn desk_try(question: &[u8], filling: &[u8]) -> u32
-    ensures { λ r. ⌜ TryNumber (tryingBytes desk (now (question .entry)) (now (filling .entry))) r ⌝ }
-{
-    let mut words = [0u16; 1024];
-    let mut values = [0u16; 4096];
-    let mut work = [0u16; 8192];
-    let n = take_words(question, &mut words);
-    let m = take_words(filling, &mut values);
-    tried_number(trying::try_filling(&words[..n], &values[..m], &mut work))
-}
-
 // Of so many words, as many as a filling ever has.
 fn most(n: usize) -> usize
     ensures { λ r. ⌜ (r ≡ used 4096 n) × (r ≤ 4096) × (r ≤ n) ⌝ }
@@ -101,21 +78,28 @@ fn counted(n: usize) -> u32
     100 + narrow(most(n))
 }
 
-// The refusal's number, or 100 and the filling's length.
-fn shown_number(s: Shown) -> u32
-    ensures { λ r. ⌜ r ≡ shownNumber s ⌝ }
+// The refusal's number, or 100 and the value.
+fn told(refusal: u16, value: usize) -> u32
+    ensures { λ r. ⌜ r ≡ toldBy refusal value ⌝ }
 {
-    match s {
-        Shown::Shows(n) => counted(n),
-        Shown::Denied(r) => wide(number(r)),
+    if refusal == 0 {
+        return counted(value);
     }
+    wide(refusal)
 }
 
-fn length_of(k: u32) -> usize
-    requires { ⌜ 100 ≤ k ⌝ }
-    ensures { λ r. ⌜ k ≡ 100 + r ⌝ }
+// Whether a filling meets a question: 101 for yes, 100 for no, or the refusal's number.
+#[no_mangle]
+pub extern "C" fn desk_try(question: &[u8], filling: &[u8]) -> u32
+    ensures { λ r. ⌜ TryNumber (tryingBytes desk (now (question .entry)) (now (filling .entry))) r ⌝ }
 {
-    (k - 100) as usize
+    let mut words = [0u16; 1024];
+    let mut values = [0u16; 4096];
+    let mut work = [0u16; 8192];
+    let n = take_words(question, &mut words);
+    let m = take_words(filling, &mut values);
+    let t = trying::try_filling(&words[..n], &values[..m], &mut work);
+    told(tried_number(t), tried_value(t) as usize)
 }
 
 // The example in the desk's own room, and then in the bytes lent.
@@ -126,13 +110,11 @@ fn show(question: &[u16], line: usize, own: &mut [u16], room: &mut [u8]) -> u32
 {
     let mut work = [0u16; 8192];
     let mut answer = [0u16; 8192];
-    let k = shown_number(showing::example(question, line, &mut work, &mut answer, own));
-    if k < 100 {
-        return k;
-    }
-    let n = length_of(k);
+    let s = showing::example(question, line, &mut work, &mut answer, own);
+    let n = shown_length(s);
+    // of a refusal that is 0, and nothing is written
     write_words(&own[..n], room);
-    k
+    told(shown_number(s), n)
 }
 
 // Shows the example of a settled line: 100 and its length in words, or the refusal's number.
