@@ -26,7 +26,7 @@ pub record Walked (P : Conj → Conj → Type 0) (c : Conj) (i : ℕ) : Type 0 w
 pub walk-starts : (P : Conj → Conj → Type 0) (c : Conj) → P [] c → Walked P c 0
 walk-starts P c p = record { done = []; rest = c; whole = refl; place = refl; known = p }
 
-literal-some : (l : Literal) → 0 < length (literalWords l)
+pub literal-some : (l : Literal) → 0 < length (literalWords l)
 literal-some (eqn l r) = omega arith
 literal-some (mem h R) = omega arith
 
@@ -77,22 +77,27 @@ module _ (k : List ℕ) (c : Conj) (fine : fineConj desk c) (words : k ≡ conjW
             absurd (let z = lengths done (l ∷ rest) e in let y = length-append (literalWords l) (conjWords rest) in let x = literal-some l in omega arith)
 
     -- the literal that stands here is passed
-    pub walk-on : (P′ : Conj → Conj → Type 0) (j : ℕ) → Walked P c i → i < length k → j ≡ i + 1 + untilLiteral (drop (i + 1) k)
-        → ((done : Conj) (l : Literal) (rest : Conj) → LiteralAt k i done l rest → P done (l ∷ rest) → P′ (done ++ (l ∷ [])) rest) → Walked P′ c j
-    walk-on P′ j w h n f = go (w .done) (w .rest) (w .whole) (w .place) (w .known)
+    pub walk-to : (P′ : Conj → Conj → Type 0) (j : ℕ) → Walked P c i → i < length k
+        → ((done : Conj) (l : Literal) (rest : Conj) → LiteralAt k i done l rest → P done (l ∷ rest) → (j ≡ i + length (literalWords l)) × P′ (done ++ (l ∷ [])) rest)
+        → Walked P′ c j
+    walk-to P′ j w h f = go (w .done) (w .rest) (w .whole) (w .place) (w .known)
       where
         go : (done rest : Conj) → c ≡ done ++ rest → i ≡ length (conjWords done) → P done rest → Walked P′ c j
         go done [] e p q = absurd (let z = lengths done [] e in omega arith)
         go done (l ∷ rest) e p q =
-            let s = stands-here done l rest e p in
+            let s = f done l rest (stands-here done l rest e p) q in
             record {
               done = done ++ (l ∷ []);
               rest = rest;
               whole = e ∙ sym (append-assoc done (l ∷ []) rest);
               place =
-                  n ∙ literal-next s
+                  s .0
                   ∙ (let a = ap length (words-append done (l ∷ [])) ∙ length-append (conjWords done) (conjWords (l ∷ [])) in
                   let b = ap length (append-nil (literalWords l)) in
                   let z : i + length (literalWords l) ≡ length (conjWords (done ++ (l ∷ []))) = omega arith in z);
-              known = f done l rest s q;
+              known = s .1;
             }
+
+    pub walk-on : (P′ : Conj → Conj → Type 0) (j : ℕ) → Walked P c i → i < length k → j ≡ i + 1 + untilLiteral (drop (i + 1) k)
+        → ((done : Conj) (l : Literal) (rest : Conj) → LiteralAt k i done l rest → P done (l ∷ rest) → P′ (done ++ (l ∷ [])) rest) → Walked P′ c j
+    walk-on P′ j w h n f = walk-to P′ j w h (λ done l rest s q. (n ∙ literal-next s, f done l rest s q))

@@ -1,17 +1,20 @@
 -- The best literal makes the step: its rank is the rank of the literal, from the side that comes first, and one pass over the literals finds it.
-use Prim.Native.Nat.{ℕ, _<_, _≤_}
+use Prim.Native.Nat.{ℕ, _+_, _-_, _<_, _≤_}
+use native.Mathlib.Omega.{arith}
 use mathlib.Core.Path.{_≡_, refl, sym, ap, _∙_, subst}
 use mathlib.Core.Bool.{Bool, true, false}
-use mathlib.Core.List.{[], _∷_, _++_, append-assoc, append-nil}
-use lib.Dec.{ltb}
-use lib.ListN.{length}
-use borrow.Author.Tests.{ltb-true, ltb-false, lt-ltb, le-ltb}
+use mathlib.Core.List.{List, [], _∷_, _++_, append-assoc, append-nil}
+use lib.Dec.{ltb, leb}
+use lib.ListN.{length, drop, length-append, length-drop}
+use borrow.Author.Tests.{ltb-true, ltb-false, leb-true, leb-false, lt-ltb, le-ltb}
 use Rattle.language.specs.Kinds.{pick}
 use Rattle.language.specs.Trees.{Hedge, Expr, Literal, eqn, mem, Conj}
-use Rattle.language.specs.Writing.{conjWords}
+use Rattle.language.specs.Writing.{literalWords, conjWords}
+use Rattle.views.specs.Standing.{LiteralAt}
 use Rattle.plans.specs.Ranks.{eqnRank, memRank}
 use Rattle.search.specs.Ranking.{Ranked, Sought, Found}
 use Rattle.search.proofs.Ranks.{rank-written, rank-swapped, rank-member}
+use Rattle.search.proofs.Walks.{literal-some}
 use Rattle.search.proofs.Pass.{start, keep, better, finish}
 use Rattle.steps.specs.declared.Best.{Best}
 use Rattle.steps.specs.Seeking.{best, lesserOf, bestAt, bestFrom, bestOf}
@@ -62,6 +65,19 @@ best-ranked : (before : Conj) (l : Literal) (behind : Conj) → Ranked (before +
 unfolding bestAt
 best-ranked before (eqn l r) behind = lesser-ranked before l r behind _ refl
 best-ranked before (mem h R) behind = rank-member (before ++ behind) h R _ refl
+
+-- the place after it, by the words behind it
+reach : (t : Bool) (n e r at a b : ℕ) → leb n e ≡ t → n ≡ at + (a + b) → 0 < a → n - e ≡ b → (at < e → e ≤ n → r ≡ e) → (n ≤ e → r ≡ n) → r ≡ at + a
+reach true n e r at a b d p q m f g = let y = leb-true n e d in let z = g y in omega arith
+reach false n e r at a b d p q m f g = let y = leb-false n e d in let z = f (omega arith) (omega arith) in omega arith
+
+pub passed-to : (k : List ℕ) (at e r : ℕ) (before : Conj) (l : Literal) (behind : Conj) → LiteralAt k at before l behind → drop e k ≡ conjWords behind
+    → (at < e → e ≤ length k → r ≡ e) → (length k ≤ e → r ≡ length k) → r ≡ at + length (literalWords l)
+passed-to k at e r before l behind p d f g =
+    let n = ap length (p .words) ∙ length-append (conjWords before) (literalWords l ++ conjWords behind) in
+    let m = length-append (literalWords l) (conjWords behind) in
+    let w = p .place in
+    reach (leb (length k) e) (length k) e r at (length (literalWords l)) (length (conjWords behind)) refl (omega arith) (literal-some l) (sym (length-drop e k) ∙ ap length d) f g
 
 -- ---- all literals
 

@@ -3,7 +3,7 @@ ghost use Prim.Native.Nat.{_+_, _≤_, _<_};
 ghost use mathlib.Core.Path.{_≡_};
 ghost use mathlib.Core.List.{List, _++_};
 ghost use mathlib.Core.Option.{some};
-ghost use lib.ListN.{length};
+ghost use lib.ListN.{length, drop};
 ghost use Rattle.language.specs.Limits.{desk};
 ghost use Rattle.language.specs.Trees.{Hedge, Expr, Literal, mem, Conj};
 ghost use Rattle.language.specs.Writing.{conjWords};
@@ -38,35 +38,58 @@ pub struct Best {
     pub swap: bool,
 }
 
-// The rank of the literal at a place: of an equation the lesser of its two sides, the written one where they are equal.
-fn rank_at(k: &[u16], at: usize) -> Best
+// A literal that was passed: what it is, and the place after it.
+struct Passed {
+    best: Best,
+    end: usize,
+}
+
+// The rank of the literal at a place: of an equation the lesser of its two sides, the written one where they are equal. The place after it comes
+// with it, so that its words need no other pass.
+fn rank_at(k: &[u16], at: usize) -> Passed
     requires { ⌜ at < length (now k) ⌝ }
-    ensures { λ b. ⌜ (b .at ≡ at) × ((before : Conj) (l : Literal) (behind : Conj) → LiteralAt (now (k .entry)) at before l behind → b ≡ bestAt before l behind) ⌝ }
+    ensures { λ p. ⌜ (p .best .at ≡ at) × ((before : Conj) (l : Literal) (behind : Conj) → LiteralAt (now (k .entry)) at before l behind → (p .best ≡ bestAt before l behind) × (drop (p .end) (now (k .entry)) ≡ conjWords behind)) ⌝ }
 {
     if k[at] == 5000 {
         let v = see(k, at);
+        let end = v.end;
         let written = rank_equation(k, v);
         let other = rank_equation(k, swapped(v));
         if other < written {
-            return Best {
+            let best = Best {
                 rank: other,
                 at,
                 swap: true,
             };
+            return Passed { best, end };
         }
-        return Best {
+        let best = Best {
             rank: written,
             at,
             swap: false,
         };
+        return Passed { best, end };
     }
     let s = show_membership(k, at);
+    let end = s.end;
     let rank = rank_membership(k, s);
-    Best {
+    let best = Best {
         rank,
         at,
         swap: false,
+    };
+    Passed { best, end }
+}
+
+// The place after a literal, kept behind the literal's own and within the words, whatever they are.
+fn beyond(at: usize, end: usize, len: usize) -> usize
+    requires { ⌜ at < len ⌝ }
+    ensures { λ r. ⌜ (at < r) × (r ≤ len) × (at < end → end ≤ len → r ≡ end) × (len ≤ end → r ≡ len) ⌝ }
+{
+    if end <= at {
+        return len;
     }
+    if end < len { end } else { len }
 }
 
 // The one of the lesser rank, the first where they are equal.
@@ -87,10 +110,10 @@ pub fn find(k: &[u16]) -> Best
     };
     let mut i = 0;
     while i < k.len() {
-        let next = next_literal(k, i);
-        let here = rank_at(k, i);
+        let passed = rank_at(k, i);
+        let here = passed.best;
         best = lesser(best, here);
-        i = next;
+        i = beyond(i, passed.end, k.len());
     }
     best
 }

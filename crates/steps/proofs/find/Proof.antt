@@ -11,8 +11,8 @@ use Rattle.language.specs.Writing.{conjWords}
 use Rattle.language.specs.Fine.{fineConj}
 use Rattle.steps.specs.declared.Best.{Best}
 use Rattle.steps.specs.Seeking.{lesserOf, bestFrom, bestOf}
-use Rattle.search.proofs.Walks.{Walked, walk-starts, walk-on, walk-ends}
-use Rattle.steps.proofs.Finding.{placed-on}
+use Rattle.search.proofs.Walks.{Walked, walk-starts, walk-to, walk-ends}
+use Rattle.steps.proofs.Finding.{placed-on, passed-to}
 use Rattle.steps.proofs.find.Statement.{statement}
 use Rattle.steps.proofs.find.Tie as tie
 
@@ -30,14 +30,18 @@ unfolding bestOf
 loop-holds c = (λ h. absurd (omega arith), λ x f e. walk-starts (Known _ x) x refl)
 
 loop-less : tie.Need-loop-less Inv-loop μ-loop
-loop-less c = let z = c .before .before .next-literal .ensures in omega arith
+loop-less c = let z = c .beyond .ensures .0 in omega arith
 
 loop-again : tie.Need-loop-again Inv-loop μ-loop
 loop-again c = (
-  placed-on _ (c .before .before .before .before .loop .best) (c .before .rank-at .result) (c .lesser .result) (c .lesser .ensures) (c .before .before .before .before .loop .inv .0) (let z = c .before .rank-at .ensures .0 in omega arith),
+  placed-on _ (c .before .before .before .before .before .loop .best) (c .before .before .before .rank-at .result .best) (c .before .lesser .result) (c .before .lesser .ensures) (c .before .before .before .before .before .loop .inv .0) (let z = c .before .before .before .rank-at .ensures .0 in omega arith),
   λ x f e.
-      walk-on (c .before .before .before .before .before .before .args .k .now) x f e (c .before .before .before .before .loop .i) (Known (c .before .before .before .before .loop .best) x) (Known (c .lesser .result) x) _ (c .before .before .before .before .loop .inv .1 x f e) (c .before .before .before .loop-test .taken) (c .before .before .next-literal .ensures)
-      λ done l rest p d. ap (λ b. bestFrom b (done ++ (l ∷ [])) rest) (c .lesser .ensures ∙ ap (lesserOf (c .before .before .before .before .loop .best)) (c .before .rank-at .ensures .1 done l rest p)) ∙ d,
+      walk-to (c .before .before .before .before .before .before .before .args .k .now) x f e (c .before .before .before .before .before .loop .i) (Known (c .before .before .before .before .before .loop .best) x) (Known (c .before .lesser .result) x) _ (c .before .before .before .before .before .loop .inv .1 x f e) (c .before .before .before .before .loop-test .taken)
+      λ done l rest p d.
+      let r = c .before .before .before .rank-at .ensures .1 done l rest p in (
+        passed-to (c .before .before .before .before .before .before .before .args .k .now) (c .before .before .before .before .before .loop .i) (c .before .before .before .rank-at .result .end) _ done l rest p (r .1) (c .beyond .ensures .2) (c .beyond .ensures .3),
+        ap (λ b. bestFrom b (done ++ (l ∷ [])) rest) (c .before .lesser .ensures ∙ ap (lesserOf (c .before .before .before .before .before .loop .best)) (r .0)) ∙ d,
+      ),
 )
 
 returns : tie.Need-returns Inv-loop μ-loop
