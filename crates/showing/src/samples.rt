@@ -1,5 +1,4 @@
 // The sample of an expression, as words: measured first, then written straight to its place.
-ghost use Prim.Native.Nat.{_+_, _<_};
 ghost use mathlib.Core.List.{[], _∷_};
 ghost use Rattle.showing.specs.Laid.{Laid};
 ghost use Rattle.showing.specs.Samples.{Measured, Written};
