@@ -2,7 +2,7 @@
 use Prim.Native.Nat.{ℕ}
 use mathlib.Core.Path.{_≡_, sym, ap, _∙_}
 use mathlib.Core.List.{List}
-use mathlib.Core.Logic.{_⊎_, inl, inr}
+use mathlib.Core.Logic.{inl, inr}
 use Rattle.language.proofs.Determined.{Determined}
 use Rattle.rules.specs.Calls.{Trying, decides, unread, given-up}
 use Rattle.host.specs.Host.{TryNumber}

@@ -7,13 +7,12 @@ use mathlib.Core.Option.{Option, none, some}
 use native.Mathlib.Omega.{arith}
 use lib.Dec.{leb, ltb, eqb}
 use lib.ListN.{length, getD}
-use borrow.Author.Tests.{leb-true, leb-false, ltb-false, lt-leb, le-ltb}
-use Rattle.language.specs.declared.Refusal.{Refusal}
+use borrow.Author.Tests.{leb-false, ltb-false, lt-leb, le-ltb}
 use Rattle.language.specs.declared.Refusal.the-variants.{ShortSlice, QuestionLength, FillingLayout, LongExample, OpenLine}
 use Rattle.language.specs.Kinds.{pick}
-use Rattle.language.specs.Limits.{Limits, desk}
+use Rattle.language.specs.Limits.{desk}
 use Rattle.language.specs.Trees.{Conj, Counts, Question}
-use Rattle.language.specs.Question.{Asked, asks, refuses, readQuestion, lengthFits, countsFit, laidOut, rises, offsets, countsOf}
+use Rattle.language.specs.Question.{Asked, asks, refuses, readQuestion, lengthFits, laidOut, rises, offsets, countsOf}
 use Rattle.meaning.specs.Values.{Given, readFilling, variables, fillingWords}
 use Rattle.meaning.specs.Values as values
 use Rattle.rules.specs.Solved.{solved}

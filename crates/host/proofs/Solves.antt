@@ -2,7 +2,7 @@
 use Prim.Native.Nat.{ℕ, _*_, _/_, _%_, _≤_, _<_}
 use mathlib.Core.Path.{_≡_, refl, ap, _∙_, sym}
 use mathlib.Core.Bool.{Bool, true, false}
-use mathlib.Core.List.{List, [], _++_}
+use mathlib.Core.List.{List, _++_}
 use native.Mathlib.Omega.{arith}
 use lib.Dec.{ltb}
 use lib.ListN.{length, drop}
@@ -10,14 +10,13 @@ use lib.Seq.{sets}
 use borrow.Author.Tests.{lt-ltb, le-ltb}
 use Rattle.language.specs.declared.Refusal.the-variants.{ShortSlice}
 use Rattle.language.specs.Limits.{desk}
-use Rattle.language.specs.Numbers.{numberOf}
 use Rattle.language.specs.Question.{readQuestion}
 use Rattle.rules.specs.Answer.{Solving, answered, unread, given-up, solvingOf, solving, answerWords, zeros}
 use Rattle.host.specs.Bytes.{bytesOf, wordsIn, fitting}
 use Rattle.host.specs.Host.{solvingBytes, solveNumber, solveLeaves}
 use Rattle.host.proofs.Pairs.{written, odd-holds-none}
 use Rattle.host.proofs.Fitting.{fitting-solving, no-question}
-use Rattle.host.proofs.Refusals.{Numbered, numbered}
+use Rattle.host.proofs.Refusals.{Numbered}
 
 abbrev unless-short : Solving → Bool → Solving
 unless-short s b = elim b [ true ↦ unread ShortSlice | false ↦ s ]

@@ -2,27 +2,26 @@
 use Prim.Native.Nat.{ℕ, _+_, _<_, _≤_}
 use mathlib.Core.Path.{_≡_, refl, sym, ap, _∙_}
 use mathlib.Core.Bool.{Bool, true, false, not, _||_}
-use mathlib.Core.List.{List, [], _∷_, _++_}
+use mathlib.Core.List.{List, [], _++_}
 use mathlib.Core.Option.{Option, none, some}
 use native.Mathlib.Omega.{arith}
 use lib.Dec.{eqb}
 use lib.ListN.{length, getD, length-drop}
 use borrow.Author.Tests.{eq-eqb, ne-eqb}
-use Rattle.language.specs.Kinds.{pick}
 use Rattle.language.specs.Limits.{desk}
 use Rattle.language.specs.Trees.{Hedge, Literal, eqn, mem, Conj, Var, tv, hv, fv, eqV, holds, inConj}
-use Rattle.language.specs.Writing.{hedgeWords, literalWords, conjWords}
+use Rattle.language.specs.Writing.{literalWords, conjWords}
 use Rattle.rules.specs.Solved.{given, variable, alone, solves}
 use Rattle.rules.specs.Step.{orElse}
 use Rattle.rules.specs.Example.{binds, bound}
-use Rattle.plans.specs.Views.{Sided, Sees}
+use Rattle.plans.specs.Views.{Sees}
 use Rattle.plans.specs.declared.View.{View}
 use Rattle.views.specs.Variables.{variableWord, fineVar}
 use Rattle.views.specs.Standing.{Stands, LiteralAt}
 use Rattle.views.proofs.Sides.{side-stands}
 use Rattle.views.proofs.Members.{eqb-base}
 use Rattle.words.proofs.Parts.{word-of}
-use Rattle.showing.specs.Lines.{Line, Word, Held, held, unheld}
+use Rattle.showing.specs.Lines.{Word, Held, held, unheld}
 use Rattle.showing.specs.Binding.{soleWord, BoundBy, to, free}
 use Rattle.showing.specs.declared.bindings.Place.{Place}
 use Rattle.showing.specs.declared.bindings.Place.the-variants.{At, Nowhere}

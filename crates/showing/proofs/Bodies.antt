@@ -1,7 +1,7 @@
 -- The words of complete hedges: split at the end, and of two in a row.
-use Prim.Native.Nat.{ℕ, _+_}
+use Prim.Native.Nat.{_+_}
 use mathlib.Core.Path.{_≡_, refl, sym, ap, _∙_}
-use mathlib.Core.List.{List, [], _∷_, _++_, append-assoc}
+use mathlib.Core.List.{[], _∷_, _++_, append-assoc}
 use Rattle.meaning.specs.Complete.{Complete, nil, tree, _·_, completeWords}
 use Rattle.showing.specs.Bodies.{body}
 

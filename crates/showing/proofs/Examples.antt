@@ -1,7 +1,7 @@
 -- The values of an example in order are those that each variable is bound to or takes unsolved.
 use Prim.Native.Nat.{ℕ, _+_}
 use mathlib.Core.Path.{_≡_, refl, sym, ap, _∙_}
-use mathlib.Core.Bool.{Bool, true, false, not, _&&_, _||_}
+use mathlib.Core.Bool.{not, _&&_, _||_}
 use mathlib.Core.List.{List, [], _∷_, _++_, map, map-append}
 use mathlib.Core.Option.{Option, none, some}
 use lib.Dec.{T}
@@ -13,7 +13,7 @@ use Rattle.meaning.specs.Meaning.{fill}
 use Rattle.meaning.specs.Values.{rootOf, childrenOf, variables, numbers, valuesIn, offsetsOf, joined, fillingWords}
 use Rattle.rules.specs.Looks.{empty}
 use Rattle.rules.specs.Solved.{given, isTerm, isFunctor, variable, alone, solves}
-use Rattle.rules.specs.Example.{of, expressionOf, sampled, unsolved, binds, bound, followed, example}
+use Rattle.rules.specs.Example.{of, unsolved, binds, bound, followed, example}
 use Rattle.exact.proofs.Tests.{and-parts, picks}
 use Rattle.exact.proofs.Names.{eqV-is}
 use Rattle.exact.proofs.Answers.{Where}

@@ -1,7 +1,7 @@
 -- An example is what `showing` says: after a refusal nothing is shown, and else the line of the answer is.
 use Prim.Native.Nat.{ℕ}
 use mathlib.Core.Path.{_≡_, refl, sym, ap, _∙_}
-use mathlib.Core.List.{List, [], _∷_, _++_}
+use mathlib.Core.List.{List, [], _∷_}
 use native.Mathlib.Omega.{arith}
 use types.Run.{OneOf, miss}
 use denote.Enum.Declared.{tagOf}
@@ -10,19 +10,19 @@ use Rattle.language.specs.declared.Refusal.{Refusal}
 use Rattle.language.specs.Limits.{desk}
 use Rattle.language.specs.Trees.{Conj}
 use Rattle.language.specs.Question.{countsOf}
-use Rattle.rules.specs.Answer.{answerWords, Verdict, noLine, allSolved, someOpen, verdictOf, Solving, answered, unread, given-up, solving}
-use Rattle.rules.specs.Calls.{Showing, shown, lineAt, showingOf, showing}
+use Rattle.rules.specs.Answer.{Verdict, noLine, allSolved, someOpen, verdictOf, Solving, answered, unread, given-up, solving}
+use Rattle.rules.specs.Calls.{shown, lineAt, showingOf, showing}
 use Rattle.solver.specs.declared.Outcome.{Outcome}
 use Rattle.solver.specs.declared.Outcome.the-variants.{Refused, NoLine, AllSolved, SomeOpen}
 use Rattle.solver.specs.declared.Solved.{Solved}
 use Rattle.solver.specs.Leaves.{verdict, leaves}
 use Rattle.solver.proofs.Outcome.{the-type}
 use Rattle.showing.specs.declared.Shown.{Shown}
-use Rattle.showing.specs.declared.Shown.the-variants.{Shows, Denied}
+use Rattle.showing.specs.declared.Shown.the-variants.{Denied}
 use Rattle.showing.specs.Shown.{resultOf, roomOf}
 use Rattle.showing.specs.Exhibits.{exhibits}
 use Rattle.showing.specs.Answers.{Answer, Answered, Ranged, AnswerShown}
-use Rattle.showing.proofs.Finished.{Ends, lines-end}
+use Rattle.showing.proofs.Finished.{lines-end}
 
 -- the tags of the outcomes that are no refusal
 not-refused : (o : Outcome) → OneOf (1 ∷ 2 ∷ 3 ∷ []) (tagOf the-type o) → (r : Refusal) → o ≡ Refused r → ⊥

@@ -1,24 +1,23 @@
 -- The lines of an answered question: they fit, their words are words of the desk, and no rule applies to them.
-use Prim.Native.Nat.{ℕ, zero, suc, _+_, _<_, _≤_}
-use mathlib.Core.Path.{_≡_, refl, sym, ap, _∙_}
+use Prim.Native.Nat.{ℕ, zero, suc, _+_, _≤_}
+use mathlib.Core.Path.{_≡_, refl, sym, ap}
 use mathlib.Core.Bool.{Bool, true, false, _&&_}
 use mathlib.Core.List.{List, [], _∷_, _++_}
 use mathlib.Core.Option.{Option, none, some}
 use native.Mathlib.Omega.{arith}
 use lib.Dec.{ltb, leb}
-use lib.ListN.{length, getD}
+use lib.ListN.{length}
 use borrow.Author.Tests.{ltb-true, leb-true}
 use Rattle.language.specs.declared.Refusal.{Refusal}
 use Rattle.language.specs.declared.Refusal.the-variants.{LongResult, LongWaiting, LineRoom, StepLimit}
 use Rattle.language.specs.Limits.{Limits, desk}
 use Rattle.language.specs.Trees.{Functor, symbol, fvar, Hedge, ε, tvar, hvar, node, Expr, eps, cat, alt, star, over, Literal, eqn, mem, Conj, Counts}
 use Rattle.language.specs.Fine.{fineFunctor, fineHedge, fineExpr, fineLiteral, fineConj}
-use Rattle.language.specs.Question.{countsOf, declaredS, declaredT, declaredH, declaredX, declaredF, declared, declaredE, declaredL, declaredC}
+use Rattle.language.specs.Question.{countsOf, declaredS, declaredT, declaredH, declaredF, declared, declaredE, declaredL, declaredC}
 use Rattle.language.proofs.Bools.{both-true}
 use Rattle.language.proofs.Asking.{ranges}
 use Rattle.rules.specs.Step.{step}
 use Rattle.rules.specs.Run.{anyLong, waitingSize, linesSize, linesFit, Outcome, finished, refused, lined, turn, runFrom, run}
-use Rattle.rules.specs.Solved.{solved}
 use Rattle.rules.specs.Answer.{solving, answered}
 use Rattle.exact.specs.Each.{Each}
 use Rattle.exact.proofs.Run.{answered-run}

@@ -1,5 +1,5 @@
 -- The value of a variable: the hedge that it is bound to, filled in, or what it takes unsolved.
-use Prim.Native.Nat.{ℕ, _+_, _*_, _<_, _≤_}
+use Prim.Native.Nat.{ℕ, _+_, _≤_}
 use mathlib.Core.Path.{_≡_, refl, sym, ap, _∙_}
 use mathlib.Core.List.{List, [], _∷_, _++_}
 use mathlib.Core.Option.{Option, none, some}
@@ -9,11 +9,11 @@ use lib.Seq.{slice}
 use Rattle.language.specs.declared.TermVar.{TermVar}
 use Rattle.language.specs.Trees.{Hedge, Expr, Conj, Var, tv}
 use Rattle.language.specs.Writing.{hedgeWords}
-use Rattle.meaning.specs.Complete.{Complete, nil, tree, completeWords}
+use Rattle.meaning.specs.Complete.{nil, tree, completeWords}
 use Rattle.meaning.specs.Meaning.{fill}
 use Rattle.meaning.specs.Values.{rootOf, childrenOf}
 use Rattle.rules.specs.Expressions.{sample}
-use Rattle.rules.specs.Example.{Values, of, expressionOf, sampled, unsolved, bound, followed}
+use Rattle.rules.specs.Example.{of, expressionOf, sampled, unsolved, bound, followed}
 use Rattle.showing.specs.Bodies.{body}
 use Rattle.showing.specs.Laid.{Laid}
 use Rattle.showing.proofs.Bodies.{words-body}

@@ -1,21 +1,17 @@
 -- A line of an answer, read back: its offset, its mark and its words.
 use Prim.Native.Nat.{ℕ, zero, suc, _+_, _-_, _<_, _≤_}
 use mathlib.Core.Path.{_≡_, refl, sym, ap, _∙_}
-use mathlib.Core.Bool.{Bool, true, false}
 use mathlib.Core.List.{List, [], _∷_, _++_, map, append-assoc, map-append}
-use mathlib.Core.Option.{Option, none, some}
+use mathlib.Core.Option.{none, some}
 use native.Mathlib.Omega.{arith}
-use native.Mathlib.Numerals.{add-one}
-use lib.ListN.{length, getD, drop, length-append, length-map, List·getD-append}
+use lib.ListN.{length, getD, drop, length-append, List·getD-append}
 use lib.Seq.{drop-append-add, drop-append-seam}
-use Rattle.language.specs.Kinds.{pick}
 use Rattle.language.specs.Limits.{desk}
 use Rattle.language.specs.Trees.{Conj}
 use Rattle.language.specs.Writing.{conjWords}
 use Rattle.meaning.specs.Values.{times, offsetsOf, joined}
-use Rattle.rules.specs.Solved.{solved}
 use Rattle.rules.specs.Run.{linesSize}
-use Rattle.rules.specs.Answer.{markOf, lineWords, answerWords}
+use Rattle.rules.specs.Answer.{lineWords, answerWords}
 use Rattle.rules.specs.Calls.{lineAt}
 use Rattle.exact.specs.Each.{Each}
 use Rattle.answers.proofs.Rows.{header, in-a-row, length-header, length-lines, length-times, length-answer}

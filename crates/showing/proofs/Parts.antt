@@ -1,17 +1,16 @@
 -- A part of a line's words, measured and written word by word.
-use Prim.Native.Nat.{ℕ, suc, _+_, _*_, _-_, _<_, _≤_}
+use Prim.Native.Nat.{ℕ, _+_, _*_, _-_, _<_, _≤_}
 use mathlib.Core.Path.{_≡_, refl, sym, ap, _∙_}
-use mathlib.Core.List.{List, [], _∷_, _++_}
-use mathlib.Core.Option.{Option, none, some}
+use mathlib.Core.List.{List, [], _∷_}
+use mathlib.Core.Option.{none}
 use mathlib.Core.Logic.{_⊎_, inl, inr}
 use native.Mathlib.Decide.{decLt}
 use native.Mathlib.Omega.{arith}
 use lib.ListN.{length, getD, length-append}
 use lib.Seq.{slice}
-use Rattle.language.specs.declared.FunVar.{FunVar}
 use Rattle.language.specs.Trees.{Conj, Var, fv}
 use Rattle.meaning.specs.Values.{rootOf}
-use Rattle.rules.specs.Example.{Values, defaultSymbol, sampled, unsolved}
+use Rattle.rules.specs.Example.{defaultSymbol, sampled, unsolved}
 use Rattle.showing.specs.Bodies.{body}
 use Rattle.showing.specs.Laid.{Laid}
 use Rattle.showing.proofs.Laid.{laid-none, laid-row, laid-as}

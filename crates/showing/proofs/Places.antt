@@ -3,12 +3,11 @@ use Prim.Native.Nat.{ℕ, _+_, _<_, _≤_}
 use mathlib.Core.Path.{_≡_, refl, sym, ap, _∙_}
 use mathlib.Core.Bool.{Bool, true, false}
 use mathlib.Core.List.{List, [], _∷_, _++_, append-assoc}
-use mathlib.Core.Option.{Option, none, some}
+use mathlib.Core.Option.{some}
 use native.Mathlib.Omega.{arith}
 use lib.ListN.{length, drop, getD}
 use lib.Seq.{slice}
 use Rattle.language.specs.Kinds.{pick}
-use Rattle.language.specs.Limits.{desk}
 use Rattle.language.specs.Trees.{Hedge, Expr, Literal, eqn, mem, Conj, Var, holds, inLiteral}
 use Rattle.language.specs.Writing.{hedgeWords, exprWords, literalWords, conjWords}
 use Rattle.rules.specs.Solved.{solves}
@@ -22,10 +21,9 @@ use Rattle.views.specs.Variables.{variableWord}
 use Rattle.views.specs.Standing.{Stands, LiteralAt}
 use Rattle.words.proofs.Parts.{part-of, drop-of, word-of}
 use Rattle.views.proofs.Members.{member-hedge, member-literal}
-use Rattle.showing.specs.Lines.{Line, Word, Found, Told, Expressed, expressed, unexpressed, Held, held, unheld, Walk}
-use Rattle.showing.specs.declared.bindings.Place.{Place}
+use Rattle.showing.specs.Lines.{Line, Word, Told, Expressed, expressed, unexpressed, Held, held, unheld, Walk}
 use Rattle.showing.specs.declared.bindings.Place.the-variants.{At, Nowhere}
-use Rattle.showing.proofs.Walks.{literal-here, literal-ends, walk-start, walk-literal, walk-next, walk-end}
+use Rattle.showing.proofs.Walks.{literal-here, literal-ends, walk-literal, walk-next, walk-end}
 
 -- ---- at one literal
 

@@ -3,7 +3,6 @@ use Prim.Native.Nat.{ℕ, suc, _+_, _-_, _<_, _≤_}
 use mathlib.Core.Path.{_≡_, refl, sym, ap, _∙_}
 use mathlib.Core.Bool.{Bool, true, false}
 use mathlib.Core.List.{List, [], _∷_, _++_}
-use mathlib.Core.Option.{Option, none, some}
 use native.Mathlib.Omega.{arith}
 use lib.ListN.{length, getD, take, drop}
 use lib.Seq.{take-append-seam}
@@ -17,14 +16,13 @@ use Rattle.meaning.specs.Values.{fillingWords}
 use Rattle.rules.specs.Solved.{solved}
 use Rattle.rules.specs.Answer.{markOf, lineWords}
 use Rattle.rules.specs.Example.{example}
-use Rattle.rules.specs.Calls.{Showing, denied, fitted, shown, lineAt}
+use Rattle.rules.specs.Calls.{Showing, denied, fitted, shown}
 use Rattle.showing.specs.Lines.{Line}
-use Rattle.showing.specs.Values.{Settled}
 use Rattle.words.proofs.Parts.{drop-of, word-of}
 use Rattle.showing.specs.declared.Shown.{Shown}
-use Rattle.showing.specs.declared.Shown.the-variants.{Shows, Denied}
+use Rattle.showing.specs.declared.Shown.the-variants.{Denied}
 use Rattle.showing.specs.Shown.{resultOf, roomOf}
-use Rattle.showing.specs.Fillings.{Counted, LineShown}
+use Rattle.showing.specs.Fillings.{LineShown}
 use Rattle.showing.specs.Answers.{Good, Answer, Answered, WordsShown, PartShown, AnswerShown}
 use Rattle.showing.proofs.Lines.{no-line, Place, whole, count-is, place-of}
 

@@ -1,7 +1,7 @@
 -- The values of the variables of one kind, one after the other.
-use Prim.Native.Nat.{ℕ, zero, suc, _+_, _*_, _-_, _<_, _≤_}
-use mathlib.Core.Path.{_≡_, refl, sym, ap, _∙_}
-use mathlib.Core.List.{List, [], _∷_, _++_, map}
+use Prim.Native.Nat.{ℕ, suc, _+_, _*_, _-_, _<_, _≤_}
+use mathlib.Core.Path.{_≡_, sym, ap, _∙_}
+use mathlib.Core.List.{List, [], _∷_, map}
 use native.Mathlib.Omega.{arith}
 use lib.ListN.{length, length-append}
 use Rattle.language.specs.Trees.{Conj, Var}
@@ -9,7 +9,6 @@ use Rattle.meaning.specs.Values.{joined, numbers}
 use Rattle.showing.specs.Laid.{Laid}
 use Rattle.showing.proofs.Laid.{laid-none, laid-row, laid-as}
 use Rattle.showing.specs.Lines.{Line, Word}
-use Rattle.showing.specs.declared.values.Row.{Row}
 use Rattle.showing.specs.Values.{Settled, valueWords, ValueLength}
 use Rattle.showing.specs.Rows.{Makes, valuesBy, starts, KindLength, KindStarts, KindWritten}
 

@@ -1,7 +1,6 @@
 -- Each word of a hedge becomes its part of the words of the hedge filled in.
 use Prim.Native.Nat.{ℕ, _+_, _-_, _<_, _≤_}
 use mathlib.Core.Path.{_≡_, refl, sym, ap, _∙_}
-use mathlib.Core.Bool.{Bool, true, false}
 use mathlib.Core.List.{List, [], _∷_, _++_, append-assoc, append-nil}
 use native.Mathlib.Omega.{arith}
 use lib.Dec.{leb}
@@ -9,13 +8,12 @@ use borrow.Author.Tests.{le-leb, lt-leb}
 use Rattle.language.specs.declared.TermVar.{TermVar}
 use Rattle.language.specs.declared.HedgeVar.{HedgeVar}
 use Rattle.language.specs.declared.FunVar.{FunVar}
-use Rattle.language.specs.Kinds.{pick}
 use Rattle.language.specs.Limits.{desk}
 use Rattle.language.specs.Trees.{Functor, symbol, fvar, Hedge, ε, tvar, hvar, node, Var, tv, hv, fv}
 use Rattle.language.specs.Writing.{functorWord, hedgeWords}
 use Rattle.language.specs.Fine.{fineFunctor, fineHedge}
-use Rattle.meaning.specs.Complete.{Complete, nil, tree, _·_, completeWords}
-use Rattle.meaning.specs.Meaning.{Filling, fillF, fill}
+use Rattle.meaning.specs.Complete.{nil, tree, completeWords}
+use Rattle.meaning.specs.Meaning.{fillF, fill}
 use Rattle.meaning.specs.Values.{rootOf, childrenOf}
 use Rattle.rules.specs.Example.{Values, of}
 use Rattle.showing.specs.Bodies.{body}

@@ -8,7 +8,7 @@ use lib.Seq.{drop-append-seam}
 use Rattle.language.specs.Limits.{desk}
 use Rattle.language.specs.Trees.{Literal, eqn, mem, Conj}
 use Rattle.language.specs.Writing.{literalWords, conjWords}
-use Rattle.language.specs.Fine.{fineLiteral, fineConj}
+use Rattle.language.specs.Fine.{fineConj}
 use Rattle.words.specs.Places.{untilLiteral}
 use Rattle.views.specs.Standing.{LiteralAt}
 use Rattle.views.proofs.Words.{words-append}

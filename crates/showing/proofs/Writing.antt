@@ -5,10 +5,9 @@ use mathlib.Core.Bool.{Bool, true, false, _||_}
 use mathlib.Core.List.{List, [], _∷_, _++_, append-assoc}
 use native.Mathlib.Omega.{arith}
 use lib.Dec.{ltb}
-use lib.ListN.{length, take, drop, length-append}
+use lib.ListN.{length, drop, length-append}
 use lib.Seq.{sets, sets-eq}
 use borrow.Author.Tests.{lt-ltb, le-ltb}
-use Rattle.language.specs.declared.Refusal.{Refusal}
 use Rattle.language.specs.declared.Refusal.the-variants.{LongExample}
 use Rattle.language.specs.Limits.{desk}
 use Rattle.language.specs.Trees.{Conj, Counts, Var, tv, hv, fv}
@@ -16,7 +15,7 @@ use Rattle.meaning.specs.Values.{variables, joined, offsetsOf, fillingWords}
 use Rattle.rules.specs.Example.{example}
 use Rattle.rules.specs.Calls.{Showing, shows, denied, fitted}
 use Rattle.showing.specs.Laid.{Laid}
-use Rattle.showing.proofs.Laid.{laid-none, laid-row, laid-as}
+use Rattle.showing.proofs.Laid.{laid-row, laid-as}
 use Rattle.showing.specs.Lines.{Line, Word}
 use Rattle.showing.specs.Values.{Settled}
 use Rattle.showing.specs.Rows.{Makes, valuesBy, starts, KindLength, KindStarts, KindWritten}

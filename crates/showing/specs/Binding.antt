@@ -1,16 +1,11 @@
 -- What an equation binds a variable to, by the looks of its sides.
 use Prim.Native.Nat.{ℕ, _+_}
 use mathlib.Core.Path.{_≡_}
-use mathlib.Core.Bool.{Bool, true, false, _&&_}
 use mathlib.Core.List.{List}
 use mathlib.Core.Option.{Option, none, some}
-use lib.Dec.{leb}
 use lib.ListN.{length}
-use Rattle.language.specs.Kinds.{pick}
 use Rattle.language.specs.Trees.{Hedge, Var}
 use Rattle.language.specs.Writing.{hedgeWords}
-use Rattle.plans.specs.declared.Look.{Look}
-use Rattle.plans.specs.declared.Look.the-variants.{Empty, Term, Run, Node}
 use Rattle.views.specs.Variables.{variableWord}
 use Rattle.views.specs.Standing.{Stands}
 use Rattle.showing.specs.declared.bindings.Bound.{Bound}

@@ -1,12 +1,11 @@
 -- A line in words, and what is found in it of a variable.
 use Prim.Native.Nat.{ℕ, _+_}
 use mathlib.Core.Path.{_≡_}
-use mathlib.Core.Bool.{true}
 use mathlib.Core.List.{List, [], _∷_, _++_}
 use mathlib.Core.Option.{Option, none, some}
 use lib.ListN.{length}
 use Rattle.language.specs.Limits.{desk}
-use Rattle.language.specs.Trees.{Expr, Literal, Conj, Var, inLiteral}
+use Rattle.language.specs.Trees.{Expr, Literal, Conj, Var}
 use Rattle.language.specs.Writing.{conjWords}
 use Rattle.language.specs.Fine.{fineConj}
 use Rattle.rules.specs.Solved.{solves}

@@ -1,8 +1,8 @@
 -- The values of a line's variables in words.
 use Prim.Native.Nat.{ℕ, _+_, _*_, _≤_}
 use mathlib.Core.Path.{_≡_}
-use mathlib.Core.List.{List, [], _∷_, _++_}
-use mathlib.Core.Option.{Option, none, some}
+use mathlib.Core.List.{List, []}
+use mathlib.Core.Option.{none, some}
 use lib.ListN.{length}
 use lib.Seq.{slice}
 use Rattle.language.specs.declared.TermVar.{TermVar}
@@ -10,9 +10,8 @@ use Rattle.language.specs.declared.FunVar.{FunVar}
 use Rattle.language.specs.declared.Sym.{Sym}
 use Rattle.language.specs.Trees.{Expr, over, Conj, Var, tv, fv}
 use Rattle.meaning.specs.Complete.{completeWords}
-use Rattle.rules.specs.Example.{default, expressionOf, unsolved, bound, followed}
+use Rattle.rules.specs.Example.{expressionOf, unsolved, bound, followed}
 use Rattle.showing.specs.Bodies.{body}
-use Rattle.showing.specs.Laid.{Laid}
 use Rattle.showing.specs.Lines.{Line, Word}
 use Rattle.showing.specs.Spelling.{becomes, spelled, HedgeWord, HedgeWords}
 

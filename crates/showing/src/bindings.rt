@@ -1,7 +1,7 @@
 // What a line says of a variable: the expression of its membership, and what an equation binds it to.
-ghost use Prim.Native.Nat.{ℕ, _+_, _≤_, _<_};
+ghost use Prim.Native.Nat.{_<_};
 ghost use mathlib.Core.Path.{_≡_};
-ghost use mathlib.Core.List.{List, [], _∷_, _++_};
+ghost use mathlib.Core.List.{[], _++_};
 ghost use lib.ListN.{length};
 ghost use Rattle.language.specs.Trees.{Hedge, Literal, Conj, Var};
 ghost use Rattle.plans.specs.Views.{Sees};

@@ -1,8 +1,5 @@
 // The sample of an expression, as words: measured first, then written straight to its place.
-ghost use Prim.Native.Nat.{ℕ, _+_, _≤_, _<_};
-ghost use mathlib.Core.Path.{_≡_};
-ghost use mathlib.Core.List.{List, [], _∷_};
-ghost use lib.ListN.{length};
+ghost use mathlib.Core.List.{[], _∷_};
 ghost use Rattle.showing.specs.Laid.{Laid};
 ghost use Rattle.showing.specs.Samples.{Measured, Written};
 

@@ -1,6 +1,5 @@
 -- `host::desk_try` meets its contract: the words lent come to what the bytes come to.
 use mathlib.Core.Path.{refl}
-use native.Mathlib.Omega.{arith}
 use lib.ListN.{replicate}
 use borrow.Author.Needs.{needs}
 use Rattle.host.proofs.Numbering.{told-as}

@@ -1,6 +1,5 @@
 -- A filling has its table's words and those of its values.
 use borrow.Author.Needs.{needs}
-use native.Mathlib.Omega.{arith}
 use Rattle.showing.proofs.Writing.{filling-length}
 use Rattle.showing.proofs.filling_len.Statement.{statement}
 use Rattle.showing.proofs.filling_len.Tie as tie

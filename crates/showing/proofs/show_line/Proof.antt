@@ -1,6 +1,5 @@
 -- A line's place is read from the offsets.
 use borrow.Author.Needs.{needs}
-use native.Mathlib.Omega.{arith}
 use Rattle.showing.proofs.Reading.{line-missing, part-fits, line-shown}
 use Rattle.showing.proofs.show_line.Statement.{statement}
 use Rattle.showing.proofs.show_line.Tie as tie

@@ -1,6 +1,5 @@
 -- The table is the number of variables, where the values of each kind begin, and where the last ends.
 use borrow.Author.Needs.{needs}
-use native.Mathlib.Omega.{arith}
 use Rattle.showing.proofs.Writing.{table-written}
 use Rattle.showing.proofs.write_table.Statement.{statement}
 use Rattle.showing.proofs.write_table.Tie as tie

@@ -1,5 +1,7 @@
 -- The side seen first solves the variable that it is, where that stands nowhere else.
+use mathlib.Core.Path.{_∙_}
 use borrow.Author.Needs.{needs}
+use Rattle.marks.proofs.Sides.{alone-sees}
 use Rattle.showing.proofs.Looks.{solved-word, unsolved-word}
 use Rattle.showing.proofs.bindings.solved_side.Statement.{statement}
 use Rattle.showing.proofs.bindings.solved_side.Tie as tie
@@ -11,6 +13,6 @@ solved-side-spec =
     (λ c κs. search needs)
     (λ c κs. search needs)
     -- returns
-    (λ c before l r behind s. solved-word s (c .before .before .before .before .alone-side .ensures before l r behind s) (c .before .before .before .if1 .taken) (c .side-variable .ensures))
+    (λ c before l r behind s. solved-word s (c .before .before .before .before .alone-side .ensures ∙ alone-sees s) (c .before .before .before .if1 .taken) (c .side-variable .ensures))
     -- returns-2
-    (λ c before l r behind s. unsolved-word s (c .before .alone-side .ensures before l r behind s) (c .if1 .left)))
+    (λ c before l r behind s. unsolved-word s (c .before .alone-side .ensures ∙ alone-sees s) (c .if1 .left)))

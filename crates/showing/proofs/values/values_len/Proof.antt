@@ -1,6 +1,6 @@
 -- The values of one kind are measured one by one.
 use Prim.Native.Nat.{_+_, _-_}
-use mathlib.Core.Path.{_≡_, refl}
+use mathlib.Core.Path.{_≡_}
 use borrow.Author.Needs.{needs}
 use native.Mathlib.Omega.{arith}
 use Rattle.showing.proofs.Rows.{Summed, summed-start, summed-next, summed-done}
