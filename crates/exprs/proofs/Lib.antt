@@ -10,3 +10,4 @@ pub mod Rows
 pub mod Steps
 pub mod Written
 pub mod Determined
+pub mod Reaching

@@ -15,7 +15,7 @@ use Rattle.exprs.specs.Passing.{asks, reach, nullBy, nulls, partAt}
 -- ---- by the word
 
 module _ (x : ℕ) where
-  asks-none : x ≡ 7000 → asks x ≡ 0
+  pub asks-none : x ≡ 7000 → asks x ≡ 0
   unfolding asks
   asks-none e = rw (eq-eqb x 7000 e)
 
@@ -54,7 +54,7 @@ module _ (x : ℕ) where
 
 -- ---- expressions in a row
 
-reach-none : (ws : List ℕ) → reach 0 ws ≡ 0
+pub reach-none : (ws : List ℕ) → reach 0 ws ≡ 0
 unfolding reach
 reach-none [] = refl
 reach-none (x ∷ ws) = refl

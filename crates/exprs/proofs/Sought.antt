@@ -15,7 +15,7 @@ use Rattle.rules.specs.Expressions.{nullable}
 use Rattle.exprs.specs.declared.Part.{Part}
 use Rattle.exprs.specs.declared.Spot.{Spot}
 use Rattle.exprs.specs.declared.Found.{Found}
-use Rattle.exprs.specs.Standing.{Here, PartOf, Parted}
+use Rattle.exprs.specs.Standing.{Here, PartOf, Parted, Past}
 use Rattle.exprs.specs.Loose.{loose}
 use Rattle.exprs.specs.Spots.{FoundIn, Sought, further, only, Tacked}
 use Rattle.exprs.proofs.Standing.{second-of, words-here, by-eps, by-cat, by-alt, by-star, by-over, past-end, is-alt}
@@ -58,10 +58,10 @@ module _ {k : List ℕ} {at i : ℕ} {d₀ : List ℕ} {to : ℕ} where
         each = by-eps _ z (λ w. record { end = refl; null = refl; reached = reached-none e });
       }
 
-  pub sought-over : {p : Part} {s : Spot} → at < length k → getD k at 0 < 7000 → Parted k (at + 1) p → s ≡ only at (p .end) i
-      → Sought k at i d₀ to d₀ (record { end = p .end; null = false; spot = s })
-  sought-over {p} {s} j z a e =
-      let u = only-small at (p .end) i in
+  pub sought-over : {m : ℕ} {s : Spot} → at < length k → getD k at 0 < 7000 → Past k (at + 1) m → s ≡ only at m i
+      → Sought k at i d₀ to d₀ (record { end = m; null = false; spot = s })
+  sought-over {m} {s} j z a e =
+      let u = only-small at m i in
       let x = ap (λ (s : Spot). s .parts) e in
       let y = ap (λ (s : Spot). s .words) e in
       let l = a .after in
@@ -71,10 +71,10 @@ module _ {k : List ℕ} {at i : ℕ} {d₀ : List ℕ} {to : ℕ} where
         few = omega arith;
         short = omega arith;
         bounded = record { few = omega arith; short = omega arith };
-        each = λ R w h₀. by-over (λ R w. Here k at R w → FoundIn k at R i d₀ to d₀ (record { end = p .end; null = false; spot = s })) z (λ f y u A w h h₁.
-            let n = a .each A w h .end in
-            let m : p .end ≡ at + length (exprWords (over f A)) = omega arith in
-            record { end = m; null = refl; reached = reached-only i at (p .end) _ refl refl (words-here h₁ m) e }) R w h₀ h₀;
+        each = λ R w h₀. by-over (λ R w. Here k at R w → FoundIn k at R i d₀ to d₀ (record { end = m; null = false; spot = s })) z (λ f y u A w h h₁.
+            let n = a .each A w h in
+            let x : m ≡ at + length (exprWords (over f A)) = omega arith in
+            record { end = x; null = refl; reached = reached-only i at m _ refl refl (words-here h₁ x) e }) R w h₀ h₀;
       }
 
   -- the first part has been sought in
@@ -98,6 +98,30 @@ module _ {k : List ℕ} {at i : ℕ} {d₀ : List ℕ} {to : ℕ} where
               let n = f .end in
               let m : r .end ≡ at + length (exprWords (star A)) = omega arith in
               record { end = m; null = refl; reached = reached-tacked (f .reached) (star A) (words-here h₁ m) m p }) R w h₀ h₀;
+        }
+
+    -- the second part has been passed by
+    pub sought-cat-stop : {m : ℕ} → Past k (r .end) m → getD k at 0 ≡ 7001 → r .spot .hit ≡ false → r .null ≡ false → Sought k at i d₀ to d₁ (record { end = m; null = false; spot = r .spot })
+    sought-cat-stop {m} b z h q =
+        let x = a .after in
+        let y = b .after in
+        record {
+          after = omega arith;
+          within = λ z. b .within (a .within (omega arith));
+          few = let v = a .few in omega arith;
+          short = let v = a .short in omega arith;
+          bounded = a .bounded;
+          each = by-cat _ z (λ A B w g o.
+              let f = a .each A _ g in
+              let s = b .each B w (second-of g o (f .end)) in
+              let x = f .end in
+              let l = length-append (exprWords A) (exprWords B) in
+              let n : nullable A ≡ false = sym (f .null) ∙ q in
+              record {
+                end = omega arith;
+                null = ap (λ n. n && nullable B) (sym n);
+                reached = join-stop (f .reached) (loose B) B (isEps B) (nullable A) n h;
+              });
         }
 
     -- the second part has been passed
@@ -163,28 +187,6 @@ module _ {k : List ℕ} {at i : ℕ} {d₀ : List ℕ} {to : ℕ} where
                   end = omega arith;
                   null = e ∙ ap (λ n. n && p .null) (f .null) ∙ ap (λ n. nullable A && n) (s .null);
                   reached = join-more (f .reached) (pick (nullable A) (loose B) []) B (isEps B) (sym (s .bare) ∙ q) h (words-here k (s .end)) (s .end) c;
-                });
-          }
-
-      pub sought-cat-stop : getD k at 0 ≡ 7001 → r .spot .hit ≡ false → r .null ≡ false → Sought k at i d₀ to d₁ (record { end = p .end; null = false; spot = r .spot })
-      sought-cat-stop z h q =
-          record {
-            after = after-both;
-            within = within-both;
-            few = few-both;
-            short = short-both;
-            bounded = a .bounded;
-            each = by-cat _ z (λ A B w g o.
-                let f = a .each A _ g in
-                let s = b .each B w (second-of g o (f .end)) in
-                let x = f .end in
-                let y = s .end in
-                let l = length-append (exprWords A) (exprWords B) in
-                let m : nullable A ≡ false = sym (f .null) ∙ q in
-                record {
-                  end = omega arith;
-                  null = ap (λ n. n && nullable B) (sym m);
-                  reached = join-stop (f .reached) (loose B) B (isEps B) (nullable A) m h;
                 });
           }
 

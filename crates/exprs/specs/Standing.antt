@@ -29,3 +29,9 @@ pub record Parted (k : List ℕ) (at : ℕ) (p : Part) : Type 0 where
   pub within : at ≤ length k → p .end ≤ length k
   pub is : p ≡ partAt k at
   pub each : (R : Expr) (beyond : List ℕ) → Here k at R beyond → PartOf at R p
+
+-- e is the place after whatever stands in k at `at`
+pub record Past (k : List ℕ) (at e : ℕ) : Type 0 where
+  pub after : at ≤ e
+  pub within : at ≤ length k → e ≤ length k
+  pub each : (R : Expr) (beyond : List ℕ) → Here k at R beyond → e ≡ at + length (exprWords R)

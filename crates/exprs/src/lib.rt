@@ -8,7 +8,8 @@ ghost use mathlib.Core.Bool.{_&&_, _||_};
 ghost use Prim.Native.Nat.{_≤_, _+_};
 ghost use lib.ListN.{length};
 ghost use lib.Seq.{slice};
-ghost use Rattle.exprs.specs.Standing.{Parted};
+ghost use Rattle.exprs.specs.Standing.{Parted, Past};
+ghost use Rattle.exprs.specs.Passing.{asks};
 ghost use Rattle.exprs.specs.Spots.{further, only, Laid, Tacked, Sought};
 ghost use Rattle.exprs.specs.Results.{Looked};
 
@@ -82,6 +83,39 @@ pub fn pass(k: &[u16], at: usize) -> Part
         null,
         bare: false,
     }
+}
+
+// How many expressions follow a word.
+fn asked(x: u16) -> usize
+    ensures { λ r. ⌜ r ≡ asks x ⌝ }
+{
+    if x == 7000 {
+        return 0;
+    }
+    if x <= 6999 {
+        return 1;
+    }
+    if x == 7003 {
+        return 1;
+    }
+    2
+}
+
+// The place after the expression at a place, where nothing else is wanted of it: one pass, without recursion.
+fn expression_end(k: &[u16], at: usize) -> usize
+    ensures { λ e. ⌜ Past (now (k .entry)) at e ⌝ }
+{
+    let mut i = at;
+    let mut need: usize = 1;
+    while need != 0 {
+        if k.len() <= i {
+            return i;
+        }
+        let more = asked(k[i]);
+        need = need - 1 + more;
+        i += 1;
+    }
+    i
 }
 
 // ---- the linear form
@@ -192,8 +226,7 @@ fn seek(k: &[u16], at: usize, i: usize, out: &mut [u16], to: usize) -> Found
         };
     }
     if x < 7000 {
-        let p = pass(k, at + 1);
-        let end = p.end;
+        let end = expression_end(k, at + 1);
         let spot = lone(at, end, i);
         return Found {
             end,
@@ -229,9 +262,9 @@ fn seek(k: &[u16], at: usize, i: usize, out: &mut [u16], to: usize) -> Found
         if open {
             return seek(k, mid, s.left, out, to);
         }
-        let p = pass(k, mid);
+        let end = expression_end(k, mid);
         return Found {
-            end: p.end,
+            end,
             null: false,
             spot: s,
         };

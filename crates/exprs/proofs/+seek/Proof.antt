@@ -13,6 +13,7 @@ use Rattle.exprs.proofs.both.Reads as both-reads
 use Rattle.exprs.proofs.either.Reads as either-reads
 use Rattle.exprs.proofs.lone.Reads as lone-reads
 use Rattle.exprs.proofs.miss.Reads as miss-reads
+use Rattle.exprs.proofs.expression_end.Reads as expression-end-reads
 use Rattle.exprs.proofs.pass.Reads as pass-reads
 use Rattle.exprs.proofs.tack.Reads as tack-reads
 use Rattle.exprs.proofs.+seek.{statement}
@@ -29,7 +30,7 @@ Below t = and 2 kinds.ps (falls 2 kinds.ps _<_ μ t) f.Pre
 
 pub +seek-spec : {M : Type 1} → statement M
 +seek-spec =
-    close μ λ t. lts.spec (miss-reads.Asked, miss-reads.Learnt, pass-reads.Asked, pass-reads.Learnt, lone-reads.Asked, lone-reads.Learnt, Below t, f.Post, tack-reads.Asked, tack-reads.Learnt, both-reads.Asked, both-reads.Learnt, either-reads.Asked, either-reads.Learnt) (At t) f.Post
+    close μ λ t. lts.spec (miss-reads.Asked, miss-reads.Learnt, expression-end-reads.Asked, expression-end-reads.Learnt, lone-reads.Asked, lone-reads.Learnt, Below t, f.Post, tack-reads.Asked, tack-reads.Learnt, pass-reads.Asked, pass-reads.Learnt, both-reads.Asked, both-reads.Learnt, either-reads.Asked, either-reads.Learnt) (At t) f.Post
     -- need miss-requires
     (λ c κs. search needs)
     -- need returns
@@ -44,9 +45,9 @@ pub +seek-spec : {M : Type 1} → statement M
     (λ c. search needs)
     -- need returns-2
     (λ c. search (sought-eps))
-    -- need add-pass
+    -- need add-expression-end
     (λ c. search needs)
-    -- need pass-requires
+    -- need expression-end-requires
     (λ c κs. search needs)
     -- need lone-requires
     (λ c κs. search needs)
@@ -62,7 +63,7 @@ pub +seek-spec : {M : Type 1} → statement M
     (λ c. omega arith)
     -- need returns-4
     (λ c. search (sought-star))
-    -- need pass-requires-2
+    -- need pass-requires
     (λ c κs. search needs)
     -- need both-requires
     (λ c κs. search needs)
@@ -71,24 +72,24 @@ pub +seek-spec : {M : Type 1} → statement M
     -- need returns-5
     (λ c. search (sought-cat-bare))
     -- need tack-requires-2
-    (λ c κs. let w = c .before .before .before .before .before .before .before .before .before .before .seek .ensures .within (omega arith) in let v = c .before .before .before .pass2 .ensures .within w in (omega arith, omega arith, omega arith, omega arith, omega arith))
+    (λ c κs. let w = c .before .before .before .before .before .before .before .before .before .before .seek .ensures .within (omega arith) in let v = c .before .before .before .pass .ensures .within w in (omega arith, omega arith, omega arith, omega arith, omega arith))
     -- need same-length-3
     (λ c. omega arith)
     -- need returns-6
-    (λ c. sought-cat-more (c .before .before .before .before .before .before .before .before .before .before .before .before .before .before .before .before .before .before .if1 .left) (c .before .before .before .before .before .before .before .before .before .before .before .before .before .before .before .before .before .before .before .before .before .pre .1 .0) (c .before .before .before .before .before .before .before .before .before .before .before .before .before .seek .ensures) (c .before .before .before .before .before .before .pass2 .ensures) (c .before .before .before .before .before .before .before .before .if5 .taken) (c .before .before .before .before .before .before .before .if6 .taken) (c .before .before .before .before .if7 .left) (c .before .before .before .before .before .both .ensures) (c .before .before .tack2 .ensures))
+    (λ c. sought-cat-more (c .before .before .before .before .before .before .before .before .before .before .before .before .before .before .before .before .before .before .if1 .left) (c .before .before .before .before .before .before .before .before .before .before .before .before .before .before .before .before .before .before .before .before .before .pre .1 .0) (c .before .before .before .before .before .before .before .before .before .before .before .before .before .seek .ensures) (c .before .before .before .before .before .before .pass .ensures) (c .before .before .before .before .before .before .before .before .if5 .taken) (c .before .before .before .before .before .before .before .if6 .taken) (c .before .before .before .before .if7 .left) (c .before .before .before .before .before .both .ensures) (c .before .before .tack2 .ensures))
     -- need seek-requires-2
     (λ c κs. let w = c .before .before .before .before .before .before .before .before .seek .ensures .within (omega arith) in (omega arith, (omega arith, omega arith)))
     -- need same-length-4
     (λ c. omega arith)
     -- need returns-7
     (λ c. search (sought-cat-on))
-    -- need pass-requires-3
+    -- need expression-end-requires-2
     (λ c κs. search needs)
     -- need same-length-5
     (λ c. omega arith)
     -- need returns-8
     (λ c. search (sought-cat-stop))
-    -- need pass-requires-4
+    -- need pass-requires-2
     (λ c κs. search needs)
     -- need either-requires
     (λ c κs. search needs)
