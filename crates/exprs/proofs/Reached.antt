@@ -10,7 +10,7 @@ use lib.Seq.{slice, sets, length-sets}
 use Rattle.language.specs.Kinds.{pick}
 use Rattle.language.specs.Trees.{Expr}
 use Rattle.language.specs.Writing.{exprWords}
-use Rattle.pieces.proofs.Still.{sets-append}
+use Rattle.language.proofs.Stores.{sets-append}
 use Rattle.exprs.specs.declared.Spot.{Spot}
 use Rattle.exprs.specs.Loose.{Loose, more, firstWords, wordsAt}
 use Rattle.exprs.specs.Spots.{this, Got, missed, met, Reached, further, only, longer, Tacked}

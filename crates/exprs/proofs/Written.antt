@@ -9,7 +9,8 @@ use Rattle.plans.specs.Results.{made}
 use Rattle.plans.specs.declared.Recipe.{Recipe}
 use Rattle.plans.specs.declared.Shape.{Shape}
 use Rattle.pieces.specs.Written.{Wrote}
-use Rattle.pieces.proofs.Still.{sets-append, wrote-word, wrote-as}
+use Rattle.language.proofs.Stores.{sets-append}
+use Rattle.pieces.proofs.Still.{wrote-word, wrote-as}
 use Rattle.exprs.specs.declared.Spot.{Spot}
 use Rattle.exprs.specs.declared.Found.{Found}
 use Rattle.exprs.specs.Loose.{opening, restWords, loose, wordsAt}

@@ -6,13 +6,9 @@ use native.Mathlib.Numerals.{add-one}
 use native.Mathlib.Omega.{arith}
 use lib.ListN.{length, set, length-append, length-set}
 use lib.Seq.{sets, length-sets, set-comm}
+use Rattle.language.proofs.Stores.{sets-append}
 use Rattle.pieces.specs.Written.{Wrote}
 use Rattle.pieces.proofs.Parts.{Split}
-
--- stores of two runs
-pub sets-append : (vs ws l : List ℕ) (i : ℕ) → sets l i (vs ++ ws) ≡ sets (sets l i vs) (i + length vs) ws
-sets-append [] ws l i = ap (λ n. sets l n ws) (omega arith)
-sets-append (v ∷ vs) ws l i = sets-append vs ws (set l i v) (suc i) ∙ ap (λ n. sets (sets (set l i v) (suc i) vs) n ws) (omega arith)
 
 -- a store before a run may come after it
 pub set-sets : (l : List ℕ) (i x : ℕ) (j : ℕ) (ws : List ℕ) → i < j → set (sets l j ws) i x ≡ sets (set l i x) j ws

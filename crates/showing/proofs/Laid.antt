@@ -5,11 +5,8 @@ use mathlib.Core.List.{List, [], _∷_, _++_}
 use native.Mathlib.Omega.{arith}
 use lib.ListN.{length, set, length-append}
 use lib.Seq.{sets, length-sets}
+use Rattle.language.proofs.Stores.{sets-append}
 use Rattle.showing.specs.Laid.{Laid}
-
-pub sets-append : (us vs l : List ℕ) (i : ℕ) → sets l i (us ++ vs) ≡ sets (sets l i us) (i + length us) vs
-sets-append [] vs l i = let z : i + 0 ≡ i = omega arith in rw z
-sets-append (x ∷ us) vs l i = let z : i + suc (length us) ≡ suc i + length us = omega arith in rw z (sets-append us vs (set l i x) (suc i))
 
 pub laid-none : {old : List ℕ} {at : ℕ} → Laid old at [] old at
 laid-none = record { end = λ h. omega arith; list = λ h. refl }
