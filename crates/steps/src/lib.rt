@@ -29,7 +29,6 @@ use plans::Size;
 use views::see;
 use views::show_membership;
 use views::swapped;
-use words::next_literal;
 
 // The literal of the least rank so far: its rank, its place, and whether its equation is seen from the other side.
 pub struct Best {
