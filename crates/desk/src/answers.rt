@@ -4,7 +4,7 @@ use crate::print::number;
 use crate::print::say;
 use crate::trees::hedge;
 use crate::trees::literals;
-use crate::trees::word;
+use words::word;
 
 fn wide(w: u16) -> usize
     ensures { λ r. ⌜ r < 65536 ⌝ }
@@ -29,7 +29,7 @@ fn line(answer: &[u16], i: usize)
 }
 
 // Every line of an answer.
-pub fn lines(answer: &[u16]) {
+pub(crate) fn lines(answer: &[u16]) {
     let n = wide(word(answer, 0));
     let mut i = 0;
     while i < n {
@@ -71,7 +71,7 @@ fn variable(i: usize, terms: usize, hedges: usize) {
 }
 
 // A filling's values as remarks, and then its words, so that what is written here can be read again.
-pub fn filling(question: &[u16], ws: &[u16]) {
+pub(crate) fn filling(question: &[u16], ws: &[u16]) {
     let n = wide(word(ws, 0));
     let mut i = 0;
     while i < n {

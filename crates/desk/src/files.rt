@@ -29,7 +29,7 @@ fn complain(path: &[u8], line: usize) {
 }
 
 // The words of the file that argument `i` names. What cannot be read is said, and `wrong` is not 0.
-pub fn load(i: usize, words: &mut [u16]) -> Text
+pub(crate) fn load(i: usize, words: &mut [u16]) -> Text
     ensures { λ r. ⌜ r .words ≤ length (now (words .exit)) ⌝ }
 {
     let mut path = io::buffer();

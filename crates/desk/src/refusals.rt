@@ -25,7 +25,7 @@ fn meaning(n: u64) {
     }
 }
 
-pub fn refusal(n: u64) {
+pub(crate) fn refusal(n: u64) {
     say(b"refused, number ");
     number(n);
     say(b": ");

@@ -2,6 +2,7 @@
 ghost use Prim.Native.Nat.{_≤_};
 use crate::print::number;
 use crate::print::say;
+use words::word;
 
 // A letter and a number.
 fn name(letter: &[u8], n: u16) {
@@ -30,11 +31,6 @@ fn named(w: u16) {
     number(w as u64);
 }
 
-// The word at a place, or 0 past the end.
-pub fn word(ws: &[u16], at: usize) -> u16 {
-    if at < ws.len() { ws[at] } else { 0 }
-}
-
 // A comma where another element follows.
 fn comma(ws: &[u16], at: usize) {
     if word(ws, at) != 0 {
@@ -61,7 +57,7 @@ fn after(ws: &[u16], at: usize, w: u16) -> usize
 }
 
 // A hedge; the place after its 0.
-pub fn hedge(ws: &[u16], from: usize) -> usize
+pub(crate) fn hedge(ws: &[u16], from: usize) -> usize
     ensures { λ r. ⌜ from ≤ r ⌝ }
 {
     let mut at = from;
@@ -179,7 +175,7 @@ fn literal(ws: &[u16], at: usize) -> usize
 }
 
 // The literals between two places, a row for each.
-pub fn literals(ws: &[u16], from: usize, to: usize) {
+pub(crate) fn literals(ws: &[u16], from: usize, to: usize) {
     let mut at = from;
     let mut left = to;
     while left > from {

@@ -19,10 +19,6 @@ fn place(x: u16) -> usize
     x as usize
 }
 
-fn word(s: &[u16], i: usize) -> u16 {
-    if i < s.len() { s[i] } else { 0 }
-}
-
 // The word that is lent at a place: never 0, and another one at the next.
 fn lent(i: usize) -> u16 {
     (i % 1000 + 1) as u16
@@ -93,8 +89,8 @@ fn words(s: &[u16], end: usize) -> usize
 
 // The place after the last line of an answer.
 fn lines_end(answer: &[u16]) -> usize {
-    let at = place(word(answer, 0)) + 2;
-    place(word(answer, at))
+    let at = place(words::word(answer, 0)) + 2;
+    place(words::word(answer, at))
 }
 
 fn solved(question: &[u16], work: &mut [u16], answer: &mut [u16]) {
