@@ -9,6 +9,7 @@ use Rattle.language.specs.declared.HedgeVar.{HedgeVar}
 use Rattle.language.specs.declared.Sym.{Sym}
 use Rattle.language.specs.Trees.{Hedge, ε, tvar, hvar, node, Expr, eps, cat, alt, star, over, Literal, eqn, mem, Conj, eqV, Var, tv, hv}
 use Rattle.meaning.specs.Meaning.{fill, Member, Meets, MeetsAll}
+use Rattle.meaning.proofs.Complete.{·-nil}
 use Rattle.rules.specs.Rules.{_>>=_, check}
 use Rattle.rules.specs.Step.{step}
 use Rattle.rules.specs.Looks.{empty}
@@ -17,7 +18,6 @@ use Rattle.rules.specs.Solved.{isSome, given, solves, inMember, loneVar, onlyMe
 use Rattle.rules.specs.Example.{Values, of, unsolved, binds, example}
 use Rattle.exact.proofs.Tests.{and-parts, true-test}
 use Rattle.exact.proofs.Names.{eqV-is}
-use Rattle.exact.proofs.Complete.{·-nil}
 use Rattle.exact.proofs.Answers.{Where}
 use Rattle.lines.proofs.Tests.{given-none}
 use Rattle.lines.proofs.Variables.{holds-tvar, holds-hvar}
