@@ -2,7 +2,6 @@
 use Prim.Native.Nat.{ℕ, zero, suc, _+_}
 use mathlib.Core.Bool.{Bool, true, false, _&&_, _||_}
 use mathlib.Core.List.{List, [], _∷_, _++_}
-use mathlib.Core.Option.{Option, none, some}
 use lib.Dec.{leb, ltb}
 use lib.ListN.{length}
 use Rattle.language.specs.declared.Refusal.{Refusal}
@@ -10,6 +9,7 @@ use Rattle.language.specs.declared.Refusal.the-variants.{LongResult, LongWaitin
 use Rattle.language.specs.Limits.{Limits}
 use Rattle.language.specs.Trees.{Conj}
 use Rattle.language.specs.Writing.{conjWords}
+use Rattle.rules.specs.Reply.{nothing, results, stops}
 use Rattle.rules.specs.Step.{step}
 
 -- ---- lengths in words
@@ -61,10 +61,11 @@ abbrev pub lined : Limits → List Conj → (List Conj → Outcome) → Outcome
 lined L ls go = elim (linesFit L ls) [ true ↦ go ls | false ↦ refused LineRoom ]
 
 -- The first waiting conjunction, and what `go` makes of the lines and the waiting ones after a step. "If no rule applies, the conjunction
--- becomes the next line; that is no step." "Results stand in the place of the conjunction, in order."
+-- becomes the next line; that is no step." "Results stand in the place of the conjunction, in order." A rule's own refusal comes before 10.
 abbrev pub turn : Limits → (List Conj → List Conj → List Conj → Outcome) → ℕ → List Conj → List Conj → Outcome
 turn L go n ls [] = finished ls n
-turn L go n ls (k ∷ w) = elim (step k) [ some ks ↦ go ls ks (ks ++ w) | none ↦ lined L (ls ++ (k ∷ [])) (λ ms. turn L go n ms w) ]
+turn L go n ls (k ∷ w) =
+    elim (step k) [ results ks ↦ go ls ks (ks ++ w) | nothing ↦ lined L (ls ++ (k ∷ [])) (λ ms. turn L go n ms w) | stops r ↦ refused r ]
 
 -- n steps are made and d may still be: "10,000 steps made and a rule still applies" is 10. In a step: 10, 7, 8.
 unfoldable pub runFrom : Limits → ℕ → ℕ → List Conj → List Conj → Outcome
