@@ -9,9 +9,9 @@ use native.Mathlib.Nat.{zero-add}
 use lib.ListN.{length}
 use Rattle.language.specs.Trees.{Literal, Conj}
 use Rattle.language.specs.Writing.{conjWords}
-use Rattle.rules.specs.Reply.{nothing, results}
+use Rattle.rules.specs.Reply.{Reply, nothing, results}
 use Rattle.rules.specs.Rules.{Branch, Answer, rules}
-use Rattle.rules.specs.Step.{place, placed, search}
+use Rattle.rules.specs.Step.{each, place, placed, Spot, search, step}
 use Rattle.search.specs.Ranking.{Tried, sided, tried, applies, replyAt, litRank, sideAnswer, Ranked, Each, NotBelow, Above, Sought, unmet, least, Found, nowhere, somewhere}
 use Rattle.search.proofs.Ranks.{rank-applies}
 use Rattle.search.proofs.First.{each-map, each-append, none-first, found-first}
@@ -68,3 +68,8 @@ finish c n at swap (least before l mid e p m ranked low high) =
     somewhere before l mid bs e p m w
     (ap search e ∙ found-first 0 n rules before l mid n (swap, map (place before mid) bs) (sym (zero-add n)) (ranked′ .rank) a
     (subst (λ b. Each (Above n) [] before (l ∷ b)) (append-nil mid) low) high)
+
+-- the step is what the search finds, without its place
+pub searched : (c : Conj) (m : Reply (Spot × List Conj)) → search c ≡ m → step c ≡ each (λ (f : Spot × List Conj). f .1) m
+unfolding step
+searched c m e = ap (each (λ (f : Spot × List Conj). f .1)) e
