@@ -50,7 +50,7 @@ sides-stay : (rule : Rule) → RuleStays rule → (before : Conj) (l : Literal) 
 sides-stay (onEqn rule) p before (eqn l r) behind t m = (
   at-literal before behind (eqn l r) (rule (before ++ behind) l r) m (p (before ++ behind) l r t),
   at-literal before behind (eqn l r) (rule (before ++ behind) r l) m
-  (exchanged l r (rule (before ++ behind) r l) (p (before ++ behind) r l (or-exchanged (ground l) (ground r) t))),
+      (exchanged l r (rule (before ++ behind) r l) (p (before ++ behind) r l (or-exchanged (ground l) (ground r) t))),
 )
 sides-stay (onEqn rule) p before (mem h R) behind t m = tt
 sides-stay (onMem rule) p before (eqn l r) behind t m = tt
