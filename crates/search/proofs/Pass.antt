@@ -10,12 +10,13 @@ use Rattle.language.specs.Trees.{Literal, Conj}
 use Rattle.language.specs.Writing.{conjWords}
 use Rattle.rules.specs.Rules.{rules}
 use Rattle.rules.specs.Step.{attempt, step}
+use Rattle.rules.specs.Places.{noRule}
 use Rattle.plans.specs.Ranks.{answerAt}
 use Rattle.search.specs.Ranking.{litRank, Ranked, Each, Sought, nothing, least, Found, nowhere, somewhere}
 use Rattle.search.proofs.Ranks.{rank-answers}
 use Rattle.search.proofs.First.{each-map, each-append, none-first, found-first}
 
-pub start : (c : Conj) (at : ℕ) (swap : Bool) → Sought [] c 28 at swap
+pub start : (c : Conj) (at : ℕ) (swap : Bool) → Sought [] c noRule at swap
 start c at swap = nothing refl tt
 
 -- one literal moves from those to come to those passed
@@ -47,7 +48,7 @@ module _ (done : Conj) (l : Literal) (rest : Conj) (n at : ℕ) (swap : Bool) wh
       (each-map _ _ (λ K l g. omega arith) [] before (x ∷ (mid ++ (l ∷ rest))) low)
       (let q = ranked .rank in omega arith, each-map _ _ (λ K l g. omega arith) (before ++ (x ∷ [])) mid (l ∷ rest) high))
 
-  below : Sought done (l ∷ rest) n at swap → n ≤ 28
+  below : Sought done (l ∷ rest) n at swap → n ≤ noRule
   below (nothing e all) = omega arith
   below (least before x mid e p m ranked low high) = omega arith
 

@@ -10,6 +10,7 @@ use Rattle.language.specs.Trees.{Literal, eqn, mem, Conj}
 use Rattle.language.specs.Writing.{conjWords}
 use Rattle.rules.specs.Rules.{Branch, Answer, rules}
 use Rattle.rules.specs.Step.{attempt, place, step}
+use Rattle.rules.specs.Places.{noRule}
 use Rattle.plans.specs.Ranks.{firstOf, answerAt, eqnAnswer, memAnswer}
 
 -- the place of the first rule that applies to the literal, K the others
@@ -33,16 +34,16 @@ Each P before (l ∷ mid) behind = P (before ++ (mid ++ behind)) l × Each P (be
 
 -- Among the literals `done`, before those of `rest`: none of a rank below n and none at all, or the earliest of the least rank n, at this place.
 pub data Sought (done rest : Conj) (n at : ℕ) (swap : Bool) : Type 0 where
-  nothing : n ≡ 28 → Each (λ K l. 28 ≤ litRank K l) [] done rest → Sought done rest n at swap
+  nothing : n ≡ noRule → Each (λ K l. noRule ≤ litRank K l) [] done rest → Sought done rest n at swap
   least : (before : Conj) (l : Literal) (mid : Conj) → done ≡ before ++ (l ∷ mid) → at ≡ length (conjWords before)
-      → n < 28 → Ranked (before ++ (mid ++ rest)) l n swap
+      → n < noRule → Ranked (before ++ (mid ++ rest)) l n swap
       → Each (λ K l. n < litRank K l) [] before (l ∷ (mid ++ rest))
       → Each (λ K l. n ≤ litRank K l) (before ++ (l ∷ [])) mid rest
       → Sought done rest n at swap
 
 -- What is found in the whole conjunction: no rule applies; or the literal at this place, and the rule of rank n there makes the step.
 pub data Found (c : Conj) (n at : ℕ) (swap : Bool) : Type 0 where
-  nowhere : n ≡ 28 → step c ≡ none → Found c n at swap
+  nowhere : n ≡ noRule → step c ≡ none → Found c n at swap
   somewhere : (before : Conj) (l : Literal) (behind : Conj) (bs : List Branch) → c ≡ before ++ (l ∷ behind) → at ≡ length (conjWords before)
-      → n < 28 → sideAnswer swap n (before ++ behind) l ≡ some bs → step c ≡ some (map (place before behind) bs)
+      → n < noRule → sideAnswer swap n (before ++ behind) l ≡ some bs → step c ≡ some (map (place before behind) bs)
       → Found c n at swap
