@@ -6,7 +6,7 @@ use mathlib.Core.List.{List, [], _∷_}
 use mathlib.Core.Option.{none}
 use Rattle.language.specs.Trees.{Hedge, Conj}
 use Rattle.rules.specs.Looks.{loneT, loneH, loneNode, asSymbol}
-use Rattle.rules.specs.Rules.{R1, F1, F2, F3, F4, Del1, Del3, D2, D0, E1, E2, E3, E4, E5, E6, Rule, onEqn, onMem, rules}
+use Rattle.rules.specs.Rules.{R1, F1, F2, F3, F4, Del1, Del3, D2, D0, E1, E2, E3, E4, E5, E6, Rule, onEqn, onMem, onPair, rules}
 use Rattle.rules.specs.Places.{atR1, atDel1, atDel3, atD2, atD0, atE1, atE2, atE3, atE4, atE5, atE6}
 use Rattle.plans.specs.declared.Plan.{Plan}
 use Rattle.plans.specs.declared.View.{View}
@@ -52,6 +52,7 @@ module _ (k : List ℕ) (v : View) where
   Plans [] plan = Unit {0}
   Plans (onEqn rule ∷ rs) plan = Makes rule k v (plan zero) × Plans rs (λ n. plan (suc n))
   Plans (onMem rule ∷ rs) plan = Plans rs (λ n. plan (suc n))
+  Plans (onPair rule ∷ rs) plan = Plans rs (λ n. plan (suc n))
 
   made : (rs : List Rule) (plan : ℕ → Hedge → Hedge → Plan) → Plans rs plan → (n : ℕ) → Makes (λ K l r. answerAt (λ rule. atEqn rule K l r) rs n) k v (plan n)
   made [] plan p n = λ before behind l r w. not-there
@@ -59,8 +60,10 @@ module _ (k : List ℕ) (v : View) where
   made (onEqn rule ∷ rs) plan p (suc n) = made rs (λ m. plan (suc m)) (p .1) n
   made (onMem rule ∷ rs) plan p zero = λ before behind l r w. not-there
   made (onMem rule ∷ rs) plan p (suc n) = made rs (λ m. plan (suc m)) p n
+  made (onPair rule ∷ rs) plan p zero = λ before behind l r w. not-there
+  made (onPair rule ∷ rs) plan p (suc n) = made rs (λ m. plan (suc m)) p n
 
--- the plan of every place makes what its rule answers; a rule of memberships does not answer
+-- the plan of every place makes what its rule answers; a rule that is not of equations does not answer
 pub plan-law : (k : List ℕ) (v : View) (n : ℕ) → Makes (eqnAnswer n) k v (equationPlan n k v)
 unfolding eqnAnswer equationPlan
 plan-law k v n =

@@ -5,7 +5,7 @@ use mathlib.Core.List.{List, [], _∷_}
 use Rattle.language.specs.Trees.{Expr}
 use native.Mathlib.Omega.{arith}
 use Rattle.rules.specs.Looks.{loneNode, asSymbol, asOver}
-use Rattle.rules.specs.Rules.{R2, F5, F6, F7, M1, M3, M4, M5, M6, M7, M10, M11, Rule, onEqn, onMem, rules}
+use Rattle.rules.specs.Rules.{R2, F5, F6, F7, M1, M3, M4, M5, M6, M7, M10, M11, Rule, onEqn, onMem, onPair, rules}
 use Rattle.rules.specs.Places.{atR2, atM1, atM2, atM3, atM4, atM5, atM6, atM7, atM10, atM11}
 use Rattle.plans.specs.declared.Ways.the-variants.{Monomials}
 use Rattle.plans.specs.declared.Plan.{Plan}
@@ -40,16 +40,19 @@ module _ (k : List ℕ) (s : Shape) where
   abbrev Plans : List Rule → (ℕ → Type 0) → (ℕ → Expr → Plan) → Type 0
   Plans [] P plan = Unit {0}
   Plans (onEqn rule ∷ rs) P plan = Plans rs (λ n. P (suc n)) (λ n. plan (suc n))
+  Plans (onPair rule ∷ rs) P plan = Plans rs (λ n. P (suc n)) (λ n. plan (suc n))
   Plans (onMem rule ∷ rs) P plan = (P zero → Makes rule k s (plan zero)) × Plans rs (λ n. P (suc n)) (λ n. plan (suc n))
 
   made : (rs : List Rule) (P : ℕ → Type 0) (plan : ℕ → Expr → Plan) → Plans rs P plan → (n : ℕ) → P n → Makes (λ K h R. answerAt (λ rule. atMem rule K h R) rs n) k s (plan n)
   made [] P plan p n z = λ before h R behind v. not-there
   made (onEqn rule ∷ rs) P plan p zero z = λ before h R behind v. not-there
   made (onEqn rule ∷ rs) P plan p (suc n) z = made rs (λ m. P (suc m)) (λ m. plan (suc m)) p n z
+  made (onPair rule ∷ rs) P plan p zero z = λ before h R behind v. not-there
+  made (onPair rule ∷ rs) P plan p (suc n) z = made rs (λ m. P (suc m)) (λ m. plan (suc m)) p n z
   made (onMem rule ∷ rs) P plan p zero z = p .0 z
   made (onMem rule ∷ rs) P plan p (suc n) z = made rs (λ m. P (suc m)) (λ m. plan (suc m)) (p .1) n z
 
--- the plan of every place but M2's makes what its rule answers; a rule of equations does not answer
+-- the plan of every place but M2's makes what its rule answers; a rule that is not of memberships does not answer
 plan-law : (k : List ℕ) (s : Shape) (n : ℕ) → (n ≡ atM2 → ⊥) → Makes (memAnswer n) k s (membershipPlan n k s)
 unfolding memAnswer membershipPlan
 plan-law k s n z =
