@@ -13,6 +13,7 @@ use Rattle.language.specs.Writing.{conjWords}
 use Rattle.rules.specs.Reply.{nothing, results}
 use Rattle.rules.specs.Step.{place, step}
 use Rattle.rules.specs.Rules.{Branch}
+use Rattle.rules.specs.Places.{noRule}
 use Rattle.plans.specs.Sizes.{placedWords}
 use Rattle.search.specs.Ranking.{Found, nowhere, somewhere, sideAnswer}
 use Rattle.search.proofs.Walks.{stands-here}
@@ -28,7 +29,7 @@ use Rattle.solver.proofs.Going.{placed-words, no-more-steps, step-long,
 
 module _ (oldWork oldAnswer : List ℕ) (ls : List Conj) (c : Conj) (w : List Conj) (s : State) (work answer : List ℕ)
     (p : Running oldWork oldAnswer ls (c ∷ w) s work answer) (k : List ℕ) (ek : k ≡ conjWords c) (next : ℕ) (en : next ≡ s .at + 1 + length k)
-    (n at : ℕ) (swap : Bool) (h : n < 28) where
+    (n at : ℕ) (swap : Bool) (h : n < noRule) where
   pub limit-met : Found c n at swap → 10000 ≤ s .steps → Turns oldWork oldAnswer ls (c ∷ w) s (Stop StepLimit) work answer
   limit-met (nowhere e f) g = absurd (omega arith)
   limit-met (somewhere before l behind bs e q m a d) g =
@@ -78,7 +79,7 @@ module _ (oldWork oldAnswer : List ℕ) (ls : List Conj) (c : Conj) (w : List Co
             (step-on oldWork oldAnswer ls c w s work answer p k ek next en _ d g _ (placed-words before behind bs) m o here new i y)
 
 -- where nothing was found, no rule applies
-pub none-found : (c : Conj) (n at : ℕ) (swap : Bool) → Found c n at swap → 28 ≤ n → step c ≡ nothing
+pub none-found : (c : Conj) (n at : ℕ) (swap : Bool) → Found c n at swap → noRule ≤ n → step c ≡ nothing
 none-found c n at swap (nowhere e d) h = searched c _ d
 none-found c n at swap (somewhere before l behind bs e q m a d) h = absurd (omega arith)
 
