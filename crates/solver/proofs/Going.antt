@@ -5,7 +5,6 @@ use native.Mathlib.Decide.{decLe}
 use mathlib.Core.Path.{_≡_, refl, sym, ap, _∙_, subst}
 use mathlib.Core.Bool.{false}
 use mathlib.Core.List.{List, [], _∷_, _++_, map, map-append}
-use mathlib.Core.Option.{none, some}
 use lib.ListN.{length, drop, getD}
 use lib.Seq.{slice, sets, drop-drop, drop-at}
 use borrow.Author.Tests.{lt-ltb, le-ltb}
@@ -15,6 +14,7 @@ use Rattle.language.specs.Limits.{desk}
 use Rattle.language.specs.Trees.{Conj}
 use Rattle.language.specs.Writing.{conjWords}
 use Rattle.language.specs.Fine.{fineConj}
+use Rattle.rules.specs.Reply.{nothing, results}
 use Rattle.rules.specs.Step.{place, step}
 use Rattle.rules.specs.Rules.{Branch}
 use Rattle.rules.specs.Run.{waitingSize, linesFit, refused, runFrom}
@@ -88,7 +88,7 @@ module _ (oldWork oldAnswer : List ℕ) (ls : List Conj) (c : Conj) (w : List Co
 
     -- ---- no rule applies
 
-    module _ (e : step c ≡ none) where
+    module _ (e : step c ≡ nothing) where
       full : linesFit desk (ls ++ (c ∷ [])) ≡ false → refused LineRoom ≡ leftOf s ls (c ∷ w)
       unfolding leftOf
       full f = sym (run-full desk (s .steps) ls c w (10000 - s .steps) e f)
@@ -125,7 +125,7 @@ module _ (oldWork oldAnswer : List ℕ) (ls : List Conj) (c : Conj) (w : List Co
 
     -- ---- a rule applies
 
-    module _ (ks : List Conj) (e : step c ≡ some ks) where
+    module _ (ks : List Conj) (e : step c ≡ results ks) where
       pub no-more-steps : 10000 ≤ s .steps → Turns oldWork oldAnswer ls (c ∷ w) s (Stop StepLimit) work answer
       unfolding leftOf
       no-more-steps h =

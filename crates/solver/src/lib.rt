@@ -2,18 +2,19 @@
 ghost use Prim.Native.Nat.{ℕ, _+_, _≤_, _<_};
 ghost use mathlib.Core.Path.{_≡_};
 ghost use mathlib.Core.List.{List, _∷_};
-ghost use mathlib.Core.Option.{none};
 ghost use lib.ListN.{length, getD};
 ghost use Rattle.language.specs.Limits.{desk};
 ghost use Rattle.language.specs.Trees.{Conj};
 ghost use Rattle.language.specs.Writing.{conjWords};
 ghost use Rattle.language.specs.Question.{readQuestion};
+ghost use Rattle.rules.specs.Reply.{nothing};
 ghost use Rattle.rules.specs.Step.{step};
 ghost use Rattle.rules.specs.Run.{run as runs};
 ghost use Rattle.rules.specs.Answer.{solvingOf, solving};
 ghost use Rattle.search.specs.Ranking.{Found};
 ghost use Rattle.reader.specs.Checking.{checked};
 ghost use Rattle.reader.specs.declared.Checked.the-variants.{Fine};
+ghost use Rattle.rules.specs.Places.{noRule};
 ghost use Rattle.solver.specs.Running.{Running, leftOf, Turns, Begun, Ends, conjunctionsOf};
 ghost use Rattle.solver.specs.Leaves.{leaves, outcomeNumber, refusedBy, verdictFor};
 use answers::Tally;
@@ -32,6 +33,7 @@ use steps::Best;
 use steps::Stepped;
 use steps::find;
 use steps::take_step;
+use rules::places::NO_RULE;
 
 // Where the waiting conjunctions begin, the steps made, and the lines.
 pub struct State {
@@ -83,7 +85,7 @@ pub fn outcome_number(outcome: Outcome) -> u16
 // No rule applies to k: it becomes the next line, and `next` is where those that wait then begin.
 fn line(k: &[u16], next: usize, answer: &mut [u16], s: State) -> Turned
     requires { ⌜ (length (now k) ≤ 1024) × (s .tally .«open» ≤ s .tally .lines) × (s .tally .end ≤ 8192) × (8192 ≤ length (now answer)) ⌝ }
-    ensures { λ r. ⌜ ((oldWork oldAnswer : List ℕ) (ls : List Conj) (c : Conj) (w : List Conj) (work : List ℕ) → Running oldWork oldAnswer ls (c ∷ w) s work (now (answer .entry)) → now (k .entry) ≡ conjWords c → next ≡ s .at + 1 + length (now (k .entry)) → step c ≡ none → Turns oldWork oldAnswer ls (c ∷ w) s r work (now (answer .exit))) ⌝ }
+    ensures { λ r. ⌜ ((oldWork oldAnswer : List ℕ) (ls : List Conj) (c : Conj) (w : List Conj) (work : List ℕ) → Running oldWork oldAnswer ls (c ∷ w) s work (now (answer .entry)) → now (k .entry) ≡ conjWords c → next ≡ s .at + 1 + length (now (k .entry)) → step c ≡ nothing → Turns oldWork oldAnswer ls (c ∷ w) s r work (now (answer .exit))) ⌝ }
 {
     let t = s.tally;
     if 512 <= t.lines {
@@ -104,7 +106,7 @@ fn line(k: &[u16], next: usize, answer: &mut [u16], s: State) -> Turned
 // A rule applies to k: the step is made in its place, unless a number stands against it.
 fn advance(k: &[u16], b: Best, work: &mut [u16], next: usize, s: State) -> Turned
     requires { ⌜ (length (now k) ≤ 1024) × (b .at < length (now k)) × (next ≤ length (now work)) × (next ≤ 8192) ⌝ }
-    ensures { λ r. ⌜ ((oldWork oldAnswer : List ℕ) (ls : List Conj) (c : Conj) (w : List Conj) (answer : List ℕ) → Running oldWork oldAnswer ls (c ∷ w) s (now (work .entry)) answer → now (k .entry) ≡ conjWords c → next ≡ s .at + 1 + length (now (k .entry)) → b .rank < 28 → Found c (b .rank) (b .at) (b .swap) → Turns oldWork oldAnswer ls (c ∷ w) s r (now (work .exit)) answer) ⌝ }
+    ensures { λ r. ⌜ ((oldWork oldAnswer : List ℕ) (ls : List Conj) (c : Conj) (w : List Conj) (answer : List ℕ) → Running oldWork oldAnswer ls (c ∷ w) s (now (work .entry)) answer → now (k .entry) ≡ conjWords c → next ≡ s .at + 1 + length (now (k .entry)) → b .rank < noRule → Found c (b .rank) (b .at) (b .swap) → Turns oldWork oldAnswer ls (c ∷ w) s r (now (work .exit)) answer) ⌝ }
 {
     if 10000 <= s.steps {
         return Turned::Stop(Refusal::StepLimit);
@@ -127,7 +129,7 @@ fn turn_with(k: &[u16], next: usize, work: &mut [u16], answer: &mut [u16], s: St
     ensures { λ r. ⌜ ((oldWork oldAnswer : List ℕ) (ls : List Conj) (c : Conj) (w : List Conj) → Running oldWork oldAnswer ls (c ∷ w) s (now (work .entry)) (now (answer .entry)) → now (k .entry) ≡ conjWords c → next ≡ s .at + 1 + length (now (k .entry)) → Turns oldWork oldAnswer ls (c ∷ w) s r (now (work .exit)) (now (answer .exit))) ⌝ }
 {
     let b = find(k);
-    if 28 <= b.rank {
+    if NO_RULE <= b.rank {
         return line(k, next, answer, s);
     }
     advance(k, b, work, next, s)

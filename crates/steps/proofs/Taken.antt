@@ -10,6 +10,7 @@ use Rattle.language.specs.Trees.{Hedge, ε, tvar, hvar, node, Expr, Literal, eq
 use Rattle.rules.specs.Looks.{firstTerm}
 use Rattle.rules.specs.Expressions.{linear}
 use Rattle.rules.specs.Rules.{Branch, monomialResult, M2}
+use Rattle.rules.specs.Places.{atM2}
 use Rattle.plans.specs.Looks.{head, tail}
 use Rattle.plans.specs.Ranks.{eqnAnswer, memAnswer}
 use Rattle.plans.specs.Sizes.{framed, sized, placedWords, monomialWords}
@@ -52,13 +53,13 @@ monomials : (K : Conj) (h : Hedge) (R : Expr) → Answers (λ bs. bs ≡ map (mo
 monomials K h R =
     look (firstTerm h) (first-parts h) λ a e. test _ λ _ _. test _ λ _ _. answers (ap (λ a. map (monomialResult (a .0) (a .1)) (linear R)) e)
 
-no-equation : (swap : Bool) (K : Conj) (l r : Hedge) → sideAnswer swap 20 K (eqn l r) ≡ none
+no-equation : (swap : Bool) (K : Conj) (l r : Hedge) → sideAnswer swap atM2 K (eqn l r) ≡ none
 unfolding eqnAnswer
 no-equation true K l r = refl
 no-equation false K l r = refl
 
 -- where the rule is M2, the literal is a membership
-pub took-monomials : (k old new : List ℕ) (next at n : ℕ) (swap : Bool) (r : Stepped) → n ≡ 20
+pub took-monomials : (k old new : List ℕ) (next at n : ℕ) (swap : Bool) (r : Stepped) → n ≡ atM2
     → ((before : Conj) (h : Hedge) (R : Expr) (behind : Conj) → LiteralAt k at before (mem h R) behind → Took (monomialWords before h R behind) old next r new)
     → (before : Conj) (l : Literal) (behind : Conj) (bs : List Branch) → LiteralAt k at before l behind → sideAnswer swap n (before ++ behind) l ≡ some bs
     → Took (placedWords before behind bs) old next r new
