@@ -9,6 +9,9 @@ use answers::filling;
 use answers::lines;
 use files::load;
 use language::Refusal;
+use language::limits::FILLING;
+use language::limits::QUESTION;
+use language::limits::ROOM;
 use print::number;
 use print::say;
 use prompt::parse;
@@ -57,8 +60,8 @@ fn counts(s: Solved) {
 }
 
 fn solve(question: &[u16]) {
-    let mut work = [0u16; 8192];
-    let mut answer = [0u16; 8192];
+    let mut work = [0u16; ROOM];
+    let mut answer = [0u16; ROOM];
     let s = solver::solve(question, &mut work, &mut answer);
     let outcome = s.outcome;
     verdict(outcome);
@@ -75,13 +78,13 @@ fn tell(t: Tried) {
 }
 
 fn attempt<'a>(question: &'a [u16], values: &'a [u16]) {
-    let mut work = [0u16; 8192];
+    let mut work = [0u16; ROOM];
     tell(trying::try_filling(question, values, &mut work));
 }
 
 // Whether the filling that argument 3 names meets the question.
 fn try_file(question: &[u16]) {
-    let mut values = [0u16; 8192];
+    let mut values = [0u16; 2 * FILLING];
     let t = load(3, &mut values);
     if t.wrong != 0 {
         return;
@@ -114,9 +117,9 @@ fn show_words(question: &[u16], room: &[u16], n: usize) {
 }
 
 fn show(question: &[u16]) {
-    let mut work = [0u16; 8192];
-    let mut answer = [0u16; 8192];
-    let mut room = [0u16; 4096];
+    let mut work = [0u16; ROOM];
+    let mut answer = [0u16; ROOM];
+    let mut room = [0u16; FILLING];
     let shown = showing::example(question, line_asked(), &mut work, &mut answer, &mut room);
     match shown {
         Shown::Shows(n) => show_words(question, &room, n),
@@ -145,7 +148,7 @@ fn main() {
         usage();
         return;
     }
-    let mut question = [0u16; 2048];
+    let mut question = [0u16; 2 * QUESTION];
     let t = load(2, &mut question);
     if t.wrong != 0 {
         return;

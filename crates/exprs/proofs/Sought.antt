@@ -7,6 +7,7 @@ use native.Mathlib.Omega.{arith}
 use lib.Dec.{eqb}
 use lib.ListN.{length, getD, length-append}
 use lib.Seq.{slice}
+use Rattle.language.specs.Limits.{desk}
 use Rattle.language.specs.Kinds.{pick}
 use Rattle.language.specs.Trees.{Expr, cat, alt, star, over}
 use Rattle.language.specs.Writing.{exprWords}
@@ -78,7 +79,7 @@ module _ {k : List ℕ} {at i : ℕ} {d₀ : List ℕ} {to : ℕ} where
       }
 
   -- the first part has been sought in
-  module _ {d₁ : List ℕ} {r : Found} (j : at < length k) (u : length k ≤ 1024) (a : Sought k (at + 1) i d₀ to d₁ r) where
+  module _ {d₁ : List ℕ} {r : Found} (j : at < length k) (u : length k ≤ desk .question) (a : Sought k (at + 1) i d₀ to d₁ r) where
     pub sought-star : {d₂ : List ℕ} {t : Spot} → getD k at 0 ≡ 7003 → Tacked k at (r .end) (r .spot) d₁ to d₂ t
         → Sought k at i d₀ to d₂ (record { end = r .end; null = true; spot = t })
     sought-star {d₂} {t} z p =
@@ -135,7 +136,7 @@ module _ {k : List ℕ} {at i : ℕ} {d₀ : List ℕ} {to : ℕ} where
       few-both : at + r .spot .parts ≤ p .end
       few-both = let x = a .few in let y = b .after in omega arith
 
-      short-both : 1024 * at + r .spot .words ≤ 1024 * p .end
+      short-both : desk .question * at + r .spot .words ≤ desk .question * p .end
       short-both = let x = a .short in let y = b .after in omega arith
 
       pub sought-cat-bare : {n : Bool} → getD k at 0 ≡ 7001 → r .spot .hit ≡ true → p .bare ≡ true → n ≡ (r .null && p .null)

@@ -6,6 +6,7 @@ use mathlib.Core.List.{List, [], _∷_, _++_, map, append-assoc}
 use native.Mathlib.Numerals.{add-one}
 use native.Mathlib.Omega.{arith}
 use lib.ListN.{length, drop, length-append, length-drop, drop-of-length-le}
+use Rattle.language.specs.Limits.{desk}
 use Rattle.language.specs.Trees.{Hedge, Expr, Conj}
 use Rattle.language.specs.Writing.{exprWords, conjWords}
 use Rattle.plans.specs.Sizes.{framed, Short, grown, sizedFrom, sized, monomialWords}
@@ -106,7 +107,7 @@ module _ {k : List ℕ} {s : Shape} {n i : ℕ} (c : Counting k s n i) where
     pub counting-last : f .spot .hit ≡ false → Sized k s (Fits n)
     counting-last z = record { each = λ before h R behind v. sym (ap (sizedFrom n) (last R s (got-of v l) z)) ∙ c .each before h R behind v }
 
-    pub counting-over : {one : ℕ} → f .spot .hit ≡ true → one ≡ resultLength k s (f .spot) → 1024 < one → Sized k s Over
+    pub counting-over : {one : ℕ} → f .spot .hit ≡ true → one ≡ resultLength k s (f .spot) → desk .question < one → Sized k s Over
     counting-over {one} z e o =
         record {
           each = λ before h R behind v.
@@ -114,7 +115,7 @@ module _ {k : List ℕ} {s : Shape} {n i : ℕ} (c : Counting k s n i) where
               size-over n (rowWords k s (x .m)) (rowsFrom k s R (i + 1)) one (e ∙ x .size) o ∙ ap (sizedFrom n) (sym (x .list)) ∙ c .each before h R behind v;
         }
 
-    pub counting-more : {one n′ : ℕ} → f .spot .hit ≡ true → one ≡ resultLength k s (f .spot) → one ≤ 1024 → n′ ≡ grown n one → Counting k s n′ (i + 1)
+    pub counting-more : {one n′ : ℕ} → f .spot .hit ≡ true → one ≡ resultLength k s (f .spot) → one ≤ desk .question → n′ ≡ grown n one → Counting k s n′ (i + 1)
     counting-more {one} {n′} z e o g =
         record {
           each = λ before h R behind v.
@@ -160,10 +161,10 @@ module _ {k : List ℕ} {s : Shape} {old : List ℕ} {at : ℕ} {new : List ℕ}
         split : Split (framed (rowsFrom k s R i)) (length (rowWords k s (next R s (got-of v l) z .m)) ∷ rowWords k s (next R s (got-of v l) z .m)) (framed (rowsFrom k s R (i + 1)))
         split = record { eq = ap framed (next R s (got-of v l) z .list) }
 
-        shorts : (length (rowWords k s (next R s (got-of v l) z .m)) ≤ 1024) × Short (rowsFrom k s R (i + 1))
+        shorts : (length (rowWords k s (next R s (got-of v l) z .m)) ≤ desk .question) × Short (rowsFrom k s R (i + 1))
         shorts = subst Short (next R s (got-of v l) z .list) (c .each before h R behind v r .short)
 
-      pub writing-over : 1024 < one → Written k s old at new e
+      pub writing-over : desk .question < one → Written k s old at new e
       writing-over o =
           record { each = λ before h R behind v r. absurd (let a = shorts v r .0 in let b = next R s (got-of v l) z .size in omega arith) }
 

@@ -6,6 +6,7 @@ use mathlib.Core.List.{List, [], _∷_}
 use lib.Dec.{eqb}
 use lib.ListN.{length}
 use lib.Seq.{slice, sets}
+use Rattle.language.specs.Limits.{desk}
 use Rattle.language.specs.Kinds.{pick}
 use Rattle.language.specs.Trees.{Expr}
 use Rattle.language.specs.Writing.{exprWords}
@@ -38,15 +39,15 @@ pub record FoundIn (k : List ℕ) (at : ℕ) (R : Expr) (i : ℕ) (old : List �
 
 -- a monomial that is bounded, so that sums fit
 pub record Bounded (p : Spot) : Type 0 where
-  pub few : p .parts ≤ 1024
-  pub short : p .words ≤ 1048576
+  pub few : p .parts ≤ desk .question
+  pub short : p .words ≤ desk .question * desk .question
 
 -- r tells of whatever stands in k at `at`; other words are passed too, within k
 pub record Sought (k : List ℕ) (at i : ℕ) (old : List ℕ) (to : ℕ) (new : List ℕ) (r : Found) : Type 0 where
   pub after : at ≤ r .end
   pub within : at ≤ length k → r .end ≤ length k
   pub few : at + r .spot .parts ≤ r .end
-  pub short : 1024 * at + r .spot .words ≤ 1024 * r .end
+  pub short : desk .question * at + r .spot .words ≤ desk .question * r .end
   pub bounded : Bounded (r .spot)
   pub each : (R : Expr) (beyond : List ℕ) → Here k at R beyond → FoundIn k at R i old to new r
 

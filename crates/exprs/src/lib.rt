@@ -5,9 +5,10 @@ pub use results::size_monomials;
 pub use results::write_monomials;
 ghost use mathlib.Core.Path.{_≡_};
 ghost use mathlib.Core.Bool.{_&&_, _||_};
-ghost use Prim.Native.Nat.{_≤_, _+_};
+ghost use Prim.Native.Nat.{_≤_, _+_, _*_};
 ghost use lib.ListN.{length};
 ghost use lib.Seq.{slice};
+ghost use Rattle.language.specs.Limits.{desk};
 ghost use Rattle.exprs.specs.Standing.{Parted, Past};
 ghost use Rattle.exprs.specs.Passing.{asks};
 ghost use Rattle.exprs.specs.Spots.{further, only, Laid, Tacked, Sought};
@@ -184,7 +185,7 @@ fn lay_part(k: &[u16], from: usize, until: usize, out: &mut [u16], at: usize) ->
 
 // A part more in the rest of a monomial that is met, written after its other parts.
 fn tack(k: &[u16], from: usize, until: usize, s: Spot, out: &mut [u16], to: usize) -> Spot
-    requires { ⌜ (s .parts ≤ 1024) × (s .words ≤ 1048576) × (from ≤ until) × (until ≤ 1024) × (to ≤ length (now out)) ⌝ }
+    requires { ⌜ (s .parts ≤ desk .question) × (s .words ≤ desk .question * desk .question) × (from ≤ until) × (until ≤ desk .question) × (to ≤ length (now out)) ⌝ }
     ensures { λ t. ⌜ Tacked (now (k .entry)) from until s (now (out .entry)) to (now (out .exit)) t ⌝ }
 {
     let hit = s.hit;
@@ -205,7 +206,7 @@ fn tack(k: &[u16], from: usize, until: usize, s: Spot, out: &mut [u16], to: usiz
 
 // Looks for the i-th monomial of the expression at a place, and writes the parts of its rest in a row at `to`, where they have room there.
 fn seek(k: &[u16], at: usize, i: usize, out: &mut [u16], to: usize) -> Found
-    requires { ⌜ (length (now k) ≤ 1024) × (to ≤ length (now out)) ⌝ }
+    requires { ⌜ (length (now k) ≤ desk .question) × (to ≤ length (now out)) ⌝ }
     ensures { λ r. ⌜ Sought (now (k .entry)) at i (now (out .entry)) to (now (out .exit)) r ⌝ }
 {
     if k.len() <= at {
@@ -290,7 +291,7 @@ fn seek(k: &[u16], at: usize, i: usize, out: &mut [u16], to: usize) -> Found
 
 // Where the i-th monomial of the expression at a place stands; nothing is written, as there is no room.
 fn find(k: &[u16], at: usize, i: usize) -> Found
-    requires { ⌜ length (now k) ≤ 1024 ⌝ }
+    requires { ⌜ length (now k) ≤ desk .question ⌝ }
     ensures { λ r. ⌜ Looked (now (k .entry)) at i r ⌝ }
 {
     let mut none = [0; 1];

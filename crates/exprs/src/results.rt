@@ -2,6 +2,7 @@
 ghost use mathlib.Core.Path.{_≡_};
 ghost use Prim.Native.Nat.{_≤_, _+_};
 ghost use lib.ListN.{length};
+ghost use Rattle.language.specs.Limits.{desk};
 ghost use Rattle.pieces.specs.Written.{Wrote};
 ghost use Rattle.exprs.specs.Loose.{opening};
 ghost use Rattle.exprs.specs.Spots.{Bounded};
@@ -9,6 +10,7 @@ ghost use Rattle.exprs.specs.Results.{frontOf, resultLength, Result, Siz
 use crate::Spot;
 use crate::find;
 use crate::seek;
+use language::limits::QUESTION;
 use pieces::copying::copy;
 use pieces::copying::part_len;
 use pieces::grow;
@@ -80,7 +82,7 @@ fn opening_len(parts: usize) -> usize
 
 // How long a result is.
 fn result_len(k: &[u16], s: Shape, p: Spot) -> usize
-    requires { ⌜ (length (now k) ≤ 1024) × Bounded p ⌝ }
+    requires { ⌜ (length (now k) ≤ desk .question) × Bounded p ⌝ }
     ensures { λ n. ⌜ n ≡ resultLength (now (k .entry)) s p ⌝ }
 {
     let a = made_len(k, front(s, p), 0);
@@ -91,7 +93,7 @@ fn result_len(k: &[u16], s: Shape, p: Spot) -> usize
 
 // How many words M2's results take, each with its length before it; or that one of them is too long.
 pub fn size_monomials(k: &[u16], s: Shape) -> Size
-    requires { ⌜ length (now k) ≤ 1024 ⌝ }
+    requires { ⌜ length (now k) ≤ desk .question ⌝ }
     ensures { λ n. ⌜ Sized (now (k .entry)) s n ⌝ }
 {
     let expr = s.expr;
@@ -105,7 +107,7 @@ pub fn size_monomials(k: &[u16], s: Shape) -> Size
             return Size::Fits(n);
         }
         let one = result_len(k, s, p);
-        if 1024 < one {
+        if QUESTION < one {
             return Size::Over;
         }
         n = grow(n, one);
@@ -143,7 +145,7 @@ fn write_monomial(
     out: &mut [u16],
     at: usize,
 ) -> usize
-    requires { ⌜ (length (now k) ≤ 1024) × (one ≡ resultLength (now k) s p) × (one ≤ 1024) × (at + 1 + one ≤ length (now out)) ⌝ }
+    requires { ⌜ (length (now k) ≤ desk .question) × (one ≡ resultLength (now k) s p) × (one ≤ desk .question) × (at + 1 + one ≤ length (now out)) ⌝ }
     ensures { λ e. ⌜ Result (now (k .entry)) s i p (now (out .entry)) at (now (out .exit)) e ⌝ }
 {
     out[at] = one as u16;
@@ -155,7 +157,7 @@ fn write_monomial(
 
 // M2's results, each with its length before it; what has no room or is too long is not written.
 pub fn write_monomials(k: &[u16], s: Shape, out: &mut [u16], at: usize) -> usize
-    requires { ⌜ (length (now k) ≤ 1024) × (at ≤ length (now out)) ⌝ }
+    requires { ⌜ (length (now k) ≤ desk .question) × (at ≤ length (now out)) ⌝ }
     ensures { λ e. ⌜ Written (now (k .entry)) s (now (out .entry)) at (now (out .exit)) e ⌝ }
 {
     let expr = s.expr;
@@ -169,7 +171,7 @@ pub fn write_monomials(k: &[u16], s: Shape, out: &mut [u16], at: usize) -> usize
             return e;
         }
         let one = result_len(k, s, p);
-        if 1024 < one {
+        if QUESTION < one {
             return e;
         }
         if out.len() - e < one + 1 {

@@ -1,4 +1,4 @@
--- The forms of the values, one by one, and the values that are left to check.
+-- The forms of the values, one by one, and that each value has its form.
 use Prim.Native.Nat.{ℕ, zero, suc, _+_, _-_, _<_, _≤_}
 use mathlib.Core.Path.{_≡_, refl, sym, ap, _∙_}
 use mathlib.Core.Bool.{Bool, true, false, _&&_}
@@ -13,12 +13,11 @@ use Rattle.language.specs.Limits.{desk}
 use Rattle.language.specs.Kinds.{pick}
 use Rattle.language.specs.Trees.{Counts}
 use Rattle.language.specs.Reading.{readHedge}
-use Rattle.language.specs.Question.{rising, laidOut, partsFrom, parts}
-use Rattle.language.specs.Between.{between}
-use Rattle.language.proofs.Offsets.{laid-length, laid-rises, parts-start, parts-done, parts-cons}
+use Rattle.language.specs.Question.{laidOut, parts}
+use Rattle.language.proofs.Offsets.{table-count}
+use Rattle.language.proofs.Walks.{passes}
 use Rattle.meaning.specs.Complete.{Complete}
 use Rattle.meaning.specs.Values.{Form, aTerm, aHedge, aName, times, forms, variables, valueOf, withValue, valuesOf}
-use Rattle.reader.proofs.Checks.{Rises}
 use Rattle.filling.specs.Checking.{isSome, ofForm, formAt, Judged, OneTerm, allOfForm}
 use Rattle.filling.proofs.Plain.{complete-words, name-size}
 
@@ -99,43 +98,27 @@ module _ (n : Counts) (ws : List ℕ) (i : ℕ) {b : Bool} (j : Judged n ws b) w
       let p = j .plain e in
       ap (λ l. eqb (length l) 3) (p .it .words ∙ complete-words (p .h) (p .g) (p .it .is)) ∙ name-size (p .g) ∙ sym (ap (λ f. ofForm n f ws) (at-name n i m) ∙ p .form aName)
 
--- ---- the values that are left, from the part that begins at `from`, with the offsets between `at` and `end`
+-- ---- the values, one after another
 
-unfoldable pub left : Counts → List ℕ → ℕ → ℕ → ℕ → Bool
-left n w at end from = isSome (valuesOf desk n (drop (at - 2) (forms n)) (partsFrom from (between at end w) (drop from w)))
-
-with-some : (v : Option Complete) (vs : Option (List Complete)) → isSome (withValue v vs) ≡ (isSome v && isSome vs)
+with-some : (v : Option Complete) (vs : Option (List Complete)) → (isSome v && isSome vs) ≡ isSome (withValue v vs)
 with-some none vs = refl
 with-some (some v) none = refl
 with-some (some v) (some vs) = refl
 
-pub left-start : (n : Counts) (w : List ℕ) (m : ℕ) → m ≡ variables n → laidOut 1 m w ≡ true → (m + 2 ≤ length w) × Rises w 2 (m + 2) (m + 2) × (left n w 2 (m + 2) (m + 2) ≡ allOfForm n w)
-unfolding left allOfForm
-left-start n w m e l =
-    let z : 1 + m + 1 ≡ m + 2 = omega arith in (
-      omega (arith, laid-length 1 m w l),
-      record { never-falls = ap (λ k. rising k (between 2 k w) (length w)) (sym z) ∙ laid-rises 1 m w l },
-      ap (λ k. isSome (valuesOf desk n (forms n) (partsFrom k (between 2 k w) (drop k w)))) (sym z) ∙ ap (λ ps. isSome (valuesOf desk n (forms n) ps)) (sym (parts-start 1 m w l)) ∙ ap (λ k. isSome (valuesOf desk n (forms n) (parts 1 k w))) e,
-    )
+-- whether the value numbered i has its form
+abbrev pub valueTest : Counts → ℕ → List ℕ → Bool
+valueTest n i ws = ofForm n (formAt n i) ws
 
-pub left-done : (n : Counts) (w : List ℕ) (at end from : ℕ) → variables n + 2 ≤ at → true ≡ left n w at end from
-unfolding left
-left-done n w at end from p =
-    let z : length (forms n) ≤ at - 2 = omega (arith, forms-length n) in
-    sym (ap (λ fs. isSome (valuesOf desk n fs (partsFrom from (between at end w) (drop from w)))) (drop-of-length-le (forms n) z))
+values-pass : (n : Counts) (i : ℕ) (ps : List (List ℕ)) → i + length ps ≡ variables n → passes (valueTest n) i ps ≡ isSome (valuesOf desk n (drop i (forms n)) ps)
+unfolding passes ofForm
+values-pass n i [] e =
+    let z : length (forms n) ≤ i = omega (arith, forms-length n) in
+    sym (ap (λ fs. isSome (valuesOf desk n fs [])) (drop-of-length-le (forms n) z))
+values-pass n i (p ∷ ps) e =
+    ap (λ b. ofForm n (formAt n i) p && b) (values-pass n (suc i) ps (omega arith))
+    ∙ with-some (valueOf n (formAt n i) (length p) (readHedge desk p)) (valuesOf desk n (drop (suc i) (forms n)) ps)
+    ∙ ap (λ fs. isSome (valuesOf desk n fs (p ∷ ps))) (sym (forms-cons n i (omega arith)))
 
-module _ (n : Counts) (w : List ℕ) (at end from : ℕ) (lo : 2 ≤ at) (p : at < end) (m : end ≡ variables n + 2) (q : end ≤ length w) (o : ℕ) (e : o ≡ getD w at 0) (l : from ≤ o) where
-  left-step : left n w at end from ≡ (ofForm n (formAt n (at - 2)) (between from o w) && left n w (at + 1) end o)
-  unfolding left ofForm
-  left-step =
-      let z : suc (at - 2) ≡ at + 1 - 2 = omega arith in
-      ap (λ ps. isSome (valuesOf desk n (drop (at - 2) (forms n)) ps)) (parts-cons at end from w p q o e l)
-      ∙ ap (λ fs. isSome (valuesOf desk n fs (between from o w ∷ partsFrom o (between (at + 1) end w) (drop o w)))) (forms-cons n (at - 2) (omega arith))
-      ∙ with-some (valueOf n (formAt n (at - 2)) (length (between from o w)) (readHedge desk (between from o w))) (valuesOf desk n (drop (suc (at - 2)) (forms n)) (partsFrom o (between (at + 1) end w) (drop o w)))
-      ∙ ap (λ j. isSome (valueOf n (formAt n (at - 2)) (length (between from o w)) (readHedge desk (between from o w))) && isSome (valuesOf desk n (drop j (forms n)) (partsFrom o (between (at + 1) end w) (drop o w)))) z
-
-  pub left-on : (b : Bool) → b ≡ ofForm n (formAt n (at - 2)) (between from o w) → b ≡ true → left n w (at + 1) end o ≡ left n w at end from
-  left-on b g t = sym (left-step ∙ ap (λ b. b && left n w (at + 1) end o) (sym g ∙ t))
-
-  pub left-fails : (b : Bool) → b ≡ ofForm n (formAt n (at - 2)) (between from o w) → b ≡ false → false ≡ left n w at end from
-  left-fails b g t = sym (left-step ∙ ap (λ b. b && left n w (at + 1) end o) (sym g ∙ t))
+pub all-pass : (n : Counts) (ws : List ℕ) (m : ℕ) → m ≡ variables n → laidOut 1 m ws ≡ true → passes (valueTest n) 0 (parts 1 m ws) ≡ allOfForm n ws
+unfolding allOfForm
+all-pass n ws m e l = values-pass n 0 (parts 1 m ws) (omega (arith, table-count 1 m ws l)) ∙ ap (λ k. isSome (valuesOf desk n (forms n) (parts 1 k ws))) e

@@ -34,7 +34,7 @@ refusedBy r = record { outcome = Refused r; lines = 0; «open» = 0; steps = 0 }
 
 -- the first 8,192 words become these, later words stay
 abbrev pub over : List ℕ → List ℕ → List ℕ
-over ws old = ws ++ drop 8192 old
+over ws old = ws ++ drop (desk .room) old
 
 -- what comes back, and the work and the answer slice, which held `work` and `answer`
 abbrev pub leaves : Solving → List ℕ → List ℕ → Solved × List ℕ × List ℕ

@@ -90,14 +90,14 @@ module _ (h : Header) (fs ws : List ℕ) where
 -- ---- every input
 
 module _ (ws fs w : List ℕ) where
-  pub short-slice : length w < 8192 → Outcome (trying desk (length w) ws fs) (Refused ShortSlice) w w
+  pub short-slice : length w < desk .room → Outcome (trying desk (length w) ws fs) (Refused ShortSlice) w w
   unfolding trying
-  short-slice p = rw (trying, lt-ltb (length w) 8192 p) (refl, refl)
+  short-slice p = rw (trying, lt-ltb (length w) (desk .room) p) (refl, refl)
 
-  module _ (p : 8192 ≤ length w) where
+  module _ (p : desk .room ≤ length w) where
     reads-on : trying desk (length w) ws fs ≡ tryingOf desk (readQuestion desk ws) fs
     unfolding trying
-    reads-on = rw (trying, le-ltb (length w) 8192 p)
+    reads-on = rw (trying, le-ltb (length w) (desk .room) p)
 
     pub refused-question : {c : Checked} {r : Refusal} → c ≡ checked (readQuestion desk ws) → c ≡ checked-as.Refused r → Outcome (trying desk (length w) ws fs) (Refused r) w w
     unfolding checked

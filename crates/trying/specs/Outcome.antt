@@ -19,7 +19,7 @@ use Rattle.trying.specs.declared.Tried.the-variants.{Yes, No, Refused}
 
 -- "Zeros" covers the first 8,192 words; later words of a longer slice stay.
 unfoldable pub cleared : List ℕ → List ℕ
-cleared w = replicate 8192 0 ++ drop 8192 w
+cleared w = replicate (desk .room) 0 ++ drop (desk .room) w
 
 -- yes exactly where it holds
 abbrev pub Answers : Type 0 → Tried → Type 0
