@@ -2,7 +2,6 @@ pub mod Each
 pub mod Invariant
 pub mod Tests
 pub mod Names
-pub mod Complete
 pub mod Fillings
 pub mod Sizes
 pub mod Answers

@@ -1,11 +1,11 @@
 -- Each rule is exact wherever it applies: its results, in place and with their substitutions made, say what the conjunction says.
-use mathlib.Core.Path.{sym}
 use mathlib.Core.Logic.{inl, inr, _↔_, Iff·trans}
 use mathlib.Core.Bool.{Bool, true, false}
 use mathlib.Core.List.{List, [], _∷_, _++_, map}
 use mathlib.Core.Option.{none, some, Option·map}
 use Rattle.language.specs.Trees.{Hedge, Literal, eqn, mem, Conj}
 use Rattle.meaning.specs.Meaning.{Filling, MeetsAll, MeetsOne}
+use Rattle.meaning.proofs.Same.{same-sym}
 use Rattle.rules.specs.Substitution.{putC}
 use Rattle.rules.specs.Rules.{Branch, plain, elims, Answer, Rule, onEqn, onMem, rules}
 use Rattle.rules.specs.Step.{place}
@@ -79,7 +79,7 @@ RuleExact (onMem rule) = ExactMem rule
 exchanged : (l r : Hedge) (w : Answer) → ExactAnswer (eqn r l) w → ExactAnswer (eqn l r) w
 exchanged l r none p = record { given = tt }
 exchanged l r (some bs) p =
-    record { given = record { same = λ ρ. Iff·trans (λ e. sym e, λ e. sym e) (p .given .same ρ); faithful = p .given .faithful } }
+    record { given = record { same = λ ρ. Iff·trans (λ e. same-sym _ _ e, λ e. same-sym _ _ e) (p .given .same ρ); faithful = p .given .faithful } }
 
 sided-exact : (rule : Rule) → RuleExact rule → (swap : Bool) (K : Conj) (l : Literal) → ExactAnswer l (sided swap rule K l)
 sided-exact (onEqn rule) p false K (eqn l r) = p K l r

@@ -15,11 +15,12 @@ use Rattle.language.specs.Between.{between}
 use Rattle.language.proofs.Bools.{both-true}
 use Rattle.meaning.specs.Complete.{Complete, completeWords}
 use Rattle.meaning.specs.Meaning.{Filling, fill, Member, Meets}
+use Rattle.meaning.proofs.Same.{same-words}
 use Rattle.rules.specs.Calls.{filledSize}
 use Rattle.member.specs.Places.{Stands}
 use Rattle.filling.specs.Showing.{filled, Shows}
 use Rattle.trying.specs.Tasks.{firstHedge, FirstEnd, SameWords, Keeps, EquationMet, Testable, MembershipMet, ALiteral, FittingLiteral, LiteralMet}
-use Rattle.trying.proofs.Parts.{same-hedges, inside, first-part, second-part, shows, becomes, by-equation, by-membership}
+use Rattle.trying.proofs.Parts.{inside, first-part, second-part, shows, becomes, by-equation, by-membership}
 
 -- the rest of a literal, after its first hedge
 abbrev restWords : Literal → List ℕ
@@ -83,8 +84,8 @@ module _ (n : Counts) (fs ws : List ℕ) (m : ℕ) (end : FirstEnd ws m) where
           let (da, db) = both-true (declared n a) (declared n b) (x .known) in
           let ea : filled t h fs (between 1 m ws) ≡ completeWords (fill ρ a) = ap (filled t h fs) (first-is x) ∙ becomes n fs _ (x .given) p q a (x .fine .0) da in
           let eb : filled t h fs (between m (length ws) ws) ≡ completeWords (fill ρ b) = ap (filled t h fs) (rest-is x) ∙ becomes n fs _ (x .given) p q b (x .fine .1) db in (
-            λ e. same-hedges (fill ρ a) (fill ρ b) (sym ea ∙ met .compares .same e ∙ eb),
-            λ s. is-true r (λ e. met .compares .other e (ea ∙ ap completeWords s ∙ sym eb)),
+            λ e. same-words (fill ρ a) (fill ρ b) .1 (sym ea ∙ met .compares .same e ∙ eb),
+            λ s. is-true r (λ e. met .compares .other e (ea ∙ same-words (fill ρ a) (fill ρ b) .0 s ∙ sym eb)),
           ))
           l (x .words) x;
     }
