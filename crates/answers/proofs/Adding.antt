@@ -3,15 +3,15 @@ use Prim.Native.Nat.{ℕ, suc, _+_, _-_, _<_, _≤_}
 use native.Mathlib.Omega.{arith}
 use mathlib.Core.Path.{_≡_, refl, sym, ap, _∙_}
 use mathlib.Core.List.{List, [], _∷_, _++_, map, append-assoc, map-append}
-use lib.ListN.{length, take, drop, set, length-append}
+use lib.ListN.{length, take, drop, set, length-append, replicate, length-replicate, replicate-append-replicate}
 use lib.Seq.{sets, sets-eq, take-at, drop-at, set-at}
 use Rattle.language.specs.Limits.{desk}
 use Rattle.language.specs.Trees.{Conj}
 use Rattle.language.specs.Writing.{conjWords}
-use Rattle.meaning.specs.Values.{times, offsetsOf, joined}
+use Rattle.meaning.specs.Values.{offsetsOf, joined}
 use Rattle.rules.specs.Run.{linesSize, linesAt}
 use Rattle.rules.specs.Answer.{lineWords, countOpen, answerWords, zeros}
-use Rattle.answers.proofs.Rows.{length-times, times-append, joined-more, offsets-more, length-lines, lines-size-more, count-more, in-a-row, length-header}
+use Rattle.answers.proofs.Rows.{joined-more, offsets-more, length-lines, lines-size-more, count-more, in-a-row, length-header}
 
 -- words stored over as many others
 pub sets-over : (p q r v : List ℕ) (n : ℕ) → length p ≡ n → length q ≡ length v → sets (p ++ (q ++ r)) n v ≡ p ++ (v ++ r)
@@ -27,34 +27,34 @@ sets-over p q r v n e d =
 
 -- two counts, offsets, zeros, lines, zeros, and what follows
 unfoldable row : ℕ → ℕ → List ℕ → ℕ → List ℕ → ℕ → List ℕ → List ℕ
-row x y os m ls n rest = x ∷ y ∷ (os ++ (times m 0 ++ (ls ++ (times n 0 ++ rest))))
+row x y os m ls n rest = x ∷ y ∷ (os ++ (replicate m 0 ++ (ls ++ (replicate n 0 ++ rest))))
 
 row-line : (x y : ℕ) (os : List ℕ) (m : ℕ) (ls : List ℕ) (n : ℕ) (rest w : List ℕ) (at k : ℕ)
     → at ≡ 2 + length os + m + length ls → k ≡ length w + n → sets (row x y os m ls k rest) at w ≡ row x y os m (ls ++ w) n rest
 unfolding row
 row-line x y os m ls n rest w at k e d =
-    let p : List ℕ = x ∷ y ∷ (os ++ (times m 0 ++ ls)) in
-    let l₁ = length-append os (times m 0 ++ ls) in
-    let l₂ = length-append (times m 0) ls in
-    let l₃ = length-times m in
-    ap (λ j. sets (x ∷ y ∷ (os ++ (times m 0 ++ (ls ++ (times j 0 ++ rest))))) at w) d
-    ∙ ap (λ z. sets (x ∷ y ∷ (os ++ (times m 0 ++ (ls ++ (z ++ rest))))) at w) (times-append (length w) n)
+    let p : List ℕ = x ∷ y ∷ (os ++ (replicate m 0 ++ ls)) in
+    let l₁ = length-append os (replicate m 0 ++ ls) in
+    let l₂ = length-append (replicate m 0) ls in
+    let l₃ = length-replicate {A = ℕ} m 0 in
+    ap (λ j. sets (x ∷ y ∷ (os ++ (replicate m 0 ++ (ls ++ (replicate j 0 ++ rest))))) at w) d
+    ∙ ap (λ z. sets (x ∷ y ∷ (os ++ (replicate m 0 ++ (ls ++ (z ++ rest))))) at w) (sym (replicate-append-replicate (length w) n 0))
     ∙ ap (λ z. sets (x ∷ y ∷ z) at w)
-    (ap (λ z. os ++ (times m 0 ++ (ls ++ z))) (append-assoc (times (length w) 0) (times n 0) rest)
-    ∙ ap (λ z. os ++ z) (sym (append-assoc (times m 0) ls (times (length w) 0 ++ (times n 0 ++ rest))))
-    ∙ sym (append-assoc os (times m 0 ++ ls) (times (length w) 0 ++ (times n 0 ++ rest))))
-    ∙ sets-over p (times (length w) 0) (times n 0 ++ rest) w at (omega arith) (length-times (length w))
+    (ap (λ z. os ++ (replicate m 0 ++ (ls ++ z))) (append-assoc (replicate (length w) 0) (replicate n 0) rest)
+    ∙ ap (λ z. os ++ z) (sym (append-assoc (replicate m 0) ls (replicate (length w) 0 ++ (replicate n 0 ++ rest))))
+    ∙ sym (append-assoc os (replicate m 0 ++ ls) (replicate (length w) 0 ++ (replicate n 0 ++ rest))))
+    ∙ sets-over p (replicate (length w) 0) (replicate n 0 ++ rest) w at (omega arith) (length-replicate (length w) 0)
     ∙ ap (λ z. x ∷ y ∷ z)
-    (append-assoc os (times m 0 ++ ls) (w ++ (times n 0 ++ rest))
-    ∙ ap (λ z. os ++ z) (append-assoc (times m 0) ls (w ++ (times n 0 ++ rest)) ∙ ap (λ z. times m 0 ++ z) (sym (append-assoc ls w (times n 0 ++ rest)))))
+    (append-assoc os (replicate m 0 ++ ls) (w ++ (replicate n 0 ++ rest))
+    ∙ ap (λ z. os ++ z) (append-assoc (replicate m 0) ls (w ++ (replicate n 0 ++ rest)) ∙ ap (λ z. replicate m 0 ++ z) (sym (append-assoc ls w (replicate n 0 ++ rest)))))
 
 row-offset : (x y : ℕ) (os : List ℕ) (m : ℕ) (ls : List ℕ) (n : ℕ) (rest : List ℕ) (at k v : ℕ)
     → at ≡ 2 + length os → k ≡ suc m → set (row x y os k ls n rest) at v ≡ row x y (os ++ (v ∷ [])) m ls n rest
 unfolding row
 row-offset x y os m ls n rest at k v e d =
-    ap (λ j. set (x ∷ y ∷ (os ++ (times j 0 ++ (ls ++ (times n 0 ++ rest))))) at v) d
-    ∙ set-at (x ∷ y ∷ os) 0 (times m 0 ++ (ls ++ (times n 0 ++ rest))) v at (omega arith)
-    ∙ ap (λ z. x ∷ y ∷ z) (sym (append-assoc os (v ∷ []) (times m 0 ++ (ls ++ (times n 0 ++ rest)))))
+    ap (λ j. set (x ∷ y ∷ (os ++ (replicate j 0 ++ (ls ++ (replicate n 0 ++ rest))))) at v) d
+    ∙ set-at (x ∷ y ∷ os) 0 (replicate m 0 ++ (ls ++ (replicate n 0 ++ rest))) v at (omega arith)
+    ∙ ap (λ z. x ∷ y ∷ z) (sym (append-assoc os (v ∷ []) (replicate m 0 ++ (ls ++ (replicate n 0 ++ rest)))))
 
 row-counts : (x y x′ y′ : ℕ) (os : List ℕ) (m : ℕ) (ls : List ℕ) (n : ℕ) (rest : List ℕ) → set (set (row x y os m ls n rest) 0 x′) 1 y′ ≡ row x′ y′ os m ls n rest
 unfolding row
@@ -65,9 +65,9 @@ answer-row : (ls : List Conj) (rest : List ℕ) → length ls ≤ desk .lines
 unfolding row
 answer-row ls rest few =
     let os = offsetsOf (linesAt desk) (map lineWords ls) in
-    let z₁ : List ℕ = times (desk .lines - length ls) 0 in
+    let z₁ : List ℕ = replicate (desk .lines - length ls) 0 in
     let b = joined (map lineWords ls) in
-    let z₂ : List ℕ = times (desk .room - (linesAt desk + linesSize ls)) 0 in
+    let z₂ : List ℕ = replicate (desk .room - (linesAt desk + linesSize ls)) 0 in
     ap (λ l. l ++ rest) (in-a-row ls few)
     ∙ ap (λ l. length ls ∷ countOpen ls ∷ l)
     (append-assoc os (z₁ ++ (b ++ z₂)) rest ∙ ap (λ l. os ++ l) (append-assoc z₁ (b ++ z₂) rest ∙ ap (λ l. z₁ ++ l) (append-assoc b z₂ rest)))
@@ -77,7 +77,7 @@ answer-row ls rest few =
 pub answer-none : (old : List ℕ) → set (zeros desk ++ drop (desk .room) old) 2 (linesAt desk) ≡ answerWords desk [] ++ drop (desk .room) old
 unfolding row zeros
 answer-none old =
-    ap (λ l. 0 ∷ 0 ∷ (linesAt desk) ∷ l) (ap (λ l. l ++ drop (desk .room) old) (times-append (desk .lines) 7677) ∙ append-assoc (times (desk .lines) 0) (times 7677 0) (drop (desk .room) old))
+    ap (λ l. 0 ∷ 0 ∷ (linesAt desk) ∷ l) (ap (λ l. l ++ drop (desk .room) old) (sym (replicate-append-replicate (desk .lines) (desk .room - linesAt desk) 0)) ∙ append-assoc (replicate (desk .lines) 0) (replicate (desk .room - linesAt desk) 0) (drop (desk .room) old))
     ∙ sym (answer-row [] (drop (desk .room) old) (omega arith))
 
 -- ---- one line more

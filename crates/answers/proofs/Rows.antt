@@ -1,26 +1,18 @@
 -- The answer's words laid out in a row, and what one more line adds to each part.
-use Prim.Native.Nat.{ℕ, zero, suc, _+_, _-_, _≤_}
+use Prim.Native.Nat.{ℕ, suc, _+_, _-_, _≤_}
 use native.Mathlib.Omega.{arith}
 use mathlib.Core.Path.{_≡_, refl, sym, ap, _∙_}
 use mathlib.Core.Bool.{Bool, true, false}
 use mathlib.Core.List.{List, [], _∷_, _++_, map, append-assoc, append-nil}
-use lib.ListN.{length, length-append, length-map}
+use lib.ListN.{length, length-append, length-map, replicate, length-replicate}
 use Rattle.language.specs.Limits.{desk}
 use Rattle.language.specs.Kinds.{pick}
 use Rattle.language.specs.Trees.{Conj}
 use Rattle.language.specs.Writing.{conjWords}
-use Rattle.meaning.specs.Values.{times, offsetsOf, joined}
+use Rattle.meaning.specs.Values.{offsetsOf, joined}
 use Rattle.rules.specs.Solved.{solved}
 use Rattle.rules.specs.Run.{linesSize, linesAt}
 use Rattle.rules.specs.Answer.{lineWords, countOpen, answerWords}
-
-pub length-times : (n : ℕ) → length (times {A = ℕ} n 0) ≡ n
-length-times zero = refl
-length-times (suc n) = ap suc (length-times n)
-
-pub times-append : (m n : ℕ) → times {A = ℕ} (m + n) 0 ≡ times m 0 ++ times n 0
-times-append zero n = ap (λ k. times k 0) (let z : 0 + n ≡ n = omega arith in z)
-times-append (suc m) n = ap (λ k. times k 0) (let z : suc m + n ≡ suc (m + n) = omega arith in z) ∙ ap (λ l. 0 ∷ l) (times-append m n)
 
 -- ---- one part more
 
@@ -88,31 +80,31 @@ length-header ls =
     let z : suc (suc (length (offsetsOf (linesAt desk) (map lineWords ls)))) ≡ length ls + 3 = omega arith in z
 
 pub in-a-row : (ls : List Conj) → length ls ≤ desk .lines
-    → answerWords desk ls ≡ header ls ++ (times (desk .lines - length ls) 0 ++ (joined (map lineWords ls) ++ times (desk .room - (linesAt desk + linesSize ls)) 0))
+    → answerWords desk ls ≡ header ls ++ (replicate (desk .lines - length ls) 0 ++ (joined (map lineWords ls) ++ replicate (desk .room - (linesAt desk + linesSize ls)) 0))
 unfolding answerWords
 in-a-row ls few =
     let h = length-header ls in
     let z₁ : (linesAt desk) - length (header ls) ≡ desk .lines - length ls = omega arith in
-    let first : List ℕ = header ls ++ times (linesAt desk - length (header ls)) 0 in
-    let l₁ : length first ≡ length (header ls) + (linesAt desk - length (header ls)) = length-append (header ls) (times (linesAt desk - length (header ls)) 0) ∙ ap (λ n. length (header ls) + n) (length-times (linesAt desk - length (header ls))) in
+    let first : List ℕ = header ls ++ replicate (linesAt desk - length (header ls)) 0 in
+    let l₁ : length first ≡ length (header ls) + (linesAt desk - length (header ls)) = length-append (header ls) (replicate (linesAt desk - length (header ls)) 0) ∙ ap (λ n. length (header ls) + n) (length-replicate (linesAt desk - length (header ls)) 0) in
     let l₂ : length (first ++ joined (map lineWords ls)) ≡ length first + linesSize ls = length-append first (joined (map lineWords ls)) ∙ ap (λ n. length first + n) (length-lines ls) in
     let z₂ : (desk .room) - length (first ++ joined (map lineWords ls)) ≡ desk .room - (linesAt desk + linesSize ls) = omega arith in
-    ap (λ n. (first ++ joined (map lineWords ls)) ++ times n 0) z₂
-    ∙ append-assoc first (joined (map lineWords ls)) (times (desk .room - (linesAt desk + linesSize ls)) 0)
-    ∙ append-assoc (header ls) (times (linesAt desk - length (header ls)) 0) _
-    ∙ ap (λ n. header ls ++ (times n 0 ++ (joined (map lineWords ls) ++ times (desk .room - (linesAt desk + linesSize ls)) 0))) z₁
+    ap (λ n. (first ++ joined (map lineWords ls)) ++ replicate n 0) z₂
+    ∙ append-assoc first (joined (map lineWords ls)) (replicate (desk .room - (linesAt desk + linesSize ls)) 0)
+    ∙ append-assoc (header ls) (replicate (linesAt desk - length (header ls)) 0) _
+    ∙ ap (λ n. header ls ++ (replicate n 0 ++ (joined (map lineWords ls) ++ replicate (desk .room - (linesAt desk + linesSize ls)) 0))) z₁
 
 pub length-answer : (ls : List Conj) → length ls ≤ desk .lines → linesAt desk + linesSize ls ≤ desk .room → length (answerWords desk ls) ≡ desk .room
 length-answer ls few room =
     let a = ap length (in-a-row ls few) in
-    let z₁ : List ℕ = times (desk .lines - length ls) 0 in
+    let z₁ : List ℕ = replicate (desk .lines - length ls) 0 in
     let b : List ℕ = joined (map lineWords ls) in
-    let z₂ : List ℕ = times (desk .room - (linesAt desk + linesSize ls)) 0 in
+    let z₂ : List ℕ = replicate (desk .room - (linesAt desk + linesSize ls)) 0 in
     let l₁ = length-append (header ls) (z₁ ++ (b ++ z₂)) in
     let l₂ = length-append z₁ (b ++ z₂) in
     let l₃ = length-append b z₂ in
-    let t₁ = length-times (desk .lines - length ls) in
-    let t₂ = length-times (desk .room - (linesAt desk + linesSize ls)) in
+    let t₁ = length-replicate {A = ℕ} (desk .lines - length ls) 0 in
+    let t₂ = length-replicate {A = ℕ} (desk .room - (linesAt desk + linesSize ls)) 0 in
     let h = length-header ls in
     let n = length-lines ls in
     omega arith

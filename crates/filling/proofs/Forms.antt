@@ -1,12 +1,12 @@
 -- The forms of the values, one by one, and that each value has its form.
-use Prim.Native.Nat.{ℕ, zero, suc, _+_, _-_, _<_, _≤_}
+use Prim.Native.Nat.{ℕ, suc, _+_, _-_, _<_, _≤_}
 use mathlib.Core.Path.{_≡_, refl, sym, ap, _∙_}
 use mathlib.Core.Bool.{Bool, true, false, _&&_}
 use mathlib.Core.List.{List, [], _∷_, _++_}
 use mathlib.Core.Option.{Option, none, some}
 use native.Mathlib.Omega.{arith}
 use lib.Dec.{ltb, eqb}
-use lib.ListN.{length, getD, drop, length-append, List·getD-append, drop-of-length-le}
+use lib.ListN.{length, getD, drop, length-append, List·getD-append, drop-of-length-le, replicate, length-replicate, getD-replicate}
 use lib.Seq.{drop-cons, getD-append-add}
 use borrow.Author.Tests.{lt-ltb, le-ltb, ltb-true, ltb-false}
 use Rattle.language.specs.Limits.{desk}
@@ -17,20 +17,11 @@ use Rattle.language.specs.Question.{laidOut, parts}
 use Rattle.language.proofs.Offsets.{table-count}
 use Rattle.language.proofs.Walks.{passes}
 use Rattle.meaning.specs.Complete.{Complete}
-use Rattle.meaning.specs.Values.{Form, aTerm, aHedge, aName, times, forms, variables, valueOf, withValue, valuesOf}
+use Rattle.meaning.specs.Values.{Form, aTerm, aHedge, aName, forms, variables, valueOf, withValue, valuesOf}
 use Rattle.filling.specs.Checking.{isSome, ofForm, formAt, Judged, OneTerm, allOfForm}
 use Rattle.filling.proofs.Plain.{complete-words, name-size}
 
 -- ---- the form at a number
-
-length-times : (n : ℕ) (a : Form) → length (times n a) ≡ n
-length-times zero a = refl
-length-times (suc n) a = ap suc (length-times n a)
-
-getD-times : (n : ℕ) (a d : Form) (i : ℕ) → i < n → getD (times n a) i d ≡ a
-getD-times zero a d i p = absurd (omega arith)
-getD-times (suc n) a d zero p = refl
-getD-times (suc n) a d (suc i) p = getD-times n a d i (omega arith)
 
 getD-left : (xs ys : List Form) (d : Form) (i : ℕ) → i < length xs → getD (xs ++ ys) i d ≡ getD xs i d
 getD-left xs ys d i p = List·getD-append xs ys d i p
@@ -49,33 +40,33 @@ module _ (n : Counts) where
   at-name i q = rw (le-ltb i (n .terms) (omega arith), le-ltb i (n .terms + n .hedges) q)
 
   abbrev others : List Form
-  others = times (n .hedges) aHedge ++ times (n .functions) aName
+  others = replicate (n .hedges) aHedge ++ replicate (n .functions) aName
 
   pub forms-length : length (forms n) ≡ variables n
   forms-length =
-      let a = length-append (times (n .terms) aTerm) others in
-      let b = length-append (times (n .hedges) aHedge) (times (n .functions) aName) in
-      omega (arith, length-times (n .terms) aTerm, length-times (n .hedges) aHedge, length-times (n .functions) aName)
+      let a = length-append (replicate (n .terms) aTerm) others in
+      let b = length-append (replicate (n .hedges) aHedge) (replicate (n .functions) aName) in
+      omega (arith, length-replicate (n .terms) aTerm, length-replicate (n .hedges) aHedge, length-replicate (n .functions) aName)
 
   pub form-is : (i : ℕ) → i < variables n → (b c : Bool) → ltb i (n .terms) ≡ b → ltb i (n .terms + n .hedges) ≡ c → getD (forms n) i aTerm ≡ formAt n i
   form-is i p true c e g =
       let l = ltb-true i (n .terms) e in
-      getD-left (times (n .terms) aTerm) others aTerm i (omega (arith, length-times (n .terms) aTerm)) ∙ getD-times (n .terms) aTerm aTerm i l ∙ sym (at-term i l)
+      getD-left (replicate (n .terms) aTerm) others aTerm i (omega (arith, length-replicate (n .terms) aTerm)) ∙ getD-replicate (n .terms) i aTerm aTerm l ∙ sym (at-term i l)
   form-is i p false true e g =
       let l = ltb-false i (n .terms) e in
       let m = ltb-true i (n .terms + n .hedges) g in
-      let t = length-times (n .terms) aTerm in
-      getD-right (times (n .terms) aTerm) others aTerm i (omega arith)
-      ∙ getD-left (times (n .hedges) aHedge) (times (n .functions) aName) aTerm (i - length (times (n .terms) aTerm)) (omega (arith, length-times (n .hedges) aHedge))
-      ∙ getD-times (n .hedges) aHedge aTerm (i - length (times (n .terms) aTerm)) (omega arith)
+      let t = length-replicate (n .terms) aTerm in
+      getD-right (replicate (n .terms) aTerm) others aTerm i (omega arith)
+      ∙ getD-left (replicate (n .hedges) aHedge) (replicate (n .functions) aName) aTerm (i - length (replicate (n .terms) aTerm)) (omega (arith, length-replicate (n .hedges) aHedge))
+      ∙ getD-replicate (n .hedges) (i - length (replicate (n .terms) aTerm)) aHedge aTerm (omega arith)
       ∙ sym (at-hedge i l m)
   form-is i p false false e g =
       let m = ltb-false i (n .terms + n .hedges) g in
-      let t = length-times (n .terms) aTerm in
-      let h = length-times (n .hedges) aHedge in
-      getD-right (times (n .terms) aTerm) others aTerm i (omega arith)
-      ∙ getD-right (times (n .hedges) aHedge) (times (n .functions) aName) aTerm (i - length (times (n .terms) aTerm)) (omega arith)
-      ∙ getD-times (n .functions) aName aTerm (i - length (times (n .terms) aTerm) - length (times (n .hedges) aHedge)) (omega arith)
+      let t = length-replicate (n .terms) aTerm in
+      let h = length-replicate (n .hedges) aHedge in
+      getD-right (replicate (n .terms) aTerm) others aTerm i (omega arith)
+      ∙ getD-right (replicate (n .hedges) aHedge) (replicate (n .functions) aName) aTerm (i - length (replicate (n .terms) aTerm)) (omega arith)
+      ∙ getD-replicate (n .functions) (i - length (replicate (n .terms) aTerm) - length (replicate (n .hedges) aHedge)) aName aTerm (omega arith)
       ∙ sym (at-name i m)
 
   pub forms-cons : (i : ℕ) → i < variables n → drop i (forms n) ≡ formAt n i ∷ drop (suc i) (forms n)

@@ -4,17 +4,17 @@ use mathlib.Core.Path.{_≡_, refl, sym, ap, _∙_}
 use mathlib.Core.List.{List, [], _∷_, _++_, map, append-assoc, map-append}
 use mathlib.Core.Option.{none, some}
 use native.Mathlib.Omega.{arith}
-use lib.ListN.{length, getD, drop, length-append, List·getD-append}
+use lib.ListN.{length, getD, drop, length-append, List·getD-append, replicate, length-replicate}
 use lib.Seq.{drop-append-add, drop-append-seam}
 use Rattle.language.specs.Limits.{desk}
 use Rattle.language.specs.Trees.{Conj}
 use Rattle.language.specs.Writing.{conjWords}
-use Rattle.meaning.specs.Values.{times, offsetsOf, joined}
+use Rattle.meaning.specs.Values.{offsetsOf, joined}
 use Rattle.rules.specs.Run.{linesSize, linesAt}
 use Rattle.rules.specs.Answer.{lineWords, answerWords}
 use Rattle.rules.specs.Calls.{lineAt}
 use Rattle.exact.specs.Each.{Each}
-use Rattle.answers.proofs.Rows.{header, in-a-row, length-header, length-lines, length-times, length-answer}
+use Rattle.answers.proofs.Rows.{header, in-a-row, length-header, length-lines, length-answer}
 use Rattle.words.proofs.Parts.{drop-of, part-of, word-of}
 use Rattle.showing.specs.Answers.{Good, Answer}
 use Rattle.showing.proofs.Tables.{joined-row}
@@ -76,11 +76,11 @@ pub record Place (answer : List ℕ) (ls : List Conj) (i : ℕ) : Type 0 where
 module _ {answer : List ℕ} {ls : List Conj} (a : Answer answer ls) where
   -- the words behind the header
   tail : List ℕ
-  tail = times (desk .lines - length ls) 0 ++ ((joined (map lineWords ls) ++ times (desk .room - (linesAt desk + linesSize ls)) 0) ++ a .rest)
+  tail = replicate (desk .lines - length ls) 0 ++ ((joined (map lineWords ls) ++ replicate (desk .room - (linesAt desk + linesSize ls)) 0) ++ a .rest)
 
   row : answer ≡ header ls ++ tail
   unfolding tail
-  row = a .words ∙ ap (λ w. w ++ a .rest) (in-a-row ls (a .few)) ∙ append-assoc (header ls) _ (a .rest) ∙ ap (λ w. header ls ++ w) (append-assoc (times (desk .lines - length ls) 0) _ (a .rest))
+  row = a .words ∙ ap (λ w. w ++ a .rest) (in-a-row ls (a .few)) ∙ append-assoc (header ls) _ (a .rest) ∙ ap (λ w. header ls ++ w) (append-assoc (replicate (desk .lines - length ls) 0) _ (a .rest))
 
   pub whole : (desk .room) ≤ length answer
   whole =
@@ -94,18 +94,18 @@ module _ {answer : List ℕ} {ls : List Conj} (a : Answer answer ls) where
   offsets-are : (j : ℕ) → j < length (offsetsOf (linesAt desk) (map lineWords ls)) → getD answer (suc (suc j)) 0 ≡ getD (offsetsOf (linesAt desk) (map lineWords ls)) j 0
   offsets-are j p = ap (λ w. getD w (suc (suc j)) 0) row ∙ List·getD-append (offsetsOf (linesAt desk) (map lineWords ls)) tail 0 j p
 
-  lines-are : (n : ℕ) → drop (linesAt desk + n) answer ≡ drop n (joined (map lineWords ls) ++ (times (desk .room - (linesAt desk + linesSize ls)) 0 ++ a .rest))
+  lines-are : (n : ℕ) → drop (linesAt desk + n) answer ≡ drop n (joined (map lineWords ls) ++ (replicate (desk .room - (linesAt desk + linesSize ls)) 0 ++ a .rest))
   unfolding tail
   lines-are n =
-      let A : List ℕ = header ls ++ times (desk .lines - length ls) 0 in
+      let A : List ℕ = header ls ++ replicate (desk .lines - length ls) 0 in
       let h = length-header ls in
       let f = a .few in
-      let m = length-append (header ls) (times (desk .lines - length ls) 0) in
-      let t = length-times (desk .lines - length ls) in
+      let m = length-append (header ls) (replicate (desk .lines - length ls) 0) in
+      let t = length-replicate {A = ℕ} (desk .lines - length ls) 0 in
       let z : (linesAt desk) + n ≡ length A + n = omega arith in
-      let Z : List ℕ = times (desk .room - (linesAt desk + linesSize ls)) 0 in
+      let Z : List ℕ = replicate (desk .room - (linesAt desk + linesSize ls)) 0 in
       let B : List ℕ = (joined (map lineWords ls) ++ Z) ++ a .rest in
-      ap (λ w. drop (linesAt desk + n) w) (row ∙ sym (append-assoc (header ls) (times (desk .lines - length ls) 0) B))
+      ap (λ w. drop (linesAt desk + n) w) (row ∙ sym (append-assoc (header ls) (replicate (desk .lines - length ls) 0) B))
       ∙ ap (λ i. drop i (A ++ B)) z
       ∙ drop-append-add A B n
       ∙ ap (drop n) (append-assoc (joined (map lineWords ls)) Z (a .rest))
@@ -124,7 +124,7 @@ module _ {answer : List ℕ} {ls : List Conj} (a : Answer answer ls) where
         next = next s;
         within = within s;
         few = omega arith;
-        beyond = joined (map lineWords (s .behind)) ++ (times (desk .room - (linesAt desk + linesSize ls)) 0 ++ a .rest);
+        beyond = joined (map lineWords (s .behind)) ++ (replicate (desk .room - (linesAt desk + linesSize ls)) 0 ++ a .rest);
         here = here s;
       }
     where
@@ -157,10 +157,10 @@ module _ {answer : List ℕ} {ls : List Conj} (a : Answer answer ls) where
           let z = a .size in
           omega arith
 
-      here : (s : Split ls i) → drop (linesAt desk + linesSize (s .before)) answer ≡ lineWords (s .l) ++ (joined (map lineWords (s .behind)) ++ (times (desk .room - (linesAt desk + linesSize ls)) 0 ++ a .rest))
+      here : (s : Split ls i) → drop (linesAt desk + linesSize (s .before)) answer ≡ lineWords (s .l) ++ (joined (map lineWords (s .behind)) ++ (replicate (desk .room - (linesAt desk + linesSize ls)) 0 ++ a .rest))
       here s =
           let B = joined (map lineWords (s .before)) in
-          let C = times (desk .room - (linesAt desk + linesSize ls)) 0 ++ a .rest in
+          let C = replicate (desk .room - (linesAt desk + linesSize ls)) 0 ++ a .rest in
           lines-are (linesSize (s .before))
           ∙ ap (λ n. drop n (joined (map lineWords ls) ++ C)) (sym (length-lines (s .before)))
           ∙ ap (λ w. drop (length B) (w ++ C))

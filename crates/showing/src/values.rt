@@ -1,5 +1,5 @@
 // The values of a line's variables, as words: measured first, then written straight to their place.
-ghost use Prim.Native.Nat.{_+_, _≤_, _<_};
+ghost use Prim.Native.Nat.{_+_, _*_, _≤_, _<_};
 ghost use mathlib.Core.Path.{_≡_};
 ghost use lib.ListN.{length};
 ghost use lib.Seq.{slice};
@@ -214,7 +214,7 @@ pub fn write_starts(
     at: usize,
     offset: usize,
 ) -> Row
-    requires { ⌜ (length (now k) ≤ 65536) × (base ≤ 4000) × (count ≤ desk .each) × (offset ≤ 1000000000000) ⌝ }
+    requires { ⌜ (length (now k) ≤ 65536) × (base ≤ 4000) × (count ≤ desk .each) × (offset ≤ 4 * (10000000000 * desk .each)) ⌝ }
     ensures { λ r. ⌜ KindStarts (now (k .entry)) base count (now (out .entry)) at offset (now (out .exit)) r ⌝ }
 {
     let mut x = base;

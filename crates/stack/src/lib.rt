@@ -2,12 +2,12 @@
 ghost use Prim.Native.Nat.{_+_, _-_, _≤_, _<_};
 ghost use mathlib.Core.Path.{_≡_};
 ghost use mathlib.Core.Bool.{true};
-ghost use mathlib.Core.List.{_∷_, _++_};
-ghost use lib.ListN.{length, drop, getD, set};
+ghost use mathlib.Core.List.{_∷_};
+ghost use lib.ListN.{length, getD, set};
 ghost use lib.Seq.{slice, sets};
 ghost use Rattle.language.specs.Limits.{desk};
 ghost use Rattle.language.specs.Question.{laidOut, parts};
-ghost use Rattle.rules.specs.Answer.{zeros};
+ghost use Rattle.rules.specs.Answer.{zeros, overwritten};
 ghost use Rattle.stack.specs.Waiting.{Laid};
 use language::limits::ROOM;
 
@@ -49,7 +49,7 @@ pub fn copy(src: &[u16], from: usize, to: usize, dst: &mut [u16], at: usize)
 // Zeros in the first 8,192 words.
 pub fn clear(s: &mut [u16])
     requires { ⌜ desk .room ≤ length (now s) ⌝ }
-    ensures { λ _. ⌜ now (s .exit) ≡ zeros desk ++ drop (desk .room) (now (s .entry)) ⌝ }
+    ensures { λ _. ⌜ now (s .exit) ≡ overwritten desk (zeros desk) (now (s .entry)) ⌝ }
 {
     let mut i = 0;
     while i < ROOM {

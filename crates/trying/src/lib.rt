@@ -10,11 +10,12 @@ ghost use mathlib.Core.Path.{_≡_};
 ghost use Prim.Native.Nat.{_+_, _≤_, _<_};
 ghost use lib.ListN.{length};
 ghost use Rattle.language.specs.Limits.{desk};
+ghost use Rattle.rules.specs.Answer.{zeros, overwritten};
 ghost use Rattle.rules.specs.Calls.{trying};
 ghost use Rattle.reader.specs.Checking.{countsIn};
 ghost use Rattle.filling.specs.Showing.{filled, Shows};
 ghost use Rattle.trying.specs.Tasks.{SameWords, FirstEnd, EquationMet, Testable, MembershipMet, FittingLiteral, LiteralMet, LiteralEnd, SomeConj, FittingConj, ConjTooLong, ConjMet, SomeQuestion, FittingQuestion, QuestionTooLong, QuestionMet, AskedQuestion};
-ghost use Rattle.trying.specs.Outcome.{cleared, Outcome, TriedGiven, TriedAsked, triedNumber, triedValue};
+ghost use Rattle.trying.specs.Outcome.{Outcome, TriedGiven, TriedAsked, triedNumber, triedValue};
 
 // What comes of trying a filling.
 pub enum Tried {
@@ -47,7 +48,7 @@ fn same(a: &[u16], b: &[u16]) -> bool
 
 fn clear(work: &mut [u16])
     requires { ⌜ desk .room ≤ length (now work) ⌝ }
-    ensures { λ _. ⌜ now (work .exit) ≡ cleared (now (work .entry)) ⌝ }
+    ensures { λ _. ⌜ now (work .exit) ≡ overwritten desk (zeros desk) (now (work .entry)) ⌝ }
 {
     let mut i: usize = 0;
     while i < ROOM {

@@ -7,7 +7,7 @@ use lib.ListN.{length, drop, replicate, set, length-set}
 use borrow.Author.Needs.{needs}
 use borrow.Author.Fill.{fill-none, fill-more}
 use Rattle.language.specs.Limits.{desk}
-use Rattle.trying.specs.Outcome.{cleared}
+use Rattle.rules.specs.Answer.{zeros}
 use Rattle.trying.proofs.clear.Statement.{statement}
 use Rattle.trying.proofs.clear.Tie as tie
 
@@ -23,7 +23,7 @@ loop-again c =
     (omega arith, length-set (l .work) (l .i) 0 ∙ l .inv .1, ap (λ w. set w (l .i) 0) (l .inv .2) ∙ fill-more (l .i) 0 _ (omega arith))
 
 returns : tie.Need-returns Inv-loop μ-loop
-unfolding cleared
+unfolding zeros
 returns c =
     let l = c .before .loop in
     let z : l .i ≡ desk .room = omega arith in
