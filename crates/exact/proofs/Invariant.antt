@@ -4,12 +4,12 @@ use Prim.Native.Nat.{ℕ, zero, suc}
 use mathlib.Core.Path.{_≡_, refl}
 use mathlib.Core.Bool.{Bool, true, false}
 use mathlib.Core.List.{List, [], _∷_, _++_}
-use mathlib.Core.Option.{Option, none, some}
 use lib.Dec.{ltb}
 use Rattle.language.specs.declared.Refusal.{Refusal}
 use Rattle.language.specs.declared.Refusal.the-variants.{LongResult, LongWaiting, LineRoom, StepLimit}
 use Rattle.language.specs.Limits.{Limits}
 use Rattle.language.specs.Trees.{Conj}
+use Rattle.rules.specs.Reply.{Reply, nothing, results, stops}
 use Rattle.rules.specs.Step.{step}
 use Rattle.rules.specs.Run.{anyLong, waitingSize, linesFit, Outcome, finished, refused, lined, turn, runFrom, run}
 use Rattle.exact.specs.Each.{Each}
@@ -23,13 +23,13 @@ module _ (I : List Conj → List Conj → Type 0) where
   Ended (refused r) = Unit {0}
 
   module _
-      (stepped : (ls : List Conj) (k : Conj) (w ks : List Conj) → I ls (k ∷ w) → step k ≡ some ks → I ls (ks ++ w))
-      (rests : (ls : List Conj) (k : Conj) (w : List Conj) → I ls (k ∷ w) → step k ≡ none → I (ls ++ (k ∷ [])) w)
+      (stepped : (ls : List Conj) (k : Conj) (w ks : List Conj) → I ls (k ∷ w) → step k ≡ results ks → I ls (ks ++ w))
+      (rests : (ls : List Conj) (k : Conj) (w : List Conj) → I ls (k ∷ w) → step k ≡ nothing → I (ls ++ (k ∷ [])) w)
     where
       -- a refusal, or the run goes on
-      stops : (b : Bool) (r : Refusal) (o : Outcome) → Ended o → Ended (elim b [ true ↦ refused r | false ↦ o ])
-      stops true r o p = tt
-      stops false r o p = p
+      halts : (b : Bool) (r : Refusal) (o : Outcome) → Ended o → Ended (elim b [ true ↦ refused r | false ↦ o ])
+      halts true r o p = tt
+      halts false r o p = p
 
       goes : (b : Bool) (r : Refusal) (o : Outcome) → Ended o → Ended (elim b [ true ↦ o | false ↦ refused r ])
       goes true r o p = p
@@ -40,16 +40,17 @@ module _ (I : List Conj → List Conj → Type 0) where
       turn-ends L go on n ls [] p = p
       turn-ends L go on n ls (k ∷ w) p = taken (step k) refl (λ q. goes (linesFit L (ls ++ (k ∷ []))) LineRoom _ (turn-ends L go on n (ls ++ (k ∷ [])) w q))
         where
-          taken : (m : Option (List Conj)) → step k ≡ m → (I (ls ++ (k ∷ [])) w → Ended (lined L (ls ++ (k ∷ [])) (λ ms. turn L go n ms w)))
-              → Ended (elim m [ some ks ↦ go ls ks (ks ++ w) | none ↦ lined L (ls ++ (k ∷ [])) (λ ms. turn L go n ms w) ])
-          taken none e line = line (rests ls k w p e)
-          taken (some ks) e line = on ls ks (ks ++ w) (stepped ls k w ks p e)
+          taken : (m : Reply (List Conj)) → step k ≡ m → (I (ls ++ (k ∷ [])) w → Ended (lined L (ls ++ (k ∷ [])) (λ ms. turn L go n ms w)))
+              → Ended (elim m [ results ks ↦ go ls ks (ks ++ w) | nothing ↦ lined L (ls ++ (k ∷ [])) (λ ms. turn L go n ms w) | stops r ↦ refused r ])
+          taken nothing e line = line (rests ls k w p e)
+          taken (results ks) e line = on ls ks (ks ++ w) (stepped ls k w ks p e)
+          taken (stops r) e line = tt
 
       from-ends : (L : Limits) (d n : ℕ) (ls w : List Conj) → I ls w → Ended (runFrom L d n ls w)
       unfolding runFrom
       from-ends L zero n ls w p = turn-ends L (λ _ _ _. refused StepLimit) (λ _ _ _ _. tt) n ls w p
       from-ends L (suc d) n ls w p =
-          turn-ends L _ (λ ms ks v q. stops (anyLong L ks) LongResult _ (stops (ltb (L .room) (waitingSize v)) LongWaiting _ (from-ends L d (suc n) ms v q))) n ls w p
+          turn-ends L _ (λ ms ks v q. halts (anyLong L ks) LongResult _ (halts (ltb (L .room) (waitingSize v)) LongWaiting _ (from-ends L d (suc n) ms v q))) n ls w p
 
       -- What a step and a new line keep holds of the lines of a finished run.
       pub along : (L : Limits) (w ls : List Conj) (n : ℕ) → run L w ≡ finished ls n → I [] w → I ls []
@@ -57,7 +58,7 @@ module _ (I : List Conj → List Conj → Type 0) where
       along L w ls n e p = rw e at (from-ends L (L .steps) 0 [] w p)
 
 -- If P is kept by a step, and every waiting conjunction satisfies it, then every line does.
-pub lines-keep : (P : Conj → Type 0) → ((k : Conj) (ks : List Conj) → P k → step k ≡ some ks → Each P ks)
+pub lines-keep : (P : Conj → Type 0) → ((k : Conj) (ks : List Conj) → P k → step k ≡ results ks → Each P ks)
     → (L : Limits) (w ls : List Conj) (n : ℕ) → run L w ≡ finished ls n → Each P w → Each P ls
 lines-keep P kept L w ls n e p =
     along (λ ms v. Each P ms × Each P v)
@@ -66,7 +67,7 @@ lines-keep P kept L w ls n e p =
     L w ls n e (tt, p) .0
 
 -- To a line of a finished run no rule applies.
-pub lines-rest : (L : Limits) (w ls : List Conj) (n : ℕ) → run L w ≡ finished ls n → Each (λ k. step k ≡ none) ls
+pub lines-rest : (L : Limits) (w ls : List Conj) (n : ℕ) → run L w ≡ finished ls n → Each (λ k. step k ≡ nothing) ls
 lines-rest L w ls n e =
-    along (λ ms v. Each (λ k. step k ≡ none) ms) (λ ms k v ks q d. q)
-    (λ ms k v q d. each-++ (λ k. step k ≡ none) ms (k ∷ []) q (d, tt)) L w ls n e tt
+    along (λ ms v. Each (λ k. step k ≡ nothing) ms) (λ ms k v ks q d. q)
+    (λ ms k v q d. each-++ (λ k. step k ≡ nothing) ms (k ∷ []) q (d, tt)) L w ls n e tt

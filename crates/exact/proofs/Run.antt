@@ -4,7 +4,6 @@ use mathlib.Core.Path.{_≡_, refl}
 use mathlib.Core.Logic.{inl, inr, _↔_, Iff·trans, Iff·symm}
 use mathlib.Core.Bool.{Bool, true, false}
 use mathlib.Core.List.{List, _∷_, _++_, append-assoc, append-nil}
-use mathlib.Core.Option.{some}
 use native.Mathlib.Omega.{arith}
 use lib.Dec.{ltb}
 use Rattle.language.specs.Limits.{Limits}
@@ -12,17 +11,18 @@ use Rattle.language.specs.Trees.{Conj, Question}
 use Rattle.language.specs.declared.Refusal.the-variants.{ShortSlice}
 use Rattle.language.specs.Question.{Asked, asks, refuses, readQuestion}
 use Rattle.meaning.specs.Meaning.{Filling, MeetsAll, MeetsOne}
+use Rattle.rules.specs.Reply.{results}
 use Rattle.rules.specs.Step.{step}
 use Rattle.rules.specs.Run.{Outcome, finished, refused, run}
 use Rattle.rules.specs.Answer.{answered, unread, ran, solvingOf, solving}
 use Rattle.exact.specs.Places.{SameFillings}
 use Rattle.exact.proofs.Fillings.{one-++}
 use Rattle.exact.proofs.Invariant.{along}
-use Rattle.exact.proofs.Steps.{each-at-places, step-at-places}
+use Rattle.exact.proofs.Steps.{step-at-sides}
 use Rattle.exact.proofs.Places.{each-rule-exact}
 
-pub step-same : (k : Conj) (ks : List Conj) → step k ≡ some ks → SameFillings k ks
-step-same = step-at-places SameFillings (each-at-places SameFillings each-rule-exact)
+pub step-same : (k : Conj) (ks : List Conj) → step k ≡ results ks → SameFillings k ks
+step-same = step-at-sides SameFillings each-rule-exact
 
 -- ---- the run
 

@@ -10,7 +10,7 @@ use Rattle.language.specs.Trees.{Conj, Counts, Literal, eqn, mem}
 use Rattle.language.specs.Reading.{reading, readHedge, readExpr, readLiteral, readConj}
 use Rattle.language.specs.Question.{laidOut, parts, lengthFits, countsFit, Asked, asks, refuses, readQuestion}
 use Rattle.rules.specs.Rules.{_>>=_, check}
-use Rattle.rules.specs.Step.{step}
+use Rattle.rules.specs.Step.{search, step}
 use Rattle.rules.specs.Solved.{solved}
 use Rattle.rules.specs.Run.{runFrom, run}
 use Rattle.rules.specs.Answer.{Solving, answered, unread, given-up, answerWords, solving}
@@ -33,7 +33,7 @@ pub P4-whole :
     ++ ((1 ∷ 5000 ∷ 2000 ∷ 0 ∷ 0 ∷ 5000 ∷ 2001 ∷ 0 ∷ 3000 ∷ 0 ∷ 3001 ∷ 0 ∷ 0 ∷ [])
     ++ ((1 ∷ 5000 ∷ 2000 ∷ 0 ∷ 3000 ∷ 0 ∷ 0 ∷ 5000 ∷ 2001 ∷ 0 ∷ 3001 ∷ 0 ∷ 0 ∷ [])
     ++ ((1 ∷ 5000 ∷ 2000 ∷ 0 ∷ 3000 ∷ 0 ∷ 3001 ∷ 0 ∷ 0 ∷ 5000 ∷ 2001 ∷ 0 ∷ 0 ∷ []) ++ replicate 7638 0))))
-unfolding solving answerWords readQuestion lengthFits countsFit laidOut parts reading readHedge readExpr readLiteral readConj kindOf within _>>=_ check step solved runFrom run
+unfolding solving answerWords readQuestion lengthFits countsFit laidOut parts reading readHedge readExpr readLiteral readConj kindOf within _>>=_ check search step solved runFrom run
 P4-whole = refl
 
 -- ---- the limits

@@ -82,7 +82,7 @@ module _ {answer : List ℕ} {ls : List Conj} (a : Answer answer ls) where
   unfolding tail
   row = a .words ∙ ap (λ w. w ++ a .rest) (in-a-row ls (a .few)) ∙ append-assoc (header ls) _ (a .rest) ∙ ap (λ w. header ls ++ w) (append-assoc (replicate (desk .lines - length ls) 0) _ (a .rest))
 
-  pub whole : (desk .room) ≤ length answer
+  pub whole : desk .room ≤ length answer
   whole =
       let e = ap length (a .words) ∙ length-append (answerWords desk ls) (a .rest) in
       let n = length-answer ls (a .few) (a .size) in
@@ -102,7 +102,7 @@ module _ {answer : List ℕ} {ls : List Conj} (a : Answer answer ls) where
       let f = a .few in
       let m = length-append (header ls) (replicate (desk .lines - length ls) 0) in
       let t = length-replicate {A = ℕ} (desk .lines - length ls) 0 in
-      let z : (linesAt desk) + n ≡ length A + n = omega arith in
+      let z : linesAt desk + n ≡ length A + n = omega arith in
       let Z : List ℕ = replicate (desk .room - (linesAt desk + linesSize ls)) 0 in
       let B : List ℕ = (joined (map lineWords ls) ++ Z) ++ a .rest in
       ap (λ w. drop (linesAt desk + n) w) (row ∙ sym (append-assoc (header ls) (replicate (desk .lines - length ls) 0) B))

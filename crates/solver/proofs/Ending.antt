@@ -104,11 +104,11 @@ module _ (ws work answer : List ℕ) where
   pub work-short : (s : Solved) → s ≡ refusedBy ShortSlice → length work < desk .room → (s, work, answer) ≡ leaves (solving desk (length work) (length answer) ws) work answer
   work-short s es h = unread-leaves ShortSlice s es (solves true (ltb (length answer) (desk .room)) (lt-ltb _ _ h) refl)
 
-  module _ (h : (desk .room) ≤ length work) where
+  module _ (h : desk .room ≤ length work) where
     pub answer-short : (s : Solved) → s ≡ refusedBy ShortSlice → length answer < desk .room → (s, work, answer) ≡ leaves (solving desk (length work) (length answer) ws) work answer
     answer-short s es g = unread-leaves ShortSlice s es (solves false true (le-ltb _ _ h) (lt-ltb _ _ g))
 
-    module _ (g : (desk .room) ≤ length answer) where
+    module _ (g : desk .room ≤ length answer) where
       both-long : solving desk (length work) (length answer) ws ≡ solvingOf desk (readQuestion desk ws)
       both-long = solves false false (le-ltb _ _ h) (le-ltb _ _ g)
 

@@ -5,7 +5,6 @@ use native.Mathlib.Decide.{decLe}
 use mathlib.Core.Path.{_≡_, refl, sym, ap, _∙_, subst}
 use mathlib.Core.Bool.{false}
 use mathlib.Core.List.{List, [], _∷_, _++_, map, map-append}
-use mathlib.Core.Option.{none, some}
 use lib.ListN.{length, drop, getD}
 use lib.Seq.{slice, sets, drop-drop, drop-at}
 use borrow.Author.Tests.{lt-ltb, le-ltb}
@@ -15,6 +14,7 @@ use Rattle.language.specs.Limits.{desk}
 use Rattle.language.specs.Trees.{Conj}
 use Rattle.language.specs.Writing.{conjWords}
 use Rattle.language.specs.Fine.{fineConj}
+use Rattle.rules.specs.Reply.{nothing, results}
 use Rattle.rules.specs.Step.{place, step}
 use Rattle.rules.specs.Rules.{Branch}
 use Rattle.rules.specs.Run.{waitingSize, linesFit, refused, runFrom}
@@ -71,10 +71,10 @@ module _ (oldWork oldAnswer : List ℕ) (ls : List Conj) (c : Conj) (w : List Co
   pub end-fits : s .tally .end ≤ desk .room
   end-fits = let a = p .lined .end in let b = p .lined .room in omega arith
 
-  pub work-fits : (desk .room) ≤ length work
+  pub work-fits : desk .room ≤ length work
   work-fits = let a = p .waiting .size in let b = p .room in omega arith
 
-  pub answer-fits : (desk .room) ≤ length answer
+  pub answer-fits : desk .room ≤ length answer
   answer-fits = let a = p .kept in let b = p .space in omega arith
 
   stops : (e : Refusal) → refused e ≡ leftOf s ls (c ∷ w) → Turns oldWork oldAnswer ls (c ∷ w) s (Stop e) work answer
@@ -88,12 +88,12 @@ module _ (oldWork oldAnswer : List ℕ) (ls : List Conj) (c : Conj) (w : List Co
 
     -- ---- no rule applies
 
-    module _ (e : step c ≡ none) where
+    module _ (e : step c ≡ nothing) where
       full : linesFit desk (ls ++ (c ∷ [])) ≡ false → refused LineRoom ≡ leftOf s ls (c ∷ w)
       unfolding leftOf
       full f = sym (run-full desk (s .steps) ls c w (desk .steps - s .steps) e f)
 
-      pub many-lines : (desk .lines) ≤ s .tally .lines → Turns oldWork oldAnswer ls (c ∷ w) s (Stop LineRoom) work answer
+      pub many-lines : desk .lines ≤ s .tally .lines → Turns oldWork oldAnswer ls (c ∷ w) s (Stop LineRoom) work answer
       many-lines h = stops LineRoom (full (lines-many (ls ++ (c ∷ [])) (let a = p .lined .lines in let b = count-more ls c in omega arith)))
 
       pub long-line : s .tally .lines < desk .lines → desk .room < s .tally .end + 1 + length k → Turns oldWork oldAnswer ls (c ∷ w) s (Stop LineRoom) work answer
@@ -121,21 +121,21 @@ module _ (oldWork oldAnswer : List ℕ) (ls : List Conj) (c : Conj) (w : List Co
             space = p .space;
           })
           (sym (run-line desk (s .steps) ls c w (desk .steps - s .steps) e (lines-fit (ls ++ (c ∷ [])) (l .few) (l .room))))
-          (let z = rests .place in let y : (desk .room) - next < desk .room - s .at = omega arith in omega arith)
+          (let z = rests .place in let y : desk .room - next < desk .room - s .at = omega arith in omega arith)
 
     -- ---- a rule applies
 
-    module _ (ks : List Conj) (e : step c ≡ some ks) where
-      pub no-more-steps : (desk .steps) ≤ s .steps → Turns oldWork oldAnswer ls (c ∷ w) s (Stop StepLimit) work answer
+    module _ (ks : List Conj) (e : step c ≡ results ks) where
+      pub no-more-steps : desk .steps ≤ s .steps → Turns oldWork oldAnswer ls (c ∷ w) s (Stop StepLimit) work answer
       unfolding leftOf
       no-more-steps h =
-          let z : (desk .steps) - s .steps ≡ 0 = omega arith in
+          let z : desk .steps - s .steps ≡ 0 = omega arith in
           stops StepLimit (sym (ap (λ d. runFrom desk d (s .steps) ls (c ∷ w)) z ∙ run-limit desk (s .steps) ls c w ks e))
 
       module _ (h : s .steps < desk .steps) where
         one-more : leftOf s ls (c ∷ w) ≡ runFrom desk (suc (desk .steps - (s .steps + 1))) (s .steps) ls (c ∷ w)
         unfolding leftOf
-        one-more = ap (λ d. runFrom desk d (s .steps) ls (c ∷ w)) (let z : (desk .steps) - s .steps ≡ suc (desk .steps - (s .steps + 1)) = omega arith in z)
+        one-more = ap (λ d. runFrom desk d (s .steps) ls (c ∷ w)) (let z : desk .steps - s .steps ≡ suc (desk .steps - (s .steps + 1)) = omega arith in z)
 
         module _ (ws : List (List ℕ)) (ew : ws ≡ map conjWords ks) where
           pub step-long : sized ws ≡ Over → Turns oldWork oldAnswer ls (c ∷ w) s (Stop LongResult) work answer

@@ -52,7 +52,7 @@ module _ (oldWork oldAnswer : List ℕ) (o : Outcome) (s : State) (work answer :
         answer-fits oldWork oldAnswer ls c w s work answer p,
       )
 
-  pub run-over : (desk .room) ≤ s .at → Ends o oldWork oldAnswer (Done (s .steps) (s .tally)) work answer
+  pub run-over : desk .room ≤ s .at → Ends o oldWork oldAnswer (Done (s .steps) (s .tally)) work answer
   unfolding leftOf
   run-over h = go (g .waits) (g .running) (g .same)
     where

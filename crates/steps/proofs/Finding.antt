@@ -52,19 +52,19 @@ module _ (before : Conj) (l r : Hedge) (behind : Conj) where
   one-place true = refl
   one-place false = refl
 
-  lesser-ranked : (t : Bool) → ltb (other .rank) (written .rank) ≡ t → Ranked (before ++ behind) (eqn l r) (pick t other written .rank) (pick t other written .swap)
-  lesser-ranked true e = rank-swapped (before ++ behind) l r _ _ refl refl (ltb-true _ _ e)
-  lesser-ranked false e = rank-written (before ++ behind) l r _ _ refl refl (ltb-false _ _ e)
+  lesser-ranked : (t : Bool) → ltb (other .rank) (written .rank) ≡ t → Ranked before (eqn l r) behind (pick t other written .rank) (pick t other written .swap)
+  lesser-ranked true e = rank-swapped before l r behind _ _ refl refl (ltb-true _ _ e)
+  lesser-ranked false e = rank-written before l r behind _ _ refl refl (ltb-false _ _ e)
 
 best-place : (before : Conj) (l : Literal) (behind : Conj) → bestAt before l behind .at ≡ length (conjWords before)
 unfolding bestAt
 best-place before (eqn l r) behind = one-place before l r behind (ltb (eqnRank (before ++ behind) r l) (eqnRank (before ++ behind) l r))
 best-place before (mem h R) behind = refl
 
-best-ranked : (before : Conj) (l : Literal) (behind : Conj) → Ranked (before ++ behind) l (bestAt before l behind .rank) (bestAt before l behind .swap)
+best-ranked : (before : Conj) (l : Literal) (behind : Conj) → Ranked before l behind (bestAt before l behind .rank) (bestAt before l behind .swap)
 unfolding bestAt
 best-ranked before (eqn l r) behind = lesser-ranked before l r behind _ refl
-best-ranked before (mem h R) behind = rank-member (before ++ behind) h R _ refl
+best-ranked before (mem h R) behind = rank-member before h R behind _ refl
 
 -- the place after it, by the words behind it
 reach : (t : Bool) (n e r at a b : ℕ) → leb n e ≡ t → n ≡ at + (a + b) → 0 < a → n - e ≡ b → (at < e → e ≤ n → r ≡ e) → (n ≤ e → r ≡ n) → r ≡ at + a
@@ -84,7 +84,7 @@ passed-to k at e r before l behind p d f g =
 abbrev Seeks : Conj → Conj → Best → Type 0
 Seeks done rest b = Sought done rest (b .rank) (b .at) (b .swap)
 
-pass-on : (done : Conj) (l : Literal) (rest : Conj) (a b : Best) → b .at ≡ length (conjWords done) → Ranked (done ++ rest) l (b .rank) (b .swap)
+pass-on : (done : Conj) (l : Literal) (rest : Conj) (a b : Best) → b .at ≡ length (conjWords done) → Ranked done l rest (b .rank) (b .swap)
     → Seeks done (l ∷ rest) a → Seeks (done ++ (l ∷ [])) rest (lesserOf a b)
 pass-on done l rest a b p k s = go (ltb (b .rank) (a .rank)) refl
   where
