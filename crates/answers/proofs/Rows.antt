@@ -84,11 +84,11 @@ pub in-a-row : (ls : List Conj) → length ls ≤ desk .lines
 unfolding answerWords
 in-a-row ls few =
     let h = length-header ls in
-    let z₁ : (linesAt desk) - length (header ls) ≡ desk .lines - length ls = omega arith in
+    let z₁ : linesAt desk - length (header ls) ≡ desk .lines - length ls = omega arith in
     let first : List ℕ = header ls ++ replicate (linesAt desk - length (header ls)) 0 in
     let l₁ : length first ≡ length (header ls) + (linesAt desk - length (header ls)) = length-append (header ls) (replicate (linesAt desk - length (header ls)) 0) ∙ ap (λ n. length (header ls) + n) (length-replicate (linesAt desk - length (header ls)) 0) in
     let l₂ : length (first ++ joined (map lineWords ls)) ≡ length first + linesSize ls = length-append first (joined (map lineWords ls)) ∙ ap (λ n. length first + n) (length-lines ls) in
-    let z₂ : (desk .room) - length (first ++ joined (map lineWords ls)) ≡ desk .room - (linesAt desk + linesSize ls) = omega arith in
+    let z₂ : desk .room - length (first ++ joined (map lineWords ls)) ≡ desk .room - (linesAt desk + linesSize ls) = omega arith in
     ap (λ n. (first ++ joined (map lineWords ls)) ++ replicate n 0) z₂
     ∙ append-assoc first (joined (map lineWords ls)) (replicate (desk .room - (linesAt desk + linesSize ls)) 0)
     ∙ append-assoc (header ls) (replicate (linesAt desk - length (header ls)) 0) _

@@ -18,7 +18,7 @@ pub record Lined (old : List ℕ) (ls : List Conj) (t : Tally) (new : List ℕ) 
   pub «open» : t .«open» ≡ countOpen ls
   pub end : t .end ≡ linesAt desk + linesSize ls
   pub few : length ls ≤ desk .lines
-  pub room : (linesAt desk) + linesSize ls ≤ desk .room
+  pub room : linesAt desk + linesSize ls ≤ desk .room
   pub words : new ≡ answerWords desk ls ++ drop (desk .room) old
 
 -- the count, one line more, whose words are k

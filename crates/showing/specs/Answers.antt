@@ -29,7 +29,7 @@ pub record Good (l : Conj) : Type 0 where
 -- the answer that has the lines ls stands at the front
 pub record Answer (answer : List ℕ) (ls : List Conj) : Type 0 where
   pub few : length ls ≤ desk .lines
-  pub size : (linesAt desk) + linesSize ls ≤ desk .room
+  pub size : linesAt desk + linesSize ls ≤ desk .room
   pub rest : List ℕ
   pub words : answer ≡ answerWords desk ls ++ rest
   pub lines : Each Good ls

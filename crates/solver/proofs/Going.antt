@@ -40,7 +40,7 @@ use Rattle.solver.proofs.Lengths.{waiting-append, short-words, lines-fi
 
 pub waiting-kept : (old : List ℕ) (at : ℕ) (bs : List (List ℕ)) (new : List ℕ) → Waiting old at bs new → Kept old new
 waiting-kept old at bs new p =
-    ap (λ n. drop n new) (let z = p .place in let y : (desk .room) ≡ at + length (framed bs) = omega arith in y)
+    ap (λ n. drop n new) (let z = p .place in let y : desk .room ≡ at + length (framed bs) = omega arith in y)
     ∙ sym (drop-drop (length (framed bs)) at new) ∙ ap (drop (length (framed bs))) (p .words) ∙ drop-at (framed bs) (drop (desk .room) old) (length (framed bs)) refl
 
 pub lined-kept : (old : List ℕ) (ls : List Conj) (t : Tally) (new : List ℕ) → Lined old ls t new → Kept old new

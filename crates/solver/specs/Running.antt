@@ -27,9 +27,9 @@ pub record Running (oldWork oldAnswer : List ℕ) (ls w : List Conj) (s : State)
   pub fine : Each (fineConj desk) w
   pub short : Each (λ k. size k ≤ desk .question) w
   pub made : s .steps ≤ desk .steps
-  pub room : (desk .room) ≤ length oldWork
+  pub room : desk .room ≤ length oldWork
   pub kept : length answer ≡ length oldAnswer
-  pub space : (desk .room) ≤ length oldAnswer
+  pub space : desk .room ≤ length oldAnswer
 
 -- what the rest of the run comes to
 unfoldable pub leftOf : State → List Conj → List Conj → Outcome
