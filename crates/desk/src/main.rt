@@ -17,6 +17,9 @@ use arguments::warn_of;
 use arguments::wrong_use;
 use files::load;
 use language::Refusal;
+use language::limits::FILLING;
+use language::limits::QUESTION;
+use language::limits::ROOM;
 use print::number;
 use print::say;
 use print::warn;
@@ -61,8 +64,8 @@ fn answered(verdict: &[u8], s: Solved, answer: &[u16]) {
 }
 
 fn solve(question: &[u16]) -> u8 {
-    let mut work = [0u16; 8192];
-    let mut answer = [0u16; 8192];
+    let mut work = [0u16; ROOM];
+    let mut answer = [0u16; ROOM];
     let s = solver::solve(question, &mut work, &mut answer);
     let outcome = s.outcome;
     match outcome {
@@ -101,13 +104,13 @@ fn tell(t: Tried) -> u8 {
 }
 
 fn attempt<'a>(question: &'a [u16], values: &'a [u16]) -> u8 {
-    let mut work = [0u16; 8192];
+    let mut work = [0u16; ROOM];
     tell(trying::try_filling(question, values, &mut work))
 }
 
 // Whether the filling that argument `i` names meets the question.
 fn try_file(question: &[u16], i: usize) -> u8 {
-    let mut values = [0u16; 8192];
+    let mut values = [0u16; 2 * FILLING];
     let t = load(i, &mut values);
     if t.line != 0 {
         return FAILED;
@@ -124,9 +127,9 @@ fn show_words(question: &[u16], room: &[u16], n: usize) {
 }
 
 fn show(question: &[u16], line: usize) -> u8 {
-    let mut work = [0u16; 8192];
-    let mut answer = [0u16; 8192];
-    let mut room = [0u16; 4096];
+    let mut work = [0u16; ROOM];
+    let mut answer = [0u16; ROOM];
+    let mut room = [0u16; FILLING];
     let shown = showing::example(question, line, &mut work, &mut answer, &mut room);
     match shown {
         Shown::Shows(n) => {
@@ -163,7 +166,7 @@ enum Command {
 fn with_question(command: Command, i: usize) -> u8
     requires { ⌜ i < 10 ⌝ }
 {
-    let mut words = [0u16; 2048];
+    let mut words = [0u16; 2 * QUESTION];
     let t = load(i, &mut words);
     if t.line != 0 {
         return FAILED;

@@ -7,6 +7,7 @@ use mathlib.Core.List.{List, _++_}
 use borrow.Author.Tests.{eq-eqb, ne-eqb}
 use lib.ListN.{take, drop}
 use lib.Seq.{slice}
+use Rattle.language.specs.Limits.{desk}
 use Rattle.language.specs.declared.HedgeVar.{HedgeVar}
 use Rattle.language.specs.Kinds.{pick}
 use Rattle.language.specs.Trees.{Hedge, ε, tvar, hvar, node, Conj, eqH, sameWords, hv, holds, inConj}
@@ -27,12 +28,12 @@ use Rattle.equations.specs.Ranked.{Begins}
 use Rattle.equations.proofs.Looked.{at-empty, at-term, at-run, at-node}
 
 -- a hedge variable stands elsewhere
-pub run-elsewhere : {k : List ℕ} {v : View} {before : Conj} {l r : Hedge} {behind : Conj} → Sees k v before l r behind → (q : HedgeVar) → q .0 < 32 → {p : ℕ} → p ≡ 2000 + q .0
+pub run-elsewhere : {k : List ℕ} {v : View} {before : Conj} {l r : Hedge} {behind : Conj} → Sees k v before l r behind → (q : HedgeVar) → q .0 < desk .each → {p : ℕ} → p ≡ 2000 + q .0
     → (member p (take (v .at) k) || member p (drop (v .end) k)) ≡ inConj (hv q) (before ++ behind)
 run-elsewhere {k} {v} w q b {p} e = ap (λ z. member z (take (v .at) k) || member z (drop (v .end) k)) e ∙ elsewhere-sees (hv q) b w
 
 -- and in a side
-pub run-held : {k : List ℕ} {s : Side} {h : Hedge} → Sided k s h → (q : HedgeVar) → q .0 < 32 → {p : ℕ} → p ≡ 2000 + q .0 → member p (slice (s .from) (s .to) k) ≡ holds (hv q) h
+pub run-held : {k : List ℕ} {s : Side} {h : Hedge} → Sided k s h → (q : HedgeVar) → q .0 < desk .each → {p : ℕ} → p ≡ 2000 + q .0 → member p (slice (s .from) (s .to) k) ≡ holds (hv q) h
 run-held {k} {s} {h} v q b {p} e = ap (λ z. member z (slice (s .from) (s .to) k)) e ∙ ap (member (2000 + q .0)) (side-whole v) ∙ member-hedge (hv q) b h (v .fine)
 
 -- ---- the right side is one hedge variable

@@ -31,7 +31,7 @@ not-false {b = true} e = refl
 not-false {b = false} e = sym e
 
 -- a function variable stands elsewhere
-pub blank-elsewhere : {k : List ℕ} {v : View} {before : Conj} {l r : Hedge} {behind : Conj} → Sees k v before l r behind → (X : FunVar) → X .0 < 32 → {f : ℕ} → f ≡ 4000 + X .0
+pub blank-elsewhere : {k : List ℕ} {v : View} {before : Conj} {l r : Hedge} {behind : Conj} → Sees k v before l r behind → (X : FunVar) → X .0 < desk .each → {f : ℕ} → f ≡ 4000 + X .0
     → (member f (take (v .at) k) || member f (drop (v .end) k)) ≡ inConj (fv X) (before ++ behind)
 blank-elsewhere {k} {v} w X b {f} e = ap (λ x. member x (take (v .at) k) || member x (drop (v .end) k)) e ∙ elsewhere-sees (fv X) b w
 
@@ -45,7 +45,7 @@ symbol-elsewhere K X (symbol h) g e d n = rw e
 symbol-elsewhere K X (fvar Y) g e d n = absurd (omega arith)
 
 pub blank-too : (K : Conj) (X : FunVar) (G : Functor) (g : ℕ) (b : Bool) → inConj (fv X) K ≡ true → g ≡ functorWord G → fineFunctor desk G → 4000 ≤ g
-    → ((Y : FunVar) → Y .0 < 32 → g ≡ 4000 + Y .0 → b ≡ inConj (fv Y) K) → b ≡ blanksIn (fvar X) G K
+    → ((Y : FunVar) → Y .0 < desk .each → g ≡ 4000 + Y .0 → b ≡ inConj (fv Y) K) → b ≡ blanksIn (fvar X) G K
 blank-too K X (symbol h) g b e d fine n i = absurd (omega arith)
 blank-too K X (fvar Y) g b e d fine n i = rw e (i Y fine d)
 
@@ -82,7 +82,7 @@ module _ (K : Conj) (c d : Hedge) (f g : ℕ) where
   and-true false = refl
 
   pub blank-bare : (F G : Functor) → f ≡ functorWord F → fineFunctor desk F → g ≡ functorWord G → 4000 ≤ f → (f ≡ g → ⊥) → (empty c && empty d) ≡ true
-      → (t : Bool) → ((X : FunVar) → f ≡ 4000 + X .0 → X .0 < 32 → t ≡ blanksIn (fvar X) G K) → pick t atE5 noRule ≡ functors K F c G d
+      → (t : Bool) → ((X : FunVar) → f ≡ 4000 + X .0 → X .0 < desk .each → t ≡ blanksIn (fvar X) G K) → pick t atE5 noRule ≡ functors K F c G d
   blank-bare (symbol a) G p x q m e b t i = absurd (omega arith)
   blank-bare (fvar X) (symbol h) p x q m e b t i = rw (b, i X p x, and-true (inConj (fv X) K))
   blank-bare (fvar X) (fvar Y) p x q m e b t i = let z : eqX X Y ≡ false = ne-eqb (X .0) (Y .0) (λ y. e (omega arith)) in rw (z, b, i X p x)

@@ -6,6 +6,7 @@ use mathlib.Core.Bool.{Bool, true, false, not, _&&_, _||_}
 use mathlib.Core.List.{List, _++_}
 use borrow.Author.Tests.{eq-eqb, ne-eqb}
 use lib.ListN.{take, drop}
+use Rattle.language.specs.Limits.{desk}
 use Rattle.language.specs.declared.TermVar.{TermVar}
 use Rattle.language.specs.Kinds.{pick}
 use Rattle.language.specs.Trees.{Functor, Hedge, ε, tvar, node, Conj, eqT, sameWords, tv, inConj}
@@ -28,7 +29,7 @@ pub guard-off : {a : Bool} (u : Bool) → a ≡ false → false ≡ (a && u)
 guard-off u e = sym (ap (λ z. z && u) e)
 
 -- a term variable stands elsewhere
-pub term-elsewhere : {k : List ℕ} {v : View} {before : Conj} {l r : Hedge} {behind : Conj} → Sees k v before l r behind → (y : TermVar) → y .0 < 32 → {x : ℕ} → x ≡ 1000 + y .0
+pub term-elsewhere : {k : List ℕ} {v : View} {before : Conj} {l r : Hedge} {behind : Conj} → Sees k v before l r behind → (y : TermVar) → y .0 < desk .each → {x : ℕ} → x ≡ 1000 + y .0
     → (member x (take (v .at) k) || member x (drop (v .end) k)) ≡ inConj (tv y) (before ++ behind)
 term-elsewhere {k} {v} w y b {x} e = ap (λ z. member z (take (v .at) k) || member z (drop (v .end) k)) e ∙ elsewhere-sees (tv y) b w
 

@@ -24,7 +24,7 @@ use rules::places::{AT_R1, AT_F3, AT_D2, AT_D0, AT_E5, AT_E6, NO_RULE};
 
 // X() = F(): X in the others, and F too where it is a variable.
 fn both_elsewhere(k: &[u16], v: View, f: u16, g: u16) -> bool
-    ensures { λ b. ⌜ ((before behind : Conj) (l r : Hedge) (X : FunVar) (G : Functor) → Sees (now (k .entry)) v before l r behind → f ≡ 4000 + X .0 → X .0 < 32 → g ≡ functorWord G → fineFunctor desk G → b ≡ blanksIn (fvar X) G (before ++ behind)) ⌝ }
+    ensures { λ b. ⌜ ((before behind : Conj) (l r : Hedge) (X : FunVar) (G : Functor) → Sees (now (k .entry)) v before l r behind → f ≡ 4000 + X .0 → X .0 < desk .each → g ≡ functorWord G → fineFunctor desk G → b ≡ blanksIn (fvar X) G (before ++ behind)) ⌝ }
 {
     if !elsewhere(k, v.at, v.end, f) {
         return false;

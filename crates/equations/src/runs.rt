@@ -3,6 +3,7 @@ ghost use Prim.Native.Nat.{ℕ, _+_, _<_};
 ghost use mathlib.Core.Path.{_≡_};
 ghost use mathlib.Core.Bool.{Bool, not, _&&_};
 ghost use mathlib.Core.List.{List, _++_};
+ghost use Rattle.language.specs.Limits.{desk};
 ghost use Rattle.language.specs.declared.HedgeVar.{HedgeVar};
 ghost use Rattle.language.specs.Trees.{Hedge, hvar, Conj, hv, holds};
 ghost use Rattle.rules.specs.Looks.{empty, allTerms, loneH};
@@ -69,7 +70,7 @@ fn rank_lonely(k: &[u16], v: View, p: u16) -> usize
 
 // Whether terms alone stand there, and p in none of them.
 fn free_terms(k: &[u16], v: View, p: u16) -> bool
-    ensures { λ b. ⌜ ((before behind : Conj) (q : HedgeVar) (l r : Hedge) → Sees (now (k .entry)) v before l r behind → q .0 < 32 → p ≡ 2000 + q .0 → b ≡ (allTerms r && not (holds (hv q) r))) ⌝ }
+    ensures { λ b. ⌜ ((before behind : Conj) (q : HedgeVar) (l r : Hedge) → Sees (now (k .entry)) v before l r behind → q .0 < desk .each → p ≡ 2000 + q .0 → b ≡ (allTerms r && not (holds (hv q) r))) ⌝ }
 {
     let r = v.r;
     let terms = all_terms(k, r.from);

@@ -3,6 +3,7 @@ ghost use Prim.Native.Nat.{ℕ, _+_, _<_};
 ghost use mathlib.Core.Path.{_≡_};
 ghost use mathlib.Core.Bool.{Bool, not, _&&_};
 ghost use mathlib.Core.List.{List, _++_};
+ghost use Rattle.language.specs.Limits.{desk};
 ghost use Rattle.language.specs.declared.TermVar.{TermVar};
 ghost use Rattle.language.specs.Kinds.{pick};
 ghost use Rattle.language.specs.Trees.{Functor, Hedge, ε, tvar, node, Conj, eqT, tv, inConj};
@@ -44,7 +45,7 @@ pub fn rank_empty(k: &[u16], v: View) -> usize
 
 // F1: a lone x against a hedge with x below its top.
 fn hidden(k: &[u16], lone: bool, at: usize, x: u16) -> bool
-    ensures { λ b. ⌜ ((y : TermVar) (h : Hedge) (beyond : List ℕ) → y .0 < 32 → x ≡ 1000 + y .0 → Stands (now (k .entry)) at h beyond → b ≡ (lone && below (tv y) h)) ⌝ }
+    ensures { λ b. ⌜ ((y : TermVar) (h : Hedge) (beyond : List ℕ) → y .0 < desk .each → x ≡ 1000 + y .0 → Stands (now (k .entry)) at h beyond → b ≡ (lone && below (tv y) h)) ⌝ }
 {
     if lone {
         return under(k, at, x);
@@ -54,7 +55,7 @@ fn hidden(k: &[u16], lone: bool, at: usize, x: u16) -> bool
 
 // E1: two lone variables.
 fn rank_variables(k: &[u16], v: View, x: u16, z: u16) -> usize
-    ensures { λ n. ⌜ ((before behind : Conj) (l r : Hedge) (y w : TermVar) → Sees (now (k .entry)) v before l r behind → y .0 < 32 → w .0 < 32 → x ≡ 1000 + y .0 → z ≡ 1000 + w .0 → n ≡ pick (not (eqT y w) && (inConj (tv y) (before ++ behind) && inConj (tv w) (before ++ behind))) atE1 noRule) ⌝ }
+    ensures { λ n. ⌜ ((before behind : Conj) (l r : Hedge) (y w : TermVar) → Sees (now (k .entry)) v before l r behind → y .0 < desk .each → w .0 < desk .each → x ≡ 1000 + y .0 → z ≡ 1000 + w .0 → n ≡ pick (not (eqT y w) && (inConj (tv y) (before ++ behind) && inConj (tv w) (before ++ behind))) atE1 noRule) ⌝ }
 {
     if x == z {
         return NO_RULE;

@@ -6,6 +6,7 @@ use mathlib.Core.Bool.{Bool, true, false}
 use mathlib.Core.List.{List, _++_, map}
 use mathlib.Core.Option.{none, some}
 use lib.ListN.{length}
+use Rattle.language.specs.Limits.{desk}
 use Rattle.language.specs.Trees.{Hedge, ε, tvar, hvar, node, Expr, Literal, eqn, mem, Conj}
 use Rattle.rules.specs.Looks.{firstTerm}
 use Rattle.rules.specs.Expressions.{linear}
@@ -35,7 +36,7 @@ module _ (ws : List (List ℕ)) (old : List ℕ) (next : ℕ) (s : Size) (es : s
     took-room h = room n refl (sym es ∙ e) h refl
 
     module _ (h : n ≤ next) where
-      pub took-ready : next ≤ 8192 → next ≤ length old → Ready ws old (next - n)
+      pub took-ready : next ≤ desk .room → next ≤ length old → Ready ws old (next - n)
       took-ready small fits = fits-ready ws n (sym es ∙ e) (omega arith) old (next - n) (omega arith)
 
       pub took-done : (new : List ℕ) (end : ℕ) → Wrote old (next - n) (framed ws) new end → Took ws old next (Done (next - n)) new

@@ -147,7 +147,7 @@ fn plan_at(k: &[u16], b: Best) -> Plan
 
 // The results of a plan, right before `next`.
 fn step_planned(k: &[u16], plan: Plan, out: &mut [u16], next: usize) -> Stepped
-    requires { ⌜ (length (now k) ≤ 1024) × (next ≤ length (now out)) × (next ≤ 8192) ⌝ }
+    requires { ⌜ (length (now k) ≤ desk .question) × (next ≤ length (now out)) × (next ≤ desk .room) ⌝ }
     ensures { λ r. ⌜ Took (resultsOf (now (k .entry)) plan) (now (out .entry)) next r (now (out .exit)) ⌝ }
 {
     match size_results(k, plan) {
@@ -165,7 +165,7 @@ fn step_planned(k: &[u16], plan: Plan, out: &mut [u16], next: usize) -> Stepped
 
 // The results of M2 at the membership at a place, right before `next`.
 fn step_monomials(k: &[u16], literal: usize, out: &mut [u16], next: usize) -> Stepped
-    requires { ⌜ (length (now k) ≤ 1024) × (literal < length (now k)) × (next ≤ length (now out)) × (next ≤ 8192) ⌝ }
+    requires { ⌜ (length (now k) ≤ desk .question) × (literal < length (now k)) × (next ≤ length (now out)) × (next ≤ desk .room) ⌝ }
     ensures { λ r. ⌜ ((before : Conj) (h : Hedge) (R : Expr) (behind : Conj) → LiteralAt (now (k .entry)) literal before (mem h R) behind → Took (monomialWords before h R behind) (now (out .entry)) next r (now (out .exit))) ⌝ }
 {
     let s = show_membership(k, literal);
@@ -184,7 +184,7 @@ fn step_monomials(k: &[u16], literal: usize, out: &mut [u16], next: usize) -> St
 
 // A step of the conjunction k: the results of the rule of that rank at that literal, right before `next`.
 pub fn take_step(k: &[u16], b: Best, out: &mut [u16], next: usize) -> Stepped
-    requires { ⌜ (length (now k) ≤ 1024) × (b .at < length (now k)) × (next ≤ length (now out)) × (next ≤ 8192) ⌝ }
+    requires { ⌜ (length (now k) ≤ desk .question) × (b .at < length (now k)) × (next ≤ length (now out)) × (next ≤ desk .room) ⌝ }
     ensures { λ r. ⌜ ((before : Conj) (l : Literal) (behind : Conj) (bs : List Branch) → LiteralAt (now (k .entry)) (b .at) before l behind → sideAnswer (b .swap) (b .rank) (before ++ behind) l ≡ some bs → Took (placedWords before behind bs) (now (out .entry)) next r (now (out .exit))) ⌝ }
 {
     if b.rank == AT_M2 {
