@@ -7,13 +7,13 @@ use native.Mathlib.Omega.{arith}
 use Rattle.rules.specs.Looks.{loneNode, asSymbol, asOver}
 use Rattle.rules.specs.Rules.{R2, F5, F6, F7, M1, M3, M4, M5, M6, M7, M10, M11, Rule, onEqn, onMem, onPair, rules}
 use Rattle.rules.specs.Places.{atR2, atM1, atM2, atM3, atM4, atM5, atM6, atM7, atM10, atM11}
+use Rattle.rules.proofs.Answers.{look, test, answers}
 use Rattle.plans.specs.declared.Ways.the-variants.{Monomials}
 use Rattle.plans.specs.declared.Plan.{Plan}
 use Rattle.plans.specs.declared.Shape.{Shape}
 use Rattle.plans.specs.Results.{resultsOf}
 use Rattle.plans.specs.Ranks.{atMem, answerAt, memAnswer}
 use Rattle.plans.proofs.Ranking.{_▸_, Apart, not-tabled}
-use Rattle.exact.proofs.Answers.{look, test, answers}
 use Rattle.equations.proofs.Plain.{planned}
 use Rattle.equations.proofs.Cutting.{it-found}
 use Rattle.equations.proofs.Dispatch.{nothing-left, not-there}

@@ -10,7 +10,7 @@ use Rattle.language.specs.Trees.{Literal, eqn, mem, Conj}
 use Rattle.language.specs.Writing.{conjWords}
 use Rattle.rules.specs.Reply.{Reply, nothing, results, stops}
 use Rattle.rules.specs.Rules.{Branch, Answer, Rule, rules}
-use Rattle.rules.specs.Step.{orNext, each, place, placed, resultsAt, Spot, search}
+use Rattle.rules.specs.Step.{orNext, each, place, placed, resultsAt, search}
 use Rattle.rules.specs.Places.{noRule}
 use Rattle.plans.specs.Ranks.{eqnAnswer, memAnswer}
 

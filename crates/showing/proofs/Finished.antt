@@ -19,8 +19,8 @@ use Rattle.rules.specs.Reply.{Reply, nothing, results, stops}
 use Rattle.rules.specs.Step.{step}
 use Rattle.rules.specs.Run.{anyLong, waitingSize, linesSize, linesFit, Outcome, finished, refused, lined, turn, runFrom, run, linesAt}
 use Rattle.rules.specs.Answer.{solving, answered}
-use Rattle.exact.specs.Each.{Each}
-use Rattle.exact.proofs.Run.{answered-run}
+use Rattle.rules.specs.Each.{Each}
+use Rattle.rules.proofs.Invariant.{answered-run}
 use Rattle.exact.proofs.Exact.{lines-settled, answer-declared}
 use Rattle.showing.specs.Answers.{Good, Ranged}
 use Rattle.showing.proofs.Settling.{settled-line}

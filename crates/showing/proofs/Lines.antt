@@ -13,7 +13,7 @@ use Rattle.meaning.specs.Values.{offsetsOf, joined}
 use Rattle.rules.specs.Run.{linesSize, linesAt}
 use Rattle.rules.specs.Answer.{lineWords, answerWords}
 use Rattle.rules.specs.Calls.{lineAt}
-use Rattle.exact.specs.Each.{Each}
+use Rattle.rules.specs.Each.{Each}
 use Rattle.answers.proofs.Rows.{header, in-a-row, length-header, length-lines, length-answer}
 use Rattle.words.proofs.Parts.{drop-of, part-of, word-of}
 use Rattle.showing.specs.Answers.{Good, Answer}

@@ -15,8 +15,6 @@ use Rattle.language.specs.Question.{offsets, partsFrom, parts, laidOut, lengthF
 use Rattle.language.proofs.Bools.{both-true}
 use Rattle.language.proofs.Alternatives.{fineAll, read-all}
 use Rattle.language.proofs.Asking.{Passed, passed}
-use Rattle.rules.specs.Run.{size, run}
-use Rattle.exact.specs.Each.{Each}
 use Rattle.stack.specs.Waiting.{Laid}
 use Rattle.stack.proofs.Blocks.{laid-wait}
 use Rattle.answers.specs.declared.Tally.{Tally}
@@ -24,6 +22,8 @@ use Rattle.answers.specs.Lined.{Lined}
 use Rattle.reader.proofs.Answers.{question-asked}
 use Rattle.reader.specs.Checking.{checked}
 use Rattle.reader.specs.declared.Checked.the-variants.{Fine}
+use Rattle.rules.specs.Run.{size, run}
+use Rattle.rules.specs.Each.{Each}
 use Rattle.solver.specs.Running.{Running, leftOf, conjunctionsOf}
 
 -- no part is longer than the whole

@@ -11,8 +11,8 @@ use Rattle.language.specs.Limits.{desk}
 use Rattle.language.specs.Trees.{Conj}
 use Rattle.language.specs.Writing.{conjWords}
 use Rattle.rules.specs.Run.{size, waitingSize, linesSize, linesFit, linesAt}
+use Rattle.rules.specs.Each.{Each}
 use Rattle.plans.specs.Sizes.{Short}
-use Rattle.exact.specs.Each.{Each}
 
 pub waiting-append : (ks w : List Conj) → waitingSize (ks ++ w) ≡ waitingSize ks + waitingSize w
 waiting-append [] w = let z : waitingSize w ≡ 0 + waitingSize w = omega arith in z

@@ -12,13 +12,12 @@ use Rattle.rules.specs.Looks.{firstTerm}
 use Rattle.rules.specs.Expressions.{linear}
 use Rattle.rules.specs.Rules.{Branch, monomialResult, M2}
 use Rattle.rules.specs.Places.{atM2}
+use Rattle.rules.proofs.Answers.{where-some, Where, Answers, look, test, answers}
 use Rattle.plans.specs.Looks.{head, tail}
 use Rattle.plans.specs.Ranks.{eqnAnswer, memAnswer}
 use Rattle.plans.specs.Sizes.{framed, sized, placedWords, monomialWords}
 use Rattle.plans.specs.declared.Size.{Size}
 use Rattle.plans.specs.declared.Size.the-variants.{Fits, Over}
-use Rattle.exact.proofs.Answers.{Where, Answers, look, test, answers}
-use Rattle.exact.proofs.Steps.{where-some}
 use Rattle.pieces.specs.Written.{Wrote, Ready}
 use Rattle.pieces.proofs.Sizing.{fits-ready}
 use Rattle.views.specs.Standing.{LiteralAt}

@@ -3,18 +3,15 @@ use Prim.Native.Nat.{ℕ, zero, suc, _+_}
 use mathlib.Core.Path.{_≡_, refl, ap, _∙_}
 use mathlib.Core.Bool.{Bool, true, false}
 use mathlib.Core.List.{List, [], _∷_, _++_, map, append-assoc, append-nil}
-use mathlib.Core.Option.{Option, none, some}
 use native.Mathlib.Nat.{zero-add, add-zero, add-suc, suc-add}
 use native.Mathlib.Omega.{arith}
-use Rattle.language.specs.declared.Refusal.{Refusal}
 use Rattle.language.specs.Trees.{Literal, eqn, mem, Conj}
 use Rattle.rules.specs.Reply.{Reply, nothing, results, stops}
 use Rattle.rules.specs.Rules.{Rule, onEqn, onMem, onPair, rules}
-use Rattle.rules.specs.Step.{orElse, orNext, each, placed, resultsAt, Spot, literalAt, ruleAt, stepAt, Found, found, earliest, first, search, step}
-use Rattle.exact.specs.Each.{Each}
-use Rattle.exact.specs.Places.{AtSides, Idle}
-use Rattle.exact.proofs.Each.{each-map}
-use Rattle.exact.proofs.Answers.{Where}
+use Rattle.rules.specs.Step.{orNext, each, placed, resultsAt, Spot, literalAt, ruleAt, stepAt, Found, found, earliest, first, search, step}
+use Rattle.rules.specs.Each.{Each}
+use Rattle.rules.specs.Sides.{AtSides, Idle}
+use Rattle.rules.proofs.Each.{each-map}
 
 -- ---- what rules come to
 
@@ -56,14 +53,6 @@ pub each-nothing : {A B : Type 0} (f : A → B) (m : Reply A) → each f m ≡ n
 each-nothing f nothing e = refl
 each-nothing f (results a) e = let z : _≡_ {A = ℕ} 0 1 = cc in absurd (omega arith)
 each-nothing f (stops r) e = let z : _≡_ {A = ℕ} 0 1 = cc in absurd (omega arith)
-
--- the first of two, or else the second
-pub orElse-is : {A : Type 0} (P : A → Type 0) (m : Option A) (k : Unit {0} → Option A) → Where P m → Where P (k tt) → Where P (orElse m k)
-orElse-is P none k p q = q
-orElse-is P (some a) k p q = p
-
-pub where-some : {A : Type 0} (P : A → Type 0) (m : Option A) (a : A) → Where P m → m ≡ some a → P a
-where-some P m a p e = rw e at p
 
 -- ---- a rule at a place, of whichever kind it is and whichever side it sees
 

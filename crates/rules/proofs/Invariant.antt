@@ -4,16 +4,19 @@ use Prim.Native.Nat.{ℕ, zero, suc}
 use mathlib.Core.Path.{_≡_, refl}
 use mathlib.Core.Bool.{Bool, true, false}
 use mathlib.Core.List.{List, [], _∷_, _++_}
+use native.Mathlib.Omega.{arith}
 use lib.Dec.{ltb}
 use Rattle.language.specs.declared.Refusal.{Refusal}
-use Rattle.language.specs.declared.Refusal.the-variants.{LongResult, LongWaiting, LineRoom, StepLimit}
+use Rattle.language.specs.declared.Refusal.the-variants.{ShortSlice, LongResult, LongWaiting, LineRoom, StepLimit}
 use Rattle.language.specs.Limits.{Limits}
-use Rattle.language.specs.Trees.{Conj}
+use Rattle.language.specs.Trees.{Conj, Question}
+use Rattle.language.specs.Question.{Asked, asks, refuses, readQuestion}
 use Rattle.rules.specs.Reply.{Reply, nothing, results, stops}
 use Rattle.rules.specs.Step.{step}
 use Rattle.rules.specs.Run.{anyLong, waitingSize, linesFit, Outcome, finished, refused, lined, turn, runFrom, run}
-use Rattle.exact.specs.Each.{Each}
-use Rattle.exact.proofs.Each.{each-++}
+use Rattle.rules.specs.Answer.{answered, unread, ran, solvingOf, solving}
+use Rattle.rules.specs.Each.{Each}
+use Rattle.rules.proofs.Each.{each-++}
 
 -- `I ls w`: lines ls are there, and w waits
 module _ (I : List Conj → List Conj → Type 0) where
@@ -71,3 +74,27 @@ pub lines-rest : (L : Limits) (w ls : List Conj) (n : ℕ) → run L w ≡ finis
 lines-rest L w ls n e =
     along (λ ms v. Each (λ k. step k ≡ nothing) ms) (λ ms k v ks q d. q)
     (λ ms k v q d. each-++ (λ k. step k ≡ nothing) ms (k ∷ []) q (d, tt)) L w ls n e tt
+
+-- ---- the question
+
+ran-finished : (o : Outcome) (ls : List Conj) (n : ℕ) → ran o ≡ answered ls n → o ≡ finished ls n
+ran-finished (finished ms m) ls n e = cc
+ran-finished (refused r) ls n e = let z : _≡_ {A = ℕ} 0 1 = cc in absurd (omega arith)
+
+of-asked : (L : Limits) (a : Asked) (ls : List Conj) (n : ℕ) → solvingOf L a ≡ answered ls n
+    → (q : Question) × (a ≡ asks q) × (run L (q .alternatives) ≡ finished ls n)
+of-asked L (asks q) ls n e = (q, refl, ran-finished (run L (q .alternatives)) ls n e)
+of-asked L (refuses r) ls n e = let z : _≡_ {A = ℕ} 0 1 = cc in absurd (omega arith)
+
+-- an answer is of a question that was read, and of its run
+pub answered-run : (L : Limits) (work answer : ℕ) (ws : List ℕ) (ls : List Conj) (n : ℕ) → solving L work answer ws ≡ answered ls n
+    → (q : Question) × (readQuestion L ws ≡ asks q) × (run L (q .alternatives) ≡ finished ls n)
+unfolding solving
+answered-run L work answer ws ls n e = long (ltb work (L .room)) (ltb answer (L .room)) e
+  where
+    long : (a b : Bool)
+        → elim a [ true ↦ unread ShortSlice | false ↦ elim b [ true ↦ unread ShortSlice | false ↦ solvingOf L (readQuestion L ws) ] ] ≡ answered ls n
+        → (q : Question) × (readQuestion L ws ≡ asks q) × (run L (q .alternatives) ≡ finished ls n)
+    long true b e = let z : _≡_ {A = ℕ} 0 1 = cc in absurd (omega arith)
+    long false true e = let z : _≡_ {A = ℕ} 0 1 = cc in absurd (omega arith)
+    long false false e = of-asked L (readQuestion L ws) ls n e
