@@ -1,5 +1,6 @@
 // A filling in words: how each word of the question is shown under it, and what the words of a hedge become.
 use language::Kind;
+use language::classify;
 use language::Refusal;
 use language::limits::FILLING;
 use reader::Checked;
@@ -52,7 +53,7 @@ fn term_end(words: &[u16], at: usize) -> usize
     let mut depth: usize = 1;
     let mut i = at + 1;
     while i < words.len() {
-        match reader::classify(words[i]) {
+        match classify(words[i]) {
             Kind::End => {
                 i += 1;
                 if depth == 1 {
@@ -83,7 +84,7 @@ fn lookup<'a>(
     ensures { λ r. ⌜ now r ≡ shown terms hedges (now (filling .entry)) (drop at (now (question .entry))) ⌝ }
 {
     let word = question[at];
-    match reader::classify(word) {
+    match classify(word) {
         Kind::Term(x) => {
             let i = wide(x.0);
             body(filling, i)
@@ -111,7 +112,7 @@ fn lookup<'a>(
 fn step(word: u16, shown: usize) -> usize
     ensures { λ r. ⌜ r ≡ stepOn shown (kindOf desk word) ⌝ }
 {
-    match reader::classify(word) {
+    match classify(word) {
         Kind::Symbol(_) => shown,
         _ => 1,
     }
@@ -178,7 +179,7 @@ pub fn fill_in<'a>(
 fn is_plain_word(word: u16, symbols: u16) -> bool
     ensures { λ r. ⌜ r ≡ plainOn symbols (kindOf desk word) ⌝ }
 {
-    match reader::classify(word) {
+    match classify(word) {
         Kind::End => true,
         Kind::Symbol(f) => f.0 < symbols,
         _ => false,

@@ -2,10 +2,13 @@
 use Prim.Native.Nat.{ℕ, zero, suc, _+_, _-_}
 use mathlib.Core.Bool.{Bool, false, _||_}
 use mathlib.Core.List.{List, [], _∷_, _++_, map}
-use lib.Dec.{eqb, leb}
+use lib.Dec.{eqb}
 use lib.ListN.{getD, drop}
 use lib.Seq.{slice}
-use Rattle.language.specs.Kinds.{pick}
+use Rattle.language.specs.declared.Kind.{Kind}
+use Rattle.language.specs.declared.Kind.the-variants.{End, Term, Run, Symbol, Function, Equation, Membership, Eps, Cat, Alt, Star, Other}
+use Rattle.language.specs.Limits.{desk}
+use Rattle.language.specs.Kinds.{pick, kindOf}
 use Rattle.plans.specs.declared.Piece.{Piece}
 use Rattle.plans.specs.declared.Piece.the-variants.{Word, Copy, Put, ToCut, PutFromCut, Each}
 use Rattle.plans.specs.declared.Recipe.{Recipe}
@@ -55,8 +58,22 @@ made k r cut = piecesFrom 12 0 k r cut
 -- ---- element by element
 
 -- in a hedge, how many hedges are still to come after a word, beside the one it stands in: none after 0, one after a variable, two after a functor
+abbrev pub opensBy : Kind → ℕ
+opensBy End = 0
+opensBy (Term x) = 1
+opensBy (Run p) = 1
+opensBy (Symbol f) = 2
+opensBy (Function X) = 2
+opensBy Equation = 1
+opensBy Membership = 1
+opensBy Eps = 1
+opensBy Cat = 1
+opensBy Alt = 1
+opensBy Star = 1
+opensBy Other = 1
+
 unfoldable pub opens : ℕ → ℕ
-opens x = pick (eqb x 0) 0 (pick (leb x 2999) 1 2)
+opens x = opensBy (kindOf desk x)
 
 -- how many words n hedges take
 unfoldable pub span : ℕ → List ℕ → ℕ

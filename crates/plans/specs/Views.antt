@@ -2,12 +2,12 @@
 use Prim.Native.Nat.{ℕ, _+_}
 use mathlib.Core.Path.{_≡_}
 use mathlib.Core.List.{List, _++_}
-use lib.ListN.{length, take, drop, getD}
+use lib.ListN.{length, take, drop}
 use Rattle.language.specs.Limits.{desk}
 use Rattle.language.specs.Trees.{Hedge, Expr, Conj}
 use Rattle.language.specs.Writing.{hedgeWords, exprWords, conjWords}
 use Rattle.language.specs.Fine.{fineHedge, fineExpr, fineConj}
-use Rattle.plans.specs.Looks.{lookOf, head, bodyWords}
+use Rattle.plans.specs.Looks.{lookOf, firstKind, head, bodyWords}
 use Rattle.plans.specs.declared.Side.{Side}
 use Rattle.plans.specs.declared.View.{View}
 use Rattle.plans.specs.declared.Shape.{Shape}
@@ -37,7 +37,7 @@ pub record Shows (k : List ℕ) (v : Shape) (before : Conj) (h : Hedge) (R : Exp
   pub hedge : Sided k (v .h) h
   pub fine : fineExpr desk R
   pub here : drop (v .expr) k ≡ exprWords R ++ conjWords behind
-  pub first : v .first ≡ getD (exprWords R) 0 0
+  pub first : v .first ≡ firstKind R
   pub end : v .end ≡ v .expr + length (exprWords R)
   pub len : v .len ≡ length k
   pub fineBefore : fineConj desk before

@@ -3,13 +3,17 @@ ghost use Prim.Native.Nat.{ℕ, _-_};
 ghost use mathlib.Core.Path.{_≡_};
 ghost use lib.ListN.{length};
 ghost use Rattle.plans.specs.Slots.{fullRecipe, fewRecipe, forthIn, innerOf};
+use language::HedgeVar;
+use language::Kind;
+use language::Name;
+use language::TermVar;
 
-// How a hedge begins: the first word, whether nothing follows the first element, and for a functor whether it has no children.
+// How a hedge begins: with which variable or name, whether nothing follows the first element, and for a name whether it has no children.
 pub enum Look {
     Empty,
-    Term(u16, bool),
-    Run(u16, bool),
-    Node(u16, bool, bool),
+    Term(TermVar, bool),
+    Run(HedgeVar, bool),
+    Node(Name, bool, bool),
 }
 
 // A hedge in the words: its place, the place after its first element, and the place after its 0.
@@ -29,12 +33,12 @@ pub struct View {
     pub len: usize,
 }
 
-// A membership in the words of a conjunction: its hedge, and the place and the first word of its expression.
+// A membership in the words of a conjunction: its hedge, the place of its expression and what the first word there is.
 pub struct Shape {
     pub at: usize,
     pub h: Side,
     pub expr: usize,
-    pub first: u16,
+    pub first: Kind,
     pub end: usize,
     pub len: usize,
 }

@@ -14,7 +14,7 @@ use Rattle.reader.proofs.Parts.{past-expr, expr-eps, expr-one, expr-two
 use Rattle.reader.proofs.read_expr.Reads as read-expr
 use Rattle.reader.proofs.read_expr.Kinds as read-expr-kinds
 use Rattle.reader.proofs.+read_expr.Lts-read_expr as read-expr-lts
-use Rattle.reader.proofs.classify.Reads as classify-reads
+use Rattle.language.proofs.classify.Reads as classify-reads
 use Rattle.reader.proofs.+read_expr.{statement}
 use Rattle.reader.proofs.+read_expr.Tie.{close}
 

@@ -19,7 +19,7 @@ use Rattle.reader.proofs.+read_hedge+read_term.Lts-read_hedge as read-h
 use Rattle.reader.proofs.read_term.Reads as read-term
 use Rattle.reader.proofs.read_term.Kinds as read-term-kinds
 use Rattle.reader.proofs.+read_hedge+read_term.Lts-read_term as read-term-lts
-use Rattle.reader.proofs.classify.Reads as classify-reads
+use Rattle.language.proofs.classify.Reads as classify-reads
 use Rattle.reader.proofs.+read_hedge+read_term.{statement}
 use Rattle.reader.proofs.+read_hedge+read_term.Tie.{close}
 

@@ -1,16 +1,16 @@
--- `reader::classify` meets its contract: each return is the kind of a range, or of a gap between ranges.
+-- `classify` meets its contract: each return is the kind of a range, or of a gap between ranges.
 -- Assumes nothing.
 use mathlib.Core.Path.{_≡_, sym, ap, _∙_}
 use mathlib.Core.Logic.{inl, inr}
 use Prim.Native.Nat.{ℕ, _<_}
 use native.Mathlib.Omega.{arith}
 use Rattle.language.specs.Limits.{desk, lastOf}
 use Rattle.language.specs.Kinds.{kindOf}
 use Rattle.language.specs.declared.Kind.{Kind}
 use Rattle.language.specs.declared.Kind.the-variants.{Other}
 use Rattle.language.proofs.Words.{at-end, at-term, at-run, at-symbol, at-function, Outside, at-other, no-mark, kind-equation, kind-membership, kind-eps, kind-cat, kind-alt, kind-star}
-use Rattle.reader.proofs.classify.Statement.{statement}
-use Rattle.reader.proofs.classify.Tie as tie
+use Rattle.language.proofs.classify.Statement.{statement}
+use Rattle.language.proofs.classify.Tie as tie
 
 -- a word that is a mark
 same : (w v : ℕ) (k : Kind) → kindOf desk v ≡ k → w ≡ v → k ≡ kindOf desk w
