@@ -17,17 +17,18 @@ use Rattle.rules.specs.Rules.{Rule, rules}
 use Rattle.rules.specs.Step.{resultsAt, Spot, stepAt, search, step}
 use Rattle.rules.specs.Run.{finished, run}
 use Rattle.rules.specs.Answer.{answered, solving}
-use Rattle.exact.specs.Each.{Each, Some}
+use Rattle.rules.specs.Each.{Each, Some}
+use Rattle.rules.specs.Sides.{AtSides, Idle}
+use Rattle.rules.proofs.Each.{each-in, each-imp}
+use Rattle.rules.proofs.Tests.{test-true}
+use Rattle.rules.proofs.Steps.{named-at-sides, search-named, step-none}
+use Rattle.rules.proofs.Invariant.{answered-run, lines-keep, lines-rest}
 use Rattle.exact.specs.Monomials.{Takes}
-use Rattle.exact.specs.Places.{AtSides, Idle, SameFillings}
+use Rattle.exact.specs.Places.{SameFillings}
 use Rattle.exact.specs.Made.{Name, MadeC}
-use Rattle.exact.proofs.Each.{each-in, each-imp}
-use Rattle.exact.proofs.Tests.{test-true}
 use Rattle.exact.proofs.Expressions.{nullable-exact, linear-exact}
-use Rattle.exact.proofs.Steps.{named-at-sides, search-named, step-none}
 use Rattle.exact.proofs.Places.{each-rule-exact}
-use Rattle.exact.proofs.Run.{step-same, run-same, answered-run}
-use Rattle.exact.proofs.Invariant.{lines-keep, lines-rest}
+use Rattle.exact.proofs.Run.{step-same, run-same}
 use Rattle.exact.proofs.MadeByRules.{step-made}
 use Rattle.exact.proofs.Declared.{lines-declared, read-declared}
 

@@ -11,14 +11,13 @@ use Rattle.rules.specs.Reply.{results, PairRule}
 use Rattle.rules.specs.Rules.{Branch, plain, elims, Answer, EqRule, InRule, Rule, onEqn, onMem, onPair, cutResult, vanish, monomialResult}
 use Rattle.rules.specs.Rules as rules
 use Rattle.rules.specs.Step.{place, placed, step}
-use Rattle.exact.specs.Each.{Each}
-use Rattle.exact.specs.Places.{AtSides}
+use Rattle.rules.specs.Each.{Each}
+use Rattle.rules.specs.Sides.{AtSides}
+use Rattle.rules.proofs.Each.{_also_, each-map, each-imp}
+use Rattle.rules.proofs.Answers.{Answers, look, test, answers}
+use Rattle.rules.proofs.Looks.{loneT-is, loneH-is, loneNode-is, loneTerm-is, firstTerm-is, firstRun-is, asSymbol-is, asBlank-is, inside-is, upTo-is, asCat-is, asAlt-is, asStar-is, asOver-is, CutOf, cuts-join}
+use Rattle.rules.proofs.Steps.{Gives, OnSides, Kept, kept-at-sides, gives-behind, step-at-sides}
 use Rattle.exact.specs.Made.{Name, aVariable, Made, MadeE, MadeL, MadeC}
-use Rattle.exact.proofs.Each.{_also_, each-map, each-imp}
-use Rattle.exact.proofs.Answers.{Answers, look, test, answers}
-use Rattle.exact.proofs.Looks.{loneT-is, loneH-is, loneNode-is, loneTerm-is, firstTerm-is, firstRun-is, asSymbol-is, asBlank-is, inside-is, upTo-is, asCat-is, asAlt-is, asStar-is, asOver-is}
-use Rattle.exact.proofs.Cuts.{CutOf, cuts-join}
-use Rattle.exact.proofs.Steps.{Gives, OnSides, Kept, kept-at-sides, gives-behind, step-at-sides}
 use Rattle.exact.proofs.Made.{made-⧺, made-++, Puts, putC-made, setT-made, setH-made, setF-made, emptied-made, MadeMonomial, linear-made}
 
 module _ (A : Name → Type 0) where

@@ -9,12 +9,13 @@ use Rattle.rules.specs.Substitution.{putC}
 use Rattle.rules.specs.Reply.{Reply, PairRule}
 use Rattle.rules.specs.Rules.{Branch, plain, elims, Answer, Rule, onEqn, onMem, onPair, rules}
 use Rattle.rules.specs.Step.{each, place, placed}
-use Rattle.exact.specs.Each.{Each, Some}
-use Rattle.exact.specs.Places.{AtSides, SameFillings}
-use Rattle.exact.proofs.Each.{_also_, each-imp, some-map, some-same}
+use Rattle.rules.specs.Each.{Each, Some}
+use Rattle.rules.specs.Sides.{AtSides}
+use Rattle.rules.proofs.Each.{_also_, each-imp, some-map, some-same}
+use Rattle.rules.proofs.Steps.{Gives, gives-each, gives-imp, OnSides, at-sides}
+use Rattle.exact.specs.Places.{SameFillings}
 use Rattle.exact.proofs.Fillings.{putC-meets, all-++, one-some}
 use Rattle.exact.proofs.Answers.{MeetsBranch, MeetsBranches, Faithful, ExactAnswer}
-use Rattle.exact.proofs.Steps.{Gives, gives-each, gives-imp, OnSides, at-sides}
 use Rattle.exact.proofs.Equations.{ExactEqn, R1-exact, F1-exact, F2-exact, F3-exact, F4-exact, Del1-exact, Del3-exact, D2-exact, D0-exact, E1-exact, E2-exact, E3-exact, E4-exact, E5-exact, E6-exact}
 use Rattle.exact.proofs.Memberships.{ExactMem, R2-exact, F5-exact, F6-exact, F7-exact, M1-exact, M2-exact, M3-exact, M4-exact, M5-exact, M6-exact, M7-exact, M10-exact, M11-exact}
 

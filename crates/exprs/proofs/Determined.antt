@@ -9,8 +9,8 @@ use Rattle.plans.specs.Views.{Shows}
 use Rattle.plans.specs.declared.Shape.{Shape}
 use Rattle.pieces.specs.Written.{Ready}
 use Rattle.exprs.proofs.pass as pass
-use Rattle.exprs.proofs.results.size_monomials as size_monomials
-use Rattle.exprs.proofs.results.write_monomials as write_monomials
+use Rattle.exprs.proofs.monomials.size_monomials as size_monomials
+use Rattle.exprs.proofs.monomials.write_monomials as write_monomials
 
 -- some membership stands in k where s says
 pub record MembershipAt (k : List ℕ) (s : Shape) : Type 0 where

@@ -1,13 +1,12 @@
 pub mod Passing
 pub mod Standing
 pub mod Passed
+pub mod Reaching
+pub mod Charting
 pub mod Linear
-pub mod Spots
-pub mod Reached
-pub mod Sought
 pub mod Rests
 pub mod Rows
-pub mod Steps
 pub mod Written
+pub mod Added
+pub mod Walking
 pub mod Determined
-pub mod Reaching

@@ -1,16 +1,15 @@
 -- The linear form laid open is the linear form: the same first terms in the same order, and the words of each rest.
-use Prim.Native.Nat.{ℕ, zero, suc, _+_, _≤_}
-use mathlib.Core.Path.{_≡_, refl, ap, sym, _∙_}
+use Prim.Native.Nat.{ℕ, suc, _+_}
+use mathlib.Core.Path.{_≡_, refl, ap, sym, subst, _∙_}
 use mathlib.Core.Bool.{Bool, true, false}
-use mathlib.Core.List.{List, [], _∷_, _++_, map, append-assoc}
+use mathlib.Core.List.{List, [], _∷_, _++_, map, map-append, map-map, append-nil, append-assoc}
 use native.Mathlib.Omega.{arith}
-use lib.ListN.{length, length-append, length-map}
 use Rattle.language.specs.Kinds.{pick}
 use Rattle.language.specs.Trees.{Expr, eps, cat, alt, star, over}
 use Rattle.language.specs.Writing.{exprWords}
 use Rattle.rules.specs.Looks.{isEps}
 use Rattle.rules.specs.Expressions.{nullable, Monomial, joined, linear, _⊙_}
-use Rattle.exprs.specs.Loose.{Loose, more, _⊕_, loose, joins, opening, restWords}
+use Rattle.exprs.specs.Loose.{Loose, met, joins, opening, restWords}
 
 -- a rest r of n parts, whose words in a row are ws
 pub data Rest (r : Expr) (n : ℕ) (ws : List ℕ) : Type 0 where
@@ -43,56 +42,62 @@ pairs-append : {l l′ : List Monomial} {p p′ : List Loose} → Pairs l p → 
 pairs-append done b = b
 pairs-append (pair f a) b = pair f (pairs-append a b)
 
-pairs-more : {l : List Monomial} {p : List Loose} (R : Expr) → isEps R ≡ false → Pairs l p → Pairs (map (joined R) l) (map (more R) p)
-pairs-more R e done = done
-pairs-more R e (pair f a) = pair (record { name = f .name; inner = f .inner; rest = rest-more R e (f .rest) }) (pairs-more R e a)
+-- g adds n parts to each rest, whose words in a row are ws
+record Adds (g : Monomial → Monomial) (n : ℕ) (ws : List ℕ) : Type 0 where
+  pub name : (m : Monomial) → g m .name ≡ m .name
+  pub inner : (m : Monomial) → g m .inner ≡ m .inner
+  pub rest : (m : Monomial) {j : ℕ} {vs : List ℕ} → Rest (m .rest) j vs → Rest (g m .rest) (j + n) (vs ++ ws)
 
-pairs-join : {l : List Monomial} {p : List Loose} (R : Expr) (b : Bool) → isEps R ≡ b → Pairs l p → Pairs (pick b l (map (joined R) l)) (pick b p (map (more R) p))
-pairs-join R true e a = a
-pairs-join R false e a = pairs-more R e a
+adds-none : Adds (λ m. m) 0 []
+adds-none = record { name = λ m. refl; inner = λ m. refl; rest = λ m {j} {vs} r. let z : j + 0 ≡ j = omega arith in rw (z, append-nil) r }
 
-pairs-if : {l : List Monomial} {p : List Loose} (b : Bool) → Pairs l p → Pairs (pick b l []) (pick b p [])
-pairs-if true a = a
-pairs-if false a = done
+adds-more : {g : Monomial → Monomial} {n : ℕ} {ws : List ℕ} (R : Expr) → isEps R ≡ false → Adds g n ws → Adds (λ m. g (joined R m)) (suc n) (exprWords R ++ ws)
+adds-more {g} {n} {ws} R e a =
+    record {
+      name = λ m. a .name (joined R m);
+      inner = λ m. a .inner (joined R m);
+      rest = λ m {j} {vs} r.
+          let z : suc j + n ≡ j + suc n = omega arith in
+          rw (← z, ← append-assoc vs (exprWords R) ws) (a .rest (joined R m) (rest-more R e r));
+    }
 
-pub pairs : (R : Expr) → Pairs (linear R) (loose R)
-pairs eps = done
-pairs (cat a b) = pairs-append (pairs-join b (isEps b) refl (pairs a)) (pairs-if (nullable a) (pairs b))
-pairs (alt a b) = pairs-append (pairs a) (pairs b)
-pairs (star a) = pairs-more (star a) refl (pairs a)
-pairs (over f a) = pair (record { name = refl; inner = refl; rest = none refl refl refl }) done
+pairs-same : {l l′ : List Monomial} {p : List Loose} → l′ ≡ l → Pairs l p → Pairs l′ p
+pairs-same e a = rw e a
+
+pairs-if : (l : List Monomial) {p : List Loose} (g : Monomial → Monomial) (b : Bool) → Pairs (map g l) p → Pairs (map g (pick b l [])) (pick b p [])
+pairs-if l g true a = a
+pairs-if l g false a = done
+
+-- that it holds of R
+abbrev Paired : Expr → Type 0
+Paired R = (g : Monomial → Monomial) (n : ℕ) (ws : List ℕ) → Adds g n ws → Pairs (map g (linear R)) (met R n ws)
+
+pairs-first : (a b : Expr) (g : Monomial → Monomial) (n : ℕ) (ws : List ℕ) (e : Bool) → isEps b ≡ e → Adds g n ws → Paired a
+    → Pairs (map g (pick e (linear a) (map (joined b) (linear a)))) (met a (pick e n (suc n)) (pick e ws (exprWords b ++ ws)))
+pairs-first a b g n ws true z d p = p g n ws d
+pairs-first a b g n ws false z d p = pairs-same (map-map g (joined b) (linear a)) (p (λ m. g (joined b m)) (suc n) (exprWords b ++ ws) (adds-more b z d))
+
+pairs-by : (R : Expr) → Paired R
+pairs-by eps g n ws d = done
+pairs-by (cat a b) g n ws d =
+    pairs-same (map-append g (linear a ⊙ b) (pick (nullable a) (linear b) []))
+    (pairs-append (pairs-first a b g n ws (isEps b) refl d (pairs-by a)) (pairs-if (linear b) g (nullable a) (pairs-by b g n ws d)))
+pairs-by (alt a b) g n ws d = pairs-same (map-append g (linear a) (linear b)) (pairs-append (pairs-by a g n ws d) (pairs-by b g n ws d))
+pairs-by (star a) g n ws d = pairs-first a (star a) g n ws false refl d (pairs-by a)
+pairs-by (over f a) g n ws d =
+    let m : Monomial = record { name = f; inner = a; rest = eps } in
+    let z : 0 + n ≡ n = omega arith in
+    pair (record { name = d .name m; inner = d .inner m; rest = subst (λ j. Rest (g m .rest) j ws) z (d .rest m (none refl refl refl)) }) done
+
+map-same : (l : List Monomial) → map (λ m. m) l ≡ l
+map-same [] = refl
+map-same (m ∷ l) = ap (λ l. m ∷ l) (map-same l)
+
+pub pairs : (R : Expr) → Pairs (linear R) (met R 0 [])
+pairs R = pairs-same (sym (map-same (linear R))) (pairs-by R (λ m. m) 0 [] adds-none)
 
 -- two lists of results are the same where each two that stand together are
 pub results-same : {l : List Monomial} {p : List Loose} (f : Monomial → List ℕ) (g : Loose → List ℕ) → ((m : Monomial) (n : Loose) → Fits m n → f m ≡ g n)
     → Pairs l p → map f l ≡ map g p
 results-same f g e done = refl
 results-same f g e (pair {m = m} {n = n} h a) = rw (e m n h, results-same f g e a)
-
--- ---- there are no more monomials than words
-
-join-length : (R : Expr) (b : Bool) (l : List Loose) → length (pick b l (map (more R) l)) ≡ length l
-join-length R true l = refl
-join-length R false l = length-map l (more R)
-
-if-length : (b : Bool) (l : List Loose) → length (pick b l []) ≤ length l
-if-length true l = omega arith
-if-length false l = omega arith
-
-pub not-more : (R : Expr) → length (loose R) ≤ length (exprWords R)
-not-more eps = omega arith
-not-more (cat a b) =
-    let x = not-more a in
-    let y = not-more b in
-    let z = length-append (exprWords a) (exprWords b) in
-    let u = length-append (loose a ⊕ b) (pick (nullable a) (loose b) []) in
-    let v = join-length b (isEps b) (loose a) in
-    let w = if-length (nullable a) (loose b) in
-    omega arith
-not-more (alt a b) =
-    let x = not-more a in
-    let y = not-more b in
-    let z = length-append (exprWords a) (exprWords b) in
-    let u = length-append (loose a) (loose b) in
-    omega arith
-not-more (star a) = let x = not-more a in let v = length-map (loose a) (more (star a)) in omega arith
-not-more (over f a) = omega arith

@@ -2,14 +2,13 @@
 use Prim.Native.Nat.{ℕ, _+_, _<_, _≤_}
 use mathlib.Core.Path.{_≡_, refl, ap, sym, _∙_}
 use mathlib.Core.Bool.{Bool, true, false, _&&_, _||_}
-use mathlib.Core.List.{List, [], _∷_, _++_}
+use mathlib.Core.List.{List}
 use native.Mathlib.Omega.{arith}
 use lib.ListN.{length, getD, length-append}
-use Rattle.language.specs.Trees.{Expr}
 use Rattle.language.specs.Writing.{exprWords}
 use Rattle.rules.specs.Expressions.{nullable}
 use Rattle.exprs.specs.declared.Part.{Part}
-use Rattle.exprs.specs.Standing.{Here, PartOf, Parted}
+use Rattle.exprs.specs.Standing.{PartOf, Parted}
 use Rattle.exprs.proofs.Passing.{asks-star, asks-over, asks-two, null-star, null-over, null-cat, null-alt, part-none, part-eps, part-one, part-two}
 use Rattle.exprs.proofs.Standing.{second-of, by-eps, by-cat, by-alt, by-star, by-over, past-end, is-alt}
 

@@ -63,7 +63,7 @@ reach-zero : (m : ℕ) (ws : List ℕ) → reach m ws ≡ reach 0 ws + reach m (
 reach-zero m ws = let z = reach-none ws in let r = ap (λ j. reach m (drop j ws)) z in omega arith
 
 -- the first n of them, and the next m
-reach-more : (n m : ℕ) (ws : List ℕ) → reach (n + m) ws ≡ reach n ws + reach m (drop (reach n ws) ws)
+pub reach-more : (n m : ℕ) (ws : List ℕ) → reach (n + m) ws ≡ reach n ws + reach m (drop (reach n ws) ws)
 unfolding reach
 reach-more n m [] = refl
 reach-more zero m (x ∷ ws) = let e : zero + m ≡ m = omega arith in ap (λ j. reach j (x ∷ ws)) e ∙ reach-zero m (x ∷ ws)

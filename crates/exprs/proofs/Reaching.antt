@@ -1,29 +1,17 @@
 -- Passing an expression by counting what is still to come.
-use Prim.Native.Nat.{ℕ, zero, suc, _+_, _-_, _<_, _≤_}
-use mathlib.Core.Path.{_≡_, refl, sym, ap, _∙_}
-use mathlib.Core.Bool.{Bool, true, false, _||_}
-use mathlib.Core.List.{List, [], _∷_, _++_, append-assoc}
+use Prim.Native.Nat.{ℕ, suc, _+_, _-_, _<_, _≤_}
+use mathlib.Core.Path.{_≡_, refl, ap, _∙_}
+use mathlib.Core.List.{List, _∷_, _++_, append-assoc}
 use native.Mathlib.Omega.{arith}
-use lib.Dec.{eqb, leb}
 use lib.ListN.{length, getD, drop, length-append, drop-of-length-le}
-use Rattle.language.specs.Kinds.{pick}
 use Rattle.language.specs.Limits.{desk}
 use Rattle.language.specs.Trees.{Expr, eps, cat, alt, star, over}
 use Rattle.language.specs.Writing.{exprWords}
 use Rattle.language.specs.Fine.{fineExpr}
 use Rattle.words.proofs.Parts.{drop-here}
 use Rattle.exprs.specs.Passing.{asks, reach}
-use Rattle.exprs.specs.Standing.{Here, Past}
+use Rattle.exprs.specs.Standing.{Past}
 use Rattle.exprs.proofs.Passing.{asks-none, asks-star, asks-over, asks-two, reach-none}
-
-pub asks-le : (x : ℕ) → asks x ≤ 2
-unfolding asks
-asks-le x = go (eqb x 7000) (eqb x 7003 || leb x 6999)
-  where
-    go : (a b : Bool) → pick a 0 (pick b 1 2) ≤ 2
-    go true b = omega arith
-    go false true = omega arith
-    go false false = omega arith
 
 pub reach-past : (n : ℕ) (k : List ℕ) (i : ℕ) → length k ≤ i → reach n (drop i k) ≡ 0
 unfolding reach
@@ -72,6 +60,7 @@ past-by {k} {at} {e} a w d =
     record {
       after = a;
       within = w;
+      is = d;
       each = λ R beyond h.
           let p = ap (reach 1) (h .words) ∙ counts R (h .fine) 0 beyond in
           let z = reach-none beyond in

@@ -1,16 +1,17 @@
 -- M2's results are the rows of its monomials laid open.
 use Prim.Native.Nat.{ℕ, zero, suc, _+_, _*_, _≤_}
-use mathlib.Core.Path.{_≡_, refl, ap, sym, _∙_}
+use mathlib.Core.Path.{_≡_, ap, _∙_}
 use mathlib.Core.List.{List, [], _∷_, _++_, map, map-map, append-assoc, append-nil}
 use native.Mathlib.Omega.{arith}
-use lib.ListN.{length, drop, length-append}
+use lib.ListN.{length, length-append}
 use lib.Seq.{slice}
+use Rattle.language.specs.Limits.{desk}
 use Rattle.language.specs.Trees.{Hedge, Expr, over, mem, Conj}
-use Rattle.language.specs.Writing.{hedgeWords, exprWords, conjWords}
-use Rattle.rules.specs.Rules.{Branch, monomialResult}
+use Rattle.language.specs.Writing.{conjWords}
+use Rattle.rules.specs.Rules.{monomialResult}
 use Rattle.rules.specs.Expressions.{Monomial, linear}
 use Rattle.rules.specs.Step.{place}
-use Rattle.plans.specs.Looks.{head, tail, bodyWords}
+use Rattle.plans.specs.Looks.{head, tail}
 use Rattle.plans.specs.Results.{made, pieceWords, slotAt, piecesFrom}
 use Rattle.plans.specs.Sizes.{placedWords, monomialWords}
 use Rattle.plans.specs.Views.{Shows}
@@ -19,13 +20,13 @@ use Rattle.plans.specs.declared.Shape.{Shape}
 use Rattle.views.proofs.Words.{words-body, words-append}
 use Rattle.views.proofs.Sides.{side-head, side-tail, shows-before, shows-behind}
 use Rattle.pieces.proofs.Made.{piece-short}
-use Rattle.exprs.specs.declared.Spot.{Spot}
-use Rattle.exprs.specs.Loose.{Loose, firstWords, restWords, loose}
-use Rattle.exprs.specs.Results.{frontOf, frontWords, backWords, rowWords}
+use Rattle.exprs.specs.declared.adding.Spot.{Spot}
+use Rattle.exprs.specs.Loose.{Loose, firstWords, restWords, met}
+use Rattle.exprs.specs.Rows.{frontWords, backWords, rowWords}
 use Rattle.exprs.proofs.Linear.{Fits, rest-of, pairs, results-same}
 
 -- a recipe's words are bounded
-pieces-short : (k : List ℕ) (r : Recipe) (cut n i : ℕ) → length k ≤ 1024 → length (piecesFrom n i k r cut) ≤ n * 1048576
+pieces-short : (k : List ℕ) (r : Recipe) (cut n i : ℕ) → length k ≤ desk .question → length (piecesFrom n i k r cut) ≤ n * (desk .question * desk .question)
 pieces-short k r cut zero i h = omega arith
 pieces-short k r cut (suc n) i h =
     let a = piece-short k r cut (slotAt r i) h in
@@ -33,7 +34,7 @@ pieces-short k r cut (suc n) i h =
     let c = length-append (pieceWords k r cut (slotAt r i)) (piecesFrom n (i + 1) k r cut) in
     omega arith
 
-pub made-short : (k : List ℕ) (r : Recipe) (cut : ℕ) → length k ≤ 1024 → length (made k r cut) ≤ 12 * 1048576
+pub made-short : (k : List ℕ) (r : Recipe) (cut : ℕ) → length k ≤ desk .question → length (made k r cut) ≤ 12 * (desk .question * desk .question)
 unfolding made
 made-short k r cut h = pieces-short k r cut 12 0 h
 
@@ -62,6 +63,6 @@ module _ {k : List ℕ} {s : Shape} {before : Conj} {h : Hedge} {R : Expr} {behi
       rw (shows-before v, side-head (v .hedge), side-tail (v .hedge), shows-behind v, words-append before (mem (head h) (over (m .name) (m .inner)) ∷ mem (tail h) (m .rest) ∷ behind), words-body (head h), ← rest-of f, ← f .name, ← f .inner)
       (simp append-assoc)
 
-  pub rows : monomialWords before h R behind ≡ map (rowWords k s) (loose R)
+  pub rows : monomialWords before h R behind ≡ map (rowWords k s) (met R 0 [])
   unfolding monomialWords placedWords
   rows = map-map (λ b. conjWords (place before behind b)) (monomialResult (head h) (tail h)) (linear R) ∙ results-same (λ m. conjWords (place before behind (monomialResult (head h) (tail h) m))) (rowWords k s) row (pairs R)

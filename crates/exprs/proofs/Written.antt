@@ -1,25 +1,22 @@
 -- One of M2's results, run by run.
-use Prim.Native.Nat.{ℕ, _+_, _≤_}
-use mathlib.Core.Path.{_≡_, refl, ap, sym, _∙_}
-use mathlib.Core.List.{List, [], _∷_, _++_}
+use Prim.Native.Nat.{ℕ, _+_, _-_}
+use mathlib.Core.Path.{_≡_, ap, sym, _∙_}
+use mathlib.Core.List.{List, _∷_, _++_}
 use native.Mathlib.Omega.{arith}
-use lib.ListN.{length, set, length-append, length-set}
-use lib.Seq.{slice, sets, length-sets}
+use lib.ListN.{length, drop, set, length-append}
+use lib.Seq.{slice, sets, take-length}
 use Rattle.plans.specs.Results.{made}
 use Rattle.plans.specs.declared.Recipe.{Recipe}
 use Rattle.plans.specs.declared.Shape.{Shape}
 use Rattle.pieces.specs.Written.{Wrote}
 use Rattle.language.proofs.Stores.{sets-append}
 use Rattle.pieces.proofs.Still.{wrote-word, wrote-as}
-use Rattle.exprs.specs.declared.Spot.{Spot}
-use Rattle.exprs.specs.declared.Found.{Found}
-use Rattle.exprs.specs.Loose.{opening, restWords, loose, wordsAt}
-use Rattle.exprs.specs.Spots.{Sought}
-use Rattle.exprs.specs.Results.{frontOf, frontWords, backWords, resultLength, Result}
-use Rattle.exprs.proofs.Spots.{words-nth}
+use Rattle.exprs.specs.declared.adding.Spot.{Spot}
+use Rattle.exprs.specs.Loose.{opening}
+use Rattle.exprs.specs.Rows.{frontOf, frontWords, backWords, resultLength, resultWords}
 
 -- two runs in a row
-wrote-append : {old : List ℕ} {at : ℕ} {us mid : List ℕ} {e : ℕ} {vs new : List ℕ} {e′ : ℕ} → Wrote old at us mid e → Wrote mid e vs new e′ → Wrote old at (us ++ vs) new e′
+pub wrote-append : {old : List ℕ} {at : ℕ} {us mid : List ℕ} {e : ℕ} {vs new : List ℕ} {e′ : ℕ} → Wrote old at us mid e → Wrote mid e vs new e′ → Wrote old at (us ++ vs) new e′
 wrote-append {old} {at} {us} {mid} {e} {vs} a b =
     record {
       end = let x = a .end in let y = b .end in let z = length-append us vs in omega arith;
@@ -32,23 +29,16 @@ pub result-length : (k : List ℕ) (s : Shape) (p : Spot) (r : Recipe) → r ≡
 unfolding resultLength frontWords backWords
 result-length k s p r e = rw e
 
-pub result-wrote : {k : List ℕ} {s : Shape} {i : ℕ} {p : Spot} {one : ℕ} {old : List ℕ} {at : ℕ} {r : Recipe} {o₂ o₃ o₄ o₅ : List ℕ} {a b e : ℕ} {f : Found}
-    → one ≡ resultLength k s p → at + 1 + one ≤ length old → r ≡ frontOf s p → Wrote (set old at one) (at + 1) (made k r 0) o₂ a → Wrote o₂ a (opening (p .parts)) o₃ b
-    → Sought k (s .expr) i o₃ b o₄ f → Wrote o₄ (b + p .words) (slice (s .end) (s .len) k) o₅ e → Result k s i p old at o₅ e
-unfolding frontWords backWords
-result-wrote {k} {s} {i} {p} {one} {old} {at} {r} {o₂} {o₃} {o₄} {o₅} {a} {b} {e} n fit q w₂ w₃ w₄ w₅ =
-    let x = w₂ .end in
-    let y = w₃ .end in
-    let z = w₅ .end in
-    let l = result-length k s p r q in
-    let size : length o₃ ≡ length old = ap length (w₃ .list) ∙ length-sets o₂ a (opening (p .parts)) ∙ ap length (w₂ .list) ∙ length-sets (set old at one) (at + 1) (made k r 0) ∙ length-set old at one in
-    record {
-      end = omega arith;
-      each = λ R beyond m here nth parts words.
-          let t : wordsAt (loose R) i ≡ m .words = words-nth nth in
-          let tl = ap length t in
-          let run : Wrote o₃ b (m .words) o₄ (b + p .words) = record { end = ap (λ n. b + n) words; list = w₄ .each R beyond here .reached .laid (omega arith) ∙ ap (sets o₃ b) t } in
-          let all = wrote-append (wrote-word old at one) (wrote-append w₂ (wrote-append (wrote-append w₃ run) w₅)) in
-          let same : resultLength k s p ∷ (made k (frontOf s p) 0 ++ ((opening (m .parts) ++ m .words) ++ slice (s .end) (s .len) k)) ≡ one ∷ (made k r 0 ++ ((opening (p .parts) ++ m .words) ++ slice (s .end) (s .len) k)) = rw (n, q, parts) in
-          wrote-as same all;
-    }
+-- a part up to the end
+pub to-the-end : (from : ℕ) (l : List ℕ) → slice from (length l) l ≡ drop from l
+to-the-end from l = ap (drop from) (take-length l)
+
+pub result-wrote : (k : List ℕ) (s : Shape) (p : Spot) (rest old : List ℕ) (at : ℕ) {one : ℕ} {r : Recipe} {o₂ o₃ o₄ o₅ : List ℕ} {a b c e : ℕ}
+    → one ≡ resultLength k s p → r ≡ frontOf s p → Wrote (set old at one) (at + 1) (made k r 0) o₂ a → Wrote o₂ a (opening (p .parts)) o₃ b
+    → Wrote o₃ b (slice (length rest - p .words) (length rest) rest) o₄ c → Wrote o₄ c (slice (s .end) (s .len) k) o₅ e
+    → Wrote old at (resultLength k s p ∷ resultWords k s p (drop (length rest - p .words) rest)) o₅ e
+unfolding resultWords frontWords backWords
+result-wrote k s p rest old at {one} {r} n q w₂ w₃ w₄ w₅ =
+    let ws = drop (length rest - p .words) rest in
+    let same : resultLength k s p ∷ (made k (frontOf s p) 0 ++ ((opening (p .parts) ++ ws) ++ slice (s .end) (s .len) k)) ≡ one ∷ (made k r 0 ++ ((opening (p .parts) ++ ws) ++ slice (s .end) (s .len) k)) = rw (n, q) in
+    wrote-as same (wrote-append (wrote-word old at one) (wrote-append w₂ (wrote-append (wrote-append w₃ (wrote-as (sym (to-the-end (length rest - p .words) rest)) w₄)) w₅)))

@@ -1,5 +1,6 @@
 pub mod Passing
 pub mod Standing
+pub mod Charted
 pub mod Loose
-pub mod Spots
-pub mod Results
+pub mod Rows
+pub mod Walks

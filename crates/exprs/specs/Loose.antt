@@ -1,8 +1,7 @@
 -- The linear form with each rest laid open: a rest is a concatenation nested to the left, so its words are some 7001 and then the words of its
 -- parts in a row. Every part stands in the expression already.
 use Prim.Native.Nat.{ℕ, zero, suc, _+_}
-use mathlib.Core.Bool.{Bool, true, false}
-use mathlib.Core.List.{List, [], _∷_, _++_, map}
+use mathlib.Core.List.{List, [], _∷_, _++_}
 use Rattle.language.specs.declared.Sym.{Sym}
 use Rattle.language.specs.Kinds.{pick}
 use Rattle.language.specs.Trees.{Expr, eps, cat, alt, star, over}
@@ -17,20 +16,13 @@ pub record Loose : Type 0 where
   pub parts : ℕ
   pub words : List ℕ
 
--- one part more
-abbrev pub more : Expr → Loose → Loose
-more R m = record { name = m .name; inner = m .inner; parts = suc (m .parts); words = m .words ++ exprWords R }
-
-infixl 66 _⊕_
-abbrev pub _⊕_ : List Loose → Expr → List Loose
-_⊕_ l R = pick (isEps R) l (map (more R) l)
-
-abbrev pub loose : Expr → List Loose
-loose eps = []
-loose (cat a b) = (loose a ⊕ b) ++ pick (nullable a) (loose b) []
-loose (alt a b) = loose a ++ loose b
-loose (star a) = loose a ⊕ star a
-loose (over f a) = record { name = f; inner = a; parts = 0; words = [] } ∷ []
+-- the monomials of R in order; from outside of R each rest gets n parts, whose words in a row are ws
+abbrev pub met : Expr → ℕ → List ℕ → List Loose
+met eps n ws = []
+met (cat a b) n ws = met a (pick (isEps b) n (suc n)) (pick (isEps b) ws (exprWords b ++ ws)) ++ pick (nullable a) (met b n ws) []
+met (alt a b) n ws = met a n ws ++ met b n ws
+met (star a) n ws = met a (suc n) (exprWords (star a) ++ ws)
+met (over f a) n ws = record { name = f; inner = a; parts = n; words = ws } ∷ []
 
 -- n words of concatenations
 abbrev pub joins : ℕ → List ℕ
@@ -47,8 +39,3 @@ restWords m = opening (m .parts) ++ m .words
 
 abbrev pub firstWords : Loose → List ℕ
 firstWords m = (3000 + m .name .0) ∷ exprWords (m .inner)
-
--- the parts of the i-th rest in a row; none past the last
-abbrev pub wordsAt : List Loose → ℕ → List ℕ
-wordsAt [] i = []
-wordsAt (m ∷ l) i = elim i [ ℕ.zero ↦ m .words | ℕ.suc j ↦ wordsAt l j ]

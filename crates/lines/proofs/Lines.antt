@@ -5,7 +5,7 @@ use mathlib.Core.Path.{_≡_}
 use mathlib.Core.Logic.{inl, inr, _↔_}
 use mathlib.Core.Bool.{true, false, _||_}
 use mathlib.Core.List.{List}
-use mathlib.Core.Option.{none, some}
+use mathlib.Core.Option.{some}
 use lib.ListN.{length}
 use Rattle.language.specs.Limits.{Limits}
 use Rattle.language.specs.Trees.{Expr, _⧺_, holds, Conj, Counts, Question}
@@ -20,13 +20,13 @@ use Rattle.rules.specs.Solved.{solved}
 use Rattle.rules.specs.Run.{finished, run}
 use Rattle.rules.specs.Answer.{countOpen, answered, solving}
 use Rattle.rules.specs.Example.{example}
-use Rattle.rules.specs.Table.{Case, a, b, f, p, P9}
+use Rattle.rules.specs.Table.{a, b, f, p, P9}
 use Rattle.rules.specs.Calls.{lineAt, shows, showing}
-use Rattle.exact.specs.Each.{Each}
-use Rattle.exact.specs.Places.{AtSides}
-use Rattle.exact.proofs.Tests.{true-test, or-cases, or-left}
-use Rattle.exact.proofs.Invariant.{lines-rest}
-use Rattle.exact.proofs.Run.{run-same, answered-run}
+use Rattle.rules.specs.Each.{Each}
+use Rattle.rules.specs.Sides.{AtSides}
+use Rattle.rules.proofs.Tests.{true-test, or-cases, or-left}
+use Rattle.rules.proofs.Invariant.{lines-rest, answered-run}
+use Rattle.exact.proofs.Run.{run-same}
 use Rattle.exact.proofs.Declared.{lines-declared, read-declared}
 use Rattle.lines.specs.Matching.{Matching, KeepsMatching}
 use Rattle.lines.specs.Fillings.{DeclaredFilling, Agree, WordsMeet}

@@ -13,12 +13,12 @@ use Rattle.rules.specs.Step.{place, placed, step}
 use Rattle.rules.specs.Solved.{solved}
 use Rattle.rules.specs.Run.{finished, run}
 use Rattle.rules.specs.Answer.{countOpen}
-use Rattle.exact.specs.Each.{Each}
-use Rattle.exact.specs.Places.{AtSides}
-use Rattle.exact.proofs.Tests.{and-parts}
-use Rattle.exact.proofs.Each.{_also_, each-map, each-imp}
-use Rattle.exact.proofs.Steps.{Gives, OnSides, kept-at-sides, gives-behind, step-at-sides}
-use Rattle.exact.proofs.Invariant.{lines-keep, lines-rest}
+use Rattle.rules.specs.Each.{Each}
+use Rattle.rules.specs.Sides.{AtSides}
+use Rattle.rules.proofs.Tests.{and-parts}
+use Rattle.rules.proofs.Each.{_also_, each-map, each-imp}
+use Rattle.rules.proofs.Steps.{Gives, OnSides, kept-at-sides, gives-behind, step-at-sides}
+use Rattle.rules.proofs.Invariant.{lines-keep, lines-rest}
 use Rattle.lines.specs.Matching.{ground, groundSide, groundSides, Matching, KeepsMatching}
 use Rattle.lines.proofs.Tests.{or-exchanged}
 use Rattle.lines.proofs.Places.{sides-parts}

@@ -9,10 +9,10 @@ use Rattle.language.specs.Trees.{Hedge, Expr, Literal, eqn, mem, Conj}
 use Rattle.rules.specs.Reply.{nothing}
 use Rattle.rules.specs.Rules.{Answer, Rule, onEqn, onMem, onPair, rules, R1, R2, F3, F4, F5, F6, F7, D2, D0, E1, E2, E3, E5, E6, M2, M4, M5, M6, M11}
 use Rattle.rules.specs.Step.{placed, step}
-use Rattle.exact.specs.Each.{Each}
-use Rattle.exact.specs.Places.{Idle}
-use Rattle.exact.proofs.Each.{each-imp}
-use Rattle.exact.proofs.Steps.{step-none}
+use Rattle.rules.specs.Each.{Each}
+use Rattle.rules.specs.Sides.{Idle}
+use Rattle.rules.proofs.Each.{each-imp}
+use Rattle.rules.proofs.Steps.{step-none}
 
 -- the rule does not apply to l among K, neither for an equation's written side nor swapped
 abbrev pub Silent : Conj → Literal → Rule → Type 0

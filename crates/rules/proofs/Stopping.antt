@@ -7,7 +7,7 @@ use Rattle.language.specs.declared.Refusal.{Refusal}
 use Rattle.language.specs.Trees.{Literal, eqn, mem, Conj}
 use Rattle.rules.specs.Reply.{Reply, nothing, results, stops}
 use Rattle.rules.specs.Rules.{Answer, Rule, onEqn, onMem, onPair, rules}
-use Rattle.rules.specs.Step.{orNext, each, placed, resultsAt, Spot, found, earliest, first, search, step}
+use Rattle.rules.specs.Step.{orNext, each, placed, resultsAt, found, earliest, first, search, step}
 
 module _ (P : Refusal → Type 0) where
   -- P of the refusal, where there is one

@@ -7,11 +7,11 @@ use Rattle.rules.specs.Looks.{firstTerm, firstRun, loneTerm, loneT, loneH, lone
 use Rattle.rules.specs.Expressions.{linear}
 use Rattle.rules.specs.Reply.{PairRule}
 use Rattle.rules.specs.Rules.{Branch, plain, elims, Answer, EqRule, InRule, Rule, onEqn, onMem, onPair, rules, R1, R2, F1, F2, F3, F4, F5, F6, F7, Del1, Del3, D2, D0, E1, E2, E3, E4, E5, E6, M1, M2, M3, M4, M5, M6, M7, M10, M11, cutResult, monomialResult}
-use Rattle.exact.specs.Each.{Each}
-use Rattle.exact.proofs.Each.{each-map}
-use Rattle.exact.proofs.Answers.{Answers, look, test, answers}
-use Rattle.exact.proofs.Looks.{loneT-is, loneH-is, loneNode-is, loneTerm-is, firstTerm-is, firstRun-is, asSymbol-is, asBlank-is, inside-is, upTo-is, asCat-is, asAlt-is, asStar-is, asOver-is}
-use Rattle.exact.proofs.Steps.{Gives}
+use Rattle.rules.specs.Each.{Each}
+use Rattle.rules.proofs.Each.{each-map}
+use Rattle.rules.proofs.Answers.{Answers, look, test, answers}
+use Rattle.rules.proofs.Looks.{loneT-is, loneH-is, loneNode-is, loneTerm-is, firstTerm-is, firstRun-is, asSymbol-is, asBlank-is, inside-is, upTo-is, asCat-is, asAlt-is, asStar-is, asOver-is}
+use Rattle.rules.proofs.Steps.{Gives}
 use Rattle.search.proofs.FineParts.{FineSubst, fine-join, fine-both, FinePair, fine-cuts, fine-vanish, FineMonomial, fine-linear, fine-setT, fine-setH, fine-setF, fine-emptied}
 
 module _ (L : Limits) where

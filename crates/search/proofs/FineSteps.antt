@@ -9,10 +9,10 @@ use Rattle.rules.specs.Substitution.{putC}
 use Rattle.rules.specs.Reply.{results}
 use Rattle.rules.specs.Rules.{Branch, plain, elims, Answer, Rule, onEqn, onMem, onPair, rules}
 use Rattle.rules.specs.Step.{place, placed, step}
-use Rattle.exact.specs.Each.{Each}
-use Rattle.exact.specs.Places.{AtSides}
-use Rattle.exact.proofs.Each.{each-imp, each-map}
-use Rattle.exact.proofs.Steps.{Gives, OnSides, Kept, kept-at-sides, gives-behind, step-at-sides}
+use Rattle.rules.specs.Each.{Each}
+use Rattle.rules.specs.Sides.{AtSides}
+use Rattle.rules.proofs.Each.{each-imp, each-map}
+use Rattle.rules.proofs.Steps.{Gives, OnSides, Kept, kept-at-sides, gives-behind, step-at-sides}
 use Rattle.search.proofs.FineParts.{fine-append, fine-split, fine-putC}
 use Rattle.search.proofs.FineRules.{FineBranch, FineAnswer, RuleFine, each-rule-fine}
 

@@ -12,17 +12,18 @@ use Rattle.language.specs.Writing.{conjWords}
 use Rattle.rules.specs.Reply.{Reply, nothing, results}
 use Rattle.rules.specs.Rules.{Branch, Answer, rules}
 use Rattle.rules.specs.Step.{each, place, placed, Spot, search, step}
+use Rattle.rules.specs.Places.{noRule}
 use Rattle.search.specs.Ranking.{Tried, sided, tried, applies, replyAt, litRank, sideAnswer, Ranked, Each, NotBelow, Above, Sought, unmet, least, Found, nowhere, somewhere}
 use Rattle.search.proofs.Ranks.{rank-applies}
 use Rattle.search.proofs.First.{each-map, each-append, none-first, found-first}
 
-pub start : (c : Conj) (at : ℕ) (swap : Bool) → Sought [] c 28 at swap
+pub start : (c : Conj) (at : ℕ) (swap : Bool) → Sought [] c noRule at swap
 start c at swap = unmet refl tt
 
 module _ (done : Conj) (l : Literal) (rest : Conj) (n at : ℕ) (swap : Bool) where
   pub keep : (r : ℕ) (turned : Bool) → Ranked done l rest r turned → n ≤ r → Sought done (l ∷ rest) n at swap → Sought (done ++ (l ∷ [])) rest n at swap
   keep r turned k h (unmet e all) =
-      unmet e (each-append (NotBelow 28) [] done (l ∷ []) rest all (let q = k .rank in (omega arith, tt)))
+      unmet e (each-append (NotBelow noRule) [] done (l ∷ []) rest all (let q = k .rank in (omega arith, tt)))
   keep r turned k h (least before x mid e p m ranked low high) =
       let q : n ≤ litRank ((before ++ (x ∷ [])) ++ mid) l rest =
       subst (λ d. n ≤ litRank d l rest) (e ∙ sym (append-assoc before (x ∷ []) mid)) (let q = k .rank in omega arith)
@@ -37,14 +38,14 @@ module _ (done : Conj) (l : Literal) (rest : Conj) (n at : ℕ) (swap : Bool) wh
 
   -- every literal passed has a rank above r
   passed : (r : ℕ) → r < n → Sought done (l ∷ rest) n at swap → Each (Above r) [] done (l ∷ rest)
-  passed r h (unmet e all) = each-map (NotBelow 28) (Above r) (λ before l behind g. omega arith) [] done (l ∷ rest) all
+  passed r h (unmet e all) = each-map (NotBelow noRule) (Above r) (λ before l behind g. omega arith) [] done (l ∷ rest) all
   passed r h (least before x mid e p m ranked low high) =
       subst (λ d. Each (Above r) [] d (l ∷ rest)) (sym e)
       (each-append (Above r) [] before (x ∷ mid) (l ∷ rest)
       (each-map (Above n) (Above r) (λ before l behind g. omega arith) [] before (x ∷ (mid ++ (l ∷ rest))) low)
       (let q = ranked .rank in omega arith, each-map (NotBelow n) (Above r) (λ before l behind g. omega arith) (before ++ (x ∷ [])) mid (l ∷ rest) high))
 
-  below : Sought done (l ∷ rest) n at swap → n ≤ 28
+  below : Sought done (l ∷ rest) n at swap → n ≤ noRule
   below (unmet e all) = omega arith
   below (least before x mid e p m ranked low high) = omega arith
 

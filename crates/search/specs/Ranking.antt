@@ -10,7 +10,8 @@ use Rattle.language.specs.Trees.{Literal, eqn, mem, Conj}
 use Rattle.language.specs.Writing.{conjWords}
 use Rattle.rules.specs.Reply.{Reply, nothing, results, stops}
 use Rattle.rules.specs.Rules.{Branch, Answer, Rule, rules}
-use Rattle.rules.specs.Step.{orNext, each, place, placed, resultsAt, Spot, search}
+use Rattle.rules.specs.Step.{orNext, each, place, placed, resultsAt, search}
+use Rattle.rules.specs.Places.{noRule}
 use Rattle.plans.specs.Ranks.{eqnAnswer, memAnswer}
 
 -- ---- the rules at one literal
@@ -71,9 +72,9 @@ Above n before l behind = n < litRank before l behind
 
 -- Among the literals `done`, before those of `rest`: none of a rank below n and none at all, or the earliest of the least rank n, at this place.
 pub data Sought (done rest : Conj) (n at : ℕ) (swap : Bool) : Type 0 where
-  unmet : n ≡ 28 → Each (NotBelow 28) [] done rest → Sought done rest n at swap
+  unmet : n ≡ noRule → Each (NotBelow noRule) [] done rest → Sought done rest n at swap
   least : (before : Conj) (l : Literal) (mid : Conj) → done ≡ before ++ (l ∷ mid) → at ≡ length (conjWords before)
-      → n < 28 → Ranked before l (mid ++ rest) n swap
+      → n < noRule → Ranked before l (mid ++ rest) n swap
       → Each (Above n) [] before (l ∷ (mid ++ rest))
       → Each (NotBelow n) (before ++ (l ∷ [])) mid rest
       → Sought done rest n at swap
@@ -81,8 +82,8 @@ pub data Sought (done rest : Conj) (n at : ℕ) (swap : Bool) : Type 0 where
 -- What is found in the whole conjunction: no rule applies; or the literal at this place, and the search finds the rule of rank n there, at that
 -- literal by its number, with these results.
 pub data Found (c : Conj) (n at : ℕ) (swap : Bool) : Type 0 where
-  nowhere : n ≡ 28 → search c ≡ nothing → Found c n at swap
+  nowhere : n ≡ noRule → search c ≡ nothing → Found c n at swap
   somewhere : (before : Conj) (l : Literal) (behind : Conj) (bs : List Branch) → c ≡ before ++ (l ∷ behind) → at ≡ length (conjWords before)
-      → n < 28 → sideAnswer swap n (before ++ behind) l ≡ some bs
+      → n < noRule → sideAnswer swap n (before ++ behind) l ≡ some bs
       → search c ≡ results (record { rule = n; literal = length before; swapped = swap }, map (place before behind) bs)
       → Found c n at swap

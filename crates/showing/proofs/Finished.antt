@@ -17,17 +17,17 @@ use Rattle.language.proofs.Bools.{both-true}
 use Rattle.language.proofs.Asking.{ranges}
 use Rattle.rules.specs.Reply.{Reply, nothing, results, stops}
 use Rattle.rules.specs.Step.{step}
-use Rattle.rules.specs.Run.{anyLong, waitingSize, linesSize, linesFit, Outcome, finished, refused, lined, turn, runFrom, run}
+use Rattle.rules.specs.Run.{anyLong, waitingSize, linesSize, linesFit, Outcome, finished, refused, lined, turn, runFrom, run, linesAt}
 use Rattle.rules.specs.Answer.{solving, answered}
-use Rattle.exact.specs.Each.{Each}
-use Rattle.exact.proofs.Run.{answered-run}
+use Rattle.rules.specs.Each.{Each}
+use Rattle.rules.proofs.Invariant.{answered-run}
 use Rattle.exact.proofs.Exact.{lines-settled, answer-declared}
 use Rattle.showing.specs.Answers.{Good, Ranged}
 use Rattle.showing.proofs.Settling.{settled-line}
 
 -- ---- what is declared has words
 
-module _ (n : Counts) (s : n .symbols ≤ 32) (t : n .terms ≤ 32) (h : n .hedges ≤ 32) (f : n .functions ≤ 32) where
+module _ (n : Counts) (s : n .symbols ≤ desk .each) (t : n .terms ≤ desk .each) (h : n .hedges ≤ desk .each) (f : n .functions ≤ desk .each) where
   functor-fine : (F : Functor) → declaredF n F ≡ true → fineFunctor desk F
   functor-fine (symbol g) e = let i = ltb-true (g .0) (n .symbols) e in omega arith
   functor-fine (fvar X) e = let i = ltb-true (X .0) (n .functions) e in omega arith
@@ -96,11 +96,11 @@ lines-fit w ls n e = rw e at (from-fits desk (desk .steps) 0 [] w refl)
 
 pub record Ends (question : List ℕ) (ls : List Conj) : Type 0 where
   pub ranged : Ranged question
-  pub few : length ls ≤ 512
-  pub size : 515 + linesSize ls ≤ 8192
+  pub few : length ls ≤ desk .lines
+  pub size : linesAt desk + linesSize ls ≤ desk .room
   pub lines : Each Good ls
 
-each-good : (n : Counts) → n .symbols ≤ 32 → n .terms ≤ 32 → n .hedges ≤ 32 → n .functions ≤ 32 → (ls : List Conj) → Each (λ k. declaredC n k ≡ true) ls → Each (λ k. step k ≡ nothing) ls → Each Good ls
+each-good : (n : Counts) → n .symbols ≤ desk .each → n .terms ≤ desk .each → n .hedges ≤ desk .each → n .functions ≤ desk .each → (ls : List Conj) → Each (λ k. declaredC n k ≡ true) ls → Each (λ k. step k ≡ nothing) ls → Each Good ls
 each-good n s t h f [] d q = tt
 each-good n s t h f (l ∷ ls) d q = (record { fine = conj-fine n s t h f l (d .0); settled = settled-line l (q .0) }, each-good n s t h f ls (d .1) (q .1))
 
@@ -108,7 +108,7 @@ pub lines-end : (work answer : ℕ) (question : List ℕ) (ls : List Conj) (n : 
 lines-end work answer question ls n e =
     let (q, asked, ran) = answered-run desk work answer question ls n e in
     let r = ranges desk question q asked in
-    let f = both-true (leb (length ls) 512) (leb (515 + linesSize ls) 8192) (lines-fit (q .alternatives) ls n ran) in
+    let f = both-true (leb (length ls) (desk .lines)) (leb (linesAt desk + linesSize ls) (desk .room)) (lines-fit (q .alternatives) ls n ran) in
     let l = r .long in
     record {
       ranged = record { header = omega arith; terms = r .terms; hedges = r .hedges; functions = r .functions };

@@ -7,12 +7,14 @@ use mathlib.Core.List.{List, _∷_, _++_, map}
 use mathlib.Core.Option.{some}
 use lib.ListN.{length, take, drop}
 use lib.Seq.{sets, slice, sets-eq, take-at}
+use Rattle.language.specs.Limits.{desk}
 use Rattle.language.specs.declared.Refusal.the-variants.{LongResult, LongWaiting, StepLimit}
 use Rattle.language.specs.Trees.{Literal, Conj}
 use Rattle.language.specs.Writing.{conjWords}
 use Rattle.rules.specs.Reply.{nothing, results}
 use Rattle.rules.specs.Step.{place, step}
 use Rattle.rules.specs.Rules.{Branch}
+use Rattle.rules.specs.Places.{noRule}
 use Rattle.plans.specs.Sizes.{placedWords}
 use Rattle.search.specs.Ranking.{Found, nowhere, somewhere, sideAnswer}
 use Rattle.search.proofs.Walks.{stands-here}
@@ -28,13 +30,13 @@ use Rattle.solver.proofs.Going.{placed-words, no-more-steps, step-long,
 
 module _ (oldWork oldAnswer : List ℕ) (ls : List Conj) (c : Conj) (w : List Conj) (s : State) (work answer : List ℕ)
     (p : Running oldWork oldAnswer ls (c ∷ w) s work answer) (k : List ℕ) (ek : k ≡ conjWords c) (next : ℕ) (en : next ≡ s .at + 1 + length k)
-    (n at : ℕ) (swap : Bool) (h : n < 28) where
-  pub limit-met : Found c n at swap → 10000 ≤ s .steps → Turns oldWork oldAnswer ls (c ∷ w) s (Stop StepLimit) work answer
+    (n at : ℕ) (swap : Bool) (h : n < noRule) where
+  pub limit-met : Found c n at swap → desk .steps ≤ s .steps → Turns oldWork oldAnswer ls (c ∷ w) s (Stop StepLimit) work answer
   limit-met (nowhere e f) g = absurd (omega arith)
   limit-met (somewhere before l behind bs e q m a d) g =
       no-more-steps oldWork oldAnswer ls c w s work answer p k ek next en (map (place before behind) bs) (searched c _ d) g
 
-  module _ (g : s .steps < 10000) (r : Stepped) (new : List ℕ)
+  module _ (g : s .steps < desk .steps) (r : Stepped) (new : List ℕ)
       (f : (before : Conj) (l : Literal) (behind : Conj) (bs : List Branch) → LiteralAt k at before l behind → sideAnswer swap n (before ++ behind) l ≡ some bs
       → Took (placedWords before behind bs) work next r new) where
     -- what is shown from what was found and taken
@@ -78,7 +80,7 @@ module _ (oldWork oldAnswer : List ℕ) (ls : List Conj) (c : Conj) (w : List Co
             (step-on oldWork oldAnswer ls c w s work answer p k ek next en _ d g _ (placed-words before behind bs) m o here new i y)
 
 -- where nothing was found, no rule applies
-pub none-found : (c : Conj) (n at : ℕ) (swap : Bool) → Found c n at swap → 28 ≤ n → step c ≡ nothing
+pub none-found : (c : Conj) (n at : ℕ) (swap : Bool) → Found c n at swap → noRule ≤ n → step c ≡ nothing
 none-found c n at swap (nowhere e d) h = searched c _ d
 none-found c n at swap (somewhere before l behind bs e q m a d) h = absurd (omega arith)
 

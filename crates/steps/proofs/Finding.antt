@@ -10,6 +10,7 @@ use borrow.Author.Tests.{ltb-true, ltb-false, leb-true, leb-false, lt-ltb, le-lt
 use Rattle.language.specs.Kinds.{pick}
 use Rattle.language.specs.Trees.{Hedge, Expr, Literal, eqn, mem, Conj}
 use Rattle.language.specs.Writing.{literalWords, conjWords}
+use Rattle.rules.specs.Places.{noRule}
 use Rattle.views.specs.Standing.{LiteralAt}
 use Rattle.plans.specs.Ranks.{eqnRank, memRank}
 use Rattle.search.specs.Ranking.{Ranked, Sought, Found}
@@ -100,13 +101,13 @@ pass-all b done (l ∷ rest) s =
 
 pub best-found : (c : Conj) (b : Best) → b ≡ bestOf c → Found c (b .rank) (b .at) (b .swap)
 unfolding bestOf
-best-found c b e = rw e (finish c _ _ _ (pass-all (best 28 0 false) [] c (start c 0 false)))
+best-found c b e = rw e (finish c _ _ _ (pass-all (best noRule 0 false) [] c (start c 0 false)))
 
 -- ---- places
 
-pub placed-on : (n : ℕ) (a b r : Best) → r ≡ lesserOf a b → (a .rank < 28 → a .at < n) → b .at < n → r .rank < 28 → r .at < n
+pub placed-on : (n : ℕ) (a b r : Best) → r ≡ lesserOf a b → (a .rank < noRule → a .at < n) → b .at < n → r .rank < noRule → r .at < n
 placed-on n a b r e f g = rw e (go (ltb (b .rank) (a .rank)))
   where
-    go : (t : Bool) → pick t b a .rank < 28 → pick t b a .at < n
+    go : (t : Bool) → pick t b a .rank < noRule → pick t b a .at < n
     go true h = g
     go false h = f h
