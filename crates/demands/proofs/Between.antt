@@ -6,7 +6,7 @@ use mathlib.Core.List.{List, [], _∷_, map}
 use native.Mathlib.Omega.{arith}
 use borrow.Author.Tests.{le-ltb}
 use lib.Dec.{ltb}
-use lib.ListN.{length, drop}
+use lib.ListN.{drop}
 use Rattle.language.specs.declared.Refusal.{Refusal}
 use Rattle.language.specs.declared.Refusal.the-variants.{ShortSlice}
 use Rattle.language.specs.Numbers.{numberOf}
@@ -15,7 +15,7 @@ use Rattle.language.specs.Trees.{Conj, Question}
 use Rattle.language.specs.Question.{Asked, asks, readQuestion}
 use Rattle.rules.specs.Run.{Outcome, finished, run}
 use Rattle.rules.specs.Answer.{Solving, answered, unread, solvingOf, solving, markOf}
-use Rattle.exact.specs.Each.{Each}
+use Rattle.rules.specs.Each.{Each}
 use Rattle.solver.specs.Leaves.{leaves}
 use Rattle.showing.specs.Answers.{Answer}
 use Rattle.showing.proofs.Finished.{lines-end}

@@ -1,5 +1,5 @@
 -- The third column by the numbers: 1 to 6 change nothing, 7 to 10 leave zeros.
-use Prim.Native.Nat.{ℕ, _≤_}
+use Prim.Native.Nat.{_≤_}
 use mathlib.Core.Path.{_≡_, refl}
 use native.Mathlib.Omega.{arith}
 use Rattle.language.specs.declared.Refusal.{Refusal}

@@ -13,7 +13,7 @@ use Rattle.language.specs.Numbers.{numberOf}
 use Rattle.language.specs.Trees.{Question}
 use Rattle.language.specs.Question.{asks, readQuestion}
 use Rattle.meaning.specs.Meaning.{Filling, MeetsQuestion}
-use Rattle.exact.specs.Each.{Each}
+use Rattle.rules.specs.Each.{Each}
 use Rattle.lines.specs.Matching.{Matching}
 use Rattle.solver.specs.declared.Outcome.the-variants.{Refused, NoLine}
 use Rattle.solver.specs.Leaves.{outcomeNumber}

@@ -1,6 +1,6 @@
 -- Which number is given, and when: a question is refused exactly for its first fault.
 use Prim.Native.Nat.{ℕ, _<_, _≤_}
-use mathlib.Core.Path.{_≡_, refl, sym, ap, _∙_}
+use mathlib.Core.Path.{_≡_, refl, ap}
 use mathlib.Core.Logic.{_⊎_, inl, inr}
 use mathlib.Core.Bool.{Bool, true, false, _&&_}
 use mathlib.Core.List.{List}
@@ -13,7 +13,7 @@ use Rattle.language.specs.declared.Refusal.{Refusal}
 use Rattle.language.specs.declared.Refusal.the-variants.{QuestionLength, CountRange, BadOffset, NotLiterals, Undeclared}
 use Rattle.language.specs.Limits.{desk}
 use Rattle.language.specs.Numbers.{numberOf}
-use Rattle.language.specs.Trees.{Conj, Counts, Question}
+use Rattle.language.specs.Trees.{Conj, Counts}
 use Rattle.language.specs.Question.{Asked, asks, refuses, readQuestion, countsOf, alternativesOf, lengthFits, countsFit, laidOut, parts, readAll, declaredQ}
 use Rattle.language.proofs.Bools.{both-true}
 use Rattle.demands.specs.Table.{OutOfRange, QuestionFault, bad-length, bad-count, bad-offset, not-literals, undeclared, First}
@@ -189,25 +189,43 @@ module _ (ws : List ℕ) where
       on-read l c o (some ks) r = on-declared l c o ks r (declaredQ (countsOf ws) ks) refl
 
       on-laid : (l : lengthFits desk ws ≡ true) (c : countsFit desk (countsOf ws) (alternativesOf ws) ≡ true) (b : Bool) → laidOut 5 (alternativesOf ws) ws ≡ b
-          → Judged (elim b [ false ↦ refuses BadOffset | true ↦ elim (readAll desk (parts 5 (alternativesOf ws) ws)) [
-            | none ↦ refuses NotLiterals
-            | some ks ↦ elim (declaredQ (countsOf ws) ks) [ false ↦ refuses Undeclared | true ↦ asks (record { counts = countsOf ws; alternatives = ks }) ]
-          ] ])
+          → Judged (elim b [
+            | false ↦ refuses BadOffset
+            | true ↦ elim (readAll desk (parts 5 (alternativesOf ws) ws)) [
+              | none ↦ refuses NotLiterals
+              | some ks ↦ elim (declaredQ (countsOf ws) ks) [ false ↦ refuses Undeclared | true ↦ asks (record { counts = countsOf ws; alternatives = ks }) ]
+            ]
+          ])
       on-laid l c false o = first-of BadOffset (bad-offset refl o) (from-4 l c)
       on-laid l c true o = on-read l c o (readAll desk (parts 5 (alternativesOf ws) ws)) refl
 
       on-counts : (l : lengthFits desk ws ≡ true) (b : Bool) → countsFit desk (countsOf ws) (alternativesOf ws) ≡ b
-          → Judged (elim b [ false ↦ refuses CountRange | true ↦ elim (laidOut 5 (alternativesOf ws) ws) [ false ↦ refuses BadOffset | true ↦ elim (readAll desk (parts 5 (alternativesOf ws) ws)) [
-            | none ↦ refuses NotLiterals
-            | some ks ↦ elim (declaredQ (countsOf ws) ks) [ false ↦ refuses Undeclared | true ↦ asks (record { counts = countsOf ws; alternatives = ks }) ]
-          ] ] ])
+          → Judged (elim b [
+            | false ↦ refuses CountRange
+            | true ↦ elim (laidOut 5 (alternativesOf ws) ws) [
+              | false ↦ refuses BadOffset
+              | true ↦ elim (readAll desk (parts 5 (alternativesOf ws) ws)) [
+                | none ↦ refuses NotLiterals
+                | some ks ↦ elim (declaredQ (countsOf ws) ks) [ false ↦ refuses Undeclared | true ↦ asks (record { counts = countsOf ws; alternatives = ks }) ]
+              ]
+            ]
+          ])
       on-counts l false c = first-of CountRange (bad-count refl (count-off (countsOf ws) (alternativesOf ws) c)) (from-3 l)
       on-counts l true c = on-laid l c (laidOut 5 (alternativesOf ws) ws) refl
 
       on-length : (b : Bool) → lengthFits desk ws ≡ b
-          → Judged (elim b [ false ↦ refuses QuestionLength | true ↦ elim (countsFit desk (countsOf ws) (alternativesOf ws)) [ false ↦ refuses CountRange | true ↦ elim (laidOut 5 (alternativesOf ws) ws) [ false ↦ refuses BadOffset | true ↦ elim (readAll desk (parts 5 (alternativesOf ws) ws)) [
-            | none ↦ refuses NotLiterals
-            | some ks ↦ elim (declaredQ (countsOf ws) ks) [ false ↦ refuses Undeclared | true ↦ asks (record { counts = countsOf ws; alternatives = ks }) ]
-          ] ] ] ])
+          → Judged (elim b [
+            | false ↦ refuses QuestionLength
+            | true ↦ elim (countsFit desk (countsOf ws) (alternativesOf ws)) [
+              | false ↦ refuses CountRange
+              | true ↦ elim (laidOut 5 (alternativesOf ws) ws) [
+                | false ↦ refuses BadOffset
+                | true ↦ elim (readAll desk (parts 5 (alternativesOf ws) ws)) [
+                  | none ↦ refuses NotLiterals
+                  | some ks ↦ elim (declaredQ (countsOf ws) ks) [ false ↦ refuses Undeclared | true ↦ asks (record { counts = countsOf ws; alternatives = ks }) ]
+                ]
+              ]
+            ]
+          ])
       on-length false l = first-of QuestionLength (bad-length refl (length-off ws l)) from-2
       on-length true l = on-counts l (countsFit desk (countsOf ws) (alternativesOf ws)) refl

@@ -1,31 +1,31 @@
 -- Each number is given exactly when the table says so: of any call of solve and of try_filling that came back.
-use Prim.Native.Nat.{ℕ, zero, suc, _≤_}
-use mathlib.Core.Path.{_≡_, refl, sym, ap, subst, _∙_}
+use Prim.Native.Nat.{ℕ, _≤_}
+use mathlib.Core.Path.{_≡_, refl, sym, ap, _∙_}
 use mathlib.Core.Logic.{_⊎_, inl, inr, _↔_}
 use mathlib.Core.Bool.{Bool, true, false}
-use mathlib.Core.List.{List, [], _∷_, _++_}
+use mathlib.Core.List.{List}
 use native.Mathlib.Omega.{arith}
 use lib.Dec.{lit≤, ltb}
-use lib.ListN.{length, replicate, drop}
+use lib.ListN.{length}
 use Rattle.language.specs.declared.Refusal.{Refusal}
 use Rattle.language.specs.declared.Refusal.the-variants.{ShortSlice, FillingLayout, FillingValue, LongLiteral}
 use Rattle.language.specs.Limits.{desk}
 use Rattle.language.specs.Numbers.{numberOf}
-use Rattle.language.specs.Trees.{Counts, Question}
+use Rattle.language.specs.Trees.{Question}
 use Rattle.language.specs.Question.{Asked, asks, refuses, readQuestion}
 use Rattle.meaning.specs.Meaning.{Filling}
-use Rattle.meaning.specs.Values.{Given, gives, readFilling, times}
+use Rattle.meaning.specs.Values.{Given, gives, readFilling}
 use Rattle.meaning.specs.Values as values
-use Rattle.rules.specs.Answer.{Solving, answered, unread, given-up, solving, zeros, Verdict, noLine, allSolved, someOpen, verdictOf}
+use Rattle.rules.specs.Answer.{Solving, answered, unread, given-up, solving, Verdict, noLine, allSolved, someOpen, verdictOf}
 use Rattle.rules.specs.Calls.{Trying, decides, tooLong, tryingWith, tryingOf, trying}
 use Rattle.rules.specs.Calls as calls
 use Rattle.solver.specs.declared.Outcome.{Outcome}
 use Rattle.solver.specs.declared.Outcome.the-variants.{Refused}
 use Rattle.solver.specs.declared.Solved.{Solved}
-use Rattle.solver.specs.Leaves.{verdict, over, leaves}
+use Rattle.solver.specs.Leaves.{verdict, leaves}
 use Rattle.trying.specs.declared.Tried.{Tried}
 use Rattle.trying.specs.declared.Tried.the-variants as tried
-use Rattle.trying.specs.Outcome.{Answers, cleared, Outcome as Tries}
+use Rattle.trying.specs.Outcome.{Answers, Outcome as Tries}
 use Rattle.demands.specs.Solves.{Solve}
 use Rattle.demands.specs.Tries.{Try}
 use Rattle.demands.specs.Columns.{column, leftIn}
@@ -124,14 +124,6 @@ trying-as work ws fs = on (ltb work (desk .room))
     on true = inl (lit≤ tt)
     on false = on-asked (readQuestion desk ws) (question-judged ws)
 
-replicate-times : (n : ℕ) → _≡_ {A = List ℕ} (replicate n 0) (times n 0)
-replicate-times zero = refl
-replicate-times (suc n) = ap (λ (l : List ℕ). 0 ∷ l) (replicate-times n)
-
-cleared-zeros : (w : List ℕ) → cleared w ≡ over (zeros desk) w
-unfolding cleared zeros
-cleared-zeros w = ap (λ z. z ++ drop (desk .room) w) (replicate-times (desk .room))
-
 pub try-tells : (t : Try) → TryTells t
 try-tells t = by (trying desk (length (t .work)) (t .question) (t .filling)) (t .said) (trying-as (length (t .work)) (t .question) (t .filling))
   where
@@ -150,8 +142,8 @@ try-tells t = by (trying desk (length (t .work)) (t .question) (t .filling)) (t 
     decided (inr a) = inr (a .0)
 
     by : (v : Trying) → Tries v (t .returned) (t .work) (t .workLeft) → Trying-as v → TryTells t
-    by (decides q ρ) o s = tells.decides (decided (o .0)) (o .1 ∙ cleared-zeros (t .work))
+    by (decides q ρ) o s = tells.decides (decided (o .0)) (o .1)
     by (calls.unread r) o s = tells.TryTells.refuses r (o .0) (number r s) (o .1 ∙ sym (kept r s))
     by (calls.given-up r) o s =
         let z = ap numberOf s in
-        tells.TryTells.refuses r (o .0) (inr (omega arith, omega arith)) (o .1 ∙ cleared-zeros (t .work) ∙ sym (ap (λ x. leftIn (column x) (t .work) (t .work)) s))
+        tells.TryTells.refuses r (o .0) (inr (omega arith, omega arith)) (o .1 ∙ sym (ap (λ x. leftIn (column x) (t .work) (t .work)) s))

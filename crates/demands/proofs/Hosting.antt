@@ -25,9 +25,8 @@ use Rattle.host.specs.Bytes.{wordsOf, bytesOf, wordsIn}
 use Rattle.host.specs.Host as host
 use Rattle.host.proofs.Refusals.{each-number, Numbered, numbered}
 use Rattle.host.proofs.Pairs.{length-wordsOf}
-use Rattle.demands.specs.Answers.{Line, literalsOf, MeetsLines, lineNumbered}
+use Rattle.demands.specs.Answers.{literalsOf, lineNumbered}
 use Rattle.demands.specs.Promises.{Promised, Told}
-use Rattle.demands.specs.Columns.{column}
 use Rattle.demands.specs.HostCalls.{DeskSolve, DeskTry, DeskExample}
 use Rattle.demands.specs.HostTells.{leftInBytes, DeskSolveTells, DeskTryTells, DeskTryAgrees, hostNumber, BytesTold, DeskExampleTells}
 use Rattle.demands.specs.HostTells as tells

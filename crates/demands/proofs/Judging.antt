@@ -1,6 +1,6 @@
 -- Solving and trying refuse exactly for their first fault.
-use Prim.Native.Nat.{ℕ, _<_, _≤_}
-use mathlib.Core.Path.{_≡_, refl, sym, ap, subst, _∙_}
+use Prim.Native.Nat.{ℕ, _<_}
+use mathlib.Core.Path.{_≡_, refl, ap}
 use mathlib.Core.Logic.{_⊎_, inl, inr}
 use mathlib.Core.Bool.{Bool, true, false, _&&_}
 use mathlib.Core.List.{List}
@@ -13,7 +13,7 @@ use Rattle.language.specs.declared.Refusal.{Refusal}
 use Rattle.language.specs.declared.Refusal.the-variants.{ShortSlice, FillingLayout, FillingValue, LongLiteral}
 use Rattle.language.specs.Limits.{desk}
 use Rattle.language.specs.Numbers.{numberOf}
-use Rattle.language.specs.Trees.{Conj, Counts, Question}
+use Rattle.language.specs.Trees.{Counts, Question}
 use Rattle.language.specs.Question.{Asked, asks, refuses, readQuestion, laidOut, parts}
 use Rattle.language.proofs.Bools.{both-true}
 use Rattle.meaning.specs.Complete.{Complete}
@@ -24,12 +24,10 @@ use Rattle.rules.specs.Run.{Outcome, finished, refused, run}
 use Rattle.rules.specs.Answer.{Solving, answered, unread, given-up, ran, solvingOf, solving}
 use Rattle.rules.specs.Calls.{Trying, decides, tooLong, tryingWith, tryingOf, trying}
 use Rattle.rules.specs.Calls as calls
-use Rattle.host.proofs.Refusals.{each-number, Numbered, numbered}
-use Rattle.demands.specs.Runs.{Stops}
+use Rattle.host.proofs.Refusals.{each-number}
 use Rattle.demands.specs.Table.{QuestionFault, SolveFault, LayoutOff, TryFault, First}
 use Rattle.demands.specs.Table as table
 use Rattle.demands.proofs.Runs.{stopped-run, refused-stops}
-use Rattle.demands.proofs.Numbers.{number-one}
 use Rattle.demands.proofs.Faults.{either-false, Judged, question-judged}
 
 one-question : {a : Asked} {q r : Question} → a ≡ asks q → a ≡ asks r → q ≡ r

@@ -1,5 +1,5 @@
 -- An answered question: what its words and the answer's words promise, and what is told of its lines' examples. No call is spoken of here.
-use Prim.Native.Nat.{ℕ, _≤_, _<_}
+use Prim.Native.Nat.{ℕ, _≤_}
 use mathlib.Core.Path.{_≡_, refl, sym, ap, subst, _∙_}
 use mathlib.Core.Logic.{inl, inr, Iff·trans}
 use mathlib.Core.Bool.{Bool, true, false, _||_}
@@ -23,10 +23,10 @@ use Rattle.rules.specs.Solved.{solved}
 use Rattle.rules.specs.Answer.{markOf, answered, solving}
 use Rattle.rules.specs.Example.{example}
 use Rattle.rules.specs.Calls.{lineAt, Showing, shows, denied, fitted, shown}
-use Rattle.exact.specs.Each.{Each}
-use Rattle.exact.proofs.Each.{each-map}
+use Rattle.rules.specs.Each.{Each}
+use Rattle.rules.proofs.Each.{each-map}
 use Rattle.exact.proofs.Run.{answered-run, run-same}
-use Rattle.exact.proofs.Invariant.{lines-rest}
+use Rattle.rules.proofs.Invariant.{lines-rest}
 use Rattle.exact.proofs.Declared.{lines-declared, read-declared}
 use Rattle.lines.proofs.Lines.{example-meets-line, example-written, matching-lines-solved}
 use Rattle.lines.proofs.Shown.{each-line, read-counts}

@@ -1,5 +1,5 @@
 -- The answer's words, read back by offsets and marks, are the lines that were written.
-use Prim.Native.Nat.{ℕ, zero, suc, _+_, _-_, _<_}
+use Prim.Native.Nat.{ℕ, zero, suc, _+_, _-_}
 use mathlib.Core.Path.{_≡_, refl, sym, ap, ap₂, _∙_}
 use mathlib.Core.Logic.{inl, inr, _↔_}
 use mathlib.Core.Bool.{Bool, true, false}
@@ -16,13 +16,13 @@ use Rattle.language.specs.Trees.{Conj}
 use Rattle.language.specs.Writing.{conjWords}
 use Rattle.language.specs.Fine.{fineConj}
 use Rattle.language.proofs.Laws.{conjunctions-read}
-use Rattle.meaning.specs.Meaning.{Filling, MeetsAll, MeetsOne}
+use Rattle.meaning.specs.Meaning.{Filling, MeetsOne}
 use Rattle.rules.specs.Solved.{solved}
 use Rattle.rules.specs.Answer.{markOf, lineWords, countOpen}
 use Rattle.rules.specs.Calls.{lineAt}
 use Rattle.showing.specs.Answers.{Answer}
 use Rattle.showing.proofs.Lines.{Place, place-of, count-is}
-use Rattle.demands.specs.Answers.{Line, literalsOf, marked, readLine, lineIn, withLine, readLines, readAnswer, MeetsLine, MeetsLines, lineNumbered, opens}
+use Rattle.demands.specs.Answers.{Line, literalsOf, marked, readLine, lineIn, withLine, readLines, readAnswer, MeetsLines, lineNumbered, opens}
 
 -- a line of the run as it stands in an answer
 abbrev pub asLine : Conj → Line

@@ -1,5 +1,5 @@
 -- A run is refused exactly where something stops it: what is left of it at a state that it reaches comes to what the whole comes to.
-use Prim.Native.Nat.{ℕ, zero, suc, _≤_, _<_}
+use Prim.Native.Nat.{ℕ, zero, suc, _≤_}
 use mathlib.Core.Path.{_≡_, refl, sym, ap, _∙_}
 use mathlib.Core.Bool.{Bool, true, false}
 use mathlib.Core.List.{List, [], _∷_, _++_}
@@ -12,7 +12,7 @@ use Rattle.language.specs.Limits.{Limits}
 use Rattle.language.specs.Trees.{Conj}
 use Rattle.rules.specs.Reply.{Reply, nothing, results, stops}
 use Rattle.rules.specs.Step.{step}
-use Rattle.rules.specs.Run.{anyLong, waitingSize, linesFit, Outcome, finished, refused, checked, lined, turn, runFrom, run}
+use Rattle.rules.specs.Run.{anyLong, waitingSize, linesFit, Outcome, refused, checked, lined, turn, runFrom, run}
 use Rattle.rules.proofs.Stopping.{StopsBy, step-never-stops}
 use Rattle.demands.specs.Runs.{Reached, begins, rests, steps, Stops, long-result, long-waiting, no-line-fits, no-step-left}
 

@@ -17,10 +17,10 @@ use Rattle.language.specs.Question.{countsOf}
 use Rattle.meaning.specs.Values.{fillingWords}
 use Rattle.rules.specs.Solved.{solved}
 use Rattle.rules.specs.Example.{example}
-use Rattle.rules.specs.Answer.{Solving, answered, unread, given-up, solving, answerWords, zeros}
+use Rattle.rules.specs.Answer.{Solving, answered, unread, given-up, solving, answerWords, zeros, overwritten}
 use Rattle.rules.specs.Calls.{lineAt, shows, denied, fitted, shown, showingOf, showing}
 use Rattle.exact.proofs.Declared.{read-declared}
-use Rattle.solver.specs.Leaves.{outcomeNumber, over, leaves}
+use Rattle.solver.specs.Leaves.{outcomeNumber, leaves}
 use Rattle.showing.specs.declared.Shown.{Shown}
 use Rattle.showing.specs.declared.Shown.the-variants.{Shows, Denied}
 use Rattle.showing.specs.Shown.{resultOf, roomOf}
@@ -31,7 +31,7 @@ use Rattle.demands.specs.Solves.{Solve}
 use Rattle.demands.specs.Examples.{Example}
 use Rattle.demands.specs.Answers.{Line, literalsOf, lineNumbered}
 use Rattle.demands.specs.Promises.{Promised, exampleWords, RoomShows, Told, missing, is-open, too-long, shown as is-shown}
-use Rattle.demands.specs.Columns.{column, leftIn}
+use Rattle.demands.specs.Columns.{leftIn}
 use Rattle.demands.specs.Table.{SolveFault, First}
 use Rattle.demands.specs.Tells.{ExampleTells, refuses, told}
 use Rattle.demands.proofs.Reading.{asLine, literals-back}
@@ -40,7 +40,7 @@ use Rattle.demands.proofs.Between.{stands, one-answer, long-enough}
 use Rattle.demands.proofs.Columns.{early-column, late-column}
 use Rattle.demands.proofs.Numbers.{first-one}
 use Rattle.demands.proofs.Judging.{SolveJudged, solve-judged}
-use Rattle.demands.proofs.Solving.{Solves, solves}
+use Rattle.demands.proofs.Solving.{solves}
 
 -- what comes back, the two slices and the room
 abbrev Left : Type 0
@@ -105,17 +105,17 @@ module _ (c : Example) where
       by (unread r) d e =
           let b : Numbered (unread r) = subst Numbered d (numbered desk _ _ _) in
           let u = early-column r (b .1) in
-          refuses r (ap (λ (x : Left). x .0) e) (b .0, omega arith) (ap (λ (x : Left). x .1) e ∙ sym (ap (λ k. leftIn k (over (zeros desk) (c .work)) (c .work)) u))
-          (ap (λ (x : Left). x .2) e ∙ sym (ap (λ k. leftIn k (over (zeros desk) (c .answer)) (c .answer)) u)) (ap (λ (x : Left). x .3) e)
+          refuses r (ap (λ (x : Left). x .0) e) (b .0, omega arith) (ap (λ (x : Left). x .1) e ∙ sym (ap (λ k. leftIn k (overwritten desk (zeros desk) (c .work)) (c .work)) u))
+          (ap (λ (x : Left). x .2) e ∙ sym (ap (λ k. leftIn k (overwritten desk (zeros desk) (c .answer)) (c .answer)) u)) (ap (λ (x : Left). x .3) e)
       by (given-up r) d e =
           let b : Numbered (given-up r) = subst Numbered d (numbered desk _ _ _) in
           let u = late-column r (b .0) (b .1) in
-          refuses r (ap (λ (x : Left). x .0) e) (omega arith, b .1) (ap (λ (x : Left). x .1) e ∙ sym (ap (λ k. leftIn k (over (zeros desk) (c .work)) (c .work)) u))
-          (ap (λ (x : Left). x .2) e ∙ sym (ap (λ k. leftIn k (over (zeros desk) (c .answer)) (c .answer)) u)) (ap (λ (x : Left). x .3) e)
+          refuses r (ap (λ (x : Left). x .0) e) (omega arith, b .1) (ap (λ (x : Left). x .1) e ∙ sym (ap (λ k. leftIn k (overwritten desk (zeros desk) (c .work)) (c .work)) u))
+          (ap (λ (x : Left). x .2) e ∙ sym (ap (λ k. leftIn k (overwritten desk (zeros desk) (c .answer)) (c .answer)) u)) (ap (λ (x : Left). x .3) e)
       by (answered ls n) d e =
           let t = tells-from ls n d e in
           told (t .from .promised) (t .tells) (ap (λ (x : Left). x .1) e)
-          (ap (λ (x : Left). x .2) e ∙ ap (λ ks. over (answerWords desk ks) (c .answer)) (sym (ap literalsOf (t .from .lines) ∙ literals-back ls)))
+          (ap (λ (x : Left). x .2) e ∙ ap (λ ks. overwritten desk (answerWords desk ks) (c .answer)) (sym (ap literalsOf (t .from .lines) ∙ literals-back ls)))
 
   -- 1 to 10 come back exactly when the table says so, as from solving
   pub example-given : (e : Refusal) → numberOf e ≤ 10 → (c .returned ≡ Denied e) ↔ First (SolveFault (length (c .work)) (length (c .answer)) (c .question)) e

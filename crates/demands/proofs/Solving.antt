@@ -1,5 +1,5 @@
 -- What is shown of any call of solve that came back: by what solving came to, with the contract's equation carried along.
-use Prim.Native.Nat.{ℕ, suc, _≤_}
+use Prim.Native.Nat.{ℕ, suc}
 use mathlib.Core.Path.{_≡_, refl, sym, ap, subst, _∙_}
 use mathlib.Core.Bool.{Bool, true, false}
 use mathlib.Core.List.{List, [], _∷_, map}
@@ -14,18 +14,17 @@ use Rattle.language.specs.Kinds.{pick}
 use Rattle.language.specs.Trees.{Conj, Question}
 use Rattle.language.specs.Question.{asks, readQuestion}
 use Rattle.meaning.specs.Meaning.{Filling, MeetsQuestion}
-use Rattle.rules.specs.Answer.{Solving, answered, unread, given-up, solving, answerWords, zeros, countOpen, someOpen, allSolved, verdictOf}
-use Rattle.exact.specs.Each.{Each}
+use Rattle.rules.specs.Answer.{Solving, answered, unread, given-up, solving, answerWords, zeros, overwritten, countOpen, someOpen, allSolved, verdictOf}
+use Rattle.rules.specs.Each.{Each}
 use Rattle.lines.specs.Matching.{Matching}
 use Rattle.solver.specs.declared.Outcome.the-variants.{NoLine, AllSolved, SomeOpen}
 use Rattle.solver.specs.declared.Solved.{Solved}
-use Rattle.solver.specs.Leaves.{verdict, verdictFor, outcomeNumber, over, leaves}
+use Rattle.solver.specs.Leaves.{verdict, verdictFor, outcomeNumber, leaves}
 use Rattle.showing.specs.Answers.{Answer}
 use Rattle.host.proofs.Refusals.{Numbered, numbered}
 use Rattle.demands.specs.Solves.{Solve}
 use Rattle.demands.specs.Answers.{Line, literalsOf, MeetsLines, opens}
-use Rattle.demands.specs.Promises.{Answered}
-use Rattle.demands.specs.Columns.{column, leftIn}
+use Rattle.demands.specs.Columns.{leftIn}
 use Rattle.demands.specs.Tells.{SolveAnswers, SolveTells, refuses, answers}
 use Rattle.demands.proofs.Reading.{asLine, literals-back, opens-back}
 use Rattle.demands.proofs.Promising.{promise}
@@ -93,7 +92,7 @@ module _ (c : Solve) where
             steps = ap (λ (r : Solved). r .steps) r ∙ sym (f .steps);
           };
           work = ap (λ (x : Left). x .1) e;
-          answer = ap (λ (x : Left). x .2) e ∙ ap (λ ks. over (answerWords desk ks) (c .answer)) (sym (ap literalsOf (f .lines) ∙ literals-back ls));
+          answer = ap (λ (x : Left). x .2) e ∙ ap (λ ks. overwritten desk (answerWords desk ks) (c .answer)) (sym (ap literalsOf (f .lines) ∙ literals-back ls));
         };
         lines = f .lines;
       }
@@ -122,8 +121,8 @@ module _ (c : Solve) where
           refuses r (record {
             returned = ap (λ (x : Left). x .0) e;
             number = (b .0, omega arith);
-            work = ap (λ (x : Left). x .1) e ∙ sym (ap (λ k. leftIn k (over (zeros desk) (c .work)) (c .work)) u);
-            answer = ap (λ (x : Left). x .2) e ∙ sym (ap (λ k. leftIn k (over (zeros desk) (c .answer)) (c .answer)) u);
+            work = ap (λ (x : Left). x .1) e ∙ sym (ap (λ k. leftIn k (overwritten desk (zeros desk) (c .work)) (c .work)) u);
+            answer = ap (λ (x : Left). x .2) e ∙ sym (ap (λ k. leftIn k (overwritten desk (zeros desk) (c .answer)) (c .answer)) u);
           })
       by (given-up r) d e =
           let b : Numbered (given-up r) = subst Numbered d (numbered desk _ _ _) in
@@ -131,8 +130,8 @@ module _ (c : Solve) where
           refuses r (record {
             returned = ap (λ (x : Left). x .0) e;
             number = (omega arith, b .1);
-            work = ap (λ (x : Left). x .1) e ∙ sym (ap (λ k. leftIn k (over (zeros desk) (c .work)) (c .work)) u);
-            answer = ap (λ (x : Left). x .2) e ∙ sym (ap (λ k. leftIn k (over (zeros desk) (c .answer)) (c .answer)) u);
+            work = ap (λ (x : Left). x .1) e ∙ sym (ap (λ k. leftIn k (overwritten desk (zeros desk) (c .work)) (c .work)) u);
+            answer = ap (λ (x : Left). x .2) e ∙ sym (ap (λ k. leftIn k (overwritten desk (zeros desk) (c .answer)) (c .answer)) u);
           })
 
   pub none : c .returned .outcome ≡ NoLine → (asked : Question) × (readQuestion desk (c .question) ≡ asks asked) × ((ρ : Filling) → ¬ MeetsQuestion ρ asked)

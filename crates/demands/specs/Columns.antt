@@ -4,8 +4,7 @@ use mathlib.Core.List.{List}
 use Rattle.language.specs.declared.Refusal.{Refusal}
 use Rattle.language.specs.declared.Refusal.the-variants.{ShortSlice, QuestionLength, CountRange, BadOffset, NotLiterals, Undeclared, LongResult, LongWaiting, LineRoom, StepLimit, FillingLayout, FillingValue, LongLiteral, NoSuchLine, OpenLine, LongExample}
 use Rattle.language.specs.Limits.{desk}
-use Rattle.rules.specs.Answer.{zeros}
-use Rattle.solver.specs.Leaves.{over}
+use Rattle.rules.specs.Answer.{zeros, overwritten}
 
 pub data Column : Type 0 where
   unchanged zeroed as-solved : Column
@@ -32,5 +31,5 @@ column LongExample = as-solved
 -- longer slice stay.'
 abbrev pub leftIn : Column → List ℕ → List ℕ → List ℕ
 leftIn unchanged solved old = old
-leftIn zeroed solved old = over (zeros desk) old
+leftIn zeroed solved old = overwritten desk (zeros desk) old
 leftIn as-solved solved old = solved

@@ -14,7 +14,7 @@ use Rattle.meaning.specs.Values.{gives, readFilling, fillingWords}
 use Rattle.rules.specs.Run.{finished, run}
 use Rattle.rules.specs.Answer.{markOf}
 use Rattle.rules.specs.Example.{example}
-use Rattle.exact.specs.Each.{Each}
+use Rattle.rules.specs.Each.{Each}
 use Rattle.lines.specs.Matching.{Matching}
 use Rattle.lines.specs.Fillings.{Agree}
 use Rattle.solver.specs.declared.Solved.{Solved}
