@@ -10,7 +10,8 @@ use lib.ListN.{length, take, drop, set, length-append, length-drop, drop-of-leng
 use lib.Seq.{sets, slice, length-sets, sets-eq, drop-at, length-take-le, drop-set-lt}
 use Rattle.language.specs.Kinds.{pick}
 use Rattle.language.specs.Limits.{desk}
-use Rattle.plans.specs.Sizes.{framed, Short, grown, sizedFrom, sized}
+use Rattle.frames.specs.Frames.{frame, frameOf, framed}
+use Rattle.plans.specs.Sizes.{Short, grown, sizedFrom, sized}
 use Rattle.plans.specs.declared.Shape.{Shape}
 use Rattle.plans.specs.declared.Size.{Size}
 use Rattle.plans.specs.declared.Size.the-variants.{Fits, Over}
@@ -194,11 +195,11 @@ module _ {k : List ℕ} {s : Shape} {p : Spot} {rest out : List ℕ} {rows : Res
   pub rowed-short : length rest < p .words → Rowed k s p rest out rows out (record { size = size; to = rows .to })
   rowed-short h = let f = words-fewer k s p in record { room = fit; size = c ∙ ap (counted (rows .size)) e; wrote = λ ws l d q x y. absurd (omega arith) }
 
-  pub rowed-full : length out - rows .to < one + 1 → Rowed k s p rest out rows out (record { size = size; to = rows .to })
+  pub rowed-full : length out - rows .to < one + frame → Rowed k s p rest out rows out (record { size = size; to = rows .to })
   rowed-full h = record { room = fit; size = c ∙ ap (counted (rows .size)) e; wrote = λ ws l d q x y. absurd (omega arith) }
 
-  pub rowed-more : {out′ : List ℕ} {end : ℕ} → p .words ≤ length rest → length out′ ≡ length out → rows .to + 1 + one ≤ length out
-      → Wrote out (rows .to) (resultLength k s p ∷ resultWords k s p (drop (length rest - p .words) rest)) out′ end → Rowed k s p rest out rows out′ (record { size = size; to = end })
+  pub rowed-more : {out′ : List ℕ} {end : ℕ} → p .words ≤ length rest → length out′ ≡ length out → rows .to + frame + one ≤ length out
+      → Wrote out (rows .to) (frameOf (resultLength k s p) ++ resultWords k s p (drop (length rest - p .words) rest)) out′ end → Rowed k s p rest out rows out′ (record { size = size; to = end })
   rowed-more {out′} {end} f n y w =
       let d = length-drop (length rest - p .words) rest in
       let l = words-length k s p (drop (length rest - p .words) rest) (omega arith) in
@@ -208,5 +209,5 @@ module _ {k : List ℕ} {s : Shape} {p : Spot} {rest out : List ℕ} {rows : Res
         size = c ∙ ap (counted (rows .size)) e;
         wrote = λ ws l d q x z.
             let v : drop (length rest - p .words) rest ≡ ws = ap (λ m. drop (length rest - m) rest) (sym l) ∙ d .last (omega arith) in
-            subst (λ ws. Wrote out (rows .to) (resultLength k s p ∷ resultWords k s p ws) out′ end) v w;
+            subst (λ ws. Wrote out (rows .to) (frameOf (resultLength k s p) ++ resultWords k s p ws) out′ end) v w;
       }

@@ -9,7 +9,8 @@ use Rattle.language.specs.Kinds.{pick}
 use Rattle.language.specs.Limits.{desk}
 use Rattle.language.specs.Trees.{Hedge, Expr, Conj}
 use Rattle.plans.specs.Results.{made}
-use Rattle.plans.specs.Sizes.{framed, grown, sized, monomialWords}
+use Rattle.frames.specs.Frames.{frame, frameOf, framed}
+use Rattle.plans.specs.Sizes.{grown, sized, monomialWords}
 use Rattle.plans.specs.Slots.{fullRecipe, nothing}
 use Rattle.plans.specs.Views.{Shows}
 use Rattle.plans.specs.declared.Piece.the-variants.{Word, Copy}
@@ -70,7 +71,7 @@ pub record Rowed (k : List ℕ) (s : Shape) (p : Spot) (rest out : List ℕ) (ro
   pub room : r .to ≤ length out′
   pub size : r .size ≡ counted (rows .size) (resultLength k s p)
   pub wrote : (ws : List ℕ) → length ws ≡ p .words → Holds rest ws → desk .question ≤ length rest → resultLength k s p ≤ desk .question
-      → rows .to + 1 + resultLength k s p ≤ length out → Wrote out (rows .to) (resultLength k s p ∷ resultWords k s p ws) out′ (r .to)
+      → rows .to + frame + resultLength k s p ≤ length out → Wrote out (rows .to) (frameOf (resultLength k s p) ++ resultWords k s p ws) out′ (r .to)
 
 -- all of them: their size, and that they are written
 pub record Sized (k : List ℕ) (s : Shape) (n : Size) : Type 0 where

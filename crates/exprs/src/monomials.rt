@@ -120,7 +120,7 @@ fn walk(
     Walked { null, rows: met }
 }
 
-// How many words M2's results take, each with its length before it; or that one of them is too long.
+// How many words M2's results take, each in its frame; or that one of them is too long.
 pub fn size_monomials(k: &[u16], s: Shape) -> Size
     requires { ⌜ length (now k) ≤ 1024 ⌝ }
     ensures { λ n. ⌜ Sized (now (k .entry)) s n ⌝ }
@@ -139,7 +139,7 @@ pub fn size_monomials(k: &[u16], s: Shape) -> Size
     met.size
 }
 
-// M2's results, each with its length before it; what has no room or is too long is not written.
+// M2's results, each in its frame; what has no room or is too long is not written.
 pub fn write_monomials(k: &[u16], s: Shape, out: &mut [u16], at: usize) -> usize
     requires { ⌜ (length (now k) ≤ 1024) × (at ≤ length (now out)) ⌝ }
     ensures { λ e. ⌜ Written (now (k .entry)) s (now (out .entry)) at (now (out .exit)) e ⌝ }

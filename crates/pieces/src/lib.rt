@@ -9,8 +9,10 @@ ghost use mathlib.Core.Path.{_≡_};
 ghost use mathlib.Core.List.{[], _∷_, map};
 ghost use lib.ListN.{length};
 ghost use Rattle.plans.specs.Results.{made, places, resultsOf};
-ghost use Rattle.plans.specs.Sizes.{framed, grown, sizedFrom, sized};
+ghost use Rattle.frames.specs.Frames.{framed};
+ghost use Rattle.plans.specs.Sizes.{grown, sizedFrom, sized};
 ghost use Rattle.pieces.specs.Written.{Wrote, Ready};
+use frames::FRAME;
 use making::made_len;
 use making::write_framed;
 use plans::Plan;
@@ -24,7 +26,7 @@ pub fn grow(n: usize, one: usize) -> usize
     requires { ⌜ one ≤ 1024 ⌝ }
     ensures { λ r. ⌜ r ≡ grown n one ⌝ }
 {
-    if n <= 8192 { n + 1 + one } else { n }
+    if n <= 8192 { n + FRAME + one } else { n }
 }
 
 // n words and those of one result.

@@ -5,7 +5,7 @@ use mathlib.Core.List.{List, _++_}
 use lib.ListN.{length, drop}
 use lib.Seq.{sets}
 use Rattle.language.specs.Limits.{desk}
-use Rattle.plans.specs.Sizes.{framed}
+use Rattle.frames.specs.Frames.{framed}
 
 -- the blocks are stored in `old` from `at` on, and nothing else is
 pub record Laid (old : List ℕ) (at : ℕ) (blocks : List (List ℕ)) (new : List ℕ) : Type 0 where

@@ -12,7 +12,8 @@ use Rattle.rules.specs.Expressions.{linear}
 use Rattle.rules.specs.Rules.{Branch, monomialResult, M2}
 use Rattle.plans.specs.Looks.{head, tail}
 use Rattle.plans.specs.Ranks.{eqnAnswer, memAnswer}
-use Rattle.plans.specs.Sizes.{framed, sized, placedWords, monomialWords}
+use Rattle.frames.specs.Frames.{framed}
+use Rattle.plans.specs.Sizes.{sized, placedWords, monomialWords}
 use Rattle.plans.specs.declared.Size.{Size}
 use Rattle.plans.specs.declared.Size.the-variants.{Fits, Over}
 use Rattle.exact.proofs.Answers.{Where, Answers, look, test, answers}
