@@ -7,7 +7,10 @@
  *   e  the line and the room's length
  * Numbers are 32 bits, low byte first. Bytes are lent full of LENT. Each answer
  * is the number that came back and, after s and e, every byte that was lent.
- * With an argument no call is made, which is what a measurement takes off.
+ *
+ *     bridge [TIMES]    makes each call so often: once, if it is not said
+ *
+ * A measurement takes off what a run takes that makes each call 0 times.
  */
 #include <stdio.h>
 #include <stdlib.h>
@@ -61,25 +64,32 @@ static void lent_out(uint8_t *bytes, size_t length)
 
 int main(int argc, char **argv)
 {
-    int call = argc == 1, letter;
-    (void)argv;
+    long times = argc > 1 ? atol(argv[1]) : 1;
+    int letter;
     while ((letter = getchar()) != EOF) {
         size_t question_len, filling_len;
         uint8_t *question = bytes_in(&question_len);
+        uint32_t number = 0;
         if (letter == 's') {
             size_t length = number_in();
             uint8_t *answer = block(length);
-            number_out(call ? desk_solve(question, question_len, answer, length) : 0);
+            for (long i = 0; i < times; i++)
+                number = desk_solve(question, question_len, answer, length);
+            number_out(number);
             lent_out(answer, length);
         } else if (letter == 't') {
             uint8_t *filling = bytes_in(&filling_len);
-            number_out(call ? desk_try(question, question_len, filling, filling_len) : 0);
+            for (long i = 0; i < times; i++)
+                number = desk_try(question, question_len, filling, filling_len);
+            number_out(number);
             free(filling);
         } else {
             uint32_t line = number_in();
             size_t length = number_in();
             uint8_t *room = block(length);
-            number_out(call ? desk_example(question, question_len, line, room, length) : 0);
+            for (long i = 0; i < times; i++)
+                number = desk_example(question, question_len, line, room, length);
+            number_out(number);
             lent_out(room, length);
         }
         free(question);

@@ -1,26 +1,18 @@
 -- The answer's words laid out in a row, and what one more line adds to each part.
-use Prim.Native.Nat.{ℕ, zero, suc, _+_, _-_, _≤_}
+use Prim.Native.Nat.{ℕ, suc, _+_, _-_, _≤_}
 use native.Mathlib.Omega.{arith}
 use mathlib.Core.Path.{_≡_, refl, sym, ap, _∙_}
 use mathlib.Core.Bool.{Bool, true, false}
 use mathlib.Core.List.{List, [], _∷_, _++_, map, append-assoc, append-nil}
-use lib.ListN.{length, length-append, length-map}
+use lib.ListN.{length, length-append, length-map, replicate, length-replicate}
 use Rattle.language.specs.Limits.{desk}
 use Rattle.language.specs.Kinds.{pick}
 use Rattle.language.specs.Trees.{Conj}
 use Rattle.language.specs.Writing.{conjWords}
-use Rattle.meaning.specs.Values.{times, offsetsOf, joined}
+use Rattle.meaning.specs.Values.{offsetsOf, joined}
 use Rattle.rules.specs.Solved.{solved}
-use Rattle.rules.specs.Run.{linesSize}
+use Rattle.rules.specs.Run.{linesSize, linesAt}
 use Rattle.rules.specs.Answer.{lineWords, countOpen, answerWords}
-
-pub length-times : (n : ℕ) → length (times {A = ℕ} n 0) ≡ n
-length-times zero = refl
-length-times (suc n) = ap suc (length-times n)
-
-pub times-append : (m n : ℕ) → times {A = ℕ} (m + n) 0 ≡ times m 0 ++ times n 0
-times-append zero n = ap (λ k. times k 0) (let z : 0 + n ≡ n = omega arith in z)
-times-append (suc m) n = ap (λ k. times k 0) (let z : suc m + n ≡ suc (m + n) = omega arith in z) ∙ ap (λ l. 0 ∷ l) (times-append m n)
 
 -- ---- one part more
 
@@ -79,40 +71,40 @@ open-most (x ∷ ls) = go (solved x) (open-most ls)
 -- ---- the answer in a row: counts and offsets, zeros, the lines, zeros
 
 abbrev pub header : List Conj → List ℕ
-header ls = length ls ∷ countOpen ls ∷ offsetsOf 515 (map lineWords ls)
+header ls = length ls ∷ countOpen ls ∷ offsetsOf (linesAt desk) (map lineWords ls)
 
 pub length-header : (ls : List Conj) → length (header ls) ≡ length ls + 3
 length-header ls =
-    let e = length-offsets 515 (map lineWords ls) in
+    let e = length-offsets (linesAt desk) (map lineWords ls) in
     let f = length-map ls lineWords in
-    let z : suc (suc (length (offsetsOf 515 (map lineWords ls)))) ≡ length ls + 3 = omega arith in z
+    let z : suc (suc (length (offsetsOf (linesAt desk) (map lineWords ls)))) ≡ length ls + 3 = omega arith in z
 
-pub in-a-row : (ls : List Conj) → length ls ≤ 512
-    → answerWords desk ls ≡ header ls ++ (times (512 - length ls) 0 ++ (joined (map lineWords ls) ++ times (8192 - (515 + linesSize ls)) 0))
+pub in-a-row : (ls : List Conj) → length ls ≤ desk .lines
+    → answerWords desk ls ≡ header ls ++ (replicate (desk .lines - length ls) 0 ++ (joined (map lineWords ls) ++ replicate (desk .room - (linesAt desk + linesSize ls)) 0))
 unfolding answerWords
 in-a-row ls few =
     let h = length-header ls in
-    let z₁ : 515 - length (header ls) ≡ 512 - length ls = omega arith in
-    let first : List ℕ = header ls ++ times (515 - length (header ls)) 0 in
-    let l₁ : length first ≡ length (header ls) + (515 - length (header ls)) = length-append (header ls) (times (515 - length (header ls)) 0) ∙ ap (λ n. length (header ls) + n) (length-times (515 - length (header ls))) in
+    let z₁ : linesAt desk - length (header ls) ≡ desk .lines - length ls = omega arith in
+    let first : List ℕ = header ls ++ replicate (linesAt desk - length (header ls)) 0 in
+    let l₁ : length first ≡ length (header ls) + (linesAt desk - length (header ls)) = length-append (header ls) (replicate (linesAt desk - length (header ls)) 0) ∙ ap (λ n. length (header ls) + n) (length-replicate (linesAt desk - length (header ls)) 0) in
     let l₂ : length (first ++ joined (map lineWords ls)) ≡ length first + linesSize ls = length-append first (joined (map lineWords ls)) ∙ ap (λ n. length first + n) (length-lines ls) in
-    let z₂ : 8192 - length (first ++ joined (map lineWords ls)) ≡ 8192 - (515 + linesSize ls) = omega arith in
-    ap (λ n. (first ++ joined (map lineWords ls)) ++ times n 0) z₂
-    ∙ append-assoc first (joined (map lineWords ls)) (times (8192 - (515 + linesSize ls)) 0)
-    ∙ append-assoc (header ls) (times (515 - length (header ls)) 0) _
-    ∙ ap (λ n. header ls ++ (times n 0 ++ (joined (map lineWords ls) ++ times (8192 - (515 + linesSize ls)) 0))) z₁
+    let z₂ : desk .room - length (first ++ joined (map lineWords ls)) ≡ desk .room - (linesAt desk + linesSize ls) = omega arith in
+    ap (λ n. (first ++ joined (map lineWords ls)) ++ replicate n 0) z₂
+    ∙ append-assoc first (joined (map lineWords ls)) (replicate (desk .room - (linesAt desk + linesSize ls)) 0)
+    ∙ append-assoc (header ls) (replicate (linesAt desk - length (header ls)) 0) _
+    ∙ ap (λ n. header ls ++ (replicate n 0 ++ (joined (map lineWords ls) ++ replicate (desk .room - (linesAt desk + linesSize ls)) 0))) z₁
 
-pub length-answer : (ls : List Conj) → length ls ≤ 512 → 515 + linesSize ls ≤ 8192 → length (answerWords desk ls) ≡ 8192
+pub length-answer : (ls : List Conj) → length ls ≤ desk .lines → linesAt desk + linesSize ls ≤ desk .room → length (answerWords desk ls) ≡ desk .room
 length-answer ls few room =
     let a = ap length (in-a-row ls few) in
-    let z₁ : List ℕ = times (512 - length ls) 0 in
+    let z₁ : List ℕ = replicate (desk .lines - length ls) 0 in
     let b : List ℕ = joined (map lineWords ls) in
-    let z₂ : List ℕ = times (8192 - (515 + linesSize ls)) 0 in
+    let z₂ : List ℕ = replicate (desk .room - (linesAt desk + linesSize ls)) 0 in
     let l₁ = length-append (header ls) (z₁ ++ (b ++ z₂)) in
     let l₂ = length-append z₁ (b ++ z₂) in
     let l₃ = length-append b z₂ in
-    let t₁ = length-times (512 - length ls) in
-    let t₂ = length-times (8192 - (515 + linesSize ls)) in
+    let t₁ = length-replicate {A = ℕ} (desk .lines - length ls) 0 in
+    let t₂ = length-replicate {A = ℕ} (desk .room - (linesAt desk + linesSize ls)) 0 in
     let h = length-header ls in
     let n = length-lines ls in
     omega arith

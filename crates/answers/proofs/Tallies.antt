@@ -7,6 +7,7 @@ use mathlib.Core.Bool.{Bool}
 use mathlib.Core.List.{List, [], _∷_, _++_}
 use lib.ListN.{length, drop, set}
 use lib.Seq.{sets, slice, take-length}
+use Rattle.rules.specs.Run.{linesAt}
 use Rattle.language.specs.Limits.{desk}
 use Rattle.language.specs.Kinds.{pick}
 use Rattle.language.specs.Trees.{Conj}
@@ -18,14 +19,14 @@ use Rattle.answers.specs.Lined.{Lined, counted, withLine}
 use Rattle.answers.proofs.Rows.{lines-size-more, count-more, open-more}
 use Rattle.answers.proofs.Adding.{answer-none, answer-more}
 
-pub begun : (old a b : List ℕ) → a ≡ zeros desk ++ drop 8192 old → b ≡ set a 2 515 → Lined old [] (record { lines = 0; «open» = 0; end = 515 }) b
+pub begun : (old a b : List ℕ) → a ≡ zeros desk ++ drop (desk .room) old → b ≡ set a 2 (linesAt desk) → Lined old [] (record { lines = 0; «open» = 0; end = (linesAt desk) }) b
 begun old a b e d = record {
   lines = refl;
   «open» = refl;
   end = refl;
   few = omega arith;
   room = omega arith;
-  words = d ∙ ap (λ l. set l 2 515) e ∙ answer-none old;
+  words = d ∙ ap (λ l. set l 2 (linesAt desk)) e ∙ answer-none old;
 }
 
 -- a mark and then the words
@@ -51,7 +52,7 @@ line-stored t a k s a₁ a₂ a₃ a₄ v x y opens e₁ e₂ ev e₃ ex e₄ ey
 
 -- with the words of a conjunction for a line, an answer's words are those of the answer that has this line too
 module _ (old : List ℕ) (ls : List Conj) (c : Conj) (t : Tally) (a k : List ℕ) (s : Bool) (ek : k ≡ conjWords c) (es : s ≡ solved c) (p : Lined old ls t a) where
-  pub line-added : (u : Tally) (b : List ℕ) → t .lines < 512 → t .end + suc (length k) ≤ 8192 → u ≡ counted t s k → b ≡ withLine t u s k a → Lined old (ls ++ (c ∷ [])) u b
+  pub line-added : (u : Tally) (b : List ℕ) → t .lines < desk .lines → t .end + suc (length k) ≤ desk .room → u ≡ counted t s k → b ≡ withLine t u s k a → Lined old (ls ++ (c ∷ [])) u b
   line-added u b few room eu eb =
       let n = ap length ek in
       let pl = p .lines in
@@ -72,12 +73,12 @@ module _ (old : List ℕ) (ls : List Conj) (c : Conj) (t : Tally) (a k : List �
         room = omega arith;
         words =
             eb ∙ ap (withLine t u s k) (p .words)
-            ∙ ap (λ b. withLine t u b k (answerWords desk ls ++ drop 8192 old)) es
-            ∙ ap (λ l. withLine t u (solved c) l (answerWords desk ls ++ drop 8192 old)) ek
-            ∙ ap (λ i. set (set (set (sets (answerWords desk ls ++ drop 8192 old) (t .end) (pick (solved c) 1 2 ∷ conjWords c)) i (u .end)) 0 (u .lines)) 1 (u .«open»))
+            ∙ ap (λ b. withLine t u b k (answerWords desk ls ++ drop (desk .room) old)) es
+            ∙ ap (λ l. withLine t u (solved c) l (answerWords desk ls ++ drop (desk .room) old)) ek
+            ∙ ap (λ i. set (set (set (sets (answerWords desk ls ++ drop (desk .room) old) (t .end) (pick (solved c) 1 2 ∷ conjWords c)) i (u .end)) 0 (u .lines)) 1 (u .«open»))
             (let z : u .lines + 2 ≡ t .lines + 3 = omega arith in z)
-            ∙ ap (λ w. set (set (set (sets (answerWords desk ls ++ drop 8192 old) (t .end) (pick (solved c) 1 2 ∷ conjWords c)) (t .lines + 3) w) 0 (u .lines)) 1 (u .«open»))
+            ∙ ap (λ w. set (set (set (sets (answerWords desk ls ++ drop (desk .room) old) (t .end) (pick (solved c) 1 2 ∷ conjWords c)) (t .lines + 3) w) 0 (u .lines)) 1 (u .«open»))
             (let z : u .end ≡ t .end + suc (length (conjWords c)) = omega arith in z)
-            ∙ ap (λ w. set (set (set (sets (answerWords desk ls ++ drop 8192 old) (t .end) (pick (solved c) 1 2 ∷ conjWords c)) (t .lines + 3) (t .end + suc (length (conjWords c)))) 0 w) 1 (u .«open»)) ul
-            ∙ answer-more ls c (drop 8192 old) (t .end) (t .lines) (u .«open») pl pe o (omega arith) (omega arith);
+            ∙ ap (λ w. set (set (set (sets (answerWords desk ls ++ drop (desk .room) old) (t .end) (pick (solved c) 1 2 ∷ conjWords c)) (t .lines + 3) (t .end + suc (length (conjWords c)))) 0 w) 1 (u .«open»)) ul
+            ∙ answer-more ls c (drop (desk .room) old) (t .end) (t .lines) (u .«open») pl pe o (omega arith) (omega arith);
       }

@@ -8,7 +8,7 @@ use lib.Seq.{sets}
 use Rattle.language.specs.Limits.{desk}
 use Rattle.language.specs.Kinds.{pick}
 use Rattle.language.specs.Trees.{Conj}
-use Rattle.rules.specs.Run.{linesSize}
+use Rattle.rules.specs.Run.{linesSize, linesAt}
 use Rattle.rules.specs.Answer.{countOpen, answerWords}
 use Rattle.answers.specs.declared.Tally.{Tally}
 
@@ -16,10 +16,10 @@ use Rattle.answers.specs.declared.Tally.{Tally}
 pub record Lined (old : List ℕ) (ls : List Conj) (t : Tally) (new : List ℕ) : Type 0 where
   pub lines : t .lines ≡ length ls
   pub «open» : t .«open» ≡ countOpen ls
-  pub end : t .end ≡ 515 + linesSize ls
-  pub few : length ls ≤ 512
-  pub room : 515 + linesSize ls ≤ 8192
-  pub words : new ≡ answerWords desk ls ++ drop 8192 old
+  pub end : t .end ≡ linesAt desk + linesSize ls
+  pub few : length ls ≤ desk .lines
+  pub room : linesAt desk + linesSize ls ≤ desk .room
+  pub words : new ≡ answerWords desk ls ++ drop (desk .room) old
 
 -- the count, one line more, whose words are k
 abbrev pub counted : Tally → Bool → List ℕ → Tally

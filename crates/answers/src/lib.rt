@@ -4,12 +4,17 @@ ghost use mathlib.Core.Path.{_≡_};
 ghost use mathlib.Core.List.{[], _∷_};
 ghost use lib.ListN.{length};
 ghost use lib.Seq.{sets};
+ghost use Rattle.language.specs.Limits.{desk};
 ghost use Rattle.language.specs.Kinds.{pick};
 ghost use Rattle.answers.specs.Lined.{Lined, counted, withLine};
+use language::limits::LINES_AT;
 use stack::clear;
 use stack::copy;
 use stack::narrow;
 use stack::store;
+
+// Where the lines begin, as a word.
+const FIRST_OFFSET: u16 = LINES_AT as u16;
 
 // How many lines there are, how many of them open, and the place after the last.
 pub struct Tally {
@@ -35,15 +40,15 @@ fn opened(before: usize, solved: bool) -> usize
 
 // The answer that has no line.
 pub fn begin(answer: &mut [u16]) -> Tally
-    requires { ⌜ 8192 ≤ length (now answer) ⌝ }
+    requires { ⌜ desk .room ≤ length (now answer) ⌝ }
     ensures { λ t. ⌜ Lined (now (answer .entry)) [] t (now (answer .exit)) ⌝ }
 {
     clear(answer);
-    store(answer, 2, 515);
+    store(answer, 2, FIRST_OFFSET);
     Tally {
         lines: 0,
         open: 0,
-        end: 515,
+        end: LINES_AT,
     }
 }
 
@@ -58,7 +63,7 @@ fn write_line(k: &[u16], solved: bool, at: usize, answer: &mut [u16])
 
 // A line more.
 pub fn add_line(k: &[u16], solved: bool, t: Tally, answer: &mut [u16]) -> Tally
-    requires { ⌜ (t .lines < 512) × (t .«open» ≤ t .lines) × (t .end + suc (length (now k)) ≤ 8192) × (8192 ≤ length (now answer)) ⌝ }
+    requires { ⌜ (t .lines < desk .lines) × (t .«open» ≤ t .lines) × (t .end + suc (length (now k)) ≤ desk .room) × (desk .room ≤ length (now answer)) ⌝ }
     ensures { λ r. ⌜ (r ≡ counted t solved (now (k .entry))) × (now (answer .exit) ≡ withLine t r solved (now (k .entry)) (now (answer .entry))) ⌝ }
 {
     let at = t.end;

@@ -25,6 +25,9 @@ fn line(answer: &[u16], i: usize)
     } else {
         say(b", open\n");
     }
+    if from + 1 >= to {
+        say(b"  every report meets it\n");
+    }
     literals(answer, from + 1, to);
 }
 
@@ -38,7 +41,11 @@ pub(crate) fn lines(answer: &[u16]) {
     }
 }
 
-fn decimal(w: u16) {
+// A word in decimal, apart from the one before it.
+fn decimal(w: u16, i: usize) {
+    if i > 0 {
+        say(b" ");
+    }
     number(w as u64);
 }
 
@@ -46,8 +53,7 @@ fn decimal(w: u16) {
 fn words(ws: &[u16]) {
     let mut i = 0;
     while i < ws.len() {
-        decimal(ws[i]);
-        say(b" ");
+        decimal(ws[i], i);
         i += 1;
     }
     say(b"\n");

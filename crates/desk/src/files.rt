@@ -1,8 +1,8 @@
 // Words from a file, or from standard input where its name is -.
 ghost use Prim.Native.Nat.{_≤_};
 ghost use lib.ListN.{length};
-use crate::print::number;
-use crate::print::say;
+use crate::print::warn;
+use crate::print::warn_number;
 use prompt::Text;
 use prompt::parse;
 
@@ -20,35 +20,67 @@ fn opened(path: &[u8]) -> i32 {
     os::open_read(path)
 }
 
-// Says which line is no row of words.
-fn complain(path: &[u8], line: usize) {
-    say(path);
-    say(b", line ");
-    number(line as u64);
-    say(b": words are numbers from 0 to 65535, and # begins a remark\n");
+// Whether bytes can be read there: a folder can be opened and not read.
+fn readable(fd: i32) -> bool {
+    if fd < 0 {
+        return false;
+    }
+    let mut none = [0u8; 0];
+    libc::read(fd, &mut none) >= 0
 }
 
-// The words of the file that argument `i` names. What cannot be read is said, and `wrong` is not 0.
+fn name(path: &[u8]) {
+    warn(b"desk: ");
+    if is_dash(path) {
+        warn(b"standard input");
+        return;
+    }
+    warn(path);
+}
+
+// Says where something stands that is no word.
+fn complain(path: &[u8], line: usize, column: usize) {
+    name(path);
+    warn(b", line ");
+    warn_number(line as u64);
+    warn(b", column ");
+    warn_number(column as u64);
+    warn(
+        b": not a word. Words are numbers from 0 to 65535, with blanks between them; # begins a remark.\n",
+    );
+}
+
+// The words of the file that argument `i` names. Where it cannot be read that is said, and `line` is not 0.
 pub(crate) fn load(i: usize, words: &mut [u16]) -> Text
     ensures { λ r. ⌜ r .words ≤ length (now (words .exit)) ⌝ }
 {
     let mut path = io::buffer();
     let n = os::arg(i, &mut path);
     let fd = opened(&path[..n]);
-    if fd < 0 {
+    if !readable(fd) {
+        warn(b"desk: ");
         os::fail(&path[..n]);
-        return Text { words: 0, wrong: 1 };
+        return Text {
+            words: 0,
+            line: 1,
+            column: 0,
+        };
     }
     let mut buf = io::large_buffer();
     let got = io::read_full(fd, &mut buf);
     libc::close(fd);
     if got == 65536 {
-        say(b"a file of words has at most 65,535 bytes\n");
-        return Text { words: 0, wrong: 1 };
+        name(&path[..n]);
+        warn(b": more than 65,535 bytes\n");
+        return Text {
+            words: 0,
+            line: 1,
+            column: 0,
+        };
     }
     let text = parse(&buf[..got], words);
-    if text.wrong != 0 {
-        complain(&path[..n], text.wrong);
+    if text.line != 0 {
+        complain(&path[..n], text.line, text.column);
     }
     text
 }

@@ -1,49 +1,49 @@
 // The desk at a prompt: a question solved, a filling tried, an example shown, in plain words.
 mod answers;
+mod arguments;
 mod files;
+mod help;
 mod print;
 mod refusals;
+mod status;
 mod trees;
 
+ghost use Prim.Native.Nat.{_<_};
 use answers::filling;
 use answers::lines;
+use arguments::is;
+use arguments::is_last;
+use arguments::warn_of;
+use arguments::wrong_use;
 use files::load;
 use language::Refusal;
+use language::limits::FILLING;
+use language::limits::QUESTION;
+use language::limits::ROOM;
 use print::number;
 use print::say;
+use print::warn;
 use prompt::parse;
 use refusals::refusal;
 use showing::Shown;
 use solver::Outcome;
 use solver::Solved;
+use status::FAILED;
+use status::FOUND;
+use status::NOTHING;
 use trying::Tried;
-
-fn usage() {
-    say(b"desk solve FILE            the lines of a question\n");
-    say(b"desk try FILE FILLING      whether a filling meets it\n");
-    say(b"desk example FILE LINE     a filling that meets a settled line\n");
-    say(b"A file holds words in decimal; # begins a remark, and - is standard input.\n");
-}
 
 fn wide(n: u16) -> u64 {
     n as u64
 }
 
-fn refuse(r: Refusal) {
+fn refuse(r: Refusal) -> u8 {
     refusal(wide(language::number(r)));
+    FAILED
 }
 
 fn count(n: usize) {
     number(n as u64);
-}
-
-fn verdict(o: Outcome) {
-    match o {
-        Outcome::Refused(r) => refuse(r),
-        Outcome::NoLine => say(b"none: nothing meets the question\n"),
-        Outcome::AllSolved => say(b"settled: every line is settled\n"),
-        Outcome::SomeOpen => say(b"still open: some lines are open\n"),
-    }
 }
 
 fn counts(s: Solved) {
@@ -56,54 +56,67 @@ fn counts(s: Solved) {
     say(b"\n");
 }
 
-fn solve(question: &[u16]) {
-    let mut work = [0u16; 8192];
-    let mut answer = [0u16; 8192];
-    let s = solver::solve(question, &mut work, &mut answer);
-    let outcome = s.outcome;
-    verdict(outcome);
+// An answer: its verdict, its counts and its lines.
+fn answered(verdict: &[u8], s: Solved, answer: &[u16]) {
+    say(verdict);
     counts(s);
-    lines(&answer);
+    lines(answer);
 }
 
-fn tell(t: Tried) {
+fn solve(question: &[u16]) -> u8 {
+    let mut work = [0u16; ROOM];
+    let mut answer = [0u16; ROOM];
+    let s = solver::solve(question, &mut work, &mut answer);
+    let outcome = s.outcome;
+    match outcome {
+        Outcome::Refused(r) => refuse(r),
+        Outcome::NoLine => {
+            answered(b"none: nothing meets the question\n", s, &answer);
+            NOTHING
+        }
+        Outcome::AllSolved => {
+            answered(b"settled: every line can be met\n", s, &answer);
+            FOUND
+        }
+        Outcome::SomeOpen => {
+            answered(
+                b"still open: there may be something that meets an open line, or nothing\n",
+                s,
+                &answer,
+            );
+            FOUND
+        }
+    }
+}
+
+fn tell(t: Tried) -> u8 {
     match t {
-        Tried::Yes => say(b"yes: the filling meets the question\n"),
-        Tried::No => say(b"no: the filling does not meet the question\n"),
+        Tried::Yes => {
+            say(b"yes: the filling meets the question\n");
+            FOUND
+        }
+        Tried::No => {
+            say(b"no: the filling does not meet the question\n");
+            NOTHING
+        }
         Tried::Refused(r) => refuse(r),
     }
 }
 
-fn attempt<'a>(question: &'a [u16], values: &'a [u16]) {
-    let mut work = [0u16; 8192];
-    tell(trying::try_filling(question, values, &mut work));
+fn attempt<'a>(question: &'a [u16], values: &'a [u16]) -> u8 {
+    let mut work = [0u16; ROOM];
+    tell(trying::try_filling(question, values, &mut work))
 }
 
-// Whether the filling that argument 3 names meets the question.
-fn try_file(question: &[u16]) {
-    let mut values = [0u16; 8192];
-    let t = load(3, &mut values);
-    if t.wrong != 0 {
-        return;
+// Whether the filling that argument `i` names meets the question.
+fn try_file(question: &[u16], i: usize) -> u8 {
+    let mut values = [0u16; 2 * FILLING];
+    let t = load(i, &mut values);
+    if t.line != 0 {
+        return FAILED;
     }
     let n = t.words;
-    attempt(question, &values[0..n]);
-}
-
-fn place(n: u16) -> usize {
-    n as usize
-}
-
-// The line that argument 3 names. What is no word names none, and no answer has a line of this number.
-fn line_asked() -> usize {
-    let mut text = io::buffer();
-    let n = os::arg(3, &mut text);
-    let mut line = [0u16; 1];
-    let t = parse(&text[..n], &mut line);
-    if t.wrong != 0 {
-        return 65536;
-    }
-    place(line[0])
+    attempt(question, &values[0..n])
 }
 
 // The first words of the room, as a filling.
@@ -113,43 +126,103 @@ fn show_words(question: &[u16], room: &[u16], n: usize) {
     }
 }
 
-fn show(question: &[u16]) {
-    let mut work = [0u16; 8192];
-    let mut answer = [0u16; 8192];
-    let mut room = [0u16; 4096];
-    let shown = showing::example(question, line_asked(), &mut work, &mut answer, &mut room);
+fn show(question: &[u16], line: usize) -> u8 {
+    let mut work = [0u16; ROOM];
+    let mut answer = [0u16; ROOM];
+    let mut room = [0u16; FILLING];
+    let shown = showing::example(question, line, &mut work, &mut answer, &mut room);
     match shown {
-        Shown::Shows(n) => show_words(question, &room, n),
+        Shown::Shows(n) => {
+            show_words(question, &room, n);
+            FOUND
+        }
         Shown::Denied(r) => refuse(r),
     }
 }
 
-// The first letter of what is asked for.
-fn asked() -> u8 {
-    let mut word = io::buffer();
-    os::arg(1, &mut word);
-    word[0]
+fn place(n: u16) -> usize {
+    n as usize
 }
 
-fn answer_to(question: &[u16]) {
-    match asked() {
-        b's' => solve(question),
-        b't' => try_file(question),
-        b'e' => show(question),
-        _ => usage(),
+// The example of the line that argument `i` names.
+fn show_line(question: &[u16], i: usize) -> u8 {
+    let mut text = io::buffer();
+    let n = os::arg(i, &mut text);
+    let mut line = [0u16; 1];
+    let t = parse(&text[..n], &mut line);
+    if t.line != 0 {
+        return wrong_use(b"a line is named by a number, and the first is 0");
     }
+    show(question, place(line[0]))
 }
 
-fn main() {
-    if os::arg_count() < 3 {
-        usage();
-        return;
-    }
-    let mut question = [0u16; 2048];
-    let t = load(2, &mut question);
-    if t.wrong != 0 {
-        return;
+enum Command {
+    Solve,
+    Try,
+    Example,
+}
+
+// Does what is asked with the question of the file that argument `i` names.
+fn with_question(command: Command, i: usize) -> u8
+    requires { ⌜ i < 10 ⌝ }
+{
+    let mut words = [0u16; 2 * QUESTION];
+    let t = load(i, &mut words);
+    if t.line != 0 {
+        return FAILED;
     }
     let n = t.words;
-    answer_to(&question[0..n]);
+    match command {
+        Command::Solve => solve(&words[0..n]),
+        Command::Try => try_file(&words[0..n], i + 1),
+        Command::Example => show_line(&words[0..n], i + 1),
+    }
+}
+
+// Does what argument `i` and those behind it ask for.
+fn run(i: usize) -> u8
+    requires { ⌜ i < 9 ⌝ }
+{
+    if is(i, b"solve") {
+        if is_last(i + 1) {
+            return with_question(Command::Solve, i + 1);
+        }
+        return wrong_use(b"solve takes a file");
+    }
+    if is(i, b"try") {
+        if is_last(i + 2) {
+            return with_question(Command::Try, i + 1);
+        }
+        return wrong_use(b"try takes a file with a question and a file with a filling");
+    }
+    if is(i, b"example") {
+        if is_last(i + 2) {
+            return with_question(Command::Example, i + 1);
+        }
+        return wrong_use(b"example takes a file and the number of a line");
+    }
+    if is(i, b"--help") {
+        help::help();
+        return FOUND;
+    }
+    if is(i, b"--version") {
+        help::version();
+        return FOUND;
+    }
+    if os::arg_count() <= i {
+        return wrong_use(b"no command is given");
+    }
+    warn(b"desk: no command ");
+    warn_of(i);
+    warn(b"\n");
+    wrong_use(b"the commands are solve, try and example")
+}
+
+// Where the first argument asks for it, the status is reported on the descriptor that the caller opened.
+fn main() {
+    if is(1, b"--status-on-3") {
+        status::report(run(2));
+        return;
+    }
+    run(1);
 }

@@ -1,4 +1,5 @@
-// Standard output: bytes, and numbers in decimal.
+// Standard output and standard error: bytes, and numbers in decimal.
+use libc::STDERR_FILENO;
 use libc::STDOUT_FILENO;
 
 pub(crate) fn say(text: &[u8]) {
@@ -7,4 +8,12 @@ pub(crate) fn say(text: &[u8]) {
 
 pub(crate) fn number(n: u64) {
     io::print_decimal(STDOUT_FILENO, n);
+}
+
+pub(crate) fn warn(text: &[u8]) {
+    io::write_all(STDERR_FILENO, text);
+}
+
+pub(crate) fn warn_number(n: u64) {
+    io::print_decimal(STDERR_FILENO, n);
 }

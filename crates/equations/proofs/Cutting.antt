@@ -15,14 +15,14 @@ use Rattle.language.specs.Fine.{fineHedge}
 use Rattle.rules.specs.Looks.{firstRun, loneH, allTerms, upTo, inside, cuts}
 use Rattle.rules.specs.Rules.{plain, cutResult, Del3, E3, E4}
 use Rattle.rules.specs.Step.{place}
+use Rattle.rules.proofs.Answers.{Where, look, test, answers}
+use Rattle.rules.proofs.Looks.{firstRun-is, loneH-is}
 use Rattle.plans.specs.declared.Recipe.{Recipe}
 use Rattle.plans.specs.declared.View.{View}
 use Rattle.plans.specs.Looks.{head, tail, bodyWords}
 use Rattle.plans.specs.Views.{Sided, Sees}
 use Rattle.plans.specs.Results.{made, resultsOf}
 use Rattle.plans.specs.Sizes.{placedWords}
-use Rattle.exact.proofs.Answers.{Where, look, test, answers}
-use Rattle.exact.proofs.Looks.{firstRun-is, loneH-is}
 use Rattle.views.specs.declared.Terms.{Terms}
 use Rattle.views.specs.declared.Found.{Found}
 use Rattle.views.specs.declared.Spot.{Spot}

@@ -1,21 +1,22 @@
 -- The rule of each place in the list, at an equation.
 use Prim.Native.Nat.{ℕ, zero, suc}
 use native.Mathlib.Omega.{arith}
-use borrow.Author.Tests.{ne-eqb}
 use mathlib.Core.Path.{_≡_, refl, sym, ap, _∙_, subst}
-use mathlib.Core.List.{List, []}
+use mathlib.Core.List.{List, [], _∷_}
 use mathlib.Core.Option.{none}
-use Rattle.language.specs.Trees.{Conj}
+use Rattle.language.specs.Trees.{Hedge, Conj}
 use Rattle.rules.specs.Looks.{loneT, loneH, loneNode, asSymbol}
-use Rattle.rules.specs.Rules.{R1, F1, F2, F3, F4, Del1, Del3, D2, D0, E1, E2, E3, E4, E5, E6}
+use Rattle.rules.specs.Rules.{R1, F1, F2, F3, F4, Del1, Del3, D2, D0, E1, E2, E3, E4, E5, E6, Rule, onEqn, onMem, onPair, rules}
+use Rattle.rules.specs.Places.{atR1, atDel1, atDel3, atD2, atD0, atE1, atE2, atE3, atE4, atE5, atE6}
+use Rattle.rules.proofs.Answers.{look, test, answers}
 use Rattle.plans.specs.declared.Plan.{Plan}
 use Rattle.plans.specs.declared.View.{View}
 use Rattle.plans.specs.Results.{resultsOf}
 use Rattle.plans.specs.Sizes.{placedWords}
-use Rattle.plans.specs.Ranks.{eqnAnswer}
-use Rattle.exact.proofs.Answers.{look, test, answers}
+use Rattle.plans.specs.Ranks.{atEqn, answerAt, eqnAnswer}
+use Rattle.plans.proofs.Ranking.{_▸_, Apart, not-tabled}
 use Rattle.plans.specs.Slots.{dropPlan}
-use Rattle.equations.specs.Recipes.{r1Plan, del1Plan, d2Plan, d0Plan, e1Plan, e3Plan, e4Plan, e5Plan, e6Plan, del3Plan, spotOf, equationPlan}
+use Rattle.equations.specs.Recipes.{r1Plan, del1Plan, d2Plan, d0Plan, e1Plan, e3Plan, e4Plan, e5Plan, e6Plan, del3Plan, spotOf, equationPlans, equationPlan}
 use Rattle.equations.specs.Planned.{Planned, Is, Planning}
 use Rattle.equations.proofs.Plain.{planned, Makes, r1-plans, del1-plans, d2-plans, d0-plans}
 use Rattle.equations.proofs.Eliminating.{e1-plans, e2-plans, e5-plans, e6-plans}
@@ -46,41 +47,34 @@ module _ (k : List ℕ) (v : View) where
   f4-drops : Makes F4 k v (λ l r. dropPlan)
   f4-drops before behind l r w = planned (test _ λ _ _. test _ λ _ _. answers (nothing-left k before behind))
 
--- the plan of every place makes what its rule answers; a rule of memberships does not answer
+  -- a plan for each rule of equations among these, in their order, makes what the rule answers
+  abbrev Plans : List Rule → (ℕ → Hedge → Hedge → Plan) → Type 0
+  Plans [] plan = Unit {0}
+  Plans (onEqn rule ∷ rs) plan = Makes rule k v (plan zero) × Plans rs (λ n. plan (suc n))
+  Plans (onMem rule ∷ rs) plan = Plans rs (λ n. plan (suc n))
+  Plans (onPair rule ∷ rs) plan = Plans rs (λ n. plan (suc n))
+
+  made : (rs : List Rule) (plan : ℕ → Hedge → Hedge → Plan) → Plans rs plan → (n : ℕ) → Makes (λ K l r. answerAt (λ rule. atEqn rule K l r) rs n) k v (plan n)
+  made [] plan p n = λ before behind l r w. not-there
+  made (onEqn rule ∷ rs) plan p zero = p .0
+  made (onEqn rule ∷ rs) plan p (suc n) = made rs (λ m. plan (suc m)) (p .1) n
+  made (onMem rule ∷ rs) plan p zero = λ before behind l r w. not-there
+  made (onMem rule ∷ rs) plan p (suc n) = made rs (λ m. plan (suc m)) p n
+  made (onPair rule ∷ rs) plan p zero = λ before behind l r w. not-there
+  made (onPair rule ∷ rs) plan p (suc n) = made rs (λ m. plan (suc m)) p n
+
+-- the plan of every place makes what its rule answers; a rule that is not of equations does not answer
 pub plan-law : (k : List ℕ) (v : View) (n : ℕ) → Makes (eqnAnswer n) k v (equationPlan n k v)
 unfolding eqnAnswer equationPlan
-plan-law k v zero = r1-plans k v
-plan-law k v (suc zero) = λ before behind l r w. not-there
-plan-law k v (suc (suc zero)) = f1-drops k v
-plan-law k v (suc (suc (suc zero))) = f2-drops k v
-plan-law k v (suc (suc (suc (suc zero)))) = f3-drops k v
-plan-law k v (suc (suc (suc (suc (suc zero))))) = f4-drops k v
-plan-law k v (suc (suc (suc (suc (suc (suc zero)))))) = λ before behind l r w. not-there
-plan-law k v (suc (suc (suc (suc (suc (suc (suc zero))))))) = λ before behind l r w. not-there
-plan-law k v (suc (suc (suc (suc (suc (suc (suc (suc zero)))))))) = λ before behind l r w. not-there
-plan-law k v (suc (suc (suc (suc (suc (suc (suc (suc (suc zero))))))))) = del1-plans k v
-plan-law k v (suc (suc (suc (suc (suc (suc (suc (suc (suc (suc zero)))))))))) = del3-plans k v
-plan-law k v (suc (suc (suc (suc (suc (suc (suc (suc (suc (suc (suc zero))))))))))) = d2-plans k v
-plan-law k v (suc (suc (suc (suc (suc (suc (suc (suc (suc (suc (suc (suc zero)))))))))))) = d0-plans k v
-plan-law k v (suc (suc (suc (suc (suc (suc (suc (suc (suc (suc (suc (suc (suc zero))))))))))))) = e1-plans k v
-plan-law k v (suc (suc (suc (suc (suc (suc (suc (suc (suc (suc (suc (suc (suc (suc zero)))))))))))))) = e2-plans k v
-plan-law k v (suc (suc (suc (suc (suc (suc (suc (suc (suc (suc (suc (suc (suc (suc (suc zero))))))))))))))) = e3-plans k v
-plan-law k v (suc (suc (suc (suc (suc (suc (suc (suc (suc (suc (suc (suc (suc (suc (suc (suc zero)))))))))))))))) = e4-plans k v
-plan-law k v (suc (suc (suc (suc (suc (suc (suc (suc (suc (suc (suc (suc (suc (suc (suc (suc (suc zero))))))))))))))))) = e5-plans k v
-plan-law k v (suc (suc (suc (suc (suc (suc (suc (suc (suc (suc (suc (suc (suc (suc (suc (suc (suc (suc zero)))))))))))))))))) = e6-plans k v
-plan-law k v (suc (suc (suc (suc (suc (suc (suc (suc (suc (suc (suc (suc (suc (suc (suc (suc (suc (suc (suc zero))))))))))))))))))) = λ before behind l r w. not-there
-plan-law k v (suc (suc (suc (suc (suc (suc (suc (suc (suc (suc (suc (suc (suc (suc (suc (suc (suc (suc (suc (suc zero)))))))))))))))))))) = λ before behind l r w. not-there
-plan-law k v (suc (suc (suc (suc (suc (suc (suc (suc (suc (suc (suc (suc (suc (suc (suc (suc (suc (suc (suc (suc (suc zero))))))))))))))))))))) = λ before behind l r w. not-there
-plan-law k v (suc (suc (suc (suc (suc (suc (suc (suc (suc (suc (suc (suc (suc (suc (suc (suc (suc (suc (suc (suc (suc (suc zero)))))))))))))))))))))) = λ before behind l r w. not-there
-plan-law k v (suc (suc (suc (suc (suc (suc (suc (suc (suc (suc (suc (suc (suc (suc (suc (suc (suc (suc (suc (suc (suc (suc (suc zero))))))))))))))))))))))) = λ before behind l r w. not-there
-plan-law k v (suc (suc (suc (suc (suc (suc (suc (suc (suc (suc (suc (suc (suc (suc (suc (suc (suc (suc (suc (suc (suc (suc (suc (suc zero)))))))))))))))))))))))) = λ before behind l r w. not-there
-plan-law k v (suc (suc (suc (suc (suc (suc (suc (suc (suc (suc (suc (suc (suc (suc (suc (suc (suc (suc (suc (suc (suc (suc (suc (suc (suc zero))))))))))))))))))))))))) = λ before behind l r w. not-there
-plan-law k v (suc (suc (suc (suc (suc (suc (suc (suc (suc (suc (suc (suc (suc (suc (suc (suc (suc (suc (suc (suc (suc (suc (suc (suc (suc (suc zero)))))))))))))))))))))))))) = λ before behind l r w. not-there
-plan-law k v (suc (suc (suc (suc (suc (suc (suc (suc (suc (suc (suc (suc (suc (suc (suc (suc (suc (suc (suc (suc (suc (suc (suc (suc (suc (suc (suc zero))))))))))))))))))))))))))) = λ before behind l r w. not-there
-plan-law k v (suc (suc (suc (suc (suc (suc (suc (suc (suc (suc (suc (suc (suc (suc (suc (suc (suc (suc (suc (suc (suc (suc (suc (suc (suc (suc (suc (suc n)))))))))))))))))))))))))))) = λ before behind l r w. not-there
+plan-law k v n =
+    made k v rules (λ n. equationPlan n k v)
+    (r1-plans k v ▸ f1-drops k v ▸ f2-drops k v ▸ f3-drops k v ▸ f4-drops k v
+    ▸ del1-plans k v ▸ del3-plans k v ▸ d2-plans k v ▸ d0-plans k v
+    ▸ e1-plans k v ▸ e2-plans k v ▸ e3-plans k v ▸ e4-plans k v ▸ e5-plans k v ▸ e6-plans k v
+    ▸ tt) n
 
 -- what is the plan of its rule wherever the rule applies makes what the rule answers
-pub planning : {n : ℕ} {k : List ℕ} {v : View} {p : Plan} → Is (eqnAnswer n) k v (equationPlan n k v) p → Planning n k v p
+planning : {n : ℕ} {k : List ℕ} {v : View} {p : Plan} → Is (eqnAnswer n) k v (equationPlan n k v) p → Planning n k v p
 planning {n} {k} {v} {p} e =
     record {
       whole = e;
@@ -91,57 +85,56 @@ planning {n} {k} {v} {p} e =
     }
 
 -- the plan of a place is known, and the place
-pub for-rank : {n : ℕ} {k : List ℕ} {v : View} {p : Plan} (m : ℕ) → n ≡ m → Is (eqnAnswer m) k v (equationPlan m k v) p → Planning n k v p
+for-rank : {n : ℕ} {k : List ℕ} {v : View} {p : Plan} (m : ℕ) → n ≡ m → Is (eqnAnswer m) k v (equationPlan m k v) p → Planning n k v p
 for-rank {n} {k} {v} {p} m e d = planning (subst (λ (i : ℕ). Is (eqnAnswer i) k v (equationPlan i k v) p) (sym e) d)
 
 -- ---- the rule and the plan of each place
 
-module _ {k : List ℕ} {v : View} {p : Plan} where
-  pub at-0 : Is R1 k v (λ l r. r1Plan v) p → Is (eqnAnswer 0) k v (equationPlan 0 k v) p
+module _ {n : ℕ} {k : List ℕ} {v : View} {p : Plan} where
+  pub for-R1 : n ≡ atR1 → Is R1 k v (λ l r. r1Plan v) p → Planning n k v p
   unfolding eqnAnswer equationPlan
-  at-0 d = d
+  for-R1 e d = for-rank atR1 e d
 
-  pub at-9 : Is Del1 k v (λ l r. del1Plan v) p → Is (eqnAnswer 9) k v (equationPlan 9 k v) p
+  pub for-Del1 : n ≡ atDel1 → Is Del1 k v (λ l r. del1Plan v) p → Planning n k v p
   unfolding eqnAnswer equationPlan
-  at-9 d = d
+  for-Del1 e d = for-rank atDel1 e d
 
-  pub at-10 : Is Del3 k v (λ l r. del3Plan k v (spotOf v l r)) p → Is (eqnAnswer 10) k v (equationPlan 10 k v) p
+  pub for-Del3 : n ≡ atDel3 → Is Del3 k v (λ l r. del3Plan k v (spotOf v l r)) p → Planning n k v p
   unfolding eqnAnswer equationPlan
-  at-10 d = d
+  for-Del3 e d = for-rank atDel3 e d
 
-  pub at-11 : Is D2 k v (λ l r. d2Plan v) p → Is (eqnAnswer 11) k v (equationPlan 11 k v) p
+  pub for-D2 : n ≡ atD2 → Is D2 k v (λ l r. d2Plan v) p → Planning n k v p
   unfolding eqnAnswer equationPlan
-  at-11 d = d
+  for-D2 e d = for-rank atD2 e d
 
-  pub at-12 : Is D0 k v (λ l r. d0Plan k v) p → Is (eqnAnswer 12) k v (equationPlan 12 k v) p
+  pub for-D0 : n ≡ atD0 → Is D0 k v (λ l r. d0Plan k v) p → Planning n k v p
   unfolding eqnAnswer equationPlan
-  at-12 d = d
+  for-D0 e d = for-rank atD0 e d
 
-  pub at-13 : Is E1 k v (λ l r. e1Plan k v) p → Is (eqnAnswer 13) k v (equationPlan 13 k v) p
+  pub for-E1 : n ≡ atE1 → Is E1 k v (λ l r. e1Plan k v) p → Planning n k v p
   unfolding eqnAnswer equationPlan
-  at-13 d = d
+  for-E1 e d = for-rank atE1 e d
 
-  pub at-14 : Is E2 k v (λ l r. e1Plan k v) p → Is (eqnAnswer 14) k v (equationPlan 14 k v) p
+  pub for-E2 : n ≡ atE2 → Is E2 k v (λ l r. e1Plan k v) p → Planning n k v p
   unfolding eqnAnswer equationPlan
-  at-14 d = d
+  for-E2 e d = for-rank atE2 e d
 
-  pub at-15 : Is E3 k v (λ l r. e3Plan v r) p → Is (eqnAnswer 15) k v (equationPlan 15 k v) p
+  pub for-E3 : n ≡ atE3 → Is E3 k v (λ l r. e3Plan v r) p → Planning n k v p
   unfolding eqnAnswer equationPlan
-  at-15 d = d
+  for-E3 e d = for-rank atE3 e d
 
-  pub at-16 : Is E4 k v (e4Plan v) p → Is (eqnAnswer 16) k v (equationPlan 16 k v) p
+  pub for-E4 : n ≡ atE4 → Is E4 k v (e4Plan v) p → Planning n k v p
   unfolding eqnAnswer equationPlan
-  at-16 d = d
+  for-E4 e d = for-rank atE4 e d
 
-  pub at-17 : Is E5 k v (λ l r. e5Plan k v) p → Is (eqnAnswer 17) k v (equationPlan 17 k v) p
+  pub for-E5 : n ≡ atE5 → Is E5 k v (λ l r. e5Plan k v) p → Planning n k v p
   unfolding eqnAnswer equationPlan
-  at-17 d = d
+  for-E5 e d = for-rank atE5 e d
 
-  pub at-18 : Is E6 k v (λ l r. e6Plan k v) p → Is (eqnAnswer 18) k v (equationPlan 18 k v) p
+  pub for-E6 : n ≡ atE6 → Is E6 k v (λ l r. e6Plan k v) p → Planning n k v p
   unfolding eqnAnswer equationPlan
-  at-18 d = d
+  for-E6 e d = for-rank atE6 e d
 
-  pub dropped : {n : ℕ} → (n ≡ 0 → ⊥) → (n ≡ 9 → ⊥) → (n ≡ 10 → ⊥) → (n ≡ 11 → ⊥) → (n ≡ 12 → ⊥) → (n ≡ 13 → ⊥) → (n ≡ 14 → ⊥) → (n ≡ 15 → ⊥) → (n ≡ 16 → ⊥) → (n ≡ 17 → ⊥) → (n ≡ 18 → ⊥) → p ≡ dropPlan → Is (eqnAnswer n) k v (equationPlan n k v) p
+  pub dropped : Apart n (atR1 ∷ atDel1 ∷ atDel3 ∷ atD2 ∷ atD0 ∷ atE1 ∷ atE2 ∷ atE3 ∷ atE4 ∷ atE5 ∷ atE6 ∷ []) → p ≡ dropPlan → Planning n k v p
   unfolding equationPlan
-  dropped {n} h0 h9 h10 h11 h12 h13 h14 h15 h16 h17 h18 e l r a =
-      rw (ne-eqb n 0 h0, ne-eqb n 9 h9, ne-eqb n 10 h10, ne-eqb n 11 h11, ne-eqb n 12 h12, ne-eqb n 13 h13, ne-eqb n 14 h14, ne-eqb n 15 h15, ne-eqb n 16 h16, ne-eqb n 17 h17, ne-eqb n 18 h18) e
+  dropped a e = planning (λ l r _. e ∙ sym (not-tabled n (equationPlans k v l r) a))

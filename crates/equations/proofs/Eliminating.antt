@@ -17,6 +17,8 @@ use Rattle.rules.specs.Substitution.{Subst, setF, putF, put, putC}
 use Rattle.rules.specs.Looks.{loneT, loneTerm, loneH, loneNode, asBlank}
 use Rattle.rules.specs.Rules.{elims, E1, E2, E5, E6}
 use Rattle.rules.specs.Step.{place}
+use Rattle.rules.proofs.Answers.{look, test, answers}
+use Rattle.rules.proofs.Looks.{empty-is, loneT-is, loneTerm-is, loneH-is, loneNode-is, asBlank-is}
 use Rattle.plans.specs.declared.Recipe.{Recipe}
 use Rattle.plans.specs.declared.Side.{Side}
 use Rattle.plans.specs.declared.View.{View}
@@ -24,8 +26,6 @@ use Rattle.plans.specs.Looks.{head, bodyWords}
 use Rattle.plans.specs.Views.{Sided, Sees}
 use Rattle.plans.specs.Results.{replaced, changed, made, resultsOf}
 use Rattle.plans.specs.Sizes.{placedWords}
-use Rattle.exact.proofs.Answers.{look, test, answers}
-use Rattle.exact.proofs.Looks.{empty-is, loneT-is, loneTerm-is, loneH-is, loneNode-is, asBlank-is}
 use Rattle.views.proofs.Words.{words-body, words-append}
 use Rattle.words.proofs.Parts.{part-of}
 use Rattle.views.proofs.Sides.{side-whole, side-head, sees-before, sees-behind}

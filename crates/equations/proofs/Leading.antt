@@ -7,12 +7,14 @@ use mathlib.Core.List.{List, _++_}
 use borrow.Author.Tests.{eq-eqb, ne-eqb}
 use lib.ListN.{take, drop}
 use lib.Seq.{slice}
+use Rattle.language.specs.Limits.{desk}
 use Rattle.language.specs.declared.HedgeVar.{HedgeVar}
 use Rattle.language.specs.Kinds.{pick}
 use Rattle.language.specs.Trees.{Hedge, ε, tvar, hvar, node, Conj, eqH, sameWords, hv, holds, inConj}
 use Rattle.rules.specs.Looks.{empty, hasTerm, allTerms, inside, upTo, lone, loneH}
 use Rattle.rules.specs.Rules.{too}
 use Rattle.rules.specs.Solved.{isSome}
+use Rattle.rules.specs.Places.{atR1, atF2, atDel1, atDel3, atE2, atE3, atE4, noRule}
 use Rattle.plans.specs.declared.Look.the-variants.{Empty, Term, Run, Node}
 use Rattle.plans.specs.declared.Side.{Side}
 use Rattle.plans.specs.declared.View.{View}
@@ -26,12 +28,12 @@ use Rattle.equations.specs.Ranked.{Begins}
 use Rattle.equations.proofs.Looked.{at-empty, at-term, at-run, at-node}
 
 -- a hedge variable stands elsewhere
-pub run-elsewhere : {k : List ℕ} {v : View} {before : Conj} {l r : Hedge} {behind : Conj} → Sees k v before l r behind → (q : HedgeVar) → q .0 < 32 → {p : ℕ} → p ≡ 2000 + q .0
+pub run-elsewhere : {k : List ℕ} {v : View} {before : Conj} {l r : Hedge} {behind : Conj} → Sees k v before l r behind → (q : HedgeVar) → q .0 < desk .each → {p : ℕ} → p ≡ 2000 + q .0
     → (member p (take (v .at) k) || member p (drop (v .end) k)) ≡ inConj (hv q) (before ++ behind)
 run-elsewhere {k} {v} w q b {p} e = ap (λ z. member z (take (v .at) k) || member z (drop (v .end) k)) e ∙ elsewhere-sees (hv q) b w
 
 -- and in a side
-pub run-held : {k : List ℕ} {s : Side} {h : Hedge} → Sided k s h → (q : HedgeVar) → q .0 < 32 → {p : ℕ} → p ≡ 2000 + q .0 → member p (slice (s .from) (s .to) k) ≡ holds (hv q) h
+pub run-held : {k : List ℕ} {s : Side} {h : Hedge} → Sided k s h → (q : HedgeVar) → q .0 < desk .each → {p : ℕ} → p ≡ 2000 + q .0 → member p (slice (s .from) (s .to) k) ≡ holds (hv q) h
 run-held {k} {s} {h} v q b {p} e = ap (λ z. member z (slice (s .from) (s .to) k)) e ∙ ap (member (2000 + q .0)) (side-whole v) ∙ member-hedge (hv q) b h (v .fine)
 
 -- ---- the right side is one hedge variable
@@ -61,32 +63,32 @@ module _ (K : Conj) (r : Hedge) where
 -- ---- lonely and leading, by single tests
 
 module _ (K : Conj) (q : HedgeVar) (r : Hedge) where
-  pub lonely-fails : holds (hv q) r ≡ true → hasTerm r ≡ true → 3 ≡ lonely K q r
+  pub lonely-fails : holds (hv q) r ≡ true → hasTerm r ≡ true → atF2 ≡ lonely K q r
   lonely-fails a b = rw (a, b)
 
-  pub lonely-inside : holds (hv q) r ≡ true → hasTerm r ≡ false → isSome (inside q r) ≡ true → 10 ≡ lonely K q r
+  pub lonely-inside : holds (hv q) r ≡ true → hasTerm r ≡ false → isSome (inside q r) ≡ true → atDel3 ≡ lonely K q r
   lonely-inside a b c = rw (a, b, c)
 
-  pub lonely-open : holds (hv q) r ≡ true → hasTerm r ≡ false → isSome (inside q r) ≡ false → 28 ≡ lonely K q r
+  pub lonely-open : holds (hv q) r ≡ true → hasTerm r ≡ false → isSome (inside q r) ≡ false → noRule ≡ lonely K q r
   lonely-open a b c = rw (a, b, c)
 
-  pub lonely-solves : holds (hv q) r ≡ false → inConj (hv q) K ≡ true → too hv (loneH r) K ≡ true → 14 ≡ lonely K q r
+  pub lonely-solves : holds (hv q) r ≡ false → inConj (hv q) K ≡ true → too hv (loneH r) K ≡ true → atE2 ≡ lonely K q r
   lonely-solves a b c = rw (a, b, c)
 
-  pub lonely-rests : holds (hv q) r ≡ false → inConj (hv q) K ≡ true → too hv (loneH r) K ≡ false → 28 ≡ lonely K q r
+  pub lonely-rests : holds (hv q) r ≡ false → inConj (hv q) K ≡ true → too hv (loneH r) K ≡ false → noRule ≡ lonely K q r
   lonely-rests a b c = rw (a, b, c)
 
-  pub lonely-nowhere : holds (hv q) r ≡ false → inConj (hv q) K ≡ false → 28 ≡ lonely K q r
+  pub lonely-nowhere : holds (hv q) r ≡ false → inConj (hv q) K ≡ false → noRule ≡ lonely K q r
   lonely-nowhere a b = rw (a, b)
 
 module _ (q : HedgeVar) (r : Hedge) where
-  pub leading-cuts : (allTerms r && not (holds (hv q) r)) ≡ true → 15 ≡ leading q r
+  pub leading-cuts : (allTerms r && not (holds (hv q) r)) ≡ true → atE3 ≡ leading q r
   leading-cuts a = rw a
 
-  pub leading-up-to : (allTerms r && not (holds (hv q) r)) ≡ false → isSome (upTo q r) ≡ true → 16 ≡ leading q r
+  pub leading-up-to : (allTerms r && not (holds (hv q) r)) ≡ false → isSome (upTo q r) ≡ true → atE4 ≡ leading q r
   leading-up-to a b = rw (a, b)
 
-  pub leading-open : (allTerms r && not (holds (hv q) r)) ≡ false → isSome (upTo q r) ≡ false → 28 ≡ leading q r
+  pub leading-open : (allTerms r && not (holds (hv q) r)) ≡ false → isSome (upTo q r) ≡ false → noRule ≡ leading q r
   leading-open a b = rw (a, b)
 
   pub terms-held : allTerms r ≡ true → holds (hv q) r ≡ true → false ≡ (allTerms r && not (holds (hv q) r))
@@ -107,16 +109,16 @@ module _ (K : Conj) (q : HedgeVar) (s t : Hedge) where
   struck-words : sameWords (hvar q s) (hvar q t) ≡ sameWords s t
   struck-words = ap (λ z. z && sameWords s t) (self q)
 
-  pub struck-same : sameWords (hvar q s) (hvar q t) ≡ true → 0 ≡ rankOf K (hvar q s) (hvar q t)
+  pub struck-same : sameWords (hvar q s) (hvar q t) ≡ true → atR1 ≡ rankOf K (hvar q s) (hvar q t)
   struck-same e = let d : sameWords s t ≡ true = sym struck-words ∙ e in rw (self q, d)
 
-  pub struck-fails : sameWords (hvar q s) (hvar q t) ≡ false → empty s ≡ true → hasTerm (hvar q t) ≡ true → 3 ≡ rankOf K (hvar q s) (hvar q t)
+  pub struck-fails : sameWords (hvar q s) (hvar q t) ≡ false → empty s ≡ true → hasTerm (hvar q t) ≡ true → atF2 ≡ rankOf K (hvar q s) (hvar q t)
   struck-fails e a b = let d : sameWords s t ≡ false = sym struck-words ∙ e in rw (self q, d, a, b)
 
-  pub struck-lone : sameWords (hvar q s) (hvar q t) ≡ false → empty s ≡ true → hasTerm (hvar q t) ≡ false → 9 ≡ rankOf K (hvar q s) (hvar q t)
+  pub struck-lone : sameWords (hvar q s) (hvar q t) ≡ false → empty s ≡ true → hasTerm (hvar q t) ≡ false → atDel1 ≡ rankOf K (hvar q s) (hvar q t)
   struck-lone e a b = let d : sameWords s t ≡ false = sym struck-words ∙ e in rw (self q, d, a, b)
 
-  pub struck-more : sameWords (hvar q s) (hvar q t) ≡ false → empty s ≡ false → 9 ≡ rankOf K (hvar q s) (hvar q t)
+  pub struck-more : sameWords (hvar q s) (hvar q t) ≡ false → empty s ≡ false → atDel1 ≡ rankOf K (hvar q s) (hvar q t)
   struck-more e a = let d : sameWords s t ≡ false = sym struck-words ∙ e in rw (self q, d, a)
 
 pub same-run : (q w : HedgeVar) {p z : ℕ} → p ≡ 2000 + q .0 → z ≡ 2000 + w .0 → p ≡ z → q ≡ w
@@ -129,10 +131,10 @@ module _ (K : Conj) (q w : HedgeVar) (s t : Hedge) {p z : ℕ} (e : p ≡ 2000 +
   pub runs-lonely : empty s ≡ true → {n : ℕ} → n ≡ lonely K q (hvar w t) → n ≡ rankOf K (hvar q s) (hvar w t)
   runs-lonely a n =
       n
-      ∙ sym (ap (λ b. pick b (lonely K q (hvar w t)) 28) a)
-      ∙ sym (ap (λ b. pick b (pick (sameWords s t) 0 (pick (empty s && hasTerm t) 3 9)) (pick (empty s) (lonely K q (hvar w t)) 28)) apart)
+      ∙ sym (ap (λ b. pick b (lonely K q (hvar w t)) noRule) a)
+      ∙ sym (ap (λ b. pick b (pick (sameWords s t) atR1 (pick (empty s && hasTerm t) atF2 atDel1)) (pick (empty s) (lonely K q (hvar w t)) noRule)) apart)
 
-  pub runs-open : empty s ≡ false → 28 ≡ rankOf K (hvar q s) (hvar w t)
+  pub runs-open : empty s ≡ false → noRule ≡ rankOf K (hvar q s) (hvar w t)
   runs-open a = rw (apart, a)
 
 -- ---- a run against a term, or against nothing
@@ -150,14 +152,14 @@ module _ (K : Conj) (q : HedgeVar) (s : Hedge) where
   run-leading (hvar p r) b a n = absurd b
   run-leading (node f c r) b a n = rw a n
 
-  pub run-ends : (r : Hedge) → Empty ≡ lookOf r → empty s ≡ true → inConj (hv q) K ≡ true → 14 ≡ rankOf K (hvar q s) r
-  run-ends r e a b = at-empty (λ m. 14 ≡ rankOf K (hvar q s) m) r e (rw (a, b))
+  pub run-ends : (r : Hedge) → Empty ≡ lookOf r → empty s ≡ true → inConj (hv q) K ≡ true → atE2 ≡ rankOf K (hvar q s) r
+  run-ends r e a b = at-empty (λ m. atE2 ≡ rankOf K (hvar q s) m) r e (rw (a, b))
 
-  pub run-rests : (r : Hedge) → Empty ≡ lookOf r → empty s ≡ true → inConj (hv q) K ≡ false → 28 ≡ rankOf K (hvar q s) r
-  run-rests r e a b = at-empty (λ m. 28 ≡ rankOf K (hvar q s) m) r e (rw (a, b))
+  pub run-rests : (r : Hedge) → Empty ≡ lookOf r → empty s ≡ true → inConj (hv q) K ≡ false → noRule ≡ rankOf K (hvar q s) r
+  run-rests r e a b = at-empty (λ m. noRule ≡ rankOf K (hvar q s) m) r e (rw (a, b))
 
-  pub run-vanishes : (r : Hedge) → Empty ≡ lookOf r → empty s ≡ false → 15 ≡ rankOf K (hvar q s) r
-  run-vanishes r e a = at-empty (λ m. 15 ≡ rankOf K (hvar q s) m) r e (rw a)
+  pub run-vanishes : (r : Hedge) → Empty ≡ lookOf r → empty s ≡ false → atE3 ≡ rankOf K (hvar q s) r
+  run-vanishes r e a = at-empty (λ m. atE3 ≡ rankOf K (hvar q s) m) r e (rw a)
 
 pub begins-term : (r : Hedge) {w : ℕ} {b : Bool} → Term w b ≡ lookOf r → Begins r
 begins-term r e = at-term Begins r e (λ x t _. tt)

@@ -10,6 +10,9 @@ use Rattle.language.specs.Trees.{Functor, Hedge, ε, tvar, hvar, node, eqn, Con
 use Rattle.language.specs.Writing.{functorWord, hedgeWords, conjWords}
 use Rattle.rules.specs.Rules.{Branch, plain, Answer, EqRule, R1, Del1, D2, D0}
 use Rattle.rules.specs.Step.{place}
+use Rattle.rules.specs.Looks.{firstTerm, firstRun, loneNode}
+use Rattle.rules.proofs.Answers.{Where, Answers, look, test, answers}
+use Rattle.rules.proofs.Looks.{loneNode-is}
 use Rattle.plans.specs.declared.Recipe.{Recipe}
 use Rattle.plans.specs.declared.Within.{Within}
 use Rattle.plans.specs.declared.Ways.the-variants.{One}
@@ -22,10 +25,7 @@ use Rattle.plans.specs.Results.{made, resultsOf}
 use Rattle.plans.specs.Sizes.{placedWords}
 use Rattle.plans.specs.Slots.{planOf, forthIn}
 use Rattle.plans.proofs.Places.{forth-within}
-use Rattle.exact.proofs.Answers.{Where, Answers, look, test, answers}
-use Rattle.exact.proofs.Looks.{loneNode-is}
 use Rattle.views.proofs.Words.{words-body, words-append}
-use Rattle.rules.specs.Looks.{firstTerm, firstRun, loneNode}
 use Rattle.words.proofs.Parts.{part-of, drop-of}
 use Rattle.views.proofs.Sides.{side-head, side-tail, sees-before, sees-behind}
 use Rattle.equations.specs.Recipes.{r1Plan, del1Plan, d2Plan, d0Plan}

@@ -6,10 +6,12 @@ use mathlib.Core.Bool.{Bool, true, false, not, _&&_, _||_}
 use mathlib.Core.List.{List, _++_}
 use borrow.Author.Tests.{eq-eqb, ne-eqb}
 use lib.ListN.{take, drop}
+use Rattle.language.specs.Limits.{desk}
 use Rattle.language.specs.declared.TermVar.{TermVar}
 use Rattle.language.specs.Kinds.{pick}
 use Rattle.language.specs.Trees.{Functor, Hedge, ε, tvar, node, Conj, eqT, sameWords, tv, inConj}
 use Rattle.rules.specs.Looks.{empty, hasTerm, under}
+use Rattle.rules.specs.Places.{atR1, atF1, atF4, atD2, atE1, noRule}
 use Rattle.plans.specs.declared.Look.the-variants.{Empty, Term, Run, Node}
 use Rattle.plans.specs.declared.View.{View}
 use Rattle.plans.specs.Looks.{lookOf}
@@ -27,61 +29,61 @@ pub guard-off : {a : Bool} (u : Bool) → a ≡ false → false ≡ (a && u)
 guard-off u e = sym (ap (λ z. z && u) e)
 
 -- a term variable stands elsewhere
-pub term-elsewhere : {k : List ℕ} {v : View} {before : Conj} {l r : Hedge} {behind : Conj} → Sees k v before l r behind → (y : TermVar) → y .0 < 32 → {x : ℕ} → x ≡ 1000 + y .0
+pub term-elsewhere : {k : List ℕ} {v : View} {before : Conj} {l r : Hedge} {behind : Conj} → Sees k v before l r behind → (y : TermVar) → y .0 < desk .each → {x : ℕ} → x ≡ 1000 + y .0
     → (member x (take (v .at) k) || member x (drop (v .end) k)) ≡ inConj (tv y) (before ++ behind)
 term-elsewhere {k} {v} w y b {x} e = ap (λ z. member z (take (v .at) k) || member z (drop (v .end) k)) e ∙ elsewhere-sees (tv y) b w
 
 -- ---- the left side is empty
 
 module _ (K : Conj) (r : Hedge) where
-  pub empty-empty : Empty ≡ lookOf r → 0 ≡ rankOf K ε r
-  empty-empty e = at-empty (λ m. 0 ≡ rankOf K ε m) r e refl
+  pub empty-empty : Empty ≡ lookOf r → atR1 ≡ rankOf K ε r
+  empty-empty e = at-empty (λ m. atR1 ≡ rankOf K ε m) r e refl
 
-  pub empty-term : {w : ℕ} {lone : Bool} → Term w lone ≡ lookOf r → 5 ≡ rankOf K ε r
-  empty-term e = at-term (λ m. 5 ≡ rankOf K ε m) r e (λ x t _. refl)
+  pub empty-term : {w : ℕ} {lone : Bool} → Term w lone ≡ lookOf r → atF4 ≡ rankOf K ε r
+  empty-term e = at-term (λ m. atF4 ≡ rankOf K ε m) r e (λ x t _. refl)
 
-  pub empty-node : {w : ℕ} {lone bare : Bool} → Node w lone bare ≡ lookOf r → 5 ≡ rankOf K ε r
-  empty-node e = at-node (λ m. 5 ≡ rankOf K ε m) r e (λ f c t _. refl)
+  pub empty-node : {w : ℕ} {lone bare : Bool} → Node w lone bare ≡ lookOf r → atF4 ≡ rankOf K ε r
+  empty-node e = at-node (λ m. atF4 ≡ rankOf K ε m) r e (λ f c t _. refl)
 
-  pub empty-run : {w : ℕ} {lone : Bool} → Run w lone ≡ lookOf r → hasTerm r ≡ true → 5 ≡ rankOf K ε r
-  empty-run e = at-run (λ m. hasTerm m ≡ true → 5 ≡ rankOf K ε m) r e (λ p t _ h. rw h)
+  pub empty-run : {w : ℕ} {lone : Bool} → Run w lone ≡ lookOf r → hasTerm r ≡ true → atF4 ≡ rankOf K ε r
+  empty-run e = at-run (λ m. hasTerm m ≡ true → atF4 ≡ rankOf K ε m) r e (λ p t _ h. rw h)
 
-  pub empty-runs : {w : ℕ} {lone : Bool} → Run w lone ≡ lookOf r → hasTerm r ≡ false → 28 ≡ rankOf K ε r
-  empty-runs e = at-run (λ m. hasTerm m ≡ false → 28 ≡ rankOf K ε m) r e (λ p t _ h. rw h)
+  pub empty-runs : {w : ℕ} {lone : Bool} → Run w lone ≡ lookOf r → hasTerm r ≡ false → noRule ≡ rankOf K ε r
+  empty-runs e = at-run (λ m. hasTerm m ≡ false → noRule ≡ rankOf K ε m) r e (λ p t _ h. rw h)
 
 -- ---- E1, two variables
 
 -- E1 for two lone variables
 abbrev pub variablesRank : Conj → TermVar → TermVar → ℕ
-variablesRank K y w = pick (not (eqT y w) && (inConj (tv y) K && inConj (tv w) K)) 13 28
+variablesRank K y w = pick (not (eqT y w) && (inConj (tv y) K && inConj (tv w) K)) atE1 noRule
 
 module _ (K : Conj) (y w : TermVar) {x z : ℕ} (e : x ≡ 1000 + y .0) (d : z ≡ 1000 + w .0) where
-  pub same-variable : x ≡ z → 28 ≡ variablesRank K y w
+  pub same-variable : x ≡ z → noRule ≡ variablesRank K y w
   same-variable q = let i : eqT y w ≡ true = eq-eqb (y .0) (w .0) (omega arith) in rw i
 
-  pub two-variables : (x ≡ z → ⊥) → {b : Bool} → b ≡ (inConj (tv y) K && inConj (tv w) K) → pick b 13 28 ≡ variablesRank K y w
+  pub two-variables : (x ≡ z → ⊥) → {b : Bool} → b ≡ (inConj (tv y) K && inConj (tv w) K) → pick b atE1 noRule ≡ variablesRank K y w
   two-variables q t = let i : eqT y w ≡ false = ne-eqb (y .0) (w .0) (λ m. q (omega arith)) in rw (i, t)
 
 -- ---- the left side begins with a variable
 
 module _ (K : Conj) (y : TermVar) (s : Hedge) where
-  pub term-empty : (r : Hedge) → Empty ≡ lookOf r → 28 ≡ rankOf K (tvar y s) r
-  term-empty r e = at-empty (λ m. 28 ≡ rankOf K (tvar y s) m) r e refl
+  pub term-empty : (r : Hedge) → Empty ≡ lookOf r → noRule ≡ rankOf K (tvar y s) r
+  term-empty r e = at-empty (λ m. noRule ≡ rankOf K (tvar y s) m) r e refl
 
-  pub term-run : (r : Hedge) {w : ℕ} {lone : Bool} → Run w lone ≡ lookOf r → (empty s && under (tv y) r) ≡ true → 2 ≡ rankOf K (tvar y s) r
-  term-run r e = at-run (λ m. (empty s && under (tv y) m) ≡ true → 2 ≡ rankOf K (tvar y s) m) r e (λ p t _ h. rw h)
+  pub term-run : (r : Hedge) {w : ℕ} {lone : Bool} → Run w lone ≡ lookOf r → (empty s && under (tv y) r) ≡ true → atF1 ≡ rankOf K (tvar y s) r
+  term-run r e = at-run (λ m. (empty s && under (tv y) m) ≡ true → atF1 ≡ rankOf K (tvar y s) m) r e (λ p t _ h. rw h)
 
-  pub term-runs : (r : Hedge) {w : ℕ} {lone : Bool} → Run w lone ≡ lookOf r → (empty s && under (tv y) r) ≡ false → 28 ≡ rankOf K (tvar y s) r
-  term-runs r e = at-run (λ m. (empty s && under (tv y) m) ≡ false → 28 ≡ rankOf K (tvar y s) m) r e (λ p t _ h. rw h)
+  pub term-runs : (r : Hedge) {w : ℕ} {lone : Bool} → Run w lone ≡ lookOf r → (empty s && under (tv y) r) ≡ false → noRule ≡ rankOf K (tvar y s) r
+  term-runs r e = at-run (λ m. (empty s && under (tv y) m) ≡ false → noRule ≡ rankOf K (tvar y s) m) r e (λ p t _ h. rw h)
 
   module _ (w : TermVar) (t : Hedge) where
-    pub terms-same : sameWords (tvar y s) (tvar w t) ≡ true → 0 ≡ rankOf K (tvar y s) (tvar w t)
+    pub terms-same : sameWords (tvar y s) (tvar w t) ≡ true → atR1 ≡ rankOf K (tvar y s) (tvar w t)
     terms-same e = rw e
 
-    pub terms-hidden : sameWords (tvar y s) (tvar w t) ≡ false → (empty s && under (tv y) (tvar w t)) ≡ true → 2 ≡ rankOf K (tvar y s) (tvar w t)
+    pub terms-hidden : sameWords (tvar y s) (tvar w t) ≡ false → (empty s && under (tv y) (tvar w t)) ≡ true → atF1 ≡ rankOf K (tvar y s) (tvar w t)
     terms-hidden e h = rw (e, h)
 
-    pub terms-longer : sameWords (tvar y s) (tvar w t) ≡ false → (empty s && under (tv y) (tvar w t)) ≡ false → (empty s && empty t) ≡ false → 11 ≡ rankOf K (tvar y s) (tvar w t)
+    pub terms-longer : sameWords (tvar y s) (tvar w t) ≡ false → (empty s && under (tv y) (tvar w t)) ≡ false → (empty s && empty t) ≡ false → atD2 ≡ rankOf K (tvar y s) (tvar w t)
     terms-longer e h z = rw (e, h, z)
 
     pub terms-single : sameWords (tvar y s) (tvar w t) ≡ false → (empty s && under (tv y) (tvar w t)) ≡ false → (empty s && empty t) ≡ true
@@ -89,11 +91,11 @@ module _ (K : Conj) (y : TermVar) (s : Hedge) where
     terms-single e h z n = rw (e, h, z) n
 
   module _ (g : Functor) (d t : Hedge) where
-    pub node-hidden : (empty s && under (tv y) (node g d t)) ≡ true → 2 ≡ rankOf K (tvar y s) (node g d t)
+    pub node-hidden : (empty s && under (tv y) (node g d t)) ≡ true → atF1 ≡ rankOf K (tvar y s) (node g d t)
     node-hidden h = rw h
 
-    pub node-longer : (empty s && under (tv y) (node g d t)) ≡ false → (empty s && empty t) ≡ false → 11 ≡ rankOf K (tvar y s) (node g d t)
+    pub node-longer : (empty s && under (tv y) (node g d t)) ≡ false → (empty s && empty t) ≡ false → atD2 ≡ rankOf K (tvar y s) (node g d t)
     node-longer h z = rw (h, z)
 
-    pub node-single : (empty s && under (tv y) (node g d t)) ≡ false → (empty s && empty t) ≡ true → {b : Bool} → b ≡ inConj (tv y) K → pick b 13 28 ≡ rankOf K (tvar y s) (node g d t)
+    pub node-single : (empty s && under (tv y) (node g d t)) ≡ false → (empty s && empty t) ≡ true → {b : Bool} → b ≡ inConj (tv y) K → pick b atE1 noRule ≡ rankOf K (tvar y s) (node g d t)
     node-single h z e = rw (h, z, e)

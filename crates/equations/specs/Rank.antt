@@ -1,5 +1,5 @@
 -- The first rule at an equation, seen from the side l, as a tree of decisions: by how the two sides begin, and then by single tests.
--- The numbers are the rules' places in their list; 28 is none of them.
+-- The answer is the rule's place in the list, or `noRule`.
 use Prim.Native.Nat.{ℕ}
 use mathlib.Core.Bool.{not, _&&_, _||_}
 use mathlib.Core.Option.{none}
@@ -9,50 +9,51 @@ use Rattle.language.specs.Trees.{Functor, symbol, fvar, Hedge, ε, tvar, hvar, 
 use Rattle.rules.specs.Looks.{empty, hasTerm, allTerms, under, inside, upTo, loneH}
 use Rattle.rules.specs.Rules.{too}
 use Rattle.rules.specs.Solved.{isSome}
+use Rattle.rules.specs.Places.{atR1, atF1, atF2, atF3, atF4, atDel1, atDel3, atD2, atD0, atE1, atE2, atE3, atE4, atE5, atE6, noRule}
 
 -- terms in front of s and t: D2 where something follows one of them, and else `single`
 abbrev pub terms : Hedge → Hedge → ℕ → ℕ
-terms s t single = pick (empty s && empty t) single 11
+terms s t single = pick (empty s && empty t) single atD2
 
 -- single terms f(c) and g(d): F3, D0, E5, E6
 abbrev pub functors : Conj → Functor → Hedge → Functor → Hedge → ℕ
-functors K (symbol f) c (symbol g) d = pick (eqS f g) 12 4
-functors K (symbol f) c (fvar Y) d = 28
-functors K (fvar X) c (symbol g) d = pick (empty c && empty d) (pick (inConj (fv X) K) 17 28) 18
-functors K (fvar X) c (fvar Y) d = pick (eqX X Y) 12 (pick (empty c && empty d) (pick (inConj (fv X) K && inConj (fv Y) K) 17 28) 18)
+functors K (symbol f) c (symbol g) d = pick (eqS f g) atD0 atF3
+functors K (symbol f) c (fvar Y) d = noRule
+functors K (fvar X) c (symbol g) d = pick (empty c && empty d) (pick (inConj (fv X) K) atE5 noRule) atE6
+functors K (fvar X) c (fvar Y) d = pick (eqX X Y) atD0 (pick (empty c && empty d) (pick (inConj (fv X) K && inConj (fv Y) K) atE5 noRule) atE6)
 
 -- a lone p against r, which does not begin with p: F2, Del3, E2
 abbrev pub lonely : Conj → HedgeVar → Hedge → ℕ
-lonely K p r = pick (holds (hv p) r) (pick (hasTerm r) 3 (pick (isSome (inside p r)) 10 28)) (pick (inConj (hv p) K && too hv (loneH r) K) 14 28)
+lonely K p r = pick (holds (hv p) r) (pick (hasTerm r) atF2 (pick (isSome (inside p r)) atDel3 noRule)) (pick (inConj (hv p) K && too hv (loneH r) K) atE2 noRule)
 
 -- p with something behind it against r, which begins with a term: E3, E4
 abbrev pub leading : HedgeVar → Hedge → ℕ
-leading p r = pick (allTerms r && not (holds (hv p) r)) 15 (pick (isSome (upTo p r)) 16 28)
+leading p r = pick (allTerms r && not (holds (hv p) r)) atE3 (pick (isSome (upTo p r)) atE4 noRule)
 
 abbrev pub rankOf : Conj → Hedge → Hedge → ℕ
-rankOf K ε ε = 0
-rankOf K ε (tvar y t) = 5
-rankOf K ε (hvar q t) = pick (hasTerm t) 5 28
-rankOf K ε (node g d t) = 5
-rankOf K (tvar x s) ε = 28
+rankOf K ε ε = atR1
+rankOf K ε (tvar y t) = atF4
+rankOf K ε (hvar q t) = pick (hasTerm t) atF4 noRule
+rankOf K ε (node g d t) = atF4
+rankOf K (tvar x s) ε = noRule
 rankOf K (tvar x s) (tvar y t) =
-    pick (eqT x y && sameWords s t) 0
-    (pick (empty s && under (tv x) t) 2
-    (terms s t (pick (not (eqT x y) && (inConj (tv x) K && inConj (tv y) K)) 13 28)))
-rankOf K (tvar x s) (hvar q t) = pick (empty s && under (tv x) t) 2 28
+    pick (eqT x y && sameWords s t) atR1
+    (pick (empty s && under (tv x) t) atF1
+    (terms s t (pick (not (eqT x y) && (inConj (tv x) K && inConj (tv y) K)) atE1 noRule)))
+rankOf K (tvar x s) (hvar q t) = pick (empty s && under (tv x) t) atF1 noRule
 rankOf K (tvar x s) (node g d t) =
-    pick (empty s && (holds (tv x) d || under (tv x) t)) 2
-    (terms s t (pick (inConj (tv x) K) 13 28))
-rankOf K (hvar p s) ε = pick (empty s) (pick (inConj (hv p) K) 14 28) 15
+    pick (empty s && (holds (tv x) d || under (tv x) t)) atF1
+    (terms s t (pick (inConj (tv x) K) atE1 noRule))
+rankOf K (hvar p s) ε = pick (empty s) (pick (inConj (hv p) K) atE2 noRule) atE3
 rankOf K (hvar p s) (tvar y t) = pick (empty s) (lonely K p (tvar y t)) (leading p (tvar y t))
 rankOf K (hvar p s) (hvar q t) =
     pick (eqH p q)
-    (pick (sameWords s t) 0 (pick (empty s && hasTerm t) 3 9))
-    (pick (empty s) (lonely K p (hvar q t)) 28)
+    (pick (sameWords s t) atR1 (pick (empty s && hasTerm t) atF2 atDel1))
+    (pick (empty s) (lonely K p (hvar q t)) noRule)
 rankOf K (hvar p s) (node g d t) = pick (empty s) (lonely K p (node g d t)) (leading p (node g d t))
-rankOf K (node f c s) ε = 28
-rankOf K (node f c s) (tvar y t) = terms s t 28
-rankOf K (node f c s) (hvar q t) = 28
+rankOf K (node f c s) ε = noRule
+rankOf K (node f c s) (tvar y t) = terms s t noRule
+rankOf K (node f c s) (hvar q t) = noRule
 rankOf K (node f c s) (node g d t) =
-    pick (eqF f g && sameWords c d && sameWords s t) 0
+    pick (eqF f g && sameWords c d && sameWords s t) atR1
     (terms s t (functors K f c g d))

@@ -1,9 +1,8 @@
--- What a rank promises, and the ranks of two single functors by single tests.
+-- What a rank promises, and E5's test.
 use Prim.Native.Nat.{ℕ}
 use mathlib.Core.Path.{_≡_}
 use mathlib.Core.Bool.{Bool, true, false, not, _&&_, _||_}
 use mathlib.Core.List.{List, _++_}
-use Rattle.language.specs.Kinds.{pick}
 use Rattle.language.specs.Trees.{Functor, symbol, fvar, Hedge, ε, tvar, hvar, node, Conj, fv, inConj}
 use Rattle.plans.specs.declared.View.{View}
 use Rattle.plans.specs.Views.{Sees}
@@ -25,10 +24,6 @@ blankIn (fvar X) K = inConj (fv X) K
 -- E5: X in K, and a variable F too
 abbrev pub blanksIn : Functor → Functor → Conj → Bool
 blanksIn F G K = blankIn F K && (not (isBlank G) || blankIn G K)
-
--- single terms with the functors F and G: whether they are blanks, the same, both without children, and E5's test
-abbrev pub functorsBy : Bool → Bool → Bool → Bool → Bool → ℕ
-functorsBy blankF blankG same bare e5 = pick blankF (pick same 12 (pick bare (pick e5 17 28) 18)) (pick blankG 28 (pick same 12 4))
 
 -- a hedge that begins with a term
 abbrev pub Begins : Hedge → Type 0

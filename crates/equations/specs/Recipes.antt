@@ -6,6 +6,7 @@ use mathlib.Core.Option.{Option, none, some}
 use lib.ListN.{length}
 use Rattle.language.specs.Trees.{Hedge, ε, tvar, hvar, node}
 use Rattle.rules.specs.Looks.{upTo, inside}
+use Rattle.rules.specs.Places.{atR1, atDel1, atDel3, atD2, atD0, atE1, atE2, atE3, atE4, atE5, atE6}
 use Rattle.plans.specs.declared.Piece.the-variants.{Word, Copy, Put, ToCut, PutFromCut}
 use Rattle.plans.specs.declared.Ways.the-variants.{One, Cuts}
 use Rattle.plans.specs.declared.Plan.{Plan}
@@ -114,8 +115,12 @@ del3Plan k v i = struck v i (innerOf k i (v .r .to) .from)
 abbrev pub spotOf : View → Hedge → Hedge → ℕ
 spotOf v l r = v .r .from + length (bodyWords (hedgeAhead l r))
 
+-- the plans of the rules by their places
+abbrev pub equationPlans : List ℕ → View → Hedge → Hedge → List (ℕ × Plan)
+equationPlans k v l r =
+    (atR1, r1Plan v) ∷ (atDel1, del1Plan v) ∷ (atDel3, del3Plan k v (spotOf v l r)) ∷ (atD2, d2Plan v) ∷ (atD0, d0Plan k v) ∷ (atE1, e1Plan k v) ∷ (atE2, e1Plan k v)
+    ∷ (atE3, e3Plan v r) ∷ (atE4, e4Plan v l r) ∷ (atE5, e5Plan k v) ∷ (atE6, e6Plan k v) ∷ []
+
 -- the plan of the rule of a place in the list; the F rules drop the conjunction
 unfoldable pub equationPlan : ℕ → List ℕ → View → Hedge → Hedge → Plan
-equationPlan n k v l r = tabled n (
-    (0, r1Plan v) ∷ (9, del1Plan v) ∷ (10, del3Plan k v (spotOf v l r)) ∷ (11, d2Plan v) ∷ (12, d0Plan k v) ∷ (13, e1Plan k v) ∷ (14, e1Plan k v)
-    ∷ (15, e3Plan v r) ∷ (16, e4Plan v l r) ∷ (17, e5Plan k v) ∷ (18, e6Plan k v) ∷ [])
+equationPlan n k v l r = tabled n (equationPlans k v l r)

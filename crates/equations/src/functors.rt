@@ -20,10 +20,11 @@ use plans::Side;
 use plans::View;
 use words::elsewhere;
 use words::same_part;
+use rules::places::{AT_R1, AT_F3, AT_D2, AT_D0, AT_E5, AT_E6, NO_RULE};
 
 // X() = F(): X in the others, and F too where it is a variable.
 fn both_elsewhere(k: &[u16], v: View, f: u16, g: u16) -> bool
-    ensures { λ b. ⌜ ((before behind : Conj) (l r : Hedge) (X : FunVar) (G : Functor) → Sees (now (k .entry)) v before l r behind → f ≡ 4000 + X .0 → X .0 < 32 → g ≡ functorWord G → fineFunctor desk G → b ≡ blanksIn (fvar X) G (before ++ behind)) ⌝ }
+    ensures { λ b. ⌜ ((before behind : Conj) (l r : Hedge) (X : FunVar) (G : Functor) → Sees (now (k .entry)) v before l r behind → f ≡ 4000 + X .0 → X .0 < desk .each → g ≡ functorWord G → fineFunctor desk G → b ≡ blanksIn (fvar X) G (before ++ behind)) ⌝ }
 {
     if !elsewhere(k, v.at, v.end, f) {
         return false;
@@ -40,23 +41,23 @@ fn rank_functors(k: &[u16], v: View, f: u16, bare: bool, g: u16) -> usize
 {
     if f < 4000 {
         if 4000 <= g {
-            return 28;
+            return NO_RULE;
         }
         if f == g {
-            return 12;
+            return AT_D0;
         }
-        return 4;
+        return AT_F3;
     }
     if f == g {
-        return 12;
+        return AT_D0;
     }
     if !bare {
-        return 18;
+        return AT_E6;
     }
     if both_elsewhere(k, v, f, g) {
-        return 17;
+        return AT_E5;
     }
-    28
+    NO_RULE
 }
 
 // Both sides begin with a functor: R1, D2, or the two are single terms.
@@ -75,13 +76,13 @@ fn rank_nodes(
     let l = v.l;
     let r = v.r;
     if same_part(k, l.from, l.to, r.from, r.to) {
-        return 0;
+        return AT_R1;
     }
     if and(lone, more) {
         let both = and(bare, plain);
         return rank_functors(k, v, f, both, g);
     }
-    11
+    AT_D2
 }
 
 // The left side begins with a functor.
@@ -91,13 +92,13 @@ pub fn rank_node(k: &[u16], v: View, f: u16, lone: bool, bare: bool) -> usize
     let r = v.r;
     let look = r.look;
     match look {
-        Look::Empty => 28,
-        Look::Run(_, _) => 28,
+        Look::Empty => NO_RULE,
+        Look::Run(_, _) => NO_RULE,
         Look::Term(_, more) => {
             if and(lone, more) {
-                return 28;
+                return NO_RULE;
             }
-            11
+            AT_D2
         }
         Look::Node(g, more, plain) => rank_nodes(k, v, f, lone, bare, g, more, plain),
     }

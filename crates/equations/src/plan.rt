@@ -19,6 +19,7 @@ use views::all_terms;
 use views::inside;
 use views::up_to;
 use words::word;
+use rules::places::{AT_R1, AT_DEL1, AT_DEL3, AT_D2, AT_D0, AT_E1, AT_E2, AT_E3, AT_E4, AT_E5, AT_E6};
 
 // The literal is removed.
 fn plan_r1(v: View) -> Plan
@@ -301,17 +302,17 @@ pub fn plan_equation(rank: usize, k: &[u16], v: View) -> Plan
     ensures { λ p. ⌜ Planning rank (now (k .entry)) v p ⌝ }
 {
     match rank {
-        0 => plan_r1(v),
-        9 => plan_del1(v),
-        10 => plan_del3(k, v),
-        11 => plan_d2(v),
-        12 => plan_d0(k, v),
-        13 => plan_e1(k, v),
-        14 => plan_e1(k, v),
-        15 => plan_e3(k, v),
-        16 => plan_e4(k, v),
-        17 => plan_e5(k, v),
-        18 => plan_e6(k, v),
+        AT_R1 => plan_r1(v),
+        AT_DEL1 => plan_del1(v),
+        AT_DEL3 => plan_del3(k, v),
+        AT_D2 => plan_d2(v),
+        AT_D0 => plan_d0(k, v),
+        AT_E1 => plan_e1(k, v),
+        AT_E2 => plan_e1(k, v),
+        AT_E3 => plan_e3(k, v),
+        AT_E4 => plan_e4(k, v),
+        AT_E5 => plan_e5(k, v),
+        AT_E6 => plan_e6(k, v),
         _ => plan_drop(),
     }
 }

@@ -12,7 +12,7 @@ use plans::Look;
 use plans::Side;
 use plans::View;
 
-// The place of the first rule in the list, or 28 where none applies.
+// The place of the first rule in the list, or NO_RULE where none applies.
 pub fn rank_equation(k: &[u16], v: View) -> usize
     ensures { λ n. ⌜ ((before behind : Conj) (l r : Hedge) → Sees (now (k .entry)) v before l r behind → n ≡ eqnRank (before ++ behind) l r) ⌝ }
 {

@@ -3,6 +3,7 @@ ghost use Prim.Native.Nat.{ℕ, _+_, _<_};
 ghost use mathlib.Core.Path.{_≡_};
 ghost use mathlib.Core.Bool.{Bool, not, _&&_};
 ghost use mathlib.Core.List.{List, _++_};
+ghost use Rattle.language.specs.Limits.{desk};
 ghost use Rattle.language.specs.declared.HedgeVar.{HedgeVar};
 ghost use Rattle.language.specs.Trees.{Hedge, hvar, Conj, hv, holds};
 ghost use Rattle.rules.specs.Looks.{empty, allTerms, loneH};
@@ -22,6 +23,7 @@ use views::up_to;
 use words::elsewhere;
 use words::same_part;
 use words::stands;
+use rules::places::{AT_R1, AT_F2, AT_DEL1, AT_DEL3, AT_E2, AT_E3, AT_E4, NO_RULE};
 
 // Where the right side is one hedge variable, it is in the others too.
 fn too_elsewhere(k: &[u16], v: View) -> bool
@@ -49,26 +51,26 @@ fn rank_lonely(k: &[u16], v: View, p: u16) -> usize
     let r = v.r;
     if stands(k, r.from, r.to, p) {
         if has_term(k, r.from) {
-            return 3;
+            return AT_F2;
         }
         let spot = inside(k, r.from, p);
         if spot.found {
-            return 10;
+            return AT_DEL3;
         }
-        return 28;
+        return NO_RULE;
     }
     if elsewhere(k, v.at, v.end, p) {
         if too_elsewhere(k, v) {
-            return 14;
+            return AT_E2;
         }
-        return 28;
+        return NO_RULE;
     }
-    28
+    NO_RULE
 }
 
 // Whether terms alone stand there, and p in none of them.
 fn free_terms(k: &[u16], v: View, p: u16) -> bool
-    ensures { λ b. ⌜ ((before behind : Conj) (q : HedgeVar) (l r : Hedge) → Sees (now (k .entry)) v before l r behind → q .0 < 32 → p ≡ 2000 + q .0 → b ≡ (allTerms r && not (holds (hv q) r))) ⌝ }
+    ensures { λ b. ⌜ ((before behind : Conj) (q : HedgeVar) (l r : Hedge) → Sees (now (k .entry)) v before l r behind → q .0 < desk .each → p ≡ 2000 + q .0 → b ≡ (allTerms r && not (holds (hv q) r))) ⌝ }
 {
     let r = v.r;
     let terms = all_terms(k, r.from);
@@ -86,14 +88,14 @@ fn rank_leading(k: &[u16], v: View, p: u16) -> usize
     ensures { λ n. ⌜ ((before behind : Conj) (q : HedgeVar) (s r : Hedge) → Sees (now (k .entry)) v before (hvar q s) r behind → p ≡ 2000 + q .0 → n ≡ leading q r) ⌝ }
 {
     if free_terms(k, v, p) {
-        return 15;
+        return AT_E3;
     }
     let r = v.r;
     let ahead = up_to(k, r.from, p);
     if ahead.found {
-        return 16;
+        return AT_E4;
     }
-    28
+    NO_RULE
 }
 
 // The same hedge variable in front: R1, F2, Del1.
@@ -103,15 +105,15 @@ fn rank_struck(k: &[u16], v: View, lone: bool) -> usize
     let l = v.l;
     let r = v.r;
     if same_part(k, l.from, l.to, r.from, r.to) {
-        return 0;
+        return AT_R1;
     }
     if lone {
         if has_term(k, r.from) {
-            return 3;
+            return AT_F2;
         }
-        return 9;
+        return AT_DEL1;
     }
-    9
+    AT_DEL1
 }
 
 // p against another hedge variable.
@@ -124,7 +126,7 @@ fn rank_run_run(k: &[u16], v: View, p: u16, lone: bool, z: u16) -> usize
     if lone {
         return rank_lonely(k, v, p);
     }
-    28
+    NO_RULE
 }
 
 // p against a hedge that begins with a term.
@@ -147,11 +149,11 @@ pub fn rank_run(k: &[u16], v: View, p: u16, lone: bool) -> usize
         Look::Empty => {
             if lone {
                 if elsewhere(k, v.at, v.end, p) {
-                    return 14;
+                    return AT_E2;
                 }
-                return 28;
+                return NO_RULE;
             }
-            15
+            AT_E3
         }
         Look::Term(_, _) => rank_run_term(k, v, p, lone),
         Look::Run(z, _) => rank_run_run(k, v, p, lone, z),

@@ -3,10 +3,12 @@ ghost use Prim.Native.Nat.{ℕ, _+_, _<_};
 ghost use mathlib.Core.Path.{_≡_};
 ghost use mathlib.Core.Bool.{Bool, not, _&&_};
 ghost use mathlib.Core.List.{List, _++_};
+ghost use Rattle.language.specs.Limits.{desk};
 ghost use Rattle.language.specs.declared.TermVar.{TermVar};
 ghost use Rattle.language.specs.Kinds.{pick};
 ghost use Rattle.language.specs.Trees.{Functor, Hedge, ε, tvar, node, Conj, eqT, tv, inConj};
 ghost use Rattle.rules.specs.Looks.{under as below};
+ghost use Rattle.rules.specs.Places.{atE1, noRule};
 ghost use Rattle.plans.specs.declared.Look.the-variants.{Term, Node};
 ghost use Rattle.plans.specs.Looks.{lookOf};
 ghost use Rattle.plans.specs.Views.{Sees};
@@ -20,6 +22,7 @@ use views::has_term;
 use views::under;
 use words::elsewhere;
 use words::same_part;
+use rules::places::{AT_R1, AT_F1, AT_F4, AT_D2, AT_E1, NO_RULE};
 
 // The left side is empty: R1, F4.
 pub fn rank_empty(k: &[u16], v: View) -> usize
@@ -28,21 +31,21 @@ pub fn rank_empty(k: &[u16], v: View) -> usize
     let r = v.r;
     let look = r.look;
     match look {
-        Look::Empty => 0,
-        Look::Term(_, _) => 5,
+        Look::Empty => AT_R1,
+        Look::Term(_, _) => AT_F4,
         Look::Run(_, _) => {
             if has_term(k, r.from) {
-                return 5;
+                return AT_F4;
             }
-            28
+            NO_RULE
         }
-        Look::Node(_, _, _) => 5,
+        Look::Node(_, _, _) => AT_F4,
     }
 }
 
 // F1: a lone x against a hedge with x below its top.
 fn hidden(k: &[u16], lone: bool, at: usize, x: u16) -> bool
-    ensures { λ b. ⌜ ((y : TermVar) (h : Hedge) (beyond : List ℕ) → y .0 < 32 → x ≡ 1000 + y .0 → Stands (now (k .entry)) at h beyond → b ≡ (lone && below (tv y) h)) ⌝ }
+    ensures { λ b. ⌜ ((y : TermVar) (h : Hedge) (beyond : List ℕ) → y .0 < desk .each → x ≡ 1000 + y .0 → Stands (now (k .entry)) at h beyond → b ≡ (lone && below (tv y) h)) ⌝ }
 {
     if lone {
         return under(k, at, x);
@@ -52,17 +55,17 @@ fn hidden(k: &[u16], lone: bool, at: usize, x: u16) -> bool
 
 // E1: two lone variables.
 fn rank_variables(k: &[u16], v: View, x: u16, z: u16) -> usize
-    ensures { λ n. ⌜ ((before behind : Conj) (l r : Hedge) (y w : TermVar) → Sees (now (k .entry)) v before l r behind → y .0 < 32 → w .0 < 32 → x ≡ 1000 + y .0 → z ≡ 1000 + w .0 → n ≡ pick (not (eqT y w) && (inConj (tv y) (before ++ behind) && inConj (tv w) (before ++ behind))) 13 28) ⌝ }
+    ensures { λ n. ⌜ ((before behind : Conj) (l r : Hedge) (y w : TermVar) → Sees (now (k .entry)) v before l r behind → y .0 < desk .each → w .0 < desk .each → x ≡ 1000 + y .0 → z ≡ 1000 + w .0 → n ≡ pick (not (eqT y w) && (inConj (tv y) (before ++ behind) && inConj (tv w) (before ++ behind))) atE1 noRule) ⌝ }
 {
     if x == z {
-        return 28;
+        return NO_RULE;
     }
     let first = elsewhere(k, v.at, v.end, x);
     let second = elsewhere(k, v.at, v.end, z);
     if and(first, second) {
-        return 13;
+        return AT_E1;
     }
-    28
+    NO_RULE
 }
 
 // Both sides begin with a term variable: R1, F1, D2, E1.
@@ -72,15 +75,15 @@ fn rank_term_term(k: &[u16], v: View, x: u16, lone: bool, z: u16, more: bool) ->
     let l = v.l;
     let r = v.r;
     if same_part(k, l.from, l.to, r.from, r.to) {
-        return 0;
+        return AT_R1;
     }
     if hidden(k, lone, r.from, x) {
-        return 2;
+        return AT_F1;
     }
     if and(lone, more) {
         return rank_variables(k, v, x, z);
     }
-    11
+    AT_D2
 }
 
 // A term variable against a functor: F1, D2, E1.
@@ -89,15 +92,15 @@ fn rank_term_node(k: &[u16], v: View, x: u16, lone: bool, more: bool) -> usize
 {
     let r = v.r;
     if hidden(k, lone, r.from, x) {
-        return 2;
+        return AT_F1;
     }
     if and(lone, more) {
         if elsewhere(k, v.at, v.end, x) {
-            return 13;
+            return AT_E1;
         }
-        return 28;
+        return NO_RULE;
     }
-    11
+    AT_D2
 }
 
 // The left side begins with a term variable.
@@ -107,13 +110,13 @@ pub fn rank_term(k: &[u16], v: View, x: u16, lone: bool) -> usize
     let r = v.r;
     let look = r.look;
     match look {
-        Look::Empty => 28,
+        Look::Empty => NO_RULE,
         Look::Term(z, more) => rank_term_term(k, v, x, lone, z, more),
         Look::Run(_, _) => {
             if hidden(k, lone, r.from, x) {
-                return 2;
+                return AT_F1;
             }
-            28
+            NO_RULE
         }
         Look::Node(_, more, _) => rank_term_node(k, v, x, lone, more),
     }

@@ -12,11 +12,11 @@ use Rattle.language.specs.declared.Refusal.the-variants.{QuestionLength, CountR
 use Rattle.language.specs.Trees.{Functor, symbol, fvar, Hedge, ε, tvar, hvar, node, Expr, eps, cat, alt, star, over, Literal, eqn, mem, Conj, Counts, Question, tv, hv, fv}
 use Rattle.language.specs.Question.{countsOf, alternativesOf, lengthFits, countsFit, laidOut, parts, readAll, declaredS, declaredT, declaredH, declaredX, declaredF, declared, declaredE, declaredL, declaredC, declaredQ, Asked, asks, refuses, readQuestion}
 use Rattle.rules.specs.Run.{finished, run}
-use Rattle.exact.specs.Each.{Each}
+use Rattle.rules.specs.Each.{Each}
+use Rattle.rules.proofs.Each.{each-imp}
+use Rattle.rules.proofs.Tests.{and-parts, and-both, test-true}
+use Rattle.rules.proofs.Invariant.{lines-keep}
 use Rattle.exact.specs.Made.{Name, aSymbol, aVariable, MadeF, Made, MadeE, MadeL, MadeC}
-use Rattle.exact.proofs.Each.{each-imp}
-use Rattle.exact.proofs.Tests.{and-parts, and-both, test-true}
-use Rattle.exact.proofs.Invariant.{lines-keep}
 use Rattle.exact.proofs.MadeByRules.{step-made}
 
 -- ---- declared is made of declared names

@@ -5,7 +5,6 @@ use mathlib.Core.Path.{_≡_}
 use mathlib.Core.Logic.{_↔_, Iff·trans, Iff·symm}
 use mathlib.Core.Bool.{Bool, true}
 use mathlib.Core.List.{List, [], _∷_, _++_, List·Memᴰ}
-use mathlib.Core.Option.{none, some}
 use Rattle.language.specs.declared.Sym.{Sym}
 use Rattle.language.specs.Limits.{Limits}
 use Rattle.language.specs.Trees.{Expr, Literal, Conj, Counts, Question}
@@ -13,21 +12,23 @@ use Rattle.language.specs.Question.{asks, declaredC, countsOf, readQuestion}
 use Rattle.meaning.specs.Complete.{Complete, nil, tree}
 use Rattle.meaning.specs.Meaning.{Filling, Member, MeetsAll, MeetsOne, MeetsQuestion}
 use Rattle.rules.specs.Expressions.{nullable, linear}
+use Rattle.rules.specs.Reply.{nothing, results}
 use Rattle.rules.specs.Rules.{Rule, rules}
-use Rattle.rules.specs.Step.{resultsAt, step}
+use Rattle.rules.specs.Step.{resultsAt, Spot, stepAt, search, step}
 use Rattle.rules.specs.Run.{finished, run}
 use Rattle.rules.specs.Answer.{answered, solving}
-use Rattle.exact.specs.Each.{Each, Some}
+use Rattle.rules.specs.Each.{Each, Some}
+use Rattle.rules.specs.Sides.{AtSides, Idle}
+use Rattle.rules.proofs.Each.{each-in, each-imp}
+use Rattle.rules.proofs.Tests.{test-true}
+use Rattle.rules.proofs.Steps.{named-at-sides, search-named, step-none}
+use Rattle.rules.proofs.Invariant.{answered-run, lines-keep, lines-rest}
 use Rattle.exact.specs.Monomials.{Takes}
-use Rattle.exact.specs.Places.{sidedAt, AtSides, AtPlaces, Idle, SameFillings}
+use Rattle.exact.specs.Places.{SameFillings}
 use Rattle.exact.specs.Made.{Name, MadeC}
-use Rattle.exact.proofs.Each.{each-in, each-imp}
-use Rattle.exact.proofs.Tests.{test-true}
 use Rattle.exact.proofs.Expressions.{nullable-exact, linear-exact}
-use Rattle.exact.proofs.Steps.{each-at-places, step-none}
 use Rattle.exact.proofs.Places.{each-rule-exact}
-use Rattle.exact.proofs.Run.{step-same, run-same, answered-run}
-use Rattle.exact.proofs.Invariant.{lines-keep, lines-rest}
+use Rattle.exact.proofs.Run.{step-same, run-same}
 use Rattle.exact.proofs.MadeByRules.{step-made}
 use Rattle.exact.proofs.Declared.{lines-declared, read-declared}
 
@@ -46,20 +47,23 @@ linear-form = linear-exact
 -- "the first rule below that applies to any literal, .. the earliest literal, .. the written side first, then swapped": but wherever any
 -- rule applies, first or not, earliest or not, swapped or not, a filling meets the conjunction exactly when it meets one of the results.
 pub rule-exact : (rule : Rule) → List·Memᴰ rule rules → (swap : Bool) (before : Conj) (l : Literal) (behind : Conj) (ks : List Conj)
-    → sidedAt swap rule before l behind ≡ some ks → (ρ : Filling) → MeetsAll ρ (before ++ (l ∷ behind)) ↔ MeetsOne ρ ks
+    → resultsAt swap rule before l behind ≡ results ks → (ρ : Filling) → MeetsAll ρ (before ++ (l ∷ behind)) ↔ MeetsOne ρ ks
 rule-exact rule i = each-in (AtSides SameFillings) each-rule-exact i
-
--- the same for the rule at a literal, the written side first
-pub rule-exact-at : (rule : Rule) → List·Memᴰ rule rules → (before : Conj) (l : Literal) (behind : Conj) (ks : List Conj)
-    → resultsAt rule before l behind ≡ some ks → (ρ : Filling) → MeetsAll ρ (before ++ (l ∷ behind)) ↔ MeetsOne ρ ks
-rule-exact-at rule i = each-in (AtPlaces SameFillings) (each-at-places SameFillings each-rule-exact) i
 
 -- the same of the whole table of rules at once
 pub rules-exact : Each (AtSides SameFillings) rules
 rules-exact = each-rule-exact
 
+-- So a step at whatever place is named, first or not: a filling meets the conjunction exactly when it meets one of the results;
+pub named-step-exact : (s : Spot) (k : Conj) (ks : List Conj) → stepAt s k ≡ results ks → (ρ : Filling) → MeetsAll ρ k ↔ MeetsOne ρ ks
+named-step-exact = named-at-sides SameFillings each-rule-exact
+
+-- and the place that the search names is one at which the step is as it was found.
+pub found-is-named : (k : Conj) (s : Spot) (ks : List Conj) → search k ≡ results (s, ks) → stepAt s k ≡ results ks
+found-is-named = search-named
+
 -- "That is one step": a filling meets the conjunction exactly when it meets one of the step's results.
-pub step-exact : (k : Conj) (ks : List Conj) → step k ≡ some ks → (ρ : Filling) → MeetsAll ρ k ↔ MeetsOne ρ ks
+pub step-exact : (k : Conj) (ks : List Conj) → step k ≡ results ks → (ρ : Filling) → MeetsAll ρ k ↔ MeetsOne ρ ks
 step-exact = step-same
 
 -- ---- the run with its limits, whatever they are
@@ -69,15 +73,15 @@ pub run-exact : (L : Limits) (w ls : List Conj) (n : ℕ) → run L w ≡ finish
 run-exact = run-same
 
 -- "If no rule applies, the conjunction becomes the next line": no rule applies to a line.
-pub lines-settled : (L : Limits) (w ls : List Conj) (n : ℕ) → run L w ≡ finished ls n → Each (λ k. step k ≡ none) ls
+pub lines-settled : (L : Limits) (w ls : List Conj) (n : ℕ) → run L w ≡ finished ls n → Each (λ k. step k ≡ nothing) ls
 lines-settled = lines-rest
 
 -- the same in full: no rule of the list applies at any literal of a line
 pub lines-idle : (L : Limits) (w ls : List Conj) (n : ℕ) → run L w ≡ finished ls n → Each (λ k. Each (Idle k) rules) ls
-lines-idle L w ls n e = each-imp (λ k. step k ≡ none) (λ k. Each (Idle k) rules) step-none ls (lines-rest L w ls n e)
+lines-idle L w ls n e = each-imp (λ k. step k ≡ nothing) (λ k. Each (Idle k) rules) step-none ls (lines-rest L w ls n e)
 
 -- "Waiting conjunctions stand in order": what every step keeps and every waiting conjunction has, every line has.
-pub lines-inherit : (P : Conj → Type 0) → ((k : Conj) (ks : List Conj) → P k → step k ≡ some ks → Each P ks)
+pub lines-inherit : (P : Conj → Type 0) → ((k : Conj) (ks : List Conj) → P k → step k ≡ results ks → Each P ks)
     → (L : Limits) (w ls : List Conj) (n : ℕ) → run L w ≡ finished ls n → Each P w → Each P ls
 lines-inherit = lines-keep
 
@@ -99,7 +103,7 @@ none-is-none L work answer ws n e = let (q, asked, same) = answer-exact L work a
 -- ---- what lines are made of
 
 -- "New literals stand in the place of the old": each symbol and each variable of a result was there before the step.
-pub step-names : (A : Name → Type 0) (k : Conj) (ks : List Conj) → step k ≡ some ks → MadeC A k → Each (MadeC A) ks
+pub step-names : (A : Name → Type 0) (k : Conj) (ks : List Conj) → step k ≡ results ks → MadeC A k → Each (MadeC A) ks
 step-names = step-made
 
 -- "6: an undeclared number": where every alternative is declared, so is every line.

@@ -1,17 +1,10 @@
-pub mod Each
-pub mod Invariant
-pub mod Tests
-pub mod Names
-pub mod Complete
 pub mod Fillings
 pub mod Sizes
 pub mod Answers
-pub mod Looks
 pub mod Cuts
 pub mod Expressions
 pub mod Equations
 pub mod Memberships
-pub mod Steps
 pub mod Places
 pub mod Run
 pub mod Made

@@ -1,24 +1,23 @@
 -- The rules make no new names: what stands for a literal is made of what the literal is made of.
 use mathlib.Core.Path.{_≡_}
-use mathlib.Core.Bool.{Bool, true, false}
 use mathlib.Core.List.{List, _∷_, _++_, map}
-use mathlib.Core.Option.{none, some, Option·map}
+use mathlib.Core.Option.{none, some}
 use Rattle.language.specs.declared.HedgeVar.{HedgeVar}
 use Rattle.language.specs.Trees.{symbol, Hedge, ε, tvar, hvar, node, Expr, Literal, eqn, mem, Conj, _⧺_, hv}
 use Rattle.rules.specs.Looks.{firstTerm, firstRun, loneTerm, loneT, loneH, loneNode, asSymbol, asBlank, inside, upTo, cuts, asCat, asAlt, asStar, asOver}
 use Rattle.rules.specs.Substitution.{putC}
 use Rattle.rules.specs.Expressions.{linear}
-use Rattle.rules.specs.Rules.{Branch, plain, elims, Answer, EqRule, InRule, Rule, onEqn, onMem, cutResult, vanish, monomialResult}
+use Rattle.rules.specs.Reply.{results, PairRule}
+use Rattle.rules.specs.Rules.{Branch, plain, elims, Answer, EqRule, InRule, Rule, onEqn, onMem, onPair, cutResult, vanish, monomialResult}
 use Rattle.rules.specs.Rules as rules
-use Rattle.rules.specs.Step.{place, step}
-use Rattle.exact.specs.Each.{Each}
-use Rattle.exact.specs.Places.{sided, sidedAt, AtSides}
+use Rattle.rules.specs.Step.{place, placed, step}
+use Rattle.rules.specs.Each.{Each}
+use Rattle.rules.specs.Sides.{AtSides}
+use Rattle.rules.proofs.Each.{_also_, each-map, each-imp}
+use Rattle.rules.proofs.Answers.{Answers, look, test, answers}
+use Rattle.rules.proofs.Looks.{loneT-is, loneH-is, loneNode-is, loneTerm-is, firstTerm-is, firstRun-is, asSymbol-is, asBlank-is, inside-is, upTo-is, asCat-is, asAlt-is, asStar-is, asOver-is, CutOf, cuts-join}
+use Rattle.rules.proofs.Steps.{Gives, OnSides, Kept, kept-at-sides, gives-behind, step-at-sides}
 use Rattle.exact.specs.Made.{Name, aVariable, Made, MadeE, MadeL, MadeC}
-use Rattle.exact.proofs.Each.{_also_, each-map, each-imp}
-use Rattle.exact.proofs.Answers.{Where, Answers, look, test, answers}
-use Rattle.exact.proofs.Looks.{loneT-is, loneH-is, loneNode-is, loneTerm-is, firstTerm-is, firstRun-is, asSymbol-is, asBlank-is, inside-is, upTo-is, asCat-is, asAlt-is, asStar-is, asOver-is}
-use Rattle.exact.proofs.Cuts.{CutOf, cuts-join}
-use Rattle.exact.proofs.Steps.{where-some, each-at-places, step-at-places}
 use Rattle.exact.proofs.Made.{made-⧺, made-++, Puts, putC-made, setT-made, setH-made, setF-made, emptied-made, MadeMonomial, linear-made}
 
 module _ (A : Name → Type 0) where
@@ -34,6 +33,9 @@ module _ (A : Name → Type 0) where
 
   abbrev MakesMem : InRule → Type 0
   MakesMem rule = (K : Conj) (h : Hedge) (R : Expr) → Made A h → MadeE A R → MadeAnswer (rule K h R)
+
+  abbrev MakesPair : PairRule → Type 0
+  MakesPair rule = (l : Literal) (behind : Conj) → MadeL A l → MadeC A behind → Gives (Each (MadeC A)) (rule l behind)
 
   -- ---- equations
 
@@ -210,36 +212,32 @@ module _ (A : Name → Type 0) where
   abbrev RuleMakes : Rule → Type 0
   RuleMakes (onEqn rule) = MakesEqn rule
   RuleMakes (onMem rule) = MakesMem rule
+  RuleMakes (onPair rule) = MakesPair rule
 
-  sided-makes : (rule : Rule) → RuleMakes rule → (swap : Bool) (K : Conj) (l : Literal) → MadeL A l → MadeAnswer (sided swap rule K l)
-  sided-makes (onEqn rule) p false K (eqn l r) m = p K l r (m .0) (m .1)
-  sided-makes (onEqn rule) p true K (eqn l r) m = p K r l (m .1) (m .0)
-  sided-makes (onEqn rule) p false K (mem h R) m = record { given = tt }
-  sided-makes (onEqn rule) p true K (mem h R) m = record { given = tt }
-  sided-makes (onMem rule) p false K (eqn l r) m = record { given = tt }
-  sided-makes (onMem rule) p true K (eqn l r) m = record { given = tt }
-  sided-makes (onMem rule) p false K (mem h R) m = p K h R (m .0) (m .1)
-  sided-makes (onMem rule) p true K (mem h R) m = record { given = tt }
-
-  -- made of what k is made of
-  abbrev MadeLike : Conj → List Conj → Type 0
-  MadeLike k ks = MadeC A k → Each (MadeC A) ks
-
-  at-literal-made : (before behind : Conj) (w : Answer) → MadeC A before → MadeC A behind → MadeAnswer w
-      → Where (Each (MadeC A)) (Option·map (map (place before behind)) w)
+  at-literal-made : (before behind : Conj) (w : Answer) → MadeC A before → MadeC A behind → MadeAnswer w → Gives (Each (MadeC A)) (placed before behind w)
   at-literal-made before behind none m n p = tt
   at-literal-made before behind (some bs) m n p = each-map MadeBranch (MadeC A) (place before behind) (λ b q. place-made before behind b m n q) bs (p .given)
 
-  rule-makes : (rule : Rule) → RuleMakes rule → AtSides MadeLike rule
-  rule-makes rule p swap before l behind ks e m =
-      let (x, y) = made-++ A before (l ∷ behind) .0 m in
-      where-some (Each (MadeC A)) (sidedAt swap rule before l behind) ks
-      (at-literal-made before behind (sided swap rule (before ++ behind) l) x (y .1) (sided-makes rule p swap (before ++ behind) l (y .0))) e
+  sides-make : (rule : Rule) → RuleMakes rule → (before : Conj) (l : Literal) (behind : Conj) → MadeC A before → MadeL A l → MadeC A behind
+      → OnSides (Each (MadeC A)) before behind rule l
+  sides-make (onEqn rule) p before (eqn l r) behind m (n, o) k = (
+    at-literal-made before behind (rule (before ++ behind) l r) m k (p (before ++ behind) l r n o),
+    at-literal-made before behind (rule (before ++ behind) r l) m k (p (before ++ behind) r l o n),
+  )
+  sides-make (onEqn rule) p before (mem h R) behind m n k = tt
+  sides-make (onMem rule) p before (eqn l r) behind m n k = tt
+  sides-make (onMem rule) p before (mem h R) behind m n k = at-literal-made before behind (rule (before ++ behind) h R) m k (p (before ++ behind) h R (n .0) (n .1))
+  sides-make (onPair rule) p before l behind m n k =
+      gives-behind (MadeC A) (MadeC A) before (rule l behind) (λ j q. made-++ A before j .1 (m, q)) (p l behind n k)
+
+  rule-makes : (rule : Rule) → RuleMakes rule → AtSides (Kept (MadeC A)) rule
+  rule-makes rule p = kept-at-sides (MadeC A) rule λ before l behind m.
+      let (x, y) = made-++ A before (l ∷ behind) .0 m in sides-make rule p before l behind x (y .0) (y .1)
 
   -- A rule's results, wherever it applies, are made of what the conjunction is made of.
-  pub each-rule-makes : Each (AtSides MadeLike) rules.rules
+  pub each-rule-makes : Each (AtSides (Kept (MadeC A))) rules.rules
   each-rule-makes =
-      each-imp RuleMakes (AtSides MadeLike) rule-makes rules.rules
+      each-imp RuleMakes (AtSides (Kept (MadeC A))) rule-makes rules.rules
       (R1-makes also R2-makes
       also F1-makes also F2-makes also F3-makes also F4-makes also F5-makes also F6-makes also F7-makes
       also Del1-makes also Del3-makes
@@ -248,5 +246,5 @@ module _ (A : Name → Type 0) where
       also M1-makes also M2-makes also M3-makes also M4-makes also M5-makes also M6-makes also M7-makes also M10-makes also M11-makes
       also tt)
 
-  pub step-made : (k : Conj) (ks : List Conj) → step k ≡ some ks → MadeC A k → Each (MadeC A) ks
-  step-made = step-at-places MadeLike (each-at-places MadeLike each-rule-makes)
+  pub step-made : (k : Conj) (ks : List Conj) → step k ≡ results ks → MadeC A k → Each (MadeC A) ks
+  step-made k ks e m = step-at-sides (Kept (MadeC A)) each-rule-makes k ks e m

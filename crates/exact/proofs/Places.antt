@@ -1,20 +1,21 @@
 -- Each rule is exact wherever it applies: its results, in place and with their substitutions made, say what the conjunction says.
-use mathlib.Core.Path.{sym}
-use mathlib.Core.Logic.{inl, inr, _↔_, Iff·trans}
-use mathlib.Core.Bool.{Bool, true, false}
+use mathlib.Core.Logic.{inl, inr, _↔_, Iff·trans, Iff·symm}
 use mathlib.Core.List.{List, [], _∷_, _++_, map}
-use mathlib.Core.Option.{none, some, Option·map}
+use mathlib.Core.Option.{none, some}
 use Rattle.language.specs.Trees.{Hedge, Literal, eqn, mem, Conj}
 use Rattle.meaning.specs.Meaning.{Filling, MeetsAll, MeetsOne}
+use Rattle.meaning.proofs.Same.{same-sym}
 use Rattle.rules.specs.Substitution.{putC}
-use Rattle.rules.specs.Rules.{Branch, plain, elims, Answer, Rule, onEqn, onMem, rules}
-use Rattle.rules.specs.Step.{place}
-use Rattle.exact.specs.Each.{Each, Some}
-use Rattle.exact.specs.Places.{sided, sidedAt, AtSides, SameFillings}
-use Rattle.exact.proofs.Each.{_also_, each-imp, some-map, some-same}
+use Rattle.rules.specs.Reply.{Reply, PairRule}
+use Rattle.rules.specs.Rules.{Branch, plain, elims, Answer, Rule, onEqn, onMem, onPair, rules}
+use Rattle.rules.specs.Step.{each, place, placed}
+use Rattle.rules.specs.Each.{Each, Some}
+use Rattle.rules.specs.Sides.{AtSides}
+use Rattle.rules.proofs.Each.{_also_, each-imp, some-map, some-same}
+use Rattle.rules.proofs.Steps.{Gives, gives-each, gives-imp, OnSides, at-sides}
+use Rattle.exact.specs.Places.{SameFillings}
 use Rattle.exact.proofs.Fillings.{putC-meets, all-++, one-some}
-use Rattle.exact.proofs.Answers.{Where, MeetsBranch, MeetsBranches, Faithful, ExactAnswer}
-use Rattle.exact.proofs.Steps.{where-some}
+use Rattle.exact.proofs.Answers.{MeetsBranch, MeetsBranches, Faithful, ExactAnswer}
 use Rattle.exact.proofs.Equations.{ExactEqn, R1-exact, F1-exact, F2-exact, F3-exact, F4-exact, Del1-exact, Del3-exact, D2-exact, D0-exact, E1-exact, E2-exact, E3-exact, E4-exact, E5-exact, E6-exact}
 use Rattle.exact.proofs.Memberships.{ExactMem, R2-exact, F5-exact, F6-exact, F7-exact, M1-exact, M2-exact, M3-exact, M4-exact, M5-exact, M6-exact, M7-exact, M10-exact, M11-exact}
 
@@ -62,7 +63,7 @@ places-same ρ before behind bs f =
     Beside b = MeetsAll ρ before × MeetsBranch ρ b × MeetsAll ρ behind
 
 pub at-literal : (before behind : Conj) (l : Literal) (w : Answer) → ExactAnswer l w
-    → Where (SameFillings (before ++ (l ∷ behind))) (Option·map (map (place before behind)) w)
+    → Gives (SameFillings (before ++ (l ∷ behind))) (placed before behind w)
 at-literal before behind l none p = tt
 at-literal before behind l (some bs) p = λ ρ.
     Iff·trans (all-++ ρ before (l ∷ behind)) (
@@ -70,31 +71,55 @@ at-literal before behind l (some bs) p = λ ρ.
       λ m. let (x, y, z) = places-same ρ before behind bs (p .given .faithful) .0 m in (x, (p .given .same ρ .1 y, z)),
     )
 
--- ---- a rule at a literal, its sides as written or swapped
+-- ---- a rule at a literal and those behind it
+
+-- what a rule of two literals has to be: a filling meets the literal and those behind it exactly when it meets one of the results
+abbrev pub ExactPair : PairRule → Type 0
+ExactPair rule = (l : Literal) (behind : Conj) → Gives (SameFillings (l ∷ behind)) (rule l behind)
+
+-- what stands before them says what it said
+behind-same : (ρ : Filling) (before : Conj) (ks : List Conj) → MeetsOne ρ (map (λ (k : Conj). before ++ k) ks) ↔ (MeetsAll ρ before × MeetsOne ρ ks)
+behind-same ρ before [] = (λ z. absurd z, λ m. m .1)
+behind-same ρ before (k ∷ ks) = (
+  λ o. elim o [
+    | inl m ↦ let (a, b) = all-++ ρ before k .0 m in (a, inl b)
+    | inr m ↦ let (a, b) = behind-same ρ before ks .0 m in (a, inr b)
+  ],
+  λ m. elim (m .1) [ inl b ↦ inl (all-++ ρ before k .1 (m .0, b)) | inr b ↦ inr (behind-same ρ before ks .1 (m .0, b)) ],
+)
+
+at-pair : (before behind : Conj) (l : Literal) (m : Reply (List Conj)) → Gives (SameFillings (l ∷ behind)) m
+    → Gives (SameFillings (before ++ (l ∷ behind))) (each (map (λ (k : Conj). before ++ k)) m)
+at-pair before behind l m p =
+    gives-each (SameFillings (before ++ (l ∷ behind))) _ m (gives-imp (SameFillings (l ∷ behind)) _ m (λ ks e ρ.
+    Iff·trans (all-++ ρ before (l ∷ behind))
+    (Iff·trans (λ (m : MeetsAll ρ before × MeetsAll ρ (l ∷ behind)). (m .0, e ρ .0 (m .1)), λ (m : MeetsAll ρ before × MeetsOne ρ ks). (m .0, e ρ .1 (m .1)))
+    (Iff·symm (behind-same ρ before ks)))) p)
+
+-- ---- a rule at a place, its sides as written or swapped
 
 abbrev RuleExact : Rule → Type 0
 RuleExact (onEqn rule) = ExactEqn rule
 RuleExact (onMem rule) = ExactMem rule
+RuleExact (onPair rule) = ExactPair rule
 
 exchanged : (l r : Hedge) (w : Answer) → ExactAnswer (eqn r l) w → ExactAnswer (eqn l r) w
 exchanged l r none p = record { given = tt }
 exchanged l r (some bs) p =
-    record { given = record { same = λ ρ. Iff·trans (λ e. sym e, λ e. sym e) (p .given .same ρ); faithful = p .given .faithful } }
+    record { given = record { same = λ ρ. Iff·trans (λ e. same-sym _ _ e, λ e. same-sym _ _ e) (p .given .same ρ); faithful = p .given .faithful } }
 
-sided-exact : (rule : Rule) → RuleExact rule → (swap : Bool) (K : Conj) (l : Literal) → ExactAnswer l (sided swap rule K l)
-sided-exact (onEqn rule) p false K (eqn l r) = p K l r
-sided-exact (onEqn rule) p true K (eqn l r) = exchanged l r (rule K r l) (p K r l)
-sided-exact (onEqn rule) p false K (mem h R) = record { given = tt }
-sided-exact (onEqn rule) p true K (mem h R) = record { given = tt }
-sided-exact (onMem rule) p false K (eqn l r) = record { given = tt }
-sided-exact (onMem rule) p true K (eqn l r) = record { given = tt }
-sided-exact (onMem rule) p false K (mem h R) = p K h R
-sided-exact (onMem rule) p true K (mem h R) = record { given = tt }
+sides-exact : (rule : Rule) → RuleExact rule → (before : Conj) (l : Literal) (behind : Conj) → OnSides (SameFillings (before ++ (l ∷ behind))) before behind rule l
+sides-exact (onEqn rule) p before (eqn l r) behind = (
+  at-literal before behind (eqn l r) (rule (before ++ behind) l r) (p (before ++ behind) l r),
+  at-literal before behind (eqn l r) (rule (before ++ behind) r l) (exchanged l r (rule (before ++ behind) r l) (p (before ++ behind) r l)),
+)
+sides-exact (onEqn rule) p before (mem h R) behind = tt
+sides-exact (onMem rule) p before (eqn l r) behind = tt
+sides-exact (onMem rule) p before (mem h R) behind = at-literal before behind (mem h R) (rule (before ++ behind) h R) (p (before ++ behind) h R)
+sides-exact (onPair rule) p before l behind = at-pair before behind l (rule l behind) (p l behind)
 
 rule-exact : (rule : Rule) → RuleExact rule → AtSides SameFillings rule
-rule-exact rule p swap before l behind ks e =
-    where-some (SameFillings (before ++ (l ∷ behind))) (sidedAt swap rule before l behind) ks
-    (at-literal before behind l (sided swap rule (before ++ behind) l) (sided-exact rule p swap (before ++ behind) l)) e
+rule-exact rule p = at-sides SameFillings rule (sides-exact rule p)
 
 -- ---- the rules in their order
 

@@ -1,6 +1,8 @@
 // Reads cases, a line each: the number of the line asked for, the words of the room, and the words of a question.
 // Writes the refusal's number, or 0 and the words of the filling; and then, of a filling, the number and the value that trying it gives.
 ghost use Rattle.cases.specs.Lines.{Parsed};
+use language::limits::QUESTION;
+use language::limits::ROOM;
 use showing::Shown;
 
 fn wide(x: u16) -> usize {
@@ -26,7 +28,7 @@ fn print_words(words: &[u16], n: usize) {
 }
 
 fn try_filling<'a>(question: &'a [u16], filling: &'a [u16]) {
-    let mut work = [0u16; 8192];
+    let mut work = [0u16; ROOM];
     let tried = trying::try_filling(question, filling, &mut work);
     print(trying::tried_number(tried));
     io::write_all(1, b" ");
@@ -35,8 +37,8 @@ fn try_filling<'a>(question: &'a [u16], filling: &'a [u16]) {
 }
 
 fn show(question: &[u16], line: usize, room: &mut [u16]) {
-    let mut work = [0u16; 8192];
-    let mut answer = [0u16; 8192];
+    let mut work = [0u16; ROOM];
+    let mut answer = [0u16; ROOM];
     let shown = showing::example(question, line, &mut work, &mut answer, room);
     print(showing::shown_number(shown));
     print_words(room, showing::shown_length(shown));
@@ -49,15 +51,15 @@ fn show(question: &[u16], line: usize, room: &mut [u16]) {
 }
 
 fn one(text: &[u8]) {
-    let mut words = [0u16; 2048];
-    let mut room = [0u16; 8192];
+    let mut words = [0u16; 2 * QUESTION];
+    let mut room = [0u16; ROOM];
     let n = cases::words_of(text, &mut words);
     if n < 2 {
         return;
     }
     let line = wide(words[0]);
     let size = wide(words[1]);
-    if size <= 8192 {
+    if size <= ROOM {
         show(&words[2..n], line, &mut room[0..size]);
     }
 }

@@ -170,11 +170,11 @@ pub counted-over : {size : Size} (l : ℕ) → size ≡ Over → Over ≡ counte
 counted-over l e = sym (ap (λ s. counted s l) e)
 
 module _ {size : Size} {l n : ℕ} (e : size ≡ Fits n) where
-  pub counted-long : 1024 < l → Over ≡ counted size l
-  counted-long h = sym (ap (λ s. counted s l) e ∙ ap (λ b. pick b (Fits (grown n l)) Over) (lt-leb l 1024 h))
+  pub counted-long : desk .question < l → Over ≡ counted size l
+  counted-long h = sym (ap (λ s. counted s l) e ∙ ap (λ b. pick b (Fits (grown n l)) Over) (lt-leb l (desk .question) h))
 
-  pub counted-more : {m : ℕ} → l ≤ 1024 → m ≡ grown n l → Fits m ≡ counted size l
-  counted-more h g = sym (ap (λ s. counted s l) e ∙ ap (λ b. pick b (Fits (grown n l)) Over) (le-leb l 1024 h) ∙ ap Fits (sym g))
+  pub counted-more : {m : ℕ} → l ≤ desk .question → m ≡ grown n l → Fits m ≡ counted size l
+  counted-more h g = sym (ap (λ s. counted s l) e ∙ ap (λ b. pick b (Fits (grown n l)) Over) (le-leb l (desk .question) h) ∙ ap Fits (sym g))
 
 words-length : (k : List ℕ) (s : Shape) (p : Spot) (ws : List ℕ) → length ws ≡ p .words → length (resultWords k s p ws) ≡ resultLength k s p
 unfolding resultWords resultLength
@@ -189,7 +189,7 @@ unfolding resultLength
 words-fewer k s p = omega arith
 
 module _ {k : List ℕ} {s : Shape} {p : Spot} {rest out : List ℕ} {rows : Results} {one : ℕ} {size : Size} (fit : rows .to ≤ length out) (e : one ≡ resultLength k s p) (c : size ≡ counted (rows .size) one) where
-  pub rowed-long : 1024 < one → Rowed k s p rest out rows out (record { size = size; to = rows .to })
+  pub rowed-long : desk .question < one → Rowed k s p rest out rows out (record { size = size; to = rows .to })
   rowed-long h = record { room = fit; size = c ∙ ap (counted (rows .size)) e; wrote = λ ws l d q x y. absurd (omega arith) }
 
   pub rowed-short : length rest < p .words → Rowed k s p rest out rows out (record { size = size; to = rows .to })

@@ -5,6 +5,7 @@ use mathlib.Core.List.{List, [], _∷_, _++_, map, map-map, append-assoc, append
 use native.Mathlib.Omega.{arith}
 use lib.ListN.{length, length-append}
 use lib.Seq.{slice}
+use Rattle.language.specs.Limits.{desk}
 use Rattle.language.specs.Trees.{Hedge, Expr, over, mem, Conj}
 use Rattle.language.specs.Writing.{conjWords}
 use Rattle.rules.specs.Rules.{monomialResult}
@@ -25,7 +26,7 @@ use Rattle.exprs.specs.Rows.{frontWords, backWords, rowWords}
 use Rattle.exprs.proofs.Linear.{Fits, rest-of, pairs, results-same}
 
 -- a recipe's words are bounded
-pieces-short : (k : List ℕ) (r : Recipe) (cut n i : ℕ) → length k ≤ 1024 → length (piecesFrom n i k r cut) ≤ n * 1048576
+pieces-short : (k : List ℕ) (r : Recipe) (cut n i : ℕ) → length k ≤ desk .question → length (piecesFrom n i k r cut) ≤ n * (desk .question * desk .question)
 pieces-short k r cut zero i h = omega arith
 pieces-short k r cut (suc n) i h =
     let a = piece-short k r cut (slotAt r i) h in
@@ -33,7 +34,7 @@ pieces-short k r cut (suc n) i h =
     let c = length-append (pieceWords k r cut (slotAt r i)) (piecesFrom n (i + 1) k r cut) in
     omega arith
 
-pub made-short : (k : List ℕ) (r : Recipe) (cut : ℕ) → length k ≤ 1024 → length (made k r cut) ≤ 12 * 1048576
+pub made-short : (k : List ℕ) (r : Recipe) (cut : ℕ) → length k ≤ desk .question → length (made k r cut) ≤ 12 * (desk .question * desk .question)
 unfolding made
 made-short k r cut h = pieces-short k r cut 12 0 h
 

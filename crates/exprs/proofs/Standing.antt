@@ -46,7 +46,7 @@ pub cases : {k : List ℕ} {at : ℕ} (P : Expr → List ℕ → Type 0)
     → (getD k at 0 ≡ 7001 → (a b : Expr) (w : List ℕ) → Here k (at + 1) a (exprWords b ++ w) → fineExpr desk b → P (cat a b) w)
     → (getD k at 0 ≡ 7002 → (a b : Expr) (w : List ℕ) → Here k (at + 1) a (exprWords b ++ w) → fineExpr desk b → P (alt a b) w)
     → (getD k at 0 ≡ 7003 → (a : Expr) (w : List ℕ) → Here k (at + 1) a w → P (star a) w)
-    → ((f : Sym) → getD k at 0 ≡ 3000 + f .0 → f .0 < 32 → (a : Expr) (w : List ℕ) → Here k (at + 1) a w → P (over f a) w)
+    → ((f : Sym) → getD k at 0 ≡ 3000 + f .0 → f .0 < desk .each → (a : Expr) (w : List ℕ) → Here k (at + 1) a w → P (over f a) w)
     → (R : Expr) (w : List ℕ) → Here k at R w → P R w
 cases {k} {at} P e c d s o eps w h = e (word-of k at (h .words)) w
 cases {k} {at} P e c d s o (cat a b) w h = c (word-of k at (h .words)) a b w (first-of k at 7001 a b w (h .fine .0) (h .words)) (h .fine .1)
@@ -79,7 +79,7 @@ module _ {k : List ℕ} {at : ℕ} (P : Expr → List ℕ → Type 0) where
       cases P (λ y w. absurd (omega arith)) (λ y a b w h o. absurd (omega arith)) (λ y a b w h o. absurd (omega arith))
       (λ _. t) (λ f y u a w h. absurd (omega arith))
 
-  pub by-over : getD k at 0 < 7000 → ((f : Sym) → getD k at 0 ≡ 3000 + f .0 → f .0 < 32 → (a : Expr) (w : List ℕ) → Here k (at + 1) a w → P (over f a) w)
+  pub by-over : getD k at 0 < 7000 → ((f : Sym) → getD k at 0 ≡ 3000 + f .0 → f .0 < desk .each → (a : Expr) (w : List ℕ) → Here k (at + 1) a w → P (over f a) w)
       → (R : Expr) (w : List ℕ) → Here k at R w → P R w
   by-over z t =
       cases P (λ y w. absurd (omega arith)) (λ y a b w h o. absurd (omega arith)) (λ y a b w h o. absurd (omega arith))

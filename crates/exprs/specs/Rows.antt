@@ -1,5 +1,5 @@
 -- The words of M2's results, monomial by monomial.
-use Prim.Native.Nat.{ℕ, _+_, _-_, _≤_}
+use Prim.Native.Nat.{ℕ, _+_, _-_, _*_, _≤_}
 use mathlib.Core.Path.{_≡_}
 use mathlib.Core.List.{List, [], _∷_, _++_}
 use lib.Dec.{leb}
@@ -50,8 +50,8 @@ resultWords k s p ws = frontWords k s p ++ ((opening (p .parts) ++ ws) ++ backWo
 
 -- a monomial that is bounded, so that sums fit
 pub record Bounded (p : Spot) : Type 0 where
-  pub few : p .parts ≤ 1024
-  pub short : p .words ≤ 1048576
+  pub few : p .parts ≤ desk .question
+  pub short : p .words ≤ desk .question * desk .question
 
 -- a result more of l words, and several more
 abbrev pub counted : Size → ℕ → Size

@@ -147,20 +147,20 @@ module _ (t h : ℕ) (fs : List ℕ) where
 
   pub record Counted (ws : List ℕ) (at total : ℕ) : Type 0 where
     pub inside : at ≤ length ws
-    pub few : total ≤ 4096 * at
+    pub few : total ≤ (desk .filling + desk .question) * at
     pub same : total + length (filled t h fs (drop at ws)) ≡ length (filled t h fs ws)
 
   pub counted-starts : (ws : List ℕ) → Counted ws 0 0
   counted-starts ws = record { inside = omega arith; few = omega arith; same = omega arith }
 
   module _ {ws : List ℕ} {at total : ℕ} (c : Counted ws at total) (p : at < length ws) where
-    pub counted-fits : {v : List ℕ} → length fs ≤ 4096 → length ws ≤ 4096 → v ≡ shown t h fs (drop at ws) → (length v ≤ 4096) × (total ≤ 4096 * 4096)
+    pub counted-fits : {v : List ℕ} → length fs ≤ desk .filling → length ws ≤ desk .question → v ≡ shown t h fs (drop at ws) → (length v ≤ desk .filling + desk .question) × (total ≤ (desk .filling + desk .question) * desk .question)
     counted-fits {v} q r e =
         let f = first-at ws at (length v) p (ap length e) in
-        let fits : length (shown t h fs (drop at ws)) ≤ 4096 = f .few 4096 q (omega (arith, length-drop at ws)) in
+        let fits : length (shown t h fs (drop at ws)) ≤ desk .filling + desk .question = f .few (desk .filling + desk .question) (omega arith) (omega (arith, length-drop at ws)) in
         (omega (arith, ap length e), omega (arith, c .few))
 
-    pub counted-on : {v : List ℕ} {k : ℕ} → length fs ≤ 4096 → length ws ≤ 4096 → v ≡ shown t h fs (drop at ws) → k ≡ stepOn (length v) (kindOf desk (getD ws at 0)) → Counted ws (at + k) (total + length v) × (0 < k)
+    pub counted-on : {v : List ℕ} {k : ℕ} → length fs ≤ desk .filling → length ws ≤ desk .question → v ≡ shown t h fs (drop at ws) → k ≡ stepOn (length v) (kindOf desk (getD ws at 0)) → Counted ws (at + k) (total + length v) × (0 < k)
     counted-on {v} {k} q r e g =
         let f : First (drop at ws) (shown t h fs (drop at ws)) k = rw g (first-at ws at (length v) p (ap length e)) in
         let rest = ap length (f .rest) in

@@ -6,8 +6,7 @@ use mathlib.Core.List.{List, [], _∷_}
 use mathlib.Core.Option.{Option, none, some}
 use native.Mathlib.Omega.{arith}
 use lib.Dec.{leb, eqb}
-use lib.ListN.{length, getD, drop}
-use lib.Seq.{getD-take, getD-drop}
+use lib.ListN.{length, getD}
 use borrow.Author.Tests.{leb-true, eqb-true}
 use Rattle.language.specs.declared.Refusal.{Refusal}
 use Rattle.language.specs.declared.Refusal.the-variants.{FillingLayout, FillingValue}
@@ -18,8 +17,7 @@ use Rattle.language.specs.Reading.{Got, got, stop, readHedge}
 use Rattle.language.specs.Question.{laidOut, parts, declared}
 use Rattle.language.specs.Between.{between}
 use Rattle.language.proofs.Bools.{both-true}
-use Rattle.language.proofs.Offsets.{between-cons, length-between, laid-length, laid-begins, laid-rises, parts-start}
-use Rattle.language.proofs.Alternatives.{part-at}
+use Rattle.language.proofs.Offsets.{laid-length, part-is, table-part}
 use Rattle.meaning.specs.Complete.{Complete, nil, completeWords}
 use Rattle.meaning.specs.Meaning.{Filling}
 use Rattle.meaning.specs.Values.{complete, Form, aTerm, aName, fits, fitting, forms, variables, valueOf, withValue, valuesOf, filling, Given, gives, refuses, readFilling}
@@ -81,23 +79,15 @@ module _ (m : ℕ) (fs : List ℕ) (laid : laidOut 1 m fs ≡ true) where
   filling-part : (i : ℕ) → i < m → (getD (parts 1 m fs) i [] ≡ between (offset fs i) (ending fs i) fs) × (i + 2 < length fs) × (ending fs i ≤ length fs)
   filling-part i p =
       let l = laid-length 1 m fs laid in
-      let end : ℕ = 1 + m + 1 in
-      let r = part-at end (between 2 end fs) fs (length fs) i (laid-rises 1 m fs laid) (omega (arith, length-between 2 end fs l)) in
-      let to : getD (between 2 end fs) i 0 ≡ ending fs i = getD-take (end - 2) (drop 2 fs) i 0 (omega arith) ∙ getD-drop 2 fs i 0 ∙ ap (λ j. getD fs j 0) (omega arith) in
-      let from : getD (end ∷ between 2 end fs) i 0 ≡ offset fs i =
-      ap (λ o. getD (o ∷ between 2 end fs) i 0) (sym (laid-begins 1 m fs laid)) ∙ ap (λ os. getD os i 0) (sym (between-cons 1 end fs (omega arith) l))
-      ∙ getD-take (end - 1) (drop 1 fs) i 0 (omega arith) ∙ getD-drop 1 fs i 0 ∙ ap (λ j. getD fs j 0) (omega arith) in (
-        ap (λ ps. getD ps i []) (parts-start 1 m fs laid) ∙ r .0 ∙ ap (λ o. between o (getD (between 2 end fs) i 0) fs) from ∙ ap (λ o. between (offset fs i) o fs) to,
-        omega arith,
-        omega (arith, r .2),
-      )
+      let r = table-part 1 m fs laid i (i + 1) (i + 2) p (omega arith) (omega arith) in
+      (part-is r, omega arith, r .high)
 
 -- ---- the filling
 
 -- what was read: its layout is right, and these are its values
 pub record Was (n : Counts) (fs : List ℕ) (ρ : Filling) : Type 0 where
   pub vs : List Complete
-  pub few : length fs ≤ 4096
+  pub few : length fs ≤ desk .filling
   pub laid : laidOut 1 (variables n) fs ≡ true
   pub read : valuesOf desk n (forms n) (parts 1 (variables n) fs) ≡ some vs
   pub is : ρ ≡ filling n vs
@@ -107,7 +97,7 @@ refused≢ e = absurd (let z : _≡_ {A = ℕ} 0 1 = cc in omega arith)
 
 module _ (n : Counts) (fs : List ℕ) (ρ : Filling) where
   abbrev layout : Bool
-  layout = leb (length fs) 4096 && eqb (getD fs 0 0) (variables n) && laidOut 1 (variables n) fs
+  layout = leb (length fs) (desk .filling) && eqb (getD fs 0 0) (variables n) && laidOut 1 (variables n) fs
 
   abbrev ofValues : Option (List Complete) → Given
   ofValues o = elim o [ none ↦ refuses FillingValue | some vs ↦ gives (filling n vs) ]
@@ -125,9 +115,9 @@ module _ (n : Counts) (fs : List ℕ) (ρ : Filling) where
       values : layout ≡ true → (o : Option (List Complete)) → valuesOf desk n (forms n) (parts 1 (variables n) fs) ≡ o → ofValues o ≡ gives ρ → Was n fs ρ
       values l none r e = refused≢ e
       values l (some vs) r e =
-          let a = both-true (leb (length fs) 4096 && eqb (getD fs 0 0) (variables n)) (laidOut 1 (variables n) fs) l in
-          let b = both-true (leb (length fs) 4096) (eqb (getD fs 0 0) (variables n)) (a .0) in
-          record { vs = vs; few = leb-true (length fs) 4096 (b .0); laid = a .1; read = r; is = cc }
+          let a = both-true (leb (length fs) (desk .filling) && eqb (getD fs 0 0) (variables n)) (laidOut 1 (variables n) fs) l in
+          let b = both-true (leb (length fs) (desk .filling)) (eqb (getD fs 0 0) (variables n)) (a .0) in
+          record { vs = vs; few = leb-true (length fs) (desk .filling) (b .0); laid = a .1; read = r; is = cc }
 
       on : (b : Bool) → layout ≡ b → ofLayout b ≡ gives ρ → Was n fs ρ
       on false l e = refused≢ e

@@ -23,10 +23,10 @@ use Rattle.filling.specs.Checking.{isSome, allOfForm, given}
 -- the counts that fit
 pub record Small (n : Counts) (c : ℕ) : Type 0 where
   pub symbol : 1 ≤ n .symbols
-  pub symbols : n .symbols ≤ 32
-  pub terms : n .terms ≤ 32
-  pub hedges : n .hedges ≤ 32
-  pub functions : n .functions ≤ 32
+  pub symbols : n .symbols ≤ desk .each
+  pub terms : n .terms ≤ desk .each
+  pub hedges : n .hedges ≤ desk .each
+  pub functions : n .functions ≤ desk .each
   pub alternatives : c ≤ 16
 
 pub small : (n : Counts) (c : ℕ) → countsFit desk n c ≡ true → Small n c
@@ -48,7 +48,7 @@ small n c e =
 
 module _ (n : Counts) (ws : List ℕ) where
   abbrev layout : Bool
-  layout = leb (length ws) 4096 && eqb (getD ws 0 0) (variables n) && laidOut 1 (variables n) ws
+  layout = leb (length ws) (desk .filling) && eqb (getD ws 0 0) (variables n) && laidOut 1 (variables n) ws
 
   refused : layout ≡ false → readFilling desk n ws ≡ refuses FillingLayout
   unfolding readFilling
@@ -58,21 +58,21 @@ module _ (n : Counts) (ws : List ℕ) where
   unfolding given
   bad-layout e = ap given (sym (refused e))
 
-  pub too-long : 4096 < length ws → Refused FillingLayout ≡ given (readFilling desk n ws)
-  too-long p = bad-layout (rw (lt-leb (length ws) 4096 p))
+  pub too-long : desk .filling < length ws → Refused FillingLayout ≡ given (readFilling desk n ws)
+  too-long p = bad-layout (rw (lt-leb (length ws) (desk .filling) p))
 
   pub not-laid : (m : ℕ) → m ≡ variables n → laidOut 1 m ws ≡ false → Refused FillingLayout ≡ given (readFilling desk n ws)
-  not-laid m q e = bad-layout (ap (λ b. (leb (length ws) 4096 && eqb (getD ws 0 0) (variables n)) && b) (ap (λ m. laidOut 1 m ws) (sym q) ∙ e) ∙ and-false (leb (length ws) 4096 && eqb (getD ws 0 0) (variables n)))
+  not-laid m q e = bad-layout (ap (λ b. (leb (length ws) (desk .filling) && eqb (getD ws 0 0) (variables n)) && b) (ap (λ m. laidOut 1 m ws) (sym q) ∙ e) ∙ and-false (leb (length ws) (desk .filling) && eqb (getD ws 0 0) (variables n)))
 
   pub no-words : length ws < 1 → Refused FillingLayout ≡ given (readFilling desk n ws)
   no-words p = not-laid (variables n) refl (laid-short 1 (variables n) ws (omega arith))
 
-  pub other-count : (getD ws 0 0 ≡ variables n → ⊥) → length ws ≤ 4096 → Refused FillingLayout ≡ given (readFilling desk n ws)
-  other-count p q = bad-layout (rw (le-leb (length ws) 4096 q, ne-eqb (getD ws 0 0) (variables n) p))
+  pub other-count : (getD ws 0 0 ≡ variables n → ⊥) → length ws ≤ desk .filling → Refused FillingLayout ≡ given (readFilling desk n ws)
+  other-count p q = bad-layout (rw (le-leb (length ws) (desk .filling) q, ne-eqb (getD ws 0 0) (variables n) p))
 
-  module _ (m : ℕ) (i : m ≡ variables n) (q : length ws ≤ 4096) (p : getD ws 0 0 ≡ m) (l : laidOut 1 m ws ≡ true) where
+  module _ (m : ℕ) (i : m ≡ variables n) (q : length ws ≤ desk .filling) (p : getD ws 0 0 ≡ m) (l : laidOut 1 m ws ≡ true) where
     good-layout : layout ≡ true
-    good-layout = rw (le-leb (length ws) 4096 q, eq-eqb (getD ws 0 0) (variables n) (p ∙ i), ← i, l)
+    good-layout = rw (le-leb (length ws) (desk .filling) q, eq-eqb (getD ws 0 0) (variables n) (p ∙ i), ← i, l)
 
     -- what the values are
     abbrev outcome : Option (List Complete) → Given

@@ -1,6 +1,7 @@
 // A filling in words: how each word of the question is shown under it, and what the words of a hedge become.
 use language::Kind;
 use language::Refusal;
+use language::limits::FILLING;
 use reader::Checked;
 use reader::Header;
 use reader::Read;
@@ -118,8 +119,8 @@ fn step(word: u16, shown: usize) -> usize
 
 // How many words these become, without writing them.
 pub fn filled_len<'a>(filling: &'a [u16], words: &'a [u16], terms: usize, hedges: usize) -> usize
-    requires { ⌜ length (now filling) ≤ 4096 ⌝ }
-    requires { ⌜ length (now words) ≤ 4096 ⌝ }
+    requires { ⌜ length (now filling) ≤ desk .filling ⌝ }
+    requires { ⌜ length (now words) ≤ desk .question ⌝ }
     requires { ⌜ Shows terms hedges (now filling) (now words) ⌝ }
     ensures { λ r. ⌜ r ≡ length (filled terms hedges (now (filling .entry)) (now (words .entry))) ⌝ }
 {
@@ -273,7 +274,7 @@ pub fn read_filling(h: Header, filling: &[u16]) -> Checked
     requires { ⌜ countsFit desk (countsIn h) (h .alternatives) ≡ true ⌝ }
     ensures { λ r. ⌜ r ≡ given (readFilling desk (countsIn h) (now (filling .entry))) ⌝ }
 {
-    if 4096 < filling.len() {
+    if FILLING < filling.len() {
         return Checked::Refused(Refusal::FillingLayout);
     }
     if filling.len() < 1 {

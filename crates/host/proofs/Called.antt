@@ -1,5 +1,5 @@
 -- What solving on words ensures, told of the bytes: the words lent come to what the bytes come to.
-use Prim.Native.Nat.{ℕ, _/_, _≤_}
+use Prim.Native.Nat.{ℕ, _*_, _/_, _≤_}
 use mathlib.Core.Path.{_≡_, refl, ap, _∙_}
 use mathlib.Core.List.{List, _++_, append-nil}
 use native.Mathlib.Omega.{arith}
@@ -20,11 +20,11 @@ no-refusal noLine = refl
 no-refusal allSolved = refl
 no-refusal someOpen = refl
 
-none-behind : (ws own : List ℕ) → length own ≡ 8192 → ws ++ drop 8192 own ≡ ws
-none-behind ws own e = ap (λ (l : List ℕ). ws ++ l) (drop-of-length-le own {i = 8192} (omega arith)) ∙ append-nil ws
+none-behind : (ws own : List ℕ) → length own ≡ desk .room → ws ++ drop (desk .room) own ≡ ws
+none-behind ws own e = ap (λ (l : List ℕ). ws ++ l) (drop-of-length-le own {i = (desk .room)} (omega arith)) ∙ append-nil ws
 
 -- the number and the desk's own answer slice
-read-off : (s : Solving) (r : Solved) (w o w′ o′ : List ℕ) → length o ≡ 8192 → (r, w′, o′) ≡ leaves s w o → (solvedNumber r ≡ solveNumber s) × Own s o′
+read-off : (s : Solving) (r : Solved) (w o w′ o′ : List ℕ) → length o ≡ desk .room → (r, w′, o′) ≡ leaves s w o → (solvedNumber r ≡ solveNumber s) × Own s o′
 unfolding solveNumber
 read-off (answered ls n) r w o w′ o′ n8 e =
     (ap (λ (t : Solved × List ℕ × List ℕ). solvedNumber (t .0)) e ∙ no-refusal (verdictOf ls), ap (λ (t : Solved × List ℕ × List ℕ). t .2) e ∙ none-behind _ o n8)
@@ -32,9 +32,9 @@ read-off (unread x) r w o w′ o′ n8 e = (ap (λ (t : Solved × List ℕ × Li
 read-off (given-up x) r w o w′ o′ n8 e =
     (ap (λ (t : Solved × List ℕ × List ℕ). solvedNumber (t .0)) e, ap (λ (t : Solved × List ℕ × List ℕ). t .2) e ∙ none-behind _ o n8)
 
-module _ (q a : List ℕ) (room : 16384 ≤ length a)
+module _ (q a : List ℕ) (room : 2 * desk .room ≤ length a)
     (ws w o w′ o′ : List ℕ) (r : Solved) (k : ℕ)
-    (lent : ws ≡ fitting 1024 (wordsIn q)) (work : length w ≡ 8192) (own : length o ≡ 8192)
+    (lent : ws ≡ fitting (desk .question) (wordsIn q)) (work : length w ≡ desk .room) (own : length o ≡ desk .room)
     (solved : (r, w′, o′) ≡ leaves (solving desk (length w) (length o) ws) w o)
     (number : k ≡ solvedNumber r) where
   abbrev comes : Solving
@@ -48,10 +48,10 @@ module _ (q a : List ℕ) (room : 16384 ≤ length a)
 
   some-number : Numbered comes
   unfolding solvingBytes
-  some-number = numbered desk 8192 (length a / 2) (wordsIn q)
+  some-number = numbered desk (desk .room) (length a / 2) (wordsIn q)
 
   pub refused-early : 1 ≤ k → k ≤ 6 → Left q a comes k a
   refused-early low high = kept q a room comes k some-number (number ∙ told .0) low high
 
-  pub answered-or-late : (a′ : List ℕ) → (1 ≤ k → k ≤ 6 → ⊥) → length o′ ≡ 8192 → a′ ≡ sets a 0 (bytesOf o′) → Left q a comes k a′
+  pub answered-or-late : (a′ : List ℕ) → (1 ≤ k → k ≤ 6 → ⊥) → length o′ ≡ desk .room → a′ ≡ sets a 0 (bytesOf o′) → Left q a comes k a′
   answered-or-late a′ h n e = wrote q a room comes k o′ a′ some-number (number ∙ told .0) h (told .1) (bytes-left q a room o′ a′ n e)

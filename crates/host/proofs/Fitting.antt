@@ -31,10 +31,10 @@ and-false false = refl
 at-first : (b : Bool) (x : Asked) → b ≡ false → elim b [ false ↦ refuses QuestionLength | true ↦ x ] ≡ refuses QuestionLength
 at-first b x e = ap (λ (t : Bool). elim t [ false ↦ refuses QuestionLength | true ↦ x ]) e
 
-pub long-question : (ws : List ℕ) → 1024 < length ws → readQuestion desk ws ≡ refuses QuestionLength
+pub long-question : (ws : List ℕ) → desk .question < length ws → readQuestion desk ws ≡ refuses QuestionLength
 unfolding readQuestion lengthFits
 long-question ws h =
-    let e : leb (length ws) 1024 ≡ false = lt-leb _ _ h in
+    let e : leb (length ws) (desk .question) ≡ false = lt-leb _ _ h in
     let f : lengthFits desk ws ≡ false = ap (λ (b : Bool). leb 6 (length ws) && b) e ∙ and-false (leb 6 (length ws)) in
     at-first (lengthFits desk ws) _ f
 
@@ -42,21 +42,21 @@ pub no-question : readQuestion desk [] ≡ refuses QuestionLength
 unfolding readQuestion lengthFits
 no-question = refl
 
-pub fitting-question : (ws : List ℕ) → readQuestion desk (fitting 1024 ws) ≡ readQuestion desk ws
+pub fitting-question : (ws : List ℕ) → readQuestion desk (fitting (desk .question) ws) ≡ readQuestion desk ws
 unfolding fitting
-fitting-question ws = go (leb (length ws) 1024) refl where
-  go : (b : Bool) → leb (length ws) 1024 ≡ b → readQuestion desk (pick b ws []) ≡ readQuestion desk ws
+fitting-question ws = go (leb (length ws) (desk .question)) refl where
+  go : (b : Bool) → leb (length ws) (desk .question) ≡ b → readQuestion desk (pick b ws []) ≡ readQuestion desk ws
   go true e = refl
   go false e = no-question ∙ sym (long-question ws (leb-false _ _ e))
 
-pub fitting-solving : (work answer : ℕ) (ws : List ℕ) → solving desk work answer (fitting 1024 ws) ≡ solving desk work answer ws
+pub fitting-solving : (work answer : ℕ) (ws : List ℕ) → solving desk work answer (fitting (desk .question) ws) ≡ solving desk work answer ws
 unfolding solving
 fitting-solving work answer ws =
     ap
     (λ (a : Asked).
-    elim (ltb work 8192) [
+    elim (ltb work (desk .room)) [
       | true ↦ unread ShortSlice
-      | false ↦ elim (ltb answer 8192) [ true ↦ unread ShortSlice | false ↦ solvingOf desk a ]
+      | false ↦ elim (ltb answer (desk .room)) [ true ↦ unread ShortSlice | false ↦ solvingOf desk a ]
     ])
     (fitting-question ws)
 
@@ -66,10 +66,10 @@ at-layout : (b : Bool) (x : Given) → b ≡ false → elim b [ false ↦ values
 at-layout b x e = ap (λ (t : Bool). elim t [ false ↦ values.refuses FillingLayout | true ↦ x ]) e
 
 module _ (n : Counts) where
-  pub long-filling : (fs : List ℕ) → 4096 < length fs → readFilling desk n fs ≡ values.refuses FillingLayout
+  pub long-filling : (fs : List ℕ) → desk .filling < length fs → readFilling desk n fs ≡ values.refuses FillingLayout
   unfolding readFilling
   long-filling fs h =
-      at-layout _ _ (ap (λ (b : Bool). b && eqb (getD fs 0 0) (variables n) && laidOut 1 (variables n) fs) (lt-leb (length fs) 4096 h))
+      at-layout _ _ (ap (λ (b : Bool). b && eqb (getD fs 0 0) (variables n) && laidOut 1 (variables n) fs) (lt-leb (length fs) (desk .filling) h))
 
   pub no-filling : readFilling desk n [] ≡ values.refuses FillingLayout
   unfolding readFilling laidOut
@@ -78,20 +78,20 @@ module _ (n : Counts) where
       let f : laidOut 1 (variables n) [] ≡ false = ap (λ (b : Bool). b && rises (1 + suc (variables n)) (offsets 1 (variables n) []) 0) e in
       at-layout _ _ (ap (λ (b : Bool). true && eqb 0 (variables n) && b) f ∙ and-false (eqb 0 (variables n)))
 
-  pub fitting-filling : (fs : List ℕ) → readFilling desk n (fitting 4096 fs) ≡ readFilling desk n fs
+  pub fitting-filling : (fs : List ℕ) → readFilling desk n (fitting (desk .filling) fs) ≡ readFilling desk n fs
   unfolding fitting
-  fitting-filling fs = go (leb (length fs) 4096) refl where
-    go : (b : Bool) → leb (length fs) 4096 ≡ b → readFilling desk n (pick b fs []) ≡ readFilling desk n fs
+  fitting-filling fs = go (leb (length fs) (desk .filling)) refl where
+    go : (b : Bool) → leb (length fs) (desk .filling) ≡ b → readFilling desk n (pick b fs []) ≡ readFilling desk n fs
     go true e = refl
     go false e = no-filling ∙ sym (long-filling fs (leb-false _ _ e))
 
-pub fitting-trying : (work : ℕ) (ws fs : List ℕ) → trying desk work (fitting 1024 ws) (fitting 4096 fs) ≡ trying desk work ws fs
+pub fitting-trying : (work : ℕ) (ws fs : List ℕ) → trying desk work (fitting (desk .question) ws) (fitting (desk .filling) fs) ≡ trying desk work ws fs
 unfolding trying
 fitting-trying work ws fs =
-    ap (λ (a : Asked). elim (ltb work 8192) [ true ↦ calls.unread ShortSlice | false ↦ tryingOf desk a (fitting 4096 fs) ]) (fitting-question ws)
-    ∙ ap (λ (t : Trying). elim (ltb work 8192) [ true ↦ calls.unread ShortSlice | false ↦ t ]) (each (readQuestion desk ws))
+    ap (λ (a : Asked). elim (ltb work (desk .room)) [ true ↦ calls.unread ShortSlice | false ↦ tryingOf desk a (fitting (desk .filling) fs) ]) (fitting-question ws)
+    ∙ ap (λ (t : Trying). elim (ltb work (desk .room)) [ true ↦ calls.unread ShortSlice | false ↦ t ]) (each (readQuestion desk ws))
   where
-    each : (a : Asked) → tryingOf desk a (fitting 4096 fs) ≡ tryingOf desk a fs
+    each : (a : Asked) → tryingOf desk a (fitting (desk .filling) fs) ≡ tryingOf desk a fs
     each (asks q) = ap (tryingWith desk q) (fitting-filling (q .counts) fs)
     each (refuses r) = refl
 
@@ -101,34 +101,34 @@ abbrev over : List ℕ → Bool → Showing
 over ws b = elim b [ true ↦ denied LongExample | false ↦ shows ws ]
 
 -- a room of more words than a filling may have is as good as one of so many
-fitted-used : (room : ℕ) (ws : List ℕ) → fitted desk (used 4096 room) ws ≡ fitted desk room ws
+fitted-used : (room : ℕ) (ws : List ℕ) → fitted desk (used (desk .filling) room) ws ≡ fitted desk room ws
 unfolding used
-fitted-used room ws = go (leb room 4096) refl where
-  wide : (b : Bool) → ltb 4096 (length ws) ≡ b → 4096 < room → over ws (b || ltb 4096 (length ws)) ≡ over ws (b || ltb room (length ws))
+fitted-used room ws = go (leb room (desk .filling)) refl where
+  wide : (b : Bool) → ltb (desk .filling) (length ws) ≡ b → desk .filling < room → over ws (b || ltb (desk .filling) (length ws)) ≡ over ws (b || ltb room (length ws))
   wide true e h = refl
-  wide false e h = let le : length ws ≤ 4096 = ltb-false _ _ e in ap (over ws) (e ∙ sym (le-ltb room (length ws) (omega arith)))
+  wide false e h = let le : length ws ≤ desk .filling = ltb-false _ _ e in ap (over ws) (e ∙ sym (le-ltb room (length ws) (omega arith)))
 
-  go : (b : Bool) → leb room 4096 ≡ b → fitted desk (pick b room 4096) ws ≡ fitted desk room ws
+  go : (b : Bool) → leb room (desk .filling) ≡ b → fitted desk (pick b room (desk .filling)) ws ≡ fitted desk room ws
   go true e = refl
-  go false e = wide (ltb 4096 (length ws)) refl (leb-false _ _ e)
+  go false e = wide (ltb (desk .filling) (length ws)) refl (leb-false _ _ e)
 
-shown-used : (n : Counts) (room : ℕ) (o : Option Conj) → shown desk n (used 4096 room) o ≡ shown desk n room o
+shown-used : (n : Counts) (room : ℕ) (o : Option Conj) → shown desk n (used (desk .filling) room) o ≡ shown desk n room o
 shown-used n room none = refl
 shown-used n room (some k) =
     ap (λ (s : Showing). elim (solved k) [ true ↦ s | false ↦ denied OpenLine ]) (fitted-used room (fillingWords n (example k)))
 
-showing-used : (n : Counts) (room line : ℕ) (s : Solving) → showingOf desk n (used 4096 room) line s ≡ showingOf desk n room line s
+showing-used : (n : Counts) (room line : ℕ) (s : Solving) → showingOf desk n (used (desk .filling) room) line s ≡ showingOf desk n room line s
 showing-used n room line (answered ls steps) = shown-used n room (lineAt line ls)
 showing-used n room line (unread r) = refl
 showing-used n room line (given-up r) = refl
 
-refused-showing : (room line : ℕ) (ws : List ℕ) → readQuestion desk ws ≡ refuses QuestionLength → showing desk 8192 8192 room line ws ≡ denied QuestionLength
+refused-showing : (room line : ℕ) (ws : List ℕ) → readQuestion desk ws ≡ refuses QuestionLength → showing desk (desk .room) (desk .room) room line ws ≡ denied QuestionLength
 unfolding showing solving
 refused-showing room line ws e = ap (λ (a : Asked). showingOf desk (countsOf ws) room line (solvingOf desk a)) e
 
-pub fitting-showing : (room line : ℕ) (ws : List ℕ) → showing desk 8192 8192 (used 4096 room) line (fitting 1024 ws) ≡ showing desk 8192 8192 room line ws
+pub fitting-showing : (room line : ℕ) (ws : List ℕ) → showing desk (desk .room) (desk .room) (used (desk .filling) room) line (fitting (desk .question) ws) ≡ showing desk (desk .room) (desk .room) room line ws
 unfolding fitting showing
-fitting-showing room line ws = go (leb (length ws) 1024) refl where
-  go : (b : Bool) → leb (length ws) 1024 ≡ b → showing desk 8192 8192 (used 4096 room) line (pick b ws []) ≡ showing desk 8192 8192 room line ws
-  go true e = showing-used (countsOf ws) room line (solving desk 8192 8192 ws)
+fitting-showing room line ws = go (leb (length ws) (desk .question)) refl where
+  go : (b : Bool) → leb (length ws) (desk .question) ≡ b → showing desk (desk .room) (desk .room) (used (desk .filling) room) line (pick b ws []) ≡ showing desk (desk .room) (desk .room) room line ws
+  go true e = showing-used (countsOf ws) room line (solving desk (desk .room) (desk .room) ws)
   go false e = refused-showing _ line [] no-question ∙ sym (refused-showing room line ws (long-question ws (leb-false _ _ e)))

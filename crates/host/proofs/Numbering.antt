@@ -3,6 +3,7 @@ use Prim.Native.Nat.{ℕ, _+_}
 use mathlib.Core.Path.{_≡_, ap, _∙_}
 use native.Mathlib.Omega.{arith}
 use borrow.Author.Tests.{eq-eqb, ne-eqb}
+use Rattle.language.specs.Limits.{desk}
 use Rattle.language.specs.declared.Refusal.{Refusal}
 use Rattle.language.specs.Numbers.{numberOf}
 use Rattle.host.specs.Bytes.{used}
@@ -10,7 +11,7 @@ use Rattle.host.specs.Numbers.{toldBy}
 use Rattle.host.proofs.Refusals.{each-number}
 
 module _ (refusal value : ℕ) where
-  pub told-value : refusal ≡ 0 → toldBy refusal value ≡ 100 + used 4096 value
+  pub told-value : refusal ≡ 0 → toldBy refusal value ≡ 100 + used (desk .filling) value
   unfolding toldBy
   told-value h = simp (eq-eqb _ _ h)
 

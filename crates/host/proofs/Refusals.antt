@@ -11,8 +11,10 @@ use Rattle.language.specs.Numbers.{numberOf}
 use Rattle.language.specs.Trees.{Conj, Question}
 use Rattle.language.specs.Question.{Asked, asks, refuses, readQuestion, lengthFits, countsFit, laidOut, readAll, parts, declaredQ, countsOf, alternativesOf}
 use Rattle.rules.specs.Run.{Outcome, finished, refused, turn, lined, anyLong, waitingSize, linesFit, runFrom, run}
+use Rattle.rules.specs.Reply.{Reply, nothing, results, stops}
 use Rattle.rules.specs.Step.{step}
 use Rattle.rules.specs.Answer.{Solving, answered, unread, given-up, ran, solvingOf, solving}
+use Rattle.rules.proofs.Stopping.{StopsBy, step-never-stops}
 
 abbrev pub Between : ℕ → ℕ → Refusal → Type 0
 Between low high r = (low ≤ numberOf r) × (numberOf r ≤ high)
@@ -68,16 +70,17 @@ late-lined : (b : Bool) (x : Outcome) → Late x → Late (elim b [ true ↦ x |
 late-lined true x h = h
 late-lined false x h = (lit≤ tt, lit≤ tt)
 
-late-turned : (o : Option (List Conj)) (go : List Conj → Outcome) (x : Outcome) → ((ks : List Conj) → Late (go ks)) → Late x
-    → Late (elim o [ some ks ↦ go ks | none ↦ x ])
-late-turned (some ks) go x h e = h ks
-late-turned none go x h e = e
+late-turned : (m : Reply (List Conj)) → StopsBy (λ _. ⊥) m → (go : List Conj → Outcome) (x : Outcome) → ((ks : List Conj) → Late (go ks)) → Late x
+    → Late (elim m [ results ks ↦ go ks | nothing ↦ x | stops r ↦ refused r ])
+late-turned (results ks) s go x h e = h ks
+late-turned nothing s go x h e = e
+late-turned (stops r) s go x h e = absurd s
 
 late-turn : (L : Limits) (go : List Conj → List Conj → List Conj → Outcome) → ((ls ks w : List Conj) → Late (go ls ks w)) → (n : ℕ) (ls w : List Conj)
     → Late (turn L go n ls w)
 late-turn L go h n ls [] = tt
 late-turn L go h n ls (k ∷ w) =
-    late-turned (step k) (λ ks. go ls ks (ks ++ w)) _ (λ ks. h ls ks (ks ++ w))
+    late-turned (step k) (step-never-stops k) (λ ks. go ls ks (ks ++ w)) _ (λ ks. h ls ks (ks ++ w))
     (late-lined (linesFit L (ls ++ (k ∷ []))) _ (late-turn L go h n (ls ++ (k ∷ [])) w))
 
 late-tested : (b : Bool) (r : Refusal) (x : Outcome) → Between 7 10 r → Late x → Late (elim b [ true ↦ refused r | false ↦ x ])

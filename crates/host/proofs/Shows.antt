@@ -31,12 +31,12 @@ use Rattle.host.proofs.Fitting.{fitting-showing}
 -- ---- how long an example can be
 
 abbrev pub Fits : ℕ → Showing → Type 0
-Fits room (shows ws) = (length ws ≤ 4096) × (length ws ≤ room)
+Fits room (shows ws) = (length ws ≤ desk .filling) × (length ws ≤ room)
 Fits room (denied r) = Unit {0}
 
 fits-fitted : (room : ℕ) (ws : List ℕ) → Fits room (fitted desk room ws)
-fits-fitted room ws = go (ltb 4096 (length ws)) (ltb room (length ws)) refl refl where
-  go : (b t : Bool) → ltb 4096 (length ws) ≡ b → ltb room (length ws) ≡ t → Fits room (elim (b || t) [ true ↦ denied LongExample | false ↦ shows ws ])
+fits-fitted room ws = go (ltb (desk .filling) (length ws)) (ltb room (length ws)) refl refl where
+  go : (b t : Bool) → ltb (desk .filling) (length ws) ≡ b → ltb room (length ws) ≡ t → Fits room (elim (b || t) [ true ↦ denied LongExample | false ↦ shows ws ])
   go true t e f = tt
   go false true e f = tt
   go false false e f = (ltb-false _ _ e, ltb-false _ _ f)
@@ -65,7 +65,7 @@ shownTold r = toldBy (shownNumber r) (shownLength r)
 
 told : (s : Showing) (room k : ℕ) (r : Shown) → Fits room s → r ≡ resultOf s → k ≡ shownTold r → k ≡ showNumber s
 unfolding showNumber
-told (shows ws) room k r h e f = f ∙ ap shownTold e ∙ told-value 0 (length ws) refl ∙ ap (λ (n : ℕ). 100 + n) (used-all 4096 (length ws) (h .0))
+told (shows ws) room k r h e f = f ∙ ap shownTold e ∙ told-value 0 (length ws) refl ∙ ap (λ (n : ℕ). 100 + n) (used-all (desk .filling) (length ws) (h .0))
 told (denied x) room k r h e f = f ∙ ap shownTold e ∙ told-number x 0
 
 -- ---- the room
@@ -91,10 +91,10 @@ writes (denied x) own own′ bytes bytes′ h room eo eb = eb ∙ none-written o
 -- ---- the return
 
 module _ (q w o own w′ o′ own′ : List ℕ) (line : ℕ) (r : Shown)
-    (work : length w ≡ 8192) (answer : length o ≡ 8192)
+    (work : length w ≡ desk .room) (answer : length o ≡ desk .room)
     (e : (r, w′, o′, own′) ≡ exhibits line q w o own) where
   abbrev comes : Showing
-  comes = showing desk 8192 8192 (length own) line q
+  comes = showing desk (desk .room) (desk .room) (length own) line q
 
   same : showing desk (length w) (length o) (length own) line q ≡ comes
   same = rw (work, answer)
@@ -109,19 +109,19 @@ module _ (q w o own w′ o′ own′ : List ℕ) (line : ℕ) (r : Shown)
 
   pub example-within : (n : ℕ) → n ≡ shownLength r → n ≤ length own
   example-within n f =
-      let h : shownLength (resultOf comes) ≤ length own = within comes (length own) (fits 8192 8192 (length own) line q) in
+      let h : shownLength (resultOf comes) ≤ length own = within comes (length own) (fits (desk .room) (desk .room) (length own) line q) in
       let g : n ≡ shownLength (resultOf comes) = f ∙ ap shownLength result in
       omega arith
 
   pub shown-line : (k n : ℕ) (bytes bytes′ : List ℕ) → k ≡ toldBy (shownNumber r) (shownLength r) → n ≡ shownLength r → 2 * length own ≤ length bytes
       → bytes′ ≡ sets bytes 0 (bytesOf (take n own′)) → (k ≡ showNumber comes) × (bytes′ ≡ showLeaves comes bytes)
   shown-line k n bytes bytes′ number f room eb = (
-    told comes (length own) k r (fits 8192 8192 (length own) line q) result number,
-    writes comes own own′ bytes bytes′ (fits 8192 8192 (length own) line q) room room-left (eb ∙ ap (λ (m : ℕ). sets bytes 0 (bytesOf (take m own′))) (f ∙ ap shownLength result)),
+    told comes (length own) k r (fits (desk .room) (desk .room) (length own) line q) result number,
+    writes comes own own′ bytes bytes′ (fits (desk .room) (desk .room) (length own) line q) room room-left (eb ∙ ap (λ (m : ℕ). sets bytes 0 (bytesOf (take m own′))) (f ∙ ap shownLength result)),
   )
 
 -- the words lent come to what the bytes come to
-pub bytes-show : (q ws bytes : List ℕ) (line room : ℕ) → ws ≡ fitting 1024 (wordsIn q) → room ≡ used 4096 (length bytes / 2)
-    → showing desk 8192 8192 room line ws ≡ showingBytes desk (length bytes) line q
+pub bytes-show : (q ws bytes : List ℕ) (line room : ℕ) → ws ≡ fitting (desk .question) (wordsIn q) → room ≡ used (desk .filling) (length bytes / 2)
+    → showing desk (desk .room) (desk .room) room line ws ≡ showingBytes desk (length bytes) line q
 unfolding showingBytes
 bytes-show q ws bytes line room ew er = rw (ew, er) (fitting-showing (length bytes / 2) line (wordsIn q))

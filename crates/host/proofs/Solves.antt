@@ -22,16 +22,16 @@ abbrev unless-short : Solving → Bool → Solving
 unless-short s b = elim b [ true ↦ unread ShortSlice | false ↦ s ]
 
 -- "an answer under 16,384 bytes is 1"
-pub short-answer : (q : List ℕ) (n : ℕ) → n < 16384 → solvingBytes desk n q ≡ unread ShortSlice
+pub short-answer : (q : List ℕ) (n : ℕ) → n < 2 * desk .room → solvingBytes desk n q ≡ unread ShortSlice
 unfolding solvingBytes solving
-short-answer q n h = ap (unless-short (solvingOf desk (readQuestion desk (wordsIn q)))) (lt-ltb (n / 2) 8192 (omega arith))
+short-answer q n h = ap (unless-short (solvingOf desk (readQuestion desk (wordsIn q)))) (lt-ltb (n / 2) (desk .room) (omega arith))
 
-pub long-answer : (q : List ℕ) (n : ℕ) → 16384 ≤ n → solvingBytes desk n q ≡ solvingOf desk (readQuestion desk (wordsIn q))
+pub long-answer : (q : List ℕ) (n : ℕ) → 2 * desk .room ≤ n → solvingBytes desk n q ≡ solvingOf desk (readQuestion desk (wordsIn q))
 unfolding solvingBytes solving
-long-answer q n h = ap (unless-short (solvingOf desk (readQuestion desk (wordsIn q)))) (le-ltb (n / 2) 8192 (omega arith))
+long-answer q n h = ap (unless-short (solvingOf desk (readQuestion desk (wordsIn q)))) (le-ltb (n / 2) (desk .room) (omega arith))
 
 -- "an odd count is 2"
-pub odd-question : (q : List ℕ) (n : ℕ) → 16384 ≤ n → (length q % 2 ≡ 0 → ⊥) → solveNumber (solvingBytes desk n q) ≡ 2
+pub odd-question : (q : List ℕ) (n : ℕ) → 2 * desk .room ≤ n → (length q % 2 ≡ 0 → ⊥) → solveNumber (solvingBytes desk n q) ≡ 2
 unfolding solveNumber
 odd-question q n h odd =
     ap solveNumber (long-answer q n h ∙ ap (λ (ws : List ℕ). solvingOf desk (readQuestion desk ws)) (odd-holds-none q odd) ∙ ap (solvingOf desk) no-question)
@@ -47,15 +47,15 @@ module _ (q a : List ℕ) where
   abbrev pub Left : Solving → ℕ → List ℕ → Type 0
   Left s k a′ = (k ≡ solveNumber s) × (a′ ≡ solveLeaves desk s a)
 
-  pub too-short : length a < 16384 → Left (solvingBytes desk (length a) q) 1 a
+  pub too-short : length a < 2 * desk .room → Left (solvingBytes desk (length a) q) 1 a
   unfolding solveNumber solveLeaves
   too-short h = rw (short-answer q (length a) h) (refl, refl)
 
-  module _ (room : 16384 ≤ length a) where
+  module _ (room : 2 * desk .room ≤ length a) where
     -- the words lent to the solver come to what the bytes come to
-    pub same : solving desk 8192 8192 (fitting 1024 (wordsIn q)) ≡ solvingBytes desk (length a) q
+    pub same : solving desk (desk .room) (desk .room) (fitting (desk .question) (wordsIn q)) ≡ solvingBytes desk (length a) q
     unfolding solving
-    same = fitting-solving 8192 8192 (wordsIn q) ∙ sym (long-answer q (length a) room)
+    same = fitting-solving (desk .room) (desk .room) (wordsIn q) ∙ sym (long-answer q (length a) room)
 
     pub kept : (s : Solving) (k : ℕ) → Numbered s → k ≡ solveNumber s → 1 ≤ k → k ≤ 6 → Left s k a
     unfolding solveNumber solveLeaves
@@ -63,11 +63,11 @@ module _ (q a : List ℕ) where
     kept (unread r) k b e low high = (e, refl)
     kept (given-up r) k b e low high = absurd (omega arith)
 
-    pub bytes-left : (own a′ : List ℕ) → length own ≡ 8192 → a′ ≡ sets a 0 (bytesOf own) → a′ ≡ bytesOf own ++ drop 16384 a
+    pub bytes-left : (own a′ : List ℕ) → length own ≡ desk .room → a′ ≡ sets a 0 (bytesOf own) → a′ ≡ bytesOf own ++ drop (2 * desk .room) a
     bytes-left own a′ n e = e ∙ written a own (omega arith) ∙ ap (λ (m : ℕ). bytesOf own ++ drop (2 * m) a) n
 
-    pub wrote : (s : Solving) (k : ℕ) (own a′ : List ℕ) → Numbered s → k ≡ solveNumber s → (1 ≤ k → k ≤ 6 → ⊥) → Own s own → a′ ≡ bytesOf own ++ drop 16384 a → Left s k a′
+    pub wrote : (s : Solving) (k : ℕ) (own a′ : List ℕ) → Numbered s → k ≡ solveNumber s → (1 ≤ k → k ≤ 6 → ⊥) → Own s own → a′ ≡ bytesOf own ++ drop (2 * desk .room) a → Left s k a′
     unfolding solveNumber solveLeaves
-    wrote (answered ls n) k own a′ b e h o f = (e, f ∙ ap (λ (ws : List ℕ). bytesOf ws ++ drop 16384 a) o)
+    wrote (answered ls n) k own a′ b e h o f = (e, f ∙ ap (λ (ws : List ℕ). bytesOf ws ++ drop (2 * desk .room) a) o)
     wrote (unread r) k own a′ b e h o f = absurd (h (omega arith) (omega arith))
-    wrote (given-up r) k own a′ b e h o f = (e, f ∙ ap (λ (ws : List ℕ). bytesOf ws ++ drop 16384 a) o)
+    wrote (given-up r) k own a′ b e h o f = (e, f ∙ ap (λ (ws : List ℕ). bytesOf ws ++ drop (2 * desk .room) a) o)

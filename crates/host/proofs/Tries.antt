@@ -25,9 +25,9 @@ tell (calls.decides q ρ) r k w w′ (c, z) e =
 tell (calls.unread x) r k w w′ c e = e ∙ ap triedTold (c .0) ∙ told-number x 0
 tell (calls.given-up x) r k w w′ c e = e ∙ ap triedTold (c .0) ∙ told-number x 0
 
-pub tried : (q f ws fs w w′ : List ℕ) (r : Tried) (k : ℕ) → ws ≡ fitting 1024 (wordsIn q) → fs ≡ fitting 4096 (wordsIn f) → length w ≡ 8192
+pub tried : (q f ws fs w w′ : List ℕ) (r : Tried) (k : ℕ) → ws ≡ fitting (desk .question) (wordsIn q) → fs ≡ fitting (desk .filling) (wordsIn f) → length w ≡ desk .room
     → Outcome (trying desk (length w) ws fs) r w w′ → k ≡ triedTold r → TryNumber (tryingBytes desk q f) k
 unfolding tryingBytes
 tried q f ws fs w w′ r k ew ef n o e =
-    let same : trying desk (length w) ws fs ≡ trying desk 8192 (wordsIn q) (wordsIn f) = rw (n, ew, ef) (fitting-trying 8192 (wordsIn q) (wordsIn f)) in
+    let same : trying desk (length w) ws fs ≡ trying desk (desk .room) (wordsIn q) (wordsIn f) = rw (n, ew, ef) (fitting-trying (desk .room) (wordsIn q) (wordsIn f)) in
     tell _ r k w w′ (rw same at o) e

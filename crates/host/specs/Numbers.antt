@@ -1,6 +1,7 @@
 -- The numbers that the host gets, from the number and the value of what comes back from the calls on words.
 use Prim.Native.Nat.{ℕ, _+_}
 use lib.Dec.{eqb}
+use Rattle.language.specs.Limits.{desk}
 use Rattle.language.specs.Kinds.{pick}
 use Rattle.solver.specs.declared.Solved.{Solved}
 use Rattle.solver.specs.Leaves.{outcomeNumber}
@@ -12,4 +13,4 @@ solvedNumber s = outcomeNumber (s .outcome)
 
 -- the refusal's number, or 100 and the value: 0 is no, 1 is yes, and else it is a filling's length, which 4,096 bounds
 unfoldable pub toldBy : ℕ → ℕ → ℕ
-toldBy refusal value = pick (eqb refusal 0) (100 + used 4096 value) refusal
+toldBy refusal value = pick (eqb refusal 0) (100 + used (desk .filling) value) refusal

@@ -12,6 +12,10 @@ ghost use Rattle.host.specs.Bytes.{used};
 ghost use Rattle.host.specs.Numbers.{solvedNumber, toldBy};
 use bytes::take_words;
 use bytes::write_words;
+use language::limits::ANSWER_BYTES;
+use language::limits::FILLING;
+use language::limits::QUESTION;
+use language::limits::ROOM;
 use showing::shown_length;
 use showing::shown_number;
 use solver::Solved;
@@ -39,12 +43,12 @@ pub extern "C" fn desk_solve(question: &[u8], answer: &mut [u8]) -> u32
     ensures { λ r. ⌜ r ≡ solveNumber (solvingBytes desk (length (now (answer .entry))) (now (question .entry))) ⌝ }
     ensures { λ _. ⌜ now (answer .exit) ≡ solveLeaves desk (solvingBytes desk (length (now (answer .entry))) (now (question .entry))) (now (answer .entry)) ⌝ }
 {
-    if answer.len() < 16384 {
+    if answer.len() < ANSWER_BYTES {
         return 1;
     }
-    let mut words = [0u16; 1024];
-    let mut work = [0u16; 8192];
-    let mut own = [0u16; 8192];
+    let mut words = [0u16; QUESTION];
+    let mut work = [0u16; ROOM];
+    let mut own = [0u16; ROOM];
     let n = take_words(question, &mut words);
     let k = solved_number(solver::solve(&words[..n], &mut work, &mut own));
     if k == 0 {
@@ -60,20 +64,20 @@ pub extern "C" fn desk_solve(question: &[u8], answer: &mut [u8]) -> u32
 
 // Of so many words, as many as a filling ever has.
 fn most(n: usize) -> usize
-    ensures { λ r. ⌜ (r ≡ used 4096 n) × (r ≤ 4096) × (r ≤ n) ⌝ }
+    ensures { λ r. ⌜ (r ≡ used (desk .filling) n) × (r ≤ desk .filling) × (r ≤ n) ⌝ }
 {
-    if n <= 4096 { n } else { 4096 }
+    if n <= FILLING { n } else { FILLING }
 }
 
 fn narrow(n: usize) -> u32
-    requires { ⌜ n ≤ 4096 ⌝ }
+    requires { ⌜ n ≤ desk .filling ⌝ }
     ensures { λ r. ⌜ r ≡ n ⌝ }
 {
     n as u32
 }
 
 fn counted(n: usize) -> u32
-    ensures { λ r. ⌜ r ≡ 100 + used 4096 n ⌝ }
+    ensures { λ r. ⌜ r ≡ 100 + used (desk .filling) n ⌝ }
 {
     100 + narrow(most(n))
 }
@@ -93,9 +97,9 @@ fn told(refusal: u16, value: usize) -> u32
 pub extern "C" fn desk_try(question: &[u8], filling: &[u8]) -> u32
     ensures { λ r. ⌜ TryNumber (tryingBytes desk (now (question .entry)) (now (filling .entry))) r ⌝ }
 {
-    let mut words = [0u16; 1024];
-    let mut values = [0u16; 4096];
-    let mut work = [0u16; 8192];
+    let mut words = [0u16; QUESTION];
+    let mut values = [0u16; FILLING];
+    let mut work = [0u16; ROOM];
     let n = take_words(question, &mut words);
     let m = take_words(filling, &mut values);
     let t = trying::try_filling(&words[..n], &values[..m], &mut work);
@@ -104,12 +108,12 @@ pub extern "C" fn desk_try(question: &[u8], filling: &[u8]) -> u32
 
 // The example in the desk's own room, and then in the bytes lent.
 fn show(question: &[u16], line: usize, own: &mut [u16], room: &mut [u8]) -> u32
-    requires { ⌜ (length (now own) ≤ 4096) × (2 * length (now own) ≤ length (now room)) ⌝ }
-    ensures { λ r. ⌜ r ≡ showNumber (showing desk 8192 8192 (length (now (own .entry))) line (now (question .entry))) ⌝ }
-    ensures { λ _. ⌜ now (room .exit) ≡ showLeaves (showing desk 8192 8192 (length (now (own .entry))) line (now (question .entry))) (now (room .entry)) ⌝ }
+    requires { ⌜ (length (now own) ≤ desk .filling) × (2 * length (now own) ≤ length (now room)) ⌝ }
+    ensures { λ r. ⌜ r ≡ showNumber (showing desk (desk .room) (desk .room) (length (now (own .entry))) line (now (question .entry))) ⌝ }
+    ensures { λ _. ⌜ now (room .exit) ≡ showLeaves (showing desk (desk .room) (desk .room) (length (now (own .entry))) line (now (question .entry))) (now (room .entry)) ⌝ }
 {
-    let mut work = [0u16; 8192];
-    let mut answer = [0u16; 8192];
+    let mut work = [0u16; ROOM];
+    let mut answer = [0u16; ROOM];
     let s = showing::example(question, line, &mut work, &mut answer, own);
     let n = shown_length(s);
     // of a refusal that is 0, and nothing is written
@@ -123,8 +127,8 @@ pub extern "C" fn desk_example(question: &[u8], line: u32, room: &mut [u8]) -> u
     ensures { λ r. ⌜ r ≡ showNumber (showingBytes desk (length (now (room .entry))) line (now (question .entry))) ⌝ }
     ensures { λ _. ⌜ now (room .exit) ≡ showLeaves (showingBytes desk (length (now (room .entry))) line (now (question .entry))) (now (room .entry)) ⌝ }
 {
-    let mut words = [0u16; 1024];
-    let mut own = [0u16; 4096];
+    let mut words = [0u16; QUESTION];
+    let mut own = [0u16; FILLING];
     let n = take_words(question, &mut words);
     let m = most(room.len() / 2);
     show(&words[..n], line as usize, &mut own[..m], room)

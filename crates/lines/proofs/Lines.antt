@@ -5,7 +5,7 @@ use mathlib.Core.Path.{_≡_}
 use mathlib.Core.Logic.{inl, inr, _↔_}
 use mathlib.Core.Bool.{true, false, _||_}
 use mathlib.Core.List.{List}
-use mathlib.Core.Option.{none, some}
+use mathlib.Core.Option.{some}
 use lib.ListN.{length}
 use Rattle.language.specs.Limits.{Limits}
 use Rattle.language.specs.Trees.{Expr, _⧺_, holds, Conj, Counts, Question}
@@ -13,19 +13,20 @@ use Rattle.language.specs.Question.{asks, countsOf, alternativesOf, countsFit, 
 use Rattle.meaning.specs.Meaning.{Filling, Member, MeetsAll, MeetsOne}
 use Rattle.meaning.specs.Values.{gives, filling, readFilling, valuesIn, fillingWords}
 use Rattle.rules.specs.Expressions.{sample}
+use Rattle.rules.specs.Reply.{nothing, results}
 use Rattle.rules.specs.Rules.{rules}
 use Rattle.rules.specs.Step.{step}
 use Rattle.rules.specs.Solved.{solved}
 use Rattle.rules.specs.Run.{finished, run}
 use Rattle.rules.specs.Answer.{countOpen, answered, solving}
 use Rattle.rules.specs.Example.{example}
-use Rattle.rules.specs.Table.{Case, a, b, f, p, P9}
+use Rattle.rules.specs.Table.{a, b, f, p, P9}
 use Rattle.rules.specs.Calls.{lineAt, shows, showing}
-use Rattle.exact.specs.Each.{Each}
-use Rattle.exact.specs.Places.{AtSides}
-use Rattle.exact.proofs.Tests.{true-test, or-cases, or-left}
-use Rattle.exact.proofs.Invariant.{lines-rest}
-use Rattle.exact.proofs.Run.{run-same, answered-run}
+use Rattle.rules.specs.Each.{Each}
+use Rattle.rules.specs.Sides.{AtSides}
+use Rattle.rules.proofs.Tests.{true-test, or-cases, or-left}
+use Rattle.rules.proofs.Invariant.{lines-rest, answered-run}
+use Rattle.exact.proofs.Run.{run-same}
 use Rattle.exact.proofs.Declared.{lines-declared, read-declared}
 use Rattle.lines.specs.Matching.{Matching, KeepsMatching}
 use Rattle.lines.specs.Fillings.{DeclaredFilling, Agree, WordsMeet}
@@ -45,14 +46,14 @@ pub sample-is-member : (R : Expr) → Member R (sample R)
 sample-is-member = sample-member
 
 -- "Example of a solved line": it meets the line, where no rule applies to it.
-pub example-meets-line : (k : Conj) → solved k ≡ true → step k ≡ none → MeetsAll (example k) k
+pub example-meets-line : (k : Conj) → solved k ≡ true → step k ≡ nothing → MeetsAll (example k) k
 example-meets-line = example-meets
 
 -- so the example of a solved line of a finished run meets the line, and one of the conjunctions that the run began with
 pub example-meets-run : (L : Limits) (w ls : List Conj) (n : ℕ) → run L w ≡ finished ls n
     → (i : ℕ) (k : Conj) → lineAt i ls ≡ some k → solved k ≡ true → MeetsAll (example k) k × MeetsOne (example k) w
 example-meets-run L w ls n e i k there is-solved =
-    let m = example-meets k is-solved (each-line (λ j. step j ≡ none) i ls k there (lines-rest L w ls n e)) in
+    let m = example-meets k is-solved (each-line (λ j. step j ≡ nothing) i ls k there (lines-rest L w ls n e)) in
     (m, run-same L w ls n e (example k) .1 (meets-lines (example k) i ls k there m))
 
 -- ---- its words
@@ -76,7 +77,7 @@ pub example-all-declared : (n : Counts) (k : Conj) → 0 < n .symbols → declar
 example-all-declared n k s d = example-declared n s k (true-test (declaredC n k) d)
 
 -- "It is written as a filling": its words, where they are not too many, are read back, and what is read meets the line.
-pub example-written : (L : Limits) (n : Counts) (c : ℕ) (k : Conj) → countsFit L n c ≡ true → declaredC n k ≡ true → solved k ≡ true → step k ≡ none
+pub example-written : (L : Limits) (n : Counts) (c : ℕ) (k : Conj) → countsFit L n c ≡ true → declaredC n k ≡ true → solved k ≡ true → step k ≡ nothing
     → length (fillingWords n (example k)) ≤ L .filling
     → (ρ : Filling) × (readFilling L n (fillingWords n (example k)) ≡ gives ρ) × Agree n ρ (example k) × MeetsAll ρ k
 example-written L n c k e d is-solved quiet s = (
@@ -92,7 +93,7 @@ pub example-written-run : (L : Limits) (n : Counts) (c : ℕ) (w ls : List Conj)
     → WordsMeet L n (fillingWords n (example k)) w
 example-written-run L n c w ls steps e d ran i k there is-solved s =
     let declared = each-line (λ j. declaredC n j ≡ true) i ls k there (lines-declared n L w ls steps ran d) in
-    let quiet = each-line (λ j. step j ≡ none) i ls k there (lines-rest L w ls steps ran) in
+    let quiet = each-line (λ j. step j ≡ nothing) i ls k there (lines-rest L w ls steps ran) in
     let (ρ, back, _, m) = example-written L n c k e declared is-solved quiet s in
     (ρ, back, run-same L w ls steps ran ρ .1 (meets-lines ρ i ls k there m))
 
@@ -117,11 +118,11 @@ pub rules-keep-matching : Each (AtSides KeepsMatching) rules
 rules-keep-matching = each-rule-stays
 
 -- "That is one step": so do the results of a step.
-pub step-keeps-matching : (k : Conj) (ks : List Conj) → Matching k → step k ≡ some ks → Each Matching ks
+pub step-keeps-matching : (k : Conj) (ks : List Conj) → Matching k → step k ≡ results ks → Each Matching ks
 step-keeps-matching = step-matching
 
 -- "A line is solved if each literal is": a conjunction of the fragment to which no rule applies is solved.
-pub matching-line-solved : (k : Conj) → Matching k → step k ≡ none → solved k ≡ true
+pub matching-line-solved : (k : Conj) → Matching k → step k ≡ nothing → solved k ≡ true
 matching-line-solved = matching-solved
 
 -- Every line of a finished run that began in the fragment is solved,

@@ -1,28 +1,29 @@
 -- A step keeps the matching fragment, so that every line of a finished run from it is solved.
 use Prim.Native.Nat.{ℕ}
 use mathlib.Core.Path.{_≡_, refl}
-use mathlib.Core.Bool.{Bool, true, false}
-use mathlib.Core.List.{List, [], _∷_, _++_, map}
-use mathlib.Core.Option.{none, some, Option·map}
+use mathlib.Core.Bool.{true}
+use mathlib.Core.List.{List, [], _∷_, _++_}
+use mathlib.Core.Option.{none, some}
 use lib.Dec.{T}
 use Rattle.language.specs.Limits.{Limits}
 use Rattle.language.specs.Trees.{Literal, eqn, mem, Conj}
-use Rattle.rules.specs.Rules.{Answer, Rule, onEqn, onMem, rules}
-use Rattle.rules.specs.Step.{place, step}
+use Rattle.rules.specs.Reply.{nothing, results, PairRule}
+use Rattle.rules.specs.Rules.{Answer, Rule, onEqn, onMem, onPair, rules}
+use Rattle.rules.specs.Step.{place, placed, step}
 use Rattle.rules.specs.Solved.{solved}
 use Rattle.rules.specs.Run.{finished, run}
 use Rattle.rules.specs.Answer.{countOpen}
-use Rattle.exact.specs.Each.{Each}
-use Rattle.exact.specs.Places.{sided, sidedAt, AtSides}
-use Rattle.exact.proofs.Tests.{and-parts}
-use Rattle.exact.proofs.Each.{_also_, each-map, each-imp}
-use Rattle.exact.proofs.Answers.{Where}
-use Rattle.exact.proofs.Steps.{where-some, each-at-places, step-at-places}
-use Rattle.exact.proofs.Invariant.{lines-keep, lines-rest}
+use Rattle.rules.specs.Each.{Each}
+use Rattle.rules.specs.Sides.{AtSides}
+use Rattle.rules.proofs.Tests.{and-parts}
+use Rattle.rules.proofs.Each.{_also_, each-map, each-imp}
+use Rattle.rules.proofs.Steps.{Gives, OnSides, kept-at-sides, gives-behind, step-at-sides}
+use Rattle.rules.proofs.Invariant.{lines-keep, lines-rest}
 use Rattle.lines.specs.Matching.{ground, groundSide, groundSides, Matching, KeepsMatching}
 use Rattle.lines.proofs.Tests.{or-exchanged}
 use Rattle.lines.proofs.Places.{sides-parts}
-use Rattle.lines.proofs.Fitting.{Fits, exchanged, placed}
+use Rattle.lines.proofs.Fitting.{Fits, FitAnswer, exchanged, fit-placed}
+use Rattle.lines.proofs.Keeping.{Keeps, keeps-self, keeps-row, keeps-matching}
 use Rattle.lines.proofs.EquationRules.{StaysEqn, R1-stays, F1-stays, F2-stays, F3-stays, F4-stays, Del1-stays, Del3-stays, D2-stays, D0-stays}
 use Rattle.lines.proofs.EliminationRules.{E1-stays, E2-stays, E3-stays, E4-stays, E5-stays, E6-stays}
 use Rattle.lines.proofs.MembershipRules.{StaysMem, R2-stays, F5-stays, F6-stays, F7-stays, M1-stays, M2-stays, M3-stays, M4-stays, M5-stays, M6-stays, M7-stays, M10-stays, M11-stays}
@@ -30,33 +31,39 @@ use Rattle.lines.proofs.Unopened.{matching-solved}
 
 -- ---- a rule at a literal
 
+-- whatever stands for the literal and those behind it keeps them
+abbrev pub StaysPair : PairRule → Type 0
+StaysPair rule = (l : Literal) (behind : Conj) → Gives (Each (Keeps [] (l ∷ behind))) (rule l behind)
+
 abbrev RuleStays : Rule → Type 0
 RuleStays (onEqn rule) = StaysEqn rule
 RuleStays (onMem rule) = StaysMem rule
+RuleStays (onPair rule) = StaysPair rule
+
+at-literal : (before behind : Conj) (l : Literal) (w : Answer) → Matching (before ++ (l ∷ behind)) → FitAnswer l w → Gives (Each Matching) (placed before behind w)
+at-literal before behind l none m p = tt
+at-literal before behind l (some bs) m p = each-map (Fits l) Matching (place before behind) (λ b f. fit-placed before behind l b f m) bs (p .given)
 
 -- the written side, or swapped
-side-stays : (swap : Bool) (rule : Rule) → RuleStays rule → (K : Conj) (l : Literal) → T (groundSide l) → Where (Each (Fits l)) (sided swap rule K l)
-side-stays false (onEqn rule) p K (eqn l r) t = p K l r t .given
-side-stays true (onEqn rule) p K (eqn l r) t = exchanged l r (rule K r l) (p K r l (or-exchanged (ground l) (ground r) t)) .given
-side-stays false (onEqn rule) p K (mem h R) t = tt
-side-stays true (onEqn rule) p K (mem h R) t = tt
-side-stays false (onMem rule) p K (eqn l r) t = tt
-side-stays true (onMem rule) p K (eqn l r) t = tt
-side-stays false (onMem rule) p K (mem h R) t = p K h R .given
-side-stays true (onMem rule) p K (mem h R) t = tt
-
--- ---- in its place
-
-at-literal : (before behind : Conj) (l : Literal) (w : Answer) → Where (Each (Fits l)) w → Matching (before ++ (l ∷ behind))
-    → Where (Each Matching) (Option·map (map (place before behind)) w)
-at-literal before behind l none p m = tt
-at-literal before behind l (some bs) p m = each-map (Fits l) Matching (place before behind) (λ b f. placed before behind l b f m) bs p
+sides-stay : (rule : Rule) → RuleStays rule → (before : Conj) (l : Literal) (behind : Conj) → T (groundSide l) → Matching (before ++ (l ∷ behind))
+    → OnSides (Each Matching) before behind rule l
+sides-stay (onEqn rule) p before (eqn l r) behind t m = (
+  at-literal before behind (eqn l r) (rule (before ++ behind) l r) m (p (before ++ behind) l r t),
+  at-literal before behind (eqn l r) (rule (before ++ behind) r l) m
+      (exchanged l r (rule (before ++ behind) r l) (p (before ++ behind) r l (or-exchanged (ground l) (ground r) t))),
+)
+sides-stay (onEqn rule) p before (mem h R) behind t m = tt
+sides-stay (onMem rule) p before (eqn l r) behind t m = tt
+sides-stay (onMem rule) p before (mem h R) behind t m = at-literal before behind (mem h R) (rule (before ++ behind) h R) m (p (before ++ behind) h R)
+sides-stay (onPair rule) p before l behind t m = gives-behind (Keeps [] (l ∷ behind)) Matching before (rule l behind) kept (p l behind)
+  where
+    kept : (k : Conj) → Keeps [] (l ∷ behind) k → Matching (before ++ k)
+    kept k c =
+        keeps-matching [] (before ++ (l ∷ behind)) (before ++ k) (keeps-row [] before before (l ∷ behind) k (keeps-self [] before) c) (λ v z. absurd z) m
 
 rule-stays : (rule : Rule) → RuleStays rule → AtSides KeepsMatching rule
-rule-stays rule p swap before l behind ks e m =
-    let side = and-parts (groundSide l) (groundSides behind) (sides-parts before (l ∷ behind) (m .sides) .1) .0 in
-    where-some (Each Matching) (sidedAt swap rule before l behind) ks
-    (at-literal before behind l (sided swap rule (before ++ behind) l) (side-stays swap rule p (before ++ behind) l side) m) e
+rule-stays rule p = kept-at-sides Matching rule λ before l behind m.
+    sides-stay rule p before l behind (and-parts (groundSide l) (groundSides behind) (sides-parts before (l ∷ behind) (m .sides) .1) .0) m
 
 -- each rule, at whatever literal and on whatever side it applies
 pub each-rule-stays : Each (AtSides KeepsMatching) rules
@@ -71,13 +78,13 @@ each-rule-stays =
     also tt)
 
 -- Matching is kept by every step.
-pub step-matching : (k : Conj) (ks : List Conj) → Matching k → step k ≡ some ks → Each Matching ks
-step-matching k ks m e = step-at-places KeepsMatching (each-at-places KeepsMatching each-rule-stays) k ks e m
+pub step-matching : (k : Conj) (ks : List Conj) → Matching k → step k ≡ results ks → Each Matching ks
+step-matching k ks m e = step-at-sides KeepsMatching each-rule-stays k ks e m
 
 -- ---- the run
 
 -- matching lines to which no rule applies
-each-solved : (ls : List Conj) → Each Matching ls → Each (λ k. step k ≡ none) ls → Each (λ k. solved k ≡ true) ls
+each-solved : (ls : List Conj) → Each Matching ls → Each (λ k. step k ≡ nothing) ls → Each (λ k. solved k ≡ true) ls
 each-solved [] m q = tt
 each-solved (k ∷ ls) m q = (matching-solved k (m .0) (q .0), each-solved ls (m .1) (q .1))
 

@@ -1,23 +1,47 @@
 -- What it says that no rule applies to a line: none applies to any of its literals among the others.
 use mathlib.Core.Path.{_≡_, refl}
-use mathlib.Core.List.{_∷_, _++_, map}
-use mathlib.Core.Option.{none, map-eq-none-iff}
+use mathlib.Core.Bool.{true, false}
+use mathlib.Core.List.{_∷_, _++_}
+use mathlib.Core.Option.{none, some}
+use Prim.Native.Nat.{ℕ}
+use native.Mathlib.Omega.{arith}
 use Rattle.language.specs.Trees.{Hedge, Expr, Literal, eqn, mem, Conj}
-use Rattle.rules.specs.Rules.{EqRule, onEqn, rules, R1, R2, F3, F4, F5, F6, F7, D2, D0, E1, E2, E3, E5, E6, M2, M4, M5, M6, M11}
-use Rattle.rules.specs.Step.{attempt, place, step}
-use Rattle.exact.specs.Each.{Each}
-use Rattle.exact.specs.Places.{Idle}
-use Rattle.exact.proofs.Each.{each-imp}
-use Rattle.exact.proofs.Steps.{orElse-none, step-none}
+use Rattle.rules.specs.Reply.{nothing}
+use Rattle.rules.specs.Rules.{Answer, Rule, onEqn, onMem, onPair, rules, R1, R2, F3, F4, F5, F6, F7, D2, D0, E1, E2, E3, E5, E6, M2, M4, M5, M6, M11}
+use Rattle.rules.specs.Step.{placed, step}
+use Rattle.rules.specs.Each.{Each}
+use Rattle.rules.specs.Sides.{Idle}
+use Rattle.rules.proofs.Each.{each-imp}
+use Rattle.rules.proofs.Steps.{step-none}
+
+-- the rule does not apply to l among K, neither for an equation's written side nor swapped
+abbrev pub Silent : Conj → Literal → Rule → Type 0
+Silent K (eqn l r) (onEqn rule) = (rule K l r ≡ none) × (rule K r l ≡ none)
+Silent K (mem h R) (onEqn rule) = Unit {0}
+Silent K (eqn l r) (onMem rule) = Unit {0}
+Silent K (mem h R) (onMem rule) = rule K h R ≡ none
+Silent K l (onPair rule) = Unit {0}
 
 -- none of the rules applies to l among K
 abbrev pub NoRule : Conj → Literal → Type 0
-NoRule K l = Each (λ rule. attempt rule K l ≡ none) rules
+NoRule K l = Each (Silent K l) rules
 
-pub at-literal : (before behind : Conj) (l : Literal) → step (before ++ (l ∷ behind)) ≡ none → NoRule (before ++ behind) l
+placed-nothing : (before behind : Conj) (w : Answer) → placed before behind w ≡ nothing → w ≡ none
+placed-nothing before behind none e = refl
+placed-nothing before behind (some bs) e = let z : _≡_ {A = ℕ} 0 1 = cc in absurd (omega arith)
+
+idle-silent : (before behind : Conj) (l : Literal) (rule : Rule) → Idle (before ++ (l ∷ behind)) rule → Silent (before ++ behind) l rule
+idle-silent before behind (eqn l r) (onEqn rule) i =
+    (placed-nothing before behind (rule (before ++ behind) l r) (i false before (eqn l r) behind refl), placed-nothing before behind (rule (before ++ behind) r l) (i true before (eqn l r) behind refl))
+idle-silent before behind (mem h R) (onEqn rule) i = tt
+idle-silent before behind (eqn l r) (onMem rule) i = tt
+idle-silent before behind (mem h R) (onMem rule) i = placed-nothing before behind (rule (before ++ behind) h R) (i false before (mem h R) behind refl)
+idle-silent before behind (eqn l r) (onPair rule) i = tt
+idle-silent before behind (mem h R) (onPair rule) i = tt
+
+pub at-literal : (before behind : Conj) (l : Literal) → step (before ++ (l ∷ behind)) ≡ nothing → NoRule (before ++ behind) l
 at-literal before behind l e =
-    each-imp (Idle (before ++ (l ∷ behind))) (λ rule. attempt rule (before ++ behind) l ≡ none)
-    (λ rule i. map-eq-none-iff (map (place before behind)) (attempt rule (before ++ behind) l) .0 (i before l behind refl)) rules (step-none (before ++ (l ∷ behind)) e)
+    each-imp (Idle (before ++ (l ∷ behind))) (Silent (before ++ behind) l) (idle-silent before behind l) rules (step-none (before ++ (l ∷ behind)) e)
 
 -- ---- by the rules' names
 
@@ -45,23 +69,9 @@ pub record QuietMem (K : Conj) (h : Hedge) (R : Expr) : Type 0 where
   pub m6 : M6 K h R ≡ none
   pub m11 : M11 K h R ≡ none
 
--- neither for the written side nor swapped
-both-sides : (rule : EqRule) (K : Conj) (l r : Hedge) → attempt (onEqn rule) K (eqn l r) ≡ none → (rule K l r ≡ none) × (rule K r l ≡ none)
-both-sides rule K l r e = orElse-none (rule K l r) _ e
-
 pub quiet-eqn : (K : Conj) (l r : Hedge) → NoRule K (eqn l r) → QuietEqn K l r × QuietEqn K r l
 quiet-eqn K l r q =
-    let (a1, (_, (_, (_, (a3, (a4, (_, (_, (_, (_, (_, (b2, (b0, (c1, (c2, (c3, (_, (c5, (c6, _))))))))))))))))))) = q in
-    let r1 = both-sides R1 K l r a1 in
-    let f3 = both-sides F3 K l r a3 in
-    let f4 = both-sides F4 K l r a4 in
-    let d2 = both-sides D2 K l r b2 in
-    let d0 = both-sides D0 K l r b0 in
-    let e1 = both-sides E1 K l r c1 in
-    let e2 = both-sides E2 K l r c2 in
-    let e3 = both-sides E3 K l r c3 in
-    let e5 = both-sides E5 K l r c5 in
-    let e6 = both-sides E6 K l r c6 in (
+    let (r1, (_, (_, (_, (f3, (f4, (_, (_, (_, (_, (_, (d2, (d0, (e1, (e2, (e3, (_, (e5, (e6, _))))))))))))))))))) = q in (
       record { r1 = r1 .0; f3 = f3 .0; f4 = f4 .0; d2 = d2 .0; d0 = d0 .0; e1 = e1 .0; e2 = e2 .0; e3 = e3 .0; e5 = e5 .0; e6 = e6 .0 },
       record { r1 = r1 .1; f3 = f3 .1; f4 = f4 .1; d2 = d2 .1; d0 = d0 .1; e1 = e1 .1; e2 = e2 .1; e3 = e3 .1; e5 = e5 .1; e6 = e6 .1 },
     )

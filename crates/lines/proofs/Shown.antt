@@ -19,8 +19,8 @@ use Rattle.rules.specs.Solved.{solved}
 use Rattle.rules.specs.Answer.{Solving, answered, unread, given-up, solving}
 use Rattle.rules.specs.Example.{example}
 use Rattle.rules.specs.Calls.{lineAt, Showing, shows, denied, fitted, shown, showingOf, showing}
-use Rattle.exact.specs.Each.{Each}
-use Rattle.exact.proofs.Tests.{test-true}
+use Rattle.rules.specs.Each.{Each}
+use Rattle.rules.proofs.Tests.{test-true}
 use Rattle.exact.proofs.Declared.{Asks, passes, reads}
 use Rattle.lines.specs.Fillings.{WordsMeet}
 

@@ -6,8 +6,7 @@ use mathlib.Core.Bool.{Bool, true, false, _&&_}
 use mathlib.Core.List.{[], _∷_, _++_}
 use mathlib.Core.Option.{Option, none, some}
 use Rattle.language.specs.Trees.{Hedge, Literal, eqn, Conj}
-use Rattle.rules.specs.Step.{orElse}
-use Rattle.rules.specs.Solved.{variable, alone, isSome, solvedLiteral, solvedFrom, solved}
+use Rattle.rules.specs.Solved.{orElse, variable, alone, isSome, solvedLiteral, solvedFrom, solved}
 
 or-some : {A : Type 0} (m : Option A) (g : Unit {0} → Option A) → true ≡ isSome m → true ≡ isSome (orElse m g)
 or-some none g e = absurd (let z : _≡_ {A = ℕ} 0 1 = cc in omega arith)

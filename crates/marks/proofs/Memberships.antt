@@ -13,10 +13,10 @@ use Rattle.language.specs.Trees.{Hedge, Expr, eps, cat, alt, star, over, Litera
 use Rattle.language.specs.Writing.{exprWords, literalWords, conjWords}
 use Rattle.language.specs.Fine.{fineLiteral}
 use Rattle.rules.specs.Solved.{inMember, loneVar, onlyMember}
+use Rattle.rules.proofs.Answers.{Where}
 use Rattle.plans.specs.Results.{member}
 use Rattle.plans.specs.Views.{Shows}
 use Rattle.plans.specs.declared.Shape.{Shape}
-use Rattle.exact.proofs.Answers.{Where}
 use Rattle.views.specs.Variables.{variableWord, fineVar}
 use Rattle.words.specs.Places.{untilLiteral}
 use Rattle.views.specs.Standing.{LiteralAt}

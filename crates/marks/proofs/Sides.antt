@@ -15,13 +15,13 @@ use Rattle.language.specs.Trees.{symbol, fvar, Hedge, ε, tvar, hvar, node, Con
 use Rattle.language.specs.Fine.{fineHedge}
 use Rattle.rules.specs.Looks.{empty}
 use Rattle.rules.specs.Solved.{given, isTerm, isFunctor, variable, alone, isSome, loneVar}
+use Rattle.rules.proofs.Answers.{Where}
 use Rattle.plans.specs.Looks.{lookOf}
 use Rattle.plans.specs.Results.{member}
 use Rattle.plans.specs.Views.{Sees}
 use Rattle.plans.specs.declared.Look.{Look}
 use Rattle.plans.specs.declared.Look.the-variants.{Term, Node}
 use Rattle.plans.specs.declared.View.{View}
-use Rattle.exact.proofs.Answers.{Where}
 use Rattle.views.specs.Variables.{variableWord, fineVar}
 use Rattle.views.proofs.Sides.{side-whole}
 use Rattle.views.proofs.Members.{member-hedge, elsewhere-sees}

@@ -2,13 +2,13 @@
 use mathlib.Core.Path.{_≡_, refl, sym, _∙_, ap}
 use mathlib.Core.Logic.{_⊎_, inl, inr, _↔_}
 use mathlib.Core.Bool.{Bool, true, false, _&&_, _||_}
-use Prim.Native.Nat.{ℕ}
-use native.Mathlib.Omega.{arith}
-use lib.Dec.{eqb, T, eqb→eq, eqb-refl}
+use lib.Dec.{T, eqb→eq, eqb-refl}
 use Rattle.language.specs.declared.Sym.{Sym}
 use Rattle.language.specs.Trees.{Expr, eps, cat, alt, star, over, eqS}
 use Rattle.meaning.specs.Complete.{Complete, nil, tree, _·_}
 use Rattle.meaning.specs.Meaning.{Many, stop, more, Member}
+use Rattle.meaning.proofs.Complete.{nil≢tree, nil-parts}
+use Rattle.meaning.proofs.Same.{same-nil, nil-no-tree, same-symbol, same-first, member-over}
 use Rattle.rules.specs.Expressions.{nullable}
 use Rattle.member.specs.Marks.{Marked, meps, mcat, malt, mstar, mover, bare, blank, final, shift, run, accepts}
 
@@ -34,17 +34,10 @@ T-both : (a b : Bool) → T a → T b → T (a && b)
 T-both true b s t = t
 T-both false b s t = absurd s
 
-same-symbol : (f g : Sym) → T (eqS f g) → f ≡ g
-same-symbol f g t = ap (λ n. record { 0 = n }) (eqb→eq (f .0) (g .0) t)
+eqS-is : (f g : Sym) → T (eqS f g) → f ≡ g
+eqS-is f g t = ap (λ n. record { 0 = n }) (eqb→eq (f .0) (g .0) t)
 
 -- ---- complete hedges
-
-nil≢ : {f : Sym} {c k : Complete} → nil ≡ tree f c k → ⊥
-nil≢ e = let z : _≡_ {A = ℕ} 0 1 = cc in omega arith
-
-nil-parts : (u v : Complete) → nil ≡ u · v → (u ≡ nil) × (v ≡ nil)
-nil-parts nil v e = (refl, sym e)
-nil-parts (tree f c u) v e = absurd (nil≢ e)
 
 -- where a hedge that starts with a term is cut
 abbrev Cut : Sym → Complete → Complete → Complete → Complete → Type 0
@@ -59,7 +52,7 @@ Split P Q f c r = (u : Complete) × (v : Complete) × (r ≡ u · v) × P (tree 
 
 -- the first member in a row that is not empty holds the first term
 many-split : {P : Complete → Type 0} {g : Complete} → Many P g → (f : Sym) (c r : Complete) → g ≡ tree f c r → Split P (Many P) f c r
-many-split (stop e) f c r h = absurd (nil≢ (sym e ∙ h))
+many-split (stop e) f c r h = absurd (nil≢tree (sym e ∙ h))
 many-split {P} (more {g = g} {u = u} {v = v} e x y) f c r h = go (many-split y f c r) (cut f c r u v (sym h ∙ e))
   where
     go : (v ≡ tree f c r → Split P (Many P) f c r) → Cut f c r u v → Split P (Many P) f c r
@@ -113,7 +106,7 @@ null← (cat a b) (u, v, e, x, y) =
 null← (alt a b) (inl h) = T-left (nullable a) (nullable b) (null← a h)
 null← (alt a b) (inr h) = T-right (nullable a) (nullable b) (null← b h)
 null← (star a) h = tt
-null← (over f R) (c, e, x) = nil≢ e
+null← (over f R) (c, e, x) = nil-no-tree f c nil e
 
 final→ : (m : Marked) → T (final m) → After m nil
 final→ meps t = t
@@ -141,7 +134,7 @@ final← (mover m f R) h = h .0
 
 module _ (p : Sym → Expr → Bool) (f : Sym) (c : Complete) where
   -- what may be read after the new marks might have been read, with the term, before
-  module _ (yes→ : (g : Sym) (R : Expr) → T (p g R) → (g ≡ f) × Member R c) where
+  module _ (yes→ : (g : Sym) (R : Expr) → T (p g R) → Member (over g R) (tree f c nil)) where
     sound : (i : Bool) (m : Marked) (r : Complete) → After (shift i p m) r → After m (tree f c r) ⊎ (T i × Member (bare m) (tree f c r))
     sound i meps r h = absurd h
     sound i (mcat a b) r (inl (u, v, e, x, y)) =
@@ -171,13 +164,12 @@ module _ (p : Sym → Expr → Bool) (f : Sym) (c : Complete) where
         ]
     sound i (mover b g R) r (t, e) =
         let (s, q) = T-and i (p g R) t in
-        let (k, x) = yes→ g R q in
-        inr (s, (c, cc, x))
+        inr (s, rw e (yes→ g R q))
 
   -- and what might be read, with the term, before may be read after the new marks
-  module _ (yes← : (R : Expr) → Member R c → T (p f R)) where
+  module _ (yes← : (g : Sym) (R : Expr) → Member (over g R) (tree f c nil) → T (p g R)) where
     begins : (i : Bool) (m : Marked) (r : Complete) → T i → Member (bare m) (tree f c r) → After (shift i p m) r
-    begins i meps r t h = absurd (nil≢ (sym h))
+    begins i meps r t h = absurd (nil≢tree (sym h))
     begins i (mcat a b) r t (u, v, e, x, y) =
         elim (cut f c r u v e) [
           | inl z ↦
@@ -190,10 +182,9 @@ module _ (p : Sym → Expr → Bool) (f : Sym) (c : Complete) where
     begins i (mstar a) r t h =
         let (u, v, e, x, y) = many-split h f c r refl in
         (u, v, e, begins (i || final a) a u (T-left i (final a) t) x, rw (bare-shift (i || final a) p a) y)
-    begins i (mover b g R) r t (d, e, x) =
-        let k : d ≡ c = cc in
-        let l : g ≡ f = cc in
-        (T-both i (p g R) t (rw l (yes← R (rw k at x))), cc)
+    begins i (mover b g R) r t (d, m, x) =
+        let (first, rest) = same-first f g c d r nil .0 m in
+        (T-both i (p g R) t (yes← g R (d, first, x)), same-nil r rest)
 
     goes-on : (i : Bool) (m : Marked) (r : Complete) → After m (tree f c r) → After (shift i p m) r
     goes-on i meps r h = h
@@ -214,7 +205,7 @@ module _ (p : Sym → Expr → Bool) (f : Sym) (c : Complete) where
               (u′, v′, e′, begins (i || final a) a u′ (T-right i (final a) (final← a (rw (z .0) at x))) x′, rw (bare-shift (i || final a) p a) y′)
           | inr (w, k, l) ↦ (w, v, l, goes-on (i || final a) a w (rw k at x), rw (bare-shift (i || final a) p a) y)
         ]
-    goes-on i (mover b g R) r (t, e) = absurd (nil≢ (sym e))
+    goes-on i (mover b g R) r (t, e) = absurd (nil≢tree (sym e))
 
 -- ---- all terms
 
@@ -222,14 +213,18 @@ abbrev Left : Bool → Marked → Complete → Type 0
 Left i m g = After m g ⊎ (T i × Member (bare m) g)
 
 child→ : (f : Sym) (c : Complete) → ((R : Expr) → T (run c true (blank R)) → Left true (blank R) c)
-    → (g : Sym) (R : Expr) → T (eqS g f && run c true (blank R)) → (g ≡ f) × Member R c
+    → (g : Sym) (R : Expr) → T (eqS g f && run c true (blank R)) → Member (over g R) (tree f c nil)
 child→ f c rec g R t =
     let (s, u) = T-and (eqS g f) (run c true (blank R)) t in
-    (same-symbol g f s, elim (rec R u) [ inl h ↦ absurd (blank-none R c h) | inr h ↦ rw (bare-blank R) at (h .1) ])
+    let x : Member R c = elim (rec R u) [ inl h ↦ absurd (blank-none R c h) | inr h ↦ rw (bare-blank R) at (h .1) ] in
+    rw (eqS-is g f s) (member-over f c R .1 x)
 
 child← : (f : Sym) (c : Complete) → ((R : Expr) → Left true (blank R) c → T (run c true (blank R)))
-    → (R : Expr) → Member R c → T (eqS f f && run c true (blank R))
-child← f c rec R x = T-both (eqS f f) (run c true (blank R)) (eqb-refl (f .0)) (rec R (inr (tt, rw (bare-blank R) x)))
+    → (g : Sym) (R : Expr) → Member (over g R) (tree f c nil) → T (eqS g f && run c true (blank R))
+child← f c rec g R m =
+    let e = same-symbol f g c (m .0) nil nil (m .1) in
+    let x = member-over f c R .0 (rw (← e) at m) in
+    T-both (eqS g f) (run c true (blank R)) (rw (← e) (eqb-refl (f .0))) (rec R (inr (tt, rw (bare-blank R) x)))
 
 run→ : (g : Complete) (i : Bool) (m : Marked) → T (run g i m) → Left i m g
 run→ nil i m t =

@@ -4,8 +4,10 @@ ghost use mathlib.Core.Bool.{_&&_, _||_};
 ghost use Prim.Native.Nat.{_+_, _-_, _≤_, _<_};
 ghost use lib.Dec.{eqb};
 ghost use lib.ListN.{length, set};
+ghost use Rattle.language.specs.Limits.{desk};
 ghost use Rattle.language.specs.Kinds.{pick};
 ghost use Rattle.member.specs.Places.{Expression, Hedge, Term, Looked, Skipped, Cleared, Shifted, Accepted, Both, Decided};
+use language::limits::QUESTION;
 
 // The place after an expression, and whether the empty hedge is in its language.
 struct Seen {
@@ -204,9 +206,9 @@ fn accepts(e: &[u16], at: usize, h: &[u16], i: usize, k: &mut [bool]) -> bool
 // Inner: the words must be those of an expression and of a complete hedge. Callers read first.
 pub fn member(e: &[u16], at: usize, h: &[u16], j: usize) -> bool
     requires { ⌜ Both (now e) at (now h) j ⌝ }
-    requires { ⌜ length (now e) ≤ 1024 ⌝ }
+    requires { ⌜ length (now e) ≤ desk .question ⌝ }
     ensures { λ r. ⌜ Decided (now (e .entry)) at (now (h .entry)) j r ⌝ }
 {
-    let mut k = [false; 1024];
+    let mut k = [false; QUESTION];
     accepts(e, at, h, j, &mut k)
 }

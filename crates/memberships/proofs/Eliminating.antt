@@ -15,13 +15,13 @@ use Rattle.rules.specs.Substitution.{setF, emptied, put}
 use Rattle.rules.specs.Looks.{allRuns, loneNode, asBlank, asOver}
 use Rattle.rules.specs.Rules.{elims, vanish, M1, M10}
 use Rattle.rules.specs.Step.{place}
+use Rattle.rules.proofs.Answers.{look, test, answers}
+use Rattle.rules.proofs.Looks.{loneNode-is, asBlank-is, asOver-is}
 use Rattle.plans.specs.declared.Recipe.{Recipe}
 use Rattle.plans.specs.declared.Shape.{Shape}
 use Rattle.plans.specs.Looks.{bodyWords}
 use Rattle.plans.specs.Views.{Shows}
 use Rattle.plans.specs.Results.{emptyEach, changed, made}
-use Rattle.exact.proofs.Answers.{look, test, answers}
-use Rattle.exact.proofs.Looks.{loneNode-is, asBlank-is, asOver-is}
 use Rattle.views.proofs.Words.{words-append}
 use Rattle.views.proofs.Sides.{side-whole, shows-before, shows-behind, shows-expr}
 use Rattle.views.proofs.Replaced.{Acts, acts-functor, acts-emptied}

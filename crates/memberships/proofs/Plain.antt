@@ -10,6 +10,8 @@ use Rattle.language.specs.Fine.{fineExpr}
 use Rattle.rules.specs.Looks.{firstRun, loneTerm, loneNode, asSymbol, asCat, asAlt, asStar, asOver}
 use Rattle.rules.specs.Rules.{Branch, plain, InRule, R2, M3, M4, M5, M6, M7, M11}
 use Rattle.rules.specs.Step.{place}
+use Rattle.rules.proofs.Answers.{look, test, answers}
+use Rattle.rules.proofs.Looks.{firstRun-is, loneTerm-is, loneNode-is, asSymbol-is, asCat-is, asAlt-is, asStar-is, asOver-is}
 use Rattle.plans.specs.declared.Recipe.{Recipe}
 use Rattle.plans.specs.declared.Ways.the-variants.{Two}
 use Rattle.plans.specs.declared.Plan.{Plan}
@@ -19,8 +21,6 @@ use Rattle.plans.specs.Views.{Shows}
 use Rattle.plans.specs.Results.{made, resultsOf}
 use Rattle.plans.specs.Sizes.{placedWords}
 use Rattle.plans.specs.Slots.{planOf}
-use Rattle.exact.proofs.Answers.{look, test, answers}
-use Rattle.exact.proofs.Looks.{firstRun-is, loneTerm-is, loneNode-is, asSymbol-is, asCat-is, asAlt-is, asStar-is, asOver-is}
 use Rattle.views.proofs.Words.{words-append, words-body}
 use Rattle.views.proofs.Sides.{side-whole, side-head, side-tail, shows-before, shows-behind, shows-expr}
 use Rattle.equations.specs.Planned.{Planned}

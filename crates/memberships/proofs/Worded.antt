@@ -14,6 +14,7 @@ use Rattle.language.specs.Writing.{functorWord, exprWords, conjWords}
 use Rattle.language.specs.Fine.{fineFunctor, fineHedge, fineExpr}
 use Rattle.rules.specs.Looks.{empty, hasTerm}
 use Rattle.rules.specs.Expressions.{nullable}
+use Rattle.rules.specs.Places.{atR2, atF6, atM2, noRule}
 use Rattle.plans.specs.declared.Look.the-variants.{Empty, Term, Run, Node}
 use Rattle.plans.specs.declared.Shape.{Shape}
 use Rattle.plans.specs.Views.{Shows}
@@ -41,7 +42,7 @@ term-law (alt a b) z single last one e = refl
 term-law (star a) z single last one e = refl
 term-law (over g a) z single last one e =
     rw (ne-eqb (3000 + g .0) 7000 (omega arith), ne-eqb (3000 + g .0) 7001 (omega arith), ne-eqb (3000 + g .0) 7002 (omega arith), ne-eqb (3000 + g .0) 7003 (omega arith))
-    (ap (λ n. pick last n 20) (e g refl))
+    (ap (λ n. pick last n atM2) (e g refl))
 
 run-law : (r : Hedge) (R : Expr) → fineExpr desk R → runBy (getD (exprWords R) 0 0) (empty r) (hasTerm r) ≡ runRank r R
 unfolding runBy
@@ -60,14 +61,14 @@ module _ {k : List ℕ} {s : Shape} {before : Conj} {h : Hedge} {R : Expr} {behi
   ranked : {n : ℕ} (g : Hedge) → h ≡ g → n ≡ rankIn g R → n ≡ memRank (before ++ behind) h R
   ranked g e q = q ∙ sym (rank-law (before ++ behind) g R) ∙ ap (λ (h : Hedge). memRank (before ++ behind) h R) (sym e)
 
-  pub rank-at-empty : {n : ℕ} → s .h .look ≡ Empty → ((R : Expr) (beyond : List ℕ) → Here k (s .expr) R beyond → n ≡ pick (nullable R) 1 7) → n ≡ memRank (before ++ behind) h R
+  pub rank-at-empty : {n : ℕ} → s .h .look ≡ Empty → ((R : Expr) (beyond : List ℕ) → Here k (s .expr) R beyond → n ≡ pick (nullable R) atR2 atF6) → n ≡ memRank (before ++ behind) h R
   rank-at-empty e q = ranked ε (is-empty h (sym (v .hedge .look) ∙ e)) (q R (conjWords behind) standing)
 
-  pub rank-at-term : {n x : ℕ} {last : Bool} → s .h .look ≡ Term x last → n ≡ termBy (s .first) last 28 → n ≡ memRank (before ++ behind) h R
+  pub rank-at-term : {n x : ℕ} {last : Bool} → s .h .look ≡ Term x last → n ≡ termBy (s .first) last noRule → n ≡ memRank (before ++ behind) h R
   rank-at-term {n} {x} {last} e q =
       let t = is-term h {last = last} (sym (v .hedge .look) ∙ e) in
       ranked (tvar (t .var) (t .rest)) (t .whole)
-      (q ∙ ap (λ x. termBy x last 28) (v .first) ∙ term-law R (v .fine) (λ g. 28) last 28 (λ g _. refl) ∙ ap (λ b. termRank (λ g. 28) b R) (t .last))
+      (q ∙ ap (λ x. termBy x last noRule) (v .first) ∙ term-law R (v .fine) (λ g. noRule) last noRule (λ g _. refl) ∙ ap (λ b. termRank (λ g. noRule) b R) (t .last))
 
   pub rank-at-run : {n x : ℕ} {last : Bool} → s .h .look ≡ Run x last → ((h : Hedge) (beyond : List ℕ) → Stands k (s .h .from) h beyond → n ≡ runBy (s .first) last (hasTerm h))
       → n ≡ memRank (before ++ behind) h R

@@ -5,6 +5,7 @@ use mathlib.Core.List.{List, _++_}
 use mathlib.Core.Option.{some}
 use Rattle.language.specs.Trees.{Hedge, Expr, Conj}
 use Rattle.rules.specs.Rules.{Branch, InRule}
+use Rattle.rules.specs.Places.{atM2}
 use Rattle.plans.specs.declared.Ways.the-variants.{Monomials}
 use Rattle.plans.specs.declared.Plan.{Plan}
 use Rattle.plans.specs.declared.Shape.{Shape}
@@ -28,5 +29,5 @@ Is rule k s plan p = (h : Hedge) (R : Expr) → Applies rule k s h R → p ≡ p
 -- the plan of the rule of a place in the list: M2's results are made by monomials, all others by the plan
 pub record Answered (rank : ℕ) (k : List ℕ) (s : Shape) (p : Plan) : Type 0 where
   pub whole : Is (memAnswer rank) k s (membershipPlan rank k s) p
-  pub monomials : rank ≡ 20 → p .ways ≡ Monomials
-  pub results : (rank ≡ 20 → ⊥) → (before : Conj) (h : Hedge) (R : Expr) (behind : Conj) → Shows k s before h R behind → Planned k p before behind (memAnswer rank (before ++ behind) h R)
+  pub monomials : rank ≡ atM2 → p .ways ≡ Monomials
+  pub results : (rank ≡ atM2 → ⊥) → (before : Conj) (h : Hedge) (R : Expr) (behind : Conj) → Shows k s before h R behind → Planned k p before behind (memAnswer rank (before ++ behind) h R)

@@ -13,6 +13,7 @@ use plans::Ways;
 use plans::few;
 use plans::full;
 use plans::inner;
+use rules::places::{AT_R2, AT_M1, AT_M2, AT_M3, AT_M4, AT_M5, AT_M6, AT_M7, AT_M10, AT_M11};
 
 // A plan without a piece.
 fn bare(ways: Ways) -> Plan
@@ -298,16 +299,16 @@ pub fn plan_membership(rank: usize, k: &[u16], s: Shape) -> Plan
     ensures { λ p. ⌜ Answered rank (now (k .entry)) s p ⌝ }
 {
     match rank {
-        1 => plan_r2(s),
-        19 => plan_m1(k, s),
-        20 => bare(Ways::Monomials),
-        21 => plan_m3(s),
-        22 => plan_m4(k, s),
-        23 => plan_m5(k, s),
-        24 => halves(k, s),
-        25 => halves(k, s),
-        26 => plan_m10(k, s),
-        27 => plan_m11(k, s),
+        AT_R2 => plan_r2(s),
+        AT_M1 => plan_m1(k, s),
+        AT_M2 => bare(Ways::Monomials),
+        AT_M3 => plan_m3(s),
+        AT_M4 => plan_m4(k, s),
+        AT_M5 => plan_m5(k, s),
+        AT_M6 => halves(k, s),
+        AT_M7 => halves(k, s),
+        AT_M10 => plan_m10(k, s),
+        AT_M11 => plan_m11(k, s),
         _ => bare(Ways::Drop),
     }
 }

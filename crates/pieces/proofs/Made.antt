@@ -5,6 +5,7 @@ use Prim.Native.Nat.{ℕ, suc, _+_, _*_, _-_, _<_, _≤_}
 use native.Mathlib.Omega.{arith}
 use lib.ListN.{length, length-append}
 use lib.Seq.{slice}
+use Rattle.language.specs.Limits.{desk}
 use Rattle.plans.specs.Results.{changed, pieceWords, slotAt, piecesFrom, made}
 use Rattle.plans.specs.declared.Piece.{Piece}
 use Rattle.plans.specs.declared.Piece.the-variants.{Word, Copy, Put, ToCut, PutFromCut, Each}
@@ -57,7 +58,7 @@ module _ (k : List ℕ) (r : Recipe) (cut : ℕ) where
     made-length h n e = ap length (bare-step h .eq) ∙ length-append (pieceWords k (bare (swapOf r)) cut (slotAt r i)) (from (i + 1)) ∙ ap (λ m. m + length (from (i + 1))) (sym e)
 
   -- a piece is bounded, so that sums fit
-  pub piece-short : (p : Piece) → length k ≤ 1024 → length (pieceWords k r cut p) ≤ 1048576
+  pub piece-short : (p : Piece) → length k ≤ desk .question → length (pieceWords k r cut p) ≤ desk .question * desk .question
   unfolding changed
   piece-short (Word x) h = omega arith
   piece-short (Copy a b) h = let z = part-short k a b in omega arith

@@ -6,6 +6,7 @@ use Prim.Native.Nat.{ℕ, _+_, _*_, _-_, _<_, _≤_}
 use native.Mathlib.Omega.{arith}
 use lib.ListN.{length, getD, length-append}
 use lib.Seq.{slice}
+use Rattle.language.specs.Limits.{desk}
 use Rattle.language.specs.Kinds.{pick}
 use Rattle.plans.specs.Results.{member, replaced, changed, emptyEach}
 use Rattle.plans.specs.declared.Recipe.{Recipe}
@@ -54,15 +55,15 @@ module _ {k : List ℕ} {to e : ℕ} (w : Within k to e) where
 
 -- ---- lengths
 
-pub swapped-short : (old new : List ℕ) (x : ℕ) → length new ≤ 1024 → length (swapped old new x) ≤ 1024
+pub swapped-short : (old new : List ℕ) (x : ℕ) → length new ≤ desk .question → length (swapped old new x) ≤ desk .question
 unfolding swapped
 swapped-short old new x h = go (member x old)
   where
-    go : (b : Bool) → length (pick b new (x ∷ [])) ≤ 1024
+    go : (b : Bool) → length (pick b new (x ∷ [])) ≤ desk .question
     go true = h
     go false = omega arith
 
-replaced-short : (old new ws : List ℕ) → length new ≤ 1024 → length (replaced old new ws) ≤ 1024 * length ws
+replaced-short : (old new ws : List ℕ) → length new ≤ desk .question → length (replaced old new ws) ≤ desk .question * length ws
 unfolding swapped
 replaced-short old new [] h = omega arith
 replaced-short old new (x ∷ ws) h =
@@ -71,8 +72,8 @@ replaced-short old new (x ∷ ws) h =
     let d = replaced-short old new ws h in
     omega arith
 
-pub put-short : (k : List ℕ) (old new cut from to until : ℕ) → length k ≤ 1024
-    → length (replaced (slice old until k) (slice new cut k) (slice from to k)) ≤ 1048576
+pub put-short : (k : List ℕ) (old new cut from to until : ℕ) → length k ≤ desk .question
+    → length (replaced (slice old until k) (slice new cut k) (slice from to k)) ≤ desk .question * desk .question
 put-short k old new cut from to until h =
     let a = part-short k new cut in
     let b = part-short k from to in

@@ -7,6 +7,7 @@ use native.Mathlib.Omega.{arith}
 use lib.Dec.{leb}
 use lib.ListN.{length, length-append}
 use borrow.Author.Tests.{le-leb, lt-leb}
+use Rattle.language.specs.Limits.{desk}
 use Rattle.language.specs.Kinds.{pick}
 use Rattle.plans.specs.Results.{elementEnd, places, made}
 use Rattle.frames.specs.Frames.{framed}
@@ -19,14 +20,14 @@ use Rattle.pieces.proofs.Parts.{Split}
 -- ---- counting
 
 module _ (n : ℕ) (w : List ℕ) (ws : List (List ℕ)) (one : ℕ) (e : one ≡ length w) where
-  pub size-over : 1024 < one → Over ≡ sizedFrom n (w ∷ ws)
+  pub size-over : desk .question < one → Over ≡ sizedFrom n (w ∷ ws)
   size-over h =
-      sym (ap (λ l. pick (leb l 1024) (sizedFrom (grown n (length w)) ws) Over) (sym e) ∙ ap (λ b. pick b (sizedFrom (grown n (length w)) ws) Over) (lt-leb one 1024 h))
+      sym (ap (λ l. pick (leb l (desk .question)) (sizedFrom (grown n (length w)) ws) Over) (sym e) ∙ ap (λ b. pick b (sizedFrom (grown n (length w)) ws) Over) (lt-leb one (desk .question) h))
 
-  pub size-more : one ≤ 1024 → (m : ℕ) → m ≡ grown n one → sizedFrom m ws ≡ sizedFrom n (w ∷ ws)
+  pub size-more : one ≤ desk .question → (m : ℕ) → m ≡ grown n one → sizedFrom m ws ≡ sizedFrom n (w ∷ ws)
   size-more h m g =
       ap (λ m. sizedFrom m ws) (g ∙ ap (grown n) e)
-      ∙ sym (ap (λ l. pick (leb l 1024) (sizedFrom (grown n (length w)) ws) Over) (sym e) ∙ ap (λ b. pick b (sizedFrom (grown n (length w)) ws) Over) (le-leb one 1024 h))
+      ∙ sym (ap (λ l. pick (leb l (desk .question)) (sizedFrom (grown n (length w)) ws) Over) (sym e) ∙ ap (λ b. pick b (sizedFrom (grown n (length w)) ws) Over) (le-leb one (desk .question) h))
 
 -- one result and then others
 abbrev pub then : Size → List (List ℕ) → Size
@@ -34,7 +35,7 @@ then Over ws = Over
 then (Fits n) ws = sizedFrom n ws
 
 pub size-then : (n : ℕ) (w : List ℕ) (ws : List (List ℕ)) → then (sizedFrom n (w ∷ [])) ws ≡ sizedFrom n (w ∷ ws)
-size-then n w ws = go (leb (length w) 1024)
+size-then n w ws = go (leb (length w) (desk .question))
   where
     go : (b : Bool) → then (pick b (Fits (grown n (length w))) Over) ws ≡ pick b (sizedFrom (grown n (length w)) ws) Over
     go true = refl
@@ -66,15 +67,15 @@ module _ (k : List ℕ) (r : Recipe) (n c : ℕ) where
     unfolding places
     cuts-cons = let z : n ≡ suc (n - 1) = omega arith in ap (λ m. cuts k r m c) z ∙ ap (λ d. made k r c ∷ cuts k r (n - 1) d) (sym e)
 
-    pub cuts-over : (m one : ℕ) → one ≡ length (made k r c) → 1024 < one → Over ≡ sizedFrom m (cuts k r n c)
+    pub cuts-over : (m one : ℕ) → one ≡ length (made k r c) → desk .question < one → Over ≡ sizedFrom m (cuts k r n c)
     cuts-over m one f h = size-over m (made k r c) (cuts k r (n - 1) d) one f h ∙ ap (sizedFrom m) (sym cuts-cons)
 
-    pub cuts-more : (m one : ℕ) → one ≡ length (made k r c) → one ≤ 1024 → (m′ : ℕ) → m′ ≡ grown m one
+    pub cuts-more : (m one : ℕ) → one ≡ length (made k r c) → one ≤ desk .question → (m′ : ℕ) → m′ ≡ grown m one
         → sizedFrom m′ (cuts k r (n - 1) d) ≡ sizedFrom m (cuts k r n c)
     cuts-more m one f h m′ g = size-more m (made k r c) (cuts k r (n - 1) d) one f h m′ g ∙ ap (sizedFrom m) (sym cuts-cons)
 
     pub cuts-split : Split (framed (cuts k r n c)) (length (made k r c) ∷ made k r c) (framed (cuts k r (n - 1) d))
     cuts-split = record { eq = ap framed cuts-cons }
 
-    pub cuts-short : Short (cuts k r n c) → (length (made k r c) ≤ 1024) × Short (cuts k r (n - 1) d)
+    pub cuts-short : Short (cuts k r n c) → (length (made k r c) ≤ desk .question) × Short (cuts k r (n - 1) d)
     cuts-short s = subst Short cuts-cons s

@@ -22,36 +22,36 @@ use Rattle.pieces.specs.Written.{Ready}
 -- whether some result is too long
 abbrev pub tooLong : List (List ℕ) → Bool
 tooLong [] = false
-tooLong (w ∷ ws) = ltb 1024 (length w) || tooLong ws
+tooLong (w ∷ ws) = ltb (desk .question) (length w) || tooLong ws
 
 -- m is n and the words of the results in a row, as far as it was counted
 pub record Counted (n : ℕ) (ws : List (List ℕ)) (m : ℕ) : Type 0 where
   pub short : Short ws
-  pub exact : m ≤ 8192 → n + length (framed ws) ≡ m
-  pub past : 8192 < m → 8192 < n + length (framed ws)
+  pub exact : m ≤ desk .room → n + length (framed ws) ≡ m
+  pub past : desk .room < m → desk .room < n + length (framed ws)
 
 module _ (n : ℕ) (w : List ℕ) (ws : List (List ℕ)) where
-  fitting : length w ≤ 1024 → sizedFrom n (w ∷ ws) ≡ sizedFrom (grown n (length w)) ws
-  fitting h = ap (λ b. pick b (sizedFrom (grown n (length w)) ws) Over) (le-leb (length w) 1024 h)
+  fitting : length w ≤ desk .question → sizedFrom n (w ∷ ws) ≡ sizedFrom (grown n (length w)) ws
+  fitting h = ap (λ b. pick b (sizedFrom (grown n (length w)) ws) Over) (le-leb (length w) (desk .question) h)
 
-  passing : 1024 < length w → sizedFrom n (w ∷ ws) ≡ Over
-  passing h = ap (λ b. pick b (sizedFrom (grown n (length w)) ws) Over) (lt-leb (length w) 1024 h)
+  passing : desk .question < length w → sizedFrom n (w ∷ ws) ≡ Over
+  passing h = ap (λ b. pick b (sizedFrom (grown n (length w)) ws) Over) (lt-leb (length w) (desk .question) h)
 
   -- one more counted
-  counted-more : (m : ℕ) → length w ≤ 1024 → Counted (grown n (length w)) ws m → grown n (length w) ≤ m → Counted n (w ∷ ws) m
-  counted-more m h r g = go (decLe n 8192)
+  counted-more : (m : ℕ) → length w ≤ desk .question → Counted (grown n (length w)) ws m → grown n (length w) ≤ m → Counted n (w ∷ ws) m
+  counted-more m h r g = go (decLe n (desk .room))
     where
-      go : Dec (n ≤ 8192) → Counted n (w ∷ ws) m
+      go : Dec (n ≤ desk .room) → Counted n (w ∷ ws) m
       go (yes p) =
           let l = length-append w (framed ws) in
-          let e : grown n (length w) ≡ n + 1 + length w = ap (λ b. pick b (n + 1 + length w) n) (le-leb n 8192 p) in
+          let e : grown n (length w) ≡ n + 1 + length w = ap (λ b. pick b (n + 1 + length w) n) (le-leb n (desk .room) p) in
           record { short = (h, r .short); exact = λ q. let x = r .exact q in omega arith; past = λ q. let x = r .past q in omega arith }
       go (no p) =
-          let e : grown n (length w) ≡ n = ap (λ b. pick b (n + 1 + length w) n) (lt-leb n 8192 (omega arith)) in
+          let e : grown n (length w) ≡ n = ap (λ b. pick b (n + 1 + length w) n) (lt-leb n (desk .room) (omega arith)) in
           record { short = (h, r .short); exact = λ q. absurd (omega arith); past = λ q. omega arith }
 
 grown-up : (n l : ℕ) → n ≤ grown n l
-grown-up n l = go (leb n 8192)
+grown-up n l = go (leb n (desk .room))
   where
     go : (b : Bool) → n ≤ pick b (n + 1 + l) n
     go true = omega arith
@@ -59,9 +59,9 @@ grown-up n l = go (leb n 8192)
 
 counted : (ws : List (List ℕ)) (n m : ℕ) → sizedFrom n ws ≡ Fits m → (n ≤ m) × Counted n ws m
 counted [] n m e = let z : n ≡ m = cc in (omega arith, record { short = tt; exact = λ q. omega arith; past = λ q. omega arith })
-counted (w ∷ ws) n m e = go (counted ws (grown n (length w)) m) (decLe (length w) 1024)
+counted (w ∷ ws) n m e = go (counted ws (grown n (length w)) m) (decLe (length w) (desk .question))
   where
-    go : (sizedFrom (grown n (length w)) ws ≡ Fits m → (grown n (length w) ≤ m) × Counted (grown n (length w)) ws m) → Dec (length w ≤ 1024)
+    go : (sizedFrom (grown n (length w)) ws ≡ Fits m → (grown n (length w) ≤ m) × Counted (grown n (length w)) ws m) → Dec (length w ≤ desk .question)
         → (n ≤ m) × Counted n (w ∷ ws) m
     go ih (yes p) =
         let d = ih (sym (fitting n w ws p) ∙ e) in
@@ -75,24 +75,24 @@ pub sized-fits : (ws : List (List ℕ)) (m : ℕ) → sized ws ≡ Fits m → Co
 unfolding sized
 sized-fits ws m e = counted ws 0 m e .1
 
-pub fits-exact : (ws : List (List ℕ)) (m : ℕ) → sized ws ≡ Fits m → m ≤ 8192 → length (framed ws) ≡ m
+pub fits-exact : (ws : List (List ℕ)) (m : ℕ) → sized ws ≡ Fits m → m ≤ desk .room → length (framed ws) ≡ m
 fits-exact ws m e h = let x = sized-fits ws m e .exact h in omega arith
 
-pub fits-past : (ws : List (List ℕ)) (m : ℕ) → sized ws ≡ Fits m → 8192 < m → 8192 < length (framed ws)
+pub fits-past : (ws : List (List ℕ)) (m : ℕ) → sized ws ≡ Fits m → desk .room < m → desk .room < length (framed ws)
 fits-past ws m e h = let x = sized-fits ws m e .past h in omega arith
 
 -- what the writer asks
-pub fits-ready : (ws : List (List ℕ)) (m : ℕ) → sized ws ≡ Fits m → m ≤ 8192 → (out : List ℕ) (at : ℕ) → at + m ≤ length out → Ready ws out at
+pub fits-ready : (ws : List (List ℕ)) (m : ℕ) → sized ws ≡ Fits m → m ≤ desk .room → (out : List ℕ) (at : ℕ) → at + m ≤ length out → Ready ws out at
 fits-ready ws m e h out at r = record { short = sized-fits ws m e .short; room = let x = fits-exact ws m e h in omega arith }
 
 -- ---- `Over`
 over-from : (ws : List (List ℕ)) (n : ℕ) → sizedFrom n ws ≡ Over → tooLong ws ≡ true
 over-from [] n e = absurd (let z : _≡_ {A = ℕ} 0 1 = cc in omega arith)
-over-from (w ∷ ws) n e = go (over-from ws (grown n (length w))) (decLe (length w) 1024)
+over-from (w ∷ ws) n e = go (over-from ws (grown n (length w))) (decLe (length w) (desk .question))
   where
-    go : (sizedFrom (grown n (length w)) ws ≡ Over → tooLong ws ≡ true) → Dec (length w ≤ 1024) → tooLong (w ∷ ws) ≡ true
-    go ih (yes p) = ap (λ b. b || tooLong ws) (le-ltb 1024 (length w) p) ∙ ih (sym (fitting n w ws p) ∙ e)
-    go ih (no p) = ap (λ b. b || tooLong ws) (lt-ltb 1024 (length w) (omega arith))
+    go : (sizedFrom (grown n (length w)) ws ≡ Over → tooLong ws ≡ true) → Dec (length w ≤ desk .question) → tooLong (w ∷ ws) ≡ true
+    go ih (yes p) = ap (λ b. b || tooLong ws) (le-ltb (desk .question) (length w) p) ∙ ih (sym (fitting n w ws p) ∙ e)
+    go ih (no p) = ap (λ b. b || tooLong ws) (lt-ltb (desk .question) (length w) (omega arith))
 
 pub over-long : (ws : List (List ℕ)) → sized ws ≡ Over → tooLong ws ≡ true
 unfolding sized
@@ -100,12 +100,12 @@ over-long ws e = over-from ws 0 e
 
 pub short-not-long : (ws : List (List ℕ)) → Short ws → tooLong ws ≡ false
 short-not-long [] s = refl
-short-not-long (w ∷ ws) s = ap (λ b. b || tooLong ws) (le-ltb 1024 (length w) (s .0)) ∙ short-not-long ws (s .1)
+short-not-long (w ∷ ws) s = ap (λ b. b || tooLong ws) (le-ltb (desk .question) (length w) (s .0)) ∙ short-not-long ws (s .1)
 
 -- ---- numbers 7 and 8: the results of a step in words
 pub words-long : (ks : List Conj) → anyLong desk ks ≡ tooLong (map conjWords ks)
 words-long [] = refl
-words-long (k ∷ ks) = ap (λ b. ltb 1024 (size k) || b) (words-long ks)
+words-long (k ∷ ks) = ap (λ b. ltb (desk .question) (size k) || b) (words-long ks)
 
 pub words-waiting : (ks : List Conj) → waitingSize ks ≡ length (framed (map conjWords ks))
 words-waiting [] = refl

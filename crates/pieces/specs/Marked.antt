@@ -5,6 +5,7 @@ use mathlib.Core.Bool.{Bool, true, false, _&&_}
 use mathlib.Core.List.{List, [], _∷_}
 use lib.Dec.{leb}
 use lib.ListN.{getD}
+use Rattle.language.specs.Limits.{desk, lastOf}
 use Rattle.language.specs.Kinds.{pick}
 use Rattle.plans.specs.Results.{member}
 use Rattle.plans.specs.declared.Recipe.{Recipe}
@@ -13,7 +14,7 @@ use Rattle.pieces.specs.declared.replacing.Swap.{Swap}
 
 -- a hedge variable's word whose number is marked
 unfoldable pub marked : List Bool → ℕ → Bool
-marked set x = leb 2000 x && (leb x 2031 && getD set (x - 2000) false)
+marked set x = leb 2000 x && (leb x (lastOf desk 2000) && getD set (x - 2000) false)
 
 -- where the words are hedge variables alone, the marks say which
 pub record Marked (words : List ℕ) (m : Marks) : Type 0 where

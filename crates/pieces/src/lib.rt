@@ -1,4 +1,4 @@
-// A plan's results in words: how long they are together, and writing them in a row, each with its length before it.
+// A plan's results in words: how long they are together, and writing them in a row, each in its frame.
 pub mod copying;
 mod emptying;
 pub mod making;
@@ -8,11 +8,14 @@ ghost use Prim.Native.Nat.{_≤_};
 ghost use mathlib.Core.Path.{_≡_};
 ghost use mathlib.Core.List.{[], _∷_, map};
 ghost use lib.ListN.{length};
+ghost use Rattle.language.specs.Limits.{desk};
 ghost use Rattle.plans.specs.Results.{made, places, resultsOf};
 ghost use Rattle.frames.specs.Frames.{framed};
 ghost use Rattle.plans.specs.Sizes.{grown, sizedFrom, sized};
 ghost use Rattle.pieces.specs.Written.{Wrote, Ready};
 use frames::FRAME;
+use language::limits::QUESTION;
+use language::limits::ROOM;
 use making::made_len;
 use making::write_framed;
 use plans::Plan;
@@ -23,19 +26,19 @@ use words::element_end;
 
 // A result more, counted until a lent slice is passed.
 pub fn grow(n: usize, one: usize) -> usize
-    requires { ⌜ one ≤ 1024 ⌝ }
+    requires { ⌜ one ≤ desk .question ⌝ }
     ensures { λ r. ⌜ r ≡ grown n one ⌝ }
 {
-    if n <= 8192 { n + FRAME + one } else { n }
+    if n <= ROOM { n + FRAME + one } else { n }
 }
 
 // n words and those of one result.
 fn size_one(k: &[u16], r: Recipe, cut: usize, n: usize) -> Size
-    requires { ⌜ length (now k) ≤ 1024 ⌝ }
+    requires { ⌜ length (now k) ≤ desk .question ⌝ }
     ensures { λ s. ⌜ s ≡ sizedFrom n (made (now (k .entry)) r cut ∷ []) ⌝ }
 {
     let one = made_len(k, r, cut);
-    if 1024 < one {
+    if QUESTION < one {
         return Size::Over;
     }
     let more = grow(n, one);
@@ -43,7 +46,7 @@ fn size_one(k: &[u16], r: Recipe, cut: usize, n: usize) -> Size
 }
 
 fn size_two(k: &[u16], a: Recipe, b: Recipe) -> Size
-    requires { ⌜ length (now k) ≤ 1024 ⌝ }
+    requires { ⌜ length (now k) ≤ desk .question ⌝ }
     ensures { λ s. ⌜ s ≡ sized (made (now (k .entry)) a 0 ∷ made (now (k .entry)) b 0 ∷ []) ⌝ }
 {
     let s = size_one(k, a, 0, 0);
@@ -55,7 +58,7 @@ fn size_two(k: &[u16], a: Recipe, b: Recipe) -> Size
 
 // One result for each cut, element by element.
 fn size_cuts(k: &[u16], r: Recipe, cut: usize, times: usize) -> Size
-    requires { ⌜ length (now k) ≤ 1024 ⌝ }
+    requires { ⌜ length (now k) ≤ desk .question ⌝ }
     ensures { λ s. ⌜ s ≡ sized (map (made (now (k .entry)) r) (places times (now (k .entry)) cut)) ⌝ }
 {
     let mut left = times;
@@ -63,7 +66,7 @@ fn size_cuts(k: &[u16], r: Recipe, cut: usize, times: usize) -> Size
     let mut n: usize = 0;
     while left != 0 {
         let one = made_len(k, r, at);
-        if 1024 < one {
+        if QUESTION < one {
             return Size::Over;
         }
         n = grow(n, one);
@@ -73,9 +76,9 @@ fn size_cuts(k: &[u16], r: Recipe, cut: usize, times: usize) -> Size
     Size::Fits(n)
 }
 
-// How many words a plan's results take, each with its length before it; or that one of them is too long.
+// How many words a plan's results take, each in its frame; or that one of them is too long.
 pub fn size_results(k: &[u16], plan: Plan) -> Size
-    requires { ⌜ length (now k) ≤ 1024 ⌝ }
+    requires { ⌜ length (now k) ≤ desk .question ⌝ }
     ensures { λ s. ⌜ s ≡ sized (resultsOf (now (k .entry)) plan) ⌝ }
 {
     let ways = plan.ways;
@@ -113,7 +116,7 @@ fn write_two(k: &[u16], a: Recipe, b: Recipe, out: &mut [u16], at: usize) -> usi
     write_framed(k, b, 0, out, e)
 }
 
-// A plan's results, each with its length before it.
+// A plan's results, each in its frame.
 pub fn write_results(k: &[u16], plan: Plan, out: &mut [u16], at: usize) -> usize
     requires { ⌜ Ready (resultsOf (now k) plan) (now out) at ⌝ }
     ensures { λ e. ⌜ Wrote (now (out .entry)) at (framed (resultsOf (now (k .entry)) plan)) (now (out .exit)) e ⌝ }

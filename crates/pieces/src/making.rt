@@ -4,6 +4,7 @@ ghost use mathlib.Core.Path.{_≡_};
 ghost use lib.ListN.{length};
 ghost use lib.Seq.{slice};
 ghost use Rattle.frames.specs.Frames.{inFrame};
+ghost use Rattle.language.specs.Limits.{desk};
 ghost use Rattle.plans.specs.Results.{pieceWords, made};
 ghost use Rattle.pieces.specs.Written.{Wrote};
 ghost use Rattle.pieces.specs.Marked.{Marked, bare};
@@ -22,7 +23,7 @@ use plans::Recipe;
 use plans::Slot;
 
 fn piece_len(k: &[u16], s: Swap, cut: usize, m: Marks, p: Piece) -> usize
-    requires { ⌜ Marked (slice (s .old) (s .until) (now k)) m × (length (now k) ≤ 1024) ⌝ }
+    requires { ⌜ Marked (slice (s .old) (s .until) (now k)) m × (length (now k) ≤ desk .question) ⌝ }
     ensures { λ n. ⌜ n ≡ length (pieceWords (now (k .entry)) (bare s) cut p) ⌝ }
 {
     match p {
@@ -62,7 +63,7 @@ fn write_piece(
 
 // How long a result is.
 pub fn made_len(k: &[u16], r: Recipe, cut: usize) -> usize
-    requires { ⌜ length (now k) ≤ 1024 ⌝ }
+    requires { ⌜ length (now k) ≤ desk .question ⌝ }
     ensures { λ n. ⌜ n ≡ length (made (now (k .entry)) r cut) ⌝ }
 {
     let slots = r.slots;
@@ -108,7 +109,7 @@ pub fn write_made(k: &[u16], r: Recipe, cut: usize, out: &mut [u16], at: usize) 
 
 // A result in its frame; its length is known once it stands.
 pub(crate) fn write_framed(k: &[u16], r: Recipe, cut: usize, out: &mut [u16], at: usize) -> usize
-    requires { ⌜ (length (made (now k) r cut) ≤ 1024) × (at + length (inFrame (made (now k) r cut)) ≤ length (now out)) ⌝ }
+    requires { ⌜ (length (made (now k) r cut) ≤ desk .question) × (at + length (inFrame (made (now k) r cut)) ≤ length (now out)) ⌝ }
     ensures { λ e. ⌜ Wrote (now (out .entry)) at (inFrame (made (now (k .entry)) r cut)) (now (out .exit)) e ⌝ }
 {
     let start = at + FRAME;

@@ -3,6 +3,7 @@ ghost use Prim.Native.Nat.{_+_, _≤_};
 ghost use mathlib.Core.Path.{_≡_};
 ghost use lib.ListN.{length};
 ghost use lib.Seq.{slice};
+ghost use Rattle.language.specs.Limits.{desk};
 ghost use Rattle.language.specs.Kinds.{pick};
 ghost use Rattle.plans.specs.Results.{member, changed};
 ghost use Rattle.pieces.specs.Written.{Wrote};
@@ -10,12 +11,14 @@ ghost use Rattle.pieces.specs.Marked.{marked, Marked, swapped, bare};
 use super::copying::copy;
 use super::copying::part_len;
 use super::copying::within;
+use language::limits::LAST_RUN;
+use language::limits::PLACES;
 use words::stands;
 
 // Which hedge variables a part has, where it has no other words.
 pub struct Marks {
     pub only: bool,
-    pub set: [bool; 32],
+    pub set: [bool; PLACES],
 }
 
 // A recipe's substitution by itself, so that its pieces are not handed on with it: each word of the part old..until is replaced by the part from `new` to the cut.
@@ -35,7 +38,7 @@ fn wide(x: u16) -> usize
 pub fn note(k: &[u16], from: usize, to: usize) -> Marks
     ensures { λ m. ⌜ Marked (slice from to (now (k .entry))) m ⌝ }
 {
-    let mut set = [false; 32];
+    let mut set = [false; PLACES];
     let end = within(k, to);
     let mut i = from;
     while i < end {
@@ -43,7 +46,7 @@ pub fn note(k: &[u16], from: usize, to: usize) -> Marks
         if x < 2000 {
             return Marks { only: false, set };
         }
-        if 2031 < x {
+        if LAST_RUN < x {
             return Marks { only: false, set };
         }
         let p = wide(x) - 2000;
@@ -59,7 +62,7 @@ fn is_marked(m: Marks, x: u16) -> bool
     if x < 2000 {
         return false;
     }
-    if 2031 < x {
+    if LAST_RUN < x {
         return false;
     }
     let set = m.set;
@@ -137,7 +140,7 @@ fn swap_len(old: bool, gain: usize) -> usize
 
 // How long a part is under the substitution.
 pub fn put_len(k: &[u16], s: Swap, cut: usize, m: Marks, from: usize, to: usize) -> usize
-    requires { ⌜ Marked (slice (s .old) (s .until) (now k)) m × (length (now k) ≤ 1024) ⌝ }
+    requires { ⌜ Marked (slice (s .old) (s .until) (now k)) m × (length (now k) ≤ desk .question) ⌝ }
     ensures { λ n. ⌜ n ≡ length (changed (now (k .entry)) (bare s) cut (slice from to (now (k .entry)))) ⌝ }
 {
     let old = s.old;

@@ -4,17 +4,19 @@ use mathlib.Core.List.{List, [], _∷_}
 use mathlib.Core.Option.{none}
 use Rattle.language.specs.Kinds.{pick}
 use Rattle.language.specs.Trees.{Hedge, Expr, Conj}
-use Rattle.rules.specs.Rules.{Answer, Rule, onEqn, onMem, rules}
+use Rattle.rules.specs.Rules.{Answer, Rule, onEqn, onMem, onPair, rules}
 use Rattle.rules.specs.Solved.{isSome}
 
--- a rule at an equation seen from the side l, and at a membership
+-- a rule of one literal at an equation seen from the side l, and at a membership
 abbrev pub atEqn : Rule → Conj → Hedge → Hedge → Answer
 atEqn (onEqn rule) K l r = rule K l r
 atEqn (onMem rule) K l r = none
+atEqn (onPair rule) K l r = none
 
 abbrev pub atMem : Rule → Conj → Hedge → Expr → Answer
 atMem (onEqn rule) K h R = none
 atMem (onMem rule) K h R = rule K h R
+atMem (onPair rule) K h R = none
 
 -- the place of the first that answers, or their number
 abbrev pub firstOf : (Rule → Answer) → List Rule → ℕ

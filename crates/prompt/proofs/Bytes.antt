@@ -8,8 +8,9 @@ use borrow.Author.Tests.{leb-true, lt-ltb, le-ltb, le-leb, lt-leb, eq-eqb, ne-eq
 use Rattle.language.specs.Kinds.{pick}
 use Rattle.language.proofs.Bools.{both-true}
 use Rattle.prompt.specs.declared.Mode.{Mode}
+use Rattle.prompt.specs.declared.Place.{Place}
 use Rattle.prompt.specs.declared.Mode.the-variants.{Between, Number, Remark, Wrong}
-use Rattle.prompt.specs.Texts.{digit, gap, breaks, longer, afterWord, outside, inRemark}
+use Rattle.prompt.specs.Texts.{digit, gap, longer, afterWord, outside, inRemark, after}
 
 module _ (b : ℕ) where
   pub low : b < 48 → false ≡ digit b
@@ -48,13 +49,14 @@ module _ (b : ℕ) where
   unfolding inRemark
   remark-goes-on e = rw (ne-eqb b 10 e)
 
-  pub line-breaks : b ≡ 10 → 1 ≡ breaks b
-  unfolding breaks
-  line-breaks e = rw (eq-eqb b 10 e)
+  module _ (here : Place) (from : ℕ) where
+    pub line-ends : b ≡ 10 → record { line = here .line + 1; column = 1; from = from } ≡ after here from b
+    unfolding after
+    line-ends e = rw (eq-eqb b 10 e)
 
-  pub line-goes-on : (b ≡ 10 → ⊥) → 0 ≡ breaks b
-  unfolding breaks
-  line-goes-on e = rw (ne-eqb b 10 e)
+    pub line-goes-on : (b ≡ 10 → ⊥) → record { line = here .line; column = here .column + 1; from = from } ≡ after here from b
+    unfolding after
+    line-goes-on e = rw (ne-eqb b 10 e)
 
   module _ (v : ℕ) where
     pub on-digit : digit b ≡ true → longer v b ≡ outside v b

@@ -12,8 +12,9 @@ use Rattle.language.specs.Kinds.{pick}
 use Rattle.language.proofs.Stores.{sets-append, set-past, sets-past}
 use Rattle.prompt.specs.declared.Text.{Text}
 use Rattle.prompt.specs.declared.Mode.{Mode}
+use Rattle.prompt.specs.declared.Place.{Place}
 use Rattle.prompt.specs.declared.Mode.the-variants.{Between, Number, Remark, Wrong}
-use Rattle.prompt.specs.Texts.{digit, breaks, next, isWrong, ended, Reading, behind, reads, readText}
+use Rattle.prompt.specs.Texts.{digit, next, isWrong, begins, after, ended, Reading, behind, reads, readText}
 use Rattle.prompt.specs.Parsed.{Put, Parsed}
 
 -- ---- one byte, in the mode that the code found
@@ -55,64 +56,70 @@ module _ {room : List ℕ} {n : ℕ} (i : n ≤ length room) where
 
 -- ---- the text
 
-pub one-line : (l b : ℕ) → l ≡ breaks b → l ≤ 1
-unfolding breaks
-one-line l b e = let z = few (eqb b 10) in omega (arith, e, z)
+-- neither the line nor the column is more than one further after a byte
+pub one-more : (here : Place) (from b k : ℕ) → here .line ≤ k → here .column ≤ k → (after here from b .line ≤ k + 1) × (after here from b .column ≤ k + 1)
+unfolding after
+one-more here from b k p q = more (eqb b 10)
   where
-    few : (t : Bool) → pick t 1 0 ≤ 1
-    few true = omega arith
-    few false = omega arith
+    more : (t : Bool) → let there : Place = pick t (record { line = here .line + 1; column = 1; from = from }) (record { line = here .line; column = here .column + 1; from = from }) in (there .line ≤ k + 1) × (there .column ≤ k + 1)
+    more true = (omega arith, omega arith)
+    more false = (omega arith, omega arith)
 
 counted : (room room′ room″ : List ℕ) (n m : ℕ) (us vs : List ℕ) → n ≤ length room → length room′ ≡ length room → Put room′ n us m room″
     → min (length room) (m + length vs) ≡ min (length room) (n + length (us ++ vs))
 counted room room′ room″ n m us vs f e u = omega (arith, f, e, u .place, length-append us vs)
 
 module _ (text room : List ℕ) where
-  pub record Going (at line n : ℕ) (mode : Mode) (room′ : List ℕ) : Type 0 where
+  pub record Going (at n : ℕ) (here : Place) (mode : Mode) (room′ : List ℕ) : Type 0 where
     pub inside : at ≤ length text
-    pub lines : line ≤ at + 1
+    pub lines : here .line ≤ at + 1
+    pub columns : here .column ≤ at + 1
     pub fits : n ≤ length room
     pub len : length room′ ≡ length room
-    pub wrong : reads mode line (drop at text) .wrong ≡ readText text .wrong
-    pub count : min (length room) (n + length (reads mode line (drop at text) .words)) ≡ min (length room) (length (readText text .words))
-    pub words : sets room′ n (reads mode line (drop at text) .words) ≡ sets room 0 (readText text .words)
+    pub line : reads mode here (drop at text) .line ≡ readText text .line
+    pub column : reads mode here (drop at text) .column ≡ readText text .column
+    pub count : min (length room) (n + length (reads mode here (drop at text) .words)) ≡ min (length room) (length (readText text .words))
+    pub words : sets room′ n (reads mode here (drop at text) .words) ≡ sets room 0 (readText text .words)
 
-  pub starts : Going 0 1 0 Between room
+  pub starts : Going 0 0 (record { line = 1; column = 1; from = 1 }) Between room
   unfolding readText
-  starts = record { inside = omega arith; lines = omega arith; fits = omega arith; len = refl; wrong = refl; count = ap (min (length room)) (omega arith); words = refl }
+  starts = record { inside = omega arith; lines = omega arith; columns = omega arith; fits = omega arith; len = refl; line = refl; column = refl; count = ap (min (length room)) (omega arith); words = refl }
 
-  module _ {at line n : ℕ} {mode : Mode} {room′ : List ℕ} (g : Going at line n mode room′) where
+  module _ {at n : ℕ} {here : Place} {mode : Mode} {room′ : List ℕ} (g : Going at n here mode room′) where
     -- the byte that stands there
     module _ (p : at < length text) where
       abbrev pub b : ℕ
       b = getD text at 0
 
-      here : reads mode line (drop at text) ≡ reads mode line (b ∷ drop (at + 1) text)
-      here = ap (reads mode line) (drop-cons text at 0 p ∙ ap (λ k. b ∷ drop k text) (sym (add-one at)))
+      standing : reads mode here (drop at text) ≡ reads mode here (b ∷ drop (at + 1) text)
+      standing = ap (reads mode here) (drop-cons text at 0 p ∙ ap (λ k. b ∷ drop k text) (sym (add-one at)))
 
-      pub stops : {r : Bool} → r ≡ isWrong (next mode b) → r ≡ true → Parsed text room (record { words = n; wrong = line }) room′
+      pub stops : {r : Bool} → r ≡ isWrong (next mode b) → r ≡ true → {from : ℕ} → from ≡ begins mode here → Parsed text room (record { words = n; line = here .line; column = from }) room′
       unfolding reads
-      stops e t =
-          let it : reads mode line (drop at text) ≡ record { words = []; wrong = line } = here ∙ rw (sym e ∙ t) in
+      stops e t {from} f =
+          let it : reads mode here (drop at text) ≡ record { words = []; line = here .line; column = begins mode here } = standing ∙ rw (sym e ∙ t) in
           record {
             count = let z = ap (λ r. min (length room) (n + length (r .words))) it in omega (arith, z, g .count, g .fits);
-            line = sym (ap (λ r. r .wrong) it) ∙ g .wrong;
+            line = sym (ap (λ r. r .line) it) ∙ g .line;
+            column = f ∙ sym (ap (λ r. r .column) it) ∙ g .column;
             words = sym (ap (λ r. sets room′ n (r .words)) it) ∙ g .words;
           }
 
-      pub goes-on : {r : Bool} → r ≡ isWrong (next mode b) → r ≡ false → {m l : ℕ} {room″ : List ℕ} → Put room′ n (ended mode b) m room″ → l ≡ breaks b → {then : Mode} → then ≡ next mode b → Going (at + 1) (line + l) m then room″
+      pub goes-on : {r : Bool} → r ≡ isWrong (next mode b) → r ≡ false → {from m : ℕ} {room″ : List ℕ} → from ≡ begins mode here → Put room′ n (ended mode b) m room″ → {there : Place} → there ≡ after here from b → {then : Mode} → then ≡ next mode b → Going (at + 1) m there then room″
       unfolding reads
-      goes-on {r} e t {m} {l} {room″} u h {then} i =
-          let rest = reads (next mode b) (line + breaks b) (drop (at + 1) text) in
-          let it : reads mode line (drop at text) ≡ behind (ended mode b) rest = here ∙ rw (sym e ∙ t) in
-          let same : reads then (line + l) (drop (at + 1) text) ≡ rest = ap₂ (λ k l. reads k (line + l) (drop (at + 1) text)) i h in
-          let few : l ≤ 1 = one-line l b h in
+      goes-on {r} e t {from} {m} {room″} f u {there} h {then} i =
+          let rest = reads (next mode b) (after here (begins mode here) b) (drop (at + 1) text) in
+          let it : reads mode here (drop at text) ≡ behind (ended mode b) rest = standing ∙ rw (sym e ∙ t) in
+          let same : reads then there (drop (at + 1) text) ≡ rest = ap₂ (λ k l. reads k l (drop (at + 1) text)) i (h ∙ ap (λ from. after here from b) f) in
+          let more = one-more here from b (at + 1) (g .lines) (g .columns) in
           record {
             inside = omega arith;
-            lines = omega (arith, g .lines, few);
+            lines = let z = ap (λ l. l .line) h in omega (arith, z, more .0);
+            columns = let z = ap (λ l. l .column) h in omega (arith, z, more .1);
             fits = omega (arith, u .place, g .fits, g .len);
             len = ap length (u .words) ∙ length-sets room′ n (ended mode b) ∙ g .len;
-            wrong = ap (λ r. r .wrong) same ∙ sym (ap (λ r. r .wrong) it) ∙ g .wrong;
+            line = ap (λ r. r .line) same ∙ sym (ap (λ r. r .line) it) ∙ g .line;
+            column = ap (λ r. r .column) same ∙ sym (ap (λ r. r .column) it) ∙ g .column;
             count =
                 ap (λ r. min (length room) (m + length (r .words))) same
                 ∙ counted room room′ room″ n m (ended mode b) (rest .words) (g .fits) (g .len) u
@@ -126,12 +133,13 @@ module _ (text room : List ℕ) where
           }
 
     -- past the last byte
-    pub ends : length text ≤ at → {m : ℕ} {room″ : List ℕ} → Put room′ n (ended mode 10) m room″ → Parsed text room (record { words = m; wrong = 0 }) room″
+    pub ends : length text ≤ at → {m : ℕ} {room″ : List ℕ} → Put room′ n (ended mode 10) m room″ → Parsed text room (record { words = m; line = 0; column = 0 }) room″
     unfolding reads
     ends p u =
-        let it : reads mode line (drop at text) ≡ record { words = ended mode 10; wrong = 0 } = ap (reads mode line) (drop-of-length-le text p) in
+        let it : reads mode here (drop at text) ≡ record { words = ended mode 10; line = 0; column = 0 } = ap (reads mode here) (drop-of-length-le text p) in
         record {
           count = u .place ∙ ap (λ k. min k (n + length (ended mode 10))) (g .len) ∙ sym (ap (λ r. min (length room) (n + length (r .words))) it) ∙ g .count;
-          line = sym (ap (λ r. r .wrong) it) ∙ g .wrong;
+          line = sym (ap (λ r. r .line) it) ∙ g .line;
+          column = sym (ap (λ r. r .column) it) ∙ g .column;
           words = u .words ∙ sym (ap (λ r. sets room′ n (r .words)) it) ∙ g .words;
         }

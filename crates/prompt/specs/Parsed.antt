@@ -14,5 +14,6 @@ pub record Put (room : List ℕ) (n : ℕ) (ws : List ℕ) (r : ℕ) (room′ : 
 
 pub record Parsed (text room : List ℕ) (r : Text) (room′ : List ℕ) : Type 0 where
   pub count : r .words ≡ min (length room) (length (readText text .words))
-  pub line : r .wrong ≡ readText text .wrong
+  pub line : r .line ≡ readText text .line
+  pub column : r .column ≡ readText text .column
   pub words : room′ ≡ sets room 0 (readText text .words)

@@ -5,6 +5,7 @@ use mathlib.Core.List.{List, [], _∷_, _++_}
 use lib.Dec.{leb, ltb, eqb}
 use Rattle.language.specs.Kinds.{pick}
 use Rattle.prompt.specs.declared.Mode.{Mode}
+use Rattle.prompt.specs.declared.Place.{Place}
 use Rattle.prompt.specs.declared.Mode.the-variants.{Between, Number, Remark, Wrong}
 
 -- ---- one byte
@@ -16,10 +17,6 @@ digit b = leb 48 b && leb b 57
 -- a space, a tab, the end of a line
 unfoldable pub gap : ℕ → Bool
 gap b = eqb b 32 || (eqb b 9 || (eqb b 13 || eqb b 10))
-
--- one line more
-unfoldable pub breaks : ℕ → ℕ
-breaks b = pick (eqb b 10) 1 0
 
 -- a number with one digit more: a word is under 65,536
 unfoldable pub longer : ℕ → ℕ → Mode
@@ -55,20 +52,34 @@ ended (Number v) b = pick (digit b) [] (v ∷ [])
 ended Remark b = []
 ended Wrong b = []
 
+-- ---- where it stands
+
+-- the column where the word begins that a byte here goes on with, or that it begins
+abbrev pub begins : Mode → Place → ℕ
+begins Between here = here .column
+begins (Number v) here = here .from
+begins Remark here = here .column
+begins Wrong here = here .column
+
+-- the place after this byte
+unfoldable pub after : Place → ℕ → ℕ → Place
+after here from b = pick (eqb b 10) (record { line = here .line + 1; column = 1; from = from }) (record { line = here .line; column = here .column + 1; from = from })
+
 -- ---- all of them
 
--- the words in order, and the line that holds something else, or 0
+-- the words in order; and the line and column where something begins that is no word, or 0 and 0
 pub record Reading : Type 0 where
   pub words : List ℕ
-  pub wrong : ℕ
+  pub line : ℕ
+  pub column : ℕ
 
 abbrev pub behind : List ℕ → Reading → Reading
-behind ws r = record { words = ws ++ r .words; wrong = r .wrong }
+behind ws r = record { words = ws ++ r .words; line = r .line; column = r .column }
 
--- from a byte of this line on; the end of the text ends its last word
-unfoldable pub reads : Mode → ℕ → List ℕ → Reading
-reads mode line [] = record { words = ended mode 10; wrong = 0 }
-reads mode line (b ∷ bs) = pick (isWrong (next mode b)) (record { words = []; wrong = line }) (behind (ended mode b) (reads (next mode b) (line + breaks b) bs))
+-- from a byte at this place on; the end of the text ends its last word
+unfoldable pub reads : Mode → Place → List ℕ → Reading
+reads mode here [] = record { words = ended mode 10; line = 0; column = 0 }
+reads mode here (b ∷ bs) = pick (isWrong (next mode b)) (record { words = []; line = here .line; column = begins mode here }) (behind (ended mode b) (reads (next mode b) (after here (begins mode here) b) bs))
 
 unfoldable pub readText : List ℕ → Reading
-readText text = reads Between 1 text
+readText text = reads Between (record { line = 1; column = 1; from = 1 }) text

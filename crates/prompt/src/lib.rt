@@ -1,9 +1,9 @@
 // Words in decimal, as a person writes them: blanks and line ends between them, and from # to the end of a line a remark.
-ghost use Prim.Native.Nat.{_≤_};
+ghost use Prim.Native.Nat.{_<_, _≤_};
 ghost use mathlib.Core.Path.{_≡_};
 ghost use mathlib.Core.List.{[], _∷_};
 ghost use lib.ListN.{length};
-ghost use Rattle.prompt.specs.Texts.{digit, gap, longer, afterWord, outside, inRemark, next, isWrong, breaks, ended};
+ghost use Rattle.prompt.specs.Texts.{digit, gap, longer, afterWord, outside, inRemark, next, isWrong, begins, after, ended};
 ghost use Rattle.prompt.specs.declared.Mode.the-variants.{Number};
 ghost use Rattle.prompt.specs.Parsed.{Put, Parsed};
 
@@ -15,10 +15,18 @@ enum Mode {
     Wrong,
 }
 
-// How many words were read; and the line, from 1, that has something else in it, or 0.
+// Where a byte stands, its line and column counted from 1; and the column where the last word began.
+struct Place {
+    line: usize,
+    column: usize,
+    from: usize,
+}
+
+// How many words were read; and the line and column, from 1, where something begins that is no word, or 0 and 0.
 pub struct Text {
     pub words: usize,
-    pub wrong: usize,
+    pub line: usize,
+    pub column: usize,
 }
 
 fn is_digit(b: u8) -> bool
@@ -118,14 +126,36 @@ fn is_wrong(mode: Mode) -> bool
     }
 }
 
-// 1 at the end of a line.
-fn line_ends(b: u8) -> usize
-    ensures { λ r. ⌜ r ≡ breaks b ⌝ }
+// The column where the word begins that a byte here goes on with, or that it begins.
+fn beginning(mode: Mode, here: Place) -> usize
+    ensures { λ r. ⌜ r ≡ begins mode here ⌝ }
+{
+    match mode {
+        Mode::Between => here.column,
+        Mode::Number(_) => here.from,
+        Mode::Remark => here.column,
+        Mode::Wrong => here.column,
+    }
+}
+
+// The place after this byte.
+fn past(here: Place, from: usize, b: u8) -> Place
+    requires { ⌜ here .line < 18446744073709551615 ⌝ }
+    requires { ⌜ here .column < 18446744073709551615 ⌝ }
+    ensures { λ r. ⌜ r ≡ after here from b ⌝ }
 {
     if b == b'\n' {
-        return 1;
+        return Place {
+            line: here.line + 1,
+            column: 1,
+            from: from,
+        };
     }
-    0
+    Place {
+        line: here.line,
+        column: here.column + 1,
+        from: from,
+    }
 }
 
 // A word put at `n`, where there is room: the place after it.
@@ -168,25 +198,32 @@ pub fn parse(text: &[u8], words: &mut [u16]) -> Text
     ensures { λ r. ⌜ Parsed (now (text .entry)) (now (words .entry)) r (now (words .exit)) ⌝ }
 {
     let mut n = 0;
-    let mut line = 1;
+    let mut here = Place {
+        line: 1,
+        column: 1,
+        from: 1,
+    };
     let mut mode = Mode::Between;
     let mut at = 0;
     while at < text.len() {
         let b = text[at];
         let then = go_on(mode, b);
+        let from = beginning(mode, here);
         if is_wrong(then) {
             return Text {
                 words: n,
-                wrong: line,
+                line: here.line,
+                column: from,
             };
         }
         n = keep(words, n, mode, b);
-        line += line_ends(b);
+        here = past(here, from, b);
         mode = then;
         at += 1;
     }
     Text {
         words: keep(words, n, mode, b'\n'),
-        wrong: 0,
+        line: 0,
+        column: 0,
     }
 }

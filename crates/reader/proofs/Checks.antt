@@ -3,7 +3,7 @@ use mathlib.Core.Path.{_≡_, refl, sym, ap, _∙_}
 use mathlib.Core.Bool.{Bool, true, false, _&&_}
 use mathlib.Core.List.{List, [], _∷_}
 use mathlib.Core.Option.{Option, none, some}
-use Prim.Native.Nat.{ℕ, _+_, _<_, _≤_}
+use Prim.Native.Nat.{ℕ, suc, _+_, _<_, _≤_}
 use native.Mathlib.Omega.{arith}
 use lib.ListN.{length, drop, getD, drop-of-length-le}
 use lib.Dec.{leb}
@@ -13,11 +13,10 @@ use Rattle.language.specs.Limits.{desk}
 use Rattle.language.specs.Kinds.{pick, kindOf}
 use Rattle.language.specs.Trees.{Conj, Counts}
 use Rattle.language.specs.Reading.{Got, got, stop, readConj}
-use Rattle.language.specs.Question.{rising, laidOut, partsFrom, parts, withConj, readAll, countsFit}
-use Rattle.language.specs.Between.{between}
+use Rattle.language.specs.Question.{withConj, readAll, countsFit}
 use Rattle.language.specs.Undeclared.{declaredKind, declaredWord, declaredWords}
 use Rattle.language.proofs.Arms.{Among, each-kind}
-use Rattle.language.proofs.Offsets.{rising-step, rising-le, laid-length, laid-rises, parts-start, parts-done, parts-cons}
+use Rattle.language.proofs.Walks.{passes}
 use Rattle.reader.specs.declared.Read.the-variants.{Next, Stop}
 use Rattle.reader.specs.declared.Scan.the-variants.{Declared, Undeclared}
 use Rattle.reader.specs.declared.Header.{Header}
@@ -27,55 +26,37 @@ use Rattle.reader.proofs.Placing.{here}
 
 -- ---- conjunctions
 
--- what is left to read, from the part that begins at `from`, with the offsets between `at` and `end`
-unfoldable pub left : List ℕ → ℕ → ℕ → ℕ → Bool
-left w at end from = readable (readAll desk (partsFrom from (between at end w) (drop from w)))
+-- whether a part is exactly literals
+abbrev isConj : Got Conj → Bool
+isConj (got k n) = true
+isConj (stop n) = false
 
-abbrev pub whole : List ℕ → ℕ → Bool
-whole w n = readable (readAll desk (parts 5 n w))
+abbrev pub literals : ℕ → List ℕ → Bool
+literals i ws = isConj (readConj desk ws)
 
--- the offsets between `at` and `end` never fall, from `from` on
-pub record Rises (w : List ℕ) (at end from : ℕ) : Type 0 where
-  pub never-falls : rising from (between at end w) (length w) ≡ true
+pub readable-passes : (i : ℕ) (ps : List (List ℕ)) → passes literals i ps ≡ readable (readAll desk ps)
+unfolding readable passes
+readable-passes i [] = refl
+readable-passes i (p ∷ ps) = ap (λ b. isConj (readConj desk p) && b) (readable-passes (suc i) ps) ∙ on (readConj desk p) (readAll desk ps)
+  where
+    on : (g : Got Conj) (ks : Option (List Conj)) → (isConj g && readable ks) ≡ readable (withConj g ks)
+    on (got k n) none = refl
+    on (got k n) (some ks) = refl
+    on (stop n) ks = refl
 
-pub next-offset : {w : List ℕ} {at end from o : ℕ} → Rises w at end from → o ≡ getD w at 0 → at < end → end ≤ length w → (from ≤ o) × (o ≤ length w) × Rises w (at + 1) end o
-next-offset {w} {at} {end} {from} {o} r e p q =
-    let s = rising-step at end from (length w) w p q o e (r .never-falls) in
-    (s .0, rising-le o (between (at + 1) end w) (length w) (s .1), record { never-falls = s .1 })
+pub reads-next : (ws : List ℕ) (r : ℕ) → placed 0 (readConj desk ws) ≡ Next r → isConj (readConj desk ws) ≡ true
+reads-next ws r i = on (readConj desk ws) i
+  where
+    on : (g : Got Conj) → placed 0 g ≡ Next r → isConj g ≡ true
+    on (got k n) i = refl
+    on (stop n) i = absurd (let z : _≡_ {A = ℕ} 0 1 = unfold placed in cc in omega arith)
 
-pub left-start : (w : List ℕ) (n m : ℕ) → m ≡ n → laidOut 5 n w ≡ true → (m + 6 ≤ length w) × Rises w 6 (m + 6) (m + 6) × (left w 6 (m + 6) (m + 6) ≡ whole w n)
-unfolding left
-left-start w n m e l =
-    let z : 5 + n + 1 ≡ m + 6 = omega arith in (
-      omega (arith, laid-length 5 n w l),
-      record { never-falls = ap (λ k. rising k (between 6 k w) (length w)) (sym z) ∙ laid-rises 5 n w l },
-      ap (λ k. readable (readAll desk (partsFrom k (between 6 k w) (drop k w)))) (sym z) ∙ ap (λ ps. readable (readAll desk ps)) (sym (parts-start 5 n w l)),
-    )
-
-pub left-done : (w : List ℕ) (at end from : ℕ) → end ≤ at → true ≡ left w at end from
-unfolding left readable
-left-done w at end from p = sym (ap (λ ps. readable (readAll desk ps)) (parts-done at end from w (drop from w) p))
-
-module _ (w : List ℕ) (at end from : ℕ) (p : at < end) (q : end ≤ length w) (o : ℕ) (e : o ≡ getD w at 0) (l : from ≤ o) where
-  one : left w at end from ≡ readable (withConj (readConj desk (between from o w)) (readAll desk (partsFrom o (between (at + 1) end w) (drop o w))))
-  unfolding left
-  one = ap (λ ps. readable (readAll desk ps)) (parts-cons at end from w p q o e l)
-
-  pub left-on : (r : ℕ) → placed 0 (readConj desk (between from o w)) ≡ Next r → left w (at + 1) end o ≡ left w at end from
-  unfolding left
-  left-on r i = sym (one ∙ on (readConj desk (between from o w)) (readAll desk (partsFrom o (between (at + 1) end w) (drop o w))) i)
-    where
-      on : (g : Got Conj) (ks : Option (List Conj)) → placed 0 g ≡ Next r → readable (withConj g ks) ≡ readable ks
-      on (got k n) none i = refl
-      on (got k n) (some ks) i = unfold readable in refl
-      on (stop n) ks i = absurd (let z : _≡_ {A = ℕ} 0 1 = unfold placed in cc in omega arith)
-
-  pub left-fails : (r : ℕ) → placed 0 (readConj desk (between from o w)) ≡ Stop r → false ≡ left w at end from
-  left-fails r i = sym (one ∙ on (readConj desk (between from o w)) (readAll desk (partsFrom o (between (at + 1) end w) (drop o w))) i)
-    where
-      on : (g : Got Conj) (ks : Option (List Conj)) → placed 0 g ≡ Stop r → readable (withConj g ks) ≡ false
-      on (got k n) ks i = absurd (let z : _≡_ {A = ℕ} 0 1 = unfold placed in cc in omega arith)
-      on (stop n) ks i = unfold readable in refl
+pub reads-stop : (ws : List ℕ) (r : ℕ) → placed 0 (readConj desk ws) ≡ Stop r → isConj (readConj desk ws) ≡ false
+reads-stop ws r i = on (readConj desk ws) i
+  where
+    on : (g : Got Conj) → placed 0 g ≡ Stop r → isConj g ≡ false
+    on (got k n) i = absurd (let z : _≡_ {A = ℕ} 0 1 = unfold placed in cc in omega arith)
+    on (stop n) i = refl
 
 -- ---- declared words
 
@@ -131,25 +112,25 @@ module _ (h : Header) where
   no-symbol p = rw (lt-leb 1 (h .symbols) p)
 
   module _ (a : 1 ≤ h .symbols) where
-    pub many-symbols : 32 < h .symbols → false ≡ countsFit desk (countsIn h) (h .alternatives)
+    pub many-symbols : desk .each < h .symbols → false ≡ countsFit desk (countsIn h) (h .alternatives)
     unfolding countsFit
-    many-symbols p = rw (le-leb 1 (h .symbols) a, lt-leb (h .symbols) 32 p)
+    many-symbols p = rw (le-leb 1 (h .symbols) a, lt-leb (h .symbols) (desk .each) p)
 
-    module _ (s : h .symbols ≤ 32) where
-      pub many-terms : 32 < h .terms → false ≡ countsFit desk (countsIn h) (h .alternatives)
+    module _ (s : h .symbols ≤ desk .each) where
+      pub many-terms : desk .each < h .terms → false ≡ countsFit desk (countsIn h) (h .alternatives)
       unfolding countsFit
-      many-terms p = rw (le-leb 1 (h .symbols) a, le-leb (h .symbols) 32 s, lt-leb (h .terms) 32 p)
+      many-terms p = rw (le-leb 1 (h .symbols) a, le-leb (h .symbols) (desk .each) s, lt-leb (h .terms) (desk .each) p)
 
-      module _ (t : h .terms ≤ 32) where
-        pub many-hedges : 32 < h .hedges → false ≡ countsFit desk (countsIn h) (h .alternatives)
+      module _ (t : h .terms ≤ desk .each) where
+        pub many-hedges : desk .each < h .hedges → false ≡ countsFit desk (countsIn h) (h .alternatives)
         unfolding countsFit
-        many-hedges p = rw (le-leb 1 (h .symbols) a, le-leb (h .symbols) 32 s, le-leb (h .terms) 32 t, lt-leb (h .hedges) 32 p)
+        many-hedges p = rw (le-leb 1 (h .symbols) a, le-leb (h .symbols) (desk .each) s, le-leb (h .terms) (desk .each) t, lt-leb (h .hedges) (desk .each) p)
 
-        module _ (u : h .hedges ≤ 32) where
-          pub many-functions : 32 < h .functions → false ≡ countsFit desk (countsIn h) (h .alternatives)
+        module _ (u : h .hedges ≤ desk .each) where
+          pub many-functions : desk .each < h .functions → false ≡ countsFit desk (countsIn h) (h .alternatives)
           unfolding countsFit
-          many-functions p = rw (le-leb 1 (h .symbols) a, le-leb (h .symbols) 32 s, le-leb (h .terms) 32 t, le-leb (h .hedges) 32 u, lt-leb (h .functions) 32 p)
+          many-functions p = rw (le-leb 1 (h .symbols) a, le-leb (h .symbols) (desk .each) s, le-leb (h .terms) (desk .each) t, le-leb (h .hedges) (desk .each) u, lt-leb (h .functions) (desk .each) p)
 
-          pub alternatives-left : h .functions ≤ 32 → leb (h .alternatives) 16 ≡ countsFit desk (countsIn h) (h .alternatives)
+          pub alternatives-left : h .functions ≤ desk .each → leb (h .alternatives) (desk .alternatives) ≡ countsFit desk (countsIn h) (h .alternatives)
           unfolding countsFit
-          alternatives-left f = rw (le-leb 1 (h .symbols) a, le-leb (h .symbols) 32 s, le-leb (h .terms) 32 t, le-leb (h .hedges) 32 u, le-leb (h .functions) 32 f)
+          alternatives-left f = rw (le-leb 1 (h .symbols) a, le-leb (h .symbols) (desk .each) s, le-leb (h .terms) (desk .each) t, le-leb (h .hedges) (desk .each) u, le-leb (h .functions) (desk .each) f)

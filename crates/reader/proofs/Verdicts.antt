@@ -31,14 +31,14 @@ module _ (ws : List ℕ) where
   too-short p = refused QuestionLength (bad-length desk ws (rw (lt-leb 6 (length ws) p)))
 
   module _ (l : 6 ≤ length ws) where
-    pub too-long : 1024 < length ws → Refused QuestionLength ≡ checked (readQuestion desk ws)
+    pub too-long : desk .question < length ws → Refused QuestionLength ≡ checked (readQuestion desk ws)
     unfolding lengthFits
-    too-long p = refused QuestionLength (bad-length desk ws (rw (le-leb 6 (length ws) l, lt-leb (length ws) 1024 p)))
+    too-long p = refused QuestionLength (bad-length desk ws (rw (le-leb 6 (length ws) l, lt-leb (length ws) (desk .question) p)))
 
-    module _ (s : length ws ≤ 1024) where
+    module _ (s : length ws ≤ desk .question) where
       fits : lengthFits desk ws ≡ true
       unfolding lengthFits
-      fits = rw (le-leb 6 (length ws) l, le-leb (length ws) 1024 s)
+      fits = rw (le-leb 6 (length ws) l, le-leb (length ws) (desk .question) s)
 
       -- the header as it was read
       module _ (h : Header) (e : h ≡ headerOf ws) where

@@ -5,6 +5,13 @@ use language::Kind;
 use language::Refusal;
 use language::Sym;
 use language::TermVar;
+use language::limits::ALTERNATIVES;
+use language::limits::EACH;
+use language::limits::LAST_FUNCTION;
+use language::limits::LAST_RUN;
+use language::limits::LAST_SYMBOL;
+use language::limits::LAST_TERM;
+use language::limits::QUESTION;
 use language::number;
 ghost use mathlib.Core.Path.{_≡_};
 ghost use mathlib.Core.Bool.{true};
@@ -31,10 +38,10 @@ pub fn classify(word: u16) -> Kind
 {
     match word {
         0 => Kind::End,
-        1000..=1031 => Kind::Term(TermVar(word - 1000)),
-        2000..=2031 => Kind::Run(HedgeVar(word - 2000)),
-        3000..=3031 => Kind::Symbol(Sym(word - 3000)),
-        4000..=4031 => Kind::Function(FunVar(word - 4000)),
+        1000..=LAST_TERM => Kind::Term(TermVar(word - 1000)),
+        2000..=LAST_RUN => Kind::Run(HedgeVar(word - 2000)),
+        3000..=LAST_SYMBOL => Kind::Symbol(Sym(word - 3000)),
+        4000..=LAST_FUNCTION => Kind::Function(FunVar(word - 4000)),
         5000 => Kind::Equation,
         6000 => Kind::Membership,
         7000 => Kind::Eps,
@@ -219,19 +226,19 @@ fn counts_fit(h: Header) -> bool
     if h.symbols < 1 {
         return false;
     }
-    if 32 < h.symbols {
+    if EACH < h.symbols {
         return false;
     }
-    if 32 < h.terms {
+    if EACH < h.terms {
         return false;
     }
-    if 32 < h.hedges {
+    if EACH < h.hedges {
         return false;
     }
-    if 32 < h.functions {
+    if EACH < h.functions {
         return false;
     }
-    h.alternatives <= 16
+    h.alternatives <= ALTERNATIVES
 }
 
 // Whether a word's number is below the count of its kind.
@@ -279,7 +286,7 @@ pub fn read_question(question: &[u16]) -> Checked
     if question.len() < 6 {
         return Checked::Refused(Refusal::QuestionLength);
     }
-    if 1024 < question.len() {
+    if QUESTION < question.len() {
         return Checked::Refused(Refusal::QuestionLength);
     }
     let h = read_header(question);

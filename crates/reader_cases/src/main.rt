@@ -1,8 +1,9 @@
 // Reads questions, a line of decimal words each, and writes the number that each is refused with, or 0.
 ghost use Rattle.cases.specs.Lines.{Parsed};
+use language::limits::QUESTION;
 
 fn one(line: &[u8]) {
-    let mut words = [0u16; 2048];
+    let mut words = [0u16; 2 * QUESTION];
     let n = cases::words_of(line, &mut words);
     let verdict = reader::read_question(&words[0..n]);
     io::print_decimal(1, reader::verdict_number(verdict) as u64);

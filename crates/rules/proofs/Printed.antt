@@ -2,15 +2,15 @@
 use Prim.Native.Nat.{ℕ}
 use mathlib.Core.Path.{_≡_, refl}
 use mathlib.Core.List.{List, [], _∷_, _++_}
+use lib.ListN.{replicate}
 use Rattle.language.specs.declared.Refusal.the-variants.{QuestionLength, NotLiterals, Undeclared}
 use Rattle.language.specs.Limits.{desk}
 use Rattle.language.specs.Kinds.{kindOf, within}
 use Rattle.language.specs.Trees.{Conj, Counts, Literal, eqn, mem}
 use Rattle.language.specs.Reading.{reading, readHedge, readExpr, readLiteral, readConj}
 use Rattle.language.specs.Question.{laidOut, parts, lengthFits, countsFit, Asked, asks, refuses, readQuestion}
-use Rattle.meaning.specs.Values.{times}
 use Rattle.rules.specs.Rules.{_>>=_, check}
-use Rattle.rules.specs.Step.{step}
+use Rattle.rules.specs.Step.{search, step}
 use Rattle.rules.specs.Solved.{solved}
 use Rattle.rules.specs.Run.{runFrom, run}
 use Rattle.rules.specs.Answer.{Solving, answered, unread, given-up, answerWords, solving}
@@ -29,11 +29,11 @@ inWords (given-up r) = nothing
 pub P4-whole :
     inWords (solving desk 8192 8192 (4 ∷ 0 ∷ 2 ∷ 0 ∷ 1 ∷ 7 ∷ 16 ∷ 5000 ∷ 2000 ∷ 2001 ∷ 0 ∷ 3000 ∷ 0 ∷ 3001 ∷ 0 ∷ 0 ∷ []))
     ≡ written 1
-    ((3 ∷ 0 ∷ 515 ∷ 528 ∷ 541 ∷ 554 ∷ times 509 0)
+    ((3 ∷ 0 ∷ 515 ∷ 528 ∷ 541 ∷ 554 ∷ replicate 509 0)
     ++ ((1 ∷ 5000 ∷ 2000 ∷ 0 ∷ 0 ∷ 5000 ∷ 2001 ∷ 0 ∷ 3000 ∷ 0 ∷ 3001 ∷ 0 ∷ 0 ∷ [])
     ++ ((1 ∷ 5000 ∷ 2000 ∷ 0 ∷ 3000 ∷ 0 ∷ 0 ∷ 5000 ∷ 2001 ∷ 0 ∷ 3001 ∷ 0 ∷ 0 ∷ [])
-    ++ ((1 ∷ 5000 ∷ 2000 ∷ 0 ∷ 3000 ∷ 0 ∷ 3001 ∷ 0 ∷ 0 ∷ 5000 ∷ 2001 ∷ 0 ∷ 0 ∷ []) ++ times 7638 0))))
-unfolding solving answerWords readQuestion lengthFits countsFit laidOut parts reading readHedge readExpr readLiteral readConj kindOf within _>>=_ check step solved runFrom run
+    ++ ((1 ∷ 5000 ∷ 2000 ∷ 0 ∷ 3000 ∷ 0 ∷ 3001 ∷ 0 ∷ 0 ∷ 5000 ∷ 2001 ∷ 0 ∷ 0 ∷ []) ++ replicate 7638 0))))
+unfolding solving answerWords readQuestion lengthFits countsFit laidOut parts reading readHedge readExpr readLiteral readConj kindOf within _>>=_ check search step solved runFrom run
 P4-whole = refl
 
 -- ---- the limits
@@ -44,7 +44,7 @@ Read r s = r ≡ s
 
 -- one equation, H = H for H that is n terms a()
 abbrev pub long : ℕ → List ℕ
-long n = 5000 ∷ (times n 2000 ++ (0 ∷ 0 ∷ []))
+long n = 5000 ∷ (replicate n 2000 ++ (0 ∷ 0 ∷ []))
 
 abbrev pub refusalOf : Asked → Asked
 refusalOf (asks q) = asks (record { counts = q .counts; alternatives = [] })

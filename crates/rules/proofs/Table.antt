@@ -1,12 +1,25 @@
--- The rules give what the table says, case by case, by computation.
+-- The rules give what the table says, case by case, by computation; and the search finds its steps where 01 says.
 use mathlib.Core.Path.{_≡_, refl}
-use mathlib.Core.List.{map}
+use mathlib.Core.Bool.{true, false}
+use mathlib.Core.List.{[], _∷_, map}
+use Rattle.language.specs.Trees.{eqn, mem}
+use Rattle.rules.specs.Reply.{results}
 use Rattle.rules.specs.Rules.{_>>=_, check}
-use Rattle.rules.specs.Step.{step}
+use Rattle.rules.specs.Places.{atF3, atD0, atE1}
+use Rattle.rules.specs.Step.{search, step}
 use Rattle.rules.specs.Solved.{solved}
 use Rattle.rules.specs.Run.{runFrom, run}
-use Rattle.rules.specs.Table.{Case, solve, table}
+use Rattle.rules.specs.Table.{Case, solve, table, a, b, f, x, aᴱ}
 
 pub table-holds : map (λ (c : Case). solve (c .question)) table ≡ map (λ (c : Case). c .answer) table
-unfolding _>>=_ check step solved runFrom run solve
+unfolding _>>=_ check search step solved runFrom run solve
 table-holds = refl
+
+-- "the first rule below that applies to any literal": D0 at the second, though E1 applies to the first; "the earliest literal"; "the written side
+-- first, then swapped": F3 applies to both, E1 to the other alone.
+pub places-found :
+    (search (eqn x a ∷ eqn (f x) (f b) ∷ []) ≡ results (record { rule = atD0; literal = 1; swapped = false }, (eqn x a ∷ eqn x b ∷ []) ∷ []))
+    × (search (eqn a b ∷ eqn b a ∷ []) ≡ results (record { rule = atF3; literal = 0; swapped = false }, []))
+    × (search (eqn a x ∷ mem x aᴱ ∷ []) ≡ results (record { rule = atE1; literal = 0; swapped = true }, (eqn x a ∷ mem a aᴱ ∷ []) ∷ []))
+unfolding _>>=_ check search
+places-found = (refl, refl, refl)

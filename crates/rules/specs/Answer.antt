@@ -3,7 +3,7 @@ use Prim.Native.Nat.{ℕ, zero, suc, _+_, _-_}
 use mathlib.Core.Bool.{Bool, true, false}
 use mathlib.Core.List.{List, [], _∷_, _++_, map}
 use lib.Dec.{ltb}
-use lib.ListN.{length}
+use lib.ListN.{length, drop, replicate}
 use Rattle.language.specs.declared.Refusal.{Refusal}
 use Rattle.language.specs.declared.Refusal.the-variants.{ShortSlice}
 use Rattle.language.specs.Limits.{Limits}
@@ -11,7 +11,7 @@ use Rattle.language.specs.Kinds.{pick}
 use Rattle.language.specs.Trees.{Conj, Question}
 use Rattle.language.specs.Writing.{conjWords}
 use Rattle.language.specs.Question.{Asked, asks, refuses, readQuestion}
-use Rattle.meaning.specs.Values.{times, offsetsOf, joined}
+use Rattle.meaning.specs.Values.{offsetsOf, joined}
 use Rattle.rules.specs.Solved.{solved}
 use Rattle.rules.specs.Run.{linesAt, Outcome, finished, refused, run}
 
@@ -28,7 +28,7 @@ countOpen (k ∷ ks) = pick (solved k) (countOpen ks) (suc (countOpen ks))
 
 -- zeros up to n words
 abbrev pub padded : ℕ → List ℕ → List ℕ
-padded n ws = ws ++ times (n - length ws) 0
+padded n ws = ws ++ replicate (n - length ws) 0
 
 -- "Word 0: lines; word 1: open lines; words 2..514: the offset of each line and the end of the last, then zeros; from 515 the lines ..; then zeros"
 unfoldable pub answerWords : Limits → List Conj → List ℕ
@@ -37,7 +37,11 @@ answerWords L ls =
     padded (L .room) (padded (linesAt L) (length ls ∷ countOpen ls ∷ offsetsOf (linesAt L) ws) ++ joined ws)
 
 unfoldable pub zeros : Limits → List ℕ
-zeros L = times (L .room) 0
+zeros L = replicate (L .room) 0
+
+-- "Zeros" covers the first words of a lent slice, as an answer does; "later words of a longer slice stay"
+abbrev pub overwritten : Limits → List ℕ → List ℕ → List ℕ
+overwritten L ws old = ws ++ drop (L .room) old
 
 -- ---- solving
 

@@ -1,4 +1,5 @@
--- The rules R1 to M11, each a definition of its own, and their order. A rule says, of one literal among others, what stands for it.
+-- The rules R1 to M11, each a definition of its own, and their order. A rule says, of one literal among others, what stands for it; or, of a
+-- literal and those behind it, what stands for all of these.
 use mathlib.Core.Bool.{Bool, true, false, not, _&&_}
 use mathlib.Core.List.{List, [], _∷_, _++_, map}
 use mathlib.Core.Option.{Option, none, some}
@@ -9,6 +10,7 @@ use Rattle.language.specs.Trees.{Functor, symbol, fvar, Hedge, ε, tvar, hvar, 
 use Rattle.rules.specs.Substitution.{Subst, setT, setH, setF, emptied}
 use Rattle.rules.specs.Looks.{empty, firstTerm, firstRun, loneTerm, loneT, loneH, loneNode, asSymbol, asBlank, hasTerm, allTerms, allRuns, under, inside, upTo, cuts, isEps, asCat, asAlt, asStar, asOver}
 use Rattle.rules.specs.Expressions.{nullable, Monomial, linear}
+use Rattle.rules.specs.Reply.{PairRule}
 
 -- ---- what a rule answers
 
@@ -309,6 +311,7 @@ M11 K h R = do
 pub data Rule : Type 0 where
   onEqn : EqRule → Rule
   onMem : InRule → Rule
+  onPair : PairRule → Rule
 
 abbrev pub rules : List Rule
 rules =

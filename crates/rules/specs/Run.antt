@@ -2,7 +2,6 @@
 use Prim.Native.Nat.{ℕ, zero, suc, _+_}
 use mathlib.Core.Bool.{Bool, true, false, _&&_, _||_}
 use mathlib.Core.List.{List, [], _∷_, _++_}
-use mathlib.Core.Option.{Option, none, some}
 use lib.Dec.{leb, ltb}
 use lib.ListN.{length}
 use Rattle.language.specs.declared.Refusal.{Refusal}
@@ -10,6 +9,7 @@ use Rattle.language.specs.declared.Refusal.the-variants.{LongResult, LongWaitin
 use Rattle.language.specs.Limits.{Limits}
 use Rattle.language.specs.Trees.{Conj}
 use Rattle.language.specs.Writing.{conjWords}
+use Rattle.rules.specs.Reply.{nothing, results, stops}
 use Rattle.rules.specs.Step.{step}
 
 -- ---- lengths in words
@@ -60,16 +60,22 @@ checked L ks w go =
 abbrev pub lined : Limits → List Conj → (List Conj → Outcome) → Outcome
 lined L ls go = elim (linesFit L ls) [ true ↦ go ls | false ↦ refused LineRoom ]
 
--- The first waiting conjunction, and what `go` makes of the lines and the waiting ones after a step. "If no rule applies, the conjunction
--- becomes the next line; that is no step." "Results stand in the place of the conjunction, in order."
+-- The first waiting conjunction, and what `go` makes of the lines, the results and what waits after a step. "If no rule applies, the conjunction
+-- becomes the next line; that is no step." "Results stand in the place of the conjunction, in order." A rule's own refusal comes before 10.
 abbrev pub turn : Limits → (List Conj → List Conj → List Conj → Outcome) → ℕ → List Conj → List Conj → Outcome
-turn L go n ls [] = finished ls n
-turn L go n ls (k ∷ w) = elim (step k) [ some ks ↦ go ls ks (ks ++ w) | none ↦ lined L (ls ++ (k ∷ [])) (λ ms. turn L go n ms w) ]
+turn L go made lines [] = finished lines made
+turn L go made lines (k ∷ waiting) =
+    elim (step k) [
+      | results ks ↦ go lines ks (ks ++ waiting)
+      | nothing ↦ lined L (lines ++ (k ∷ [])) (λ more. turn L go made more waiting)
+      | stops refusal ↦ refused refusal
+    ]
 
--- n steps are made and d may still be: "10,000 steps made and a rule still applies" is 10. In a step: 10, 7, 8.
+-- The steps that are left and those that are made: together they are the ceiling, for a run begins with none made and each step moves one over.
+-- So with none left "10,000 steps [are] made", and if "a rule still applies" it is 10. In a step: 10, 7, 8.
 unfoldable pub runFrom : Limits → ℕ → ℕ → List Conj → List Conj → Outcome
-runFrom L zero n ls w = turn L (λ _ _ _. refused StepLimit) n ls w
-runFrom L (suc d) n ls w = turn L (λ ms ks v. checked L ks v (runFrom L d (suc n) ms)) n ls w
+runFrom L zero made lines waiting = turn L (λ _ _ _. refused StepLimit) made lines waiting
+runFrom L (suc left) made lines waiting = turn L (λ more ks wait. checked L ks wait (runFrom L left (suc made) more)) made lines waiting
 
 unfoldable pub run : Limits → List Conj → Outcome
-run L w = runFrom L (L .steps) 0 [] w
+run L alternatives = runFrom L (L .steps) 0 [] alternatives

@@ -14,9 +14,9 @@ use Rattle.rules.specs.Substitution.{Subst, putF, put, putC, setT, setH, setF, 
 use Rattle.rules.specs.Looks.{cuts, isEps}
 use Rattle.rules.specs.Expressions.{nullable, Monomial, joined, _⊙_, linear}
 use Rattle.rules.specs.Rules.{vanish}
-use Rattle.exact.specs.Each.{Each}
-use Rattle.exact.proofs.Each.{each-++, each-map, each-imp}
-use Rattle.exact.proofs.Cuts.{CutOf, cuts-join}
+use Rattle.rules.specs.Each.{Each}
+use Rattle.rules.proofs.Each.{each-++, each-map, each-imp}
+use Rattle.rules.proofs.Looks.{CutOf, cuts-join}
 
 pub picked : {A : Type 0} (P : A → Type 0) (b : Bool) (x y : A) → P x → P y → P (pick b x y)
 picked P true x y p q = p

@@ -1,15 +1,17 @@
 -- Each rule's results are fine where the literal is.
 use mathlib.Core.Path.{_≡_, subst}
 use Rattle.language.specs.Limits.{Limits}
-use Rattle.language.specs.Trees.{Functor, symbol, Hedge, ε, hvar, Expr, Conj}
-use Rattle.language.specs.Fine.{fineFunctor, fineHedge, fineExpr, fineConj}
+use Rattle.language.specs.Trees.{Functor, symbol, Hedge, ε, hvar, Expr, Literal, Conj}
+use Rattle.language.specs.Fine.{fineFunctor, fineHedge, fineExpr, fineLiteral, fineConj}
 use Rattle.rules.specs.Looks.{firstTerm, firstRun, loneTerm, loneT, loneH, loneNode, asSymbol, asBlank, inside, upTo, cuts, asCat, asAlt, asStar, asOver}
 use Rattle.rules.specs.Expressions.{linear}
-use Rattle.rules.specs.Rules.{Branch, plain, elims, Answer, EqRule, InRule, Rule, onEqn, onMem, rules, R1, R2, F1, F2, F3, F4, F5, F6, F7, Del1, Del3, D2, D0, E1, E2, E3, E4, E5, E6, M1, M2, M3, M4, M5, M6, M7, M10, M11, cutResult, monomialResult}
-use Rattle.exact.specs.Each.{Each}
-use Rattle.exact.proofs.Each.{each-map}
-use Rattle.exact.proofs.Answers.{Answers, look, test, answers}
-use Rattle.exact.proofs.Looks.{loneT-is, loneH-is, loneNode-is, loneTerm-is, firstTerm-is, firstRun-is, asSymbol-is, asBlank-is, inside-is, upTo-is, asCat-is, asAlt-is, asStar-is, asOver-is}
+use Rattle.rules.specs.Reply.{PairRule}
+use Rattle.rules.specs.Rules.{Branch, plain, elims, Answer, EqRule, InRule, Rule, onEqn, onMem, onPair, rules, R1, R2, F1, F2, F3, F4, F5, F6, F7, Del1, Del3, D2, D0, E1, E2, E3, E4, E5, E6, M1, M2, M3, M4, M5, M6, M7, M10, M11, cutResult, monomialResult}
+use Rattle.rules.specs.Each.{Each}
+use Rattle.rules.proofs.Each.{each-map}
+use Rattle.rules.proofs.Answers.{Answers, look, test, answers}
+use Rattle.rules.proofs.Looks.{loneT-is, loneH-is, loneNode-is, loneTerm-is, firstTerm-is, firstRun-is, asSymbol-is, asBlank-is, inside-is, upTo-is, asCat-is, asAlt-is, asStar-is, asOver-is}
+use Rattle.rules.proofs.Steps.{Gives}
 use Rattle.search.proofs.FineParts.{FineSubst, fine-join, fine-both, FinePair, fine-cuts, fine-vanish, FineMonomial, fine-linear, fine-setT, fine-setH, fine-setF, fine-emptied}
 
 module _ (L : Limits) where
@@ -25,6 +27,9 @@ module _ (L : Limits) where
 
   abbrev FineMem : InRule → Type 0
   FineMem rule = (K : Conj) (h : Hedge) (R : Expr) → fineHedge L h → fineExpr L R → FineAnswer (rule K h R)
+
+  abbrev FineBehind : PairRule → Type 0
+  FineBehind rule = (l : Literal) (behind : Conj) → fineLiteral L l → fineConj L behind → Gives (Each (fineConj L)) (rule l behind)
 
   -- what a look finds is as fine as where it looks
   like : {h k : Hedge} → h ≡ k → fineHedge L h → fineHedge L k
@@ -184,6 +189,7 @@ module _ (L : Limits) where
   abbrev pub RuleFine : Rule → Type 0
   RuleFine (onEqn rule) = FineEqn rule
   RuleFine (onMem rule) = FineMem rule
+  RuleFine (onPair rule) = FineBehind rule
 
   pub each-rule-fine : Each RuleFine rules
   each-rule-fine = (

@@ -11,9 +11,9 @@ use borrow.Author.Tests.{eq-eqb, ne-eqb}
 use Rattle.language.specs.Limits.{desk}
 use Rattle.language.specs.Trees.{Hedge, Literal, eqn, mem, Conj, Var, tv, hv, fv, eqV, holds, inConj}
 use Rattle.language.specs.Writing.{literalWords, conjWords}
-use Rattle.rules.specs.Solved.{given, variable, alone, solves}
-use Rattle.rules.specs.Step.{orElse}
+use Rattle.rules.specs.Solved.{orElse, given, variable, alone, solves}
 use Rattle.rules.specs.Example.{binds, bound}
+use Rattle.rules.proofs.Answers.{Where}
 use Rattle.plans.specs.Views.{Sees}
 use Rattle.plans.specs.declared.View.{View}
 use Rattle.views.specs.Variables.{variableWord, fineVar}
@@ -28,7 +28,6 @@ use Rattle.showing.specs.declared.bindings.Place.the-variants.{At, Nowhe
 use Rattle.showing.specs.declared.bindings.Bound.{Bound}
 use Rattle.showing.specs.declared.bindings.Bound.the-variants.{To, Free}
 use Rattle.showing.proofs.Walks.{literal-here}
-use Rattle.exact.proofs.Answers.{Where}
 use Rattle.marks.proofs.Sides.{side-fine, word-some}
 
 -- different words are of different variables

@@ -14,11 +14,10 @@ use Rattle.meaning.specs.Values.{rootOf, childrenOf, variables, numbers, values
 use Rattle.rules.specs.Looks.{empty}
 use Rattle.rules.specs.Solved.{given, isTerm, isFunctor, variable, alone, solves}
 use Rattle.rules.specs.Example.{of, unsolved, binds, bound, followed, example}
-use Rattle.exact.proofs.Tests.{and-parts, picks}
-use Rattle.exact.proofs.Names.{eqV-is}
-use Rattle.exact.proofs.Answers.{Where}
-use Rattle.exact.proofs.Looks.{empty-is}
-use Rattle.exact.proofs.Steps.{orElse-is}
+use Rattle.rules.proofs.Tests.{and-parts, picks}
+use Rattle.rules.proofs.Names.{eqV-is}
+use Rattle.rules.proofs.Answers.{orElse-is, Where}
+use Rattle.rules.proofs.Looks.{empty-is}
 use Rattle.lines.proofs.Tests.{given-is}
 use Rattle.showing.specs.Values.{Settled, valueWords}
 use Rattle.showing.specs.Rows.{valuesBy}

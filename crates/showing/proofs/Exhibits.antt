@@ -80,7 +80,7 @@ module _ (question work answer : List ℕ) {s : Solved} {w a : List ℕ} (e : (s
       by : (v : Solving) → solving desk (length work) (length answer) question ≡ v → _≡_ {A = Left} (s, w, a) (leaves v work answer) → (ls : List Conj) × (n : ℕ) × (solving desk (length work) (length answer) question ≡ answered ls n) × Answer a ls
       by (answered ls n) d f =
           let g = lines-end (length work) (length answer) question ls n d in
-          (ls, n, d, record { few = g .few; size = g .size; rest = drop 8192 answer; words = ap (λ (x : Left). x .2) f; lines = g .lines })
+          (ls, n, d, record { few = g .few; size = g .size; rest = drop (desk .room) answer; words = ap (λ (x : Left). x .2) f; lines = g .lines })
       by (unread q) d f = absurd (not q (ap (λ (x : Left). x .0 .outcome) f))
       by (given-up q) d f = absurd (not q (ap (λ (x : Left). x .0 .outcome) f))
 

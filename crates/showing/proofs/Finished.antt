@@ -3,7 +3,6 @@ use Prim.Native.Nat.{ℕ, zero, suc, _+_, _≤_}
 use mathlib.Core.Path.{_≡_, refl, sym, ap}
 use mathlib.Core.Bool.{Bool, true, false, _&&_}
 use mathlib.Core.List.{List, [], _∷_, _++_}
-use mathlib.Core.Option.{Option, none, some}
 use native.Mathlib.Omega.{arith}
 use lib.Dec.{ltb, leb}
 use lib.ListN.{length}
@@ -16,18 +15,19 @@ use Rattle.language.specs.Fine.{fineFunctor, fineHedge, fineExpr, fineLiteral, 
 use Rattle.language.specs.Question.{countsOf, declaredS, declaredT, declaredH, declaredF, declared, declaredE, declaredL, declaredC}
 use Rattle.language.proofs.Bools.{both-true}
 use Rattle.language.proofs.Asking.{ranges}
+use Rattle.rules.specs.Reply.{Reply, nothing, results, stops}
 use Rattle.rules.specs.Step.{step}
-use Rattle.rules.specs.Run.{anyLong, waitingSize, linesSize, linesFit, Outcome, finished, refused, lined, turn, runFrom, run}
+use Rattle.rules.specs.Run.{anyLong, waitingSize, linesSize, linesFit, Outcome, finished, refused, lined, turn, runFrom, run, linesAt}
 use Rattle.rules.specs.Answer.{solving, answered}
-use Rattle.exact.specs.Each.{Each}
-use Rattle.exact.proofs.Run.{answered-run}
+use Rattle.rules.specs.Each.{Each}
+use Rattle.rules.proofs.Invariant.{answered-run}
 use Rattle.exact.proofs.Exact.{lines-settled, answer-declared}
 use Rattle.showing.specs.Answers.{Good, Ranged}
 use Rattle.showing.proofs.Settling.{settled-line}
 
 -- ---- what is declared has words
 
-module _ (n : Counts) (s : n .symbols ≤ 32) (t : n .terms ≤ 32) (h : n .hedges ≤ 32) (f : n .functions ≤ 32) where
+module _ (n : Counts) (s : n .symbols ≤ desk .each) (t : n .terms ≤ desk .each) (h : n .hedges ≤ desk .each) (f : n .functions ≤ desk .each) where
   functor-fine : (F : Functor) → declaredF n F ≡ true → fineFunctor desk F
   functor-fine (symbol g) e = let i = ltb-true (g .0) (n .symbols) e in omega arith
   functor-fine (fvar X) e = let i = ltb-true (X .0) (n .functions) e in omega arith
@@ -63,10 +63,10 @@ module _ (L : Limits) where
   Fits (finished ls n) = linesFit L ls ≡ true
   Fits (refused r) = Unit {0}
 
-  stops : (b : Bool) (r : Refusal) (o : Outcome) → Fits o → Fits (elim b [ true ↦ refused r | false ↦ o ])
+  halts : (b : Bool) (r : Refusal) (o : Outcome) → Fits o → Fits (elim b [ true ↦ refused r | false ↦ o ])
   unfolding Fits
-  stops true r o p = tt
-  stops false r o p = p
+  halts true r o p = tt
+  halts false r o p = p
 
   goes : (b : Bool) (r : Refusal) (o : Outcome) → (b ≡ true → Fits o) → Fits (elim b [ true ↦ o | false ↦ refused r ])
   unfolding Fits
@@ -78,14 +78,15 @@ module _ (L : Limits) where
   turn-fits go on n ls [] p = p
   turn-fits go on n ls (k ∷ w) p = taken (step k) (goes (linesFit L (ls ++ (k ∷ []))) LineRoom _ (λ q. turn-fits go on n (ls ++ (k ∷ [])) w q))
     where
-      taken : (m : Option (List Conj)) → Fits (lined L (ls ++ (k ∷ [])) (λ ms. turn L go n ms w)) → Fits (elim m [ some ks ↦ go ls ks (ks ++ w) | none ↦ lined L (ls ++ (k ∷ [])) (λ ms. turn L go n ms w) ])
-      taken none line = line
-      taken (some ks) line = on ls ks (ks ++ w) p
+      taken : (m : Reply (List Conj)) → Fits (lined L (ls ++ (k ∷ [])) (λ ms. turn L go n ms w)) → Fits (elim m [ results ks ↦ go ls ks (ks ++ w) | nothing ↦ lined L (ls ++ (k ∷ [])) (λ ms. turn L go n ms w) | stops r ↦ refused r ])
+      taken nothing line = line
+      taken (results ks) line = on ls ks (ks ++ w) p
+      taken (stops r) line = tt
 
   from-fits : (d n : ℕ) (ls w : List Conj) → linesFit L ls ≡ true → Fits (runFrom L d n ls w)
   unfolding runFrom Fits
   from-fits zero n ls w p = turn-fits (λ _ _ _. refused StepLimit) (λ _ _ _ _. tt) n ls w p
-  from-fits (suc d) n ls w p = turn-fits _ (λ ms ks v q. stops (anyLong L ks) LongResult _ (stops (ltb (L .room) (waitingSize v)) LongWaiting _ (from-fits d (suc n) ms v q))) n ls w p
+  from-fits (suc d) n ls w p = turn-fits _ (λ ms ks v q. halts (anyLong L ks) LongResult _ (halts (ltb (L .room) (waitingSize v)) LongWaiting _ (from-fits d (suc n) ms v q))) n ls w p
 
 lines-fit : (w ls : List Conj) (n : ℕ) → run desk w ≡ finished ls n → linesFit desk ls ≡ true
 unfolding run Fits
@@ -95,11 +96,11 @@ lines-fit w ls n e = rw e at (from-fits desk (desk .steps) 0 [] w refl)
 
 pub record Ends (question : List ℕ) (ls : List Conj) : Type 0 where
   pub ranged : Ranged question
-  pub few : length ls ≤ 512
-  pub size : 515 + linesSize ls ≤ 8192
+  pub few : length ls ≤ desk .lines
+  pub size : linesAt desk + linesSize ls ≤ desk .room
   pub lines : Each Good ls
 
-each-good : (n : Counts) → n .symbols ≤ 32 → n .terms ≤ 32 → n .hedges ≤ 32 → n .functions ≤ 32 → (ls : List Conj) → Each (λ k. declaredC n k ≡ true) ls → Each (λ k. step k ≡ none) ls → Each Good ls
+each-good : (n : Counts) → n .symbols ≤ desk .each → n .terms ≤ desk .each → n .hedges ≤ desk .each → n .functions ≤ desk .each → (ls : List Conj) → Each (λ k. declaredC n k ≡ true) ls → Each (λ k. step k ≡ nothing) ls → Each Good ls
 each-good n s t h f [] d q = tt
 each-good n s t h f (l ∷ ls) d q = (record { fine = conj-fine n s t h f l (d .0); settled = settled-line l (q .0) }, each-good n s t h f ls (d .1) (q .1))
 
@@ -107,7 +108,7 @@ pub lines-end : (work answer : ℕ) (question : List ℕ) (ls : List Conj) (n : 
 lines-end work answer question ls n e =
     let (q, asked, ran) = answered-run desk work answer question ls n e in
     let r = ranges desk question q asked in
-    let f = both-true (leb (length ls) 512) (leb (515 + linesSize ls) 8192) (lines-fit (q .alternatives) ls n ran) in
+    let f = both-true (leb (length ls) (desk .lines)) (leb (linesAt desk + linesSize ls) (desk .room)) (lines-fit (q .alternatives) ls n ran) in
     let l = r .long in
     record {
       ranged = record { header = omega arith; terms = r .terms; hedges = r .hedges; functions = r .functions };

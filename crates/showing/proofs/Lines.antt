@@ -4,17 +4,17 @@ use mathlib.Core.Path.{_≡_, refl, sym, ap, _∙_}
 use mathlib.Core.List.{List, [], _∷_, _++_, map, append-assoc, map-append}
 use mathlib.Core.Option.{none, some}
 use native.Mathlib.Omega.{arith}
-use lib.ListN.{length, getD, drop, length-append, List·getD-append}
+use lib.ListN.{length, getD, drop, length-append, List·getD-append, replicate, length-replicate}
 use lib.Seq.{drop-append-add, drop-append-seam}
 use Rattle.language.specs.Limits.{desk}
 use Rattle.language.specs.Trees.{Conj}
 use Rattle.language.specs.Writing.{conjWords}
-use Rattle.meaning.specs.Values.{times, offsetsOf, joined}
-use Rattle.rules.specs.Run.{linesSize}
+use Rattle.meaning.specs.Values.{offsetsOf, joined}
+use Rattle.rules.specs.Run.{linesSize, linesAt}
 use Rattle.rules.specs.Answer.{lineWords, answerWords}
 use Rattle.rules.specs.Calls.{lineAt}
-use Rattle.exact.specs.Each.{Each}
-use Rattle.answers.proofs.Rows.{header, in-a-row, length-header, length-lines, length-times, length-answer}
+use Rattle.rules.specs.Each.{Each}
+use Rattle.answers.proofs.Rows.{header, in-a-row, length-header, length-lines, length-answer}
 use Rattle.words.proofs.Parts.{drop-of, part-of, word-of}
 use Rattle.showing.specs.Answers.{Good, Answer}
 use Rattle.showing.proofs.Tables.{joined-row}
@@ -68,21 +68,21 @@ pub record Place (answer : List ℕ) (ls : List Conj) (i : ℕ) : Type 0 where
   pub from : ℕ
   pub offset : getD answer (i + 2) 0 ≡ from
   pub next : getD answer (i + 3) 0 ≡ from + suc (length (conjWords l))
-  pub within : from + suc (length (conjWords l)) ≤ 8192
-  pub few : i ≤ 512
+  pub within : from + suc (length (conjWords l)) ≤ desk .room
+  pub few : i ≤ desk .lines
   pub beyond : List ℕ
   pub here : drop from answer ≡ lineWords l ++ beyond
 
 module _ {answer : List ℕ} {ls : List Conj} (a : Answer answer ls) where
   -- the words behind the header
   tail : List ℕ
-  tail = times (512 - length ls) 0 ++ ((joined (map lineWords ls) ++ times (8192 - (515 + linesSize ls)) 0) ++ a .rest)
+  tail = replicate (desk .lines - length ls) 0 ++ ((joined (map lineWords ls) ++ replicate (desk .room - (linesAt desk + linesSize ls)) 0) ++ a .rest)
 
   row : answer ≡ header ls ++ tail
   unfolding tail
-  row = a .words ∙ ap (λ w. w ++ a .rest) (in-a-row ls (a .few)) ∙ append-assoc (header ls) _ (a .rest) ∙ ap (λ w. header ls ++ w) (append-assoc (times (512 - length ls) 0) _ (a .rest))
+  row = a .words ∙ ap (λ w. w ++ a .rest) (in-a-row ls (a .few)) ∙ append-assoc (header ls) _ (a .rest) ∙ ap (λ w. header ls ++ w) (append-assoc (replicate (desk .lines - length ls) 0) _ (a .rest))
 
-  pub whole : 8192 ≤ length answer
+  pub whole : desk .room ≤ length answer
   whole =
       let e = ap length (a .words) ∙ length-append (answerWords desk ls) (a .rest) in
       let n = length-answer ls (a .few) (a .size) in
@@ -91,21 +91,21 @@ module _ {answer : List ℕ} {ls : List Conj} (a : Answer answer ls) where
   pub count-is : getD answer 0 0 ≡ length ls
   count-is = ap (λ w. getD w 0 0) row
 
-  offsets-are : (j : ℕ) → j < length (offsetsOf 515 (map lineWords ls)) → getD answer (suc (suc j)) 0 ≡ getD (offsetsOf 515 (map lineWords ls)) j 0
-  offsets-are j p = ap (λ w. getD w (suc (suc j)) 0) row ∙ List·getD-append (offsetsOf 515 (map lineWords ls)) tail 0 j p
+  offsets-are : (j : ℕ) → j < length (offsetsOf (linesAt desk) (map lineWords ls)) → getD answer (suc (suc j)) 0 ≡ getD (offsetsOf (linesAt desk) (map lineWords ls)) j 0
+  offsets-are j p = ap (λ w. getD w (suc (suc j)) 0) row ∙ List·getD-append (offsetsOf (linesAt desk) (map lineWords ls)) tail 0 j p
 
-  lines-are : (n : ℕ) → drop (515 + n) answer ≡ drop n (joined (map lineWords ls) ++ (times (8192 - (515 + linesSize ls)) 0 ++ a .rest))
+  lines-are : (n : ℕ) → drop (linesAt desk + n) answer ≡ drop n (joined (map lineWords ls) ++ (replicate (desk .room - (linesAt desk + linesSize ls)) 0 ++ a .rest))
   unfolding tail
   lines-are n =
-      let A : List ℕ = header ls ++ times (512 - length ls) 0 in
+      let A : List ℕ = header ls ++ replicate (desk .lines - length ls) 0 in
       let h = length-header ls in
       let f = a .few in
-      let m = length-append (header ls) (times (512 - length ls) 0) in
-      let t = length-times (512 - length ls) in
-      let z : 515 + n ≡ length A + n = omega arith in
-      let Z : List ℕ = times (8192 - (515 + linesSize ls)) 0 in
+      let m = length-append (header ls) (replicate (desk .lines - length ls) 0) in
+      let t = length-replicate {A = ℕ} (desk .lines - length ls) 0 in
+      let z : linesAt desk + n ≡ length A + n = omega arith in
+      let Z : List ℕ = replicate (desk .room - (linesAt desk + linesSize ls)) 0 in
       let B : List ℕ = (joined (map lineWords ls) ++ Z) ++ a .rest in
-      ap (λ w. drop (515 + n) w) (row ∙ sym (append-assoc (header ls) (times (512 - length ls) 0) B))
+      ap (λ w. drop (linesAt desk + n) w) (row ∙ sym (append-assoc (header ls) (replicate (desk .lines - length ls) 0) B))
       ∙ ap (λ i. drop i (A ++ B)) z
       ∙ drop-append-add A B n
       ∙ ap (drop n) (append-assoc (joined (map lineWords ls)) Z (a .rest))
@@ -119,12 +119,12 @@ module _ {answer : List ℕ} {ls : List Conj} (a : Answer answer ls) where
         l = s .l;
         is = s .is;
         good = s .good;
-        from = 515 + linesSize (s .before);
+        from = linesAt desk + linesSize (s .before);
         offset = offset s;
         next = next s;
         within = within s;
         few = omega arith;
-        beyond = joined (map lineWords (s .behind)) ++ (times (8192 - (515 + linesSize ls)) 0 ++ a .rest);
+        beyond = joined (map lineWords (s .behind)) ++ (replicate (desk .room - (linesAt desk + linesSize ls)) 0 ++ a .rest);
         here = here s;
       }
     where
@@ -134,33 +134,33 @@ module _ {answer : List ℕ} {ls : List Conj} (a : Answer answer ls) where
       three : i + 3 ≡ suc (suc (suc i))
       three = omega arith
 
-      offset : (s : Split ls i) → getD answer (i + 2) 0 ≡ 515 + linesSize (s .before)
+      offset : (s : Split ls i) → getD answer (i + 2) 0 ≡ linesAt desk + linesSize (s .before)
       offset s =
           let sizes = length-header ls in
-          ap (λ j. getD answer j 0) two ∙ offsets-are i (omega arith) ∙ ap (λ j. getD (offsetsOf 515 (map lineWords ls)) j 0) (s .place)
-          ∙ ap (λ ks. getD (offsetsOf 515 (map lineWords ks)) (length (s .before)) 0) (s .split) ∙ offset-at 515 (s .before) (s .l) (s .behind)
+          ap (λ j. getD answer j 0) two ∙ offsets-are i (omega arith) ∙ ap (λ j. getD (offsetsOf (linesAt desk) (map lineWords ls)) j 0) (s .place)
+          ∙ ap (λ ks. getD (offsetsOf (linesAt desk) (map lineWords ks)) (length (s .before)) 0) (s .split) ∙ offset-at (linesAt desk) (s .before) (s .l) (s .behind)
 
-      next : (s : Split ls i) → getD answer (i + 3) 0 ≡ 515 + linesSize (s .before) + suc (length (conjWords (s .l)))
+      next : (s : Split ls i) → getD answer (i + 3) 0 ≡ linesAt desk + linesSize (s .before) + suc (length (conjWords (s .l)))
       next s =
           let sizes = length-header ls in
-          ap (λ j. getD answer j 0) three ∙ offsets-are (suc i) (omega arith) ∙ ap (λ j. getD (offsetsOf 515 (map lineWords ls)) (suc j) 0) (s .place)
-          ∙ ap (λ ks. getD (offsetsOf 515 (map lineWords ks)) (suc (length (s .before))) 0) (s .split) ∙ offset-next 515 (s .before) (s .l) (s .behind)
+          ap (λ j. getD answer j 0) three ∙ offsets-are (suc i) (omega arith) ∙ ap (λ j. getD (offsetsOf (linesAt desk) (map lineWords ls)) (suc j) 0) (s .place)
+          ∙ ap (λ ks. getD (offsetsOf (linesAt desk) (map lineWords ks)) (suc (length (s .before))) 0) (s .split) ∙ offset-next (linesAt desk) (s .before) (s .l) (s .behind)
 
       sizes-of : (before : List Conj) (l : Conj) (behind : List Conj) → linesSize before + suc (length (conjWords l)) ≤ linesSize (before ++ (l ∷ behind))
       sizes-of [] l behind = omega arith
       sizes-of (k ∷ before) l behind = let h = sizes-of before l behind in omega arith
 
-      within : (s : Split ls i) → 515 + linesSize (s .before) + suc (length (conjWords (s .l))) ≤ 8192
+      within : (s : Split ls i) → linesAt desk + linesSize (s .before) + suc (length (conjWords (s .l))) ≤ desk .room
       within s =
           let m = sizes-of (s .before) (s .l) (s .behind) in
           let e = ap linesSize (s .split) in
           let z = a .size in
           omega arith
 
-      here : (s : Split ls i) → drop (515 + linesSize (s .before)) answer ≡ lineWords (s .l) ++ (joined (map lineWords (s .behind)) ++ (times (8192 - (515 + linesSize ls)) 0 ++ a .rest))
+      here : (s : Split ls i) → drop (linesAt desk + linesSize (s .before)) answer ≡ lineWords (s .l) ++ (joined (map lineWords (s .behind)) ++ (replicate (desk .room - (linesAt desk + linesSize ls)) 0 ++ a .rest))
       here s =
           let B = joined (map lineWords (s .before)) in
-          let C = times (8192 - (515 + linesSize ls)) 0 ++ a .rest in
+          let C = replicate (desk .room - (linesAt desk + linesSize ls)) 0 ++ a .rest in
           lines-are (linesSize (s .before))
           ∙ ap (λ n. drop n (joined (map lineWords ls) ++ C)) (sym (length-lines (s .before)))
           ∙ ap (λ w. drop (length B) (w ++ C))

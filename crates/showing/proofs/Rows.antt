@@ -4,6 +4,7 @@ use mathlib.Core.Path.{_≡_, sym, ap, _∙_}
 use mathlib.Core.List.{List, [], _∷_, map}
 use native.Mathlib.Omega.{arith}
 use lib.ListN.{length, length-append}
+use Rattle.language.specs.Limits.{desk}
 use Rattle.language.specs.Trees.{Conj, Var}
 use Rattle.meaning.specs.Values.{joined, numbers}
 use Rattle.showing.specs.Laid.{Laid}
@@ -60,7 +61,7 @@ module _ {k : List ℕ} {base count j n : ℕ} (a : Summed k base count j n) whe
             omega arith;
       }
 
-  pub summed-done : count ≤ 32 → count ≤ j → KindLength k base count n
+  pub summed-done : count ≤ desk .each → count ≤ j → KindLength k base count n
   summed-done l i =
       let f = a .few in
       let w = a .within in
@@ -152,7 +153,7 @@ module _ {k : List ℕ} {base count : ℕ} {old : List ℕ} {at offset j : ℕ} 
           → o + n + length (joined (valuesBy c make (j + 1) (count - (j + 1)))) ≡ offset + length (joined (valuesBy c make 0 count))
       follows c make s t q = let e = size c make s t q in let z = joined-is c make s t q in let y = a .next c make s t q in omega arith
 
-  pub started-done : count ≤ 32 → count ≤ j → KindStarts k base count old at offset new (record { to = e; next = o })
+  pub started-done : count ≤ desk .each → count ≤ j → KindStarts k base count old at offset new (record { to = e; next = o })
   started-done l i =
       let f = a .few in
       let w = a .within in

@@ -11,6 +11,7 @@ use Rattle.language.specs.declared.Sym.{Sym}
 use Rattle.language.specs.Kinds.{pick}
 use Rattle.language.specs.Trees.{Hedge, ε, tvar, hvar, node, Expr, over, Literal, eqn, mem, Conj, Var, tv, hv, fv, holds}
 use Rattle.language.proofs.Bools.{both-true}
+use Rattle.rules.specs.Reply.{nothing}
 use Rattle.rules.specs.Step.{step}
 use Rattle.rules.specs.Looks.{empty}
 use Rattle.rules.specs.Solved.{given, loneVar, onlyMember, solvedLiteral, solvedFrom, solved}
@@ -51,7 +52,7 @@ by-held false R S m P e f g = g e
 abbrev Over : Expr → Type 0
 Over R = (f : Sym) × (S : Expr) × (R ≡ over f S)
 
-terms-from : (x : TermVar) (before behind : Conj) → solvedFrom before behind ≡ true → step (before ++ behind) ≡ none → (R : Expr) → expressionOf (tv x) behind ≡ some R → Over R
+terms-from : (x : TermVar) (before behind : Conj) → solvedFrom before behind ≡ true → step (before ++ behind) ≡ nothing → (R : Expr) → expressionOf (tv x) behind ≡ some R → Over R
 terms-from x before [] t q R e = absurd (let z : _≡_ {A = ℕ} 0 1 = cc in omega arith)
 terms-from x before (eqn l r ∷ behind) t q R e =
     let s = both-true (solvedLiteral (before ++ behind) (eqn l r)) (solvedFrom (before ++ (eqn l r ∷ [])) behind) t in
@@ -74,6 +75,6 @@ names-from X before (mem h S ∷ behind) t =
     let s = both-true (solvedLiteral (before ++ behind) (mem h S)) (solvedFrom (before ++ (mem h S ∷ [])) behind) t in
     ap (λ b. pick b (some S) (expressionOf (fv X) behind)) (holds-name (before ++ behind) h X (s .0)) ∙ names-from X (before ++ (mem h S ∷ [])) behind (s .1)
 
-pub settled-line : (c : Conj) → step c ≡ none → solved c ≡ true → Settled c
+pub settled-line : (c : Conj) → step c ≡ nothing → solved c ≡ true → Settled c
 unfolding solved
 settled-line c q t = record { terms = λ x R e. terms-from x [] c t q R e; names = λ X. names-from X [] c t }

@@ -38,13 +38,13 @@ aHedge p = hv (record { 0 = p })
 abbrev aName : ℕ → Var
 aName X = fv (record { 0 = X })
 
-make-terms : (count : ℕ) → count ≤ 32 → Makes aTerm 1000 count
+make-terms : (count : ℕ) → count ≤ desk .each → Makes aTerm 1000 count
 make-terms count l j i = record { fine = omega arith; is = refl }
 
-make-hedges : (count : ℕ) → count ≤ 32 → Makes aHedge 2000 count
+make-hedges : (count : ℕ) → count ≤ desk .each → Makes aHedge 2000 count
 make-hedges count l j i = record { fine = omega arith; is = refl }
 
-make-names : (count : ℕ) → count ≤ 32 → Makes aName 4000 count
+make-names : (count : ℕ) → count ≤ desk .each → Makes aName 4000 count
 make-names count l j i = record { fine = omega arith; is = refl }
 
 -- ---- by the numbers that the code has
@@ -100,7 +100,7 @@ module _ {terms hedges functions : ℕ} (c : Conj) (n : Counts) (q : Counted n t
 
 -- ---- measured
 
-module _ {k : List ℕ} {terms hedges functions : ℕ} (ts : terms ≤ 32) (hs : hedges ≤ 32) (fs : functions ≤ 32) where
+module _ {k : List ℕ} {terms hedges functions : ℕ} (ts : terms ≤ desk .each) (hs : hedges ≤ desk .each) (fs : functions ≤ desk .each) where
   pub filling-length : {a b d : ℕ} → KindLength k 1000 terms a → KindLength k 2000 hedges b → KindLength k 4000 functions d
       → FillingLength k terms hedges functions (terms + hedges + functions + 2 + a + b + d)
   filling-length {a} {b} {d} A B D = record {
@@ -154,19 +154,19 @@ module _ {k : List ℕ} {terms hedges functions : ℕ} (ts : terms ≤ 32) (hs :
 abbrev by : List ℕ → Bool → Showing
 by ws b = elim b [ true ↦ denied LongExample | false ↦ shows ws ]
 
-too-long : (room : ℕ) (ws : List ℕ) → 4096 < length ws → fitted desk room ws ≡ denied LongExample
-too-long room ws i = ap (λ b. by ws (b || ltb room (length ws))) (lt-ltb 4096 (length ws) i)
+too-long : (room : ℕ) (ws : List ℕ) → desk .filling < length ws → fitted desk room ws ≡ denied LongExample
+too-long room ws i = ap (λ b. by ws (b || ltb room (length ws))) (lt-ltb (desk .filling) (length ws) i)
 
 no-room : (room : ℕ) (ws : List ℕ) → room < length ws → fitted desk room ws ≡ denied LongExample
-no-room room ws i = ap (λ b. by ws (ltb 4096 (length ws) || b)) (lt-ltb room (length ws) i) ∙ either (ltb 4096 (length ws))
+no-room room ws i = ap (λ b. by ws (ltb (desk .filling) (length ws) || b)) (lt-ltb room (length ws) i) ∙ either (ltb (desk .filling) (length ws))
   where
     either : (b : Bool) → by ws (b || true) ≡ denied LongExample
     either true = refl
     either false = refl
 
-has-room : (room : ℕ) (ws : List ℕ) → length ws ≤ 4096 → length ws ≤ room → fitted desk room ws ≡ shows ws
+has-room : (room : ℕ) (ws : List ℕ) → length ws ≤ desk .filling → length ws ≤ room → fitted desk room ws ≡ shows ws
 has-room room ws i j =
-    ap (λ b. by ws (b || ltb room (length ws))) (le-ltb 4096 (length ws) i)
+    ap (λ b. by ws (b || ltb room (length ws))) (le-ltb (desk .filling) (length ws) i)
     ∙ ap (by ws) (le-ltb room (length ws) j)
 
 module _ {k : List ℕ} {terms hedges functions r : ℕ} (m : FillingLength k terms hedges functions r) where
@@ -179,13 +179,13 @@ module _ {k : List ℕ} {terms hedges functions r : ℕ} (m : FillingLength k te
     room = λ c n s t q. ap (λ z. roomOf z old) (sym (f (fillingWords n (example c)) (length-is c n s t q)));
   }
 
-  pub shown-long : {old : List ℕ} → 4096 < r → LineShown k terms hedges functions old old (Denied LongExample)
+  pub shown-long : {old : List ℕ} → desk .filling < r → LineShown k terms hedges functions old old (Denied LongExample)
   shown-long {old} i = refused (λ ws e. too-long (length old) ws (omega arith))
 
   pub shown-full : {old : List ℕ} → length old < r → LineShown k terms hedges functions old old (Denied LongExample)
   shown-full {old} i = refused (λ ws e. no-room (length old) ws (omega arith))
 
-  pub shown-all : {old mid new : List ℕ} {e d : ℕ} → r ≤ 4096 → r ≤ length old → TableWritten k terms hedges functions old 0 mid e → ValuesWritten k terms hedges functions mid e new d
+  pub shown-all : {old mid new : List ℕ} {e d : ℕ} → r ≤ desk .filling → r ≤ length old → TableWritten k terms hedges functions old 0 mid e → ValuesWritten k terms hedges functions mid e new d
       → LineShown k terms hedges functions old new (Shows r)
   shown-all {old} {mid} {new} i j a b = record {
     result = λ c n s t q.

@@ -13,11 +13,11 @@ use Rattle.meaning.specs.Values.{fillingWords}
 use Rattle.showing.specs.Lines.{Line}
 use Rattle.language.specs.Question.{countsOf}
 use Rattle.rules.specs.Solved.{solved}
-use Rattle.rules.specs.Run.{linesSize}
+use Rattle.rules.specs.Run.{linesSize, linesAt}
 use Rattle.rules.specs.Answer.{lineWords, answerWords}
 use Rattle.rules.specs.Example.{example}
 use Rattle.rules.specs.Calls.{fitted, shown, lineAt}
-use Rattle.exact.specs.Each.{Each}
+use Rattle.rules.specs.Each.{Each}
 use Rattle.showing.specs.Values.{Settled}
 use Rattle.showing.specs.declared.Shown.{Shown}
 use Rattle.showing.specs.Shown.{resultOf, roomOf}
@@ -28,8 +28,8 @@ pub record Good (l : Conj) : Type 0 where
 
 -- the answer that has the lines ls stands at the front
 pub record Answer (answer : List ℕ) (ls : List Conj) : Type 0 where
-  pub few : length ls ≤ 512
-  pub size : 515 + linesSize ls ≤ 8192
+  pub few : length ls ≤ desk .lines
+  pub size : linesAt desk + linesSize ls ≤ desk .room
   pub rest : List ℕ
   pub words : answer ≡ answerWords desk ls ++ rest
   pub lines : Each Good ls
@@ -42,9 +42,9 @@ pub record Answered (answer : List ℕ) : Type 0 where
 -- no more variables of a kind than there may be
 pub record Ranged (question : List ℕ) : Type 0 where
   pub header : 4 ≤ length question
-  pub terms : getD question 1 0 ≤ 32
-  pub hedges : getD question 2 0 ≤ 32
-  pub functions : getD question 3 0 ≤ 32
+  pub terms : getD question 1 0 ≤ desk .each
+  pub hedges : getD question 2 0 ≤ desk .each
+  pub functions : getD question 3 0 ≤ desk .each
 
 -- the example of the line that these words are
 pub record WordsShown (question k old new : List ℕ) (r : Shown) : Type 0 where

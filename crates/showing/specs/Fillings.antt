@@ -1,5 +1,5 @@
 -- The words of a line's example: a table of offsets, and the values.
-use Prim.Native.Nat.{ℕ, _+_, _<_, _≤_}
+use Prim.Native.Nat.{ℕ, _+_, _*_, _<_, _≤_}
 use mathlib.Core.Path.{_≡_}
 use mathlib.Core.List.{List, _∷_, _++_}
 use lib.ListN.{length}
@@ -30,7 +30,7 @@ pub record Counted (n : Counts) (t h f : ℕ) : Type 0 where
   pub functions : n .functions ≡ f
 
 pub record FillingLength (k : List ℕ) (terms hedges functions r : ℕ) : Type 0 where
-  pub few : r ≤ 1000000000000
+  pub few : r ≤ 4 * (10000000000 * desk .each)
   pub each : (c : Conj) (n : Counts) → Line k c → Settled c → Counted n terms hedges functions → r ≡ length (tableOf c n) + length (joined (valuesOf c n))
 
 pub record TableWritten (k : List ℕ) (terms hedges functions : ℕ) (old : List ℕ) (at : ℕ) (new : List ℕ) (e : ℕ) : Type 0 where

@@ -1,8 +1,9 @@
 -- The values of the variables of one kind, in order.
-use Prim.Native.Nat.{ℕ, _+_, _<_, _≤_}
+use Prim.Native.Nat.{ℕ, _+_, _*_, _<_, _≤_}
 use mathlib.Core.Path.{_≡_}
 use mathlib.Core.List.{List, [], _∷_, map}
 use lib.ListN.{length}
+use Rattle.language.specs.Limits.{desk}
 use Rattle.language.specs.Trees.{Conj, Var}
 use Rattle.meaning.specs.Values.{joined, numbers}
 use Rattle.showing.specs.Laid.{Laid}
@@ -24,11 +25,11 @@ starts at [] = []
 starts at (ws ∷ wss) = at ∷ starts (at + length ws) wss
 
 pub record KindLength (k : List ℕ) (base count n : ℕ) : Type 0 where
-  pub few : n ≤ 320000000000
+  pub few : n ≤ 10000000000 * desk .each
   pub each : (c : Conj) (make : ℕ → Var) → Line k c → Settled c → Makes make base count → n ≡ length (joined (valuesBy c make 0 count))
 
 pub record KindStarts (k : List ℕ) (base count : ℕ) (old : List ℕ) (at offset : ℕ) (new : List ℕ) (r : Row) : Type 0 where
-  pub few : r .next ≤ offset + 320000000000
+  pub few : r .next ≤ offset + 10000000000 * desk .each
   pub next : (c : Conj) (make : ℕ → Var) → Line k c → Settled c → Makes make base count → r .next ≡ offset + length (joined (valuesBy c make 0 count))
   pub each : (c : Conj) (make : ℕ → Var) → Line k c → Settled c → Makes make base count → offset + length (joined (valuesBy c make 0 count)) < 65536
       → Laid old at (starts offset (valuesBy c make 0 count)) new (r .to)

@@ -7,11 +7,13 @@ mod values;
 ghost use Prim.Native.Nat.{_<_, _≤_};
 ghost use lib.ListN.{length};
 ghost use mathlib.Core.Path.{_≡_};
+ghost use Rattle.language.specs.Limits.{desk};
 ghost use Rattle.showing.specs.Exhibits.{exhibits};
 ghost use Rattle.showing.specs.Answers.{Ranged, Answered, WordsShown, PartShown, AnswerShown};
 ghost use Rattle.showing.specs.Shown.{shownNumber, shownLength};
 ghost use Rattle.showing.specs.Fillings.{FillingLength, TableWritten, ValuesWritten, LineShown};
 use language::Refusal;
+use language::limits::FILLING;
 use language::number;
 use samples::put;
 use solver::Outcome;
@@ -31,7 +33,7 @@ pub enum Shown {
 
 // How many words the filling has.
 fn filling_len(k: &[u16], terms: usize, hedges: usize, functions: usize) -> usize
-    requires { ⌜ (length (now k) ≤ 65536) × (terms ≤ 32) × (hedges ≤ 32) × (functions ≤ 32) ⌝ }
+    requires { ⌜ (length (now k) ≤ 65536) × (terms ≤ desk .each) × (hedges ≤ desk .each) × (functions ≤ desk .each) ⌝ }
     ensures { λ r. ⌜ FillingLength (now (k .entry)) terms hedges functions r ⌝ }
 {
     let a = values_len(k, 1000, terms);
@@ -42,7 +44,7 @@ fn filling_len(k: &[u16], terms: usize, hedges: usize, functions: usize) -> usiz
 
 // Writes the number of variables and the offsets of their values.
 fn write_table(k: &[u16], terms: usize, hedges: usize, functions: usize, room: &mut [u16]) -> usize
-    requires { ⌜ (length (now k) ≤ 65536) × (terms ≤ 32) × (hedges ≤ 32) × (functions ≤ 32) ⌝ }
+    requires { ⌜ (length (now k) ≤ 65536) × (terms ≤ desk .each) × (hedges ≤ desk .each) × (functions ≤ desk .each) ⌝ }
     ensures { λ e. ⌜ TableWritten (now (k .entry)) terms hedges functions (now (room .entry)) 0 (now (room .exit)) e ⌝ }
 {
     let n = terms + hedges + functions;
@@ -62,7 +64,7 @@ fn write_all(
     room: &mut [u16],
     at: usize,
 ) -> usize
-    requires { ⌜ (terms ≤ 32) × (hedges ≤ 32) × (functions ≤ 32) ⌝ }
+    requires { ⌜ (terms ≤ desk .each) × (hedges ≤ desk .each) × (functions ≤ desk .each) ⌝ }
     ensures { λ e. ⌜ ValuesWritten (now (k .entry)) terms hedges functions (now (room .entry)) at (now (room .exit)) e ⌝ }
 {
     let s = write_values(k, 1000, terms, room, at);
@@ -72,11 +74,11 @@ fn write_all(
 
 // The example of a line, where it has room.
 fn fill_line(k: &[u16], terms: usize, hedges: usize, functions: usize, room: &mut [u16]) -> Shown
-    requires { ⌜ (length (now k) ≤ 65536) × (terms ≤ 32) × (hedges ≤ 32) × (functions ≤ 32) ⌝ }
+    requires { ⌜ (length (now k) ≤ 65536) × (terms ≤ desk .each) × (hedges ≤ desk .each) × (functions ≤ desk .each) ⌝ }
     ensures { λ r. ⌜ LineShown (now (k .entry)) terms hedges functions (now (room .entry)) (now (room .exit)) r ⌝ }
 {
     let n = filling_len(k, terms, hedges, functions);
-    if 4096 < n {
+    if FILLING < n {
         return Shown::Denied(Refusal::LongExample);
     }
     if room.len() < n {

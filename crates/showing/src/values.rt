@@ -1,8 +1,9 @@
 // The values of a line's variables, as words: measured first, then written straight to their place.
-ghost use Prim.Native.Nat.{_+_, _≤_, _<_};
+ghost use Prim.Native.Nat.{_+_, _*_, _≤_, _<_};
 ghost use mathlib.Core.Path.{_≡_};
 ghost use lib.ListN.{length};
 ghost use lib.Seq.{slice};
+ghost use Rattle.language.specs.Limits.{desk};
 ghost use Rattle.language.specs.Trees.{Conj, Var};
 ghost use Rattle.rules.specs.Example.{defaultSymbol, default, unsolved};
 ghost use Rattle.showing.specs.Bodies.{body};
@@ -190,7 +191,7 @@ fn write_value(k: &[u16], x: u16, out: &mut [u16], at: usize) -> usize
 
 // How many words they have together.
 pub fn values_len(k: &[u16], base: u16, count: usize) -> usize
-    requires { ⌜ (length (now k) ≤ 65536) × (base ≤ 4000) × (count ≤ 32) ⌝ }
+    requires { ⌜ (length (now k) ≤ 65536) × (base ≤ 4000) × (count ≤ desk .each) ⌝ }
     ensures { λ r. ⌜ KindLength (now (k .entry)) base count r ⌝ }
 {
     let mut x = base;
@@ -213,7 +214,7 @@ pub fn write_starts(
     at: usize,
     offset: usize,
 ) -> Row
-    requires { ⌜ (length (now k) ≤ 65536) × (base ≤ 4000) × (count ≤ 32) × (offset ≤ 1000000000000) ⌝ }
+    requires { ⌜ (length (now k) ≤ 65536) × (base ≤ 4000) × (count ≤ desk .each) × (offset ≤ 4 * (10000000000 * desk .each)) ⌝ }
     ensures { λ r. ⌜ KindStarts (now (k .entry)) base count (now (out .entry)) at offset (now (out .exit)) r ⌝ }
 {
     let mut x = base;
@@ -231,7 +232,7 @@ pub fn write_starts(
 
 // Writes them in a row.
 pub fn write_values(k: &[u16], base: u16, count: usize, out: &mut [u16], at: usize) -> usize
-    requires { ⌜ (base ≤ 4000) × (count ≤ 32) ⌝ }
+    requires { ⌜ (base ≤ 4000) × (count ≤ desk .each) ⌝ }
     ensures { λ e. ⌜ KindWritten (now (k .entry)) base count (now (out .entry)) at (now (out .exit)) e ⌝ }
 {
     let mut x = base;

@@ -3,6 +3,11 @@
 // words then stand as they were lent.
 ghost use Prim.Native.Nat.{_≤_, _<_};
 ghost use lib.ListN.{length};
+use language::limits::QUESTION;
+use language::limits::ROOM;
+
+// A slice that is lent may be longer than it has to be.
+const MOST: usize = ROOM + 808;
 
 fn number(n: u64) {
     io::print_decimal(1, n);
@@ -116,17 +121,17 @@ fn at_most(n: usize, most: usize) -> usize
 }
 
 fn one(line: &[u8]) {
-    let mut words = [0u16; 2048];
-    let mut work = [0u16; 9000];
-    let mut answer = [0u16; 9000];
+    let mut words = [0u16; 2 * QUESTION];
+    let mut work = [0u16; MOST];
+    let mut answer = [0u16; MOST];
     lend(&mut work);
     lend(&mut answer);
     let n = cases::words_of(line, &mut words);
     if n < 2 {
         return;
     }
-    let w = at_most(place(words[0]), 9000);
-    let a = at_most(place(words[1]), 9000);
+    let w = at_most(place(words[0]), MOST);
+    let a = at_most(place(words[1]), MOST);
     solved(&words[2..n], &mut work[0..w], &mut answer[0..a]);
 }
 

@@ -4,17 +4,21 @@ use native.Mathlib.Omega.{arith}
 use mathlib.Core.Path.{_≡_, sym, ap, _∙_, subst}
 use mathlib.Core.Bool.{Bool}
 use mathlib.Core.List.{List, _∷_, _++_, map}
-use mathlib.Core.Option.{none, some}
+use mathlib.Core.Option.{some}
 use lib.ListN.{length, take, drop}
 use lib.Seq.{sets, slice, sets-eq, take-at}
+use Rattle.language.specs.Limits.{desk}
 use Rattle.language.specs.declared.Refusal.the-variants.{LongResult, LongWaiting, StepLimit}
 use Rattle.language.specs.Trees.{Literal, Conj}
 use Rattle.language.specs.Writing.{conjWords}
+use Rattle.rules.specs.Reply.{nothing, results}
 use Rattle.rules.specs.Step.{place, step}
 use Rattle.rules.specs.Rules.{Branch}
+use Rattle.rules.specs.Places.{noRule}
 use Rattle.plans.specs.Sizes.{placedWords}
 use Rattle.search.specs.Ranking.{Found, nowhere, somewhere, sideAnswer}
 use Rattle.search.proofs.Walks.{stands-here}
+use Rattle.search.proofs.Pass.{searched}
 use Rattle.views.specs.Standing.{LiteralAt}
 use Rattle.solver.specs.declared.State.{State}
 use Rattle.solver.specs.declared.Turned.the-variants.{On, Stop}
@@ -26,25 +30,25 @@ use Rattle.solver.proofs.Going.{placed-words, no-more-steps, step-long,
 
 module _ (oldWork oldAnswer : List ℕ) (ls : List Conj) (c : Conj) (w : List Conj) (s : State) (work answer : List ℕ)
     (p : Running oldWork oldAnswer ls (c ∷ w) s work answer) (k : List ℕ) (ek : k ≡ conjWords c) (next : ℕ) (en : next ≡ s .at + 1 + length k)
-    (n at : ℕ) (swap : Bool) (h : n < 28) where
-  pub limit-met : Found c n at swap → 10000 ≤ s .steps → Turns oldWork oldAnswer ls (c ∷ w) s (Stop StepLimit) work answer
+    (n at : ℕ) (swap : Bool) (h : n < noRule) where
+  pub limit-met : Found c n at swap → desk .steps ≤ s .steps → Turns oldWork oldAnswer ls (c ∷ w) s (Stop StepLimit) work answer
   limit-met (nowhere e f) g = absurd (omega arith)
   limit-met (somewhere before l behind bs e q m a d) g =
-      no-more-steps oldWork oldAnswer ls c w s work answer p k ek next en (map (place before behind) bs) d g
+      no-more-steps oldWork oldAnswer ls c w s work answer p k ek next en (map (place before behind) bs) (searched c _ d) g
 
-  module _ (g : s .steps < 10000) (r : Stepped) (new : List ℕ)
+  module _ (g : s .steps < desk .steps) (r : Stepped) (new : List ℕ)
       (f : (before : Conj) (l : Literal) (behind : Conj) (bs : List Branch) → LiteralAt k at before l behind → sideAnswer swap n (before ++ behind) l ≡ some bs
       → Took (placedWords before behind bs) work next r new) where
     -- what is shown from what was found and taken
-    both : (Q : Type 0) → ((before behind : Conj) (bs : List Branch) → step c ≡ some (map (place before behind) bs) → Took (placedWords before behind bs) work next r new → Q)
+    both : (Q : Type 0) → ((before behind : Conj) (bs : List Branch) → step c ≡ results (map (place before behind) bs) → Took (placedWords before behind bs) work next r new → Q)
         → Found c n at swap → Q
     both Q u (nowhere e d) = absurd (omega arith)
-    both Q u (somewhere before l behind bs e q m a d) = u before behind bs d (f before l behind bs (stands-here k c (p .fine .0) ek at before l behind e q) a)
+    both Q u (somewhere before l behind bs e q m a d) = u before behind bs (searched c _ d) (f before l behind bs (stands-here k c (p .fine .0) ek at before l behind e q) a)
 
     pub took-too-long : r ≡ Long → Found c n at swap → Turns oldWork oldAnswer ls (c ∷ w) s (Stop LongResult) new answer
     took-too-long er = both _ go
       where
-        go : (before behind : Conj) (bs : List Branch) → step c ≡ some (map (place before behind) bs) → Took (placedWords before behind bs) work next r new
+        go : (before behind : Conj) (bs : List Branch) → step c ≡ results (map (place before behind) bs) → Took (placedWords before behind bs) work next r new
             → Turns oldWork oldAnswer ls (c ∷ w) s (Stop LongResult) new answer
         go before behind bs d (long e o y) =
             subst (λ x. Turns oldWork oldAnswer ls (c ∷ w) s (Stop LongResult) x answer) (sym y)
@@ -55,7 +59,7 @@ module _ (oldWork oldAnswer : List ℕ) (ls : List Conj) (c : Conj) (w : List Co
     pub took-no-room : r ≡ Room → Found c n at swap → Turns oldWork oldAnswer ls (c ∷ w) s (Stop LongWaiting) new answer
     took-no-room er = both _ go
       where
-        go : (before behind : Conj) (bs : List Branch) → step c ≡ some (map (place before behind) bs) → Took (placedWords before behind bs) work next r new
+        go : (before behind : Conj) (bs : List Branch) → step c ≡ results (map (place before behind) bs) → Took (placedWords before behind bs) work next r new
             → Turns oldWork oldAnswer ls (c ∷ w) s (Stop LongWaiting) new answer
         go before behind bs d (long e o y) = absurd (let z : _≡_ {A = ℕ} 0 1 = cc in omega arith)
         go before behind bs d (room m e o i y) =
@@ -66,7 +70,7 @@ module _ (oldWork oldAnswer : List ℕ) (ls : List Conj) (c : Conj) (w : List Co
     pub took-step : (to : ℕ) → r ≡ Done to → Found c n at swap → Turns oldWork oldAnswer ls (c ∷ w) s (On (record { at = to; steps = s .steps + 1; tally = s .tally })) new answer
     took-step to er = both _ go
       where
-        go : (before behind : Conj) (bs : List Branch) → step c ≡ some (map (place before behind) bs) → Took (placedWords before behind bs) work next r new
+        go : (before behind : Conj) (bs : List Branch) → step c ≡ results (map (place before behind) bs) → Took (placedWords before behind bs) work next r new
             → Turns oldWork oldAnswer ls (c ∷ w) s (On (record { at = to; steps = s .steps + 1; tally = s .tally })) new answer
         go before behind bs d (long e o y) = absurd (let z : _≡_ {A = ℕ} 0 1 = cc in omega arith)
         go before behind bs d (room m e o i y) = absurd (let z : _≡_ {A = ℕ} 0 1 = cc in omega arith)
@@ -76,8 +80,8 @@ module _ (oldWork oldAnswer : List ℕ) (ls : List Conj) (c : Conj) (w : List Co
             (step-on oldWork oldAnswer ls c w s work answer p k ek next en _ d g _ (placed-words before behind bs) m o here new i y)
 
 -- where nothing was found, no rule applies
-pub none-found : (c : Conj) (n at : ℕ) (swap : Bool) → Found c n at swap → 28 ≤ n → step c ≡ none
-none-found c n at swap (nowhere e d) h = d
+pub none-found : (c : Conj) (n at : ℕ) (swap : Bool) → Found c n at swap → noRule ≤ n → step c ≡ nothing
+none-found c n at swap (nowhere e d) h = searched c _ d
 none-found c n at swap (somewhere before l behind bs e q m a d) h = absurd (omega arith)
 
 -- the first block, copied to the front of an array

@@ -15,8 +15,6 @@ use Rattle.language.specs.Question.{offsets, partsFrom, parts, laidOut, lengthF
 use Rattle.language.proofs.Bools.{both-true}
 use Rattle.language.proofs.Alternatives.{fineAll, read-all}
 use Rattle.language.proofs.Asking.{Passed, passed}
-use Rattle.rules.specs.Run.{size, run}
-use Rattle.exact.specs.Each.{Each}
 use Rattle.stack.specs.Waiting.{Laid}
 use Rattle.stack.proofs.Blocks.{laid-wait}
 use Rattle.answers.specs.declared.Tally.{Tally}
@@ -24,6 +22,8 @@ use Rattle.answers.specs.Lined.{Lined}
 use Rattle.reader.proofs.Answers.{question-asked}
 use Rattle.reader.specs.Checking.{checked}
 use Rattle.reader.specs.declared.Checked.the-variants.{Fine}
+use Rattle.rules.specs.Run.{size, run}
+use Rattle.rules.specs.Each.{Each}
 use Rattle.solver.specs.Running.{Running, leftOf, conjunctionsOf}
 
 -- no part is longer than the whole
@@ -32,7 +32,7 @@ short-parts n from [] ws h = tt
 short-parts n from (to ∷ os) ws h =
     (let e = length-take (to - from) ws in omega arith, short-parts n to os (drop (to - from) ws) (let e = length-drop (to - from) ws in omega arith))
 
-short-conjunctions : (ks : List Conj) → Each (λ b. length b ≤ 1024) (map conjWords ks) → Each (λ k. size k ≤ 1024) ks
+short-conjunctions : (ks : List Conj) → Each (λ b. length b ≤ desk .question) (map conjWords ks) → Each (λ k. size k ≤ desk .question) ks
 short-conjunctions [] p = tt
 short-conjunctions (k ∷ ks) p = (p .0, short-conjunctions ks (p .1))
 
@@ -47,9 +47,9 @@ module _ (ws : List ℕ) (e : Fine ≡ checked (readQuestion desk ws)) where
   checks : Passed desk ws (asked .0)
   checks = passed desk ws (asked .0) (asked .1)
 
-  pub asked-fits : length ws ≤ 1024
+  pub asked-fits : length ws ≤ desk .question
   unfolding lengthFits
-  asked-fits = leb-true (length ws) 1024 (both-true (leb 6 (length ws)) (leb (length ws) 1024) (checks .length-fits) .1)
+  asked-fits = leb-true (length ws) (desk .question) (both-true (leb 6 (length ws)) (leb (length ws) (desk .question)) (checks .length-fits) .1)
 
   pub asked-laid : laidOut 5 (getD ws 4 0) ws ≡ true
   asked-laid = checks .laid-out
@@ -62,14 +62,14 @@ module _ (ws : List ℕ) (e : Fine ≡ checked (readQuestion desk ws)) where
       subst (λ a. fineAll desk (conjunctionsOf a) × (parts 5 (getD ws 4 0) ws ≡ map conjWords (conjunctionsOf a))) (sym (asked .1))
       (read-all desk (parts 5 (getD ws 4 0) ws) (asked .0 .alternatives) (checks .read))
 
-  asked-short : Each (λ b. length b ≤ 1024) (parts 5 (getD ws 4 0) ws)
+  asked-short : Each (λ b. length b ≤ desk .question) (parts 5 (getD ws 4 0) ws)
   unfolding parts
   asked-short =
-      short-parts 1024 (5 + suc (getD ws 4 0)) (drop 1 (offsets 5 (getD ws 4 0) ws)) (drop (5 + suc (getD ws 4 0)) ws)
+      short-parts (desk .question) (5 + suc (getD ws 4 0)) (drop 1 (offsets 5 (getD ws 4 0) ws)) (drop (5 + suc (getD ws 4 0)) ws)
       (let z = asked-fits in let y = length-drop (5 + suc (getD ws 4 0)) ws in omega arith)
 
   -- the run begins
-  pub begins : (oldWork oldAnswer work answer : List ℕ) (at : ℕ) (t : Tally) → 8192 ≤ length oldWork → 8192 ≤ length oldAnswer → length answer ≡ length oldAnswer
+  pub begins : (oldWork oldAnswer work answer : List ℕ) (at : ℕ) (t : Tally) → desk .room ≤ length oldWork → desk .room ≤ length oldAnswer → length answer ≡ length oldAnswer
       → Laid oldWork at (parts 5 (getD ws 4 0) ws) work → Lined oldAnswer [] t answer
       → Running oldWork oldAnswer [] asks-for (record { at = at; steps = 0; tally = t }) work answer
   begins oldWork oldAnswer work answer at t room space kept w l =
@@ -78,7 +78,7 @@ module _ (ws : List ℕ) (e : Fine ≡ checked (readQuestion desk ws)) where
         waiting = laid-wait oldWork at _ work room (subst (λ bs. Laid oldWork at bs work) (r .1) w);
         lined = l;
         fine = each-fine asks-for (r .0);
-        short = short-conjunctions asks-for (subst (Each (λ b. length b ≤ 1024)) (r .1) asked-short);
+        short = short-conjunctions asks-for (subst (Each (λ b. length b ≤ desk .question)) (r .1) asked-short);
         made = omega arith;
         room = room;
         kept = kept;

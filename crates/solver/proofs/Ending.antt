@@ -47,7 +47,7 @@ solving-ran ws e =
 
 module _ (ws : List ℕ) (e : Fine ≡ checked (readQuestion desk ws)) (oldWork oldAnswer : List ℕ) (r : Ran) (work answer : List ℕ)
     (p : Ends (run desk (conjunctionsOf (readQuestion desk ws))) oldWork oldAnswer r work answer)
-    (cleared : List ℕ) (ec : cleared ≡ zeros desk ++ drop 8192 work) where
+    (cleared : List ℕ) (ec : cleared ≡ zeros desk ++ drop (desk .room) work) where
   pub leaves-lines : (n : ℕ) (t : Tally) (o : outcome.Outcome) → r ≡ Done n t → o ≡ verdictFor (t .lines) (t .«open»)
       → (record { outcome = o; lines = t .lines; «open» = t .«open»; steps = n }, cleared, answer) ≡ leaves (solvingOf desk (readQuestion desk ws)) oldWork oldAnswer
   leaves-lines n t o er eo = go p
@@ -63,16 +63,16 @@ module _ (ws : List ℕ) (e : Fine ≡ checked (readQuestion desk ws)) (oldWork 
           let ev : o ≡ verdict (verdictOf ls) = eo ∙ ap (λ x. verdictFor x (t .«open»)) el ∙ ap (verdictFor (length ls)) ep ∙ counted ls in
           let s : solvingOf desk (readQuestion desk ws) ≡ answered ls m = solving-ran ws e ∙ ap ran f in
           let a = l .words in
-          let c : cleared ≡ zeros desk ++ drop 8192 oldWork = ec ∙ ap (λ x. zeros desk ++ x) k in
+          let c : cleared ≡ zeros desk ++ drop (desk .room) oldWork = ec ∙ ap (λ x. zeros desk ++ x) k in
           ap (λ o. (record { outcome = o; lines = t .lines; «open» = t .«open»; steps = n }, cleared, answer)) ev
           ∙ ap (λ x. (record { outcome = verdict (verdictOf ls); lines = x; «open» = t .«open»; steps = n }, cleared, answer)) el
           ∙ ap (λ x. (record { outcome = verdict (verdictOf ls); lines = length ls; «open» = x; steps = n }, cleared, answer)) ep
           ∙ ap (λ x. (record { outcome = verdict (verdictOf ls); lines = length ls; «open» = countOpen ls; steps = x }, cleared, answer)) en
           ∙ ap (λ x. (record { outcome = verdict (verdictOf ls); lines = length ls; «open» = countOpen ls; steps = m }, x, answer)) c
-          ∙ ap (λ x. (record { outcome = verdict (verdictOf ls); lines = length ls; «open» = countOpen ls; steps = m }, zeros desk ++ drop 8192 oldWork, x)) a
+          ∙ ap (λ x. (record { outcome = verdict (verdictOf ls); lines = length ls; «open» = countOpen ls; steps = m }, zeros desk ++ drop (desk .room) oldWork, x)) a
           ∙ sym (ap (λ x. leaves x oldWork oldAnswer) s)
 
-  pub leaves-refusal : (x : Refusal) (wiped : List ℕ) (s : Solved) → r ≡ Stopped x → wiped ≡ zeros desk ++ drop 8192 answer → s ≡ refusedBy x
+  pub leaves-refusal : (x : Refusal) (wiped : List ℕ) (s : Solved) → r ≡ Stopped x → wiped ≡ zeros desk ++ drop (desk .room) answer → s ≡ refusedBy x
       → (s, cleared, wiped) ≡ leaves (solvingOf desk (readQuestion desk ws)) oldWork oldAnswer
   leaves-refusal x wiped s er ew es = go p
     where
@@ -82,33 +82,33 @@ module _ (ws : List ℕ) (e : Fine ≡ checked (readQuestion desk ws)) (oldWork 
       go (given-up y d f k l) =
           let ex : x ≡ y = cc in
           let g : solvingOf desk (readQuestion desk ws) ≡ rules.given-up y = solving-ran ws e ∙ ap ran f in
-          let c : cleared ≡ zeros desk ++ drop 8192 oldWork = ec ∙ ap (λ z. zeros desk ++ z) k in
-          let b : wiped ≡ zeros desk ++ drop 8192 oldAnswer = ew ∙ ap (λ z. zeros desk ++ z) l in
-          ap (λ s. (s, cleared, wiped)) (es ∙ ap refusedBy ex) ∙ ap (λ z. (refusedBy y, z, wiped)) c ∙ ap (λ z. (refusedBy y, zeros desk ++ drop 8192 oldWork, z)) b
+          let c : cleared ≡ zeros desk ++ drop (desk .room) oldWork = ec ∙ ap (λ z. zeros desk ++ z) k in
+          let b : wiped ≡ zeros desk ++ drop (desk .room) oldAnswer = ew ∙ ap (λ z. zeros desk ++ z) l in
+          ap (λ s. (s, cleared, wiped)) (es ∙ ap refusedBy ex) ∙ ap (λ z. (refusedBy y, z, wiped)) c ∙ ap (λ z. (refusedBy y, zeros desk ++ drop (desk .room) oldWork, z)) b
           ∙ sym (ap (λ z. leaves z oldWork oldAnswer) g)
 
 -- ---- before the run
 
 module _ (ws work answer : List ℕ) where
-  solves : (a b : Bool) → ltb (length work) 8192 ≡ a → ltb (length answer) 8192 ≡ b
+  solves : (a b : Bool) → ltb (length work) (desk .room) ≡ a → ltb (length answer) (desk .room) ≡ b
       → solving desk (length work) (length answer) ws ≡ elim a [ true ↦ unread ShortSlice | false ↦ elim b [ true ↦ unread ShortSlice | false ↦ solvingOf desk (readQuestion desk ws) ] ]
   unfolding solving
   solves a b ea eb =
-      ap (λ a. elim a [ true ↦ unread ShortSlice | false ↦ elim (ltb (length answer) 8192) [ true ↦ unread ShortSlice | false ↦ solvingOf desk (readQuestion desk ws) ] ]) ea
+      ap (λ a. elim a [ true ↦ unread ShortSlice | false ↦ elim (ltb (length answer) (desk .room)) [ true ↦ unread ShortSlice | false ↦ solvingOf desk (readQuestion desk ws) ] ]) ea
       ∙ ap (λ b. elim a [ true ↦ unread ShortSlice | false ↦ elim b [ true ↦ unread ShortSlice | false ↦ solvingOf desk (readQuestion desk ws) ] ]) eb
 
   unread-leaves : (x : Refusal) (s : Solved) → s ≡ refusedBy x → solving desk (length work) (length answer) ws ≡ unread x
       → (s, work, answer) ≡ leaves (solving desk (length work) (length answer) ws) work answer
   unread-leaves x s es e = ap (λ s. (s, work, answer)) es ∙ sym (ap (λ z. leaves z work answer) e)
 
-  pub work-short : (s : Solved) → s ≡ refusedBy ShortSlice → length work < 8192 → (s, work, answer) ≡ leaves (solving desk (length work) (length answer) ws) work answer
-  work-short s es h = unread-leaves ShortSlice s es (solves true (ltb (length answer) 8192) (lt-ltb _ _ h) refl)
+  pub work-short : (s : Solved) → s ≡ refusedBy ShortSlice → length work < desk .room → (s, work, answer) ≡ leaves (solving desk (length work) (length answer) ws) work answer
+  work-short s es h = unread-leaves ShortSlice s es (solves true (ltb (length answer) (desk .room)) (lt-ltb _ _ h) refl)
 
-  module _ (h : 8192 ≤ length work) where
-    pub answer-short : (s : Solved) → s ≡ refusedBy ShortSlice → length answer < 8192 → (s, work, answer) ≡ leaves (solving desk (length work) (length answer) ws) work answer
+  module _ (h : desk .room ≤ length work) where
+    pub answer-short : (s : Solved) → s ≡ refusedBy ShortSlice → length answer < desk .room → (s, work, answer) ≡ leaves (solving desk (length work) (length answer) ws) work answer
     answer-short s es g = unread-leaves ShortSlice s es (solves false true (le-ltb _ _ h) (lt-ltb _ _ g))
 
-    module _ (g : 8192 ≤ length answer) where
+    module _ (g : desk .room ≤ length answer) where
       both-long : solving desk (length work) (length answer) ws ≡ solvingOf desk (readQuestion desk ws)
       both-long = solves false false (le-ltb _ _ h) (le-ltb _ _ g)
 

@@ -5,7 +5,6 @@ use native.Mathlib.Decide.{decLe}
 use mathlib.Core.Path.{_≡_, refl, sym, ap, _∙_, subst}
 use mathlib.Core.Bool.{false}
 use mathlib.Core.List.{List, [], _∷_, _++_, map, map-append}
-use mathlib.Core.Option.{none, some}
 use lib.ListN.{length, drop, getD}
 use lib.Seq.{slice, sets, drop-drop, drop-at}
 use borrow.Author.Tests.{lt-ltb, le-ltb}
@@ -15,11 +14,12 @@ use Rattle.language.specs.Limits.{desk}
 use Rattle.language.specs.Trees.{Conj}
 use Rattle.language.specs.Writing.{conjWords}
 use Rattle.language.specs.Fine.{fineConj}
+use Rattle.rules.specs.Reply.{nothing, results}
 use Rattle.rules.specs.Step.{place, step}
 use Rattle.rules.specs.Rules.{Branch}
 use Rattle.rules.specs.Run.{waitingSize, linesFit, refused, runFrom}
 use Rattle.rules.specs.Answer.{answerWords}
-use Rattle.exact.proofs.Each.{each-++}
+use Rattle.rules.proofs.Each.{each-++}
 use Rattle.frames.specs.Frames.{framed}
 use Rattle.plans.specs.Sizes.{placedWords, sized}
 use Rattle.plans.specs.declared.Size.the-variants.{Fits, Over}
@@ -41,11 +41,11 @@ use Rattle.solver.proofs.Lengths.{waiting-append, short-words, lines-fi
 
 pub waiting-kept : (old : List ℕ) (at : ℕ) (bs : List (List ℕ)) (new : List ℕ) → Waiting old at bs new → Kept old new
 waiting-kept old at bs new p =
-    ap (λ n. drop n new) (let z = p .place in let y : 8192 ≡ at + length (framed bs) = omega arith in y)
-    ∙ sym (drop-drop (length (framed bs)) at new) ∙ ap (drop (length (framed bs))) (p .words) ∙ drop-at (framed bs) (drop 8192 old) (length (framed bs)) refl
+    ap (λ n. drop n new) (let z = p .place in let y : desk .room ≡ at + length (framed bs) = omega arith in y)
+    ∙ sym (drop-drop (length (framed bs)) at new) ∙ ap (drop (length (framed bs))) (p .words) ∙ drop-at (framed bs) (drop (desk .room) old) (length (framed bs)) refl
 
 pub lined-kept : (old : List ℕ) (ls : List Conj) (t : Tally) (new : List ℕ) → Lined old ls t new → Kept old new
-lined-kept old ls t new p = ap (drop 8192) (p .words) ∙ drop-at (answerWords desk ls) (drop 8192 old) 8192 (length-answer ls (p .few) (p .room))
+lined-kept old ls t new p = ap (drop (desk .room)) (p .words) ∙ drop-at (answerWords desk ls) (drop (desk .room) old) (desk .room) (length-answer ls (p .few) (p .room))
 
 -- the results in words
 pub placed-words : (before behind : Conj) (bs : List Branch) → placedWords before behind bs ≡ map conjWords (map (place before behind) bs)
@@ -63,19 +63,19 @@ module _ (oldWork oldAnswer : List ℕ) (ls : List Conj) (c : Conj) (w : List Co
   pub first-words : slice (s .at + 1) (s .at + 1 + length (conjWords c)) work ≡ conjWords c
   first-words = first-block oldWork (s .at) (conjWords c) (map conjWords w) work (p .waiting)
 
-  pub first-fits : s .at + 1 + length (conjWords c) ≤ 8192
+  pub first-fits : s .at + 1 + length (conjWords c) ≤ desk .room
   first-fits = let z = first-room oldWork (s .at) (conjWords c) (map conjWords w) work (p .waiting) in omega arith
 
   pub open-fits : s .tally .«open» ≤ s .tally .lines
   open-fits = let a = p .lined .«open» in let b = p .lined .lines in let d = open-most ls in omega arith
 
-  pub end-fits : s .tally .end ≤ 8192
+  pub end-fits : s .tally .end ≤ desk .room
   end-fits = let a = p .lined .end in let b = p .lined .room in omega arith
 
-  pub work-fits : 8192 ≤ length work
+  pub work-fits : desk .room ≤ length work
   work-fits = let a = p .waiting .size in let b = p .room in omega arith
 
-  pub answer-fits : 8192 ≤ length answer
+  pub answer-fits : desk .room ≤ length answer
   answer-fits = let a = p .kept in let b = p .space in omega arith
 
   stops : (e : Refusal) → refused e ≡ leftOf s ls (c ∷ w) → Turns oldWork oldAnswer ls (c ∷ w) s (Stop e) work answer
@@ -89,15 +89,15 @@ module _ (oldWork oldAnswer : List ℕ) (ls : List Conj) (c : Conj) (w : List Co
 
     -- ---- no rule applies
 
-    module _ (e : step c ≡ none) where
+    module _ (e : step c ≡ nothing) where
       full : linesFit desk (ls ++ (c ∷ [])) ≡ false → refused LineRoom ≡ leftOf s ls (c ∷ w)
       unfolding leftOf
-      full f = sym (run-full desk (s .steps) ls c w (10000 - s .steps) e f)
+      full f = sym (run-full desk (s .steps) ls c w (desk .steps - s .steps) e f)
 
-      pub many-lines : 512 ≤ s .tally .lines → Turns oldWork oldAnswer ls (c ∷ w) s (Stop LineRoom) work answer
+      pub many-lines : desk .lines ≤ s .tally .lines → Turns oldWork oldAnswer ls (c ∷ w) s (Stop LineRoom) work answer
       many-lines h = stops LineRoom (full (lines-many (ls ++ (c ∷ [])) (let a = p .lined .lines in let b = count-more ls c in omega arith)))
 
-      pub long-line : s .tally .lines < 512 → 8192 < s .tally .end + 1 + length k → Turns oldWork oldAnswer ls (c ∷ w) s (Stop LineRoom) work answer
+      pub long-line : s .tally .lines < desk .lines → desk .room < s .tally .end + 1 + length k → Turns oldWork oldAnswer ls (c ∷ w) s (Stop LineRoom) work answer
       long-line h g =
           let a = p .lined .lines in
           let b = p .lined .end in
@@ -121,29 +121,29 @@ module _ (oldWork oldAnswer : List ℕ) (ls : List Conj) (c : Conj) (w : List Co
             kept = same ∙ p .kept;
             space = p .space;
           })
-          (sym (run-line desk (s .steps) ls c w (10000 - s .steps) e (lines-fit (ls ++ (c ∷ [])) (l .few) (l .room))))
-          (let z = rests .place in let y : 8192 - next < 8192 - s .at = omega arith in omega arith)
+          (sym (run-line desk (s .steps) ls c w (desk .steps - s .steps) e (lines-fit (ls ++ (c ∷ [])) (l .few) (l .room))))
+          (let z = rests .place in let y : desk .room - next < desk .room - s .at = omega arith in omega arith)
 
     -- ---- a rule applies
 
-    module _ (ks : List Conj) (e : step c ≡ some ks) where
-      pub no-more-steps : 10000 ≤ s .steps → Turns oldWork oldAnswer ls (c ∷ w) s (Stop StepLimit) work answer
+    module _ (ks : List Conj) (e : step c ≡ results ks) where
+      pub no-more-steps : desk .steps ≤ s .steps → Turns oldWork oldAnswer ls (c ∷ w) s (Stop StepLimit) work answer
       unfolding leftOf
       no-more-steps h =
-          let z : 10000 - s .steps ≡ 0 = omega arith in
+          let z : desk .steps - s .steps ≡ 0 = omega arith in
           stops StepLimit (sym (ap (λ d. runFrom desk d (s .steps) ls (c ∷ w)) z ∙ run-limit desk (s .steps) ls c w ks e))
 
-      module _ (h : s .steps < 10000) where
-        one-more : leftOf s ls (c ∷ w) ≡ runFrom desk (suc (10000 - (s .steps + 1))) (s .steps) ls (c ∷ w)
+      module _ (h : s .steps < desk .steps) where
+        one-more : leftOf s ls (c ∷ w) ≡ runFrom desk (suc (desk .steps - (s .steps + 1))) (s .steps) ls (c ∷ w)
         unfolding leftOf
-        one-more = ap (λ d. runFrom desk d (s .steps) ls (c ∷ w)) (let z : 10000 - s .steps ≡ suc (10000 - (s .steps + 1)) = omega arith in z)
+        one-more = ap (λ d. runFrom desk d (s .steps) ls (c ∷ w)) (let z : desk .steps - s .steps ≡ suc (desk .steps - (s .steps + 1)) = omega arith in z)
 
         module _ (ws : List (List ℕ)) (ew : ws ≡ map conjWords ks) where
           pub step-long : sized ws ≡ Over → Turns oldWork oldAnswer ls (c ∷ w) s (Stop LongResult) work answer
-          step-long o = stops LongResult (sym (one-more ∙ run-long desk (s .steps) ls c w ks e (10000 - (s .steps + 1)) (over-anyLong ks ws ew o)))
+          step-long o = stops LongResult (sym (one-more ∙ run-long desk (s .steps) ls c w ks e (desk .steps - (s .steps + 1)) (over-anyLong ks ws ew o)))
 
           module _ (n : ℕ) (f : sized ws ≡ Fits n) where
-            together : waitingSize (ks ++ w) + next ≡ length (framed ws) + 8192
+            together : waitingSize (ks ++ w) + next ≡ length (framed ws) + desk .room
             together =
                 let a = waiting-append ks w in
                 let b = words-waiting ks ∙ ap (λ l. length (framed l)) (sym ew) in
@@ -151,8 +151,8 @@ module _ (oldWork oldAnswer : List ℕ) (ls : List Conj) (c : Conj) (w : List Co
                 let q = rests .place in
                 omega arith
 
-            past : next < n → 8192 < waitingSize (ks ++ w)
-            past g = elim (decLe n 8192) [
+            past : next < n → desk .room < waitingSize (ks ++ w)
+            past g = elim (decLe n (desk .room)) [
               | yes m ↦ (let x = fits-exact ws n f m in let t = together in omega arith)
               | no m ↦ (let x = fits-past ws n f (omega arith) in let t = together in let q = rests .place in omega arith)
             ]
@@ -160,7 +160,7 @@ module _ (oldWork oldAnswer : List ℕ) (ls : List Conj) (c : Conj) (w : List Co
             pub step-room : next < n → Turns oldWork oldAnswer ls (c ∷ w) s (Stop LongWaiting) work answer
             step-room g =
                 stops LongWaiting
-                (sym (one-more ∙ run-room desk (s .steps) ls c w ks e (10000 - (s .steps + 1)) (fits-anyLong ks ws ew n f) (lt-ltb 8192 (waitingSize (ks ++ w)) (past g))))
+                (sym (one-more ∙ run-room desk (s .steps) ls c w ks e (desk .steps - (s .steps + 1)) (fits-anyLong ks ws ew n f) (lt-ltb (desk .room) (waitingSize (ks ++ w)) (past g))))
 
             module _ (at : ℕ) (new : List ℕ) (g : at + n ≡ next) (d : new ≡ sets work at (framed ws)) where
               within : length (framed ws) ≡ n
@@ -185,6 +185,6 @@ module _ (oldWork oldAnswer : List ℕ) (ls : List Conj) (c : Conj) (w : List Co
                     kept = p .kept;
                     space = p .space;
                   })
-                  (ap (λ m. runFrom desk (10000 - (s .steps + 1)) m ls (ks ++ w)) (let z : s .steps + 1 ≡ suc (s .steps) = omega arith in z)
-                  ∙ sym (one-more ∙ run-step desk (s .steps) ls c w ks e (10000 - (s .steps + 1)) (fits-anyLong ks ws ew n f) (le-ltb 8192 (waitingSize (ks ++ w)) (omega arith))))
+                  (ap (λ m. runFrom desk (desk .steps - (s .steps + 1)) m ls (ks ++ w)) (let z : s .steps + 1 ≡ suc (s .steps) = omega arith in z)
+                  ∙ sym (one-more ∙ run-step desk (s .steps) ls c w ks e (desk .steps - (s .steps + 1)) (fits-anyLong ks ws ew n f) (le-ltb (desk .room) (waitingSize (ks ++ w)) (omega arith))))
                   (omega arith)

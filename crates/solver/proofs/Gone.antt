@@ -27,11 +27,11 @@ pub record Gone (oldWork oldAnswer : List ℕ) (o : Outcome) (s : State) (work a
 -- what a turn asks
 abbrev pub Ready : State → List ℕ → List ℕ → Type 0
 Ready s work answer =
-    (s .at + 1 + getD work (s .at) 0 ≤ 8192) × (getD work (s .at) 0 ≤ 1024) × (8192 ≤ length work) × (s .tally .«open» ≤ s .tally .lines) × (s .tally .end ≤ 8192) × (8192 ≤ length answer)
+    (s .at + 1 + getD work (s .at) 0 ≤ desk .room) × (getD work (s .at) 0 ≤ desk .question) × (desk .room ≤ length work) × (s .tally .«open» ≤ s .tally .lines) × (s .tally .end ≤ desk .room) × (desk .room ≤ length answer)
 
 module _ (oldWork oldAnswer : List ℕ) (o : Outcome) (s : State) (work answer : List ℕ) (g : Gone oldWork oldAnswer o s work answer) where
   -- one waits first
-  first-of : (Q : Type 0) → s .at < 8192
+  first-of : (Q : Type 0) → s .at < desk .room
       → ((ls : List Conj) (c : Conj) (w : List Conj) → Running oldWork oldAnswer ls (c ∷ w) s work answer → leftOf s ls (c ∷ w) ≡ o → Q) → Q
   first-of Q h f = go (g .waits) (g .running) (g .same)
     where
@@ -39,7 +39,7 @@ module _ (oldWork oldAnswer : List ℕ) (o : Outcome) (s : State) (work answer :
       go [] p e = absurd (let z = p .waiting .place in omega arith)
       go (c ∷ w) p e = f (g .lines) c w p e
 
-  pub turn-ready : s .at < 8192 → Ready s work answer
+  pub turn-ready : s .at < desk .room → Ready s work answer
   turn-ready h = first-of _ h λ ls c w p e.
       let n = first-size oldWork oldAnswer ls c w s work answer p in
       let b = first-fits oldWork oldAnswer ls c w s work answer p in
@@ -52,18 +52,18 @@ module _ (oldWork oldAnswer : List ℕ) (o : Outcome) (s : State) (work answer :
         answer-fits oldWork oldAnswer ls c w s work answer p,
       )
 
-  pub run-over : 8192 ≤ s .at → Ends o oldWork oldAnswer (Done (s .steps) (s .tally)) work answer
+  pub run-over : desk .room ≤ s .at → Ends o oldWork oldAnswer (Done (s .steps) (s .tally)) work answer
   unfolding leftOf
   run-over h = go (g .waits) (g .running) (g .same)
     where
       go : (w : List Conj) → Running oldWork oldAnswer (g .lines) w s work answer → leftOf s (g .lines) w ≡ o
           → Ends o oldWork oldAnswer (Done (s .steps) (s .tally)) work answer
       go [] p e =
-          ended (s .steps) (s .tally) (g .lines) refl (sym e ∙ run-ends desk (10000 - s .steps) (s .steps) (g .lines)) (p .lined)
+          ended (s .steps) (s .tally) (g .lines) refl (sym e ∙ run-ends desk (desk .steps - s .steps) (s .steps) (g .lines)) (p .lined)
           (waiting-kept oldWork (s .at) [] work (p .waiting))
       go (c ∷ w) p e = absurd (let z = p .waiting .place in omega arith)
 
-  module _ (h : s .at < 8192) (r : Turned) (work′ answer′ : List ℕ)
+  module _ (h : s .at < desk .room) (r : Turned) (work′ answer′ : List ℕ)
       (f : (oldWork oldAnswer : List ℕ) (ls : List Conj) (c : Conj) (w : List Conj) → Running oldWork oldAnswer ls (c ∷ w) s work answer
       → Turns oldWork oldAnswer ls (c ∷ w) s r work′ answer′) where
     module _ (t : State) (er : r ≡ On t) where

@@ -10,9 +10,9 @@ use borrow.Author.Tests.{le-leb, lt-leb}
 use Rattle.language.specs.Limits.{desk}
 use Rattle.language.specs.Trees.{Conj}
 use Rattle.language.specs.Writing.{conjWords}
-use Rattle.rules.specs.Run.{size, waitingSize, linesSize, linesFit}
+use Rattle.rules.specs.Run.{size, waitingSize, linesSize, linesFit, linesAt}
+use Rattle.rules.specs.Each.{Each}
 use Rattle.plans.specs.Sizes.{Short}
-use Rattle.exact.specs.Each.{Each}
 
 pub waiting-append : (ks w : List Conj) → waitingSize (ks ++ w) ≡ waitingSize ks + waitingSize w
 waiting-append [] w = let z : waitingSize w ≡ 0 + waitingSize w = omega arith in z
@@ -22,7 +22,7 @@ waiting-append (k ∷ ks) w =
 
 -- each is short enough for a step's result
 abbrev pub Shorts : List Conj → Type 0
-Shorts ks = Each (λ k. size k ≤ 1024) ks
+Shorts ks = Each (λ k. size k ≤ desk .question) ks
 
 pub short-words : (ks : List Conj) → Short (map conjWords ks) → Shorts ks
 short-words [] p = tt
@@ -30,11 +30,11 @@ short-words (k ∷ ks) p = (p .0, short-words ks (p .1))
 
 -- ---- 9
 
-pub lines-fit : (ls : List Conj) → length ls ≤ 512 → 515 + linesSize ls ≤ 8192 → linesFit desk ls ≡ true
-lines-fit ls h g = ap (λ b. b && leb (515 + linesSize ls) 8192) (le-leb (length ls) 512 h) ∙ le-leb (515 + linesSize ls) 8192 g
+pub lines-fit : (ls : List Conj) → length ls ≤ desk .lines → linesAt desk + linesSize ls ≤ desk .room → linesFit desk ls ≡ true
+lines-fit ls h g = ap (λ b. b && leb (linesAt desk + linesSize ls) (desk .room)) (le-leb (length ls) (desk .lines) h) ∙ le-leb (linesAt desk + linesSize ls) (desk .room) g
 
-pub lines-many : (ls : List Conj) → 512 < length ls → linesFit desk ls ≡ false
-lines-many ls h = ap (λ b. b && leb (515 + linesSize ls) 8192) (lt-leb (length ls) 512 h)
+pub lines-many : (ls : List Conj) → desk .lines < length ls → linesFit desk ls ≡ false
+lines-many ls h = ap (λ b. b && leb (linesAt desk + linesSize ls) (desk .room)) (lt-leb (length ls) (desk .lines) h)
 
-pub lines-past : (ls : List Conj) → length ls ≤ 512 → 8192 < 515 + linesSize ls → linesFit desk ls ≡ false
-lines-past ls h g = ap (λ b. b && leb (515 + linesSize ls) 8192) (le-leb (length ls) 512 h) ∙ lt-leb (515 + linesSize ls) 8192 g
+pub lines-past : (ls : List Conj) → length ls ≤ desk .lines → desk .room < linesAt desk + linesSize ls → linesFit desk ls ≡ false
+lines-past ls h g = ap (λ b. b && leb (linesAt desk + linesSize ls) (desk .room)) (le-leb (length ls) (desk .lines) h) ∙ lt-leb (linesAt desk + linesSize ls) (desk .room) g

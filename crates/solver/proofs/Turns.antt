@@ -3,11 +3,11 @@ use Prim.Native.Nat.{ℕ, zero, suc, _+_, _-_}
 use mathlib.Core.Path.{_≡_, refl, ap, _∙_}
 use mathlib.Core.Bool.{Bool, true, false}
 use mathlib.Core.List.{List, [], _∷_, _++_}
-use mathlib.Core.Option.{none, some}
 use lib.Dec.{ltb}
 use Rattle.language.specs.declared.Refusal.the-variants.{LongResult, LongWaiting, LineRoom, StepLimit}
 use Rattle.language.specs.Limits.{Limits}
 use Rattle.language.specs.Trees.{Conj}
+use Rattle.rules.specs.Reply.{nothing, results, stops}
 use Rattle.rules.specs.Step.{step}
 use Rattle.rules.specs.Run.{anyLong, waitingSize, linesFit, Outcome, finished, refused, checked, lined, turn, runFrom}
 
@@ -19,9 +19,9 @@ module _ (L : Limits) where
 
   module _ (n : ℕ) (ls : List Conj) (k : Conj) (w : List Conj) where
     -- no rule applies: a line more, or 9
-    module _ (d : ℕ) (e : step k ≡ none) where
+    module _ (d : ℕ) (e : step k ≡ nothing) where
       taken : (go : List Conj → List Conj → List Conj → Outcome) → turn L go n ls (k ∷ w) ≡ lined L (ls ++ (k ∷ [])) (λ ms. turn L go n ms w)
-      taken go = ap (λ m. elim m [ some ks ↦ go ls ks (ks ++ w) | none ↦ lined L (ls ++ (k ∷ [])) (λ ms. turn L go n ms w) ]) e
+      taken go = ap (λ m. elim m [ results ks ↦ go ls ks (ks ++ w) | nothing ↦ lined L (ls ++ (k ∷ [])) (λ ms. turn L go n ms w) | stops r ↦ refused r ]) e
 
       fitting : (b : Bool) → linesFit L (ls ++ (k ∷ [])) ≡ b → (go : List Conj → List Conj → List Conj → Outcome)
           → turn L go n ls (k ∷ w) ≡ elim b [ true ↦ turn L go n (ls ++ (k ∷ [])) w | false ↦ refused LineRoom ]
@@ -44,9 +44,9 @@ module _ (L : Limits) where
           at (suc d) = fitting false f _
 
     -- a rule applies: 10, 7, 8, or a step
-    module _ (ks : List Conj) (e : step k ≡ some ks) where
+    module _ (ks : List Conj) (e : step k ≡ results ks) where
       steps : (go : List Conj → List Conj → List Conj → Outcome) → turn L go n ls (k ∷ w) ≡ go ls ks (ks ++ w)
-      steps go = ap (λ m. elim m [ some ks ↦ go ls ks (ks ++ w) | none ↦ lined L (ls ++ (k ∷ [])) (λ ms. turn L go n ms w) ]) e
+      steps go = ap (λ m. elim m [ results ks ↦ go ls ks (ks ++ w) | nothing ↦ lined L (ls ++ (k ∷ [])) (λ ms. turn L go n ms w) | stops r ↦ refused r ]) e
 
       pub run-limit : runFrom L 0 n ls (k ∷ w) ≡ refused StepLimit
       unfolding runFrom

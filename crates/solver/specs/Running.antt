@@ -10,7 +10,7 @@ use Rattle.language.specs.Writing.{conjWords}
 use Rattle.language.specs.Fine.{fineConj}
 use Rattle.language.specs.Question.{Asked, asks, refuses}
 use Rattle.rules.specs.Run.{size, Outcome, finished, refused, runFrom}
-use Rattle.exact.specs.Each.{Each}
+use Rattle.rules.specs.Each.{Each}
 use Rattle.stack.specs.Waiting.{Waiting}
 use Rattle.answers.specs.declared.Tally.{Tally}
 use Rattle.answers.specs.Lined.{Lined}
@@ -25,23 +25,23 @@ pub record Running (oldWork oldAnswer : List ℕ) (ls w : List Conj) (s : State)
   pub waiting : Waiting oldWork (s .at) (map conjWords w) work
   pub lined : Lined oldAnswer ls (s .tally) answer
   pub fine : Each (fineConj desk) w
-  pub short : Each (λ k. size k ≤ 1024) w
-  pub made : s .steps ≤ 10000
-  pub room : 8192 ≤ length oldWork
+  pub short : Each (λ k. size k ≤ desk .question) w
+  pub made : s .steps ≤ desk .steps
+  pub room : desk .room ≤ length oldWork
   pub kept : length answer ≡ length oldAnswer
-  pub space : 8192 ≤ length oldAnswer
+  pub space : desk .room ≤ length oldAnswer
 
 -- what the rest of the run comes to
 unfoldable pub leftOf : State → List Conj → List Conj → Outcome
-leftOf s ls w = runFrom desk (10000 - s .steps) (s .steps) ls w
+leftOf s ls w = runFrom desk (desk .steps - s .steps) (s .steps) ls w
 
 -- it falls from turn to turn
 abbrev pub measure : State → ℕ
-measure s = (10000 - s .steps) * 8193 + (8192 - s .at)
+measure s = (desk .steps - s .steps) * (desk .room + 1) + (desk .room - s .at)
 
 -- the words past the room are as they were
 abbrev pub Kept : List ℕ → List ℕ → Type 0
-Kept old new = drop 8192 new ≡ drop 8192 old
+Kept old new = drop (desk .room) new ≡ drop (desk .room) old
 
 -- a turn: the run goes on with the same end, or that end is a refusal
 pub data Turns (oldWork oldAnswer : List ℕ) (ls w : List Conj) (s : State) (r : Turned) (work answer : List ℕ) : Type 0 where

@@ -2,26 +2,29 @@
 ghost use Prim.Native.Nat.{ℕ, _+_, _≤_, _<_};
 ghost use mathlib.Core.Path.{_≡_};
 ghost use mathlib.Core.List.{List, _∷_};
-ghost use mathlib.Core.Option.{none};
 ghost use lib.ListN.{length, getD};
 ghost use Rattle.language.specs.Limits.{desk};
 ghost use Rattle.language.specs.Trees.{Conj};
 ghost use Rattle.language.specs.Writing.{conjWords};
 ghost use Rattle.language.specs.Question.{readQuestion};
+ghost use Rattle.rules.specs.Reply.{nothing};
 ghost use Rattle.rules.specs.Step.{step};
 ghost use Rattle.rules.specs.Run.{run as runs};
 ghost use Rattle.rules.specs.Answer.{solvingOf, solving};
 ghost use Rattle.search.specs.Ranking.{Found};
 ghost use Rattle.reader.specs.Checking.{checked};
 ghost use Rattle.reader.specs.declared.Checked.the-variants.{Fine};
+ghost use Rattle.rules.specs.Places.{noRule};
 ghost use Rattle.solver.specs.Running.{Running, leftOf, Turns, Begun, Ends, conjunctionsOf};
 ghost use Rattle.solver.specs.Leaves.{leaves, outcomeNumber, refusedBy, verdictFor};
 use answers::Tally;
 use answers::add_line;
 use answers::begin;
-use frames::FRAME;
-use frames::read_frame;
 use language::Refusal;
+use language::limits::LINES;
+use language::limits::QUESTION;
+use language::limits::ROOM;
+use language::limits::STEPS;
 use language::number;
 use marks::is_solved;
 use reader::Checked;
@@ -29,10 +32,12 @@ use reader::read_question;
 use stack::clear;
 use stack::copy;
 use stack::lay_out;
+use stack::wide;
 use steps::Best;
 use steps::Stepped;
 use steps::find;
 use steps::take_step;
+use rules::places::NO_RULE;
 
 // Where the waiting conjunctions begin, the steps made, and the lines.
 pub struct State {
@@ -83,14 +88,14 @@ pub fn outcome_number(outcome: Outcome) -> u16
 
 // No rule applies to k: it becomes the next line, and `next` is where those that wait then begin.
 fn line(k: &[u16], next: usize, answer: &mut [u16], s: State) -> Turned
-    requires { ⌜ (length (now k) ≤ 1024) × (s .tally .«open» ≤ s .tally .lines) × (s .tally .end ≤ 8192) × (8192 ≤ length (now answer)) ⌝ }
-    ensures { λ r. ⌜ ((oldWork oldAnswer : List ℕ) (ls : List Conj) (c : Conj) (w : List Conj) (work : List ℕ) → Running oldWork oldAnswer ls (c ∷ w) s work (now (answer .entry)) → now (k .entry) ≡ conjWords c → next ≡ s .at + 1 + length (now (k .entry)) → step c ≡ none → Turns oldWork oldAnswer ls (c ∷ w) s r work (now (answer .exit))) ⌝ }
+    requires { ⌜ (length (now k) ≤ desk .question) × (s .tally .«open» ≤ s .tally .lines) × (s .tally .end ≤ desk .room) × (desk .room ≤ length (now answer)) ⌝ }
+    ensures { λ r. ⌜ ((oldWork oldAnswer : List ℕ) (ls : List Conj) (c : Conj) (w : List Conj) (work : List ℕ) → Running oldWork oldAnswer ls (c ∷ w) s work (now (answer .entry)) → now (k .entry) ≡ conjWords c → next ≡ s .at + 1 + length (now (k .entry)) → step c ≡ nothing → Turns oldWork oldAnswer ls (c ∷ w) s r work (now (answer .exit))) ⌝ }
 {
     let t = s.tally;
-    if 512 <= t.lines {
+    if LINES <= t.lines {
         return Turned::Stop(Refusal::LineRoom);
     }
-    if 8192 < t.end + 1 + k.len() {
+    if ROOM < t.end + 1 + k.len() {
         return Turned::Stop(Refusal::LineRoom);
     }
     let solved = is_solved(k);
@@ -104,10 +109,10 @@ fn line(k: &[u16], next: usize, answer: &mut [u16], s: State) -> Turned
 
 // A rule applies to k: the step is made in its place, unless a number stands against it.
 fn advance(k: &[u16], b: Best, work: &mut [u16], next: usize, s: State) -> Turned
-    requires { ⌜ (length (now k) ≤ 1024) × (b .at < length (now k)) × (next ≤ length (now work)) × (next ≤ 8192) ⌝ }
-    ensures { λ r. ⌜ ((oldWork oldAnswer : List ℕ) (ls : List Conj) (c : Conj) (w : List Conj) (answer : List ℕ) → Running oldWork oldAnswer ls (c ∷ w) s (now (work .entry)) answer → now (k .entry) ≡ conjWords c → next ≡ s .at + 1 + length (now (k .entry)) → b .rank < 28 → Found c (b .rank) (b .at) (b .swap) → Turns oldWork oldAnswer ls (c ∷ w) s r (now (work .exit)) answer) ⌝ }
+    requires { ⌜ (length (now k) ≤ desk .question) × (b .at < length (now k)) × (next ≤ length (now work)) × (next ≤ desk .room) ⌝ }
+    ensures { λ r. ⌜ ((oldWork oldAnswer : List ℕ) (ls : List Conj) (c : Conj) (w : List Conj) (answer : List ℕ) → Running oldWork oldAnswer ls (c ∷ w) s (now (work .entry)) answer → now (k .entry) ≡ conjWords c → next ≡ s .at + 1 + length (now (k .entry)) → b .rank < noRule → Found c (b .rank) (b .at) (b .swap) → Turns oldWork oldAnswer ls (c ∷ w) s r (now (work .exit)) answer) ⌝ }
 {
-    if 10000 <= s.steps {
+    if STEPS <= s.steps {
         return Turned::Stop(Refusal::StepLimit);
     }
     let tally = s.tally;
@@ -124,11 +129,11 @@ fn advance(k: &[u16], b: Best, work: &mut [u16], next: usize, s: State) -> Turne
 
 // One turn, the first waiting conjunction being k.
 fn turn_with(k: &[u16], next: usize, work: &mut [u16], answer: &mut [u16], s: State) -> Turned
-    requires { ⌜ (length (now k) ≤ 1024) × (next ≤ 8192) × (8192 ≤ length (now work)) × (s .tally .«open» ≤ s .tally .lines) × (s .tally .end ≤ 8192) × (8192 ≤ length (now answer)) ⌝ }
+    requires { ⌜ (length (now k) ≤ desk .question) × (next ≤ desk .room) × (desk .room ≤ length (now work)) × (s .tally .«open» ≤ s .tally .lines) × (s .tally .end ≤ desk .room) × (desk .room ≤ length (now answer)) ⌝ }
     ensures { λ r. ⌜ ((oldWork oldAnswer : List ℕ) (ls : List Conj) (c : Conj) (w : List Conj) → Running oldWork oldAnswer ls (c ∷ w) s (now (work .entry)) (now (answer .entry)) → now (k .entry) ≡ conjWords c → next ≡ s .at + 1 + length (now (k .entry)) → Turns oldWork oldAnswer ls (c ∷ w) s r (now (work .exit)) (now (answer .exit))) ⌝ }
 {
     let b = find(k);
-    if 28 <= b.rank {
+    if NO_RULE <= b.rank {
         return line(k, next, answer, s);
     }
     advance(k, b, work, next, s)
@@ -136,15 +141,14 @@ fn turn_with(k: &[u16], next: usize, work: &mut [u16], answer: &mut [u16], s: St
 
 // One turn: the first waiting conjunction is taken out, so that results can be written over its place.
 fn turn(work: &mut [u16], answer: &mut [u16], s: State) -> Turned
-    requires { ⌜ (s .at + 1 + getD (now work) (s .at) 0 ≤ 8192) × (getD (now work) (s .at) 0 ≤ 1024) × (8192 ≤ length (now work)) × (s .tally .«open» ≤ s .tally .lines) × (s .tally .end ≤ 8192) × (8192 ≤ length (now answer)) ⌝ }
+    requires { ⌜ (s .at + 1 + getD (now work) (s .at) 0 ≤ desk .room) × (getD (now work) (s .at) 0 ≤ desk .question) × (desk .room ≤ length (now work)) × (s .tally .«open» ≤ s .tally .lines) × (s .tally .end ≤ desk .room) × (desk .room ≤ length (now answer)) ⌝ }
     ensures { λ r. ⌜ ((oldWork oldAnswer : List ℕ) (ls : List Conj) (c : Conj) (w : List Conj) → Running oldWork oldAnswer ls (c ∷ w) s (now (work .entry)) (now (answer .entry)) → Turns oldWork oldAnswer ls (c ∷ w) s r (now (work .exit)) (now (answer .exit))) ⌝ }
 {
     let at = s.at;
-    let n = read_frame(work, at);
-    let start = at + FRAME;
-    let next = start + n;
-    let mut k = [0; 1024];
-    copy(work, start, next, &mut k, 0);
+    let n = wide(work[at]);
+    let next = at + 1 + n;
+    let mut k = [0; QUESTION];
+    copy(work, at + 1, next, &mut k, 0);
     turn_with(&k[0..n], next, work, answer, s)
 }
 
@@ -154,7 +158,7 @@ fn go_on(work: &mut [u16], answer: &mut [u16], begin: State) -> Ran
     ensures { λ r. ⌜ ((oldWork oldAnswer : List ℕ) (ls w : List Conj) → Running oldWork oldAnswer ls w begin (now (work .entry)) (now (answer .entry)) → Ends (leftOf begin ls w) oldWork oldAnswer r (now (work .exit)) (now (answer .exit))) ⌝ }
 {
     let mut s = begin;
-    while s.at < 8192 {
+    while s.at < ROOM {
         match turn(work, answer, s) {
             Turned::On(t) => s = t,
             Turned::Stop(e) => return Ran::Stopped(e),
@@ -166,7 +170,7 @@ fn go_on(work: &mut [u16], answer: &mut [u16], begin: State) -> Ran
 
 // The run of a question that was read.
 fn run(question: &[u16], work: &mut [u16], answer: &mut [u16]) -> Ran
-    requires { ⌜ (Fine ≡ checked (readQuestion desk (now question))) × (8192 ≤ length (now work)) × (8192 ≤ length (now answer)) ⌝ }
+    requires { ⌜ (Fine ≡ checked (readQuestion desk (now question))) × (desk .room ≤ length (now work)) × (desk .room ≤ length (now answer)) ⌝ }
     ensures { λ r. ⌜ Ends (runs desk (conjunctionsOf (readQuestion desk (now (question .entry))))) (now (work .entry)) (now (answer .entry)) r (now (work .exit)) (now (answer .exit)) ⌝ }
 {
     let at = lay_out(question, work);
@@ -206,7 +210,7 @@ fn verdict_of(t: Tally) -> Outcome
 
 // A question that was read is solved.
 fn solve_read(question: &[u16], work: &mut [u16], answer: &mut [u16]) -> Solved
-    requires { ⌜ (Fine ≡ checked (readQuestion desk (now question))) × (8192 ≤ length (now work)) × (8192 ≤ length (now answer)) ⌝ }
+    requires { ⌜ (Fine ≡ checked (readQuestion desk (now question))) × (desk .room ≤ length (now work)) × (desk .room ≤ length (now answer)) ⌝ }
     ensures { λ r. ⌜ (r, now (work .exit), now (answer .exit)) ≡ leaves (solvingOf desk (readQuestion desk (now (question .entry)))) (now (work .entry)) (now (answer .entry)) ⌝ }
 {
     let ran = run(question, work, answer);
@@ -232,10 +236,10 @@ fn solve_read(question: &[u16], work: &mut [u16], answer: &mut [u16]) -> Solved
 pub fn solve(question: &[u16], work: &mut [u16], answer: &mut [u16]) -> Solved
     ensures { λ r. ⌜ (r, now (work .exit), now (answer .exit)) ≡ leaves (solving desk (length (now (work .entry))) (length (now (answer .entry))) (now (question .entry))) (now (work .entry)) (now (answer .entry)) ⌝ }
 {
-    if work.len() < 8192 {
+    if work.len() < ROOM {
         return refused(Refusal::ShortSlice);
     }
-    if answer.len() < 8192 {
+    if answer.len() < ROOM {
         return refused(Refusal::ShortSlice);
     }
     match read_question(question) {

@@ -1,18 +1,17 @@
 -- A copy word by word: what is still to come, stored from here on, leaves what the whole would. Zeros word by word.
-use Prim.Native.Nat.{ℕ, zero, suc, _+_, _-_, _<_, _≤_}
+use Prim.Native.Nat.{ℕ, suc, _+_, _-_, _<_, _≤_}
 use native.Mathlib.Omega.{arith}
 use native.Mathlib.Numerals.{add-one}
-use mathlib.Core.Path.{_≡_, refl, sym, ap, _∙_}
-use mathlib.Core.List.{List, [], _∷_, _++_}
+use mathlib.Core.Path.{_≡_, sym, ap, _∙_}
+use mathlib.Core.List.{List, [], _++_}
 use lib.ListN.{length, take, drop, getD, set, replicate}
 use lib.Seq.{sets, slice, slice-cons}
+use Rattle.language.proofs.Offsets.{slice-between}
 use Rattle.language.specs.Limits.{desk}
-use Rattle.meaning.specs.Values.{times}
 use Rattle.rules.specs.Answer.{zeros}
-use Rattle.stack.proofs.Blocks.{slice-take}
 
 pub slice-none : (f t : ℕ) (l : List ℕ) → t ≤ f → slice f t l ≡ []
-slice-none f t l h = slice-take f t l ∙ ap (λ n. take n (drop f l)) (let z : t - f ≡ 0 = omega arith in z)
+slice-none f t l h = slice-between f t l ∙ ap (λ n. take n (drop f l)) (let z : t - f ≡ 0 = omega arith in z)
 
 module _ (s d x : List ℕ) (i to e : ℕ) (p : sets d e (slice i to s) ≡ x) where
   pub copied-more : i < to → to ≤ length s → sets (set d e (getD s i 0)) (e + 1) (slice (i + 1) to s) ≡ x
@@ -24,10 +23,6 @@ module _ (s d x : List ℕ) (i to e : ℕ) (p : sets d e (slice i to s) ≡ x) w
   pub copied-all : to ≤ i → d ≡ x
   copied-all h = ap (sets d e) (sym (slice-none i to s h)) ∙ p
 
-times-replicate : (n : ℕ) → replicate {A = ℕ} n 0 ≡ times n 0
-times-replicate zero = refl
-times-replicate (suc n) = ap (λ l. 0 ∷ l) (times-replicate n)
-
-pub zeros-are : (n : ℕ) (d s : List ℕ) → d ≡ replicate n 0 ++ drop n s → n ≡ 8192 → d ≡ zeros desk ++ drop 8192 s
+pub zeros-are : (n : ℕ) (d s : List ℕ) → d ≡ replicate n 0 ++ drop n s → n ≡ desk .room → d ≡ zeros desk ++ drop (desk .room) s
 unfolding zeros
-zeros-are n d s e h = e ∙ ap (λ l. l ++ drop n s) (times-replicate n) ∙ ap (λ m. times m 0 ++ drop m s) h
+zeros-are n d s e h = e ∙ ap (λ m. replicate m 0 ++ drop m s) h

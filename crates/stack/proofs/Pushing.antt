@@ -6,11 +6,12 @@ use mathlib.Core.Bool.{true}
 use mathlib.Core.List.{List, [], _∷_, _++_, append-nil}
 use lib.ListN.{length, drop, getD, set, drop-of-length-le}
 use lib.Seq.{sets, slice, length-slice}
+use Rattle.language.specs.Limits.{desk}
 use Rattle.language.specs.Question.{laidOut, parts}
+use Rattle.language.proofs.Offsets.{slice-between, Part, table-count, table-part}
 use Rattle.frames.specs.Frames.{framed}
 use Rattle.stack.specs.Waiting.{Laid}
 use Rattle.stack.proofs.Blocks.{laid-before}
-use Rattle.stack.proofs.Cutting.{Cut, cut-at, cut-count}
 
 -- a length stored before a part
 pub stored : (w v s b : List ℕ) (start n x : ℕ) → v ≡ set w (start - 1) x → s ≡ sets v start b → x ≡ n → 0 < start → s ≡ sets w (start - 1) (n ∷ b)
@@ -23,21 +24,18 @@ module _ (q : List ℕ) (e : laidOut 5 (getD q 4 0) q ≡ true) where
   cs = parts 5 (getD q 4 0) q
 
   -- the part that ends where the (i+1)-th begins
-  pub cut-before : (i : ℕ) → i < getD q 4 0 → Cut q i (getD q (i + 5) 0) (getD q (i + 6) 0) cs
-  cut-before i h =
-      let f : 5 + i ≡ i + 5 = omega arith in
-      let g : 5 + (i + 1) ≡ i + 6 = omega arith in
-      rw (← f, ← g) (cut-at 5 (getD q 4 0) q e i h)
+  pub part-before : (i : ℕ) → i < getD q 4 0 → Part q i (getD q (i + 5) 0) (getD q (i + 6) 0) cs
+  part-before i h = table-part 5 (getD q 4 0) q e i (i + 5) (i + 6) h (omega arith) (omega arith)
 
-  pub laid-none : (old : List ℕ) → Laid old 8192 (drop (getD q 4 0) cs) old
-  laid-none old = rw (drop-of-length-le cs {i = getD q 4 0} (let z = cut-count 5 (getD q 4 0) q e in omega arith)) (record { place = refl; words = refl })
+  pub laid-none : (old : List ℕ) → Laid old (desk .room) (drop (getD q 4 0) cs) old
+  laid-none old = rw (drop-of-length-le cs {i = getD q 4 0} (let z = table-count 5 (getD q 4 0) q e in omega arith)) (record { place = refl; words = refl })
 
   pub laid-more : (old w new : List ℕ) (at r i : ℕ) → 0 < i → i ≤ getD q 4 0
       → r + (getD q (i - 1 + 6) 0 - getD q (i - 1 + 5) 0 + 1) ≡ at
       → new ≡ sets w r ((getD q (i - 1 + 6) 0 - getD q (i - 1 + 5) 0) ∷ slice (getD q (i - 1 + 5) 0) (getD q (i - 1 + 6) 0) q)
       → Laid old at (drop i cs) w → Laid old r (drop (i - 1) cs) new
   laid-more old w new at r i h g place d p =
-      let c = cut-before (i - 1) (omega arith) in
+      let c = part-before (i - 1) (omega arith) in
       let from = getD q (i - 1 + 5) 0 in
       let to = getD q (i - 1 + 6) 0 in
       let b = slice from to q in
@@ -45,5 +43,5 @@ module _ (q : List ℕ) (e : laidOut 5 (getD q 4 0) q ≡ true) where
       let f : framed (b ∷ []) ≡ (to - from) ∷ b = ap (λ l. length b ∷ l) (append-nil b) ∙ ap (λ m. m ∷ b) n in
       let k = c .low in
       let z = ap length f in
-      let here : drop (i - 1) cs ≡ (b ∷ []) ++ drop i cs = c .here ∙ ap (λ j. b ∷ drop j cs) (let z : suc (i - 1) ≡ i = omega arith in z) in
+      let here : drop (i - 1) cs ≡ (b ∷ []) ++ drop i cs = c .here ∙ ap (λ p. p ∷ drop (suc (i - 1)) cs) (sym (slice-between from to q)) ∙ ap (λ j. b ∷ drop j cs) (let z : suc (i - 1) ≡ i = omega arith in z) in
       rw here (laid-before old at (drop i cs) w p (b ∷ []) r new (omega arith) (d ∙ ap (sets w r) (sym f)))

@@ -3,16 +3,16 @@ ghost use Prim.Native.Nat.{_+_, _-_, _≤_, _<_};
 ghost use mathlib.Core.Path.{_≡_};
 ghost use mathlib.Core.Bool.{true};
 ghost use mathlib.Core.List.{_++_};
-ghost use lib.ListN.{length, drop, getD, set};
+ghost use lib.ListN.{length, getD, set};
 ghost use lib.Seq.{slice, sets};
 ghost use Rattle.language.specs.Limits.{desk};
 ghost use Rattle.language.specs.Question.{laidOut, parts};
 ghost use Rattle.frames.specs.Frames.{frame, frameOf};
-ghost use Rattle.rules.specs.Answer.{zeros};
+ghost use Rattle.rules.specs.Answer.{zeros, overwritten};
 ghost use Rattle.stack.specs.Waiting.{Laid};
-
 use frames::FRAME;
 use frames::write_frame;
+use language::limits::ROOM;
 
 pub fn wide(x: u16) -> usize
     ensures { λ r. ⌜ r ≡ x ⌝ }
@@ -51,11 +51,11 @@ pub fn copy(src: &[u16], from: usize, to: usize, dst: &mut [u16], at: usize)
 
 // Zeros in the first 8,192 words.
 pub fn clear(s: &mut [u16])
-    requires { ⌜ 8192 ≤ length (now s) ⌝ }
-    ensures { λ _. ⌜ now (s .exit) ≡ zeros desk ++ drop 8192 (now (s .entry)) ⌝ }
+    requires { ⌜ desk .room ≤ length (now s) ⌝ }
+    ensures { λ _. ⌜ now (s .exit) ≡ overwritten desk (zeros desk) (now (s .entry)) ⌝ }
 {
     let mut i = 0;
-    while i < 8192 {
+    while i < ROOM {
         s[i] = 0;
         i += 1;
     }
@@ -63,7 +63,7 @@ pub fn clear(s: &mut [u16])
 
 // The part from..to as a block before those that wait from `at` on. The answer is where they now begin.
 fn push(src: &[u16], from: usize, to: usize, work: &mut [u16], at: usize) -> usize
-    requires { ⌜ (from ≤ to) × (to ≤ length (now src)) × (to ≤ 1024) × (to - from + frame ≤ at) × (at ≤ length (now work)) ⌝ }
+    requires { ⌜ (from ≤ to) × (to ≤ length (now src)) × (to ≤ desk .question) × (to - from + frame ≤ at) × (at ≤ length (now work)) ⌝ }
     ensures { λ r. ⌜ (r + (to - from + frame) ≡ at) × (now (work .exit) ≡ sets (now (work .entry)) r (frameOf (to - from) ++ slice from to (now (src .entry)))) ⌝ }
 {
     let n = to - from;
@@ -75,11 +75,11 @@ fn push(src: &[u16], from: usize, to: usize, work: &mut [u16], at: usize) -> usi
 
 // The conjunctions of a question, waiting in order. The answer is where they begin.
 pub fn lay_out(question: &[u16], work: &mut [u16]) -> usize
-    requires { ⌜ (length (now question) ≤ 1024) × (laidOut 5 (getD (now question) 4 0) (now question) ≡ true) × (8192 ≤ length (now work)) ⌝ }
+    requires { ⌜ (length (now question) ≤ desk .question) × (laidOut 5 (getD (now question) 4 0) (now question) ≡ true) × (desk .room ≤ length (now work)) ⌝ }
     ensures { λ r. ⌜ Laid (now (work .entry)) r (parts 5 (getD (now (question .entry)) 4 0) (now (question .entry))) (now (work .exit)) ⌝ }
 {
     let mut i = wide(question[4]);
-    let mut at: usize = 8192;
+    let mut at: usize = ROOM;
     while 0 < i {
         i -= 1;
         let from = wide(question[i + 5]);

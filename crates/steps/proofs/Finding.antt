@@ -10,6 +10,7 @@ use borrow.Author.Tests.{ltb-true, ltb-false, leb-true, leb-false, lt-ltb, le-lt
 use Rattle.language.specs.Kinds.{pick}
 use Rattle.language.specs.Trees.{Hedge, Expr, Literal, eqn, mem, Conj}
 use Rattle.language.specs.Writing.{literalWords, conjWords}
+use Rattle.rules.specs.Places.{noRule}
 use Rattle.views.specs.Standing.{LiteralAt}
 use Rattle.plans.specs.Ranks.{eqnRank, memRank}
 use Rattle.search.specs.Ranking.{Ranked, Sought, Found}
@@ -52,19 +53,19 @@ module _ (before : Conj) (l r : Hedge) (behind : Conj) where
   one-place true = refl
   one-place false = refl
 
-  lesser-ranked : (t : Bool) → ltb (other .rank) (written .rank) ≡ t → Ranked (before ++ behind) (eqn l r) (pick t other written .rank) (pick t other written .swap)
-  lesser-ranked true e = rank-swapped (before ++ behind) l r _ _ refl refl (ltb-true _ _ e)
-  lesser-ranked false e = rank-written (before ++ behind) l r _ _ refl refl (ltb-false _ _ e)
+  lesser-ranked : (t : Bool) → ltb (other .rank) (written .rank) ≡ t → Ranked before (eqn l r) behind (pick t other written .rank) (pick t other written .swap)
+  lesser-ranked true e = rank-swapped before l r behind _ _ refl refl (ltb-true _ _ e)
+  lesser-ranked false e = rank-written before l r behind _ _ refl refl (ltb-false _ _ e)
 
 best-place : (before : Conj) (l : Literal) (behind : Conj) → bestAt before l behind .at ≡ length (conjWords before)
 unfolding bestAt
 best-place before (eqn l r) behind = one-place before l r behind (ltb (eqnRank (before ++ behind) r l) (eqnRank (before ++ behind) l r))
 best-place before (mem h R) behind = refl
 
-best-ranked : (before : Conj) (l : Literal) (behind : Conj) → Ranked (before ++ behind) l (bestAt before l behind .rank) (bestAt before l behind .swap)
+best-ranked : (before : Conj) (l : Literal) (behind : Conj) → Ranked before l behind (bestAt before l behind .rank) (bestAt before l behind .swap)
 unfolding bestAt
 best-ranked before (eqn l r) behind = lesser-ranked before l r behind _ refl
-best-ranked before (mem h R) behind = rank-member (before ++ behind) h R _ refl
+best-ranked before (mem h R) behind = rank-member before h R behind _ refl
 
 -- the place after it, by the words behind it
 reach : (t : Bool) (n e r at a b : ℕ) → leb n e ≡ t → n ≡ at + (a + b) → 0 < a → n - e ≡ b → (at < e → e ≤ n → r ≡ e) → (n ≤ e → r ≡ n) → r ≡ at + a
@@ -84,7 +85,7 @@ passed-to k at e r before l behind p d f g =
 abbrev Seeks : Conj → Conj → Best → Type 0
 Seeks done rest b = Sought done rest (b .rank) (b .at) (b .swap)
 
-pass-on : (done : Conj) (l : Literal) (rest : Conj) (a b : Best) → b .at ≡ length (conjWords done) → Ranked (done ++ rest) l (b .rank) (b .swap)
+pass-on : (done : Conj) (l : Literal) (rest : Conj) (a b : Best) → b .at ≡ length (conjWords done) → Ranked done l rest (b .rank) (b .swap)
     → Seeks done (l ∷ rest) a → Seeks (done ++ (l ∷ [])) rest (lesserOf a b)
 pass-on done l rest a b p k s = go (ltb (b .rank) (a .rank)) refl
   where
@@ -100,13 +101,13 @@ pass-all b done (l ∷ rest) s =
 
 pub best-found : (c : Conj) (b : Best) → b ≡ bestOf c → Found c (b .rank) (b .at) (b .swap)
 unfolding bestOf
-best-found c b e = rw e (finish c _ _ _ (pass-all (best 28 0 false) [] c (start c 0 false)))
+best-found c b e = rw e (finish c _ _ _ (pass-all (best noRule 0 false) [] c (start c 0 false)))
 
 -- ---- places
 
-pub placed-on : (n : ℕ) (a b r : Best) → r ≡ lesserOf a b → (a .rank < 28 → a .at < n) → b .at < n → r .rank < 28 → r .at < n
+pub placed-on : (n : ℕ) (a b r : Best) → r ≡ lesserOf a b → (a .rank < noRule → a .at < n) → b .at < n → r .rank < noRule → r .at < n
 placed-on n a b r e f g = rw e (go (ltb (b .rank) (a .rank)))
   where
-    go : (t : Bool) → pick t b a .rank < 28 → pick t b a .at < n
+    go : (t : Bool) → pick t b a .rank < noRule → pick t b a .at < n
     go true h = g
     go false h = f h

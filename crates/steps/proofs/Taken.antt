@@ -6,18 +6,19 @@ use mathlib.Core.Bool.{Bool, true, false}
 use mathlib.Core.List.{List, _++_, map}
 use mathlib.Core.Option.{none, some}
 use lib.ListN.{length}
+use Rattle.language.specs.Limits.{desk}
 use Rattle.language.specs.Trees.{Hedge, ε, tvar, hvar, node, Expr, Literal, eqn, mem, Conj}
 use Rattle.rules.specs.Looks.{firstTerm}
 use Rattle.rules.specs.Expressions.{linear}
 use Rattle.rules.specs.Rules.{Branch, monomialResult, M2}
+use Rattle.rules.specs.Places.{atM2}
+use Rattle.rules.proofs.Answers.{where-some, Where, Answers, look, test, answers}
 use Rattle.plans.specs.Looks.{head, tail}
 use Rattle.plans.specs.Ranks.{eqnAnswer, memAnswer}
 use Rattle.frames.specs.Frames.{framed}
 use Rattle.plans.specs.Sizes.{sized, placedWords, monomialWords}
 use Rattle.plans.specs.declared.Size.{Size}
 use Rattle.plans.specs.declared.Size.the-variants.{Fits, Over}
-use Rattle.exact.proofs.Answers.{Where, Answers, look, test, answers}
-use Rattle.exact.proofs.Steps.{where-some}
 use Rattle.pieces.specs.Written.{Wrote, Ready}
 use Rattle.pieces.proofs.Sizing.{fits-ready}
 use Rattle.views.specs.Standing.{LiteralAt}
@@ -35,7 +36,7 @@ module _ (ws : List (List ℕ)) (old : List ℕ) (next : ℕ) (s : Size) (es : s
     took-room h = room n refl (sym es ∙ e) h refl
 
     module _ (h : n ≤ next) where
-      pub took-ready : next ≤ 8192 → next ≤ length old → Ready ws old (next - n)
+      pub took-ready : next ≤ desk .room → next ≤ length old → Ready ws old (next - n)
       took-ready small fits = fits-ready ws n (sym es ∙ e) (omega arith) old (next - n) (omega arith)
 
       pub took-done : (new : List ℕ) (end : ℕ) → Wrote old (next - n) (framed ws) new end → Took ws old next (Done (next - n)) new
@@ -53,13 +54,13 @@ monomials : (K : Conj) (h : Hedge) (R : Expr) → Answers (λ bs. bs ≡ map (mo
 monomials K h R =
     look (firstTerm h) (first-parts h) λ a e. test _ λ _ _. test _ λ _ _. answers (ap (λ a. map (monomialResult (a .0) (a .1)) (linear R)) e)
 
-no-equation : (swap : Bool) (K : Conj) (l r : Hedge) → sideAnswer swap 20 K (eqn l r) ≡ none
+no-equation : (swap : Bool) (K : Conj) (l r : Hedge) → sideAnswer swap atM2 K (eqn l r) ≡ none
 unfolding eqnAnswer
 no-equation true K l r = refl
 no-equation false K l r = refl
 
 -- where the rule is M2, the literal is a membership
-pub took-monomials : (k old new : List ℕ) (next at n : ℕ) (swap : Bool) (r : Stepped) → n ≡ 20
+pub took-monomials : (k old new : List ℕ) (next at n : ℕ) (swap : Bool) (r : Stepped) → n ≡ atM2
     → ((before : Conj) (h : Hedge) (R : Expr) (behind : Conj) → LiteralAt k at before (mem h R) behind → Took (monomialWords before h R behind) old next r new)
     → (before : Conj) (l : Literal) (behind : Conj) (bs : List Branch) → LiteralAt k at before l behind → sideAnswer swap n (before ++ behind) l ≡ some bs
     → Took (placedWords before behind bs) old next r new

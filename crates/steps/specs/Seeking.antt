@@ -7,6 +7,7 @@ use lib.ListN.{length}
 use Rattle.language.specs.Kinds.{pick}
 use Rattle.language.specs.Trees.{Literal, eqn, mem, Conj}
 use Rattle.language.specs.Writing.{conjWords}
+use Rattle.rules.specs.Places.{noRule}
 use Rattle.plans.specs.Ranks.{eqnRank, memRank}
 use Rattle.steps.specs.declared.Best.{Best}
 
@@ -28,6 +29,6 @@ abbrev pub bestFrom : Best → Conj → Conj → Best
 bestFrom b before [] = b
 bestFrom b before (l ∷ behind) = bestFrom (lesserOf b (bestAt before l behind)) (before ++ (l ∷ [])) behind
 
--- of a whole conjunction; rank 28, where no rule applies
+-- of a whole conjunction; rank `noRule`, where no rule applies
 unfoldable pub bestOf : Conj → Best
-bestOf c = bestFrom (best 28 0 false) [] c
+bestOf c = bestFrom (best noRule 0 false) [] c

@@ -16,6 +16,7 @@ ghost use Rattle.search.specs.Ranking.{sideAnswer};
 ghost use Rattle.steps.specs.Seeking.{lesserOf, bestAt, bestOf};
 ghost use Rattle.steps.specs.Taking.{Took};
 ghost use Rattle.equations.specs.Planned.{Planned};
+ghost use Rattle.rules.specs.Places.{atM2, noRule};
 use equations::plan::plan_equation;
 use equations::rank::rank_equation;
 use exprs::size_monomials;
@@ -29,6 +30,7 @@ use plans::Size;
 use views::see;
 use views::show_membership;
 use views::swapped;
+use rules::places::{AT_M2, NO_RULE};
 
 // The literal of the least rank so far: its rank, its place, and whether its equation is seen from the other side.
 pub struct Best {
@@ -100,10 +102,10 @@ fn lesser(a: Best, b: Best) -> Best
 
 // The earliest literal of the least rank.
 pub fn find(k: &[u16]) -> Best
-    ensures { λ b. ⌜ (b .rank < 28 → b .at < length (now (k .entry))) × ((c : Conj) → fineConj desk c → now (k .entry) ≡ conjWords c → b ≡ bestOf c) ⌝ }
+    ensures { λ b. ⌜ (b .rank < noRule → b .at < length (now (k .entry))) × ((c : Conj) → fineConj desk c → now (k .entry) ≡ conjWords c → b ≡ bestOf c) ⌝ }
 {
     let mut best = Best {
-        rank: 28,
+        rank: NO_RULE,
         at: 0,
         swap: false,
     };
@@ -127,7 +129,7 @@ pub enum Stepped {
 // The plan of the rule of that rank at that literal.
 fn plan_at(k: &[u16], b: Best) -> Plan
     requires { ⌜ b .at < length (now k) ⌝ }
-    ensures { λ p. ⌜ ((before : Conj) (l : Literal) (behind : Conj) → LiteralAt (now (k .entry)) (b .at) before l behind → (b .rank ≡ 20 → ⊥) → Planned (now (k .entry)) p before behind (sideAnswer (b .swap) (b .rank) (before ++ behind) l)) ⌝ }
+    ensures { λ p. ⌜ ((before : Conj) (l : Literal) (behind : Conj) → LiteralAt (now (k .entry)) (b .at) before l behind → (b .rank ≡ atM2 → ⊥) → Planned (now (k .entry)) p before behind (sideAnswer (b .swap) (b .rank) (before ++ behind) l)) ⌝ }
 {
     let at = b.at;
     let rank = b.rank;
@@ -145,7 +147,7 @@ fn plan_at(k: &[u16], b: Best) -> Plan
 
 // The results of a plan, right before `next`.
 fn step_planned(k: &[u16], plan: Plan, out: &mut [u16], next: usize) -> Stepped
-    requires { ⌜ (length (now k) ≤ 1024) × (next ≤ length (now out)) × (next ≤ 8192) ⌝ }
+    requires { ⌜ (length (now k) ≤ desk .question) × (next ≤ length (now out)) × (next ≤ desk .room) ⌝ }
     ensures { λ r. ⌜ Took (resultsOf (now (k .entry)) plan) (now (out .entry)) next r (now (out .exit)) ⌝ }
 {
     match size_results(k, plan) {
@@ -163,7 +165,7 @@ fn step_planned(k: &[u16], plan: Plan, out: &mut [u16], next: usize) -> Stepped
 
 // The results of M2 at the membership at a place, right before `next`.
 fn step_monomials(k: &[u16], literal: usize, out: &mut [u16], next: usize) -> Stepped
-    requires { ⌜ (length (now k) ≤ 1024) × (literal < length (now k)) × (next ≤ length (now out)) × (next ≤ 8192) ⌝ }
+    requires { ⌜ (length (now k) ≤ desk .question) × (literal < length (now k)) × (next ≤ length (now out)) × (next ≤ desk .room) ⌝ }
     ensures { λ r. ⌜ ((before : Conj) (h : Hedge) (R : Expr) (behind : Conj) → LiteralAt (now (k .entry)) literal before (mem h R) behind → Took (monomialWords before h R behind) (now (out .entry)) next r (now (out .exit))) ⌝ }
 {
     let s = show_membership(k, literal);
@@ -182,10 +184,10 @@ fn step_monomials(k: &[u16], literal: usize, out: &mut [u16], next: usize) -> St
 
 // A step of the conjunction k: the results of the rule of that rank at that literal, right before `next`.
 pub fn take_step(k: &[u16], b: Best, out: &mut [u16], next: usize) -> Stepped
-    requires { ⌜ (length (now k) ≤ 1024) × (b .at < length (now k)) × (next ≤ length (now out)) × (next ≤ 8192) ⌝ }
+    requires { ⌜ (length (now k) ≤ desk .question) × (b .at < length (now k)) × (next ≤ length (now out)) × (next ≤ desk .room) ⌝ }
     ensures { λ r. ⌜ ((before : Conj) (l : Literal) (behind : Conj) (bs : List Branch) → LiteralAt (now (k .entry)) (b .at) before l behind → sideAnswer (b .swap) (b .rank) (before ++ behind) l ≡ some bs → Took (placedWords before behind bs) (now (out .entry)) next r (now (out .exit))) ⌝ }
 {
-    if b.rank == 20 {
+    if b.rank == AT_M2 {
         return step_monomials(k, b.at, out, next);
     }
     step_planned(k, plan_at(k, b), out, next)

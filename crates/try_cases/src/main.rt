@@ -1,10 +1,13 @@
 // Reads cases, a line of a question's words and a line of a filling's each, and writes the refusal's number and 1 for yes, 0 for no.
 ghost use Rattle.cases.specs.Lines.{Parsed};
+use language::limits::FILLING;
+use language::limits::QUESTION;
+use language::limits::ROOM;
 
 fn one(question: &[u8], filling: &[u8]) {
-    let mut asked = [0u16; 2048];
-    let mut given = [0u16; 8192];
-    let mut work = [0u16; 8192];
+    let mut asked = [0u16; 2 * QUESTION];
+    let mut given = [0u16; 2 * FILLING];
+    let mut work = [0u16; ROOM];
     let n = cases::words_of(question, &mut asked);
     let m = cases::words_of(filling, &mut given);
     let tried = trying::try_filling(&asked[0..n], &given[0..m], &mut work);

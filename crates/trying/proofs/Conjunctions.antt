@@ -91,7 +91,7 @@ module _ (n : Counts) (fs ws : List ℕ) (l : Literal) (ρ : Filling) (x : ALite
   pub literal-shows : Shows t h fs ws
   literal-shows = rw (p, q, x .words) (declared-shows n (has-values n fs ρ (was n fs ρ (x .given))) (literalWords l) (literal-declared desk n l (x .fine) ∙ x .known))
 
-  pub filling-few : length fs ≤ 4096
+  pub filling-few : length fs ≤ desk .filling
   filling-few = was n fs ρ (x .given) .few
 
   size-of : (l : Literal) → fineLiteral desk l → declaredL n l ≡ true → length (filled t h fs (literalWords l)) ≡ filledSize ρ l

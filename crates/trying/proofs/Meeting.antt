@@ -15,11 +15,12 @@ use Rattle.language.specs.Between.{between}
 use Rattle.language.proofs.Bools.{both-true}
 use Rattle.meaning.specs.Complete.{Complete, completeWords}
 use Rattle.meaning.specs.Meaning.{Filling, fill, Member, Meets}
+use Rattle.meaning.proofs.Same.{same-words}
 use Rattle.rules.specs.Calls.{filledSize}
 use Rattle.member.specs.Places.{Stands}
 use Rattle.filling.specs.Showing.{filled, Shows}
 use Rattle.trying.specs.Tasks.{firstHedge, FirstEnd, SameWords, Keeps, EquationMet, Testable, MembershipMet, ALiteral, FittingLiteral, LiteralMet}
-use Rattle.trying.proofs.Parts.{same-hedges, inside, first-part, second-part, shows, becomes, by-equation, by-membership}
+use Rattle.trying.proofs.Parts.{inside, first-part, second-part, shows, becomes, by-equation, by-membership}
 
 -- the rest of a literal, after its first hedge
 abbrev restWords : Literal → List ℕ
@@ -38,14 +39,14 @@ is-true false n = absurd (n refl)
 pub record EquationReady (t h : ℕ) (fs ws : List ℕ) (m : ℕ) : Type 0 where
   pub left : Shows t h fs (between 1 m ws)
   pub right : Shows t h fs (between m (length ws) ws)
-  pub fits : length (filled t h fs (between 1 m ws)) + length (filled t h fs (between m (length ws) ws)) ≤ 8192
+  pub fits : length (filled t h fs (between 1 m ws)) + length (filled t h fs (between m (length ws) ws)) ≤ desk .literal
 
 -- and of a membership
 pub record MembershipReady (t h : ℕ) (fs ws : List ℕ) (m : ℕ) : Type 0 where
   pub hedge : Shows t h fs (between 1 m ws)
   pub test : Testable t h fs (between 1 m ws) (between m (length ws) ws)
-  pub short : length (between m (length ws) ws) ≤ 1024
-  pub fits : length (filled t h fs (between 1 m ws)) ≤ 8192
+  pub short : length (between m (length ws) ws) ≤ desk .question
+  pub fits : length (filled t h fs (between 1 m ws)) ≤ desk .literal
 
 module _ (n : Counts) (fs ws : List ℕ) (m : ℕ) (end : FirstEnd ws m) where
   module _ {l : Literal} {ρ : Filling} (x : ALiteral n fs ws l ρ) where
@@ -65,7 +66,7 @@ module _ (n : Counts) (fs ws : List ℕ) (m : ℕ) (end : FirstEnd ws m) where
     -- ---- an equation
 
     pub equation-ready : FittingLiteral n fs ws → getD ws 0 0 ≡ 5000 → EquationReady t h fs ws m
-    equation-ready f w = by-equation (λ l. ALiteral n fs ws l (f .ρ) → filledSize (f .ρ) l ≤ 8192 → EquationReady t h fs ws m) w
+    equation-ready f w = by-equation (λ l. ALiteral n fs ws l (f .ρ) → filledSize (f .ρ) l ≤ desk .literal → EquationReady t h fs ws m) w
         (λ a b x s.
         let (da, db) = both-true (declared n a) (declared n b) (x .known) in
         record {
@@ -83,8 +84,8 @@ module _ (n : Counts) (fs ws : List ℕ) (m : ℕ) (end : FirstEnd ws m) where
           let (da, db) = both-true (declared n a) (declared n b) (x .known) in
           let ea : filled t h fs (between 1 m ws) ≡ completeWords (fill ρ a) = ap (filled t h fs) (first-is x) ∙ becomes n fs _ (x .given) p q a (x .fine .0) da in
           let eb : filled t h fs (between m (length ws) ws) ≡ completeWords (fill ρ b) = ap (filled t h fs) (rest-is x) ∙ becomes n fs _ (x .given) p q b (x .fine .1) db in (
-            λ e. same-hedges (fill ρ a) (fill ρ b) (sym ea ∙ met .compares .same e ∙ eb),
-            λ s. is-true r (λ e. met .compares .other e (ea ∙ ap completeWords s ∙ sym eb)),
+            λ e. same-words (fill ρ a) (fill ρ b) .1 (sym ea ∙ met .compares .same e ∙ eb),
+            λ s. is-true r (λ e. met .compares .other e (ea ∙ same-words (fill ρ a) (fill ρ b) .0 s ∙ sym eb)),
           ))
           l (x .words) x;
     }
@@ -95,7 +96,7 @@ module _ (n : Counts) (fs ws : List ℕ) (m : ℕ) (end : FirstEnd ws m) where
     stands R es f e = record { others = []; fine = f; words = e ∙ sym (append-nil (exprWords R)) }
 
     pub membership-ready : FittingLiteral n fs ws → (getD ws 0 0 ≡ 5000 → ⊥) → MembershipReady t h fs ws m
-    membership-ready f w = by-membership (λ l. ALiteral n fs ws l (f .ρ) → filledSize (f .ρ) l ≤ 8192 → MembershipReady t h fs ws m) w
+    membership-ready f w = by-membership (λ l. ALiteral n fs ws l (f .ρ) → filledSize (f .ρ) l ≤ desk .literal → MembershipReady t h fs ws m) w
         (λ a R x s.
         let (da, dR) = both-true (declared n a) (declaredE n R) (x .known) in
         let ea : filled t h fs (between 1 m ws) ≡ completeWords (fill (f .ρ) a) = ap (filled t h fs) (first-is x) ∙ becomes n fs _ (x .given) p q a (x .fine .0) da in

@@ -17,6 +17,7 @@ use Rattle.language.proofs.Asking.{passed, ranges}
 use Rattle.meaning.specs.Meaning.{Filling, MeetsQuestion}
 use Rattle.meaning.specs.Values.{Given, gives, readFilling}
 use Rattle.meaning.specs.Values as values
+use Rattle.rules.specs.Answer.{zeros, overwritten}
 use Rattle.rules.specs.Calls.{tooLong, Trying, decides, unread, given-up, tryingWith, tryingOf, trying}
 use Rattle.reader.specs.declared.Header.{Header}
 use Rattle.reader.specs.declared.Checked.{Checked}
@@ -27,7 +28,7 @@ use Rattle.filling.specs.Checking.{given}
 use Rattle.trying.specs.declared.Tried.{Tried}
 use Rattle.trying.specs.declared.Tried.the-variants.{Yes, No, Refused}
 use Rattle.trying.specs.Tasks.{Keeps, AQuestion, SomeQuestion, FittingQuestion, QuestionTooLong, QuestionMet, AskedQuestion}
-use Rattle.trying.specs.Outcome.{cleared, Answers, Outcome, TriedAsked, TriedGiven}
+use Rattle.trying.specs.Outcome.{Answers, Outcome, TriedAsked, TriedGiven}
 use Rattle.trying.proofs.Rooms.{keeps-cleared}
 
 -- ---- neither refused
@@ -40,10 +41,10 @@ module _ (h : Header) (fs ws : List ℕ) where
   given-fits l e s = record { q = s .q; ρ = s .ρ; it = s .it; fits = sym (l .each (s .q) (s .ρ) (s .it)) ∙ e }
 
   module _ {w w′ : List ℕ} {long : Bool} (l : QuestionTooLong h fs ws long) where
-    pub given-long : long ≡ true → w′ ≡ cleared w → TriedGiven h fs ws (Refused LongLiteral) w w′
+    pub given-long : long ≡ true → w′ ≡ overwritten desk (zeros desk) w → TriedGiven h fs ws (Refused LongLiteral) w w′
     given-long e c = record { each = λ q ρ x. subst (λ b. Outcome (decided q ρ b) (Refused LongLiteral) w w′) (sym e ∙ l .each q ρ x) (refl, c) }
 
-    module _ {u : List ℕ} {met : Bool} (e : long ≡ false) (m : QuestionMet h fs ws w u met) (c : w′ ≡ cleared u) where
+    module _ {u : List ℕ} {met : Bool} (e : long ≡ false) (m : QuestionMet h fs ws w u met) (c : w′ ≡ overwritten desk (zeros desk) u) where
       says : {t : Tried} → ((q : Question) (ρ : Filling) → AQuestion h fs ws q ρ → Answers (MeetsQuestion ρ q) t) → TriedGiven h fs ws t w w′
       says {t} a = record { each = λ q ρ x. subst (λ b. Outcome (decided q ρ b) t w w′) (sym e ∙ l .each q ρ x) (a q ρ x, c ∙ keeps-cleared (m .keeps)) }
 
@@ -90,14 +91,14 @@ module _ (h : Header) (fs ws : List ℕ) where
 -- ---- every input
 
 module _ (ws fs w : List ℕ) where
-  pub short-slice : length w < 8192 → Outcome (trying desk (length w) ws fs) (Refused ShortSlice) w w
+  pub short-slice : length w < desk .room → Outcome (trying desk (length w) ws fs) (Refused ShortSlice) w w
   unfolding trying
-  short-slice p = rw (trying, lt-ltb (length w) 8192 p) (refl, refl)
+  short-slice p = rw (trying, lt-ltb (length w) (desk .room) p) (refl, refl)
 
-  module _ (p : 8192 ≤ length w) where
+  module _ (p : desk .room ≤ length w) where
     reads-on : trying desk (length w) ws fs ≡ tryingOf desk (readQuestion desk ws) fs
     unfolding trying
-    reads-on = rw (trying, le-ltb (length w) 8192 p)
+    reads-on = rw (trying, le-ltb (length w) (desk .room) p)
 
     pub refused-question : {c : Checked} {r : Refusal} → c ≡ checked (readQuestion desk ws) → c ≡ checked-as.Refused r → Outcome (trying desk (length w) ws fs) (Refused r) w w
     unfolding checked

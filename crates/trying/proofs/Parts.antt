@@ -1,12 +1,11 @@
 -- The parts of a literal's words, and what they become.
 use Prim.Native.Nat.{ℕ, suc, _+_, _-_, _<_, _≤_}
-use mathlib.Core.Path.{_≡_, refl, sym, ap, subst, _∙_}
+use mathlib.Core.Path.{_≡_, sym, ap, _∙_}
 use mathlib.Core.Bool.{Bool, true, false, _&&_}
-use mathlib.Core.List.{List, [], _∷_, _++_, append-assoc, append-nil}
+use mathlib.Core.List.{List, _∷_, _++_}
 use native.Mathlib.Omega.{arith}
 use lib.ListN.{length, getD, take, drop, length-append}
 use lib.Seq.{take-at, drop-at, take-all}
-use Rattle.language.specs.declared.Sym.{Sym}
 use Rattle.language.specs.Limits.{desk}
 use Rattle.language.specs.Trees.{Hedge, Expr, Literal, eqn, mem, Counts}
 use Rattle.language.specs.Writing.{hedgeWords, exprWords, literalWords}
@@ -15,7 +14,7 @@ use Rattle.language.specs.Question.{declared, declaredE, declaredL}
 use Rattle.language.specs.Between.{between}
 use Rattle.language.proofs.Bools.{both-true}
 use Rattle.language.proofs.Undeclared.{hedge-declared}
-use Rattle.meaning.specs.Complete.{Complete, nil, tree, completeWords}
+use Rattle.meaning.specs.Complete.{completeWords}
 use Rattle.meaning.specs.Meaning.{Filling, fill}
 use Rattle.meaning.specs.Values.{gives, readFilling}
 use Rattle.filling.specs.Showing.{filled, Shows}
@@ -23,29 +22,6 @@ use Rattle.filling.proofs.Values.{declared-shows}
 use Rattle.filling.proofs.Becomes.{hedge-becomes}
 use Rattle.filling.proofs.Given.{Was, was, has-values}
 use Rattle.trying.specs.Tasks.{firstHedge, FirstEnd, ALiteral}
-
--- ---- complete hedges have their own words
-
-nil≢ : {A : Type 0} (x : ℕ) {k k′ : List ℕ} → _≡_ {A = List ℕ} (0 ∷ k) ((3000 + x) ∷ k′) → A
-nil≢ x e = absurd (let z : 0 ≡ 3000 + x = cc in omega arith)
-
-own-words : (a b : Complete) (k k′ : List ℕ) → completeWords a ++ k ≡ completeWords b ++ k′ → (a ≡ b) × (k ≡ k′)
-own-words nil nil k k′ e = (refl, cc)
-own-words nil (tree g d s) k k′ e = nil≢ (g .0) e
-own-words (tree f c r) nil k k′ e = nil≢ (f .0) (sym e)
-own-words (tree f c r) (tree g d s) k k′ e =
-    let z : 3000 + f .0 ≡ 3000 + g .0 = cc in
-    let y : f .0 ≡ g .0 = omega arith in
-    let fg : f ≡ g = ap (λ n. record { 0 = n }) y in
-    let t : (completeWords c ++ completeWords r) ++ k ≡ (completeWords d ++ completeWords s) ++ k′ = cc in
-    let u = own-words c d (completeWords r ++ k) (completeWords s ++ k′) (sym (append-assoc (completeWords c) (completeWords r) k) ∙ t ∙ append-assoc (completeWords d) (completeWords s) k′) in
-    let v = own-words r s k k′ (u .1) in
-    let cd = u .0 in
-    let rs = v .0 in
-    (cc, v .1)
-
-pub same-hedges : (a b : Complete) → completeWords a ≡ completeWords b → a ≡ b
-same-hedges a b e = own-words a b [] [] (ap (λ l. l ++ []) e) .0
 
 -- ---- the parts
 

@@ -57,6 +57,22 @@ module _ (h : Header) (fs ws : List ℕ) where
     pub no-more : (i : ℕ) → h .alternatives ≤ i → drop i (q .alternatives) ≡ []
     no-more i p = let z : length (q .alternatives) ≤ i = omega (arith, all-of) in drop-of-length-le (q .alternatives) z
 
+  -- ---- a loop over n alternatives, at the one numbered i
+
+  pub fitting-some : FittingQuestion h fs ws → SomeQuestion h fs ws
+  fitting-some s = record { q = s .q; ρ = s .ρ; it = s .it }
+
+  module _ {n : ℕ} (s : SomeQuestion h fs ws) (e : n ≡ h .alternatives) where
+    pub loop-room : n + 6 ≤ length ws
+    loop-room = omega (arith, how-long (s .q) (s .ρ) (s .it))
+
+    module _ {i from to : ℕ} (p : i < n) (f : from ≡ getD ws (5 + i) 0) (t : to ≡ getD ws (6 + i) 0) where
+      its : (q : Question) (ρ : Filling) (x : AQuestion h fs ws q ρ) → Here h fs ws q ρ i from to
+      its q ρ x = here q ρ x i from to (omega arith) f t
+
+      pub loop-here : Here h fs ws (s .q) (s .ρ) i from to
+      loop-here = its (s .q) (s .ρ) (s .it)
+
   -- ---- lengths
 
   pub record Measuring (i n : ℕ) : Type 0 where
@@ -67,23 +83,14 @@ module _ (h : Header) (fs ws : List ℕ) where
   pub measuring-starts : {n : ℕ} → SomeQuestion h fs ws → n ≡ h .alternatives → Measuring 0 n
   measuring-starts s e = record { some = s; number = e; each = λ q ρ x. refl }
 
-  pub measuring-room : {i n : ℕ} → Measuring i n → n + 6 ≤ length ws
-  measuring-room m = omega (arith, m .number, how-long (m .some .q) (m .some .ρ) (m .some .it))
-
   module _ {i n from to : ℕ} (m : Measuring i n) (p : i < n) (f : from ≡ getD ws (5 + i) 0) (t : to ≡ getD ws (6 + i) 0) where
-    its : (q : Question) (ρ : Filling) (x : AQuestion h fs ws q ρ) → Here h fs ws q ρ i from to
-    its q ρ x = here q ρ x i from to (omega (arith, m .number)) f t
-
-    pub measuring-here : Here h fs ws (m .some .q) (m .some .ρ) i from to
-    measuring-here = its (m .some .q) (m .some .ρ) (m .some .it)
-
     pub measuring-conj : SomeConj (countsIn h) fs (between from to ws)
-    measuring-conj = record { k = getD (m .some .q .alternatives) i []; ρ = m .some .ρ; it = measuring-here .conj }
+    measuring-conj = record { k = getD (m .some .q .alternatives) i []; ρ = m .some .ρ; it = loop-here (m .some) (m .number) p f t .conj }
 
     module _ {r : Bool} (c : ConjTooLong (countsIn h) fs (between from to ws) r) where
       over : (q : Question) (ρ : Filling) → AQuestion h fs ws q ρ → (r || tooLong desk ρ (drop (i + 1) (q .alternatives))) ≡ tooLong desk ρ (q .alternatives)
       over q ρ x =
-          let y = its q ρ x in
+          let y = its (m .some) (m .number) p f t q ρ x in
           ap (λ b. b || tooLong desk ρ (drop (i + 1) (q .alternatives))) (c .each (getD (q .alternatives) i []) ρ (y .conj)) ∙ ap (tooLong desk ρ) (sym (y .split)) ∙ m .each q ρ x
 
       pub measuring-over : r ≡ true → QuestionTooLong h fs ws true
@@ -107,33 +114,27 @@ module _ (h : Header) (fs ws : List ℕ) where
   pub trying-starts : {n : ℕ} (w : List ℕ) → FittingQuestion h fs ws → n ≡ h .alternatives → Trying-on 0 n w w
   trying-starts w s e = record { keeps = keeps-none w; some = s; number = e; fits = λ q ρ x f. f; one = λ q ρ x. (λ z. z, λ z. z) }
 
-  pub trying-room : {i n : ℕ} {w u : List ℕ} → Trying-on i n w u → n + 6 ≤ length ws
-  trying-room m = omega (arith, m .number, how-long (m .some .q) (m .some .ρ) (m .some .it))
-
   module _ {i n from to : ℕ} {w u : List ℕ} (m : Trying-on i n w u) (p : i < n) (f : from ≡ getD ws (5 + i) 0) (t : to ≡ getD ws (6 + i) 0) where
-    its-here : (q : Question) (ρ : Filling) (x : AQuestion h fs ws q ρ) → Here h fs ws q ρ i from to
-    its-here q ρ x = here q ρ x i from to (omega (arith, m .number)) f t
-
-    pub trying-here : Here h fs ws (m .some .q) (m .some .ρ) i from to
-    trying-here = its-here (m .some .q) (m .some .ρ) (m .some .it)
+    there : (q : Question) (ρ : Filling) (x : AQuestion h fs ws q ρ) → Here h fs ws q ρ i from to
+    there = its (fitting-some (m .some)) (m .number) p f t
 
     -- the alternative fits, and so do those after it
     both-fit : (q : Question) (ρ : Filling) (x : AQuestion h fs ws q ρ) → tooLong desk ρ (q .alternatives) ≡ false → (anyOver desk ρ (getD (q .alternatives) i []) ≡ false) × (tooLong desk ρ (drop (i + 1) (q .alternatives)) ≡ false)
     both-fit q ρ x e =
         or-false (anyOver desk ρ (getD (q .alternatives) i [])) (tooLong desk ρ (drop (i + 1) (q .alternatives)))
-        (ap (tooLong desk ρ) (sym (its-here q ρ x .split)) ∙ m .fits q ρ x e)
+        (ap (tooLong desk ρ) (sym (there q ρ x .split)) ∙ m .fits q ρ x e)
 
     pub trying-conj : FittingConj (countsIn h) fs (between from to ws)
     trying-conj =
         let s = m .some in
-        record { k = getD (s .q .alternatives) i []; ρ = s .ρ; it = trying-here .conj; fits = both-fit (s .q) (s .ρ) (s .it) (s .fits) .0 }
+        record { k = getD (s .q .alternatives) i []; ρ = s .ρ; it = there (s .q) (s .ρ) (s .it) .conj; fits = both-fit (s .q) (s .ρ) (s .it) (s .fits) .0 }
 
     module _ {v : List ℕ} {r : Bool} (c : ConjMet (countsIn h) fs (between from to ws) u v r) where
       pub trying-met : r ≡ true → QuestionMet h fs ws w v true
       trying-met e = record {
         keeps = keeps-both (m .keeps) (c .keeps);
         each = λ q ρ x.
-            let y = its-here q ρ x in
+            let y = there q ρ x in
             let (to-all, from-all) = c .each (getD (q .alternatives) i []) ρ (y .conj) in
             let (on, back) = m .one q ρ x in
             (λ z. on (subst (MeetsOne ρ) (sym (y .split)) (inl (to-all e))), λ z. refl);
@@ -146,7 +147,7 @@ module _ (h : Header) (fs ws : List ℕ) where
         number = m .number;
         fits = λ q ρ x f. both-fit q ρ x f .1;
         one = λ q ρ x.
-            let y = its-here q ρ x in
+            let y = there q ρ x in
             let (to-all, from-all) = c .each (getD (q .alternatives) i []) ρ (y .conj) in
             let (on, back) = m .one q ρ x in
             (λ z. on (subst (MeetsOne ρ) (sym (y .split)) (inr z)), λ z. later q ρ from-all (subst (MeetsOne ρ) (y .split) (back z)));

@@ -6,13 +6,14 @@ use mathlib.Core.List.{List, [], _∷_, _++_, append-assoc}
 use native.Mathlib.Nat.{zero-add}
 use native.Mathlib.Omega.{arith}
 use native.Mathlib.Decide.{ℕ-discrete}
-use lib.ListN.{length, getD, take, drop, replicate, set, length-append}
+use lib.ListN.{length, getD, take, drop, set, length-append}
 use lib.Seq.{sets, length-sets, sets-eq, drop-set-lt, take-at, drop-at, ext-getD}
+use Rattle.language.specs.Limits.{desk}
 use Rattle.language.specs.Between.{between}
 use Rattle.language.proofs.Stores.{sets-append}
+use Rattle.rules.specs.Answer.{zeros, overwritten}
 use Rattle.filling.specs.Showing.{filled, Written}
 use Rattle.trying.specs.Tasks.{SameWords, Keeps}
-use Rattle.trying.specs.Outcome.{cleared}
 
 -- ---- what stays
 
@@ -26,12 +27,11 @@ keeps-none w = record { len = refl; later = refl }
 pub keeps-both : {u v w : List ℕ} → Keeps u v → Keeps v w → Keeps u w
 keeps-both a b = record { len = b .len ∙ a .len; later = b .later ∙ a .later }
 
-pub keeps-sets : (w : List ℕ) (i : ℕ) (vs : List ℕ) (w′ : List ℕ) → w′ ≡ sets w i vs → i + length vs ≤ 8192 → Keeps w w′
-keeps-sets w i vs w′ e p = record { len = ap length e ∙ length-sets w i vs; later = ap (drop 8192) e ∙ drop-sets w i vs 8192 p }
+pub keeps-sets : (w : List ℕ) (i : ℕ) (vs : List ℕ) (w′ : List ℕ) → w′ ≡ sets w i vs → i + length vs ≤ desk .room → Keeps w w′
+keeps-sets w i vs w′ e p = record { len = ap length e ∙ length-sets w i vs; later = ap (drop (desk .room)) e ∙ drop-sets w i vs (desk .room) p }
 
-pub keeps-cleared : {w w′ : List ℕ} → Keeps w w′ → cleared w′ ≡ cleared w
-unfolding cleared
-keeps-cleared k = ap (λ l. replicate 8192 0 ++ l) (k .later)
+pub keeps-cleared : {w w′ : List ℕ} → Keeps w w′ → overwritten desk (zeros desk) w′ ≡ overwritten desk (zeros desk) w
+keeps-cleared k = ap (λ l. zeros desk ++ l) (k .later)
 
 -- ---- what is written
 

@@ -54,7 +54,7 @@ module _ (n : Counts) (fs ws : List ℕ) where
     pub scan-here : Next-literal n fs ws i end (scan-left .left) (s .some .ρ)
     scan-here = next-literal n fs ws i end (scan-left .left) (s .some .ρ) e p (scan-left .it)
 
-    pub scan-ready : {t h : ℕ} → t ≡ n .terms → h ≡ n .hedges → (length fs ≤ 4096) × (length (between i end ws) ≤ 4096) × Shows t h fs (between i end ws)
+    pub scan-ready : {t h : ℕ} → t ≡ n .terms → h ≡ n .hedges → (length fs ≤ desk .filling) × (length (between i end ws) ≤ desk .question) × Shows t h fs (between i end ws)
     scan-ready a b =
         let x = scan-here in
         (filling-few n fs _ (x .l) _ (x .literal) a b, omega (arith, x .literal .short), literal-shows n fs _ (x .l) _ (x .literal) a b)
@@ -64,16 +64,16 @@ module _ (n : Counts) (fs ws : List ℕ) where
       size : (k : Conj) (ρ : Filling) (x : Next-literal n fs ws i end k ρ) → m ≡ filledSize ρ (x .l)
       size k ρ x = f ∙ literal-size n fs _ (x .l) ρ (x .literal) a b
 
-      pub scan-over : 8192 < m → ConjTooLong n fs ws true
+      pub scan-over : desk .literal < m → ConjTooLong n fs ws true
       scan-over q = record {
         each = λ k ρ x.
             let l = s .each k ρ x in
             let y = next-literal n fs ws i end (l .left) ρ e p (l .it) in
             let z = size (l .left) ρ y in
-            sym (ap (λ c. c || anyOver desk ρ (y .later)) (lt-ltb 8192 (filledSize ρ (y .l)) (omega arith))) ∙ ap (anyOver desk ρ) (sym (y .is)) ∙ l .same;
+            sym (ap (λ c. c || anyOver desk ρ (y .later)) (lt-ltb (desk .literal) (filledSize ρ (y .l)) (omega arith))) ∙ ap (anyOver desk ρ) (sym (y .is)) ∙ l .same;
       }
 
-      pub scan-on : m ≤ 8192 → Scanning end
+      pub scan-on : m ≤ desk .literal → Scanning end
       scan-on q = record {
         some = s .some;
         each = λ k ρ x.
@@ -83,7 +83,7 @@ module _ (n : Counts) (fs ws : List ℕ) where
             record {
               left = y .later;
               it = y .rest;
-              same = sym (ap (λ c. c || anyOver desk ρ (y .later)) (le-ltb 8192 (filledSize ρ (y .l)) (omega arith))) ∙ ap (anyOver desk ρ) (sym (y .is)) ∙ l .same;
+              same = sym (ap (λ c. c || anyOver desk ρ (y .later)) (le-ltb (desk .literal) (filledSize ρ (y .l)) (omega arith))) ∙ ap (anyOver desk ρ) (sym (y .is)) ∙ l .same;
             };
       }
 
@@ -123,8 +123,8 @@ module _ (n : Counts) (fs ws : List ℕ) where
     test-ready =
         let y = test-here in
         let f : anyOver desk (s .some .ρ) (y .l ∷ y .later) ≡ false = ap (anyOver desk (s .some .ρ)) (sym (y .is)) ∙ its-left .fits (s .some .fits) in
-        let g = or-false (ltb 8192 (filledSize (s .some .ρ) (y .l))) (anyOver desk (s .some .ρ) (y .later)) f in
-        record { l = y .l; ρ = s .some .ρ; it = y .literal; fits = ltb-false 8192 (filledSize (s .some .ρ) (y .l)) (g .0) }
+        let g = or-false (ltb (desk .literal) (filledSize (s .some .ρ) (y .l))) (anyOver desk (s .some .ρ) (y .later)) f in
+        record { l = y .l; ρ = s .some .ρ; it = y .literal; fits = ltb-false (desk .literal) (filledSize (s .some .ρ) (y .l)) (g .0) }
 
     module _ {v : List ℕ} {r : Bool} (m : LiteralMet n fs (between i end ws) u v r) where
       pub test-fails : r ≡ false → ConjMet n fs ws w v false
@@ -150,7 +150,7 @@ module _ (n : Counts) (fs ws : List ℕ) where
               it = y .rest;
               fits = λ f.
                   let g : anyOver desk ρ (y .l ∷ y .later) ≡ false = ap (anyOver desk ρ) (sym (y .is)) ∙ l .fits f in
-                  or-false (ltb 8192 (filledSize ρ (y .l))) (anyOver desk ρ (y .later)) g .1;
+                  or-false (ltb (desk .literal) (filledSize ρ (y .l))) (anyOver desk ρ (y .later)) g .1;
               all = λ z. l .all (subst (MeetsAll ρ) (sym (y .is)) (to q, z));
               all′ = λ z. let a : MeetsAll ρ (y .l ∷ y .later) = subst (MeetsAll ρ) (y .is) (l .all′ z) in a .1;
             };

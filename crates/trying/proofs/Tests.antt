@@ -6,6 +6,7 @@ use mathlib.Core.List.{List, _++_}
 use native.Mathlib.Omega.{arith}
 use lib.ListN.{length, drop}
 use lib.Seq.{sets, length-sets}
+use Rattle.language.specs.Limits.{desk}
 use Rattle.language.specs.Between.{between}
 use Rattle.meaning.specs.Complete.{Complete, completeWords}
 use Rattle.member.specs.Places.{StandsC, Both, Decided}
@@ -21,7 +22,7 @@ module _ {t h : ℕ} {fs : List ℕ} where
     words = x .words ∙ at-front w (filled t h fs hedge) p ∙ ap (λ l. l ++ drop (length (filled t h fs hedge)) w) e;
   }
 
-  module _ {hedge expr w w′ : List ℕ} {n : ℕ} (x : Written t h fs hedge w 0 w′ n) (p : length (filled t h fs hedge) ≤ 8192) (q : 8192 ≤ length w) where
+  module _ {hedge expr w w′ : List ℕ} {n : ℕ} (x : Written t h fs hedge w 0 w′ n) (p : length (filled t h fs hedge) ≤ desk .literal) (q : desk .room ≤ length w) where
     pub both-stand : Testable t h fs hedge expr → Both expr 0 w′ 0
     both-stand s = record { R = s .R; g = s .g; expression = s .expression; hedge = stands x (omega arith) (s .g) (s .becomes) }
 
@@ -32,7 +33,7 @@ module _ {t h : ℕ} {fs : List ℕ} where
     }
 
   module _ {left right w u v : List ℕ} {m n : ℕ} (x : Written t h fs left w 0 u m) (y : Written t h fs right u m v n)
-      (p : length (filled t h fs left) + length (filled t h fs right) ≤ 8192) (q : 8192 ≤ length w) where
+      (p : length (filled t h fs left) + length (filled t h fs right) ≤ desk .literal) (q : desk .room ≤ length w) where
     abbrev a : List ℕ
     a = filled t h fs left
 

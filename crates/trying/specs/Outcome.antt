@@ -2,24 +2,20 @@
 use Prim.Native.Nat.{ℕ}
 use mathlib.Core.Path.{_≡_}
 use mathlib.Core.Logic.{_⊎_}
-use mathlib.Core.List.{List, _++_}
-use lib.ListN.{replicate, drop}
+use mathlib.Core.List.{List}
 use Rattle.language.specs.Numbers.{numberOf}
 use Rattle.language.specs.Limits.{desk}
 use Rattle.language.specs.Trees.{Question}
 use Rattle.language.specs.Question.{asks, readQuestion}
 use Rattle.meaning.specs.Meaning.{Filling, MeetsQuestion}
 use Rattle.meaning.specs.Values.{gives, readFilling}
+use Rattle.rules.specs.Answer.{zeros, overwritten}
 use Rattle.rules.specs.Calls.{Trying, decides, unread, given-up, tryingWith}
 use Rattle.reader.specs.declared.Header.{Header}
 use Rattle.reader.specs.Checking.{headerOf}
 use Rattle.trying.specs.Tasks.{AQuestion}
 use Rattle.trying.specs.declared.Tried.{Tried}
 use Rattle.trying.specs.declared.Tried.the-variants.{Yes, No, Refused}
-
--- "Zeros" covers the first 8,192 words; later words of a longer slice stay.
-unfoldable pub cleared : List ℕ → List ℕ
-cleared w = replicate 8192 0 ++ drop 8192 w
 
 -- yes exactly where it holds
 abbrev pub Answers : Type 0 → Tried → Type 0
@@ -28,8 +24,8 @@ Answers P t = ((t ≡ Yes) × P) ⊎ ((t ≡ No) × (P → ⊥))
 -- the answer, and the work slice before and after
 abbrev pub Outcome : Trying → Tried → List ℕ → List ℕ → Type 0
 Outcome (unread r) t w w′ = (t ≡ Refused r) × (w′ ≡ w)
-Outcome (given-up r) t w w′ = (t ≡ Refused r) × (w′ ≡ cleared w)
-Outcome (decides q ρ) t w w′ = Answers (MeetsQuestion ρ q) t × (w′ ≡ cleared w)
+Outcome (given-up r) t w w′ = (t ≡ Refused r) × (w′ ≡ overwritten desk (zeros desk) w)
+Outcome (decides q ρ) t w w′ = Answers (MeetsQuestion ρ q) t × (w′ ≡ overwritten desk (zeros desk) w)
 
 -- the same for a question that is not refused, and for a filling that is not refused either
 pub record TriedAsked (h : Header) (fs ws : List ℕ) (t : Tried) (w w′ : List ℕ) : Type 0 where

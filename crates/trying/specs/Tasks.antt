@@ -28,7 +28,7 @@ pub record SameWords (a b : List ℕ) (r : Bool) : Type 0 where
 -- the work slice keeps its length, and its words from 8,192 on
 pub record Keeps (w w′ : List ℕ) : Type 0 where
   pub len : length w′ ≡ length w
-  pub later : drop 8192 w′ ≡ drop 8192 w
+  pub later : drop (desk .room) w′ ≡ drop (desk .room) w
 
 -- ---- one literal
 
@@ -62,14 +62,14 @@ pub record ALiteral (n : Counts) (fs ws : List ℕ) (l : Literal) (ρ : Filling)
   pub words : ws ≡ literalWords l
   pub fine : fineLiteral desk l
   pub known : declaredL n l ≡ true
-  pub short : length ws ≤ 1024
+  pub short : length ws ≤ desk .question
 
 -- one that fits, filled in
 pub record FittingLiteral (n : Counts) (fs ws : List ℕ) : Type 0 where
   pub l : Literal
   pub ρ : Filling
   pub it : ALiteral n fs ws l ρ
-  pub fits : filledSize ρ l ≤ 8192
+  pub fits : filledSize ρ l ≤ desk .literal
 
 pub record LiteralMet (n : Counts) (fs ws w w′ : List ℕ) (r : Bool) : Type 0 where
   pub keeps : Keeps w w′
@@ -86,7 +86,7 @@ pub record AConj (n : Counts) (fs ws : List ℕ) (k : Conj) (ρ : Filling) : Typ
   pub words : ws ≡ conjWords k
   pub fine : fineConj desk k
   pub known : declaredC n k ≡ true
-  pub short : length ws ≤ 1024
+  pub short : length ws ≤ desk .question
 
 pub record SomeConj (n : Counts) (fs ws : List ℕ) : Type 0 where
   pub k : Conj

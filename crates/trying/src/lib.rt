@@ -1,5 +1,7 @@
 // Trying a filling: whether it meets a question, or why that cannot be said.
 use language::Refusal;
+use language::limits::LITERAL;
+use language::limits::ROOM;
 use language::number;
 use reader::Checked;
 use reader::Header;
@@ -8,11 +10,12 @@ ghost use mathlib.Core.Path.{_≡_};
 ghost use Prim.Native.Nat.{_+_, _≤_, _<_};
 ghost use lib.ListN.{length};
 ghost use Rattle.language.specs.Limits.{desk};
+ghost use Rattle.rules.specs.Answer.{zeros, overwritten};
 ghost use Rattle.rules.specs.Calls.{trying};
 ghost use Rattle.reader.specs.Checking.{countsIn};
 ghost use Rattle.filling.specs.Showing.{filled, Shows};
 ghost use Rattle.trying.specs.Tasks.{SameWords, FirstEnd, EquationMet, Testable, MembershipMet, FittingLiteral, LiteralMet, LiteralEnd, SomeConj, FittingConj, ConjTooLong, ConjMet, SomeQuestion, FittingQuestion, QuestionTooLong, QuestionMet, AskedQuestion};
-ghost use Rattle.trying.specs.Outcome.{cleared, Outcome, TriedGiven, TriedAsked, triedNumber, triedValue};
+ghost use Rattle.trying.specs.Outcome.{Outcome, TriedGiven, TriedAsked, triedNumber, triedValue};
 
 // What comes of trying a filling.
 pub enum Tried {
@@ -44,11 +47,11 @@ fn same(a: &[u16], b: &[u16]) -> bool
 }
 
 fn clear(work: &mut [u16])
-    requires { ⌜ 8192 ≤ length (now work) ⌝ }
-    ensures { λ _. ⌜ now (work .exit) ≡ cleared (now (work .entry)) ⌝ }
+    requires { ⌜ desk .room ≤ length (now work) ⌝ }
+    ensures { λ _. ⌜ now (work .exit) ≡ overwritten desk (zeros desk) (now (work .entry)) ⌝ }
 {
     let mut i: usize = 0;
-    while i < 8192 {
+    while i < ROOM {
         work[i] = 0;
         i += 1;
     }
@@ -77,8 +80,8 @@ fn meets_equation<'a>(
 ) -> bool
     requires { ⌜ Shows terms hedges (now filling) (now left) ⌝ }
     requires { ⌜ Shows terms hedges (now filling) (now right) ⌝ }
-    requires { ⌜ length (filled terms hedges (now filling) (now left)) + length (filled terms hedges (now filling) (now right)) ≤ 8192 ⌝ }
-    requires { ⌜ 8192 ≤ length (now work) ⌝ }
+    requires { ⌜ length (filled terms hedges (now filling) (now left)) + length (filled terms hedges (now filling) (now right)) ≤ desk .literal ⌝ }
+    requires { ⌜ desk .room ≤ length (now work) ⌝ }
     ensures { λ r. ⌜ EquationMet terms hedges (now (filling .entry)) (now (left .entry)) (now (right .entry)) (now (work .entry)) (now (work .exit)) r ⌝ }
 {
     let mid = filling::fill_in(filling, left, terms, hedges, work, 0);
@@ -98,9 +101,9 @@ fn meets_membership<'a>(
 ) -> bool
     requires { ⌜ Shows terms hedges (now filling) (now hedge) ⌝ }
     requires { ⌜ Testable terms hedges (now filling) (now hedge) (now expression) ⌝ }
-    requires { ⌜ length (now expression) ≤ 1024 ⌝ }
-    requires { ⌜ length (filled terms hedges (now filling) (now hedge)) ≤ 8192 ⌝ }
-    requires { ⌜ 8192 ≤ length (now work) ⌝ }
+    requires { ⌜ length (now expression) ≤ desk .question ⌝ }
+    requires { ⌜ length (filled terms hedges (now filling) (now hedge)) ≤ desk .literal ⌝ }
+    requires { ⌜ desk .room ≤ length (now work) ⌝ }
     ensures { λ r. ⌜ MembershipMet terms hedges (now (filling .entry)) (now (hedge .entry)) (now (expression .entry)) (now (work .entry)) (now (work .exit)) r ⌝ }
 {
     let end = filling::fill_in(filling, hedge, terms, hedges, work, 0);
@@ -109,7 +112,7 @@ fn meets_membership<'a>(
 
 fn meets_literal<'a>(h: Header, filling: &'a [u16], literal: &'a [u16], work: &mut [u16]) -> bool
     requires { ⌜ FittingLiteral (countsIn h) (now filling) (now literal) ⌝ }
-    requires { ⌜ 8192 ≤ length (now work) ⌝ }
+    requires { ⌜ desk .room ≤ length (now work) ⌝ }
     ensures { λ r. ⌜ LiteralMet (countsIn h) (now (filling .entry)) (now (literal .entry)) (now (work .entry)) (now (work .exit)) r ⌝ }
 {
     let terms = wide(h.terms);
@@ -158,7 +161,7 @@ fn too_long<'a>(h: Header, filling: &'a [u16], conj: &'a [u16]) -> bool
         let end = literal_end(conj, i);
         let terms = wide(h.terms);
         let hedges = wide(h.hedges);
-        if 8192 < filling::filled_len(filling, &conj[i..end], terms, hedges) {
+        if LITERAL < filling::filled_len(filling, &conj[i..end], terms, hedges) {
             return true;
         }
         i = end;
@@ -169,7 +172,7 @@ fn too_long<'a>(h: Header, filling: &'a [u16], conj: &'a [u16]) -> bool
 // Whether all its literals are met.
 fn meets_all<'a>(h: Header, filling: &'a [u16], conj: &'a [u16], work: &mut [u16]) -> bool
     requires { ⌜ FittingConj (countsIn h) (now filling) (now conj) ⌝ }
-    requires { ⌜ 8192 ≤ length (now work) ⌝ }
+    requires { ⌜ desk .room ≤ length (now work) ⌝ }
     ensures { λ r. ⌜ ConjMet (countsIn h) (now (filling .entry)) (now (conj .entry)) (now (work .entry)) (now (work .exit)) r ⌝ }
 {
     let mut i: usize = 0;
@@ -206,7 +209,7 @@ fn any_too_long<'a>(h: Header, filling: &'a [u16], question: &'a [u16]) -> bool
 // Whether one of its alternatives is met.
 fn meets_one<'a>(h: Header, filling: &'a [u16], question: &'a [u16], work: &mut [u16]) -> bool
     requires { ⌜ FittingQuestion h (now filling) (now question) ⌝ }
-    requires { ⌜ 8192 ≤ length (now work) ⌝ }
+    requires { ⌜ desk .room ≤ length (now work) ⌝ }
     ensures { λ r. ⌜ QuestionMet h (now (filling .entry)) (now (question .entry)) (now (work .entry)) (now (work .exit)) r ⌝ }
 {
     let n = wide(h.alternatives);
@@ -227,7 +230,7 @@ fn meets_one<'a>(h: Header, filling: &'a [u16], question: &'a [u16], work: &mut 
 // For a question and a filling that are not refused: 13, or the answer.
 fn try_given<'a>(h: Header, question: &'a [u16], filling: &'a [u16], work: &mut [u16]) -> Tried
     requires { ⌜ SomeQuestion h (now filling) (now question) ⌝ }
-    requires { ⌜ 8192 ≤ length (now work) ⌝ }
+    requires { ⌜ desk .room ≤ length (now work) ⌝ }
     ensures { λ r. ⌜ TriedGiven h (now (filling .entry)) (now (question .entry)) r (now (work .entry)) (now (work .exit)) ⌝ }
 {
     if any_too_long(h, filling, question) {
@@ -245,7 +248,7 @@ fn try_given<'a>(h: Header, question: &'a [u16], filling: &'a [u16], work: &mut 
 // For a question that is not refused: 11 and 12 come next.
 fn try_asked<'a>(h: Header, question: &'a [u16], filling: &'a [u16], work: &mut [u16]) -> Tried
     requires { ⌜ AskedQuestion h (now question) ⌝ }
-    requires { ⌜ 8192 ≤ length (now work) ⌝ }
+    requires { ⌜ desk .room ≤ length (now work) ⌝ }
     ensures { λ r. ⌜ TriedAsked h (now (filling .entry)) (now (question .entry)) r (now (work .entry)) (now (work .exit)) ⌝ }
 {
     match filling::read_filling(h, filling) {
@@ -258,7 +261,7 @@ fn try_asked<'a>(h: Header, question: &'a [u16], filling: &'a [u16], work: &mut 
 pub fn try_filling<'a>(question: &'a [u16], filling: &'a [u16], work: &mut [u16]) -> Tried
     ensures { λ r. ⌜ Outcome (trying desk (length (now (work .entry))) (now (question .entry)) (now (filling .entry))) r (now (work .entry)) (now (work .exit)) ⌝ }
 {
-    if work.len() < 8192 {
+    if work.len() < ROOM {
         return Tried::Refused(Refusal::ShortSlice);
     }
     match reader::read_question(question) {

@@ -60,12 +60,12 @@ member-append x (y ∷ a) b = ap (λ t. eqb y x || t) (member-append x a b) ∙ 
 at-base : (b m n : ℕ) → eqb (b + n) (b + m) ≡ eqb m n
 at-base b m n = eqb-base b n m ∙ eqb-sym n m
 
-at-term : (v : Var) (x : TermVar) → fineVar desk v → x .0 < 32 → eqb (1000 + x .0) (variableWord v) ≡ eqV v (tv x)
+at-term : (v : Var) (x : TermVar) → fineVar desk v → x .0 < desk .each → eqb (1000 + x .0) (variableWord v) ≡ eqV v (tv x)
 at-term (tv y) x f g = at-base 1000 (y .0) (x .0)
 at-term (hv q) x f g = ne-eqb (1000 + x .0) (2000 + q .0) (omega arith)
 at-term (fv Y) x f g = ne-eqb (1000 + x .0) (4000 + Y .0) (omega arith)
 
-at-run : (v : Var) (p : HedgeVar) → fineVar desk v → p .0 < 32 → eqb (2000 + p .0) (variableWord v) ≡ eqV v (hv p)
+at-run : (v : Var) (p : HedgeVar) → fineVar desk v → p .0 < desk .each → eqb (2000 + p .0) (variableWord v) ≡ eqV v (hv p)
 at-run (tv y) p f g = ne-eqb (2000 + p .0) (1000 + y .0) (omega arith)
 at-run (hv q) p f g = at-base 2000 (q .0) (p .0)
 at-run (fv Y) p f g = ne-eqb (2000 + p .0) (4000 + Y .0) (omega arith)

@@ -30,9 +30,9 @@ replaced-append old new (x ∷ a) b =
 
 -- the substitution s is: the words `new` for each of the words `old`
 pub record Acts (s : Subst) (old new : List ℕ) : Type 0 where
-  pub term : (x : TermVar) → x .0 < 32 → pick (member (1000 + x .0) old) new ((1000 + x .0) ∷ []) ≡ bodyWords (s .term x)
-  pub hedge : (p : HedgeVar) → p .0 < 32 → pick (member (2000 + p .0) old) new ((2000 + p .0) ∷ []) ≡ bodyWords (s .hedge p)
-  pub functor : (X : FunVar) → X .0 < 32 → pick (member (4000 + X .0) old) new ((4000 + X .0) ∷ []) ≡ functorWord (s .functor X) ∷ []
+  pub term : (x : TermVar) → x .0 < desk .each → pick (member (1000 + x .0) old) new ((1000 + x .0) ∷ []) ≡ bodyWords (s .term x)
+  pub hedge : (p : HedgeVar) → p .0 < desk .each → pick (member (2000 + p .0) old) new ((2000 + p .0) ∷ []) ≡ bodyWords (s .hedge p)
+  pub functor : (X : FunVar) → X .0 < desk .each → pick (member (4000 + X .0) old) new ((4000 + X .0) ∷ []) ≡ functorWord (s .functor X) ∷ []
   -- and no other word is replaced
   pub low : (x : ℕ) → x < 1000 → member x old ≡ false
   pub middle : (x : ℕ) → 3000 ≤ x → x < 4000 → member x old ≡ false
@@ -87,7 +87,7 @@ keep : (w : ℕ) (new : List ℕ) (x : ℕ) → (w ≡ x → ⊥) → pick (memb
 keep w new x e = ap (λ b. pick b new (x ∷ [])) (not-there w x e)
 
 -- x ↦ t
-pub acts-term : (x : TermVar) (t : Hedge) → x .0 < 32 → Acts (setT x t) ((1000 + x .0) ∷ []) (bodyWords t)
+pub acts-term : (x : TermVar) (t : Hedge) → x .0 < desk .each → Acts (setT x t) ((1000 + x .0) ∷ []) (bodyWords t)
 acts-term x t f = record {
   term = λ y g. ap (λ b. pick b (bodyWords t) ((1000 + y .0) ∷ [])) (alone (1000 + x .0) (1000 + y .0) (eqb-base 1000 (x .0) (y .0))) ∙ chosen (eqb (x .0) (y .0)) y;
   hedge = λ p g. keep (1000 + x .0) (bodyWords t) (2000 + p .0) (omega arith);
@@ -102,7 +102,7 @@ acts-term x t f = record {
     chosen false y = refl
 
 -- p ↦ h
-pub acts-hedge : (p : HedgeVar) (h : Hedge) → p .0 < 32 → Acts (setH p h) ((2000 + p .0) ∷ []) (bodyWords h)
+pub acts-hedge : (p : HedgeVar) (h : Hedge) → p .0 < desk .each → Acts (setH p h) ((2000 + p .0) ∷ []) (bodyWords h)
 acts-hedge p h f = record {
   term = λ x g. keep (2000 + p .0) (bodyWords h) (1000 + x .0) (omega arith);
   hedge = λ q g. ap (λ b. pick b (bodyWords h) ((2000 + q .0) ∷ [])) (alone (2000 + p .0) (2000 + q .0) (eqb-base 2000 (p .0) (q .0))) ∙ chosen (eqb (p .0) (q .0)) q;
@@ -117,7 +117,7 @@ acts-hedge p h f = record {
     chosen false q = refl
 
 -- X ↦ F
-pub acts-functor : (X : FunVar) (F : Functor) → X .0 < 32 → Acts (setF X F) ((4000 + X .0) ∷ []) (functorWord F ∷ [])
+pub acts-functor : (X : FunVar) (F : Functor) → X .0 < desk .each → Acts (setF X F) ((4000 + X .0) ∷ []) (functorWord F ∷ [])
 acts-functor X F f = record {
   term = λ x g. keep (4000 + X .0) (functorWord F ∷ []) (1000 + x .0) (omega arith);
   hedge = λ p g. keep (4000 + X .0) (functorWord F ∷ []) (2000 + p .0) (omega arith);

@@ -45,7 +45,7 @@ impl Request<'_> {
     }
 
     /// Bytes that the call is lent to write to.
-    fn lent(&self) -> usize {
+    pub fn lent(&self) -> usize {
         match self {
             Request::Solve { answer, .. } => *answer,
             Request::Try { .. } => 0,

@@ -6,6 +6,7 @@ use native.Mathlib.Omega.{arith}
 use lib.ListN.{length, take, replicate}
 use lib.Seq.{length-take-le}
 use borrow.Author.Needs.{needs}
+use Rattle.language.specs.Limits.{desk}
 use Rattle.rules.specs.Calls.{Showing}
 use Rattle.host.specs.Host.{showNumber, showLeaves}
 use Rattle.host.proofs.Shows.{bytes-show}
@@ -14,7 +15,7 @@ use Rattle.host.proofs.desk_example.Tie as tie
 
 -- the desk's own room at the start
 abbrev clear : List ℕ
-clear = replicate 4096 0
+clear = replicate (desk .filling) 0
 
 slice-aggregate-show-2 : tie.Need-slice-aggregate-show-2
 slice-aggregate-show-2 c = sym (length-take-le _ clear (omega arith))

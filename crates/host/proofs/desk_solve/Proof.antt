@@ -5,6 +5,7 @@ use mathlib.Core.List.{List}
 use native.Mathlib.Omega.{arith}
 use lib.ListN.{replicate}
 use borrow.Author.Needs.{needs}
+use Rattle.language.specs.Limits.{desk}
 use Rattle.host.proofs.Solves.{too-short}
 use Rattle.host.proofs.Called.{refused-early, answered-or-late}
 use Rattle.host.proofs.desk_solve.Statement.{statement}
@@ -12,7 +13,7 @@ use Rattle.host.proofs.desk_solve.Tie as tie
 
 -- the desk's own slices at the start
 abbrev clear : List ℕ
-clear = replicate 8192 0
+clear = replicate (desk .room) 0
 
 returns : tie.Need-returns
 returns c = too-short _ _ (c .if1 .taken)

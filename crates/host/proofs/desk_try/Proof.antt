@@ -2,6 +2,7 @@
 use mathlib.Core.Path.{refl}
 use lib.ListN.{replicate}
 use borrow.Author.Needs.{needs}
+use Rattle.language.specs.Limits.{desk}
 use Rattle.host.proofs.Numbering.{told-as}
 use Rattle.host.proofs.Tries.{tried}
 use Rattle.host.proofs.desk_try.Statement.{statement}
@@ -9,7 +10,7 @@ use Rattle.host.proofs.desk_try.Tie as tie
 
 returns : tie.Need-returns
 returns c =
-    tried _ _ _ _ (replicate 8192 0) _ _ _ (c .before .before .before .before .before .before .before .before .before .before .before .before .take-words .ensures .1) (c .before .before .before .before .before .before .before .before .before .take-words2 .ensures .1) refl (c .before .before .before .before .try-filling .ensures) (told-as (c .told .ensures) (c .before .before .tried-number .ensures) (c .before .tried-value .ensures))
+    tried _ _ _ _ (replicate (desk .room) 0) _ _ _ (c .before .before .before .before .before .before .before .before .before .before .before .before .take-words .ensures .1) (c .before .before .before .before .before .before .before .before .before .take-words2 .ensures .1) refl (c .before .before .before .before .try-filling .ensures) (told-as (c .told .ensures) (c .before .before .tried-number .ensures) (c .before .tried-value .ensures))
 
 pub desk-try-spec : {M : Type 1} → statement M
 desk-try-spec =

@@ -6,6 +6,7 @@ use native.Mathlib.Omega.{arith}
 use lib.ListN.{length, length-take, replicate}
 use lib.Seq.{length-take-le}
 use borrow.Author.Needs.{needs}
+use Rattle.language.specs.Limits.{desk}
 use Rattle.host.proofs.Numbering.{told-as}
 use Rattle.host.proofs.Shows.{example-within, shown-line}
 use Rattle.host.proofs.show.Statement.{statement}
@@ -13,7 +14,7 @@ use Rattle.host.proofs.show.Tie as tie
 
 -- the desk's own slices at the start
 abbrev clear : List ℕ
-clear = replicate 8192 0
+clear = replicate (desk .room) 0
 
 slice-reshare-prefix-write-words : tie.Need-slice-reshare-prefix-write-words
 slice-reshare-prefix-write-words c =

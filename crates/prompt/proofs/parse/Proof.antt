@@ -5,15 +5,15 @@ use native.Mathlib.Omega.{arith}
 use lib.ListN.{length}
 use borrow.Author.Needs.{needs}
 use Rattle.prompt.specs.Texts.{isWrong}
-use Rattle.prompt.proofs.Reading.{Going, one-line, starts, stops, goes-on, ends}
+use Rattle.prompt.proofs.Reading.{Going, starts, stops, goes-on, ends}
 use Rattle.prompt.proofs.parse.Statement.{statement}
 use Rattle.prompt.proofs.parse.Tie as tie
 
 abbrev Inv-loop : tie.InvT-loop
-Inv-loop text words₀ n₀ line₀ mode₀ at₀ words n line mode at = Going text words₀ at line n mode words
+Inv-loop text words₀ n₀ here₀ mode₀ at₀ words n here mode at = Going text words₀ at n here mode words
 
 abbrev μ-loop : tie.MeasureT-loop
-μ-loop text words₀ n₀ line₀ mode₀ at₀ words n line mode at = length text - at
+μ-loop text words₀ n₀ here₀ mode₀ at₀ words n here mode at = length text - at
 
 pub parse-spec : {M : Type 1} → statement M
 parse-spec =
@@ -25,14 +25,14 @@ parse-spec =
     (λ c. search needs)
     (λ c κs. search needs)
     (λ c κs. search needs)
-    (λ c. c .before .before .before .before .before .loop .inv .len)
-    (λ c. stops _ _ (c .before .before .before .before .before .loop .inv) (omega arith) (c .before .is-wrong .ensures ∙ ap isWrong (c .before .before .go-on .ensures)) (c .if1 .taken))
-    (λ c κs. let g = c .before .before .before .before .before .before .loop .inv in omega (arith, g .fits, g .len))
     (λ c κs. search needs)
-    (λ c. let g = c .before .before .before .before .before .before .before .before .before .before .loop .inv in let few = one-line _ _ (c .line-ends .ensures) in omega (arith, g .lines))
+    (λ c. c .before .before .before .before .before .before .loop .inv .len)
+    (λ c. stops _ _ (c .before .before .before .before .before .before .loop .inv) (omega arith) (c .before .is-wrong .ensures ∙ ap isWrong (c .before .before .before .go-on .ensures)) (c .if1 .taken) (c .before .before .beginning .ensures))
+    (λ c κs. let g = c .before .before .before .before .before .before .before .loop .inv in omega (arith, g .fits, g .len))
+    (λ c κs. let g = c .before .before .before .before .before .before .before .before .before .before .loop .inv in (omega (arith, g .lines), omega (arith, g .columns)))
     (λ c. search needs)
     (λ c. search needs)
-    (λ c. goes-on _ _ (c .before .before .before .before .before .before .before .before .before .before .loop .inv) (omega arith) (c .before .before .before .before .before .before .is-wrong .ensures ∙ ap isWrong (c .before .before .before .before .before .before .before .go-on .ensures)) (c .before .before .before .before .before .if1 .left) (c .before .before .before .keep .ensures) (c .line-ends .ensures) (c .before .before .before .before .before .before .before .go-on .ensures))
+    (λ c. goes-on _ _ (c .before .before .before .before .before .before .before .before .before .before .before .loop .inv) (omega arith) (c .before .before .before .before .before .before .is-wrong .ensures ∙ ap isWrong (c .before .before .before .before .before .before .before .before .go-on .ensures)) (c .before .before .before .before .before .if1 .left) (c .before .before .before .before .before .before .before .beginning .ensures) (c .before .before .before .keep .ensures) (c .past .ensures) (c .before .before .before .before .before .before .before .before .go-on .ensures))
     (λ c κs. let g = c .before .before .loop .inv in omega (arith, g .fits, g .len))
     (λ c. search needs)
     (λ c. ends _ _ (c .before .before .before .before .before .loop .inv) (omega arith) (c .before .before .keep2 .ensures)))

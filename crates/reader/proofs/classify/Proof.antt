@@ -4,7 +4,7 @@ use mathlib.Core.Path.{_≡_, sym, ap, _∙_}
 use mathlib.Core.Logic.{inl, inr}
 use Prim.Native.Nat.{ℕ, _<_}
 use native.Mathlib.Omega.{arith}
-use Rattle.language.specs.Limits.{desk}
+use Rattle.language.specs.Limits.{desk, lastOf}
 use Rattle.language.specs.Kinds.{kindOf}
 use Rattle.language.specs.declared.Kind.{Kind}
 use Rattle.language.specs.declared.Kind.the-variants.{Other}
@@ -27,17 +27,17 @@ module _ (w : ℕ) (n : None w) where
   below-1000 : w < 1000 → Other ≡ kindOf desk w
   below-1000 p = none (inl (omega arith)) (inl (omega arith)) (inl (omega arith)) (inl (omega arith))
 
-  below-2000 : 1031 < w → w < 2000 → Other ≡ kindOf desk w
+  below-2000 : lastOf desk 1000 < w → w < 2000 → Other ≡ kindOf desk w
   below-2000 o p = none (inr (omega arith)) (inl (omega arith)) (inl (omega arith)) (inl (omega arith))
 
-  below-3000 : 2031 < w → w < 3000 → Other ≡ kindOf desk w
+  below-3000 : lastOf desk 2000 < w → w < 3000 → Other ≡ kindOf desk w
   below-3000 o p = none (inr (omega arith)) (inr (omega arith)) (inl (omega arith)) (inl (omega arith))
 
-  below-4000 : 3031 < w → w < 4000 → Other ≡ kindOf desk w
+  below-4000 : lastOf desk 3000 < w → w < 4000 → Other ≡ kindOf desk w
   below-4000 o p = none (inr (omega arith)) (inr (omega arith)) (inr (omega arith)) (inl (omega arith))
 
-  above-4031 : 4031 < w → Other ≡ kindOf desk w
-  above-4031 o = none (inr (omega arith)) (inr (omega arith)) (inr (omega arith)) (inr (omega arith))
+  above-4000 : lastOf desk 4000 < w → Other ≡ kindOf desk w
+  above-4000 o = none (inr (omega arith)) (inr (omega arith)) (inr (omega arith)) (inr (omega arith))
 
 pub classify-spec : {M : Type 1} → statement M
 classify-spec =
@@ -58,4 +58,4 @@ classify-spec =
     (λ c. below-2000 _ (c .before .before .before .match .rest) (c .before .if2 .left) (c .if3 .taken))
     (λ c. below-3000 _ (c .before .before .before .before .before .match .rest) (c .before .if4 .left) (c .if5 .taken))
     (λ c. below-4000 _ (c .before .before .before .before .before .before .before .match .rest) (c .before .if6 .left) (c .if7 .taken))
-    (λ c. above-4031 _ (c .before .before .before .before .before .before .before .before .match .rest) (c .if8 .left)))
+    (λ c. above-4000 _ (c .before .before .before .before .before .before .before .before .match .rest) (c .if8 .left)))

@@ -5,15 +5,16 @@ use mathlib.Core.List.{_++_}
 use native.Mathlib.Omega.{arith}
 use lib.ListN.{length, drop, set, replicate, length-set}
 use borrow.Author.Fill.{fill-more}
+use Rattle.language.specs.Limits.{desk}
 use Rattle.stack.proofs.Copies.{zeros-are}
 use Rattle.stack.proofs.clear.Statement.{statement}
 use Rattle.stack.proofs.clear.Tie as tie
 
 abbrev Inv-loop : tie.InvT-loop
-Inv-loop s₀ i₀ s i = (i ≤ 8192) × (s ≡ replicate i 0 ++ drop i s₀) × (length s ≡ length s₀)
+Inv-loop s₀ i₀ s i = (i ≤ desk .room) × (s ≡ replicate i 0 ++ drop i s₀) × (length s ≡ length s₀)
 
 abbrev μ-loop : tie.MeasureT-loop
-μ-loop s₀ i₀ s i = 8192 - i
+μ-loop s₀ i₀ s i = desk .room - i
 
 loop-again : tie.Need-loop-again Inv-loop μ-loop
 loop-again c =

@@ -4,36 +4,37 @@ use native.Mathlib.Omega.{arith}
 use mathlib.Core.Path.{_≡_, ap, subst}
 use lib.ListN.{length, drop, getD}
 use borrow.Author.Needs.{needs}
+use Rattle.language.specs.Limits.{desk}
 use Rattle.language.specs.Question.{parts}
+use Rattle.language.proofs.Offsets.{laid-length}
 use Rattle.stack.specs.Waiting.{Laid}
 use Rattle.stack.proofs.Blocks.{laid-size}
-use Rattle.stack.proofs.Cutting.{table-fits}
-use Rattle.stack.proofs.Pushing.{cut-before, laid-none, laid-more}
+use Rattle.stack.proofs.Pushing.{part-before, laid-none, laid-more}
 use Rattle.stack.proofs.lay_out.Statement.{statement}
 use Rattle.stack.proofs.lay_out.Tie as tie
 
 abbrev Inv-loop : tie.InvT-loop
 Inv-loop question work₀ i₀ at₀ work i at =
-    (i ≤ getD question 4 0) × (getD question 4 0 + 6 ≤ length question) × (8192 ≤ at + (length question - getD question (i + 5) 0) + (getD question 4 0 - i)) × Laid work₀ at (drop i (parts 5 (getD question 4 0) question)) work
+    (i ≤ getD question 4 0) × (getD question 4 0 + 6 ≤ length question) × (desk .room ≤ at + (length question - getD question (i + 5) 0) + (getD question 4 0 - i)) × Laid work₀ at (drop i (parts 5 (getD question 4 0) question)) work
 
 abbrev μ-loop : tie.MeasureT-loop
 μ-loop question work₀ i₀ at₀ work i at = i
 
 shared-slice-read-wide : tie.Need-shared-slice-read-wide Inv-loop μ-loop
-shared-slice-read-wide c = let t = table-fits 5 _ _ (c .before .before .before .pre .1) in omega arith
+shared-slice-read-wide c = let t = laid-length 5 _ _ (c .before .before .before .pre .1) in omega arith
 
 loop-holds : tie.Need-loop-holds Inv-loop μ-loop
 loop-holds c =
     let q = c .before .before .before .before .args .question .now in
     let e = c .wide .ensures in
-    let t = table-fits 5 _ _ (c .before .before .before .before .pre .1) in
+    let t = laid-length 5 _ _ (c .before .before .before .before .pre .1) in
     (omega arith, omega arith, omega arith, rw e (laid-none q (c .before .before .before .before .pre .1) (c .before .before .before .before .args .work .now)))
 
 push-requires : tie.Need-push-requires Inv-loop μ-loop
 push-requires c κs =
     let q = c .before .before .before .before .before .before .before .before .before .before .before .args .question .now in
     let l = c .before .before .before .before .before .before .loop in
-    let d = cut-before q (c .before .before .before .before .before .before .before .before .before .before .before .pre .1) (l .i - 1) (omega arith) in
+    let d = part-before q (c .before .before .before .before .before .before .before .before .before .before .before .pre .1) (l .i - 1) (omega arith) in
     let f = c .before .before .before .wide2 .ensures in
     let t = c .before .wide3 .ensures in
     let low = d .low in
@@ -47,7 +48,7 @@ loop-again : tie.Need-loop-again Inv-loop μ-loop
 loop-again c =
     let q = c .before .before .before .before .before .before .before .before .before .before .before .before .before .before .args .question .now in
     let l = c .before .before .before .before .before .before .before .before .before .loop in
-    let d = cut-before q (c .before .before .before .before .before .before .before .before .before .before .before .before .before .before .pre .1) (l .i - 1) (omega arith) in
+    let d = part-before q (c .before .before .before .before .before .before .before .before .before .before .before .before .before .before .pre .1) (l .i - 1) (omega arith) in
     let f = c .before .before .before .before .before .before .wide2 .ensures in
     let t = c .before .before .before .before .wide3 .ensures in
     let low = d .low in

@@ -9,6 +9,7 @@ use Rattle.language.specs.Limits.{desk}
 use Rattle.language.specs.Trees.{Conj}
 use Rattle.language.specs.Writing.{conjWords}
 use Rattle.language.specs.Fine.{fineConj}
+use Rattle.rules.specs.Places.{noRule}
 use Rattle.steps.specs.declared.Best.{Best}
 use Rattle.steps.specs.Seeking.{lesserOf, bestFrom, bestOf}
 use Rattle.search.proofs.Walks.{Walked, walk-starts, walk-to, walk-ends}
@@ -20,7 +21,7 @@ abbrev Known : Best → Conj → Conj → Conj → Type 0
 Known b c done rest = bestFrom b done rest ≡ bestOf c
 
 abbrev Inv-loop : tie.InvT-loop
-Inv-loop k best₀ i₀ best i = (best .rank < 28 → best .at < length k) × ((c : Conj) → fineConj desk c → k ≡ conjWords c → Walked (Known best c) c i)
+Inv-loop k best₀ i₀ best i = (best .rank < noRule → best .at < length k) × ((c : Conj) → fineConj desk c → k ≡ conjWords c → Walked (Known best c) c i)
 
 abbrev μ-loop : tie.MeasureT-loop
 μ-loop k best₀ i₀ best i = length k - i

@@ -2,6 +2,7 @@
 use mathlib.Core.Path.{_≡_}
 use mathlib.Core.List.{_++_}
 use borrow.Author.Needs.{needs}
+use Rattle.rules.specs.Places.{atM2}
 use Rattle.search.specs.Ranking.{sideAnswer}
 use Rattle.search.proofs.Walks.{at-equation, at-membership}
 use Rattle.equations.specs.Planned.{Planned}
@@ -12,7 +13,7 @@ returns : tie.Need-returns
 returns c =
     let b = c .before .before .before .before .before .before .before .args .b in
     let k = c .before .before .before .before .before .before .before .args .k .now in
-    at-equation k (b .at) (λ before l behind. (b .rank ≡ 20 → ⊥) → Planned k (c .plan-equation .result) before behind (sideAnswer (b .swap) (b .rank) (before ++ behind) l)) (c .before .before .before .before .if1 .taken)
+    at-equation k (b .at) (λ before l behind. (b .rank ≡ atM2 → ⊥) → Planned k (c .plan-equation .result) before behind (sideAnswer (b .swap) (b .rank) (before ++ behind) l)) (c .before .before .before .before .if1 .taken)
     λ before l r behind p n.
     let s = c .before .before .before .see .ensures .0 before l r behind p in
     rw (c .before .before .if2 .taken) (c .plan-equation .ensures .results before behind r l (c .before .swapped .ensures .0 k before behind l r s))
@@ -21,14 +22,14 @@ returns-2 : tie.Need-returns-2
 returns-2 c =
     let b = c .before .before .before .before .before .before .args .b in
     let k = c .before .before .before .before .before .before .args .k .now in
-    at-equation k (b .at) (λ before l behind. (b .rank ≡ 20 → ⊥) → Planned k (c .plan-equation2 .result) before behind (sideAnswer (b .swap) (b .rank) (before ++ behind) l)) (c .before .before .before .if1 .taken)
+    at-equation k (b .at) (λ before l behind. (b .rank ≡ atM2 → ⊥) → Planned k (c .plan-equation2 .result) before behind (sideAnswer (b .swap) (b .rank) (before ++ behind) l)) (c .before .before .before .if1 .taken)
     λ before l r behind p n. rw (c .before .if2 .left) (c .plan-equation2 .ensures .results before behind l r (c .before .before .see .ensures .0 before l r behind p))
 
 returns-3 : tie.Need-returns-3
 returns-3 c =
     let b = c .before .before .before .before .before .args .b in
     let k = c .before .before .before .before .before .args .k .now in
-    at-membership k (b .at) (λ before l behind. (b .rank ≡ 20 → ⊥) → Planned k (c .plan-membership .result) before behind (sideAnswer (b .swap) (b .rank) (before ++ behind) l)) (c .before .before .if1 .left)
+    at-membership k (b .at) (λ before l behind. (b .rank ≡ atM2 → ⊥) → Planned k (c .plan-membership .result) before behind (sideAnswer (b .swap) (b .rank) (before ++ behind) l)) (c .before .before .if1 .left)
     λ before h R behind p n. c .plan-membership .ensures .results n before h R behind (c .before .show-membership .ensures .0 before h R behind p)
 
 pub plan-at-spec : {M : Type 1} → statement M

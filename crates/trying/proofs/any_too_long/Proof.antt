@@ -2,7 +2,7 @@
 use Prim.Native.Nat.{_-_}
 use native.Mathlib.Omega.{arith}
 use borrow.Author.Needs.{needs}
-use Rattle.trying.proofs.Questions.{Measuring, measuring-starts, measuring-room, measuring-here, measuring-conj, measuring-over, measuring-on, measuring-ends}
+use Rattle.trying.proofs.Questions.{loop-room, loop-here, Measuring, measuring-starts, measuring-conj, measuring-over, measuring-on, measuring-ends}
 use Rattle.trying.proofs.any_too_long.Statement.{statement}
 use Rattle.trying.proofs.any_too_long.Tie as tie
 
@@ -16,41 +16,41 @@ loop-holds : tie.Need-loop-holds Inv-loop μ-loop
 loop-holds c = measuring-starts _ _ _ (c .before .before .before .pre) (c .wide .ensures)
 
 add-wide : tie.Need-add-wide Inv-loop μ-loop
-add-wide c = let r = measuring-room _ _ _ (c .before .loop .inv) in search needs
+add-wide c = let r = loop-room _ _ _ (c .before .loop .inv .some) (c .before .loop .inv .number) in search needs
 
 mul-wide : tie.Need-mul-wide Inv-loop μ-loop
-mul-wide c = let r = measuring-room _ _ _ (c .before .loop .inv) in search needs
+mul-wide c = let r = loop-room _ _ _ (c .before .loop .inv .some) (c .before .loop .inv .number) in search needs
 
 shared-slice-read-wide : tie.Need-shared-slice-read-wide Inv-loop μ-loop
-shared-slice-read-wide c = let r = measuring-room _ _ _ (c .before .before .loop .inv) in search needs
+shared-slice-read-wide c = let r = loop-room _ _ _ (c .before .before .loop .inv .some) (c .before .before .loop .inv .number) in search needs
 
 add-wide-2 : tie.Need-add-wide-2 Inv-loop μ-loop
-add-wide-2 c = let r = measuring-room _ _ _ (c .before .before .before .loop .inv) in search needs
+add-wide-2 c = let r = loop-room _ _ _ (c .before .before .before .loop .inv .some) (c .before .before .before .loop .inv .number) in search needs
 
 mul-wide-2 : tie.Need-mul-wide-2 Inv-loop μ-loop
-mul-wide-2 c = let r = measuring-room _ _ _ (c .before .before .before .loop .inv) in search needs
+mul-wide-2 c = let r = loop-room _ _ _ (c .before .before .before .loop .inv .some) (c .before .before .before .loop .inv .number) in search needs
 
 shared-slice-read-wide-2 : tie.Need-shared-slice-read-wide-2 Inv-loop μ-loop
-shared-slice-read-wide-2 c = let r = measuring-room _ _ _ (c .before .before .before .before .loop .inv) in search needs
+shared-slice-read-wide-2 c = let r = loop-room _ _ _ (c .before .before .before .before .loop .inv .some) (c .before .before .before .before .loop .inv .number) in search needs
 
 mul-too-long : tie.Need-mul-too-long Inv-loop μ-loop
 mul-too-long c =
-    let x = measuring-here _ _ _ (c .before .before .before .before .before .loop .inv) (omega arith) (c .before .before .wide2 .ensures) (c .wide3 .ensures) in
+    let x = loop-here _ _ _ (c .before .before .before .before .before .loop .inv .some) (c .before .before .before .before .before .loop .inv .number) (omega arith) (c .before .before .wide2 .ensures) (c .wide3 .ensures) in
     search needs
 
 sub-too-long : tie.Need-sub-too-long Inv-loop μ-loop
 sub-too-long c =
-    let x = measuring-here _ _ _ (c .before .before .before .before .before .loop .inv) (omega arith) (c .before .before .wide2 .ensures) (c .wide3 .ensures) in
+    let x = loop-here _ _ _ (c .before .before .before .before .before .loop .inv .some) (c .before .before .before .before .before .loop .inv .number) (omega arith) (c .before .before .wide2 .ensures) (c .wide3 .ensures) in
     search needs
 
 part-too-long-start : tie.Need-part-too-long-start Inv-loop μ-loop
 part-too-long-start c =
-    let x = measuring-here _ _ _ (c .before .before .before .before .before .loop .inv) (omega arith) (c .before .before .wide2 .ensures) (c .wide3 .ensures) in
+    let x = loop-here _ _ _ (c .before .before .before .before .before .loop .inv .some) (c .before .before .before .before .before .loop .inv .number) (omega arith) (c .before .before .wide2 .ensures) (c .wide3 .ensures) in
     search needs
 
 part-too-long-end : tie.Need-part-too-long-end Inv-loop μ-loop
 part-too-long-end c =
-    let x = measuring-here _ _ _ (c .before .before .before .before .before .loop .inv) (omega arith) (c .before .before .wide2 .ensures) (c .wide3 .ensures) in
+    let x = loop-here _ _ _ (c .before .before .before .before .before .loop .inv .some) (c .before .before .before .before .before .loop .inv .number) (omega arith) (c .before .before .wide2 .ensures) (c .wide3 .ensures) in
     search needs
 
 too-long-requires : tie.Need-too-long-requires Inv-loop μ-loop
@@ -60,7 +60,7 @@ returns : tie.Need-returns Inv-loop μ-loop
 returns c = measuring-over _ _ _ (c .before .before .before .before .before .before .before .before .loop .inv) (omega arith) (c .before .before .before .before .before .wide2 .ensures) (c .before .before .before .wide3 .ensures) (c .before .too-long .ensures) (c .if1 .taken)
 
 add-i : tie.Need-add-i Inv-loop μ-loop
-add-i c = let r = measuring-room _ _ _ (c .before .before .before .before .before .before .before .before .loop .inv) in search needs
+add-i c = let r = loop-room _ _ _ (c .before .before .before .before .before .before .before .before .loop .inv .some) (c .before .before .before .before .before .before .before .before .loop .inv .number) in search needs
 
 loop-again : tie.Need-loop-again Inv-loop μ-loop
 loop-again c = measuring-on _ _ _ (c .before .before .before .before .before .before .before .before .loop .inv) (omega arith) (c .before .before .before .before .before .wide2 .ensures) (c .before .before .before .wide3 .ensures) (c .before .too-long .ensures) (c .if1 .left)

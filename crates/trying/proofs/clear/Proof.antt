@@ -6,15 +6,16 @@ use native.Mathlib.Omega.{arith}
 use lib.ListN.{length, drop, replicate, set, length-set}
 use borrow.Author.Needs.{needs}
 use borrow.Author.Fill.{fill-none, fill-more}
-use Rattle.trying.specs.Outcome.{cleared}
+use Rattle.language.specs.Limits.{desk}
+use Rattle.rules.specs.Answer.{zeros}
 use Rattle.trying.proofs.clear.Statement.{statement}
 use Rattle.trying.proofs.clear.Tie as tie
 
 abbrev Inv-loop : tie.InvT-loop
-Inv-loop work₀ i₀ work i = (i ≤ 8192) × (length work ≡ length work₀) × (work ≡ replicate i 0 ++ drop i work₀)
+Inv-loop work₀ i₀ work i = (i ≤ desk .room) × (length work ≡ length work₀) × (work ≡ replicate i 0 ++ drop i work₀)
 
 abbrev μ-loop : tie.MeasureT-loop
-μ-loop work₀ i₀ work i = 8192 - i
+μ-loop work₀ i₀ work i = desk .room - i
 
 loop-again : tie.Need-loop-again Inv-loop μ-loop
 loop-again c =
@@ -22,10 +23,10 @@ loop-again c =
     (omega arith, length-set (l .work) (l .i) 0 ∙ l .inv .1, ap (λ w. set w (l .i) 0) (l .inv .2) ∙ fill-more (l .i) 0 _ (omega arith))
 
 returns : tie.Need-returns Inv-loop μ-loop
-unfolding cleared
+unfolding zeros
 returns c =
     let l = c .before .loop in
-    let z : l .i ≡ 8192 = omega arith in
+    let z : l .i ≡ desk .room = omega arith in
     l .inv .2 ∙ ap (λ n. replicate n 0 ++ drop n (c .before .before .args .work .now)) z
 
 pub clear-spec : {M : Type 1} → statement M

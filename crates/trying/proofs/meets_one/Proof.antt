@@ -2,7 +2,7 @@
 use Prim.Native.Nat.{_-_}
 use native.Mathlib.Omega.{arith}
 use borrow.Author.Needs.{needs}
-use Rattle.trying.proofs.Questions.{Trying-on, trying-starts, trying-room, trying-here, trying-conj, trying-met, trying-next, trying-ends}
+use Rattle.trying.proofs.Questions.{fitting-some, loop-room, loop-here, Trying-on, trying-starts, trying-conj, trying-met, trying-next, trying-ends}
 use Rattle.trying.proofs.meets_one.Statement.{statement}
 use Rattle.trying.proofs.meets_one.Tie as tie
 
@@ -16,41 +16,41 @@ loop-holds : tie.Need-loop-holds Inv-loop μ-loop
 loop-holds c = trying-starts _ _ _ _ (c .before .before .before .before .pre .0) (c .wide .ensures)
 
 add-wide : tie.Need-add-wide Inv-loop μ-loop
-add-wide c = let r = trying-room _ _ _ (c .before .loop .inv) in search needs
+add-wide c = let r = loop-room _ _ _ (fitting-some _ _ _ (c .before .loop .inv .some)) (c .before .loop .inv .number) in search needs
 
 mul-wide : tie.Need-mul-wide Inv-loop μ-loop
-mul-wide c = let r = trying-room _ _ _ (c .before .loop .inv) in search needs
+mul-wide c = let r = loop-room _ _ _ (fitting-some _ _ _ (c .before .loop .inv .some)) (c .before .loop .inv .number) in search needs
 
 shared-slice-read-wide : tie.Need-shared-slice-read-wide Inv-loop μ-loop
-shared-slice-read-wide c = let r = trying-room _ _ _ (c .before .before .loop .inv) in search needs
+shared-slice-read-wide c = let r = loop-room _ _ _ (fitting-some _ _ _ (c .before .before .loop .inv .some)) (c .before .before .loop .inv .number) in search needs
 
 add-wide-2 : tie.Need-add-wide-2 Inv-loop μ-loop
-add-wide-2 c = let r = trying-room _ _ _ (c .before .before .before .loop .inv) in search needs
+add-wide-2 c = let r = loop-room _ _ _ (fitting-some _ _ _ (c .before .before .before .loop .inv .some)) (c .before .before .before .loop .inv .number) in search needs
 
 mul-wide-2 : tie.Need-mul-wide-2 Inv-loop μ-loop
-mul-wide-2 c = let r = trying-room _ _ _ (c .before .before .before .loop .inv) in search needs
+mul-wide-2 c = let r = loop-room _ _ _ (fitting-some _ _ _ (c .before .before .before .loop .inv .some)) (c .before .before .before .loop .inv .number) in search needs
 
 shared-slice-read-wide-2 : tie.Need-shared-slice-read-wide-2 Inv-loop μ-loop
-shared-slice-read-wide-2 c = let r = trying-room _ _ _ (c .before .before .before .before .loop .inv) in search needs
+shared-slice-read-wide-2 c = let r = loop-room _ _ _ (fitting-some _ _ _ (c .before .before .before .before .loop .inv .some)) (c .before .before .before .before .loop .inv .number) in search needs
 
 mul-meets-all : tie.Need-mul-meets-all Inv-loop μ-loop
 mul-meets-all c =
-    let x = trying-here _ _ _ (c .before .before .before .before .before .loop .inv) (omega arith) (c .before .before .wide2 .ensures) (c .wide3 .ensures) in
+    let x = loop-here _ _ _ (fitting-some _ _ _ (c .before .before .before .before .before .loop .inv .some)) (c .before .before .before .before .before .loop .inv .number) (omega arith) (c .before .before .wide2 .ensures) (c .wide3 .ensures) in
     search needs
 
 sub-meets-all : tie.Need-sub-meets-all Inv-loop μ-loop
 sub-meets-all c =
-    let x = trying-here _ _ _ (c .before .before .before .before .before .loop .inv) (omega arith) (c .before .before .wide2 .ensures) (c .wide3 .ensures) in
+    let x = loop-here _ _ _ (fitting-some _ _ _ (c .before .before .before .before .before .loop .inv .some)) (c .before .before .before .before .before .loop .inv .number) (omega arith) (c .before .before .wide2 .ensures) (c .wide3 .ensures) in
     search needs
 
 part-meets-all-start : tie.Need-part-meets-all-start Inv-loop μ-loop
 part-meets-all-start c =
-    let x = trying-here _ _ _ (c .before .before .before .before .before .loop .inv) (omega arith) (c .before .before .wide2 .ensures) (c .wide3 .ensures) in
+    let x = loop-here _ _ _ (fitting-some _ _ _ (c .before .before .before .before .before .loop .inv .some)) (c .before .before .before .before .before .loop .inv .number) (omega arith) (c .before .before .wide2 .ensures) (c .wide3 .ensures) in
     search needs
 
 part-meets-all-end : tie.Need-part-meets-all-end Inv-loop μ-loop
 part-meets-all-end c =
-    let x = trying-here _ _ _ (c .before .before .before .before .before .loop .inv) (omega arith) (c .before .before .wide2 .ensures) (c .wide3 .ensures) in
+    let x = loop-here _ _ _ (fitting-some _ _ _ (c .before .before .before .before .before .loop .inv .some)) (c .before .before .before .before .before .loop .inv .number) (omega arith) (c .before .before .wide2 .ensures) (c .wide3 .ensures) in
     search needs
 
 meets-all-requires : tie.Need-meets-all-requires Inv-loop μ-loop
@@ -63,7 +63,7 @@ returns : tie.Need-returns Inv-loop μ-loop
 returns c = trying-met _ _ _ (c .before .before .before .before .before .before .before .before .before .before .before .loop .inv) (omega arith) (c .before .before .before .before .before .before .before .before .wide2 .ensures) (c .before .before .before .before .before .before .wide3 .ensures) (c .before .before .before .meets-all .ensures) (c .if1 .taken)
 
 add-i : tie.Need-add-i Inv-loop μ-loop
-add-i c = let r = trying-room _ _ _ (c .before .before .before .before .before .before .before .before .before .before .before .loop .inv) in search needs
+add-i c = let r = loop-room _ _ _ (fitting-some _ _ _ (c .before .before .before .before .before .before .before .before .before .before .before .loop .inv .some)) (c .before .before .before .before .before .before .before .before .before .before .before .loop .inv .number) in search needs
 
 loop-again : tie.Need-loop-again Inv-loop μ-loop
 loop-again c = trying-next _ _ _ (c .before .before .before .before .before .before .before .before .before .before .before .loop .inv) (omega arith) (c .before .before .before .before .before .before .before .before .wide2 .ensures) (c .before .before .before .before .before .before .wide3 .ensures) (c .before .before .before .meets-all .ensures) (c .if1 .left)

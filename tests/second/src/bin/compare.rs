@@ -1,8 +1,10 @@
 //! Puts the same questions, fillings and lines to the proved desk and to this
 //! one, and compares what comes back and every byte lent: the worked answers,
-//! then random cases of a fixed seed.
+//! then random cases of a seed.
 //!
-//!     compare CASES COMMAND..    COMMAND starts the bridge to the proved desk
+//!     compare CASES SEED COMMAND..    COMMAND starts the bridge to the proved desk
+//!
+//! A seed is a number, and `-` is the seed of every day.
 
 use std::path::Path;
 use std::process::ExitCode;
@@ -135,9 +137,9 @@ fn said(file: &str, case: &Case, number: u32) -> String {
 }
 
 /// One random case, in whole words and, now and then, in bytes that are none.
-fn random_case(tally: &mut Tally, index: u64) {
-    let case = case(SEED, index);
-    let mut random = Random::of_case(SEED ^ 0xB17E5, index);
+fn random_case(tally: &mut Tally, seed: u64, index: u64) {
+    let case = case(seed, index);
+    let mut random = Random::of_case(seed ^ 0xB17E5, index);
     let name = format!("case {index} ({})", case.kind);
     let question = bytes(&case.question);
     let spare = random.pick(&[0, 0, 0, 1, 2, 777]);
@@ -169,15 +171,19 @@ fn random_case(tally: &mut Tally, index: u64) {
 fn main() -> ExitCode {
     let args: Vec<String> = std::env::args().skip(1).collect();
     let count: u64 = args[0].parse().expect("a number of cases");
-    let proved = Proved::start(&args[1..]);
+    let seed: u64 = match args[1].as_str() {
+        "-" => SEED,
+        number => number.parse().expect("a seed"),
+    };
+    let proved = Proved::start(&args[2..]);
     let mut tally =
         Tally { proved, passed: 0, failed: 0, solve: [0; 102], tried: [0; 102], example: [0; 102] };
     worked(&mut tally, &Path::new(env!("CARGO_MANIFEST_DIR")).join("../vectors"));
     println!("worked answers: {} compared", tally.passed + tally.failed);
     for index in 0..count {
-        random_case(&mut tally, index);
+        random_case(&mut tally, seed, index);
     }
-    println!("random cases: {count}, seed {SEED:#x}");
+    println!("random cases: {count}, seed {seed}");
     for (call, counts) in [("solve", tally.solve), ("try", tally.tried), ("example", tally.example)]
     {
         let shown: Vec<String> =

@@ -1,21 +1,20 @@
 //! Work for the benchmark.
 //!
-//!     measure requests CALL FAMILY   what the bridge to the proved desk is to read
-//!     measure second CALL FAMILY     the same calls on this desk
-//!     measure neither CALL FAMILY    all but the calls, which a measurement takes off
-//!     measure same TIMES WORD..      requests for so many solves of one question
+//!     measure calls CALL FAMILY      how many calls a family has
+//!     measure requests CALL FAMILY   what a bridge to a desk is to read for them
+//!     measure same WORD..            a request to solve one question
 //!     measure bad KIND SHAPE RUN     a request to try a run that just fails an expression of so many words
-//!
-//! The second and the third write the number of calls.
+//!     measure deep CALL SHAPE        a request as deeply nested as its words go
+//!     measure answer TIMES           answers requests by this desk as `tests/bridge.c` does by the proved one
 
 use std::hint::black_box;
-use std::io::{stdout, BufWriter, Write};
+use std::io::{stdin, stdout, BufRead, BufReader, BufWriter, Read, Write};
 use std::path::Path;
 
 use second::gen::{case, Case, SEED};
-use second::proved::{bytes, words, Request, NO, SHOWN, YES};
+use second::proved::{bytes, words, Request, LENT, NO, SHOWN, YES};
 use second::records::cases;
-use second::words::ANSWER;
+use second::words::{ANSWER, QUESTION_MOST};
 
 /// Cases of a family.
 const SHARE: usize = 30;
@@ -26,14 +25,12 @@ fn put(words: &[u16], out: &mut [u8]) {
     }
 }
 
-/// This desk, called as the proved one is.
-fn second(request: &Request) -> u32 {
+/// This desk, called as the proved one is, on what is lent.
+fn second(request: &Request, lent: &mut [u8]) -> u32 {
     match request {
-        Request::Solve { question, answer } => {
-            let mut lent = vec![0; *answer];
+        Request::Solve { question, .. } => {
             let out = second::solve(&words(question));
-            put(&out.answer, &mut lent);
-            black_box(lent);
+            put(&out.answer, lent);
             out.refusal as u32
         }
         Request::Try { question, filling } => {
@@ -44,17 +41,58 @@ fn second(request: &Request) -> u32 {
             }
         }
         Request::Example { question, line, room } => {
-            let mut lent = vec![0; *room];
             match second::example(&words(question), *line as usize, *room / 2) {
                 Ok(filling) => {
-                    put(&filling, &mut lent);
-                    black_box(lent);
+                    put(&filling, lent);
                     SHOWN + filling.len() as u32
                 }
                 Err(refusal) => refusal as u32,
             }
         }
     }
+}
+
+fn number(from: &mut impl Read) -> usize {
+    let mut bytes = [0; 4];
+    from.read_exact(&mut bytes).expect("a number");
+    u32::from_le_bytes(bytes) as usize
+}
+
+fn block(from: &mut impl Read) -> Vec<u8> {
+    let mut bytes = vec![0; number(from)];
+    from.read_exact(&mut bytes).expect("its bytes");
+    bytes
+}
+
+/// Answers the requests of standard input, with each call made so often.
+fn answer(times: u64) -> std::io::Result<()> {
+    let mut from = BufReader::new(stdin().lock());
+    let mut to = BufWriter::new(stdout().lock());
+    while let Some(letter) = from.fill_buf()?.first().copied() {
+        from.consume(1);
+        let question = &block(&mut from)[..];
+        let filling;
+        let request = match letter {
+            b's' => Request::Solve { question, answer: number(&mut from) },
+            b't' => {
+                filling = block(&mut from);
+                Request::Try { question, filling: &filling }
+            }
+            _ => {
+                let line = number(&mut from) as u32;
+                Request::Example { question, line, room: number(&mut from) }
+            }
+        };
+        let mut lent = vec![LENT; request.lent()];
+        let mut number = 0;
+        for _ in 0..times {
+            number = black_box(second(&request, &mut lent));
+        }
+        to.write_all(&number.to_le_bytes())?;
+        to.write_all(&lent)?;
+        to.flush()?;
+    }
+    Ok(())
 }
 
 /// The cases of a family: a kind of the generator, or the worked answers.
@@ -136,33 +174,68 @@ fn tried(kind: &str, shape: usize, run: usize) -> (Vec<u16>, Vec<u16>) {
     (question, filling)
 }
 
+/// As many of a word as a question of one literal has room for beside the literal's other words.
+fn nested(word: u16, others: usize) -> Vec<u16> {
+    vec![word; QUESTION_MOST - 7 - others]
+}
+
+/// A question of one literal over the symbol a and the hedge variable p.
+fn one(literal: Vec<u16>) -> Vec<u16> {
+    let end = 7 + literal.len() as u16;
+    [&[1, 0, 1, 0, 1, 7, end], &literal[..]].concat()
+}
+
+/// A question as deeply nested as its words go.
+fn deep(shape: &str) -> Vec<u16> {
+    match shape {
+        // (a, p) in (..(a*)*..)*
+        "stars" => one([vec![6000, 3000, 0, 2000, 0], nested(7003, 7), vec![3000, 7000]].concat()),
+        // p in a(a(..a()..))
+        "symbols" => one([vec![6000, 2000, 0], nested(3000, 4), vec![7000]].concat()),
+        // p = a(a(..a()..))
+        _ => {
+            let half = (QUESTION_MOST - 7 - 4) / 2;
+            one([vec![5000, 2000, 0], vec![3000; half], vec![0; half + 1]].concat())
+        }
+    }
+}
+
+/// a(a(..a()..)) for p, as deep as a filling's 4,096 words go.
+fn deep_filling() -> Vec<u16> {
+    let half = (4096 - 4) / 2;
+    [vec![1, 3, 3 + 2 * half as u16 + 1], vec![3000; half], vec![0; half + 1]].concat()
+}
+
 fn main() {
     let args: Vec<String> = std::env::args().skip(1).collect();
     let mut out = BufWriter::new(stdout());
-    let mut calls = 0;
+    let mut write = |request: Request| request.write(&mut out).expect("written");
     match args[0].as_str() {
-        "requests" => each(&args[1], &args[2], |request| request.write(&mut out).expect("written")),
+        "calls" => {
+            let mut calls = 0;
+            each(&args[1], &args[2], |_| calls += 1);
+            println!("{calls}");
+        }
+        "requests" => each(&args[1], &args[2], write),
         "same" => {
             let question: Vec<u16> =
-                args[2..].iter().map(|word| word.parse().expect("a word")).collect();
-            for _ in 0..args[1].parse().expect("a number") {
-                let request = Request::Solve { question: &bytes(&question), answer: 2 * ANSWER };
-                request.write(&mut out).expect("written");
-            }
+                args[1..].iter().map(|word| word.parse().expect("a word")).collect();
+            write(Request::Solve { question: &bytes(&question), answer: 2 * ANSWER });
         }
         "bad" => {
             let size = |word: &String| word.parse().expect("a number");
             let (question, filling) = tried(&args[1], size(&args[2]), size(&args[3]));
             assert_eq!(second::try_filling(&question, &filling), Ok(false));
-            let request = Request::Try { question: &bytes(&question), filling: &bytes(&filling) };
-            request.write(&mut out).expect("written");
+            write(Request::Try { question: &bytes(&question), filling: &bytes(&filling) });
         }
-        desk => {
-            each(&args[1], &args[2], |request| {
-                calls += 1;
-                black_box(if desk == "second" { second(&request) } else { 0 });
-            });
-            writeln!(out, "{calls}").expect("written");
+        "deep" => {
+            let question = &bytes(&deep(&args[2]))[..];
+            match args[1].as_str() {
+                "solve" => write(Request::Solve { question, answer: 2 * ANSWER }),
+                "try" => write(Request::Try { question, filling: &bytes(&deep_filling()) }),
+                _ => write(Request::Example { question, line: 0, room: 8192 }),
+            }
         }
+        _ => answer(args[1].parse().expect("a number")).expect("answered"),
     }
 }

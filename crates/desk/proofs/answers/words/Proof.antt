@@ -7,10 +7,10 @@ use Rattle.desk.proofs.answers.words.Statement.{statement}
 use Rattle.desk.proofs.answers.words.Tie as tie
 
 abbrev Inv-loop : tie.InvT-loop
-Inv-loop ws i₀ t3 t4 i = i ≤ length ws
+Inv-loop ws i₀ t3 i = i ≤ length ws
 
 abbrev μ-loop : tie.MeasureT-loop
-μ-loop ws i₀ t3 t4 i = length ws - i
+μ-loop ws i₀ t3 i = length ws - i
 
 pub words-spec : {M : Type 1} → statement M
 words-spec =
@@ -20,8 +20,6 @@ words-spec =
     μ-loop
     (λ c. search needs)
     (λ c. search needs)
-    (λ c. search needs)
-    (λ c κs. search needs)
     (λ c. search needs)
     (λ c κs. search needs)
     (λ c. search needs)

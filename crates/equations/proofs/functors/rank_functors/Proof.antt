@@ -3,6 +3,7 @@ use borrow.Author.Needs.{needs}
 use mathlib.Core.Path.{sym, _∙_, ap}
 use mathlib.Core.List.{_++_}
 use Rattle.language.specs.Kinds.{pick}
+use Rattle.rules.specs.Places.{atE5, noRule}
 use Rattle.equations.proofs.Names.{not-true, not-false, symbol-blank, same-symbol, symbols-clash, same-blank, blank-over, blank-bare}
 use Rattle.equations.proofs.functors.rank_functors.Statement.{statement}
 use Rattle.equations.proofs.functors.rank_functors.Tie as tie
@@ -27,13 +28,13 @@ both-elsewhere-requires c κs = search needs
 
 returns-6 : tie.Need-returns-6
 returns-6 c = λ before behind l r F G h d w p x q y b.
-    sym (ap (λ t. pick t 17 28) (c .if6 .taken))
+    sym (ap (λ t. pick t atE5 noRule) (c .if6 .taken))
     ∙ blank-bare (before ++ behind) h d _ _ F G p x q (c .before .before .before .before .if1 .left) (c .before .before .before .if4 .left) (sym b ∙ not-false (c .before .before .if5 .left)) _
     (λ X e n. c .before .both-elsewhere .ensures before behind l r X G w e n q y)
 
 returns-7 : tie.Need-returns-7
 returns-7 c = λ before behind l r F G h d w p x q y b.
-    sym (ap (λ t. pick t 17 28) (c .if6 .left))
+    sym (ap (λ t. pick t atE5 noRule) (c .if6 .left))
     ∙ blank-bare (before ++ behind) h d _ _ F G p x q (c .before .before .before .before .if1 .left) (c .before .before .before .if4 .left) (sym b ∙ not-false (c .before .before .if5 .left)) _
     (λ X e n. c .before .both-elsewhere .ensures before behind l r X G w e n q y)
 

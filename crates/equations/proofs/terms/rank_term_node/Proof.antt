@@ -5,6 +5,7 @@ use mathlib.Core.List.{_++_}
 use Rattle.language.specs.Kinds.{pick}
 use Rattle.language.specs.Trees.{node, tv}
 use Rattle.rules.specs.Looks.{under}
+use Rattle.rules.specs.Places.{atE1, noRule}
 use Rattle.views.proofs.Sides.{side-stands}
 use Rattle.equations.proofs.Looked.{term-parts, node-parts, both, both-on}
 use Rattle.equations.proofs.Variables.{term-elsewhere, node-hidden, node-longer, node-single}
@@ -30,13 +31,13 @@ returns-2 : tie.Need-returns-2
 returns-2 c = λ y s g G d t bare e f before behind w.
     let i = term-parts e in
     let j = node-parts f in
-    sym (ap (λ b. pick b 13 28) (c .if3 .taken)) ∙ node-single (before ++ behind) y s G d t (sym (both-on (under (tv y) (node G d t)) (c .before .before .before .before .before .hidden .ensures y (node G d t) _ (w .left .fine .0) (i .0) (side-stands (w .right))) (i .1)) ∙ c .before .before .before .before .if1 .left) (sym (both (c .before .before .before .and .ensures) (i .1) (j .1)) ∙ c .before .before .if2 .taken) (c .before .elsewhere .ensures ∙ term-elsewhere w y (w .left .fine .0) (i .0))
+    sym (ap (λ b. pick b atE1 noRule) (c .if3 .taken)) ∙ node-single (before ++ behind) y s G d t (sym (both-on (under (tv y) (node G d t)) (c .before .before .before .before .before .hidden .ensures y (node G d t) _ (w .left .fine .0) (i .0) (side-stands (w .right))) (i .1)) ∙ c .before .before .before .before .if1 .left) (sym (both (c .before .before .before .and .ensures) (i .1) (j .1)) ∙ c .before .before .if2 .taken) (c .before .elsewhere .ensures ∙ term-elsewhere w y (w .left .fine .0) (i .0))
 
 returns-3 : tie.Need-returns-3
 returns-3 c = λ y s g G d t bare e f before behind w.
     let i = term-parts e in
     let j = node-parts f in
-    sym (ap (λ b. pick b 13 28) (c .if3 .left)) ∙ node-single (before ++ behind) y s G d t (sym (both-on (under (tv y) (node G d t)) (c .before .before .before .before .before .hidden .ensures y (node G d t) _ (w .left .fine .0) (i .0) (side-stands (w .right))) (i .1)) ∙ c .before .before .before .before .if1 .left) (sym (both (c .before .before .before .and .ensures) (i .1) (j .1)) ∙ c .before .before .if2 .taken) (c .before .elsewhere .ensures ∙ term-elsewhere w y (w .left .fine .0) (i .0))
+    sym (ap (λ b. pick b atE1 noRule) (c .if3 .left)) ∙ node-single (before ++ behind) y s G d t (sym (both-on (under (tv y) (node G d t)) (c .before .before .before .before .before .hidden .ensures y (node G d t) _ (w .left .fine .0) (i .0) (side-stands (w .right))) (i .1)) ∙ c .before .before .before .before .if1 .left) (sym (both (c .before .before .before .and .ensures) (i .1) (j .1)) ∙ c .before .before .if2 .taken) (c .before .elsewhere .ensures ∙ term-elsewhere w y (w .left .fine .0) (i .0))
 
 returns-4 : tie.Need-returns-4
 returns-4 c = λ y s g G d t bare e f before behind w.

@@ -3,6 +3,7 @@ use borrow.Author.Needs.{needs}
 use mathlib.Core.Path.{sym, ap, _∙_}
 use mathlib.Core.List.{_++_}
 use Rattle.language.specs.Kinds.{pick}
+use Rattle.rules.specs.Places.{atE1, noRule}
 use Rattle.equations.proofs.Looked.{both}
 use Rattle.equations.proofs.Variables.{term-elsewhere, same-variable, two-variables}
 use Rattle.equations.proofs.terms.rank_variables.Statement.{statement}
@@ -22,11 +23,11 @@ and-requires c κs = search needs
 
 returns-2 : tie.Need-returns-2
 returns-2 c = λ before behind l r y w s i j e d.
-    sym (ap (λ b. pick b 13 28) (c .if2 .taken)) ∙ two-variables (before ++ behind) y w e d (c .before .before .before .before .if1 .left) (both (c .before .and .ensures) (c .before .before .before .elsewhere .ensures ∙ term-elsewhere s y i e) (c .before .before .elsewhere2 .ensures ∙ term-elsewhere s w j d))
+    sym (ap (λ b. pick b atE1 noRule) (c .if2 .taken)) ∙ two-variables (before ++ behind) y w e d (c .before .before .before .before .if1 .left) (both (c .before .and .ensures) (c .before .before .before .elsewhere .ensures ∙ term-elsewhere s y i e) (c .before .before .elsewhere2 .ensures ∙ term-elsewhere s w j d))
 
 returns-3 : tie.Need-returns-3
 returns-3 c = λ before behind l r y w s i j e d.
-    sym (ap (λ b. pick b 13 28) (c .if2 .left)) ∙ two-variables (before ++ behind) y w e d (c .before .before .before .before .if1 .left) (both (c .before .and .ensures) (c .before .before .before .elsewhere .ensures ∙ term-elsewhere s y i e) (c .before .before .elsewhere2 .ensures ∙ term-elsewhere s w j d))
+    sym (ap (λ b. pick b atE1 noRule) (c .if2 .left)) ∙ two-variables (before ++ behind) y w e d (c .before .before .before .before .if1 .left) (both (c .before .and .ensures) (c .before .before .before .elsewhere .ensures ∙ term-elsewhere s y i e) (c .before .before .elsewhere2 .ensures ∙ term-elsewhere s w j d))
 
 pub rank-variables-spec : {M : Type 1} → statement M
 rank-variables-spec =

@@ -2,6 +2,7 @@
 use Prim.Native.Nat.{_+_, _*_, _-_, _≤_}
 use mathlib.Core.Path.{_≡_, ap}
 use lib.ListN.{length}
+use Rattle.language.specs.Limits.{desk}
 use Rattle.plans.specs.Results.{slotAt, made}
 use Rattle.pieces.proofs.Made.{whole, swapOf, from, made-length, made-none, piece-short}
 use Rattle.pieces.specs.Marked.{bare}
@@ -11,7 +12,7 @@ use Rattle.pieces.proofs.making.made_len.Statement.{statement}
 use Rattle.pieces.proofs.making.made_len.Tie as tie
 
 abbrev Inv-loop : tie.InvT-loop
-Inv-loop k cut slots s m n₀ i₀ n i = (n + length (from k (whole slots s) cut i) ≡ length (from k (whole slots s) cut 0)) × (n ≤ 1048576 * i) × (i ≤ 12)
+Inv-loop k cut slots s m n₀ i₀ n i = (n + length (from k (whole slots s) cut i) ≡ length (from k (whole slots s) cut 0)) × (n ≤ desk .question * desk .question * i) × (i ≤ 12)
 
 abbrev μ-loop : tie.MeasureT-loop
 μ-loop k cut slots s m n₀ i₀ n i = 12 - i

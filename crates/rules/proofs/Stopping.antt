@@ -1,0 +1,76 @@
+-- With which refusals of its own a step can stop: those of the rules of two literals, of which the list has none.
+use Prim.Native.Nat.{ℕ, suc}
+use mathlib.Core.Bool.{Bool, true, false}
+use mathlib.Core.List.{List, [], _∷_, _++_, map}
+use mathlib.Core.Option.{none, some}
+use Rattle.language.specs.declared.Refusal.{Refusal}
+use Rattle.language.specs.Trees.{Literal, eqn, mem, Conj}
+use Rattle.rules.specs.Reply.{Reply, nothing, results, stops}
+use Rattle.rules.specs.Rules.{Answer, Rule, onEqn, onMem, onPair, rules}
+use Rattle.rules.specs.Step.{orNext, each, placed, resultsAt, found, earliest, first, search, step}
+
+module _ (P : Refusal → Type 0) where
+  -- P of the refusal, where there is one
+  abbrev pub StopsBy : {A : Type 0} → Reply A → Type 0
+  StopsBy nothing = Unit {0}
+  StopsBy (results a) = Unit {0}
+  StopsBy (stops r) = P r
+
+  by-each : {A B : Type 0} (f : A → B) (m : Reply A) → StopsBy m → StopsBy (each f m)
+  by-each f nothing p = tt
+  by-each f (results a) p = tt
+  by-each f (stops r) p = p
+
+  by-next : {A : Type 0} (m : Reply A) (k : Unit {0} → Reply A) → StopsBy m → StopsBy (k tt) → StopsBy (orNext m k)
+  by-next nothing k p q = q
+  by-next (results a) k p q = tt
+  by-next (stops r) k p q = p
+
+  by-placed : (before behind : Conj) (w : Answer) → StopsBy (placed before behind w)
+  by-placed before behind none = tt
+  by-placed before behind (some bs) = tt
+
+  -- P of the refusals of a rule, and of all rules
+  abbrev pub RuleStopsBy : Rule → Type 0
+  RuleStopsBy (onEqn rule) = Unit {0}
+  RuleStopsBy (onMem rule) = Unit {0}
+  RuleStopsBy (onPair rule) = (l : Literal) (behind : Conj) → StopsBy (rule l behind)
+
+  abbrev pub PairsStopBy : List Rule → Type 0
+  PairsStopBy [] = Unit {0}
+  PairsStopBy (onEqn rule ∷ rs) = PairsStopBy rs
+  PairsStopBy (onMem rule ∷ rs) = PairsStopBy rs
+  PairsStopBy (onPair rule ∷ rs) = RuleStopsBy (onPair rule) × PairsStopBy rs
+
+  at-place : (rule : Rule) → RuleStopsBy rule → (swap : Bool) (before : Conj) (l : Literal) (behind : Conj) → StopsBy (resultsAt swap rule before l behind)
+  at-place (onEqn rule) p false before (eqn l r) behind = by-placed before behind (rule (before ++ behind) l r)
+  at-place (onEqn rule) p true before (eqn l r) behind = by-placed before behind (rule (before ++ behind) r l)
+  at-place (onEqn rule) p false before (mem h R) behind = tt
+  at-place (onEqn rule) p true before (mem h R) behind = tt
+  at-place (onMem rule) p false before (eqn l r) behind = tt
+  at-place (onMem rule) p true before (eqn l r) behind = tt
+  at-place (onMem rule) p false before (mem h R) behind = by-placed before behind (rule (before ++ behind) h R)
+  at-place (onMem rule) p true before (mem h R) behind = tt
+  at-place (onPair rule) p false before l behind = by-each (map (λ (k : Conj). before ++ k)) (rule l behind) (p l behind)
+  at-place (onPair rule) p true before l behind = tt
+
+  at-earliest : (n : ℕ) (rule : Rule) → RuleStopsBy rule → (i : ℕ) (before k : Conj) → StopsBy (earliest n rule i before k)
+  at-earliest n rule p i before [] = tt
+  at-earliest n rule p i before (l ∷ k) =
+      by-next (found n i false (resultsAt false rule before l k)) _ (by-each _ (resultsAt false rule before l k) (at-place rule p false before l k))
+      (by-next (found n i true (resultsAt true rule before l k)) _ (by-each _ (resultsAt true rule before l k) (at-place rule p true before l k))
+      (at-earliest n rule p (suc i) (before ++ (l ∷ [])) k))
+
+  at-first : (n : ℕ) (rs : List Rule) → PairsStopBy rs → (k : Conj) → StopsBy (first n rs k)
+  at-first n [] p k = tt
+  at-first n (onEqn rule ∷ rs) p k = by-next (earliest n (onEqn rule) 0 [] k) _ (at-earliest n (onEqn rule) tt 0 [] k) (at-first (suc n) rs p k)
+  at-first n (onMem rule ∷ rs) p k = by-next (earliest n (onMem rule) 0 [] k) _ (at-earliest n (onMem rule) tt 0 [] k) (at-first (suc n) rs p k)
+  at-first n (onPair rule ∷ rs) p k = by-next (earliest n (onPair rule) 0 [] k) _ (at-earliest n (onPair rule) (p .0) 0 [] k) (at-first (suc n) rs (p .1) k)
+
+  pub step-stops-by : PairsStopBy rules → (k : Conj) → StopsBy (step k)
+  unfolding step search
+  step-stops-by p k = by-each _ (first 0 rules k) (at-first 0 rules p k)
+
+-- No rule of the list has a refusal of its own.
+pub step-never-stops : (k : Conj) → StopsBy (λ _. ⊥) (step k)
+step-never-stops k = step-stops-by (λ _. ⊥) tt k

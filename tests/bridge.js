@@ -1,0 +1,89 @@
+// Calls the desk's WebAssembly build for a program on the other side of a pipe, as bridge.c does for the other builds; it says what is
+// written and read.
+//
+//     node bridge.js DESK_WASM
+//
+// A pointer is a 32-bit number there, and a length a 64-bit one. Blocks that are lent stand one after another from __heap_base on, and the
+// bytes behind the last of them are seen to stay as they are.
+"use strict";
+const fs = require("fs");
+
+const LENT = 0xa5;
+const BEHIND = 64;
+const desk = new WebAssembly.Instance(new WebAssembly.Module(fs.readFileSync(process.argv[2])), {}).exports;
+
+// Bytes of standard input; fewer than asked for only at its end.
+function bytesIn(count) {
+    const bytes = Buffer.alloc(count);
+    let have = 0;
+    while (have < count) {
+        const more = fs.readSync(0, bytes, have, count - have, null);
+        if (more === 0) break;
+        have += more;
+    }
+    return bytes.subarray(0, have);
+}
+
+function need(done) {
+    if (!done) process.exit(1);
+}
+
+function numberIn() {
+    const bytes = bytesIn(4);
+    need(bytes.length === 4);
+    return bytes.readUInt32LE(0);
+}
+
+function blockIn() {
+    const count = numberIn();
+    const bytes = bytesIn(count);
+    need(bytes.length === count);
+    return bytes;
+}
+
+function out(bytes) {
+    for (let at = 0; at < bytes.length; ) at += fs.writeSync(1, bytes, at);
+}
+
+// The memory from a place on, after it has grown to hold so many bytes there.
+function memory(from, count) {
+    const short = from + count - desk.memory.buffer.byteLength;
+    if (short > 0) desk.memory.grow(Math.ceil(short / 65536));
+    return new Uint8Array(desk.memory.buffer, from, count);
+}
+
+// call(blocks, run): lends the blocks, has run called with where each is and its length, and gives the number and the last block's bytes.
+function call(blocks, run) {
+    let at = desk.__heap_base.value;
+    const places = [];
+    for (const block of blocks) {
+        memory(at, block.length).set(block);
+        places.push(at, BigInt(block.length));
+        at += block.length;
+    }
+    memory(at, BEHIND).fill(LENT);
+    const number = run(...places) >>> 0;
+    need(memory(at, BEHIND).every((byte) => byte === LENT));
+    const last = blocks[blocks.length - 1].length;
+    return [number, memory(at - last, last)];
+}
+
+const lent = (count) => new Uint8Array(count).fill(LENT);
+
+for (let letter = bytesIn(1); letter.length === 1; letter = bytesIn(1)) {
+    const question = blockIn();
+    let number, bytes;
+    if (letter[0] === 0x73) {
+        [number, bytes] = call([question, lent(numberIn())], desk.desk_solve);
+    } else if (letter[0] === 0x74) {
+        [number] = call([question, blockIn()], desk.desk_try);
+    } else {
+        const line = numberIn();
+        const example = (q, qlen, room, length) => desk.desk_example(q, qlen, line, room, length);
+        [number, bytes] = call([question, lent(numberIn())], example);
+    }
+    const head = Buffer.alloc(4);
+    head.writeUInt32LE(number);
+    out(head);
+    if (bytes) out(bytes);
+}
