@@ -25,7 +25,8 @@ use Rattle.rules.specs.Example.{example}
 use Rattle.rules.specs.Calls.{lineAt, Showing, shows, denied, fitted, shown}
 use Rattle.rules.specs.Each.{Each}
 use Rattle.rules.proofs.Each.{each-map}
-use Rattle.exact.proofs.Run.{answered-run, run-same}
+use Rattle.rules.proofs.Invariant.{answered-run}
+use Rattle.exact.proofs.Run.{run-same}
 use Rattle.rules.proofs.Invariant.{lines-rest}
 use Rattle.exact.proofs.Declared.{lines-declared, read-declared}
 use Rattle.lines.proofs.Lines.{example-meets-line, example-written, matching-lines-solved}
