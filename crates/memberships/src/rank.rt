@@ -18,7 +18,20 @@ use language::Sym;
 use plans::Look;
 use plans::Shape;
 use plans::Side;
-use rules::places::{AT_R2, AT_F5, AT_F6, AT_F7, AT_M1, AT_M2, AT_M3, AT_M4, AT_M5, AT_M6, AT_M7, AT_M10, AT_M11, NO_RULE};
+use rules::places::AT_F5;
+use rules::places::AT_F6;
+use rules::places::AT_F7;
+use rules::places::AT_M1;
+use rules::places::AT_M2;
+use rules::places::AT_M3;
+use rules::places::AT_M4;
+use rules::places::AT_M5;
+use rules::places::AT_M6;
+use rules::places::AT_M7;
+use rules::places::AT_M10;
+use rules::places::AT_M11;
+use rules::places::AT_R2;
+use rules::places::NO_RULE;
 
 // ε in the expression at a place: R2, F6.
 fn rank_empty(k: &[u16], at: usize) -> usize
