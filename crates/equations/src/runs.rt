@@ -5,7 +5,6 @@ ghost use mathlib.Core.Bool.{not, _&&_};
 ghost use mathlib.Core.List.{List, _++_};
 ghost use Rattle.language.specs.Limits.{desk};
 ghost use Rattle.language.specs.declared.HedgeVar.{HedgeVar};
-ghost use Rattle.language.specs.Limits.{desk};
 ghost use Rattle.language.specs.Trees.{Hedge, hvar, Conj, hv, holds};
 ghost use Rattle.rules.specs.Looks.{empty, allTerms, loneH};
 ghost use Rattle.rules.specs.Rules.{too};

@@ -1,8 +1,9 @@
 // A filling in words: how each word of the question is shown under it, and what the words of a hedge become.
 use language::Kind;
-use language::classify;
 use language::Refusal;
+use language::classify;
 use language::limits::FILLING;
+use language::wide;
 use reader::Checked;
 use reader::Header;
 use reader::Read;
@@ -18,12 +19,6 @@ ghost use Rattle.meaning.specs.Values.{variables, readFilling};
 ghost use Rattle.reader.specs.Checking.{countsIn};
 ghost use Rattle.filling.specs.Checking.{plainOn, plainWords, ofForm, formAt, Judged, OneTerm, allOfForm, given};
 ghost use Rattle.language.specs.Kinds.{kindOf};
-
-fn wide(x: u16) -> usize
-    ensures { λ r. ⌜ r ≡ x ⌝ }
-{
-    x as usize
-}
 
 // The words of the value numbered i, without the 0 that ends it.
 fn body<'a>(filling: &'a [u16], i: usize) -> &'a [u16]

@@ -1,51 +1,73 @@
 -- Marking a hedge variable, and what the marks say once a part is gone through.
-use mathlib.Core.Path.{_≡_, refl, sym, ap, _∙_}
-use mathlib.Core.Bool.{Bool, true, false, _&&_, _||_}
+use mathlib.Core.Path.{_≡_, refl, sym, subst, ap, _∙_}
+use mathlib.Core.Bool.{Bool, true, false, _||_}
 use mathlib.Core.List.{List, [], _∷_}
-use Prim.Native.Nat.{ℕ, zero, suc, _+_, _-_, _<_, _≤_}
+use Prim.Native.Nat.{ℕ, zero, suc, _+_, _<_}
 use native.Mathlib.Omega.{arith}
-use lib.Dec.{eqb, leb}
+use lib.Dec.{eqb}
 use lib.ListN.{length, getD, set, length-set}
 use lib.Seq.{getD-set-same, getD-set-other}
-use borrow.Author.Tests.{eqb-true, eqb-false, le-leb, lt-leb, leb-true}
-use Rattle.language.specs.Limits.{desk, lastOf}
+use borrow.Author.Tests.{eqb-true, eqb-false}
+use Rattle.language.specs.declared.HedgeVar.{HedgeVar}
+use Rattle.language.specs.declared.Kind.{Kind}
+use Rattle.language.specs.declared.Kind.the-variants.{End, Term, Run, Symbol, Function, Equation, Membership, Eps, Cat, Alt, Star, Other}
+use Rattle.language.specs.Limits.{desk}
+use Rattle.language.specs.Kinds.{kindOf}
+use Rattle.language.proofs.Words.{Is, end, term, run, symbol, function, equation, membership, eps, cat, alt, star, other, is}
+use Rattle.language.proofs.Arms.{Among, each-kind}
 use Rattle.plans.specs.Results.{member}
-use Rattle.pieces.specs.Marked.{marked, Marked}
+use Rattle.pieces.specs.Marked.{markedBy, marked, Marked}
 use Rattle.pieces.specs.declared.replacing.Marks.{Marks}
 
-module _ (s : List Bool) (x : ℕ) where
-  pub marked-low : x < 2000 → false ≡ marked s x
-  unfolding marked
-  marked-low h = rw (lt-leb 2000 x h)
+-- ---- what the kind of a word says of its mark
 
-  pub marked-high : 2000 ≤ x → lastOf desk 2000 < x → false ≡ marked s x
-  unfolding marked
-  marked-high g h = rw (le-leb 2000 x g, lt-leb x (lastOf desk 2000) h)
+-- a hedge variable, by its word
+variable : (x : ℕ) (p : HedgeVar) → kindOf desk x ≡ Run p → (p .0 < desk .each) × (x ≡ 2000 + p .0)
+variable x p e = go (subst (Is desk x) e (is desk x))
+  where
+    go : Is desk x (Run p) → (p .0 < desk .each) × (x ≡ 2000 + p .0)
+    go (run p b f) = (b, f)
 
-  pub marked-in : 2000 ≤ x → x ≤ lastOf desk 2000 → getD s (x - 2000) false ≡ marked s x
+module _ (s : List Bool) (x : ℕ) {k : Kind} (e : k ≡ kindOf desk x) where
+  pub marked-run : (p : HedgeVar) → k ≡ Run p → getD s (p .0) false ≡ marked s x
   unfolding marked
-  marked-in g h = rw (le-leb 2000 x g, le-leb x (lastOf desk 2000) h)
+  marked-run p g = ap (markedBy s) (sym g ∙ e)
+
+  pub marked-none : Among (0 ∷ 1 ∷ 3 ∷ 4 ∷ 5 ∷ 6 ∷ 7 ∷ 8 ∷ 9 ∷ 10 ∷ 11 ∷ []) k → false ≡ marked s x
+  unfolding marked
+  marked-none o =
+      each-kind (0 ∷ 1 ∷ 3 ∷ 4 ∷ 5 ∷ 6 ∷ 7 ∷ 8 ∷ 9 ∷ 10 ∷ 11 ∷ []) (λ j. false ≡ markedBy s j) refl (λ v. refl) tt (λ v. refl) (λ v. refl) refl refl refl refl refl refl refl k o ∙ ap (markedBy s) e
+
+pub in-place : (x : ℕ) {k : Kind} → k ≡ kindOf desk x → (p : HedgeVar) → k ≡ Run p → p .0 < desk .each
+in-place x e p g = variable x p (sym e ∙ g) .0
 
 -- one mark more
-mark-word : (s : List Bool) (y : ℕ) → length s ≡ desk .each → 2000 ≤ y → y ≤ lastOf desk 2000 → (x : ℕ) → marked (set s (y - 2000) true) x ≡ (eqb y x || marked s x)
+mark-word : (s : List Bool) (y : ℕ) (p : HedgeVar) → length s ≡ desk .each → kindOf desk y ≡ Run p → (x : ℕ) → marked (set s (p .0) true) x ≡ (eqb y x || marked s x)
 unfolding marked
-mark-word s y l g h x = go (eqb y x) refl
+mark-word s y p l k x = go (eqb y x) refl
   where
-    other : (a b : Bool) → leb 2000 x ≡ a → leb x (lastOf desk 2000) ≡ b → (y ≡ x → ⊥)
-        → (a && (b && getD (set s (y - 2000) true) (x - 2000) false)) ≡ (a && (b && getD s (x - 2000) false))
-    other false b e f ne = refl
-    other true false e f ne = refl
-    other true true e f ne =
-        let p = leb-true 2000 x e in
-        getD-set-other s (y - 2000) (x - 2000) true false (λ q. ne (omega arith))
+    here : (p .0 < desk .each) × (y ≡ 2000 + p .0)
+    here = variable y p k
 
-    go : (b : Bool) → eqb y x ≡ b → marked (set s (y - 2000) true) x ≡ (b || marked s x)
+    apart : {j : Kind} → Is desk x j → (y ≡ x → ⊥) → markedBy (set s (p .0) true) j ≡ markedBy s j
+    apart (run q b f) ne = getD-set-other s (p .0) (q .0) true false (λ same. let h = here .1 in ne (omega arith))
+    apart (end f) ne = refl
+    apart (term v b f) ne = refl
+    apart (symbol v b f) ne = refl
+    apart (function v b f) ne = refl
+    apart (equation f) ne = refl
+    apart (membership f) ne = refl
+    apart (eps f) ne = refl
+    apart (cat f) ne = refl
+    apart (alt f) ne = refl
+    apart (star f) ne = refl
+    apart other ne = refl
+
+    go : (b : Bool) → eqb y x ≡ b → markedBy (set s (p .0) true) (kindOf desk x) ≡ (b || markedBy s (kindOf desk x))
     go true e =
-        let q = eqb-true y x e in
-        sym (marked-in (set s (y - 2000) true) x (omega arith) (omega arith))
-        ∙ ap (λ n. getD (set s (y - 2000) true) (n - 2000) false) (sym q)
-        ∙ getD-set-same s (y - 2000) true false (omega arith)
-    go false e = other (leb 2000 x) (leb x (lastOf desk 2000)) refl refl (eqb-false y x e)
+        ap (markedBy (set s (p .0) true)) (ap (kindOf desk) (sym (eqb-true y x e)) ∙ k)
+        ∙ getD-set-same s (p .0) true false (subst (λ n. p .0 < n) (sym l) (here .0))
+    go false e = apart (is desk x) (eqb-false y x e)
 
 or-swap : (a b c : Bool) → ((b || a) || c) ≡ (a || (b || c))
 or-swap true true c = refl
@@ -73,20 +95,29 @@ pub none-marked : (s : List Bool) (all : List ℕ) → length s ≡ desk .each �
 unfolding marked
 none-marked s all l e = record { size = l; told = λ x. ap (λ b. b || member x all) (none x) }
   where
+    by-kind : (k : Kind) → markedBy s k ≡ false
+    by-kind (Run p) = blank-at s e (p .0)
+    by-kind End = refl
+    by-kind (Term v) = refl
+    by-kind (Symbol v) = refl
+    by-kind (Function v) = refl
+    by-kind Equation = refl
+    by-kind Membership = refl
+    by-kind Eps = refl
+    by-kind Cat = refl
+    by-kind Alt = refl
+    by-kind Star = refl
+    by-kind Other = refl
+
     none : (x : ℕ) → marked s x ≡ false
-    none x = rw (blank-at s e (x - 2000)) (go (leb 2000 x) (leb x (lastOf desk 2000)))
-      where
-        go : (a b : Bool) → (a && (b && false)) ≡ false
-        go true true = refl
-        go true false = refl
-        go false b = refl
+    none x = by-kind (kindOf desk x)
 
 module _ {s : List Bool} {rest all : List ℕ} (m : Marking s rest all) where
-  pub marking-step : (y : ℕ) (more : List ℕ) → rest ≡ y ∷ more → 2000 ≤ y → y ≤ lastOf desk 2000 → Marking (set s (y - 2000) true) more all
-  marking-step y more e g h = record {
-    size = length-set s (y - 2000) true ∙ m .size;
+  pub marking-step : (y : ℕ) (more : List ℕ) → rest ≡ y ∷ more → {k : Kind} → k ≡ kindOf desk y → (p : HedgeVar) → k ≡ Run p → Marking (set s (p .0) true) more all
+  marking-step y more e j p g = record {
+    size = length-set s (p .0) true ∙ m .size;
     told = λ x.
-        ap (λ b. b || member x more) (mark-word s y (m .size) g h x) ∙ or-swap (marked s x) (eqb y x) (member x more)
+        ap (λ b. b || member x more) (mark-word s y p (m .size) (sym j ∙ g) x) ∙ or-swap (marked s x) (eqb y x) (member x more)
         ∙ sym (ap (λ l. marked s x || member x l) e) ∙ m .told x;
   }
 

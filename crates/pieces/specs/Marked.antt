@@ -1,20 +1,35 @@
 -- Hedge variables marked by their numbers, so that whether a word is one of many is one look and not a scan.
-use Prim.Native.Nat.{ℕ, _+_, _-_}
+use Prim.Native.Nat.{ℕ}
 use mathlib.Core.Path.{_≡_}
-use mathlib.Core.Bool.{Bool, true, false, _&&_}
+use mathlib.Core.Bool.{Bool, true, false}
 use mathlib.Core.List.{List, [], _∷_}
-use lib.Dec.{leb}
 use lib.ListN.{getD}
-use Rattle.language.specs.Limits.{desk, lastOf}
-use Rattle.language.specs.Kinds.{pick}
+use Rattle.language.specs.declared.Kind.{Kind}
+use Rattle.language.specs.declared.Kind.the-variants.{End, Term, Run, Symbol, Function, Equation, Membership, Eps, Cat, Alt, Star, Other}
+use Rattle.language.specs.Limits.{desk}
+use Rattle.language.specs.Kinds.{pick, kindOf}
 use Rattle.plans.specs.Results.{member}
 use Rattle.plans.specs.declared.Recipe.{Recipe}
 use Rattle.pieces.specs.declared.replacing.Marks.{Marks}
 use Rattle.pieces.specs.declared.replacing.Swap.{Swap}
 
 -- a hedge variable's word whose number is marked
+abbrev pub markedBy : List Bool → Kind → Bool
+markedBy set (Run p) = getD set (p .0) false
+markedBy set End = false
+markedBy set (Term x) = false
+markedBy set (Symbol f) = false
+markedBy set (Function X) = false
+markedBy set Equation = false
+markedBy set Membership = false
+markedBy set Eps = false
+markedBy set Cat = false
+markedBy set Alt = false
+markedBy set Star = false
+markedBy set Other = false
+
 unfoldable pub marked : List Bool → ℕ → Bool
-marked set x = leb 2000 x && (leb x (lastOf desk 2000) && getD set (x - 2000) false)
+marked set x = markedBy set (kindOf desk x)
 
 -- where the words are hedge variables alone, the marks say which
 pub record Marked (words : List ℕ) (m : Marks) : Type 0 where

@@ -11,8 +11,10 @@ ghost use Rattle.pieces.specs.Marked.{marked, Marked, swapped, bare};
 use super::copying::copy;
 use super::copying::part_len;
 use super::copying::within;
-use language::limits::LAST_RUN;
+use language::Kind;
+use language::classify;
 use language::limits::PLACES;
+use language::wide;
 use words::stands;
 
 // Which hedge variables a part has, where it has no other words.
@@ -28,12 +30,6 @@ pub struct Swap {
     pub new: usize,
 }
 
-fn wide(x: u16) -> usize
-    ensures { λ r. ⌜ r ≡ x ⌝ }
-{
-    x as usize
-}
-
 // The hedge variables of a part, marked.
 pub fn note(k: &[u16], from: usize, to: usize) -> Marks
     ensures { λ m. ⌜ Marked (slice from to (now (k .entry))) m ⌝ }
@@ -42,16 +38,16 @@ pub fn note(k: &[u16], from: usize, to: usize) -> Marks
     let end = within(k, to);
     let mut i = from;
     while i < end {
-        let x = k[i];
-        if x < 2000 {
-            return Marks { only: false, set };
+        match classify(k[i]) {
+            Kind::Run(p) => {
+                let n = wide(p.0);
+                set[n] = true;
+                i += 1;
+            }
+            _ => {
+                return Marks { only: false, set };
+            }
         }
-        if LAST_RUN < x {
-            return Marks { only: false, set };
-        }
-        let p = wide(x) - 2000;
-        set[p] = true;
-        i += 1;
     }
     Marks { only: true, set }
 }
@@ -59,15 +55,14 @@ pub fn note(k: &[u16], from: usize, to: usize) -> Marks
 fn is_marked(m: Marks, x: u16) -> bool
     ensures { λ r. ⌜ r ≡ marked (m .set) x ⌝ }
 {
-    if x < 2000 {
-        return false;
+    match classify(x) {
+        Kind::Run(p) => {
+            let set = m.set;
+            let n = wide(p.0);
+            set[n]
+        }
+        _ => false,
     }
-    if LAST_RUN < x {
-        return false;
-    }
-    let set = m.set;
-    let p = wide(x) - 2000;
-    set[p]
 }
 
 // Whether a word is one of those replaced: one look, where they are hedge variables; else they are few, and looked through.
@@ -79,7 +74,7 @@ fn is_old(k: &[u16], old: usize, until: usize, m: Marks, x: u16) -> bool
     if only {
         return is_marked(m, x);
     }
-    stands(k, old, until, x)
+    stands(k, old, until, wide(x))
 }
 
 // What stands for one word.

@@ -6,6 +6,7 @@ use language::limits::ALTERNATIVES;
 use language::limits::EACH;
 use language::limits::QUESTION;
 use language::number;
+use language::wide;
 ghost use mathlib.Core.Path.{_≡_};
 ghost use mathlib.Core.Bool.{true};
 ghost use Prim.Native.Nat.{_≤_};
@@ -106,13 +107,6 @@ fn read_conj(w: &[u16]) -> Read
         }
     }
     Read::Next(i)
-}
-
-// A word as a place.
-fn wide(word: u16) -> usize
-    ensures { λ r. ⌜ r ≡ word ⌝ }
-{
-    word as usize
 }
 
 // Whether the offsets from place `at` up to `stop` never fall, from `from` on, and the last is the length.

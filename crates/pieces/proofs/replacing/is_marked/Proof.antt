@@ -1,36 +1,34 @@
--- A word outside the hedge variables is not marked; of another the mark is read.
-use Prim.Native.Nat.{_-_}
+-- Of a hedge variable the mark is read; any other word is not marked.
 use mathlib.Core.Path.{sym, ap, _∙_}
 use mathlib.Core.Bool.{false}
 use lib.ListN.{getD}
-use Rattle.pieces.proofs.Marking.{marked-low, marked-high, marked-in}
+use Rattle.pieces.proofs.Marking.{in-place, marked-run, marked-none}
 use native.Mathlib.Omega.{arith}
 use borrow.Author.Needs.{needs}
 use Rattle.pieces.proofs.replacing.is_marked.Statement.{statement}
 use Rattle.pieces.proofs.replacing.is_marked.Tie as tie
 
+array-read-result : tie.Need-array-read-result
+array-read-result c =
+    let w = c .wide .ensures in
+    let b = in-place _ (c .before .before .before .before .before .classify .ensures) _ (c .before .before .before .p .given .1) in
+    omega arith
+
 returns : tie.Need-returns
-returns c = marked-low _ _ (c .if1 .taken)
+returns c =
+    let b = c .before .before .before .before .before in
+    ap (λ n. getD (b .before .args .m .set) n false) (c .wide .ensures) ∙ marked-run _ _ (b .classify .ensures) _ (c .before .before .before .p .given .1)
 
 returns-2 : tie.Need-returns-2
-returns-2 c = marked-high _ _ (c .before .if1 .left) (c .if2 .taken)
-
-sub-p : tie.Need-sub-p
-sub-p c = let w = c .wide .ensures in omega arith
-
-array-read-result : tie.Need-array-read-result
-array-read-result c = let w = c .wide .ensures in omega arith
-
-returns-3 : tie.Need-returns-3
-returns-3 c = ap (λ n. getD (c .before .before .before .before .args .m .set) (n - 2000) false) (c .wide .ensures) ∙ marked-in _ _ (c .before .before .before .if1 .left) (c .before .before .if2 .left)
+returns-2 c = marked-none _ _ (c .before .classify .ensures) (c .match .keys2)
 
 pub is-marked-spec : {M : Type 1} → statement M
 is-marked-spec =
     tie.close
     (tie.spec
-    returns
-    returns-2
     (λ c κs. search needs)
-    sub-p
+    (λ c. search needs)
+    (λ c κs. search needs)
     array-read-result
-    returns-3)
+    returns
+    returns-2)

@@ -1,5 +1,7 @@
 -- Either way the answer is whether the word stands among those replaced.
-use mathlib.Core.Path.{_∙_}
+use mathlib.Core.Path.{ap, _∙_}
+use lib.Seq.{slice}
+use Rattle.plans.specs.Results.{member}
 use borrow.Author.Needs.{needs}
 use Rattle.pieces.proofs.replacing.is_old.Statement.{statement}
 use Rattle.pieces.proofs.replacing.is_old.Tie as tie
@@ -8,7 +10,9 @@ returns : tie.Need-returns
 returns c = c .is-marked .ensures ∙ c .before .before .before .pre .told (c .before .if1 .taken) _
 
 returns-2 : tie.Need-returns-2
-returns-2 c = c .stands .ensures
+returns-2 c =
+    let a = c .before .before .before .before .args in
+    c .stands .ensures ∙ ap (λ x. member x (slice (a .old) (a .until) (a .k .now))) (c .before .wide .ensures)
 
 pub is-old-spec : {M : Type 1} → statement M
 is-old-spec =
@@ -16,5 +20,6 @@ is-old-spec =
     (tie.spec
     (λ c κs. search needs)
     returns
+    (λ c κs. search needs)
     (λ c κs. search needs)
     returns-2)

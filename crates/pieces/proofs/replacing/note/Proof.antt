@@ -5,7 +5,7 @@ use mathlib.Core.Bool.{true}
 use lib.ListN.{getD, set}
 use lib.Seq.{slice}
 use Rattle.pieces.proofs.Parts.{part-cons, part-none}
-use Rattle.pieces.proofs.Marking.{Marking, none-marked, marking-step, marking-done, not-only}
+use Rattle.pieces.proofs.Marking.{in-place, Marking, none-marked, marking-step, marking-done, not-only}
 use native.Mathlib.Omega.{arith}
 use borrow.Author.Needs.{needs}
 use Rattle.pieces.proofs.replacing.note.Statement.{statement}
@@ -20,26 +20,27 @@ abbrev μ-loop : tie.MeasureT-loop
 loop-holds : tie.Need-loop-holds Inv-loop μ-loop
 loop-holds c = none-marked _ _ refl refl
 
-shared-slice-read-x : tie.Need-shared-slice-read-x Inv-loop μ-loop
-shared-slice-read-x c = let w = c .before .before .before .within .ensures .low in omega arith
+shared-slice-read-classify : tie.Need-shared-slice-read-classify Inv-loop μ-loop
+shared-slice-read-classify c = let w = c .before .before .before .within .ensures .low in omega arith
+
+array-write-set : tie.Need-array-write-set Inv-loop μ-loop
+array-write-set c =
+    let w = c .wide .ensures in
+    let b = in-place _ (c .before .before .before .before .classify .ensures) _ (c .before .before .p .given .1) in
+    omega arith
+
+loop-again : tie.Need-loop-again Inv-loop μ-loop
+loop-again c =
+    let l = c .before .before .before .before .before .before .before in
+    let a = l .before .before .before .args in
+    subst (λ n. Marking (set (l .loop .set) n true) (slice (l .loop .i + 1) (a .to) (a .k .now)) (slice (a .from) (a .to) (a .k .now))) (sym (c .wide .ensures))
+    (marking-step (l .loop .inv) _ _ (part-cons (l .before .within .ensures) _ (c .before .before .before .before .before .before .loop-test .taken)) (c .before .before .before .before .classify .ensures) _ (c .before .before .p .given .1))
 
 returns : tie.Need-returns Inv-loop μ-loop
 returns c = not-only _ _
 
 returns-2 : tie.Need-returns-2 Inv-loop μ-loop
-returns-2 c = not-only _ _
-
-sub-p : tie.Need-sub-p Inv-loop μ-loop
-sub-p c = let w = c .wide .ensures in omega arith
-
-array-write-set : tie.Need-array-write-set Inv-loop μ-loop
-array-write-set c = let w = c .wide .ensures in omega arith
-
-loop-again : tie.Need-loop-again Inv-loop μ-loop
-loop-again c = subst (λ n. Marking (set (c .before .before .before .before .before .loop .set) (n - 2000) true) (slice (c .before .before .before .before .before .loop .i + 1) (c .before .before .before .before .before .before .before .before .args .to) (c .before .before .before .before .before .before .before .before .args .k .now)) (slice (c .before .before .before .before .before .before .before .before .args .from) (c .before .before .before .before .before .before .before .before .args .to) (c .before .before .before .before .before .before .before .before .args .k .now))) (sym (c .wide .ensures)) (marking-step (c .before .before .before .before .before .loop .inv) _ _ (part-cons (c .before .before .before .before .before .before .within .ensures) _ (c .before .before .before .before .loop-test .taken)) (c .before .before .if1 .left) (c .before .if2 .left))
-
-returns-3 : tie.Need-returns-3 Inv-loop μ-loop
-returns-3 c = marking-done (c .before .loop .inv) (part-none (c .before .before .within .ensures) _ (c .loop-test .left))
+returns-2 c = marking-done (c .before .loop .inv) (part-none (c .before .before .within .ensures) _ (c .loop-test .left))
 
 pub note-spec : {M : Type 1} → statement M
 note-spec =
@@ -50,13 +51,13 @@ note-spec =
     (λ c κs. search needs)
     loop-holds
     (λ c. search needs)
-    shared-slice-read-x
-    returns
-    returns-2
+    shared-slice-read-classify
     (λ c κs. search needs)
-    sub-p
+    (λ c. search needs)
+    (λ c κs. search needs)
     array-write-set
     (λ c. search needs)
     (λ c. search needs)
     loop-again
-    returns-3)
+    returns
+    returns-2)
