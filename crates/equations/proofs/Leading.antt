@@ -17,12 +17,12 @@ use Rattle.rules.specs.Looks.{empty, hasTerm, allTerms, inside, upTo, lone, lon
 use Rattle.rules.specs.Rules.{too}
 use Rattle.rules.specs.Solved.{isSome}
 use Rattle.rules.specs.Places.{atR1, atF2, atDel1, atDel3, atE2, atE3, atE4, noRule}
-use Rattle.plans.specs.declared.Look.the-variants.{Empty, Term, Run, Node}
-use Rattle.plans.specs.declared.Side.{Side}
-use Rattle.plans.specs.declared.View.{View}
-use Rattle.plans.specs.Looks.{lookOf}
-use Rattle.plans.specs.Views.{Sided, Sees}
-use Rattle.plans.specs.Results.{member}
+use Rattle.views.specs.declared.Look.the-variants.{Empty, Term, Run, Node}
+use Rattle.views.specs.declared.Side.{Side}
+use Rattle.views.specs.declared.View.{View}
+use Rattle.views.specs.Looks.{lookOf}
+use Rattle.views.specs.Views.{Sided, Sees}
+use Rattle.words.specs.Spans.{member}
 use Rattle.views.proofs.Members.{member-hedge, elsewhere-sees}
 use Rattle.views.proofs.Sides.{side-whole}
 use Rattle.equations.specs.Rank.{lonely, leading, rankOf}

@@ -11,8 +11,8 @@ use Rattle.language.specs.declared.Name.{Name}
 use Rattle.language.specs.declared.Name.the-variants.{Symbol, Blank}
 use Rattle.language.specs.Trees.{Functor, symbol, fvar, Hedge, ε, tvar, hvar, node}
 use Rattle.rules.specs.Looks.{empty}
-use Rattle.plans.specs.declared.Look.the-variants.{Empty, Term, Run, Node}
-use Rattle.plans.specs.Looks.{nameOf, lookOf}
+use Rattle.views.specs.declared.Look.the-variants.{Empty, Term, Run, Node}
+use Rattle.views.specs.Looks.{nameOf, lookOf}
 
 -- two tests at once
 pub both : {a b x y t : Bool} → t ≡ (a && b) → a ≡ x → b ≡ y → t ≡ (x && y)

@@ -14,11 +14,11 @@ use Rattle.language.specs.Trees.{Functor, symbol, fvar, Hedge, Conj, eqS, eqF, 
 use Rattle.language.specs.Fine.{fineFunctor}
 use Rattle.rules.specs.Looks.{empty}
 use Rattle.rules.specs.Places.{atF3, atD0, atE5, atE6, noRule}
-use Rattle.plans.specs.declared.View.{View}
-use Rattle.plans.specs.Looks.{nameOf}
-use Rattle.plans.specs.Views.{Sees}
+use Rattle.views.specs.declared.View.{View}
+use Rattle.views.specs.Looks.{nameOf}
+use Rattle.views.specs.Views.{Sees}
 use Rattle.plans.proofs.Ranking.{and-true}
-use Rattle.plans.specs.Results.{member}
+use Rattle.words.specs.Spans.{member}
 use Rattle.views.proofs.Members.{elsewhere-sees}
 use Rattle.equations.specs.Rank.{functors}
 use Rattle.equations.specs.Ranked.{blanksIn}

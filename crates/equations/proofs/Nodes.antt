@@ -7,8 +7,8 @@ use Rattle.language.specs.declared.HedgeVar.{HedgeVar}
 use Rattle.language.specs.Trees.{Functor, Hedge, node, Conj, sameWords}
 use Rattle.rules.specs.Looks.{empty}
 use Rattle.rules.specs.Places.{atR1, atD2, noRule}
-use Rattle.plans.specs.declared.Look.the-variants.{Empty, Term, Run}
-use Rattle.plans.specs.Looks.{lookOf}
+use Rattle.views.specs.declared.Look.the-variants.{Empty, Term, Run}
+use Rattle.views.specs.Looks.{lookOf}
 use Rattle.views.proofs.Looks.{is-empty, is-term, is-run}
 use Rattle.equations.specs.Rank.{functors, rankOf}
 use Rattle.equations.proofs.Looked.{both}

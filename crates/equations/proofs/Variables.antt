@@ -13,11 +13,11 @@ use Rattle.language.specs.Kinds.{pick}
 use Rattle.language.specs.Trees.{Functor, Hedge, ε, tvar, node, Conj, eqT, sameWords, tv, inConj}
 use Rattle.rules.specs.Looks.{empty, hasTerm, under}
 use Rattle.rules.specs.Places.{atR1, atF1, atF4, atD2, atE1, noRule}
-use Rattle.plans.specs.declared.Look.the-variants.{Empty, Term, Run, Node}
-use Rattle.plans.specs.declared.View.{View}
-use Rattle.plans.specs.Looks.{lookOf}
-use Rattle.plans.specs.Views.{Sees}
-use Rattle.plans.specs.Results.{member}
+use Rattle.views.specs.declared.Look.the-variants.{Empty, Term, Run, Node}
+use Rattle.views.specs.declared.View.{View}
+use Rattle.views.specs.Looks.{lookOf}
+use Rattle.views.specs.Views.{Sees}
+use Rattle.words.specs.Spans.{member}
 use Rattle.views.proofs.Members.{elsewhere-sees}
 use Rattle.equations.specs.Rank.{rankOf}
 use Rattle.equations.proofs.Looked.{at-empty, at-term, at-run, at-node}

@@ -1,9 +1,9 @@
 // Reads cases, a line each: the number of the line asked for, the words of the room, and the words of a question.
 // Writes the refusal's number, or 0 and the words of the filling; and then, of a filling, the number and the value that trying it gives.
 ghost use Rattle.cases.specs.Lines.{Parsed};
+use example::Shown;
 use language::limits::QUESTION;
 use language::limits::ROOM;
-use showing::Shown;
 
 fn wide(x: u16) -> usize {
     x as usize

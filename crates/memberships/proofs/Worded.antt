@@ -13,16 +13,16 @@ use Rattle.language.specs.Writing.{conjWords}
 use Rattle.rules.specs.Looks.{empty, hasTerm}
 use Rattle.rules.specs.Expressions.{nullable}
 use Rattle.rules.specs.Places.{atR2, atF6, atM2, noRule}
-use Rattle.plans.specs.declared.Look.{Look}
-use Rattle.plans.specs.declared.Look.the-variants.{Empty, Term, Run, Node}
-use Rattle.plans.specs.declared.Shape.{Shape}
-use Rattle.plans.specs.Looks.{nameOf, firstKind}
-use Rattle.plans.specs.Views.{Shows}
-use Rattle.plans.specs.Ranks.{memRank}
+use Rattle.views.specs.declared.Look.{Look}
+use Rattle.views.specs.declared.Look.the-variants.{Empty, Term, Run, Node}
+use Rattle.views.specs.declared.Shape.{Shape}
+use Rattle.views.specs.Looks.{nameOf, firstKind}
+use Rattle.views.specs.Views.{Shows}
+use Rattle.rules.specs.Ranks.{memRank}
 use Rattle.views.specs.Standing.{Stands}
 use Rattle.views.proofs.Sides.{side-stands}
 use Rattle.views.proofs.Looks.{is-empty, is-term, is-run, is-node}
-use Rattle.exprs.specs.Standing.{Here}
+use Rattle.expressions.specs.Standing.{Here}
 use Rattle.memberships.specs.Rank.{overRank, termRank, runRank, rankIn, overBy, singleBy, termBy, runBy}
 use Rattle.memberships.proofs.Decisions.{rank-law}
 

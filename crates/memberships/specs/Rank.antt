@@ -11,8 +11,8 @@ use Rattle.language.specs.Kinds.{pick}
 use Rattle.language.specs.Trees.{Functor, symbol, fvar, Hedge, ε, tvar, hvar, node, Expr, eps, cat, alt, star, over, eqS}
 use Rattle.rules.specs.Looks.{empty, hasTerm}
 use Rattle.rules.specs.Expressions.{nullable}
-use Rattle.plans.specs.declared.Look.{Look}
-use Rattle.plans.specs.declared.Look.the-variants.{Empty, Term, Run, Node}
+use Rattle.views.specs.declared.Look.{Look}
+use Rattle.views.specs.declared.Look.the-variants.{Empty, Term, Run, Node}
 use Rattle.rules.specs.Places.{atR2, atF5, atF6, atF7, atM1, atM2, atM3, atM4, atM5, atM6, atM7, atM10, atM11, noRule}
 
 -- a single F(H) in g(R): M11, F5, M10

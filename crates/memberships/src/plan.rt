@@ -7,8 +7,6 @@ ghost use Rattle.memberships.specs.Planned.{Is, Answered};
 use plans::Piece;
 use plans::Plan;
 use plans::Recipe;
-use plans::Shape;
-use plans::Side;
 use plans::Ways;
 use plans::few;
 use plans::full;
@@ -23,6 +21,8 @@ use rules::places::AT_M7;
 use rules::places::AT_M10;
 use rules::places::AT_M11;
 use rules::places::AT_R2;
+use views::Shape;
+use views::Side;
 
 // A plan without a piece.
 fn bare(ways: Ways) -> Plan

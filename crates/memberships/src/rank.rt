@@ -6,18 +6,15 @@ ghost use Rattle.language.specs.Kinds.{pick};
 ghost use Rattle.language.specs.Trees.{Hedge, Expr, Conj};
 ghost use Rattle.rules.specs.Looks.{hasTerm};
 ghost use Rattle.rules.specs.Expressions.{nullable};
-ghost use Rattle.plans.specs.Views.{Shows};
-ghost use Rattle.plans.specs.Ranks.{memRank};
+ghost use Rattle.views.specs.Views.{Shows};
+ghost use Rattle.rules.specs.Ranks.{memRank};
 ghost use Rattle.views.specs.Standing.{Stands};
-ghost use Rattle.exprs.specs.Standing.{Here};
+ghost use Rattle.expressions.specs.Standing.{Here};
 ghost use Rattle.rules.specs.Places.{atR2, atF6, atM2};
 ghost use Rattle.memberships.specs.Rank.{overBy, singleBy, termBy, runBy};
 use language::Kind;
 use language::Name;
 use language::Sym;
-use plans::Look;
-use plans::Shape;
-use plans::Side;
 use rules::places::AT_F5;
 use rules::places::AT_F6;
 use rules::places::AT_F7;
@@ -32,6 +29,9 @@ use rules::places::AT_M10;
 use rules::places::AT_M11;
 use rules::places::AT_R2;
 use rules::places::NO_RULE;
+use views::Look;
+use views::Shape;
+use views::Side;
 
 // ε in the expression at a place: R2, F6.
 fn rank_empty(k: &[u16], at: usize) -> usize

@@ -11,7 +11,7 @@ ghost use Rattle.rules.specs.Reply.{nothing};
 ghost use Rattle.rules.specs.Step.{step};
 ghost use Rattle.rules.specs.Run.{run as runs};
 ghost use Rattle.rules.specs.Answer.{solvingOf, solving};
-ghost use Rattle.search.specs.Ranking.{Found};
+ghost use Rattle.steps.specs.Ranking.{Found};
 ghost use Rattle.reader.specs.Checking.{checked};
 ghost use Rattle.reader.specs.declared.Checked.the-variants.{Fine};
 ghost use Rattle.rules.specs.Places.{noRule};
@@ -26,18 +26,18 @@ use language::limits::QUESTION;
 use language::limits::ROOM;
 use language::limits::STEPS;
 use language::number;
-use marks::is_solved;
 use reader::Checked;
 use reader::read_question;
 use rules::places::NO_RULE;
-use stack::clear;
-use stack::copy;
-use stack::lay_out;
-use stack::wide;
+use solved::is_solved;
 use steps::Best;
 use steps::Stepped;
 use steps::find;
 use steps::take_step;
+use waiting::clear;
+use waiting::copy;
+use waiting::lay_out;
+use waiting::wide;
 
 // Where the waiting conjunctions begin, the steps made, and the lines.
 pub struct State {

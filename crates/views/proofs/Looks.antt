@@ -22,12 +22,12 @@ use Rattle.language.specs.Writing.{functorWord, hedgeWords}
 use Rattle.language.specs.Fine.{fineHedge}
 use Rattle.language.proofs.Words.{kind-end, kind-term, kind-run, kind-symbol, kind-function}
 use Rattle.rules.specs.Looks.{empty}
-use Rattle.plans.specs.Looks.{nameOf, lookOf, head, tail, bodyWords}
-use Rattle.plans.specs.Results.{span, elementEnd}
-use Rattle.plans.specs.Views.{Sided}
-use Rattle.plans.specs.declared.Look.{Look}
-use Rattle.plans.specs.declared.Look.the-variants.{Empty, Term, Run, Node}
-use Rattle.plans.specs.declared.Side.{Side}
+use Rattle.views.specs.Looks.{nameOf, lookOf, head, tail, bodyWords}
+use Rattle.words.specs.Spans.{span, elementEnd}
+use Rattle.views.specs.Views.{Sided}
+use Rattle.views.specs.declared.Look.{Look}
+use Rattle.views.specs.declared.Look.the-variants.{Empty, Term, Run, Node}
+use Rattle.views.specs.declared.Side.{Side}
 use Rattle.views.specs.Standing.{Stands}
 use Rattle.views.specs.Places.{lookBy, lookAt, sideAt}
 use Rattle.words.proofs.Parts.{part-of, drop-of, below-of-word}

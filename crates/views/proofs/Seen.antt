@@ -12,10 +12,10 @@ use Rattle.language.specs.Trees.{Hedge, Expr, eps, cat, alt, star, over, Litera
 use Rattle.language.specs.Writing.{hedgeWords, exprWords, literalWords, conjWords}
 use Rattle.language.specs.Fine.{fineExpr}
 use Rattle.language.proofs.Words.{kind-symbol, kind-eps, kind-cat, kind-alt, kind-star}
-use Rattle.plans.specs.Looks.{firstKind}
-use Rattle.plans.specs.Views.{Sided, Sees, Shows}
-use Rattle.plans.specs.declared.Side.{Side}
-use Rattle.plans.specs.declared.Shape.{Shape}
+use Rattle.views.specs.Looks.{firstKind}
+use Rattle.views.specs.Views.{Sided, Sees, Shows}
+use Rattle.views.specs.declared.Side.{Side}
+use Rattle.views.specs.declared.Shape.{Shape}
 use Rattle.words.specs.Places.{untilLiteral}
 use Rattle.views.specs.Standing.{Stands, LiteralAt}
 use Rattle.views.specs.Places.{sideAt, viewOf, viewAt, shapeOf, shapeAt}

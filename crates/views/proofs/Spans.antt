@@ -8,8 +8,8 @@ use Rattle.language.specs.Limits.{desk}
 use Rattle.language.specs.Trees.{Functor, symbol, fvar, Hedge, ε, tvar, hvar, node}
 use Rattle.language.specs.Writing.{functorWord, hedgeWords}
 use Rattle.language.specs.Fine.{fineHedge}
-use Rattle.plans.specs.Looks.{head, tail, bodyWords}
-use Rattle.plans.specs.Results.{opens, span, elementEnd}
+use Rattle.views.specs.Looks.{head, tail, bodyWords}
+use Rattle.words.specs.Spans.{opens, span, elementEnd}
 use Rattle.views.specs.Standing.{Stands}
 use Rattle.words.proofs.Parts.{drop-of, word-of}
 use Rattle.words.proofs.Spans.{opens-0, opens-term, opens-run, opens-functor, span-none, span-suc, element-stop, element-on}

@@ -11,8 +11,8 @@ use Rattle.language.specs.Trees.{symbol, fvar, Hedge, ε, tvar, hvar, node, _�
 use Rattle.language.specs.Fine.{fineHedge}
 use Rattle.language.proofs.Words.{kind-end, kind-term, kind-run, kind-symbol, kind-function}
 use Rattle.rules.specs.Looks.{empty, hasTerm, allTerms}
-use Rattle.plans.specs.Looks.{head, tail, bodyWords}
-use Rattle.plans.specs.Results.{elementEnd}
+use Rattle.views.specs.Looks.{head, tail, bodyWords}
+use Rattle.words.specs.Spans.{elementEnd}
 use Rattle.views.specs.Standing.{Stands}
 use Rattle.views.specs.Walks.{beginsBy, termWord, runsBy, runWord, size}
 use Rattle.views.proofs.Words.{body-join, firstWord}

@@ -7,7 +7,7 @@ use Rattle.language.specs.Limits.{desk}
 use Rattle.language.specs.Trees.{Hedge, ε, tvar, hvar, node, Conj, _⧺_}
 use Rattle.language.specs.Writing.{functorWord, hedgeWords, literalWords, conjWords}
 use Rattle.language.specs.Fine.{fineHedge}
-use Rattle.plans.specs.Looks.{head, tail, bodyWords}
+use Rattle.views.specs.Looks.{head, tail, bodyWords}
 
 -- a hedge's words end with its 0
 pub words-body : (h : Hedge) → hedgeWords h ≡ bodyWords h ++ (0 ∷ [])

@@ -12,12 +12,12 @@ use Rattle.language.specs.declared.Kind.{Kind}
 use Rattle.language.specs.declared.Kind.the-variants as kind
 use Rattle.language.specs.Limits.{desk}
 use Rattle.language.specs.Kinds.{pick, kindOf}
-use Rattle.plans.specs.Results.{member, span, elementEnd}
-use Rattle.plans.specs.declared.Look.{Look}
-use Rattle.plans.specs.declared.Look.the-variants.{Empty, Term, Run, Node}
-use Rattle.plans.specs.declared.Side.{Side}
-use Rattle.plans.specs.declared.View.{View}
-use Rattle.plans.specs.declared.Shape.{Shape}
+use Rattle.words.specs.Spans.{member, span, elementEnd}
+use Rattle.views.specs.declared.Look.{Look}
+use Rattle.views.specs.declared.Look.the-variants.{Empty, Term, Run, Node}
+use Rattle.views.specs.declared.Side.{Side}
+use Rattle.views.specs.declared.View.{View}
+use Rattle.views.specs.declared.Shape.{Shape}
 use Rattle.words.specs.Places.{untilLiteral}
 use Rattle.views.specs.declared.Terms.{Terms}
 use Rattle.views.specs.declared.Found.{Found}

@@ -12,7 +12,7 @@ use Rattle.language.specs.Kinds.{kindOf}
 use Rattle.language.specs.Trees.{Hedge, ε, tvar, hvar, node}
 use Rattle.rules.specs.Looks.{allTerms, upTo, inside}
 use Rattle.rules.specs.Solved.{isSome}
-use Rattle.plans.specs.Looks.{bodyWords}
+use Rattle.views.specs.Looks.{bodyWords}
 use Rattle.views.specs.declared.Terms.{Terms}
 use Rattle.views.specs.declared.Found.{Found}
 use Rattle.views.specs.declared.Spot.{Spot}

@@ -7,8 +7,8 @@ ghost use Rattle.language.specs.declared.HedgeVar.{HedgeVar};
 ghost use Rattle.language.specs.Limits.{desk};
 ghost use Rattle.language.specs.Trees.{Hedge, Expr, eqn, mem, Conj, Var, tv, hv};
 ghost use Rattle.rules.specs.Looks.{hasTerm, under as belowTop};
-ghost use Rattle.plans.specs.Looks.{lookOf, head, bodyWords};
-ghost use Rattle.plans.specs.Views.{Sided, Sees, Shows};
+ghost use Rattle.views.specs.Looks.{lookOf, head, bodyWords};
+ghost use Rattle.views.specs.Views.{Sided, Sees, Shows};
 ghost use Rattle.views.specs.Variables.{variableWord, fineVar};
 ghost use Rattle.views.specs.Walks.{termWord, runWord, Counted, Ahead, Spotted};
 ghost use Rattle.views.specs.Standing.{Stands, LiteralAt};
@@ -21,15 +21,46 @@ use language::classify;
 use language::run_word;
 use language::term_word;
 use language::wide;
-use plans::Look;
-use plans::Shape;
-use plans::Side;
-use plans::View;
 use words::element_end;
 use words::hedge_end;
 use words::next_literal;
 use words::stands;
 use words::word;
+
+// How a hedge begins: with which variable or name, whether nothing follows the first element, and for a name whether it has no children.
+pub enum Look {
+    Empty,
+    Term(TermVar, bool),
+    Run(HedgeVar, bool),
+    Node(Name, bool, bool),
+}
+
+// A hedge in the words: its place, the place after its first element, and the place after its 0.
+pub struct Side {
+    pub from: usize,
+    pub rest: usize,
+    pub to: usize,
+    pub look: Look,
+}
+
+// An equation in the words of a conjunction; l is the side that is looked at first.
+pub struct View {
+    pub at: usize,
+    pub l: Side,
+    pub r: Side,
+    pub end: usize,
+    pub len: usize,
+}
+
+// A membership in the words of a conjunction: its hedge, the place of its expression and what the first word there is.
+pub struct Shape {
+    pub at: usize,
+    pub h: Side,
+    pub expr: usize,
+    pub first: Kind,
+    pub end: usize,
+    pub len: usize,
+}
 
 // Whether a hedge is terms alone, and how many.
 pub struct Terms {

@@ -16,7 +16,7 @@ use Rattle.language.specs.Trees as tree
 use Rattle.language.specs.Writing.{functorWord}
 use Rattle.language.specs.Fine.{fineFunctor}
 use Rattle.language.proofs.Words.{Is, end, term, run, symbol, function, equation, membership, eps, cat, alt, star, other, is, kind-end, kind-term, kind-run, kind-symbol, kind-function}
-use Rattle.plans.specs.Results.{opensBy, opens, span, elementEnd}
+use Rattle.words.specs.Spans.{opensBy, opens, span, elementEnd}
 use Rattle.words.proofs.Parts.{drop-here, below-of-word}
 
 -- ---- what a word opens

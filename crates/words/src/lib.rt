@@ -4,7 +4,7 @@ ghost use mathlib.Core.Path.{_≡_};
 ghost use mathlib.Core.Bool.{_||_};
 ghost use lib.ListN.{length, getD, take, drop};
 ghost use lib.Seq.{slice};
-ghost use Rattle.plans.specs.Results.{member, opens, span, elementEnd};
+ghost use Rattle.words.specs.Spans.{member, opens, span, elementEnd};
 ghost use Rattle.words.specs.Places.{untilLiteral, sameList};
 use language::Kind;
 use language::classify;

@@ -12,7 +12,7 @@ use Rattle.language.specs.Fine.{fineConj}
 use Rattle.rules.specs.Places.{noRule}
 use Rattle.steps.specs.declared.Best.{Best}
 use Rattle.steps.specs.Seeking.{lesserOf, bestFrom, bestOf}
-use Rattle.search.proofs.Walks.{Walked, walk-starts, walk-to, walk-ends}
+use Rattle.views.proofs.LiteralWalks.{Walked, walk-starts, walk-to, walk-ends}
 use Rattle.steps.proofs.Finding.{placed-on, passed-to}
 use Rattle.steps.proofs.find.Statement.{statement}
 use Rattle.steps.proofs.find.Tie as tie

@@ -3,8 +3,8 @@ use mathlib.Core.Path.{_≡_}
 use mathlib.Core.List.{_++_}
 use borrow.Author.Needs.{needs}
 use Rattle.rules.specs.Places.{atM2}
-use Rattle.search.specs.Ranking.{sideAnswer}
-use Rattle.search.proofs.Walks.{at-equation, at-membership}
+use Rattle.steps.specs.Ranking.{sideAnswer}
+use Rattle.views.proofs.LiteralWalks.{at-equation, at-membership}
 use Rattle.equations.specs.Planned.{Planned}
 use Rattle.steps.proofs.plan_at.Statement.{statement}
 use Rattle.steps.proofs.plan_at.Tie as tie

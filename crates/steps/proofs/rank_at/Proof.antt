@@ -5,7 +5,7 @@ use lib.ListN.{drop}
 use borrow.Author.Needs.{needs}
 use Rattle.language.specs.Writing.{conjWords}
 use Rattle.views.proofs.Sides.{shows-finish}
-use Rattle.search.proofs.Walks.{at-equation, at-membership}
+use Rattle.views.proofs.LiteralWalks.{at-equation, at-membership}
 use Rattle.steps.specs.Seeking.{best, bestAt}
 use Rattle.steps.proofs.Finding.{best-swapped, best-written, best-member}
 use Rattle.steps.proofs.rank_at.Statement.{statement}

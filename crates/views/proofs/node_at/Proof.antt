@@ -4,7 +4,7 @@ use borrow.Author.Needs.{needs}
 use Prim.Native.Nat.{_+_}
 use lib.Dec.{eqb}
 use lib.ListN.{getD}
-use Rattle.plans.specs.declared.Look.the-variants.{Node}
+use Rattle.views.specs.declared.Look.the-variants.{Node}
 use Rattle.views.specs.Places.{nodeAt}
 use Rattle.views.proofs.node_at.Statement.{statement}
 use Rattle.views.proofs.node_at.Tie as tie

@@ -12,7 +12,7 @@ use Rattle.views.specs.Variables.{variableWord, fineVar}
 use Rattle.views.specs.Standing.{Stands}
 use Rattle.views.proofs.Walks.{Passed, pass-first, pass-on, goes-on}
 use Rattle.views.proofs.Finds.{Behind, behind-start, behind-on, behind-found, behind-end}
-use Rattle.plans.specs.Results.{elementEnd}
+use Rattle.words.specs.Spans.{elementEnd}
 use Rattle.views.specs.Places.{othersEnd}
 use Rattle.views.proofs.Firsts.{Going, going-start}
 use Rattle.views.proofs.Stops.{others-on, others-found, others-none}

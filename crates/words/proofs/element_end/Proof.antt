@@ -4,7 +4,7 @@ use Prim.Native.Nat.{_+_, _-_}
 use lib.ListN.{drop}
 use native.Mathlib.Omega.{arith}
 use borrow.Author.Needs.{needs}
-use Rattle.plans.specs.Results.{opens, span}
+use Rattle.words.specs.Spans.{opens, span}
 use Rattle.words.proofs.Parts.{below-of-word}
 use Rattle.words.proofs.Spans.{opens-le, opens-pos, element-stop, element-on}
 use Rattle.words.proofs.element_end.Statement.{statement}

@@ -3,7 +3,7 @@ use mathlib.Core.Path.{refl, sym, ap, _∙_}
 use mathlib.Core.Bool.{_||_}
 use lib.ListN.{length, drop}
 use borrow.Author.Needs.{needs}
-use Rattle.plans.specs.Results.{member}
+use Rattle.words.specs.Spans.{member}
 use Rattle.words.proofs.Parts.{part-rest}
 use Rattle.words.proofs.elsewhere.Statement.{statement}
 use Rattle.words.proofs.elsewhere.Tie as tie

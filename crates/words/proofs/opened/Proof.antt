@@ -5,7 +5,7 @@ use borrow.Author.Needs.{needs}
 use Prim.Native.Nat.{ℕ}
 use Rattle.language.specs.declared.Kind.{Kind}
 use Rattle.language.proofs.Arms.{Among, each-kind}
-use Rattle.plans.specs.Results.{opensBy, opens}
+use Rattle.words.specs.Spans.{opensBy, opens}
 use Rattle.words.proofs.opened.Statement.{statement}
 use Rattle.words.proofs.opened.Tie as tie
 

@@ -4,7 +4,7 @@ use Prim.Native.Nat.{_+_, _-_, _≤_}
 use lib.ListN.{length, drop, getD}
 use borrow.Author.Needs.{needs}
 use native.Mathlib.Omega.{arith}
-use Rattle.plans.specs.Results.{span}
+use Rattle.words.specs.Spans.{span}
 use Rattle.words.proofs.Spans.{opens-le, span-past, span-none, span-step}
 use Rattle.words.proofs.passed.Statement.{statement}
 use Rattle.words.proofs.passed.Tie as tie

@@ -3,7 +3,7 @@ use Prim.Native.Nat.{_-_}
 use mathlib.Core.Path.{_≡_, refl, sym, _∙_}
 use lib.Seq.{slice}
 use borrow.Author.Needs.{needs}
-use Rattle.plans.specs.Results.{member}
+use Rattle.words.specs.Spans.{member}
 use Rattle.words.proofs.Parts.{member-none, member-past, member-here, member-next}
 use Rattle.words.proofs.stands.Statement.{statement}
 use Rattle.words.proofs.stands.Tie as tie

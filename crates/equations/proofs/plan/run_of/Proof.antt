@@ -7,8 +7,8 @@ use mathlib.Core.Bool.{Bool}
 use Rattle.language.specs.declared.TermVar.{TermVar}
 use Rattle.language.specs.declared.HedgeVar.{HedgeVar}
 use Rattle.language.specs.declared.Name.{Name}
-use Rattle.plans.specs.declared.Look.{Look}
-use Rattle.plans.specs.declared.Look.the-variants.{Empty, Term, Run, Node}
+use Rattle.views.specs.declared.Look.{Look}
+use Rattle.views.specs.declared.Look.the-variants.{Empty, Term, Run, Node}
 use Rattle.equations.proofs.plan.run_of.Statement.{statement}
 use Rattle.equations.proofs.plan.run_of.Tie as tie
 

@@ -7,7 +7,7 @@ use Rattle.language.specs.declared.Kind.{Kind}
 use Rattle.language.specs.Kinds.{pick}
 use Rattle.language.proofs.Arms.{Among, each-kind}
 use Rattle.rules.specs.Places.{atM2, noRule}
-use Rattle.plans.specs.declared.Look.{Look}
+use Rattle.views.specs.declared.Look.{Look}
 use Rattle.memberships.specs.Rank.{termBy}
 use borrow.Author.Needs.{needs}
 use Rattle.memberships.proofs.rank.rank_term.Statement.{statement}

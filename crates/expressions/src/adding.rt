@@ -1,0 +1,165 @@
+// A result of M2 from a monomial: how long it is, and writing it in its frame.
+ghost use mathlib.Core.Path.{_≡_};
+ghost use mathlib.Core.List.{_++_};
+ghost use Prim.Native.Nat.{_≤_, _+_, _-_};
+ghost use lib.ListN.{length, drop};
+ghost use Rattle.frames.specs.Frames.{frame, frameOf};
+ghost use Rattle.language.specs.Limits.{desk};
+ghost use Rattle.results.specs.Written.{Wrote};
+ghost use Rattle.expressions.specs.Loose.{opening};
+ghost use Rattle.expressions.specs.Rows.{frontOf, resultLength, resultWords, Bounded, counted, Rowed};
+use frames::FRAME;
+use frames::write_frame;
+use language::limits::QUESTION;
+use plans::Piece;
+use plans::Recipe;
+use plans::Size;
+use plans::full;
+use results::copying::copy;
+use results::copying::part_len;
+use results::grow;
+use results::making::made_len;
+use results::making::write_made;
+use views::Shape;
+
+// A monomial f(R1), R2: the part of f(R1), how many parts R2 has, and how many words they have together.
+pub struct Spot {
+    pub place: usize,
+    pub past: usize,
+    pub parts: usize,
+    pub words: usize,
+}
+
+// The results so far: how many words they take, and the place after those that are written.
+pub struct Results {
+    pub size: Size,
+    pub to: usize,
+}
+
+// What stands before the rest in a result.
+fn front(s: Shape, p: Spot) -> Recipe
+    ensures { λ r. ⌜ r ≡ frontOf s p ⌝ }
+{
+    let h = s.h;
+    let none = Piece::Copy(0, 0);
+    full(
+        Piece::Copy(0, s.at),
+        Piece::Word(6000),
+        Piece::Copy(h.from, h.rest),
+        Piece::Word(0),
+        Piece::Copy(p.place, p.past),
+        Piece::Word(6000),
+        Piece::Copy(h.rest, h.to),
+        none,
+        none,
+        none,
+        none,
+        none,
+        0,
+        0,
+        0,
+    )
+}
+
+// How many words stand before the parts of a rest.
+fn opening_len(parts: usize) -> usize
+    ensures { λ n. ⌜ n ≡ length (opening parts) ⌝ }
+{
+    if parts == 0 { 1 } else { parts - 1 }
+}
+
+// How long a result is.
+fn result_len(k: &[u16], s: Shape, p: Spot) -> usize
+    requires { ⌜ (length (now k) ≤ desk .question) × Bounded p ⌝ }
+    ensures { λ n. ⌜ n ≡ resultLength (now (k .entry)) s p ⌝ }
+{
+    let a = made_len(k, front(s, p), 0);
+    let b = opening_len(p.parts);
+    let c = part_len(k, s.end, s.len);
+    a + (b + p.words) + c
+}
+
+// A result more of so many words.
+fn count(size: Size, one: usize) -> Size
+    ensures { λ r. ⌜ r ≡ counted size one ⌝ }
+{
+    match size {
+        Size::Over => Size::Over,
+        Size::Fits(n) => {
+            if QUESTION < one {
+                return Size::Over;
+            }
+            let more = grow(n, one);
+            Size::Fits(more)
+        }
+    }
+}
+
+// What stands before the parts of a rest.
+fn open_rest(out: &mut [u16], at: usize, parts: usize) -> usize
+    requires { ⌜ at + length (opening parts) ≤ length (now out) ⌝ }
+    ensures { λ e. ⌜ Wrote (now (out .entry)) at (opening parts) (now (out .exit)) e ⌝ }
+{
+    if parts == 0 {
+        out[at] = 7000;
+        return at + 1;
+    }
+    let mut left = parts - 1;
+    let mut e = at;
+    while left != 0 {
+        out[e] = 7001;
+        e += 1;
+        left -= 1;
+    }
+    e
+}
+
+// A result in its frame; the parts of its rest are the last words of `rest`.
+fn write_row(
+    k: &[u16],
+    s: Shape,
+    p: Spot,
+    one: usize,
+    rest: &[u16],
+    out: &mut [u16],
+    at: usize,
+) -> usize
+    requires { ⌜ (p .words ≤ length (now rest)) × (one ≡ resultLength (now k) s p) × (one ≤ desk .question) × (at + frame + one ≤ length (now out)) ⌝ }
+    ensures { λ e. ⌜ Wrote (now (out .entry)) at (frameOf (resultLength (now (k .entry)) s p) ++ resultWords (now (k .entry)) s p (drop (length (now (rest .entry)) - p .words) (now (rest .entry)))) (now (out .exit)) e ⌝ }
+{
+    write_frame(out, at, one);
+    let a = write_made(k, front(s, p), 0, out, at + FRAME);
+    let b = open_rest(out, a, p.parts);
+    let words = p.words;
+    let e = copy(rest, rest.len() - words, rest.len(), out, b);
+    copy(k, s.end, s.len, out, e)
+}
+
+// A result more: counted, and written where it is not too long and has room.
+pub(crate) fn add_row(
+    k: &[u16],
+    s: Shape,
+    p: Spot,
+    rest: &[u16],
+    out: &mut [u16],
+    rows: Results,
+) -> Results
+    requires { ⌜ (length (now k) ≤ desk .question) × Bounded p × (rows .to ≤ length (now out)) ⌝ }
+    ensures { λ r. ⌜ Rowed (now (k .entry)) s p (now (rest .entry)) (now (out .entry)) rows (now (out .exit)) r ⌝ }
+{
+    let to = rows.to;
+    let one = result_len(k, s, p);
+    let before = rows.size;
+    let size = count(before, one);
+    if QUESTION < one {
+        return Results { size, to };
+    }
+    if rest.len() < p.words {
+        return Results { size, to };
+    }
+    if out.len() - to < one + FRAME {
+        return Results { size, to };
+    }
+    let end = write_row(k, s, p, one, rest, out, to);
+    Results { size, to: end }
+}
