@@ -20,11 +20,15 @@ made-len-requires c κs = c .before .before .before .pre
 
 returns : tie.Need-returns Inv-loop μ-loop
 unfolding sized
-returns c = let a = c .before .before .before .before .before .args in cuts-over (a .k .now) (a .r) (c .before .before .before .loop .left) (c .before .before .before .loop .at) (c .before .before .loop-test .taken) _ refl (c .before .before .before .loop .n) _ (c .before .made-len .ensures) (c .if1 .taken) ∙ c .before .before .before .loop .inv
+returns c =
+    let c₁ = c .before in let c₂ = c₁ .before in let c₃ = c₂ .before in let c₄ = c₃ .before .before in
+    let a = c₄ .args in cuts-over (a .k .now) (a .r) (c₃ .loop .left) (c₃ .loop .at) (c₂ .loop-test .taken) _ refl (c₃ .loop .n) _ (c₁ .made-len .ensures) (c .if1 .taken) ∙ c₃ .loop .inv
 
 loop-again : tie.Need-loop-again Inv-loop μ-loop
-loop-again c = let a = c .before .before .before .before .before .before .before .args in
-    cuts-more (a .k .now) (a .r) (c .before .before .before .before .before .loop .left) (c .before .before .before .before .before .loop .at) (c .before .before .before .before .loop-test .taken) _ (c .element-end .ensures) (c .before .before .before .before .before .loop .n) _ (c .before .before .before .made-len .ensures) (c .before .before .if1 .left) _ (c .before .grow .ensures) ∙ c .before .before .before .before .before .loop .inv
+loop-again c =
+    let c₁ = c .before in let c₂ = c₁ .before in let c₃ = c₂ .before in let c₄ = c₃ .before in let c₅ = c₄ .before in let c₆ = c₅ .before .before in
+    let a = c₆ .args in
+    cuts-more (a .k .now) (a .r) (c₅ .loop .left) (c₅ .loop .at) (c₄ .loop-test .taken) _ (c .element-end .ensures) (c₅ .loop .n) _ (c₃ .made-len .ensures) (c₂ .if1 .left) _ (c₁ .grow .ensures) ∙ c₅ .loop .inv
 
 returns-2 : tie.Need-returns-2 Inv-loop μ-loop
 unfolding sized

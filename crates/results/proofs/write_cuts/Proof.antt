@@ -19,16 +19,20 @@ loop-holds : tie.Need-loop-holds Inv-loop μ-loop
 loop-holds c = (still-all _ _ _ (c .before .before .pre .room), c .before .before .pre .short)
 
 write-framed-requires : tie.Need-write-framed-requires Inv-loop μ-loop
-write-framed-requires c κs = let a = c .before .before .before .before .before .args in (
-  cuts-short (a .k .now) (a .r) (c .before .before .loop .left) (c .before .before .loop .c) (c .before .loop-test .taken) _ refl (c .before .before .loop .inv .1) .0,
-  still-fits (c .before .before .loop .inv .0) (cuts-split (a .k .now) (a .r) (c .before .before .loop .left) (c .before .before .loop .c) (c .before .loop-test .taken) _ refl),
-)
+write-framed-requires c κs =
+    let c₁ = c .before in let c₂ = c₁ .before in let c₃ = c₂ .before .before .before in
+    let a = c₃ .args in (
+      cuts-short (a .k .now) (a .r) (c₂ .loop .left) (c₂ .loop .c) (c₁ .loop-test .taken) _ refl (c₂ .loop .inv .1) .0,
+      still-fits (c₂ .loop .inv .0) (cuts-split (a .k .now) (a .r) (c₂ .loop .left) (c₂ .loop .c) (c₁ .loop-test .taken) _ refl),
+    )
 
 loop-again : tie.Need-loop-again Inv-loop μ-loop
-loop-again c = let a = c .before .before .before .before .before .before .before .before .before .args in (
-  still-run (c .before .before .before .before .before .before .loop .inv .0) (cuts-split (a .k .now) (a .r) (c .before .before .before .before .before .before .loop .left) (c .before .before .before .before .before .before .loop .c) (c .before .before .before .before .before .loop-test .taken) _ (c .element-end .ensures)) (c .before .before .before .write-framed .ensures),
-  cuts-short (a .k .now) (a .r) (c .before .before .before .before .before .before .loop .left) (c .before .before .before .before .before .before .loop .c) (c .before .before .before .before .before .loop-test .taken) _ (c .element-end .ensures) (c .before .before .before .before .before .before .loop .inv .1) .1,
-)
+loop-again c =
+    let c₁ = c .before .before .before in let c₂ = c₁ .before .before in let c₃ = c₂ .before in let c₄ = c₃ .before .before .before in
+    let a = c₄ .args in (
+      still-run (c₃ .loop .inv .0) (cuts-split (a .k .now) (a .r) (c₃ .loop .left) (c₃ .loop .c) (c₂ .loop-test .taken) _ (c .element-end .ensures)) (c₁ .write-framed .ensures),
+      cuts-short (a .k .now) (a .r) (c₃ .loop .left) (c₃ .loop .c) (c₂ .loop-test .taken) _ (c .element-end .ensures) (c₃ .loop .inv .1) .1,
+    )
 
 same-length : tie.Need-same-length Inv-loop μ-loop
 same-length c = c .before .loop .inv .0 .size

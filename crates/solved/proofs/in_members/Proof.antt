@@ -21,18 +21,24 @@ loop-holds : tie.Need-loop-holds Inv-loop μ-loop
 loop-holds c = λ v d behind f e b. record { rest = d; between = b; same = refl }
 
 returns : tie.Need-returns Inv-loop μ-loop
-returns c = λ v d behind f e b.
-    scan-found (c .before .before .before .before .before .before .args .k .now) v (c .before .before .before .before .before .before .args .x) f e (c .before .before .before .before .loop .i) (c .before .before .before .before .before .before .args .to) d behind (c .before .before .before .before .loop .inv v d behind f e b) (c .before .before .before .loop-test .taken) _ (c .before .before .next-literal .ensures) _ (c .before .member-at .ensures) (c .if1 .taken)
+returns c =
+    let c₁ = c .before in let c₂ = c₁ .before in let c₃ = c₂ .before in let c₄ = c₃ .before in let c₅ = c₄ .before .before in
+    λ v d behind f e b.
+    scan-found (c₅ .args .k .now) v (c₅ .args .x) f e (c₄ .loop .i) (c₅ .args .to) d behind (c₄ .loop .inv v d behind f e b) (c₃ .loop-test .taken) _ (c₂ .next-literal .ensures) _ (c₁ .member-at .ensures) (c .if1 .taken)
 
 loop-less : tie.Need-loop-less Inv-loop μ-loop
 loop-less c = let z = c .before .before .next-literal .ensures in omega arith
 
 loop-again : tie.Need-loop-again Inv-loop μ-loop
-loop-again c = λ v d behind f e b.
-    scan-on (c .before .before .before .before .before .before .args .k .now) v (c .before .before .before .before .before .before .args .x) f e (c .before .before .before .before .loop .i) (c .before .before .before .before .before .before .args .to) d behind (c .before .before .before .before .loop .inv v d behind f e b) (c .before .before .before .loop-test .taken) _ (c .before .before .next-literal .ensures) _ (c .before .member-at .ensures) (c .if1 .left)
+loop-again c =
+    let c₁ = c .before in let c₂ = c₁ .before in let c₃ = c₂ .before in let c₄ = c₃ .before in let c₅ = c₄ .before .before in
+    λ v d behind f e b.
+    scan-on (c₅ .args .k .now) v (c₅ .args .x) f e (c₄ .loop .i) (c₅ .args .to) d behind (c₄ .loop .inv v d behind f e b) (c₃ .loop-test .taken) _ (c₂ .next-literal .ensures) _ (c₁ .member-at .ensures) (c .if1 .left)
 
 returns-2 : tie.Need-returns-2 Inv-loop μ-loop
-returns-2 c = λ v d behind f e b. scan-ends (c .before .before .before .args .k .now) v (c .before .before .before .args .x) f e (c .before .loop .i) (c .before .before .before .args .to) d behind (c .before .loop .inv v d behind f e b) (c .loop-test .left)
+returns-2 c =
+    let c₁ = c .before in let c₂ = c₁ .before .before in
+    λ v d behind f e b. scan-ends (c₂ .args .k .now) v (c₂ .args .x) f e (c₁ .loop .i) (c₂ .args .to) d behind (c₁ .loop .inv v d behind f e b) (c .loop-test .left)
 
 pub in-members-spec : {M : Type 1} → statement M
 in-members-spec =

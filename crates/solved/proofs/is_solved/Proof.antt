@@ -26,17 +26,21 @@ loop-holds : tie.Need-loop-holds Inv-loop μ-loop
 loop-holds c = λ x f e. walk-starts (Decides x) x (decides-starts x)
 
 returns : tie.Need-returns Inv-loop μ-loop
-returns c = λ x f e.
-    walk-here (c .before .before .before .before .before .before .args .k .now) x f e (c .before .before .before .before .loop .i) (Decides x) (false ≡ solved x) (c .before .before .before .before .loop .inv x f e) (c .before .before .before .loop-test .taken)
-    λ done l rest p d. decides-not x done l rest (sym (not-true _ (c .if1 .taken)) ∙ c .before .solved-literal .ensures done l rest p) d
+returns c =
+    let c₁ = c .before in let c₂ = c₁ .before .before in let c₃ = c₂ .before in let c₄ = c₃ .before .before in
+    λ x f e.
+    walk-here (c₄ .args .k .now) x f e (c₃ .loop .i) (Decides x) (false ≡ solved x) (c₃ .loop .inv x f e) (c₂ .loop-test .taken)
+    λ done l rest p d. decides-not x done l rest (sym (not-true _ (c .if1 .taken)) ∙ c₁ .solved-literal .ensures done l rest p) d
 
 loop-less : tie.Need-loop-less Inv-loop μ-loop
 loop-less c = let z = c .before .before .next-literal .ensures in omega arith
 
 loop-again : tie.Need-loop-again Inv-loop μ-loop
-loop-again c = λ x f e.
-    walk-on (c .before .before .before .before .before .before .args .k .now) x f e (c .before .before .before .before .loop .i) (Decides x) (Decides x) _ (c .before .before .before .before .loop .inv x f e) (c .before .before .before .loop-test .taken) (c .before .before .next-literal .ensures)
-    λ done l rest p d. decides-on x done l rest (sym (not-false _ (c .if1 .left)) ∙ c .before .solved-literal .ensures done l rest p) d
+loop-again c =
+    let c₁ = c .before in let c₂ = c₁ .before in let c₃ = c₂ .before in let c₄ = c₃ .before in let c₅ = c₄ .before .before in
+    λ x f e.
+    walk-on (c₅ .args .k .now) x f e (c₄ .loop .i) (Decides x) (Decides x) _ (c₄ .loop .inv x f e) (c₃ .loop-test .taken) (c₂ .next-literal .ensures)
+    λ done l rest p d. decides-on x done l rest (sym (not-false _ (c .if1 .left)) ∙ c₁ .solved-literal .ensures done l rest p) d
 
 returns-2 : tie.Need-returns-2 Inv-loop μ-loop
 returns-2 c = λ x f e. walk-ends (c .before .before .before .args .k .now) x f e (c .before .loop .i) (Decides x) (c .before .loop .inv x f e) (c .loop-test .left)

@@ -7,12 +7,17 @@ use Rattle.solved.proofs.lone_member.Statement.{statement}
 use Rattle.solved.proofs.lone_member.Tie as tie
 
 returns : tie.Need-returns
-returns c = λ before h R behind p q. no-lone (c .before .before .before .before .before .args .k .now) (c .before .before .before .before .before .args .at) before h R behind p (c .before .before .before .before .before .args .s) q _ (c .before .lone-word .ensures ∙ ap loneWord (c .before .before .lone-variable .ensures)) (c .if1 .taken)
+returns c =
+    let c₁ = c .before in let c₂ = c₁ .before in let c₃ = c₂ .before .before .before in
+    λ before h R behind p q. no-lone (c₃ .args .k .now) (c₃ .args .at) before h R behind p (c₃ .args .s) q _ (c₁ .lone-word .ensures ∙ ap loneWord (c₂ .lone-variable .ensures)) (c .if1 .taken)
 
 returns-2 : tie.Need-returns-2
-returns-2 c = λ before h R behind p q.
+returns-2 c =
+    let c₁ = c .before in let c₂ = c₁ .before in let c₃ = c₂ .before in let c₄ = c₃ .before in let c₅ = c₄ .before in
+    let c₆ = c₅ .before .before .before in
+    λ before h R behind p q.
     c .neither .ensures
-    ∙ only-here (c .before .before .before .before .before .before .before .before .args .k .now) (c .before .before .before .before .before .before .before .before .args .at) before h R behind p (c .before .before .before .before .before .before .before .before .args .s) q _ (c .before .before .before .before .lone-word .ensures ∙ ap loneWord (c .before .before .before .before .before .lone-variable .ensures)) (c .before .before .before .if1 .left) _ _ (c .before .before .in-members .ensures) (c .before .in-members2 .ensures)
+    ∙ only-here (c₆ .args .k .now) (c₆ .args .at) before h R behind p (c₆ .args .s) q _ (c₄ .lone-word .ensures ∙ ap loneWord (c₅ .lone-variable .ensures)) (c₃ .if1 .left) _ _ (c₂ .in-members .ensures) (c₁ .in-members2 .ensures)
 
 pub lone-member-spec : {M : Type 1} → statement M
 lone-member-spec =

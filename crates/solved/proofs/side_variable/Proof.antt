@@ -61,7 +61,9 @@ returns-4 : tie.Need-returns-4
 returns-4 c = symbol-chosen _ _ _ _ _ (c .before .before .before .l3 .given .1) _ (c .enum-told2 .given .1)
 
 returns-5 : tie.Need-returns-5
-returns-5 c = blank-chosen _ _ _ _ _ (c .before .before .before .before .before .before .before .before .l3 .given .1) _ _ _ _ _ (c .before .before .before .before .before .name .given .1) (c .before .before .before .bare-functor .ensures) (c .before .before .and2 .ensures) (c .before .and3 .ensures) (c .chosen3 .ensures)
+returns-5 c =
+    let c₁ = c .before in let c₂ = c₁ .before in let c₃ = c₂ .before in let c₄ = c₃ .before .before in let c₅ = c₄ .before .before .before in
+    blank-chosen _ _ _ _ _ (c₅ .l3 .given .1) _ _ _ _ _ (c₄ .name .given .1) (c₃ .bare-functor .ensures) (c₂ .and2 .ensures) (c₁ .and3 .ensures) (c .chosen3 .ensures)
 
 pub side-variable-spec : {M : Type 1} → statement M
 side-variable-spec =

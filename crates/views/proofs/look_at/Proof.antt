@@ -31,19 +31,27 @@ enum-known-f : tie.Need-enum-known-f
 enum-known-f c = search needs
 
 node-at-requires : tie.Need-node-at-requires
-node-at-requires c κs = look-within (c .before .before .before .before .before .before .args .k .now) (c .before .before .before .before .before .before .args .from) 0 (c .before .before .before .before .word .ensures) (c .before .before .before .classify .ensures) (Symbol _) (c .before .f .given .1) (λ e. absurd (let z : _≡_ {A = ℕ} 0 1 = cc in omega arith))
+node-at-requires c κs =
+    let c₁ = c .before in let c₂ = c₁ .before .before in let c₃ = c₂ .before in let c₄ = c₃ .before .before in
+    look-within (c₄ .args .k .now) (c₄ .args .from) 0 (c₃ .word .ensures) (c₂ .classify .ensures) (Symbol _) (c₁ .f .given .1) (λ e. absurd (let z : _≡_ {A = ℕ} 0 1 = cc in omega arith))
 
 enum-known-f-2 : tie.Need-enum-known-f-2
 enum-known-f-2 c = search needs
 
 node-at-requires-2 : tie.Need-node-at-requires-2
-node-at-requires-2 c κs = look-within (c .before .before .before .before .before .before .args .k .now) (c .before .before .before .before .before .before .args .from) 0 (c .before .before .before .before .word .ensures) (c .before .before .before .classify .ensures) (Function _) (c .before .f2 .given .1) (λ e. absurd (let z : _≡_ {A = ℕ} 0 1 = cc in omega arith))
+node-at-requires-2 c κs =
+    let c₁ = c .before in let c₂ = c₁ .before .before in let c₃ = c₂ .before in let c₄ = c₃ .before .before in
+    look-within (c₄ .args .k .now) (c₄ .args .from) 0 (c₃ .word .ensures) (c₂ .classify .ensures) (Function _) (c₁ .f2 .given .1) (λ e. absurd (let z : _≡_ {A = ℕ} 0 1 = cc in omega arith))
 
 returns : tie.Need-returns
-returns c = looked _ _ _ (look-term _ _ _ (c .before .before .before .before .before .word .ensures) (c .before .before .before .before .classify .ensures) (c .before .before .x .given .0 .0) (c .before .before .x .given .1) (c .word2 .ensures))
+returns c =
+    let c₁ = c .before .before in let c₂ = c₁ .before .before in let c₃ = c₂ .before in
+    looked _ _ _ (look-term _ _ _ (c₃ .word .ensures) (c₂ .classify .ensures) (c₁ .x .given .0 .0) (c₁ .x .given .1) (c .word2 .ensures))
 
 returns-2 : tie.Need-returns-2
-returns-2 c = looked _ _ _ (look-run _ _ _ (c .before .before .before .before .before .word .ensures) (c .before .before .before .before .classify .ensures) (c .before .before .p .given .0 .0) (c .before .before .p .given .1) (c .word3 .ensures))
+returns-2 c =
+    let c₁ = c .before .before in let c₂ = c₁ .before .before in let c₃ = c₂ .before in
+    looked _ _ _ (look-run _ _ _ (c₃ .word .ensures) (c₂ .classify .ensures) (c₁ .p .given .0 .0) (c₁ .p .given .1) (c .word3 .ensures))
 
 returns-3 : tie.Need-returns-3
 unfolding nodeAt

@@ -23,7 +23,9 @@ next-literal-requires : tie.Need-next-literal-requires
 next-literal-requires c κs = search needs
 
 returns : tie.Need-returns
-returns c = ((λ before h R behind s. shows-of s (c .before .before .before .side-at .ensures) (c .before .classify .ensures ∙ ap (kindOf desk) (c .before .before .word .ensures)) (c .next-literal .ensures)), shape-is _ _ (c .before .before .before .side-at .ensures .2) (c .before .classify .ensures ∙ ap (kindOf desk) (c .before .before .word .ensures)) (c .next-literal .ensures))
+returns c =
+    let c₁ = c .before in let c₂ = c₁ .before in let c₃ = c₂ .before in
+    ((λ before h R behind s. shows-of s (c₃ .side-at .ensures) (c₁ .classify .ensures ∙ ap (kindOf desk) (c₂ .word .ensures)) (c .next-literal .ensures)), shape-is _ _ (c₃ .side-at .ensures .2) (c₁ .classify .ensures ∙ ap (kindOf desk) (c₂ .word .ensures)) (c .next-literal .ensures))
 
 pub show-membership-spec : {M : Type 1} → statement M
 show-membership-spec =

@@ -42,36 +42,44 @@ stands-requires : tie.Need-stands-requires Inv-loop μ-loop
 stands-requires c κs = search needs
 
 returns : tie.Need-returns Inv-loop μ-loop
-returns c = (
-  (λ q h beyond f w s.
-      let u = c .before .before .before .before .before .loop .inv .0 q h beyond f w s in
-      without-found f w (c .before .before .element-end .ensures) (c .before .stands .ensures) (c .if2 .taken) (u .here) (sym (word-term (u .here) (c .before .before .before .before .before .loop .inv .1)) ∙ sym (c .before .before .before .before .is-term .ensures) ∙ c .before .before .before .if1 .taken) (u .keeps)),
-  omega arith,
-  free-found _ _ (c .before .before .before .before .before .loop .inv .1) _ _ (c .before .before .before .before .is-term .ensures) (c .before .before .before .if1 .taken) (c .before .before .element-end .ensures) (c .before .stands .ensures) (c .if2 .taken) (c .before .before .before .before .before .loop .inv .4),
-)
+returns c =
+    let c₁ = c .before in let c₂ = c₁ .before in let c₃ = c₂ .before in let c₄ = c₃ .before in let c₅ = c₄ .before in (
+      (λ q h beyond f w s.
+          let u = c₅ .loop .inv .0 q h beyond f w s in
+          without-found f w (c₂ .element-end .ensures) (c₁ .stands .ensures) (c .if2 .taken) (u .here) (sym (word-term (u .here) (c₅ .loop .inv .1)) ∙ sym (c₄ .is-term .ensures) ∙ c₃ .if1 .taken) (u .keeps)),
+      omega arith,
+      free-found _ _ (c₅ .loop .inv .1) _ _ (c₄ .is-term .ensures) (c₃ .if1 .taken) (c₂ .element-end .ensures) (c₁ .stands .ensures) (c .if2 .taken) (c₅ .loop .inv .4),
+    )
 
 add-n : tie.Need-add-n Inv-loop μ-loop
-add-n c = let z = goes-on (c .before .before .before .before .before .before .before .before .args .k .now) (c .before .before .before .before .before .loop .i) (c .before .before .before .before .before .loop .inv .1) (c .before .before .element-end .ensures) (term-some _ (sym (c .before .before .before .before .is-term .ensures) ∙ c .before .before .before .if1 .taken)) in omega arith
+add-n c =
+    let c₁ = c .before .before in let c₂ = c₁ .before in let c₃ = c₂ .before in let c₄ = c₃ .before in let c₅ = c₄ .before .before .before in
+    let z = goes-on (c₅ .args .k .now) (c₄ .loop .i) (c₄ .loop .inv .1) (c₁ .element-end .ensures) (term-some _ (sym (c₃ .is-term .ensures) ∙ c₂ .if1 .taken)) in omega arith
 
 word-requires-2 : tie.Need-word-requires-2 Inv-loop μ-loop
 word-requires-2 c κs = search needs
 
 loop-less : tie.Need-loop-less Inv-loop μ-loop
-loop-less c = let z = goes-on (c .before .before .before .before .before .before .before .before .before .args .k .now) (c .before .before .before .before .before .before .loop .i) (c .before .before .before .before .before .before .loop .inv .1) (c .before .before .before .element-end .ensures) (term-some _ (sym (c .before .before .before .before .before .is-term .ensures) ∙ c .before .before .before .before .if1 .taken)) in omega arith
+loop-less c =
+    let c₁ = c .before .before .before in let c₂ = c₁ .before in let c₃ = c₂ .before in let c₄ = c₃ .before in let c₅ = c₄ .before .before .before in
+    let z = goes-on (c₅ .args .k .now) (c₄ .loop .i) (c₄ .loop .inv .1) (c₁ .element-end .ensures) (term-some _ (sym (c₃ .is-term .ensures) ∙ c₂ .if1 .taken)) in omega arith
 
 loop-again : tie.Need-loop-again Inv-loop μ-loop
 loop-again c =
-    let z = goes-on (c .before .before .before .before .before .before .before .before .before .args .k .now) (c .before .before .before .before .before .before .loop .i) (c .before .before .before .before .before .before .loop .inv .1) (c .before .before .before .element-end .ensures) (term-some _ (sym (c .before .before .before .before .before .is-term .ensures) ∙ c .before .before .before .before .if1 .taken)) in (
-      (λ q h beyond f w s. pass-on (c .before .before .before .element-end .ensures) (c .before .before .before .before .before .before .loop .inv .0 q h beyond f w s) (λ done left t m. without-on f w (c .before .before .before .element-end .ensures) (c .before .before .stands .ensures) (c .before .if2 .left) t (sym (word-term t (c .before .before .before .before .before .before .loop .inv .1)) ∙ sym (c .before .before .before .before .before .is-term .ensures) ∙ c .before .before .before .before .if1 .taken) m)),
+    let c₁ = c .before in let c₂ = c₁ .before in let c₃ = c₂ .before in let c₄ = c₃ .before in let c₅ = c₄ .before in let c₆ = c₅ .before in
+    let c₇ = c₆ .before .before .before in
+    let z = goes-on (c₇ .args .k .now) (c₆ .loop .i) (c₆ .loop .inv .1) (c₃ .element-end .ensures) (term-some _ (sym (c₅ .is-term .ensures) ∙ c₄ .if1 .taken)) in (
+      (λ q h beyond f w s. pass-on (c₃ .element-end .ensures) (c₆ .loop .inv .0 q h beyond f w s) (λ done left t m. without-on f w (c₃ .element-end .ensures) (c₂ .stands .ensures) (c₁ .if2 .left) t (sym (word-term t (c₆ .loop .inv .1)) ∙ sym (c₅ .is-term .ensures) ∙ c₄ .if1 .taken) m)),
       c .word2 .ensures,
       omega arith,
       omega arith,
-      free-on _ _ (c .before .before .before .before .before .before .loop .inv .1) _ _ (c .before .before .before .before .before .is-term .ensures) (c .before .before .before .before .if1 .taken) (c .before .before .before .element-end .ensures) (c .before .before .stands .ensures) (c .before .if2 .left) (c .before .before .before .before .before .before .loop .inv .4),
+      free-on _ _ (c₆ .loop .inv .1) _ _ (c₅ .is-term .ensures) (c₄ .if1 .taken) (c₃ .element-end .ensures) (c₂ .stands .ensures) (c₁ .if2 .left) (c₆ .loop .inv .4),
     )
 
 returns-2 : tie.Need-returns-2 Inv-loop μ-loop
 returns-2 c =
-    ((λ q h beyond f w s. let u = c .before .before .loop .inv .0 q h beyond f w s in without-end (sym (word-term (u .here) (c .before .before .loop .inv .1)) ∙ sym (c .before .is-term .ensures) ∙ c .if1 .left) (u .keeps)), omega arith, free-end _ _ (c .before .before .loop .inv .1) _ _ (c .before .is-term .ensures) (c .if1 .left) (c .before .before .loop .inv .4))
+    let c₁ = c .before in let c₂ = c₁ .before in
+    ((λ q h beyond f w s. let u = c₂ .loop .inv .0 q h beyond f w s in without-end (sym (word-term (u .here) (c₂ .loop .inv .1)) ∙ sym (c₁ .is-term .ensures) ∙ c .if1 .left) (u .keeps)), omega arith, free-end _ _ (c₂ .loop .inv .1) _ _ (c₁ .is-term .ensures) (c .if1 .left) (c₂ .loop .inv .4))
 
 pub up-to-word-spec : {M : Type 1} → statement M
 up-to-word-spec =

@@ -39,7 +39,9 @@ wide-requires : tie.Need-wide-requires Inv-loop μ-loop
 wide-requires c κs = search needs
 
 returns : tie.Need-returns Inv-loop μ-loop
-returns c = ((λ q h beyond f w s. behind-found w (c .before .before .before .loop .inv .1) f (sym (c .before .wide .ensures) ∙ c .if1 .taken) (c .before .before .before .loop .inv .0 q h beyond f w s)), others-found _ _ (c .before .before .before .loop .inv .1) _ _ (c .before .before .loop-test .taken) (sym (c .before .wide .ensures) ∙ c .if1 .taken) (c .before .before .before .loop .inv .2))
+returns c =
+    let c₁ = c .before in let c₂ = c₁ .before in let c₃ = c₂ .before in
+    ((λ q h beyond f w s. behind-found w (c₃ .loop .inv .1) f (sym (c₁ .wide .ensures) ∙ c .if1 .taken) (c₃ .loop .inv .0 q h beyond f w s)), others-found _ _ (c₃ .loop .inv .1) _ _ (c₂ .loop-test .taken) (sym (c₁ .wide .ensures) ∙ c .if1 .taken) (c₃ .loop .inv .2))
 
 element-end-requires-2 : tie.Need-element-end-requires-2 Inv-loop μ-loop
 element-end-requires-2 c κs = search needs
@@ -48,11 +50,14 @@ word-requires-2 : tie.Need-word-requires-2 Inv-loop μ-loop
 word-requires-2 c κs = search needs
 
 loop-less : tie.Need-loop-less Inv-loop μ-loop
-loop-less c = let z = goes-on (c .before .before .before .before .before .before .before .before .before .args .k .now) (c .before .before .before .before .before .loop .i) (c .before .before .before .before .before .loop .inv .1) (c .before .element-end2 .ensures) (c .before .before .before .before .loop-test .taken) in omega arith
+loop-less c =
+    let c₁ = c .before in let c₂ = c₁ .before .before .before in let c₃ = c₂ .before in let c₄ = c₃ .before .before .before .before in
+    let z = goes-on (c₄ .args .k .now) (c₃ .loop .i) (c₃ .loop .inv .1) (c₁ .element-end2 .ensures) (c₂ .loop-test .taken) in omega arith
 
 loop-again : tie.Need-loop-again Inv-loop μ-loop
 loop-again c =
-    ((λ q h beyond f w s. pass-on (c .before .element-end2 .ensures) (c .before .before .before .before .before .loop .inv .0 q h beyond f w s) (λ done left t m. behind-on w (c .before .before .before .before .before .loop .inv .1) (c .before .before .before .before .loop-test .taken) (λ e. c .before .before .if1 .left (c .before .before .before .wide .ensures ∙ e)) t m)), c .word2 .ensures, others-on _ _ (c .before .before .before .before .before .loop .inv .1) _ _ (c .before .before .before .before .loop-test .taken) (λ e. c .before .before .if1 .left (c .before .before .before .wide .ensures ∙ e)) (c .before .element-end2 .ensures) (c .before .before .before .before .before .loop .inv .2))
+    let c₁ = c .before in let c₂ = c₁ .before in let c₃ = c₂ .before in let c₄ = c₃ .before in let c₅ = c₄ .before in
+    ((λ q h beyond f w s. pass-on (c₁ .element-end2 .ensures) (c₅ .loop .inv .0 q h beyond f w s) (λ done left t m. behind-on w (c₅ .loop .inv .1) (c₄ .loop-test .taken) (λ e. c₂ .if1 .left (c₃ .wide .ensures ∙ e)) t m)), c .word2 .ensures, others-on _ _ (c₅ .loop .inv .1) _ _ (c₄ .loop-test .taken) (λ e. c₂ .if1 .left (c₃ .wide .ensures ∙ e)) (c₁ .element-end2 .ensures) (c₅ .loop .inv .2))
 
 returns-2 : tie.Need-returns-2 Inv-loop μ-loop
 returns-2 c = ((λ q h beyond f w s. behind-end w (c .before .loop .inv .1) (c .loop-test .left) (c .before .loop .inv .0 q h beyond f w s)), others-none _ _ (c .before .loop .inv .1) _ _ (c .loop-test .left) (c .before .loop .inv .2))

@@ -42,20 +42,25 @@ stands-requires : tie.Need-stands-requires Inv-loop μ-loop
 stands-requires c κs = search needs
 
 returns : tie.Need-returns Inv-loop μ-loop
-returns c = ((λ y h beyond f w s. let u = c .before .before .before .before .loop .inv .0 y h beyond f w s in under-found y (u .left) f w (u .here) (c .before .before .element-end .ensures) (c .before .stands .ensures) (c .if1 .taken) ∙ u .keeps), below-found _ _ (c .before .before .before .before .loop .inv .1) _ (c .before .before .before .loop-test .taken) (c .before .before .element-end .ensures) (c .before .stands .ensures) (c .if1 .taken) (c .before .before .before .before .loop .inv .2))
+returns c =
+    let c₁ = c .before in let c₂ = c₁ .before in let c₃ = c₂ .before in let c₄ = c₃ .before in
+    ((λ y h beyond f w s. let u = c₄ .loop .inv .0 y h beyond f w s in under-found y (u .left) f w (u .here) (c₂ .element-end .ensures) (c₁ .stands .ensures) (c .if1 .taken) ∙ u .keeps), below-found _ _ (c₄ .loop .inv .1) _ (c₃ .loop-test .taken) (c₂ .element-end .ensures) (c₁ .stands .ensures) (c .if1 .taken) (c₄ .loop .inv .2))
 
 word-requires-2 : tie.Need-word-requires-2 Inv-loop μ-loop
 word-requires-2 c κs = search needs
 
 loop-less : tie.Need-loop-less Inv-loop μ-loop
-loop-less c = let z = goes-on (c .before .before .before .before .before .before .before .before .args .k .now) (c .before .before .before .before .before .loop .i) (c .before .before .before .before .before .loop .inv .1) (c .before .before .before .element-end .ensures) (c .before .before .before .before .loop-test .taken) in omega arith
+loop-less c =
+    let c₁ = c .before .before .before in let c₂ = c₁ .before in let c₃ = c₂ .before in let c₄ = c₃ .before .before .before in
+    let z = goes-on (c₄ .args .k .now) (c₃ .loop .i) (c₃ .loop .inv .1) (c₁ .element-end .ensures) (c₂ .loop-test .taken) in omega arith
 
 loop-again : tie.Need-loop-again Inv-loop μ-loop
-loop-again c = (
-  (λ y h beyond f w s. pass-on (c .before .before .before .element-end .ensures) (c .before .before .before .before .before .loop .inv .0 y h beyond f w s) (λ done left t q. under-on y left f w t (c .before .before .before .element-end .ensures) (c .before .before .stands .ensures) (c .before .if1 .left) ∙ q)),
-  c .word2 .ensures,
-  below-on _ _ (c .before .before .before .before .before .loop .inv .1) _ (c .before .before .before .before .loop-test .taken) (c .before .before .before .element-end .ensures) (c .before .before .stands .ensures) (c .before .if1 .left) (c .before .before .before .before .before .loop .inv .2),
-)
+loop-again c =
+    let c₁ = c .before in let c₂ = c₁ .before in let c₃ = c₂ .before in let c₄ = c₃ .before in let c₅ = c₄ .before in (
+      (λ y h beyond f w s. pass-on (c₃ .element-end .ensures) (c₅ .loop .inv .0 y h beyond f w s) (λ done left t q. under-on y left f w t (c₃ .element-end .ensures) (c₂ .stands .ensures) (c₁ .if1 .left) ∙ q)),
+      c .word2 .ensures,
+      below-on _ _ (c₅ .loop .inv .1) _ (c₄ .loop-test .taken) (c₃ .element-end .ensures) (c₂ .stands .ensures) (c₁ .if1 .left) (c₅ .loop .inv .2),
+    )
 
 returns-2 : tie.Need-returns-2 Inv-loop μ-loop
 returns-2 c = ((λ y h beyond f w s. let u = c .before .loop .inv .0 y h beyond f w s in under-end y (u .left) (u .here) (c .before .loop .inv .1) (c .loop-test .left) ∙ u .keeps), below-none _ _ (c .before .loop .inv .1) _ (c .loop-test .left) (c .before .loop .inv .2))

@@ -25,18 +25,20 @@ shared-slice-read-wide c = let t = laid-length 5 _ _ (c .before .before .before 
 
 loop-holds : tie.Need-loop-holds Inv-loop μ-loop
 loop-holds c =
-    let q = c .before .before .before .before .args .question .now in
+    let c₁ = c .before .before .before .before in
+    let q = c₁ .args .question .now in
     let e = c .wide .ensures in
-    let t = laid-length 5 _ _ (c .before .before .before .before .pre .1) in
-    (omega arith, omega arith, omega arith, rw e (laid-none q (c .before .before .before .before .pre .1) (c .before .before .before .before .args .work .now)))
+    let t = laid-length 5 _ _ (c₁ .pre .1) in
+    (omega arith, omega arith, omega arith, rw e (laid-none q (c₁ .pre .1) (c₁ .args .work .now)))
 
 push-requires : tie.Need-push-requires Inv-loop μ-loop
 push-requires c κs =
-    let q = c .before .before .before .before .before .before .before .before .before .before .before .args .question .now in
-    let l = c .before .before .before .before .before .before .loop in
-    let d = part-before q (c .before .before .before .before .before .before .before .before .before .before .before .pre .1) (l .i - 1) (omega arith) in
-    let f = c .before .before .before .wide2 .ensures in
-    let t = c .before .wide3 .ensures in
+    let c₁ = c .before in let c₂ = c₁ .before .before in let c₃ = c₂ .before .before .before in let c₄ = c₃ .before .before .before .before .before in
+    let q = c₄ .args .question .now in
+    let l = c₃ .loop in
+    let d = part-before q (c₄ .pre .1) (l .i - 1) (omega arith) in
+    let f = c₂ .wide2 .ensures in
+    let t = c₁ .wide3 .ensures in
     let low = d .low in
     let high = d .high in
     let e : l .i - 1 + 6 ≡ l .i + 5 = omega arith in
@@ -46,17 +48,19 @@ push-requires c κs =
 
 loop-again : tie.Need-loop-again Inv-loop μ-loop
 loop-again c =
-    let q = c .before .before .before .before .before .before .before .before .before .before .before .before .before .before .args .question .now in
-    let l = c .before .before .before .before .before .before .before .before .before .loop in
-    let d = part-before q (c .before .before .before .before .before .before .before .before .before .before .before .before .before .before .pre .1) (l .i - 1) (omega arith) in
-    let f = c .before .before .before .before .before .before .wide2 .ensures in
-    let t = c .before .before .before .before .wide3 .ensures in
+    let c₁ = c .before .before in let c₂ = c₁ .before .before in let c₃ = c₂ .before .before in let c₄ = c₃ .before .before .before in
+    let c₅ = c₄ .before .before .before .before .before in
+    let q = c₅ .args .question .now in
+    let l = c₄ .loop in
+    let d = part-before q (c₅ .pre .1) (l .i - 1) (omega arith) in
+    let f = c₃ .wide2 .ensures in
+    let t = c₂ .wide3 .ensures in
     let low = d .low in
     let high = d .high in
     let e : l .i - 1 + 6 ≡ l .i + 5 = omega arith in
     let g = ap (λ n. getD q n 0) e in
-    let n = c .before .before .push .ensures .0 in
-    (omega arith, omega arith, omega arith, laid-more q (c .before .before .before .before .before .before .before .before .before .before .before .before .before .before .pre .1) (c .before .before .before .before .before .before .before .before .before .before .before .before .before .before .args .work .now) _ _ (l .at) _ (l .i) (omega arith) (omega arith) (rw (f, t) at n) (rw (f, t) at (c .before .before .push .ensures .1)) (l .inv .3))
+    let n = c₁ .push .ensures .0 in
+    (omega arith, omega arith, omega arith, laid-more q (c₅ .pre .1) (c₅ .args .work .now) _ _ (l .at) _ (l .i) (omega arith) (omega arith) (rw (f, t) at n) (rw (f, t) at (c₁ .push .ensures .1)) (l .inv .3))
 
 returns : tie.Need-returns Inv-loop μ-loop
 returns c =

@@ -10,10 +10,11 @@ use Rattle.waiting.proofs.push.Tie as tie
 
 returns : tie.Need-returns
 returns c =
-    let a = c .before .before .before .before .before .before .before .before .before .before .args in
+    let c₁ = c .before .before in let c₂ = c₁ .before .before .before .before in let c₃ = c₂ .before .before .before .before in
+    let a = c₃ .args in
     let start : ℕ = a .at - (a .to - a .from) in
     let h : 0 < start = omega arith in
-    (omega arith, stored (a .work .now) _ _ (slice (a .from) (a .to) (a .src .now)) start _ _ (c .before .before .before .before .before .before .write-frame .ensures) (c .before .before .copy .ensures) refl h)
+    (omega arith, stored (a .work .now) _ _ (slice (a .from) (a .to) (a .src .now)) start _ _ (c₂ .write-frame .ensures) (c₁ .copy .ensures) refl h)
 
 pub push-spec : {M : Type 1} → statement M
 push-spec =

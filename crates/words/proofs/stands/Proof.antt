@@ -30,7 +30,9 @@ wide-requires : tie.Need-wide-requires Inv-loop μ-loop
 wide-requires c κs = search needs
 
 returns-2 : tie.Need-returns-2 Inv-loop μ-loop
-returns-2 c = member-here _ _ _ _ (c .before .before .before .before .loop-test .taken) (c .before .before .before .if1 .left) (sym (c .before .wide .ensures) ∙ c .if2 .taken) ∙ c .before .before .before .before .before .loop .inv
+returns-2 c =
+    let c₁ = c .before in let c₂ = c₁ .before .before in let c₃ = c₂ .before in let c₄ = c₃ .before in
+    member-here _ _ _ _ (c₃ .loop-test .taken) (c₂ .if1 .left) (sym (c₁ .wide .ensures) ∙ c .if2 .taken) ∙ c₄ .loop .inv
 
 add-i : tie.Need-add-i Inv-loop μ-loop
 add-i c = search needs
@@ -39,7 +41,9 @@ loop-less : tie.Need-loop-less Inv-loop μ-loop
 loop-less c = search needs
 
 loop-again : tie.Need-loop-again Inv-loop μ-loop
-loop-again c = member-next _ _ _ _ (c .before .before .before .before .loop-test .taken) (c .before .before .before .if1 .left) (λ e. c .if2 .left (c .before .wide .ensures ∙ e)) ∙ c .before .before .before .before .before .loop .inv
+loop-again c =
+    let c₁ = c .before in let c₂ = c₁ .before .before in let c₃ = c₂ .before in let c₄ = c₃ .before in
+    member-next _ _ _ _ (c₃ .loop-test .taken) (c₂ .if1 .left) (λ e. c .if2 .left (c₁ .wide .ensures ∙ e)) ∙ c₄ .loop .inv
 
 returns-3 : tie.Need-returns-3 Inv-loop μ-loop
 returns-3 c = member-none _ _ _ _ (c .loop-test .left) ∙ c .before .loop .inv

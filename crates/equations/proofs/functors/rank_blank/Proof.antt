@@ -21,14 +21,18 @@ both-elsewhere-requires : tie.Need-both-elsewhere-requires
 both-elsewhere-requires c κs = search needs
 
 returns-3 : tie.Need-returns-3
-returns-3 c = λ before behind l r G h d w x q y b.
+returns-3 c =
+    let c₁ = c .before in let c₂ = c₁ .before in let c₃ = c₂ .before in let c₄ = c₃ .before in let c₅ = c₄ .before .before in
+    λ before behind l r G h d w x q y b.
     sym (ap (λ t. pick t atE5 noRule) (c .if3 .taken))
-    ∙ blank-bare (before ++ behind) h d (c .before .before .before .before .before .before .args .f) G (sym (c .before .before .before .before .same-blank .ensures G q) ∙ c .before .before .before .if1 .left) (sym b ∙ not-false (c .before .before .if2 .left)) _ (c .before .both-elsewhere .ensures before behind l r G w x q y)
+    ∙ blank-bare (before ++ behind) h d (c₅ .args .f) G (sym (c₄ .same-blank .ensures G q) ∙ c₃ .if1 .left) (sym b ∙ not-false (c₂ .if2 .left)) _ (c₁ .both-elsewhere .ensures before behind l r G w x q y)
 
 returns-4 : tie.Need-returns-4
-returns-4 c = λ before behind l r G h d w x q y b.
+returns-4 c =
+    let c₁ = c .before in let c₂ = c₁ .before in let c₃ = c₂ .before in let c₄ = c₃ .before in let c₅ = c₄ .before .before in
+    λ before behind l r G h d w x q y b.
     sym (ap (λ t. pick t atE5 noRule) (c .if3 .left))
-    ∙ blank-bare (before ++ behind) h d (c .before .before .before .before .before .before .args .f) G (sym (c .before .before .before .before .same-blank .ensures G q) ∙ c .before .before .before .if1 .left) (sym b ∙ not-false (c .before .before .if2 .left)) _ (c .before .both-elsewhere .ensures before behind l r G w x q y)
+    ∙ blank-bare (before ++ behind) h d (c₅ .args .f) G (sym (c₄ .same-blank .ensures G q) ∙ c₃ .if1 .left) (sym b ∙ not-false (c₂ .if2 .left)) _ (c₁ .both-elsewhere .ensures before behind l r G w x q y)
 
 pub rank-blank-spec : {M : Type 1} → statement M
 rank-blank-spec = tie.close (tie.spec same-blank-requires returns returns-2 both-elsewhere-requires returns-3 returns-4)

@@ -9,13 +9,17 @@ enum-known-g : tie.Need-enum-known-g
 enum-known-g c = search needs
 
 returns : tie.Need-returns
-returns c = λ K h d G e. same-symbol K h d (c .before .before .before .before .before .before .args .f) (c .before .before .before .before .g .given .0 .0) G (sym (c .before .before .before .before .g .given .1) ∙ e) (c .if1 .taken)
+returns c =
+    let c₁ = c .before .before .before .before in let c₂ = c₁ .before .before in
+    λ K h d G e. same-symbol K h d (c₂ .args .f) (c₁ .g .given .0 .0) G (sym (c₁ .g .given .1) ∙ e) (c .if1 .taken)
 
 enum-told : tie.Need-enum-told
 enum-told c = search needs
 
 returns-2 : tie.Need-returns-2
-returns-2 c = λ K h d G e. symbols-clash K h d (c .before .before .before .before .before .before .args .f) (c .before .before .before .before .g .given .0 .0) G (sym (c .before .before .before .before .g .given .1) ∙ e) (c .if1 .left)
+returns-2 c =
+    let c₁ = c .before .before .before .before in let c₂ = c₁ .before .before in
+    λ K h d G e. symbols-clash K h d (c₂ .args .f) (c₁ .g .given .0 .0) G (sym (c₁ .g .given .1) ∙ e) (c .if1 .left)
 
 returns-3 : tie.Need-returns-3
 returns-3 c = λ K h d G e. symbol-blank K h d (c .before .before .args .f) G (sym (c .enum-told .given .1) ∙ e)

@@ -18,7 +18,9 @@ returns : tie.Need-returns
 returns c = λ G e. at-symbol (λ G. false ≡ eqF (fvar (c .before .before .args .f)) G) G (sym (c .enum-told .given .1) ∙ e) refl
 
 returns-2 : tie.Need-returns-2
-returns-2 c = λ G e. at-blank (λ G. eqb (c .before .before .before .before .before .args .f .0) (c .before .before .before .g .given .0 .0 .0) ≡ eqF (fvar (c .before .before .before .before .before .args .f)) G) G (sym (c .before .before .before .g .given .1) ∙ e) refl
+returns-2 c =
+    let c₁ = c .before .before .before in let c₂ = c₁ .before .before in
+    λ G e. at-blank (λ G. eqb (c₂ .args .f .0) (c₁ .g .given .0 .0 .0) ≡ eqF (fvar (c₂ .args .f)) G) G (sym (c₁ .g .given .1) ∙ e) refl
 
 pub same-blank-spec : {M : Type 1} → statement M
 same-blank-spec = tie.close (tie.spec enum-told enum-known-g returns returns-2)

@@ -16,10 +16,14 @@ stands-requires : tie.Need-stands-requires
 stands-requires c κs = search needs
 
 returns : tie.Need-returns
-returns c = λ before behind l r w b. terms-held (c .before .before .before .before .before .before .before .args .p) r (sym (c .before .before .before .before .all-terms .ensures .0 r _ (side-stands (w .right)) .all) ∙ c .before .before .before .if1 .taken) (sym (c .before .stands .ensures ∙ run-held (w .right) (c .before .before .before .before .before .before .before .args .p) b (c .before .before .run-word .ensures)) ∙ c .if2 .taken)
+returns c =
+    let c₁ = c .before in let c₂ = c₁ .before in let c₃ = c₂ .before in let c₄ = c₃ .before in let c₅ = c₄ .before .before .before in
+    λ before behind l r w b. terms-held (c₅ .args .p) r (sym (c₄ .all-terms .ensures .0 r _ (side-stands (w .right)) .all) ∙ c₃ .if1 .taken) (sym (c₁ .stands .ensures ∙ run-held (w .right) (c₅ .args .p) b (c₂ .run-word .ensures)) ∙ c .if2 .taken)
 
 returns-2 : tie.Need-returns-2
-returns-2 c = λ before behind l r w b. terms-free (c .before .before .before .before .before .before .before .args .p) r (sym (c .before .before .before .before .all-terms .ensures .0 r _ (side-stands (w .right)) .all) ∙ c .before .before .before .if1 .taken) (sym (c .before .stands .ensures ∙ run-held (w .right) (c .before .before .before .before .before .before .before .args .p) b (c .before .before .run-word .ensures)) ∙ c .if2 .left)
+returns-2 c =
+    let c₁ = c .before in let c₂ = c₁ .before in let c₃ = c₂ .before in let c₄ = c₃ .before in let c₅ = c₄ .before .before .before in
+    λ before behind l r w b. terms-free (c₅ .args .p) r (sym (c₄ .all-terms .ensures .0 r _ (side-stands (w .right)) .all) ∙ c₃ .if1 .taken) (sym (c₁ .stands .ensures ∙ run-held (w .right) (c₅ .args .p) b (c₂ .run-word .ensures)) ∙ c .if2 .left)
 
 returns-3 : tie.Need-returns-3
 returns-3 c = λ before behind l r w b. terms-not (c .before .before .before .before .args .p) r (sym (c .before .all-terms .ensures .0 r _ (side-stands (w .right)) .all) ∙ c .if1 .left)

@@ -19,10 +19,14 @@ elsewhere-requires : tie.Need-elsewhere-requires
 elsewhere-requires c κs = search needs
 
 returns : tie.Need-returns
-returns c = λ s r e before behind w. run-ends (before ++ behind) (c .before .before .before .before .before .before .before .before .args .p) s r (sym (c .before .before .before .before .enum-told .given .1) ∙ w .right .look) (sym e ∙ c .before .before .before .if1 .taken) (sym (c .before .elsewhere .ensures ∙ run-elsewhere w (c .before .before .before .before .before .before .before .before .args .p) (w .left .fine .0) (c .before .before .run-word .ensures)) ∙ c .if2 .taken)
+returns c =
+    let c₁ = c .before in let c₂ = c₁ .before in let c₃ = c₂ .before in let c₄ = c₃ .before in let c₅ = c₄ .before .before .before .before in
+    λ s r e before behind w. run-ends (before ++ behind) (c₅ .args .p) s r (sym (c₄ .enum-told .given .1) ∙ w .right .look) (sym e ∙ c₃ .if1 .taken) (sym (c₁ .elsewhere .ensures ∙ run-elsewhere w (c₅ .args .p) (w .left .fine .0) (c₂ .run-word .ensures)) ∙ c .if2 .taken)
 
 returns-2 : tie.Need-returns-2
-returns-2 c = λ s r e before behind w. run-rests (before ++ behind) (c .before .before .before .before .before .before .before .before .args .p) s r (sym (c .before .before .before .before .enum-told .given .1) ∙ w .right .look) (sym e ∙ c .before .before .before .if1 .taken) (sym (c .before .elsewhere .ensures ∙ run-elsewhere w (c .before .before .before .before .before .before .before .before .args .p) (w .left .fine .0) (c .before .before .run-word .ensures)) ∙ c .if2 .left)
+returns-2 c =
+    let c₁ = c .before in let c₂ = c₁ .before in let c₃ = c₂ .before in let c₄ = c₃ .before in let c₅ = c₄ .before .before .before .before in
+    λ s r e before behind w. run-rests (before ++ behind) (c₅ .args .p) s r (sym (c₄ .enum-told .given .1) ∙ w .right .look) (sym e ∙ c₃ .if1 .taken) (sym (c₁ .elsewhere .ensures ∙ run-elsewhere w (c₅ .args .p) (w .left .fine .0) (c₂ .run-word .ensures)) ∙ c .if2 .left)
 
 enum-told-2 : tie.Need-enum-told-2
 enum-told-2 c = search needs
@@ -49,8 +53,10 @@ returns-4 : tie.Need-returns-4
 returns-4 c = λ s r e before behind w. c .rank-run-term .ensures s r e (begins-term r (sym (c .before .enum-told2 .given .1) ∙ w .right .look)) before behind w
 
 returns-5 : tie.Need-returns-5
-returns-5 c = λ s r e before behind w.
-    at-run (λ m. Ranks (c .before .before .before .before .before .before .args .k .now) (c .before .before .before .before .before .before .args .v) (hvar (c .before .before .before .before .before .before .args .p) s) m (c .rank-run-run .result)) r (sym (c .before .before .look .given .1) ∙ w .right .look) (λ t _. c .rank-run-run .ensures s t e) before behind w
+returns-5 c =
+    let c₁ = c .before .before in let c₂ = c₁ .before .before .before .before in
+    λ s r e before behind w.
+    at-run (λ m. Ranks (c₂ .args .k .now) (c₂ .args .v) (hvar (c₂ .args .p) s) m (c .rank-run-run .result)) r (sym (c₁ .look .given .1) ∙ w .right .look) (λ t _. c .rank-run-run .ensures s t e) before behind w
 
 returns-6 : tie.Need-returns-6
 returns-6 c = λ s r e before behind w. c .rank-run-term2 .ensures s r e (begins-node r (sym (c .before .enum-told3 .given .1) ∙ w .right .look)) before behind w

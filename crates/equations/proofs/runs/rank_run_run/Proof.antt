@@ -12,15 +12,19 @@ rank-struck-requires : tie.Need-rank-struck-requires
 rank-struck-requires c κs = search needs
 
 returns : tie.Need-returns
-returns c = λ s t e.
-    subst (λ u. Ranks (c .before .before .before .before .before .args .k .now) (c .before .before .before .before .before .args .v) (hvar (c .before .before .before .before .before .args .p) s) (hvar u t) (c .rank-struck .result)) (same-run (c .before .before .before .before .before .args .p) (c .before .before .before .before .before .args .z) (c .before .if1 .taken)) (c .rank-struck .ensures (c .before .before .before .before .before .args .p) s t e)
+returns c =
+    let c₁ = c .before in let c₂ = c₁ .before .before .before .before in
+    λ s t e.
+    subst (λ u. Ranks (c₂ .args .k .now) (c₂ .args .v) (hvar (c₂ .args .p) s) (hvar u t) (c .rank-struck .result)) (same-run (c₂ .args .p) (c₂ .args .z) (c₁ .if1 .taken)) (c .rank-struck .ensures (c₂ .args .p) s t e)
 
 rank-lonely-requires : tie.Need-rank-lonely-requires
 rank-lonely-requires c κs = search needs
 
 returns-2 : tie.Need-returns-2
-returns-2 c = λ s t e before behind w.
-    runs-lonely (before ++ behind) (c .before .before .before .before .before .before .args .p) (c .before .before .before .before .before .before .args .z) s t (c .before .before .if1 .left) (sym e ∙ c .before .if2 .taken) (c .rank-lonely .ensures before behind s _ w)
+returns-2 c =
+    let c₁ = c .before in let c₂ = c₁ .before in let c₃ = c₂ .before .before .before .before in
+    λ s t e before behind w.
+    runs-lonely (before ++ behind) (c₃ .args .p) (c₃ .args .z) s t (c₂ .if1 .left) (sym e ∙ c₁ .if2 .taken) (c .rank-lonely .ensures before behind s _ w)
 
 returns-3 : tie.Need-returns-3
 returns-3 c = λ s t e before behind w. runs-open (before ++ behind) (c .before .before .before .before .before .args .p) (c .before .before .before .before .before .args .z) s t (c .before .if1 .left) (sym e ∙ c .if2 .left)

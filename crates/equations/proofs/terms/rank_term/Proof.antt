@@ -27,7 +27,9 @@ hidden-requires : tie.Need-hidden-requires
 hidden-requires c κs = search needs
 
 returns : tie.Need-returns
-returns c = λ s r e before behind w. term-run (before ++ behind) (c .before .before .before .before .before .before .args .x) s r (sym (c .before .before .enum-told2 .given .1) ∙ w .right .look) (sym (both-on (under (tv (c .before .before .before .before .before .before .args .x)) r) (c .before .hidden .ensures r _ (w .left .fine .0) (side-stands (w .right))) e) ∙ c .if1 .taken)
+returns c =
+    let c₁ = c .before in let c₂ = c₁ .before in let c₃ = c₂ .before .before .before .before in
+    λ s r e before behind w. term-run (before ++ behind) (c₃ .args .x) s r (sym (c₂ .enum-told2 .given .1) ∙ w .right .look) (sym (both-on (under (tv (c₃ .args .x)) r) (c₁ .hidden .ensures r _ (w .left .fine .0) (side-stands (w .right))) e) ∙ c .if1 .taken)
 
 enum-known-look-2 : tie.Need-enum-known-look-2
 enum-known-look-2 c = search needs
@@ -39,15 +41,21 @@ returns-2 : tie.Need-returns-2
 returns-2 c = λ s r e before behind w. term-empty (before ++ behind) (c .before .before .before .before .args .x) s r (sym (c .enum-told .given .1) ∙ w .right .look)
 
 returns-3 : tie.Need-returns-3
-returns-3 c = λ s r e before behind w.
-    at-term (λ m. Ranks (c .before .before .before .before .before .before .args .k .now) (c .before .before .before .before .before .before .args .v) (tvar (c .before .before .before .before .before .before .args .x) s) m (c .rank-term-term .result)) r (sym (c .before .before .look .given .1) ∙ w .right .look) (λ t f. c .rank-term-term .ensures s t e f) before behind w
+returns-3 c =
+    let c₁ = c .before .before in let c₂ = c₁ .before .before .before .before in
+    λ s r e before behind w.
+    at-term (λ m. Ranks (c₂ .args .k .now) (c₂ .args .v) (tvar (c₂ .args .x) s) m (c .rank-term-term .result)) r (sym (c₁ .look .given .1) ∙ w .right .look) (λ t f. c .rank-term-term .ensures s t e f) before behind w
 
 returns-4 : tie.Need-returns-4
-returns-4 c = λ s r e before behind w. term-runs (before ++ behind) (c .before .before .before .before .before .before .args .x) s r (sym (c .before .before .enum-told2 .given .1) ∙ w .right .look) (sym (both-on (under (tv (c .before .before .before .before .before .before .args .x)) r) (c .before .hidden .ensures r _ (w .left .fine .0) (side-stands (w .right))) e) ∙ c .if1 .left)
+returns-4 c =
+    let c₁ = c .before in let c₂ = c₁ .before in let c₃ = c₂ .before .before .before .before in
+    λ s r e before behind w. term-runs (before ++ behind) (c₃ .args .x) s r (sym (c₂ .enum-told2 .given .1) ∙ w .right .look) (sym (both-on (under (tv (c₃ .args .x)) r) (c₁ .hidden .ensures r _ (w .left .fine .0) (side-stands (w .right))) e) ∙ c .if1 .left)
 
 returns-5 : tie.Need-returns-5
-returns-5 c = λ s r e before behind w.
-    at-node (λ m. Ranks (c .before .before .before .before .before .before .args .k .now) (c .before .before .before .before .before .before .args .v) (tvar (c .before .before .before .before .before .before .args .x) s) m (c .rank-term-node .result)) r (sym (c .before .before .look2 .given .1) ∙ w .right .look) (λ G d t _ f _. c .rank-term-node .ensures s G d t e f) before behind w
+returns-5 c =
+    let c₁ = c .before .before in let c₂ = c₁ .before .before .before .before in
+    λ s r e before behind w.
+    at-node (λ m. Ranks (c₂ .args .k .now) (c₂ .args .v) (tvar (c₂ .args .x) s) m (c .rank-term-node .result)) r (sym (c₁ .look2 .given .1) ∙ w .right .look) (λ G d t _ f _. c .rank-term-node .ensures s G d t e f) before behind w
 
 pub rank-term-spec : {M : Type 1} → statement M
 rank-term-spec =

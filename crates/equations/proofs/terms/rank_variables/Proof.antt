@@ -28,14 +28,20 @@ and-requires : tie.Need-and-requires
 and-requires c κs = search needs
 
 returns-2 : tie.Need-returns-2
-returns-2 c = λ before behind l r s i j.
+returns-2 c =
+    let c₁ = c .before in let c₂ = c₁ .before in let c₃ = c₂ .before in let c₄ = c₃ .before in let c₅ = c₄ .before in let c₆ = c₅ .before in
+    let c₇ = c₆ .before .before .before .before in
+    λ before behind l r s i j.
     sym (ap (λ b. pick b atE1 noRule) (c .if2 .taken))
-    ∙ two-variables (before ++ behind) (c .before .before .before .before .before .before .before .before .before .before .args .x) (c .before .before .before .before .before .before .before .before .before .before .args .z) (c .before .before .before .before .before .before .if1 .left) (both (c .before .and .ensures) (c .before .before .before .before .elsewhere .ensures ∙ term-elsewhere s (c .before .before .before .before .before .before .before .before .before .before .args .x) i (c .before .before .before .before .before .term-word .ensures)) (c .before .before .elsewhere2 .ensures ∙ term-elsewhere s (c .before .before .before .before .before .before .before .before .before .before .args .z) j (c .before .before .before .term-word2 .ensures)))
+    ∙ two-variables (before ++ behind) (c₇ .args .x) (c₇ .args .z) (c₆ .if1 .left) (both (c₁ .and .ensures) (c₄ .elsewhere .ensures ∙ term-elsewhere s (c₇ .args .x) i (c₅ .term-word .ensures)) (c₂ .elsewhere2 .ensures ∙ term-elsewhere s (c₇ .args .z) j (c₃ .term-word2 .ensures)))
 
 returns-3 : tie.Need-returns-3
-returns-3 c = λ before behind l r s i j.
+returns-3 c =
+    let c₁ = c .before in let c₂ = c₁ .before in let c₃ = c₂ .before in let c₄ = c₃ .before in let c₅ = c₄ .before in let c₆ = c₅ .before in
+    let c₇ = c₆ .before .before .before .before in
+    λ before behind l r s i j.
     sym (ap (λ b. pick b atE1 noRule) (c .if2 .left))
-    ∙ two-variables (before ++ behind) (c .before .before .before .before .before .before .before .before .before .before .args .x) (c .before .before .before .before .before .before .before .before .before .before .args .z) (c .before .before .before .before .before .before .if1 .left) (both (c .before .and .ensures) (c .before .before .before .before .elsewhere .ensures ∙ term-elsewhere s (c .before .before .before .before .before .before .before .before .before .before .args .x) i (c .before .before .before .before .before .term-word .ensures)) (c .before .before .elsewhere2 .ensures ∙ term-elsewhere s (c .before .before .before .before .before .before .before .before .before .before .args .z) j (c .before .before .before .term-word2 .ensures)))
+    ∙ two-variables (before ++ behind) (c₇ .args .x) (c₇ .args .z) (c₆ .if1 .left) (both (c₁ .and .ensures) (c₄ .elsewhere .ensures ∙ term-elsewhere s (c₇ .args .x) i (c₅ .term-word .ensures)) (c₂ .elsewhere2 .ensures ∙ term-elsewhere s (c₇ .args .z) j (c₃ .term-word2 .ensures)))
 
 pub rank-variables-spec : {M : Type 1} → statement M
 rank-variables-spec =

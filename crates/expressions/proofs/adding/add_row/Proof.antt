@@ -14,13 +14,21 @@ returns-2 : tie.Need-returns-2
 returns-2 c = rowed-short (c .before .before .before .before .before .before .before .before .pre .2) (c .before .before .before .before .result-len .ensures) (c .before .before .before .count .ensures) (c .if2 .taken)
 
 returns-3 : tie.Need-returns-3
-returns-3 c = rowed-full (c .before .before .before .before .before .before .before .before .before .pre .2) (c .before .before .before .before .before .result-len .ensures) (c .before .before .before .before .count .ensures) (c .if3 .taken)
+returns-3 c =
+    let c₁ = c .before .before .before .before in let c₂ = c₁ .before in let c₃ = c₂ .before .before .before .before in
+    rowed-full (c₃ .pre .2) (c₂ .result-len .ensures) (c₁ .count .ensures) (c .if3 .taken)
 
 write-row-requires : tie.Need-write-row-requires
-write-row-requires c κs = let f = c .before .before .before .before .before .before .before .before .before .before .pre .2 in let h = c .before .if3 .left in (c .before .before .if2 .left, c .before .before .before .before .before .before .result-len .ensures, c .before .before .before .before .if1 .left, omega arith)
+write-row-requires c κs =
+    let c₁ = c .before in let c₂ = c₁ .before in let c₃ = c₂ .before .before in let c₄ = c₃ .before .before in
+    let c₅ = c₄ .before .before .before .before in
+    let f = c₅ .pre .2 in let h = c₁ .if3 .left in (c₂ .if2 .left, c₄ .result-len .ensures, c₃ .if1 .left, omega arith)
 
 returns-4 : tie.Need-returns-4
-returns-4 c = let k = c .before .before .write-row .kept in let f = c .before .before .before .before .before .before .before .before .before .before .before .before .before .pre .2 in let h = c .before .before .before .before .if3 .left in rowed-more (c .before .before .before .before .before .before .before .before .before .before .before .before .before .pre .2) (c .before .before .before .before .before .before .before .before .before .result-len .ensures) (c .before .before .before .before .before .before .before .before .count .ensures) (c .before .before .before .before .before .if2 .left) (omega arith) (omega arith) (c .before .before .write-row .ensures)
+returns-4 c =
+    let c₁ = c .before .before in let c₂ = c₁ .before .before in let c₃ = c₂ .before in let c₄ = c₃ .before .before .before in let c₅ = c₄ .before in
+    let c₆ = c₅ .before .before .before .before in
+    let k = c₁ .write-row .kept in let f = c₆ .pre .2 in let h = c₂ .if3 .left in rowed-more (c₆ .pre .2) (c₅ .result-len .ensures) (c₄ .count .ensures) (c₃ .if2 .left) (omega arith) (omega arith) (c₁ .write-row .ensures)
 
 pub add-row-spec : {M : Type 1} → statement M
 add-row-spec =

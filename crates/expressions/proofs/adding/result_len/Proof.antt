@@ -15,10 +15,14 @@ add-result : tie.Need-add-result
 add-result c = let a = c .before .before .before .before .before .before .args in let z = opening-short (a .p .parts) in let b = c .before .before .before .before .before .before .pre .1 in omega arith
 
 add-result-2 : tie.Need-add-result-2
-add-result-2 c = let a = c .before .before .before .before .before .before .args in let z = opening-short (a .p .parts) in let b = c .before .before .before .before .before .before .pre .1 in let y = made-short (a .k .now) (c .before .before .before .before .front .result) 0 (c .before .before .before .before .before .before .pre .0) in omega arith
+add-result-2 c =
+    let c₁ = c .before .before .before .before in let c₂ = c₁ .before .before in
+    let a = c₂ .args in let z = opening-short (a .p .parts) in let b = c₂ .pre .1 in let y = made-short (a .k .now) (c₁ .front .result) 0 (c₂ .pre .0) in omega arith
 
 add-result-3 : tie.Need-add-result-3
-add-result-3 c = let a = c .before .before .before .before .before .before .args in let z = opening-short (a .p .parts) in let b = c .before .before .before .before .before .before .pre .1 in let y = made-short (a .k .now) (c .before .before .before .before .front .result) 0 (c .before .before .before .before .before .before .pre .0) in let x = part-short (a .k .now) (a .s .end) (a .s .len) in let w = c .before .before .before .before .before .before .pre .0 in omega arith
+add-result-3 c =
+    let c₁ = c .before .before .before .before in let c₂ = c₁ .before .before in
+    let a = c₂ .args in let z = opening-short (a .p .parts) in let b = c₂ .pre .1 in let y = made-short (a .k .now) (c₁ .front .result) 0 (c₂ .pre .0) in let x = part-short (a .k .now) (a .s .end) (a .s .len) in let w = c₂ .pre .0 in omega arith
 
 returns : tie.Need-returns
 unfolding resultLength frontWords backWords

@@ -26,10 +26,11 @@ slice-write-ends c = let h = c .before .before .before .loop .inv .0 in let r = 
 
 loop-again : tie.Need-loop-again Inv-loop μ-loop
 loop-again c =
-    let h = c .before .before .before .loop .inv .0 in
-    let l = length-set (c .before .before .before .loop .ends) (c .before .before .before .loop .i - 1) (c .end-by-parts .result) in
-    let m = c .before .before .before .loop .inv .2 in
-    (omega arith, chart-more (omega arith) (c .end-by-parts .ensures) (chart-from (omega arith) (c .before .before .before .loop .inv .1)), omega arith)
+    let c₁ = c .before .before .before in
+    let h = c₁ .loop .inv .0 in
+    let l = length-set (c₁ .loop .ends) (c₁ .loop .i - 1) (c .end-by-parts .result) in
+    let m = c₁ .loop .inv .2 in
+    (omega arith, chart-more (omega arith) (c .end-by-parts .ensures) (chart-from (omega arith) (c₁ .loop .inv .1)), omega arith)
 
 same-length : tie.Need-same-length Inv-loop μ-loop
 same-length c = c .before .loop .inv .2

@@ -51,45 +51,74 @@ pub +walk-spec : {M : Type 1} → statement M
     -- need returns-3
     (λ c. walks-over (c .before .before .before .before .before .before .expression-end .ensures) (c .before .before .before .before .before .if3 .taken) (c .before .before .add-row .ensures))
     -- need widen-requires
-    (λ c κs. let p = c .before .before .before .before .before .before .before .before .before .before .before .pre .1 in let x = p .0 in let y = p .2 in let z = p .3 in let h = c .before .before .before .before .before .before .if1 .left in let a = c .before .before .before .expression-end .ensures .after in (omega arith, c .before .before .before .expression-end .ensures .within (omega arith), p .0, omega arith, omega arith))
+    (λ c κs.
+    let c₁ = c .before .before .before in let c₂ = c₁ .before .before .before in let c₃ = c₂ .before .before .before .before .before in
+    let p = c₃ .pre .1 in let x = p .0 in let y = p .2 in let z = p .3 in let h = c₂ .if1 .left in let a = c₁ .expression-end .ensures .after in (omega arith, c₁ .expression-end .ensures .within (omega arith), p .0, omega arith, omega arith))
     -- need add-walk
     (λ c. search needs)
     -- need walk-requires
-    (λ c κs. let p = c .before .before .before .before .before .before .before .before .before .before .before .before .before .before .before .before .pre .1 in let x = p .0 in let y = p .2 in let z = p .3 in let h = c .before .before .before .before .before .before .before .before .before .before .before .if1 .left in let w = c .before .before .before .before .before .before .before .before .expression-end .ensures .within (omega arith) in let u = c .before .before .before .before .widen .ensures .parts in let v = c .before .before .before .before .widen .ensures .words in (omega arith, (p .0, p .1, omega arith, omega arith, p .4)))
+    (λ c κs.
+    let c₁ = c .before .before .before .before in let c₂ = c₁ .before .before .before .before in let c₃ = c₂ .before .before .before in
+    let c₄ = c₃ .before .before .before .before .before in
+    let p = c₄ .pre .1 in let x = p .0 in let y = p .2 in let z = p .3 in let h = c₃ .if1 .left in let w = c₂ .expression-end .ensures .within (omega arith) in let u = c₁ .widen .ensures .parts in let v = c₁ .widen .ensures .words in (omega arith, (p .0, p .1, omega arith, omega arith, p .4)))
     -- need same-length-3
     (λ c. omega arith)
     -- need same-length-4
     (λ c. omega arith)
     -- need returns-4
-    (λ c. walks-star (c .before .before .before .before .before .before .before .before .before .before .before .before .before .before .expression-end .ensures) (c .before .before .before .before .before .before .before .before .before .before .before .before .if4 .taken) (c .before .before .before .before .before .before .before .before .before .before .widen .ensures) (c .before .before .before .before .before .walk .ensures))
+    (λ c.
+    let c₁ = c .before .before .before .before .before in let c₂ = c₁ .before .before .before .before .before in let c₃ = c₂ .before .before in
+    let c₄ = c₃ .before .before in
+    walks-star (c₄ .expression-end .ensures) (c₃ .if4 .taken) (c₂ .widen .ensures) (c₁ .walk .ensures))
     -- need expression-end-requires-2
     (λ c κs. chart-from (omega arith) (c .before .before .before .before .before .before .before .before .before .before .before .pre .1 .1))
     -- need enclose-requires
-    (λ c κs. let p = c .before .before .before .before .before .before .before .before .before .before .before .before .before .pre .1 in let x = p .0 in let y = p .2 in let z = p .3 in let h = c .before .before .before .before .before .before .before .before .if1 .left in let w = c .before .before .before .before .before .expression-end .ensures .within (omega arith) in (c .before .expression-end2 .ensures .after, c .before .expression-end2 .ensures .within w, p .0, omega arith, omega arith))
+    (λ c κs.
+    let c₁ = c .before in let c₂ = c₁ .before .before .before .before in let c₃ = c₂ .before .before .before in
+    let c₄ = c₃ .before .before .before .before .before in
+    let p = c₄ .pre .1 in let x = p .0 in let y = p .2 in let z = p .3 in let h = c₃ .if1 .left in let w = c₂ .expression-end .ensures .within (omega arith) in (c₁ .expression-end2 .ensures .after, c₁ .expression-end2 .ensures .within w, p .0, omega arith, omega arith))
     -- need add-walk-2
     (λ c. search needs)
     -- need walk-requires-2
-    (λ c κs. let p = c .before .before .before .before .before .before .before .before .before .before .before .before .before .before .before .before .before .before .pre .1 in let x = p .0 in let y = p .2 in let z = p .3 in let h = c .before .before .before .before .before .before .before .before .before .before .before .before .before .if1 .left in let w = c .before .before .before .before .before .before .expression-end2 .ensures .within (c .before .before .before .before .before .before .before .before .before .before .expression-end .ensures .within (omega arith)) in let u = c .before .before .before .before .enclose .ensures .few in let v = c .before .before .before .before .enclose .ensures .short in (omega arith, (p .0, p .1, omega arith, omega arith, p .4)))
+    (λ c κs.
+    let c₁ = c .before .before .before .before in let c₂ = c₁ .before .before in let c₃ = c₂ .before .before .before .before in
+    let c₄ = c₃ .before .before .before in let c₅ = c₄ .before .before .before .before .before in
+    let p = c₅ .pre .1 in let x = p .0 in let y = p .2 in let z = p .3 in let h = c₄ .if1 .left in let w = c₂ .expression-end2 .ensures .within (c₃ .expression-end .ensures .within (omega arith)) in let u = c₁ .enclose .ensures .few in let v = c₁ .enclose .ensures .short in (omega arith, (p .0, p .1, omega arith, omega arith, p .4)))
     -- need walk-requires-3
-    (λ c κs. let p = c .before .before .before .before .before .before .before .before .before .before .before .before .before .before .before .before .before .before .before .before .before .before .before .before .before .before .before .pre .1 in let q = c .before .before .before .before .before .before .before .before .before .before .before .before .before .before .before .before .before .before .before .before .before .before .before .before .before .before .before .pre .0 in let y = p .2 in let z = p .3 in let h = c .before .before .before .before .before .before .before .before .before .before .before .before .before .before .before .before .before .before .before .before .before .before .if1 .left in let a = c .before .before .before .before .before .before .before .before .before .before .before .before .before .before .before .before .before .before .before .expression-end .ensures .after in (omega arith, (p .0, p .1, omega arith, omega arith, c .before .before .before .before .before .before .before .before .walk2 .ensures .room)))
+    (λ c κs.
+    let c₁ = c .before .before .before .before .before .before .before .before in
+    let c₂ = c₁ .before .before .before .before .before .before .before .before .before .before .before in let c₃ = c₂ .before .before .before in
+    let c₄ = c₃ .before .before .before .before .before in
+    let p = c₄ .pre .1 in let q = c₄ .pre .0 in let y = p .2 in let z = p .3 in let h = c₃ .if1 .left in let a = c₂ .expression-end .ensures .after in (omega arith, (p .0, p .1, omega arith, omega arith, c₁ .walk2 .ensures .room)))
     -- need same-length-5
     (λ c. omega arith)
     -- need same-length-6
     (λ c. omega arith)
     -- need returns-5
-    (λ c. walks-open (c .before .before .before .before .before .before .before .before .before .before .before .before .before .before .before .before .before .before .before .before .before .before .before .before .expression-end .ensures) (c .before .before .before .before .before .before .before .before .before .before .before .before .before .before .before .before .before .before .before .before .expression-end2 .ensures) (c .before .before .before .before .before .before .before .before .before .before .before .before .before .before .before .before .before .before .enclose .ensures) (c .before .before .before .before .before .before .before .before .before .before .before .before .before .walk2 .ensures) (c .before .before .before .before .before .before .before .before .before .before .before .before .before .before .before .before .before .before .before .before .before .if5 .taken) (c .before .before .before .before .before .before .before .before .if6 .taken) (c .before .before .before .before .walk3 .ensures))
+    (λ c.
+    let c₁ = c .before .before .before .before in let c₂ = c₁ .before .before .before .before in let c₃ = c₂ .before .before .before .before .before in
+    let c₄ = c₃ .before .before .before .before .before in let c₅ = c₄ .before .before in let c₆ = c₅ .before in let c₇ = c₆ .before .before .before in
+    walks-open (c₇ .expression-end .ensures) (c₅ .expression-end2 .ensures) (c₄ .enclose .ensures) (c₃ .walk2 .ensures) (c₆ .if5 .taken) (c₂ .if6 .taken) (c₁ .walk3 .ensures))
     -- need same-length-7
     (λ c. omega arith)
     -- need same-length-8
     (λ c. omega arith)
     -- need returns-6
-    (λ c. walks-shut (c .before .before .before .before .before .before .before .before .before .before .before .before .before .before .before .before .expression-end .ensures) (c .before .before .before .before .before .before .before .before .before .before .before .before .expression-end2 .ensures) (c .before .before .before .before .before .before .before .before .before .before .enclose .ensures) (c .before .before .before .before .before .walk2 .ensures) (c .before .before .before .before .before .before .before .before .before .before .before .before .before .if5 .taken) (c .if6 .left))
+    (λ c.
+    let c₁ = c .before .before .before .before .before in let c₂ = c₁ .before .before .before .before .before in let c₃ = c₂ .before .before in
+    let c₄ = c₃ .before in let c₅ = c₄ .before .before .before in
+    walks-shut (c₅ .expression-end .ensures) (c₃ .expression-end2 .ensures) (c₂ .enclose .ensures) (c₁ .walk2 .ensures) (c₄ .if5 .taken) (c .if6 .left))
     -- need add-walk-3
     (λ c. search needs)
     -- need walk-requires-4
-    (λ c κs. let p = c .before .before .before .before .before .before .before .before .before .before .before .before .before .pre .1 in let y = p .2 in let z = p .3 in let h = c .before .before .before .before .before .before .before .before .if1 .left in (omega arith, (p .0, p .1, omega arith, omega arith, p .4)))
+    (λ c κs.
+    let c₁ = c .before .before .before .before .before .before .before .before in let c₂ = c₁ .before .before .before .before .before in
+    let p = c₂ .pre .1 in let y = p .2 in let z = p .3 in let h = c₁ .if1 .left in (omega arith, (p .0, p .1, omega arith, omega arith, p .4)))
     -- need walk-requires-5
-    (λ c κs. let p = c .before .before .before .before .before .before .before .before .before .before .before .before .before .before .before .before .before .before .before .before .before .pre .1 in let y = p .2 in let z = p .3 in let h = c .before .before .before .before .before .before .before .before .before .before .before .before .before .before .before .before .if1 .left in let a = c .before .before .before .before .before .before .before .before .before .before .before .before .before .expression-end .ensures .after in (omega arith, (p .0, p .1, omega arith, omega arith, c .before .before .before .before .before .before .before .walk4 .ensures .room)))
+    (λ c κs.
+    let c₁ = c .before .before .before .before .before .before .before in let c₂ = c₁ .before .before .before .before .before .before in
+    let c₃ = c₂ .before .before .before in let c₄ = c₃ .before .before .before .before .before in
+    let p = c₄ .pre .1 in let y = p .2 in let z = p .3 in let h = c₃ .if1 .left in let a = c₂ .expression-end .ensures .after in (omega arith, (p .0, p .1, omega arith, omega arith, c₁ .walk4 .ensures .room)))
     -- need either-requires
     (λ c κs. search needs)
     -- need same-length-9
@@ -97,4 +126,8 @@ pub +walk-spec : {M : Type 1} → statement M
     -- need same-length-10
     (λ c. omega arith)
     -- need returns-7
-    (λ c. walks-choice (c .before .before .before .before .before .before .before .before .before .before .before .before .before .before .before .before .before .before .before .before .expression-end .ensures) (c .before .before .before .before .before .before .before .before .before .before .before .before .before .before .walk4 .ensures) (c .before .before .before .before .before .before .walk5 .ensures) (c .before .before .before .before .before .before .before .before .before .before .before .before .before .before .before .before .before .before .before .before .before .if2 .left) (c .before .before .before .before .before .before .before .before .before .before .before .before .before .before .before .before .before .if5 .left) (c .before .before .before .before .before .before .before .before .before .before .before .before .before .before .before .before .before .before .if4 .left) (c .before .before .before .before .before .before .before .before .before .before .before .before .before .before .before .before .before .before .before .if3 .left) (c .before .either .ensures))
+    (λ c.
+    let c₁ = c .before in let c₂ = c₁ .before .before .before .before .before in
+    let c₃ = c₂ .before .before .before .before .before .before .before .before in let c₄ = c₃ .before .before .before in let c₅ = c₄ .before in
+    let c₆ = c₅ .before in let c₇ = c₆ .before in let c₈ = c₇ .before in
+    walks-choice (c₇ .expression-end .ensures) (c₃ .walk4 .ensures) (c₂ .walk5 .ensures) (c₈ .if2 .left) (c₄ .if5 .left) (c₅ .if4 .left) (c₆ .if3 .left) (c₁ .either .ensures))

@@ -64,7 +64,9 @@ returns-4 : tie.Need-returns-4
 returns-4 c = so-of (c .before .before .before .args .look) (c .before .before .before .args .last) _ _ (c .before .enum-told4 .given .1) (c .or-more3 .ensures)
 
 returns-5 : tie.Need-returns-5
-returns-5 c = so-of (c .before .before .before .before .before .args .look) (c .before .before .before .before .before .args .last) _ _ (c .before .before .before .first .given .1) (c .or-more4 .ensures ∙ ap (λ n. pick (c .before .before .before .before .before .args .last) n atM2) (c .before .rank-single .ensures))
+returns-5 c =
+    let c₁ = c .before in let c₂ = c₁ .before .before in let c₃ = c₂ .before .before in
+    so-of (c₃ .args .look) (c₃ .args .last) _ _ (c₂ .first .given .1) (c .or-more4 .ensures ∙ ap (λ n. pick (c₃ .args .last) n atM2) (c₁ .rank-single .ensures))
 
 returns-6 : tie.Need-returns-6
 returns-6 c = others (c .before .args .look) (c .before .args .last) (c .before .args .first) (c .match .keys6)

@@ -21,7 +21,9 @@ empty-one-requires : tie.Need-empty-one-requires Inv-loop μ-loop
 empty-one-requires c κs = still-fits (c .before .before .before .loop .inv) (each-step (c .before .before .before .before .within .ensures) _ (c .before .before .loop-test .taken))
 
 loop-again : tie.Need-loop-again Inv-loop μ-loop
-loop-again c = still-run (c .before .before .before .before .before .before .loop .inv) (each-step (c .before .before .before .before .before .before .before .within .ensures) _ (c .before .before .before .before .before .loop-test .taken)) (c .before .before .empty-one .ensures)
+loop-again c =
+    let c₁ = c .before .before in let c₂ = c₁ .before .before .before in let c₃ = c₂ .before in let c₄ = c₃ .before in
+    still-run (c₃ .loop .inv) (each-step (c₄ .within .ensures) _ (c₂ .loop-test .taken)) (c₁ .empty-one .ensures)
 
 same-length : tie.Need-same-length Inv-loop μ-loop
 same-length c = c .before .loop .inv .size

@@ -25,19 +25,23 @@ piece-len-requires : tie.Need-piece-len-requires Inv-loop μ-loop
 piece-len-requires c κs = (c .before .before .before .note .ensures, c .before .before .before .before .before .before .pre)
 
 add-n : tie.Need-add-n Inv-loop μ-loop
-add-n c = let a = c .before .before .before .before .before .before .before .args in
-    let b = piece-short (a .k .now) (bare (swapOf (a .r))) (a .cut) (slotAt (a .r) (c .before .before .before .loop .i)) (c .before .before .before .before .before .before .before .pre) in
+add-n c =
+    let c₁ = c .before .before .before in let c₂ = c₁ .before .before .before .before in
+    let a = c₂ .args in
+    let b = piece-short (a .k .now) (bare (swapOf (a .r))) (a .cut) (slotAt (a .r) (c₁ .loop .i)) (c₂ .pre) in
     let e = c .piece-len .ensures in
-    let y = c .before .before .before .loop .inv .1 in
+    let y = c₁ .loop .inv .1 in
     omega arith
 
 loop-again : tie.Need-loop-again Inv-loop μ-loop
-loop-again c = let a = c .before .before .before .before .before .before .before .args in
-    let b = piece-short (a .k .now) (bare (swapOf (a .r))) (a .cut) (slotAt (a .r) (c .before .before .before .loop .i)) (c .before .before .before .before .before .before .before .pre) in
+loop-again c =
+    let c₁ = c .before .before in let c₂ = c₁ .before in let c₃ = c₂ .before .before .before .before in
+    let a = c₃ .args in
+    let b = piece-short (a .k .now) (bare (swapOf (a .r))) (a .cut) (slotAt (a .r) (c₂ .loop .i)) (c₃ .pre) in
     let e = c .piece-len .ensures in
-    let w = made-length (a .k .now) (a .r) (a .cut) (c .before .before .before .loop .i) (c .before .before .loop-test .taken) (c .piece-len .result) e in
-    let y = c .before .before .before .loop .inv .0 in
-    let z = c .before .before .before .loop .inv .1 in
+    let w = made-length (a .k .now) (a .r) (a .cut) (c₂ .loop .i) (c₁ .loop-test .taken) (c .piece-len .result) e in
+    let y = c₂ .loop .inv .0 in
+    let z = c₂ .loop .inv .1 in
     (omega arith, omega arith, omega arith)
 
 returns : tie.Need-returns Inv-loop μ-loop

@@ -8,7 +8,9 @@ use Rattle.results.proofs.making.write_framed.Statement.{statement}
 use Rattle.results.proofs.making.write_framed.Tie as tie
 
 returns : tie.Need-returns
-returns c = wrote-framed (c .before .before .before .before .before .before .write-made .ensures) (let e = c .before .before .before .before .before .before .write-made .ensures .end in omega arith) (c .before .before .write-frame .ensures)
+returns c =
+    let c₁ = c .before .before in let c₂ = c₁ .before .before .before .before in
+    wrote-framed (c₂ .write-made .ensures) (let e = c₂ .write-made .ensures .end in omega arith) (c₁ .write-frame .ensures)
 
 pub write-framed-spec : {M : Type 1} → statement M
 write-framed-spec =

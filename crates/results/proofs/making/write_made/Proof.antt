@@ -19,10 +19,14 @@ unfolding made
 loop-holds c = (still-all _ _ _ (c .before .before .before .before .pre), omega arith)
 
 write-piece-requires : tie.Need-write-piece-requires Inv-loop μ-loop
-write-piece-requires c κs = let a = c .before .before .before .before .before .before .before .before .args in (c .before .before .before .before .note .ensures, still-fits (c .before .before .before .loop .inv .0) (bare-step (a .k .now) (a .r) (a .cut) _ (c .before .before .loop-test .taken)))
+write-piece-requires c κs =
+    let c₁ = c .before .before in let c₂ = c₁ .before in let c₃ = c₂ .before in let c₄ = c₃ .before .before .before .before in
+    let a = c₄ .args in (c₃ .note .ensures, still-fits (c₂ .loop .inv .0) (bare-step (a .k .now) (a .r) (a .cut) _ (c₁ .loop-test .taken)))
 
 loop-again : tie.Need-loop-again Inv-loop μ-loop
-loop-again c = let a = c .before .before .before .before .before .before .before .before .before .before .before .args in (still-run (c .before .before .before .before .before .before .loop .inv .0) (bare-step (a .k .now) (a .r) (a .cut) _ (c .before .before .before .before .before .loop-test .taken)) (c .before .before .write-piece .ensures), omega arith)
+loop-again c =
+    let c₁ = c .before .before in let c₂ = c₁ .before .before .before in let c₃ = c₂ .before in let c₄ = c₃ .before .before .before .before .before in
+    let a = c₄ .args in (still-run (c₃ .loop .inv .0) (bare-step (a .k .now) (a .r) (a .cut) _ (c₂ .loop-test .taken)) (c₁ .write-piece .ensures), omega arith)
 
 same-length : tie.Need-same-length Inv-loop μ-loop
 same-length c = c .before .loop .inv .0 .size

@@ -14,19 +14,29 @@ slice-write-out c = let a = c .before .before .before .before .before .args in
     omega arith
 
 copy-requires : tie.Need-copy-requires
-copy-requires c κs = let a = c .before .before .before .before .before .before .args in fits-as (ap (pieceWords (a .k .now) (bare (a .s)) (a .cut)) (c .before .before .p2 .given .1)) _ _ (c .before .before .before .before .before .before .pre .1)
+copy-requires c κs =
+    let c₁ = c .before .before in let c₂ = c₁ .before .before .before .before in
+    let a = c₂ .args in fits-as (ap (pieceWords (a .k .now) (bare (a .s)) (a .cut)) (c₁ .p2 .given .1)) _ _ (c₂ .pre .1)
 
 put-requires : tie.Need-put-requires
-put-requires c κs = let a = c .before .before .before .before .before .before .args in (c .before .before .before .before .before .before .pre .0, fits-as (ap (pieceWords (a .k .now) (bare (a .s)) (a .cut)) (c .before .before .p3 .given .1)) _ _ (c .before .before .before .before .before .before .pre .1))
+put-requires c κs =
+    let c₁ = c .before .before in let c₂ = c₁ .before .before .before .before in
+    let a = c₂ .args in (c₂ .pre .0, fits-as (ap (pieceWords (a .k .now) (bare (a .s)) (a .cut)) (c₁ .p3 .given .1)) _ _ (c₂ .pre .1))
 
 copy-requires-2 : tie.Need-copy-requires-2
-copy-requires-2 c κs = let a = c .before .before .before .before .before .before .args in fits-as (ap (pieceWords (a .k .now) (bare (a .s)) (a .cut)) (c .before .before .p4 .given .1)) _ _ (c .before .before .before .before .before .before .pre .1)
+copy-requires-2 c κs =
+    let c₁ = c .before .before in let c₂ = c₁ .before .before .before .before in
+    let a = c₂ .args in fits-as (ap (pieceWords (a .k .now) (bare (a .s)) (a .cut)) (c₁ .p4 .given .1)) _ _ (c₂ .pre .1)
 
 put-requires-2 : tie.Need-put-requires-2
-put-requires-2 c κs = let a = c .before .before .before .before .before .before .args in (c .before .before .before .before .before .before .pre .0, fits-as (ap (pieceWords (a .k .now) (bare (a .s)) (a .cut)) (c .before .before .p5 .given .1)) _ _ (c .before .before .before .before .before .before .pre .1))
+put-requires-2 c κs =
+    let c₁ = c .before .before in let c₂ = c₁ .before .before .before .before in
+    let a = c₂ .args in (c₂ .pre .0, fits-as (ap (pieceWords (a .k .now) (bare (a .s)) (a .cut)) (c₁ .p5 .given .1)) _ _ (c₂ .pre .1))
 
 empty-each-requires : tie.Need-empty-each-requires
-empty-each-requires c κs = let a = c .before .before .before .before .before .before .args in fits-as (ap (pieceWords (a .k .now) (bare (a .s)) (a .cut)) (c .before .before .p6 .given .1)) _ _ (c .before .before .before .before .before .before .pre .1)
+empty-each-requires c κs =
+    let c₁ = c .before .before in let c₂ = c₁ .before .before .before .before in
+    let a = c₂ .args in fits-as (ap (pieceWords (a .k .now) (bare (a .s)) (a .cut)) (c₁ .p6 .given .1)) _ _ (c₂ .pre .1)
 
 returns : tie.Need-returns
 returns c = let a = c .before .before .before .before .before .args in wrote-as (ap (pieceWords (a .k .now) (bare (a .s)) (a .cut)) (c .before .p .given .1)) (wrote-word _ _ _)

@@ -31,10 +31,11 @@ array-write-set c =
 
 loop-again : tie.Need-loop-again Inv-loop μ-loop
 loop-again c =
-    let l = c .before .before .before .before .before .before .before in
+    let c₁ = c .before .before in let c₂ = c₁ .before .before in let c₃ = c₂ .before .before in let c₄ = c₃ .before in
+    let l = c₄ in
     let a = l .before .before .before .args in
     subst (λ n. Marking (set (l .loop .set) n true) (slice (l .loop .i + 1) (a .to) (a .k .now)) (slice (a .from) (a .to) (a .k .now))) (sym (c .wide .ensures))
-    (marking-step (l .loop .inv) _ _ (part-cons (l .before .within .ensures) _ (c .before .before .before .before .before .before .loop-test .taken)) (c .before .before .before .before .classify .ensures) _ (c .before .before .p .given .1))
+    (marking-step (l .loop .inv) _ _ (part-cons (l .before .within .ensures) _ (c₃ .loop-test .taken)) (c₂ .classify .ensures) _ (c₁ .p .given .1))
 
 returns : tie.Need-returns Inv-loop μ-loop
 returns c = not-only _ _

@@ -19,10 +19,14 @@ unfolding changed
 loop-holds c = still-all _ _ _ (c .before .before .before .pre .1)
 
 put-word-requires : tie.Need-put-word-requires Inv-loop μ-loop
-put-word-requires c κs = (c .before .before .before .before .before .before .before .pre .0, still-fits (c .before .before .before .loop .inv) (put-step (c .before .before .before .before .within .ensures) _ _ _ (c .before .before .loop-test .taken)))
+put-word-requires c κs =
+    let c₁ = c .before .before in let c₂ = c₁ .before in let c₃ = c₂ .before in let c₄ = c₃ .before .before .before in
+    (c₄ .pre .0, still-fits (c₂ .loop .inv) (put-step (c₃ .within .ensures) _ _ _ (c₁ .loop-test .taken)))
 
 loop-again : tie.Need-loop-again Inv-loop μ-loop
-loop-again c = still-run (c .before .before .before .before .before .before .loop .inv) (put-step (c .before .before .before .before .before .before .before .within .ensures) _ _ _ (c .before .before .before .before .before .loop-test .taken)) (c .before .before .put-word .ensures)
+loop-again c =
+    let c₁ = c .before .before in let c₂ = c₁ .before .before .before in let c₃ = c₂ .before in let c₄ = c₃ .before in
+    still-run (c₃ .loop .inv) (put-step (c₄ .within .ensures) _ _ _ (c₂ .loop-test .taken)) (c₁ .put-word .ensures)
 
 same-length : tie.Need-same-length Inv-loop μ-loop
 same-length c = c .before .loop .inv .size

@@ -23,18 +23,24 @@ is-old-requires : tie.Need-is-old-requires Inv-loop μ-loop
 is-old-requires c κs = c .before .before .before .before .before .before .pre .0
 
 add-n : tie.Need-add-n Inv-loop μ-loop
-add-n c = let a = c .before .before .before .before .before .before .before .before .args in
+add-n c =
+    let c₁ = c .before in let c₂ = c₁ .before .before in let c₃ = c₂ .before in let c₄ = c₃ .before in let c₅ = c₄ .before in
+    let c₆ = c₅ .before .before in
+    let a = c₆ .args in
     let k = a .k .now in
-    let y = c .before .before .before .before .loop .inv in
-    let b = put-short k (a .s .old) (a .s .new) (a .cut) (a .from) (a .to) (a .s .until) (c .before .before .before .before .before .before .before .before .pre .1) in
-    let w = put-length (c .before .before .before .before .before .within .ensures) (slice (a .s .old) (a .s .until) k) (slice (a .s .new) (a .cut) k) _ (c .before .before .before .loop-test .taken) _ (c .before .is-old .ensures) _ _ (c .before .before .before .before .before .before .part-len .ensures) (c .swap-len .ensures) in
+    let y = c₃ .loop .inv in
+    let b = put-short k (a .s .old) (a .s .new) (a .cut) (a .from) (a .to) (a .s .until) (c₆ .pre .1) in
+    let w = put-length (c₄ .within .ensures) (slice (a .s .old) (a .s .until) k) (slice (a .s .new) (a .cut) k) _ (c₂ .loop-test .taken) _ (c₁ .is-old .ensures) _ _ (c₅ .part-len .ensures) (c .swap-len .ensures) in
     omega arith
 
 loop-again : tie.Need-loop-again Inv-loop μ-loop
-loop-again c = let a = c .before .before .before .before .before .before .before .before .args in
+loop-again c =
+    let c₁ = c .before in let c₂ = c₁ .before .before in let c₃ = c₂ .before in let c₄ = c₃ .before in let c₅ = c₄ .before in
+    let c₆ = c₅ .before .before in
+    let a = c₆ .args in
     let k = a .k .now in
-    let y = c .before .before .before .before .loop .inv in
-    let w = put-length (c .before .before .before .before .before .within .ensures) (slice (a .s .old) (a .s .until) k) (slice (a .s .new) (a .cut) k) _ (c .before .before .before .loop-test .taken) _ (c .before .is-old .ensures) _ _ (c .before .before .before .before .before .before .part-len .ensures) (c .swap-len .ensures) in
+    let y = c₃ .loop .inv in
+    let w = put-length (c₄ .within .ensures) (slice (a .s .old) (a .s .until) k) (slice (a .s .new) (a .cut) k) _ (c₂ .loop-test .taken) _ (c₁ .is-old .ensures) _ _ (c₅ .part-len .ensures) (c .swap-len .ensures) in
     omega arith
 
 returns : tie.Need-returns Inv-loop μ-loop
