@@ -130,7 +130,7 @@ fn show(question: &[u16], line: usize) -> u8 {
     let mut work = [0u16; ROOM];
     let mut answer = [0u16; ROOM];
     let mut room = [0u16; FILLING];
-    let shown = showing::example(question, line, &mut work, &mut answer, &mut room);
+    let shown = example::example(question, line, &mut work, &mut answer, &mut room);
     match shown {
         Shown::Shows(n) => {
             show_words(question, &room, n);

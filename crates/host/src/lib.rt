@@ -114,7 +114,7 @@ fn show(question: &[u16], line: usize, own: &mut [u16], room: &mut [u8]) -> u32
 {
     let mut work = [0u16; ROOM];
     let mut answer = [0u16; ROOM];
-    let s = showing::example(question, line, &mut work, &mut answer, own);
+    let s = example::example(question, line, &mut work, &mut answer, own);
     let n = shown_length(s);
     // of a refusal that is 0, and nothing is written
     write_words(&own[..n], room);

@@ -246,7 +246,7 @@ fn plan_m5(k: &[u16], s: Shape) -> Plan
     ensures { λ p. ⌜ Is M5 (now (k .entry)) s (λ R. shared s (exprInner (now (k .entry)) s .from) (midOf (now (k .entry)) s R)) p ⌝ }
 {
     let within = inner(k, s.expr, s.end);
-    let part = exprs::pass(k, within.from);
+    let part = expressions::pass(k, within.from);
     let first = in_first(s, within.from, part.end);
     let second = in_second(s, within.from, part.end);
     Plan {
@@ -262,7 +262,7 @@ fn halves(k: &[u16], s: Shape) -> Plan
 {
     let h = s.h;
     let within = inner(k, s.expr, s.end);
-    let part = exprs::pass(k, within.from);
+    let part = expressions::pass(k, within.from);
     let first = member_in(s, h.from, h.to, within.from, part.end);
     let second = member_in(s, h.from, h.to, part.end, s.end);
     Plan {

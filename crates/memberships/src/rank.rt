@@ -37,7 +37,7 @@ use views::Side;
 fn rank_empty(k: &[u16], at: usize) -> usize
     ensures { λ n. ⌜ ((R : Expr) (beyond : List ℕ) → Here (now (k .entry)) at R beyond → n ≡ pick (nullable R) atR2 atF6) ⌝ }
 {
-    let p = exprs::pass(k, at);
+    let p = expressions::pass(k, at);
     let null = p.null;
     if null { AT_R2 } else { AT_F6 }
 }

@@ -52,12 +52,6 @@ join-assoc (tvar x r) h k = ap (tvar x) (join-assoc r h k)
 join-assoc (hvar p r) h k = ap (hvar p) (join-assoc r h k)
 join-assoc (node f c r) h k = ap (node f c) (join-assoc r h k)
 
-pub head-tail : (h : Hedge) → h ≡ head h ⧺ tail h
-head-tail ε = refl
-head-tail (tvar x r) = refl
-head-tail (hvar p r) = refl
-head-tail (node f c r) = refl
-
 pub fine-tail : (h : Hedge) → fineHedge desk h → fineHedge desk (tail h)
 fine-tail ε f = f
 fine-tail (tvar x r) f = f .1
