@@ -14,14 +14,21 @@ example-spec =
     (λ c. search needs)
     -- returns
     (λ c.
-    let a = c .before .before .before .before .before .before .before .before .before .before .before .before .before .before .args in
-    shown-refused (a .question .now) (a .work .now) (a .answer .now) (c .before .before .before .before .before .before .before .solve .ensures) (a .room .now) (a .line) (c .before .outcome .given .1))
+    let c₁ = c .before in let c₂ = c₁ .before .before .before .before .before .before in
+    let c₃ = c₂ .before .before .before .before .before .before .before in
+    let a = c₃ .args in
+    shown-refused (a .question .now) (a .work .now) (a .answer .now) (c₂ .solve .ensures) (a .room .now) (a .line) (c₁ .outcome .given .1))
     -- show-line-requires
-    (λ c κs. let a = c .before .before .before .before .before .before .before .before .before .before .before .before .before .before .args in ready (a .question .now) (a .work .now) (a .answer .now) (c .before .before .before .before .before .before .before .solve .ensures) (c .before .before .match .keys2))
+    (λ c κs.
+    let c₁ = c .before .before in let c₂ = c₁ .before .before .before .before .before in
+    let c₃ = c₂ .before .before .before .before .before .before .before in
+    let a = c₃ .args in ready (a .question .now) (a .work .now) (a .answer .now) (c₂ .solve .ensures) (c₁ .match .keys2))
     (λ c. search needs)
     (λ c. search needs)
     (λ c. search needs)
     -- returns-2
     (λ c.
-    let a = c .before .before .before .before .before .before .before .before .before .before .before .before .before .before .before .before .before .args in
-    shown-answer (a .question .now) (a .work .now) (a .answer .now) (c .before .before .before .before .before .before .before .before .before .before .solve .ensures) (c .before .before .before .before .before .match .keys2) (a .room .now) (a .line) (c .before .before .show-line .ensures)))
+    let c₁ = c .before .before in let c₂ = c₁ .before .before .before in let c₃ = c₂ .before .before .before .before .before in
+    let c₄ = c₃ .before .before .before .before .before .before .before in
+    let a = c₄ .args in
+    shown-answer (a .question .now) (a .work .now) (a .answer .now) (c₃ .solve .ensures) (c₂ .match .keys2) (a .room .now) (a .line) (c₁ .show-line .ensures)))

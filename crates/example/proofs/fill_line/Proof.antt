@@ -17,4 +17,7 @@ fill-line-spec =
     (λ c κs. search needs)
     (λ c. search needs)
     -- returns-3
-    (λ c. shown-all (c .before .before .before .before .before .before .before .before .before .before .filling-len .ensures) (c .before .before .before .before .before .before .before .before .before .if1 .left) (c .before .before .before .before .before .before .before .before .if2 .left) (c .before .before .before .before .before .before .write-table .ensures) (c .before .before .write-all .ensures)))
+    (λ c.
+    let c₁ = c .before .before in let c₂ = c₁ .before .before .before .before in let c₃ = c₂ .before .before in let c₄ = c₃ .before in
+    let c₅ = c₄ .before in
+    shown-all (c₅ .filling-len .ensures) (c₄ .if1 .left) (c₃ .if2 .left) (c₂ .write-table .ensures) (c₁ .write-all .ensures)))

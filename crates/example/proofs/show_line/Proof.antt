@@ -20,9 +20,14 @@ show-line-spec =
     (λ c κs. search needs)
     -- show-part-requires
     (λ c κs.
-    let a = c .before .before .before .before .before .before .before .before .before .before .before .pre in
-    let (p, q, r) = part-fits (c .before .before .before .before .before .before .before .word .ensures) (c .before .before .before .before .before .before .wide .ensures) (c .before .before .before .before .word2 .ensures) (c .before .before .before .wide2 .ensures) (c .before .before .word3 .ensures) (c .before .wide3 .ensures) (c .before .before .before .before .before .if1 .left) (a .1) in
+    let c₁ = c .before in let c₂ = c₁ .before in let c₃ = c₂ .before in let c₄ = c₃ .before in let c₅ = c₄ .before in let c₆ = c₅ .before in
+    let c₇ = c₆ .before in let c₈ = c₇ .before .before .before .before in
+    let a = c₈ .pre in
+    let (p, q, r) = part-fits (c₇ .word .ensures) (c₆ .wide .ensures) (c₄ .word2 .ensures) (c₃ .wide2 .ensures) (c₂ .word3 .ensures) (c₁ .wide3 .ensures) (c₅ .if1 .left) (a .1) in
     (a .0, p, q, r))
     (λ c. search needs)
     -- returns-2
-    (λ c. line-shown (c .before .before .before .before .before .before .before .before .before .before .word .ensures) (c .before .before .before .before .before .before .before .before .before .wide .ensures) (c .before .before .before .before .before .before .before .word2 .ensures) (c .before .before .before .before .before .before .wide2 .ensures) (c .before .before .before .before .before .word3 .ensures) (c .before .before .before .before .wide3 .ensures) (c .before .before .before .before .before .before .before .before .if1 .left) (c .before .before .show-part .ensures)))
+    (λ c.
+    let c₁ = c .before .before in let c₂ = c₁ .before .before in let c₃ = c₂ .before in let c₄ = c₃ .before in let c₅ = c₄ .before in
+    let c₆ = c₅ .before in let c₇ = c₆ .before in let c₈ = c₇ .before in
+    line-shown (c₈ .word .ensures) (c₇ .wide .ensures) (c₅ .word2 .ensures) (c₄ .wide2 .ensures) (c₃ .word3 .ensures) (c₂ .wide3 .ensures) (c₆ .if1 .left) (c₁ .show-part .ensures)))

@@ -17,4 +17,6 @@ show-words-spec =
     (λ c κs. search needs)
     (λ c. search needs)
     -- returns
-    (λ c. words-shown (c .before .before .before .before .before .before .before .before .wide .ensures) (c .before .before .before .before .before .before .wide2 .ensures) (c .before .before .before .before .wide3 .ensures) (c .before .before .fill-line .ensures)))
+    (λ c.
+    let c₁ = c .before .before in let c₂ = c₁ .before .before in let c₃ = c₂ .before .before in let c₄ = c₃ .before .before in
+    words-shown (c₄ .wide .ensures) (c₃ .wide2 .ensures) (c₂ .wide3 .ensures) (c₁ .fill-line .ensures)))

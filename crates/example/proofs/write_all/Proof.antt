@@ -13,4 +13,7 @@ write-all-spec =
     (λ c κs. search needs)
     (λ c. search needs)
     -- returns
-    (λ c. let p = c .before .before .before .before .before .before .before .before .before .before .before .before .before .before .pre in values-written (p .0) (p .1) (p .2) (c .before .before .before .before .before .before .before .before .before .before .write-values .ensures) (c .before .before .before .before .before .before .write-values2 .ensures) (c .before .before .write-values3 .ensures)))
+    (λ c.
+    let c₁ = c .before .before in let c₂ = c₁ .before .before .before .before in let c₃ = c₂ .before .before .before .before in
+    let c₄ = c₃ .before .before .before .before in
+    let p = c₄ .pre in values-written (p .0) (p .1) (p .2) (c₃ .write-values .ensures) (c₂ .write-values2 .ensures) (c₁ .write-values3 .ensures)))

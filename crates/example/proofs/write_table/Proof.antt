@@ -21,5 +21,8 @@ write-table-spec =
     (λ c. search needs)
     -- returns
     (λ c.
-    let p = c .before .before .before .before .before .before .before .before .before .before .before .before .before .before .before .before .before .before .before .before .before .before .before .before .pre in
-    table-written (p .1) (p .2) (p .3) (c .before .before .before .before .before .before .before .before .before .before .before .before .before .before .before .before .before .before .before .before .short .ensures) (c .before .before .before .before .before .before .before .before .before .before .before .before .before .before .before .before .before .before .before .put .ensures) (c .before .before .before .before .before .before .before .before .before .before .before .before .before .before .before .write-starts .ensures) (c .before .before .before .before .before .before .before .before .before .before .before .write-starts2 .ensures) (c .before .before .before .before .before .before .before .write-starts3 .ensures) (c .before .before .before .short2 .ensures) (c .before .before .put2 .ensures)))
+    let c₁ = c .before .before in let c₂ = c₁ .before in let c₃ = c₂ .before .before .before .before in let c₄ = c₃ .before .before .before .before in
+    let c₅ = c₄ .before .before .before .before in let c₆ = c₅ .before .before .before .before in let c₇ = c₆ .before in
+    let c₈ = c₇ .before .before .before .before in
+    let p = c₈ .pre in
+    table-written (p .1) (p .2) (p .3) (c₇ .short .ensures) (c₆ .put .ensures) (c₅ .write-starts .ensures) (c₄ .write-starts2 .ensures) (c₃ .write-starts3 .ensures) (c₂ .short2 .ensures) (c₁ .put2 .ensures)))

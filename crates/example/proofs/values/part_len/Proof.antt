@@ -32,6 +32,8 @@ part-len-spec =
     -- loop-less
     (λ c. omega arith)
     -- loop-again
-    (λ c. count-next (c .before .before .before .before .loop .inv) (c .before .before .before .loop-test .taken) (c .before .before .if1 .left) (c .word-len .ensures) (c .before .before .before .before .before .before .pre))
+    (λ c.
+    let c₁ = c .before .before in let c₂ = c₁ .before in let c₃ = c₂ .before in let c₄ = c₃ .before .before in
+    count-next (c₃ .loop .inv) (c₂ .loop-test .taken) (c₁ .if1 .left) (c .word-len .ensures) (c₄ .pre))
     -- returns-2
     (λ c. count-done (c .before .loop .inv) (c .before .before .before .pre) (c .loop-test .left)))

@@ -34,7 +34,9 @@ write-part-spec =
     -- loop-less
     (λ c. omega arith)
     -- loop-again
-    (λ c. (omega arith, writing-next (c .before .before .before .before .before .before .before .loop .inv .1) (c .before .before .before .before .before .before .loop-test .taken) (c .before .before .before .before .before .if1 .left) (c .before .before .write-word .ensures)))
+    (λ c.
+    let c₁ = c .before .before in let c₂ = c₁ .before .before .before in let c₃ = c₂ .before in let c₄ = c₃ .before in
+    (omega arith, writing-next (c₄ .loop .inv .1) (c₃ .loop-test .taken) (c₂ .if1 .left) (c₁ .write-word .ensures)))
     -- same-length-2
     (λ c. omega arith)
     -- returns-2

@@ -19,4 +19,6 @@ write-value-spec =
     (λ c d v s q w. let t = c .before .before .before .before .before .before .before .bound-to .ensures in let f = c .before .before .write-part .ensures in search (bound-laid))
     (λ c. search needs)
     -- returns-2
-    (λ c. free-laid (c .before .before .before .before .before .before .before .before .before .before .bound-to .ensures) (c .before .before .before .before .before .before .before .before .enum-told .given .1) (c .before .before .before .before .before .before .write-unsolved .ensures) (c .before .before .put .ensures)))
+    (λ c.
+    let c₁ = c .before .before in let c₂ = c₁ .before .before .before .before in let c₃ = c₂ .before .before in let c₄ = c₃ .before .before in
+    free-laid (c₄ .bound-to .ensures) (c₃ .enum-told .given .1) (c₂ .write-unsolved .ensures) (c₁ .put .ensures)))
