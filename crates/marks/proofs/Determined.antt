@@ -6,11 +6,15 @@ use Rattle.language.specs.Writing.{conjWords}
 use Rattle.language.specs.Fine.{fineConj}
 use Rattle.language.proofs.Determined.{Determined, DeterminedFor, Asks}
 use Rattle.marks.proofs.side_variable as side_variable
+use Rattle.marks.proofs.lone_word as lone_word
 use Rattle.marks.proofs.alone_side as alone_side
 use Rattle.marks.proofs.is_solved as is_solved
 
 side_variable-determined : Determined side_variable.ended side_variable.Reads.Pre side_variable.Reads.Post
 side_variable-determined κs a g p o q e d = ap (λ z. (z, o .1)) (e ∙ sym d)
+
+lone_word-determined : Determined lone_word.ended lone_word.Reads.Pre lone_word.Reads.Post
+lone_word-determined κs a g p o q e d = ap (λ z. (z, o .1)) (e ∙ sym d)
 
 alone_side-determined : Determined alone_side.ended alone_side.Reads.Pre alone_side.Reads.Post
 alone_side-determined κs a g p o q e d = ap (λ z. (z, o .1)) (e ∙ sym d)

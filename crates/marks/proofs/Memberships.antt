@@ -25,9 +25,9 @@ use Rattle.words.proofs.Parts.{part-of, drop-of, word-of}
 use Rattle.views.proofs.Literals.{next-literal}
 use Rattle.views.proofs.Members.{member-literal, or-assoc}
 use Rattle.views.proofs.Sides.{shows-finish}
-use Rattle.marks.specs.Lone.{wordOf, loneVariable}
+use Rattle.marks.specs.Lone.{wordOf, loneWord, loneVariable}
 use Rattle.marks.specs.Ranges.{Between}
-use Rattle.marks.proofs.Sides.{lone-look, lone-fine, word-some}
+use Rattle.marks.proofs.Sides.{lone-look, lone-fine, word-lone, word-some}
 
 -- whether one literal is a membership with the variable in it
 abbrev inOne : Var → Literal → Bool
@@ -119,9 +119,9 @@ module _ (k : List ℕ) (at : ℕ) (before : Conj) (h : Hedge) (R : Expr) (behin
     size = let a = ap length (q .here) ∙ length-append (exprWords R) (conjWords behind) in let b = length-drop (s .expr) k in let d = expr-some R in let e = q .end in omega arith;
   }
 
-  module _ (x : ℕ) (ex : x ≡ loneVariable (s .h .look)) where
+  module _ (x : ℕ) (ex : x ≡ loneWord (loneVariable (s .h .look))) where
     word-is : x ≡ wordOf (loneVar h)
-    word-is = ex ∙ ap loneVariable (q .hedge .look) ∙ lone-look h
+    word-is = ex ∙ ap loneWord (ap loneVariable (q .hedge .look) ∙ lone-look h) ∙ word-lone (loneVar h)
 
     pub no-lone : x ≡ 0 → false ≡ onlyMember (before ++ behind) (loneVar h)
     no-lone z = go (loneVar h) word-is

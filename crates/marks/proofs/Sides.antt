@@ -1,16 +1,20 @@
 -- A side that is one variable, occurring nowhere else; and a membership's lone variable.
-use Prim.Native.Nat.{ℕ, _+_}
+use Prim.Native.Nat.{ℕ}
 use native.Mathlib.Omega.{arith}
 use mathlib.Core.Path.{_≡_, refl, sym, ap, _∙_}
 use mathlib.Core.Bool.{Bool, true, false, not, _&&_, _||_}
 use mathlib.Core.List.{List, _++_}
 use mathlib.Core.Option.{Option, none, some}
-use lib.Dec.{leb, eqb}
+use lib.Dec.{eqb}
 use lib.ListN.{take, drop}
 use lib.Seq.{slice}
-use borrow.Author.Tests.{le-leb, lt-leb, eq-eqb, ne-eqb}
+use borrow.Author.Tests.{eq-eqb, ne-eqb}
 use Rattle.language.specs.Limits.{desk}
-use Rattle.language.specs.Kinds.{pick}
+use Rattle.language.specs.declared.TermVar.{TermVar}
+use Rattle.language.specs.declared.FunVar.{FunVar}
+use Rattle.language.specs.declared.Sym.{Sym}
+use Rattle.language.specs.declared.Name.{Name}
+use Rattle.language.specs.declared.Name.the-variants.{Symbol, Blank}
 use Rattle.language.specs.Trees.{symbol, fvar, Hedge, ε, tvar, hvar, node, Conj, Var, tv, hv, fv, holds, inConj}
 use Rattle.language.specs.Fine.{fineHedge}
 use Rattle.rules.specs.Looks.{empty}
@@ -25,17 +29,23 @@ use Rattle.plans.specs.declared.View.{View}
 use Rattle.views.specs.Variables.{variableWord, fineVar}
 use Rattle.views.proofs.Sides.{side-whole}
 use Rattle.views.proofs.Members.{member-hedge, elsewhere-sees}
-use Rattle.marks.specs.Lone.{wordOf, singleTerm, bareFunctor, sideVariable, loneVariable, aloneSide}
+use Rattle.marks.specs.Lone.{loneOf, loneWord, lone, wordOf, singleTerm, bareFunctor, sideVariable, loneVariable, aloneSide}
+use Rattle.marks.specs.declared.Lone.{Lone}
+use Rattle.marks.specs.declared.Lone.the-variants as one
 
 -- ---- what the tests of the code join to
 
-pub term-chosen : (l r : Look) (x : ℕ) (last s t : Bool) (y : ℕ) → l ≡ Term x last → s ≡ singleTerm r → t ≡ (last && s) → y ≡ pick t x 0 → y ≡ sideVariable l r
-term-chosen l r x last s t y el es et ey = ey ∙ ap (λ t. pick t x 0) (et ∙ ap (λ s. last && s) es) ∙ ap (λ l. sideVariable l r) (sym el)
+pub term-chosen : (l r : Look) (x : TermVar) (last s t : Bool) (y : Lone) → l ≡ Term x last → s ≡ singleTerm r → t ≡ (last && s) → y ≡ lone t (one.Term x) → y ≡ sideVariable l r
+term-chosen l r x last s t y el es et ey = ey ∙ ap (λ t. lone t (one.Term x)) (et ∙ ap (λ s. last && s) es) ∙ ap (λ l. sideVariable l r) (sym el)
 
-pub node-chosen : (l r : Look) (f : ℕ) (last bare a b c d : Bool) (y : ℕ) → l ≡ Node f last bare → a ≡ bareFunctor r → b ≡ (last && a) → c ≡ (bare && b)
-    → d ≡ (leb 4000 f && c) → y ≡ pick d f 0 → y ≡ sideVariable l r
-node-chosen l r f last bare a b c d y el ea eb ec ed ey =
-    ey ∙ ap (λ t. pick t f 0) (ed ∙ ap (λ t. leb 4000 f && t) (ec ∙ ap (λ t. bare && t) (eb ∙ ap (λ t. last && t) ea))) ∙ ap (λ l. sideVariable l r) (sym el)
+module _ (l r : Look) (name : Name) (last bare : Bool) (el : l ≡ Node name last bare) where
+  pub symbol-chosen : (f : Sym) → name ≡ Symbol f → one.Nothing ≡ sideVariable l r
+  symbol-chosen f e = ap (λ n. sideVariable (Node n last bare) r) (sym e) ∙ ap (λ l. sideVariable l r) (sym el)
+
+  pub blank-chosen : (f : FunVar) (a b c : Bool) (y : Lone) → name ≡ Blank f → a ≡ bareFunctor r → b ≡ (last && a) → c ≡ (bare && b) → y ≡ lone c (one.Blank f) → y ≡ sideVariable l r
+  blank-chosen f a b c y e ea eb ec ey =
+      ey ∙ ap (λ t. lone t (one.Blank f)) (ec ∙ ap (λ t. bare && t) (eb ∙ ap (λ t. last && t) ea))
+      ∙ ap (λ n. sideVariable (Node n last bare) r) (sym e) ∙ ap (λ l. sideVariable l r) (sym el)
 
 -- ---- how the hedges begin says which variable it is
 
@@ -51,30 +61,34 @@ bare-look (tvar x r) = refl
 bare-look (hvar p r) = refl
 bare-look (node f c r) = refl
 
-given-word : (b : Bool) (v : Var) → pick b (variableWord v) 0 ≡ wordOf (given b v)
-given-word true v = refl
-given-word false v = refl
+given-lone : (b : Bool) (v : Var) → lone b (loneOf (some v)) ≡ loneOf (given b v)
+given-lone true v = refl
+given-lone false v = refl
+
+pub word-lone : (m : Option Var) → loneWord (loneOf m) ≡ wordOf m
+word-lone none = refl
+word-lone (some (tv x)) = refl
+word-lone (some (hv p)) = refl
+word-lone (some (fv X)) = refl
 
 and-assoc : (a b c : Bool) → (a && (b && c)) ≡ ((a && b) && c)
 and-assoc true b c = refl
 and-assoc false b c = refl
 
-pub side-look : (l r : Hedge) → fineHedge desk l → sideVariable (lookOf l) (lookOf r) ≡ wordOf (variable l r)
-side-look ε r p = refl
-side-look (tvar x s) r p = ap (λ t. pick (empty s && t) (1000 + x .0) 0) (single-look r) ∙ given-word (empty s && isTerm r) (tv x)
-side-look (hvar q s) r p = given-word (empty s) (hv q)
-side-look (node (symbol f) c s) r p =
-    ap (λ t. pick (t && (empty c && (empty s && bareFunctor (lookOf r)))) (3000 + f .0) 0) (lt-leb 4000 (3000 + f .0) (let z = p .0 in omega arith))
-side-look (node (fvar X) c s) r p =
-    ap (λ t. pick (t && (empty c && (empty s && bareFunctor (lookOf r)))) (4000 + X .0) 0) (le-leb 4000 (4000 + X .0) (omega arith))
-    ∙ ap (λ t. pick (empty c && (empty s && t)) (4000 + X .0) 0) (bare-look r)
-    ∙ ap (λ t. pick t (4000 + X .0) 0) (and-assoc (empty c) (empty s) (isFunctor r))
-    ∙ given-word (empty c && empty s && isFunctor r) (fv X)
+pub side-look : (l r : Hedge) → sideVariable (lookOf l) (lookOf r) ≡ loneOf (variable l r)
+side-look ε r = refl
+side-look (tvar x s) r = ap (λ t. lone (empty s && t) (one.Term x)) (single-look r) ∙ given-lone (empty s && isTerm r) (tv x)
+side-look (hvar q s) r = given-lone (empty s) (hv q)
+side-look (node (symbol f) c s) r = refl
+side-look (node (fvar X) c s) r =
+    ap (λ t. lone (empty c && (empty s && t)) (one.Blank X)) (bare-look r)
+    ∙ ap (λ t. lone t (one.Blank X)) (and-assoc (empty c) (empty s) (isFunctor r))
+    ∙ given-lone (empty c && empty s && isFunctor r) (fv X)
 
-pub lone-look : (h : Hedge) → loneVariable (lookOf h) ≡ wordOf (loneVar h)
+pub lone-look : (h : Hedge) → loneVariable (lookOf h) ≡ loneOf (loneVar h)
 lone-look ε = refl
-lone-look (tvar x r) = given-word (empty r) (tv x)
-lone-look (hvar p r) = given-word (empty r) (hv p)
+lone-look (tvar x r) = given-lone (empty r) (tv x)
+lone-look (hvar p r) = given-lone (empty r) (hv p)
 lone-look (node f c r) = refl
 
 given-fine : (b : Bool) (v : Var) → fineVar desk v → Where (fineVar desk) (given b v)
@@ -107,7 +121,7 @@ given-some false a = refl
 
 -- ---- a variable's word, by what the tests of the code say
 
-module _ (k : List ℕ) (v : View) (x : ℕ) (ex : x ≡ sideVariable (v .l .look) (v .r .look)) where
+module _ (k : List ℕ) (v : View) (x : ℕ) (ex : x ≡ loneWord (sideVariable (v .l .look) (v .r .look))) where
   pub no-word : x ≡ 0 → false ≡ aloneSide k v
   unfolding aloneSide
   no-word z = rw (← ex) (ap (λ t. not t && not (member x (slice (v .r .from) (v .r .to) k) || (member x (take (v .at) k) || member x (drop (v .end) k)))) (sym (eq-eqb x 0 z)))
@@ -129,8 +143,8 @@ alone-sees {k} {v} {before} {l} {r} {behind} s =
     ap (λ x. not (eqb x 0) && not (member x (slice (v .r .from) (v .r .to) k) || (member x (take (v .at) k) || member x (drop (v .end) k)))) word-is
     ∙ go (variable l r) (side-fine l r (s .left .fine))
   where
-    word-is : sideVariable (v .l .look) (v .r .look) ≡ wordOf (variable l r)
-    word-is = ap (λ a. sideVariable a (v .r .look)) (s .left .look) ∙ ap (sideVariable (lookOf l)) (s .right .look) ∙ side-look l r (s .left .fine)
+    word-is : loneWord (sideVariable (v .l .look) (v .r .look)) ≡ wordOf (variable l r)
+    word-is = ap loneWord (ap (λ a. sideVariable a (v .r .look)) (s .left .look) ∙ ap (sideVariable (lookOf l)) (s .right .look) ∙ side-look l r) ∙ word-lone (variable l r)
 
     go : (o : Option Var) → Where (fineVar desk) o
         → (not (eqb (wordOf o) 0) && not (member (wordOf o) (slice (v .r .from) (v .r .to) k) || (member (wordOf o) (take (v .at) k) || member (wordOf o) (drop (v .end) k))))

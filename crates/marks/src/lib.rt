@@ -7,7 +7,6 @@ ghost use lib.Dec.{eqb};
 ghost use lib.ListN.{length, getD};
 ghost use lib.Seq.{slice};
 ghost use Rattle.language.specs.Limits.{desk};
-ghost use Rattle.language.specs.Kinds.{pick};
 ghost use Rattle.language.specs.Trees.{Hedge, Expr, Literal, mem, Conj, Var};
 ghost use Rattle.language.specs.Writing.{conjWords};
 ghost use Rattle.language.specs.Fine.{fineConj};
@@ -16,8 +15,15 @@ ghost use Rattle.plans.specs.Results.{member};
 ghost use Rattle.plans.specs.Views.{Shows};
 ghost use Rattle.views.specs.Variables.{variableWord, fineVar};
 ghost use Rattle.views.specs.Standing.{LiteralAt};
-ghost use Rattle.marks.specs.Lone.{singleTerm, bareFunctor, sideVariable, loneVariable, aloneSide};
+ghost use Rattle.marks.specs.Lone.{singleTerm, bareFunctor, lone, sideVariable, loneVariable, loneWord, aloneSide};
 ghost use Rattle.marks.specs.Ranges.{Between};
+use language::FunVar;
+use language::HedgeVar;
+use language::Name;
+use language::TermVar;
+use language::function_word;
+use language::run_word;
+use language::term_word;
 use plans::Look;
 use plans::Shape;
 use plans::View;
@@ -28,16 +34,24 @@ use words::elsewhere;
 use words::next_literal;
 use words::stands;
 
+// The one variable that a hedge is, by its kind.
+pub enum Lone {
+    Nothing,
+    Term(TermVar),
+    Run(HedgeVar),
+    Blank(FunVar),
+}
+
 fn and(a: bool, b: bool) -> bool
     ensures { λ r. ⌜ r ≡ (a && b) ⌝ }
 {
     if a { b } else { false }
 }
 
-fn chosen(t: bool, x: u16) -> u16
-    ensures { λ r. ⌜ r ≡ pick t x 0 ⌝ }
+fn chosen(t: bool, x: Lone) -> Lone
+    ensures { λ r. ⌜ r ≡ lone t x ⌝ }
 {
-    if t { x } else { 0 }
+    if t { x } else { Lone::Nothing }
 }
 
 fn single_term(look: Look) -> bool
@@ -62,30 +76,42 @@ fn bare_functor(look: Look) -> bool
     }
 }
 
-// The word of the variable that a side is, against the other side, or 0.
-pub fn side_variable(l: Look, r: Look) -> u16
+// The variable that a side is, against the other side.
+pub fn side_variable(l: Look, r: Look) -> Lone
     ensures { λ x. ⌜ x ≡ sideVariable l r ⌝ }
 {
     match l {
-        Look::Empty => 0,
-        Look::Term(x, last) => chosen(and(last, single_term(r)), x),
-        Look::Run(p, last) => chosen(last, p),
-        Look::Node(f, last, bare) => {
-            let blank = 4000 <= f;
-            chosen(and(blank, and(bare, and(last, bare_functor(r)))), f)
-        }
+        Look::Empty => Lone::Nothing,
+        Look::Term(x, last) => chosen(and(last, single_term(r)), Lone::Term(x)),
+        Look::Run(p, last) => chosen(last, Lone::Run(p)),
+        Look::Node(name, last, bare) => match name {
+            Name::Symbol(_) => Lone::Nothing,
+            Name::Blank(f) => chosen(and(bare, and(last, bare_functor(r))), Lone::Blank(f)),
+        },
     }
 }
 
-// The word of the variable whose membership it is, or 0.
-fn lone_variable(look: Look) -> u16
+// The variable whose membership it is.
+fn lone_variable(look: Look) -> Lone
     ensures { λ x. ⌜ x ≡ loneVariable look ⌝ }
 {
     match look {
-        Look::Empty => 0,
-        Look::Term(x, last) => chosen(last, x),
-        Look::Run(p, last) => chosen(last, p),
-        Look::Node(_, _, _) => 0,
+        Look::Empty => Lone::Nothing,
+        Look::Term(x, last) => chosen(last, Lone::Term(x)),
+        Look::Run(p, last) => chosen(last, Lone::Run(p)),
+        Look::Node(_, _, _) => Lone::Nothing,
+    }
+}
+
+// The word of the variable, or 0 where there is none.
+pub fn lone_word(x: Lone) -> usize
+    ensures { λ w. ⌜ w ≡ loneWord x ⌝ }
+{
+    match x {
+        Lone::Nothing => 0,
+        Lone::Term(x) => term_word(x),
+        Lone::Run(p) => run_word(p),
+        Lone::Blank(f) => function_word(f),
     }
 }
 
@@ -97,7 +123,7 @@ pub fn alone_side(k: &[u16], v: View) -> bool
     let r = v.r;
     let a = l.look;
     let b = r.look;
-    let x = side_variable(a, b);
+    let x = lone_word(side_variable(a, b));
     if x == 0 {
         return false;
     }
@@ -113,7 +139,7 @@ fn neither(a: bool, b: bool) -> bool
 }
 
 // Whether a word stands in the literal i..next, where that is a membership.
-fn member_at(k: &[u16], i: usize, next: usize, x: u16) -> bool
+fn member_at(k: &[u16], i: usize, next: usize, x: usize) -> bool
     requires { ⌜ i < length (now k) ⌝ }
     ensures { λ r. ⌜ r ≡ (eqb (getD (now (k .entry)) i 0) 6000 && member x (slice i next (now (k .entry)))) ⌝ }
 {
@@ -123,7 +149,7 @@ fn member_at(k: &[u16], i: usize, next: usize, x: u16) -> bool
 }
 
 // Whether a variable's word stands in a membership among the literals from one place up to another.
-fn in_members(k: &[u16], from: usize, to: usize, x: u16) -> bool
+fn in_members(k: &[u16], from: usize, to: usize, x: usize) -> bool
     requires { ⌜ to ≤ length (now k) ⌝ }
     ensures { λ r. ⌜ ((v : Var) (c behind : Conj) → fineVar desk v → x ≡ variableWord v → Between (now (k .entry)) from to c behind → r ≡ inMember v c) ⌝ }
 {
@@ -145,7 +171,7 @@ fn lone_member(k: &[u16], at: usize, s: Shape) -> bool
 {
     let h = s.h;
     let look = h.look;
-    let x = lone_variable(look);
+    let x = lone_word(lone_variable(look));
     if x == 0 {
         return false;
     }

@@ -1,7 +1,7 @@
 -- Case by case.
 use mathlib.Core.Path.{sym, ap, _∙_}
-use Rattle.marks.proofs.Sides.{term-chosen, node-chosen}
 use Rattle.marks.specs.Lone.{sideVariable}
+use Rattle.marks.proofs.Sides.{term-chosen, symbol-chosen, blank-chosen}
 use borrow.Author.Needs.{needs}
 use Rattle.marks.proofs.side_variable.Statement.{statement}
 use Rattle.marks.proofs.side_variable.Tie as tie
@@ -30,6 +30,12 @@ chosen-requires-2 c κs = search needs
 enum-known-l-3 : tie.Need-enum-known-l-3
 enum-known-l-3 c = search needs
 
+enum-told-2 : tie.Need-enum-told-2
+enum-told-2 c = search needs
+
+enum-known-name : tie.Need-enum-known-name
+enum-known-name c = search needs
+
 bare-functor-requires : tie.Need-bare-functor-requires
 bare-functor-requires c κs = search needs
 
@@ -38,9 +44,6 @@ and-requires-2 c κs = search needs
 
 and-requires-3 : tie.Need-and-requires-3
 and-requires-3 c κs = search needs
-
-and-requires-4 : tie.Need-and-requires-4
-and-requires-4 c κs = search needs
 
 chosen-requires-3 : tie.Need-chosen-requires-3
 chosen-requires-3 c κs = search needs
@@ -55,7 +58,10 @@ returns-3 : tie.Need-returns-3
 returns-3 c = c .chosen2 .ensures ∙ ap (λ l. sideVariable l (c .before .before .before .before .args .r)) (sym (c .before .before .l2 .given .1))
 
 returns-4 : tie.Need-returns-4
-returns-4 c = node-chosen _ _ _ _ _ _ _ _ _ _ (c .before .before .before .before .before .before .l3 .given .1) (c .before .before .before .before .bare-functor .ensures) (c .before .before .before .and2 .ensures) (c .before .before .and3 .ensures) (c .before .and4 .ensures) (c .chosen3 .ensures)
+returns-4 c = symbol-chosen _ _ _ _ _ (c .before .before .before .l3 .given .1) _ (c .enum-told2 .given .1)
+
+returns-5 : tie.Need-returns-5
+returns-5 c = blank-chosen _ _ _ _ _ (c .before .before .before .before .before .before .before .before .l3 .given .1) _ _ _ _ _ (c .before .before .before .before .before .name .given .1) (c .before .before .before .bare-functor .ensures) (c .before .before .and2 .ensures) (c .before .and3 .ensures) (c .chosen3 .ensures)
 
 pub side-variable-spec : {M : Type 1} → statement M
 side-variable-spec =
@@ -69,12 +75,14 @@ side-variable-spec =
     enum-known-l-2
     chosen-requires-2
     enum-known-l-3
+    enum-told-2
+    enum-known-name
     bare-functor-requires
     and-requires-2
     and-requires-3
-    and-requires-4
     chosen-requires-3
     returns
     returns-2
     returns-3
-    returns-4)
+    returns-4
+    returns-5)
