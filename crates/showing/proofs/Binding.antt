@@ -21,8 +21,9 @@ use Rattle.views.specs.Standing.{Stands, LiteralAt}
 use Rattle.views.proofs.Sides.{side-stands}
 use Rattle.views.proofs.Members.{eqb-base}
 use Rattle.words.proofs.Parts.{word-of}
-use Rattle.showing.specs.Lines.{Word, Held, held, unheld}
+use Rattle.showing.specs.Lines.{Named, Word, Held, held, unheld}
 use Rattle.showing.specs.Binding.{soleWord, BoundBy, to, free}
+use Rattle.showing.specs.declared.bindings.Variable.{Variable}
 use Rattle.showing.specs.declared.bindings.Place.{Place}
 use Rattle.showing.specs.declared.bindings.Place.the-variants.{At, Nowhere}
 use Rattle.showing.specs.declared.bindings.Bound.{Bound}
@@ -145,8 +146,8 @@ module _ {k : List ℕ} {at : ℕ} {before behind : Conj} where
 
 -- ---- the line
 
-pub bound-held : {k : List ℕ} {c : Conj} {v : Var} {x at : ℕ} {p : Place} {b : Bound} → Word v x → Held k c v p → p ≡ At at
-    → ((before : Conj) (l : Literal) (behind : Conj) (u : Var) → LiteralAt k at before l behind → Word u x → BoundBy k (binds u (solves (before ++ behind) l)) b) → BoundBy k (bound v [] c) b
+pub bound-held : {k : List ℕ} {c : Conj} {v : Var} {x : Variable} {at : ℕ} {p : Place} {b : Bound} → Named v x → Held k c v p → p ≡ At at
+    → ((before : Conj) (l : Literal) (behind : Conj) (u : Var) → LiteralAt k at before l behind → Named u x → BoundBy k (binds u (solves (before ++ behind) l)) b) → BoundBy k (bound v [] c) b
 bound-held {k} {c} {v} {x} {at} {p} {b} w (held {at = i} before l behind a e) d g =
     let z : i ≡ at = cc in
     let q : LiteralAt k at before l behind = rw z at a in

@@ -20,8 +20,9 @@ use Rattle.showing.proofs.Bodies.{words-body}
 use Rattle.showing.proofs.Laid.{laid-row, laid-as}
 use Rattle.views.specs.Standing.{Stands}
 use Rattle.words.proofs.Parts.{part-of}
-use Rattle.showing.specs.Lines.{Line, Word}
+use Rattle.showing.specs.Lines.{Named, Line}
 use Rattle.showing.specs.Binding.{BoundBy, to, free}
+use Rattle.showing.specs.declared.bindings.Variable.{Variable}
 use Rattle.showing.specs.declared.bindings.Bound.{Bound}
 use Rattle.showing.specs.declared.bindings.Bound.the-variants.{To, Free}
 use Rattle.showing.specs.Spelling.{becomes, spelled, HedgeWords}
@@ -37,8 +38,8 @@ pub single : (c : Conj) → Settled c → (x : TermVar) → unsolved c (tv x) �
 single c t x = single-sample c x (expressionOf (tv x) c) t refl
 
 -- what is told of what a variable is bound to
-abbrev pub Bounds : List ℕ → ℕ → Bound → Type 0
-Bounds k x b = (c : Conj) (v : Var) → Line k c → Word v x → BoundBy k (bound v [] c) b
+abbrev pub Bounds : List ℕ → Variable → Bound → Type 0
+Bounds k x b = (c : Conj) (v : Var) → Line k c → Named v x → BoundBy k (bound v [] c) b
 
 -- the hedge that stands there
 record There (k : List ℕ) (from until : ℕ) (m : Option Hedge) : Type 0 where
@@ -59,8 +60,8 @@ not-there : {k : List ℕ} {m : Option Hedge} {b : Bound} → BoundBy k m b → 
 not-there (to h beyond e s d) z = let y : _≡_ {A = ℕ} 0 1 = cc in absurd (omega arith)
 not-there (free e) z = e
 
-module _ {k : List ℕ} {x : ℕ} {b : Bound} (t : Bounds k x b) where
-  module _ {from until : ℕ} (z : b ≡ To from until) (c : Conj) (v : Var) (s : Line k c) (q : Settled c) (w : Word v x) where
+module _ {k : List ℕ} {x : Variable} {b : Bound} (t : Bounds k x b) where
+  module _ {from until : ℕ} (z : b ≡ To from until) (c : Conj) (v : Var) (s : Line k c) (q : Settled c) (w : Named v x) where
     part-is : slice from until k ≡ hedgeWords (there (t c v s w) z .h)
     part-is = let a = there (t c v s w) z in part-of k from until (hedgeWords (a .h)) (a .beyond) (a .stands .here) (a .end)
 
@@ -73,7 +74,7 @@ module _ {k : List ℕ} {x : ℕ} {b : Bound} (t : Bounds k x b) where
         let a = there (t c v s w) z in
         ap (λ m. completeWords (followed c v m)) (a .is) ∙ filled-words (unsolved c) (single c q) (a .h) (a .stands .fine) ∙ ap (spelled (becomes (unsolved c))) (sym part-is)
 
-  free-words : b ≡ Free → (c : Conj) (v : Var) → Line k c → Word v x → valueWords c v ≡ body (unsolved c v) ++ (0 ∷ [])
+  free-words : b ≡ Free → (c : Conj) (v : Var) → Line k c → Named v x → valueWords c v ≡ body (unsolved c v) ++ (0 ∷ [])
   unfolding valueWords
   free-words z c v s w = ap (λ m. completeWords (followed c v m)) (not-there (t c v s w) z) ∙ words-body (unsolved c v)
 
@@ -92,9 +93,9 @@ module _ {k : List ℕ} {x : ℕ} {b : Bound} (t : Bounds k x b) where
   module _ {old new : List ℕ} {at e : ℕ} where
     pub bound-laid : {from until : ℕ} → b ≡ To from until
         → ((c : Conj) → Line k c → Settled c → HedgeWords (slice from until k) → Laid old at (spelled (becomes (unsolved c)) (slice from until k)) new e)
-        → (c : Conj) (v : Var) → Line k c → Settled c → Word v x → Laid old at (valueWords c v) new e
+        → (c : Conj) (v : Var) → Line k c → Settled c → Named v x → Laid old at (valueWords c v) new e
     bound-laid z f c v s q w = laid-as (sym (bound-words z c v s q w)) (f c s q (part-words z c v s q w))
 
-    pub free-laid : {mid : List ℕ} {m : ℕ} → b ≡ Free → ((c : Conj) (v : Var) → Line k c → Word v x → Laid old at (body (unsolved c v)) mid m) → Laid mid m (0 ∷ []) new e
-        → (c : Conj) (v : Var) → Line k c → Settled c → Word v x → Laid old at (valueWords c v) new e
+    pub free-laid : {mid : List ℕ} {m : ℕ} → b ≡ Free → ((c : Conj) (v : Var) → Line k c → Named v x → Laid old at (body (unsolved c v)) mid m) → Laid mid m (0 ∷ []) new e
+        → (c : Conj) (v : Var) → Line k c → Settled c → Named v x → Laid old at (valueWords c v) new e
     free-laid z f l c v s q w = laid-as (sym (free-words z c v s w)) (laid-row (body (unsolved c v)) (0 ∷ []) (f c v s w) l)

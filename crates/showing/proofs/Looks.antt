@@ -11,8 +11,9 @@ use Rattle.plans.specs.Looks.{lookOf}
 use Rattle.plans.specs.Views.{Sees}
 use Rattle.plans.specs.declared.View.{View}
 use Rattle.views.specs.Variables.{variableWord}
-use Rattle.marks.specs.Lone.{wordOf, sideVariable}
-use Rattle.marks.proofs.Sides.{side-look}
+use Rattle.marks.specs.declared.Lone.{Lone}
+use Rattle.marks.specs.Lone.{loneWord, wordOf, sideVariable}
+use Rattle.marks.proofs.Sides.{word-lone, side-look}
 use Rattle.showing.specs.Binding.{soleWord}
 
 sole-word : (K : Conj) (r : Hedge) (m : Option Var) → isSome (alone K r m) ≡ true → wordOf m ≡ soleWord (alone K r m)
@@ -29,9 +30,9 @@ no-word (some b) e = absurd (let z : _≡_ {A = ℕ} 0 1 = cc in omega arith)
 
 module _ {k : List ℕ} {u : View} {before behind : Conj} {l r : Hedge} {t : Bool} (s : Sees k u before l r behind)
     (e : t ≡ isSome (alone (before ++ behind) r (variable l r))) where
-  pub solved-word : {x : ℕ} → t ≡ true → x ≡ sideVariable (u .l .look) (u .r .look) → x ≡ soleWord (alone (before ++ behind) r (variable l r))
-  solved-word z d =
-      d ∙ ap (λ a. sideVariable a (u .r .look)) (s .left .look) ∙ ap (sideVariable (lookOf l)) (s .right .look) ∙ side-look l r (s .left .fine)
+  pub solved-word : {x : Lone} {y : ℕ} → t ≡ true → x ≡ sideVariable (u .l .look) (u .r .look) → y ≡ loneWord x → y ≡ soleWord (alone (before ++ behind) r (variable l r))
+  solved-word z d f =
+      f ∙ ap loneWord (d ∙ ap (λ a. sideVariable a (u .r .look)) (s .left .look) ∙ ap (sideVariable (lookOf l)) (s .right .look) ∙ side-look l r) ∙ word-lone (variable l r)
       ∙ sole-word (before ++ behind) r (variable l r) (sym e ∙ z)
 
   pub unsolved-word : t ≡ false → 0 ≡ soleWord (alone (before ++ behind) r (variable l r))

@@ -2,61 +2,74 @@
 use Prim.Native.Nat.{ℕ, _+_, _*_, _-_, _<_, _≤_}
 use mathlib.Core.Path.{_≡_, refl, sym, ap, _∙_}
 use mathlib.Core.List.{List, [], _∷_}
-use mathlib.Core.Option.{none}
 use mathlib.Core.Logic.{_⊎_, inl, inr}
-use native.Mathlib.Decide.{decLt}
 use native.Mathlib.Omega.{arith}
 use lib.ListN.{length, getD, length-append}
 use lib.Seq.{slice}
-use Rattle.language.specs.Trees.{Conj, Var, fv}
+use Rattle.language.specs.declared.TermVar.{TermVar}
+use Rattle.language.specs.declared.HedgeVar.{HedgeVar}
+use Rattle.language.specs.declared.FunVar.{FunVar}
+use Rattle.language.specs.declared.Kind.{Kind}
+use Rattle.language.specs.declared.Kind.the-variants.{Term, Run, Function}
+use Rattle.language.specs.Limits.{desk}
+use Rattle.language.specs.Kinds.{kindOf}
+use Rattle.language.specs.Trees.{Conj, Var, tv, hv, fv}
+use Rattle.language.proofs.Arms.{Among, each-kind}
 use Rattle.meaning.specs.Values.{rootOf}
 use Rattle.rules.specs.Example.{defaultSymbol, sampled, unsolved}
+use Rattle.showing.specs.declared.bindings.Variable.{Variable}
+use Rattle.showing.specs.declared.bindings.Variable.the-variants as one
 use Rattle.showing.specs.Bodies.{body}
 use Rattle.showing.specs.Laid.{Laid}
 use Rattle.showing.proofs.Laid.{laid-none, laid-row, laid-as}
 use Rattle.words.proofs.Parts.{part-cons, part-none, part-past}
-use Rattle.showing.specs.Lines.{Line, Word}
-use Rattle.showing.specs.Spelling.{becomes, spelled, HedgeWord, HedgeWords}
+use Rattle.showing.specs.Lines.{Named, Line}
+use Rattle.showing.specs.Spelling.{becomesBy, becomes, spelled, HedgeWord, HedgeWords}
 use Rattle.showing.specs.Values.{Settled, UnsolvedLength, WordLength, PartLength}
-use Rattle.showing.proofs.Spelling.{becomes-below, becomes-symbol, becomes-value, becomes-blank}
+use Rattle.showing.proofs.Spelling.{becomes-as, named-term, named-run}
 
--- ---- one word
+-- ---- one word, by its kind
 
-module _ {k : List ℕ} {x : ℕ} where
-  pub length-below : x < 1000 → WordLength k x 1
-  length-below i = record { few = omega arith; each = λ c s h. ap length (sym (becomes-below (unsolved c) x i)) }
+module _ {k : List ℕ} (x : ℕ) {j : Kind} (e : j ≡ kindOf desk x) where
+  pub length-term : {n : ℕ} (y : TermVar) → j ≡ Term y → UnsolvedLength k (one.Term y) n → WordLength k x n
+  length-term y g u = record { few = u .few; each = λ c s h. u .each c (tv y) s (named-term x e y g) ∙ ap length (becomes-as x e (unsolved c) g) }
 
-  pub length-value : {n : ℕ} → 1000 ≤ x → x < 3000 → UnsolvedLength k x n → WordLength k x n
-  length-value i j u = record {
-    few = u .few;
-    each = λ c s h. let (v, w, e) = becomes-value (unsolved c) i j h in u .each c v s w ∙ ap length (sym e);
+  pub length-run : {n : ℕ} (p : HedgeVar) → j ≡ Run p → UnsolvedLength k (one.Run p) n → WordLength k x n
+  length-run p g u = record { few = u .few; each = λ c s h. u .each c (hv p) s (named-run x e p g) ∙ ap length (becomes-as x e (unsolved c) g) }
+
+  pub length-other : Among (0 ∷ 3 ∷ 4 ∷ 5 ∷ 6 ∷ 7 ∷ 8 ∷ 9 ∷ 10 ∷ 11 ∷ []) j → WordLength k x 1
+  length-other o = record {
+    few = omega arith;
+    each = λ c s h.
+        each-kind (0 ∷ 3 ∷ 4 ∷ 5 ∷ 6 ∷ 7 ∷ 8 ∷ 9 ∷ 10 ∷ 11 ∷ []) (λ i. 1 ≡ length (becomesBy (unsolved c) x i)) refl tt tt (λ f. refl) (λ X. refl) refl refl refl refl refl refl refl j o
+        ∙ ap length (becomes-as x e (unsolved c) refl);
   }
-
-  pub length-above : 3000 ≤ x → WordLength k x 1
-  length-above i = record { few = omega arith; each = λ c s h. above c h (decLt x 4000) }
-    where
-      above : (c : Conj) → HedgeWord x → Dec (x < 4000) → 1 ≡ length (becomes (unsolved c) x)
-      above c h (yes j) = ap length (sym (becomes-symbol (unsolved c) x i j))
-      above c h (no j) = let (X, e) = becomes-blank (unsolved c) (omega arith) h in ap length (sym e)
 
 -- what is told of a word that is written
 abbrev pub WroteWord : List ℕ → ℕ → List ℕ → ℕ → List ℕ → ℕ → Type 0
 WroteWord k x old at new e = (c : Conj) → Line k c → Settled c → HedgeWord x → Laid old at (becomes (unsolved c) x) new e
 
-module _ {k : List ℕ} {x : ℕ} {old new : List ℕ} {at e : ℕ} where
-  pub wrote-below : x < 1000 → Laid old at (x ∷ []) new e → WroteWord k x old at new e
-  wrote-below i l c s t h = laid-as (sym (becomes-below (unsolved c) x i)) l
+-- what is told of a variable's value that is written
+abbrev pub WroteUnsolved : List ℕ → Variable → List ℕ → ℕ → List ℕ → ℕ → Type 0
+WroteUnsolved k y old at new e = (c : Conj) (v : Var) → Line k c → Named v y → Laid old at (body (unsolved c v)) new e
 
-  pub wrote-value : 1000 ≤ x → x < 3000 → ((c : Conj) (v : Var) → Line k c → Word v x → Laid old at (body (unsolved c v)) new e) → WroteWord k x old at new e
-  wrote-value i j l c s t h = let (v, w, p) = becomes-value (unsolved c) i j h in laid-as (sym p) (l c v s w)
+module _ {k : List ℕ} (x : ℕ) {j : Kind} {old new : List ℕ} {at e : ℕ} (d : j ≡ kindOf desk x) where
+  pub wrote-term : (y : TermVar) → j ≡ Term y → WroteUnsolved k (one.Term y) old at new e → WroteWord k x old at new e
+  wrote-term y g l c s t h = laid-as (becomes-as x d (unsolved c) g) (l c (tv y) s (named-term x d y g))
 
-  pub wrote-symbol : 3000 ≤ x → x < 4000 → Laid old at (x ∷ []) new e → WroteWord k x old at new e
-  wrote-symbol i j l c s t h = laid-as (sym (becomes-symbol (unsolved c) x i j)) l
+  pub wrote-run : (p : HedgeVar) → j ≡ Run p → WroteUnsolved k (one.Run p) old at new e → WroteWord k x old at new e
+  wrote-run p g l c s t h = laid-as (becomes-as x d (unsolved c) g) (l c (hv p) s (named-run x d p g))
 
-  pub wrote-blank : {d : ℕ} → 4000 ≤ x → d ≡ 3000 + defaultSymbol .0 → Laid old at (d ∷ []) new e → WroteWord k x old at new e
-  wrote-blank {d} i z l c s t h =
-      let (X, p) = becomes-blank (unsolved c) i h in
-      laid-as (ap (λ y. y ∷ []) z ∙ ap (λ m. (3000 + rootOf (sampled (fv X) m) .0) ∷ []) (sym (t .names X)) ∙ sym p) l
+  pub wrote-blank : (X : FunVar) {w : ℕ} → j ≡ Function X → w ≡ 3000 + defaultSymbol .0 → Laid old at (w ∷ []) new e → WroteWord k x old at new e
+  wrote-blank X {w} g z l c s t h =
+      laid-as (ap (λ y. y ∷ []) z ∙ ap (λ m. (3000 + rootOf (sampled (fv X) m) .0) ∷ []) (sym (t .names X)) ∙ becomes-as x d (unsolved c) g) l
+
+  pub wrote-other : Among (0 ∷ 3 ∷ 5 ∷ 6 ∷ 7 ∷ 8 ∷ 9 ∷ 10 ∷ 11 ∷ []) j → Laid old at (x ∷ []) new e → WroteWord k x old at new e
+  wrote-other o l c s t h =
+      laid-as
+      (each-kind (0 ∷ 3 ∷ 5 ∷ 6 ∷ 7 ∷ 8 ∷ 9 ∷ 10 ∷ 11 ∷ []) (λ i. x ∷ [] ≡ becomesBy (unsolved c) x i) refl tt tt (λ f. refl) tt refl refl refl refl refl refl refl j o
+      ∙ becomes-as x d (unsolved c) refl)
+      l
 
 -- ---- a part
 

@@ -18,10 +18,11 @@ use Rattle.plans.specs.declared.Side.{Side}
 use Rattle.exprs.specs.Standing.{Here}
 use Rattle.words.specs.Places.{untilLiteral}
 use Rattle.views.specs.Variables.{variableWord}
+use Rattle.showing.specs.declared.bindings.Variable.{Variable}
 use Rattle.views.specs.Standing.{Stands, LiteralAt}
 use Rattle.words.proofs.Parts.{part-of, drop-of, word-of}
 use Rattle.views.proofs.Members.{member-hedge, member-literal}
-use Rattle.showing.specs.Lines.{Line, Word, Told, Expressed, expressed, unexpressed, Held, held, unheld, Walk}
+use Rattle.showing.specs.Lines.{varOf, Named, Line, Word, Told, Expressed, expressed, unexpressed, Held, held, unheld, Walk}
 use Rattle.showing.specs.declared.bindings.Place.the-variants.{At, Nowhere}
 use Rattle.showing.proofs.Walks.{literal-here, literal-ends, walk-literal, walk-next, walk-end}
 
@@ -89,6 +90,10 @@ module _ {k : List ℕ} {at : ℕ} {before behind : Conj} where
       record { missing = λ _. ap (λ b. pick b (some R) (expressionOf v behind)) p; there = λ z. absurd (z refl) }
 
 -- ---- on the way
+
+-- a variable by its word
+pub worded : {v : Var} {x : Variable} {w : ℕ} → Named v x → w ≡ variableWord (varOf x) → Word v w
+worded n e = record { fine = n .fine; is = e ∙ ap variableWord (n .is) }
 
 abbrev pub Seeking : Conj → Var → Conj → Conj → Type 0
 Seeking c v before behind = expressionOf v c ≡ expressionOf v behind

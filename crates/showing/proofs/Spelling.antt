@@ -1,13 +1,16 @@
 -- Each word of a hedge becomes its part of the words of the hedge filled in.
-use Prim.Native.Nat.{ℕ, _+_, _-_, _<_, _≤_}
-use mathlib.Core.Path.{_≡_, refl, sym, ap, _∙_}
+use Prim.Native.Nat.{ℕ, _+_, _<_}
+use mathlib.Core.Path.{_≡_, refl, sym, subst, ap, _∙_}
 use mathlib.Core.List.{List, [], _∷_, _++_, append-assoc, append-nil}
-use native.Mathlib.Omega.{arith}
-use lib.Dec.{leb}
-use borrow.Author.Tests.{le-leb, lt-leb}
 use Rattle.language.specs.declared.TermVar.{TermVar}
 use Rattle.language.specs.declared.HedgeVar.{HedgeVar}
 use Rattle.language.specs.declared.FunVar.{FunVar}
+use Rattle.language.specs.declared.Sym.{Sym}
+use Rattle.language.specs.declared.Kind.{Kind}
+use Rattle.language.specs.declared.Kind.the-variants.{Term, Run}
+use Rattle.language.specs.Kinds.{kindOf}
+use Rattle.language.proofs.Words.{Is, term, run, is, kind-end, kind-term, kind-run, kind-symbol, kind-function}
+use Rattle.showing.specs.declared.bindings.Variable.the-variants as one
 use Rattle.language.specs.Limits.{desk}
 use Rattle.language.specs.Trees.{Functor, symbol, fvar, Hedge, ε, tvar, hvar, node, Var, tv, hv, fv}
 use Rattle.language.specs.Writing.{functorWord, hedgeWords}
@@ -18,55 +21,51 @@ use Rattle.meaning.specs.Values.{rootOf, childrenOf}
 use Rattle.rules.specs.Example.{Values, of}
 use Rattle.showing.specs.Bodies.{body}
 use Rattle.showing.proofs.Bodies.{words-row}
-use Rattle.showing.specs.Lines.{Word}
-use Rattle.showing.specs.Spelling.{becomes, spelled, HedgeWord, ends, varies, names, HedgeWords}
+use Rattle.showing.specs.Lines.{Named}
+use Rattle.showing.specs.Spelling.{becomesBy, becomes, spelled, HedgeWord, ends, varies, names, HedgeWords}
 
--- ---- one word
+-- ---- one word, by its kind
 
-pub becomes-below : (β : Values) (x : ℕ) → x < 1000 → becomes β x ≡ x ∷ []
-unfolding becomes
-becomes-below β x i = rw (lt-leb 4000 x (omega arith), lt-leb 3000 x (omega arith), lt-leb 2000 x (omega arith), lt-leb 1000 x (omega arith))
+module _ (x : ℕ) {j : Kind} (e : j ≡ kindOf desk x) where
+  pub becomes-as : (β : Values) {i : Kind} → j ≡ i → becomesBy β x i ≡ becomes β x
+  unfolding becomes
+  becomes-as β g = ap (becomesBy β x) (sym g ∙ e)
 
-pub becomes-symbol : (β : Values) (x : ℕ) → 3000 ≤ x → x < 4000 → becomes β x ≡ x ∷ []
-unfolding becomes
-becomes-symbol β x i j = rw (lt-leb 4000 x (omega arith), le-leb 3000 x (omega arith))
+  kind-is : {i : Kind} → j ≡ i → Is desk x i
+  kind-is g = subst (Is desk x) (sym e ∙ g) (is desk x)
 
-becomes-term : (β : Values) (y : TermVar) → y .0 < 1000 → becomes β (1000 + y .0) ≡ body (β (tv y))
-unfolding becomes
-becomes-term β y i =
-    let z : 1000 + y .0 - 1000 ≡ y .0 = omega arith in
-    rw (lt-leb 4000 (1000 + y .0) (omega arith), lt-leb 3000 (1000 + y .0) (omega arith), lt-leb 2000 (1000 + y .0) (omega arith), le-leb 1000 (1000 + y .0) (omega arith))
-    (ap (λ n. body (β (tv (record { 0 = n })))) z)
+  pub named-term : (y : TermVar) → j ≡ Term y → Named (tv y) (one.Term y)
+  named-term y g = record { fine = go (kind-is g); is = refl }
+    where
+      go : Is desk x (Term y) → y .0 < desk .each
+      go (term y b f) = b
 
-becomes-run : (β : Values) (p : HedgeVar) → p .0 < 1000 → becomes β (2000 + p .0) ≡ body (β (hv p))
-unfolding becomes
-becomes-run β p i =
-    let z : 2000 + p .0 - 2000 ≡ p .0 = omega arith in
-    rw (lt-leb 4000 (2000 + p .0) (omega arith), lt-leb 3000 (2000 + p .0) (omega arith), le-leb 2000 (2000 + p .0) (omega arith))
-    (ap (λ n. body (β (hv (record { 0 = n })))) z)
+  pub named-run : (p : HedgeVar) → j ≡ Run p → Named (hv p) (one.Run p)
+  named-run p g = record { fine = go (kind-is g); is = refl }
+    where
+      go : Is desk x (Run p) → p .0 < desk .each
+      go (run p b f) = b
 
-becomes-name : (β : Values) (X : FunVar) → becomes β (4000 + X .0) ≡ (3000 + rootOf (β (fv X)) .0) ∷ []
-unfolding becomes
-becomes-name β X =
-    let z : 4000 + X .0 - 4000 ≡ X .0 = omega arith in
-    rw (le-leb 4000 (4000 + X .0) (omega arith))
-    (ap (λ n. (3000 + rootOf (β (fv (record { 0 = n }))) .0) ∷ []) z)
+module _ (β : Values) where
+  becomes-end : becomes β 0 ≡ 0 ∷ []
+  unfolding becomes
+  becomes-end = ap (becomesBy β 0) (kind-end desk)
 
--- the word of a term or a hedge variable
-pub becomes-value : {x : ℕ} (β : Values) → 1000 ≤ x → x < 3000 → HedgeWord x → (v : Var) × Word v x × (becomes β x ≡ body (β v))
-becomes-value β i j (ends e) = absurd (omega arith)
-becomes-value β i j (varies (tv y) w) = (tv y, w, ap (becomes β) (w .is) ∙ becomes-term β y (let f = w .fine in omega arith))
-becomes-value β i j (varies (hv p) w) = (hv p, w, ap (becomes β) (w .is) ∙ becomes-run β p (let f = w .fine in omega arith))
-becomes-value β i j (varies (fv X) w) = absurd (let e = w .is in omega arith)
-becomes-value β i j (names f l e) = absurd (omega arith)
+  becomes-term : (y : TermVar) → y .0 < desk .each → becomes β (1000 + y .0) ≡ body (β (tv y))
+  unfolding becomes
+  becomes-term y i = ap (becomesBy β (1000 + y .0)) (kind-term desk y i)
 
--- the word of a function variable
-pub becomes-blank : {x : ℕ} (β : Values) → 4000 ≤ x → HedgeWord x → (X : FunVar) × (becomes β x ≡ (3000 + rootOf (β (fv X)) .0) ∷ [])
-becomes-blank β i (ends e) = absurd (omega arith)
-becomes-blank β i (varies (tv y) w) = absurd (let e = w .is in let f = w .fine in omega arith)
-becomes-blank β i (varies (hv p) w) = absurd (let e = w .is in let f = w .fine in omega arith)
-becomes-blank β i (varies (fv X) w) = (X, ap (becomes β) (w .is) ∙ becomes-name β X)
-becomes-blank β i (names f l e) = absurd (omega arith)
+  becomes-run : (p : HedgeVar) → p .0 < desk .each → becomes β (2000 + p .0) ≡ body (β (hv p))
+  unfolding becomes
+  becomes-run p i = ap (becomesBy β (2000 + p .0)) (kind-run desk p i)
+
+  becomes-symbol : (f : Sym) → f .0 < desk .each → becomes β (3000 + f .0) ≡ (3000 + f .0) ∷ []
+  unfolding becomes
+  becomes-symbol f i = ap (becomesBy β (3000 + f .0)) (kind-symbol desk f i)
+
+  becomes-name : (X : FunVar) → X .0 < desk .each → becomes β (4000 + X .0) ≡ (3000 + rootOf (β (fv X)) .0) ∷ []
+  unfolding becomes
+  becomes-name X i = ap (becomesBy β (4000 + X .0)) (kind-function desk X i)
 
 -- ---- hedges
 
@@ -90,19 +89,19 @@ hedge-words (node F c r) f = (functor-word F (f .0), words-row-of (hedgeWords c)
 
 module _ (β : Values) (single : (x : TermVar) → β (tv x) ≡ tree (rootOf (β (tv x))) (childrenOf (β (tv x))) nil) where
   functor-becomes : (F : Functor) → fineFunctor desk F → becomes β (functorWord F) ≡ (3000 + fillF (of β) F .0) ∷ []
-  functor-becomes (symbol f) l = becomes-symbol β (3000 + f .0) (omega arith) (omega arith)
-  functor-becomes (fvar X) l = becomes-name β X
+  functor-becomes (symbol f) l = becomes-symbol β f l
+  functor-becomes (fvar X) l = becomes-name β X l
 
   pub filled-words : (h : Hedge) → fineHedge desk h → completeWords (fill (of β) h) ≡ spelled (becomes β) (hedgeWords h)
-  filled-words ε f = sym (ap (λ l. l ++ []) (becomes-below β 0 (omega arith)))
+  filled-words ε f = sym (ap (λ l. l ++ []) (becomes-end β))
   filled-words (tvar x r) f =
       ap (λ l. (3000 + rootOf (β (tv x)) .0) ∷ (completeWords (childrenOf (β (tv x))) ++ l)) (filled-words r (f .1))
       ∙ ap (λ l. (3000 + rootOf (β (tv x)) .0) ∷ (l ++ spelled (becomes β) (hedgeWords r))) (sym (append-nil (completeWords (childrenOf (β (tv x))))))
-      ∙ ap (λ l. l ++ spelled (becomes β) (hedgeWords r)) (sym (becomes-term β x (let g = f .0 in omega arith) ∙ ap body (single x)))
+      ∙ ap (λ l. l ++ spelled (becomes β) (hedgeWords r)) (sym (becomes-term β x (f .0) ∙ ap body (single x)))
   filled-words (hvar p r) f =
       words-row (β (hv p)) (fill (of β) r)
       ∙ ap (λ l. body (β (hv p)) ++ l) (filled-words r (f .1))
-      ∙ ap (λ l. l ++ spelled (becomes β) (hedgeWords r)) (sym (becomes-run β p (let g = f .0 in omega arith)))
+      ∙ ap (λ l. l ++ spelled (becomes β) (hedgeWords r)) (sym (becomes-run β p (f .0)))
   filled-words (node F c r) f =
       ap (λ l. (3000 + fillF (of β) F .0) ∷ (l ++ completeWords (fill (of β) r))) (filled-words c (f .1))
       ∙ ap (λ l. (3000 + fillF (of β) F .0) ∷ (spelled (becomes β) (hedgeWords c) ++ l)) (filled-words r (f .2))

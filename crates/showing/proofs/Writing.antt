@@ -16,9 +16,10 @@ use Rattle.rules.specs.Example.{example}
 use Rattle.rules.specs.Calls.{Showing, shows, denied, fitted}
 use Rattle.showing.specs.Laid.{Laid}
 use Rattle.showing.proofs.Laid.{laid-row, laid-as}
-use Rattle.showing.specs.Lines.{Line, Word}
+use Rattle.showing.specs.Lines.{Line}
 use Rattle.showing.specs.Values.{Settled}
 use Rattle.showing.specs.Rows.{Makes, valuesBy, starts, KindLength, KindStarts, KindWritten}
+use Rattle.showing.specs.declared.values.Sort.the-variants.{Terms, Runs, Functions}
 use Rattle.showing.specs.declared.values.Row.{Row}
 use Rattle.showing.specs.declared.Shown.{Shown}
 use Rattle.showing.specs.declared.Shown.the-variants.{Shows, Denied}
@@ -38,13 +39,13 @@ aHedge p = hv (record { 0 = p })
 abbrev aName : ℕ → Var
 aName X = fv (record { 0 = X })
 
-make-terms : (count : ℕ) → count ≤ desk .each → Makes aTerm 1000 count
+make-terms : (count : ℕ) → count ≤ desk .each → Makes aTerm Terms count
 make-terms count l j i = record { fine = omega arith; is = refl }
 
-make-hedges : (count : ℕ) → count ≤ desk .each → Makes aHedge 2000 count
+make-hedges : (count : ℕ) → count ≤ desk .each → Makes aHedge Runs count
 make-hedges count l j i = record { fine = omega arith; is = refl }
 
-make-names : (count : ℕ) → count ≤ desk .each → Makes aName 4000 count
+make-names : (count : ℕ) → count ≤ desk .each → Makes aName Functions count
 make-names count l j i = record { fine = omega arith; is = refl }
 
 -- ---- by the numbers that the code has
@@ -101,7 +102,7 @@ module _ {terms hedges functions : ℕ} (c : Conj) (n : Counts) (q : Counted n t
 -- ---- measured
 
 module _ {k : List ℕ} {terms hedges functions : ℕ} (ts : terms ≤ desk .each) (hs : hedges ≤ desk .each) (fs : functions ≤ desk .each) where
-  pub filling-length : {a b d : ℕ} → KindLength k 1000 terms a → KindLength k 2000 hedges b → KindLength k 4000 functions d
+  pub filling-length : {a b d : ℕ} → KindLength k Terms terms a → KindLength k Runs hedges b → KindLength k Functions functions d
       → FillingLength k terms hedges functions (terms + hedges + functions + 2 + a + b + d)
   filling-length {a} {b} {d} A B D = record {
     few = let x = A .few in let y = B .few in let z = D .few in omega arith;
@@ -116,7 +117,7 @@ module _ {k : List ℕ} {terms hedges functions : ℕ} (ts : terms ≤ desk .eac
 
   -- ---- written
 
-  pub values-written : {old one two new : List ℕ} {at i j e : ℕ} → KindWritten k 1000 terms old at one i → KindWritten k 2000 hedges one i two j → KindWritten k 4000 functions two j new e
+  pub values-written : {old one two new : List ℕ} {at i j e : ℕ} → KindWritten k Terms terms old at one i → KindWritten k Runs hedges one i two j → KindWritten k Functions functions two j new e
       → ValuesWritten k terms hedges functions old at new e
   values-written A B D = record {
     each = λ c n s t q. laid-as (sym (joined-are c n q))
@@ -125,7 +126,7 @@ module _ {k : List ℕ} {terms hedges functions : ℕ} (ts : terms ≤ desk .eac
   }
 
   pub table-written : {old zero one two three new : List ℕ} {x y m e : ℕ} {r u v : Row} → (terms + hedges + functions < 65536 → x ≡ terms + hedges + functions) → Laid old 0 (x ∷ []) zero m
-      → KindStarts k 1000 terms zero m (terms + hedges + functions + 2) one r → KindStarts k 2000 hedges one (r .to) (r .next) two u → KindStarts k 4000 functions two (u .to) (u .next) three v
+      → KindStarts k Terms terms zero m (terms + hedges + functions + 2) one r → KindStarts k Runs hedges one (r .to) (r .next) two u → KindStarts k Functions functions two (u .to) (u .next) three v
       → (v .next < 65536 → y ≡ v .next) → Laid three (v .to) (y ∷ []) new e
       → TableWritten k terms hedges functions old 0 new e
   table-written {x = x} {y = y} {r = r} {u = u} {v = v} X l A B D Y z = record {

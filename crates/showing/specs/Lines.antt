@@ -5,7 +5,7 @@ use mathlib.Core.List.{List, [], _∷_, _++_}
 use mathlib.Core.Option.{Option, none, some}
 use lib.ListN.{length}
 use Rattle.language.specs.Limits.{desk}
-use Rattle.language.specs.Trees.{Expr, Literal, Conj, Var}
+use Rattle.language.specs.Trees.{Expr, Literal, Conj, Var, tv, hv, fv}
 use Rattle.language.specs.Writing.{conjWords}
 use Rattle.language.specs.Fine.{fineConj}
 use Rattle.rules.specs.Solved.{solves}
@@ -13,6 +13,8 @@ use Rattle.rules.specs.Example.{expressionOf, binds, bound}
 use Rattle.views.specs.Variables.{variableWord, fineVar}
 use Rattle.views.specs.Standing.{LiteralAt}
 use Rattle.exprs.specs.Standing.{Here}
+use Rattle.showing.specs.declared.bindings.Variable.{Variable}
+use Rattle.showing.specs.declared.bindings.Variable.the-variants.{Term, Run, Function}
 use Rattle.showing.specs.declared.bindings.Place.{Place}
 use Rattle.showing.specs.declared.bindings.Place.the-variants.{At, Nowhere}
 
@@ -20,6 +22,17 @@ use Rattle.showing.specs.declared.bindings.Place.the-variants.{At, Nowhe
 pub record Line (k : List ℕ) (c : Conj) : Type 0 where
   pub words : k ≡ conjWords c
   pub fine : fineConj desk c
+
+-- a variable of the trees, as the code holds it
+abbrev pub varOf : Variable → Var
+varOf (Term x) = tv x
+varOf (Run p) = hv p
+varOf (Function X) = fv X
+
+-- x is v, whose number a word can have
+pub record Named (v : Var) (x : Variable) : Type 0 where
+  pub fine : fineVar desk v
+  pub is : varOf x ≡ v
 
 -- x is the word of v
 pub record Word (v : Var) (x : ℕ) : Type 0 where

@@ -1,10 +1,11 @@
 -- What a hedge's words become when its variables have values: each word by itself.
-use Prim.Native.Nat.{ℕ, _+_, _-_, _<_}
+use Prim.Native.Nat.{ℕ, _+_, _<_}
 use mathlib.Core.Path.{_≡_}
 use mathlib.Core.Bool.{Bool, true, false}
 use mathlib.Core.List.{List, [], _∷_, _++_}
-use lib.Dec.{leb}
-use Rattle.language.specs.Kinds.{pick}
+use Rattle.language.specs.declared.Kind.{Kind}
+use Rattle.language.specs.declared.Kind.the-variants.{End, Term, Run, Symbol, Function, Equation, Membership, Eps, Cat, Alt, Star, Other}
+use Rattle.language.specs.Kinds.{kindOf}
 use Rattle.language.specs.Limits.{desk}
 use Rattle.language.specs.Trees.{Var, tv, hv, fv}
 use Rattle.meaning.specs.Values.{rootOf}
@@ -13,13 +14,22 @@ use Rattle.showing.specs.Bodies.{body}
 use Rattle.showing.specs.Lines.{Word}
 
 -- a term or a hedge variable becomes its value without the 0, a function variable its symbol, any other word stays
+abbrev pub becomesBy : Values → ℕ → Kind → List ℕ
+becomesBy β x (Term y) = body (β (tv y))
+becomesBy β x (Run p) = body (β (hv p))
+becomesBy β x (Function X) = (3000 + rootOf (β (fv X)) .0) ∷ []
+becomesBy β x End = x ∷ []
+becomesBy β x (Symbol f) = x ∷ []
+becomesBy β x Equation = x ∷ []
+becomesBy β x Membership = x ∷ []
+becomesBy β x Eps = x ∷ []
+becomesBy β x Cat = x ∷ []
+becomesBy β x Alt = x ∷ []
+becomesBy β x Star = x ∷ []
+becomesBy β x Other = x ∷ []
+
 unfoldable pub becomes : Values → ℕ → List ℕ
-becomes β x =
-    pick (leb 4000 x) ((3000 + rootOf (β (fv (record { 0 = x - 4000 }))) .0) ∷ [])
-    (pick (leb 3000 x) (x ∷ [])
-    (pick (leb 2000 x) (body (β (hv (record { 0 = x - 2000 }))))
-    (pick (leb 1000 x) (body (β (tv (record { 0 = x - 1000 }))))
-    (x ∷ []))))
+becomes β x = becomesBy β x (kindOf desk x)
 
 abbrev pub spelled : (ℕ → List ℕ) → List ℕ → List ℕ
 spelled f [] = []

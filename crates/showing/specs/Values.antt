@@ -11,8 +11,9 @@ use Rattle.language.specs.declared.Sym.{Sym}
 use Rattle.language.specs.Trees.{Expr, over, Conj, Var, tv, fv}
 use Rattle.meaning.specs.Complete.{completeWords}
 use Rattle.rules.specs.Example.{expressionOf, unsolved, bound, followed}
+use Rattle.showing.specs.declared.bindings.Variable.{Variable}
 use Rattle.showing.specs.Bodies.{body}
-use Rattle.showing.specs.Lines.{Line, Word}
+use Rattle.showing.specs.Lines.{Named, Line}
 use Rattle.showing.specs.Spelling.{becomes, spelled, HedgeWord, HedgeWords}
 
 -- what no rule leaves: the expression of a term variable is a symbol's, and a function variable has none
@@ -25,9 +26,9 @@ unfoldable pub valueWords : Conj → Var → List ℕ
 valueWords c v = completeWords (followed c v (bound v [] c))
 
 -- n is the number of words of the value that v takes unsolved, without the 0
-pub record UnsolvedLength (k : List ℕ) (x n : ℕ) : Type 0 where
+pub record UnsolvedLength (k : List ℕ) (x : Variable) (n : ℕ) : Type 0 where
   pub few : n ≤ 2 * length k + 2
-  pub each : (c : Conj) (v : Var) → Line k c → Word v x → n ≡ length (body (unsolved c v))
+  pub each : (c : Conj) (v : Var) → Line k c → Named v x → n ≡ length (body (unsolved c v))
 
 -- n is the number of words that x becomes
 pub record WordLength (k : List ℕ) (x n : ℕ) : Type 0 where
@@ -40,6 +41,6 @@ pub record PartLength (k : List ℕ) (from to n : ℕ) : Type 0 where
   pub each : (c : Conj) → Line k c → HedgeWords (slice from to k) → n ≡ length (spelled (becomes (unsolved c)) (slice from to k))
 
 -- n is the number of words of a variable's value
-pub record ValueLength (k : List ℕ) (x n : ℕ) : Type 0 where
+pub record ValueLength (k : List ℕ) (x : Variable) (n : ℕ) : Type 0 where
   pub few : n ≤ 10000000000
-  pub each : (c : Conj) (v : Var) → Line k c → Settled c → Word v x → n ≡ length (valueWords c v)
+  pub each : (c : Conj) (v : Var) → Line k c → Settled c → Named v x → n ≡ length (valueWords c v)

@@ -19,6 +19,7 @@ use samples::put;
 use solver::Outcome;
 use solver::solve;
 use stack::wide;
+use values::Sort;
 use values::short;
 use values::values_len;
 use values::write_starts;
@@ -36,9 +37,9 @@ fn filling_len(k: &[u16], terms: usize, hedges: usize, functions: usize) -> usiz
     requires { ⌜ (length (now k) ≤ 65536) × (terms ≤ desk .each) × (hedges ≤ desk .each) × (functions ≤ desk .each) ⌝ }
     ensures { λ r. ⌜ FillingLength (now (k .entry)) terms hedges functions r ⌝ }
 {
-    let a = values_len(k, 1000, terms);
-    let b = values_len(k, 2000, hedges);
-    let c = values_len(k, 4000, functions);
+    let a = values_len(k, Sort::Terms, terms);
+    let b = values_len(k, Sort::Runs, hedges);
+    let c = values_len(k, Sort::Functions, functions);
     terms + hedges + functions + 2 + a + b + c
 }
 
@@ -49,9 +50,9 @@ fn write_table(k: &[u16], terms: usize, hedges: usize, functions: usize, room: &
 {
     let n = terms + hedges + functions;
     let e = put(room, 0, short(n));
-    let s = write_starts(k, 1000, terms, room, e, n + 2);
-    let t = write_starts(k, 2000, hedges, room, s.to, s.next);
-    let u = write_starts(k, 4000, functions, room, t.to, t.next);
+    let s = write_starts(k, Sort::Terms, terms, room, e, n + 2);
+    let t = write_starts(k, Sort::Runs, hedges, room, s.to, s.next);
+    let u = write_starts(k, Sort::Functions, functions, room, t.to, t.next);
     put(room, u.to, short(u.next))
 }
 
@@ -67,9 +68,9 @@ fn write_all(
     requires { ⌜ (terms ≤ desk .each) × (hedges ≤ desk .each) × (functions ≤ desk .each) ⌝ }
     ensures { λ e. ⌜ ValuesWritten (now (k .entry)) terms hedges functions (now (room .entry)) at (now (room .exit)) e ⌝ }
 {
-    let s = write_values(k, 1000, terms, room, at);
-    let t = write_values(k, 2000, hedges, room, s);
-    write_values(k, 4000, functions, room, t)
+    let s = write_values(k, Sort::Terms, terms, room, at);
+    let t = write_values(k, Sort::Runs, hedges, room, s);
+    write_values(k, Sort::Functions, functions, room, t)
 }
 
 // The example of a line, where it has room.

@@ -8,17 +8,23 @@ ghost use Rattle.language.specs.Trees.{Conj, Var};
 ghost use Rattle.rules.specs.Example.{defaultSymbol, default, unsolved};
 ghost use Rattle.showing.specs.Bodies.{body};
 ghost use Rattle.showing.specs.Laid.{Laid};
-ghost use Rattle.showing.specs.Lines.{Line, Word};
+ghost use Rattle.showing.specs.Lines.{varOf, Named, Line};
 ghost use Rattle.showing.specs.Spelling.{becomes, spelled, HedgeWord, HedgeWords, runs};
-ghost use Rattle.showing.specs.Rows.{KindLength, KindStarts, KindWritten};
+ghost use Rattle.showing.specs.Rows.{numberedOf, KindLength, KindStarts, KindWritten};
 ghost use Rattle.showing.specs.Values.{Settled, valueWords, UnsolvedLength, WordLength, PartLength, ValueLength};
 use super::bindings::Bound;
 use super::bindings::Place;
+use super::bindings::Variable;
 use super::bindings::bound_to;
 use super::bindings::expression_of;
 use super::samples::measure;
 use super::samples::put;
 use super::samples::write_sample;
+use language::FunVar;
+use language::HedgeVar;
+use language::Kind;
+use language::TermVar;
+use language::classify;
 
 // A row of offsets that is written: the place after it, and the offset that is next.
 pub struct Row {
@@ -45,23 +51,24 @@ fn default_word() -> u16
     3000
 }
 
-fn is_run(x: u16) -> bool
-    ensures { λ r. ⌜ ((v : Var) → Word v x → r ≡ runs v) ⌝ }
+fn is_run(x: Variable) -> bool
+    ensures { λ r. ⌜ r ≡ runs (varOf x) ⌝ }
 {
-    if x < 2000 {
-        return false;
+    match x {
+        Variable::Term(_) => false,
+        Variable::Run(_) => true,
+        Variable::Function(_) => false,
     }
-    x < 3000
 }
 
-fn default_len(x: u16) -> usize
-    ensures { λ r. ⌜ (r ≤ 2) × ((v : Var) → Word v x → r ≡ length (body (default v))) ⌝ }
+fn default_len(x: Variable) -> usize
+    ensures { λ r. ⌜ (r ≤ 2) × ((v : Var) → Named v x → r ≡ length (body (default v))) ⌝ }
 {
     if is_run(x) { 0 } else { 2 }
 }
 
-fn write_default(x: u16, out: &mut [u16], at: usize) -> usize
-    ensures { λ e. ⌜ ((v : Var) → Word v x → Laid (now (out .entry)) at (body (default v)) (now (out .exit)) e) ⌝ }
+fn write_default(x: Variable, out: &mut [u16], at: usize) -> usize
+    ensures { λ e. ⌜ ((v : Var) → Named v x → Laid (now (out .entry)) at (body (default v)) (now (out .exit)) e) ⌝ }
 {
     if is_run(x) {
         return at;
@@ -71,7 +78,7 @@ fn write_default(x: u16, out: &mut [u16], at: usize) -> usize
     put(out, e, 0)
 }
 
-fn unsolved_len(k: &[u16], x: u16) -> usize
+fn unsolved_len(k: &[u16], x: Variable) -> usize
     ensures { λ r. ⌜ UnsolvedLength (now (k .entry)) x r ⌝ }
 {
     let p = expression_of(k, x);
@@ -84,8 +91,8 @@ fn unsolved_len(k: &[u16], x: u16) -> usize
     }
 }
 
-fn write_unsolved(k: &[u16], x: u16, out: &mut [u16], at: usize) -> usize
-    ensures { λ e. ⌜ ((c : Conj) (v : Var) → Line (now (k .entry)) c → Word v x → Laid (now (out .entry)) at (body (unsolved c v)) (now (out .exit)) e) ⌝ }
+fn write_unsolved(k: &[u16], x: Variable, out: &mut [u16], at: usize) -> usize
+    ensures { λ e. ⌜ ((c : Conj) (v : Var) → Line (now (k .entry)) c → Named v x → Laid (now (out .entry)) at (body (unsolved c v)) (now (out .exit)) e) ⌝ }
 {
     let p = expression_of(k, x);
     match p {
@@ -103,29 +110,25 @@ fn write_unsolved(k: &[u16], x: u16, out: &mut [u16], at: usize) -> usize
 fn word_len(k: &[u16], x: u16) -> usize
     ensures { λ r. ⌜ WordLength (now (k .entry)) x r ⌝ }
 {
-    if x < 1000 {
-        return 1;
+    match classify(x) {
+        Kind::Term(y) => unsolved_len(k, Variable::Term(y)),
+        Kind::Run(p) => unsolved_len(k, Variable::Run(p)),
+        _ => 1,
     }
-    if x < 3000 {
-        return unsolved_len(k, x);
-    }
-    1
 }
 
 fn write_word(k: &[u16], x: u16, out: &mut [u16], at: usize) -> usize
     ensures { λ e. ⌜ ((c : Conj) → Line (now (k .entry)) c → Settled c → HedgeWord x → Laid (now (out .entry)) at (becomes (unsolved c) x) (now (out .exit)) e) ⌝ }
 {
-    if x < 1000 {
-        return put(out, at, x);
+    match classify(x) {
+        Kind::Term(y) => write_unsolved(k, Variable::Term(y), out, at),
+        Kind::Run(p) => write_unsolved(k, Variable::Run(p), out, at),
+        Kind::Function(_) => {
+            let d = default_word();
+            put(out, at, d)
+        }
+        _ => put(out, at, x),
     }
-    if x < 3000 {
-        return write_unsolved(k, x, out, at);
-    }
-    if x < 4000 {
-        return put(out, at, x);
-    }
-    let d = default_word();
-    put(out, at, d)
 }
 
 // How many words a part becomes.
@@ -163,7 +166,7 @@ fn write_part(k: &[u16], from: usize, to: usize, out: &mut [u16], at: usize) -> 
 // ---- the value of a variable
 
 // How many words the value of a variable has.
-fn value_len(k: &[u16], x: u16) -> usize
+fn value_len(k: &[u16], x: Variable) -> usize
     requires { ⌜ length (now k) ≤ 65536 ⌝ }
     ensures { λ r. ⌜ ValueLength (now (k .entry)) x r ⌝ }
 {
@@ -174,8 +177,8 @@ fn value_len(k: &[u16], x: u16) -> usize
     }
 }
 
-fn write_value(k: &[u16], x: u16, out: &mut [u16], at: usize) -> usize
-    ensures { λ e. ⌜ ((c : Conj) (v : Var) → Line (now (k .entry)) c → Settled c → Word v x → Laid (now (out .entry)) at (valueWords c v) (now (out .exit)) e) ⌝ }
+fn write_value(k: &[u16], x: Variable, out: &mut [u16], at: usize) -> usize
+    ensures { λ e. ⌜ ((c : Conj) (v : Var) → Line (now (k .entry)) c → Settled c → Named v x → Laid (now (out .entry)) at (valueWords c v) (now (out .exit)) e) ⌝ }
 {
     let b = bound_to(k, x);
     match b {
@@ -187,19 +190,35 @@ fn write_value(k: &[u16], x: u16, out: &mut [u16], at: usize) -> usize
     }
 }
 
-// ---- the values of the variables of one kind, whose words begin at `base`
+// ---- the values of the variables of one kind
+
+pub enum Sort {
+    Terms,
+    Runs,
+    Functions,
+}
+
+// The variable of a kind with a number.
+fn numbered(of: Sort, j: usize) -> Variable
+    ensures { λ x. ⌜ (j < 65536 → x ≡ numberedOf of j) ⌝ }
+{
+    let n = short(j);
+    match of {
+        Sort::Terms => Variable::Term(TermVar(n)),
+        Sort::Runs => Variable::Run(HedgeVar(n)),
+        Sort::Functions => Variable::Function(FunVar(n)),
+    }
+}
 
 // How many words they have together.
-pub fn values_len(k: &[u16], base: u16, count: usize) -> usize
-    requires { ⌜ (length (now k) ≤ 65536) × (base ≤ 4000) × (count ≤ desk .each) ⌝ }
-    ensures { λ r. ⌜ KindLength (now (k .entry)) base count r ⌝ }
+pub fn values_len(k: &[u16], of: Sort, count: usize) -> usize
+    requires { ⌜ (length (now k) ≤ 65536) × (count ≤ desk .each) ⌝ }
+    ensures { λ r. ⌜ KindLength (now (k .entry)) of count r ⌝ }
 {
-    let mut x = base;
     let mut j: usize = 0;
     let mut n: usize = 0;
     while j < count {
-        n += value_len(k, x);
-        x += 1;
+        n += value_len(k, numbered(of, j));
         j += 1;
     }
     n
@@ -208,39 +227,35 @@ pub fn values_len(k: &[u16], base: u16, count: usize) -> usize
 // Writes where each begins, the first at `offset`; the answer has the place where the next would begin.
 pub fn write_starts(
     k: &[u16],
-    base: u16,
+    of: Sort,
     count: usize,
     out: &mut [u16],
     at: usize,
     offset: usize,
 ) -> Row
-    requires { ⌜ (length (now k) ≤ 65536) × (base ≤ 4000) × (count ≤ desk .each) × (offset ≤ 4 * (10000000000 * desk .each)) ⌝ }
-    ensures { λ r. ⌜ KindStarts (now (k .entry)) base count (now (out .entry)) at offset (now (out .exit)) r ⌝ }
+    requires { ⌜ (length (now k) ≤ 65536) × (count ≤ desk .each) × (offset ≤ 4 * (10000000000 * desk .each)) ⌝ }
+    ensures { λ r. ⌜ KindStarts (now (k .entry)) of count (now (out .entry)) at offset (now (out .exit)) r ⌝ }
 {
-    let mut x = base;
     let mut j: usize = 0;
     let mut e = at;
     let mut next = offset;
     while j < count {
         e = put(out, e, short(next));
-        next += value_len(k, x);
-        x += 1;
+        next += value_len(k, numbered(of, j));
         j += 1;
     }
     Row { to: e, next }
 }
 
 // Writes them in a row.
-pub fn write_values(k: &[u16], base: u16, count: usize, out: &mut [u16], at: usize) -> usize
-    requires { ⌜ (base ≤ 4000) × (count ≤ desk .each) ⌝ }
-    ensures { λ e. ⌜ KindWritten (now (k .entry)) base count (now (out .entry)) at (now (out .exit)) e ⌝ }
+pub fn write_values(k: &[u16], of: Sort, count: usize, out: &mut [u16], at: usize) -> usize
+    requires { ⌜ (count ≤ desk .each) ⌝ }
+    ensures { λ e. ⌜ KindWritten (now (k .entry)) of count (now (out .entry)) at (now (out .exit)) e ⌝ }
 {
-    let mut x = base;
     let mut j: usize = 0;
     let mut e = at;
     while j < count {
-        e = write_value(k, x, out, e);
-        x += 1;
+        e = write_value(k, numbered(of, j), out, e);
         j += 1;
     }
     e

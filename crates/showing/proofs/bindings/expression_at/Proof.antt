@@ -1,6 +1,6 @@
 -- The literal at a place shows a variable's expression if it is a membership in whose hedge the variable's word stands.
 use borrow.Author.Needs.{needs}
-use Rattle.showing.proofs.Places.{shown-other, shown-held, shown-unheld}
+use Rattle.showing.proofs.Places.{worded, shown-other, shown-held, shown-unheld}
 use Rattle.showing.proofs.bindings.expression_at.Statement.{statement}
 use Rattle.showing.proofs.bindings.expression_at.Tie as tie
 
@@ -16,7 +16,8 @@ expression-at-spec =
     (λ c κs. search needs)
     (λ c. search needs)
     (λ c κs. search needs)
+    (λ c κs. search needs)
     -- returns-2
-    (λ c before l behind v a w. search (shown-held))
+    (λ c before l behind v a n. let w = worded n (c .before .before .word-of .ensures) in search (shown-held))
     -- returns-3
-    (λ c before l behind v a w. search (shown-unheld)))
+    (λ c before l behind v a n. let w = worded n (c .before .before .word-of .ensures) in search (shown-unheld)))

@@ -5,14 +5,14 @@ use borrow.Author.Needs.{needs}
 use native.Mathlib.Omega.{arith}
 use lib.ListN.{length}
 use Rattle.language.specs.Trees.{Conj, Var}
-use Rattle.showing.specs.Lines.{Line, Word, Walk}
+use Rattle.showing.specs.Lines.{Named, Line, Walk}
 use Rattle.showing.proofs.Walks.{walk-start}
-use Rattle.showing.proofs.Places.{Seeking, expressed-here, seeking-on, expressed-nowhere}
+use Rattle.showing.proofs.Places.{worded, Seeking, expressed-here, seeking-on, expressed-nowhere}
 use Rattle.showing.proofs.bindings.expression_of.Statement.{statement}
 use Rattle.showing.proofs.bindings.expression_of.Tie as tie
 
 abbrev Inv-loop : tie.InvT-loop
-Inv-loop k x at₀ at = (c : Conj) (v : Var) → Line k c → Word v x → Walk k at c (Seeking c v)
+Inv-loop k x at₀ at = (c : Conj) (v : Var) → Line k c → Named v x → Walk k at c (Seeking c v)
 
 abbrev μ-loop : tie.MeasureT-loop
 μ-loop k x at₀ at = length k - at
@@ -28,12 +28,12 @@ expression-of-spec =
     -- expression-at-requires
     (λ c κs. search needs)
     -- returns
-    (λ c d v s w. expressed-here s w (c .before .before .before .loop .inv d v s w) (c .before .before .loop-test .taken) (λ b l e a. c .before .expression-at .ensures b l e v a w) (c .if1 .taken))
+    (λ c d v s w. expressed-here s (worded w refl) (c .before .before .before .loop .inv d v s w) (c .before .before .loop-test .taken) (λ b l e a. c .before .expression-at .ensures b l e v a w) (c .if1 .taken))
     -- next-literal-requires
     (λ c κs. search needs)
     -- loop-less
     (λ c. omega arith)
     -- loop-again
-    (λ c d v s w. seeking-on s w (c .before .before .before .before .loop .inv d v s w) (c .before .before .before .loop-test .taken) (λ b l e a. c .before .before .expression-at .ensures b l e v a w) (c .before .if1 .left) (c .next-literal .ensures))
+    (λ c d v s w. seeking-on s (worded w refl) (c .before .before .before .before .loop .inv d v s w) (c .before .before .before .loop-test .taken) (λ b l e a. c .before .before .expression-at .ensures b l e v a w) (c .before .if1 .left) (c .next-literal .ensures))
     -- returns-2
-    (λ c d v s w. expressed-nowhere s w (c .before .loop .inv d v s w) (c .loop-test .left)))
+    (λ c d v s w. expressed-nowhere s (worded w refl) (c .before .loop .inv d v s w) (c .loop-test .left)))

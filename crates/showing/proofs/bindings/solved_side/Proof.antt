@@ -12,7 +12,8 @@ solved-side-spec =
     (tie.spec
     (λ c κs. search needs)
     (λ c κs. search needs)
+    (λ c κs. search needs)
     -- returns
-    (λ c before l r behind s. solved-word s (c .before .before .before .before .alone-side .ensures ∙ alone-sees s) (c .before .before .before .if1 .taken) (c .side-variable .ensures))
+    (λ c before l r behind s. solved-word s (c .before .before .before .before .before .alone-side .ensures ∙ alone-sees s) (c .before .before .before .before .if1 .taken) (c .before .side-variable .ensures) (c .lone-word .ensures))
     -- returns-2
     (λ c before l r behind s. unsolved-word s (c .before .alone-side .ensures ∙ alone-sees s) (c .if1 .left)))

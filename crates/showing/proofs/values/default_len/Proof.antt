@@ -1,7 +1,7 @@
 -- A default is two words, or none for a hedge variable.
 use borrow.Author.Needs.{needs}
 use native.Mathlib.Omega.{arith}
-use Rattle.showing.proofs.Unsolved.{default-none, default-two}
+use Rattle.showing.proofs.Unsolved.{runs-named, default-none, default-two}
 use Rattle.showing.proofs.values.default_len.Statement.{statement}
 use Rattle.showing.proofs.values.default_len.Tie as tie
 
@@ -10,5 +10,5 @@ default-len-spec =
     tie.close
     (tie.spec
     (λ c κs. search needs)
-    (λ c. (omega arith, default-none (c .before .is-run .ensures) (c .if1 .taken)))
-    (λ c. (omega arith, default-two (c .before .is-run .ensures) (c .if1 .left))))
+    (λ c. (omega arith, default-none (runs-named (c .before .is-run .ensures)) (c .if1 .taken)))
+    (λ c. (omega arith, default-two (runs-named (c .before .is-run .ensures)) (c .if1 .left))))

@@ -1,6 +1,5 @@
 -- The values of one kind are measured one by one.
-use Prim.Native.Nat.{_+_, _-_}
-use mathlib.Core.Path.{_≡_}
+use Prim.Native.Nat.{_-_}
 use borrow.Author.Needs.{needs}
 use native.Mathlib.Omega.{arith}
 use Rattle.showing.proofs.Rows.{Summed, summed-start, summed-next, summed-done}
@@ -8,10 +7,10 @@ use Rattle.showing.proofs.values.values_len.Statement.{statement}
 use Rattle.showing.proofs.values.values_len.Tie as tie
 
 abbrev Inv-loop : tie.InvT-loop
-Inv-loop k base count x₀ j₀ n₀ x j n = (x ≡ base + j) × Summed k base count j n
+Inv-loop k of count j₀ n₀ j n = Summed k of count j n
 
 abbrev μ-loop : tie.MeasureT-loop
-μ-loop k base count x₀ j₀ n₀ x j n = count - j
+μ-loop k of count j₀ n₀ j n = count - j
 
 pub values-len-spec : {M : Type 1} → statement M
 values-len-spec =
@@ -20,17 +19,16 @@ values-len-spec =
     Inv-loop
     μ-loop
     -- loop-holds
-    (λ c. (omega arith, summed-start))
+    (λ c. summed-start)
+    (λ c κs. search needs)
     (λ c κs. search needs)
     -- add-n
-    (λ c. let f = c .before .before .loop .inv .1 .few in let g = c .value-len .ensures .few in omega arith)
-    -- add-x
-    (λ c. omega arith)
+    (λ c. let f = c .before .before .before .loop .inv .few in let g = c .value-len .ensures .few in omega arith)
     -- add-j
     (λ c. omega arith)
     -- loop-less
     (λ c. omega arith)
     -- loop-again
-    (λ c. (omega arith, summed-next (c .before .before .loop .inv .1) (c .before .before .loop .inv .0) (c .before .loop-test .taken) (c .value-len .ensures)))
+    (λ c. let p = c .before .before .before .before .before .pre .1 in let t = c .before .before .loop-test .taken in summed-next (c .before .before .before .loop .inv) (c .before .numbered .ensures (omega arith)) t (c .value-len .ensures))
     -- returns
-    (λ c. summed-done (c .before .loop .inv .1) (c .before .before .before .pre .2) (c .loop-test .left)))
+    (λ c. summed-done (c .before .loop .inv) (c .before .before .before .pre .1) (c .loop-test .left)))

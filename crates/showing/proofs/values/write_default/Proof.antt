@@ -1,6 +1,6 @@
 -- A default is written word by word.
 use borrow.Author.Needs.{needs}
-use Rattle.showing.proofs.Unsolved.{default-empty, default-laid}
+use Rattle.showing.proofs.Unsolved.{runs-named, default-empty, default-laid}
 use Rattle.showing.proofs.values.write_default.Statement.{statement}
 use Rattle.showing.proofs.values.write_default.Tie as tie
 
@@ -10,10 +10,10 @@ write-default-spec =
     (tie.spec
     (λ c κs. search needs)
     -- returns
-    (λ c. default-empty (c .before .is-run .ensures) (c .if1 .taken))
+    (λ c. default-empty (runs-named (c .before .is-run .ensures)) (c .if1 .taken))
     (λ c κs. search needs)
     (λ c κs. search needs)
     (λ c κs. search needs)
     (λ c. search needs)
     -- returns-2
-    (λ c. default-laid (c .before .before .before .before .before .before .before .before .before .before .is-run .ensures) (c .before .before .before .before .before .before .before .before .before .if1 .left) (c .before .before .before .before .before .before .before .before .default-word .ensures) (c .before .before .before .before .before .before .put .ensures) (c .before .before .put2 .ensures)))
+    (λ c. default-laid (runs-named (c .before .before .before .before .before .before .before .before .before .before .is-run .ensures)) (c .before .before .before .before .before .before .before .before .before .if1 .left) (c .before .before .before .before .before .before .before .before .default-word .ensures) (c .before .before .before .before .before .before .put .ensures) (c .before .before .put2 .ensures)))

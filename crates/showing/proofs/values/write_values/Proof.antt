@@ -1,5 +1,5 @@
 -- The values of one kind are written one by one: what is still to come, written from here on, completes the row.
-use Prim.Native.Nat.{_+_, _-_}
+use Prim.Native.Nat.{_-_}
 use mathlib.Core.Path.{_≡_, refl}
 use borrow.Author.Needs.{needs}
 use native.Mathlib.Omega.{arith}
@@ -9,10 +9,10 @@ use Rattle.showing.proofs.values.write_values.Statement.{statement}
 use Rattle.showing.proofs.values.write_values.Tie as tie
 
 abbrev Inv-loop : tie.InvT-loop
-Inv-loop k base count out₀ at x₀ j₀ e₀ out x j e = (x ≡ base + j) × (length out ≡ length out₀) × Written k base count out₀ at j out e
+Inv-loop k of count out₀ at j₀ e₀ out j e = (length out ≡ length out₀) × Written k of count out₀ at j out e
 
 abbrev μ-loop : tie.MeasureT-loop
-μ-loop k base count out₀ at x₀ j₀ e₀ out x j e = count - j
+μ-loop k of count out₀ at j₀ e₀ out j e = count - j
 
 pub write-values-spec : {M : Type 1} → statement M
 write-values-spec =
@@ -21,17 +21,16 @@ write-values-spec =
     Inv-loop
     μ-loop
     -- loop-holds
-    (λ c. (omega arith, refl, written-start))
+    (λ c. (refl, written-start))
     (λ c κs. search needs)
-    -- add-x
-    (λ c. omega arith)
+    (λ c κs. search needs)
     -- add-j
     (λ c. omega arith)
     -- loop-less
     (λ c. omega arith)
     -- loop-again
-    (λ c. (omega arith, omega arith, written-next (c .before .before .before .before .before .loop .inv .2) (c .before .before .before .before .before .loop .inv .0) (c .before .before .before .before .loop-test .taken) (c .before .before .write-value .ensures)))
+    (λ c. let p = c .before .before .before .before .before .before .before .before .before .pre in let t = c .before .before .before .before .before .loop-test .taken in (omega arith, written-next (c .before .before .before .before .before .before .loop .inv .1) (c .before .before .before .before .numbered .ensures (omega arith)) t (c .before .before .write-value .ensures)))
     -- same-length
     (λ c. omega arith)
     -- returns
-    (λ c. written-done (c .before .loop .inv .2) (c .loop-test .left)))
+    (λ c. written-done (c .before .loop .inv .1) (c .loop-test .left)))

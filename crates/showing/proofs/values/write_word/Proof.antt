@@ -1,6 +1,6 @@
 -- What a word becomes is written: a variable's value, or one word.
 use borrow.Author.Needs.{needs}
-use Rattle.showing.proofs.Parts.{wrote-below, wrote-value, wrote-symbol, wrote-blank}
+use Rattle.showing.proofs.Parts.{wrote-term, wrote-run, wrote-blank, wrote-other}
 use Rattle.showing.proofs.values.write_word.Statement.{statement}
 use Rattle.showing.proofs.values.write_word.Tie as tie
 
@@ -10,18 +10,22 @@ write-word-spec =
     (tie.spec
     (λ c κs. search needs)
     (λ c. search needs)
-    -- returns
-    (λ c. search (wrote-below))
     (λ c κs. search needs)
+    (λ c. search needs)
+    (λ c κs. search needs)
+    (λ c. search needs)
+    (λ c κs. search needs)
+    (λ c κs. search needs)
+    (λ c κs. search needs)
+    (λ c. search needs)
+    -- returns
+    (λ c. wrote-term _ (c .before .before .before .before .before .before .before .classify .ensures) _ (c .before .before .before .before .before .y .given .1) (c .before .before .write-unsolved .ensures))
     (λ c. search needs)
     -- returns-2
-    (λ c. search (wrote-value))
-    (λ c κs. search needs)
+    (λ c. wrote-run _ (c .before .before .before .before .before .before .before .classify .ensures) _ (c .before .before .before .before .before .p .given .1) (c .before .before .write-unsolved2 .ensures))
     (λ c. search needs)
     -- returns-3
-    (λ c. search (wrote-symbol))
-    (λ c κs. search needs)
-    (λ c κs. search needs)
+    (λ c. wrote-blank _ (c .before .before .before .before .before .before .before .classify .ensures) _ (c .before .before .before .before .before .enum-told .given .1) (c .before .before .before .before .default-word .ensures) (c .before .before .put .ensures))
     (λ c. search needs)
     -- returns-4
-    (λ c. search (wrote-blank)))
+    (λ c. wrote-other _ (c .before .before .before .before .before .classify .ensures) (c .before .before .before .before .match .keys4) (c .before .before .put2 .ensures)))
