@@ -13,7 +13,16 @@ use plans::Ways;
 use plans::few;
 use plans::full;
 use plans::inner;
-use rules::places::{AT_R2, AT_M1, AT_M2, AT_M3, AT_M4, AT_M5, AT_M6, AT_M7, AT_M10, AT_M11};
+use rules::places::AT_M1;
+use rules::places::AT_M2;
+use rules::places::AT_M3;
+use rules::places::AT_M4;
+use rules::places::AT_M5;
+use rules::places::AT_M6;
+use rules::places::AT_M7;
+use rules::places::AT_M10;
+use rules::places::AT_M11;
+use rules::places::AT_R2;
 
 // A plan without a piece.
 fn bare(ways: Ways) -> Plan
