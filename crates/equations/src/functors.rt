@@ -19,9 +19,15 @@ use language::function_word;
 use plans::Look;
 use plans::Side;
 use plans::View;
+use rules::places::AT_D0;
+use rules::places::AT_D2;
+use rules::places::AT_E5;
+use rules::places::AT_E6;
+use rules::places::AT_F3;
+use rules::places::AT_R1;
+use rules::places::NO_RULE;
 use words::elsewhere;
 use words::same_part;
-use rules::places::{AT_R1, AT_F3, AT_D2, AT_D0, AT_E5, AT_E6, NO_RULE};
 
 // X() = F(): X in the others, and F too where it is a variable.
 fn both_elsewhere(k: &[u16], v: View, f: FunVar, g: Name) -> bool

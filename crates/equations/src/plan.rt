@@ -19,10 +19,20 @@ use plans::Ways;
 use plans::few;
 use plans::full;
 use plans::inner;
+use rules::places::AT_D0;
+use rules::places::AT_D2;
+use rules::places::AT_DEL1;
+use rules::places::AT_DEL3;
+use rules::places::AT_E1;
+use rules::places::AT_E2;
+use rules::places::AT_E3;
+use rules::places::AT_E4;
+use rules::places::AT_E5;
+use rules::places::AT_E6;
+use rules::places::AT_R1;
 use views::all_terms;
 use views::inside;
 use views::up_to;
-use rules::places::{AT_R1, AT_DEL1, AT_DEL3, AT_D2, AT_D0, AT_E1, AT_E2, AT_E3, AT_E4, AT_E5, AT_E6};
 
 // The literal is removed.
 fn plan_r1(v: View) -> Plan

@@ -16,6 +16,14 @@ use language::run_word;
 use plans::Look;
 use plans::Side;
 use plans::View;
+use rules::places::AT_DEL1;
+use rules::places::AT_DEL3;
+use rules::places::AT_E2;
+use rules::places::AT_E3;
+use rules::places::AT_E4;
+use rules::places::AT_F2;
+use rules::places::AT_R1;
+use rules::places::NO_RULE;
 use views::all_terms;
 use views::has_term;
 use views::inside;
@@ -23,7 +31,6 @@ use views::up_to;
 use words::elsewhere;
 use words::same_part;
 use words::stands;
-use rules::places::{AT_R1, AT_F2, AT_DEL1, AT_DEL3, AT_E2, AT_E3, AT_E4, NO_RULE};
 
 // Where the right side is one hedge variable, it is in the others too.
 fn too_elsewhere(k: &[u16], v: View) -> bool

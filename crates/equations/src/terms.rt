@@ -17,11 +17,16 @@ use language::term_word;
 use plans::Look;
 use plans::Side;
 use plans::View;
+use rules::places::AT_D2;
+use rules::places::AT_E1;
+use rules::places::AT_F1;
+use rules::places::AT_F4;
+use rules::places::AT_R1;
+use rules::places::NO_RULE;
 use views::has_term;
 use views::under;
 use words::elsewhere;
 use words::same_part;
-use rules::places::{AT_R1, AT_F1, AT_F4, AT_D2, AT_E1, NO_RULE};
 
 // The left side is empty: R1, F4.
 pub fn rank_empty(k: &[u16], v: View) -> usize
@@ -68,14 +73,7 @@ fn rank_variables(k: &[u16], v: View, x: TermVar, z: TermVar) -> usize
 }
 
 // Both sides begin with a term variable: R1, F1, D2, E1.
-fn rank_term_term(
-    k: &[u16],
-    v: View,
-    x: TermVar,
-    lone: bool,
-    z: TermVar,
-    more: bool,
-) -> usize
+fn rank_term_term(k: &[u16], v: View, x: TermVar, lone: bool, z: TermVar, more: bool) -> usize
     ensures { λ n. ⌜ ((s t : Hedge) → lone ≡ empty s → more ≡ empty t → Ranks (now (k .entry)) v (tvar x s) (tvar z t) n) ⌝ }
 {
     let l = v.l;

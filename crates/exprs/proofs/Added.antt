@@ -10,7 +10,8 @@ use lib.ListN.{length, take, drop, set, length-append, length-drop, drop-of-leng
 use lib.Seq.{sets, slice, length-sets, sets-eq, drop-at, length-take-le, drop-set-lt}
 use Rattle.language.specs.Kinds.{pick}
 use Rattle.language.specs.Limits.{desk}
-use Rattle.plans.specs.Sizes.{framed, Short, grown, sizedFrom, sized}
+use Rattle.frames.specs.Frames.{frame, frameOf, framed}
+use Rattle.plans.specs.Sizes.{Short, grown, sizedFrom, sized}
 use Rattle.plans.specs.declared.Shape.{Shape}
 use Rattle.plans.specs.declared.Size.{Size}
 use Rattle.plans.specs.declared.Size.the-variants.{Fits, Over}
@@ -169,11 +170,11 @@ pub counted-over : {size : Size} (l : ℕ) → size ≡ Over → Over ≡ counte
 counted-over l e = sym (ap (λ s. counted s l) e)
 
 module _ {size : Size} {l n : ℕ} (e : size ≡ Fits n) where
-  pub counted-long : 1024 < l → Over ≡ counted size l
-  counted-long h = sym (ap (λ s. counted s l) e ∙ ap (λ b. pick b (Fits (grown n l)) Over) (lt-leb l 1024 h))
+  pub counted-long : desk .question < l → Over ≡ counted size l
+  counted-long h = sym (ap (λ s. counted s l) e ∙ ap (λ b. pick b (Fits (grown n l)) Over) (lt-leb l (desk .question) h))
 
-  pub counted-more : {m : ℕ} → l ≤ 1024 → m ≡ grown n l → Fits m ≡ counted size l
-  counted-more h g = sym (ap (λ s. counted s l) e ∙ ap (λ b. pick b (Fits (grown n l)) Over) (le-leb l 1024 h) ∙ ap Fits (sym g))
+  pub counted-more : {m : ℕ} → l ≤ desk .question → m ≡ grown n l → Fits m ≡ counted size l
+  counted-more h g = sym (ap (λ s. counted s l) e ∙ ap (λ b. pick b (Fits (grown n l)) Over) (le-leb l (desk .question) h) ∙ ap Fits (sym g))
 
 words-length : (k : List ℕ) (s : Shape) (p : Spot) (ws : List ℕ) → length ws ≡ p .words → length (resultWords k s p ws) ≡ resultLength k s p
 unfolding resultWords resultLength
@@ -188,17 +189,17 @@ unfolding resultLength
 words-fewer k s p = omega arith
 
 module _ {k : List ℕ} {s : Shape} {p : Spot} {rest out : List ℕ} {rows : Results} {one : ℕ} {size : Size} (fit : rows .to ≤ length out) (e : one ≡ resultLength k s p) (c : size ≡ counted (rows .size) one) where
-  pub rowed-long : 1024 < one → Rowed k s p rest out rows out (record { size = size; to = rows .to })
+  pub rowed-long : desk .question < one → Rowed k s p rest out rows out (record { size = size; to = rows .to })
   rowed-long h = record { room = fit; size = c ∙ ap (counted (rows .size)) e; wrote = λ ws l d q x y. absurd (omega arith) }
 
   pub rowed-short : length rest < p .words → Rowed k s p rest out rows out (record { size = size; to = rows .to })
   rowed-short h = let f = words-fewer k s p in record { room = fit; size = c ∙ ap (counted (rows .size)) e; wrote = λ ws l d q x y. absurd (omega arith) }
 
-  pub rowed-full : length out - rows .to < one + 1 → Rowed k s p rest out rows out (record { size = size; to = rows .to })
+  pub rowed-full : length out - rows .to < one + frame → Rowed k s p rest out rows out (record { size = size; to = rows .to })
   rowed-full h = record { room = fit; size = c ∙ ap (counted (rows .size)) e; wrote = λ ws l d q x y. absurd (omega arith) }
 
-  pub rowed-more : {out′ : List ℕ} {end : ℕ} → p .words ≤ length rest → length out′ ≡ length out → rows .to + 1 + one ≤ length out
-      → Wrote out (rows .to) (resultLength k s p ∷ resultWords k s p (drop (length rest - p .words) rest)) out′ end → Rowed k s p rest out rows out′ (record { size = size; to = end })
+  pub rowed-more : {out′ : List ℕ} {end : ℕ} → p .words ≤ length rest → length out′ ≡ length out → rows .to + frame + one ≤ length out
+      → Wrote out (rows .to) (frameOf (resultLength k s p) ++ resultWords k s p (drop (length rest - p .words) rest)) out′ end → Rowed k s p rest out rows out′ (record { size = size; to = end })
   rowed-more {out′} {end} f n y w =
       let d = length-drop (length rest - p .words) rest in
       let l = words-length k s p (drop (length rest - p .words) rest) (omega arith) in
@@ -208,5 +209,5 @@ module _ {k : List ℕ} {s : Shape} {p : Spot} {rest out : List ℕ} {rows : Res
         size = c ∙ ap (counted (rows .size)) e;
         wrote = λ ws l d q x z.
             let v : drop (length rest - p .words) rest ≡ ws = ap (λ m. drop (length rest - m) rest) (sym l) ∙ d .last (omega arith) in
-            subst (λ ws. Wrote out (rows .to) (resultLength k s p ∷ resultWords k s p ws) out′ end) v w;
+            subst (λ ws. Wrote out (rows .to) (frameOf (resultLength k s p) ++ resultWords k s p ws) out′ end) v w;
       }

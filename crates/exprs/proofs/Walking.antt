@@ -7,6 +7,7 @@ use native.Mathlib.Omega.{arith}
 use lib.ListN.{length, getD, length-append}
 use lib.Seq.{slice, length-slice}
 use Rattle.language.specs.Kinds.{pick}
+use Rattle.language.specs.Limits.{desk}
 use Rattle.language.specs.Trees.{Hedge, Expr, Conj, star, over}
 use Rattle.language.specs.Writing.{exprWords, conjWords}
 use Rattle.rules.specs.Looks.{isEps}
@@ -205,5 +206,5 @@ module _ {k : List ℕ} {s : Shape} {rest out : List ℕ} {at : ℕ} {rest′ ou
   pub walk-sizes : Sized k s (r .rows .size)
   walk-sizes = record { each = λ before h R behind v. all-added v .size ∙ tallied-all (monomialWords before h R behind) }
 
-  pub walk-writes : 1024 ≤ length rest → Written k s out at out′ (r .rows .to)
+  pub walk-writes : desk .question ≤ length rest → Written k s out at out′ (r .rows .to)
   walk-writes q = record { each = λ before h R behind v d. all-added v .wrote (holds-none rest) q (d .short) (d .room) }

@@ -1,5 +1,5 @@
 -- The words of M2's results, monomial by monomial.
-use Prim.Native.Nat.{ℕ, _+_, _-_, _≤_}
+use Prim.Native.Nat.{ℕ, _+_, _-_, _*_, _≤_}
 use mathlib.Core.Path.{_≡_}
 use mathlib.Core.List.{List, [], _∷_, _++_}
 use lib.Dec.{leb}
@@ -9,7 +9,8 @@ use Rattle.language.specs.Kinds.{pick}
 use Rattle.language.specs.Limits.{desk}
 use Rattle.language.specs.Trees.{Hedge, Expr, Conj}
 use Rattle.plans.specs.Results.{made}
-use Rattle.plans.specs.Sizes.{framed, grown, sized, monomialWords}
+use Rattle.frames.specs.Frames.{frame, frameOf, framed}
+use Rattle.plans.specs.Sizes.{grown, sized, monomialWords}
 use Rattle.plans.specs.Slots.{fullRecipe, nothing}
 use Rattle.plans.specs.Views.{Shows}
 use Rattle.plans.specs.declared.Piece.the-variants.{Word, Copy}
@@ -49,8 +50,8 @@ resultWords k s p ws = frontWords k s p ++ ((opening (p .parts) ++ ws) ++ backWo
 
 -- a monomial that is bounded, so that sums fit
 pub record Bounded (p : Spot) : Type 0 where
-  pub few : p .parts ≤ 1024
-  pub short : p .words ≤ 1048576
+  pub few : p .parts ≤ desk .question
+  pub short : p .words ≤ desk .question * desk .question
 
 -- a result more of l words, and several more
 abbrev pub counted : Size → ℕ → Size
@@ -70,7 +71,7 @@ pub record Rowed (k : List ℕ) (s : Shape) (p : Spot) (rest out : List ℕ) (ro
   pub room : r .to ≤ length out′
   pub size : r .size ≡ counted (rows .size) (resultLength k s p)
   pub wrote : (ws : List ℕ) → length ws ≡ p .words → Holds rest ws → desk .question ≤ length rest → resultLength k s p ≤ desk .question
-      → rows .to + 1 + resultLength k s p ≤ length out → Wrote out (rows .to) (resultLength k s p ∷ resultWords k s p ws) out′ (r .to)
+      → rows .to + frame + resultLength k s p ≤ length out → Wrote out (rows .to) (frameOf (resultLength k s p) ++ resultWords k s p ws) out′ (r .to)
 
 -- all of them: their size, and that they are written
 pub record Sized (k : List ℕ) (s : Shape) (n : Size) : Type 0 where

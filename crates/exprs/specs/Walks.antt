@@ -10,7 +10,8 @@ use Rattle.language.specs.Trees.{Expr}
 use Rattle.language.specs.Writing.{exprWords}
 use Rattle.rules.specs.Looks.{isEps}
 use Rattle.rules.specs.Expressions.{nullable}
-use Rattle.plans.specs.Sizes.{framed, Short}
+use Rattle.frames.specs.Frames.{framed}
+use Rattle.plans.specs.Sizes.{Short}
 use Rattle.plans.specs.declared.Shape.{Shape}
 use Rattle.pieces.specs.Written.{Wrote}
 use Rattle.exprs.specs.declared.adding.Results.{Results}

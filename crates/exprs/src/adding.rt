@@ -1,11 +1,16 @@
-// A result of M2 from a monomial: how long it is, and writing it with its length before it.
+// A result of M2 from a monomial: how long it is, and writing it in its frame.
 ghost use mathlib.Core.Path.{_≡_};
-ghost use mathlib.Core.List.{_∷_};
+ghost use mathlib.Core.List.{_++_};
 ghost use Prim.Native.Nat.{_≤_, _+_, _-_};
 ghost use lib.ListN.{length, drop};
+ghost use Rattle.frames.specs.Frames.{frame, frameOf};
+ghost use Rattle.language.specs.Limits.{desk};
 ghost use Rattle.pieces.specs.Written.{Wrote};
 ghost use Rattle.exprs.specs.Loose.{opening};
 ghost use Rattle.exprs.specs.Rows.{frontOf, resultLength, resultWords, Bounded, counted, Rowed};
+use frames::FRAME;
+use frames::write_frame;
+use language::limits::QUESTION;
 use pieces::copying::copy;
 use pieces::copying::part_len;
 use pieces::grow;
@@ -65,7 +70,7 @@ fn opening_len(parts: usize) -> usize
 
 // How long a result is.
 fn result_len(k: &[u16], s: Shape, p: Spot) -> usize
-    requires { ⌜ (length (now k) ≤ 1024) × Bounded p ⌝ }
+    requires { ⌜ (length (now k) ≤ desk .question) × Bounded p ⌝ }
     ensures { λ n. ⌜ n ≡ resultLength (now (k .entry)) s p ⌝ }
 {
     let a = made_len(k, front(s, p), 0);
@@ -81,7 +86,7 @@ fn count(size: Size, one: usize) -> Size
     match size {
         Size::Over => Size::Over,
         Size::Fits(n) => {
-            if 1024 < one {
+            if QUESTION < one {
                 return Size::Over;
             }
             let more = grow(n, one);
@@ -109,7 +114,7 @@ fn open_rest(out: &mut [u16], at: usize, parts: usize) -> usize
     e
 }
 
-// A result with its length before it; the parts of its rest are the last words of `rest`.
+// A result in its frame; the parts of its rest are the last words of `rest`.
 fn write_row(
     k: &[u16],
     s: Shape,
@@ -119,11 +124,11 @@ fn write_row(
     out: &mut [u16],
     at: usize,
 ) -> usize
-    requires { ⌜ (p .words ≤ length (now rest)) × (one ≡ resultLength (now k) s p) × (one ≤ 1024) × (at + 1 + one ≤ length (now out)) ⌝ }
-    ensures { λ e. ⌜ Wrote (now (out .entry)) at (resultLength (now (k .entry)) s p ∷ resultWords (now (k .entry)) s p (drop (length (now (rest .entry)) - p .words) (now (rest .entry)))) (now (out .exit)) e ⌝ }
+    requires { ⌜ (p .words ≤ length (now rest)) × (one ≡ resultLength (now k) s p) × (one ≤ desk .question) × (at + frame + one ≤ length (now out)) ⌝ }
+    ensures { λ e. ⌜ Wrote (now (out .entry)) at (frameOf (resultLength (now (k .entry)) s p) ++ resultWords (now (k .entry)) s p (drop (length (now (rest .entry)) - p .words) (now (rest .entry)))) (now (out .exit)) e ⌝ }
 {
-    out[at] = one as u16;
-    let a = write_made(k, front(s, p), 0, out, at + 1);
+    write_frame(out, at, one);
+    let a = write_made(k, front(s, p), 0, out, at + FRAME);
     let b = open_rest(out, a, p.parts);
     let words = p.words;
     let e = copy(rest, rest.len() - words, rest.len(), out, b);
@@ -139,20 +144,20 @@ pub(crate) fn add_row(
     out: &mut [u16],
     rows: Results,
 ) -> Results
-    requires { ⌜ (length (now k) ≤ 1024) × Bounded p × (rows .to ≤ length (now out)) ⌝ }
+    requires { ⌜ (length (now k) ≤ desk .question) × Bounded p × (rows .to ≤ length (now out)) ⌝ }
     ensures { λ r. ⌜ Rowed (now (k .entry)) s p (now (rest .entry)) (now (out .entry)) rows (now (out .exit)) r ⌝ }
 {
     let to = rows.to;
     let one = result_len(k, s, p);
     let before = rows.size;
     let size = count(before, one);
-    if 1024 < one {
+    if QUESTION < one {
         return Results { size, to };
     }
     if rest.len() < p.words {
         return Results { size, to };
     }
-    if out.len() - to < one + 1 {
+    if out.len() - to < one + FRAME {
         return Results { size, to };
     }
     let end = write_row(k, s, p, one, rest, out, to);

@@ -3,6 +3,7 @@
 // part of that slice. The same recursion counts the results, where the slices lent to it have no room, and writes them.
 ghost use Prim.Native.Nat.{_≤_, _+_, _*_};
 ghost use lib.ListN.{length};
+ghost use Rattle.language.specs.Limits.{desk};
 ghost use Rattle.exprs.specs.Charted.{ChartedFrom};
 ghost use Rattle.exprs.specs.Rows.{Sized, Written};
 ghost use Rattle.exprs.specs.Walks.{Widened, Enclosed, Walks};
@@ -12,6 +13,7 @@ use crate::adding::add_row;
 use crate::chart::chart;
 use crate::chart::expression_end;
 use crate::either;
+use language::limits::QUESTION;
 use pieces::copying::copy;
 use plans::Shape;
 use plans::Size;
@@ -31,7 +33,7 @@ pub struct Walked {
 
 // A part more from outside, before the others, where there is room for its words.
 fn widen(k: &[u16], from: usize, until: usize, o: Outside, rest: &mut [u16]) -> Outside
-    requires { ⌜ (from ≤ until) × (until ≤ length (now k)) × (length (now k) ≤ 1024) × (o .parts ≤ 1024) × (o .words ≤ 1048576) ⌝ }
+    requires { ⌜ (from ≤ until) × (until ≤ length (now k)) × (length (now k) ≤ desk .question) × (o .parts ≤ desk .question) × (o .words ≤ desk .question * desk .question) ⌝ }
     ensures { λ r. ⌜ Widened (now (k .entry)) from until o (now (rest .entry)) (now (rest .exit)) r ⌝ }
 {
     let r = Outside {
@@ -48,7 +50,7 @@ fn widen(k: &[u16], from: usize, until: usize, o: Outside, rest: &mut [u16]) -> 
 
 // What the first part of a concatenation gets from outside: its second part too, unless that is eps.
 fn enclose(k: &[u16], from: usize, until: usize, o: Outside, rest: &mut [u16]) -> Outside
-    requires { ⌜ (from ≤ until) × (until ≤ length (now k)) × (length (now k) ≤ 1024) × (o .parts ≤ 1024) × (o .words ≤ 1048576) ⌝ }
+    requires { ⌜ (from ≤ until) × (until ≤ length (now k)) × (length (now k) ≤ desk .question) × (o .parts ≤ desk .question) × (o .words ≤ desk .question * desk .question) ⌝ }
     ensures { λ r. ⌜ Enclosed (now (k .entry)) from until o (now (rest .entry)) (now (rest .exit)) r ⌝ }
 {
     if word(k, from) == 7000 {
@@ -68,7 +70,7 @@ fn walk(
     out: &mut [u16],
     rows: Results,
 ) -> Walked
-    requires { ⌜ (length (now k) ≤ 1024) × ChartedFrom 0 (now k) (now ends) × (o .parts ≤ at) × (o .words ≤ 1024 * at) × (rows .to ≤ length (now out)) ⌝ }
+    requires { ⌜ (length (now k) ≤ desk .question) × ChartedFrom 0 (now k) (now ends) × (o .parts ≤ at) × (o .words ≤ desk .question * at) × (rows .to ≤ length (now out)) ⌝ }
     ensures { λ r. ⌜ Walks (now (k .entry)) s at o (now (rest .entry)) (now (out .entry)) rows (now (rest .exit)) (now (out .exit)) r ⌝ }
 {
     if k.len() <= at {
@@ -120,12 +122,12 @@ fn walk(
     Walked { null, rows: met }
 }
 
-// How many words M2's results take, each with its length before it; or that one of them is too long.
+// How many words M2's results take, each in its frame; or that one of them is too long.
 pub fn size_monomials(k: &[u16], s: Shape) -> Size
-    requires { ⌜ length (now k) ≤ 1024 ⌝ }
+    requires { ⌜ length (now k) ≤ desk .question ⌝ }
     ensures { λ n. ⌜ Sized (now (k .entry)) s n ⌝ }
 {
-    let mut ends: [usize; 1024] = [0; 1024];
+    let mut ends: [usize; QUESTION] = [0; QUESTION];
     chart(k, &mut ends);
     let mut rest = [0; 1];
     let mut out = [0; 1];
@@ -139,14 +141,14 @@ pub fn size_monomials(k: &[u16], s: Shape) -> Size
     met.size
 }
 
-// M2's results, each with its length before it; what has no room or is too long is not written.
+// M2's results, each in its frame; what has no room or is too long is not written.
 pub fn write_monomials(k: &[u16], s: Shape, out: &mut [u16], at: usize) -> usize
-    requires { ⌜ (length (now k) ≤ 1024) × (at ≤ length (now out)) ⌝ }
+    requires { ⌜ (length (now k) ≤ desk .question) × (at ≤ length (now out)) ⌝ }
     ensures { λ e. ⌜ Written (now (k .entry)) s (now (out .entry)) at (now (out .exit)) e ⌝ }
 {
-    let mut ends: [usize; 1024] = [0; 1024];
+    let mut ends: [usize; QUESTION] = [0; QUESTION];
     chart(k, &mut ends);
-    let mut rest = [0; 1024];
+    let mut rest = [0; QUESTION];
     let o = Outside { parts: 0, words: 0 };
     let rows = Results {
         size: Size::Fits(0),

@@ -5,7 +5,8 @@ use Prim.Native.Nat.{ℕ, _+_, _≤_}
 use native.Mathlib.Omega.{arith}
 use lib.ListN.{length}
 use Rattle.plans.specs.Results.{waysFrom, resultsOf}
-use Rattle.plans.specs.Sizes.{framed, Short, sizedFrom, sized}
+use Rattle.frames.specs.Frames.{framed}
+use Rattle.plans.specs.Sizes.{Short, sizedFrom, sized}
 use Rattle.plans.specs.declared.Plan.{Plan}
 use Rattle.plans.specs.declared.Ways.{Ways}
 use Rattle.plans.specs.declared.Size.{Size}

@@ -13,7 +13,8 @@ use Rattle.language.specs.Limits.{desk}
 use Rattle.language.specs.Trees.{Conj}
 use Rattle.language.specs.Writing.{conjWords}
 use Rattle.rules.specs.Run.{size, anyLong, waitingSize}
-use Rattle.plans.specs.Sizes.{framed, Short, grown, sizedFrom, sized}
+use Rattle.frames.specs.Frames.{framed}
+use Rattle.plans.specs.Sizes.{Short, grown, sizedFrom, sized}
 use Rattle.plans.specs.declared.Size.{Size}
 use Rattle.plans.specs.declared.Size.the-variants.{Fits, Over}
 use Rattle.pieces.specs.Written.{Ready}

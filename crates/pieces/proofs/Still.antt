@@ -7,6 +7,7 @@ use native.Mathlib.Omega.{arith}
 use lib.ListN.{length, set, length-append, length-set}
 use lib.Seq.{sets, length-sets, set-comm}
 use Rattle.language.proofs.Stores.{sets-append}
+use Rattle.frames.specs.Frames.{frame, frameOf, inFrame}
 use Rattle.pieces.specs.Written.{Wrote}
 use Rattle.pieces.proofs.Parts.{Split}
 
@@ -65,13 +66,13 @@ wrote-four l e a b c d =
     let r : e + 3 ≡ suc (suc (suc e)) = omega arith in
     record { end = refl; list = cc }
 
--- a length before its words, stored when they stand
-pub wrote-framed : (l : List ℕ) (at : ℕ) (ws : List ℕ) (new : List ℕ) (e x : ℕ) → Wrote l (at + 1) ws new e → x ≡ length ws
-    → Wrote l at (length ws ∷ ws) (set new at x) e
-wrote-framed l at ws new e x w z = record {
+-- a frame before its words, stored when they stand
+pub wrote-framed : {l : List ℕ} {at : ℕ} {ws new : List ℕ} {e x : ℕ} {new′ : List ℕ} → Wrote l (at + frame) ws new e → x ≡ length ws → new′ ≡ sets new at (frameOf x)
+    → Wrote l at (inFrame ws) new′ e
+wrote-framed {l} {at} {ws} {new} {e} {x} w z s = record {
   end = let q = w .end in omega arith;
   list =
-      ap (λ m. set m at x) (w .list) ∙ set-sets l at x (at + 1) ws (omega arith) ∙ ap (λ n. sets (set l at x) n ws) (add-one at)
+      s ∙ ap (λ m. set m at x) (w .list) ∙ set-sets l at x (at + 1) ws (omega arith) ∙ ap (λ n. sets (set l at x) n ws) (add-one at)
       ∙ ap (λ y. sets (set l at y) (suc at) ws) z;
 }
 

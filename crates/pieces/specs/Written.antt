@@ -4,7 +4,8 @@ use mathlib.Core.Path.{_≡_}
 use mathlib.Core.List.{List}
 use lib.ListN.{length, take}
 use lib.Seq.{sets}
-use Rattle.plans.specs.Sizes.{framed, Short}
+use Rattle.frames.specs.Frames.{framed}
+use Rattle.plans.specs.Sizes.{Short}
 
 -- the words ws stand from `at` up to e, and the rest is as it was
 pub record Wrote (old : List ℕ) (at : ℕ) (ws : List ℕ) (new : List ℕ) (e : ℕ) : Type 0 where

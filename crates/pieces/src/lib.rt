@@ -1,4 +1,4 @@
-// A plan's results in words: how long they are together, and writing them in a row, each with its length before it.
+// A plan's results in words: how long they are together, and writing them in a row, each in its frame.
 pub mod copying;
 mod emptying;
 pub mod making;
@@ -10,8 +10,10 @@ ghost use mathlib.Core.List.{[], _∷_, map};
 ghost use lib.ListN.{length};
 ghost use Rattle.language.specs.Limits.{desk};
 ghost use Rattle.plans.specs.Results.{made, places, resultsOf};
-ghost use Rattle.plans.specs.Sizes.{framed, grown, sizedFrom, sized};
+ghost use Rattle.frames.specs.Frames.{framed};
+ghost use Rattle.plans.specs.Sizes.{grown, sizedFrom, sized};
 ghost use Rattle.pieces.specs.Written.{Wrote, Ready};
+use frames::FRAME;
 use language::limits::QUESTION;
 use language::limits::ROOM;
 use making::made_len;
@@ -27,7 +29,7 @@ pub fn grow(n: usize, one: usize) -> usize
     requires { ⌜ one ≤ desk .question ⌝ }
     ensures { λ r. ⌜ r ≡ grown n one ⌝ }
 {
-    if n <= ROOM { n + 1 + one } else { n }
+    if n <= ROOM { n + FRAME + one } else { n }
 }
 
 // n words and those of one result.
@@ -74,7 +76,7 @@ fn size_cuts(k: &[u16], r: Recipe, cut: usize, times: usize) -> Size
     Size::Fits(n)
 }
 
-// How many words a plan's results take, each with its length before it; or that one of them is too long.
+// How many words a plan's results take, each in its frame; or that one of them is too long.
 pub fn size_results(k: &[u16], plan: Plan) -> Size
     requires { ⌜ length (now k) ≤ desk .question ⌝ }
     ensures { λ s. ⌜ s ≡ sized (resultsOf (now (k .entry)) plan) ⌝ }
@@ -114,7 +116,7 @@ fn write_two(k: &[u16], a: Recipe, b: Recipe, out: &mut [u16], at: usize) -> usi
     write_framed(k, b, 0, out, e)
 }
 
-// A plan's results, each with its length before it.
+// A plan's results, each in its frame.
 pub fn write_results(k: &[u16], plan: Plan, out: &mut [u16], at: usize) -> usize
     requires { ⌜ Ready (resultsOf (now k) plan) (now out) at ⌝ }
     ensures { λ e. ⌜ Wrote (now (out .entry)) at (framed (resultsOf (now (k .entry)) plan)) (now (out .exit)) e ⌝ }

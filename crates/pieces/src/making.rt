@@ -1,9 +1,9 @@
-// One result: its length, and its words with their number before them.
+// One result: its length, and its words in their frame.
 ghost use Prim.Native.Nat.{_+_, _≤_};
 ghost use mathlib.Core.Path.{_≡_};
-ghost use mathlib.Core.List.{_∷_};
 ghost use lib.ListN.{length};
 ghost use lib.Seq.{slice};
+ghost use Rattle.frames.specs.Frames.{inFrame};
 ghost use Rattle.language.specs.Limits.{desk};
 ghost use Rattle.plans.specs.Results.{pieceWords, made};
 ghost use Rattle.pieces.specs.Written.{Wrote};
@@ -16,6 +16,8 @@ use super::replacing::Swap;
 use super::replacing::note;
 use super::replacing::put;
 use super::replacing::put_len;
+use frames::FRAME;
+use frames::write_frame;
 use plans::Piece;
 use plans::Recipe;
 use plans::Slot;
@@ -105,13 +107,13 @@ pub fn write_made(k: &[u16], r: Recipe, cut: usize, out: &mut [u16], at: usize) 
     e
 }
 
-// A result with its length before it, which is known once it stands.
+// A result in its frame; its length is known once it stands.
 pub(crate) fn write_framed(k: &[u16], r: Recipe, cut: usize, out: &mut [u16], at: usize) -> usize
-    requires { ⌜ (length (made (now k) r cut) ≤ desk .question) × (at + length (length (made (now k) r cut) ∷ made (now k) r cut) ≤ length (now out)) ⌝ }
-    ensures { λ e. ⌜ Wrote (now (out .entry)) at (length (made (now (k .entry)) r cut) ∷ made (now (k .entry)) r cut) (now (out .exit)) e ⌝ }
+    requires { ⌜ (length (made (now k) r cut) ≤ desk .question) × (at + length (inFrame (made (now k) r cut)) ≤ length (now out)) ⌝ }
+    ensures { λ e. ⌜ Wrote (now (out .entry)) at (inFrame (made (now (k .entry)) r cut)) (now (out .exit)) e ⌝ }
 {
-    let e = write_made(k, r, cut, out, at + 1);
-    let n = e - at - 1;
-    out[at] = n as u16;
+    let start = at + FRAME;
+    let e = write_made(k, r, cut, out, start);
+    write_frame(out, at, e - start);
     e
 }

@@ -1,6 +1,6 @@
--- Results in a row, each with its length before it, and how long they are together.
+-- How long results are together, each in its frame.
 use Prim.Native.Nat.{ℕ, _+_, _≤_}
-use mathlib.Core.List.{List, [], _∷_, _++_, map}
+use mathlib.Core.List.{List, [], _∷_, map}
 use lib.Dec.{leb}
 use lib.ListN.{length}
 use Rattle.language.specs.Limits.{desk}
@@ -10,14 +10,10 @@ use Rattle.language.specs.Writing.{conjWords}
 use Rattle.rules.specs.Rules.{Branch, monomialResult}
 use Rattle.rules.specs.Expressions.{linear}
 use Rattle.rules.specs.Step.{place}
+use Rattle.frames.specs.Frames.{frame}
 use Rattle.plans.specs.Looks.{head, tail}
 use Rattle.plans.specs.declared.Size.{Size}
 use Rattle.plans.specs.declared.Size.the-variants.{Fits, Over}
-
--- each with its length before it
-abbrev pub framed : List (List ℕ) → List ℕ
-framed [] = []
-framed (w ∷ ws) = (length w ∷ w) ++ framed ws
 
 -- none passes the limit of a conjunction
 abbrev pub Short : List (List ℕ) → Type 0
@@ -26,7 +22,7 @@ Short (w ∷ ws) = (length w ≤ desk .question) × Short ws
 
 -- one more of l words; past a slice's room there is no need to count on
 abbrev pub grown : ℕ → ℕ → ℕ
-grown n l = pick (leb n (desk .room)) (n + 1 + l) n
+grown n l = pick (leb n (desk .room)) (n + frame + l) n
 
 -- n words and those of the results
 abbrev pub sizedFrom : ℕ → List (List ℕ) → Size

@@ -81,7 +81,7 @@ pub struct Plan {
     pub second: Recipe,
 }
 
-// How many words the results take, each with its length before it (counted until they pass a lent slice), or that one of them is too long.
+// How many words the results take, each in its frame (counted until they pass a lent slice), or that one of them is too long.
 pub enum Size {
     Fits(usize),
     Over,

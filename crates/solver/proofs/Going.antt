@@ -20,7 +20,8 @@ use Rattle.rules.specs.Rules.{Branch}
 use Rattle.rules.specs.Run.{waitingSize, linesFit, refused, runFrom}
 use Rattle.rules.specs.Answer.{answerWords}
 use Rattle.rules.proofs.Each.{each-++}
-use Rattle.plans.specs.Sizes.{framed, placedWords, sized}
+use Rattle.frames.specs.Frames.{framed}
+use Rattle.plans.specs.Sizes.{placedWords, sized}
 use Rattle.plans.specs.declared.Size.the-variants.{Fits, Over}
 use Rattle.pieces.proofs.Sizing.{sized-fits, fits-exact, fits-past, over-anyLong, fits-anyLong, words-waiting}
 use Rattle.search.proofs.FineSteps.{step-fine}

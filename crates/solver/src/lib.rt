@@ -29,6 +29,7 @@ use language::number;
 use marks::is_solved;
 use reader::Checked;
 use reader::read_question;
+use rules::places::NO_RULE;
 use stack::clear;
 use stack::copy;
 use stack::lay_out;
@@ -37,7 +38,6 @@ use steps::Best;
 use steps::Stepped;
 use steps::find;
 use steps::take_step;
-use rules::places::NO_RULE;
 
 // Where the waiting conjunctions begin, the steps made, and the lines.
 pub struct State {

@@ -8,7 +8,7 @@ use lib.ListN.{length, take, drop, getD, set, length-append}
 use lib.Seq.{sets, sets-eq, length-sets, set-comm, slice, drop-at, take-at, drop-drop, getD-drop, length-take-le}
 use Rattle.language.specs.Limits.{desk}
 use Rattle.language.proofs.Offsets.{slice-between}
-use Rattle.plans.specs.Sizes.{framed}
+use Rattle.frames.specs.Frames.{framed}
 use Rattle.stack.specs.Waiting.{Laid, Waiting}
 
 -- what stands from i on after words are stored there

@@ -5,7 +5,7 @@ use lib.ListN.{getD}
 use lib.Seq.{sets}
 use Rattle.language.specs.Question.{parts}
 use Rattle.language.proofs.Determined.{Determined}
-use Rattle.plans.specs.Sizes.{framed}
+use Rattle.frames.specs.Frames.{framed}
 use Rattle.stack.proofs.wide as wide
 use Rattle.stack.proofs.narrow as narrow
 use Rattle.stack.proofs.store as store

@@ -9,7 +9,7 @@ use lib.Seq.{sets, slice, length-slice}
 use Rattle.language.specs.Limits.{desk}
 use Rattle.language.specs.Question.{laidOut, parts}
 use Rattle.language.proofs.Offsets.{slice-between, Part, table-count, table-part}
-use Rattle.plans.specs.Sizes.{framed}
+use Rattle.frames.specs.Frames.{framed}
 use Rattle.stack.specs.Waiting.{Laid}
 use Rattle.stack.proofs.Blocks.{laid-before}
 

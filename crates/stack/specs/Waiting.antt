@@ -1,11 +1,11 @@
--- Blocks of words that wait in a lent slice: the first at the low end, each with its length before it, the last ending at word 8,191.
+-- Blocks of words that wait in a lent slice: the first at the low end, each in its frame, the last ending at word 8,191.
 use Prim.Native.Nat.{ℕ, _+_}
 use mathlib.Core.Path.{_≡_}
 use mathlib.Core.List.{List, _++_}
 use lib.ListN.{length, drop}
 use lib.Seq.{sets}
 use Rattle.language.specs.Limits.{desk}
-use Rattle.plans.specs.Sizes.{framed}
+use Rattle.frames.specs.Frames.{framed}
 
 -- the blocks are stored in `old` from `at` on, and nothing else is
 pub record Laid (old : List ℕ) (at : ℕ) (blocks : List (List ℕ)) (new : List ℕ) : Type 0 where

@@ -1,14 +1,17 @@
-// Conjunctions that wait in a lent slice: the first at the low end, each with its length before it, the last ending at word 8,191.
+// Conjunctions that wait in a lent slice: the first at the low end, each in its frame, the last ending at word 8,191.
 ghost use Prim.Native.Nat.{_+_, _-_, _≤_, _<_};
 ghost use mathlib.Core.Path.{_≡_};
 ghost use mathlib.Core.Bool.{true};
-ghost use mathlib.Core.List.{_∷_};
+ghost use mathlib.Core.List.{_++_};
 ghost use lib.ListN.{length, getD, set};
 ghost use lib.Seq.{slice, sets};
 ghost use Rattle.language.specs.Limits.{desk};
 ghost use Rattle.language.specs.Question.{laidOut, parts};
+ghost use Rattle.frames.specs.Frames.{frame, frameOf};
 ghost use Rattle.rules.specs.Answer.{zeros, overwritten};
 ghost use Rattle.stack.specs.Waiting.{Laid};
+use frames::FRAME;
+use frames::write_frame;
 use language::limits::ROOM;
 
 pub fn wide(x: u16) -> usize
@@ -60,14 +63,14 @@ pub fn clear(s: &mut [u16])
 
 // The part from..to as a block before those that wait from `at` on. The answer is where they now begin.
 fn push(src: &[u16], from: usize, to: usize, work: &mut [u16], at: usize) -> usize
-    requires { ⌜ (from ≤ to) × (to ≤ length (now src)) × (to ≤ desk .question) × (to - from < at) × (at ≤ length (now work)) ⌝ }
-    ensures { λ r. ⌜ (r + (to - from + 1) ≡ at) × (now (work .exit) ≡ sets (now (work .entry)) r ((to - from) ∷ slice from to (now (src .entry)))) ⌝ }
+    requires { ⌜ (from ≤ to) × (to ≤ length (now src)) × (to ≤ desk .question) × (to - from + frame ≤ at) × (at ≤ length (now work)) ⌝ }
+    ensures { λ r. ⌜ (r + (to - from + frame) ≡ at) × (now (work .exit) ≡ sets (now (work .entry)) r (frameOf (to - from) ++ slice from to (now (src .entry)))) ⌝ }
 {
     let n = to - from;
     let start = at - n;
-    store(work, start - 1, narrow(n));
+    write_frame(work, start - FRAME, n);
     copy(src, from, to, work, start);
-    start - 1
+    start - FRAME
 }
 
 // The conjunctions of a question, waiting in order. The answer is where they begin.

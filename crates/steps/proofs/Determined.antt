@@ -11,7 +11,7 @@ use Rattle.language.specs.Writing.{conjWords}
 use Rattle.language.specs.Fine.{fineConj}
 use Rattle.language.proofs.Determined.{DeterminedFor, Asks}
 use Rattle.rules.specs.Rules.{Branch}
-use Rattle.plans.specs.Sizes.{framed}
+use Rattle.frames.specs.Frames.{framed}
 use Rattle.plans.specs.declared.Size.{Size}
 use Rattle.plans.specs.declared.Size.the-variants.{Fits, Over}
 use Rattle.views.specs.Standing.{LiteralAt}

@@ -15,7 +15,8 @@ use Rattle.rules.specs.Places.{atM2}
 use Rattle.rules.proofs.Answers.{where-some, Where, Answers, look, test, answers}
 use Rattle.plans.specs.Looks.{head, tail}
 use Rattle.plans.specs.Ranks.{eqnAnswer, memAnswer}
-use Rattle.plans.specs.Sizes.{framed, sized, placedWords, monomialWords}
+use Rattle.frames.specs.Frames.{framed}
+use Rattle.plans.specs.Sizes.{sized, placedWords, monomialWords}
 use Rattle.plans.specs.declared.Size.{Size}
 use Rattle.plans.specs.declared.Size.the-variants.{Fits, Over}
 use Rattle.pieces.specs.Written.{Wrote, Ready}

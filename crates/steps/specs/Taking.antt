@@ -3,7 +3,8 @@ use Prim.Native.Nat.{ℕ, _+_, _<_}
 use mathlib.Core.Path.{_≡_}
 use mathlib.Core.List.{List}
 use lib.Seq.{sets}
-use Rattle.plans.specs.Sizes.{framed, sized}
+use Rattle.frames.specs.Frames.{framed}
+use Rattle.plans.specs.Sizes.{sized}
 use Rattle.plans.specs.declared.Size.the-variants.{Fits, Over}
 use Rattle.steps.specs.declared.Stepped.{Stepped}
 use Rattle.steps.specs.declared.Stepped.the-variants.{Long, Room, Done}

@@ -27,10 +27,11 @@ use pieces::size_results;
 use pieces::write_results;
 use plans::Plan;
 use plans::Size;
+use rules::places::AT_M2;
+use rules::places::NO_RULE;
 use views::see;
 use views::show_membership;
 use views::swapped;
-use rules::places::{AT_M2, NO_RULE};
 
 // The literal of the least rank so far: its rank, its place, and whether its equation is seen from the other side.
 pub struct Best {

@@ -1,6 +1,7 @@
 -- The loop's invariant: the results for the cuts that are left are still to come, and none is too long.
 use Rattle.plans.specs.Results.{elementEnd}
-use Rattle.plans.specs.Sizes.{framed, Short}
+use Rattle.frames.specs.Frames.{framed}
+use Rattle.plans.specs.Sizes.{Short}
 use mathlib.Core.Path.{refl, ap}
 use Rattle.pieces.proofs.Still.{Still, still-all, still-none, still-fits, still-run}
 use Rattle.pieces.proofs.Results.{cuts, cuts-none, cuts-split, cuts-short}
