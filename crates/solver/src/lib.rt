@@ -20,6 +20,8 @@ ghost use Rattle.solver.specs.Leaves.{leaves, outcomeNumber, refusedBy, 
 use answers::Tally;
 use answers::add_line;
 use answers::begin;
+use frames::FRAME;
+use frames::read_frame;
 use language::Refusal;
 use language::limits::LINES;
 use language::limits::QUESTION;
@@ -37,7 +39,6 @@ use steps::take_step;
 use waiting::clear;
 use waiting::copy;
 use waiting::lay_out;
-use waiting::wide;
 
 // Where the waiting conjunctions begin, the steps made, and the lines.
 pub struct State {
@@ -145,10 +146,11 @@ fn turn(work: &mut [u16], answer: &mut [u16], s: State) -> Turned
     ensures { λ r. ⌜ ((oldWork oldAnswer : List ℕ) (ls : List Conj) (c : Conj) (w : List Conj) → Running oldWork oldAnswer ls (c ∷ w) s (now (work .entry)) (now (answer .entry)) → Turns oldWork oldAnswer ls (c ∷ w) s r (now (work .exit)) (now (answer .exit))) ⌝ }
 {
     let at = s.at;
-    let n = wide(work[at]);
-    let next = at + 1 + n;
+    let n = read_frame(work, at);
+    let start = at + FRAME;
+    let next = start + n;
     let mut k = [0; QUESTION];
-    copy(work, at + 1, next, &mut k, 0);
+    copy(work, start, next, &mut k, 0);
     turn_with(&k[0..n], next, work, answer, s)
 }
 
