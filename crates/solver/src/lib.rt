@@ -20,6 +20,8 @@ ghost use Rattle.solver.specs.Leaves.{leaves, outcomeNumber, refusedBy, 
 use answers::Tally;
 use answers::add_line;
 use answers::begin;
+use frames::FRAME;
+use frames::read_frame;
 use language::Refusal;
 use language::limits::LINES;
 use language::limits::QUESTION;
@@ -32,7 +34,6 @@ use reader::read_question;
 use stack::clear;
 use stack::copy;
 use stack::lay_out;
-use stack::wide;
 use steps::Best;
 use steps::Stepped;
 use steps::find;
@@ -145,10 +146,11 @@ fn turn(work: &mut [u16], answer: &mut [u16], s: State) -> Turned
     ensures { λ r. ⌜ ((oldWork oldAnswer : List ℕ) (ls : List Conj) (c : Conj) (w : List Conj) → Running oldWork oldAnswer ls (c ∷ w) s (now (work .entry)) (now (answer .entry)) → Turns oldWork oldAnswer ls (c ∷ w) s r (now (work .exit)) (now (answer .exit))) ⌝ }
 {
     let at = s.at;
-    let n = wide(work[at]);
-    let next = at + 1 + n;
+    let n = read_frame(work, at);
+    let start = at + FRAME;
+    let next = start + n;
     let mut k = [0; QUESTION];
-    copy(work, at + 1, next, &mut k, 0);
+    copy(work, start, next, &mut k, 0);
     turn_with(&k[0..n], next, work, answer, s)
 }
 
