@@ -12,11 +12,11 @@ use Rattle.language.specs.Kinds.{pick}
 use Rattle.language.specs.Limits.{desk}
 use Rattle.frames.specs.Frames.{frame, frameOf, framed}
 use Rattle.plans.specs.Sizes.{Short, grown, sizedFrom, sized}
-use Rattle.plans.specs.declared.Shape.{Shape}
 use Rattle.plans.specs.declared.Size.{Size}
 use Rattle.plans.specs.declared.Size.the-variants.{Fits, Over}
 use Rattle.pieces.specs.Written.{Wrote}
 use Rattle.pieces.proofs.Still.{wrote-as}
+use Rattle.exprs.specs.declared.adding.Kept.{Kept}
 use Rattle.exprs.specs.declared.adding.Spot.{Spot}
 use Rattle.exprs.specs.declared.adding.Results.{Results}
 use Rattle.exprs.specs.Loose.{Loose, firstWords, restWords, opening}
@@ -135,7 +135,7 @@ added-inner l k f a =
 
 -- ---- one
 
-row-length : (k : List ℕ) (s : Shape) (p : Spot) (m : Loose) → frontWords k s p ++ (restWords m ++ backWords k s) ≡ rowWords k s m → p .parts ≡ m .parts → p .words ≡ length (m .words)
+row-length : (k : List ℕ) (s : Kept) (p : Spot) (m : Loose) → frontWords k s p ++ (restWords m ++ backWords k s) ≡ rowWords k s m → p .parts ≡ m .parts → p .words ≡ length (m .words)
     → resultLength k s p ≡ length (rowWords k s m)
 unfolding resultLength
 row-length k s p m r c w =
@@ -146,7 +146,7 @@ row-length k s p m r c w =
     let g = ap length r in
     omega arith
 
-pub added-one : {k : List ℕ} {s : Shape} {p : Spot} {rest out : List ℕ} {rows : Results} {out′ : List ℕ} {r : Results} (m : Loose) → Rowed k s p rest out rows out′ r
+pub added-one : {k : List ℕ} {s : Kept} {p : Spot} {rest out : List ℕ} {rows : Results} {out′ : List ℕ} {r : Results} (m : Loose) → Rowed k s p rest out rows out′ r
     → slice (p .place) (p .past) k ≡ firstWords m → p .parts ≡ m .parts → p .words ≡ length (m .words) → Added (rowWords k s m ∷ []) (m .words) rest out rows rest out′ r
 unfolding resultWords
 added-one {k} {s} {p} {rest} {out} {rows} {out′} {r} m a e c w =
@@ -176,7 +176,7 @@ module _ {size : Size} {l n : ℕ} (e : size ≡ Fits n) where
   pub counted-more : {m : ℕ} → l ≤ desk .question → m ≡ grown n l → Fits m ≡ counted size l
   counted-more h g = sym (ap (λ s. counted s l) e ∙ ap (λ b. pick b (Fits (grown n l)) Over) (le-leb l (desk .question) h) ∙ ap Fits (sym g))
 
-words-length : (k : List ℕ) (s : Shape) (p : Spot) (ws : List ℕ) → length ws ≡ p .words → length (resultWords k s p ws) ≡ resultLength k s p
+words-length : (k : List ℕ) (s : Kept) (p : Spot) (ws : List ℕ) → length ws ≡ p .words → length (resultWords k s p ws) ≡ resultLength k s p
 unfolding resultWords resultLength
 words-length k s p ws l =
     let a = length-append (frontWords k s p) ((opening (p .parts) ++ ws) ++ backWords k s) in
@@ -184,11 +184,11 @@ words-length k s p ws l =
     let d = length-append (opening (p .parts)) ws in
     omega arith
 
-words-fewer : (k : List ℕ) (s : Shape) (p : Spot) → p .words ≤ resultLength k s p
+words-fewer : (k : List ℕ) (s : Kept) (p : Spot) → p .words ≤ resultLength k s p
 unfolding resultLength
 words-fewer k s p = omega arith
 
-module _ {k : List ℕ} {s : Shape} {p : Spot} {rest out : List ℕ} {rows : Results} {one : ℕ} {size : Size} (fit : rows .to ≤ length out) (e : one ≡ resultLength k s p) (c : size ≡ counted (rows .size) one) where
+module _ {k : List ℕ} {s : Kept} {p : Spot} {rest out : List ℕ} {rows : Results} {one : ℕ} {size : Size} (fit : rows .to ≤ length out) (e : one ≡ resultLength k s p) (c : size ≡ counted (rows .size) one) where
   pub rowed-long : desk .question < one → Rowed k s p rest out rows out (record { size = size; to = rows .to })
   rowed-long h = record { room = fit; size = c ∙ ap (counted (rows .size)) e; wrote = λ ws l d q x y. absurd (omega arith) }
 

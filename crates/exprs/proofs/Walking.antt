@@ -17,12 +17,13 @@ use Rattle.plans.specs.Views.{Shows}
 use Rattle.plans.specs.declared.Shape.{Shape}
 use Rattle.plans.specs.declared.Size.the-variants.{Fits}
 use Rattle.pieces.specs.Written.{Wrote}
+use Rattle.exprs.specs.declared.adding.Kept.{Kept}
 use Rattle.exprs.specs.declared.adding.Results.{Results}
 use Rattle.exprs.specs.declared.monomials.Outside.{Outside}
 use Rattle.exprs.specs.declared.monomials.Walked.{Walked}
 use Rattle.exprs.specs.Standing.{Here, Past}
 use Rattle.exprs.specs.Loose.{met}
-use Rattle.exprs.specs.Rows.{rowWords, Holds, Rowed, Sized, Written}
+use Rattle.exprs.specs.Rows.{keptOf, rowWords, Holds, Rowed, Sized, Written}
 use Rattle.exprs.specs.Walks.{Keeps, Widened, EnclosedBy, Enclosed, Added, WalksOver, Walks}
 use Rattle.exprs.proofs.Standing.{second-of, words-here, cases, by-eps, by-cat, by-alt, by-star, by-over, past-end, is-alt}
 use Rattle.exprs.proofs.Rows.{rows}
@@ -94,7 +95,7 @@ enclosed-more {k} {from} {until} {o} {rest} {rest′} {r} n le a =
 
 -- ---- the first part of a concatenation
 
-first-added : {k : List ℕ} {s : Shape} {o : Outside} {r₀ o₀ : List ℕ} {t : Results} {x mid end : ℕ} {i : Outside} {r₁ r₂ o₂ : List ℕ} {a : Walked}
+first-added : {k : List ℕ} {s : Kept} {o : Outside} {r₀ o₀ : List ℕ} {t : Results} {x mid end : ℕ} {i : Outside} {r₁ r₂ o₂ : List ℕ} {a : Walked}
     → Past k mid end → Enclosed k mid end o r₀ r₁ i → Walks k s x i r₁ o₀ t r₂ o₂ a → (A B : Expr) (w ws : List ℕ) → Here k x A (exprWords B ++ w) → Here k mid B w → length ws ≡ o .words
     → Added (map (rowWords k s) (met A (pick (isEps B) (o .parts) (suc (o .parts))) (pick (isEps B) ws (exprWords B ++ ws)))) ws r₀ o₀ t r₂ o₂ (a .rows)
 first-added {k} {s} e p b A B w ws h g l =
@@ -106,7 +107,7 @@ first-added {k} {s} e p b A B w ws h g l =
 
 -- ---- by the word
 
-module _ {k : List ℕ} {s : Shape} {at : ℕ} {o : Outside} {r₀ o₀ : List ℕ} {t : Results} (fit : t .to ≤ length o₀) where
+module _ {k : List ℕ} {s : Kept} {at : ℕ} {o : Outside} {r₀ o₀ : List ℕ} {t : Results} (fit : t .to ≤ length o₀) where
   pub walks-end : length k ≤ at → Walks k s at o r₀ o₀ t r₀ o₀ (record { null = false; rows = t })
   walks-end z = record { room = fit; each = λ R w ws g l. past-end (λ R w. WalksOver k s R (o .parts) ws r₀ o₀ t r₀ o₀ (record { null = false; rows = t })) z R w g }
 
@@ -117,7 +118,7 @@ module _ {k : List ℕ} {s : Shape} {at : ℕ} {o : Outside} {r₀ o₀ : List �
         each = λ R w ws g l. by-eps (λ R w. WalksOver k s R (o .parts) ws r₀ o₀ t r₀ o₀ (record { null = true; rows = t })) z (λ w. record { null = refl; added = added-none }) R w g;
       }
 
-module _ {k : List ℕ} {s : Shape} {at : ℕ} {o : Outside} {r₀ o₀ : List ℕ} {t : Results} {mid : ℕ} (m : Past k (at + 1) mid) where
+module _ {k : List ℕ} {s : Kept} {at : ℕ} {o : Outside} {r₀ o₀ : List ℕ} {t : Results} {mid : ℕ} (m : Past k (at + 1) mid) where
   pub walks-over : {o₁ : List ℕ} {t₁ : Results} → getD k at 0 < 7000 → Rowed k s (record { place = at; past = mid; parts = o .parts; words = o .words }) r₀ o₀ t o₁ t₁
       → Walks k s at o r₀ o₀ t r₀ o₁ (record { null = false; rows = t₁ })
   walks-over {o₁} {t₁} z a =
@@ -197,11 +198,12 @@ module _ {k : List ℕ} {s : Shape} {at : ℕ} {o : Outside} {r₀ o₀ : List �
 
 -- ---- the whole, with nothing outside
 
-module _ {k : List ℕ} {s : Shape} {rest out : List ℕ} {at : ℕ} {rest′ out′ : List ℕ} {r : Walked}
-    (w : Walks k s (s .expr) (record { parts = 0; words = 0 }) rest out (record { size = Fits 0; to = at }) rest′ out′ r) where
+module _ {k : List ℕ} (s : Shape) {t : Kept} {rest out : List ℕ} {at : ℕ} {rest′ out′ : List ℕ} {r : Walked} (e : t ≡ keptOf s)
+    (w : Walks k t (s .expr) (record { parts = 0; words = 0 }) rest out (record { size = Fits 0; to = at }) rest′ out′ r) where
   all-added : {before : Conj} {h : Hedge} {R : Expr} {behind : Conj} → Shows k s before h R behind
       → Added (monomialWords before h R behind) [] rest out (record { size = Fits 0; to = at }) rest′ out′ (r .rows)
-  all-added {R = R} {behind = behind} v = added-same (rows v) (w .each R (conjWords behind) [] (record { fine = v .fine; words = v .here }) refl .added)
+  all-added {R = R} {behind = behind} v =
+      added-same (rows v ∙ ap (λ t. map (rowWords k t) (met R 0 [])) (sym e)) (w .each R (conjWords behind) [] (record { fine = v .fine; words = v .here }) refl .added)
 
   pub walk-sizes : Sized k s (r .rows .size)
   walk-sizes = record { each = λ before h R behind v. all-added v .size ∙ tallied-all (monomialWords before h R behind) }

@@ -8,44 +8,42 @@ use lib.Seq.{slice}
 use Rattle.language.specs.Kinds.{pick}
 use Rattle.language.specs.Limits.{desk}
 use Rattle.language.specs.Trees.{Hedge, Expr, Conj}
-use Rattle.plans.specs.Results.{made}
 use Rattle.frames.specs.Frames.{frame, frameOf, framed}
 use Rattle.plans.specs.Sizes.{grown, sized, monomialWords}
-use Rattle.plans.specs.Slots.{fullRecipe, nothing}
 use Rattle.plans.specs.Views.{Shows}
-use Rattle.plans.specs.declared.Piece.the-variants.{Word, Copy}
-use Rattle.plans.specs.declared.Recipe.{Recipe}
 use Rattle.plans.specs.declared.Shape.{Shape}
 use Rattle.plans.specs.declared.Size.{Size}
 use Rattle.plans.specs.declared.Size.the-variants.{Fits, Over}
 use Rattle.pieces.specs.Written.{Wrote, Ready}
+use Rattle.exprs.specs.declared.adding.Kept.{Kept}
 use Rattle.exprs.specs.declared.adding.Spot.{Spot}
 use Rattle.exprs.specs.declared.adding.Results.{Results}
 use Rattle.exprs.specs.Loose.{Loose, opening, restWords, firstWords}
 
+-- what a result keeps of the conjunction
+abbrev pub keptOf : Shape → Kept
+keptOf s = record { at = s .at; from = s .h .from; rest = s .h .rest; to = s .h .to; end = s .end; len = s .len }
+
 -- what stands before the rest: the literals before, t in f(R1), and H
-abbrev pub frontOf : Shape → Spot → Recipe
-frontOf s p =
-    fullRecipe (Copy 0 (s .at)) (Word 6000) (Copy (s .h .from) (s .h .rest)) (Word 0) (Copy (p .place) (p .past)) (Word 6000) (Copy (s .h .rest) (s .h .to))
-    nothing nothing nothing nothing nothing 0 0 0
+unfoldable pub frontWords : List ℕ → Kept → Spot → List ℕ
+frontWords k s p =
+    slice 0 (s .at) k
+    ++ (6000 ∷ (slice (s .from) (s .rest) k ++ (0 ∷ (slice (p .place) (p .past) k ++ (6000 ∷ slice (s .rest) (s .to) k)))))
 
-unfoldable pub frontWords : List ℕ → Shape → Spot → List ℕ
-frontWords k s p = made k (frontOf s p) 0
-
-unfoldable pub backWords : List ℕ → Shape → List ℕ
+unfoldable pub backWords : List ℕ → Kept → List ℕ
 backWords k s = slice (s .end) (s .len) k
 
 -- one result, by its monomial alone, and how long it is
-unfoldable pub rowWords : List ℕ → Shape → Loose → List ℕ
+unfoldable pub rowWords : List ℕ → Kept → Loose → List ℕ
 rowWords k s m =
     slice 0 (s .at) k
-    ++ (6000 ∷ (slice (s .h .from) (s .h .rest) k ++ (0 ∷ (firstWords m ++ (6000 ∷ (slice (s .h .rest) (s .h .to) k ++ (restWords m ++ backWords k s)))))))
+    ++ (6000 ∷ (slice (s .from) (s .rest) k ++ (0 ∷ (firstWords m ++ (6000 ∷ (slice (s .rest) (s .to) k ++ (restWords m ++ backWords k s)))))))
 
-unfoldable pub resultLength : List ℕ → Shape → Spot → ℕ
+unfoldable pub resultLength : List ℕ → Kept → Spot → ℕ
 resultLength k s p = length (frontWords k s p) + (length (opening (p .parts)) + p .words) + length (backWords k s)
 
 -- the words of a result whose rest has the parts ws
-unfoldable pub resultWords : List ℕ → Shape → Spot → List ℕ → List ℕ
+unfoldable pub resultWords : List ℕ → Kept → Spot → List ℕ → List ℕ
 resultWords k s p ws = frontWords k s p ++ ((opening (p .parts) ++ ws) ++ backWords k s)
 
 -- a monomial that is bounded, so that sums fit
@@ -67,7 +65,7 @@ pub record Holds (rest ws : List ℕ) : Type 0 where
   pub last : length ws ≤ length rest → drop (length rest - length ws) rest ≡ ws
 
 -- a result is counted, and written after the others where it is not too long and has room
-pub record Rowed (k : List ℕ) (s : Shape) (p : Spot) (rest out : List ℕ) (rows : Results) (out′ : List ℕ) (r : Results) : Type 0 where
+pub record Rowed (k : List ℕ) (s : Kept) (p : Spot) (rest out : List ℕ) (rows : Results) (out′ : List ℕ) (r : Results) : Type 0 where
   pub room : r .to ≤ length out′
   pub size : r .size ≡ counted (rows .size) (resultLength k s p)
   pub wrote : (ws : List ℕ) → length ws ≡ p .words → Holds rest ws → desk .question ≤ length rest → resultLength k s p ≤ desk .question

@@ -12,8 +12,8 @@ use Rattle.rules.specs.Looks.{isEps}
 use Rattle.rules.specs.Expressions.{nullable}
 use Rattle.frames.specs.Frames.{framed}
 use Rattle.plans.specs.Sizes.{Short}
-use Rattle.plans.specs.declared.Shape.{Shape}
 use Rattle.pieces.specs.Written.{Wrote}
+use Rattle.exprs.specs.declared.adding.Kept.{Kept}
 use Rattle.exprs.specs.declared.adding.Results.{Results}
 use Rattle.exprs.specs.declared.monomials.Outside.{Outside}
 use Rattle.exprs.specs.declared.monomials.Walked.{Walked}
@@ -54,10 +54,10 @@ pub record Added (ls : List (List ℕ)) (ws rest out : List ℕ) (rows : Results
       → Wrote out (rows .to) (framed ls) out′ (r .to)
 
 -- R, which stands at the place, is passed
-pub record WalksOver (k : List ℕ) (s : Shape) (R : Expr) (n : ℕ) (ws rest out : List ℕ) (rows : Results) (rest′ out′ : List ℕ) (r : Walked) : Type 0 where
+pub record WalksOver (k : List ℕ) (s : Kept) (R : Expr) (n : ℕ) (ws rest out : List ℕ) (rows : Results) (rest′ out′ : List ℕ) (r : Walked) : Type 0 where
   pub null : r .null ≡ nullable R
   pub added : Added (map (rowWords k s) (met R n ws)) ws rest out rows rest′ out′ (r .rows)
 
-pub record Walks (k : List ℕ) (s : Shape) (at : ℕ) (o : Outside) (rest out : List ℕ) (rows : Results) (rest′ out′ : List ℕ) (r : Walked) : Type 0 where
+pub record Walks (k : List ℕ) (s : Kept) (at : ℕ) (o : Outside) (rest out : List ℕ) (rows : Results) (rest′ out′ : List ℕ) (r : Walked) : Type 0 where
   pub room : r .rows .to ≤ length out′
   pub each : (R : Expr) (beyond ws : List ℕ) → Here k at R beyond → length ws ≡ o .words → WalksOver k s R (o .parts) ws rest out rows rest′ out′ r

@@ -1,26 +1,32 @@
 // A result of M2 from a monomial: how long it is, and writing it in its frame.
 ghost use mathlib.Core.Path.{_≡_};
-ghost use mathlib.Core.List.{_++_};
-ghost use Prim.Native.Nat.{_≤_, _+_, _-_};
+ghost use mathlib.Core.List.{[], _∷_, _++_};
+ghost use Prim.Native.Nat.{_≤_, _<_, _+_, _-_};
 ghost use lib.ListN.{length, drop};
 ghost use Rattle.frames.specs.Frames.{frame, frameOf};
 ghost use Rattle.language.specs.Limits.{desk};
 ghost use Rattle.pieces.specs.Written.{Wrote};
 ghost use Rattle.exprs.specs.Loose.{opening};
-ghost use Rattle.exprs.specs.Rows.{frontOf, resultLength, resultWords, Bounded, counted, Rowed};
+ghost use Rattle.exprs.specs.Rows.{keptOf, frontWords, resultLength, resultWords, Bounded, counted, Rowed};
 use frames::FRAME;
 use frames::write_frame;
 use language::limits::QUESTION;
 use pieces::copying::copy;
 use pieces::copying::part_len;
 use pieces::grow;
-use pieces::making::made_len;
-use pieces::making::write_made;
-use plans::Piece;
-use plans::Recipe;
 use plans::Shape;
 use plans::Size;
-use plans::full;
+
+// What a result keeps of the conjunction: the words up to `at`, of the literal its hedge's first element and what follows it, and the words
+// from `end` on. It is smaller than the literal's shape, since each level of the recursion holds it.
+pub struct Kept {
+    pub at: usize,
+    pub from: usize,
+    pub rest: usize,
+    pub to: usize,
+    pub end: usize,
+    pub len: usize,
+}
 
 // A monomial f(R1), R2: the part of f(R1), how many parts R2 has, and how many words they have together.
 pub struct Spot {
@@ -36,29 +42,30 @@ pub struct Results {
     pub to: usize,
 }
 
-// What stands before the rest in a result.
-fn front(s: Shape, p: Spot) -> Recipe
-    ensures { λ r. ⌜ r ≡ frontOf s p ⌝ }
+pub(crate) fn keeping(s: Shape) -> Kept
+    ensures { λ r. ⌜ r ≡ keptOf s ⌝ }
 {
     let h = s.h;
-    let none = Piece::Copy(0, 0);
-    full(
-        Piece::Copy(0, s.at),
-        Piece::Word(6000),
-        Piece::Copy(h.from, h.rest),
-        Piece::Word(0),
-        Piece::Copy(p.place, p.past),
-        Piece::Word(6000),
-        Piece::Copy(h.rest, h.to),
-        none,
-        none,
-        none,
-        none,
-        none,
-        0,
-        0,
-        0,
-    )
+    Kept {
+        at: s.at,
+        from: h.from,
+        rest: h.rest,
+        to: h.to,
+        end: s.end,
+        len: s.len,
+    }
+}
+
+// How many words stand before the rest in a result.
+fn front_len(k: &[u16], s: Kept, p: Spot) -> usize
+    requires { ⌜ length (now k) ≤ desk .question ⌝ }
+    ensures { λ n. ⌜ n ≡ length (frontWords (now (k .entry)) s p) ⌝ }
+{
+    let a = part_len(k, 0, s.at);
+    let b = part_len(k, s.from, s.rest);
+    let c = part_len(k, p.place, p.past);
+    let d = part_len(k, s.rest, s.to);
+    a + b + c + d + 3
 }
 
 // How many words stand before the parts of a rest.
@@ -69,11 +76,11 @@ fn opening_len(parts: usize) -> usize
 }
 
 // How long a result is.
-fn result_len(k: &[u16], s: Shape, p: Spot) -> usize
+fn result_len(k: &[u16], s: Kept, p: Spot) -> usize
     requires { ⌜ (length (now k) ≤ desk .question) × Bounded p ⌝ }
     ensures { λ n. ⌜ n ≡ resultLength (now (k .entry)) s p ⌝ }
 {
-    let a = made_len(k, front(s, p), 0);
+    let a = front_len(k, s, p);
     let b = opening_len(p.parts);
     let c = part_len(k, s.end, s.len);
     a + (b + p.words) + c
@@ -114,10 +121,33 @@ fn open_rest(out: &mut [u16], at: usize, parts: usize) -> usize
     e
 }
 
+// One word; the answer is the place after it.
+fn put(out: &mut [u16], at: usize, x: u16) -> usize
+    requires { ⌜ at < length (now out) ⌝ }
+    ensures { λ e. ⌜ Wrote (now (out .entry)) at (x ∷ []) (now (out .exit)) e ⌝ }
+{
+    out[at] = x;
+    at + 1
+}
+
+// What stands before the rest in a result. It is written part by part and not by a recipe, which would stand in each frame of the recursion.
+fn write_front(k: &[u16], s: Kept, p: Spot, out: &mut [u16], at: usize) -> usize
+    requires { ⌜ at + length (frontWords (now k) s p) ≤ length (now out) ⌝ }
+    ensures { λ e. ⌜ Wrote (now (out .entry)) at (frontWords (now (k .entry)) s p) (now (out .exit)) e ⌝ }
+{
+    let a = copy(k, 0, s.at, out, at);
+    let b = put(out, a, 6000);
+    let c = copy(k, s.from, s.rest, out, b);
+    let d = put(out, c, 0);
+    let e = copy(k, p.place, p.past, out, d);
+    let f = put(out, e, 6000);
+    copy(k, s.rest, s.to, out, f)
+}
+
 // A result in its frame; the parts of its rest are the last words of `rest`.
 fn write_row(
     k: &[u16],
-    s: Shape,
+    s: Kept,
     p: Spot,
     one: usize,
     rest: &[u16],
@@ -128,7 +158,7 @@ fn write_row(
     ensures { λ e. ⌜ Wrote (now (out .entry)) at (frameOf (resultLength (now (k .entry)) s p) ++ resultWords (now (k .entry)) s p (drop (length (now (rest .entry)) - p .words) (now (rest .entry)))) (now (out .exit)) e ⌝ }
 {
     write_frame(out, at, one);
-    let a = write_made(k, front(s, p), 0, out, at + FRAME);
+    let a = write_front(k, s, p, out, at + FRAME);
     let b = open_rest(out, a, p.parts);
     let words = p.words;
     let e = copy(rest, rest.len() - words, rest.len(), out, b);
@@ -138,7 +168,7 @@ fn write_row(
 // A result more: counted, and written where it is not too long and has room.
 pub(crate) fn add_row(
     k: &[u16],
-    s: Shape,
+    s: Kept,
     p: Spot,
     rest: &[u16],
     out: &mut [u16],

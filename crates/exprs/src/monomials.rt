@@ -7,9 +7,11 @@ ghost use Rattle.language.specs.Limits.{desk};
 ghost use Rattle.exprs.specs.Charted.{ChartedFrom};
 ghost use Rattle.exprs.specs.Rows.{Sized, Written};
 ghost use Rattle.exprs.specs.Walks.{Widened, Enclosed, Walks};
+use crate::adding::Kept;
 use crate::adding::Results;
 use crate::adding::Spot;
 use crate::adding::add_row;
+use crate::adding::keeping;
 use crate::chart::chart;
 use crate::chart::expression_end;
 use crate::either;
@@ -63,7 +65,7 @@ fn enclose(k: &[u16], from: usize, until: usize, o: Outside, rest: &mut [u16]) -
 fn walk(
     k: &[u16],
     ends: &[usize],
-    s: Shape,
+    s: Kept,
     at: usize,
     o: Outside,
     rest: &mut [u16],
@@ -127,6 +129,7 @@ pub fn size_monomials(k: &[u16], s: Shape) -> Size
     requires { ⌜ length (now k) ≤ desk .question ⌝ }
     ensures { λ n. ⌜ Sized (now (k .entry)) s n ⌝ }
 {
+    let t = keeping(s);
     let mut ends: [usize; QUESTION] = [0; QUESTION];
     chart(k, &mut ends);
     let mut rest = [0; 1];
@@ -136,7 +139,7 @@ pub fn size_monomials(k: &[u16], s: Shape) -> Size
         size: Size::Fits(0),
         to: 1,
     };
-    let w = walk(k, &ends, s, s.expr, o, &mut rest, &mut out, rows);
+    let w = walk(k, &ends, t, s.expr, o, &mut rest, &mut out, rows);
     let met = w.rows;
     met.size
 }
@@ -146,6 +149,7 @@ pub fn write_monomials(k: &[u16], s: Shape, out: &mut [u16], at: usize) -> usize
     requires { ⌜ (length (now k) ≤ desk .question) × (at ≤ length (now out)) ⌝ }
     ensures { λ e. ⌜ Written (now (k .entry)) s (now (out .entry)) at (now (out .exit)) e ⌝ }
 {
+    let t = keeping(s);
     let mut ends: [usize; QUESTION] = [0; QUESTION];
     chart(k, &mut ends);
     let mut rest = [0; QUESTION];
@@ -154,7 +158,7 @@ pub fn write_monomials(k: &[u16], s: Shape, out: &mut [u16], at: usize) -> usize
         size: Size::Fits(0),
         to: at,
     };
-    let w = walk(k, &ends, s, s.expr, o, &mut rest, out, rows);
+    let w = walk(k, &ends, t, s.expr, o, &mut rest, out, rows);
     let met = w.rows;
     met.to
 }

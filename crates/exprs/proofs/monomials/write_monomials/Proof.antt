@@ -5,12 +5,13 @@ use Rattle.exprs.proofs.monomials.write_monomials.Statement.{statement}
 use Rattle.exprs.proofs.monomials.write_monomials.Tie as tie
 
 returns : tie.Need-returns
-returns c = walk-writes (c .before .before .before .before .walk .ensures) (omega arith)
+returns c = walk-writes (c .before .before .before .before .before .before .before .before .before .before .before .before .before .before .args .s) (c .before .before .before .before .before .before .before .before .before .before .before .keeping .ensures) (c .before .before .before .before .walk .ensures) (omega arith)
 
 pub write-monomials-spec : {M : Type 1} → statement M
 write-monomials-spec =
     tie.close
     (tie.spec
+    (λ c κs. search needs)
     (λ c. search needs)
     (λ c κs. search needs)
     (λ c. search needs)
