@@ -1,7 +1,7 @@
 // Expressions standing in words: where one ends and whether it is nullable, the monomials of its linear form.
 mod adding;
 mod chart;
-mod monomials;
+pub mod monomials;
 
 pub use monomials::size_monomials;
 pub use monomials::write_monomials;

@@ -1,0 +1,44 @@
+-- The third column by the numbers: 1 to 6 change nothing, 7 to 10 leave zeros.
+use Prim.Native.Nat.{_≤_}
+use mathlib.Core.Path.{_≡_, refl}
+use native.Mathlib.Omega.{arith}
+use Rattle.language.specs.declared.Refusal.{Refusal}
+use Rattle.language.specs.declared.Refusal.the-variants.{ShortSlice, QuestionLength, CountRange, BadOffset, NotLiterals, Undeclared, LongResult, LongWaiting, LineRoom, StepLimit, FillingLayout, FillingValue, LongLiteral, NoSuchLine, OpenLine, LongExample}
+use Rattle.language.specs.Numbers.{numberOf}
+use Rattle.demands.specs.Columns.{column, unchanged, zeroed}
+
+pub early-column : (e : Refusal) → numberOf e ≤ 6 → column e ≡ unchanged
+early-column ShortSlice p = refl
+early-column QuestionLength p = refl
+early-column CountRange p = refl
+early-column BadOffset p = refl
+early-column NotLiterals p = refl
+early-column Undeclared p = refl
+early-column LongResult p = absurd (omega arith)
+early-column LongWaiting p = absurd (omega arith)
+early-column LineRoom p = absurd (omega arith)
+early-column StepLimit p = absurd (omega arith)
+early-column FillingLayout p = absurd (omega arith)
+early-column FillingValue p = absurd (omega arith)
+early-column LongLiteral p = absurd (omega arith)
+early-column NoSuchLine p = absurd (omega arith)
+early-column OpenLine p = absurd (omega arith)
+early-column LongExample p = absurd (omega arith)
+
+pub late-column : (e : Refusal) → 7 ≤ numberOf e → numberOf e ≤ 10 → column e ≡ zeroed
+late-column ShortSlice p q = absurd (omega arith)
+late-column QuestionLength p q = absurd (omega arith)
+late-column CountRange p q = absurd (omega arith)
+late-column BadOffset p q = absurd (omega arith)
+late-column NotLiterals p q = absurd (omega arith)
+late-column Undeclared p q = absurd (omega arith)
+late-column LongResult p q = refl
+late-column LongWaiting p q = refl
+late-column LineRoom p q = refl
+late-column StepLimit p q = refl
+late-column FillingLayout p q = absurd (omega arith)
+late-column FillingValue p q = absurd (omega arith)
+late-column LongLiteral p q = absurd (omega arith)
+late-column NoSuchLine p q = absurd (omega arith)
+late-column OpenLine p q = absurd (omega arith)
+late-column LongExample p q = absurd (omega arith)

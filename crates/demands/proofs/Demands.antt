@@ -1,0 +1,141 @@
+-- What each demand comes to for a caller: theorems of any outcome that the contracts of the calls allow, from the words that the caller holds.
+-- Nothing is known of a call but its contract (`allowed` beside each kind of call). The proofs are cited.
+use Prim.Native.Nat.{ℕ, _≤_, _<_}
+use mathlib.Core.Path.{_≡_}
+use mathlib.Core.Logic.{_⊎_, _↔_}
+use mathlib.Core.List.{List}
+use mathlib.Core.Option.{some}
+use lib.ListN.{length, take}
+use Rattle.language.specs.declared.Refusal.{Refusal}
+use Rattle.language.specs.declared.Refusal.the-variants.{LongLiteral, LongExample}
+use Rattle.language.specs.Limits.{desk}
+use Rattle.language.specs.Numbers.{numberOf}
+use Rattle.language.specs.Trees.{Question}
+use Rattle.language.specs.Question.{asks, readQuestion}
+use Rattle.meaning.specs.Meaning.{Filling, MeetsQuestion}
+use Rattle.rules.specs.Each.{Each}
+use Rattle.lines.specs.Matching.{Matching}
+use Rattle.solver.specs.declared.Outcome.the-variants.{Refused, NoLine}
+use Rattle.solver.specs.Leaves.{outcomeNumber}
+use Rattle.trying.specs.declared.Tried.the-variants as tried
+use Rattle.showing.specs.declared.Shown.the-variants.{Shows, Denied}
+use Rattle.host.specs.Bytes.{wordsOf, wordsIn}
+use Rattle.demands.specs.Solves.{Solve}
+use Rattle.demands.specs.Tries.{Try}
+use Rattle.demands.specs.Examples.{Example}
+use Rattle.demands.specs.HostCalls.{DeskSolve, DeskTry, DeskExample}
+use Rattle.demands.specs.Answers.{Line, lineNumbered}
+use Rattle.demands.specs.Promises.{Promised, Answered, exampleWords, RoomShows, Told}
+use Rattle.demands.specs.Table.{SolveFault, TryFault, First}
+use Rattle.demands.specs.Tells.{SolveTells, TryTells, ExampleTells, TryAgrees}
+use Rattle.demands.specs.HostTells.{DeskSolveTells, DeskTryTells, DeskTryAgrees, BytesTold, DeskExampleTells}
+use Rattle.demands.proofs.Between as between
+use Rattle.demands.proofs.Solving as solving
+use Rattle.demands.proofs.Showing as showing
+use Rattle.demands.proofs.Trying as trying
+use Rattle.demands.proofs.Given as given
+use Rattle.demands.proofs.Hosting as hosting
+
+-- ---- demand 1: it refuses a bad question itself, and what it leaves is fixed
+
+-- Solving refuses with 1 to 10 and leaves what the table's third column says, or it answers, and leaves zeros and the answer.
+pub solve-tells : (c : Solve) → SolveTells c
+solve-tells = solving.tells
+
+-- A number comes back exactly when the table says so: its condition holds, and that of no smaller number does.
+pub solve-given : (c : Solve) (e : Refusal) → (c .returned .outcome ≡ Refused e) ↔ First (SolveFault (length (c .work)) (length (c .answer)) (c .question)) e
+solve-given = given.solve-given
+
+-- Trying refuses with 1 to 6, 11, 12 or 13 and leaves what the third column says, or it says yes or no, and leaves zeros.
+pub try-tells : (t : Try) → TryTells t
+try-tells = given.try-tells
+
+pub try-given : (t : Try) (e : Refusal) → (t .returned ≡ tried.Refused e) ↔ First (TryFault (length (t .work)) (t .question) (t .filling)) e
+try-given = given.try-given
+
+-- The example refuses as solving does, or the line that is read off the answer decides: 14, 15, 16, or its example in the room;
+pub example-tells : (c : Example) → ExampleTells c
+example-tells = showing.tells
+
+-- and 1 to 10 come back exactly when the table says so.
+pub example-given : (c : Example) (e : Refusal) → numberOf e ≤ 10
+    → (c .returned ≡ Denied e) ↔ First (SolveFault (length (c .work)) (length (c .answer)) (c .question)) e
+example-given = showing.example-given
+
+-- ---- demand 2 and demand 3, of an answer
+
+-- Where the number is 0, the lines read off the answer's words are those of the published rules, in their order, with their marks, after as many
+-- steps (`by-rules`); any filling meets the question exactly when it meets one of them (`exact`); and what comes back is what they say.
+pub solve-answers : (c : Solve) → outcomeNumber (c .returned .outcome) ≡ 0 → Answered (c .question) (c .answerLeft) (c .returned)
+solve-answers c z = solving.solves c z .answered .answered
+
+-- "none" is a promise: where it comes back, no filling meets the question.
+pub none-is-none : (c : Solve) → c .returned .outcome ≡ NoLine → (asked : Question) × (readQuestion desk (c .question) ≡ asks asked) × ((ρ : Filling) → ¬ MeetsQuestion ρ asked)
+none-is-none = solving.none
+
+-- If within each alternative every equation has a side without blanks, and each blank of a shape test also stands in an equation of that
+-- alternative, the count of open lines that comes back is 0.
+pub matching-none-open : (c : Solve) → ((asked : Question) → readQuestion desk (c .question) ≡ asks asked → Each Matching (asked .alternatives)) → c .returned .«open» ≡ 0
+matching-none-open = solving.none-open
+
+-- Two answers to one question have the same lines, whoever gave them.
+pub one-answer : {q r : List ℕ} → q ≡ r → {a b : List ℕ} (p : Promised q a) (o : Promised r b) → (p .asked ≡ o .asked) × (p .lines ≡ o .lines)
+one-answer = between.one-answer
+
+-- ---- demand 3, of an example
+
+-- A length comes back only for a settled line, and then the room's words are read back as a filling that meets that very line;
+pub shows-only-so : (c : Example) (m : ℕ) → c .returned ≡ Shows m
+    → (p : Promised (c .question) (c .answerLeft)) × (k : Line) × (lineNumbered (c .line) (p .lines) ≡ some k) × (k .mark ≡ 1) × RoomShows (p .asked .counts) k m (c .room) (c .roomLeft)
+shows-only-so = showing.shows-so
+
+-- and 16 only where the line's example is longer than the room lent or than a filling may be.
+pub long-only-so : (c : Example) → c .returned ≡ Denied LongExample
+    → (p : Promised (c .question) (c .answerLeft)) × (k : Line) × (lineNumbered (c .line) (p .lines) ≡ some k) × (k .mark ≡ 1)
+    × ((desk .filling < length (exampleWords (p .asked .counts) k)) ⊎ (length (c .room) < length (exampleWords (p .asked .counts) k)))
+long-only-so = showing.long-so
+
+-- After solve has answered, the lines that it left decide what the example tells of the same question, in slices that are long enough: a settled
+-- line is shown, or its example is too long (16).
+pub example-follows : (s : Solve) → outcomeNumber (s .returned .outcome) ≡ 0 → (c : Example) → s .question ≡ c .question
+    → desk .room ≤ length (c .work) → desk .room ≤ length (c .answer) → (p : Promised (s .question) (s .answerLeft))
+    → Told (p .asked .counts) (c .room) (lineNumbered (c .line) (p .lines)) (c .returned) (c .roomLeft)
+example-follows = showing.follows
+
+-- ---- demand 3, of a filling that is tried
+
+-- A filling in words gets yes where it meets one of the lines of an answer to the same question, and no where it meets none.
+pub try-agrees : (t : Try) {question answer : List ℕ} → t .question ≡ question → (p : Promised question answer) → TryAgrees p (t .filling) (t .returned)
+try-agrees = trying.agrees
+
+-- The words that an example showed, tried on the same question, get yes, or 13 where a literal filled in is too long.
+pub shown-then-tried : (t : Try) (c : Example) (m : ℕ) → c .returned ≡ Shows m → t .question ≡ c .question → t .filling ≡ take m (c .roomLeft)
+    → desk .room ≤ length (t .work) → (t .returned ≡ tried.Yes) ⊎ (t .returned ≡ tried.Refused LongLiteral)
+shown-then-tried = trying.shown-tried
+
+-- ---- the same for the C program, on bytes
+
+-- The number is 0 to 10, each exactly when the table says so, and the answer's bytes are what the table says.
+pub desk-solve-tells : (c : DeskSolve) → DeskSolveTells c
+desk-solve-tells = hosting.solve-tells
+
+-- Where it is 0, the words of the answer's bytes keep demands 2 and 3.
+pub desk-solve-promises : (c : DeskSolve) → c .number ≡ 0 → Promised (wordsIn (c .question)) (wordsOf (c .answerLeft))
+desk-solve-promises = hosting.solve-promises
+
+-- 101 is yes, 100 is no, and all else is a number of the table, exactly when the table says so;
+pub desk-try-tells : (t : DeskTry) → DeskTryTells t
+desk-try-tells = hosting.try-tells
+
+-- 101 and 100 are what the lines say in the bytes that desk_solve left;
+pub desk-try-agrees : (t : DeskTry) {question answer : List ℕ} → t .question ≡ question → (p : Promised (wordsIn question) answer) → DeskTryAgrees p (t .filling) (t .number)
+desk-try-agrees = hosting.try-agrees
+
+-- desk_example refuses as desk_solve does, exactly when the table says so, or the line of that number in the answer decides;
+pub desk-example-tells : (c : DeskExample) → DeskExampleTells c
+desk-example-tells = hosting.example-tells
+
+-- and the lines in the bytes that desk_solve left decide what desk_example tells: 14, 15, 16, or 100 and a length, with a filling in the room that meets that very line.
+pub desk-example-follows : (s : DeskSolve) → s .number ≡ 0 → (c : DeskExample) → s .question ≡ c .question → (p : Promised (wordsIn (s .question)) (wordsOf (s .answerLeft)))
+    → BytesTold (p .asked .counts) (lineNumbered (c .line) (p .lines)) (c .room) (c .number) (c .roomLeft)
+desk-example-follows = hosting.example-follows

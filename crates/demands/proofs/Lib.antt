@@ -1,0 +1,14 @@
+pub mod Reading
+pub mod Promising
+pub mod Between
+pub mod Columns
+pub mod Runs
+pub mod Numbers
+pub mod Faults
+pub mod Judging
+pub mod Given
+pub mod Solving
+pub mod Showing
+pub mod Trying
+pub mod Hosting
+pub mod Demands

@@ -1,0 +1,136 @@
+-- An answered question: what its words and the answer's words promise, and what is told of its lines' examples. No call is spoken of here.
+use Prim.Native.Nat.{ℕ, _≤_}
+use mathlib.Core.Path.{_≡_, refl, sym, ap, subst, _∙_}
+use mathlib.Core.Logic.{inl, inr, Iff·trans}
+use mathlib.Core.Bool.{Bool, true, false, _||_}
+use mathlib.Core.List.{List, [], _∷_, map}
+use mathlib.Core.Option.{Option, none, some}
+use native.Mathlib.Omega.{arith}
+use borrow.Author.Tests.{ltb-true, ltb-false}
+use lib.Dec.{ltb}
+use lib.ListN.{length, drop}
+use lib.Seq.{take-append-seam, drop-append-seam}
+use Rattle.language.specs.declared.Refusal.the-variants.{OpenLine, LongExample}
+use Rattle.language.specs.Limits.{desk}
+use Rattle.language.specs.Kinds.{pick}
+use Rattle.language.specs.Trees.{Conj}
+use Rattle.language.specs.Question.{countsOf, alternativesOf, declaredC}
+use Rattle.meaning.specs.Meaning.{Filling}
+use Rattle.meaning.specs.Values.{readFilling, fillingWords}
+use Rattle.rules.specs.Reply.{nothing}
+use Rattle.rules.specs.Step.{step}
+use Rattle.rules.specs.Solved.{solved}
+use Rattle.rules.specs.Answer.{markOf, answered, solving}
+use Rattle.rules.specs.Example.{example}
+use Rattle.rules.specs.Calls.{lineAt, Showing, shows, denied, fitted, shown}
+use Rattle.rules.specs.Each.{Each}
+use Rattle.rules.proofs.Each.{each-map}
+use Rattle.rules.proofs.Invariant.{answered-run}
+use Rattle.exact.proofs.Run.{run-same}
+use Rattle.rules.proofs.Invariant.{lines-rest}
+use Rattle.exact.proofs.Declared.{lines-declared, read-declared}
+use Rattle.lines.proofs.Lines.{example-meets-line, example-written, matching-lines-solved}
+use Rattle.lines.proofs.Shown.{each-line, read-counts}
+use Rattle.showing.specs.Shown.{resultOf, roomOf}
+use Rattle.showing.specs.Answers.{Answer}
+use Rattle.demands.specs.Answers.{Line, MeetsLine, lineNumbered}
+use Rattle.demands.specs.Promises.{Promised, Told, missing, is-open, too-long, shown as is-shown}
+use Rattle.demands.proofs.Reading.{asLine, answer-back, meets-back, literals-back, asLineOf, line-numbered}
+
+-- no rule applies
+abbrev Quiet : Conj → Type 0
+Quiet k = step k ≡ nothing
+
+-- ---- marks
+
+settled-mark : (k : Conj) → markOf k ≡ 1 → solved k ≡ true
+settled-mark k e = go (solved k) e
+  where
+    go : (b : Bool) → pick {A = ℕ} b 1 2 ≡ 1 → b ≡ true
+    go true e = refl
+    go false e = absurd (let z : _≡_ {A = ℕ} 2 1 = e in omega arith)
+
+mark-settled : (k : Conj) → solved k ≡ true → markOf k ≡ 1
+mark-settled k e = ap (λ b. pick {A = ℕ} b 1 2) e
+
+mark-open : (k : Conj) → solved k ≡ false → markOf k ≡ 2
+mark-open k e = ap (λ b. pick {A = ℕ} b 1 2) e
+
+each-line-of : (P : Line → Type 0) (Q : Conj → Type 0) → ((k : Conj) → Q k → P (asLine k)) → (ls : List Conj) → Each Q ls → Each P (map asLine ls)
+each-line-of P Q h ls q = each-map Q P asLine h ls q
+
+every-line : (P : Line → Type 0) → ((k : Conj) → P (asLine k)) → (ls : List Conj) → Each P (map asLine ls)
+every-line P h [] = tt
+every-line P h (k ∷ ls) = (h k, every-line P h ls)
+
+-- what is promised, and that its lines and steps are these
+pub record From (question words : List ℕ) (ls : List Conj) (n : ℕ) : Type 0 where
+  pub promised : Promised question words
+  pub lines : promised .lines ≡ map asLine ls
+  pub steps : promised .by-rules .steps ≡ n
+
+module _ (work answer : ℕ) (question : List ℕ) (ls : List Conj) (n : ℕ) (e : solving desk work answer question ≡ answered ls n) where
+  -- ---- the answer
+
+  pub promise : (words : List ℕ) → Answer words ls → From question words ls n
+  promise words a =
+      let (q, asked, ran) = answered-run desk work answer question ls n e in
+      record {
+        promised = record {
+          asked = q;
+          question-read = asked;
+          lines = map asLine ls;
+          answer-read = answer-back a;
+          by-rules = record { steps = n; run = rw literals-back ran; marks = every-line (λ l. l .mark ≡ markOf (l .literals)) (λ k. refl) ls };
+          exact = record {
+            same = λ ρ. Iff·trans (run-same desk (q .alternatives) ls n ran ρ) (meets-back ρ ls);
+            met = each-line-of (λ l. l .mark ≡ 1 → (ρ : Filling) × MeetsLine ρ l) Quiet (λ k quiet m. (example k, example-meets-line k (settled-mark k m) quiet)) ls
+                (lines-rest desk (q .alternatives) ls n ran);
+            matched = λ m. each-line-of (λ l. l .mark ≡ 1) (λ k. solved k ≡ true) mark-settled ls (matching-lines-solved desk (q .alternatives) ls n ran m);
+          };
+        };
+        lines = refl;
+        steps = refl;
+      }
+
+  -- ---- the example of line i
+
+  module _ (i : ℕ) (room : List ℕ) where
+    abbrev Tells : Showing → Option Line → Type 0
+    Tells s l = Told (countsOf question) room l (resultOf s) (roomOf s room)
+
+    fits : (k : Conj) → lineAt i ls ≡ some k → solved k ≡ true → (a b : Bool)
+        → ltb (desk .filling) (length (fillingWords (countsOf question) (example k))) ≡ a → ltb (length room) (length (fillingWords (countsOf question) (example k))) ≡ b
+        → Tells (elim (a || b) [ true ↦ denied LongExample | false ↦ shows (fillingWords (countsOf question) (example k)) ]) (some (asLine k))
+    fits k there s true b x y = too-long (asLine k) refl (mark-settled k s) (inl (ltb-true (desk .filling) _ x)) refl refl
+    fits k there s false true x y = too-long (asLine k) refl (mark-settled k s) (inr (ltb-true (length room) _ y)) refl refl
+    fits k there s false false x y =
+        let ws = fillingWords (countsOf question) (example k) in
+        let (q, asked, ran) = answered-run desk work answer question ls n e in
+        let (counts, declared) = read-declared desk question q asked in
+        let dec = each-line (λ j. declaredC (q .counts) j ≡ true) i ls k there (lines-declared (q .counts) desk (q .alternatives) ls n ran declared) in
+        let quiet = each-line Quiet i ls k there (lines-rest desk (q .alternatives) ls n ran) in
+        let short : length ws ≤ desk .filling = ltb-false (desk .filling) (length ws) x in
+        let (ρ, back, agree, m) = example-written desk (countsOf question) (alternativesOf question) k (read-counts desk question q asked) (rw counts at dec) s quiet short in
+        let front = take-append-seam ws (drop (length ws) room) in
+        is-shown (asLine k) (length ws) refl (mark-settled k s) refl short (ltb-false (length room) (length ws) y) refl
+        (record {
+          filling = ρ;
+          words = front;
+          read = ap (readFilling desk (countsOf question)) front ∙ back;
+          agrees = agree;
+          meets = m;
+          rest = drop-append-seam ws (drop (length ws) room);
+        })
+
+    settled : (k : Conj) → lineAt i ls ≡ some k → (b : Bool) → solved k ≡ b
+        → Tells (elim b [ true ↦ fitted desk (length room) (fillingWords (countsOf question) (example k)) | false ↦ denied OpenLine ]) (some (asLine k))
+    settled k there true s = fits k there s _ _ refl refl
+    settled k there false s = is-open (asLine k) refl (mark-open k s) refl refl
+
+    at-line : (o : Option Conj) → lineAt i ls ≡ o → Tells (shown desk (countsOf question) (length room) o) (asLineOf o)
+    at-line none there = missing refl refl refl
+    at-line (some k) there = settled k there (solved k) refl
+
+    pub tell : Tells (shown desk (countsOf question) (length room) (lineAt i ls)) (lineNumbered i (map asLine ls))
+    tell = subst (Tells (shown desk (countsOf question) (length room) (lineAt i ls))) (sym (line-numbered i ls)) (at-line (lineAt i ls) refl)

@@ -1,0 +1,55 @@
+-- Calls on bytes that came back: desk_solve(question, answer), desk_try(question, filling), desk_example(question, line, room).
+use Prim.Native.Nat.{ℕ}
+use mathlib.Core.Path.{_≡_}
+use mathlib.Core.List.{List}
+use lib.ListN.{length}
+use Rattle.language.specs.Limits.{desk}
+use Rattle.host.specs.Host.{solvingBytes, solveNumber, solveLeaves, tryingBytes, TryNumber, showingBytes, showNumber, showLeaves}
+use Rattle.host.proofs.desk_solve as desk-solve
+use Rattle.host.proofs.desk_try as desk-try
+use Rattle.host.proofs.desk_example as desk-example
+use Rattle.demands.specs.Calls.{Call}
+
+-- ---- desk_solve
+
+pub record DeskSolve : Type 0 where
+  pub question : List ℕ
+  pub answer : List ℕ
+  pub number : ℕ
+  pub answerLeft : List ℕ
+  pub said : (number ≡ solveNumber (solvingBytes desk (length answer) question)) × (answerLeft ≡ solveLeaves desk (solvingBytes desk (length answer) question) answer)
+
+-- any outcome that the contract itself allows is one; so below
+abbrev pub solve-allowed : Call desk-solve.ended desk-solve.Reads.Pre desk-solve.Reads.Post → DeskSolve
+solve-allowed c = record { question = c .arguments .0 .now; answer = c .arguments .1 .0 .now; number = c .outcome .0; answerLeft = c .outcome .1 .1 .0; said = c .said }
+
+-- ---- desk_try
+
+pub record DeskTry : Type 0 where
+  pub question : List ℕ
+  pub filling : List ℕ
+  pub number : ℕ
+  pub said : TryNumber (tryingBytes desk question filling) number
+
+abbrev pub try-allowed : Call desk-try.ended desk-try.Reads.Pre desk-try.Reads.Post → DeskTry
+try-allowed c = record { question = c .arguments .0 .now; filling = c .arguments .1 .0 .now; number = c .outcome .0; said = c .said }
+
+-- ---- desk_example
+
+pub record DeskExample : Type 0 where
+  pub question : List ℕ
+  pub line : ℕ
+  pub room : List ℕ
+  pub number : ℕ
+  pub roomLeft : List ℕ
+  pub said : (number ≡ showNumber (showingBytes desk (length room) line question)) × (roomLeft ≡ showLeaves (showingBytes desk (length room) line question) room)
+
+abbrev pub example-allowed : Call desk-example.ended desk-example.Reads.Pre desk-example.Reads.Post → DeskExample
+example-allowed c = record {
+  question = c .arguments .0 .now;
+  line = c .arguments .1 .0;
+  room = c .arguments .1 .1 .0 .now;
+  number = c .outcome .0;
+  roomLeft = c .outcome .1 .1 .1 .0;
+  said = c .said;
+}

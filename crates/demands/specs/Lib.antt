@@ -1,0 +1,12 @@
+pub mod Calls
+pub mod Solves
+pub mod Tries
+pub mod Examples
+pub mod HostCalls
+pub mod Answers
+pub mod Promises
+pub mod Columns
+pub mod Runs
+pub mod Table
+pub mod Tells
+pub mod HostTells

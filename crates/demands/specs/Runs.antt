@@ -1,0 +1,38 @@
+-- How far a run gets within its limits, and what stops it there: 7 to 10, each said of a state that the run reaches.
+use Prim.Native.Nat.{ℕ, suc, _<_, _≤_}
+use mathlib.Core.Path.{_≡_}
+use mathlib.Core.Bool.{true, false}
+use mathlib.Core.List.{List, [], _∷_, _++_}
+use Rattle.language.specs.declared.Refusal.{Refusal}
+use Rattle.language.specs.declared.Refusal.the-variants.{LongResult, LongWaiting, LineRoom, StepLimit}
+use Rattle.language.specs.Limits.{Limits}
+use Rattle.language.specs.Trees.{Conj}
+use Rattle.rules.specs.Reply.{nothing, results}
+use Rattle.rules.specs.Step.{step}
+use Rattle.rules.specs.Run.{anyLong, waitingSize, linesFit}
+
+module _ (L : Limits) (alternatives : List Conj) where
+  -- So many steps are made and so many left, these lines are found, and these conjunctions wait.
+  pub data Reached : ℕ → ℕ → List Conj → List Conj → Type 0 where
+    begins : Reached 0 (L .steps) [] alternatives
+    -- "If no rule applies, the conjunction becomes the next line; that is no step."
+    rests : {made left : ℕ} {lines : List Conj} (k : Conj) (waiting : List Conj) → Reached made left lines (k ∷ waiting) → step k ≡ nothing
+        → linesFit L (lines ++ (k ∷ [])) ≡ true → Reached made left (lines ++ (k ∷ [])) waiting
+    -- "Results stand in the place of the conjunction, in order."
+    steps : {made left : ℕ} {lines : List Conj} (k : Conj) (ks waiting : List Conj) → Reached made (suc left) lines (k ∷ waiting) → step k ≡ results ks
+        → anyLong L ks ≡ false → waitingSize (ks ++ waiting) ≤ L .room → Reached (suc made) left lines (ks ++ waiting)
+
+  -- what stops the run: "In a step: 10, 7, 8"
+  pub data Stops (e : Refusal) : Type 0 where
+    -- "a step's result passes 1,024 words"
+    long-result : e ≡ LongResult → {made left : ℕ} {lines : List Conj} (k : Conj) (ks waiting : List Conj) → Reached made (suc left) lines (k ∷ waiting)
+        → step k ≡ results ks → anyLong L ks ≡ true → Stops e
+    -- "lengths of waiting conjunctions, plus one for each, pass 8,192"
+    long-waiting : e ≡ LongWaiting → {made left : ℕ} {lines : List Conj} (k : Conj) (ks waiting : List Conj) → Reached made (suc left) lines (k ∷ waiting)
+        → step k ≡ results ks → anyLong L ks ≡ false → L .room < waitingSize (ks ++ waiting) → Stops e
+    -- "a 513th line, or a line past word 8,191"
+    no-line-fits : e ≡ LineRoom → {made left : ℕ} {lines : List Conj} (k : Conj) (waiting : List Conj) → Reached made left lines (k ∷ waiting)
+        → step k ≡ nothing → linesFit L (lines ++ (k ∷ [])) ≡ false → Stops e
+    -- "10,000 steps made and a rule still applies"
+    no-step-left : e ≡ StepLimit → {made : ℕ} {lines : List Conj} (k : Conj) (ks waiting : List Conj) → Reached made 0 lines (k ∷ waiting)
+        → step k ≡ results ks → Stops e
