@@ -46,9 +46,6 @@ lines-size-more (x ∷ ls) k = let e = lines-size-more ls k in let z : suc (leng
 pub count-more : (ls : List Conj) (k : Conj) → length (ls ++ (k ∷ [])) ≡ length ls + 1
 count-more ls k = length-append ls (k ∷ [])
 
-open-after : Bool → ℕ → ℕ
-open-after s n = pick s n (suc n)
-
 pub open-more : (ls : List Conj) (k : Conj) → countOpen (ls ++ (k ∷ [])) ≡ pick (solved k) (countOpen ls) (suc (countOpen ls))
 open-more [] k = refl
 open-more (x ∷ ls) k = go (solved x) (solved k) (open-more ls k)

@@ -8,10 +8,10 @@ ghost use Rattle.language.specs.Limits.{desk};
 ghost use Rattle.language.specs.Kinds.{pick};
 ghost use Rattle.answers.specs.Lined.{Lined, counted, withLine};
 use language::limits::LINES_AT;
-use stack::clear;
-use stack::copy;
-use stack::narrow;
-use stack::store;
+use waiting::clear;
+use waiting::copy;
+use waiting::narrow;
+use waiting::store;
 
 // Where the lines begin, as a word.
 const FIRST_OFFSET: u16 = LINES_AT as u16;

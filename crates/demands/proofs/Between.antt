@@ -17,8 +17,8 @@ use Rattle.rules.specs.Run.{Outcome, finished, run}
 use Rattle.rules.specs.Answer.{Solving, answered, unread, solvingOf, solving, markOf}
 use Rattle.rules.specs.Each.{Each}
 use Rattle.solver.specs.Leaves.{leaves}
-use Rattle.showing.specs.Answers.{Answer}
-use Rattle.showing.proofs.Finished.{lines-end}
+use Rattle.example.specs.Answers.{Answer}
+use Rattle.example.proofs.Finished.{lines-end}
 use Rattle.host.proofs.Refusals.{each-number}
 use Rattle.demands.specs.Answers.{Line, literalsOf}
 use Rattle.demands.specs.Promises.{Promised}

@@ -18,7 +18,7 @@ use Rattle.lines.specs.Matching.{Matching}
 use Rattle.solver.specs.declared.Outcome.the-variants.{Refused, NoLine}
 use Rattle.solver.specs.Leaves.{outcomeNumber}
 use Rattle.trying.specs.declared.Tried.the-variants as tried
-use Rattle.showing.specs.declared.Shown.the-variants.{Shows, Denied}
+use Rattle.example.specs.declared.Shown.the-variants.{Shows, Denied}
 use Rattle.host.specs.Bytes.{wordsOf, wordsIn}
 use Rattle.demands.specs.Solves.{Solve}
 use Rattle.demands.specs.Tries.{Try}

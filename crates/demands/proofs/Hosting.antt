@@ -19,8 +19,8 @@ use Rattle.meaning.specs.Meaning.{Filling, MeetsQuestion}
 use Rattle.meaning.specs.Values.{Given, gives, readFilling}
 use Rattle.meaning.specs.Values as values
 use Rattle.exact.proofs.Declared.{read-declared}
-use Rattle.showing.specs.Shown.{resultOf, roomOf}
-use Rattle.showing.specs.Answers.{Answer}
+use Rattle.example.specs.Shown.{resultOf, roomOf}
+use Rattle.example.specs.Answers.{Answer}
 use Rattle.host.specs.Bytes.{wordsOf, bytesOf, wordsIn}
 use Rattle.host.specs.Host as host
 use Rattle.host.proofs.Refusals.{each-number, Numbered, numbered}

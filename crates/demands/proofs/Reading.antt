@@ -20,8 +20,8 @@ use Rattle.meaning.specs.Meaning.{Filling, MeetsOne}
 use Rattle.rules.specs.Solved.{solved}
 use Rattle.rules.specs.Answer.{markOf, lineWords, countOpen}
 use Rattle.rules.specs.Calls.{lineAt}
-use Rattle.showing.specs.Answers.{Answer}
-use Rattle.showing.proofs.Lines.{Place, place-of, count-is}
+use Rattle.example.specs.Answers.{Answer}
+use Rattle.example.proofs.Lines.{Place, place-of, count-is}
 use Rattle.demands.specs.Answers.{Line, literalsOf, marked, readLine, lineIn, withLine, readLines, readAnswer, MeetsLines, lineNumbered, opens}
 
 -- a line of the run as it stands in an answer

@@ -21,11 +21,11 @@ use Rattle.rules.specs.Answer.{Solving, answered, unread, given-up, solving, an
 use Rattle.rules.specs.Calls.{lineAt, shows, denied, fitted, shown, showingOf, showing}
 use Rattle.exact.proofs.Declared.{read-declared}
 use Rattle.solver.specs.Leaves.{outcomeNumber, leaves}
-use Rattle.showing.specs.declared.Shown.{Shown}
-use Rattle.showing.specs.declared.Shown.the-variants.{Shows, Denied}
-use Rattle.showing.specs.Shown.{resultOf, roomOf}
-use Rattle.showing.specs.Exhibits.{exhibits}
-use Rattle.showing.specs.Answers.{Answer}
+use Rattle.example.specs.declared.Shown.{Shown}
+use Rattle.example.specs.declared.Shown.the-variants.{Shows, Denied}
+use Rattle.example.specs.Shown.{resultOf, roomOf}
+use Rattle.example.specs.Exhibits.{exhibits}
+use Rattle.example.specs.Answers.{Answer}
 use Rattle.host.proofs.Refusals.{Numbered, numbered}
 use Rattle.demands.specs.Solves.{Solve}
 use Rattle.demands.specs.Examples.{Example}

@@ -20,7 +20,7 @@ use Rattle.lines.specs.Matching.{Matching}
 use Rattle.solver.specs.declared.Outcome.the-variants.{NoLine, AllSolved, SomeOpen}
 use Rattle.solver.specs.declared.Solved.{Solved}
 use Rattle.solver.specs.Leaves.{verdict, verdictFor, outcomeNumber, leaves}
-use Rattle.showing.specs.Answers.{Answer}
+use Rattle.example.specs.Answers.{Answer}
 use Rattle.host.proofs.Refusals.{Numbered, numbered}
 use Rattle.demands.specs.Solves.{Solve}
 use Rattle.demands.specs.Answers.{Line, literalsOf, MeetsLines, opens}

@@ -22,7 +22,7 @@ use Rattle.rules.specs.Calls as calls
 use Rattle.trying.specs.declared.Tried.{Tried}
 use Rattle.trying.specs.declared.Tried.the-variants as tried
 use Rattle.trying.specs.Outcome.{Answers, Outcome}
-use Rattle.showing.specs.declared.Shown.the-variants.{Shows}
+use Rattle.example.specs.declared.Shown.the-variants.{Shows}
 use Rattle.demands.specs.Tries.{Try}
 use Rattle.demands.specs.Examples.{Example}
 use Rattle.demands.specs.Answers.{Line, MeetsLine, MeetsLines, lineNumbered}

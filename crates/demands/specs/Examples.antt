@@ -2,9 +2,9 @@
 use Prim.Native.Nat.{ℕ}
 use mathlib.Core.Path.{_≡_}
 use mathlib.Core.List.{List}
-use Rattle.showing.specs.declared.Shown.{Shown}
-use Rattle.showing.specs.Exhibits.{exhibits}
-use Rattle.showing.proofs.example as example
+use Rattle.example.specs.declared.Shown.{Shown}
+use Rattle.example.specs.Exhibits.{exhibits}
+use Rattle.example.proofs.example as example
 use Rattle.demands.specs.Calls.{Call}
 
 -- what was lent and asked, what came back, and what the two slices and the room held then

@@ -13,7 +13,7 @@ use Rattle.solver.specs.Leaves.{refusedBy}
 use Rattle.trying.specs.declared.Tried.{Tried}
 use Rattle.trying.specs.declared.Tried.the-variants.{Yes, No}
 use Rattle.trying.specs.declared.Tried.the-variants as tried
-use Rattle.showing.specs.declared.Shown.the-variants.{Denied}
+use Rattle.example.specs.declared.Shown.the-variants.{Denied}
 use Rattle.demands.specs.Columns.{column, leftIn}
 use Rattle.demands.specs.Answers.{literalsOf, MeetsLines, lineNumbered}
 use Rattle.demands.specs.Promises.{Promised, Answered, Told}

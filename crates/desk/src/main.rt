@@ -15,6 +15,7 @@ use arguments::is;
 use arguments::is_last;
 use arguments::warn_of;
 use arguments::wrong_use;
+use example::Shown;
 use files::load;
 use language::Refusal;
 use language::limits::FILLING;
@@ -25,7 +26,6 @@ use print::say;
 use print::warn;
 use prompt::parse;
 use refusals::refusal;
-use showing::Shown;
 use solver::Outcome;
 use solver::Solved;
 use status::FAILED;
@@ -130,7 +130,7 @@ fn show(question: &[u16], line: usize) -> u8 {
     let mut work = [0u16; ROOM];
     let mut answer = [0u16; ROOM];
     let mut room = [0u16; FILLING];
-    let shown = showing::example(question, line, &mut work, &mut answer, &mut room);
+    let shown = example::example(question, line, &mut work, &mut answer, &mut room);
     match shown {
         Shown::Shows(n) => {
             show_words(question, &room, n);

@@ -2,6 +2,8 @@
 ghost use Prim.Native.Nat.{_≤_};
 use crate::print::number;
 use crate::print::say;
+use language::Kind;
+use language::classify;
 use words::word;
 
 // A letter and a number.
@@ -12,23 +14,22 @@ fn name(letter: &[u8], n: u16) {
 
 // The name of a variable or a symbol.
 fn named(w: u16) {
-    if w >= 4000 {
-        name(b"X", w - 4000);
-        return;
+    match classify(w) {
+        Kind::Term(x) => name(b"x", x.0),
+        Kind::Run(p) => name(b"p", p.0),
+        Kind::Symbol(f) => name(b"a", f.0),
+        Kind::Function(f) => name(b"X", f.0),
+        _ => number(w as u64),
     }
-    if w >= 3000 {
-        name(b"a", w - 3000);
-        return;
+}
+
+// Whether a word has children, and a 0 behind them.
+fn has_children(w: u16) -> bool {
+    match classify(w) {
+        Kind::Symbol(_) => true,
+        Kind::Function(_) => true,
+        _ => false,
     }
-    if w >= 2000 {
-        name(b"p", w - 2000);
-        return;
-    }
-    if w >= 1000 {
-        name(b"x", w - 1000);
-        return;
-    }
-    number(w as u64);
 }
 
 // A comma where another element follows.
@@ -40,20 +41,26 @@ fn comma(ws: &[u16], at: usize) {
 
 // Whether children follow this word.
 fn opens(ws: &[u16], at: usize, w: u16) -> bool {
-    if w < 3000 {
-        return false;
+    if has_children(w) {
+        return word(ws, at) != 0;
     }
-    word(ws, at) != 0
+    false
+}
+
+fn forward(ws: &[u16], at: usize) -> usize
+    ensures { λ r. ⌜ at ≤ r ⌝ }
+{
+    if at < ws.len() { at + 1 } else { at }
 }
 
 // The place after an element without children: a symbol or a function variable has a 0 of its own.
 fn after(ws: &[u16], at: usize, w: u16) -> usize
     ensures { λ r. ⌜ at ≤ r ⌝ }
 {
-    if w < 3000 {
-        return at;
+    if has_children(w) {
+        return forward(ws, at);
     }
-    if at < ws.len() { at + 1 } else { at }
+    at
 }
 
 // A hedge; the place after its 0.
@@ -123,10 +130,10 @@ fn behind(w: u16) {
 
 // A symbol over eps, which is written as the symbol alone.
 fn is_leaf(ws: &[u16], next: usize, w: u16) -> bool {
-    if w >= 7000 {
-        return false;
+    match classify(w) {
+        Kind::Symbol(_) => word(ws, next) == 7000,
+        _ => false,
     }
-    word(ws, next) == 7000
 }
 
 // An expression: R . S in a row, R + S either, R* any number, a0(R) one term over R; the place after it.
@@ -140,7 +147,7 @@ fn expression(ws: &[u16], at: usize) -> usize
     let next = at + 1;
     if is_leaf(ws, next, w) {
         named(w);
-        return after(ws, next, 3000);
+        return after(ws, next, w);
     }
     before(w);
     if w == 7000 {

@@ -18,9 +18,9 @@ use Rattle.rules.specs.Step.{place}
 use Rattle.rules.proofs.Answers.{Where, look, test, answers}
 use Rattle.rules.proofs.Looks.{firstRun-is, loneH-is}
 use Rattle.plans.specs.declared.Recipe.{Recipe}
-use Rattle.plans.specs.declared.View.{View}
-use Rattle.plans.specs.Looks.{head, tail, bodyWords}
-use Rattle.plans.specs.Views.{Sided, Sees}
+use Rattle.views.specs.declared.View.{View}
+use Rattle.views.specs.Looks.{head, tail, bodyWords}
+use Rattle.views.specs.Views.{Sided, Sees}
 use Rattle.plans.specs.Results.{made, resultsOf}
 use Rattle.plans.specs.Sizes.{placedWords}
 use Rattle.views.specs.declared.Terms.{Terms}
@@ -31,7 +31,7 @@ use Rattle.views.specs.Walks.{size, Counted, Ahead, Spotted}
 use Rattle.views.proofs.Words.{words-body, words-join, words-append, join-nil}
 use Rattle.views.proofs.Sides.{side-stands, side-head, side-tail, sees-before, sees-behind}
 use Rattle.plans.proofs.Places.{forth-within}
-use Rattle.views.proofs.Replaced.{acts-hedge}
+use Rattle.plans.proofs.Replaced.{acts-hedge}
 use Rattle.views.proofs.Cuts.{Cut, side-cuts}
 use Rattle.views.proofs.Joins.{upTo-whole, inside-whole, inside-before, inside-behind}
 use Rattle.equations.specs.Recipes.{cutPlan, e3Plan, e4Plan, del3Plan, ahead, termsAhead, hedgeAhead, spotOf}

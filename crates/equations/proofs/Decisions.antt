@@ -10,7 +10,7 @@ use Rattle.rules.specs.Looks.{empty, hasTerm, allTerms, under, onto, around, in
 use Rattle.rules.specs.Rules.{Branch, _>>=_, too}
 use Rattle.rules.specs.Solved.{isSome}
 use Rattle.rules.specs.Places.{atR1, atF1, atF2, atF3, atDel1, atDel3, atD2, atD0, atE1, atE2, atE3, atE4, atE5, atE6, noRule}
-use Rattle.plans.specs.Ranks.{eqnRank}
+use Rattle.rules.specs.Ranks.{eqnRank}
 use Rattle.plans.proofs.Ranking.{check-on, lone-on, pick-suc, and-true, and-false, pick-not}
 use Rattle.equations.specs.Rank.{rankOf}
 

@@ -5,9 +5,9 @@ use mathlib.Core.List.{List}
 use denote.Ref.{now}
 use Rattle.language.specs.Trees.{Hedge, Conj}
 use Rattle.language.proofs.Determined.{Asks, DeterminedFor}
-use Rattle.plans.specs.declared.View.{View}
-use Rattle.plans.specs.Views.{Sees}
-use Rattle.plans.specs.Ranks.{eqnAnswer}
+use Rattle.views.specs.declared.View.{View}
+use Rattle.views.specs.Views.{Sees}
+use Rattle.rules.specs.Ranks.{eqnAnswer}
 use Rattle.equations.specs.Planned.{Applies}
 use Rattle.equations.proofs.rank.rank_equation as rank-equation
 use Rattle.equations.proofs.plan.plan_equation as plan-equation

@@ -10,10 +10,10 @@ use Rattle.rules.specs.Rules.{R1, F1, F2, F3, F4, Del1, Del3, D2, D0, E1, E2, E
 use Rattle.rules.specs.Places.{atR1, atDel1, atDel3, atD2, atD0, atE1, atE2, atE3, atE4, atE5, atE6}
 use Rattle.rules.proofs.Answers.{look, test, answers}
 use Rattle.plans.specs.declared.Plan.{Plan}
-use Rattle.plans.specs.declared.View.{View}
+use Rattle.views.specs.declared.View.{View}
 use Rattle.plans.specs.Results.{resultsOf}
 use Rattle.plans.specs.Sizes.{placedWords}
-use Rattle.plans.specs.Ranks.{atEqn, answerAt, eqnAnswer}
+use Rattle.rules.specs.Ranks.{atEqn, answerAt, eqnAnswer}
 use Rattle.plans.proofs.Ranking.{_▸_, Apart, not-tabled}
 use Rattle.plans.specs.Slots.{dropPlan}
 use Rattle.equations.specs.Recipes.{r1Plan, del1Plan, d2Plan, d0Plan, e1Plan, e3Plan, e4Plan, e5Plan, e6Plan, del3Plan, spotOf, equationPlans, equationPlan}

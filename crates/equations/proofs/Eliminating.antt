@@ -20,16 +20,16 @@ use Rattle.rules.specs.Step.{place}
 use Rattle.rules.proofs.Answers.{look, test, answers}
 use Rattle.rules.proofs.Looks.{empty-is, loneT-is, loneTerm-is, loneH-is, loneNode-is, asBlank-is}
 use Rattle.plans.specs.declared.Recipe.{Recipe}
-use Rattle.plans.specs.declared.Side.{Side}
-use Rattle.plans.specs.declared.View.{View}
-use Rattle.plans.specs.Looks.{head, bodyWords}
-use Rattle.plans.specs.Views.{Sided, Sees}
+use Rattle.views.specs.declared.Side.{Side}
+use Rattle.views.specs.declared.View.{View}
+use Rattle.views.specs.Looks.{head, bodyWords}
+use Rattle.views.specs.Views.{Sided, Sees}
 use Rattle.plans.specs.Results.{replaced, changed, made, resultsOf}
 use Rattle.plans.specs.Sizes.{placedWords}
 use Rattle.views.proofs.Words.{words-body, words-append}
 use Rattle.words.proofs.Parts.{part-of}
 use Rattle.views.proofs.Sides.{side-whole, side-head, sees-before, sees-behind}
-use Rattle.views.proofs.Replaced.{Acts, replaced-hedge, replaced-conj, acts-term, acts-hedge, acts-functor}
+use Rattle.plans.proofs.Replaced.{Acts, replaced-hedge, replaced-conj, acts-term, acts-hedge, acts-functor}
 use Rattle.equations.specs.Recipes.{eliminated, leftInner, rightInner, e1Plan, e5Plan, e6Plan}
 use Rattle.equations.proofs.Plain.{planned, Makes, one-result, node-here, side-forth}
 

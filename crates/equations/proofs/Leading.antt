@@ -7,20 +7,22 @@ use mathlib.Core.List.{List, _++_}
 use borrow.Author.Tests.{eq-eqb, ne-eqb}
 use lib.ListN.{take, drop}
 use lib.Seq.{slice}
-use Rattle.language.specs.Limits.{desk}
+use Rattle.language.specs.declared.TermVar.{TermVar}
 use Rattle.language.specs.declared.HedgeVar.{HedgeVar}
+use Rattle.language.specs.declared.Name.{Name}
+use Rattle.language.specs.Limits.{desk}
 use Rattle.language.specs.Kinds.{pick}
 use Rattle.language.specs.Trees.{Hedge, ε, tvar, hvar, node, Conj, eqH, sameWords, hv, holds, inConj}
 use Rattle.rules.specs.Looks.{empty, hasTerm, allTerms, inside, upTo, lone, loneH}
 use Rattle.rules.specs.Rules.{too}
 use Rattle.rules.specs.Solved.{isSome}
 use Rattle.rules.specs.Places.{atR1, atF2, atDel1, atDel3, atE2, atE3, atE4, noRule}
-use Rattle.plans.specs.declared.Look.the-variants.{Empty, Term, Run, Node}
-use Rattle.plans.specs.declared.Side.{Side}
-use Rattle.plans.specs.declared.View.{View}
-use Rattle.plans.specs.Looks.{lookOf}
-use Rattle.plans.specs.Views.{Sided, Sees}
-use Rattle.plans.specs.Results.{member}
+use Rattle.views.specs.declared.Look.the-variants.{Empty, Term, Run, Node}
+use Rattle.views.specs.declared.Side.{Side}
+use Rattle.views.specs.declared.View.{View}
+use Rattle.views.specs.Looks.{lookOf}
+use Rattle.views.specs.Views.{Sided, Sees}
+use Rattle.words.specs.Spans.{member}
 use Rattle.views.proofs.Members.{member-hedge, elsewhere-sees}
 use Rattle.views.proofs.Sides.{side-whole}
 use Rattle.equations.specs.Rank.{lonely, leading, rankOf}
@@ -54,11 +56,11 @@ module _ (K : Conj) (r : Hedge) where
   pub too-empty : Empty ≡ lookOf r → true ≡ too hv (loneH r) K
   too-empty e = at-empty (λ m. true ≡ too hv (loneH m) K) r e refl
 
-  pub too-term : {w : ℕ} {b : Bool} → Term w b ≡ lookOf r → true ≡ too hv (loneH r) K
-  too-term e = at-term (λ m. true ≡ too hv (loneH m) K) r e (λ x t _. refl)
+  pub too-term : {w : TermVar} {b : Bool} → Term w b ≡ lookOf r → true ≡ too hv (loneH r) K
+  too-term e = at-term (λ m. true ≡ too hv (loneH m) K) r e (λ t _. refl)
 
-  pub too-node : {w : ℕ} {b c : Bool} → Node w b c ≡ lookOf r → true ≡ too hv (loneH r) K
-  too-node e = at-node (λ m. true ≡ too hv (loneH m) K) r e (λ f d t _. refl)
+  pub too-node : {w : Name} {b c : Bool} → Node w b c ≡ lookOf r → true ≡ too hv (loneH r) K
+  too-node e = at-node (λ m. true ≡ too hv (loneH m) K) r e (λ f d t _ _ _. refl)
 
 -- ---- lonely and leading, by single tests
 
@@ -121,12 +123,12 @@ module _ (K : Conj) (q : HedgeVar) (s t : Hedge) where
   pub struck-more : sameWords (hvar q s) (hvar q t) ≡ false → empty s ≡ false → atDel1 ≡ rankOf K (hvar q s) (hvar q t)
   struck-more e a = let d : sameWords s t ≡ false = sym struck-words ∙ e in rw (self q, d, a)
 
-pub same-run : (q w : HedgeVar) {p z : ℕ} → p ≡ 2000 + q .0 → z ≡ 2000 + w .0 → p ≡ z → q ≡ w
-same-run q w e d i = let n : q .0 ≡ w .0 = omega arith in ap (λ (m : ℕ). let v : HedgeVar = record { 0 = m } in v) n
+pub same-run : (q w : HedgeVar) → q .0 ≡ w .0 → q ≡ w
+same-run q w i = ap (λ (m : ℕ). let v : HedgeVar = record { 0 = m } in v) i
 
-module _ (K : Conj) (q w : HedgeVar) (s t : Hedge) {p z : ℕ} (e : p ≡ 2000 + q .0) (d : z ≡ 2000 + w .0) (i : p ≡ z → ⊥) where
+module _ (K : Conj) (q w : HedgeVar) (s t : Hedge) (i : q .0 ≡ w .0 → ⊥) where
   apart : eqH q w ≡ false
-  apart = ne-eqb (q .0) (w .0) (λ m. i (omega arith))
+  apart = ne-eqb (q .0) (w .0) i
 
   pub runs-lonely : empty s ≡ true → {n : ℕ} → n ≡ lonely K q (hvar w t) → n ≡ rankOf K (hvar q s) (hvar w t)
   runs-lonely a n =
@@ -161,15 +163,15 @@ module _ (K : Conj) (q : HedgeVar) (s : Hedge) where
   pub run-vanishes : (r : Hedge) → Empty ≡ lookOf r → empty s ≡ false → atE3 ≡ rankOf K (hvar q s) r
   run-vanishes r e a = at-empty (λ m. atE3 ≡ rankOf K (hvar q s) m) r e (rw a)
 
-pub begins-term : (r : Hedge) {w : ℕ} {b : Bool} → Term w b ≡ lookOf r → Begins r
-begins-term r e = at-term Begins r e (λ x t _. tt)
+pub begins-term : (r : Hedge) {w : TermVar} {b : Bool} → Term w b ≡ lookOf r → Begins r
+begins-term r e = at-term Begins r e (λ t _. tt)
 
-pub begins-node : (r : Hedge) {w : ℕ} {b c : Bool} → Node w b c ≡ lookOf r → Begins r
-begins-node r e = at-node Begins r e (λ f d t _. tt)
+pub begins-node : (r : Hedge) {w : Name} {b c : Bool} → Node w b c ≡ lookOf r → Begins r
+begins-node r e = at-node Begins r e (λ f d t _ _ _. tt)
 
-pub too-run : (K : Conj) (r : Hedge) {w : ℕ} {b : Bool} → Run w b ≡ lookOf r → b ≡ false → true ≡ too hv (loneH r) K
-too-run K r {w} {b} e = at-run (λ m. b ≡ false → true ≡ too hv (loneH m) K) r e (λ q t d f. let i : b ≡ empty t = cc in sym (not-lone q t K (sym i ∙ f)))
+pub too-run : (K : Conj) (r : Hedge) {w : HedgeVar} {b : Bool} → Run w b ≡ lookOf r → b ≡ false → true ≡ too hv (loneH r) K
+too-run K r {w} {b} e = at-run (λ m. b ≡ false → true ≡ too hv (loneH m) K) r e (λ t i f. sym (not-lone w t K (sym i ∙ f)))
 
-pub too-alone : (K : Conj) (r : Hedge) {w : ℕ} {b u : Bool} → Run w b ≡ lookOf r → b ≡ true → ((q : HedgeVar) (t : Hedge) → r ≡ hvar q t → w ≡ 2000 + q .0 → u ≡ inConj (hv q) K) → u ≡ too hv (loneH r) K
-too-alone K r {w} {b} {u} e = at-run (λ m. b ≡ true → ((q : HedgeVar) (t : Hedge) → m ≡ hvar q t → w ≡ 2000 + q .0 → u ≡ inConj (hv q) K) → u ≡ too hv (loneH m) K) r e
-    (λ q t d f h. let i : b ≡ empty t = cc in let j : w ≡ 2000 + q .0 = cc in h q t refl j ∙ sym (lone-too q t K (sym i ∙ f)))
+pub too-alone : (K : Conj) (r : Hedge) {w : HedgeVar} {b u : Bool} → Run w b ≡ lookOf r → b ≡ true → ((t : Hedge) → r ≡ hvar w t → u ≡ inConj (hv w) K) → u ≡ too hv (loneH r) K
+too-alone K r {w} {b} {u} e = at-run (λ m. b ≡ true → ((t : Hedge) → m ≡ hvar w t → u ≡ inConj (hv w) K) → u ≡ too hv (loneH m) K) r e
+    (λ t i f h. h t refl ∙ sym (lone-too w t K (sym i ∙ f)))

@@ -2,11 +2,13 @@
 use Prim.Native.Nat.{ℕ}
 use mathlib.Core.Path.{_≡_, sym, _∙_}
 use mathlib.Core.Bool.{Bool, true, false, _&&_}
+use Rattle.language.specs.declared.TermVar.{TermVar}
+use Rattle.language.specs.declared.HedgeVar.{HedgeVar}
 use Rattle.language.specs.Trees.{Functor, Hedge, node, Conj, sameWords}
 use Rattle.rules.specs.Looks.{empty}
 use Rattle.rules.specs.Places.{atR1, atD2, noRule}
-use Rattle.plans.specs.declared.Look.the-variants.{Empty, Term, Run}
-use Rattle.plans.specs.Looks.{lookOf}
+use Rattle.views.specs.declared.Look.the-variants.{Empty, Term, Run}
+use Rattle.views.specs.Looks.{lookOf}
 use Rattle.views.proofs.Looks.{is-empty, is-term, is-run}
 use Rattle.equations.specs.Rank.{functors, rankOf}
 use Rattle.equations.proofs.Looked.{both}
@@ -15,13 +17,13 @@ module _ (K : Conj) (F : Functor) (c s : Hedge) where
   pub node-empty : (r : Hedge) → Empty ≡ lookOf r → noRule ≡ rankOf K (node F c s) r
   node-empty r e = rw (is-empty r (sym e))
 
-  pub node-run : (r : Hedge) {w : ℕ} {lone : Bool} → Run w lone ≡ lookOf r → noRule ≡ rankOf K (node F c s) r
+  pub node-run : (r : Hedge) {w : HedgeVar} {lone : Bool} → Run w lone ≡ lookOf r → noRule ≡ rankOf K (node F c s) r
   node-run r e = rw (is-run r (sym e) .whole)
 
-  pub node-term : (r : Hedge) {w : ℕ} {lone more b : Bool} → Term w more ≡ lookOf r → lone ≡ empty s → b ≡ (lone && more) → b ≡ true → noRule ≡ rankOf K (node F c s) r
+  pub node-term : (r : Hedge) {w : TermVar} {lone more b : Bool} → Term w more ≡ lookOf r → lone ≡ empty s → b ≡ (lone && more) → b ≡ true → noRule ≡ rankOf K (node F c s) r
   node-term r e d f t = let i = is-term r (sym e) in rw (i .whole, sym (both f d (i .last)) ∙ t)
 
-  pub node-terms : (r : Hedge) {w : ℕ} {lone more b : Bool} → Term w more ≡ lookOf r → lone ≡ empty s → b ≡ (lone && more) → b ≡ false → atD2 ≡ rankOf K (node F c s) r
+  pub node-terms : (r : Hedge) {w : TermVar} {lone more b : Bool} → Term w more ≡ lookOf r → lone ≡ empty s → b ≡ (lone && more) → b ≡ false → atD2 ≡ rankOf K (node F c s) r
   node-terms r e d f t = let i = is-term r (sym e) in rw (i .whole, sym (both f d (i .last)) ∙ t)
 
   module _ (G : Functor) (d t : Hedge) where

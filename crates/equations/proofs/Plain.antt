@@ -17,10 +17,10 @@ use Rattle.plans.specs.declared.Recipe.{Recipe}
 use Rattle.plans.specs.declared.Within.{Within}
 use Rattle.plans.specs.declared.Ways.the-variants.{One}
 use Rattle.plans.specs.declared.Plan.{Plan}
-use Rattle.plans.specs.declared.Side.{Side}
-use Rattle.plans.specs.declared.View.{View}
-use Rattle.plans.specs.Looks.{head, tail}
-use Rattle.plans.specs.Views.{Sided, Sees}
+use Rattle.views.specs.declared.Side.{Side}
+use Rattle.views.specs.declared.View.{View}
+use Rattle.views.specs.Looks.{head, tail}
+use Rattle.views.specs.Views.{Sided, Sees}
 use Rattle.plans.specs.Results.{made, resultsOf}
 use Rattle.plans.specs.Sizes.{placedWords}
 use Rattle.plans.specs.Slots.{planOf, forthIn}

@@ -1,6 +1,5 @@
 -- An equation whose left side is empty or begins with a term variable: what each test says of the first rule.
 use Prim.Native.Nat.{ℕ, _+_, _<_}
-use native.Mathlib.Omega.{arith}
 use mathlib.Core.Path.{_≡_, refl, sym, ap, _∙_}
 use mathlib.Core.Bool.{Bool, true, false, not, _&&_, _||_}
 use mathlib.Core.List.{List, _++_}
@@ -8,15 +7,17 @@ use borrow.Author.Tests.{eq-eqb, ne-eqb}
 use lib.ListN.{take, drop}
 use Rattle.language.specs.Limits.{desk}
 use Rattle.language.specs.declared.TermVar.{TermVar}
+use Rattle.language.specs.declared.HedgeVar.{HedgeVar}
+use Rattle.language.specs.declared.Name.{Name}
 use Rattle.language.specs.Kinds.{pick}
 use Rattle.language.specs.Trees.{Functor, Hedge, ε, tvar, node, Conj, eqT, sameWords, tv, inConj}
 use Rattle.rules.specs.Looks.{empty, hasTerm, under}
 use Rattle.rules.specs.Places.{atR1, atF1, atF4, atD2, atE1, noRule}
-use Rattle.plans.specs.declared.Look.the-variants.{Empty, Term, Run, Node}
-use Rattle.plans.specs.declared.View.{View}
-use Rattle.plans.specs.Looks.{lookOf}
-use Rattle.plans.specs.Views.{Sees}
-use Rattle.plans.specs.Results.{member}
+use Rattle.views.specs.declared.Look.the-variants.{Empty, Term, Run, Node}
+use Rattle.views.specs.declared.View.{View}
+use Rattle.views.specs.Looks.{lookOf}
+use Rattle.views.specs.Views.{Sees}
+use Rattle.words.specs.Spans.{member}
 use Rattle.views.proofs.Members.{elsewhere-sees}
 use Rattle.equations.specs.Rank.{rankOf}
 use Rattle.equations.proofs.Looked.{at-empty, at-term, at-run, at-node}
@@ -39,17 +40,17 @@ module _ (K : Conj) (r : Hedge) where
   pub empty-empty : Empty ≡ lookOf r → atR1 ≡ rankOf K ε r
   empty-empty e = at-empty (λ m. atR1 ≡ rankOf K ε m) r e refl
 
-  pub empty-term : {w : ℕ} {lone : Bool} → Term w lone ≡ lookOf r → atF4 ≡ rankOf K ε r
-  empty-term e = at-term (λ m. atF4 ≡ rankOf K ε m) r e (λ x t _. refl)
+  pub empty-term : {w : TermVar} {lone : Bool} → Term w lone ≡ lookOf r → atF4 ≡ rankOf K ε r
+  empty-term e = at-term (λ m. atF4 ≡ rankOf K ε m) r e (λ t _. refl)
 
-  pub empty-node : {w : ℕ} {lone bare : Bool} → Node w lone bare ≡ lookOf r → atF4 ≡ rankOf K ε r
-  empty-node e = at-node (λ m. atF4 ≡ rankOf K ε m) r e (λ f c t _. refl)
+  pub empty-node : {w : Name} {lone bare : Bool} → Node w lone bare ≡ lookOf r → atF4 ≡ rankOf K ε r
+  empty-node e = at-node (λ m. atF4 ≡ rankOf K ε m) r e (λ f c t _ _ _. refl)
 
-  pub empty-run : {w : ℕ} {lone : Bool} → Run w lone ≡ lookOf r → hasTerm r ≡ true → atF4 ≡ rankOf K ε r
-  empty-run e = at-run (λ m. hasTerm m ≡ true → atF4 ≡ rankOf K ε m) r e (λ p t _ h. rw h)
+  pub empty-run : {w : HedgeVar} {lone : Bool} → Run w lone ≡ lookOf r → hasTerm r ≡ true → atF4 ≡ rankOf K ε r
+  empty-run e = at-run (λ m. hasTerm m ≡ true → atF4 ≡ rankOf K ε m) r e (λ t _ h. rw h)
 
-  pub empty-runs : {w : ℕ} {lone : Bool} → Run w lone ≡ lookOf r → hasTerm r ≡ false → noRule ≡ rankOf K ε r
-  empty-runs e = at-run (λ m. hasTerm m ≡ false → noRule ≡ rankOf K ε m) r e (λ p t _ h. rw h)
+  pub empty-runs : {w : HedgeVar} {lone : Bool} → Run w lone ≡ lookOf r → hasTerm r ≡ false → noRule ≡ rankOf K ε r
+  empty-runs e = at-run (λ m. hasTerm m ≡ false → noRule ≡ rankOf K ε m) r e (λ t _ h. rw h)
 
 -- ---- E1, two variables
 
@@ -57,12 +58,12 @@ module _ (K : Conj) (r : Hedge) where
 abbrev pub variablesRank : Conj → TermVar → TermVar → ℕ
 variablesRank K y w = pick (not (eqT y w) && (inConj (tv y) K && inConj (tv w) K)) atE1 noRule
 
-module _ (K : Conj) (y w : TermVar) {x z : ℕ} (e : x ≡ 1000 + y .0) (d : z ≡ 1000 + w .0) where
-  pub same-variable : x ≡ z → noRule ≡ variablesRank K y w
-  same-variable q = let i : eqT y w ≡ true = eq-eqb (y .0) (w .0) (omega arith) in rw i
+module _ (K : Conj) (y w : TermVar) where
+  pub same-variable : y .0 ≡ w .0 → noRule ≡ variablesRank K y w
+  same-variable q = let i : eqT y w ≡ true = eq-eqb (y .0) (w .0) q in rw i
 
-  pub two-variables : (x ≡ z → ⊥) → {b : Bool} → b ≡ (inConj (tv y) K && inConj (tv w) K) → pick b atE1 noRule ≡ variablesRank K y w
-  two-variables q t = let i : eqT y w ≡ false = ne-eqb (y .0) (w .0) (λ m. q (omega arith)) in rw (i, t)
+  pub two-variables : (y .0 ≡ w .0 → ⊥) → {b : Bool} → b ≡ (inConj (tv y) K && inConj (tv w) K) → pick b atE1 noRule ≡ variablesRank K y w
+  two-variables q t = let i : eqT y w ≡ false = ne-eqb (y .0) (w .0) q in rw (i, t)
 
 -- ---- the left side begins with a variable
 
@@ -70,11 +71,11 @@ module _ (K : Conj) (y : TermVar) (s : Hedge) where
   pub term-empty : (r : Hedge) → Empty ≡ lookOf r → noRule ≡ rankOf K (tvar y s) r
   term-empty r e = at-empty (λ m. noRule ≡ rankOf K (tvar y s) m) r e refl
 
-  pub term-run : (r : Hedge) {w : ℕ} {lone : Bool} → Run w lone ≡ lookOf r → (empty s && under (tv y) r) ≡ true → atF1 ≡ rankOf K (tvar y s) r
-  term-run r e = at-run (λ m. (empty s && under (tv y) m) ≡ true → atF1 ≡ rankOf K (tvar y s) m) r e (λ p t _ h. rw h)
+  pub term-run : (r : Hedge) {w : HedgeVar} {lone : Bool} → Run w lone ≡ lookOf r → (empty s && under (tv y) r) ≡ true → atF1 ≡ rankOf K (tvar y s) r
+  term-run r e = at-run (λ m. (empty s && under (tv y) m) ≡ true → atF1 ≡ rankOf K (tvar y s) m) r e (λ t _ h. rw h)
 
-  pub term-runs : (r : Hedge) {w : ℕ} {lone : Bool} → Run w lone ≡ lookOf r → (empty s && under (tv y) r) ≡ false → noRule ≡ rankOf K (tvar y s) r
-  term-runs r e = at-run (λ m. (empty s && under (tv y) m) ≡ false → noRule ≡ rankOf K (tvar y s) m) r e (λ p t _ h. rw h)
+  pub term-runs : (r : Hedge) {w : HedgeVar} {lone : Bool} → Run w lone ≡ lookOf r → (empty s && under (tv y) r) ≡ false → noRule ≡ rankOf K (tvar y s) r
+  term-runs r e = at-run (λ m. (empty s && under (tv y) m) ≡ false → noRule ≡ rankOf K (tvar y s) m) r e (λ t _ h. rw h)
 
   module _ (w : TermVar) (t : Hedge) where
     pub terms-same : sameWords (tvar y s) (tvar w t) ≡ true → atR1 ≡ rankOf K (tvar y s) (tvar w t)

@@ -6,11 +6,11 @@ use mathlib.Core.Option.{some}
 use Rattle.language.specs.Trees.{Hedge, Conj}
 use Rattle.rules.specs.Rules.{Branch, Answer, EqRule}
 use Rattle.plans.specs.declared.Plan.{Plan}
-use Rattle.plans.specs.declared.View.{View}
-use Rattle.plans.specs.Views.{Sees}
+use Rattle.views.specs.declared.View.{View}
+use Rattle.views.specs.Views.{Sees}
 use Rattle.plans.specs.Results.{resultsOf}
 use Rattle.plans.specs.Sizes.{placedWords}
-use Rattle.plans.specs.Ranks.{eqnAnswer}
+use Rattle.rules.specs.Ranks.{eqnAnswer}
 use Rattle.equations.specs.Recipes.{equationPlan}
 
 pub record Planned (k : List ℕ) (p : Plan) (before behind : Conj) (a : Answer) : Type 0 where

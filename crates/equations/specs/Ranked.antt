@@ -4,8 +4,8 @@ use mathlib.Core.Path.{_≡_}
 use mathlib.Core.Bool.{Bool, true, false, not, _&&_, _||_}
 use mathlib.Core.List.{List, _++_}
 use Rattle.language.specs.Trees.{Functor, symbol, fvar, Hedge, ε, tvar, hvar, node, Conj, fv, inConj}
-use Rattle.plans.specs.declared.View.{View}
-use Rattle.plans.specs.Views.{Sees}
+use Rattle.views.specs.declared.View.{View}
+use Rattle.views.specs.Views.{Sees}
 use Rattle.equations.specs.Rank.{rankOf}
 
 -- n is the rank of the equation that the view shows

@@ -10,9 +10,9 @@ use Rattle.rules.specs.Places.{atR1, atDel1, atDel3, atD2, atD0, atE1, atE2, at
 use Rattle.plans.specs.declared.Piece.the-variants.{Word, Copy, Put, ToCut, PutFromCut}
 use Rattle.plans.specs.declared.Ways.the-variants.{One, Cuts}
 use Rattle.plans.specs.declared.Plan.{Plan}
-use Rattle.plans.specs.declared.View.{View}
+use Rattle.views.specs.declared.View.{View}
 use Rattle.plans.specs.declared.Within.{Within}
-use Rattle.plans.specs.Looks.{bodyWords}
+use Rattle.views.specs.Looks.{bodyWords}
 use Rattle.plans.specs.Slots.{nothing, fullRecipe, fewRecipe, single, tabled, innerOf}
 use Rattle.views.specs.Walks.{size}
 

@@ -1,54 +1,77 @@
 // The first rule at an equation whose left side begins with a functor.
-ghost use Prim.Native.Nat.{ℕ, _+_, _<_, _≤_};
+ghost use Prim.Native.Nat.{_<_};
 ghost use mathlib.Core.Path.{_≡_};
 ghost use mathlib.Core.Bool.{_&&_};
 ghost use mathlib.Core.List.{_++_};
-ghost use Rattle.language.specs.declared.FunVar.{FunVar};
 ghost use Rattle.language.specs.Limits.{desk};
 ghost use Rattle.language.specs.Fine.{fineFunctor};
-ghost use Rattle.language.specs.Trees.{Functor, fvar, Hedge, node, Conj};
-ghost use Rattle.language.specs.Writing.{functorWord};
+ghost use Rattle.language.specs.Trees.{Functor, symbol, fvar, Hedge, node, Conj, eqF};
 ghost use Rattle.rules.specs.Looks.{empty};
-ghost use Rattle.plans.specs.declared.Look.the-variants.{Node};
-ghost use Rattle.plans.specs.Looks.{lookOf};
-ghost use Rattle.plans.specs.Views.{Sees};
+ghost use Rattle.views.specs.Looks.{nameOf};
+ghost use Rattle.views.specs.Views.{Sees};
 ghost use Rattle.equations.specs.Rank.{functors};
 ghost use Rattle.equations.specs.Ranked.{Ranks, blanksIn};
 use crate::tests::and;
-use plans::Look;
-use plans::Side;
-use plans::View;
+use language::FunVar;
+use language::Name;
+use language::Sym;
+use language::function_word;
+use rules::places::AT_D0;
+use rules::places::AT_D2;
+use rules::places::AT_E5;
+use rules::places::AT_E6;
+use rules::places::AT_F3;
+use rules::places::AT_R1;
+use rules::places::NO_RULE;
+use views::Look;
+use views::Side;
+use views::View;
 use words::elsewhere;
 use words::same_part;
-use rules::places::{AT_R1, AT_F3, AT_D2, AT_D0, AT_E5, AT_E6, NO_RULE};
 
 // X() = F(): X in the others, and F too where it is a variable.
-fn both_elsewhere(k: &[u16], v: View, f: u16, g: u16) -> bool
-    ensures { λ b. ⌜ ((before behind : Conj) (l r : Hedge) (X : FunVar) (G : Functor) → Sees (now (k .entry)) v before l r behind → f ≡ 4000 + X .0 → X .0 < desk .each → g ≡ functorWord G → fineFunctor desk G → b ≡ blanksIn (fvar X) G (before ++ behind)) ⌝ }
+fn both_elsewhere(k: &[u16], v: View, f: FunVar, g: Name) -> bool
+    ensures { λ b. ⌜ ((before behind : Conj) (l r : Hedge) (G : Functor) → Sees (now (k .entry)) v before l r behind → f .0 < desk .each → g ≡ nameOf G → fineFunctor desk G → b ≡ blanksIn (fvar f) G (before ++ behind)) ⌝ }
 {
-    if !elsewhere(k, v.at, v.end, f) {
+    if !elsewhere(k, v.at, v.end, function_word(f)) {
         return false;
     }
-    if g < 4000 {
-        return true;
+    match g {
+        Name::Symbol(_) => true,
+        Name::Blank(y) => elsewhere(k, v.at, v.end, function_word(y)),
     }
-    elsewhere(k, v.at, v.end, g)
 }
 
-// Single terms with the functors f and g: F3, D0, E5, E6.
-fn rank_functors(k: &[u16], v: View, f: u16, bare: bool, g: u16) -> usize
-    ensures { λ n. ⌜ ((before behind : Conj) (l r : Hedge) (F G : Functor) (c d : Hedge) → Sees (now (k .entry)) v before l r behind → f ≡ functorWord F → fineFunctor desk F → g ≡ functorWord G → fineFunctor desk G → bare ≡ (empty c && empty d) → n ≡ functors (before ++ behind) F c G d) ⌝ }
+// Single terms with the symbol f and the functor g: F3, D0.
+fn rank_symbol(f: Sym, g: Name) -> usize
+    ensures { λ n. ⌜ ((K : Conj) (c d : Hedge) (G : Functor) → g ≡ nameOf G → n ≡ functors K (symbol f) c G d) ⌝ }
 {
-    if f < 4000 {
-        if 4000 <= g {
-            return NO_RULE;
+    match g {
+        Name::Symbol(h) => {
+            if f.0 == h.0 {
+                return AT_D0;
+            }
+            AT_F3
         }
-        if f == g {
-            return AT_D0;
-        }
-        return AT_F3;
+        Name::Blank(_) => NO_RULE,
     }
-    if f == g {
+}
+
+// Whether a functor is this function variable.
+fn same_blank(f: FunVar, g: Name) -> bool
+    ensures { λ b. ⌜ ((G : Functor) → g ≡ nameOf G → b ≡ eqF (fvar f) G) ⌝ }
+{
+    match g {
+        Name::Symbol(_) => false,
+        Name::Blank(y) => f.0 == y.0,
+    }
+}
+
+// Single terms with the function variable f and the functor g: D0, E5, E6.
+fn rank_blank(k: &[u16], v: View, f: FunVar, bare: bool, g: Name) -> usize
+    ensures { λ n. ⌜ ((before behind : Conj) (l r : Hedge) (G : Functor) (c d : Hedge) → Sees (now (k .entry)) v before l r behind → f .0 < desk .each → g ≡ nameOf G → fineFunctor desk G → bare ≡ (empty c && empty d) → n ≡ functors (before ++ behind) (fvar f) c G d) ⌝ }
+{
+    if same_blank(f, g) {
         return AT_D0;
     }
     if !bare {
@@ -60,18 +83,28 @@ fn rank_functors(k: &[u16], v: View, f: u16, bare: bool, g: u16) -> usize
     NO_RULE
 }
 
+// Single terms with the functors f and g: F3, D0, E5, E6.
+fn rank_functors(k: &[u16], v: View, f: Name, bare: bool, g: Name) -> usize
+    ensures { λ n. ⌜ ((before behind : Conj) (l r : Hedge) (F G : Functor) (c d : Hedge) → Sees (now (k .entry)) v before l r behind → f ≡ nameOf F → fineFunctor desk F → g ≡ nameOf G → fineFunctor desk G → bare ≡ (empty c && empty d) → n ≡ functors (before ++ behind) F c G d) ⌝ }
+{
+    match f {
+        Name::Symbol(a) => rank_symbol(a, g),
+        Name::Blank(x) => rank_blank(k, v, x, bare, g),
+    }
+}
+
 // Both sides begin with a functor: R1, D2, or the two are single terms.
 fn rank_nodes(
     k: &[u16],
     v: View,
-    f: u16,
+    f: Name,
     lone: bool,
     bare: bool,
-    g: u16,
+    g: Name,
     more: bool,
     plain: bool,
 ) -> usize
-    ensures { λ n. ⌜ ((F G : Functor) (c s d t : Hedge) → Node f lone bare ≡ lookOf (node F c s) → Node g more plain ≡ lookOf (node G d t) → Ranks (now (k .entry)) v (node F c s) (node G d t) n) ⌝ }
+    ensures { λ n. ⌜ ((F G : Functor) (c s d t : Hedge) → f ≡ nameOf F → lone ≡ empty s → bare ≡ empty c → g ≡ nameOf G → more ≡ empty t → plain ≡ empty d → Ranks (now (k .entry)) v (node F c s) (node G d t) n) ⌝ }
 {
     let l = v.l;
     let r = v.r;
@@ -86,8 +119,8 @@ fn rank_nodes(
 }
 
 // The left side begins with a functor.
-pub fn rank_node(k: &[u16], v: View, f: u16, lone: bool, bare: bool) -> usize
-    ensures { λ n. ⌜ ((F : Functor) (c s r : Hedge) → Node f lone bare ≡ lookOf (node F c s) → Ranks (now (k .entry)) v (node F c s) r n) ⌝ }
+pub fn rank_node(k: &[u16], v: View, f: Name, lone: bool, bare: bool) -> usize
+    ensures { λ n. ⌜ ((F : Functor) (c s r : Hedge) → f ≡ nameOf F → lone ≡ empty s → bare ≡ empty c → Ranks (now (k .entry)) v (node F c s) r n) ⌝ }
 {
     let r = v.r;
     let look = r.look;

@@ -1,25 +1,38 @@
 // What each rule of equations makes of the words: its results, described by parts of them.
 ghost use Prim.Native.Nat.{ℕ, _+_};
 ghost use mathlib.Core.Path.{_≡_};
+ghost use Rattle.language.specs.declared.HedgeVar.{HedgeVar};
+ghost use Rattle.language.specs.Trees.{Hedge, hvar};
+ghost use Rattle.views.specs.Looks.{lookOf};
 ghost use Rattle.rules.specs.Rules.{E3, E4, Del3};
 ghost use Rattle.plans.specs.Slots.{dropPlan};
 ghost use Rattle.equations.specs.Recipes.{r1Plan, equated, del1Plan, d0Plan, d2Plan, eliminated, e1Plan, e5Plan, e6Plan, cutPlan, struck, e3Plan, e4Plan, del3Plan, spotOf};
 ghost use Rattle.equations.specs.Planned.{Is, Planning};
-use plans::Look;
+use language::HedgeVar;
 use plans::Piece;
 use plans::Plan;
 use plans::Recipe;
-use plans::Side;
-use plans::View;
 use plans::Ways;
 use plans::few;
 use plans::full;
 use plans::inner;
+use rules::places::AT_D0;
+use rules::places::AT_D2;
+use rules::places::AT_DEL1;
+use rules::places::AT_DEL3;
+use rules::places::AT_E1;
+use rules::places::AT_E2;
+use rules::places::AT_E3;
+use rules::places::AT_E4;
+use rules::places::AT_E5;
+use rules::places::AT_E6;
+use rules::places::AT_R1;
+use views::Look;
+use views::Side;
+use views::View;
 use views::all_terms;
 use views::inside;
 use views::up_to;
-use words::word;
-use rules::places::{AT_R1, AT_DEL1, AT_DEL3, AT_D2, AT_D0, AT_E1, AT_E2, AT_E3, AT_E4, AT_E5, AT_E6};
 
 // The literal is removed.
 fn plan_r1(v: View) -> Plan
@@ -232,13 +245,27 @@ fn plan_e3(k: &[u16], v: View) -> Plan
     cut_by(v, cuts)
 }
 
+// The hedge variable that a side begins with.
+fn run_of(look: Look) -> HedgeVar
+    ensures { λ r. ⌜ ((p : HedgeVar) (h : Hedge) → look ≡ lookOf (hvar p h) → r ≡ p) ⌝ }
+{
+    match look {
+        Look::Empty => HedgeVar(0),
+        Look::Term(_, _) => HedgeVar(0),
+        Look::Run(p, _) => p,
+        Look::Node(_, _, _) => HedgeVar(0),
+    }
+}
+
 // A cut behind each term of T up to the one that holds p, and one before them.
 fn plan_e4(k: &[u16], v: View) -> Plan
     ensures { λ p. ⌜ Is E4 (now (k .entry)) v (e4Plan v) p ⌝ }
 {
     let l = v.l;
     let r = v.r;
-    let ahead = up_to(k, r.from, word(k, l.from));
+    let look = l.look;
+    let p = run_of(look);
+    let ahead = up_to(k, r.from, p);
     let cuts = ahead.count + 1;
     cut_by(v, cuts)
 }
@@ -280,7 +307,9 @@ fn plan_del3(k: &[u16], v: View) -> Plan
 {
     let l = v.l;
     let r = v.r;
-    let spot = inside(k, r.from, word(k, l.from));
+    let look = l.look;
+    let p = run_of(look);
+    let spot = inside(k, r.from, p);
     strike(k, v, spot.place)
 }
 

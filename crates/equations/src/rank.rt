@@ -2,15 +2,15 @@
 ghost use mathlib.Core.Path.{_≡_};
 ghost use mathlib.Core.List.{_++_};
 ghost use Rattle.language.specs.Trees.{Hedge, Conj};
-ghost use Rattle.plans.specs.Views.{Sees};
-ghost use Rattle.plans.specs.Ranks.{eqnRank};
+ghost use Rattle.views.specs.Views.{Sees};
+ghost use Rattle.rules.specs.Ranks.{eqnRank};
 use crate::functors::rank_node;
 use crate::runs::rank_run;
 use crate::terms::rank_empty;
 use crate::terms::rank_term;
-use plans::Look;
-use plans::Side;
-use plans::View;
+use views::Look;
+use views::Side;
+use views::View;
 
 // The place of the first rule in the list, or NO_RULE where none applies.
 pub fn rank_equation(k: &[u16], v: View) -> usize

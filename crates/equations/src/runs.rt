@@ -1,21 +1,29 @@
 // The first rule at an equation whose left side begins with a hedge variable.
-ghost use Prim.Native.Nat.{ℕ, _+_, _<_};
+ghost use Prim.Native.Nat.{ℕ, _<_};
 ghost use mathlib.Core.Path.{_≡_};
-ghost use mathlib.Core.Bool.{Bool, not, _&&_};
+ghost use mathlib.Core.Bool.{not, _&&_};
 ghost use mathlib.Core.List.{List, _++_};
 ghost use Rattle.language.specs.Limits.{desk};
 ghost use Rattle.language.specs.declared.HedgeVar.{HedgeVar};
 ghost use Rattle.language.specs.Trees.{Hedge, hvar, Conj, hv, holds};
 ghost use Rattle.rules.specs.Looks.{empty, allTerms, loneH};
 ghost use Rattle.rules.specs.Rules.{too};
-ghost use Rattle.plans.specs.declared.Look.the-variants.{Run};
-ghost use Rattle.plans.specs.Looks.{lookOf};
-ghost use Rattle.plans.specs.Views.{Sees};
+ghost use Rattle.views.specs.Views.{Sees};
 ghost use Rattle.equations.specs.Rank.{lonely, leading};
 ghost use Rattle.equations.specs.Ranked.{Ranks, Begins};
-use plans::Look;
-use plans::Side;
-use plans::View;
+use language::HedgeVar;
+use language::run_word;
+use rules::places::AT_DEL1;
+use rules::places::AT_DEL3;
+use rules::places::AT_E2;
+use rules::places::AT_E3;
+use rules::places::AT_E4;
+use rules::places::AT_F2;
+use rules::places::AT_R1;
+use rules::places::NO_RULE;
+use views::Look;
+use views::Side;
+use views::View;
 use views::all_terms;
 use views::has_term;
 use views::inside;
@@ -23,7 +31,6 @@ use views::up_to;
 use words::elsewhere;
 use words::same_part;
 use words::stands;
-use rules::places::{AT_R1, AT_F2, AT_DEL1, AT_DEL3, AT_E2, AT_E3, AT_E4, NO_RULE};
 
 // Where the right side is one hedge variable, it is in the others too.
 fn too_elsewhere(k: &[u16], v: View) -> bool
@@ -36,7 +43,7 @@ fn too_elsewhere(k: &[u16], v: View) -> bool
         Look::Term(_, _) => true,
         Look::Run(q, lone) => {
             if lone {
-                return elsewhere(k, v.at, v.end, q);
+                return elsewhere(k, v.at, v.end, run_word(q));
             }
             true
         }
@@ -45,11 +52,12 @@ fn too_elsewhere(k: &[u16], v: View) -> bool
 }
 
 // A lone p against a hedge that does not begin with it: F2, Del3, E2.
-fn rank_lonely(k: &[u16], v: View, p: u16) -> usize
-    ensures { λ n. ⌜ ((before behind : Conj) (q : HedgeVar) (s r : Hedge) → Sees (now (k .entry)) v before (hvar q s) r behind → p ≡ 2000 + q .0 → n ≡ lonely (before ++ behind) q r) ⌝ }
+fn rank_lonely(k: &[u16], v: View, p: HedgeVar) -> usize
+    ensures { λ n. ⌜ ((before behind : Conj) (s r : Hedge) → Sees (now (k .entry)) v before (hvar p s) r behind → n ≡ lonely (before ++ behind) p r) ⌝ }
 {
     let r = v.r;
-    if stands(k, r.from, r.to, p) {
+    let x = run_word(p);
+    if stands(k, r.from, r.to, x) {
         if has_term(k, r.from) {
             return AT_F2;
         }
@@ -59,7 +67,7 @@ fn rank_lonely(k: &[u16], v: View, p: u16) -> usize
         }
         return NO_RULE;
     }
-    if elsewhere(k, v.at, v.end, p) {
+    if elsewhere(k, v.at, v.end, x) {
         if too_elsewhere(k, v) {
             return AT_E2;
         }
@@ -69,13 +77,13 @@ fn rank_lonely(k: &[u16], v: View, p: u16) -> usize
 }
 
 // Whether terms alone stand there, and p in none of them.
-fn free_terms(k: &[u16], v: View, p: u16) -> bool
-    ensures { λ b. ⌜ ((before behind : Conj) (q : HedgeVar) (l r : Hedge) → Sees (now (k .entry)) v before l r behind → q .0 < desk .each → p ≡ 2000 + q .0 → b ≡ (allTerms r && not (holds (hv q) r))) ⌝ }
+fn free_terms(k: &[u16], v: View, p: HedgeVar) -> bool
+    ensures { λ b. ⌜ ((before behind : Conj) (l r : Hedge) → Sees (now (k .entry)) v before l r behind → p .0 < desk .each → b ≡ (allTerms r && not (holds (hv p) r))) ⌝ }
 {
     let r = v.r;
     let terms = all_terms(k, r.from);
     if terms.all {
-        if stands(k, r.from, r.to, p) {
+        if stands(k, r.from, r.to, run_word(p)) {
             return false;
         }
         return true;
@@ -84,8 +92,8 @@ fn free_terms(k: &[u16], v: View, p: u16) -> bool
 }
 
 // p with something behind it against a hedge that begins with a term: E3, E4.
-fn rank_leading(k: &[u16], v: View, p: u16) -> usize
-    ensures { λ n. ⌜ ((before behind : Conj) (q : HedgeVar) (s r : Hedge) → Sees (now (k .entry)) v before (hvar q s) r behind → p ≡ 2000 + q .0 → n ≡ leading q r) ⌝ }
+fn rank_leading(k: &[u16], v: View, p: HedgeVar) -> usize
+    ensures { λ n. ⌜ ((before behind : Conj) (s r : Hedge) → Sees (now (k .entry)) v before (hvar p s) r behind → n ≡ leading p r) ⌝ }
 {
     if free_terms(k, v, p) {
         return AT_E3;
@@ -117,10 +125,10 @@ fn rank_struck(k: &[u16], v: View, lone: bool) -> usize
 }
 
 // p against another hedge variable.
-fn rank_run_run(k: &[u16], v: View, p: u16, lone: bool, z: u16) -> usize
-    ensures { λ n. ⌜ ((q w : HedgeVar) (s t : Hedge) (more : Bool) → Run p lone ≡ lookOf (hvar q s) → Run z more ≡ lookOf (hvar w t) → Ranks (now (k .entry)) v (hvar q s) (hvar w t) n) ⌝ }
+fn rank_run_run(k: &[u16], v: View, p: HedgeVar, lone: bool, z: HedgeVar) -> usize
+    ensures { λ n. ⌜ ((s t : Hedge) → lone ≡ empty s → Ranks (now (k .entry)) v (hvar p s) (hvar z t) n) ⌝ }
 {
-    if p == z {
+    if p.0 == z.0 {
         return rank_struck(k, v, lone);
     }
     if lone {
@@ -130,8 +138,8 @@ fn rank_run_run(k: &[u16], v: View, p: u16, lone: bool, z: u16) -> usize
 }
 
 // p against a hedge that begins with a term.
-fn rank_run_term(k: &[u16], v: View, p: u16, lone: bool) -> usize
-    ensures { λ n. ⌜ ((q : HedgeVar) (s r : Hedge) → Run p lone ≡ lookOf (hvar q s) → Begins r → Ranks (now (k .entry)) v (hvar q s) r n) ⌝ }
+fn rank_run_term(k: &[u16], v: View, p: HedgeVar, lone: bool) -> usize
+    ensures { λ n. ⌜ ((s r : Hedge) → lone ≡ empty s → Begins r → Ranks (now (k .entry)) v (hvar p s) r n) ⌝ }
 {
     if lone {
         return rank_lonely(k, v, p);
@@ -140,15 +148,15 @@ fn rank_run_term(k: &[u16], v: View, p: u16, lone: bool) -> usize
 }
 
 // The left side begins with a hedge variable.
-pub fn rank_run(k: &[u16], v: View, p: u16, lone: bool) -> usize
-    ensures { λ n. ⌜ ((q : HedgeVar) (s r : Hedge) → Run p lone ≡ lookOf (hvar q s) → Ranks (now (k .entry)) v (hvar q s) r n) ⌝ }
+pub fn rank_run(k: &[u16], v: View, p: HedgeVar, lone: bool) -> usize
+    ensures { λ n. ⌜ ((s r : Hedge) → lone ≡ empty s → Ranks (now (k .entry)) v (hvar p s) r n) ⌝ }
 {
     let r = v.r;
     let look = r.look;
     match look {
         Look::Empty => {
             if lone {
-                if elsewhere(k, v.at, v.end, p) {
+                if elsewhere(k, v.at, v.end, run_word(p)) {
                     return AT_E2;
                 }
                 return NO_RULE;

@@ -1,28 +1,32 @@
 // The first rule at an equation whose left side is empty or begins with a term variable.
-ghost use Prim.Native.Nat.{ℕ, _+_, _<_};
+ghost use Prim.Native.Nat.{ℕ, _<_};
 ghost use mathlib.Core.Path.{_≡_};
-ghost use mathlib.Core.Bool.{Bool, not, _&&_};
+ghost use mathlib.Core.Bool.{not, _&&_};
 ghost use mathlib.Core.List.{List, _++_};
 ghost use Rattle.language.specs.Limits.{desk};
-ghost use Rattle.language.specs.declared.TermVar.{TermVar};
 ghost use Rattle.language.specs.Kinds.{pick};
 ghost use Rattle.language.specs.Trees.{Functor, Hedge, ε, tvar, node, Conj, eqT, tv, inConj};
-ghost use Rattle.rules.specs.Looks.{under as below};
+ghost use Rattle.rules.specs.Looks.{empty, under as below};
 ghost use Rattle.rules.specs.Places.{atE1, noRule};
-ghost use Rattle.plans.specs.declared.Look.the-variants.{Term, Node};
-ghost use Rattle.plans.specs.Looks.{lookOf};
-ghost use Rattle.plans.specs.Views.{Sees};
+ghost use Rattle.views.specs.Views.{Sees};
 ghost use Rattle.views.specs.Standing.{Stands};
 ghost use Rattle.equations.specs.Ranked.{Ranks};
 use crate::tests::and;
-use plans::Look;
-use plans::Side;
-use plans::View;
+use language::TermVar;
+use language::term_word;
+use rules::places::AT_D2;
+use rules::places::AT_E1;
+use rules::places::AT_F1;
+use rules::places::AT_F4;
+use rules::places::AT_R1;
+use rules::places::NO_RULE;
+use views::Look;
+use views::Side;
+use views::View;
 use views::has_term;
 use views::under;
 use words::elsewhere;
 use words::same_part;
-use rules::places::{AT_R1, AT_F1, AT_F4, AT_D2, AT_E1, NO_RULE};
 
 // The left side is empty: R1, F4.
 pub fn rank_empty(k: &[u16], v: View) -> usize
@@ -44,8 +48,8 @@ pub fn rank_empty(k: &[u16], v: View) -> usize
 }
 
 // F1: a lone x against a hedge with x below its top.
-fn hidden(k: &[u16], lone: bool, at: usize, x: u16) -> bool
-    ensures { λ b. ⌜ ((y : TermVar) (h : Hedge) (beyond : List ℕ) → y .0 < desk .each → x ≡ 1000 + y .0 → Stands (now (k .entry)) at h beyond → b ≡ (lone && below (tv y) h)) ⌝ }
+fn hidden(k: &[u16], lone: bool, at: usize, x: TermVar) -> bool
+    ensures { λ b. ⌜ ((h : Hedge) (beyond : List ℕ) → x .0 < desk .each → Stands (now (k .entry)) at h beyond → b ≡ (lone && below (tv x) h)) ⌝ }
 {
     if lone {
         return under(k, at, x);
@@ -54,14 +58,14 @@ fn hidden(k: &[u16], lone: bool, at: usize, x: u16) -> bool
 }
 
 // E1: two lone variables.
-fn rank_variables(k: &[u16], v: View, x: u16, z: u16) -> usize
-    ensures { λ n. ⌜ ((before behind : Conj) (l r : Hedge) (y w : TermVar) → Sees (now (k .entry)) v before l r behind → y .0 < desk .each → w .0 < desk .each → x ≡ 1000 + y .0 → z ≡ 1000 + w .0 → n ≡ pick (not (eqT y w) && (inConj (tv y) (before ++ behind) && inConj (tv w) (before ++ behind))) atE1 noRule) ⌝ }
+fn rank_variables(k: &[u16], v: View, x: TermVar, z: TermVar) -> usize
+    ensures { λ n. ⌜ ((before behind : Conj) (l r : Hedge) → Sees (now (k .entry)) v before l r behind → x .0 < desk .each → z .0 < desk .each → n ≡ pick (not (eqT x z) && (inConj (tv x) (before ++ behind) && inConj (tv z) (before ++ behind))) atE1 noRule) ⌝ }
 {
-    if x == z {
+    if x.0 == z.0 {
         return NO_RULE;
     }
-    let first = elsewhere(k, v.at, v.end, x);
-    let second = elsewhere(k, v.at, v.end, z);
+    let first = elsewhere(k, v.at, v.end, term_word(x));
+    let second = elsewhere(k, v.at, v.end, term_word(z));
     if and(first, second) {
         return AT_E1;
     }
@@ -69,8 +73,8 @@ fn rank_variables(k: &[u16], v: View, x: u16, z: u16) -> usize
 }
 
 // Both sides begin with a term variable: R1, F1, D2, E1.
-fn rank_term_term(k: &[u16], v: View, x: u16, lone: bool, z: u16, more: bool) -> usize
-    ensures { λ n. ⌜ ((y w : TermVar) (s t : Hedge) → Term x lone ≡ lookOf (tvar y s) → Term z more ≡ lookOf (tvar w t) → Ranks (now (k .entry)) v (tvar y s) (tvar w t) n) ⌝ }
+fn rank_term_term(k: &[u16], v: View, x: TermVar, lone: bool, z: TermVar, more: bool) -> usize
+    ensures { λ n. ⌜ ((s t : Hedge) → lone ≡ empty s → more ≡ empty t → Ranks (now (k .entry)) v (tvar x s) (tvar z t) n) ⌝ }
 {
     let l = v.l;
     let r = v.r;
@@ -87,15 +91,15 @@ fn rank_term_term(k: &[u16], v: View, x: u16, lone: bool, z: u16, more: bool) ->
 }
 
 // A term variable against a functor: F1, D2, E1.
-fn rank_term_node(k: &[u16], v: View, x: u16, lone: bool, more: bool) -> usize
-    ensures { λ n. ⌜ ((y : TermVar) (s : Hedge) (g : ℕ) (G : Functor) (d t : Hedge) (bare : Bool) → Term x lone ≡ lookOf (tvar y s) → Node g more bare ≡ lookOf (node G d t) → Ranks (now (k .entry)) v (tvar y s) (node G d t) n) ⌝ }
+fn rank_term_node(k: &[u16], v: View, x: TermVar, lone: bool, more: bool) -> usize
+    ensures { λ n. ⌜ ((s : Hedge) (G : Functor) (d t : Hedge) → lone ≡ empty s → more ≡ empty t → Ranks (now (k .entry)) v (tvar x s) (node G d t) n) ⌝ }
 {
     let r = v.r;
     if hidden(k, lone, r.from, x) {
         return AT_F1;
     }
     if and(lone, more) {
-        if elsewhere(k, v.at, v.end, x) {
+        if elsewhere(k, v.at, v.end, term_word(x)) {
             return AT_E1;
         }
         return NO_RULE;
@@ -104,8 +108,8 @@ fn rank_term_node(k: &[u16], v: View, x: u16, lone: bool, more: bool) -> usize
 }
 
 // The left side begins with a term variable.
-pub fn rank_term(k: &[u16], v: View, x: u16, lone: bool) -> usize
-    ensures { λ n. ⌜ ((y : TermVar) (s r : Hedge) → Term x lone ≡ lookOf (tvar y s) → Ranks (now (k .entry)) v (tvar y s) r n) ⌝ }
+pub fn rank_term(k: &[u16], v: View, x: TermVar, lone: bool) -> usize
+    ensures { λ n. ⌜ ((s r : Hedge) → lone ≡ empty s → Ranks (now (k .entry)) v (tvar x s) r n) ⌝ }
 {
     let r = v.r;
     let look = r.look;

@@ -1,9 +1,9 @@
 // Reads cases, a line each: the number of the line asked for, the words of the room, and the words of a question.
 // Writes the refusal's number, or 0 and the words of the filling; and then, of a filling, the number and the value that trying it gives.
 ghost use Rattle.cases.specs.Lines.{Parsed};
+use example::Shown;
 use language::limits::QUESTION;
 use language::limits::ROOM;
-use showing::Shown;
 
 fn wide(x: u16) -> usize {
     x as usize
@@ -39,9 +39,9 @@ fn try_filling<'a>(question: &'a [u16], filling: &'a [u16]) {
 fn show(question: &[u16], line: usize, room: &mut [u16]) {
     let mut work = [0u16; ROOM];
     let mut answer = [0u16; ROOM];
-    let shown = showing::example(question, line, &mut work, &mut answer, room);
-    print(showing::shown_number(shown));
-    print_words(room, showing::shown_length(shown));
+    let shown = example::example(question, line, &mut work, &mut answer, room);
+    print(example::shown_number(shown));
+    print_words(room, example::shown_length(shown));
     io::write_all(1, b"\n");
     if let Shown::Shows(n) = shown {
         if n <= room.len() {

@@ -1,7 +1,9 @@
 // A filling in words: how each word of the question is shown under it, and what the words of a hedge become.
 use language::Kind;
 use language::Refusal;
+use language::classify;
 use language::limits::FILLING;
+use language::wide;
 use reader::Checked;
 use reader::Header;
 use reader::Read;
@@ -17,12 +19,6 @@ ghost use Rattle.meaning.specs.Values.{variables, readFilling};
 ghost use Rattle.reader.specs.Checking.{countsIn};
 ghost use Rattle.filling.specs.Checking.{plainOn, plainWords, ofForm, formAt, Judged, OneTerm, allOfForm, given};
 ghost use Rattle.language.specs.Kinds.{kindOf};
-
-fn wide(x: u16) -> usize
-    ensures { λ r. ⌜ r ≡ x ⌝ }
-{
-    x as usize
-}
 
 // The words of the value numbered i, without the 0 that ends it.
 fn body<'a>(filling: &'a [u16], i: usize) -> &'a [u16]
@@ -52,7 +48,7 @@ fn term_end(words: &[u16], at: usize) -> usize
     let mut depth: usize = 1;
     let mut i = at + 1;
     while i < words.len() {
-        match reader::classify(words[i]) {
+        match classify(words[i]) {
             Kind::End => {
                 i += 1;
                 if depth == 1 {
@@ -83,7 +79,7 @@ fn lookup<'a>(
     ensures { λ r. ⌜ now r ≡ shown terms hedges (now (filling .entry)) (drop at (now (question .entry))) ⌝ }
 {
     let word = question[at];
-    match reader::classify(word) {
+    match classify(word) {
         Kind::Term(x) => {
             let i = wide(x.0);
             body(filling, i)
@@ -111,7 +107,7 @@ fn lookup<'a>(
 fn step(word: u16, shown: usize) -> usize
     ensures { λ r. ⌜ r ≡ stepOn shown (kindOf desk word) ⌝ }
 {
-    match reader::classify(word) {
+    match classify(word) {
         Kind::Symbol(_) => shown,
         _ => 1,
     }
@@ -178,7 +174,7 @@ pub fn fill_in<'a>(
 fn is_plain_word(word: u16, symbols: u16) -> bool
     ensures { λ r. ⌜ r ≡ plainOn symbols (kindOf desk word) ⌝ }
 {
-    match reader::classify(word) {
+    match classify(word) {
         Kind::End => true,
         Kind::Symbol(f) => f.0 < symbols,
         _ => false,

@@ -18,9 +18,9 @@ use Rattle.rules.specs.Solved.{solved}
 use Rattle.rules.specs.Example.{example}
 use Rattle.rules.specs.Answer.{Solving, answered, unread, given-up, solving}
 use Rattle.rules.specs.Calls.{Showing, shows, denied, lineAt, fitted, shown, showingOf, showing}
-use Rattle.showing.specs.declared.Shown.{Shown}
-use Rattle.showing.specs.Shown.{shownNumber, shownLength, resultOf, roomOf}
-use Rattle.showing.specs.Exhibits.{exhibits}
+use Rattle.example.specs.declared.Shown.{Shown}
+use Rattle.example.specs.Shown.{shownNumber, shownLength, resultOf, roomOf}
+use Rattle.example.specs.Exhibits.{exhibits}
 use Rattle.host.specs.Bytes.{bytesOf, wordsIn, fitting, used}
 use Rattle.host.specs.Numbers.{toldBy}
 use Rattle.host.specs.Host.{showingBytes, showNumber, showLeaves}

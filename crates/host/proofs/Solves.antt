@@ -30,12 +30,6 @@ pub long-answer : (q : List ℕ) (n : ℕ) → 2 * desk .room ≤ n → solvingB
 unfolding solvingBytes solving
 long-answer q n h = ap (unless-short (solvingOf desk (readQuestion desk (wordsIn q)))) (le-ltb (n / 2) (desk .room) (omega arith))
 
--- "an odd count is 2"
-pub odd-question : (q : List ℕ) (n : ℕ) → 2 * desk .room ≤ n → (length q % 2 ≡ 0 → ⊥) → solveNumber (solvingBytes desk n q) ≡ 2
-unfolding solveNumber
-odd-question q n h odd =
-    ap solveNumber (long-answer q n h ∙ ap (λ (ws : List ℕ). solvingOf desk (readQuestion desk ws)) (odd-holds-none q odd) ∙ ap (solvingOf desk) no-question)
-
 -- the desk's own answer slice, where the question was read
 abbrev pub Own : Solving → List ℕ → Type 0
 Own (answered ls n) own = own ≡ answerWords desk ls

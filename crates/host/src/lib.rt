@@ -12,12 +12,12 @@ ghost use Rattle.host.specs.Bytes.{used};
 ghost use Rattle.host.specs.Numbers.{solvedNumber, toldBy};
 use bytes::take_words;
 use bytes::write_words;
+use example::shown_length;
+use example::shown_number;
 use language::limits::ANSWER_BYTES;
 use language::limits::FILLING;
 use language::limits::QUESTION;
 use language::limits::ROOM;
-use showing::shown_length;
-use showing::shown_number;
 use solver::Solved;
 use solver::outcome_number;
 use trying::tried_number;
@@ -114,7 +114,7 @@ fn show(question: &[u16], line: usize, own: &mut [u16], room: &mut [u8]) -> u32
 {
     let mut work = [0u16; ROOM];
     let mut answer = [0u16; ROOM];
-    let s = showing::example(question, line, &mut work, &mut answer, own);
+    let s = example::example(question, line, &mut work, &mut answer, own);
     let n = shown_length(s);
     // of a refusal that is 0, and nothing is written
     write_words(&own[..n], room);

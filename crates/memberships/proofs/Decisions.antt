@@ -7,7 +7,7 @@ use Rattle.rules.specs.Looks.{empty, hasTerm, allRuns}
 use Rattle.rules.specs.Expressions.{nullable}
 use Rattle.rules.specs.Rules.{_>>=_}
 use Rattle.rules.specs.Places.{atR2, atF5, atF6, atF7, atM1, atM2, atM3, atM4, atM5, atM6, atM10, atM11, noRule}
-use Rattle.plans.specs.Ranks.{memRank}
+use Rattle.rules.specs.Ranks.{memRank}
 use Rattle.plans.proofs.Ranking.{check-on, lone-on, pick-suc, and-true, and-false, pick-not, pick-else, pick-other}
 use Rattle.memberships.specs.Rank.{rankIn}
 

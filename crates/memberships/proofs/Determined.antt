@@ -5,9 +5,9 @@ use mathlib.Core.List.{List}
 use denote.Ref.{now}
 use Rattle.language.specs.Trees.{Hedge, Expr, Conj}
 use Rattle.language.proofs.Determined.{Asks, DeterminedFor}
-use Rattle.plans.specs.declared.Shape.{Shape}
-use Rattle.plans.specs.Views.{Shows}
-use Rattle.plans.specs.Ranks.{memAnswer}
+use Rattle.views.specs.declared.Shape.{Shape}
+use Rattle.views.specs.Views.{Shows}
+use Rattle.rules.specs.Ranks.{memAnswer}
 use Rattle.memberships.specs.Planned.{Applies}
 use Rattle.memberships.proofs.rank.rank_membership as rank-membership
 use Rattle.memberships.proofs.plan.plan_membership as plan-membership

@@ -10,9 +10,9 @@ use Rattle.rules.specs.Places.{atR2, atM1, atM2, atM3, atM4, atM5, atM6, atM7, 
 use Rattle.rules.proofs.Answers.{look, test, answers}
 use Rattle.plans.specs.declared.Ways.the-variants.{Monomials}
 use Rattle.plans.specs.declared.Plan.{Plan}
-use Rattle.plans.specs.declared.Shape.{Shape}
+use Rattle.views.specs.declared.Shape.{Shape}
 use Rattle.plans.specs.Results.{resultsOf}
-use Rattle.plans.specs.Ranks.{atMem, answerAt, memAnswer}
+use Rattle.rules.specs.Ranks.{atMem, answerAt, memAnswer}
 use Rattle.plans.proofs.Ranking.{_▸_, Apart, not-tabled}
 use Rattle.equations.proofs.Plain.{planned}
 use Rattle.equations.proofs.Cutting.{it-found}

@@ -18,13 +18,13 @@ use Rattle.rules.specs.Step.{place}
 use Rattle.rules.proofs.Answers.{look, test, answers}
 use Rattle.rules.proofs.Looks.{loneNode-is, asBlank-is, asOver-is}
 use Rattle.plans.specs.declared.Recipe.{Recipe}
-use Rattle.plans.specs.declared.Shape.{Shape}
-use Rattle.plans.specs.Looks.{bodyWords}
-use Rattle.plans.specs.Views.{Shows}
+use Rattle.views.specs.declared.Shape.{Shape}
+use Rattle.views.specs.Looks.{bodyWords}
+use Rattle.views.specs.Views.{Shows}
 use Rattle.plans.specs.Results.{emptyEach, changed, made}
 use Rattle.views.proofs.Words.{words-append}
 use Rattle.views.proofs.Sides.{side-whole, shows-before, shows-behind, shows-expr}
-use Rattle.views.proofs.Replaced.{Acts, acts-functor, acts-emptied}
+use Rattle.plans.proofs.Replaced.{Acts, acts-functor, acts-emptied}
 use Rattle.equations.proofs.Plain.{planned, one-result, side-forth}
 use Rattle.equations.proofs.Cutting.{T-true}
 use Rattle.equations.proofs.Eliminating.{put-conj, put-hedge, side-body, side-functor, set-self}

@@ -9,11 +9,11 @@ use Rattle.language.specs.Limits.{desk}
 use Rattle.language.specs.Trees.{Hedge, Expr, Conj}
 use Rattle.language.specs.Writing.{exprWords, conjWords}
 use Rattle.language.specs.Fine.{fineExpr}
-use Rattle.plans.specs.declared.Shape.{Shape}
-use Rattle.plans.specs.Views.{Shows}
+use Rattle.views.specs.declared.Shape.{Shape}
+use Rattle.views.specs.Views.{Shows}
 use Rattle.words.proofs.Parts.{part-of, drop-of}
-use Rattle.exprs.specs.Standing.{Here}
-use Rattle.exprs.proofs.Standing.{inside}
+use Rattle.expressions.specs.Standing.{Here}
+use Rattle.expressions.proofs.Standing.{inside}
 use Rattle.plans.proofs.Places.{forth-within}
 use Rattle.memberships.specs.Recipes.{exprInner}
 

@@ -15,9 +15,9 @@ use Rattle.rules.proofs.Looks.{firstRun-is, loneTerm-is, loneNode-is, asSymbol-
 use Rattle.plans.specs.declared.Recipe.{Recipe}
 use Rattle.plans.specs.declared.Ways.the-variants.{Two}
 use Rattle.plans.specs.declared.Plan.{Plan}
-use Rattle.plans.specs.declared.Shape.{Shape}
-use Rattle.plans.specs.Looks.{head, tail}
-use Rattle.plans.specs.Views.{Shows}
+use Rattle.views.specs.declared.Shape.{Shape}
+use Rattle.views.specs.Looks.{head, tail}
+use Rattle.views.specs.Views.{Shows}
 use Rattle.plans.specs.Results.{made, resultsOf}
 use Rattle.plans.specs.Sizes.{placedWords}
 use Rattle.plans.specs.Slots.{planOf}
@@ -25,8 +25,8 @@ use Rattle.views.proofs.Words.{words-append, words-body}
 use Rattle.views.proofs.Sides.{side-whole, side-head, side-tail, shows-before, shows-behind, shows-expr}
 use Rattle.equations.specs.Planned.{Planned}
 use Rattle.equations.proofs.Plain.{answered, planned, one-result, side-forth, side-children}
-use Rattle.exprs.specs.declared.Part.{Part}
-use Rattle.exprs.specs.Standing.{Parted}
+use Rattle.expressions.specs.declared.Part.{Part}
+use Rattle.expressions.specs.Standing.{Parted}
 use Rattle.memberships.specs.Recipes.{r2Plan, m3First, m3Second, m3Plan, memberIn, m4Plan, m11Plan, m5First, m5Second, shared, halved, hedgeInner, exprInner, midOf}
 use Rattle.memberships.specs.Planned.{Applies, Is}
 use Rattle.memberships.proofs.Parts.{inner-part, first-here, first-part, second-part}

@@ -8,9 +8,9 @@ use Rattle.rules.specs.Rules.{Branch, InRule}
 use Rattle.rules.specs.Places.{atM2}
 use Rattle.plans.specs.declared.Ways.the-variants.{Monomials}
 use Rattle.plans.specs.declared.Plan.{Plan}
-use Rattle.plans.specs.declared.Shape.{Shape}
-use Rattle.plans.specs.Views.{Shows}
-use Rattle.plans.specs.Ranks.{memAnswer}
+use Rattle.views.specs.declared.Shape.{Shape}
+use Rattle.views.specs.Views.{Shows}
+use Rattle.rules.specs.Ranks.{memAnswer}
 use Rattle.equations.specs.Planned.{Planned}
 use Rattle.memberships.specs.Recipes.{membershipPlan}
 

@@ -2,12 +2,17 @@
 -- The answer is the rule's place in the list, or `noRule`.
 use Prim.Native.Nat.{ℕ}
 use mathlib.Core.Bool.{Bool}
-use lib.Dec.{eqb, leb}
 use Rattle.language.specs.declared.Sym.{Sym}
+use Rattle.language.specs.declared.Name.{Name}
+use Rattle.language.specs.declared.Name.the-variants.{Symbol, Blank}
+use Rattle.language.specs.declared.Kind.{Kind}
+use Rattle.language.specs.declared.Kind.the-variants as kind
 use Rattle.language.specs.Kinds.{pick}
 use Rattle.language.specs.Trees.{Functor, symbol, fvar, Hedge, ε, tvar, hvar, node, Expr, eps, cat, alt, star, over, eqS}
 use Rattle.rules.specs.Looks.{empty, hasTerm}
 use Rattle.rules.specs.Expressions.{nullable}
+use Rattle.views.specs.declared.Look.{Look}
+use Rattle.views.specs.declared.Look.the-variants.{Empty, Term, Run, Node}
 use Rattle.rules.specs.Places.{atR2, atF5, atF6, atF7, atM1, atM2, atM3, atM4, atM5, atM6, atM7, atM10, atM11, noRule}
 
 -- a single F(H) in g(R): M11, F5, M10
@@ -37,13 +42,36 @@ rankIn (tvar x r) R = termRank (λ g. noRule) (empty r) R
 rankIn (hvar p r) R = runRank r R
 rankIn (node F c r) R = termRank (overRank F) (empty r) R
 
--- ---- the same by the words: f the functor's, x the expression's first
+-- ---- the same by how the hedge begins and by what the first word of the expression is
 
-unfoldable pub overBy : ℕ → ℕ → ℕ
-overBy f x = pick (leb 4000 f) atM10 (pick (eqb f x) atM11 atF5)
+abbrev pub overBy : Name → Sym → ℕ
+overBy (Symbol f) g = pick (eqS f g) atM11 atF5
+overBy (Blank X) g = atM10
 
-unfoldable pub termBy : ℕ → Bool → ℕ → ℕ
-termBy x last single = pick (eqb x 7000) atF7 (pick last (pick (eqb x 7001) atM5 (pick (eqb x 7002) atM6 (pick (eqb x 7003) atM4 single))) atM2)
+-- a single term in g(R)
+abbrev pub singleBy : Look → Sym → ℕ
+singleBy Empty g = noRule
+singleBy (Term x last) g = noRule
+singleBy (Run p last) g = noRule
+singleBy (Node f last bare) g = overBy f g
 
-unfoldable pub runBy : ℕ → Bool → Bool → ℕ
-runBy x last terms = pick (eqb x 7000) (pick terms atF7 atM1) (pick (eqb x 7002) atM7 (pick (leb 7000 x) noRule (pick last noRule atM3)))
+-- one answer for each form of an expression, and no rule by a word that begins none
+abbrev pub byFirst : Kind → ℕ → ℕ → ℕ → ℕ → (Sym → ℕ) → ℕ
+byFirst kind.End e c a s o = noRule
+byFirst (kind.Term x) e c a s o = noRule
+byFirst (kind.Run p) e c a s o = noRule
+byFirst (kind.Symbol g) e c a s o = o g
+byFirst (kind.Function X) e c a s o = noRule
+byFirst kind.Equation e c a s o = noRule
+byFirst kind.Membership e c a s o = noRule
+byFirst kind.Eps e c a s o = e
+byFirst kind.Cat e c a s o = c
+byFirst kind.Alt e c a s o = a
+byFirst kind.Star e c a s o = s
+byFirst kind.Other e c a s o = noRule
+
+abbrev pub termBy : Look → Bool → Kind → ℕ
+termBy look last first = byFirst first atF7 (pick last atM5 atM2) (pick last atM6 atM2) (pick last atM4 atM2) (λ g. pick last (singleBy look g) atM2)
+
+abbrev pub runBy : Kind → Bool → Bool → ℕ
+runBy first last terms = byFirst first (pick terms atF7 atM1) noRule atM7 noRule (λ g. pick last noRule atM3)

@@ -10,7 +10,7 @@ use Rattle.plans.specs.declared.Piece.the-variants.{Word, Copy, Put, Each}
 use Rattle.plans.specs.declared.Recipe.{Recipe}
 use Rattle.plans.specs.declared.Ways.the-variants.{One, Two, Monomials}
 use Rattle.plans.specs.declared.Plan.{Plan}
-use Rattle.plans.specs.declared.Shape.{Shape}
+use Rattle.views.specs.declared.Shape.{Shape}
 use Rattle.plans.specs.declared.Within.{Within}
 use Rattle.plans.specs.Slots.{nothing, fullRecipe, fewRecipe, blankRecipe, planOf, single, tabled, innerOf}
 

@@ -7,13 +7,22 @@ ghost use Rattle.memberships.specs.Planned.{Is, Answered};
 use plans::Piece;
 use plans::Plan;
 use plans::Recipe;
-use plans::Shape;
-use plans::Side;
 use plans::Ways;
 use plans::few;
 use plans::full;
 use plans::inner;
-use rules::places::{AT_R2, AT_M1, AT_M2, AT_M3, AT_M4, AT_M5, AT_M6, AT_M7, AT_M10, AT_M11};
+use rules::places::AT_M1;
+use rules::places::AT_M2;
+use rules::places::AT_M3;
+use rules::places::AT_M4;
+use rules::places::AT_M5;
+use rules::places::AT_M6;
+use rules::places::AT_M7;
+use rules::places::AT_M10;
+use rules::places::AT_M11;
+use rules::places::AT_R2;
+use views::Shape;
+use views::Side;
 
 // A plan without a piece.
 fn bare(ways: Ways) -> Plan
@@ -237,7 +246,7 @@ fn plan_m5(k: &[u16], s: Shape) -> Plan
     ensures { λ p. ⌜ Is M5 (now (k .entry)) s (λ R. shared s (exprInner (now (k .entry)) s .from) (midOf (now (k .entry)) s R)) p ⌝ }
 {
     let within = inner(k, s.expr, s.end);
-    let part = exprs::pass(k, within.from);
+    let part = expressions::pass(k, within.from);
     let first = in_first(s, within.from, part.end);
     let second = in_second(s, within.from, part.end);
     Plan {
@@ -253,7 +262,7 @@ fn halves(k: &[u16], s: Shape) -> Plan
 {
     let h = s.h;
     let within = inner(k, s.expr, s.end);
-    let part = exprs::pass(k, within.from);
+    let part = expressions::pass(k, within.from);
     let first = member_in(s, h.from, h.to, within.from, part.end);
     let second = member_in(s, h.from, h.to, part.end, s.end);
     Plan {

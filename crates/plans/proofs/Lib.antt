@@ -1,3 +1,4 @@
 pub mod Ranking
 pub mod Places
 pub mod Determined
+pub mod Replaced

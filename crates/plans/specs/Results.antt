@@ -1,22 +1,16 @@
 -- What a plan makes of a conjunction's words: parts of them, copied or with words replaced, and single words.
-use Prim.Native.Nat.{ℕ, zero, suc, _+_, _-_}
-use mathlib.Core.Bool.{Bool, false, _||_}
+use Prim.Native.Nat.{ℕ, zero, suc, _+_}
 use mathlib.Core.List.{List, [], _∷_, _++_, map}
-use lib.Dec.{eqb, leb}
-use lib.ListN.{getD, drop}
+use lib.ListN.{getD}
 use lib.Seq.{slice}
 use Rattle.language.specs.Kinds.{pick}
+use Rattle.words.specs.Spans.{member, places}
 use Rattle.plans.specs.declared.Piece.{Piece}
 use Rattle.plans.specs.declared.Piece.the-variants.{Word, Copy, Put, ToCut, PutFromCut, Each}
 use Rattle.plans.specs.declared.Recipe.{Recipe}
 use Rattle.plans.specs.declared.Ways.{Ways}
 use Rattle.plans.specs.declared.Ways.the-variants.{Drop, One, Two, Cuts, Monomials}
 use Rattle.plans.specs.declared.Plan.{Plan}
-
--- whether a word stands among others
-abbrev pub member : ℕ → List ℕ → Bool
-member x [] = false
-member x (y ∷ ws) = eqb y x || member x ws
 
 -- `new` for each word that is one of `old`
 abbrev pub replaced : List ℕ → List ℕ → List ℕ → List ℕ
@@ -51,27 +45,6 @@ piecesFrom (suc n) i k r cut = pieceWords k r cut (slotAt r i) ++ piecesFrom n (
 -- the words of one result
 unfoldable pub made : List ℕ → Recipe → ℕ → List ℕ
 made k r cut = piecesFrom 12 0 k r cut
-
--- ---- element by element
-
--- in a hedge, how many hedges are still to come after a word, beside the one it stands in: none after 0, one after a variable, two after a functor
-unfoldable pub opens : ℕ → ℕ
-opens x = pick (eqb x 0) 0 (pick (leb x 2999) 1 2)
-
--- how many words n hedges take
-unfoldable pub span : ℕ → List ℕ → ℕ
-span n [] = 0
-span zero (x ∷ ws) = 0
-span (suc n) (x ∷ ws) = suc (span (n + opens x) ws)
-
--- the place after the element at i, or i where the hedge ends there
-unfoldable pub elementEnd : List ℕ → ℕ → ℕ
-elementEnd k i = pick (eqb (getD k i 0) 0) i (i + 1 + span (opens (getD k i 0) - 1) (drop (i + 1) k))
-
--- n places, element by element
-unfoldable pub places : ℕ → List ℕ → ℕ → List ℕ
-places zero k i = []
-places (suc n) k i = i ∷ places n k (elementEnd k i)
 
 -- ---- the results in order; those by monomials are made elsewhere
 abbrev pub waysFrom : List ℕ → Recipe → Recipe → Ways → List (List ℕ)

@@ -11,7 +11,7 @@ use Rattle.rules.specs.Rules.{Branch, monomialResult}
 use Rattle.rules.specs.Expressions.{linear}
 use Rattle.rules.specs.Step.{place}
 use Rattle.frames.specs.Frames.{frame}
-use Rattle.plans.specs.Looks.{head, tail}
+use Rattle.views.specs.Looks.{head, tail}
 use Rattle.plans.specs.declared.Size.{Size}
 use Rattle.plans.specs.declared.Size.the-variants.{Fits, Over}
 

@@ -1,16 +1,12 @@
 -- Any two outcomes that a contract of this crate allows coincide.
 use mathlib.Core.Path.{_≡_, sym, ap, _∙_}
 use Rattle.language.proofs.Determined.{Determined}
-use Rattle.reader.proofs.classify as classify
 use Rattle.reader.proofs.read_hedge as read-hedge
 use Rattle.reader.proofs.read_literal as read-literal
 use Rattle.reader.proofs.laid_out as laid-out
 use Rattle.reader.proofs.read_header as read-header
 use Rattle.reader.proofs.read_question as read-question
 use Rattle.reader.proofs.verdict_number as verdict-number
-
-classify-determined : Determined classify.ended classify.Reads.Pre classify.Reads.Post
-classify-determined κs a g p o q e d = ap (λ z. (z, o .1)) (e ∙ sym d)
 
 read_hedge-determined : Determined read-hedge.ended read-hedge.Reads.Pre read-hedge.Reads.Post
 read_hedge-determined κs a g p o q e d = ap (λ z. (z, o .1)) (e ∙ sym d)

@@ -1,24 +1,17 @@
 // Reading a question's words: what a word is, where a hedge, an expression and a literal end, and which of the refusals 2 to 6 is given.
-use language::FunVar;
-use language::HedgeVar;
 use language::Kind;
 use language::Refusal;
-use language::Sym;
-use language::TermVar;
+use language::classify;
 use language::limits::ALTERNATIVES;
 use language::limits::EACH;
-use language::limits::LAST_FUNCTION;
-use language::limits::LAST_RUN;
-use language::limits::LAST_SYMBOL;
-use language::limits::LAST_TERM;
 use language::limits::QUESTION;
 use language::number;
+use language::wide;
 ghost use mathlib.Core.Path.{_≡_};
 ghost use mathlib.Core.Bool.{true};
 ghost use Prim.Native.Nat.{_≤_};
 ghost use lib.ListN.{length, drop};
 ghost use Rattle.language.specs.Limits.{desk};
-ghost use Rattle.language.specs.Kinds.{kindOf};
 ghost use Rattle.language.specs.Reading.{readTerm, readHedge, readExpr, readLiteral, readConj};
 ghost use Rattle.language.specs.Question.{rising, laidOut, parts, readAll, countsFit, readQuestion};
 ghost use Rattle.language.specs.Undeclared.{declaredWord};
@@ -30,26 +23,6 @@ ghost use Rattle.reader.specs.Checking.{readable, headerOf, countsIn, fi
 pub enum Read {
     Next(usize),
     Stop(usize),
-}
-
-// What a word is, by the table of words.
-pub fn classify(word: u16) -> Kind
-    ensures { λ r. ⌜ r ≡ kindOf desk word ⌝ }
-{
-    match word {
-        0 => Kind::End,
-        1000..=LAST_TERM => Kind::Term(TermVar(word - 1000)),
-        2000..=LAST_RUN => Kind::Run(HedgeVar(word - 2000)),
-        3000..=LAST_SYMBOL => Kind::Symbol(Sym(word - 3000)),
-        4000..=LAST_FUNCTION => Kind::Function(FunVar(word - 4000)),
-        5000 => Kind::Equation,
-        6000 => Kind::Membership,
-        7000 => Kind::Eps,
-        7001 => Kind::Cat,
-        7002 => Kind::Alt,
-        7003 => Kind::Star,
-        _ => Kind::Other,
-    }
 }
 
 // One term: a term variable, or a symbol or function variable with its children.
@@ -134,13 +107,6 @@ fn read_conj(w: &[u16]) -> Read
         }
     }
     Read::Next(i)
-}
-
-// A word as a place.
-fn wide(word: u16) -> usize
-    ensures { λ r. ⌜ r ≡ word ⌝ }
-{
-    word as usize
 }
 
 // Whether the offsets from place `at` up to `stop` never fall, from `from` on, and the last is the length.

@@ -16,9 +16,9 @@ use Rattle.rules.specs.Step.{place, step}
 use Rattle.rules.specs.Rules.{Branch}
 use Rattle.rules.specs.Places.{noRule}
 use Rattle.plans.specs.Sizes.{placedWords}
-use Rattle.search.specs.Ranking.{Found, nowhere, somewhere, sideAnswer}
-use Rattle.search.proofs.Walks.{stands-here}
-use Rattle.search.proofs.Pass.{searched}
+use Rattle.steps.specs.Ranking.{Found, nowhere, somewhere, sideAnswer}
+use Rattle.views.proofs.LiteralWalks.{stands-here}
+use Rattle.steps.proofs.Pass.{searched}
 use Rattle.views.specs.Standing.{LiteralAt}
 use Rattle.solver.specs.declared.State.{State}
 use Rattle.solver.specs.declared.Turned.the-variants.{On, Stop}

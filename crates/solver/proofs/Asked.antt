@@ -15,8 +15,8 @@ use Rattle.language.specs.Question.{offsets, partsFrom, parts, laidOut, lengthF
 use Rattle.language.proofs.Bools.{both-true}
 use Rattle.language.proofs.Alternatives.{fineAll, read-all}
 use Rattle.language.proofs.Asking.{Passed, passed}
-use Rattle.stack.specs.Waiting.{Laid}
-use Rattle.stack.proofs.Blocks.{laid-wait}
+use Rattle.waiting.specs.Waiting.{Laid}
+use Rattle.waiting.proofs.Blocks.{laid-wait}
 use Rattle.answers.specs.declared.Tally.{Tally}
 use Rattle.answers.specs.Lined.{Lined}
 use Rattle.reader.proofs.Answers.{question-asked}

@@ -23,10 +23,10 @@ use Rattle.rules.proofs.Each.{each-++}
 use Rattle.frames.specs.Frames.{framed}
 use Rattle.plans.specs.Sizes.{placedWords, sized}
 use Rattle.plans.specs.declared.Size.the-variants.{Fits, Over}
-use Rattle.pieces.proofs.Sizing.{sized-fits, fits-exact, fits-past, over-anyLong, fits-anyLong, words-waiting}
-use Rattle.search.proofs.FineSteps.{step-fine}
-use Rattle.stack.specs.Waiting.{Waiting}
-use Rattle.stack.proofs.Blocks.{laid, first-length, first-block, first-room, rest-wait}
+use Rattle.results.proofs.Sizing.{sized-fits, fits-exact, fits-past, over-anyLong, fits-anyLong, words-waiting}
+use Rattle.rules.proofs.FineSteps.{step-fine}
+use Rattle.waiting.specs.Waiting.{Waiting}
+use Rattle.waiting.proofs.Blocks.{laid, first-length, first-block, first-room, rest-wait}
 use Rattle.answers.specs.declared.Tally.{Tally}
 use Rattle.answers.specs.Lined.{Lined}
 use Rattle.answers.proofs.Rows.{count-more, lines-size-more, open-most, length-answer}

@@ -11,7 +11,7 @@ use Rattle.language.specs.Fine.{fineConj}
 use Rattle.language.specs.Question.{Asked, asks, refuses}
 use Rattle.rules.specs.Run.{size, Outcome, finished, refused, runFrom}
 use Rattle.rules.specs.Each.{Each}
-use Rattle.stack.specs.Waiting.{Waiting}
+use Rattle.waiting.specs.Waiting.{Waiting}
 use Rattle.answers.specs.declared.Tally.{Tally}
 use Rattle.answers.specs.Lined.{Lined}
 use Rattle.solver.specs.declared.State.{State}

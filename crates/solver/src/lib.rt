@@ -11,7 +11,7 @@ ghost use Rattle.rules.specs.Reply.{nothing};
 ghost use Rattle.rules.specs.Step.{step};
 ghost use Rattle.rules.specs.Run.{run as runs};
 ghost use Rattle.rules.specs.Answer.{solvingOf, solving};
-ghost use Rattle.search.specs.Ranking.{Found};
+ghost use Rattle.steps.specs.Ranking.{Found};
 ghost use Rattle.reader.specs.Checking.{checked};
 ghost use Rattle.reader.specs.declared.Checked.the-variants.{Fine};
 ghost use Rattle.rules.specs.Places.{noRule};
@@ -20,24 +20,25 @@ ghost use Rattle.solver.specs.Leaves.{leaves, outcomeNumber, refusedBy, 
 use answers::Tally;
 use answers::add_line;
 use answers::begin;
+use frames::FRAME;
+use frames::read_frame;
 use language::Refusal;
 use language::limits::LINES;
 use language::limits::QUESTION;
 use language::limits::ROOM;
 use language::limits::STEPS;
 use language::number;
-use marks::is_solved;
 use reader::Checked;
 use reader::read_question;
-use stack::clear;
-use stack::copy;
-use stack::lay_out;
-use stack::wide;
+use rules::places::NO_RULE;
+use solved::is_solved;
 use steps::Best;
 use steps::Stepped;
 use steps::find;
 use steps::take_step;
-use rules::places::NO_RULE;
+use waiting::clear;
+use waiting::copy;
+use waiting::lay_out;
 
 // Where the waiting conjunctions begin, the steps made, and the lines.
 pub struct State {
@@ -145,10 +146,11 @@ fn turn(work: &mut [u16], answer: &mut [u16], s: State) -> Turned
     ensures { λ r. ⌜ ((oldWork oldAnswer : List ℕ) (ls : List Conj) (c : Conj) (w : List Conj) → Running oldWork oldAnswer ls (c ∷ w) s (now (work .entry)) (now (answer .entry)) → Turns oldWork oldAnswer ls (c ∷ w) s r (now (work .exit)) (now (answer .exit))) ⌝ }
 {
     let at = s.at;
-    let n = wide(work[at]);
-    let next = at + 1 + n;
+    let n = read_frame(work, at);
+    let start = at + FRAME;
+    let next = start + n;
     let mut k = [0; QUESTION];
-    copy(work, at + 1, next, &mut k, 0);
+    copy(work, start, next, &mut k, 0);
     turn_with(&k[0..n], next, work, answer, s)
 }
 

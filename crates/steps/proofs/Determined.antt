@@ -15,7 +15,7 @@ use Rattle.frames.specs.Frames.{framed}
 use Rattle.plans.specs.declared.Size.{Size}
 use Rattle.plans.specs.declared.Size.the-variants.{Fits, Over}
 use Rattle.views.specs.Standing.{LiteralAt}
-use Rattle.search.specs.Ranking.{sideAnswer}
+use Rattle.steps.specs.Ranking.{sideAnswer}
 use Rattle.steps.specs.declared.Stepped.{Stepped}
 use Rattle.steps.specs.declared.Stepped.the-variants.{Done}
 use Rattle.steps.specs.Taking.{Took, long, room, done}

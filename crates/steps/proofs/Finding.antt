@@ -12,11 +12,11 @@ use Rattle.language.specs.Trees.{Hedge, Expr, Literal, eqn, mem, Conj}
 use Rattle.language.specs.Writing.{literalWords, conjWords}
 use Rattle.rules.specs.Places.{noRule}
 use Rattle.views.specs.Standing.{LiteralAt}
-use Rattle.plans.specs.Ranks.{eqnRank, memRank}
-use Rattle.search.specs.Ranking.{Ranked, Sought, Found}
-use Rattle.search.proofs.Ranks.{rank-written, rank-swapped, rank-member}
-use Rattle.search.proofs.Walks.{literal-some}
-use Rattle.search.proofs.Pass.{start, keep, better, finish}
+use Rattle.rules.specs.Ranks.{eqnRank, memRank}
+use Rattle.steps.specs.Ranking.{Ranked, Sought, Found}
+use Rattle.steps.proofs.Ranks.{rank-written, rank-swapped, rank-member}
+use Rattle.views.proofs.LiteralWalks.{literal-some}
+use Rattle.steps.proofs.Pass.{start, keep, better, finish}
 use Rattle.steps.specs.declared.Best.{Best}
 use Rattle.steps.specs.Seeking.{best, lesserOf, bestAt, bestFrom, bestOf}
 

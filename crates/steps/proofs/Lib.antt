@@ -1,3 +1,6 @@
 pub mod Finding
 pub mod Taken
 pub mod Determined
+pub mod Ranks
+pub mod First
+pub mod Pass

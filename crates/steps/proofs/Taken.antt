@@ -13,16 +13,16 @@ use Rattle.rules.specs.Expressions.{linear}
 use Rattle.rules.specs.Rules.{Branch, monomialResult, M2}
 use Rattle.rules.specs.Places.{atM2}
 use Rattle.rules.proofs.Answers.{where-some, Where, Answers, look, test, answers}
-use Rattle.plans.specs.Looks.{head, tail}
-use Rattle.plans.specs.Ranks.{eqnAnswer, memAnswer}
+use Rattle.views.specs.Looks.{head, tail}
+use Rattle.rules.specs.Ranks.{eqnAnswer, memAnswer}
 use Rattle.frames.specs.Frames.{framed}
 use Rattle.plans.specs.Sizes.{sized, placedWords, monomialWords}
 use Rattle.plans.specs.declared.Size.{Size}
 use Rattle.plans.specs.declared.Size.the-variants.{Fits, Over}
-use Rattle.pieces.specs.Written.{Wrote, Ready}
-use Rattle.pieces.proofs.Sizing.{fits-ready}
+use Rattle.results.specs.Written.{Wrote, Ready}
+use Rattle.results.proofs.Sizing.{fits-ready}
 use Rattle.views.specs.Standing.{LiteralAt}
-use Rattle.search.specs.Ranking.{sideAnswer}
+use Rattle.steps.specs.Ranking.{sideAnswer}
 use Rattle.steps.specs.Taking.{Took, long, room, done}
 use Rattle.steps.specs.declared.Stepped.{Stepped}
 use Rattle.steps.specs.declared.Stepped.the-variants.{Long, Room, Done}

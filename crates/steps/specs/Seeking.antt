@@ -8,7 +8,7 @@ use Rattle.language.specs.Kinds.{pick}
 use Rattle.language.specs.Trees.{Literal, eqn, mem, Conj}
 use Rattle.language.specs.Writing.{conjWords}
 use Rattle.rules.specs.Places.{noRule}
-use Rattle.plans.specs.Ranks.{eqnRank, memRank}
+use Rattle.rules.specs.Ranks.{eqnRank, memRank}
 use Rattle.steps.specs.declared.Best.{Best}
 
 abbrev pub best : ℕ → ℕ → Bool → Best

@@ -12,25 +12,26 @@ ghost use Rattle.plans.specs.Results.{resultsOf};
 ghost use Rattle.plans.specs.Sizes.{placedWords, monomialWords};
 ghost use Rattle.views.specs.Standing.{LiteralAt};
 ghost use Rattle.rules.specs.Rules.{Branch};
-ghost use Rattle.search.specs.Ranking.{sideAnswer};
+ghost use Rattle.steps.specs.Ranking.{sideAnswer};
 ghost use Rattle.steps.specs.Seeking.{lesserOf, bestAt, bestOf};
 ghost use Rattle.steps.specs.Taking.{Took};
 ghost use Rattle.equations.specs.Planned.{Planned};
 ghost use Rattle.rules.specs.Places.{atM2, noRule};
 use equations::plan::plan_equation;
 use equations::rank::rank_equation;
-use exprs::size_monomials;
-use exprs::write_monomials;
+use expressions::size_monomials;
+use expressions::write_monomials;
 use memberships::plan::plan_membership;
 use memberships::rank::rank_membership;
-use pieces::size_results;
-use pieces::write_results;
 use plans::Plan;
 use plans::Size;
+use results::size_results;
+use results::write_results;
+use rules::places::AT_M2;
+use rules::places::NO_RULE;
 use views::see;
 use views::show_membership;
 use views::swapped;
-use rules::places::{AT_M2, NO_RULE};
 
 // The literal of the least rank so far: its rank, its place, and whether its equation is seen from the other side.
 pub struct Best {

@@ -10,10 +10,10 @@ use Rattle.language.specs.Trees.{Hedge, ε, tvar, hvar, node, _⧺_}
 use Rattle.language.specs.Writing.{hedgeWords}
 use Rattle.language.specs.Fine.{fineHedge}
 use Rattle.rules.specs.Looks.{cuts}
-use Rattle.plans.specs.Looks.{head, tail, bodyWords}
-use Rattle.plans.specs.Results.{elementEnd, places}
-use Rattle.plans.specs.Views.{Sided}
-use Rattle.plans.specs.declared.Side.{Side}
+use Rattle.views.specs.Looks.{head, tail, bodyWords}
+use Rattle.words.specs.Spans.{elementEnd, places}
+use Rattle.views.specs.Views.{Sided}
+use Rattle.views.specs.declared.Side.{Side}
 use Rattle.views.specs.Standing.{Stands}
 use Rattle.views.specs.Walks.{size}
 use Rattle.words.proofs.Parts.{part-of, drop-of}

@@ -16,8 +16,8 @@ use Rattle.language.specs.Writing.{hedgeWords}
 use Rattle.language.specs.Fine.{fineHedge}
 use Rattle.rules.specs.Looks.{under, onto, around, inside, upTo}
 use Rattle.rules.specs.Solved.{isSome}
-use Rattle.plans.specs.Looks.{head, tail, bodyWords}
-use Rattle.plans.specs.Results.{member, elementEnd}
+use Rattle.views.specs.Looks.{head, tail, bodyWords}
+use Rattle.words.specs.Spans.{member, elementEnd}
 use Rattle.views.specs.Variables.{variableWord, fineVar}
 use Rattle.views.specs.Standing.{Stands}
 use Rattle.views.specs.Walks.{size, Ahead, Spotted}

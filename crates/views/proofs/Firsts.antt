@@ -6,7 +6,7 @@ use mathlib.Core.List.{List}
 use native.Mathlib.Decide.{decLt}
 use native.Mathlib.Numerals.{add-one}
 use native.Mathlib.Omega.{arith}
-use Rattle.plans.specs.Results.{elementEnd}
+use Rattle.words.specs.Spans.{elementEnd}
 use Rattle.views.specs.Places.{nth, Walked}
 
 module _ (k : List ℕ) (at : ℕ) (stop : ℕ → Bool) where

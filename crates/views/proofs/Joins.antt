@@ -16,7 +16,7 @@ use Rattle.language.specs.Trees.{Hedge, ε, tvar, hvar, node, _⧺_, hv, holds}
 use Rattle.language.specs.Writing.{hedgeWords}
 use Rattle.language.specs.Fine.{fineHedge}
 use Rattle.rules.specs.Looks.{onto, around, inside, upTo}
-use Rattle.plans.specs.Looks.{bodyWords}
+use Rattle.views.specs.Looks.{bodyWords}
 use Rattle.views.specs.Standing.{Stands}
 use Rattle.words.proofs.Parts.{part-of, drop-of}
 use Rattle.views.proofs.Words.{words-join, fine-parts}

@@ -2,7 +2,6 @@ pub mod Words
 pub mod Spans
 pub mod Sides
 pub mod Members
-pub mod Replaced
 pub mod Looks
 pub mod Literals
 pub mod Seen
@@ -14,3 +13,4 @@ pub mod Finds
 pub mod Cuts
 pub mod Joins
 pub mod Determined
+pub mod LiteralWalks

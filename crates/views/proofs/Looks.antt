@@ -2,32 +2,38 @@
 use mathlib.Core.Path.{_≡_, refl, sym, ap, _∙_}
 use mathlib.Core.Bool.{Bool}
 use mathlib.Core.List.{List, [], _∷_, _++_, append-assoc, append-nil}
-use Prim.Native.Nat.{ℕ, _+_, _<_, _≤_}
+use Prim.Native.Nat.{ℕ, _+_, _<_}
 use native.Mathlib.Omega.{arith}
-use lib.Dec.{eqb, leb}
+use lib.Dec.{eqb}
 use lib.ListN.{length, getD, drop}
 use lib.Seq.{slice}
-use borrow.Author.Tests.{eq-eqb, ne-eqb, le-leb, lt-leb}
+use borrow.Author.Tests.{ne-eqb}
 use Rattle.language.specs.declared.TermVar.{TermVar}
 use Rattle.language.specs.declared.HedgeVar.{HedgeVar}
+use Rattle.language.specs.declared.Name.{Name}
+use Rattle.language.specs.declared.Name.the-variants.{Symbol, Blank}
+use Rattle.language.specs.declared.Kind.{Kind}
+use Rattle.language.specs.declared.Kind.the-variants as kind
+use Rattle.language.proofs.Arms.{Among, each-kind}
 use Rattle.language.specs.Limits.{desk}
+use Rattle.language.specs.Kinds.{kindOf}
 use Rattle.language.specs.Trees.{Functor, symbol, fvar, Hedge, ε, tvar, hvar, node}
 use Rattle.language.specs.Writing.{functorWord, hedgeWords}
-use Rattle.language.specs.Fine.{fineFunctor}
-use Rattle.rules.specs.Looks.{empty, asBlank}
-use Rattle.rules.specs.Solved.{isSome}
-use Rattle.plans.specs.Looks.{lookOf, head, tail, bodyWords}
-use Rattle.plans.specs.Results.{span, elementEnd}
-use Rattle.plans.specs.Views.{Sided}
-use Rattle.plans.specs.declared.Look.{Look}
-use Rattle.plans.specs.declared.Look.the-variants.{Empty, Term, Run, Node}
-use Rattle.plans.specs.declared.Side.{Side}
+use Rattle.language.specs.Fine.{fineHedge}
+use Rattle.language.proofs.Words.{kind-end, kind-term, kind-run, kind-symbol, kind-function}
+use Rattle.rules.specs.Looks.{empty}
+use Rattle.views.specs.Looks.{nameOf, lookOf, head, tail, bodyWords}
+use Rattle.words.specs.Spans.{span, elementEnd}
+use Rattle.views.specs.Views.{Sided}
+use Rattle.views.specs.declared.Look.{Look}
+use Rattle.views.specs.declared.Look.the-variants.{Empty, Term, Run, Node}
+use Rattle.views.specs.declared.Side.{Side}
 use Rattle.views.specs.Standing.{Stands}
 use Rattle.views.specs.Places.{lookBy, lookAt, sideAt}
-use Rattle.words.proofs.Parts.{part-of, drop-of}
+use Rattle.words.proofs.Parts.{part-of, drop-of, below-of-word}
 use Rattle.views.proofs.Words.{firstWord}
 use Rattle.views.proofs.Sides.{side-stands}
-use Rattle.views.proofs.Spans.{functor-least, functor-some, stands-word, stands-rest, stands-place, stands-end}
+use Rattle.views.proofs.Spans.{functor-some, stands-word, stands-rest, stands-place, stands-end}
 
 pub empty-word : (h : Hedge) → eqb (firstWord h) 0 ≡ empty h
 empty-word ε = refl
@@ -42,81 +48,49 @@ stands-children {k} {i} {f} {c} {r} {beyond} s = record {
   here = drop-of k i (i + 1) (functorWord f ∷ []) ((hedgeWords c ++ hedgeWords r) ++ beyond) (s .here) refl ∙ append-assoc (hedgeWords c) (hedgeWords r) beyond;
 }
 
-same-term : {a b : ℕ} {p q : Bool} → a ≡ b → p ≡ q → Term a p ≡ Term b q
-same-term e d = cc
+-- ---- the look at a place where h stands is how h begins
 
-same-run : {a b : ℕ} {p q : Bool} → a ≡ b → p ≡ q → Run a p ≡ Run b q
-same-run e d = cc
+-- by the first word: its kind, whether the hedge ends after its first element, and whether that has no children
+look-by : (h : Hedge) → fineHedge desk h → (bare : Bool) → ((f : Functor) (c r : Hedge) → h ≡ node f c r → bare ≡ empty c) → lookBy (kindOf desk (firstWord h)) (empty (tail h)) bare ≡ lookOf h
+look-by ε b bare e = ap (λ k. lookBy k (empty (tail ε)) bare) (kind-end desk)
+look-by (tvar x r) b bare e = ap (λ k. lookBy k (empty r) bare) (kind-term desk x (b .0))
+look-by (hvar p r) b bare e = ap (λ k. lookBy k (empty r) bare) (kind-run desk p (b .0))
+look-by (node (symbol g) c r) b bare e = ap (λ k. lookBy k (empty r) bare) (kind-symbol desk g (b .0)) ∙ ap (Node (Symbol g) (empty r)) (e (symbol g) c r refl)
+look-by (node (fvar X) c r) b bare e = ap (λ k. lookBy k (empty r) bare) (kind-function desk X (b .0)) ∙ ap (Node (Blank X) (empty r)) (e (fvar X) c r refl)
 
-same-node : {a b : ℕ} {p q r s : Bool} → a ≡ b → p ≡ q → r ≡ s → Node a p r ≡ Node b q s
-same-node e d g = cc
+pub look-law : {k : List ℕ} {i : ℕ} (h : Hedge) {beyond : List ℕ} {j : ℕ} → Stands k i h beyond → j ≡ i + length (bodyWords (head h)) → lookAt k i j ≡ lookOf h
+unfolding lookAt
+look-law {k} {i} h {beyond} {j} s d =
+    ap (λ w. lookBy (kindOf desk w) (eqb (getD k j 0) 0) (eqb (getD k (i + 1) 0) 0)) (stands-word s)
+    ∙ ap (λ b. lookBy (kindOf desk (firstWord h)) b (eqb (getD k (i + 1) 0) 0)) (ap (λ n. eqb n 0) (stands-word (stands-rest s d)) ∙ empty-word (tail h))
+    ∙ look-by h (s .fine) (eqb (getD k (i + 1) 0) 0) (λ f c r e. ap (λ n. eqb n 0) (stands-word (stands-children (rw e at s))) ∙ empty-word c)
 
--- x is the word at i, where h stands, y the word after its first element, z the word after x
-pub look-empty : {k : List ℕ} {i : ℕ} (h : Hedge) {beyond : List ℕ} {x : ℕ} → Stands k i h beyond → x ≡ getD k i 0 → x ≡ 0 → Empty ≡ lookOf h
-look-empty ε s e o = refl
-look-empty (tvar y r) s e o = absurd (let w = stands-word s in omega arith)
-look-empty (hvar p r) s e o = absurd (let w = stands-word s in omega arith)
-look-empty (node f c r) s e o = absurd (functor-some f (sym (stands-word s) ∙ sym e ∙ o))
+-- ---- the look at a place by the kind of the word there
 
-module _ {k : List ℕ} {i : ℕ} {h : Hedge} {beyond : List ℕ} {x j y : ℕ} (s : Stands k i h beyond) (e : x ≡ getD k i 0) (o : x ≡ 0 → ⊥) (d : j ≡ i + length (bodyWords (head h))) (q : y ≡ getD k j 0) where
-  last : eqb y 0 ≡ empty (tail h)
-  last = ap (λ n. eqb n 0) (q ∙ stands-word (stands-rest s d)) ∙ empty-word (tail h)
+module _ (k : List ℕ) (i j : ℕ) where
+  -- what is the look at the place is how h begins, where h stands there
+  pub looked : {r : Look} → r ≡ lookAt k i j → ((h : Hedge) (beyond : List ℕ) → Stands k i h beyond → j ≡ i + length (bodyWords (head h)) → r ≡ lookOf h) × (r ≡ lookAt k i j)
+  looked e = ((λ h beyond s d. e ∙ look-law h s d), e)
 
-pub look-term : {k : List ℕ} {i : ℕ} (h : Hedge) {beyond : List ℕ} {x j y : ℕ} → Stands k i h beyond → x ≡ getD k i 0 → (x ≡ 0 → ⊥) → j ≡ i + length (bodyWords (head h)) → y ≡ getD k j 0 → x ≤ 1999 → Term x (eqb y 0) ≡ lookOf h
-look-term ε s e o d q a = absurd (o (e ∙ stands-word s))
-look-term (tvar z r) s e o d q a = same-term (e ∙ stands-word s) (last s e o d q)
-look-term (hvar p r) s e o d q a = absurd (let w = stands-word s in omega arith)
-look-term (node f c r) s e o d q a = absurd (let w = stands-word s in let g = functor-least f in omega arith)
+  module _ {x : ℕ} {d : Kind} (w : x ≡ getD k i 0) (q : d ≡ kindOf desk x) where
+    pub look-kind : (v : Kind) → d ≡ v → lookBy v (eqb (getD k j 0) 0) (eqb (getD k (i + 1) 0) 0) ≡ lookAt k i j
+    unfolding lookAt
+    look-kind v e = ap (λ v. lookBy v (eqb (getD k j 0) 0) (eqb (getD k (i + 1) 0) 0)) (sym e ∙ q ∙ ap (kindOf desk) w)
 
-pub look-run : {k : List ℕ} {i : ℕ} (h : Hedge) {beyond : List ℕ} {x j y : ℕ} → Stands k i h beyond → x ≡ getD k i 0 → (x ≡ 0 → ⊥) → j ≡ i + length (bodyWords (head h)) → y ≡ getD k j 0 → 1999 < x → x ≤ 2999 → Run x (eqb y 0) ≡ lookOf h
-look-run ε s e o d q a b = absurd (o (e ∙ stands-word s))
-look-run (tvar z r) s e o d q a b = absurd (let w = stands-word s in let f = s .fine .0 in omega arith)
-look-run (hvar p r) s e o d q a b = same-run (e ∙ stands-word s) (last s e o d q)
-look-run (node f c r) s e o d q a b = absurd (let w = stands-word s in let g = functor-least f in omega arith)
+    pub look-term : (x : TermVar) {y : ℕ} → d ≡ kind.Term x → y ≡ getD k j 0 → Term x (eqb y 0) ≡ lookAt k i j
+    look-term x e u = ap (λ y. Term x (eqb y 0)) u ∙ look-kind (kind.Term x) e
 
-pub look-node : {k : List ℕ} {i : ℕ} (h : Hedge) {beyond : List ℕ} {x j y z : ℕ} → Stands k i h beyond → x ≡ getD k i 0 → (x ≡ 0 → ⊥) → j ≡ i + length (bodyWords (head h)) → y ≡ getD k j 0 → 2999 < x → z ≡ getD k (i + 1) 0 → Node x (eqb y 0) (eqb z 0) ≡ lookOf h
-look-node ε s e o d q a b = absurd (o (e ∙ stands-word s))
-look-node (tvar z r) s e o d q a b = absurd (let w = stands-word s in let f = s .fine .0 in omega arith)
-look-node (hvar p r) s e o d q a b = absurd (let w = stands-word s in let f = s .fine .0 in omega arith)
-look-node (node f c r) s e o d q a b =
-    same-node (e ∙ stands-word s) (last s e o d q) (ap (λ n. eqb n 0) (b ∙ stands-word (stands-children s)) ∙ empty-word c)
+    pub look-run : (p : HedgeVar) {y : ℕ} → d ≡ kind.Run p → y ≡ getD k j 0 → Run p (eqb y 0) ≡ lookAt k i j
+    look-run p e u = ap (λ y. Run p (eqb y 0)) u ∙ look-kind (kind.Run p) e
 
--- the same look by the words alone
-module _ (x : ℕ) (last bare : Bool) where
-  by-empty : x ≡ 0 → lookBy x last bare ≡ Empty
-  unfolding lookBy
-  by-empty z = rw (eq-eqb x 0 z)
+    pub look-other : Among (0 ∷ 5 ∷ 6 ∷ 7 ∷ 8 ∷ 9 ∷ 10 ∷ 11 ∷ []) d → Empty ≡ lookAt k i j
+    look-other o =
+        each-kind (0 ∷ 5 ∷ 6 ∷ 7 ∷ 8 ∷ 9 ∷ 10 ∷ 11 ∷ []) (λ v. Empty ≡ lookBy v (eqb (getD k j 0) 0) (eqb (getD k (i + 1) 0) 0)) refl tt tt tt tt refl refl refl refl refl refl refl d o
+        ∙ look-kind d refl
 
-  module _ (o : x ≡ 0 → ⊥) where
-    by-term : x ≤ 1999 → lookBy x last bare ≡ Term x last
-    unfolding lookBy
-    by-term a = rw (ne-eqb x 0 o, le-leb x 1999 a)
-
-    by-run : 1999 < x → x ≤ 2999 → lookBy x last bare ≡ Run x last
-    unfolding lookBy
-    by-run a b = rw (ne-eqb x 0 o, lt-leb x 1999 a, le-leb x 2999 b)
-
-    by-node : 2999 < x → lookBy x last bare ≡ Node x last bare
-    unfolding lookBy
-    by-node a = rw (ne-eqb x 0 o, lt-leb x 1999 (omega arith), lt-leb x 2999 a)
-
-module _ (k : List ℕ) (i j : ℕ) {x : ℕ} (e : x ≡ getD k i 0) where
-  by-words : lookAt k i j ≡ lookBy x (eqb (getD k j 0) 0) (eqb (getD k (i + 1) 0) 0)
-  unfolding lookAt
-  by-words = ap (λ w. lookBy w (eqb (getD k j 0) 0) (eqb (getD k (i + 1) 0) 0)) (sym e)
-
-  pub at-empty : x ≡ 0 → Empty ≡ lookAt k i j
-  at-empty z = sym (by-words ∙ by-empty _ _ _ z)
-
-  module _ {y : ℕ} (o : x ≡ 0 → ⊥) (q : y ≡ getD k j 0) where
-    pub at-term : x ≤ 1999 → Term x (eqb y 0) ≡ lookAt k i j
-    at-term a = ap (λ w. Term x (eqb w 0)) q ∙ sym (by-words ∙ by-term _ _ _ o a)
-
-    pub at-run : 1999 < x → x ≤ 2999 → Run x (eqb y 0) ≡ lookAt k i j
-    at-run a b = ap (λ w. Run x (eqb w 0)) q ∙ sym (by-words ∙ by-run _ _ _ o a b)
-
-    pub at-node : {z : ℕ} → 2999 < x → z ≡ getD k (i + 1) 0 → Node x (eqb y 0) (eqb z 0) ≡ lookAt k i j
-    at-node {z} a b = ap (λ w. Node x (eqb w 0) (eqb z 0)) q ∙ ap (λ w. Node x (eqb (getD k j 0) 0) (eqb w 0)) b ∙ sym (by-words ∙ by-node _ _ _ o a)
+    -- a word that is something stands within the words
+    pub look-within : (v : Kind) → d ≡ v → (v ≡ kind.End → ⊥) → i < length k
+    look-within v e n = below-of-word k i (λ z. n (sym e ∙ q ∙ ap (kindOf desk) (w ∙ z) ∙ kind-end desk))
 
 -- a side, from what the walk finds at its place
 pub side-is : (k : List ℕ) (i : ℕ) {r t : ℕ} {l : Look} → r ≡ elementEnd k i → t ≡ i + span 1 (drop i k) → l ≡ lookAt k i r → record { from = i; rest = r; to = t; look = l } ≡ sideAt k i
@@ -137,53 +111,44 @@ is-empty (tvar x r) e = absurd (let y : _≡_ {A = ℕ} 0 1 = cc in omega arith)
 is-empty (hvar p r) e = absurd (let y : _≡_ {A = ℕ} 0 1 = cc in omega arith)
 is-empty (node f c r) e = absurd (let y : _≡_ {A = ℕ} 0 1 = cc in omega arith)
 
-pub record IsTerm (h : Hedge) (x : ℕ) (l : Bool) : Type 0 where
-  pub var : TermVar
+pub record IsTerm (h : Hedge) (x : TermVar) (l : Bool) : Type 0 where
   pub rest : Hedge
-  pub whole : h ≡ tvar var rest
-  pub word : x ≡ 1000 + var .0
+  pub whole : h ≡ tvar x rest
   pub last : l ≡ empty rest
 
-pub is-term : (h : Hedge) {x : ℕ} {last : Bool} → lookOf h ≡ Term x last → IsTerm h x last
+pub is-term : (h : Hedge) {x : TermVar} {last : Bool} → lookOf h ≡ Term x last → IsTerm h x last
 is-term ε e = absurd (let y : _≡_ {A = ℕ} 0 1 = cc in omega arith)
-is-term (tvar x r) e = record { var = x; rest = r; whole = refl; word = cc; last = cc }
+is-term (tvar x r) e = record { rest = r; whole = cc; last = cc }
 is-term (hvar p r) e = absurd (let y : _≡_ {A = ℕ} 0 1 = cc in omega arith)
 is-term (node f c r) e = absurd (let y : _≡_ {A = ℕ} 0 1 = cc in omega arith)
 
-pub record IsRun (h : Hedge) (x : ℕ) (l : Bool) : Type 0 where
-  pub var : HedgeVar
+pub record IsRun (h : Hedge) (p : HedgeVar) (l : Bool) : Type 0 where
   pub rest : Hedge
-  pub whole : h ≡ hvar var rest
-  pub word : x ≡ 2000 + var .0
+  pub whole : h ≡ hvar p rest
   pub last : l ≡ empty rest
 
-pub is-run : (h : Hedge) {x : ℕ} {last : Bool} → lookOf h ≡ Run x last → IsRun h x last
+pub is-run : (h : Hedge) {p : HedgeVar} {last : Bool} → lookOf h ≡ Run p last → IsRun h p last
 is-run ε e = absurd (let y : _≡_ {A = ℕ} 0 1 = cc in omega arith)
 is-run (tvar x r) e = absurd (let y : _≡_ {A = ℕ} 0 1 = cc in omega arith)
-is-run (hvar p r) e = record { var = p; rest = r; whole = refl; word = cc; last = cc }
+is-run (hvar p r) e = record { rest = r; whole = cc; last = cc }
 is-run (node f c r) e = absurd (let y : _≡_ {A = ℕ} 0 1 = cc in omega arith)
 
-pub record IsNode (h : Hedge) (x : ℕ) (l b : Bool) : Type 0 where
+pub record IsNode (h : Hedge) (f : Name) (l b : Bool) : Type 0 where
   pub functor : Functor
   pub children : Hedge
   pub rest : Hedge
   pub whole : h ≡ node functor children rest
-  pub word : x ≡ functorWord functor
+  pub name : f ≡ nameOf functor
   pub last : l ≡ empty rest
   pub bare : b ≡ empty children
 
-pub is-node : (h : Hedge) {x : ℕ} {last bare : Bool} → lookOf h ≡ Node x last bare → IsNode h x last bare
+pub is-node : (h : Hedge) {f : Name} {last bare : Bool} → lookOf h ≡ Node f last bare → IsNode h f last bare
 is-node ε e = absurd (let y : _≡_ {A = ℕ} 0 1 = cc in omega arith)
 is-node (tvar x r) e = absurd (let y : _≡_ {A = ℕ} 0 1 = cc in omega arith)
 is-node (hvar p r) e = absurd (let y : _≡_ {A = ℕ} 0 1 = cc in omega arith)
-is-node (node f c r) e = record { functor = f; children = c; rest = r; whole = refl; word = cc; last = cc; bare = cc }
+is-node (node f c r) e = record { functor = f; children = c; rest = r; whole = refl; name = cc; last = cc; bare = cc }
 
 -- from + 1..rest: the children of a functor that begins the side
 pub side-children : {k : List ℕ} {s : Side} {f : Functor} {c r : Hedge} → Sided k s (node f c r) → slice (s .from + 1) (s .rest) k ≡ hedgeWords c
 side-children {k} {s} {f} {c} {r} v =
     part-of k (s .from + 1) (s .rest) (hedgeWords c) (hedgeWords r ++ v .beyond) (stands-children (side-stands v) .here) (let d = v .rest in let l = ap length (append-nil (hedgeWords c)) in omega arith)
-
--- a symbol's word is below every function variable's
-pub symbol-word : (f : Functor) → fineFunctor desk f → leb 4000 (functorWord f) ≡ isSome (asBlank f)
-symbol-word (symbol g) h = lt-leb 4000 (3000 + g .0) (omega arith)
-symbol-word (fvar X) h = le-leb 4000 (4000 + X .0) (omega arith)

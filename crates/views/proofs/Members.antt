@@ -15,11 +15,11 @@ use Rattle.language.specs.Limits.{desk}
 use Rattle.language.specs.Trees.{Functor, symbol, fvar, Hedge, ε, tvar, hvar, node, Expr, eps, cat, alt, star, over, Literal, eqn, mem, Conj, Var, tv, hv, fv, eqV, inFunctor, holds, inLiteral, inConj}
 use Rattle.language.specs.Writing.{functorWord, hedgeWords, exprWords, literalWords, conjWords}
 use Rattle.language.specs.Fine.{fineFunctor, fineHedge, fineExpr, fineLiteral, fineConj}
-use Rattle.plans.specs.Looks.{bodyWords}
-use Rattle.plans.specs.Results.{member}
-use Rattle.plans.specs.Views.{Sees, Shows}
-use Rattle.plans.specs.declared.View.{View}
-use Rattle.plans.specs.declared.Shape.{Shape}
+use Rattle.views.specs.Looks.{bodyWords}
+use Rattle.words.specs.Spans.{member}
+use Rattle.views.specs.Views.{Sees, Shows}
+use Rattle.views.specs.declared.View.{View}
+use Rattle.views.specs.declared.Shape.{Shape}
 use Rattle.views.specs.Variables.{variableWord, fineVar}
 use Rattle.views.proofs.Sides.{shows-finish}
 

@@ -11,8 +11,8 @@ use Rattle.language.specs.Limits.{desk}
 use Rattle.language.specs.Trees.{Functor, symbol, fvar, Hedge, ε, tvar, hvar, node, eqF, sameWords}
 use Rattle.language.specs.Writing.{functorWord, hedgeWords}
 use Rattle.language.specs.Fine.{fineFunctor, fineHedge}
-use Rattle.plans.specs.Views.{Sided}
-use Rattle.plans.specs.declared.Side.{Side}
+use Rattle.views.specs.Views.{Sided}
+use Rattle.views.specs.declared.Side.{Side}
 use Rattle.words.specs.Places.{sameList}
 use Rattle.views.proofs.Spans.{functor-least}
 use Rattle.views.proofs.Members.{eqb-base}

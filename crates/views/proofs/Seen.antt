@@ -5,11 +5,17 @@ use Prim.Native.Nat.{ℕ, _+_}
 use native.Mathlib.Omega.{arith}
 use lib.ListN.{length, getD, take, drop, length-append}
 use lib.Seq.{take-append-seam}
+use Rattle.language.specs.declared.Kind.{Kind}
+use Rattle.language.specs.Limits.{desk}
+use Rattle.language.specs.Kinds.{kindOf}
 use Rattle.language.specs.Trees.{Hedge, Expr, eps, cat, alt, star, over, Literal, eqn, mem, Conj}
 use Rattle.language.specs.Writing.{hedgeWords, exprWords, literalWords, conjWords}
-use Rattle.plans.specs.Views.{Sided, Sees, Shows}
-use Rattle.plans.specs.declared.Side.{Side}
-use Rattle.plans.specs.declared.Shape.{Shape}
+use Rattle.language.specs.Fine.{fineExpr}
+use Rattle.language.proofs.Words.{kind-symbol, kind-eps, kind-cat, kind-alt, kind-star}
+use Rattle.views.specs.Looks.{firstKind}
+use Rattle.views.specs.Views.{Sided, Sees, Shows}
+use Rattle.views.specs.declared.Side.{Side}
+use Rattle.views.specs.declared.Shape.{Shape}
 use Rattle.words.specs.Places.{untilLiteral}
 use Rattle.views.specs.Standing.{Stands, LiteralAt}
 use Rattle.views.specs.Places.{sideAt, viewOf, viewAt, shapeOf, shapeAt}
@@ -63,19 +69,19 @@ pub view-is : (k : List ℕ) (at : ℕ) {a b : Side} → a ≡ sideAt k (at + 1)
 unfolding viewOf viewAt
 view-is k at {a} {b} e d = ap (viewOf k at a) d ∙ ap (λ (s : Side). viewOf k at s (sideAt k (s .to))) e
 
-pub shape-is : (k : List ℕ) (at : ℕ) {x end : ℕ} {a : Side} → a ≡ sideAt k (at + 1) → x ≡ getD k (a .to) 0 → end ≡ at + 1 + untilLiteral (drop (at + 1) k) → record { at = at; h = a; expr = a .to; first = x; end = end; len = length k } ≡ shapeAt k at
+pub shape-is : (k : List ℕ) (at : ℕ) {x : Kind} {end : ℕ} {a : Side} → a ≡ sideAt k (at + 1) → x ≡ kindOf desk (getD k (a .to) 0) → end ≡ at + 1 + untilLiteral (drop (at + 1) k) → record { at = at; h = a; expr = a .to; first = x; end = end; len = length k } ≡ shapeAt k at
 unfolding shapeOf shapeAt
-shape-is k at {x} {end} {a} e d g = ap (λ n. shape n end) d ∙ ap (shape (getD k (a .to) 0)) g ∙ ap (shapeOf k at) e
+shape-is k at {x} {end} {a} e d g = ap (λ n. shape n end) d ∙ ap (shape (kindOf desk (getD k (a .to) 0))) g ∙ ap (shapeOf k at) e
   where
-    shape : ℕ → ℕ → Shape
+    shape : Kind → ℕ → Shape
     shape n m = record { at = at; h = a; expr = a .to; first = n; end = m; len = length k }
 
-first-of : (R : Expr) (ws : List ℕ) → getD (exprWords R ++ ws) 0 0 ≡ getD (exprWords R) 0 0
-first-of eps ws = refl
-first-of (cat a b) ws = refl
-first-of (alt a b) ws = refl
-first-of (star a) ws = refl
-first-of (over f a) ws = refl
+first-of : (R : Expr) → fineExpr desk R → (ws : List ℕ) → kindOf desk (getD (exprWords R ++ ws) 0 0) ≡ firstKind R
+first-of eps b ws = kind-eps desk
+first-of (cat a c) b ws = kind-cat desk
+first-of (alt a c) b ws = kind-alt desk
+first-of (star a) b ws = kind-star desk
+first-of (over f a) b ws = kind-symbol desk f (b .0)
 
 module _ {k : List ℕ} {at : ℕ} {before : Conj} {h : Hedge} {R : Expr} {behind : Conj} (s : LiteralAt k at before (mem h R) behind) where
   hedge-stands : Stands k (at + 1) h (exprWords R ++ conjWords behind)
@@ -84,7 +90,7 @@ module _ {k : List ℕ} {at : ℕ} {before : Conj} {h : Hedge} {R : Expr} {behin
     here = drop-of k at (at + 1) (6000 ∷ []) ((hedgeWords h ++ exprWords R) ++ conjWords behind) (literal-here s) refl ∙ append-assoc (hedgeWords h) (exprWords R) (conjWords behind);
   }
 
-  pub shows-of : {a : Side} {x end : ℕ} → SideAt k (at + 1) a → x ≡ getD k (a .to) 0 → end ≡ at + 1 + untilLiteral (drop (at + 1) k)
+  pub shows-of : {a : Side} {x : Kind} {end : ℕ} → SideAt k (at + 1) a → x ≡ kindOf desk (getD k (a .to) 0) → end ≡ at + 1 + untilLiteral (drop (at + 1) k)
       → Shows k (record { at = at; h = a; expr = a .to; first = x; end = end; len = length k }) before h R behind
   shows-of {a} {x} {end} y e d =
       let w = y .1 h (exprWords R ++ conjWords behind) hedge-stands in
@@ -94,7 +100,7 @@ module _ {k : List ℕ} {at : ℕ} {before : Conj} {h : Hedge} {R : Expr} {behin
         hedge = w;
         fine = s .fine .1;
         here = here;
-        first = e ∙ word-of k (a .to) _ here ∙ first-of R (conjWords behind);
+        first = e ∙ ap (kindOf desk) (word-of k (a .to) _ here) ∙ first-of R (s .fine .1) (conjWords behind);
         end = let n = literal-next s in let m = length-append (hedgeWords h) (exprWords R) in let t = w .to in let f = y .0 in omega arith;
         len = refl;
         fineBefore = s .fineBefore;

@@ -7,11 +7,11 @@ use lib.ListN.{length, getD, drop, length-append}
 use lib.Seq.{slice}
 use Rattle.language.specs.Trees.{Hedge, Expr, Conj}
 use Rattle.language.specs.Writing.{hedgeWords, exprWords, conjWords}
-use Rattle.plans.specs.Looks.{head, tail, bodyWords}
-use Rattle.plans.specs.Views.{Sided, Sees, Shows}
-use Rattle.plans.specs.declared.Side.{Side}
-use Rattle.plans.specs.declared.View.{View}
-use Rattle.plans.specs.declared.Shape.{Shape}
+use Rattle.views.specs.Looks.{head, tail, bodyWords}
+use Rattle.views.specs.Views.{Sided, Sees, Shows}
+use Rattle.views.specs.declared.Side.{Side}
+use Rattle.views.specs.declared.View.{View}
+use Rattle.views.specs.declared.Shape.{Shape}
 use Rattle.views.specs.Standing.{Stands}
 use Rattle.words.proofs.Parts.{part-of, drop-of, part-rest}
 use Rattle.views.proofs.Words.{words-split, firstWord}

@@ -8,7 +8,7 @@ use lib.ListN.{getD}
 use lib.Seq.{slice}
 use borrow.Author.Tests.{eq-eqb, ne-eqb}
 use Rattle.language.specs.Kinds.{pick}
-use Rattle.plans.specs.Results.{member, elementEnd}
+use Rattle.words.specs.Spans.{member, elementEnd}
 use Rattle.views.specs.declared.Terms.{Terms}
 use Rattle.views.specs.declared.Found.{Found}
 use Rattle.views.specs.declared.Spot.{Spot}

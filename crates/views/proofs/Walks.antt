@@ -2,19 +2,19 @@
 use mathlib.Core.Path.{_≡_, refl, ap, _∙_}
 use mathlib.Core.Bool.{Bool, true, false, not}
 use mathlib.Core.List.{List}
-use Prim.Native.Nat.{ℕ, suc, _+_, _<_, _≤_}
+use Prim.Native.Nat.{ℕ, suc, _+_, _<_}
 use native.Mathlib.Omega.{arith}
 use lib.Dec.{eqb}
 use lib.ListN.{length, getD, length-append}
-use borrow.Author.Tests.{le-leb, lt-leb}
 use Rattle.language.specs.Limits.{desk}
 use Rattle.language.specs.Trees.{symbol, fvar, Hedge, ε, tvar, hvar, node, _⧺_}
 use Rattle.language.specs.Fine.{fineHedge}
+use Rattle.language.proofs.Words.{kind-end, kind-term, kind-run, kind-symbol, kind-function}
 use Rattle.rules.specs.Looks.{empty, hasTerm, allTerms}
-use Rattle.plans.specs.Looks.{head, tail, bodyWords}
-use Rattle.plans.specs.Results.{elementEnd}
+use Rattle.views.specs.Looks.{head, tail, bodyWords}
+use Rattle.words.specs.Spans.{elementEnd}
 use Rattle.views.specs.Standing.{Stands}
-use Rattle.views.specs.Walks.{termWord, runWord, size}
+use Rattle.views.specs.Walks.{beginsBy, termWord, runsBy, runWord, size}
 use Rattle.views.proofs.Words.{body-join, firstWord}
 use Rattle.words.proofs.Spans.{element-more}
 use Rattle.views.proofs.Spans.{stands-word, stands-next, stands-place}
@@ -34,43 +34,21 @@ beginsRun (tvar x r) = false
 beginsRun (hvar p r) = true
 beginsRun (node f c r) = false
 
-run-low : (x : ℕ) → x < 2000 → runWord x ≡ false
-unfolding runWord
-run-low x p = rw (lt-leb 2000 x p)
-
-run-high : (x : ℕ) → 2999 < x → runWord x ≡ false
-unfolding runWord
-run-high x p = rw (le-leb 2000 x (omega arith), lt-leb x 2999 p)
-
-run-here : (x : ℕ) → 2000 ≤ x → x ≤ 2999 → runWord x ≡ true
-unfolding runWord
-run-here x p q = rw (le-leb 2000 x p, le-leb x 2999 q)
-
-term-low : (x : ℕ) → 1000 ≤ x → x ≤ 1999 → termWord x ≡ true
-unfolding termWord
-term-low x p q = rw (le-leb 1000 x p, le-leb x 1999 q)
-
-term-high : (x : ℕ) → 3000 ≤ x → termWord x ≡ true
-unfolding termWord
-term-high x p = rw (le-leb 1000 x (omega arith), lt-leb x 1999 (omega arith), le-leb 3000 x p)
-
-term-run : (x : ℕ) → 2000 ≤ x → x ≤ 2999 → termWord x ≡ false
-unfolding termWord
-term-run x p q = rw (le-leb 1000 x (omega arith), lt-leb x 1999 (omega arith), lt-leb 3000 x (omega arith))
-
 first-run : (h : Hedge) → fineHedge desk h → runWord (firstWord h) ≡ beginsRun h
-first-run ε f = run-low 0 (omega arith)
-first-run (tvar x r) f = run-low (1000 + x .0) (omega arith)
-first-run (hvar p r) f = run-here (2000 + p .0) (omega arith) (omega arith)
-first-run (node (symbol g) c r) f = run-high (3000 + g .0) (omega arith)
-first-run (node (fvar X) c r) f = run-high (4000 + X .0) (omega arith)
+unfolding runWord
+first-run ε f = ap runsBy (kind-end desk)
+first-run (tvar x r) f = ap runsBy (kind-term desk x (f .0))
+first-run (hvar p r) f = ap runsBy (kind-run desk p (f .0))
+first-run (node (symbol g) c r) f = ap runsBy (kind-symbol desk g (f .0))
+first-run (node (fvar X) c r) f = ap runsBy (kind-function desk X (f .0))
 
 first-term : (h : Hedge) → fineHedge desk h → termWord (firstWord h) ≡ beginsTerm h
-first-term ε f = unfold termWord in refl
-first-term (tvar x r) f = term-low (1000 + x .0) (omega arith) (omega arith)
-first-term (hvar p r) f = term-run (2000 + p .0) (omega arith) (omega arith)
-first-term (node (symbol g) c r) f = term-high (3000 + g .0) (omega arith)
-first-term (node (fvar X) c r) f = term-high (4000 + X .0) (omega arith)
+unfolding termWord
+first-term ε f = ap beginsBy (kind-end desk)
+first-term (tvar x r) f = ap beginsBy (kind-term desk x (f .0))
+first-term (hvar p r) f = ap beginsBy (kind-run desk p (f .0))
+first-term (node (symbol g) c r) f = ap beginsBy (kind-symbol desk g (f .0))
+first-term (node (fvar X) c r) f = ap beginsBy (kind-function desk X (f .0))
 
 -- the same of the word that stands where h does
 module _ {k : List ℕ} {i : ℕ} {h : Hedge} {beyond : List ℕ} {x : ℕ} (s : Stands k i h beyond) (e : x ≡ getD k i 0) where
@@ -119,10 +97,12 @@ pub goes-on : (k : List ℕ) (i : ℕ) {x e : ℕ} → x ≡ getD k i 0 → e �
 goes-on k i {x} {e} a b nz = let z = element-more k i (λ q. nz (a ∙ q)) in (omega arith, omega arith)
 
 pub run-some : (x : ℕ) → runWord x ≡ true → x ≡ 0 → ⊥
-run-some x e z = let a = ap runWord z ∙ run-low 0 (omega arith) in let y : _≡_ {A = ℕ} 0 1 = cc in omega arith
+unfolding runWord
+run-some x e z = let a = ap runWord z ∙ ap runsBy (kind-end desk) in let y : _≡_ {A = ℕ} 0 1 = cc in omega arith
 
 pub term-some : (x : ℕ) → termWord x ≡ true → x ≡ 0 → ⊥
-term-some x e z = let a : termWord x ≡ false = ap termWord z ∙ unfold termWord in refl in let y : _≡_ {A = ℕ} 0 1 = cc in omega arith
+unfolding termWord
+term-some x e z = let a = ap termWord z ∙ ap beginsBy (kind-end desk) in let y : _≡_ {A = ℕ} 0 1 = cc in omega arith
 
 -- ---- terms, hedge variables
 

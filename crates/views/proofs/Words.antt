@@ -7,7 +7,7 @@ use Rattle.language.specs.Limits.{desk}
 use Rattle.language.specs.Trees.{Hedge, ε, tvar, hvar, node, Conj, _⧺_}
 use Rattle.language.specs.Writing.{functorWord, hedgeWords, literalWords, conjWords}
 use Rattle.language.specs.Fine.{fineHedge}
-use Rattle.plans.specs.Looks.{head, tail, bodyWords}
+use Rattle.views.specs.Looks.{head, tail, bodyWords}
 
 -- a hedge's words end with its 0
 pub words-body : (h : Hedge) → hedgeWords h ≡ bodyWords h ++ (0 ∷ [])
@@ -51,12 +51,6 @@ join-assoc ε h k = refl
 join-assoc (tvar x r) h k = ap (tvar x) (join-assoc r h k)
 join-assoc (hvar p r) h k = ap (hvar p) (join-assoc r h k)
 join-assoc (node f c r) h k = ap (node f c) (join-assoc r h k)
-
-pub head-tail : (h : Hedge) → h ≡ head h ⧺ tail h
-head-tail ε = refl
-head-tail (tvar x r) = refl
-head-tail (hvar p r) = refl
-head-tail (node f c r) = refl
 
 pub fine-tail : (h : Hedge) → fineHedge desk h → fineHedge desk (tail h)
 fine-tail ε f = f

@@ -1,25 +1,56 @@
 -- What a walk along the elements of a hedge finds.
 use Prim.Native.Nat.{ℕ, suc, _+_}
 use mathlib.Core.Path.{_≡_}
-use mathlib.Core.Bool.{Bool, true, _&&_, _||_}
+use mathlib.Core.Bool.{Bool, true, false}
 use mathlib.Core.Option.{some}
-use lib.Dec.{leb}
 use lib.ListN.{length}
 use Rattle.language.specs.declared.HedgeVar.{HedgeVar}
+use Rattle.language.specs.declared.Kind.{Kind}
+use Rattle.language.specs.declared.Kind.the-variants.{End, Term, Run, Symbol, Function, Equation, Membership, Eps, Cat, Alt, Star, Other}
+use Rattle.language.specs.Limits.{desk}
+use Rattle.language.specs.Kinds.{kindOf}
 use Rattle.language.specs.Trees.{Hedge, ε, tvar, hvar, node}
 use Rattle.rules.specs.Looks.{allTerms, upTo, inside}
 use Rattle.rules.specs.Solved.{isSome}
-use Rattle.plans.specs.Looks.{bodyWords}
+use Rattle.views.specs.Looks.{bodyWords}
 use Rattle.views.specs.declared.Terms.{Terms}
 use Rattle.views.specs.declared.Found.{Found}
 use Rattle.views.specs.declared.Spot.{Spot}
 
 -- a word that begins a term, and one that is a hedge variable's
+abbrev pub beginsBy : Kind → Bool
+beginsBy End = false
+beginsBy (Term x) = true
+beginsBy (Run p) = false
+beginsBy (Symbol f) = true
+beginsBy (Function X) = true
+beginsBy Equation = false
+beginsBy Membership = false
+beginsBy Eps = false
+beginsBy Cat = false
+beginsBy Alt = false
+beginsBy Star = false
+beginsBy Other = false
+
 unfoldable pub termWord : ℕ → Bool
-termWord x = leb 1000 x && (leb x 1999 || leb 3000 x)
+termWord x = beginsBy (kindOf desk x)
+
+abbrev pub runsBy : Kind → Bool
+runsBy End = false
+runsBy (Term x) = false
+runsBy (Run p) = true
+runsBy (Symbol f) = false
+runsBy (Function X) = false
+runsBy Equation = false
+runsBy Membership = false
+runsBy Eps = false
+runsBy Cat = false
+runsBy Alt = false
+runsBy Star = false
+runsBy Other = false
 
 unfoldable pub runWord : ℕ → Bool
-runWord x = leb 2000 x && leb x 2999
+runWord x = runsBy (kindOf desk x)
 
 -- the number of elements
 abbrev pub size : Hedge → ℕ

@@ -5,23 +5,62 @@ ghost use mathlib.Core.List.{List};
 ghost use lib.ListN.{length};
 ghost use Rattle.language.specs.declared.HedgeVar.{HedgeVar};
 ghost use Rattle.language.specs.Limits.{desk};
-ghost use Rattle.language.specs.Trees.{Hedge, Expr, eqn, mem, Conj, Var, hv};
+ghost use Rattle.language.specs.Trees.{Hedge, Expr, eqn, mem, Conj, Var, tv, hv};
 ghost use Rattle.rules.specs.Looks.{hasTerm, under as belowTop};
-ghost use Rattle.plans.specs.Looks.{lookOf, head, bodyWords};
-ghost use Rattle.plans.specs.Views.{Sided, Sees, Shows};
+ghost use Rattle.views.specs.Looks.{lookOf, head, bodyWords};
+ghost use Rattle.views.specs.Views.{Sided, Sees, Shows};
 ghost use Rattle.views.specs.Variables.{variableWord, fineVar};
 ghost use Rattle.views.specs.Walks.{termWord, runWord, Counted, Ahead, Spotted};
 ghost use Rattle.views.specs.Standing.{Stands, LiteralAt};
-ghost use Rattle.views.specs.Places.{lookAt, sideAt, viewAt, shapeAt, turned, HasTerm, AllTerms, Under, UpTo, Inside};
-use plans::Look;
-use plans::Shape;
-use plans::Side;
-use plans::View;
+ghost use Rattle.views.specs.Places.{nodeAt, lookAt, sideAt, viewAt, shapeAt, turned, HasTerm, AllTerms, Under, UpTo, Inside};
+use language::HedgeVar;
+use language::Kind;
+use language::Name;
+use language::TermVar;
+use language::classify;
+use language::run_word;
+use language::term_word;
+use language::wide;
 use words::element_end;
 use words::hedge_end;
 use words::next_literal;
 use words::stands;
 use words::word;
+
+// How a hedge begins: with which variable or name, whether nothing follows the first element, and for a name whether it has no children.
+pub enum Look {
+    Empty,
+    Term(TermVar, bool),
+    Run(HedgeVar, bool),
+    Node(Name, bool, bool),
+}
+
+// A hedge in the words: its place, the place after its first element, and the place after its 0.
+pub struct Side {
+    pub from: usize,
+    pub rest: usize,
+    pub to: usize,
+    pub look: Look,
+}
+
+// An equation in the words of a conjunction; l is the side that is looked at first.
+pub struct View {
+    pub at: usize,
+    pub l: Side,
+    pub r: Side,
+    pub end: usize,
+    pub len: usize,
+}
+
+// A membership in the words of a conjunction: its hedge, the place of its expression and what the first word there is.
+pub struct Shape {
+    pub at: usize,
+    pub h: Side,
+    pub expr: usize,
+    pub first: Kind,
+    pub end: usize,
+    pub len: usize,
+}
 
 // Whether a hedge is terms alone, and how many.
 pub struct Terms {
@@ -41,23 +80,27 @@ pub struct Spot {
     pub place: usize,
 }
 
+// How a hedge begins whose first element has this name.
+fn node_at(k: &[u16], from: usize, rest: usize, name: Name) -> Look
+    requires { ⌜ from < length (now k) ⌝ }
+    ensures { λ r. ⌜ r ≡ nodeAt (now (k .entry)) from rest name ⌝ }
+{
+    let y = word(k, rest);
+    let z = word(k, from + 1);
+    Look::Node(name, y == 0, z == 0)
+}
+
 // How the hedge at a place begins; `rest` is the place after its first element.
 fn look_at(k: &[u16], from: usize, rest: usize) -> Look
     ensures { λ r. ⌜ ((h : Hedge) (beyond : List ℕ) → Stands (now (k .entry)) from h beyond → rest ≡ from + length (bodyWords (head h)) → r ≡ lookOf h) × (r ≡ lookAt (now (k .entry)) from rest) ⌝ }
 {
-    let x = word(k, from);
-    if x == 0 {
-        return Look::Empty;
+    match classify(word(k, from)) {
+        Kind::Term(x) => Look::Term(x, word(k, rest) == 0),
+        Kind::Run(p) => Look::Run(p, word(k, rest) == 0),
+        Kind::Symbol(f) => node_at(k, from, rest, Name::Symbol(f)),
+        Kind::Function(f) => node_at(k, from, rest, Name::Blank(f)),
+        _ => Look::Empty,
     }
-    let y = word(k, rest);
-    if x <= 1999 {
-        return Look::Term(x, y == 0);
-    }
-    if x <= 2999 {
-        return Look::Run(x, y == 0);
-    }
-    let z = word(k, from + 1);
-    Look::Node(x, y == 0, z == 0)
 }
 
 // The hedge at a place as a side.
@@ -100,7 +143,7 @@ pub fn show_membership(k: &[u16], at: usize) -> Shape
 {
     let h = side_at(k, at + 1);
     let expr = h.to;
-    let first = word(k, expr);
+    let first = classify(word(k, expr));
     let end = next_literal(k, at);
     Shape {
         at,
@@ -130,22 +173,19 @@ pub fn swapped(v: View) -> View
 fn is_term(x: u16) -> bool
     ensures { λ r. ⌜ r ≡ termWord x ⌝ }
 {
-    if x < 1000 {
-        return false;
+    match classify(x) {
+        Kind::Term(_) | Kind::Symbol(_) | Kind::Function(_) => true,
+        _ => false,
     }
-    if x <= 1999 {
-        return true;
-    }
-    3000 <= x
 }
 
 fn is_run(x: u16) -> bool
     ensures { λ r. ⌜ r ≡ runWord x ⌝ }
 {
-    if x < 2000 {
-        return false;
+    match classify(x) {
+        Kind::Run(_) => true,
+        _ => false,
     }
-    x <= 2999
 }
 
 // Whether the hedge at a place has a top-level term.
@@ -180,7 +220,7 @@ pub fn all_terms(k: &[u16], at: usize) -> Terms
 }
 
 // Whether a variable, whose word is v, stands below a functor at the top.
-pub fn under(k: &[u16], at: usize, v: u16) -> bool
+fn word_under(k: &[u16], at: usize, v: usize) -> bool
     ensures { λ r. ⌜ ((y : Var) (h : Hedge) (beyond : List ℕ) → fineVar desk y → v ≡ variableWord y → Stands (now (k .entry)) at h beyond → r ≡ belowTop y h) × Under (now (k .entry)) at v r ⌝ }
 {
     let mut i = at;
@@ -196,8 +236,15 @@ pub fn under(k: &[u16], at: usize, v: u16) -> bool
     false
 }
 
-// Whether terms stand up to one that holds the hedge variable p, and how many before it.
-pub fn up_to(k: &[u16], at: usize, p: u16) -> Found
+// Whether a term variable stands below a functor at the top.
+pub fn under(k: &[u16], at: usize, x: TermVar) -> bool
+    ensures { λ r. ⌜ ((h : Hedge) (beyond : List ℕ) → x .0 < desk .each → Stands (now (k .entry)) at h beyond → r ≡ belowTop (tv x) h) × Under (now (k .entry)) at (1000 + x .0) r ⌝ }
+{
+    word_under(k, at, term_word(x))
+}
+
+// Whether terms stand up to one that holds the hedge variable whose word is p, and how many before it.
+fn up_to_word(k: &[u16], at: usize, p: usize) -> Found
     ensures { λ t. ⌜ ((q : HedgeVar) (h : Hedge) (beyond : List ℕ) → fineVar desk (hv q) → p ≡ variableWord (hv q) → Stands (now (k .entry)) at h beyond → Ahead q t h) × (t .count ≤ length (now (k .entry))) × UpTo (now (k .entry)) at p t ⌝ }
 {
     let mut i = at;
@@ -221,14 +268,21 @@ pub fn up_to(k: &[u16], at: usize, p: u16) -> Found
     }
 }
 
-// Whether the hedge variable p stands at the top behind another element, and where it does so first.
-pub fn inside(k: &[u16], at: usize, p: u16) -> Spot
+// Whether terms stand up to one that holds the hedge variable, and how many before it.
+pub fn up_to(k: &[u16], at: usize, p: HedgeVar) -> Found
+    ensures { λ t. ⌜ ((h : Hedge) (beyond : List ℕ) → p .0 < desk .each → Stands (now (k .entry)) at h beyond → Ahead p t h) × (t .count ≤ length (now (k .entry))) × UpTo (now (k .entry)) at (2000 + p .0) t ⌝ }
+{
+    up_to_word(k, at, run_word(p))
+}
+
+// Whether the hedge variable whose word is p stands at the top behind another element, and where it does so first.
+fn word_inside(k: &[u16], at: usize, p: usize) -> Spot
     ensures { λ t. ⌜ ((q : HedgeVar) (h : Hedge) (beyond : List ℕ) → fineVar desk (hv q) → p ≡ variableWord (hv q) → Stands (now (k .entry)) at h beyond → Spotted q at t h) × Inside (now (k .entry)) at p t ⌝ }
 {
     let mut i = element_end(k, at);
     let mut x = word(k, i);
     while x != 0 {
-        if x == p {
+        if wide(x) == p {
             return Spot {
                 found: true,
                 place: i,
@@ -241,4 +295,11 @@ pub fn inside(k: &[u16], at: usize, p: u16) -> Spot
         found: false,
         place: 0,
     }
+}
+
+// Whether the hedge variable stands at the top behind another element, and where it does so first.
+pub fn inside(k: &[u16], at: usize, p: HedgeVar) -> Spot
+    ensures { λ t. ⌜ ((h : Hedge) (beyond : List ℕ) → p .0 < desk .each → Stands (now (k .entry)) at h beyond → Spotted p at t h) × Inside (now (k .entry)) at (2000 + p .0) t ⌝ }
+{
+    word_inside(k, at, run_word(p))
 }

@@ -9,7 +9,7 @@ use native.Mathlib.Omega.{arith}
 use lib.ListN.{length, getD, take, drop, drop-of-length-le, List·getD-eq-default}
 use lib.Seq.{slice, drop-cons, drop-drop, getD-take, getD-drop, take-length, take-append-seam, drop-append-seam}
 use borrow.Author.Tests.{eq-eqb, ne-eqb}
-use Rattle.plans.specs.Results.{member}
+use Rattle.words.specs.Spans.{member}
 
 -- ---- word by word
 

@@ -1,46 +1,78 @@
 -- How far hedges go in a list of words, word by word.
 use mathlib.Core.Path.{_≡_, refl, ap, _∙_}
-use mathlib.Core.Bool.{Bool, true, false}
 use mathlib.Core.List.{List, [], _∷_}
 use Prim.Native.Nat.{ℕ, suc, _+_, _-_, _<_, _≤_}
 use native.Mathlib.Omega.{arith}
-use lib.Dec.{eqb, leb}
 use lib.ListN.{length, getD, drop, drop-of-length-le}
-use borrow.Author.Tests.{eq-eqb, ne-eqb, le-leb, lt-leb}
-use Rattle.language.specs.Kinds.{pick}
-use Rattle.plans.specs.Results.{opens, span, elementEnd}
+use borrow.Author.Tests.{eq-eqb, ne-eqb}
+use Rattle.language.specs.declared.TermVar.{TermVar}
+use Rattle.language.specs.declared.HedgeVar.{HedgeVar}
+use Rattle.language.specs.declared.Kind.{Kind}
+use Rattle.language.specs.declared.Kind.the-variants.{End, Term, Run, Symbol, Function, Equation, Membership, Eps, Cat, Alt, Star, Other}
+use Rattle.language.specs.Limits.{desk}
+use Rattle.language.specs.Kinds.{kindOf}
+use Rattle.language.specs.Trees.{Functor}
+use Rattle.language.specs.Trees as tree
+use Rattle.language.specs.Writing.{functorWord}
+use Rattle.language.specs.Fine.{fineFunctor}
+use Rattle.language.proofs.Words.{Is, end, term, run, symbol, function, equation, membership, eps, cat, alt, star, other, is, kind-end, kind-term, kind-run, kind-symbol, kind-function}
+use Rattle.words.specs.Spans.{opensBy, opens, span, elementEnd}
 use Rattle.words.proofs.Parts.{drop-here, below-of-word}
 
 -- ---- what a word opens
 
 pub opens-le : (x : ℕ) → opens x ≤ 2
 unfolding opens
-opens-le x = go (eqb x 0) (leb x 2999)
+opens-le x = go (kindOf desk x)
   where
-    go : (a b : Bool) → pick a 0 (pick b 1 2) ≤ 2
-    go true b = omega arith
-    go false true = omega arith
-    go false false = omega arith
+    go : (k : Kind) → opensBy k ≤ 2
+    go End = omega arith
+    go (Term x) = omega arith
+    go (Run p) = omega arith
+    go (Symbol f) = omega arith
+    go (Function X) = omega arith
+    go Equation = omega arith
+    go Membership = omega arith
+    go Eps = omega arith
+    go Cat = omega arith
+    go Alt = omega arith
+    go Star = omega arith
+    go Other = omega arith
 
 pub opens-pos : (x : ℕ) → (x ≡ 0 → ⊥) → 1 ≤ opens x
 unfolding opens
-opens-pos x nz = rw (ne-eqb x 0 nz) (go (leb x 2999))
+opens-pos x nz = go (is desk x)
   where
-    go : (b : Bool) → 1 ≤ pick b 1 2
-    go true = omega arith
-    go false = omega arith
+    go : {k : Kind} → Is desk x k → 1 ≤ opensBy k
+    go (end e) = absurd (nz e)
+    go (term v b e) = omega arith
+    go (run p b e) = omega arith
+    go (symbol f b e) = omega arith
+    go (function X b e) = omega arith
+    go (equation e) = omega arith
+    go (membership e) = omega arith
+    go (eps e) = omega arith
+    go (cat e) = omega arith
+    go (alt e) = omega arith
+    go (star e) = omega arith
+    go other = omega arith
 
 pub opens-0 : opens 0 ≡ 0
 unfolding opens
-opens-0 = refl
+opens-0 = ap opensBy (kind-end desk)
 
-pub opens-1 : (x : ℕ) → 0 < x → x ≤ 2999 → opens x ≡ 1
+pub opens-term : (x : TermVar) → x .0 < desk .each → opens (1000 + x .0) ≡ 1
 unfolding opens
-opens-1 x p q = rw (ne-eqb x 0 (omega arith), le-leb x 2999 q)
+opens-term x b = ap opensBy (kind-term desk x b)
 
-pub opens-2 : (x : ℕ) → 2999 < x → opens x ≡ 2
+pub opens-run : (p : HedgeVar) → p .0 < desk .each → opens (2000 + p .0) ≡ 1
 unfolding opens
-opens-2 x p = rw (ne-eqb x 0 (omega arith), lt-leb x 2999 p)
+opens-run p b = ap opensBy (kind-run desk p b)
+
+pub opens-functor : (f : Functor) → fineFunctor desk f → opens (functorWord f) ≡ 2
+unfolding opens
+opens-functor (tree.symbol g) b = ap opensBy (kind-symbol desk g b)
+opens-functor (tree.fvar X) b = ap opensBy (kind-function desk X b)
 
 -- ---- how many words n hedges take
 

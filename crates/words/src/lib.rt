@@ -4,8 +4,11 @@ ghost use mathlib.Core.Path.{_≡_};
 ghost use mathlib.Core.Bool.{_||_};
 ghost use lib.ListN.{length, getD, take, drop};
 ghost use lib.Seq.{slice};
-ghost use Rattle.plans.specs.Results.{member, opens, span, elementEnd};
+ghost use Rattle.words.specs.Spans.{member, opens, span, elementEnd};
 ghost use Rattle.words.specs.Places.{untilLiteral, sameList};
+use language::Kind;
+use language::classify;
+use language::wide;
 
 // The word at a place, 0 past the end.
 pub fn word(k: &[u16], i: usize) -> u16
@@ -21,7 +24,7 @@ fn least(a: usize, b: usize) -> usize
 }
 
 // Whether a word stands in a part.
-pub fn stands(k: &[u16], from: usize, to: usize, x: u16) -> bool
+pub fn stands(k: &[u16], from: usize, to: usize, x: usize) -> bool
     ensures { λ r. ⌜ r ≡ member x (slice from to (now (k .entry))) ⌝ }
 {
     let mut i = from;
@@ -29,7 +32,7 @@ pub fn stands(k: &[u16], from: usize, to: usize, x: u16) -> bool
         if k.len() <= i {
             return false;
         }
-        if k[i] == x {
+        if wide(k[i]) == x {
             return true;
         }
         i += 1;
@@ -41,13 +44,11 @@ pub fn stands(k: &[u16], from: usize, to: usize, x: u16) -> bool
 fn opened(x: u16) -> usize
     ensures { λ r. ⌜ r ≡ opens x ⌝ }
 {
-    if x == 0 {
-        return 0;
+    match classify(x) {
+        Kind::End => 0,
+        Kind::Symbol(_) | Kind::Function(_) => 2,
+        _ => 1,
     }
-    if x <= 2999 {
-        return 1;
-    }
-    2
 }
 
 // The place after the next hedges.
@@ -106,7 +107,7 @@ pub fn next_literal(k: &[u16], at: usize) -> usize
 }
 
 // Whether a word stands before a literal or behind it.
-pub fn elsewhere(k: &[u16], at: usize, end: usize, x: u16) -> bool
+pub fn elsewhere(k: &[u16], at: usize, end: usize, x: usize) -> bool
     ensures { λ r. ⌜ r ≡ (member x (take at (now (k .entry))) || member x (drop end (now (k .entry)))) ⌝ }
 {
     if stands(k, 0, at, x) {

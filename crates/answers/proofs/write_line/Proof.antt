@@ -6,7 +6,9 @@ use Rattle.answers.proofs.write_line.Statement.{statement}
 use Rattle.answers.proofs.write_line.Tie as tie
 
 returns : tie.Need-returns
-returns c = line-written (c .before .before .before .before .before .before .before .before .before .before .before .args .answer .now) _ _ (c .before .before .before .before .before .before .before .before .before .before .before .args .k .now) (c .before .before .before .before .before .before .before .before .before .before .before .args .at) _ _ (c .before .before .before .before .before .before .before .before .before .before .before .args .solved) (c .before .before .before .before .before .before .store .ensures) (c .before .before .copy .ensures) (c .before .before .before .before .before .before .before .mark .ensures) refl
+returns c =
+    let c₁ = c .before .before in let c₂ = c₁ .before .before .before .before in let c₃ = c₂ .before in let c₄ = c₃ .before .before .before .before in
+    line-written (c₄ .args .answer .now) _ _ (c₄ .args .k .now) (c₄ .args .at) _ _ (c₄ .args .solved) (c₂ .store .ensures) (c₁ .copy .ensures) (c₃ .mark .ensures) refl
 
 pub write-line-spec : {M : Type 1} → statement M
 write-line-spec =

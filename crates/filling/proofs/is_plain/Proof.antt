@@ -26,8 +26,12 @@ is-plain-spec =
     (λ c. search needs)
     (λ c. search needs)
     (λ c κs. search needs)
-    (λ c. plain-fails _ (c .before .before .before .before .before .before .args .words .now) (c .before .before .before .before .loop .i) (omega arith) _ (c .before .is-plain-word .ensures) (not-true _ (c .if1 .taken)) ∙ c .before .before .before .before .loop .inv)
+    (λ c.
+    let c₁ = c .before in let c₂ = c₁ .before .before .before in let c₃ = c₂ .before .before in
+    plain-fails _ (c₃ .args .words .now) (c₂ .loop .i) (omega arith) _ (c₁ .is-plain-word .ensures) (not-true _ (c .if1 .taken)) ∙ c₂ .loop .inv)
     (λ c. search needs)
     (λ c. search needs)
-    (λ c. plain-on _ (c .before .before .before .before .before .before .args .words .now) (c .before .before .before .before .loop .i) (omega arith) _ (c .before .is-plain-word .ensures) (not-false _ (c .if1 .left)) ∙ c .before .before .before .before .loop .inv)
+    (λ c.
+    let c₁ = c .before in let c₂ = c₁ .before .before .before in let c₃ = c₂ .before .before in
+    plain-on _ (c₃ .args .words .now) (c₂ .loop .i) (omega arith) _ (c₁ .is-plain-word .ensures) (not-false _ (c .if1 .left)) ∙ c₂ .loop .inv)
     (λ c. plain-done _ (c .before .before .before .args .words .now) (c .before .loop .i) (omega arith) ∙ c .before .loop .inv))

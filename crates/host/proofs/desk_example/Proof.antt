@@ -25,10 +25,12 @@ show-requires c κs = let n : length (take (c .before .before .before .most .res
 
 returns : tie.Need-returns
 returns c =
-    let a = c .before .before .before .before .before .before .before .before .before .before .before .before .before .args in
-    let n : length (take (c .before .before .before .before .before .before .before .most .result) clear) ≡ c .before .before .before .before .before .before .before .most .result = length-take-le _ clear (omega arith) in
-    let e = bytes-show (a .question .now) _ (a .room .now) (a .line) _ (c .before .before .before .before .before .before .before .before .before .take-words .ensures .1) (n ∙ c .before .before .before .before .before .before .before .most .ensures .0) in
-    (c .before .before .before .show .ensures .0 ∙ ap showNumber e, c .before .before .before .show .ensures .1 ∙ ap (λ (s : Showing). showLeaves s (a .room .now)) e)
+    let c₁ = c .before .before .before in let c₂ = c₁ .before .before .before .before in let c₃ = c₂ .before .before in
+    let c₄ = c₃ .before .before .before .before in
+    let a = c₄ .args in
+    let n : length (take (c₂ .most .result) clear) ≡ c₂ .most .result = length-take-le _ clear (omega arith) in
+    let e = bytes-show (a .question .now) _ (a .room .now) (a .line) _ (c₃ .take-words .ensures .1) (n ∙ c₂ .most .ensures .0) in
+    (c₁ .show .ensures .0 ∙ ap showNumber e, c₁ .show .ensures .1 ∙ ap (λ (s : Showing). showLeaves s (a .room .now)) e)
 
 pub desk-example-spec : {M : Type 1} → statement M
 desk-example-spec =

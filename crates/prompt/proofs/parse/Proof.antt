@@ -32,7 +32,10 @@ parse-spec =
     (λ c κs. let g = c .before .before .before .before .before .before .before .before .before .before .loop .inv in (omega (arith, g .lines), omega (arith, g .columns)))
     (λ c. search needs)
     (λ c. search needs)
-    (λ c. goes-on _ _ (c .before .before .before .before .before .before .before .before .before .before .before .loop .inv) (omega arith) (c .before .before .before .before .before .before .is-wrong .ensures ∙ ap isWrong (c .before .before .before .before .before .before .before .before .go-on .ensures)) (c .before .before .before .before .before .if1 .left) (c .before .before .before .before .before .before .before .beginning .ensures) (c .before .before .before .keep .ensures) (c .past .ensures) (c .before .before .before .before .before .before .before .before .go-on .ensures))
+    (λ c.
+    let c₁ = c .before .before .before in let c₂ = c₁ .before .before in let c₃ = c₂ .before in let c₄ = c₃ .before in let c₅ = c₄ .before in
+    let c₆ = c₅ .before .before .before in
+    goes-on _ _ (c₆ .loop .inv) (omega arith) (c₃ .is-wrong .ensures ∙ ap isWrong (c₅ .go-on .ensures)) (c₂ .if1 .left) (c₄ .beginning .ensures) (c₁ .keep .ensures) (c .past .ensures) (c₅ .go-on .ensures))
     (λ c κs. let g = c .before .before .loop .inv in omega (arith, g .fits, g .len))
     (λ c. search needs)
     (λ c. ends _ _ (c .before .before .before .before .before .loop .inv) (omega arith) (c .before .before .keep2 .ensures)))

@@ -14,7 +14,7 @@ use Rattle.reader.proofs.Parts.{past-expr, expr-eps, expr-one, expr-two
 use Rattle.reader.proofs.read_expr.Reads as read-expr
 use Rattle.reader.proofs.read_expr.Kinds as read-expr-kinds
 use Rattle.reader.proofs.+read_expr.Lts-read_expr as read-expr-lts
-use Rattle.reader.proofs.classify.Reads as classify-reads
+use Rattle.language.proofs.classify.Reads as classify-reads
 use Rattle.reader.proofs.+read_expr.{statement}
 use Rattle.reader.proofs.+read_expr.Tie.{close}
 
@@ -46,6 +46,10 @@ pub +read-expr-spec : {M : Type 1} → statement M
     (λ c. search needs)
     (λ c. expr-eps _ _ (omega arith) _ (c .before .before .classify .ensures) (c .enum-told .given .1))
     (λ c. c .read-expr .ensures ∙ expr-one _ _ (omega arith) _ (c .before .before .classify .ensures) (c .before .match .keys2))
-    (λ c. c .read-expr3 .ensures ∙ goes-on _ _ _ _ (sym (c .before .before .before .before .read-expr2 .ensures) ∙ c .before .before .after .given .1) ∙ expr-two _ _ (omega arith) _ (c .before .before .before .before .before .before .classify .ensures) (c .before .before .before .before .before .match .keys3))
-    (λ c. halts (readExpr desk) _ _ _ (sym (c .before .before .before .read-expr2 .ensures) ∙ c .before .place .given .1) ∙ expr-two _ _ (omega arith) _ (c .before .before .before .before .before .classify .ensures) (c .before .before .before .before .match .keys3))
+    (λ c.
+    let c₁ = c .before .before in let c₂ = c₁ .before .before in let c₃ = c₂ .before in let c₄ = c₃ .before in
+    c .read-expr3 .ensures ∙ goes-on _ _ _ _ (sym (c₂ .read-expr2 .ensures) ∙ c₁ .after .given .1) ∙ expr-two _ _ (omega arith) _ (c₄ .classify .ensures) (c₃ .match .keys3))
+    (λ c.
+    let c₁ = c .before in let c₂ = c₁ .before .before in let c₃ = c₂ .before in let c₄ = c₃ .before in
+    halts (readExpr desk) _ _ _ (sym (c₂ .read-expr2 .ensures) ∙ c₁ .place .given .1) ∙ expr-two _ _ (omega arith) _ (c₄ .classify .ensures) (c₃ .match .keys3))
     (λ c. expr-none _ _ (omega arith) _ (c .before .classify .ensures) (c .match .keys4))

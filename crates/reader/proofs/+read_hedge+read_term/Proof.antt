@@ -19,7 +19,7 @@ use Rattle.reader.proofs.+read_hedge+read_term.Lts-read_hedge as read-h
 use Rattle.reader.proofs.read_term.Reads as read-term
 use Rattle.reader.proofs.read_term.Kinds as read-term-kinds
 use Rattle.reader.proofs.+read_hedge+read_term.Lts-read_term as read-term-lts
-use Rattle.reader.proofs.classify.Reads as classify-reads
+use Rattle.language.proofs.classify.Reads as classify-reads
 use Rattle.reader.proofs.+read_hedge+read_term.{statement}
 use Rattle.reader.proofs.+read_hedge+read_term.Tie.{close}
 
@@ -64,12 +64,17 @@ pub +read-hedge+read-term-spec : {M : Type 1} → statement M
     (λ c. (omega arith, hedge-variable _ _ (omega arith) _ (c .before .before .classify .ensures) (c .enum-told2 .given .1) ∙ c .before .before .before .before .before .loop .inv .1))
     (λ c κs. (omega arith, tt))
     (λ c. search needs)
-    (λ c. let m = term-moves _ _ (omega arith) _ (c .before .before .before .before .before .classify .ensures) (c .before .before .before .before .match .keys3) _ (sym (c .before .before .before .read-term .ensures) ∙ c .before .after .given .1) in omega arith)
     (λ c.
-    let m = term-moves _ _ (omega arith) _ (c .before .before .before .before .before .classify .ensures) (c .before .before .before .before .match .keys3) _ (sym (c .before .before .before .read-term .ensures) ∙ c .before .after .given .1) in
-    (omega arith, goes-on _ _ _ _ (sym (c .before .before .before .read-term .ensures) ∙ c .before .after .given .1) ∙ hedge-term _ _ (omega arith) _ (c .before .before .before .before .before .classify .ensures) (c .before .before .before .before .match .keys3) ∙ c .before .before .before .before .before .before .before .before .loop .inv .1))
+    let c₁ = c .before in let c₂ = c₁ .before .before in let c₃ = c₂ .before in let c₄ = c₃ .before in
+    let m = term-moves _ _ (omega arith) _ (c₄ .classify .ensures) (c₃ .match .keys3) _ (sym (c₂ .read-term .ensures) ∙ c₁ .after .given .1) in omega arith)
+    (λ c.
+    let c₁ = c .before in let c₂ = c₁ .before .before in let c₃ = c₂ .before in let c₄ = c₃ .before in let c₅ = c₄ .before .before .before in
+    let m = term-moves _ _ (omega arith) _ (c₄ .classify .ensures) (c₃ .match .keys3) _ (sym (c₂ .read-term .ensures) ∙ c₁ .after .given .1) in
+    (omega arith, goes-on _ _ _ _ (sym (c₂ .read-term .ensures) ∙ c₁ .after .given .1) ∙ hedge-term _ _ (omega arith) _ (c₄ .classify .ensures) (c₃ .match .keys3) ∙ c₅ .loop .inv .1))
     (λ c. search needs)
-    (λ c. halts (readHedge desk) _ _ _ (sym (c .before .before .before .read-term .ensures) ∙ c .before .place .given .1) ∙ hedge-term _ _ (omega arith) _ (c .before .before .before .before .before .classify .ensures) (c .before .before .before .before .match .keys3) ∙ c .before .before .before .before .before .before .before .before .loop .inv .1)
+    (λ c.
+    let c₁ = c .before in let c₂ = c₁ .before .before in let c₃ = c₂ .before in let c₄ = c₃ .before in let c₅ = c₄ .before .before .before in
+    halts (readHedge desk) _ _ _ (sym (c₂ .read-term .ensures) ∙ c₁ .place .given .1) ∙ hedge-term _ _ (omega arith) _ (c₄ .classify .ensures) (c₃ .match .keys3) ∙ c₅ .loop .inv .1)
     (λ c. past-hedge _ _ (omega arith) ∙ c .before .loop .inv .1))
     (λ t. read-term-lts.spec (classify-reads.Asked, classify-reads.Learnt, read-hedge-below t, read-hedge.Post) (read-term-at t) read-term.Post
     (λ c. past-term _ _ (c .if1 .taken))

@@ -12,5 +12,9 @@ counts-fit-spec =
     (λ c. many-symbols _ (c .before .before .if1 .left) (c .if2 .taken))
     (λ c. many-terms _ (c .before .before .before .before .if1 .left) (c .before .before .if2 .left) (c .if3 .taken))
     (λ c. many-hedges _ (c .before .before .before .before .before .before .if1 .left) (c .before .before .before .before .if2 .left) (c .before .before .if3 .left) (c .if4 .taken))
-    (λ c. many-functions _ (c .before .before .before .before .before .before .before .before .if1 .left) (c .before .before .before .before .before .before .if2 .left) (c .before .before .before .before .if3 .left) (c .before .before .if4 .left) (c .if5 .taken))
-    (λ c. alternatives-left _ (c .before .before .before .before .before .before .before .before .before .if1 .left) (c .before .before .before .before .before .before .before .if2 .left) (c .before .before .before .before .before .if3 .left) (c .before .before .before .if4 .left) (c .before .if5 .left)))
+    (λ c.
+    let c₁ = c .before .before in let c₂ = c₁ .before .before in let c₃ = c₂ .before .before in let c₄ = c₃ .before .before in
+    many-functions _ (c₄ .if1 .left) (c₃ .if2 .left) (c₂ .if3 .left) (c₁ .if4 .left) (c .if5 .taken))
+    (λ c.
+    let c₁ = c .before in let c₂ = c₁ .before .before in let c₃ = c₂ .before .before in let c₄ = c₃ .before .before in let c₅ = c₄ .before .before in
+    alternatives-left _ (c₅ .if1 .left) (c₄ .if2 .left) (c₃ .if3 .left) (c₂ .if4 .left) (c₁ .if5 .left)))

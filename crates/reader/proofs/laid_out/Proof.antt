@@ -38,7 +38,11 @@ laid-out-spec =
     (λ c. search needs)
     (λ c. search needs)
     (λ c κs. search needs)
-    (λ c. elsewhere _ _ _ _ _ (c .before .before .before .before .before .wide .ensures) (c .before .before .before .before .wide2 .ensures) (c .before .before .before .if1 .left) _ (c .before .wide3 .ensures) (c .if2 .taken))
+    (λ c.
+    let c₁ = c .before in let c₂ = c₁ .before .before in let c₃ = c₂ .before in let c₄ = c₃ .before in
+    elsewhere _ _ _ _ _ (c₄ .wide .ensures) (c₃ .wide2 .ensures) (c₂ .if1 .left) _ (c₁ .wide3 .ensures) (c .if2 .taken))
     (λ c. search needs)
     (λ c κs. search needs)
-    (λ c. c .rises .ensures ∙ rest _ _ _ _ _ (c .before .before .before .before .before .before .wide .ensures) (c .before .before .before .before .before .wide2 .ensures) (c .before .before .before .before .if1 .left) _ (c .before .before .wide3 .ensures) (c .before .if2 .left)))
+    (λ c.
+    let c₁ = c .before in let c₂ = c₁ .before in let c₃ = c₂ .before .before in let c₄ = c₃ .before in let c₅ = c₄ .before in
+    c .rises .ensures ∙ rest _ _ _ _ _ (c₅ .wide .ensures) (c₄ .wide2 .ensures) (c₃ .if1 .left) _ (c₂ .wide3 .ensures) (c₁ .if2 .left)))

@@ -30,8 +30,16 @@ read-literal-spec =
     (λ c. search needs)
     (λ c κs. search needs)
     (λ c. search needs)
-    (λ c. c .read-hedge2 .ensures ∙ goes-on _ _ _ _ (sym (c .before .before .before .before .read-hedge .ensures) ∙ c .before .before .after .given .1) ∙ literal-equation _ _ (omega arith) _ (c .before .before .before .before .before .before .before .classify .ensures) (c .before .before .before .before .before .enum-told .given .1))
-    (λ c. halts (readHedge desk) _ _ _ (sym (c .before .before .before .read-hedge .ensures) ∙ c .before .place .given .1) ∙ literal-equation _ _ (omega arith) _ (c .before .before .before .before .before .before .classify .ensures) (c .before .before .before .before .enum-told .given .1))
-    (λ c. c .read-expr .ensures ∙ goes-on _ _ _ _ (sym (c .before .before .before .before .read-hedge3 .ensures) ∙ c .before .before .after2 .given .1) ∙ literal-membership _ _ (omega arith) _ (c .before .before .before .before .before .before .before .classify .ensures) (c .before .before .before .before .before .enum-told2 .given .1))
-    (λ c. halts (readExpr desk) _ _ _ (sym (c .before .before .before .read-hedge3 .ensures) ∙ c .before .place2 .given .1) ∙ literal-membership _ _ (omega arith) _ (c .before .before .before .before .before .before .classify .ensures) (c .before .before .before .before .enum-told2 .given .1))
+    (λ c.
+    let c₁ = c .before .before in let c₂ = c₁ .before .before in let c₃ = c₂ .before in let c₄ = c₃ .before .before in
+    c .read-hedge2 .ensures ∙ goes-on _ _ _ _ (sym (c₂ .read-hedge .ensures) ∙ c₁ .after .given .1) ∙ literal-equation _ _ (omega arith) _ (c₄ .classify .ensures) (c₃ .enum-told .given .1))
+    (λ c.
+    let c₁ = c .before in let c₂ = c₁ .before .before in let c₃ = c₂ .before in let c₄ = c₃ .before .before in
+    halts (readHedge desk) _ _ _ (sym (c₂ .read-hedge .ensures) ∙ c₁ .place .given .1) ∙ literal-equation _ _ (omega arith) _ (c₄ .classify .ensures) (c₃ .enum-told .given .1))
+    (λ c.
+    let c₁ = c .before .before in let c₂ = c₁ .before .before in let c₃ = c₂ .before in let c₄ = c₃ .before .before in
+    c .read-expr .ensures ∙ goes-on _ _ _ _ (sym (c₂ .read-hedge3 .ensures) ∙ c₁ .after2 .given .1) ∙ literal-membership _ _ (omega arith) _ (c₄ .classify .ensures) (c₃ .enum-told2 .given .1))
+    (λ c.
+    let c₁ = c .before in let c₂ = c₁ .before .before in let c₃ = c₂ .before in let c₄ = c₃ .before .before in
+    halts (readExpr desk) _ _ _ (sym (c₂ .read-hedge3 .ensures) ∙ c₁ .place2 .given .1) ∙ literal-membership _ _ (omega arith) _ (c₄ .classify .ensures) (c₃ .enum-told2 .given .1))
     (λ c. literal-none _ _ (omega arith) _ (c .before .classify .ensures) (c .match .keys3)))

@@ -29,18 +29,25 @@ turn-requires c κs =
 
 loop-less : tie.Need-loop-less Inv-loop μ-loop
 loop-less c =
-    let b = c .before .before .before .before .before .before .before .before .before .before .before .before .before .before .before .pre in
-    gone-less (b .oldWork) (b .oldAnswer) _ _ _ _ (c .before .before .before .before .before .before .before .before .before .before .before .before .loop .inv .2 (b .oldWork) (b .oldAnswer) (b .lines) (b .waits) (b .running)) (c .before .before .before .before .before .before .before .before .before .before .if1 .taken) _ _ _ (c .before .before .before .before .before .before .before .turn .ensures) _ (c .before .t .given .1)
+    let c₁ = c .before in let c₂ = c₁ .before .before .before .before .before .before in let c₃ = c₂ .before .before .before in
+    let c₄ = c₃ .before .before in let c₅ = c₄ .before .before .before in
+    let b = c₅ .pre in
+    gone-less (b .oldWork) (b .oldAnswer) _ _ _ _ (c₄ .loop .inv .2 (b .oldWork) (b .oldAnswer) (b .lines) (b .waits) (b .running)) (c₃ .if1 .taken) _ _ _ (c₂ .turn .ensures) _ (c₁ .t .given .1)
 
 loop-again : tie.Need-loop-again Inv-loop μ-loop
-loop-again c = (
-  c .before .before .before .before .before .before .before .turn .kept .0 ∙ c .before .before .before .before .before .before .before .before .before .before .before .before .loop .inv .0,
-  c .before .before .before .before .before .before .before .turn .kept .1 .0 ∙ c .before .before .before .before .before .before .before .before .before .before .before .before .loop .inv .1,
-  λ oldWork oldAnswer ls w p. gone-on oldWork oldAnswer _ _ _ _ (c .before .before .before .before .before .before .before .before .before .before .before .before .loop .inv .2 oldWork oldAnswer ls w p) (c .before .before .before .before .before .before .before .before .before .before .if1 .taken) _ _ _ (c .before .before .before .before .before .before .before .turn .ensures) _ (c .before .t .given .1),
-)
+loop-again c =
+    let c₁ = c .before in let c₂ = c₁ .before .before .before .before .before .before in let c₃ = c₂ .before .before .before in
+    let c₄ = c₃ .before .before in (
+      c₂ .turn .kept .0 ∙ c₄ .loop .inv .0,
+      c₂ .turn .kept .1 .0 ∙ c₄ .loop .inv .1,
+      λ oldWork oldAnswer ls w p. gone-on oldWork oldAnswer _ _ _ _ (c₄ .loop .inv .2 oldWork oldAnswer ls w p) (c₃ .if1 .taken) _ _ _ (c₂ .turn .ensures) _ (c₁ .t .given .1),
+    )
 
 returns : tie.Need-returns Inv-loop μ-loop
-returns c = λ oldWork oldAnswer ls w p. gone-stop oldWork oldAnswer _ _ _ _ (c .before .before .before .before .before .before .before .before .before .before .before .before .loop .inv .2 oldWork oldAnswer ls w p) (c .before .before .before .before .before .before .before .before .before .before .if1 .taken) _ _ _ (c .before .before .before .before .before .before .before .turn .ensures) _ (c .before .e .given .1)
+returns c =
+    let c₁ = c .before in let c₂ = c₁ .before .before .before .before .before .before in let c₃ = c₂ .before .before .before in
+    let c₄ = c₃ .before .before in
+    λ oldWork oldAnswer ls w p. gone-stop oldWork oldAnswer _ _ _ _ (c₄ .loop .inv .2 oldWork oldAnswer ls w p) (c₃ .if1 .taken) _ _ _ (c₂ .turn .ensures) _ (c₁ .e .given .1)
 
 returns-2 : tie.Need-returns-2 Inv-loop μ-loop
 returns-2 c = λ oldWork oldAnswer ls w p. run-over oldWork oldAnswer _ _ _ _ (c .before .before .before .loop .inv .2 oldWork oldAnswer ls w p) (c .before .if1 .left)

@@ -14,23 +14,26 @@ lay-out-requires c κs = let p = c .before .before .before .before .pre in (aske
 
 go-on-requires : tie.Need-go-on-requires
 go-on-requires c κs =
-    let p = c .before .before .before .before .before .before .before .before .before .before .before .before .before .pre in
-    let q = c .before .before .before .before .before .before .before .before .before .before .before .before .before .args .question .now in
+    let c₁ = c .before .before .before .before in let c₂ = c₁ .before .before .before .before in let c₃ = c₂ .before .before .before .before .before in
+    let p = c₃ .pre in
+    let q = c₃ .args .question .now in
     record {
-      oldWork = c .before .before .before .before .before .before .before .before .before .before .before .before .before .args .work .now;
-      oldAnswer = c .before .before .before .before .before .before .before .before .before .before .before .before .before .args .answer .now;
+      oldWork = c₃ .args .work .now;
+      oldAnswer = c₃ .args .answer .now;
       lines = [];
       waits = conjunctionsOf (readQuestion desk q);
-      running = begins q (p .0) (c .before .before .before .before .before .before .before .before .before .before .before .before .before .args .work .now) (c .before .before .before .before .before .before .before .before .before .before .before .before .before .args .answer .now) _ _ _ _ (p .1) (p .2) (c .before .before .before .before .begin .kept .0) (c .before .before .before .before .before .before .before .before .lay-out .ensures) (c .before .before .before .before .begin .ensures);
+      running = begins q (p .0) (c₃ .args .work .now) (c₃ .args .answer .now) _ _ _ _ (p .1) (p .2) (c₁ .begin .kept .0) (c₂ .lay-out .ensures) (c₁ .begin .ensures);
     }
 
 returns : tie.Need-returns
 returns c =
-    let p = c .before .before .before .before .before .before .before .before .before .before .before .before .before .before .before .before .before .before .pre in
-    let q = c .before .before .before .before .before .before .before .before .before .before .before .before .before .before .before .before .before .before .args .question .now in
+    let c₁ = c .before .before .before .before in let c₂ = c₁ .before .before .before .before .before in let c₃ = c₂ .before .before .before .before in
+    let c₄ = c₃ .before .before .before .before .before in
+    let p = c₄ .pre in
+    let q = c₄ .args .question .now in
     ends-as (begin-left q (p .0) _ _)
-    (c .before .before .before .before .go-on .ensures (c .before .before .before .before .before .before .before .before .before .before .before .before .before .before .before .before .before .before .args .work .now) (c .before .before .before .before .before .before .before .before .before .before .before .before .before .before .before .before .before .before .args .answer .now) [] (conjunctionsOf (readQuestion desk q))
-    (begins q (p .0) (c .before .before .before .before .before .before .before .before .before .before .before .before .before .before .before .before .before .before .args .work .now) (c .before .before .before .before .before .before .before .before .before .before .before .before .before .before .before .before .before .before .args .answer .now) _ _ _ _ (p .1) (p .2) (c .before .before .before .before .before .before .before .before .before .begin .kept .0) (c .before .before .before .before .before .before .before .before .before .before .before .before .before .lay-out .ensures) (c .before .before .before .before .before .before .before .before .before .begin .ensures)))
+    (c₁ .go-on .ensures (c₄ .args .work .now) (c₄ .args .answer .now) [] (conjunctionsOf (readQuestion desk q))
+    (begins q (p .0) (c₄ .args .work .now) (c₄ .args .answer .now) _ _ _ _ (p .1) (p .2) (c₂ .begin .kept .0) (c₃ .lay-out .ensures) (c₂ .begin .ensures)))
 
 pub run-spec : {M : Type 1} → statement M
 run-spec = tie.close (tie.spec lay-out-requires (λ c κs. search needs) go-on-requires (λ c. search needs) (λ c. search needs) returns)

@@ -6,19 +6,31 @@ use Rattle.solver.proofs.solve.Statement.{statement}
 use Rattle.solver.proofs.solve.Tie as tie
 
 returns : tie.Need-returns
-returns c = work-short (c .before .before .before .before .before .args .question .now) (c .before .before .before .before .before .args .work .now) (c .before .before .before .before .before .args .answer .now) _ (c .refused .ensures) (c .before .if1 .taken)
+returns c =
+    let c₁ = c .before in let c₂ = c₁ .before .before .before .before in
+    work-short (c₂ .args .question .now) (c₂ .args .work .now) (c₂ .args .answer .now) _ (c .refused .ensures) (c₁ .if1 .taken)
 
 returns-2 : tie.Need-returns-2
-returns-2 c = answer-short (c .before .before .before .before .before .before .args .question .now) (c .before .before .before .before .before .before .args .work .now) (c .before .before .before .before .before .before .args .answer .now) (c .before .before .if1 .left) _ (c .refused2 .ensures) (c .before .if2 .taken)
+returns-2 c =
+    let c₁ = c .before in let c₂ = c₁ .before in let c₃ = c₂ .before .before .before .before in
+    answer-short (c₃ .args .question .now) (c₃ .args .work .now) (c₃ .args .answer .now) (c₂ .if1 .left) _ (c .refused2 .ensures) (c₁ .if2 .taken)
 
 solve-read-requires : tie.Need-solve-read-requires
-solve-read-requires c κs = (sym (c .before .before .enum-told .given .1) ∙ c .before .before .before .before .read-question .ensures, c .before .before .before .before .before .before .if1 .left, c .before .before .before .before .before .if2 .left)
+solve-read-requires c κs =
+    let c₁ = c .before .before in let c₂ = c₁ .before .before in let c₃ = c₂ .before in let c₄ = c₃ .before in
+    (sym (c₁ .enum-told .given .1) ∙ c₂ .read-question .ensures, c₄ .if1 .left, c₃ .if2 .left)
 
 returns-3 : tie.Need-returns-3
-returns-3 c = was-read (c .before .before .before .before .before .before .before .before .before .before .before .before .before .before .before .args .question .now) (c .before .before .before .before .before .before .before .before .before .before .before .before .before .before .before .args .work .now) (c .before .before .before .before .before .before .before .before .before .before .before .before .before .before .before .args .answer .now) (c .before .before .before .before .before .before .before .before .before .before .before .if1 .left) (c .before .before .before .before .before .before .before .before .before .before .if2 .left) _ (c .before .before .before .before .solve-read .ensures)
+returns-3 c =
+    let c₁ = c .before .before .before .before in let c₂ = c₁ .before .before .before .before .before .before in let c₃ = c₂ .before in
+    let c₄ = c₃ .before .before .before .before in
+    was-read (c₄ .args .question .now) (c₄ .args .work .now) (c₄ .args .answer .now) (c₃ .if1 .left) (c₂ .if2 .left) _ (c₁ .solve-read .ensures)
 
 returns-4 : tie.Need-returns-4
-returns-4 c = not-read (c .before .before .before .before .before .before .before .before .before .before .args .question .now) (c .before .before .before .before .before .before .before .before .before .before .args .work .now) (c .before .before .before .before .before .before .before .before .before .before .args .answer .now) (c .before .before .before .before .before .before .if1 .left) (c .before .before .before .before .before .if2 .left) _ _ _ (c .refused3 .ensures) (c .before .before .before .before .read-question .ensures) (c .before .before .r .given .1)
+returns-4 c =
+    let c₁ = c .before .before in let c₂ = c₁ .before .before in let c₃ = c₂ .before in let c₄ = c₃ .before in
+    let c₅ = c₄ .before .before .before .before in
+    not-read (c₅ .args .question .now) (c₅ .args .work .now) (c₅ .args .answer .now) (c₄ .if1 .left) (c₃ .if2 .left) _ _ _ (c .refused3 .ensures) (c₂ .read-question .ensures) (c₁ .r .given .1)
 
 pub solve-spec : {M : Type 1} → statement M
 solve-spec =

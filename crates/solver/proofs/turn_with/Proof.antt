@@ -7,13 +7,17 @@ use Rattle.solver.proofs.turn_with.Statement.{statement}
 use Rattle.solver.proofs.turn_with.Tie as tie
 
 returns : tie.Need-returns
-returns c = λ oldWork oldAnswer ls x w p ek en. c .before .before .line .ensures oldWork oldAnswer ls x w (c .before .before .before .before .before .before .before .before .before .before .args .work .now) p ek en (none-found x _ _ _ (best-found x _ (c .before .before .before .before .before .before .find .ensures .1 x (p .fine .0) ek)) (c .before .before .before .before .if1 .taken))
+returns c =
+    let c₁ = c .before .before in let c₂ = c₁ .before .before in let c₃ = c₂ .before .before in let c₄ = c₃ .before .before .before .before in
+    λ oldWork oldAnswer ls x w p ek en. c₁ .line .ensures oldWork oldAnswer ls x w (c₄ .args .work .now) p ek en (none-found x _ _ _ (best-found x _ (c₃ .find .ensures .1 x (p .fine .0) ek)) (c₂ .if1 .taken))
 
 advance-requires : tie.Need-advance-requires
 advance-requires c κs = let p = c .before .before .before .before .before .before .before .pre in (p .0, c .before .before .before .find .ensures .0 (c .before .if1 .left), omega arith, p .1)
 
 returns-2 : tie.Need-returns-2
-returns-2 c = λ oldWork oldAnswer ls x w p ek en. c .before .before .advance .ensures oldWork oldAnswer ls x w (c .before .before .before .before .before .before .before .before .before .before .args .answer .now) p ek en (c .before .before .before .before .if1 .left) (best-found x _ (c .before .before .before .before .before .before .find .ensures .1 x (p .fine .0) ek))
+returns-2 c =
+    let c₁ = c .before .before in let c₂ = c₁ .before .before in let c₃ = c₂ .before .before in let c₄ = c₃ .before .before .before .before in
+    λ oldWork oldAnswer ls x w p ek en. c₁ .advance .ensures oldWork oldAnswer ls x w (c₄ .args .answer .now) p ek en (c₂ .if1 .left) (best-found x _ (c₃ .find .ensures .1 x (p .fine .0) ek))
 
 pub turn-with-spec : {M : Type 1} → statement M
 turn-with-spec =

@@ -12,7 +12,7 @@ use Rattle.language.specs.Fine.{fineConj}
 use Rattle.rules.specs.Places.{noRule}
 use Rattle.steps.specs.declared.Best.{Best}
 use Rattle.steps.specs.Seeking.{lesserOf, bestFrom, bestOf}
-use Rattle.search.proofs.Walks.{Walked, walk-starts, walk-to, walk-ends}
+use Rattle.views.proofs.LiteralWalks.{Walked, walk-starts, walk-to, walk-ends}
 use Rattle.steps.proofs.Finding.{placed-on, passed-to}
 use Rattle.steps.proofs.find.Statement.{statement}
 use Rattle.steps.proofs.find.Tie as tie
@@ -34,16 +34,17 @@ loop-less : tie.Need-loop-less Inv-loop μ-loop
 loop-less c = let z = c .beyond .ensures .0 in omega arith
 
 loop-again : tie.Need-loop-again Inv-loop μ-loop
-loop-again c = (
-  placed-on _ (c .before .before .before .before .before .loop .best) (c .before .before .before .rank-at .result .best) (c .before .lesser .result) (c .before .lesser .ensures) (c .before .before .before .before .before .loop .inv .0) (let z = c .before .before .before .rank-at .ensures .0 in omega arith),
-  λ x f e.
-      walk-to (c .before .before .before .before .before .before .before .args .k .now) x f e (c .before .before .before .before .before .loop .i) (Known (c .before .before .before .before .before .loop .best) x) (Known (c .before .lesser .result) x) _ (c .before .before .before .before .before .loop .inv .1 x f e) (c .before .before .before .before .loop-test .taken)
-      λ done l rest p d.
-      let r = c .before .before .before .rank-at .ensures .1 done l rest p in (
-        passed-to (c .before .before .before .before .before .before .before .args .k .now) (c .before .before .before .before .before .loop .i) (c .before .before .before .rank-at .result .end) _ done l rest p (r .1) (c .beyond .ensures .2) (c .beyond .ensures .3),
-        ap (λ b. bestFrom b (done ++ (l ∷ [])) rest) (c .before .lesser .ensures ∙ ap (lesserOf (c .before .before .before .before .before .loop .best)) (r .0)) ∙ d,
-      ),
-)
+loop-again c =
+    let c₁ = c .before in let c₂ = c₁ .before .before in let c₃ = c₂ .before in let c₄ = c₃ .before in let c₅ = c₄ .before .before in (
+      placed-on _ (c₄ .loop .best) (c₂ .rank-at .result .best) (c₁ .lesser .result) (c₁ .lesser .ensures) (c₄ .loop .inv .0) (let z = c₂ .rank-at .ensures .0 in omega arith),
+      λ x f e.
+          walk-to (c₅ .args .k .now) x f e (c₄ .loop .i) (Known (c₄ .loop .best) x) (Known (c₁ .lesser .result) x) _ (c₄ .loop .inv .1 x f e) (c₃ .loop-test .taken)
+          λ done l rest p d.
+          let r = c₂ .rank-at .ensures .1 done l rest p in (
+            passed-to (c₅ .args .k .now) (c₄ .loop .i) (c₂ .rank-at .result .end) _ done l rest p (r .1) (c .beyond .ensures .2) (c .beyond .ensures .3),
+            ap (λ b. bestFrom b (done ++ (l ∷ [])) rest) (c₁ .lesser .ensures ∙ ap (lesserOf (c₄ .loop .best)) (r .0)) ∙ d,
+          ),
+    )
 
 returns : tie.Need-returns Inv-loop μ-loop
 returns c = (c .before .loop .inv .0, λ x f e. walk-ends (c .before .before .before .args .k .now) x f e (c .before .loop .i) (Known (c .before .loop .best) x) (c .before .loop .inv .1 x f e) (c .loop-test .left))

@@ -3,34 +3,37 @@ use mathlib.Core.Path.{_≡_}
 use mathlib.Core.List.{_++_}
 use borrow.Author.Needs.{needs}
 use Rattle.rules.specs.Places.{atM2}
-use Rattle.search.specs.Ranking.{sideAnswer}
-use Rattle.search.proofs.Walks.{at-equation, at-membership}
+use Rattle.steps.specs.Ranking.{sideAnswer}
+use Rattle.views.proofs.LiteralWalks.{at-equation, at-membership}
 use Rattle.equations.specs.Planned.{Planned}
 use Rattle.steps.proofs.plan_at.Statement.{statement}
 use Rattle.steps.proofs.plan_at.Tie as tie
 
 returns : tie.Need-returns
 returns c =
-    let b = c .before .before .before .before .before .before .before .args .b in
-    let k = c .before .before .before .before .before .before .before .args .k .now in
-    at-equation k (b .at) (λ before l behind. (b .rank ≡ atM2 → ⊥) → Planned k (c .plan-equation .result) before behind (sideAnswer (b .swap) (b .rank) (before ++ behind) l)) (c .before .before .before .before .if1 .taken)
+    let c₁ = c .before in let c₂ = c₁ .before in let c₃ = c₂ .before in let c₄ = c₃ .before in let c₅ = c₄ .before .before .before in
+    let b = c₅ .args .b in
+    let k = c₅ .args .k .now in
+    at-equation k (b .at) (λ before l behind. (b .rank ≡ atM2 → ⊥) → Planned k (c .plan-equation .result) before behind (sideAnswer (b .swap) (b .rank) (before ++ behind) l)) (c₄ .if1 .taken)
     λ before l r behind p n.
-    let s = c .before .before .before .see .ensures .0 before l r behind p in
-    rw (c .before .before .if2 .taken) (c .plan-equation .ensures .results before behind r l (c .before .swapped .ensures .0 k before behind l r s))
+    let s = c₃ .see .ensures .0 before l r behind p in
+    rw (c₂ .if2 .taken) (c .plan-equation .ensures .results before behind r l (c₁ .swapped .ensures .0 k before behind l r s))
 
 returns-2 : tie.Need-returns-2
 returns-2 c =
-    let b = c .before .before .before .before .before .before .args .b in
-    let k = c .before .before .before .before .before .before .args .k .now in
-    at-equation k (b .at) (λ before l behind. (b .rank ≡ atM2 → ⊥) → Planned k (c .plan-equation2 .result) before behind (sideAnswer (b .swap) (b .rank) (before ++ behind) l)) (c .before .before .before .if1 .taken)
-    λ before l r behind p n. rw (c .before .if2 .left) (c .plan-equation2 .ensures .results before behind l r (c .before .before .see .ensures .0 before l r behind p))
+    let c₁ = c .before in let c₂ = c₁ .before in let c₃ = c₂ .before in let c₄ = c₃ .before .before .before in
+    let b = c₄ .args .b in
+    let k = c₄ .args .k .now in
+    at-equation k (b .at) (λ before l behind. (b .rank ≡ atM2 → ⊥) → Planned k (c .plan-equation2 .result) before behind (sideAnswer (b .swap) (b .rank) (before ++ behind) l)) (c₃ .if1 .taken)
+    λ before l r behind p n. rw (c₁ .if2 .left) (c .plan-equation2 .ensures .results before behind l r (c₂ .see .ensures .0 before l r behind p))
 
 returns-3 : tie.Need-returns-3
 returns-3 c =
-    let b = c .before .before .before .before .before .args .b in
-    let k = c .before .before .before .before .before .args .k .now in
-    at-membership k (b .at) (λ before l behind. (b .rank ≡ atM2 → ⊥) → Planned k (c .plan-membership .result) before behind (sideAnswer (b .swap) (b .rank) (before ++ behind) l)) (c .before .before .if1 .left)
-    λ before h R behind p n. c .plan-membership .ensures .results n before h R behind (c .before .show-membership .ensures .0 before h R behind p)
+    let c₁ = c .before in let c₂ = c₁ .before in let c₃ = c₂ .before .before .before in
+    let b = c₃ .args .b in
+    let k = c₃ .args .k .now in
+    at-membership k (b .at) (λ before l behind. (b .rank ≡ atM2 → ⊥) → Planned k (c .plan-membership .result) before behind (sideAnswer (b .swap) (b .rank) (before ++ behind) l)) (c₂ .if1 .left)
+    λ before h R behind p n. c .plan-membership .ensures .results n before h R behind (c₁ .show-membership .ensures .0 before h R behind p)
 
 pub plan-at-spec : {M : Type 1} → statement M
 plan-at-spec =

@@ -5,44 +5,49 @@ use lib.ListN.{drop}
 use borrow.Author.Needs.{needs}
 use Rattle.language.specs.Writing.{conjWords}
 use Rattle.views.proofs.Sides.{shows-finish}
-use Rattle.search.proofs.Walks.{at-equation, at-membership}
+use Rattle.views.proofs.LiteralWalks.{at-equation, at-membership}
 use Rattle.steps.specs.Seeking.{best, bestAt}
 use Rattle.steps.proofs.Finding.{best-swapped, best-written, best-member}
 use Rattle.steps.proofs.rank_at.Statement.{statement}
 use Rattle.steps.proofs.rank_at.Tie as tie
 
 returns : tie.Need-returns
-returns c = (
-  refl,
-  at-equation (c .before .before .before .before .before .before .before .before .args .k .now) (c .before .before .before .before .before .before .before .before .args .at) (λ before l behind. (best (c .before .rank-equation2 .result) (c .before .before .before .before .before .before .before .before .args .at) true ≡ bestAt before l behind) × (drop (c .before .before .before .before .see .result .end) (c .before .before .before .before .before .before .before .before .args .k .now) ≡ conjWords behind)) (c .before .before .before .before .before .if1 .taken)
-      λ before l r behind p.
-      let s = c .before .before .before .before .see .ensures .0 before l r behind p in (
-        best-swapped before l r behind _ (c .before .before .before .rank-equation .result) (c .before .rank-equation2 .result) (p .place) (c .before .before .before .rank-equation .ensures before behind l r s)
-            (c .before .rank-equation2 .ensures before behind r l (c .before .before .swapped .ensures .0 (c .before .before .before .before .before .before .before .before .args .k .now) before behind l r s)) (c .if2 .taken),
-        s .finish,
-      ),
-)
+returns c =
+    let c₁ = c .before in let c₂ = c₁ .before in let c₃ = c₂ .before in let c₄ = c₃ .before in let c₅ = c₄ .before in
+    let c₆ = c₅ .before .before .before in (
+      refl,
+      at-equation (c₆ .args .k .now) (c₆ .args .at) (λ before l behind. (best (c₁ .rank-equation2 .result) (c₆ .args .at) true ≡ bestAt before l behind) × (drop (c₄ .see .result .end) (c₆ .args .k .now) ≡ conjWords behind)) (c₅ .if1 .taken)
+          λ before l r behind p.
+          let s = c₄ .see .ensures .0 before l r behind p in (
+            best-swapped before l r behind _ (c₃ .rank-equation .result) (c₁ .rank-equation2 .result) (p .place) (c₃ .rank-equation .ensures before behind l r s)
+                (c₁ .rank-equation2 .ensures before behind r l (c₂ .swapped .ensures .0 (c₆ .args .k .now) before behind l r s)) (c .if2 .taken),
+            s .finish,
+          ),
+    )
 
 returns-2 : tie.Need-returns-2
-returns-2 c = (
-  refl,
-  at-equation (c .before .before .before .before .before .before .before .before .args .k .now) (c .before .before .before .before .before .before .before .before .args .at) (λ before l behind. (best (c .before .before .before .rank-equation .result) (c .before .before .before .before .before .before .before .before .args .at) false ≡ bestAt before l behind) × (drop (c .before .before .before .before .see .result .end) (c .before .before .before .before .before .before .before .before .args .k .now) ≡ conjWords behind)) (c .before .before .before .before .before .if1 .taken)
-      λ before l r behind p.
-      let s = c .before .before .before .before .see .ensures .0 before l r behind p in (
-        best-written before l r behind _ (c .before .before .before .rank-equation .result) (c .before .rank-equation2 .result) (p .place) (c .before .before .before .rank-equation .ensures before behind l r s)
-            (c .before .rank-equation2 .ensures before behind r l (c .before .before .swapped .ensures .0 (c .before .before .before .before .before .before .before .before .args .k .now) before behind l r s)) (c .if2 .left),
-        s .finish,
-      ),
-)
+returns-2 c =
+    let c₁ = c .before in let c₂ = c₁ .before in let c₃ = c₂ .before in let c₄ = c₃ .before in let c₅ = c₄ .before in
+    let c₆ = c₅ .before .before .before in (
+      refl,
+      at-equation (c₆ .args .k .now) (c₆ .args .at) (λ before l behind. (best (c₃ .rank-equation .result) (c₆ .args .at) false ≡ bestAt before l behind) × (drop (c₄ .see .result .end) (c₆ .args .k .now) ≡ conjWords behind)) (c₅ .if1 .taken)
+          λ before l r behind p.
+          let s = c₄ .see .ensures .0 before l r behind p in (
+            best-written before l r behind _ (c₃ .rank-equation .result) (c₁ .rank-equation2 .result) (p .place) (c₃ .rank-equation .ensures before behind l r s)
+                (c₁ .rank-equation2 .ensures before behind r l (c₂ .swapped .ensures .0 (c₆ .args .k .now) before behind l r s)) (c .if2 .left),
+            s .finish,
+          ),
+    )
 
 returns-3 : tie.Need-returns-3
-returns-3 c = (
-  refl,
-  at-membership (c .before .before .before .before .before .args .k .now) (c .before .before .before .before .before .args .at) (λ before l behind. (best (c .rank-membership .result) (c .before .before .before .before .before .args .at) false ≡ bestAt before l behind) × (drop (c .before .show-membership .result .end) (c .before .before .before .before .before .args .k .now) ≡ conjWords behind)) (c .before .before .if1 .left)
-      λ before h R behind p.
-      let s = c .before .show-membership .ensures .0 before h R behind p in
-      (best-member before h R behind _ _ (p .place) (c .rank-membership .ensures before h R behind s), shows-finish s),
-)
+returns-3 c =
+    let c₁ = c .before in let c₂ = c₁ .before in let c₃ = c₂ .before .before .before in (
+      refl,
+      at-membership (c₃ .args .k .now) (c₃ .args .at) (λ before l behind. (best (c .rank-membership .result) (c₃ .args .at) false ≡ bestAt before l behind) × (drop (c₁ .show-membership .result .end) (c₃ .args .k .now) ≡ conjWords behind)) (c₂ .if1 .left)
+          λ before h R behind p.
+          let s = c₁ .show-membership .ensures .0 before h R behind p in
+          (best-member before h R behind _ _ (p .place) (c .rank-membership .ensures before h R behind s), shows-finish s),
+    )
 
 pub rank-at-spec : {M : Type 1} → statement M
 rank-at-spec =

@@ -6,8 +6,9 @@ use Rattle.steps.proofs.take_step.Tie as tie
 
 returns : tie.Need-returns
 returns c =
-    let b = c .before .before .before .before .before .before .before .before .args .b in
-    took-monomials (c .before .before .before .before .before .before .before .before .args .k .now) _ _ (c .before .before .before .before .before .before .before .before .args .next) (b .at) (b .rank) (b .swap) _ (c .before .before .before .before .if1 .taken) (c .before .before .step-monomials .ensures)
+    let c₁ = c .before .before in let c₂ = c₁ .before .before in let c₃ = c₂ .before .before .before .before in
+    let b = c₃ .args .b in
+    took-monomials (c₃ .args .k .now) _ _ (c₃ .args .next) (b .at) (b .rank) (b .swap) _ (c₂ .if1 .taken) (c₁ .step-monomials .ensures)
 
 returns-2 : tie.Need-returns-2
 returns-2 c = λ before l behind bs p a. took-as (c .before .before .before .before .plan-at .ensures before l behind p (c .before .before .before .before .before .if1 .left) .results bs a) (c .before .before .step-planned .ensures)

@@ -57,13 +57,19 @@ too-long-requires : tie.Need-too-long-requires Inv-loop μ-loop
 too-long-requires c κs = measuring-conj _ _ _ (c .before .before .before .before .before .before .loop .inv) (omega arith) (c .before .before .before .wide2 .ensures) (c .before .wide3 .ensures)
 
 returns : tie.Need-returns Inv-loop μ-loop
-returns c = measuring-over _ _ _ (c .before .before .before .before .before .before .before .before .loop .inv) (omega arith) (c .before .before .before .before .before .wide2 .ensures) (c .before .before .before .wide3 .ensures) (c .before .too-long .ensures) (c .if1 .taken)
+returns c =
+    let c₁ = c .before in let c₂ = c₁ .before .before in let c₃ = c₂ .before .before in let c₄ = c₃ .before .before .before in
+    measuring-over _ _ _ (c₄ .loop .inv) (omega arith) (c₃ .wide2 .ensures) (c₂ .wide3 .ensures) (c₁ .too-long .ensures) (c .if1 .taken)
 
 add-i : tie.Need-add-i Inv-loop μ-loop
-add-i c = let r = loop-room _ _ _ (c .before .before .before .before .before .before .before .before .loop .inv .some) (c .before .before .before .before .before .before .before .before .loop .inv .number) in search needs
+add-i c =
+    let c₁ = c .before .before .before .before .before .before .before .before in
+    let r = loop-room _ _ _ (c₁ .loop .inv .some) (c₁ .loop .inv .number) in search needs
 
 loop-again : tie.Need-loop-again Inv-loop μ-loop
-loop-again c = measuring-on _ _ _ (c .before .before .before .before .before .before .before .before .loop .inv) (omega arith) (c .before .before .before .before .before .wide2 .ensures) (c .before .before .before .wide3 .ensures) (c .before .too-long .ensures) (c .if1 .left)
+loop-again c =
+    let c₁ = c .before in let c₂ = c₁ .before .before in let c₃ = c₂ .before .before in let c₄ = c₃ .before .before .before in
+    measuring-on _ _ _ (c₄ .loop .inv) (omega arith) (c₃ .wide2 .ensures) (c₂ .wide3 .ensures) (c₁ .too-long .ensures) (c .if1 .left)
 
 returns-2 : tie.Need-returns-2 Inv-loop μ-loop
 returns-2 c = measuring-ends _ _ _ (c .before .loop .inv) (omega arith)

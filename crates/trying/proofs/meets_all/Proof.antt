@@ -45,7 +45,9 @@ same-length : tie.Need-same-length Inv-loop μ-loop
 same-length c = omega (arith, c .before .before .before .before .before .before .before .before .loop .inv .keeps .len)
 
 returns : tie.Need-returns Inv-loop μ-loop
-returns c = test-fails _ _ _ (c .before .before .before .before .before .before .before .before .loop .inv) (c .before .before .before .before .before .before .literal-end .ensures) (omega arith) (c .before .before .before .meets-literal .ensures) (not-true _ (c .if1 .taken))
+returns c =
+    let c₁ = c .before .before .before in let c₂ = c₁ .before .before .before in let c₃ = c₂ .before .before in
+    test-fails _ _ _ (c₃ .loop .inv) (c₂ .literal-end .ensures) (omega arith) (c₁ .meets-literal .ensures) (not-true _ (c .if1 .taken))
 
 loop-less : tie.Need-loop-less Inv-loop μ-loop
 loop-less c =
@@ -53,7 +55,9 @@ loop-less c =
     search needs
 
 loop-again : tie.Need-loop-again Inv-loop μ-loop
-loop-again c = test-on _ _ _ (c .before .before .before .before .before .before .before .before .loop .inv) (c .before .before .before .before .before .before .literal-end .ensures) (omega arith) (c .before .before .before .meets-literal .ensures) (not-false _ (c .if1 .left))
+loop-again c =
+    let c₁ = c .before .before .before in let c₂ = c₁ .before .before .before in let c₃ = c₂ .before .before in
+    test-on _ _ _ (c₃ .loop .inv) (c₂ .literal-end .ensures) (omega arith) (c₁ .meets-literal .ensures) (not-false _ (c .if1 .left))
 
 same-length-2 : tie.Need-same-length-2 Inv-loop μ-loop
 same-length-2 c = c .before .loop .inv .keeps .len

@@ -31,11 +31,16 @@ part-meets-equation-end-2 c = let i = literal-inside _ _ _ _ (c .before .before 
 
 meets-equation-requires : tie.Need-meets-equation-requires
 meets-equation-requires c κs =
-    let r = equation-ready _ _ _ _ (c .before .before .before .before .before .first-end .ensures) (c .before .before .before .before .before .before .before .wide .ensures) (c .before .before .before .before .before .before .wide2 .ensures) (c .before .before .before .before .before .before .before .before .before .before .before .pre .0) (c .before .before .before .if1 .taken) in
+    let c₁ = c .before .before .before in let c₂ = c₁ .before .before in let c₃ = c₂ .before in let c₄ = c₃ .before in
+    let c₅ = c₄ .before .before .before .before in
+    let r = equation-ready _ _ _ _ (c₂ .first-end .ensures) (c₄ .wide .ensures) (c₃ .wide2 .ensures) (c₅ .pre .0) (c₁ .if1 .taken) in
     (r .left, (r .right, (r .fits, omega arith)))
 
 returns : tie.Need-returns
-returns c = equation-says _ _ _ _ (c .before .before .before .before .before .before .before .before .first-end .ensures) (c .before .before .before .before .before .before .before .before .before .before .wide .ensures) (c .before .before .before .before .before .before .before .before .before .wide2 .ensures) (c .before .before .before .before .before .before .if1 .taken) (c .before .before .meets-equation .ensures)
+returns c =
+    let c₁ = c .before .before in let c₂ = c₁ .before .before .before .before in let c₃ = c₂ .before .before in let c₄ = c₃ .before in
+    let c₅ = c₄ .before in
+    equation-says _ _ _ _ (c₃ .first-end .ensures) (c₅ .wide .ensures) (c₄ .wide2 .ensures) (c₂ .if1 .taken) (c₁ .meets-equation .ensures)
 
 sub-meets-membership : tie.Need-sub-meets-membership
 sub-meets-membership c = let i = literal-inside _ _ _ _ (c .before .before .first-end .ensures) (c .before .before .before .before .before .before .before .before .pre .0) in search needs
@@ -60,11 +65,16 @@ part-meets-membership-end-2 c = let i = literal-inside _ _ _ _ (c .before .befor
 
 meets-membership-requires : tie.Need-meets-membership-requires
 meets-membership-requires c κs =
-    let r = membership-ready _ _ _ _ (c .before .before .before .before .before .first-end .ensures) (c .before .before .before .before .before .before .before .wide .ensures) (c .before .before .before .before .before .before .wide2 .ensures) (c .before .before .before .before .before .before .before .before .before .before .before .pre .0) (c .before .before .before .if1 .left) in
+    let c₁ = c .before .before .before in let c₂ = c₁ .before .before in let c₃ = c₂ .before in let c₄ = c₃ .before in
+    let c₅ = c₄ .before .before .before .before in
+    let r = membership-ready _ _ _ _ (c₂ .first-end .ensures) (c₄ .wide .ensures) (c₃ .wide2 .ensures) (c₅ .pre .0) (c₁ .if1 .left) in
     (r .hedge, (r .test, (r .short, (r .fits, omega arith))))
 
 returns-2 : tie.Need-returns-2
-returns-2 c = membership-says _ _ _ _ (c .before .before .before .before .before .before .before .before .first-end .ensures) (c .before .before .before .before .before .before .before .before .before .before .wide .ensures) (c .before .before .before .before .before .before .before .before .before .wide2 .ensures) (c .before .before .before .before .before .before .if1 .left) (c .before .before .meets-membership .ensures)
+returns-2 c =
+    let c₁ = c .before .before in let c₂ = c₁ .before .before .before .before in let c₃ = c₂ .before .before in let c₄ = c₃ .before in
+    let c₅ = c₄ .before in
+    membership-says _ _ _ _ (c₃ .first-end .ensures) (c₅ .wide .ensures) (c₄ .wide2 .ensures) (c₂ .if1 .left) (c₁ .meets-membership .ensures)
 
 pub meets-literal-spec : {M : Type 1} → statement M
 meets-literal-spec =

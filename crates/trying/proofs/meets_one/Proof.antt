@@ -54,19 +54,27 @@ part-meets-all-end c =
     search needs
 
 meets-all-requires : tie.Need-meets-all-requires Inv-loop μ-loop
-meets-all-requires c κs = (trying-conj _ _ _ (c .before .before .before .before .before .before .before .loop .inv) (omega arith) (c .before .before .before .before .wide2 .ensures) (c .before .before .wide3 .ensures), omega (arith, c .before .before .before .before .before .before .before .loop .inv .keeps .len))
+meets-all-requires c κs =
+    let c₁ = c .before .before in let c₂ = c₁ .before .before in let c₃ = c₂ .before .before .before in
+    (trying-conj _ _ _ (c₃ .loop .inv) (omega arith) (c₂ .wide2 .ensures) (c₁ .wide3 .ensures), omega (arith, c₃ .loop .inv .keeps .len))
 
 same-length : tie.Need-same-length Inv-loop μ-loop
 same-length c = omega (arith, c .before .before .before .before .before .before .before .before .before .before .before .loop .inv .keeps .len)
 
 returns : tie.Need-returns Inv-loop μ-loop
-returns c = trying-met _ _ _ (c .before .before .before .before .before .before .before .before .before .before .before .loop .inv) (omega arith) (c .before .before .before .before .before .before .before .before .wide2 .ensures) (c .before .before .before .before .before .before .wide3 .ensures) (c .before .before .before .meets-all .ensures) (c .if1 .taken)
+returns c =
+    let c₁ = c .before .before .before in let c₂ = c₁ .before .before .before in let c₃ = c₂ .before .before in let c₄ = c₃ .before .before .before in
+    trying-met _ _ _ (c₄ .loop .inv) (omega arith) (c₃ .wide2 .ensures) (c₂ .wide3 .ensures) (c₁ .meets-all .ensures) (c .if1 .taken)
 
 add-i : tie.Need-add-i Inv-loop μ-loop
-add-i c = let r = loop-room _ _ _ (fitting-some _ _ _ (c .before .before .before .before .before .before .before .before .before .before .before .loop .inv .some)) (c .before .before .before .before .before .before .before .before .before .before .before .loop .inv .number) in search needs
+add-i c =
+    let c₁ = c .before .before .before .before .before .before .before .before .before .before .before in
+    let r = loop-room _ _ _ (fitting-some _ _ _ (c₁ .loop .inv .some)) (c₁ .loop .inv .number) in search needs
 
 loop-again : tie.Need-loop-again Inv-loop μ-loop
-loop-again c = trying-next _ _ _ (c .before .before .before .before .before .before .before .before .before .before .before .loop .inv) (omega arith) (c .before .before .before .before .before .before .before .before .wide2 .ensures) (c .before .before .before .before .before .before .wide3 .ensures) (c .before .before .before .meets-all .ensures) (c .if1 .left)
+loop-again c =
+    let c₁ = c .before .before .before in let c₂ = c₁ .before .before .before in let c₃ = c₂ .before .before in let c₄ = c₃ .before .before .before in
+    trying-next _ _ _ (c₄ .loop .inv) (omega arith) (c₃ .wide2 .ensures) (c₂ .wide3 .ensures) (c₁ .meets-all .ensures) (c .if1 .left)
 
 same-length-2 : tie.Need-same-length-2 Inv-loop μ-loop
 same-length-2 c = c .before .loop .inv .keeps .len

@@ -44,7 +44,9 @@ filled-len-requires c κs =
     (r .0, (r .1, r .2))
 
 returns : tie.Need-returns Inv-loop μ-loop
-returns c = scan-over _ _ _ (c .before .before .before .before .before .before .before .loop .inv) (c .before .before .before .before .before .literal-end .ensures) (omega arith) (c .before .before .before .before .wide .ensures) (c .before .before .before .wide2 .ensures) (c .before .filled-len .ensures) (omega arith)
+returns c =
+    let c₁ = c .before in let c₂ = c₁ .before .before in let c₃ = c₂ .before in let c₄ = c₃ .before in let c₅ = c₄ .before .before in
+    scan-over _ _ _ (c₅ .loop .inv) (c₄ .literal-end .ensures) (omega arith) (c₃ .wide .ensures) (c₂ .wide2 .ensures) (c₁ .filled-len .ensures) (omega arith)
 
 loop-less : tie.Need-loop-less Inv-loop μ-loop
 loop-less c =
@@ -52,7 +54,9 @@ loop-less c =
     search needs
 
 loop-again : tie.Need-loop-again Inv-loop μ-loop
-loop-again c = scan-on _ _ _ (c .before .before .before .before .before .before .before .loop .inv) (c .before .before .before .before .before .literal-end .ensures) (omega arith) (c .before .before .before .before .wide .ensures) (c .before .before .before .wide2 .ensures) (c .before .filled-len .ensures) (omega arith)
+loop-again c =
+    let c₁ = c .before in let c₂ = c₁ .before .before in let c₃ = c₂ .before in let c₄ = c₃ .before in let c₅ = c₄ .before .before in
+    scan-on _ _ _ (c₅ .loop .inv) (c₄ .literal-end .ensures) (omega arith) (c₃ .wide .ensures) (c₂ .wide2 .ensures) (c₁ .filled-len .ensures) (omega arith)
 
 returns-2 : tie.Need-returns-2 Inv-loop μ-loop
 returns-2 c = scan-ends _ _ _ (c .before .loop .inv) (omega arith)

@@ -23,7 +23,9 @@ returns-2 : tie.Need-returns-2
 returns-2 c = refused-question _ _ (c .before .before .before .before .before .before .before .before .args .work .now) (omega arith) (c .before .before .before .read-question .ensures) (c .before .refusal .given .1)
 
 returns-3 : tie.Need-returns-3
-returns-3 c = question-tried _ _ _ (omega arith) (c .before .before .before .before .before .before .before .read-question .ensures) (c .before .before .before .before .before .enum-told .given .1) (c .before .before .before .before .read-header .ensures) (c .before .before .try-asked .ensures)
+returns-3 c =
+    let c₁ = c .before .before in let c₂ = c₁ .before .before in let c₃ = c₂ .before in let c₄ = c₃ .before .before in
+    question-tried _ _ _ (omega arith) (c₄ .read-question .ensures) (c₃ .enum-told .given .1) (c₂ .read-header .ensures) (c₁ .try-asked .ensures)
 
 pub try-filling-spec : {M : Type 1} → statement M
 try-filling-spec =

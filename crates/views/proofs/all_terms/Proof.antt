@@ -37,34 +37,40 @@ element-end-requires : tie.Need-element-end-requires Inv-loop μ-loop
 element-end-requires c κs = search needs
 
 add-n : tie.Need-add-n Inv-loop μ-loop
-add-n c = let z = goes-on (c .before .before .before .before .before .before .args .k .now) (c .before .before .before .loop .i) (c .before .before .before .loop .inv .1) (c .element-end .ensures) (term-some _ (sym (c .before .before .is-term .ensures) ∙ c .before .if1 .taken)) in omega arith
+add-n c =
+    let c₁ = c .before in let c₂ = c₁ .before in let c₃ = c₂ .before in let c₄ = c₃ .before .before .before in
+    let z = goes-on (c₄ .args .k .now) (c₃ .loop .i) (c₃ .loop .inv .1) (c .element-end .ensures) (term-some _ (sym (c₂ .is-term .ensures) ∙ c₁ .if1 .taken)) in omega arith
 
 word-requires-2 : tie.Need-word-requires-2 Inv-loop μ-loop
 word-requires-2 c κs = search needs
 
 loop-less : tie.Need-loop-less Inv-loop μ-loop
-loop-less c = let z = goes-on (c .before .before .before .before .before .before .before .args .k .now) (c .before .before .before .before .loop .i) (c .before .before .before .before .loop .inv .1) (c .before .element-end .ensures) (term-some _ (sym (c .before .before .before .is-term .ensures) ∙ c .before .before .if1 .taken)) in omega arith
+loop-less c =
+    let c₁ = c .before in let c₂ = c₁ .before in let c₃ = c₂ .before in let c₄ = c₃ .before in let c₅ = c₄ .before .before .before in
+    let z = goes-on (c₅ .args .k .now) (c₄ .loop .i) (c₄ .loop .inv .1) (c₁ .element-end .ensures) (term-some _ (sym (c₃ .is-term .ensures) ∙ c₂ .if1 .taken)) in omega arith
 
 loop-again : tie.Need-loop-again Inv-loop μ-loop
 loop-again c =
-    let z = goes-on (c .before .before .before .before .before .before .before .args .k .now) (c .before .before .before .before .loop .i) (c .before .before .before .before .loop .inv .1) (c .before .element-end .ensures) (term-some _ (sym (c .before .before .before .is-term .ensures) ∙ c .before .before .if1 .taken)) in (
-      (λ h beyond s. pass-on (c .before .element-end .ensures) (c .before .before .before .before .loop .inv .0 h beyond s) (λ done left t q. let a = allTerms-on left (sym (word-term t (c .before .before .before .before .loop .inv .1)) ∙ sym (c .before .before .before .is-term .ensures) ∙ c .before .before .if1 .taken) in (a .0 ∙ q .0, omega arith))),
+    let c₁ = c .before in let c₂ = c₁ .before in let c₃ = c₂ .before in let c₄ = c₃ .before in let c₅ = c₄ .before .before .before in
+    let z = goes-on (c₅ .args .k .now) (c₄ .loop .i) (c₄ .loop .inv .1) (c₁ .element-end .ensures) (term-some _ (sym (c₃ .is-term .ensures) ∙ c₂ .if1 .taken)) in (
+      (λ h beyond s. pass-on (c₁ .element-end .ensures) (c₄ .loop .inv .0 h beyond s) (λ done left t q. let a = allTerms-on left (sym (word-term t (c₄ .loop .inv .1)) ∙ sym (c₃ .is-term .ensures) ∙ c₂ .if1 .taken) in (a .0 ∙ q .0, omega arith))),
       c .word2 .ensures,
       omega arith,
       omega arith,
-      terms-on _ _ (c .before .before .before .before .loop .inv .1) (c .before .before .before .is-term .ensures) (c .before .before .if1 .taken) (c .before .element-end .ensures) (c .before .before .before .before .loop .inv .4),
+      terms-on _ _ (c₄ .loop .inv .1) (c₃ .is-term .ensures) (c₂ .if1 .taken) (c₁ .element-end .ensures) (c₄ .loop .inv .4),
     )
 
 returns : tie.Need-returns Inv-loop μ-loop
-returns c = (
-  (λ h beyond s.
-      let w = c .before .before .loop .inv .0 h beyond s in
-      let e = word-empty (w .here) (c .before .before .loop .inv .1) in
-      let a = allTerms-end (w .left) (sym (word-term (w .here) (c .before .before .loop .inv .1)) ∙ sym (c .before .is-term .ensures) ∙ c .if1 .left) in
-      record { all = e ∙ a .0 ∙ w .keeps .0; count = λ y. let z = a .1 (sym e ∙ y) in let q = w .keeps .1 in omega arith }),
-  omega arith,
-  terms-end _ _ (c .before .before .loop .inv .1) (c .before .is-term .ensures) (c .if1 .left) (c .before .before .loop .inv .4),
-)
+returns c =
+    let c₁ = c .before in let c₂ = c₁ .before in (
+      (λ h beyond s.
+          let w = c₂ .loop .inv .0 h beyond s in
+          let e = word-empty (w .here) (c₂ .loop .inv .1) in
+          let a = allTerms-end (w .left) (sym (word-term (w .here) (c₂ .loop .inv .1)) ∙ sym (c₁ .is-term .ensures) ∙ c .if1 .left) in
+          record { all = e ∙ a .0 ∙ w .keeps .0; count = λ y. let z = a .1 (sym e ∙ y) in let q = w .keeps .1 in omega arith }),
+      omega arith,
+      terms-end _ _ (c₂ .loop .inv .1) (c₁ .is-term .ensures) (c .if1 .left) (c₂ .loop .inv .4),
+    )
 
 pub all-terms-spec : {M : Type 1} → statement M
 all-terms-spec =

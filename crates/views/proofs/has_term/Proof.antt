@@ -38,13 +38,19 @@ word-requires-2 : tie.Need-word-requires-2 Inv-loop μ-loop
 word-requires-2 c κs = search needs
 
 loop-less : tie.Need-loop-less Inv-loop μ-loop
-loop-less c = let z = goes-on (c .before .before .before .before .before .before .before .args .k .now) (c .before .before .before .before .loop .i) (c .before .before .before .before .loop .inv .1) (c .before .element-end .ensures) (run-some _ (sym (c .before .before .before .is-run .ensures) ∙ c .before .before .if1 .taken)) in omega arith
+loop-less c =
+    let c₁ = c .before in let c₂ = c₁ .before in let c₃ = c₂ .before in let c₄ = c₃ .before in let c₅ = c₄ .before .before .before in
+    let z = goes-on (c₅ .args .k .now) (c₄ .loop .i) (c₄ .loop .inv .1) (c₁ .element-end .ensures) (run-some _ (sym (c₃ .is-run .ensures) ∙ c₂ .if1 .taken)) in omega arith
 
 loop-again : tie.Need-loop-again Inv-loop μ-loop
-loop-again c = ((λ h beyond s. pass-on (c .before .element-end .ensures) (c .before .before .before .before .loop .inv .0 h beyond s) (λ done left t q. hasTerm-on left (sym (word-run t (c .before .before .before .before .loop .inv .1)) ∙ sym (c .before .before .before .is-run .ensures) ∙ c .before .before .if1 .taken) ∙ q)), c .word2 .ensures, runs-on _ _ (c .before .before .before .before .loop .inv .1) (c .before .before .before .is-run .ensures) (c .before .before .if1 .taken) (c .before .element-end .ensures) (c .before .before .before .before .loop .inv .2))
+loop-again c =
+    let c₁ = c .before in let c₂ = c₁ .before in let c₃ = c₂ .before in let c₄ = c₃ .before in
+    ((λ h beyond s. pass-on (c₁ .element-end .ensures) (c₄ .loop .inv .0 h beyond s) (λ done left t q. hasTerm-on left (sym (word-run t (c₄ .loop .inv .1)) ∙ sym (c₃ .is-run .ensures) ∙ c₂ .if1 .taken) ∙ q)), c .word2 .ensures, runs-on _ _ (c₄ .loop .inv .1) (c₃ .is-run .ensures) (c₂ .if1 .taken) (c₁ .element-end .ensures) (c₄ .loop .inv .2))
 
 returns : tie.Need-returns Inv-loop μ-loop
-returns c = ((λ h beyond s. let w = c .before .before .loop .inv .0 h beyond s in ap not (word-empty (w .here) (c .before .before .loop .inv .1)) ∙ hasTerm-end (w .left) (sym (word-run (w .here) (c .before .before .loop .inv .1)) ∙ sym (c .before .is-run .ensures) ∙ c .if1 .left) ∙ w .keeps), runs-end _ _ (c .before .before .loop .inv .1) (c .before .is-run .ensures) (c .if1 .left) (c .before .before .loop .inv .2))
+returns c =
+    let c₁ = c .before in let c₂ = c₁ .before in
+    ((λ h beyond s. let w = c₂ .loop .inv .0 h beyond s in ap not (word-empty (w .here) (c₂ .loop .inv .1)) ∙ hasTerm-end (w .left) (sym (word-run (w .here) (c₂ .loop .inv .1)) ∙ sym (c₁ .is-run .ensures) ∙ c .if1 .left) ∙ w .keeps), runs-end _ _ (c₂ .loop .inv .1) (c₁ .is-run .ensures) (c .if1 .left) (c₂ .loop .inv .2))
 
 pub has-term-spec : {M : Type 1} → statement M
 has-term-spec =

@@ -1,71 +1,17 @@
--- `inside`: the variable is none of the elements passed, but for the first.
-use native.Mathlib.Omega.{arith}
+-- `inside`: the search for the variable's word.
+use mathlib.Core.Path.{sym}
 use borrow.Author.Needs.{needs}
-use mathlib.Core.Path.{_≡_}
-use mathlib.Core.List.{List}
-use Prim.Native.Nat.{ℕ, _-_}
-use lib.ListN.{length, getD}
-use Rattle.language.specs.Limits.{desk}
-use Rattle.language.specs.declared.HedgeVar.{HedgeVar}
-use Rattle.language.specs.Trees.{Hedge, hv}
-use Rattle.views.specs.Variables.{variableWord, fineVar}
-use Rattle.views.specs.Standing.{Stands}
-use Rattle.views.proofs.Walks.{Passed, pass-first, pass-on, goes-on}
-use Rattle.views.proofs.Finds.{Behind, behind-start, behind-on, behind-found, behind-end}
-use Rattle.plans.specs.Results.{elementEnd}
-use Rattle.views.specs.Places.{othersEnd}
-use Rattle.views.proofs.Firsts.{Going, going-start}
-use Rattle.views.proofs.Stops.{others-on, others-found, others-none}
 use Rattle.views.proofs.inside.Statement.{statement}
 use Rattle.views.proofs.inside.Tie as tie
 
-abbrev Inv-loop : tie.InvT-loop
-Inv-loop k at p i₀ x₀ i x =
-    ((q : HedgeVar) (h : Hedge) (beyond : List ℕ) → fineVar desk (hv q) → p ≡ variableWord (hv q) → Stands k at h beyond → Passed k at i beyond (Behind q h)) × (x ≡ getD k i 0) × Going k (elementEnd k at) (othersEnd p k) i
+run-word-requires : tie.Need-run-word-requires
+run-word-requires c κs = search needs
 
-abbrev μ-loop : tie.MeasureT-loop
-μ-loop k at p i₀ x₀ i x = length k - i
+word-inside-requires : tie.Need-word-inside-requires
+word-inside-requires c κs = search needs
 
-element-end-requires : tie.Need-element-end-requires Inv-loop μ-loop
-element-end-requires c κs = search needs
-
-word-requires : tie.Need-word-requires Inv-loop μ-loop
-word-requires c κs = search needs
-
-loop-holds : tie.Need-loop-holds Inv-loop μ-loop
-loop-holds c = ((λ q h beyond f w s. pass-first (c .before .element-end .ensures) s behind-start), c .word .ensures, rw (c .before .element-end .ensures) going-start)
-
-returns : tie.Need-returns Inv-loop μ-loop
-returns c = ((λ q h beyond f w s. behind-found w (c .before .before .loop .inv .1) f (c .if1 .taken) (c .before .before .loop .inv .0 q h beyond f w s)), others-found _ _ (c .before .before .loop .inv .1) _ _ (c .before .loop-test .taken) (c .if1 .taken) (c .before .before .loop .inv .2))
-
-element-end-requires-2 : tie.Need-element-end-requires-2 Inv-loop μ-loop
-element-end-requires-2 c κs = search needs
-
-word-requires-2 : tie.Need-word-requires-2 Inv-loop μ-loop
-word-requires-2 c κs = search needs
-
-loop-less : tie.Need-loop-less Inv-loop μ-loop
-loop-less c = let z = goes-on (c .before .before .before .before .before .before .before .before .args .k .now) (c .before .before .before .before .loop .i) (c .before .before .before .before .loop .inv .1) (c .before .element-end2 .ensures) (c .before .before .before .loop-test .taken) in omega arith
-
-loop-again : tie.Need-loop-again Inv-loop μ-loop
-loop-again c =
-    ((λ q h beyond f w s. pass-on (c .before .element-end2 .ensures) (c .before .before .before .before .loop .inv .0 q h beyond f w s) (λ done left t m. behind-on w (c .before .before .before .before .loop .inv .1) (c .before .before .before .loop-test .taken) (c .before .before .if1 .left) t m)), c .word2 .ensures, others-on _ _ (c .before .before .before .before .loop .inv .1) _ _ (c .before .before .before .loop-test .taken) (c .before .before .if1 .left) (c .before .element-end2 .ensures) (c .before .before .before .before .loop .inv .2))
-
-returns-2 : tie.Need-returns-2 Inv-loop μ-loop
-returns-2 c = ((λ q h beyond f w s. behind-end w (c .before .loop .inv .1) (c .loop-test .left) (c .before .loop .inv .0 q h beyond f w s)), others-none _ _ (c .before .loop .inv .1) _ _ (c .loop-test .left) (c .before .loop .inv .2))
+returns : tie.Need-returns
+returns c = ((λ h beyond b s. c .word-inside .ensures .0 _ h beyond b (c .before .run-word .ensures) s), rw (sym (c .before .run-word .ensures)) (c .word-inside .ensures .1))
 
 pub inside-spec : {M : Type 1} → statement M
-inside-spec =
-    tie.close
-    (tie.spec
-    Inv-loop
-    μ-loop
-    element-end-requires
-    word-requires
-    loop-holds
-    returns
-    element-end-requires-2
-    word-requires-2
-    loop-less
-    loop-again
-    returns-2)
+inside-spec = tie.close (tie.spec run-word-requires word-inside-requires returns)

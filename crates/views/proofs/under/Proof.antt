@@ -1,78 +1,18 @@
--- `under`: the variable stands below a functor of what is left exactly if it does so in the whole.
-use native.Mathlib.Omega.{arith}
+-- `under`: the search for the variable's word.
+use mathlib.Core.Path.{sym}
 use borrow.Author.Needs.{needs}
-use mathlib.Core.Path.{_≡_, refl, _∙_}
-use mathlib.Core.List.{List}
-use Prim.Native.Nat.{ℕ, _-_}
-use lib.ListN.{length, getD}
-use Rattle.language.specs.Limits.{desk}
-use Rattle.language.specs.Trees.{Hedge, Var}
-use Rattle.rules.specs.Looks.{under as belowTop}
-use Rattle.views.specs.Variables.{variableWord, fineVar}
-use Rattle.views.specs.Standing.{Stands}
-use Rattle.views.proofs.Walks.{Passed, pass-start, pass-on, goes-on}
-use Rattle.views.proofs.Finds.{under-found, under-on, under-end}
-use Rattle.views.specs.Places.{belowEnd}
-use Rattle.views.proofs.Firsts.{Going, going-start}
-use Rattle.views.proofs.Stops.{below-on, below-found, below-none}
+use Rattle.language.specs.Trees.{tv}
 use Rattle.views.proofs.under.Statement.{statement}
 use Rattle.views.proofs.under.Tie as tie
 
-abbrev Inv-loop : tie.InvT-loop
-Inv-loop k at v i₀ x₀ i x =
-    ((y : Var) (h : Hedge) (beyond : List ℕ) → fineVar desk y → v ≡ variableWord y → Stands k at h beyond → Passed k at i beyond (λ done left. belowTop y left ≡ belowTop y h))
-    × (x ≡ getD k i 0) × Going k at (belowEnd v k) i
+term-word-requires : tie.Need-term-word-requires
+term-word-requires c κs = search needs
 
-abbrev μ-loop : tie.MeasureT-loop
-μ-loop k at v i₀ x₀ i x = length k - i
+word-under-requires : tie.Need-word-under-requires
+word-under-requires c κs = search needs
 
-word-requires : tie.Need-word-requires Inv-loop μ-loop
-word-requires c κs = search needs
-
-loop-holds : tie.Need-loop-holds Inv-loop μ-loop
-loop-holds c = ((λ y h beyond f w s. pass-start s refl), c .word .ensures, going-start)
-
-element-end-requires : tie.Need-element-end-requires Inv-loop μ-loop
-element-end-requires c κs = search needs
-
-add-stands : tie.Need-add-stands Inv-loop μ-loop
-add-stands c = let z = goes-on (c .before .before .before .before .before .args .k .now) (c .before .before .loop .i) (c .before .before .loop .inv .1) (c .element-end .ensures) (c .before .loop-test .taken) in omega arith
-
-stands-requires : tie.Need-stands-requires Inv-loop μ-loop
-stands-requires c κs = search needs
-
-returns : tie.Need-returns Inv-loop μ-loop
-returns c = ((λ y h beyond f w s. let u = c .before .before .before .before .loop .inv .0 y h beyond f w s in under-found y (u .left) f w (u .here) (c .before .before .element-end .ensures) (c .before .stands .ensures) (c .if1 .taken) ∙ u .keeps), below-found _ _ (c .before .before .before .before .loop .inv .1) _ (c .before .before .before .loop-test .taken) (c .before .before .element-end .ensures) (c .before .stands .ensures) (c .if1 .taken) (c .before .before .before .before .loop .inv .2))
-
-word-requires-2 : tie.Need-word-requires-2 Inv-loop μ-loop
-word-requires-2 c κs = search needs
-
-loop-less : tie.Need-loop-less Inv-loop μ-loop
-loop-less c = let z = goes-on (c .before .before .before .before .before .before .before .before .args .k .now) (c .before .before .before .before .before .loop .i) (c .before .before .before .before .before .loop .inv .1) (c .before .before .before .element-end .ensures) (c .before .before .before .before .loop-test .taken) in omega arith
-
-loop-again : tie.Need-loop-again Inv-loop μ-loop
-loop-again c = (
-  (λ y h beyond f w s. pass-on (c .before .before .before .element-end .ensures) (c .before .before .before .before .before .loop .inv .0 y h beyond f w s) (λ done left t q. under-on y left f w t (c .before .before .before .element-end .ensures) (c .before .before .stands .ensures) (c .before .if1 .left) ∙ q)),
-  c .word2 .ensures,
-  below-on _ _ (c .before .before .before .before .before .loop .inv .1) _ (c .before .before .before .before .loop-test .taken) (c .before .before .before .element-end .ensures) (c .before .before .stands .ensures) (c .before .if1 .left) (c .before .before .before .before .before .loop .inv .2),
-)
-
-returns-2 : tie.Need-returns-2 Inv-loop μ-loop
-returns-2 c = ((λ y h beyond f w s. let u = c .before .loop .inv .0 y h beyond f w s in under-end y (u .left) (u .here) (c .before .loop .inv .1) (c .loop-test .left) ∙ u .keeps), below-none _ _ (c .before .loop .inv .1) _ (c .loop-test .left) (c .before .loop .inv .2))
+returns : tie.Need-returns
+returns c = ((λ h beyond b s. c .word-under .ensures .0 (tv _) h beyond b (c .before .term-word .ensures) s), rw (sym (c .before .term-word .ensures)) (c .word-under .ensures .1))
 
 pub under-spec : {M : Type 1} → statement M
-under-spec =
-    tie.close
-    (tie.spec
-    Inv-loop
-    μ-loop
-    word-requires
-    loop-holds
-    element-end-requires
-    add-stands
-    stands-requires
-    returns
-    word-requires-2
-    loop-less
-    loop-again
-    returns-2)
+under-spec = tie.close (tie.spec term-word-requires word-under-requires returns)

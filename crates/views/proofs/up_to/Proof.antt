@@ -1,92 +1,17 @@
--- `up_to`: the terms passed do not hold the variable, and are counted.
-use native.Mathlib.Omega.{arith}
+-- `up_to`: the search for the variable's word.
+use mathlib.Core.Path.{sym}
 use borrow.Author.Needs.{needs}
-use mathlib.Core.Path.{_≡_, sym, _∙_}
-use mathlib.Core.List.{List}
-use Prim.Native.Nat.{ℕ, _-_, _≤_}
-use lib.ListN.{length, getD}
-use Rattle.language.specs.Limits.{desk}
-use Rattle.language.specs.declared.HedgeVar.{HedgeVar}
-use Rattle.language.specs.Trees.{Hedge, hv}
-use Rattle.views.specs.Variables.{variableWord, fineVar}
-use Rattle.views.specs.Standing.{Stands}
-use Rattle.views.proofs.Walks.{Passed, pass-start, pass-on, goes-on, term-some, word-term}
-use Rattle.views.proofs.Finds.{Without, without-start, without-on, without-found, without-end}
-use Rattle.views.specs.Places.{freeEnd}
-use Rattle.views.proofs.Firsts.{Gone, gone-start}
-use Rattle.views.proofs.Stops.{free-on, free-found, free-end}
 use Rattle.views.proofs.up_to.Statement.{statement}
 use Rattle.views.proofs.up_to.Tie as tie
 
-abbrev Inv-loop : tie.InvT-loop
-Inv-loop k at p i₀ n₀ x₀ i n x =
-    ((q : HedgeVar) (h : Hedge) (beyond : List ℕ) → fineVar desk (hv q) → p ≡ variableWord (hv q) → Stands k at h beyond → Passed k at i beyond (Without q n h))
-    × (x ≡ getD k i 0) × (n ≤ i) × (n ≤ length k) × Gone k at (freeEnd p k) n i
+run-word-requires : tie.Need-run-word-requires
+run-word-requires c κs = search needs
 
-abbrev μ-loop : tie.MeasureT-loop
-μ-loop k at p i₀ n₀ x₀ i n x = length k - i
+up-to-word-requires : tie.Need-up-to-word-requires
+up-to-word-requires c κs = search needs
 
-word-requires : tie.Need-word-requires Inv-loop μ-loop
-word-requires c κs = search needs
-
-loop-holds : tie.Need-loop-holds Inv-loop μ-loop
-loop-holds c = ((λ q h beyond f w s. pass-start s without-start), c .word .ensures, omega arith, omega arith, gone-start)
-
-is-term-requires : tie.Need-is-term-requires Inv-loop μ-loop
-is-term-requires c κs = search needs
-
-element-end-requires : tie.Need-element-end-requires Inv-loop μ-loop
-element-end-requires c κs = search needs
-
-stands-requires : tie.Need-stands-requires Inv-loop μ-loop
-stands-requires c κs = search needs
-
-returns : tie.Need-returns Inv-loop μ-loop
-returns c = (
-  (λ q h beyond f w s.
-      let u = c .before .before .before .before .before .loop .inv .0 q h beyond f w s in
-      without-found f w (c .before .before .element-end .ensures) (c .before .stands .ensures) (c .if2 .taken) (u .here) (sym (word-term (u .here) (c .before .before .before .before .before .loop .inv .1)) ∙ sym (c .before .before .before .before .is-term .ensures) ∙ c .before .before .before .if1 .taken) (u .keeps)),
-  omega arith,
-  free-found _ _ (c .before .before .before .before .before .loop .inv .1) _ _ (c .before .before .before .before .is-term .ensures) (c .before .before .before .if1 .taken) (c .before .before .element-end .ensures) (c .before .stands .ensures) (c .if2 .taken) (c .before .before .before .before .before .loop .inv .4),
-)
-
-add-n : tie.Need-add-n Inv-loop μ-loop
-add-n c = let z = goes-on (c .before .before .before .before .before .before .before .before .args .k .now) (c .before .before .before .before .before .loop .i) (c .before .before .before .before .before .loop .inv .1) (c .before .before .element-end .ensures) (term-some _ (sym (c .before .before .before .before .is-term .ensures) ∙ c .before .before .before .if1 .taken)) in omega arith
-
-word-requires-2 : tie.Need-word-requires-2 Inv-loop μ-loop
-word-requires-2 c κs = search needs
-
-loop-less : tie.Need-loop-less Inv-loop μ-loop
-loop-less c = let z = goes-on (c .before .before .before .before .before .before .before .before .before .args .k .now) (c .before .before .before .before .before .before .loop .i) (c .before .before .before .before .before .before .loop .inv .1) (c .before .before .before .element-end .ensures) (term-some _ (sym (c .before .before .before .before .before .is-term .ensures) ∙ c .before .before .before .before .if1 .taken)) in omega arith
-
-loop-again : tie.Need-loop-again Inv-loop μ-loop
-loop-again c =
-    let z = goes-on (c .before .before .before .before .before .before .before .before .before .args .k .now) (c .before .before .before .before .before .before .loop .i) (c .before .before .before .before .before .before .loop .inv .1) (c .before .before .before .element-end .ensures) (term-some _ (sym (c .before .before .before .before .before .is-term .ensures) ∙ c .before .before .before .before .if1 .taken)) in (
-      (λ q h beyond f w s. pass-on (c .before .before .before .element-end .ensures) (c .before .before .before .before .before .before .loop .inv .0 q h beyond f w s) (λ done left t m. without-on f w (c .before .before .before .element-end .ensures) (c .before .before .stands .ensures) (c .before .if2 .left) t (sym (word-term t (c .before .before .before .before .before .before .loop .inv .1)) ∙ sym (c .before .before .before .before .before .is-term .ensures) ∙ c .before .before .before .before .if1 .taken) m)),
-      c .word2 .ensures,
-      omega arith,
-      omega arith,
-      free-on _ _ (c .before .before .before .before .before .before .loop .inv .1) _ _ (c .before .before .before .before .before .is-term .ensures) (c .before .before .before .before .if1 .taken) (c .before .before .before .element-end .ensures) (c .before .before .stands .ensures) (c .before .if2 .left) (c .before .before .before .before .before .before .loop .inv .4),
-    )
-
-returns-2 : tie.Need-returns-2 Inv-loop μ-loop
-returns-2 c =
-    ((λ q h beyond f w s. let u = c .before .before .loop .inv .0 q h beyond f w s in without-end (sym (word-term (u .here) (c .before .before .loop .inv .1)) ∙ sym (c .before .is-term .ensures) ∙ c .if1 .left) (u .keeps)), omega arith, free-end _ _ (c .before .before .loop .inv .1) _ _ (c .before .is-term .ensures) (c .if1 .left) (c .before .before .loop .inv .4))
+returns : tie.Need-returns
+returns c = ((λ h beyond b s. c .up-to-word .ensures .0 _ h beyond b (c .before .run-word .ensures) s), c .up-to-word .ensures .1, rw (sym (c .before .run-word .ensures)) (c .up-to-word .ensures .2))
 
 pub up-to-spec : {M : Type 1} → statement M
-up-to-spec =
-    tie.close
-    (tie.spec
-    Inv-loop
-    μ-loop
-    word-requires
-    loop-holds
-    is-term-requires
-    element-end-requires
-    stands-requires
-    returns
-    add-n
-    word-requires-2
-    loop-less
-    loop-again
-    returns-2)
+up-to-spec = tie.close (tie.spec run-word-requires up-to-word-requires returns)

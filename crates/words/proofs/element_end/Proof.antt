@@ -4,7 +4,7 @@ use Prim.Native.Nat.{_+_, _-_}
 use lib.ListN.{drop}
 use native.Mathlib.Omega.{arith}
 use borrow.Author.Needs.{needs}
-use Rattle.plans.specs.Results.{opens, span}
+use Rattle.words.specs.Spans.{opens, span}
 use Rattle.words.proofs.Parts.{below-of-word}
 use Rattle.words.proofs.Spans.{opens-le, opens-pos, element-stop, element-on}
 use Rattle.words.proofs.element_end.Statement.{statement}
@@ -30,11 +30,12 @@ passed-requires c κs = let y = c .opened .ensures in let b = opens-le (c .befor
 
 returns-2 : tie.Need-returns-2
 returns-2 c =
-    let k = c .before .before .before .before .before .args .k .now in
-    let i = c .before .before .before .before .before .args .i in
+    let c₁ = c .before in let c₂ = c₁ .before in let c₃ = c₂ .before in let c₄ = c₃ .before .before in
+    let k = c₄ .args .k .now in
+    let i = c₄ .args .i in
     c .passed .ensures
-    ∙ ap (λ n. i + 1 + span (n - 1) (drop (i + 1) k)) (c .before .opened .ensures ∙ ap opens (c .before .before .before .word .ensures))
-    ∙ sym (element-on k i (λ z. c .before .before .if1 .left (c .before .before .before .word .ensures ∙ z)))
+    ∙ ap (λ n. i + 1 + span (n - 1) (drop (i + 1) k)) (c₁ .opened .ensures ∙ ap opens (c₃ .word .ensures))
+    ∙ sym (element-on k i (λ z. c₂ .if1 .left (c₃ .word .ensures ∙ z)))
 
 pub element-end-spec : {M : Type 1} → statement M
 element-end-spec = tie.close (tie.spec word-requires returns opened-requires add-passed sub-passed passed-requires returns-2)

@@ -3,7 +3,7 @@ use mathlib.Core.Path.{refl, sym, ap, _∙_}
 use mathlib.Core.Bool.{_||_}
 use lib.ListN.{length, drop}
 use borrow.Author.Needs.{needs}
-use Rattle.plans.specs.Results.{member}
+use Rattle.words.specs.Spans.{member}
 use Rattle.words.proofs.Parts.{part-rest}
 use Rattle.words.proofs.elsewhere.Statement.{statement}
 use Rattle.words.proofs.elsewhere.Tie as tie
@@ -18,7 +18,9 @@ stands-requires-2 : tie.Need-stands-requires-2
 stands-requires-2 c κs = search needs
 
 returns-2 : tie.Need-returns-2
-returns-2 c = let k = c .before .before .before .before .args .k .now in let x = c .before .before .before .before .args .x in c .stands2 .ensures ∙ ap (member x) (part-rest k (c .before .before .before .before .args .end) (length k) refl) ∙ sym (ap (λ b. b || member x (drop (c .before .before .before .before .args .end) k)) (sym (c .before .before .stands .ensures) ∙ c .before .if1 .left))
+returns-2 c =
+    let c₁ = c .before in let c₂ = c₁ .before in let c₃ = c₂ .before .before in
+    let k = c₃ .args .k .now in let x = c₃ .args .x in c .stands2 .ensures ∙ ap (member x) (part-rest k (c₃ .args .end) (length k) refl) ∙ sym (ap (λ b. b || member x (drop (c₃ .args .end) k)) (sym (c₂ .stands .ensures) ∙ c₁ .if1 .left))
 
 pub elsewhere-spec : {M : Type 1} → statement M
 elsewhere-spec = tie.close (tie.spec stands-requires returns stands-requires-2 returns-2)

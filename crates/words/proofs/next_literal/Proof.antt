@@ -29,7 +29,9 @@ shared-slice-read-if1 : tie.Need-shared-slice-read-if1 Inv-loop μ-loop
 shared-slice-read-if1 c = search needs
 
 returns : tie.Need-returns Inv-loop μ-loop
-returns c = let y = c .before .before .before .loop .inv .1 in let z = until-stop (c .before .before .before .before .args .k .now) (c .before .before .before .loop .i) (c .before .before .loop-test .taken) (inl (c .if1 .taken)) in omega arith
+returns c =
+    let c₁ = c .before .before in let c₂ = c₁ .before in let c₃ = c₂ .before in
+    let y = c₂ .loop .inv .1 in let z = until-stop (c₃ .args .k .now) (c₂ .loop .i) (c₁ .loop-test .taken) (inl (c .if1 .taken)) in omega arith
 
 mul-if2 : tie.Need-mul-if2 Inv-loop μ-loop
 mul-if2 c = search needs
@@ -38,7 +40,9 @@ shared-slice-read-if2 : tie.Need-shared-slice-read-if2 Inv-loop μ-loop
 shared-slice-read-if2 c = search needs
 
 returns-2 : tie.Need-returns-2 Inv-loop μ-loop
-returns-2 c = let y = c .before .before .before .before .before .loop .inv .1 in let z = until-stop (c .before .before .before .before .before .before .args .k .now) (c .before .before .before .before .before .loop .i) (c .before .before .before .before .loop-test .taken) (inr (c .if2 .taken)) in omega arith
+returns-2 c =
+    let c₁ = c .before .before .before .before in let c₂ = c₁ .before in let c₃ = c₂ .before in
+    let y = c₂ .loop .inv .1 in let z = until-stop (c₃ .args .k .now) (c₂ .loop .i) (c₁ .loop-test .taken) (inr (c .if2 .taken)) in omega arith
 
 add-i-2 : tie.Need-add-i-2 Inv-loop μ-loop
 add-i-2 c = search needs
@@ -47,7 +51,9 @@ loop-less : tie.Need-loop-less Inv-loop μ-loop
 loop-less c = search needs
 
 loop-again : tie.Need-loop-again Inv-loop μ-loop
-loop-again c = let y = c .before .before .before .before .before .loop .inv .1 in let z = until-on (c .before .before .before .before .before .before .args .k .now) (c .before .before .before .before .before .loop .i) (c .before .before .before .before .loop-test .taken) (c .before .before .if1 .left) (c .if2 .left) in (omega arith, omega arith)
+loop-again c =
+    let c₁ = c .before .before in let c₂ = c₁ .before .before in let c₃ = c₂ .before in let c₄ = c₃ .before in
+    let y = c₃ .loop .inv .1 in let z = until-on (c₄ .args .k .now) (c₃ .loop .i) (c₂ .loop-test .taken) (c₁ .if1 .left) (c .if2 .left) in (omega arith, omega arith)
 
 returns-3 : tie.Need-returns-3 Inv-loop μ-loop
 returns-3 c = let y = c .before .loop .inv .1 in let z = until-end (c .before .before .args .k .now) (c .before .loop .i) (c .loop-test .left) in omega arith

@@ -1,20 +1,41 @@
--- `opened`: the tests are those of `opens`.
-use borrow.Author.Tests.{eq-eqb, ne-eqb, le-leb, lt-leb}
-use Rattle.plans.specs.Results.{opens}
+-- `opened`: what a word of each kind opens.
+use mathlib.Core.Path.{_≡_, refl, sym, ap, _∙_}
+use mathlib.Core.List.{[], _∷_}
+use borrow.Author.Needs.{needs}
+use Prim.Native.Nat.{ℕ}
+use Rattle.language.specs.declared.Kind.{Kind}
+use Rattle.language.proofs.Arms.{Among, each-kind}
+use Rattle.words.specs.Spans.{opensBy, opens}
 use Rattle.words.proofs.opened.Statement.{statement}
 use Rattle.words.proofs.opened.Tie as tie
 
+is : {k j i : Kind} → k ≡ j → k ≡ i → opensBy i ≡ opensBy j
+is e g = ap opensBy (sym g ∙ e)
+
+functors : {k j : Kind} → k ≡ j → Among (3 ∷ 4 ∷ []) k → 2 ≡ opensBy j
+functors {k} e o = each-kind (3 ∷ 4 ∷ []) (λ j. 2 ≡ opensBy j) tt tt tt (λ x. refl) (λ x. refl) tt tt tt tt tt tt tt k o ∙ ap opensBy e
+
+others : {k j : Kind} → k ≡ j → Among (1 ∷ 2 ∷ 5 ∷ 6 ∷ 7 ∷ 8 ∷ 9 ∷ 10 ∷ 11 ∷ []) k → 1 ≡ opensBy j
+others {k} e o =
+    each-kind (1 ∷ 2 ∷ 5 ∷ 6 ∷ 7 ∷ 8 ∷ 9 ∷ 10 ∷ 11 ∷ []) (λ j. 1 ≡ opensBy j) tt (λ x. refl) (λ x. refl) tt tt refl refl refl refl refl refl refl k o ∙ ap opensBy e
+
+classify-requires : tie.Need-classify-requires
+classify-requires c κs = search needs
+
+enum-told : tie.Need-enum-told
+enum-told c = search needs
+
 returns : tie.Need-returns
 unfolding opens
-returns c = simp (eq-eqb _ 0 (c .if1 .taken))
+returns c = is (c .before .before .classify .ensures) (c .enum-told .given .1)
 
 returns-2 : tie.Need-returns-2
 unfolding opens
-returns-2 c = simp (ne-eqb _ 0 (c .before .if1 .left), le-leb _ 2999 (c .if2 .taken))
+returns-2 c = functors (c .before .classify .ensures) (c .match .keys2)
 
 returns-3 : tie.Need-returns-3
 unfolding opens
-returns-3 c = simp (ne-eqb _ 0 (c .before .if1 .left), lt-leb _ 2999 (c .if2 .left))
+returns-3 c = others (c .before .classify .ensures) (c .match .keys3)
 
 pub opened-spec : {M : Type 1} → statement M
-opened-spec = tie.close (tie.spec returns returns-2 returns-3)
+opened-spec = tie.close (tie.spec classify-requires enum-told returns returns-2 returns-3)

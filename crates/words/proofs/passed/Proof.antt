@@ -4,7 +4,7 @@ use Prim.Native.Nat.{_+_, _-_, _≤_}
 use lib.ListN.{length, drop, getD}
 use borrow.Author.Needs.{needs}
 use native.Mathlib.Omega.{arith}
-use Rattle.plans.specs.Results.{span}
+use Rattle.words.specs.Spans.{span}
 use Rattle.words.proofs.Spans.{opens-le, span-past, span-none, span-step}
 use Rattle.words.proofs.passed.Statement.{statement}
 use Rattle.words.proofs.passed.Tie as tie
@@ -44,12 +44,13 @@ loop-less c = search needs
 
 loop-again : tie.Need-loop-again Inv-loop μ-loop
 loop-again c =
-    let k = c .before .before .before .before .before .before .args .k .now in
-    let i = c .before .before .before .before .loop .i in
-    let need = c .before .before .before .before .loop .need in
+    let c₁ = c .before .before in let c₂ = c₁ .before in let c₃ = c₂ .before in let c₄ = c₃ .before .before in
+    let k = c₄ .args .k .now in
+    let i = c₃ .loop .i in
+    let need = c₃ .loop .need in
     let z = opens-le (getD k i 0) in
     let y = c .opened .ensures in
-    (omega arith, omega arith, ap (λ n. i + 1 + span (need - 1 + n) (drop (i + 1) k)) y ∙ span-step need k i (c .before .before .before .loop-test .taken) (c .before .before .if1 .left) ∙ c .before .before .before .before .loop .inv .2)
+    (omega arith, omega arith, ap (λ n. i + 1 + span (need - 1 + n) (drop (i + 1) k)) y ∙ span-step need k i (c₂ .loop-test .taken) (c₁ .if1 .left) ∙ c₃ .loop .inv .2)
 
 returns-2 : tie.Need-returns-2 Inv-loop μ-loop
 returns-2 c =

@@ -26,7 +26,9 @@ loop-holds : tie.Need-loop-holds Inv-loop μ-loop
 loop-holds c = (c .before .least .ensures, c .least2 .ensures, refl)
 
 returns : tie.Need-returns Inv-loop μ-loop
-returns c = same-short (c .before .before .before .before .before .before .args .k .now) (c .before .before .loop .i) (c .before .before .before .before .before .before .args .to) (c .before .before .loop .j) (c .before .before .before .before .before .before .args .end) (c .before .before .loop .inv .0) (c .before .before .loop .inv .1) (c .before .loop-test .taken) (c .if1 .taken) ∙ c .before .before .loop .inv .2
+returns c =
+    let c₁ = c .before in let c₂ = c₁ .before in let c₃ = c₂ .before .before .before .before in
+    same-short (c₃ .args .k .now) (c₂ .loop .i) (c₃ .args .to) (c₂ .loop .j) (c₃ .args .end) (c₂ .loop .inv .0) (c₂ .loop .inv .1) (c₁ .loop-test .taken) (c .if1 .taken) ∙ c₂ .loop .inv .2
 
 mul-if2 : tie.Need-mul-if2 Inv-loop μ-loop
 mul-if2 c = search needs
@@ -41,7 +43,9 @@ shared-slice-read-if2-2 : tie.Need-shared-slice-read-if2-2 Inv-loop μ-loop
 shared-slice-read-if2-2 c = search needs
 
 returns-2 : tie.Need-returns-2 Inv-loop μ-loop
-returns-2 c = same-differ (c .before .before .before .before .before .before .before .before .before .args .k .now) (c .before .before .before .before .before .loop .i) (c .before .before .before .before .before .before .before .before .before .args .to) (c .before .before .before .before .before .loop .j) (c .before .before .before .before .before .before .before .before .before .args .end) (c .before .before .before .before .before .loop .inv .0) (c .before .before .before .before .before .loop .inv .1) (c .before .before .before .before .loop-test .taken) (c .before .before .before .if1 .left) (c .if2 .taken) ∙ c .before .before .before .before .before .loop .inv .2
+returns-2 c =
+    let c₁ = c .before .before .before in let c₂ = c₁ .before in let c₃ = c₂ .before in let c₄ = c₃ .before .before .before .before in
+    same-differ (c₄ .args .k .now) (c₃ .loop .i) (c₄ .args .to) (c₃ .loop .j) (c₄ .args .end) (c₃ .loop .inv .0) (c₃ .loop .inv .1) (c₂ .loop-test .taken) (c₁ .if1 .left) (c .if2 .taken) ∙ c₃ .loop .inv .2
 
 add-i : tie.Need-add-i Inv-loop μ-loop
 add-i c = search needs
@@ -53,10 +57,14 @@ loop-less : tie.Need-loop-less Inv-loop μ-loop
 loop-less c = search needs
 
 loop-again : tie.Need-loop-again Inv-loop μ-loop
-loop-again c = (c .before .before .before .before .before .loop .inv .0, c .before .before .before .before .before .loop .inv .1, same-next (c .before .before .before .before .before .before .before .before .before .args .k .now) (c .before .before .before .before .before .loop .i) (c .before .before .before .before .before .before .before .before .before .args .to) (c .before .before .before .before .before .loop .j) (c .before .before .before .before .before .before .before .before .before .args .end) (c .before .before .before .before .before .loop .inv .0) (c .before .before .before .before .before .loop .inv .1) (c .before .before .before .before .loop-test .taken) (c .before .before .before .if1 .left) (c .if2 .left) ∙ c .before .before .before .before .before .loop .inv .2)
+loop-again c =
+    let c₁ = c .before .before .before in let c₂ = c₁ .before in let c₃ = c₂ .before in let c₄ = c₃ .before .before .before .before in
+    (c₃ .loop .inv .0, c₃ .loop .inv .1, same-next (c₄ .args .k .now) (c₃ .loop .i) (c₄ .args .to) (c₃ .loop .j) (c₄ .args .end) (c₃ .loop .inv .0) (c₃ .loop .inv .1) (c₂ .loop-test .taken) (c₁ .if1 .left) (c .if2 .left) ∙ c₃ .loop .inv .2)
 
 returns-3 : tie.Need-returns-3 Inv-loop μ-loop
-returns-3 c = same-end (c .before .before .before .before .before .args .k .now) (c .before .loop .i) (c .before .before .before .before .before .args .to) (c .before .loop .j) (c .before .before .before .before .before .args .end) (c .before .loop .inv .0) (c .before .loop .inv .1) (c .loop-test .left) ∙ c .before .loop .inv .2
+returns-3 c =
+    let c₁ = c .before in let c₂ = c₁ .before .before .before .before in
+    same-end (c₂ .args .k .now) (c₁ .loop .i) (c₂ .args .to) (c₁ .loop .j) (c₂ .args .end) (c₁ .loop .inv .0) (c₁ .loop .inv .1) (c .loop-test .left) ∙ c₁ .loop .inv .2
 
 pub same-part-spec : {M : Type 1} → statement M
 same-part-spec =

@@ -1,9 +1,9 @@
 -- `stands`: the word stands in the part exactly if it stands in what is left of it.
 use Prim.Native.Nat.{_-_}
-use mathlib.Core.Path.{_≡_, refl, _∙_}
+use mathlib.Core.Path.{_≡_, refl, sym, _∙_}
 use lib.Seq.{slice}
 use borrow.Author.Needs.{needs}
-use Rattle.plans.specs.Results.{member}
+use Rattle.words.specs.Spans.{member}
 use Rattle.words.proofs.Parts.{member-none, member-past, member-here, member-next}
 use Rattle.words.proofs.stands.Statement.{statement}
 use Rattle.words.proofs.stands.Tie as tie
@@ -18,16 +18,21 @@ loop-holds : tie.Need-loop-holds Inv-loop μ-loop
 loop-holds c = refl
 
 returns : tie.Need-returns Inv-loop μ-loop
-returns c = let a = c .before .before .before .args in member-past (a .k .now) (a .x) _ (a .to) (c .if1 .taken) ∙ c .before .before .loop .inv
+returns c = let a = c .before .before .before .before .args in member-past (a .k .now) (a .x) _ (a .to) (c .if1 .taken) ∙ c .before .before .loop .inv
 
-mul-if2 : tie.Need-mul-if2 Inv-loop μ-loop
-mul-if2 c = search needs
+mul-wide : tie.Need-mul-wide Inv-loop μ-loop
+mul-wide c = search needs
 
-shared-slice-read-if2 : tie.Need-shared-slice-read-if2 Inv-loop μ-loop
-shared-slice-read-if2 c = search needs
+shared-slice-read-wide : tie.Need-shared-slice-read-wide Inv-loop μ-loop
+shared-slice-read-wide c = search needs
+
+wide-requires : tie.Need-wide-requires Inv-loop μ-loop
+wide-requires c κs = search needs
 
 returns-2 : tie.Need-returns-2 Inv-loop μ-loop
-returns-2 c = member-here _ _ _ _ (c .before .before .before .loop-test .taken) (c .before .before .if1 .left) (c .if2 .taken) ∙ c .before .before .before .before .loop .inv
+returns-2 c =
+    let c₁ = c .before in let c₂ = c₁ .before .before in let c₃ = c₂ .before in let c₄ = c₃ .before in
+    member-here _ _ _ _ (c₃ .loop-test .taken) (c₂ .if1 .left) (sym (c₁ .wide .ensures) ∙ c .if2 .taken) ∙ c₄ .loop .inv
 
 add-i : tie.Need-add-i Inv-loop μ-loop
 add-i c = search needs
@@ -36,7 +41,9 @@ loop-less : tie.Need-loop-less Inv-loop μ-loop
 loop-less c = search needs
 
 loop-again : tie.Need-loop-again Inv-loop μ-loop
-loop-again c = member-next _ _ _ _ (c .before .before .before .loop-test .taken) (c .before .before .if1 .left) (c .if2 .left) ∙ c .before .before .before .before .loop .inv
+loop-again c =
+    let c₁ = c .before in let c₂ = c₁ .before .before in let c₃ = c₂ .before in let c₄ = c₃ .before in
+    member-next _ _ _ _ (c₃ .loop-test .taken) (c₂ .if1 .left) (λ e. c .if2 .left (c₁ .wide .ensures ∙ e)) ∙ c₄ .loop .inv
 
 returns-3 : tie.Need-returns-3 Inv-loop μ-loop
 returns-3 c = member-none _ _ _ _ (c .loop-test .left) ∙ c .before .loop .inv
@@ -49,8 +56,9 @@ stands-spec =
     μ-loop
     loop-holds
     returns
-    mul-if2
-    shared-slice-read-if2
+    mul-wide
+    shared-slice-read-wide
+    wide-requires
     returns-2
     add-i
     loop-less

@@ -6,23 +6,41 @@ use Rattle.equations.proofs.Names.{not-true, not-false, blank-elsewhere
 use Rattle.equations.proofs.functors.both_elsewhere.Statement.{statement}
 use Rattle.equations.proofs.functors.both_elsewhere.Tie as tie
 
+function-word-requires : tie.Need-function-word-requires
+function-word-requires c κs = search needs
+
 elsewhere-requires : tie.Need-elsewhere-requires
 elsewhere-requires c κs = search needs
 
 returns : tie.Need-returns
-returns c = λ before behind l r X G w e b d y. not-elsewhere (before ++ behind) X G (sym (blank-elsewhere w X b e) ∙ sym (c .before .elsewhere .ensures) ∙ not-true (c .if1 .taken))
+returns c = λ before behind l r G w b d y. not-elsewhere (before ++ behind) (c .before .before .before .before .args .f) G (sym (blank-elsewhere w (c .before .before .before .before .args .f) b (c .before .before .function-word .ensures)) ∙ sym (c .before .elsewhere .ensures) ∙ not-true (c .if1 .taken))
 
-returns-2 : tie.Need-returns-2
-returns-2 c = λ before behind l r X G w e b d y.
-    symbol-elsewhere (before ++ behind) X G _ (sym (blank-elsewhere w X b e) ∙ sym (c .before .before .elsewhere .ensures) ∙ not-false (c .before .if1 .left)) d (c .if2 .taken)
+enum-told : tie.Need-enum-told
+enum-told c = search needs
+
+enum-known-g : tie.Need-enum-known-g
+enum-known-g c = search needs
+
+function-word-requires-2 : tie.Need-function-word-requires-2
+function-word-requires-2 c κs = search needs
 
 elsewhere-requires-2 : tie.Need-elsewhere-requires-2
 elsewhere-requires-2 c κs = search needs
 
+returns-2 : tie.Need-returns-2
+returns-2 c =
+    let c₁ = c .before .before in let c₂ = c₁ .before in let c₃ = c₂ .before in let c₄ = c₃ .before .before in
+    λ before behind l r G w b d y. symbol-elsewhere (before ++ behind) (c₄ .args .f) G (sym (blank-elsewhere w (c₄ .args .f) b (c₃ .function-word .ensures)) ∙ sym (c₂ .elsewhere .ensures) ∙ not-false (c₁ .if1 .left)) (sym (c .enum-told .given .1) ∙ d)
+
 returns-3 : tie.Need-returns-3
-returns-3 c = λ before behind l r X G w e b d y.
-    blank-too (before ++ behind) X G _ _ (sym (blank-elsewhere w X b e) ∙ sym (c .before .before .before .elsewhere .ensures) ∙ not-false (c .before .before .if1 .left)) d y (c .before .if2 .left)
-    (λ Y h q. c .elsewhere2 .ensures ∙ blank-elsewhere w Y h q)
+returns-3 c =
+    let c₁ = c .before in let c₂ = c₁ .before .before in let c₃ = c₂ .before .before in let c₄ = c₃ .before in let c₅ = c₄ .before in
+    let c₆ = c₅ .before .before in
+    λ before behind l r G w b d y.
+    blank-too (before ++ behind) (c₆ .args .f) (c₂ .g .given .0 .0) G _ (sym (blank-elsewhere w (c₆ .args .f) b (c₅ .function-word .ensures)) ∙ sym (c₄ .elsewhere .ensures) ∙ not-false (c₃ .if1 .left)) (sym (c₂ .g .given .1) ∙ d) y
+    (λ i. c .elsewhere2 .ensures ∙ blank-elsewhere w (c₂ .g .given .0 .0) i (c₁ .function-word2 .ensures))
 
 pub both-elsewhere-spec : {M : Type 1} → statement M
-both-elsewhere-spec = tie.close (tie.spec elsewhere-requires returns returns-2 elsewhere-requires-2 returns-3)
+both-elsewhere-spec =
+    tie.close
+    (tie.spec function-word-requires elsewhere-requires returns enum-told enum-known-g function-word-requires-2 elsewhere-requires-2 returns-2 returns-3)

@@ -1,43 +1,33 @@
--- The tests on two functors' words lead to the rank of two single terms.
+-- The functor on the left leads to the rank.
 use borrow.Author.Needs.{needs}
-use mathlib.Core.Path.{sym, _∙_, ap}
+use mathlib.Core.Path.{_≡_, sym, _∙_}
 use mathlib.Core.List.{_++_}
-use Rattle.language.specs.Kinds.{pick}
-use Rattle.rules.specs.Places.{atE5, noRule}
-use Rattle.equations.proofs.Names.{not-true, not-false, symbol-blank, same-symbol, symbols-clash, same-blank, blank-over, blank-bare}
+use Rattle.language.specs.Limits.{desk}
+use Rattle.language.specs.Fine.{fineFunctor}
+use Rattle.equations.specs.Rank.{functors}
+use Rattle.equations.proofs.Looked.{at-symbol, at-blank}
 use Rattle.equations.proofs.functors.rank_functors.Statement.{statement}
 use Rattle.equations.proofs.functors.rank_functors.Tie as tie
 
+enum-known-f : tie.Need-enum-known-f
+enum-known-f c = search needs
+
+rank-symbol-requires : tie.Need-rank-symbol-requires
+rank-symbol-requires c κs = search needs
+
+enum-known-f-2 : tie.Need-enum-known-f-2
+enum-known-f-2 c = search needs
+
+rank-blank-requires : tie.Need-rank-blank-requires
+rank-blank-requires c κs = search needs
+
 returns : tie.Need-returns
-returns c = λ before behind l r F G h d w p x q y b. symbol-blank (before ++ behind) h d _ _ F G p q y (c .before .if1 .taken) (c .if2 .taken)
+returns c = λ before behind l r F G h d w p x q y b.
+    at-symbol (λ F. c .rank-symbol .result ≡ functors (before ++ behind) F h G d) F (sym (c .before .before .f .given .1) ∙ p) (c .rank-symbol .ensures (before ++ behind) h d G q)
 
 returns-2 : tie.Need-returns-2
-returns-2 c = λ before behind l r F G h d w p x q y b. same-symbol (before ++ behind) h d _ _ F G p q (c .before .before .if1 .taken) (c .if3 .taken)
-
-returns-3 : tie.Need-returns-3
-returns-3 c = λ before behind l r F G h d w p x q y b. symbols-clash (before ++ behind) h d _ _ F G p q (c .before .before .if1 .taken) (c .before .if2 .left) (c .if3 .left)
-
-returns-4 : tie.Need-returns-4
-returns-4 c = λ before behind l r F G h d w p x q y b. same-blank (before ++ behind) h d _ _ F G p x q y (c .before .if1 .left) (c .if4 .taken)
-
-returns-5 : tie.Need-returns-5
-returns-5 c = λ before behind l r F G h d w p x q y b. blank-over (before ++ behind) h d _ _ F G p x q (c .before .before .if1 .left) (c .before .if4 .left) (sym b ∙ not-true (c .if5 .taken))
-
-both-elsewhere-requires : tie.Need-both-elsewhere-requires
-both-elsewhere-requires c κs = search needs
-
-returns-6 : tie.Need-returns-6
-returns-6 c = λ before behind l r F G h d w p x q y b.
-    sym (ap (λ t. pick t atE5 noRule) (c .if6 .taken))
-    ∙ blank-bare (before ++ behind) h d _ _ F G p x q (c .before .before .before .before .if1 .left) (c .before .before .before .if4 .left) (sym b ∙ not-false (c .before .before .if5 .left)) _
-    (λ X e n. c .before .both-elsewhere .ensures before behind l r X G w e n q y)
-
-returns-7 : tie.Need-returns-7
-returns-7 c = λ before behind l r F G h d w p x q y b.
-    sym (ap (λ t. pick t atE5 noRule) (c .if6 .left))
-    ∙ blank-bare (before ++ behind) h d _ _ F G p x q (c .before .before .before .before .if1 .left) (c .before .before .before .if4 .left) (sym b ∙ not-false (c .before .before .if5 .left)) _
-    (λ X e n. c .before .both-elsewhere .ensures before behind l r X G w e n q y)
+returns-2 c = λ before behind l r F G h d w p x q y b.
+    at-blank (λ F. fineFunctor desk F → c .rank-blank .result ≡ functors (before ++ behind) F h G d) F (sym (c .before .before .f2 .given .1) ∙ p) (λ x. c .rank-blank .ensures before behind l r G h d w x q y b) x
 
 pub rank-functors-spec : {M : Type 1} → statement M
-rank-functors-spec =
-    tie.close (tie.spec returns returns-2 returns-3 returns-4 returns-5 both-elsewhere-requires returns-6 returns-7)
+rank-functors-spec = tie.close (tie.spec enum-known-f rank-symbol-requires enum-known-f-2 rank-blank-requires returns returns-2)

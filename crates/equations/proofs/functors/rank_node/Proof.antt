@@ -4,7 +4,7 @@ use mathlib.Core.Path.{sym, _∙_}
 use mathlib.Core.List.{_++_}
 use Rattle.language.specs.Trees.{node}
 use Rattle.equations.specs.Ranked.{Ranks}
-use Rattle.equations.proofs.Looked.{node-parts, at-node}
+use Rattle.equations.proofs.Looked.{at-node}
 use Rattle.equations.proofs.Nodes.{node-empty, node-run, node-term, node-terms}
 use Rattle.equations.proofs.functors.rank_node.Statement.{statement}
 use Rattle.equations.proofs.functors.rank_node.Tie as tie
@@ -22,8 +22,8 @@ and-requires : tie.Need-and-requires
 and-requires c κs = search needs
 
 returns : tie.Need-returns
-returns c = λ F h s r e before behind w.
-    node-term (before ++ behind) F h s r (sym (c .before .before .before .look .given .1) ∙ w .right .look) (node-parts e .1) (c .before .and .ensures) (c .if1 .taken)
+returns c = λ F h s r e i j before behind w.
+    node-term (before ++ behind) F h s r (sym (c .before .before .before .look .given .1) ∙ w .right .look) i (c .before .and .ensures) (c .if1 .taken)
 
 enum-known-look-2 : tie.Need-enum-known-look-2
 enum-known-look-2 c = search needs
@@ -32,19 +32,19 @@ rank-nodes-requires : tie.Need-rank-nodes-requires
 rank-nodes-requires c κs = search needs
 
 returns-2 : tie.Need-returns-2
-returns-2 c = λ F h s r e before behind w. node-empty (before ++ behind) F h s r (sym (c .enum-told .given .1) ∙ w .right .look)
+returns-2 c = λ F h s r e i j before behind w. node-empty (before ++ behind) F h s r (sym (c .enum-told .given .1) ∙ w .right .look)
 
 returns-3 : tie.Need-returns-3
-returns-3 c = λ F h s r e before behind w. node-run (before ++ behind) F h s r (sym (c .enum-told2 .given .1) ∙ w .right .look)
+returns-3 c = λ F h s r e i j before behind w. node-run (before ++ behind) F h s r (sym (c .enum-told2 .given .1) ∙ w .right .look)
 
 returns-4 : tie.Need-returns-4
-returns-4 c = λ F h s r e before behind w.
-    node-terms (before ++ behind) F h s r (sym (c .before .before .before .look .given .1) ∙ w .right .look) (node-parts e .1) (c .before .and .ensures) (c .if1 .left)
+returns-4 c = λ F h s r e i j before behind w.
+    node-terms (before ++ behind) F h s r (sym (c .before .before .before .look .given .1) ∙ w .right .look) i (c .before .and .ensures) (c .if1 .left)
 
 returns-5 : tie.Need-returns-5
-returns-5 c = λ F h s r e before behind w.
+returns-5 c = λ F h s r e i j before behind w.
     let a = c .before .before .before .before .before .before .args in
-    at-node (λ m. Ranks (a .k .now) (a .v) (node F h s) m (c .rank-nodes .result)) r (sym (c .before .before .look2 .given .1) ∙ w .right .look) (λ G d t f. c .rank-nodes .ensures F G h s d t e f) before behind w
+    at-node (λ m. Ranks (a .k .now) (a .v) (node F h s) m (c .rank-nodes .result)) r (sym (c .before .before .look2 .given .1) ∙ w .right .look) (λ G d t f k l. c .rank-nodes .ensures F G h s d t e i j f k l) before behind w
 
 pub rank-node-spec : {M : Type 1} → statement M
 rank-node-spec =

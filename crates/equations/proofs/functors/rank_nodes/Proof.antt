@@ -3,7 +3,7 @@ use borrow.Author.Needs.{needs}
 use mathlib.Core.Path.{sym, _∙_}
 use mathlib.Core.List.{_++_}
 use Rattle.views.proofs.Same.{same-sides}
-use Rattle.equations.proofs.Looked.{node-parts, both}
+use Rattle.equations.proofs.Looked.{both}
 use Rattle.equations.proofs.Nodes.{nodes-same, nodes-longer, nodes-single}
 use Rattle.equations.proofs.functors.rank_nodes.Statement.{statement}
 use Rattle.equations.proofs.functors.rank_nodes.Tie as tie
@@ -12,7 +12,7 @@ same-part-requires : tie.Need-same-part-requires
 same-part-requires c κs = search needs
 
 returns : tie.Need-returns
-returns c = λ F G h s d t e f before behind w. nodes-same (before ++ behind) F h s G d t (sym (same-sides (w .left) (w .right)) ∙ sym (c .before .same-part .ensures) ∙ c .if1 .taken)
+returns c = λ F G h s d t e i j f k l before behind w. nodes-same (before ++ behind) F h s G d t (sym (same-sides (w .left) (w .right)) ∙ sym (c .before .same-part .ensures) ∙ c .if1 .taken)
 
 and-requires : tie.Need-and-requires
 and-requires c κs = search needs
@@ -24,19 +24,17 @@ rank-functors-requires : tie.Need-rank-functors-requires
 rank-functors-requires c κs = search needs
 
 returns-2 : tie.Need-returns-2
-returns-2 c = λ F G h s d t e f before behind w.
-    let i = node-parts e in
-    let j = node-parts f in
-    nodes-single (before ++ behind) F h s G d t (sym (same-sides (w .left) (w .right)) ∙ sym (c .before .before .before .before .before .same-part .ensures) ∙ c .before .before .before .before .if1 .left)
-    (sym (both (c .before .before .before .and .ensures) (i .1) (j .1)) ∙ c .before .before .if2 .taken)
-    (c .rank-functors .ensures before behind _ _ F G h d w (i .0) (w .left .fine .0) (j .0) (w .right .fine .0) (both (c .before .and2 .ensures) (i .2) (j .2)))
+returns-2 c =
+    let c₁ = c .before in let c₂ = c₁ .before in let c₃ = c₂ .before in let c₄ = c₃ .before in let c₅ = c₄ .before in
+    λ F G h s d t e i j f k l before behind w.
+    nodes-single (before ++ behind) F h s G d t (sym (same-sides (w .left) (w .right)) ∙ sym (c₅ .same-part .ensures) ∙ c₄ .if1 .left)
+    (sym (both (c₃ .and .ensures) i k) ∙ c₂ .if2 .taken)
+    (c .rank-functors .ensures before behind _ _ F G h d w e (w .left .fine .0) f (w .right .fine .0) (both (c₁ .and2 .ensures) j l))
 
 returns-3 : tie.Need-returns-3
-returns-3 c = λ F G h s d t e f before behind w.
-    let i = node-parts e in
-    let j = node-parts f in
+returns-3 c = λ F G h s d t e i j f k l before behind w.
     nodes-longer (before ++ behind) F h s G d t (sym (same-sides (w .left) (w .right)) ∙ sym (c .before .before .before .same-part .ensures) ∙ c .before .before .if1 .left)
-    (sym (both (c .before .and .ensures) (i .1) (j .1)) ∙ c .if2 .left)
+    (sym (both (c .before .and .ensures) i k) ∙ c .if2 .left)
 
 pub rank-nodes-spec : {M : Type 1} → statement M
 rank-nodes-spec =

@@ -9,18 +9,25 @@ use Rattle.equations.proofs.runs.free_terms.Tie as tie
 all-terms-requires : tie.Need-all-terms-requires
 all-terms-requires c κs = search needs
 
+run-word-requires : tie.Need-run-word-requires
+run-word-requires c κs = search needs
+
 stands-requires : tie.Need-stands-requires
 stands-requires c κs = search needs
 
 returns : tie.Need-returns
-returns c = λ before behind q l r w b e. terms-held q r (sym (c .before .before .before .all-terms .ensures .0 r _ (side-stands (w .right)) .all) ∙ c .before .before .if1 .taken) (sym (c .before .stands .ensures ∙ run-held (w .right) q b e) ∙ c .if2 .taken)
+returns c =
+    let c₁ = c .before in let c₂ = c₁ .before in let c₃ = c₂ .before in let c₄ = c₃ .before in let c₅ = c₄ .before .before .before in
+    λ before behind l r w b. terms-held (c₅ .args .p) r (sym (c₄ .all-terms .ensures .0 r _ (side-stands (w .right)) .all) ∙ c₃ .if1 .taken) (sym (c₁ .stands .ensures ∙ run-held (w .right) (c₅ .args .p) b (c₂ .run-word .ensures)) ∙ c .if2 .taken)
 
 returns-2 : tie.Need-returns-2
-returns-2 c = λ before behind q l r w b e. terms-free q r (sym (c .before .before .before .all-terms .ensures .0 r _ (side-stands (w .right)) .all) ∙ c .before .before .if1 .taken) (sym (c .before .stands .ensures ∙ run-held (w .right) q b e) ∙ c .if2 .left)
+returns-2 c =
+    let c₁ = c .before in let c₂ = c₁ .before in let c₃ = c₂ .before in let c₄ = c₃ .before in let c₅ = c₄ .before .before .before in
+    λ before behind l r w b. terms-free (c₅ .args .p) r (sym (c₄ .all-terms .ensures .0 r _ (side-stands (w .right)) .all) ∙ c₃ .if1 .taken) (sym (c₁ .stands .ensures ∙ run-held (w .right) (c₅ .args .p) b (c₂ .run-word .ensures)) ∙ c .if2 .left)
 
 returns-3 : tie.Need-returns-3
-returns-3 c = λ before behind q l r w b e. terms-not q r (sym (c .before .all-terms .ensures .0 r _ (side-stands (w .right)) .all) ∙ c .if1 .left)
+returns-3 c = λ before behind l r w b. terms-not (c .before .before .before .before .args .p) r (sym (c .before .all-terms .ensures .0 r _ (side-stands (w .right)) .all) ∙ c .if1 .left)
 
 pub free-terms-spec : {M : Type 1} → statement M
 free-terms-spec =
-    tie.close (tie.spec all-terms-requires stands-requires returns returns-2 returns-3)
+    tie.close (tie.spec all-terms-requires run-word-requires stands-requires returns returns-2 returns-3)

@@ -10,16 +10,20 @@ free-terms-requires : tie.Need-free-terms-requires
 free-terms-requires c κs = search needs
 
 returns : tie.Need-returns
-returns c = λ before behind q s r w e. leading-cuts q r (sym (c .before .free-terms .ensures before behind q _ r w (w .left .fine .0) e) ∙ c .if1 .taken)
+returns c = λ before behind s r w. leading-cuts (c .before .before .before .args .p) r (sym (c .before .free-terms .ensures before behind _ r w (w .left .fine .0)) ∙ c .if1 .taken)
 
 up-to-requires : tie.Need-up-to-requires
 up-to-requires c κs = search needs
 
 returns-2 : tie.Need-returns-2
-returns-2 c = λ before behind q s r w e. leading-up-to q r (sym (c .before .before .before .before .free-terms .ensures before behind q _ r w (w .left .fine .0) e) ∙ c .before .before .before .if1 .left) (sym (c .before .up-to .ensures .0 q r _ (w .left .fine .0) e (side-stands (w .right)) .found) ∙ c .if2 .taken)
+returns-2 c =
+    let c₁ = c .before in let c₂ = c₁ .before .before in let c₃ = c₂ .before in let c₄ = c₃ .before .before in
+    λ before behind s r w. leading-up-to (c₄ .args .p) r (sym (c₃ .free-terms .ensures before behind _ r w (w .left .fine .0)) ∙ c₂ .if1 .left) (sym (c₁ .up-to .ensures .0 r _ (w .left .fine .0) (side-stands (w .right)) .found) ∙ c .if2 .taken)
 
 returns-3 : tie.Need-returns-3
-returns-3 c = λ before behind q s r w e. leading-open q r (sym (c .before .before .before .before .free-terms .ensures before behind q _ r w (w .left .fine .0) e) ∙ c .before .before .before .if1 .left) (sym (c .before .up-to .ensures .0 q r _ (w .left .fine .0) e (side-stands (w .right)) .found) ∙ c .if2 .left)
+returns-3 c =
+    let c₁ = c .before in let c₂ = c₁ .before .before in let c₃ = c₂ .before in let c₄ = c₃ .before .before in
+    λ before behind s r w. leading-open (c₄ .args .p) r (sym (c₃ .free-terms .ensures before behind _ r w (w .left .fine .0)) ∙ c₂ .if1 .left) (sym (c₁ .up-to .ensures .0 r _ (w .left .fine .0) (side-stands (w .right)) .found) ∙ c .if2 .left)
 
 pub rank-leading-spec : {M : Type 1} → statement M
 rank-leading-spec =

@@ -4,7 +4,6 @@ use mathlib.Core.Path.{sym, subst, _∙_}
 use mathlib.Core.List.{_++_}
 use Rattle.language.specs.Trees.{hvar}
 use Rattle.equations.specs.Ranked.{Ranks}
-use Rattle.equations.proofs.Looked.{run-parts}
 use Rattle.equations.proofs.Leading.{same-run, runs-lonely, runs-open}
 use Rattle.equations.proofs.runs.rank_run_run.Statement.{statement}
 use Rattle.equations.proofs.runs.rank_run_run.Tie as tie
@@ -13,18 +12,22 @@ rank-struck-requires : tie.Need-rank-struck-requires
 rank-struck-requires c κs = search needs
 
 returns : tie.Need-returns
-returns c = λ q u s t more e f.
-    subst (λ u. Ranks (c .before .before .before .args .k .now) (c .before .before .before .args .v) (hvar q s) (hvar u t) (c .rank-struck .result)) (same-run q u (run-parts e .0) (run-parts f .0) (c .before .if1 .taken)) (c .rank-struck .ensures q s t (run-parts e .1))
+returns c =
+    let c₁ = c .before in let c₂ = c₁ .before .before .before .before in
+    λ s t e.
+    subst (λ u. Ranks (c₂ .args .k .now) (c₂ .args .v) (hvar (c₂ .args .p) s) (hvar u t) (c .rank-struck .result)) (same-run (c₂ .args .p) (c₂ .args .z) (c₁ .if1 .taken)) (c .rank-struck .ensures (c₂ .args .p) s t e)
 
 rank-lonely-requires : tie.Need-rank-lonely-requires
 rank-lonely-requires c κs = search needs
 
 returns-2 : tie.Need-returns-2
-returns-2 c = λ q u s t more e f. λ before behind w.
-    runs-lonely (before ++ behind) q u s t (run-parts e .0) (run-parts f .0) (c .before .before .if1 .left) (sym (run-parts e .1) ∙ c .before .if2 .taken) (c .rank-lonely .ensures before behind q s _ w (run-parts e .0))
+returns-2 c =
+    let c₁ = c .before in let c₂ = c₁ .before in let c₃ = c₂ .before .before .before .before in
+    λ s t e before behind w.
+    runs-lonely (before ++ behind) (c₃ .args .p) (c₃ .args .z) s t (c₂ .if1 .left) (sym e ∙ c₁ .if2 .taken) (c .rank-lonely .ensures before behind s _ w)
 
 returns-3 : tie.Need-returns-3
-returns-3 c = λ q u s t more e f. λ before behind w. runs-open (before ++ behind) q u s t (run-parts e .0) (run-parts f .0) (c .before .if1 .left) (sym (run-parts e .1) ∙ c .if2 .left)
+returns-3 c = λ s t e before behind w. runs-open (before ++ behind) (c .before .before .before .before .before .args .p) (c .before .before .before .before .before .args .z) s t (c .before .if1 .left) (sym e ∙ c .if2 .left)
 
 pub rank-run-run-spec : {M : Type 1} → statement M
 rank-run-run-spec =

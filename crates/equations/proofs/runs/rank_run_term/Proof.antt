@@ -2,7 +2,6 @@
 use borrow.Author.Needs.{needs}
 use mathlib.Core.Path.{sym, _∙_}
 use mathlib.Core.List.{_++_}
-use Rattle.equations.proofs.Looked.{run-parts}
 use Rattle.equations.proofs.Leading.{run-lonely, run-leading}
 use Rattle.equations.proofs.runs.rank_run_term.Statement.{statement}
 use Rattle.equations.proofs.runs.rank_run_term.Tie as tie
@@ -11,13 +10,13 @@ rank-lonely-requires : tie.Need-rank-lonely-requires
 rank-lonely-requires c κs = search needs
 
 returns : tie.Need-returns
-returns c = λ q s r e b before behind w. run-lonely (before ++ behind) q s r b (sym (run-parts e .1) ∙ c .before .if1 .taken) (c .rank-lonely .ensures before behind q s r w (run-parts e .0))
+returns c = λ s r e b before behind w. run-lonely (before ++ behind) (c .before .before .before .args .p) s r b (sym e ∙ c .before .if1 .taken) (c .rank-lonely .ensures before behind s r w)
 
 rank-leading-requires : tie.Need-rank-leading-requires
 rank-leading-requires c κs = search needs
 
 returns-2 : tie.Need-returns-2
-returns-2 c = λ q s r e b before behind w. run-leading (before ++ behind) q s r b (sym (run-parts e .1) ∙ c .before .if1 .left) (c .rank-leading .ensures before behind q s r w (run-parts e .0))
+returns-2 c = λ s r e b before behind w. run-leading (before ++ behind) (c .before .before .before .args .p) s r b (sym e ∙ c .before .if1 .left) (c .rank-leading .ensures before behind s r w)
 
 pub rank-run-term-spec : {M : Type 1} → statement M
 rank-run-term-spec =

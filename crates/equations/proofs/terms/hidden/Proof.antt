@@ -10,10 +10,10 @@ under-requires : tie.Need-under-requires
 under-requires c κs = search needs
 
 returns : tie.Need-returns
-returns c = λ y h beyond b e s. guard-on (c .before .if1 .taken) (c .under .ensures .0 (tv y) h beyond b e s)
+returns c = λ h beyond b s. guard-on (c .before .if1 .taken) (c .under .ensures .0 h beyond b s)
 
 returns-2 : tie.Need-returns-2
-returns-2 c = λ y h beyond b e s. guard-off (under (tv y) h) (c .if1 .left)
+returns-2 c = λ h beyond b s. guard-off (under (tv (c .before .before .args .x)) h) (c .if1 .left)
 
 pub hidden-spec : {M : Type 1} → statement M
 hidden-spec =

@@ -6,7 +6,7 @@ use Rattle.language.specs.Trees.{tvar, tv}
 use Rattle.rules.specs.Looks.{under}
 use Rattle.views.proofs.Sides.{side-stands}
 use Rattle.equations.specs.Ranked.{Ranks}
-use Rattle.equations.proofs.Looked.{at-term, at-node, term-parts, both-on}
+use Rattle.equations.proofs.Looked.{at-term, at-node, both-on}
 use Rattle.equations.proofs.Variables.{term-empty, term-run, term-runs}
 use Rattle.equations.proofs.terms.rank_term.Statement.{statement}
 use Rattle.equations.proofs.terms.rank_term.Tie as tie
@@ -27,7 +27,9 @@ hidden-requires : tie.Need-hidden-requires
 hidden-requires c κs = search needs
 
 returns : tie.Need-returns
-returns c = λ y s r e before behind w. term-run (before ++ behind) y s r (sym (c .before .before .enum-told2 .given .1) ∙ w .right .look) (sym (both-on (under (tv y) r) (c .before .hidden .ensures y r _ (w .left .fine .0) (term-parts e .0) (side-stands (w .right))) (term-parts e .1)) ∙ c .if1 .taken)
+returns c =
+    let c₁ = c .before in let c₂ = c₁ .before in let c₃ = c₂ .before .before .before .before in
+    λ s r e before behind w. term-run (before ++ behind) (c₃ .args .x) s r (sym (c₂ .enum-told2 .given .1) ∙ w .right .look) (sym (both-on (under (tv (c₃ .args .x)) r) (c₁ .hidden .ensures r _ (w .left .fine .0) (side-stands (w .right))) e) ∙ c .if1 .taken)
 
 enum-known-look-2 : tie.Need-enum-known-look-2
 enum-known-look-2 c = search needs
@@ -36,18 +38,24 @@ rank-term-node-requires : tie.Need-rank-term-node-requires
 rank-term-node-requires c κs = search needs
 
 returns-2 : tie.Need-returns-2
-returns-2 c = λ y s r e before behind w. term-empty (before ++ behind) y s r (sym (c .enum-told .given .1) ∙ w .right .look)
+returns-2 c = λ s r e before behind w. term-empty (before ++ behind) (c .before .before .before .before .args .x) s r (sym (c .enum-told .given .1) ∙ w .right .look)
 
 returns-3 : tie.Need-returns-3
-returns-3 c = λ y s r e before behind w.
-    at-term (λ m. Ranks (c .before .before .before .before .before .before .args .k .now) (c .before .before .before .before .before .before .args .v) (tvar y s) m (c .rank-term-term .result)) r (sym (c .before .before .look .given .1) ∙ w .right .look) (λ u t f. c .rank-term-term .ensures y u s t e f) before behind w
+returns-3 c =
+    let c₁ = c .before .before in let c₂ = c₁ .before .before .before .before in
+    λ s r e before behind w.
+    at-term (λ m. Ranks (c₂ .args .k .now) (c₂ .args .v) (tvar (c₂ .args .x) s) m (c .rank-term-term .result)) r (sym (c₁ .look .given .1) ∙ w .right .look) (λ t f. c .rank-term-term .ensures s t e f) before behind w
 
 returns-4 : tie.Need-returns-4
-returns-4 c = λ y s r e before behind w. term-runs (before ++ behind) y s r (sym (c .before .before .enum-told2 .given .1) ∙ w .right .look) (sym (both-on (under (tv y) r) (c .before .hidden .ensures y r _ (w .left .fine .0) (term-parts e .0) (side-stands (w .right))) (term-parts e .1)) ∙ c .if1 .left)
+returns-4 c =
+    let c₁ = c .before in let c₂ = c₁ .before in let c₃ = c₂ .before .before .before .before in
+    λ s r e before behind w. term-runs (before ++ behind) (c₃ .args .x) s r (sym (c₂ .enum-told2 .given .1) ∙ w .right .look) (sym (both-on (under (tv (c₃ .args .x)) r) (c₁ .hidden .ensures r _ (w .left .fine .0) (side-stands (w .right))) e) ∙ c .if1 .left)
 
 returns-5 : tie.Need-returns-5
-returns-5 c = λ y s r e before behind w.
-    at-node (λ m. Ranks (c .before .before .before .before .before .before .args .k .now) (c .before .before .before .before .before .before .args .v) (tvar y s) m (c .rank-term-node .result)) r (sym (c .before .before .look2 .given .1) ∙ w .right .look) (λ G d t f. c .rank-term-node .ensures y s _ G d t _ e f) before behind w
+returns-5 c =
+    let c₁ = c .before .before in let c₂ = c₁ .before .before .before .before in
+    λ s r e before behind w.
+    at-node (λ m. Ranks (c₂ .args .k .now) (c₂ .args .v) (tvar (c₂ .args .x) s) m (c .rank-term-node .result)) r (sym (c₁ .look2 .given .1) ∙ w .right .look) (λ G d t _ f _. c .rank-term-node .ensures s G d t e f) before behind w
 
 pub rank-term-spec : {M : Type 1} → statement M
 rank-term-spec =

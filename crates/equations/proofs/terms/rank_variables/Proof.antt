@@ -10,10 +10,16 @@ use Rattle.equations.proofs.terms.rank_variables.Statement.{statement}
 use Rattle.equations.proofs.terms.rank_variables.Tie as tie
 
 returns : tie.Need-returns
-returns c = λ before behind l r y w s i j e d. same-variable (before ++ behind) y w e d (c .if1 .taken)
+returns c = λ before behind l r s i j. same-variable (before ++ behind) (c .before .before .before .before .args .x) (c .before .before .before .before .args .z) (c .if1 .taken)
+
+term-word-requires : tie.Need-term-word-requires
+term-word-requires c κs = search needs
 
 elsewhere-requires : tie.Need-elsewhere-requires
 elsewhere-requires c κs = search needs
+
+term-word-requires-2 : tie.Need-term-word-requires-2
+term-word-requires-2 c κs = search needs
 
 elsewhere-requires-2 : tie.Need-elsewhere-requires-2
 elsewhere-requires-2 c κs = search needs
@@ -22,13 +28,21 @@ and-requires : tie.Need-and-requires
 and-requires c κs = search needs
 
 returns-2 : tie.Need-returns-2
-returns-2 c = λ before behind l r y w s i j e d.
-    sym (ap (λ b. pick b atE1 noRule) (c .if2 .taken)) ∙ two-variables (before ++ behind) y w e d (c .before .before .before .before .if1 .left) (both (c .before .and .ensures) (c .before .before .before .elsewhere .ensures ∙ term-elsewhere s y i e) (c .before .before .elsewhere2 .ensures ∙ term-elsewhere s w j d))
+returns-2 c =
+    let c₁ = c .before in let c₂ = c₁ .before in let c₃ = c₂ .before in let c₄ = c₃ .before in let c₅ = c₄ .before in let c₆ = c₅ .before in
+    let c₇ = c₆ .before .before .before .before in
+    λ before behind l r s i j.
+    sym (ap (λ b. pick b atE1 noRule) (c .if2 .taken))
+    ∙ two-variables (before ++ behind) (c₇ .args .x) (c₇ .args .z) (c₆ .if1 .left) (both (c₁ .and .ensures) (c₄ .elsewhere .ensures ∙ term-elsewhere s (c₇ .args .x) i (c₅ .term-word .ensures)) (c₂ .elsewhere2 .ensures ∙ term-elsewhere s (c₇ .args .z) j (c₃ .term-word2 .ensures)))
 
 returns-3 : tie.Need-returns-3
-returns-3 c = λ before behind l r y w s i j e d.
-    sym (ap (λ b. pick b atE1 noRule) (c .if2 .left)) ∙ two-variables (before ++ behind) y w e d (c .before .before .before .before .if1 .left) (both (c .before .and .ensures) (c .before .before .before .elsewhere .ensures ∙ term-elsewhere s y i e) (c .before .before .elsewhere2 .ensures ∙ term-elsewhere s w j d))
+returns-3 c =
+    let c₁ = c .before in let c₂ = c₁ .before in let c₃ = c₂ .before in let c₄ = c₃ .before in let c₅ = c₄ .before in let c₆ = c₅ .before in
+    let c₇ = c₆ .before .before .before .before in
+    λ before behind l r s i j.
+    sym (ap (λ b. pick b atE1 noRule) (c .if2 .left))
+    ∙ two-variables (before ++ behind) (c₇ .args .x) (c₇ .args .z) (c₆ .if1 .left) (both (c₁ .and .ensures) (c₄ .elsewhere .ensures ∙ term-elsewhere s (c₇ .args .x) i (c₅ .term-word .ensures)) (c₂ .elsewhere2 .ensures ∙ term-elsewhere s (c₇ .args .z) j (c₃ .term-word2 .ensures)))
 
 pub rank-variables-spec : {M : Type 1} → statement M
 rank-variables-spec =
-    tie.close (tie.spec returns elsewhere-requires elsewhere-requires-2 and-requires returns-2 returns-3)
+    tie.close (tie.spec returns term-word-requires elsewhere-requires term-word-requires-2 elsewhere-requires-2 and-requires returns-2 returns-3)

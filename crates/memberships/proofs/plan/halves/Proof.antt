@@ -2,7 +2,7 @@
 use borrow.Author.Needs.{needs}
 use mathlib.Core.Path.{ap, subst, _∙_}
 use Rattle.plans.specs.declared.Within.{Within}
-use Rattle.exprs.specs.Standing.{Parted}
+use Rattle.expressions.specs.Standing.{Parted}
 use Rattle.memberships.specs.Recipes.{halved, exprInner}
 use Rattle.memberships.proofs.Plain.{by-two, m6-is, m7-is}
 use Rattle.memberships.proofs.plan.halves.Statement.{statement}

@@ -2,7 +2,7 @@
 use borrow.Author.Needs.{needs}
 use mathlib.Core.Path.{ap, subst, _∙_}
 use Rattle.plans.specs.declared.Within.{Within}
-use Rattle.exprs.specs.Standing.{Parted}
+use Rattle.expressions.specs.Standing.{Parted}
 use Rattle.memberships.specs.Recipes.{shared, exprInner}
 use Rattle.memberships.proofs.Plain.{by-two, m5-is}
 use Rattle.memberships.proofs.plan.plan_m5.Statement.{statement}

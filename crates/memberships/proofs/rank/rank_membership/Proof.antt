@@ -14,7 +14,7 @@ returns-3 : tie.Need-returns-3
 returns-3 c = λ before h R behind v. rank-at-run v (c .before .before .look2 .given .1) (c .rank-run .ensures)
 
 returns-4 : tie.Need-returns-4
-returns-4 c = λ before h R behind v. rank-at-node v (c .before .before .before .look3 .given .1) (c .before .rank-over .ensures) (c .rank-term2 .ensures)
+returns-4 c = λ before h R behind v. rank-at-node v (c .before .before .look3 .given .1) (c .rank-term2 .ensures)
 
 pub rank-membership-spec : {M : Type 1} → statement M
 rank-membership-spec =
@@ -27,7 +27,6 @@ rank-membership-spec =
     (λ c. search needs)
     (λ c κs. search needs)
     (λ c. search needs)
-    (λ c κs. search needs)
     (λ c κs. search needs)
     returns
     returns-2

@@ -1,0 +1,102 @@
+-- An example is what `showing` says: after a refusal nothing is shown, and else the line of the answer is.
+use Prim.Native.Nat.{ℕ}
+use mathlib.Core.Path.{_≡_, refl, sym, ap, _∙_}
+use mathlib.Core.List.{List, [], _∷_}
+use native.Mathlib.Omega.{arith}
+use types.Run.{OneOf, miss}
+use denote.Enum.Declared.{tagOf}
+use lib.ListN.{length, drop}
+use Rattle.language.specs.declared.Refusal.{Refusal}
+use Rattle.language.specs.Limits.{desk}
+use Rattle.language.specs.Trees.{Conj}
+use Rattle.language.specs.Question.{countsOf}
+use Rattle.rules.specs.Answer.{Verdict, noLine, allSolved, someOpen, verdictOf, Solving, answered, unread, given-up, solving}
+use Rattle.rules.specs.Calls.{shown, lineAt, showingOf, showing}
+use Rattle.solver.specs.declared.Outcome.{Outcome}
+use Rattle.solver.specs.declared.Outcome.the-variants.{Refused, NoLine, AllSolved, SomeOpen}
+use Rattle.solver.specs.declared.Solved.{Solved}
+use Rattle.solver.specs.Leaves.{verdict, leaves}
+use Rattle.solver.proofs.Outcome.{the-type}
+use Rattle.example.specs.declared.Shown.{Shown}
+use Rattle.example.specs.declared.Shown.the-variants.{Denied}
+use Rattle.example.specs.Shown.{resultOf, roomOf}
+use Rattle.example.specs.Exhibits.{exhibits}
+use Rattle.example.specs.Answers.{Answer, Answered, Ranged, AnswerShown}
+use Rattle.example.proofs.Finished.{lines-end}
+
+-- the tags of the outcomes that are no refusal
+not-refused : (o : Outcome) → OneOf (1 ∷ 2 ∷ 3 ∷ []) (tagOf the-type o) → (r : Refusal) → o ≡ Refused r → ⊥
+not-refused (Refused q) m r e = miss (1 ∷ 2 ∷ 3 ∷ []) 0 tt m
+not-refused NoLine m r e = let z : _≡_ {A = ℕ} 0 1 = cc in omega arith
+not-refused AllSolved m r e = let z : _≡_ {A = ℕ} 0 1 = cc in omega arith
+not-refused SomeOpen m r e = let z : _≡_ {A = ℕ} 0 1 = cc in omega arith
+
+-- an answered question is not refused
+no-refusal : (v : Verdict) (r : Refusal) → verdict v ≡ Refused r → ⊥
+no-refusal noLine r e = let z : _≡_ {A = ℕ} 0 1 = cc in omega arith
+no-refusal allSolved r e = let z : _≡_ {A = ℕ} 0 1 = cc in omega arith
+no-refusal someOpen r e = let z : _≡_ {A = ℕ} 0 1 = cc in omega arith
+
+same-refusal : {q r : Refusal} → Refused q ≡ Refused r → q ≡ r
+same-refusal e = cc
+
+abbrev Left : Type 0
+Left = Solved × List ℕ × List ℕ
+
+module _ (question work answer room : List ℕ) (line : ℕ) where
+  -- what comes to be, by what solving comes to
+  exhibited : Solving → Shown × List ℕ × List ℕ × List ℕ
+  exhibited v =
+      let s = showingOf desk (countsOf question) (length room) line v in
+      let l = leaves v work answer in
+      (resultOf s, l .1, l .2, roomOf s room)
+
+  exhibits-is : exhibits line question work answer room ≡ exhibited (solving desk (length work) (length answer) question)
+  unfolding exhibits exhibited showing
+  exhibits-is = refl
+
+  refused-by : (v : Solving) (l : Left) (r : Refusal) → l ≡ leaves v work answer → l .0 .outcome ≡ Refused r → (Denied r, l .1, l .2, room) ≡ exhibited v
+  unfolding exhibited
+  refused-by (answered ls n) l r e d = absurd (no-refusal (verdictOf ls) r (sym (ap (λ (x : Left). x .0 .outcome) e) ∙ d))
+  refused-by (unread q) l r e d =
+      let z = same-refusal (sym (ap (λ (x : Left). x .0 .outcome) e) ∙ d) in
+      ap (λ (x : Left). (Denied r, x .1, x .2, room)) e ∙ ap (λ t. (Denied t, work, answer, room)) (sym z)
+  refused-by (given-up q) l r e d =
+      let z = same-refusal (sym (ap (λ (x : Left). x .0 .outcome) e) ∙ d) in
+      ap (λ (x : Left). (Denied r, x .1, x .2, room)) e ∙ ap (λ t. (Denied t, leaves (given-up q) work answer .1, leaves (given-up q) work answer .2, room)) (sym z)
+
+-- an answer stands in the slice
+Answers : List ℕ → ℕ → ℕ → List ℕ → Type 0
+Answers question work answer new = (ls : List Conj) × (n : ℕ) × (solving desk work answer question ≡ answered ls n) × Answer new ls
+
+module _ (question work answer : List ℕ) {s : Solved} {w a : List ℕ} (e : (s, w, a) ≡ leaves (solving desk (length work) (length answer) question) work answer) where
+  pub shown-refused : (room : List ℕ) (line : ℕ) {r : Refusal} → s .outcome ≡ Refused r → (Denied r, w, a, room) ≡ exhibits line question work answer room
+  shown-refused room line {r} d = refused-by question work answer room line (solving desk (length work) (length answer) question) (s, w, a) r e d ∙ sym (exhibits-is question work answer room line)
+
+  answers : ((r : Refusal) → s .outcome ≡ Refused r → ⊥) → Answers question (length work) (length answer) a
+  unfolding Answers
+  answers not = by (solving desk (length work) (length answer) question) refl e
+    where
+      by : (v : Solving) → solving desk (length work) (length answer) question ≡ v → _≡_ {A = Left} (s, w, a) (leaves v work answer) → (ls : List Conj) × (n : ℕ) × (solving desk (length work) (length answer) question ≡ answered ls n) × Answer a ls
+      by (answered ls n) d f =
+          let g = lines-end (length work) (length answer) question ls n d in
+          (ls, n, d, record { few = g .few; size = g .size; rest = drop (desk .room) answer; words = ap (λ (x : Left). x .2) f; lines = g .lines })
+      by (unread q) d f = absurd (not q (ap (λ (x : Left). x .0 .outcome) f))
+      by (given-up q) d f = absurd (not q (ap (λ (x : Left). x .0 .outcome) f))
+
+  module _ (m : OneOf (1 ∷ 2 ∷ 3 ∷ []) (tagOf the-type (s .outcome))) where
+    pub ready : Ranged question × Answered a
+    unfolding Answers
+    ready =
+        let (ls, n, d, g) = answers (not-refused (s .outcome) m) in
+        (lines-end (length work) (length answer) question ls n d .ranged, record { ls = ls; is = g })
+
+    pub shown-answer : (room : List ℕ) (line : ℕ) {new : List ℕ} {r : Shown} → AnswerShown question line a room new r → (r, w, a, new) ≡ exhibits line question work answer room
+    unfolding Answers exhibited
+    shown-answer room line {new} {r} h =
+        let (ls, n, d, g) = answers (not-refused (s .outcome) m) in
+        let x = h .result ls g in
+        let y = h .room ls g in
+        ap (λ z. (z, w, a, new)) x ∙ ap (λ z. (resultOf (shown desk (countsOf question) (length room) (lineAt line ls)), w, a, z)) y
+        ∙ ap (λ (z : Left). (resultOf (shown desk (countsOf question) (length room) (lineAt line ls)), z .1, z .2, roomOf (shown desk (countsOf question) (length room) (lineAt line ls)) room)) (e ∙ ap (λ v. leaves v work answer) d)
+        ∙ ap (exhibited question work answer room line) (sym d) ∙ sym (exhibits-is question work answer room line)

@@ -1,0 +1,123 @@
+-- A line read back from an answer, and its example.
+use Prim.Native.Nat.{ℕ, suc, _+_, _-_, _<_, _≤_}
+use mathlib.Core.Path.{_≡_, refl, sym, ap, _∙_}
+use mathlib.Core.Bool.{Bool, true, false}
+use mathlib.Core.List.{List, [], _∷_, _++_}
+use native.Mathlib.Omega.{arith}
+use lib.ListN.{length, getD, take, drop}
+use lib.Seq.{take-append-seam}
+use Rattle.language.specs.declared.Refusal.the-variants.{NoSuchLine, OpenLine}
+use Rattle.language.specs.Kinds.{pick}
+use Rattle.language.specs.Limits.{desk}
+use Rattle.language.specs.Trees.{Conj, Counts}
+use Rattle.language.specs.Writing.{conjWords}
+use Rattle.language.specs.Question.{countsOf}
+use Rattle.meaning.specs.Values.{fillingWords}
+use Rattle.rules.specs.Solved.{solved}
+use Rattle.rules.specs.Answer.{markOf, lineWords}
+use Rattle.rules.specs.Example.{example}
+use Rattle.rules.specs.Calls.{Showing, denied, fitted, shown}
+use Rattle.example.specs.Lines.{Line}
+use Rattle.words.proofs.Parts.{drop-of, word-of}
+use Rattle.example.specs.declared.Shown.{Shown}
+use Rattle.example.specs.declared.Shown.the-variants.{Denied}
+use Rattle.example.specs.Shown.{resultOf, roomOf}
+use Rattle.example.specs.Fillings.{LineShown}
+use Rattle.example.specs.Answers.{Good, Answer, Answered, WordsShown, PartShown, AnswerShown}
+use Rattle.example.proofs.Lines.{no-line, Place, whole, count-is, place-of}
+
+-- ---- with the variables that the question declares
+
+pub words-shown : {question k old new : List ℕ} {terms hedges functions : ℕ} {r : Shown} → terms ≡ getD question 1 0 → hedges ≡ getD question 2 0 → functions ≡ getD question 3 0
+    → LineShown k terms hedges functions old new r → WordsShown question k old new r
+words-shown {question} d e f s = record {
+  result = λ c l t. s .result c (countsOf question) l t (record { terms = sym d; hedges = sym e; functions = sym f });
+  room = λ c l t. s .room c (countsOf question) l t (record { terms = sym d; hedges = sym e; functions = sym f });
+}
+
+-- ---- by its mark
+
+by-mark : (b : Bool) → _≡_ {A = ℕ} (pick b 1 2) 1 → b ≡ true
+by-mark true e = refl
+by-mark false e = absurd (omega arith)
+
+by-other : (b : Bool) → (_≡_ {A = ℕ} (pick b 1 2) 1 → ⊥) → b ≡ false
+by-other true n = absurd (n refl)
+by-other false n = refl
+
+-- what is shown of a line, by whether it is solved
+abbrev by-solved : Counts → ℕ → Conj → Bool → Showing
+by-solved n room c b = elim b [ true ↦ fitted desk room (fillingWords n (example c)) | false ↦ denied OpenLine ]
+
+mark-is : (answer : List ℕ) (from mark : ℕ) → mark ≡ getD answer from 0 → (c : Conj) (beyond : List ℕ) → drop from answer ≡ lineWords c ++ beyond → mark ≡ pick (solved c) 1 2
+mark-is answer from mark m c beyond e = m ∙ word-of answer from (lineWords c ++ beyond) e
+
+module _ {question answer old : List ℕ} {from to mark : ℕ} (m : mark ≡ getD answer from 0) where
+  pub part-open : (mark ≡ 1 → ⊥) → PartShown question answer from to old old (Denied OpenLine)
+  part-open n = record {
+    result = λ c beyond e d g. ap (λ b. resultOf (by-solved (countsOf question) (length old) c b)) (sym (is-open c beyond e));
+    room = λ c beyond e d g. ap (λ b. roomOf (by-solved (countsOf question) (length old) c b) old) (sym (is-open c beyond e));
+  }
+    where
+      is-open : (c : Conj) (beyond : List ℕ) → drop from answer ≡ lineWords c ++ beyond → solved c ≡ false
+      is-open c beyond e = by-other (solved c) (λ z. n (mark-is answer from mark m c beyond e ∙ z))
+
+  pub part-shown : {new : List ℕ} {r : Shown} → mark ≡ 1 → WordsShown question (take (to - (from + 1)) (drop (from + 1) answer)) old new r → PartShown question answer from to old new r
+  part-shown z s = record {
+    result = λ c beyond e d g.
+        let y = is-solved c beyond e in
+        s .result c (line c beyond e d g) (g .settled y) ∙ ap (λ b. resultOf (by-solved (countsOf question) (length old) c b)) (sym y);
+    room = λ c beyond e d g.
+        let y = is-solved c beyond e in
+        s .room c (line c beyond e d g) (g .settled y) ∙ ap (λ b. roomOf (by-solved (countsOf question) (length old) c b) old) (sym y);
+  }
+    where
+      is-solved : (c : Conj) (beyond : List ℕ) → drop from answer ≡ lineWords c ++ beyond → solved c ≡ true
+      is-solved c beyond e = by-mark (solved c) (sym (mark-is answer from mark m c beyond e) ∙ z)
+
+      line : (c : Conj) (beyond : List ℕ) → drop from answer ≡ lineWords c ++ beyond → to ≡ from + suc (length (conjWords c)) → Good c → Line (take (to - (from + 1)) (drop (from + 1) answer)) c
+      line c beyond e d g = record {
+        words =
+            let n : to - (from + 1) ≡ length (conjWords c) = omega arith in
+            ap (take (to - (from + 1))) (drop-of answer from (from + 1) (markOf c ∷ []) (conjWords c ++ beyond) e refl) ∙ ap (λ i. take i (conjWords c ++ beyond)) n ∙ take-append-seam (conjWords c) beyond;
+        fine = g .fine;
+      }
+
+-- ---- by its number
+
+module _ {answer : List ℕ} {lines w : ℕ} (d : w ≡ getD answer 0 0) (e : lines ≡ w) where
+  count : (ls : List Conj) → Answer answer ls → lines ≡ length ls
+  count ls a = e ∙ d ∙ count-is a
+
+  pub line-missing : {question old : List ℕ} {line : ℕ} → lines ≤ line → AnswerShown question line answer old old (Denied NoSuchLine)
+  line-missing {question} {old} {line} p = record {
+    result = λ ls a. let n = count ls a in ap (λ m. resultOf (shown desk (countsOf question) (length old) m)) (sym (no-line ls line (omega arith)));
+    room = λ ls a. let n = count ls a in ap (λ m. roomOf (shown desk (countsOf question) (length old) m) old) (sym (no-line ls line (omega arith)));
+  }
+
+  module _ {line from to u v : ℕ} (f : u ≡ getD answer (line + 2) 0) (g : from ≡ u) (h : v ≡ getD answer (line + 3) 0) (i : to ≡ v) (p : line < lines) where
+    place : (ls : List Conj) → Answer answer ls → Place answer ls line
+    place ls a = let n = count ls a in place-of a line (omega arith)
+
+    pub part-fits : Answered answer → (from < to) × (to ≤ length answer) × (to ≤ 65536)
+    part-fits a =
+        let q = place (a .ls) (a .is) in
+        let x = q .offset in
+        let y = q .next in
+        let z = q .within in
+        let w = whole (a .is) in
+        (omega arith, omega arith, omega arith)
+
+    pub line-shown : {question old new : List ℕ} {r : Shown} → PartShown question answer from to old new r → AnswerShown question line answer old new r
+    line-shown {question} {old} s = record {
+      result = λ ls a.
+          let q = place ls a in
+          let x = g ∙ f ∙ q .offset in
+          let y = i ∙ h ∙ q .next in
+          s .result (q .l) (q .beyond) (ap (λ j. drop j answer) x ∙ q .here) (omega arith) (q .good) ∙ ap (λ m. resultOf (shown desk (countsOf question) (length old) m)) (sym (q .is));
+      room = λ ls a.
+          let q = place ls a in
+          let x = g ∙ f ∙ q .offset in
+          let y = i ∙ h ∙ q .next in
+          s .room (q .l) (q .beyond) (ap (λ j. drop j answer) x ∙ q .here) (omega arith) (q .good) ∙ ap (λ m. roomOf (shown desk (countsOf question) (length old) m) old) (sym (q .is));
+    }

@@ -1,0 +1,64 @@
+-- An answer that stands in a slice, and what is known of its lines.
+use Prim.Native.Nat.{ℕ, suc, _+_, _≤_}
+use mathlib.Core.Path.{_≡_}
+use mathlib.Core.Bool.{true}
+use mathlib.Core.List.{List, _++_}
+use mathlib.Core.Option.{some}
+use lib.ListN.{length, getD, drop}
+use Rattle.language.specs.Limits.{desk}
+use Rattle.language.specs.Trees.{Conj}
+use Rattle.language.specs.Writing.{conjWords}
+use Rattle.language.specs.Fine.{fineConj}
+use Rattle.meaning.specs.Values.{fillingWords}
+use Rattle.example.specs.Lines.{Line}
+use Rattle.language.specs.Question.{countsOf}
+use Rattle.rules.specs.Solved.{solved}
+use Rattle.rules.specs.Run.{linesSize, linesAt}
+use Rattle.rules.specs.Answer.{lineWords, answerWords}
+use Rattle.rules.specs.Example.{example}
+use Rattle.rules.specs.Calls.{fitted, shown, lineAt}
+use Rattle.rules.specs.Each.{Each}
+use Rattle.example.specs.Values.{Settled}
+use Rattle.example.specs.declared.Shown.{Shown}
+use Rattle.example.specs.Shown.{resultOf, roomOf}
+
+pub record Good (l : Conj) : Type 0 where
+  pub fine : fineConj desk l
+  pub settled : solved l ≡ true → Settled l
+
+-- the answer that has the lines ls stands at the front
+pub record Answer (answer : List ℕ) (ls : List Conj) : Type 0 where
+  pub few : length ls ≤ desk .lines
+  pub size : linesAt desk + linesSize ls ≤ desk .room
+  pub rest : List ℕ
+  pub words : answer ≡ answerWords desk ls ++ rest
+  pub lines : Each Good ls
+
+-- an answer stands at the front
+pub record Answered (answer : List ℕ) : Type 0 where
+  pub ls : List Conj
+  pub is : Answer answer ls
+
+-- no more variables of a kind than there may be
+pub record Ranged (question : List ℕ) : Type 0 where
+  pub header : 4 ≤ length question
+  pub terms : getD question 1 0 ≤ desk .each
+  pub hedges : getD question 2 0 ≤ desk .each
+  pub functions : getD question 3 0 ≤ desk .each
+
+-- the example of the line that these words are
+pub record WordsShown (question k old new : List ℕ) (r : Shown) : Type 0 where
+  pub result : (c : Conj) → Line k c → Settled c → r ≡ resultOf (fitted desk (length old) (fillingWords (countsOf question) (example c)))
+  pub room : (c : Conj) → Line k c → Settled c → new ≡ roomOf (fitted desk (length old) (fillingWords (countsOf question) (example c))) old
+
+-- the example of the line whose mark and words are this part
+pub record PartShown (question answer : List ℕ) (from to : ℕ) (old new : List ℕ) (r : Shown) : Type 0 where
+  pub result : (c : Conj) (beyond : List ℕ) → drop from answer ≡ lineWords c ++ beyond → to ≡ from + suc (length (conjWords c)) → Good c
+      → r ≡ resultOf (shown desk (countsOf question) (length old) (some c))
+  pub room : (c : Conj) (beyond : List ℕ) → drop from answer ≡ lineWords c ++ beyond → to ≡ from + suc (length (conjWords c)) → Good c
+      → new ≡ roomOf (shown desk (countsOf question) (length old) (some c)) old
+
+-- the example of a line of an answer is shown, or why not
+pub record AnswerShown (question : List ℕ) (line : ℕ) (answer old new : List ℕ) (r : Shown) : Type 0 where
+  pub result : (ls : List Conj) → Answer answer ls → r ≡ resultOf (shown desk (countsOf question) (length old) (lineAt line ls))
+  pub room : (ls : List Conj) → Answer answer ls → new ≡ roomOf (shown desk (countsOf question) (length old) (lineAt line ls)) old

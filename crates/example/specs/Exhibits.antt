@@ -1,0 +1,17 @@
+-- What asking for an example leaves: the two slices as solved, and the filling in the room.
+use Prim.Native.Nat.{ℕ}
+use mathlib.Core.List.{List}
+use lib.ListN.{length}
+use Rattle.language.specs.Limits.{desk}
+use Rattle.rules.specs.Answer.{solving}
+use Rattle.rules.specs.Calls.{showing}
+use Rattle.solver.specs.Leaves.{leaves}
+use Rattle.example.specs.declared.Shown.{Shown}
+use Rattle.example.specs.Shown.{resultOf, roomOf}
+
+-- what comes back, and the work slice, the answer slice and the room, which held these words
+unfoldable pub exhibits : ℕ → List ℕ → List ℕ → List ℕ → List ℕ → Shown × List ℕ × List ℕ × List ℕ
+exhibits line question work answer room =
+    let s = showing desk (length work) (length answer) (length room) line question in
+    let l = leaves (solving desk (length work) (length answer) question) work answer in
+    (resultOf s, l .1, l .2, roomOf s room)

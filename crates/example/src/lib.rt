@@ -1,0 +1,166 @@
+// The example of a line, written as a filling. What a line says of its variables, the sample of an expression and the values that follow are
+// modules of this crate alone: no other call rests on them.
+mod bindings;
+mod samples;
+mod values;
+
+ghost use Prim.Native.Nat.{_<_, _≤_};
+ghost use lib.ListN.{length};
+ghost use mathlib.Core.Path.{_≡_};
+ghost use Rattle.language.specs.Limits.{desk};
+ghost use Rattle.example.specs.Exhibits.{exhibits};
+ghost use Rattle.example.specs.Answers.{Ranged, Answered, WordsShown, PartShown, AnswerShown};
+ghost use Rattle.example.specs.Shown.{shownNumber, shownLength};
+ghost use Rattle.example.specs.Fillings.{FillingLength, TableWritten, ValuesWritten, LineShown};
+use language::Refusal;
+use language::limits::FILLING;
+use language::number;
+use samples::put;
+use solver::Outcome;
+use solver::solve;
+use values::Sort;
+use values::short;
+use values::values_len;
+use values::write_starts;
+use values::write_values;
+use waiting::wide;
+use words::word;
+
+// The length of the filling that the room holds, or why there is none.
+pub enum Shown {
+    Shows(usize),
+    Denied(Refusal),
+}
+
+// How many words the filling has.
+fn filling_len(k: &[u16], terms: usize, hedges: usize, functions: usize) -> usize
+    requires { ⌜ (length (now k) ≤ 65536) × (terms ≤ desk .each) × (hedges ≤ desk .each) × (functions ≤ desk .each) ⌝ }
+    ensures { λ r. ⌜ FillingLength (now (k .entry)) terms hedges functions r ⌝ }
+{
+    let a = values_len(k, Sort::Terms, terms);
+    let b = values_len(k, Sort::Runs, hedges);
+    let c = values_len(k, Sort::Functions, functions);
+    terms + hedges + functions + 2 + a + b + c
+}
+
+// Writes the number of variables and the offsets of their values.
+fn write_table(k: &[u16], terms: usize, hedges: usize, functions: usize, room: &mut [u16]) -> usize
+    requires { ⌜ (length (now k) ≤ 65536) × (terms ≤ desk .each) × (hedges ≤ desk .each) × (functions ≤ desk .each) ⌝ }
+    ensures { λ e. ⌜ TableWritten (now (k .entry)) terms hedges functions (now (room .entry)) 0 (now (room .exit)) e ⌝ }
+{
+    let n = terms + hedges + functions;
+    let e = put(room, 0, short(n));
+    let s = write_starts(k, Sort::Terms, terms, room, e, n + 2);
+    let t = write_starts(k, Sort::Runs, hedges, room, s.to, s.next);
+    let u = write_starts(k, Sort::Functions, functions, room, t.to, t.next);
+    put(room, u.to, short(u.next))
+}
+
+// Writes the values.
+fn write_all(
+    k: &[u16],
+    terms: usize,
+    hedges: usize,
+    functions: usize,
+    room: &mut [u16],
+    at: usize,
+) -> usize
+    requires { ⌜ (terms ≤ desk .each) × (hedges ≤ desk .each) × (functions ≤ desk .each) ⌝ }
+    ensures { λ e. ⌜ ValuesWritten (now (k .entry)) terms hedges functions (now (room .entry)) at (now (room .exit)) e ⌝ }
+{
+    let s = write_values(k, Sort::Terms, terms, room, at);
+    let t = write_values(k, Sort::Runs, hedges, room, s);
+    write_values(k, Sort::Functions, functions, room, t)
+}
+
+// The example of a line, where it has room.
+fn fill_line(k: &[u16], terms: usize, hedges: usize, functions: usize, room: &mut [u16]) -> Shown
+    requires { ⌜ (length (now k) ≤ 65536) × (terms ≤ desk .each) × (hedges ≤ desk .each) × (functions ≤ desk .each) ⌝ }
+    ensures { λ r. ⌜ LineShown (now (k .entry)) terms hedges functions (now (room .entry)) (now (room .exit)) r ⌝ }
+{
+    let n = filling_len(k, terms, hedges, functions);
+    if FILLING < n {
+        return Shown::Denied(Refusal::LongExample);
+    }
+    if room.len() < n {
+        return Shown::Denied(Refusal::LongExample);
+    }
+    let e = write_table(k, terms, hedges, functions, room);
+    write_all(k, terms, hedges, functions, room, e);
+    Shown::Shows(n)
+}
+
+// The example of the line that these words are, with the variables that a question declares.
+fn show_words(question: &[u16], k: &[u16], room: &mut [u16]) -> Shown
+    requires { ⌜ Ranged (now question) × (length (now k) ≤ 65536) ⌝ }
+    ensures { λ r. ⌜ WordsShown (now (question .entry)) (now (k .entry)) (now (room .entry)) (now (room .exit)) r ⌝ }
+{
+    let terms = wide(question[1]);
+    let hedges = wide(question[2]);
+    let functions = wide(question[3]);
+    fill_line(k, terms, hedges, functions, room)
+}
+
+// The example of the line that stands in a part of an answer, its mark first.
+fn show_part(question: &[u16], answer: &[u16], from: usize, to: usize, room: &mut [u16]) -> Shown
+    requires { ⌜ Ranged (now question) × (from < to) × (to ≤ length (now answer)) × (to ≤ 65536) ⌝ }
+    ensures { λ r. ⌜ PartShown (now (question .entry)) (now (answer .entry)) from to (now (room .entry)) (now (room .exit)) r ⌝ }
+{
+    let mark = word(answer, from);
+    if mark != 1 {
+        return Shown::Denied(Refusal::OpenLine);
+    }
+    show_words(question, &answer[from + 1..to], room)
+}
+
+// The example of a line of an answer, read where it stands.
+fn show_line(question: &[u16], line: usize, answer: &[u16], room: &mut [u16]) -> Shown
+    requires { ⌜ Ranged (now question) × Answered (now answer) ⌝ }
+    ensures { λ r. ⌜ AnswerShown (now (question .entry)) line (now (answer .entry)) (now (room .entry)) (now (room .exit)) r ⌝ }
+{
+    let lines = wide(word(answer, 0));
+    if lines <= line {
+        return Shown::Denied(Refusal::NoSuchLine);
+    }
+    let from = wide(word(answer, line + 2));
+    let to = wide(word(answer, line + 3));
+    show_part(question, answer, from, to, room)
+}
+
+// The example of a line of a question, which is solved anew.
+pub fn example(
+    question: &[u16],
+    line: usize,
+    work: &mut [u16],
+    answer: &mut [u16],
+    room: &mut [u16],
+) -> Shown
+    ensures { λ r. ⌜ (r, now (work .exit), now (answer .exit), now (room .exit)) ≡ exhibits line (now (question .entry)) (now (work .entry)) (now (answer .entry)) (now (room .entry)) ⌝ }
+{
+    let s = solve(question, work, answer);
+    let outcome = s.outcome;
+    if let Outcome::Refused(e) = outcome {
+        return Shown::Denied(e);
+    }
+    show_line(question, line, answer, room)
+}
+
+// The number that stands in the table, 0 for a filling.
+pub fn shown_number(shown: Shown) -> u16
+    ensures { λ r. ⌜ r ≡ shownNumber shown ⌝ }
+{
+    match shown {
+        Shown::Shows(_) => 0,
+        Shown::Denied(e) => number(e),
+    }
+}
+
+// The filling's length, 0 for a refusal.
+pub fn shown_length(shown: Shown) -> usize
+    ensures { λ r. ⌜ r ≡ shownLength shown ⌝ }
+{
+    match shown {
+        Shown::Shows(n) => n,
+        Shown::Denied(_) => 0,
+    }
+}

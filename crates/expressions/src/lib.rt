@@ -1,0 +1,82 @@
+// Expressions standing in words: where one ends and whether it is nullable, the monomials of its linear form.
+mod adding;
+mod chart;
+pub mod monomials;
+
+pub use monomials::size_monomials;
+pub use monomials::write_monomials;
+ghost use mathlib.Core.Path.{_≡_};
+ghost use mathlib.Core.Bool.{_&&_, _||_};
+ghost use Rattle.expressions.specs.Standing.{Parted};
+
+// Of an expression in the words: the place after it, whether it is nullable, whether it is eps.
+pub struct Part {
+    pub end: usize,
+    pub null: bool,
+    pub bare: bool,
+}
+
+fn both(a: bool, b: bool) -> bool
+    ensures { λ r. ⌜ r ≡ (a && b) ⌝ }
+{
+    if a { b } else { false }
+}
+
+pub(crate) fn either(a: bool, b: bool) -> bool
+    ensures { λ r. ⌜ r ≡ (a || b) ⌝ }
+{
+    if a { true } else { b }
+}
+
+// Passes the expression at a place.
+pub fn pass(k: &[u16], at: usize) -> Part
+    ensures { λ p. ⌜ Parted (now (k .entry)) at p ⌝ }
+{
+    if k.len() <= at {
+        return Part {
+            end: at,
+            null: false,
+            bare: false,
+        };
+    }
+    let x = k[at];
+    if x == 7000 {
+        return Part {
+            end: at + 1,
+            null: true,
+            bare: true,
+        };
+    }
+    let a = pass(k, at + 1);
+    let mid = a.end;
+    if x == 7003 {
+        return Part {
+            end: mid,
+            null: true,
+            bare: false,
+        };
+    }
+    if x < 7000 {
+        return Part {
+            end: mid,
+            null: false,
+            bare: false,
+        };
+    }
+    let b = pass(k, mid);
+    let end = b.end;
+    if x == 7001 {
+        let null = both(a.null, b.null);
+        return Part {
+            end,
+            null,
+            bare: false,
+        };
+    }
+    let null = either(a.null, b.null);
+    Part {
+        end,
+        null,
+        bare: false,
+    }
+}

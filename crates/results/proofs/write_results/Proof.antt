@@ -1,0 +1,62 @@
+-- By the plan's ways.
+use Rattle.plans.specs.Results.{made}
+use Rattle.plans.specs.declared.Ways.the-variants.{Drop, Two, Monomials}
+use Rattle.results.proofs.Still.{wrote-as, fits-as}
+use Rattle.results.proofs.Planned.{framed-one, ready-by, wrote-by, wrote-none}
+use borrow.Author.Needs.{needs}
+use Rattle.results.proofs.write_results.Statement.{statement}
+use Rattle.results.proofs.write_results.Tie as tie
+
+write-framed-requires : tie.Need-write-framed-requires
+write-framed-requires c κs =
+    let c₁ = c .before .before in let c₂ = c₁ .before .before .before .before .before .before in
+    let a = c₂ .args in
+    let r = ready-by _ (a .plan) _ (c₁ .ways .given .1) (c₂ .pre) in
+    (r .short .0, fits-as (framed-one (made (a .k .now) (a .plan .first) (c₁ .ways .given .0 .0))) _ _ (r .room))
+
+write-two-requires : tie.Need-write-two-requires
+write-two-requires c κs = ready-by _ (c .before .before .before .before .before .before .before .args .plan) Two (search needs) (c .before .before .before .before .before .before .before .pre)
+
+write-cuts-requires : tie.Need-write-cuts-requires
+write-cuts-requires c κs =
+    let c₁ = c .before .before in let c₂ = c₁ .before .before .before .before .before .before in
+    ready-by _ (c₂ .args .plan) _ (c₁ .ways2 .given .1) (c₂ .pre)
+
+returns : tie.Need-returns
+returns c = wrote-by _ (c .before .before .before .before .before .before .args .plan) Drop (search needs) (wrote-none _ _)
+
+returns-2 : tie.Need-returns-2
+returns-2 c =
+    let c₁ = c .before .before in let c₂ = c₁ .before .before .before in let c₃ = c₂ .before .before .before .before .before .before in
+    let a = c₃ .args in
+    wrote-by _ (a .plan) _ (c₂ .ways .given .1) (wrote-as (framed-one (made (a .k .now) (a .plan .first) (c₂ .ways .given .0 .0))) (c₁ .write-framed .ensures))
+
+returns-3 : tie.Need-returns-3
+returns-3 c = wrote-by _ (c .before .before .before .before .before .before .before .before .before .before .args .plan) Two (search needs) (c .before .before .write-two .ensures)
+
+returns-4 : tie.Need-returns-4
+returns-4 c = wrote-by _ (c .before .before .before .before .before .before .before .before .before .before .before .args .plan) _ (c .before .before .before .before .before .ways2 .given .1) (c .before .before .write-cuts .ensures)
+
+returns-5 : tie.Need-returns-5
+returns-5 c = wrote-by _ (c .before .before .before .before .before .before .args .plan) Monomials (search needs) (wrote-none _ _)
+
+pub write-results-spec : {M : Type 1} → statement M
+write-results-spec =
+    tie.close
+    (tie.spec
+    (λ c. search needs)
+    (λ c. search needs)
+    write-framed-requires
+    (λ c. search needs)
+    write-two-requires
+    (λ c. search needs)
+    write-cuts-requires
+    (λ c. search needs)
+    returns
+    (λ c. search needs)
+    returns-2
+    (λ c. search needs)
+    returns-3
+    (λ c. search needs)
+    returns-4
+    returns-5)

@@ -1,0 +1,135 @@
+// A plan's results in words: how long they are together, and writing them in a row, each in its frame.
+pub mod copying;
+mod emptying;
+pub mod making;
+mod replacing;
+
+ghost use Prim.Native.Nat.{_≤_};
+ghost use mathlib.Core.Path.{_≡_};
+ghost use mathlib.Core.List.{[], _∷_, map};
+ghost use lib.ListN.{length};
+ghost use Rattle.language.specs.Limits.{desk};
+ghost use Rattle.plans.specs.Results.{made, resultsOf};
+ghost use Rattle.words.specs.Spans.{places};
+ghost use Rattle.frames.specs.Frames.{framed};
+ghost use Rattle.plans.specs.Sizes.{grown, sizedFrom, sized};
+ghost use Rattle.results.specs.Written.{Wrote, Ready};
+use frames::FRAME;
+use language::limits::QUESTION;
+use language::limits::ROOM;
+use making::made_len;
+use making::write_framed;
+use plans::Plan;
+use plans::Recipe;
+use plans::Size;
+use plans::Ways;
+use words::element_end;
+
+// A result more, counted until a lent slice is passed.
+pub fn grow(n: usize, one: usize) -> usize
+    requires { ⌜ one ≤ desk .question ⌝ }
+    ensures { λ r. ⌜ r ≡ grown n one ⌝ }
+{
+    if n <= ROOM { n + FRAME + one } else { n }
+}
+
+// n words and those of one result.
+fn size_one(k: &[u16], r: Recipe, cut: usize, n: usize) -> Size
+    requires { ⌜ length (now k) ≤ desk .question ⌝ }
+    ensures { λ s. ⌜ s ≡ sizedFrom n (made (now (k .entry)) r cut ∷ []) ⌝ }
+{
+    let one = made_len(k, r, cut);
+    if QUESTION < one {
+        return Size::Over;
+    }
+    let more = grow(n, one);
+    Size::Fits(more)
+}
+
+fn size_two(k: &[u16], a: Recipe, b: Recipe) -> Size
+    requires { ⌜ length (now k) ≤ desk .question ⌝ }
+    ensures { λ s. ⌜ s ≡ sized (made (now (k .entry)) a 0 ∷ made (now (k .entry)) b 0 ∷ []) ⌝ }
+{
+    let s = size_one(k, a, 0, 0);
+    match s {
+        Size::Over => Size::Over,
+        Size::Fits(n) => size_one(k, b, 0, n),
+    }
+}
+
+// One result for each cut, element by element.
+fn size_cuts(k: &[u16], r: Recipe, cut: usize, times: usize) -> Size
+    requires { ⌜ length (now k) ≤ desk .question ⌝ }
+    ensures { λ s. ⌜ s ≡ sized (map (made (now (k .entry)) r) (places times (now (k .entry)) cut)) ⌝ }
+{
+    let mut left = times;
+    let mut at = cut;
+    let mut n: usize = 0;
+    while left != 0 {
+        let one = made_len(k, r, at);
+        if QUESTION < one {
+            return Size::Over;
+        }
+        n = grow(n, one);
+        at = element_end(k, at);
+        left -= 1;
+    }
+    Size::Fits(n)
+}
+
+// How many words a plan's results take, each in its frame; or that one of them is too long.
+pub fn size_results(k: &[u16], plan: Plan) -> Size
+    requires { ⌜ length (now k) ≤ desk .question ⌝ }
+    ensures { λ s. ⌜ s ≡ sized (resultsOf (now (k .entry)) plan) ⌝ }
+{
+    let ways = plan.ways;
+    let first = plan.first;
+    let second = plan.second;
+    match ways {
+        Ways::Drop => Size::Fits(0),
+        Ways::One(cut) => size_one(k, first, cut, 0),
+        Ways::Two => size_two(k, first, second),
+        Ways::Cuts(cut, n) => size_cuts(k, first, cut, n),
+        Ways::Monomials => Size::Fits(0),
+    }
+}
+
+fn write_cuts(k: &[u16], r: Recipe, cut: usize, times: usize, out: &mut [u16], at: usize) -> usize
+    requires { ⌜ Ready (map (made (now k) r) (places times (now k) cut)) (now out) at ⌝ }
+    ensures { λ e. ⌜ Wrote (now (out .entry)) at (framed (map (made (now (k .entry)) r) (places times (now (k .entry)) cut))) (now (out .exit)) e ⌝ }
+{
+    let mut left = times;
+    let mut c = cut;
+    let mut e = at;
+    while left != 0 {
+        e = write_framed(k, r, c, out, e);
+        c = element_end(k, c);
+        left -= 1;
+    }
+    e
+}
+
+fn write_two(k: &[u16], a: Recipe, b: Recipe, out: &mut [u16], at: usize) -> usize
+    requires { ⌜ Ready (made (now k) a 0 ∷ made (now k) b 0 ∷ []) (now out) at ⌝ }
+    ensures { λ e. ⌜ Wrote (now (out .entry)) at (framed (made (now (k .entry)) a 0 ∷ made (now (k .entry)) b 0 ∷ [])) (now (out .exit)) e ⌝ }
+{
+    let e = write_framed(k, a, 0, out, at);
+    write_framed(k, b, 0, out, e)
+}
+
+// A plan's results, each in its frame.
+pub fn write_results(k: &[u16], plan: Plan, out: &mut [u16], at: usize) -> usize
+    requires { ⌜ Ready (resultsOf (now k) plan) (now out) at ⌝ }
+    ensures { λ e. ⌜ Wrote (now (out .entry)) at (framed (resultsOf (now (k .entry)) plan)) (now (out .exit)) e ⌝ }
+{
+    let ways = plan.ways;
+    let first = plan.first;
+    let second = plan.second;
+    match ways {
+        Ways::Drop => at,
+        Ways::One(cut) => write_framed(k, first, cut, out, at),
+        Ways::Two => write_two(k, first, second, out, at),
+        Ways::Cuts(cut, n) => write_cuts(k, first, cut, n, out, at),
+        Ways::Monomials => at,
+    }
+}

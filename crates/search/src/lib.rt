@@ -1,1 +1,0 @@
-// The law of the search for the first rule that applies to a conjunction.

@@ -1,7 +1,0 @@
--- The words of hedge variables are those from 2000 up to 3000.
-use Rattle.showing.proofs.Unsolved.{run-below, run-above}
-use Rattle.showing.proofs.values.is_run.Statement.{statement}
-use Rattle.showing.proofs.values.is_run.Tie as tie
-
-pub is-run-spec : {M : Type 1} → statement M
-is-run-spec = tie.close (tie.spec (λ c v w. run-below v (c .if1 .taken) w) (λ c v w. run-above v (c .if1 .left) w))

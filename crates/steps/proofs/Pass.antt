@@ -1,0 +1,76 @@
+-- One pass over the literals: what it knows at its start, after a literal that is no better, after a better one, and at the end.
+use Prim.Native.Nat.{ℕ, _<_, _≤_}
+use native.Mathlib.Omega.{arith}
+use mathlib.Core.Path.{_≡_, refl, sym, ap, _∙_, subst}
+use mathlib.Core.Bool.{Bool, true}
+use mathlib.Core.List.{List, [], _∷_, _++_, map, append-assoc, append-nil}
+use mathlib.Core.Option.{none, some}
+use native.Mathlib.Nat.{zero-add}
+use lib.ListN.{length}
+use Rattle.language.specs.Trees.{Literal, Conj}
+use Rattle.language.specs.Writing.{conjWords}
+use Rattle.rules.specs.Reply.{Reply, nothing, results}
+use Rattle.rules.specs.Rules.{Branch, Answer, rules}
+use Rattle.rules.specs.Step.{each, place, placed, Spot, search, step}
+use Rattle.rules.specs.Places.{noRule}
+use Rattle.steps.specs.Ranking.{Tried, sided, tried, applies, replyAt, litRank, sideAnswer, Ranked, Each, NotBelow, Above, Sought, unmet, least, Found, nowhere, somewhere}
+use Rattle.steps.proofs.Ranks.{rank-applies}
+use Rattle.steps.proofs.First.{each-map, each-append, none-first, found-first}
+
+pub start : (c : Conj) (at : ℕ) (swap : Bool) → Sought [] c noRule at swap
+start c at swap = unmet refl tt
+
+module _ (done : Conj) (l : Literal) (rest : Conj) (n at : ℕ) (swap : Bool) where
+  pub keep : (r : ℕ) (turned : Bool) → Ranked done l rest r turned → n ≤ r → Sought done (l ∷ rest) n at swap → Sought (done ++ (l ∷ [])) rest n at swap
+  keep r turned k h (unmet e all) =
+      unmet e (each-append (NotBelow noRule) [] done (l ∷ []) rest all (let q = k .rank in (omega arith, tt)))
+  keep r turned k h (least before x mid e p m ranked low high) =
+      let q : n ≤ litRank ((before ++ (x ∷ [])) ++ mid) l rest =
+      subst (λ d. n ≤ litRank d l rest) (e ∙ sym (append-assoc before (x ∷ []) mid)) (let q = k .rank in omega arith)
+      in
+      let a : mid ++ (l ∷ rest) ≡ (mid ++ (l ∷ [])) ++ rest = sym (append-assoc mid (l ∷ []) rest) in
+      least before x (mid ++ (l ∷ []))
+      (ap (λ d. d ++ (l ∷ [])) e ∙ append-assoc before (x ∷ mid) (l ∷ []))
+      p m
+      (subst (λ b. Ranked before x b n swap) a ranked)
+      (subst (λ b. Each (Above n) [] before (x ∷ b)) a low)
+      (each-append (NotBelow n) (before ++ (x ∷ [])) mid (l ∷ []) rest high (q, tt))
+
+  -- every literal passed has a rank above r
+  passed : (r : ℕ) → r < n → Sought done (l ∷ rest) n at swap → Each (Above r) [] done (l ∷ rest)
+  passed r h (unmet e all) = each-map (NotBelow noRule) (Above r) (λ before l behind g. omega arith) [] done (l ∷ rest) all
+  passed r h (least before x mid e p m ranked low high) =
+      subst (λ d. Each (Above r) [] d (l ∷ rest)) (sym e)
+      (each-append (Above r) [] before (x ∷ mid) (l ∷ rest)
+      (each-map (Above n) (Above r) (λ before l behind g. omega arith) [] before (x ∷ (mid ++ (l ∷ rest))) low)
+      (let q = ranked .rank in omega arith, each-map (NotBelow n) (Above r) (λ before l behind g. omega arith) (before ++ (x ∷ [])) mid (l ∷ rest) high))
+
+  below : Sought done (l ∷ rest) n at swap → n ≤ noRule
+  below (unmet e all) = omega arith
+  below (least before x mid e p m ranked low high) = omega arith
+
+  pub better : (r : ℕ) (turned : Bool) → Ranked done l rest r turned → r < n → Sought done (l ∷ rest) n at swap
+      → Sought (done ++ (l ∷ [])) rest r (length (conjWords done)) turned
+  better r turned k h s = least done l [] refl refl (let b = below s in omega arith) k (passed r h s) tt
+
+-- what applies and is a rule's answer in its place is an answer
+there : (before behind : Conj) (swap : Bool) (w : Answer) (m : Tried) → m ≡ sided swap (placed before behind w) → applies m ≡ true
+    → (bs : List Branch) × (w ≡ some bs) × (m ≡ results (swap, map (place before behind) bs))
+there before behind swap none m e a = absurd (let z : _≡_ {A = Bool} (applies nothing) true = sym (ap applies e) ∙ a in let y : _≡_ {A = ℕ} 0 1 = cc in omega arith)
+there before behind swap (some bs) m e a = (bs, refl, e)
+
+pub finish : (c : Conj) (n at : ℕ) (swap : Bool) → Sought c [] n at swap → Found c n at swap
+unfolding litRank search
+finish c n at swap (unmet e all) = nowhere e (ap search (sym (append-nil c)) ∙ none-first 0 rules c all)
+finish c n at swap (least before l mid e p m ranked low high) =
+    let ranked′ : Ranked before l mid n swap = subst (λ b. Ranked before l b n swap) (append-nil mid) ranked in
+    let (bs, w, a) = there before mid swap (sideAnswer swap n (before ++ mid) l) (replyAt (λ rule. tried rule before l mid) rules n)
+    (ranked′ .side) (rank-applies (λ rule. tried rule before l mid) rules n (ranked′ .rank) m) in
+    somewhere before l mid bs e p m w
+    (ap search e ∙ found-first 0 n rules before l mid n (swap, map (place before mid) bs) (sym (zero-add n)) (ranked′ .rank) a
+    (subst (λ b. Each (Above n) [] before (l ∷ b)) (append-nil mid) low) high)
+
+-- the step is what the search finds, without its place
+pub searched : (c : Conj) (m : Reply (Spot × List Conj)) → search c ≡ m → step c ≡ each (λ (f : Spot × List Conj). f .1) m
+unfolding step
+searched c m e = ap (each (λ (f : Spot × List Conj). f .1)) e

@@ -1,0 +1,89 @@
+-- The rank of a literal between others: the place of the first rule that comes to anything there. The search of a step by one pass over the literals.
+use Prim.Native.Nat.{ℕ, suc, _<_, _≤_}
+use mathlib.Core.Path.{_≡_}
+use mathlib.Core.Bool.{Bool, true, false}
+use mathlib.Core.List.{List, [], _∷_, _++_, map}
+use mathlib.Core.Option.{some}
+use lib.ListN.{length}
+use Rattle.language.specs.Kinds.{pick}
+use Rattle.language.specs.Trees.{Literal, eqn, mem, Conj}
+use Rattle.language.specs.Writing.{conjWords}
+use Rattle.rules.specs.Reply.{Reply, nothing, results, stops}
+use Rattle.rules.specs.Rules.{Branch, Answer, Rule, rules}
+use Rattle.rules.specs.Step.{orNext, each, place, placed, resultsAt, search}
+use Rattle.rules.specs.Places.{noRule}
+use Rattle.rules.specs.Ranks.{eqnAnswer, memAnswer}
+
+-- ---- the rules at one literal
+
+-- what a rule comes to at a literal, and whether the sides are swapped
+abbrev pub Tried : Type 0
+Tried = Reply (Bool × List Conj)
+
+abbrev pub sided : Bool → Reply (List Conj) → Tried
+sided swap m = each (λ (ks : List Conj). (swap, ks)) m
+
+-- an equation as it is written first, then swapped
+abbrev pub tried : Rule → Conj → Literal → Conj → Tried
+tried rule before l behind = orNext (sided false (resultsAt false rule before l behind)) (λ _. sided true (resultsAt true rule before l behind))
+
+abbrev pub applies : Tried → Bool
+applies nothing = false
+applies (results f) = true
+applies (stops r) = true
+
+-- the place of the first that applies, or their number
+abbrev pub firstReply : (Rule → Tried) → List Rule → ℕ
+firstReply at [] = 0
+firstReply at (rule ∷ rs) = pick (applies (at rule)) 0 (suc (firstReply at rs))
+
+-- what the rule of a place comes to
+abbrev pub replyAt : (Rule → Tried) → List Rule → ℕ → Tried
+replyAt at [] n = nothing
+replyAt at (rule ∷ rs) n = elim n [ ℕ.zero ↦ at rule | ℕ.suc m ↦ replyAt at rs m ]
+
+-- the place of the first rule that applies at the literal between the others
+unfoldable pub litRank : Conj → Literal → Conj → ℕ
+litRank before l behind = firstReply (λ rule. tried rule before l behind) rules
+
+-- what the rule of a place answers, an equation being seen as it is written or swapped
+abbrev pub sideAnswer : Bool → ℕ → Conj → Literal → Answer
+sideAnswer swap n K (eqn l r) = pick swap (eqnAnswer n K r l) (eqnAnswer n K l r)
+sideAnswer swap n K (mem h R) = memAnswer n K h R
+
+-- the rank of a literal, and from which side its rule answers
+pub record Ranked (before : Conj) (l : Literal) (behind : Conj) (n : ℕ) (swap : Bool) : Type 0 where
+  pub rank : n ≡ litRank before l behind
+  pub side : replyAt (λ rule. tried rule before l behind) rules n ≡ sided swap (placed before behind (sideAnswer swap n (before ++ behind) l))
+
+-- ---- all literals
+
+-- P of each literal of `mid`, which stands between the two others, with those before it and those behind it
+abbrev pub Each : (Conj → Literal → Conj → Type 0) → Conj → Conj → Conj → Type 0
+Each P before [] behind = Unit {0}
+Each P before (l ∷ mid) behind = P before l (mid ++ behind) × Each P (before ++ (l ∷ [])) mid behind
+
+-- a rank of each that is not below n, and one above n
+abbrev pub NotBelow : ℕ → Conj → Literal → Conj → Type 0
+NotBelow n before l behind = n ≤ litRank before l behind
+
+abbrev pub Above : ℕ → Conj → Literal → Conj → Type 0
+Above n before l behind = n < litRank before l behind
+
+-- Among the literals `done`, before those of `rest`: none of a rank below n and none at all, or the earliest of the least rank n, at this place.
+pub data Sought (done rest : Conj) (n at : ℕ) (swap : Bool) : Type 0 where
+  unmet : n ≡ noRule → Each (NotBelow noRule) [] done rest → Sought done rest n at swap
+  least : (before : Conj) (l : Literal) (mid : Conj) → done ≡ before ++ (l ∷ mid) → at ≡ length (conjWords before)
+      → n < noRule → Ranked before l (mid ++ rest) n swap
+      → Each (Above n) [] before (l ∷ (mid ++ rest))
+      → Each (NotBelow n) (before ++ (l ∷ [])) mid rest
+      → Sought done rest n at swap
+
+-- What is found in the whole conjunction: no rule applies; or the literal at this place, and the search finds the rule of rank n there, at that
+-- literal by its number, with these results.
+pub data Found (c : Conj) (n at : ℕ) (swap : Bool) : Type 0 where
+  nowhere : n ≡ noRule → search c ≡ nothing → Found c n at swap
+  somewhere : (before : Conj) (l : Literal) (behind : Conj) (bs : List Branch) → c ≡ before ++ (l ∷ behind) → at ≡ length (conjWords before)
+      → n < noRule → sideAnswer swap n (before ++ behind) l ≡ some bs
+      → search c ≡ results (record { rule = n; literal = length before; swapped = swap }, map (place before behind) bs)
+      → Found c n at swap

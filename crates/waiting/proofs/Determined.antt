@@ -1,0 +1,37 @@
+-- Any two outcomes that a contract of this crate allows coincide.
+use native.Mathlib.Omega.{arith}
+use mathlib.Core.Path.{_≡_, sym, ap, _∙_}
+use lib.ListN.{getD}
+use lib.Seq.{sets}
+use Rattle.language.specs.Question.{parts}
+use Rattle.language.proofs.Determined.{Determined}
+use Rattle.frames.specs.Frames.{framed}
+use Rattle.waiting.proofs.wide as wide
+use Rattle.waiting.proofs.narrow as narrow
+use Rattle.waiting.proofs.store as store
+use Rattle.waiting.proofs.copy as copy
+use Rattle.waiting.proofs.clear as clear
+use Rattle.waiting.proofs.lay_out as lay_out
+
+wide-determined : Determined wide.ended wide.Reads.Pre wide.Reads.Post
+wide-determined κs a g p o q e d = ap (λ z. (z, o .1)) (e ∙ sym d)
+
+narrow-determined : Determined narrow.ended narrow.Reads.Pre narrow.Reads.Post
+narrow-determined κs a g p o q e d = ap (λ z. (z, o .1)) (e ∙ sym d)
+
+store-determined : Determined store.ended store.Reads.Pre store.Reads.Post
+store-determined κs a g p o q e d = ap (λ s. (tt, (s, (tt, (tt, tt))))) (e ∙ sym d)
+
+copy-determined : Determined copy.ended copy.Reads.Pre copy.Reads.Post
+copy-determined κs a g p o q e d = ap (λ s. (tt, (tt, (tt, (tt, (s, (tt, tt))))))) (e ∙ sym d)
+
+clear-determined : Determined clear.ended clear.Reads.Pre clear.Reads.Post
+clear-determined κs a g p o q e d = ap (λ s. (tt, (s, tt))) (e ∙ sym d)
+
+-- where the blocks begin follows from how long they are
+lay_out-determined : Determined lay_out.ended lay_out.Reads.Pre lay_out.Reads.Post
+lay_out-determined κs a g p o q e d =
+    let h = e .place in
+    let k = d .place in
+    let z : o .0 ≡ q .0 = omega arith in
+    ap (λ x. (x, o .1)) z ∙ ap (λ s. (q .0, (tt, (s, tt)))) (e .words ∙ ap (λ x. sets (a .1 .0 .now) x (framed (parts 5 (getD (a .0 .now) 4 0) (a .0 .now)))) z ∙ sym (d .words))

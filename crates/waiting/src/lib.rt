@@ -1,0 +1,90 @@
+// Conjunctions that wait in a lent slice: the first at the low end, each in its frame, the last ending at word 8,191.
+ghost use Prim.Native.Nat.{_+_, _-_, _≤_, _<_};
+ghost use mathlib.Core.Path.{_≡_};
+ghost use mathlib.Core.Bool.{true};
+ghost use mathlib.Core.List.{_++_};
+ghost use lib.ListN.{length, getD, set};
+ghost use lib.Seq.{slice, sets};
+ghost use Rattle.language.specs.Limits.{desk};
+ghost use Rattle.language.specs.Question.{laidOut, parts};
+ghost use Rattle.frames.specs.Frames.{frame, frameOf};
+ghost use Rattle.rules.specs.Answer.{zeros, overwritten};
+ghost use Rattle.waiting.specs.Waiting.{Laid};
+use frames::FRAME;
+use frames::write_frame;
+use language::limits::ROOM;
+
+pub fn wide(x: u16) -> usize
+    ensures { λ r. ⌜ r ≡ x ⌝ }
+{
+    x as usize
+}
+
+pub fn narrow(n: usize) -> u16
+    requires { ⌜ n < 65536 ⌝ }
+    ensures { λ r. ⌜ r ≡ n ⌝ }
+{
+    n as u16
+}
+
+// One word stored.
+pub fn store(s: &mut [u16], i: usize, x: u16)
+    requires { ⌜ i < length (now s) ⌝ }
+    ensures { λ _. ⌜ now (s .exit) ≡ set (now (s .entry)) i x ⌝ }
+{
+    s[i] = x;
+}
+
+// The part from..to of src, stored in dst from `at` on.
+pub fn copy(src: &[u16], from: usize, to: usize, dst: &mut [u16], at: usize)
+    requires { ⌜ (from ≤ to) × (to ≤ length (now src)) × (at + (to - from) ≤ length (now dst)) ⌝ }
+    ensures { λ _. ⌜ now (dst .exit) ≡ sets (now (dst .entry)) at (slice from to (now (src .entry))) ⌝ }
+{
+    let mut i = from;
+    let mut e = at;
+    while i < to {
+        dst[e] = src[i];
+        i += 1;
+        e += 1;
+    }
+}
+
+// Zeros in the first 8,192 words.
+pub fn clear(s: &mut [u16])
+    requires { ⌜ desk .room ≤ length (now s) ⌝ }
+    ensures { λ _. ⌜ now (s .exit) ≡ overwritten desk (zeros desk) (now (s .entry)) ⌝ }
+{
+    let mut i = 0;
+    while i < ROOM {
+        s[i] = 0;
+        i += 1;
+    }
+}
+
+// The part from..to as a block before those that wait from `at` on. The answer is where they now begin.
+fn push(src: &[u16], from: usize, to: usize, work: &mut [u16], at: usize) -> usize
+    requires { ⌜ (from ≤ to) × (to ≤ length (now src)) × (to ≤ desk .question) × (to - from + frame ≤ at) × (at ≤ length (now work)) ⌝ }
+    ensures { λ r. ⌜ (r + (to - from + frame) ≡ at) × (now (work .exit) ≡ sets (now (work .entry)) r (frameOf (to - from) ++ slice from to (now (src .entry)))) ⌝ }
+{
+    let n = to - from;
+    let start = at - n;
+    write_frame(work, start - FRAME, n);
+    copy(src, from, to, work, start);
+    start - FRAME
+}
+
+// The conjunctions of a question, waiting in order. The answer is where they begin.
+pub fn lay_out(question: &[u16], work: &mut [u16]) -> usize
+    requires { ⌜ (length (now question) ≤ desk .question) × (laidOut 5 (getD (now question) 4 0) (now question) ≡ true) × (desk .room ≤ length (now work)) ⌝ }
+    ensures { λ r. ⌜ Laid (now (work .entry)) r (parts 5 (getD (now (question .entry)) 4 0) (now (question .entry))) (now (work .exit)) ⌝ }
+{
+    let mut i = wide(question[4]);
+    let mut at: usize = ROOM;
+    while 0 < i {
+        i -= 1;
+        let from = wide(question[i + 5]);
+        let to = wide(question[i + 6]);
+        at = push(question, from, to, work, at);
+    }
+    at
+}
