@@ -13,10 +13,11 @@ ghost use Rattle.rules.specs.Run.{run as runs};
 ghost use Rattle.rules.specs.Answer.{solvingOf, solving};
 ghost use Rattle.steps.specs.Ranking.{Found};
 ghost use Rattle.reader.specs.Checking.{checked};
-ghost use Rattle.reader.specs.declared.Checked.the-variants.{Fine};
+ghost use Rattle.outcomes.specs.declared.Checked.the-variants.{Fine};
+ghost use Rattle.outcomes.specs.Numbers.{solvedNumbers};
 ghost use Rattle.rules.specs.Places.{noRule};
 ghost use Rattle.solver.specs.Running.{Running, leftOf, Turns, Begun, Ends, conjunctionsOf};
-ghost use Rattle.solver.specs.Leaves.{leaves, outcomeNumber, refusedBy, verdictFor};
+ghost use Rattle.solver.specs.Leaves.{leaves, toldLeaves, refusedBy, verdictFor};
 use answers::Tally;
 use answers::add_line;
 use answers::begin;
@@ -27,8 +28,9 @@ use language::limits::LINES;
 use language::limits::QUESTION;
 use language::limits::ROOM;
 use language::limits::STEPS;
-use language::number;
-use reader::Checked;
+use outcomes::Checked;
+use outcomes::Outcome;
+use outcomes::Solved;
 use reader::read_question;
 use rules::places::NO_RULE;
 use solved::is_solved;
@@ -57,34 +59,6 @@ pub enum Turned {
 pub enum Ran {
     Done(usize, Tally),
     Stopped(Refusal),
-}
-
-// "Solving returns the refusal or (none, all solved, some open)."
-pub enum Outcome {
-    Refused(Refusal),
-    NoLine,
-    AllSolved,
-    SomeOpen,
-}
-
-// What comes back from solving.
-pub struct Solved {
-    pub outcome: Outcome,
-    pub lines: usize,
-    pub open: usize,
-    pub steps: usize,
-}
-
-// The number that comes back: the refusal's, or 0.
-pub fn outcome_number(outcome: Outcome) -> u16
-    ensures { λ n. ⌜ n ≡ outcomeNumber outcome ⌝ }
-{
-    match outcome {
-        Outcome::Refused(r) => number(r),
-        Outcome::NoLine => 0,
-        Outcome::AllSolved => 0,
-        Outcome::SomeOpen => 0,
-    }
 }
 
 // No rule applies to k: it becomes the next line, and `next` is where those that wait then begin.
@@ -236,7 +210,7 @@ fn solve_read(question: &[u16], work: &mut [u16], answer: &mut [u16]) -> Solved
 
 // Solves a question: what comes back, and what the two lent slices then hold, is what `solving` says of them.
 pub fn solve(question: &[u16], work: &mut [u16], answer: &mut [u16]) -> Solved
-    ensures { λ r. ⌜ (r, now (work .exit), now (answer .exit)) ≡ leaves (solving desk (length (now (work .entry))) (length (now (answer .entry))) (now (question .entry))) (now (work .entry)) (now (answer .entry)) ⌝ }
+    ensures { λ r. ⌜ (solvedNumbers r, now (work .exit), now (answer .exit)) ≡ toldLeaves (solving desk (length (now (work .entry))) (length (now (answer .entry))) (now (question .entry))) (now (work .entry)) (now (answer .entry)) ⌝ }
 {
     if work.len() < ROOM {
         return refused(Refusal::ShortSlice);
