@@ -10,7 +10,7 @@ use Rattle.language.specs.Limits.{desk}
 use Rattle.language.specs.Trees.{Hedge, Expr, Conj}
 use Rattle.frames.specs.Frames.{frame, frameOf, framed}
 use Rattle.plans.specs.Sizes.{grown, sized, monomialWords}
-use Rattle.views.specs.Views.{Shows}
+use Rattle.views.specs.Views.{Shows, MembershipAt}
 use Rattle.views.specs.declared.Shape.{Shape}
 use Rattle.plans.specs.declared.Size.{Size}
 use Rattle.plans.specs.declared.Size.the-variants.{Fits, Over}
@@ -76,6 +76,11 @@ pub record Rowed (k : List ℕ) (s : Kept) (p : Spot) (rest out : List ℕ) (t :
   pub room : r ≤ length out′
   pub wrote : (ws : List ℕ) → length ws ≡ p .words → Holds rest ws → desk .question ≤ length rest → resultLength k s p ≤ desk .question
       → t + frame + resultLength k s p ≤ length out → Wrote out t (frameOf (resultLength k s p) ++ resultWords k s p ws) out′ r
+
+-- some membership stands in k where s says, and `out` has room for M2's results from `at` on, none of which is too long
+pub record RoomFor (k : List ℕ) (s : Shape) (out : List ℕ) (at : ℕ) : Type 0 where
+  pub membership : MembershipAt k s
+  pub ready : Ready (monomialWords (membership .before) (membership .h) (membership .R) (membership .behind)) out at
 
 -- all of them: their size, and that they are written
 pub record Sized (k : List ℕ) (s : Shape) (n : Size) : Type 0 where

@@ -8,7 +8,8 @@ ghost use Prim.Native.Nat.{_≤_, _<_, _+_, _*_};
 ghost use lib.ListN.{length};
 ghost use Rattle.language.specs.Limits.{desk};
 ghost use Rattle.expressions.specs.Charted.{ChartedFrom};
-ghost use Rattle.expressions.specs.Rows.{Sized, Written};
+ghost use Rattle.views.specs.Views.{MembershipAt};
+ghost use Rattle.expressions.specs.Rows.{Sized, Written, RoomFor};
 ghost use Rattle.expressions.specs.Walks.{Widened, Enclosed, Handed, closes, joined, Tallies, Walks};
 use crate::adding::Kept;
 use crate::adding::Spot;
@@ -214,6 +215,7 @@ fn walk(
 // How many words M2's results take, each in its frame; or that one of them is too long.
 pub fn size_monomials(k: &[u16], s: Shape) -> Size
     requires { ⌜ length (now k) ≤ desk .question ⌝ }
+    requires { ⌜ MembershipAt (now k) s ⌝ }
     ensures { λ n. ⌜ Sized (now (k .entry)) s n ⌝ }
 {
     let t = keeping(s);
@@ -225,9 +227,10 @@ pub fn size_monomials(k: &[u16], s: Shape) -> Size
     w.size
 }
 
-// M2's results, each in its frame; what has no room or is too long is not written.
+// M2's results, each in its frame.
 pub fn write_monomials(k: &[u16], s: Shape, out: &mut [u16], at: usize) -> usize
     requires { ⌜ (length (now k) ≤ desk .question) × (at ≤ length (now out)) ⌝ }
+    requires { ⌜ RoomFor (now k) s (now out) at ⌝ }
     ensures { λ e. ⌜ Written (now (k .entry)) s (now (out .entry)) at (now (out .exit)) e ⌝ }
 {
     let t = keeping(s);

@@ -11,12 +11,14 @@ ghost use Rattle.rules.specs.Reply.{nothing};
 ghost use Rattle.rules.specs.Step.{step};
 ghost use Rattle.rules.specs.Run.{run as runs};
 ghost use Rattle.rules.specs.Answer.{solvingOf, solving};
+ghost use Rattle.views.specs.Standing.{Conjunction};
 ghost use Rattle.steps.specs.Ranking.{Found};
+ghost use Rattle.steps.specs.Asking.{RuleAt};
 ghost use Rattle.reader.specs.Checking.{checked};
 ghost use Rattle.outcomes.specs.declared.Checked.the-variants.{Fine};
 ghost use Rattle.outcomes.specs.Numbers.{solvedNumbers};
 ghost use Rattle.rules.specs.Places.{noRule};
-ghost use Rattle.solver.specs.Running.{Running, leftOf, Turns, Begun, Ends, conjunctionsOf};
+ghost use Rattle.solver.specs.Running.{Running, leftOf, Turns, Begun, Awaits, Ends, conjunctionsOf};
 ghost use Rattle.solver.specs.Leaves.{leaves, toldLeaves, refusedBy, verdictFor};
 use answers::Tally;
 use answers::add_line;
@@ -64,6 +66,7 @@ pub enum Ran {
 // No rule applies to k: it becomes the next line, and `next` is where those that wait then begin.
 fn line(k: &[u16], next: usize, answer: &mut [u16], s: State) -> Turned
     requires { ⌜ (length (now k) ≤ desk .question) × (s .tally .«open» ≤ s .tally .lines) × (s .tally .end ≤ desk .room) × (desk .room ≤ length (now answer)) ⌝ }
+    requires { ⌜ Conjunction (now k) ⌝ }
     ensures { λ r. ⌜ ((oldWork oldAnswer : List ℕ) (ls : List Conj) (c : Conj) (w : List Conj) (work : List ℕ) → Running oldWork oldAnswer ls (c ∷ w) s work (now (answer .entry)) → now (k .entry) ≡ conjWords c → next ≡ s .at + 1 + length (now (k .entry)) → step c ≡ nothing → Turns oldWork oldAnswer ls (c ∷ w) s r work (now (answer .exit))) ⌝ }
 {
     let t = s.tally;
@@ -85,6 +88,7 @@ fn line(k: &[u16], next: usize, answer: &mut [u16], s: State) -> Turned
 // A rule applies to k: the step is made in its place, unless a number stands against it.
 fn advance(k: &[u16], b: Best, work: &mut [u16], next: usize, s: State) -> Turned
     requires { ⌜ (length (now k) ≤ desk .question) × (b .at < length (now k)) × (next ≤ length (now work)) × (next ≤ desk .room) ⌝ }
+    requires { ⌜ RuleAt (now k) b ⌝ }
     ensures { λ r. ⌜ ((oldWork oldAnswer : List ℕ) (ls : List Conj) (c : Conj) (w : List Conj) (answer : List ℕ) → Running oldWork oldAnswer ls (c ∷ w) s (now (work .entry)) answer → now (k .entry) ≡ conjWords c → next ≡ s .at + 1 + length (now (k .entry)) → b .rank < noRule → Found c (b .rank) (b .at) (b .swap) → Turns oldWork oldAnswer ls (c ∷ w) s r (now (work .exit)) answer) ⌝ }
 {
     if STEPS <= s.steps {
@@ -105,6 +109,7 @@ fn advance(k: &[u16], b: Best, work: &mut [u16], next: usize, s: State) -> Turne
 // One turn, the first waiting conjunction being k.
 fn turn_with(k: &[u16], next: usize, work: &mut [u16], answer: &mut [u16], s: State) -> Turned
     requires { ⌜ (length (now k) ≤ desk .question) × (next ≤ desk .room) × (desk .room ≤ length (now work)) × (s .tally .«open» ≤ s .tally .lines) × (s .tally .end ≤ desk .room) × (desk .room ≤ length (now answer)) ⌝ }
+    requires { ⌜ Conjunction (now k) ⌝ }
     ensures { λ r. ⌜ ((oldWork oldAnswer : List ℕ) (ls : List Conj) (c : Conj) (w : List Conj) → Running oldWork oldAnswer ls (c ∷ w) s (now (work .entry)) (now (answer .entry)) → now (k .entry) ≡ conjWords c → next ≡ s .at + 1 + length (now (k .entry)) → Turns oldWork oldAnswer ls (c ∷ w) s r (now (work .exit)) (now (answer .exit))) ⌝ }
 {
     let b = find(k);
@@ -117,6 +122,7 @@ fn turn_with(k: &[u16], next: usize, work: &mut [u16], answer: &mut [u16], s: St
 // One turn: the first waiting conjunction is taken out, so that results can be written over its place.
 fn turn(work: &mut [u16], answer: &mut [u16], s: State) -> Turned
     requires { ⌜ (s .at + 1 + getD (now work) (s .at) 0 ≤ desk .room) × (getD (now work) (s .at) 0 ≤ desk .question) × (desk .room ≤ length (now work)) × (s .tally .«open» ≤ s .tally .lines) × (s .tally .end ≤ desk .room) × (desk .room ≤ length (now answer)) ⌝ }
+    requires { ⌜ Awaits s (now work) (now answer) ⌝ }
     ensures { λ r. ⌜ ((oldWork oldAnswer : List ℕ) (ls : List Conj) (c : Conj) (w : List Conj) → Running oldWork oldAnswer ls (c ∷ w) s (now (work .entry)) (now (answer .entry)) → Turns oldWork oldAnswer ls (c ∷ w) s r (now (work .exit)) (now (answer .exit))) ⌝ }
 {
     let at = s.at;

@@ -1,5 +1,6 @@
 pub mod Finding
 pub mod Taken
+pub mod Asked
 pub mod Determined
 pub mod Ranks
 pub mod First
