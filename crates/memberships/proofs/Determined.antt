@@ -5,7 +5,7 @@ use Rattle.memberships.proofs.rank.rank_membership as rank-membership
 use Rattle.memberships.proofs.plan.plan_membership as plan-membership
 
 rank_membership-determined : Determined rank-membership.ended rank-membership.Reads.Pre rank-membership.Reads.Post
-rank_membership-determined κs a g p o q e d = ap (λ z. (z, o .1)) (e (p .before) (p .h) (p .R) (p .behind) (p .shows) ∙ sym (d (p .before) (p .h) (p .R) (p .behind) (p .shows)))
+rank_membership-determined κs a p o q e d = ap (λ z. (z, o .1)) (e (p .before) (p .h) (p .R) (p .behind) (p .shows) ∙ sym (d (p .before) (p .h) (p .R) (p .behind) (p .shows)))
 
 plan_membership-determined : Determined plan-membership.ended plan-membership.Reads.Pre plan-membership.Reads.Post
-plan_membership-determined κs a g p o q e d = ap (λ z. (z, o .1)) (e .whole (p .h) (p .R) (p .applies) ∙ sym (d .whole (p .h) (p .R) (p .applies)))
+plan_membership-determined κs a p o q e d = ap (λ z. (z, o .1)) (e .whole (p .h) (p .R) (p .applies) ∙ sym (d .whole (p .h) (p .R) (p .applies)))

@@ -15,7 +15,7 @@ use Rattle.steps.proofs.find as find
 use Rattle.steps.proofs.take_step as take_step
 
 find-determined : Determined find.ended find.Reads.Pre find.Reads.Post
-find-determined κs a g p o q e d = ap (λ z. (z, o .1)) (e .1 (p .conj) (p .fine) (p .words) ∙ sym (d .1 (p .conj) (p .fine) (p .words)))
+find-determined κs a p o q e d = ap (λ z. (z, o .1)) (e .1 (p .conj) (p .fine) (p .words) ∙ sym (d .1 (p .conj) (p .fine) (p .words)))
 
 one-size : (s : Size) (n m : ℕ) → s ≡ Fits n → s ≡ Fits m → n ≡ m
 one-size s n m e d = cc
@@ -38,7 +38,7 @@ took-one ws old next r u new now (done n at e s i d) (done m bt f t h g) =
     (e ∙ ap Done z ∙ sym f, d ∙ ap (λ x. sets old x (framed ws)) z ∙ sym g)
 
 take_step-determined : Determined take_step.ended take_step.Reads.Pre take_step.Reads.Post
-take_step-determined κs a g p o q e d =
+take_step-determined κs a p o q e d =
     let m = p .1 in
     let z =
     took-one _ _ _ _ _ _ _ (e (m .before) (m .l) (m .behind) (m .results) (m .stands) (m .answer)) (d (m .before) (m .l) (m .behind) (m .results) (m .stands) (m .answer))

@@ -24,6 +24,6 @@ one-outcome (unread r) s t w u v a b = (tried-apart s t (a .0 ∙ sym (b .0)), a
 one-outcome (given-up r) s t w u v a b = (tried-apart s t (a .0 ∙ sym (b .0)), a .1 ∙ sym (b .1))
 
 try_filling-determined : Determined try-filling.ended try-filling.Reads.Pre try-filling.Reads.Post
-try_filling-determined κs a g p o q e d =
+try_filling-determined κs a p o q e d =
     let (s, w) = one-outcome (trying desk (length (a .1 .1 .0 .now)) (a .0 .now) (a .1 .0 .now)) (o .0) (q .0) (a .1 .1 .0 .now) (o .1 .1 .1 .0) (q .1 .1 .1 .0) e d in
     ap₂ (λ z s. (z, (tt, (tt, (s, tt))))) s w
