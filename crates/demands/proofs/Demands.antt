@@ -15,10 +15,10 @@ use Rattle.language.specs.Question.{asks, readQuestion}
 use Rattle.meaning.specs.Meaning.{Filling, MeetsQuestion}
 use Rattle.rules.specs.Each.{Each}
 use Rattle.lines.specs.Matching.{Matching}
-use Rattle.solver.specs.declared.Outcome.the-variants.{Refused, NoLine}
-use Rattle.solver.specs.Leaves.{outcomeNumber}
-use Rattle.trying.specs.declared.Tried.the-variants as tried
-use Rattle.example.specs.declared.Shown.the-variants.{Shows, Denied}
+use Rattle.outcomes.specs.declared.Outcome.the-variants.{Refused, NoLine}
+use Rattle.outcomes.specs.Numbers.{outcomeNumber}
+use Rattle.outcomes.specs.declared.Tried.the-variants as tried
+use Rattle.outcomes.specs.declared.Shown.the-variants.{Shows, Denied}
 use Rattle.host.specs.Bytes.{wordsOf, wordsIn}
 use Rattle.demands.specs.Solves.{Solve}
 use Rattle.demands.specs.Tries.{Try}

@@ -19,12 +19,12 @@ use Rattle.meaning.specs.Values as values
 use Rattle.rules.specs.Answer.{Solving, answered, unread, given-up, solving, Verdict, noLine, allSolved, someOpen, verdictOf}
 use Rattle.rules.specs.Calls.{Trying, decides, tooLong, tryingWith, tryingOf, trying}
 use Rattle.rules.specs.Calls as calls
-use Rattle.solver.specs.declared.Outcome.{Outcome}
-use Rattle.solver.specs.declared.Outcome.the-variants.{Refused}
-use Rattle.solver.specs.declared.Solved.{Solved}
+use Rattle.outcomes.specs.declared.Outcome.{Outcome}
+use Rattle.outcomes.specs.declared.Outcome.the-variants.{Refused}
+use Rattle.outcomes.specs.declared.Solved.{Solved}
 use Rattle.solver.specs.Leaves.{verdict, leaves}
-use Rattle.trying.specs.declared.Tried.{Tried}
-use Rattle.trying.specs.declared.Tried.the-variants as tried
+use Rattle.outcomes.specs.declared.Tried.{Tried}
+use Rattle.outcomes.specs.declared.Tried.the-variants as tried
 use Rattle.trying.specs.Outcome.{Answers, Outcome as Tries}
 use Rattle.demands.specs.Solves.{Solve}
 use Rattle.demands.specs.Tries.{Try}
@@ -32,6 +32,7 @@ use Rattle.demands.specs.Columns.{column, leftIn}
 use Rattle.demands.specs.Table.{QuestionFault, bad-length, bad-count, bad-offset, not-literals, undeclared, SolveFault, TryFault, First}
 use Rattle.demands.specs.Tells as tells
 use Rattle.demands.specs.Tells.{TryTells}
+use Rattle.demands.proofs.Said.{solve-said, try-said}
 use Rattle.demands.proofs.Numbers.{first-one}
 use Rattle.demands.proofs.Columns.{early-column}
 use Rattle.demands.proofs.Faults.{Judged, question-judged}
@@ -59,7 +60,7 @@ module _ (c : Solve) (e : Refusal) where
   refused-one p q = cc
 
   pub solve-given : (c .returned .outcome ≡ Refused e) ↔ First Fault e
-  solve-given = by (solving desk (length (c .work)) (length (c .answer)) (c .question)) (c .said) (solve-judged (length (c .work)) (length (c .answer)) (c .question))
+  solve-given = by (solving desk (length (c .work)) (length (c .answer)) (c .question)) (solve-said c) (solve-judged (length (c .work)) (length (c .answer)) (c .question))
     where
       by : (v : Solving) → _≡_ {A = Left} (c .returned, c .workLeft, c .answerLeft) (leaves v (c .work) (c .answer)) → SolveJudged (length (c .work)) (length (c .answer)) (c .question) v
           → (c .returned .outcome ≡ Refused e) ↔ First Fault e
@@ -81,7 +82,7 @@ module _ (t : Try) (e : Refusal) where
   not-tried (inr a) d = absurd (let b = a .0 in let z : _≡_ {A = ℕ} 0 1 = cc in omega arith)
 
   pub try-given : (t .returned ≡ tried.Refused e) ↔ First Faults e
-  try-given = by (trying desk (length (t .work)) (t .question) (t .filling)) (t .said) (try-judged (length (t .work)) (t .question) (t .filling))
+  try-given = by (trying desk (length (t .work)) (t .question) (t .filling)) (try-said t) (try-judged (length (t .work)) (t .question) (t .filling))
     where
       by : (v : Trying) → Tries v (t .returned) (t .work) (t .workLeft) → TryJudged (length (t .work)) (t .question) (t .filling) v → (t .returned ≡ tried.Refused e) ↔ First Faults e
       by (decides q ρ) o j = (λ d. not-tried (o .0) d, λ g. absurd (j e (g .here)))
@@ -125,7 +126,7 @@ trying-as work ws fs = on (ltb work (desk .room))
     on false = on-asked (readQuestion desk ws) (question-judged ws)
 
 pub try-tells : (t : Try) → TryTells t
-try-tells t = by (trying desk (length (t .work)) (t .question) (t .filling)) (t .said) (trying-as (length (t .work)) (t .question) (t .filling))
+try-tells t = by (trying desk (length (t .work)) (t .question) (t .filling)) (try-said t) (trying-as (length (t .work)) (t .question) (t .filling))
   where
     kept : (r : Refusal) → (numberOf r ≤ 6) ⊎ ((r ≡ FillingLayout) ⊎ (r ≡ FillingValue)) → leftIn (column r) (t .work) (t .work) ≡ t .work
     kept r (inl p) = ap (λ k. leftIn k (t .work) (t .work)) (early-column r p)

@@ -1,4 +1,5 @@
 pub mod Reading
+pub mod Said
 pub mod Promising
 pub mod Between
 pub mod Columns

@@ -20,9 +20,10 @@ use Rattle.rules.specs.Example.{example}
 use Rattle.rules.specs.Answer.{Solving, answered, unread, given-up, solving, answerWords, zeros, overwritten}
 use Rattle.rules.specs.Calls.{lineAt, shows, denied, fitted, shown, showingOf, showing}
 use Rattle.exact.proofs.Declared.{read-declared}
-use Rattle.solver.specs.Leaves.{outcomeNumber, leaves}
-use Rattle.example.specs.declared.Shown.{Shown}
-use Rattle.example.specs.declared.Shown.the-variants.{Shows, Denied}
+use Rattle.outcomes.specs.Numbers.{outcomeNumber}
+use Rattle.solver.specs.Leaves.{leaves}
+use Rattle.outcomes.specs.declared.Shown.{Shown}
+use Rattle.outcomes.specs.declared.Shown.the-variants.{Shows, Denied}
 use Rattle.example.specs.Shown.{resultOf, roomOf}
 use Rattle.example.specs.Exhibits.{exhibits}
 use Rattle.example.specs.Answers.{Answer}
@@ -34,6 +35,7 @@ use Rattle.demands.specs.Promises.{Promised, exampleWords, RoomShows, To
 use Rattle.demands.specs.Columns.{leftIn}
 use Rattle.demands.specs.Table.{SolveFault, First}
 use Rattle.demands.specs.Tells.{ExampleTells, refuses, told}
+use Rattle.demands.proofs.Said.{example-said}
 use Rattle.demands.proofs.Reading.{asLine, literals-back}
 use Rattle.demands.proofs.Promising.{From, promise, tell}
 use Rattle.demands.proofs.Between.{stands, one-answer, long-enough}
@@ -74,7 +76,7 @@ module _ (c : Example) where
 
   says : came ≡ left comes
   unfolding exhibits showing
-  says = c .said
+  says = example-said c
 
   -- an answer, and what is told of the line
   record TellsFrom (ls : List Conj) (n : ℕ) : Type 0 where

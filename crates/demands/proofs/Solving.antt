@@ -17,15 +17,17 @@ use Rattle.meaning.specs.Meaning.{Filling, MeetsQuestion}
 use Rattle.rules.specs.Answer.{Solving, answered, unread, given-up, solving, answerWords, zeros, overwritten, countOpen, someOpen, allSolved, verdictOf}
 use Rattle.rules.specs.Each.{Each}
 use Rattle.lines.specs.Matching.{Matching}
-use Rattle.solver.specs.declared.Outcome.the-variants.{NoLine, AllSolved, SomeOpen}
-use Rattle.solver.specs.declared.Solved.{Solved}
-use Rattle.solver.specs.Leaves.{verdict, verdictFor, outcomeNumber, leaves}
+use Rattle.outcomes.specs.declared.Outcome.the-variants.{NoLine, AllSolved, SomeOpen}
+use Rattle.outcomes.specs.declared.Solved.{Solved}
+use Rattle.outcomes.specs.Numbers.{outcomeNumber}
+use Rattle.solver.specs.Leaves.{verdict, verdictFor, leaves}
 use Rattle.example.specs.Answers.{Answer}
 use Rattle.host.proofs.Refusals.{Numbered, numbered}
 use Rattle.demands.specs.Solves.{Solve}
 use Rattle.demands.specs.Answers.{Line, literalsOf, MeetsLines, opens}
 use Rattle.demands.specs.Columns.{leftIn}
 use Rattle.demands.specs.Tells.{SolveAnswers, SolveTells, refuses, answers}
+use Rattle.demands.proofs.Said.{solve-said}
 use Rattle.demands.proofs.Reading.{asLine, literals-back, opens-back}
 use Rattle.demands.proofs.Promising.{promise}
 use Rattle.demands.proofs.Between.{not-zero, stands}
@@ -102,7 +104,7 @@ module _ (c : Solve) where
 
   -- where the number that comes back is 0, there is an answer
   pub solves : outcomeNumber (c .returned .outcome) ≡ 0 → Solves
-  solves z = by comes refl (c .said)
+  solves z = by comes refl (solve-said c)
     where
       by : (v : Solving) → comes ≡ v → came ≡ leaves v (c .work) (c .answer) → Solves
       by (answered ls n) d e = solves-so ls n d e
@@ -111,7 +113,7 @@ module _ (c : Solve) where
 
   -- Demand 1
   pub tells : SolveTells c
-  tells = by comes refl (c .said)
+  tells = by comes refl (solve-said c)
     where
       by : (v : Solving) → comes ≡ v → came ≡ leaves v (c .work) (c .answer) → SolveTells c
       by (answered ls n) d e = answers (solves-so ls n d e .answered)

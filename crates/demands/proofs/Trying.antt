@@ -19,15 +19,16 @@ use Rattle.meaning.specs.Values.{Given, gives, readFilling}
 use Rattle.meaning.specs.Values as values
 use Rattle.rules.specs.Calls.{Trying, decides, tooLong, tryingWith, tryingOf, trying}
 use Rattle.rules.specs.Calls as calls
-use Rattle.trying.specs.declared.Tried.{Tried}
-use Rattle.trying.specs.declared.Tried.the-variants as tried
+use Rattle.outcomes.specs.declared.Tried.{Tried}
+use Rattle.outcomes.specs.declared.Tried.the-variants as tried
 use Rattle.trying.specs.Outcome.{Answers, Outcome}
-use Rattle.example.specs.declared.Shown.the-variants.{Shows}
+use Rattle.outcomes.specs.declared.Shown.the-variants.{Shows}
 use Rattle.demands.specs.Tries.{Try}
 use Rattle.demands.specs.Examples.{Example}
 use Rattle.demands.specs.Answers.{Line, MeetsLine, MeetsLines, lineNumbered}
 use Rattle.demands.specs.Promises.{Promised}
 use Rattle.demands.specs.Tells.{TryAgrees}
+use Rattle.demands.proofs.Said.{try-said}
 use Rattle.demands.proofs.Showing.{shows-so}
 
 abbrev Decided : Tried → Type 0
@@ -64,7 +65,7 @@ module _ (q : Question) (fs w w′ : List ℕ) (r : Tried) (d : Decided r) where
 pub agrees : (t : Try) {q answer : List ℕ} → t .question ≡ q → (p : Promised q answer) → TryAgrees p (t .filling) (t .returned)
 agrees t same p =
     let found : (d : Decided (t .returned)) → Decides (p .asked) (t .filling) (t .work) (t .workLeft) (t .returned) d =
-    λ d. decided-so (p .asked) (t .filling) (t .work) (t .workLeft) (t .returned) d (t .question) (length (t .work)) (ap (readQuestion desk) same ∙ p .question-read) (t .said) in
+    λ d. decided-so (p .asked) (t .filling) (t .work) (t .workLeft) (t .returned) d (t .question) (length (t .work)) (ap (readQuestion desk) same ∙ p .question-read) (try-said t) in
     record {
       yes = λ e. let (ρ, read, a) = found (inl e) in (ρ, read, p .exact .same ρ .0 (yes-meets e a));
       no = λ e. let (ρ, read, a) = found (inr e) in (ρ, read, λ m. no-meets e a (p .exact .same ρ .1 m));
@@ -103,7 +104,7 @@ module _ (t : Try) where
       (subst (λ g. TriedAs (tryingWith desk (p .asked) g)) read
       (subst (λ a. TriedAs (tryingOf desk a (t .filling))) asked
       (subst (λ b. TriedAs (elim b as (λ _. Trying) [ true ↦ calls.unread ShortSlice | false ↦ tryingOf desk (readQuestion desk (t .question)) (t .filling) ]))
-      (le-ltb (length (t .work)) (desk .room) long) (t .said))))
+      (le-ltb (length (t .work)) (desk .room) long) (try-said t))))
     where
       by : (q : Question) (ρ : Filling) → MeetsQuestion ρ q → (b : Bool) → TriedAs (elim b [ true ↦ calls.given-up LongLiteral | false ↦ decides q ρ ])
           → (t .returned ≡ tried.Yes) ⊎ (t .returned ≡ tried.Refused LongLiteral)

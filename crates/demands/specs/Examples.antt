@@ -2,8 +2,9 @@
 use Prim.Native.Nat.{ℕ}
 use mathlib.Core.Path.{_≡_}
 use mathlib.Core.List.{List}
-use Rattle.example.specs.declared.Shown.{Shown}
-use Rattle.example.specs.Exhibits.{exhibits}
+use Rattle.outcomes.specs.declared.Shown.{Shown}
+use Rattle.outcomes.specs.Numbers.{shownNumbers}
+use Rattle.example.specs.Exhibits.{toldExhibits}
 use Rattle.example.proofs.example as example
 use Rattle.demands.specs.Calls.{Call}
 
@@ -18,7 +19,7 @@ pub record Example : Type 0 where
   pub workLeft : List ℕ
   pub answerLeft : List ℕ
   pub roomLeft : List ℕ
-  pub said : _≡_ {A = Shown × List ℕ × List ℕ × List ℕ} (returned, workLeft, answerLeft, roomLeft) (exhibits line question work answer room)
+  pub said : _≡_ {A = (ℕ × ℕ) × List ℕ × List ℕ × List ℕ} (shownNumbers returned, workLeft, answerLeft, roomLeft) (toldExhibits line question work answer room)
 
 -- any outcome that the contract itself allows is one
 abbrev pub allowed : Call example.ended example.Reads.Pre example.Reads.Post → Example

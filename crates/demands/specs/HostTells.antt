@@ -12,8 +12,8 @@ use Rattle.language.specs.Trees.{Counts}
 use Rattle.meaning.specs.Meaning.{Filling}
 use Rattle.meaning.specs.Values.{gives, readFilling}
 use Rattle.rules.specs.Answer.{answerWords, zeros}
-use Rattle.example.specs.declared.Shown.{Shown}
-use Rattle.example.specs.declared.Shown.the-variants.{Shows, Denied}
+use Rattle.outcomes.specs.declared.Shown.{Shown}
+use Rattle.outcomes.specs.declared.Shown.the-variants.{Shows, Denied}
 use Rattle.host.specs.Bytes.{wordsOf, bytesOf, wordsIn}
 use Rattle.demands.specs.Columns.{Column, unchanged, zeroed, as-solved, column}
 use Rattle.demands.specs.HostCalls.{DeskSolve, DeskTry, DeskExample}

@@ -17,10 +17,10 @@ use Rattle.rules.specs.Example.{example}
 use Rattle.rules.specs.Each.{Each}
 use Rattle.lines.specs.Matching.{Matching}
 use Rattle.lines.specs.Fillings.{Agree}
-use Rattle.solver.specs.declared.Solved.{Solved}
+use Rattle.outcomes.specs.declared.Solved.{Solved}
 use Rattle.solver.specs.Leaves.{verdictFor}
-use Rattle.example.specs.declared.Shown.{Shown}
-use Rattle.example.specs.declared.Shown.the-variants.{Shows, Denied}
+use Rattle.outcomes.specs.declared.Shown.{Shown}
+use Rattle.outcomes.specs.declared.Shown.the-variants.{Shows, Denied}
 use Rattle.demands.specs.Answers.{Line, literalsOf, readAnswer, MeetsLine, MeetsLines, opens}
 
 -- Demand 2: the lines are those of the published rules, in their order, with their marks, after as many steps.

@@ -5,8 +5,9 @@ use mathlib.Core.List.{List}
 use lib.ListN.{length}
 use Rattle.language.specs.Limits.{desk}
 use Rattle.rules.specs.Answer.{solving}
-use Rattle.solver.specs.declared.Solved.{Solved}
-use Rattle.solver.specs.Leaves.{leaves}
+use Rattle.outcomes.specs.declared.Solved.{Solved}
+use Rattle.outcomes.specs.Numbers.{SolveNumbers, solvedNumbers}
+use Rattle.solver.specs.Leaves.{toldLeaves}
 use Rattle.solver.proofs.solve as solve
 use Rattle.demands.specs.Calls.{Call}
 
@@ -18,7 +19,7 @@ pub record Solve : Type 0 where
   pub returned : Solved
   pub workLeft : List ℕ
   pub answerLeft : List ℕ
-  pub said : _≡_ {A = Solved × List ℕ × List ℕ} (returned, workLeft, answerLeft) (leaves (solving desk (length work) (length answer) question) work answer)
+  pub said : _≡_ {A = SolveNumbers × List ℕ × List ℕ} (solvedNumbers returned, workLeft, answerLeft) (toldLeaves (solving desk (length work) (length answer) question) work answer)
 
 -- Any outcome that the contract itself allows is one: were the contract another, this would be refused.
 abbrev pub allowed : Call solve.ended solve.Reads.Pre solve.Reads.Post → Solve

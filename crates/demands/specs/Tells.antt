@@ -10,10 +10,10 @@ use Rattle.meaning.specs.Meaning.{Filling}
 use Rattle.meaning.specs.Values.{gives, readFilling}
 use Rattle.rules.specs.Answer.{answerWords, zeros, overwritten}
 use Rattle.solver.specs.Leaves.{refusedBy}
-use Rattle.trying.specs.declared.Tried.{Tried}
-use Rattle.trying.specs.declared.Tried.the-variants.{Yes, No}
-use Rattle.trying.specs.declared.Tried.the-variants as tried
-use Rattle.example.specs.declared.Shown.the-variants.{Denied}
+use Rattle.outcomes.specs.declared.Tried.{Tried}
+use Rattle.outcomes.specs.declared.Tried.the-variants.{Yes, No}
+use Rattle.outcomes.specs.declared.Tried.the-variants as tried
+use Rattle.outcomes.specs.declared.Shown.the-variants.{Denied}
 use Rattle.demands.specs.Columns.{column, leftIn}
 use Rattle.demands.specs.Answers.{literalsOf, MeetsLines, lineNumbered}
 use Rattle.demands.specs.Promises.{Promised, Answered, Told}

@@ -4,8 +4,8 @@ use mathlib.Core.List.{List}
 use lib.ListN.{length}
 use Rattle.language.specs.Limits.{desk}
 use Rattle.rules.specs.Calls.{trying}
-use Rattle.trying.specs.declared.Tried.{Tried}
-use Rattle.trying.specs.Outcome.{Outcome}
+use Rattle.outcomes.specs.declared.Tried.{Tried}
+use Rattle.trying.specs.Outcome.{ToldOutcome}
 use Rattle.trying.proofs.try_filling as try-filling
 use Rattle.demands.specs.Calls.{Call}
 
@@ -16,7 +16,7 @@ pub record Try : Type 0 where
   pub work : List ℕ
   pub returned : Tried
   pub workLeft : List ℕ
-  pub said : Outcome (trying desk (length work) question filling) returned work workLeft
+  pub said : ToldOutcome (trying desk (length work) question filling) returned work workLeft
 
 -- any outcome that the contract itself allows is one
 abbrev pub allowed : Call try-filling.ended try-filling.Reads.Pre try-filling.Reads.Post → Try

@@ -15,23 +15,23 @@ use arguments::is;
 use arguments::is_last;
 use arguments::warn_of;
 use arguments::wrong_use;
-use example::Shown;
 use files::load;
 use language::Refusal;
 use language::limits::FILLING;
 use language::limits::QUESTION;
 use language::limits::ROOM;
+use outcomes::Outcome;
+use outcomes::Shown;
+use outcomes::Solved;
+use outcomes::Tried;
 use print::number;
 use print::say;
 use print::warn;
 use prompt::parse;
 use refusals::refusal;
-use solver::Outcome;
-use solver::Solved;
 use status::FAILED;
 use status::FOUND;
 use status::NOTHING;
-use trying::Tried;
 
 fn wide(n: u16) -> u64 {
     n as u64

@@ -24,6 +24,12 @@ pub record Applies (rule : EqRule) (k : List ℕ) (v : View) (l r : Hedge) : Typ
   pub results : List Branch
   pub answer : rule (before ++ behind) l r ≡ some results
 
+-- the rule of a place in the list applies to the equation that stands where the view says
+pub record RuleApplies (n : ℕ) (k : List ℕ) (v : View) : Type 0 where
+  pub l : Hedge
+  pub r : Hedge
+  pub applies : Applies (eqnAnswer n) k v l r
+
 -- wherever the rule applies, p is the plan that is said
 abbrev pub Is : EqRule → List ℕ → View → (Hedge → Hedge → Plan) → Plan → Type 0
 Is rule k v plan p = (l r : Hedge) → Applies rule k v l r → p ≡ plan l r

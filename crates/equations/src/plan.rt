@@ -7,7 +7,7 @@ ghost use Rattle.views.specs.Looks.{lookOf};
 ghost use Rattle.rules.specs.Rules.{E3, E4, Del3};
 ghost use Rattle.plans.specs.Slots.{dropPlan};
 ghost use Rattle.equations.specs.Recipes.{r1Plan, equated, del1Plan, d0Plan, d2Plan, eliminated, e1Plan, e5Plan, e6Plan, cutPlan, struck, e3Plan, e4Plan, del3Plan, spotOf};
-ghost use Rattle.equations.specs.Planned.{Is, Planning};
+ghost use Rattle.equations.specs.Planned.{Is, Planning, RuleApplies};
 use language::HedgeVar;
 use plans::Piece;
 use plans::Plan;
@@ -326,8 +326,9 @@ fn plan_drop() -> Plan
     }
 }
 
-// The results of the rule of that place in the list, where it applies.
+// The results of the rule of that place in the list, which applies.
 pub fn plan_equation(rank: usize, k: &[u16], v: View) -> Plan
+    requires { ⌜ RuleApplies rank (now k) v ⌝ }
     ensures { λ p. ⌜ Planning rank (now (k .entry)) v p ⌝ }
 {
     match rank {

@@ -2,7 +2,7 @@
 ghost use mathlib.Core.Path.{_≡_};
 ghost use mathlib.Core.List.{_++_};
 ghost use Rattle.language.specs.Trees.{Hedge, Conj};
-ghost use Rattle.views.specs.Views.{Sees};
+ghost use Rattle.views.specs.Views.{Sees, EquationAt};
 ghost use Rattle.rules.specs.Ranks.{eqnRank};
 use crate::functors::rank_node;
 use crate::runs::rank_run;
@@ -14,6 +14,7 @@ use views::View;
 
 // The place of the first rule in the list, or NO_RULE where none applies.
 pub fn rank_equation(k: &[u16], v: View) -> usize
+    requires { ⌜ EquationAt (now k) v ⌝ }
     ensures { λ n. ⌜ ((before behind : Conj) (l r : Hedge) → Sees (now (k .entry)) v before l r behind → n ≡ eqnRank (before ++ behind) l r) ⌝ }
 {
     let l = v.l;

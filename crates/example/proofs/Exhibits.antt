@@ -12,16 +12,19 @@ use Rattle.language.specs.Trees.{Conj}
 use Rattle.language.specs.Question.{countsOf}
 use Rattle.rules.specs.Answer.{Verdict, noLine, allSolved, someOpen, verdictOf, Solving, answered, unread, given-up, solving}
 use Rattle.rules.specs.Calls.{shown, lineAt, showingOf, showing}
-use Rattle.solver.specs.declared.Outcome.{Outcome}
-use Rattle.solver.specs.declared.Outcome.the-variants.{Refused, NoLine, AllSolved, SomeOpen}
-use Rattle.solver.specs.declared.Solved.{Solved}
-use Rattle.solver.specs.Leaves.{verdict, leaves}
-use Rattle.solver.proofs.Outcome.{the-type}
-use Rattle.example.specs.declared.Shown.{Shown}
-use Rattle.example.specs.declared.Shown.the-variants.{Denied}
+use Rattle.outcomes.specs.declared.Outcome.{Outcome}
+use Rattle.outcomes.specs.declared.Outcome.the-variants.{Refused, NoLine, AllSolved, SomeOpen}
+use Rattle.outcomes.specs.declared.Solved.{Solved}
+use Rattle.outcomes.specs.Numbers.{solvedNumbers, shownNumbers}
+use Rattle.solver.specs.Leaves.{verdict, leaves, toldLeaves}
+use Rattle.solver.proofs.Told.{leaves-told}
+use Rattle.outcomes.proofs.Outcome.{the-type}
+use Rattle.outcomes.specs.declared.Shown.{Shown}
+use Rattle.outcomes.specs.declared.Shown.the-variants.{Denied}
 use Rattle.example.specs.Shown.{resultOf, roomOf}
-use Rattle.example.specs.Exhibits.{exhibits}
+use Rattle.example.specs.Exhibits.{exhibits, toldExhibits}
 use Rattle.example.specs.Answers.{Answer, Answered, Ranged, AnswerShown}
+use Rattle.example.proofs.Told.{told-exhibits}
 use Rattle.example.proofs.Finished.{lines-end}
 
 -- the tags of the outcomes that are no refusal
@@ -69,13 +72,18 @@ module _ (question work answer room : List ℕ) (line : ℕ) where
 Answers : List ℕ → ℕ → ℕ → List ℕ → Type 0
 Answers question work answer new = (ls : List Conj) × (n : ℕ) × (solving desk work answer question ≡ answered ls n) × Answer new ls
 
-module _ (question work answer : List ℕ) {s : Solved} {w a : List ℕ} (e : (s, w, a) ≡ leaves (solving desk (length work) (length answer) question) work answer) where
-  pub shown-refused : (room : List ℕ) (line : ℕ) {r : Refusal} → s .outcome ≡ Refused r → (Denied r, w, a, room) ≡ exhibits line question work answer room
-  shown-refused room line {r} d = refused-by question work answer room line (solving desk (length work) (length answer) question) (s, w, a) r e d ∙ sym (exhibits-is question work answer room line)
+module _ (question work answer : List ℕ) (s : Solved) {w a : List ℕ} (solved : (solvedNumbers s, w, a) ≡ toldLeaves (solving desk (length work) (length answer) question) work answer) where
+  left : _≡_ {A = Left} (s, w, a) (leaves (solving desk (length work) (length answer) question) work answer)
+  left = leaves-told (s, w, a) (solving desk (length work) (length answer) question) work answer solved
+
+  pub shown-refused : (room : List ℕ) (line : ℕ) {r : Refusal} → s .outcome ≡ Refused r → (shownNumbers (Denied r), w, a, room) ≡ toldExhibits line question work answer room
+  shown-refused room line {r} d =
+      told-exhibits (Denied r, w, a, room) line question work answer room
+      (refused-by question work answer room line (solving desk (length work) (length answer) question) (s, w, a) r left d ∙ sym (exhibits-is question work answer room line))
 
   answers : ((r : Refusal) → s .outcome ≡ Refused r → ⊥) → Answers question (length work) (length answer) a
   unfolding Answers
-  answers not = by (solving desk (length work) (length answer) question) refl e
+  answers not = by (solving desk (length work) (length answer) question) refl left
     where
       by : (v : Solving) → solving desk (length work) (length answer) question ≡ v → _≡_ {A = Left} (s, w, a) (leaves v work answer) → (ls : List Conj) × (n : ℕ) × (solving desk (length work) (length answer) question ≡ answered ls n) × Answer a ls
       by (answered ls n) d f =
@@ -91,12 +99,13 @@ module _ (question work answer : List ℕ) {s : Solved} {w a : List ℕ} (e : (s
         let (ls, n, d, g) = answers (not-refused (s .outcome) m) in
         (lines-end (length work) (length answer) question ls n d .ranged, record { ls = ls; is = g })
 
-    pub shown-answer : (room : List ℕ) (line : ℕ) {new : List ℕ} {r : Shown} → AnswerShown question line a room new r → (r, w, a, new) ≡ exhibits line question work answer room
+    pub shown-answer : (room : List ℕ) (line : ℕ) {new : List ℕ} {r : Shown} → AnswerShown question line a room new r → (shownNumbers r, w, a, new) ≡ toldExhibits line question work answer room
     unfolding Answers exhibited
     shown-answer room line {new} {r} h =
         let (ls, n, d, g) = answers (not-refused (s .outcome) m) in
         let x = h .result ls g in
         let y = h .room ls g in
-        ap (λ z. (z, w, a, new)) x ∙ ap (λ z. (resultOf (shown desk (countsOf question) (length room) (lineAt line ls)), w, a, z)) y
-        ∙ ap (λ (z : Left). (resultOf (shown desk (countsOf question) (length room) (lineAt line ls)), z .1, z .2, roomOf (shown desk (countsOf question) (length room) (lineAt line ls)) room)) (e ∙ ap (λ v. leaves v work answer) d)
-        ∙ ap (exhibited question work answer room line) (sym d) ∙ sym (exhibits-is question work answer room line)
+        told-exhibits (r, w, a, new) line question work answer room
+        (ap (λ z. (z, w, a, new)) x ∙ ap (λ z. (resultOf (shown desk (countsOf question) (length room) (lineAt line ls)), w, a, z)) y
+        ∙ ap (λ (z : Left). (resultOf (shown desk (countsOf question) (length room) (lineAt line ls)), z .1, z .2, roomOf (shown desk (countsOf question) (length room) (lineAt line ls)) room)) (left ∙ ap (λ v. leaves v work answer) d)
+        ∙ ap (exhibited question work answer room line) (sym d) ∙ sym (exhibits-is question work answer room line))

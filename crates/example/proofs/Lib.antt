@@ -17,5 +17,6 @@ pub mod Lines
 pub mod Reading
 pub mod Settling
 pub mod Finished
+pub mod Told
 pub mod Exhibits
 pub mod Determined

@@ -19,8 +19,8 @@ use Rattle.rules.specs.Example.{example}
 use Rattle.rules.specs.Calls.{Showing, denied, fitted, shown}
 use Rattle.example.specs.Lines.{Line}
 use Rattle.words.proofs.Parts.{drop-of, word-of}
-use Rattle.example.specs.declared.Shown.{Shown}
-use Rattle.example.specs.declared.Shown.the-variants.{Denied}
+use Rattle.outcomes.specs.declared.Shown.{Shown}
+use Rattle.outcomes.specs.declared.Shown.the-variants.{Denied}
 use Rattle.example.specs.Shown.{resultOf, roomOf}
 use Rattle.example.specs.Fillings.{LineShown}
 use Rattle.example.specs.Answers.{Good, Answer, Answered, WordsShown, PartShown, AnswerShown}

@@ -21,8 +21,8 @@ use Rattle.example.specs.Values.{Settled}
 use Rattle.example.specs.Rows.{Makes, valuesBy, starts, KindLength, KindStarts, KindWritten}
 use Rattle.example.specs.declared.values.Sort.the-variants.{Terms, Runs, Functions}
 use Rattle.example.specs.declared.values.Row.{Row}
-use Rattle.example.specs.declared.Shown.{Shown}
-use Rattle.example.specs.declared.Shown.the-variants.{Shows, Denied}
+use Rattle.outcomes.specs.declared.Shown.{Shown}
+use Rattle.outcomes.specs.declared.Shown.the-variants.{Shows, Denied}
 use Rattle.example.specs.Shown.{resultOf, roomOf}
 use Rattle.example.specs.Fillings.{valuesOf, tableOf, Counted, FillingLength, TableWritten, ValuesWritten, LineShown}
 use Rattle.example.proofs.Tables.{joined-row, starts-row, offsets-starts, length-offsets, length-values}

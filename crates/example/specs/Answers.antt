@@ -19,7 +19,7 @@ use Rattle.rules.specs.Example.{example}
 use Rattle.rules.specs.Calls.{fitted, shown, lineAt}
 use Rattle.rules.specs.Each.{Each}
 use Rattle.example.specs.Values.{Settled}
-use Rattle.example.specs.declared.Shown.{Shown}
+use Rattle.outcomes.specs.declared.Shown.{Shown}
 use Rattle.example.specs.Shown.{resultOf, roomOf}
 
 pub record Good (l : Conj) : Type 0 where

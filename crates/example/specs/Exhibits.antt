@@ -6,10 +6,17 @@ use Rattle.language.specs.Limits.{desk}
 use Rattle.rules.specs.Answer.{solving}
 use Rattle.rules.specs.Calls.{showing}
 use Rattle.solver.specs.Leaves.{leaves}
-use Rattle.example.specs.declared.Shown.{Shown}
-use Rattle.example.specs.Shown.{resultOf, roomOf}
+use Rattle.outcomes.specs.declared.Shown.{Shown}
+use Rattle.example.specs.Shown.{numbersOf, resultOf, roomOf}
 
--- what comes back, and the work slice, the answer slice and the room, which held these words
+-- the numbers that come back, and the work slice, the answer slice and the room, which held these words
+unfoldable pub toldExhibits : ℕ → List ℕ → List ℕ → List ℕ → List ℕ → (ℕ × ℕ) × List ℕ × List ℕ × List ℕ
+toldExhibits line question work answer room =
+    let s = showing desk (length work) (length answer) (length room) line question in
+    let l = leaves (solving desk (length work) (length answer) question) work answer in
+    (numbersOf s, l .1, l .2, roomOf s room)
+
+-- the same with the answer that has these numbers
 unfoldable pub exhibits : ℕ → List ℕ → List ℕ → List ℕ → List ℕ → Shown × List ℕ × List ℕ × List ℕ
 exhibits line question work answer room =
     let s = showing desk (length work) (length answer) (length room) line question in

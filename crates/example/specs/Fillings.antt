@@ -12,7 +12,7 @@ use Rattle.example.specs.Laid.{Laid}
 use Rattle.example.specs.Lines.{Line}
 use Rattle.example.specs.Values.{Settled}
 use Rattle.example.specs.Rows.{valuesBy}
-use Rattle.example.specs.declared.Shown.{Shown}
+use Rattle.outcomes.specs.declared.Shown.{Shown}
 use Rattle.example.specs.Shown.{resultOf, roomOf}
 
 -- the values of the term, hedge and function variables

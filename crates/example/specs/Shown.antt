@@ -4,19 +4,15 @@ use mathlib.Core.List.{List, _++_}
 use lib.ListN.{length, drop}
 use Rattle.language.specs.Numbers.{numberOf}
 use Rattle.rules.specs.Calls.{Showing, shows, denied}
-use Rattle.example.specs.declared.Shown.{Shown}
-use Rattle.example.specs.declared.Shown.the-variants.{Shows, Denied}
+use Rattle.outcomes.specs.declared.Shown.{Shown}
+use Rattle.outcomes.specs.declared.Shown.the-variants.{Shows, Denied}
 
--- the paper's number, and the length that comes back
-abbrev pub shownNumber : Shown → ℕ
-shownNumber (Shows n) = 0
-shownNumber (Denied r) = numberOf r
+-- the number of the table, 0 for a filling, and the filling's length
+abbrev pub numbersOf : Showing → ℕ × ℕ
+numbersOf (shows ws) = (0, length ws)
+numbersOf (denied r) = (numberOf r, 0)
 
-abbrev pub shownLength : Shown → ℕ
-shownLength (Shows n) = n
-shownLength (Denied r) = 0
-
--- the filling's length, or the refusal
+-- the answer that has these numbers: the filling's length, or the refusal
 abbrev pub resultOf : Showing → Shown
 resultOf (shows ws) = Shows (length ws)
 resultOf (denied r) = Denied r

@@ -8,15 +8,15 @@ ghost use Prim.Native.Nat.{_<_, _≤_};
 ghost use lib.ListN.{length};
 ghost use mathlib.Core.Path.{_≡_};
 ghost use Rattle.language.specs.Limits.{desk};
-ghost use Rattle.example.specs.Exhibits.{exhibits};
+ghost use Rattle.outcomes.specs.Numbers.{shownNumbers};
+ghost use Rattle.example.specs.Exhibits.{toldExhibits};
 ghost use Rattle.example.specs.Answers.{Ranged, Answered, WordsShown, PartShown, AnswerShown};
-ghost use Rattle.example.specs.Shown.{shownNumber, shownLength};
 ghost use Rattle.example.specs.Fillings.{FillingLength, TableWritten, ValuesWritten, LineShown};
 use language::Refusal;
 use language::limits::FILLING;
-use language::number;
+use outcomes::Outcome;
+use outcomes::Shown;
 use samples::put;
-use solver::Outcome;
 use solver::solve;
 use values::Sort;
 use values::short;
@@ -25,12 +25,6 @@ use values::write_starts;
 use values::write_values;
 use waiting::wide;
 use words::word;
-
-// The length of the filling that the room holds, or why there is none.
-pub enum Shown {
-    Shows(usize),
-    Denied(Refusal),
-}
 
 // How many words the filling has.
 fn filling_len(k: &[u16], terms: usize, hedges: usize, functions: usize) -> usize
@@ -135,7 +129,7 @@ pub fn example(
     answer: &mut [u16],
     room: &mut [u16],
 ) -> Shown
-    ensures { λ r. ⌜ (r, now (work .exit), now (answer .exit), now (room .exit)) ≡ exhibits line (now (question .entry)) (now (work .entry)) (now (answer .entry)) (now (room .entry)) ⌝ }
+    ensures { λ r. ⌜ (shownNumbers r, now (work .exit), now (answer .exit), now (room .exit)) ≡ toldExhibits line (now (question .entry)) (now (work .entry)) (now (answer .entry)) (now (room .entry)) ⌝ }
 {
     let s = solve(question, work, answer);
     let outcome = s.outcome;
@@ -143,24 +137,4 @@ pub fn example(
         return Shown::Denied(e);
     }
     show_line(question, line, answer, room)
-}
-
-// The number that stands in the table, 0 for a filling.
-pub fn shown_number(shown: Shown) -> u16
-    ensures { λ r. ⌜ r ≡ shownNumber shown ⌝ }
-{
-    match shown {
-        Shown::Shows(_) => 0,
-        Shown::Denied(e) => number(e),
-    }
-}
-
-// The filling's length, 0 for a refusal.
-pub fn shown_length(shown: Shown) -> usize
-    ensures { λ r. ⌜ r ≡ shownLength shown ⌝ }
-{
-    match shown {
-        Shown::Shows(n) => n,
-        Shown::Denied(_) => 0,
-    }
 }

@@ -1,9 +1,9 @@
 // Reads cases, a line each: the number of the line asked for, the words of the room, and the words of a question.
 // Writes the refusal's number, or 0 and the words of the filling; and then, of a filling, the number and the value that trying it gives.
 ghost use Rattle.cases.specs.Lines.{Parsed};
-use example::Shown;
 use language::limits::QUESTION;
 use language::limits::ROOM;
+use outcomes::Shown;
 
 fn wide(x: u16) -> usize {
     x as usize
@@ -30,9 +30,9 @@ fn print_words(words: &[u16], n: usize) {
 fn try_filling<'a>(question: &'a [u16], filling: &'a [u16]) {
     let mut work = [0u16; ROOM];
     let tried = trying::try_filling(question, filling, &mut work);
-    print(trying::tried_number(tried));
+    print(outcomes::tried_number(tried));
     io::write_all(1, b" ");
-    print(trying::tried_value(tried));
+    print(outcomes::tried_value(tried));
     io::write_all(1, b"\n");
 }
 
@@ -40,8 +40,8 @@ fn show(question: &[u16], line: usize, room: &mut [u16]) {
     let mut work = [0u16; ROOM];
     let mut answer = [0u16; ROOM];
     let shown = example::example(question, line, &mut work, &mut answer, room);
-    print(example::shown_number(shown));
-    print_words(room, example::shown_length(shown));
+    print(outcomes::shown_number(shown));
+    print_words(room, outcomes::shown_length(shown));
     io::write_all(1, b"\n");
     if let Shown::Shows(n) = shown {
         if n <= room.len() {

@@ -1,4 +1,4 @@
--- Results added to others: none, one, some and then more; and what is held from outside.
+-- Results counted and added to others: none, one, some and then more; and what is held from outside.
 use Prim.Native.Nat.{ℕ, suc, _+_, _-_, _<_, _≤_}
 use mathlib.Core.Path.{_≡_, refl, ap, sym, subst, _∙_}
 use mathlib.Core.Bool.{Bool, true, false}
@@ -18,16 +18,15 @@ use Rattle.results.specs.Written.{Wrote}
 use Rattle.results.proofs.Still.{wrote-as}
 use Rattle.expressions.specs.declared.adding.Kept.{Kept}
 use Rattle.expressions.specs.declared.adding.Spot.{Spot}
-use Rattle.expressions.specs.declared.adding.Results.{Results}
 use Rattle.expressions.specs.Loose.{Loose, firstWords, restWords, opening}
-use Rattle.expressions.specs.Rows.{frontWords, backWords, rowWords, resultLength, resultWords, counted, tallied, Holds, Rowed}
+use Rattle.expressions.specs.Rows.{frontWords, backWords, rowWords, keptLength, lengthBy, resultLength, resultWords, counted, tallied, Holds, Rowed}
 use Rattle.expressions.specs.Walks.{Keeps, Added}
-use Rattle.expressions.proofs.Rows.{row-of}
+use Rattle.expressions.proofs.Rows.{row-of, length-by}
 use Rattle.expressions.proofs.Written.{wrote-append}
 
 -- ---- counting
 
-tallied-append : (s : Size) (us vs : List (List ℕ)) → tallied s (us ++ vs) ≡ tallied (tallied s us) vs
+pub tallied-append : (s : Size) (us vs : List (List ℕ)) → tallied s (us ++ vs) ≡ tallied (tallied s us) vs
 tallied-append s [] vs = refl
 tallied-append s (u ∷ us) vs = tallied-append (counted s (length u)) us vs
 
@@ -100,35 +99,33 @@ module _ (rest : List ℕ) (at : ℕ) (us : List ℕ) {n : ℕ} (e : at + length
 
 -- ---- adding
 
-pub added-none : {ws rest out : List ℕ} {rows : Results} → Added [] ws rest out rows rest out rows
-added-none {ws} {rest} = record { size = refl; keeps = keeps-all (length ws) rest; wrote = λ h q s r. record { end = omega arith; list = refl } }
+pub added-none : {ws rest out : List ℕ} {t : ℕ} → Added [] ws rest out t rest out t
+added-none {ws} {rest} = record { keeps = keeps-all (length ws) rest; wrote = λ h q s r. record { end = omega arith; list = refl } }
 
-pub added-same : {ls ms : List (List ℕ)} {ws r₀ o₀ : List ℕ} {t₀ : Results} {r₁ o₁ : List ℕ} {t₁ : Results} → ms ≡ ls → Added ls ws r₀ o₀ t₀ r₁ o₁ t₁ → Added ms ws r₀ o₀ t₀ r₁ o₁ t₁
+pub added-same : {ls ms : List (List ℕ)} {ws r₀ o₀ : List ℕ} {t₀ : ℕ} {r₁ o₁ : List ℕ} {t₁ : ℕ} → ms ≡ ls → Added ls ws r₀ o₀ t₀ r₁ o₁ t₁ → Added ms ws r₀ o₀ t₀ r₁ o₁ t₁
 added-same e a = rw e a
 
-pub added-append : {us vs : List (List ℕ)} {ws r₀ o₀ : List ℕ} {t₀ : Results} {r₁ o₁ : List ℕ} {t₁ : Results} {r₂ o₂ : List ℕ} {t₂ : Results}
+pub added-append : {us vs : List (List ℕ)} {ws r₀ o₀ : List ℕ} {t₀ : ℕ} {r₁ o₁ : List ℕ} {t₁ : ℕ} {r₂ o₂ : List ℕ} {t₂ : ℕ}
     → Added us ws r₀ o₀ t₀ r₁ o₁ t₁ → Added vs ws r₁ o₁ t₁ r₂ o₂ t₂ → Added (us ++ vs) ws r₀ o₀ t₀ r₂ o₂ t₂
 added-append {us} {vs} {ws} {r₀} {o₀} {t₀} {r₁} {o₁} {t₁} {r₂} {o₂} {t₂} a b =
     record {
-      size = b .size ∙ ap (λ s. tallied s vs) (a .size) ∙ sym (tallied-append (t₀ .size) us vs);
       keeps = keeps-on (omega arith) (a .keeps) (b .keeps);
       wrote = λ h q s r.
           let f = framed-append us vs in
           let l = ap length f ∙ length-append (framed us) (framed vs) in
           let x = short-append us vs s in
           let u = a .wrote h q (x .0) (omega arith) in
-          let n = ap length (u .list) ∙ length-sets o₀ (t₀ .to) (framed us) in
+          let n = ap length (u .list) ∙ length-sets o₀ t₀ (framed us) in
           let e = u .end in
           let k = a .keeps .long in
           wrote-as f (wrote-append u (b .wrote (a .keeps .holds ws (omega arith) h) (omega arith) (x .1) (omega arith)));
     }
 
 -- with more from outside
-pub added-inner : {ls : List (List ℕ)} {ws vs r₀ r₁ o₀ : List ℕ} {t₀ : Results} {r₂ o₂ : List ℕ} {t₂ : Results} → length ws ≤ length vs
+pub added-inner : {ls : List (List ℕ)} {ws vs r₀ r₁ o₀ : List ℕ} {t₀ : ℕ} {r₂ o₂ : List ℕ} {t₂ : ℕ} → length ws ≤ length vs
     → Keeps (length ws) r₀ r₁ → (Holds r₀ ws → Holds r₁ vs) → Added ls vs r₁ o₀ t₀ r₂ o₂ t₂ → Added ls ws r₀ o₀ t₀ r₂ o₂ t₂
 added-inner l k f a =
     record {
-      size = a .size;
       keeps = keeps-on l k (a .keeps);
       wrote = λ h q s r. let z = k .long in a .wrote (f h) (omega arith) s r;
     }
@@ -146,14 +143,17 @@ row-length k s p m r c w =
     let g = ap length r in
     omega arith
 
-pub added-one : {k : List ℕ} {s : Kept} {p : Spot} {rest out : List ℕ} {rows : Results} {out′ : List ℕ} {r : Results} (m : Loose) → Rowed k s p rest out rows out′ r
-    → slice (p .place) (p .past) k ≡ firstWords m → p .parts ≡ m .parts → p .words ≡ length (m .words) → Added (rowWords k s m ∷ []) (m .words) rest out rows rest out′ r
+pub tallied-one : (k : List ℕ) (s : Kept) (p : Spot) (size : Size) {one : ℕ} (m : Loose) → one ≡ lengthBy k (keptLength k s) p → slice (p .place) (p .past) k ≡ firstWords m
+    → p .parts ≡ m .parts → p .words ≡ length (m .words) → counted size one ≡ tallied size (rowWords k s m ∷ [])
+tallied-one k s p size m h e c w = ap (counted size) (h ∙ sym (length-by k s p) ∙ row-length k s p m (row-of k s p m e) c w)
+
+pub added-one : {k : List ℕ} {s : Kept} {p : Spot} {rest out : List ℕ} {t : ℕ} {out′ : List ℕ} {r : ℕ} (m : Loose) → Rowed k s p rest out t out′ r
+    → slice (p .place) (p .past) k ≡ firstWords m → p .parts ≡ m .parts → p .words ≡ length (m .words) → Added (rowWords k s m ∷ []) (m .words) rest out t rest out′ r
 unfolding resultWords
-added-one {k} {s} {p} {rest} {out} {rows} {out′} {r} m a e c w =
+added-one {k} {s} {p} {rest} {out} {t} {out′} {r} m a e c w =
     let row = row-of k s p m e in
     let n = row-length k s p m row c w in
     record {
-      size = a .size ∙ ap (counted (rows .size)) n;
       keeps = keeps-all (length (m .words)) rest;
       wrote = λ h q x y.
           let z = length-append (rowWords k s m) [] in
@@ -188,26 +188,25 @@ words-fewer : (k : List ℕ) (s : Kept) (p : Spot) → p .words ≤ resultLength
 unfolding resultLength
 words-fewer k s p = omega arith
 
-module _ {k : List ℕ} {s : Kept} {p : Spot} {rest out : List ℕ} {rows : Results} {one : ℕ} {size : Size} (fit : rows .to ≤ length out) (e : one ≡ resultLength k s p) (c : size ≡ counted (rows .size) one) where
-  pub rowed-long : desk .question < one → Rowed k s p rest out rows out (record { size = size; to = rows .to })
-  rowed-long h = record { room = fit; size = c ∙ ap (counted (rows .size)) e; wrote = λ ws l d q x y. absurd (omega arith) }
+module _ {k : List ℕ} {s : Kept} {p : Spot} {rest out : List ℕ} {t one : ℕ} (fit : t ≤ length out) (e : one ≡ resultLength k s p) where
+  pub rowed-long : desk .question < one → Rowed k s p rest out t out t
+  rowed-long h = record { room = fit; wrote = λ ws l d q x y. absurd (omega arith) }
 
-  pub rowed-short : length rest < p .words → Rowed k s p rest out rows out (record { size = size; to = rows .to })
-  rowed-short h = let f = words-fewer k s p in record { room = fit; size = c ∙ ap (counted (rows .size)) e; wrote = λ ws l d q x y. absurd (omega arith) }
+  pub rowed-short : length rest < p .words → Rowed k s p rest out t out t
+  rowed-short h = let f = words-fewer k s p in record { room = fit; wrote = λ ws l d q x y. absurd (omega arith) }
 
-  pub rowed-full : length out - rows .to < one + frame → Rowed k s p rest out rows out (record { size = size; to = rows .to })
-  rowed-full h = record { room = fit; size = c ∙ ap (counted (rows .size)) e; wrote = λ ws l d q x y. absurd (omega arith) }
+  pub rowed-full : length out - t < one + frame → Rowed k s p rest out t out t
+  rowed-full h = record { room = fit; wrote = λ ws l d q x y. absurd (omega arith) }
 
-  pub rowed-more : {out′ : List ℕ} {end : ℕ} → p .words ≤ length rest → length out′ ≡ length out → rows .to + frame + one ≤ length out
-      → Wrote out (rows .to) (frameOf (resultLength k s p) ++ resultWords k s p (drop (length rest - p .words) rest)) out′ end → Rowed k s p rest out rows out′ (record { size = size; to = end })
+  pub rowed-more : {out′ : List ℕ} {end : ℕ} → p .words ≤ length rest → length out′ ≡ length out → t + frame + one ≤ length out
+      → Wrote out t (frameOf (resultLength k s p) ++ resultWords k s p (drop (length rest - p .words) rest)) out′ end → Rowed k s p rest out t out′ end
   rowed-more {out′} {end} f n y w =
       let d = length-drop (length rest - p .words) rest in
       let l = words-length k s p (drop (length rest - p .words) rest) (omega arith) in
       let z = w .end in
       record {
         room = omega arith;
-        size = c ∙ ap (counted (rows .size)) e;
         wrote = λ ws l d q x z.
             let v : drop (length rest - p .words) rest ≡ ws = ap (λ m. drop (length rest - m) rest) (sym l) ∙ d .last (omega arith) in
-            subst (λ ws. Wrote out (rows .to) (frameOf (resultLength k s p) ++ resultWords k s p ws) out′ end) v w;
+            subst (λ ws. Wrote out t (frameOf (resultLength k s p) ++ resultWords k s p ws) out′ end) v w;
       }

@@ -8,5 +8,7 @@ pub mod Rests
 pub mod Rows
 pub mod Written
 pub mod Added
+pub mod Joining
+pub mod Tallying
 pub mod Walking
 pub mod Determined

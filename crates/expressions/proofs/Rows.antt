@@ -1,6 +1,6 @@
 -- M2's results are the rows of its monomials laid open.
 use Prim.Native.Nat.{ℕ, _+_, _*_, _≤_}
-use mathlib.Core.Path.{_≡_, ap, _∙_}
+use mathlib.Core.Path.{_≡_, ap, sym, _∙_}
 use mathlib.Core.List.{List, [], _∷_, _++_, map, map-map, append-assoc}
 use native.Mathlib.Omega.{arith}
 use lib.ListN.{length, length-append}
@@ -21,7 +21,7 @@ use Rattle.results.proofs.Parts.{part-short}
 use Rattle.expressions.specs.declared.adding.Kept.{Kept}
 use Rattle.expressions.specs.declared.adding.Spot.{Spot}
 use Rattle.expressions.specs.Loose.{Loose, firstWords, restWords, met}
-use Rattle.expressions.specs.Rows.{keptOf, frontWords, backWords, rowWords}
+use Rattle.expressions.specs.Rows.{keptOf, frontWords, backWords, rowWords, keptLength, lengthBy, resultLength}
 use Rattle.expressions.proofs.Linear.{Fits, rest-of, pairs, results-same}
 
 pub front-length : (k : List ℕ) (s : Kept) (p : Spot) → length (frontWords k s p)
@@ -34,14 +34,21 @@ front-length k s p =
     let a = length-append (slice 0 (s .at) k) (6000 ∷ (slice (s .from) (s .rest) k ++ (0 ∷ (slice (p .place) (p .past) k ++ (6000 ∷ d))))) in
     omega arith
 
-pub front-short : (k : List ℕ) (s : Kept) (p : Spot) → length k ≤ desk .question → length (frontWords k s p) ≤ 4 * desk .question + 3
-front-short k s p h =
-    let l = front-length k s p in
+pub kept-short : (k : List ℕ) (s : Kept) → length k ≤ desk .question → keptLength k s ≤ 4 * desk .question + 3
+unfolding keptLength
+kept-short k s h =
     let a = part-short k 0 (s .at) in
     let b = part-short k (s .from) (s .rest) in
-    let c = part-short k (p .place) (p .past) in
-    let d = part-short k (s .rest) (s .to) in
+    let c = part-short k (s .rest) (s .to) in
+    let d = part-short k (s .end) (s .len) in
     omega arith
+
+pub length-by : (k : List ℕ) (s : Kept) (p : Spot) → resultLength k s p ≡ lengthBy k (keptLength k s) p
+unfolding resultLength lengthBy keptLength backWords
+length-by k s p = let l = front-length k s p in omega arith
+
+pub length-as : (k : List ℕ) (s : Kept) (p : Spot) {kept one : ℕ} → kept ≡ keptLength k s → one ≡ lengthBy k kept p → one ≡ resultLength k s p
+length-as k s p q e = e ∙ ap (λ n. lengthBy k n p) q ∙ sym (length-by k s p)
 
 seven : (a b c d e : List ℕ) → (a ++ (6000 ∷ (b ++ (0 ∷ (c ++ (6000 ∷ d)))))) ++ e ≡ a ++ (6000 ∷ (b ++ (0 ∷ (c ++ (6000 ∷ (d ++ e))))))
 seven a b c d e = simp append-assoc

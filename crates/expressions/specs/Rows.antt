@@ -10,14 +10,13 @@ use Rattle.language.specs.Limits.{desk}
 use Rattle.language.specs.Trees.{Hedge, Expr, Conj}
 use Rattle.frames.specs.Frames.{frame, frameOf, framed}
 use Rattle.plans.specs.Sizes.{grown, sized, monomialWords}
-use Rattle.views.specs.Views.{Shows}
+use Rattle.views.specs.Views.{Shows, MembershipAt}
 use Rattle.views.specs.declared.Shape.{Shape}
 use Rattle.plans.specs.declared.Size.{Size}
 use Rattle.plans.specs.declared.Size.the-variants.{Fits, Over}
 use Rattle.results.specs.Written.{Wrote, Ready}
 use Rattle.expressions.specs.declared.adding.Kept.{Kept}
 use Rattle.expressions.specs.declared.adding.Spot.{Spot}
-use Rattle.expressions.specs.declared.adding.Results.{Results}
 use Rattle.expressions.specs.Loose.{Loose, opening, restWords, firstWords}
 
 -- what a result keeps of the conjunction
@@ -42,6 +41,14 @@ rowWords k s m =
 unfoldable pub resultLength : List ℕ → Kept → Spot → ℕ
 resultLength k s p = length (frontWords k s p) + (length (opening (p .parts)) + p .words) + length (backWords k s)
 
+-- what every result keeps, and how long a result is that keeps so many words
+unfoldable pub keptLength : List ℕ → Kept → ℕ
+keptLength k s =
+    length (slice 0 (s .at) k) + length (slice (s .from) (s .rest) k) + length (slice (s .rest) (s .to) k) + length (slice (s .end) (s .len) k) + 3
+
+unfoldable pub lengthBy : List ℕ → ℕ → Spot → ℕ
+lengthBy k kept p = kept + length (slice (p .place) (p .past) k) + (length (opening (p .parts)) + p .words)
+
 -- the words of a result whose rest has the parts ws
 unfoldable pub resultWords : List ℕ → Kept → Spot → List ℕ → List ℕ
 resultWords k s p ws = frontWords k s p ++ ((opening (p .parts) ++ ws) ++ backWords k s)
@@ -64,12 +71,16 @@ tallied s (w ∷ ws) = tallied (counted s (length w)) ws
 pub record Holds (rest ws : List ℕ) : Type 0 where
   pub last : length ws ≤ length rest → drop (length rest - length ws) rest ≡ ws
 
--- a result is counted, and written after the others where it is not too long and has room
-pub record Rowed (k : List ℕ) (s : Kept) (p : Spot) (rest out : List ℕ) (rows : Results) (out′ : List ℕ) (r : Results) : Type 0 where
-  pub room : r .to ≤ length out′
-  pub size : r .size ≡ counted (rows .size) (resultLength k s p)
+-- a result is written after the others where it is not too long and has room
+pub record Rowed (k : List ℕ) (s : Kept) (p : Spot) (rest out : List ℕ) (t : ℕ) (out′ : List ℕ) (r : ℕ) : Type 0 where
+  pub room : r ≤ length out′
   pub wrote : (ws : List ℕ) → length ws ≡ p .words → Holds rest ws → desk .question ≤ length rest → resultLength k s p ≤ desk .question
-      → rows .to + frame + resultLength k s p ≤ length out → Wrote out (rows .to) (frameOf (resultLength k s p) ++ resultWords k s p ws) out′ (r .to)
+      → t + frame + resultLength k s p ≤ length out → Wrote out t (frameOf (resultLength k s p) ++ resultWords k s p ws) out′ r
+
+-- some membership stands in k where s says, and `out` has room for M2's results from `at` on, none of which is too long
+pub record RoomFor (k : List ℕ) (s : Shape) (out : List ℕ) (at : ℕ) : Type 0 where
+  pub membership : MembershipAt k s
+  pub ready : Ready (monomialWords (membership .before) (membership .h) (membership .R) (membership .behind)) out at
 
 -- all of them: their size, and that they are written
 pub record Sized (k : List ℕ) (s : Shape) (n : Size) : Type 0 where

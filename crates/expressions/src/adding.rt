@@ -1,13 +1,13 @@
 // A result of M2 from a monomial: how long it is, and writing it in its frame.
 ghost use mathlib.Core.Path.{_≡_};
 ghost use mathlib.Core.List.{[], _∷_, _++_};
-ghost use Prim.Native.Nat.{_≤_, _<_, _+_, _-_};
+ghost use Prim.Native.Nat.{_≤_, _<_, _+_, _-_, _*_};
 ghost use lib.ListN.{length, drop};
 ghost use Rattle.frames.specs.Frames.{frame, frameOf};
 ghost use Rattle.language.specs.Limits.{desk};
 ghost use Rattle.results.specs.Written.{Wrote};
 ghost use Rattle.expressions.specs.Loose.{opening};
-ghost use Rattle.expressions.specs.Rows.{keptOf, frontWords, resultLength, resultWords, Bounded, counted, Rowed};
+ghost use Rattle.expressions.specs.Rows.{keptOf, frontWords, keptLength, lengthBy, resultLength, resultWords, Bounded, counted, Rowed};
 use frames::FRAME;
 use frames::write_frame;
 use language::limits::QUESTION;
@@ -36,12 +36,6 @@ pub struct Spot {
     pub words: usize,
 }
 
-// The results so far: how many words they take, and the place after those that are written.
-pub struct Results {
-    pub size: Size,
-    pub to: usize,
-}
-
 pub(crate) fn keeping(s: Shape) -> Kept
     ensures { λ r. ⌜ r ≡ keptOf s ⌝ }
 {
@@ -56,16 +50,16 @@ pub(crate) fn keeping(s: Shape) -> Kept
     }
 }
 
-// How many words stand before the rest in a result.
-fn front_len(k: &[u16], s: Kept, p: Spot) -> usize
+// How many words every result keeps of the conjunction, those between the parts among them.
+pub(crate) fn kept_len(k: &[u16], s: Kept) -> usize
     requires { ⌜ length (now k) ≤ desk .question ⌝ }
-    ensures { λ n. ⌜ n ≡ length (frontWords (now (k .entry)) s p) ⌝ }
+    ensures { λ n. ⌜ n ≡ keptLength (now (k .entry)) s ⌝ }
 {
     let a = part_len(k, 0, s.at);
     let b = part_len(k, s.from, s.rest);
-    let c = part_len(k, p.place, p.past);
     let d = part_len(k, s.rest, s.to);
-    a + b + c + d + 3
+    let c = part_len(k, s.end, s.len);
+    a + b + d + c + 3
 }
 
 // How many words stand before the parts of a rest.
@@ -75,19 +69,18 @@ fn opening_len(parts: usize) -> usize
     if parts == 0 { 1 } else { parts - 1 }
 }
 
-// How long a result is.
-fn result_len(k: &[u16], s: Kept, p: Spot) -> usize
-    requires { ⌜ (length (now k) ≤ desk .question) × Bounded p ⌝ }
-    ensures { λ n. ⌜ n ≡ resultLength (now (k .entry)) s p ⌝ }
+// How long a result is that keeps so many words.
+pub(crate) fn result_len(k: &[u16], kept: usize, p: Spot) -> usize
+    requires { ⌜ (length (now k) ≤ desk .question) × (kept ≤ 4 * desk .question + 3) × Bounded p ⌝ }
+    ensures { λ n. ⌜ n ≡ lengthBy (now (k .entry)) kept p ⌝ }
 {
-    let a = front_len(k, s, p);
+    let a = part_len(k, p.place, p.past);
     let b = opening_len(p.parts);
-    let c = part_len(k, s.end, s.len);
-    a + (b + p.words) + c
+    kept + a + (b + p.words)
 }
 
 // A result more of so many words.
-fn count(size: Size, one: usize) -> Size
+pub(crate) fn count(size: Size, one: usize) -> Size
     ensures { λ r. ⌜ r ≡ counted size one ⌝ }
 {
     match size {
@@ -165,31 +158,28 @@ fn write_row(
     copy(k, s.end, s.len, out, e)
 }
 
-// A result more: counted, and written where it is not too long and has room.
+// A result more, written where it is not too long and has room; the answer is the place after it.
 pub(crate) fn add_row(
     k: &[u16],
     s: Kept,
     p: Spot,
     rest: &[u16],
     out: &mut [u16],
-    rows: Results,
-) -> Results
-    requires { ⌜ (length (now k) ≤ desk .question) × Bounded p × (rows .to ≤ length (now out)) ⌝ }
-    ensures { λ r. ⌜ Rowed (now (k .entry)) s p (now (rest .entry)) (now (out .entry)) rows (now (out .exit)) r ⌝ }
+    to: usize,
+) -> usize
+    requires { ⌜ (length (now k) ≤ desk .question) × Bounded p × (to ≤ length (now out)) ⌝ }
+    ensures { λ r. ⌜ Rowed (now (k .entry)) s p (now (rest .entry)) (now (out .entry)) to (now (out .exit)) r ⌝ }
 {
-    let to = rows.to;
-    let one = result_len(k, s, p);
-    let before = rows.size;
-    let size = count(before, one);
+    let kept = kept_len(k, s);
+    let one = result_len(k, kept, p);
     if QUESTION < one {
-        return Results { size, to };
+        return to;
     }
     if rest.len() < p.words {
-        return Results { size, to };
+        return to;
     }
     if out.len() - to < one + FRAME {
-        return Results { size, to };
+        return to;
     }
-    let end = write_row(k, s, p, one, rest, out, to);
-    Results { size, to: end }
+    write_row(k, s, p, one, rest, out, to)
 }

@@ -16,7 +16,7 @@ pub struct Part {
     pub bare: bool,
 }
 
-fn both(a: bool, b: bool) -> bool
+pub(crate) fn both(a: bool, b: bool) -> bool
     ensures { λ r. ⌜ r ≡ (a && b) ⌝ }
 {
     if a { b } else { false }

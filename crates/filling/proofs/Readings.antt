@@ -16,8 +16,8 @@ use Rattle.language.proofs.Bools.{both-true}
 use Rattle.language.proofs.Offsets.{laid-short}
 use Rattle.meaning.specs.Complete.{Complete}
 use Rattle.meaning.specs.Values.{variables, forms, valuesOf, filling, Given, gives, refuses, readFilling}
-use Rattle.reader.specs.declared.Checked.{Checked}
-use Rattle.reader.specs.declared.Checked.the-variants.{Fine, Refused}
+use Rattle.outcomes.specs.declared.Checked.{Checked}
+use Rattle.outcomes.specs.declared.Checked.the-variants.{Fine, Refused}
 use Rattle.filling.specs.Checking.{isSome, allOfForm, given}
 
 -- the counts that fit

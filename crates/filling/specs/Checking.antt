@@ -17,8 +17,8 @@ use Rattle.language.specs.Reading.{readHedge}
 use Rattle.meaning.specs.Complete.{Complete}
 use Rattle.language.specs.Question.{parts}
 use Rattle.meaning.specs.Values.{complete, Form, aTerm, aHedge, aName, fits, forms, variables, valueOf, valuesOf, Given, gives, refuses}
-use Rattle.reader.specs.declared.Checked.{Checked}
-use Rattle.reader.specs.declared.Checked.the-variants.{Fine, Refused}
+use Rattle.outcomes.specs.declared.Checked.{Checked}
+use Rattle.outcomes.specs.declared.Checked.the-variants.{Fine, Refused}
 
 abbrev pub isSome : {A : Type 0} → Option A → Bool
 isSome none = false

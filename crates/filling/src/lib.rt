@@ -4,7 +4,7 @@ use language::Refusal;
 use language::classify;
 use language::limits::FILLING;
 use language::wide;
-use reader::Checked;
+use outcomes::Checked;
 use reader::Header;
 use reader::Read;
 ghost use mathlib.Core.Path.{_≡_};

@@ -5,7 +5,7 @@ use Rattle.frames.proofs.write_frame as write_frame
 use Rattle.frames.proofs.read_frame as read_frame
 
 write_frame-determined : Determined write_frame.ended write_frame.Reads.Pre write_frame.Reads.Post
-write_frame-determined κs a g p o q e d = ap (λ s. (tt, (s, (tt, (tt, tt))))) (e ∙ sym d)
+write_frame-determined κs a p o q e d = ap (λ s. (tt, (s, (tt, (tt, tt))))) (e ∙ sym d)
 
 read_frame-determined : Determined read_frame.ended read_frame.Reads.Pre read_frame.Reads.Post
-read_frame-determined κs a g p o q e d = ap (λ z. (z, o .1)) (e ∙ sym d)
+read_frame-determined κs a p o q e d = ap (λ z. (z, o .1)) (e ∙ sym d)

@@ -1,50 +1,45 @@
 -- What solving on words ensures, told of the bytes: the words lent come to what the bytes come to.
 use Prim.Native.Nat.{ℕ, _*_, _/_, _≤_}
-use mathlib.Core.Path.{_≡_, refl, ap, _∙_}
+use mathlib.Core.Path.{_≡_, ap, _∙_}
 use mathlib.Core.List.{List, _++_, append-nil}
 use native.Mathlib.Omega.{arith}
 use lib.ListN.{length, drop, drop-of-length-le}
 use lib.Seq.{sets}
 use Rattle.language.specs.Limits.{desk}
-use Rattle.rules.specs.Answer.{Verdict, noLine, allSolved, someOpen, verdictOf, Solving, answered, unread, given-up, solving}
-use Rattle.solver.specs.declared.Solved.{Solved}
-use Rattle.solver.specs.Leaves.{verdict, outcomeNumber, leaves}
+use Rattle.rules.specs.Answer.{Solving, answered, unread, given-up, solving}
+use Rattle.outcomes.specs.Numbers.{SolveNumbers}
+use Rattle.solver.specs.Leaves.{toldLeaves}
 use Rattle.host.specs.Bytes.{bytesOf, wordsIn, fitting}
-use Rattle.host.specs.Numbers.{solvedNumber}
 use Rattle.host.specs.Host.{solvingBytes, solveNumber}
 use Rattle.host.proofs.Refusals.{Numbered, numbered}
 use Rattle.host.proofs.Solves.{Left, Own, same, kept, wrote, bytes-left}
-
-no-refusal : (v : Verdict) → outcomeNumber (verdict v) ≡ 0
-no-refusal noLine = refl
-no-refusal allSolved = refl
-no-refusal someOpen = refl
 
 none-behind : (ws own : List ℕ) → length own ≡ desk .room → ws ++ drop (desk .room) own ≡ ws
 none-behind ws own e = ap (λ (l : List ℕ). ws ++ l) (drop-of-length-le own {i = (desk .room)} (omega arith)) ∙ append-nil ws
 
 -- the number and the desk's own answer slice
-read-off : (s : Solving) (r : Solved) (w o w′ o′ : List ℕ) → length o ≡ desk .room → (r, w′, o′) ≡ leaves s w o → (solvedNumber r ≡ solveNumber s) × Own s o′
+abbrev Told : Type 0
+Told = SolveNumbers × List ℕ × List ℕ
+
+read-off : (s : Solving) (r : SolveNumbers) (w o w′ o′ : List ℕ) → length o ≡ desk .room → (r, w′, o′) ≡ toldLeaves s w o → (r .number ≡ solveNumber s) × Own s o′
 unfolding solveNumber
-read-off (answered ls n) r w o w′ o′ n8 e =
-    (ap (λ (t : Solved × List ℕ × List ℕ). solvedNumber (t .0)) e ∙ no-refusal (verdictOf ls), ap (λ (t : Solved × List ℕ × List ℕ). t .2) e ∙ none-behind _ o n8)
-read-off (unread x) r w o w′ o′ n8 e = (ap (λ (t : Solved × List ℕ × List ℕ). solvedNumber (t .0)) e, tt)
-read-off (given-up x) r w o w′ o′ n8 e =
-    (ap (λ (t : Solved × List ℕ × List ℕ). solvedNumber (t .0)) e, ap (λ (t : Solved × List ℕ × List ℕ). t .2) e ∙ none-behind _ o n8)
+read-off (answered ls n) r w o w′ o′ n8 e = (ap (λ (t : Told). t .0 .number) e, ap (λ (t : Told). t .2) e ∙ none-behind _ o n8)
+read-off (unread x) r w o w′ o′ n8 e = (ap (λ (t : Told). t .0 .number) e, tt)
+read-off (given-up x) r w o w′ o′ n8 e = (ap (λ (t : Told). t .0 .number) e, ap (λ (t : Told). t .2) e ∙ none-behind _ o n8)
 
 module _ (q a : List ℕ) (room : 2 * desk .room ≤ length a)
-    (ws w o w′ o′ : List ℕ) (r : Solved) (k : ℕ)
+    (ws w o w′ o′ : List ℕ) (r : SolveNumbers) (k : ℕ)
     (lent : ws ≡ fitting (desk .question) (wordsIn q)) (work : length w ≡ desk .room) (own : length o ≡ desk .room)
-    (solved : (r, w′, o′) ≡ leaves (solving desk (length w) (length o) ws) w o)
-    (number : k ≡ solvedNumber r) where
+    (solved : (r, w′, o′) ≡ toldLeaves (solving desk (length w) (length o) ws) w o)
+    (number : k ≡ r .number) where
   abbrev comes : Solving
   comes = solvingBytes desk (length a) q
 
   comes-to : solving desk (length w) (length o) ws ≡ comes
   comes-to = rw (work, own, lent) (same q a room)
 
-  told : (solvedNumber r ≡ solveNumber comes) × Own comes o′
-  told = read-off comes r w o w′ o′ own (solved ∙ ap (λ (s : Solving). leaves s w o) comes-to)
+  told : (r .number ≡ solveNumber comes) × Own comes o′
+  told = read-off comes r w o w′ o′ own (solved ∙ ap (λ (s : Solving). toldLeaves s w o) comes-to)
 
   some-number : Numbered comes
   unfolding solvingBytes

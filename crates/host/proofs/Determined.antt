@@ -11,7 +11,7 @@ use Rattle.host.proofs.desk_try as desk-try
 use Rattle.host.proofs.desk_example as desk-example
 
 desk_solve-determined : Determined desk-solve.ended desk-solve.Reads.Pre desk-solve.Reads.Post
-desk_solve-determined κs a g p o q e d = ap (λ n. (n, o .1)) (e .0 ∙ sym (d .0)) ∙ ap (λ (bytes : List ℕ). (q .0, (tt, (bytes, tt)))) (e .1 ∙ sym (d .1))
+desk_solve-determined κs a p o q e d = ap (λ n. (n, o .1)) (e .0 ∙ sym (d .0)) ∙ ap (λ (bytes : List ℕ). (q .0, (tt, (bytes, tt)))) (e .1 ∙ sym (d .1))
 
 -- a filling does not both meet a question and not meet it
 one-number : (t : Trying) (n m : ℕ) → TryNumber t n → TryNumber t m → n ≡ m
@@ -24,7 +24,7 @@ one-number (unread r) n m e d = e ∙ sym d
 one-number (given-up r) n m e d = e ∙ sym d
 
 desk_try-determined : Determined desk-try.ended desk-try.Reads.Pre desk-try.Reads.Post
-desk_try-determined κs a g p o q e d = ap (λ n. (n, o .1)) (one-number _ _ _ e d)
+desk_try-determined κs a p o q e d = ap (λ n. (n, o .1)) (one-number _ _ _ e d)
 
 desk_example-determined : Determined desk-example.ended desk-example.Reads.Pre desk-example.Reads.Post
-desk_example-determined κs a g p o q e d = ap (λ n. (n, o .1)) (e .0 ∙ sym (d .0)) ∙ ap (λ (bytes : List ℕ). (q .0, (tt, (tt, (bytes, tt))))) (e .1 ∙ sym (d .1))
+desk_example-determined κs a p o q e d = ap (λ n. (n, o .1)) (e .0 ∙ sym (d .0)) ∙ ap (λ (bytes : List ℕ). (q .0, (tt, (tt, (bytes, tt))))) (e .1 ∙ sym (d .1))

@@ -7,26 +7,27 @@ use lib.ListN.{length}
 use Rattle.language.specs.Limits.{desk}
 use Rattle.rules.specs.Calls.{Trying, trying}
 use Rattle.rules.specs.Calls as calls
-use Rattle.trying.specs.declared.Tried.{Tried}
-use Rattle.trying.specs.Outcome.{Outcome, triedNumber, triedValue}
+use Rattle.outcomes.specs.declared.Tried.{Tried}
+use Rattle.outcomes.specs.Numbers.{triedNumbers}
+use Rattle.trying.specs.Outcome.{ToldOutcome}
 use Rattle.host.specs.Bytes.{wordsIn, fitting, used}
 use Rattle.host.specs.Numbers.{toldBy}
 use Rattle.host.specs.Host.{tryingBytes, TryNumber}
 use Rattle.host.proofs.Fitting.{fitting-trying}
 use Rattle.host.proofs.Numbering.{told-number}
 
-abbrev triedTold : Tried → ℕ
-triedTold r = toldBy (triedNumber r) (triedValue r)
+abbrev triedTold : ℕ × ℕ → ℕ
+triedTold n = toldBy (n .0) (n .1)
 
-tell : (t : Trying) (r : Tried) (k : ℕ) (w w′ : List ℕ) → Outcome t r w w′ → k ≡ triedTold r → TryNumber t k
+tell : (t : Trying) (r : Tried) (k : ℕ) (w w′ : List ℕ) → ToldOutcome t r w w′ → k ≡ triedTold (triedNumbers r) → TryNumber t k
 unfolding TryNumber toldBy used
 tell (calls.decides q ρ) r k w w′ (c, z) e =
-    ⊎-elim (λ (y : (r ≡ _) × _). inl (e ∙ ap triedTold (y .0), y .1)) (λ (y : (r ≡ _) × _). inr (e ∙ ap triedTold (y .0), y .1)) c
+    ⊎-elim (λ (y : (triedNumbers r ≡ _) × _). inl (e ∙ ap triedTold (y .0), y .1)) (λ (y : (triedNumbers r ≡ _) × _). inr (e ∙ ap triedTold (y .0), y .1)) c
 tell (calls.unread x) r k w w′ c e = e ∙ ap triedTold (c .0) ∙ told-number x 0
 tell (calls.given-up x) r k w w′ c e = e ∙ ap triedTold (c .0) ∙ told-number x 0
 
 pub tried : (q f ws fs w w′ : List ℕ) (r : Tried) (k : ℕ) → ws ≡ fitting (desk .question) (wordsIn q) → fs ≡ fitting (desk .filling) (wordsIn f) → length w ≡ desk .room
-    → Outcome (trying desk (length w) ws fs) r w w′ → k ≡ triedTold r → TryNumber (tryingBytes desk q f) k
+    → ToldOutcome (trying desk (length w) ws fs) r w w′ → k ≡ triedTold (triedNumbers r) → TryNumber (tryingBytes desk q f) k
 unfolding tryingBytes
 tried q f ws fs w w′ r k ew ef n o e =
     let same : trying desk (length w) ws fs ≡ trying desk (desk .room) (wordsIn q) (wordsIn f) = rw (n, ew, ef) (fitting-trying (desk .room) (wordsIn q) (wordsIn f)) in

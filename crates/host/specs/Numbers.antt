@@ -3,8 +3,8 @@ use Prim.Native.Nat.{ℕ, _+_}
 use lib.Dec.{eqb}
 use Rattle.language.specs.Limits.{desk}
 use Rattle.language.specs.Kinds.{pick}
-use Rattle.solver.specs.declared.Solved.{Solved}
-use Rattle.solver.specs.Leaves.{outcomeNumber}
+use Rattle.outcomes.specs.declared.Solved.{Solved}
+use Rattle.outcomes.specs.Numbers.{outcomeNumber}
 use Rattle.host.specs.Bytes.{used}
 
 -- the refusal's number, or 0

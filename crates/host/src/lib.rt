@@ -12,16 +12,16 @@ ghost use Rattle.host.specs.Bytes.{used};
 ghost use Rattle.host.specs.Numbers.{solvedNumber, toldBy};
 use bytes::take_words;
 use bytes::write_words;
-use example::shown_length;
-use example::shown_number;
 use language::limits::ANSWER_BYTES;
 use language::limits::FILLING;
 use language::limits::QUESTION;
 use language::limits::ROOM;
-use solver::Solved;
-use solver::outcome_number;
-use trying::tried_number;
-use trying::tried_value;
+use outcomes::Solved;
+use outcomes::outcome_number;
+use outcomes::shown_length;
+use outcomes::shown_number;
+use outcomes::tried_number;
+use outcomes::tried_value;
 
 fn wide(n: u16) -> u32
     ensures { λ r. ⌜ r ≡ n ⌝ }

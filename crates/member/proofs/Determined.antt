@@ -14,7 +14,7 @@ same-test true false f g = sym (g .1 (f .0 refl))
 same-test false true f g = f .1 (g .0 refl)
 
 member-determined : Determined member.ended member.Reads.Pre member.Reads.Post
-member-determined κs a g p o q e d =
+member-determined κs a p o q e d =
     let both = p .0 in
     let R = both .R in
     let h = both .g in

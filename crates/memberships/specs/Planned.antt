@@ -22,6 +22,12 @@ pub record Applies (rule : InRule) (k : List ℕ) (s : Shape) (h : Hedge) (R : E
   pub results : List Branch
   pub answer : rule (before ++ behind) h R ≡ some results
 
+-- the rule of a place in the list applies to the membership that stands where the shape says
+pub record RuleApplies (rank : ℕ) (k : List ℕ) (s : Shape) : Type 0 where
+  pub h : Hedge
+  pub R : Expr
+  pub applies : Applies (memAnswer rank) k s h R
+
 -- wherever the rule applies, p is the plan that is said
 abbrev pub Is : InRule → List ℕ → Shape → (Expr → Plan) → Plan → Type 0
 Is rule k s plan p = (h : Hedge) (R : Expr) → Applies rule k s h R → p ≡ plan R

@@ -3,7 +3,7 @@ ghost use mathlib.Core.Path.{_≡_};
 ghost use Rattle.rules.specs.Rules.{M5, M6, M7};
 ghost use Rattle.plans.specs.Slots.{blankRecipe, single};
 ghost use Rattle.memberships.specs.Recipes.{r2Plan, vanished, m1Plan, m3First, m3Second, m3Plan, memberIn, m4Plan, m11Plan, m5First, m5Second, shared, halved, named, m10Plan, exprInner, midOf};
-ghost use Rattle.memberships.specs.Planned.{Is, Answered};
+ghost use Rattle.memberships.specs.Planned.{Is, Answered, RuleApplies};
 use plans::Piece;
 use plans::Plan;
 use plans::Recipe;
@@ -303,8 +303,9 @@ fn plan_m10(k: &[u16], s: Shape) -> Plan
     }
 }
 
-// The results of the rule of that place in the list, where it applies; M2's are made elsewhere.
+// The results of the rule of that place in the list, which applies; M2's are made elsewhere.
 pub fn plan_membership(rank: usize, k: &[u16], s: Shape) -> Plan
+    requires { ⌜ RuleApplies rank (now k) s ⌝ }
     ensures { λ p. ⌜ Answered rank (now (k .entry)) s p ⌝ }
 {
     match rank {

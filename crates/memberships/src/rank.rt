@@ -6,7 +6,7 @@ ghost use Rattle.language.specs.Kinds.{pick};
 ghost use Rattle.language.specs.Trees.{Hedge, Expr, Conj};
 ghost use Rattle.rules.specs.Looks.{hasTerm};
 ghost use Rattle.rules.specs.Expressions.{nullable};
-ghost use Rattle.views.specs.Views.{Shows};
+ghost use Rattle.views.specs.Views.{Shows, MembershipAt};
 ghost use Rattle.rules.specs.Ranks.{memRank};
 ghost use Rattle.views.specs.Standing.{Stands};
 ghost use Rattle.expressions.specs.Standing.{Here};
@@ -114,6 +114,7 @@ fn rank_run(k: &[u16], from: usize, first: Kind, last: bool) -> usize
 
 // The place of the first rule in the list, or NO_RULE where none applies.
 pub fn rank_membership(k: &[u16], s: Shape) -> usize
+    requires { ⌜ MembershipAt (now k) s ⌝ }
     ensures { λ n. ⌜ ((before : Conj) (h : Hedge) (R : Expr) (behind : Conj) → Shows (now (k .entry)) s before h R behind → n ≡ memRank (before ++ behind) h R) ⌝ }
 {
     let h = s.h;

@@ -6,10 +6,10 @@ use Rattle.plans.proofs.few as few
 use Rattle.plans.proofs.inner as inner
 
 full-determined : Determined full.ended full.Reads.Pre full.Reads.Post
-full-determined κs a g p o q e d = ap (λ z. (z, o .1)) (e ∙ sym d)
+full-determined κs a p o q e d = ap (λ z. (z, o .1)) (e ∙ sym d)
 
 few-determined : Determined few.ended few.Reads.Pre few.Reads.Post
-few-determined κs a g p o q e d = ap (λ z. (z, o .1)) (e ∙ sym d)
+few-determined κs a p o q e d = ap (λ z. (z, o .1)) (e ∙ sym d)
 
 inner-determined : Determined inner.ended inner.Reads.Pre inner.Reads.Post
-inner-determined κs a g p o q e d = ap (λ z. (z, o .1)) (e ∙ sym d)
+inner-determined κs a p o q e d = ap (λ z. (z, o .1)) (e ∙ sym d)

@@ -3,8 +3,10 @@ use Prim.Native.Nat.{ℕ, _+_, _≤_}
 use mathlib.Core.List.{List, [], _∷_, map}
 use lib.Dec.{leb}
 use lib.ListN.{length}
+use Rattle.language.specs.declared.Refusal.the-variants.{LongResult}
 use Rattle.language.specs.Limits.{desk}
 use Rattle.language.specs.Kinds.{pick}
+use Rattle.language.specs.Numbers.{numberOf}
 use Rattle.language.specs.Trees.{Hedge, Expr, Conj}
 use Rattle.language.specs.Writing.{conjWords}
 use Rattle.rules.specs.Rules.{Branch, monomialResult}
@@ -14,6 +16,15 @@ use Rattle.frames.specs.Frames.{frame}
 use Rattle.views.specs.Looks.{head, tail}
 use Rattle.plans.specs.declared.Size.{Size}
 use Rattle.plans.specs.declared.Size.the-variants.{Fits, Over}
+
+-- the number of the table for each case, 0 where no result is too long, and the value: how many words they are
+abbrev pub sizeNumber : Size → ℕ
+sizeNumber (Fits n) = 0
+sizeNumber Over = numberOf LongResult
+
+abbrev pub sizeValue : Size → ℕ
+sizeValue (Fits n) = n
+sizeValue Over = 0
 
 -- none passes the limit of a conjunction
 abbrev pub Short : List (List ℕ) → Type 0

@@ -12,9 +12,12 @@ use Rattle.language.specs.Reading.{Got, got, stop, Reader}
 use Rattle.language.specs.Question.{Asked, asks, refuses, readQuestion}
 use Rattle.language.proofs.Laws.{Reads}
 use Rattle.reader.specs.declared.Read.the-variants.{Next, Stop}
-use Rattle.reader.specs.declared.Checked.the-variants.{Fine, Refused}
+use Rattle.outcomes.specs.declared.Checked.{Checked}
+use Rattle.outcomes.specs.declared.Checked.the-variants.{Fine, Refused}
+use Rattle.outcomes.specs.Numbers.{checkedNumber}
+use Rattle.outcomes.proofs.Apart.{checked-apart}
 use Rattle.reader.specs.Places.{placed}
-use Rattle.reader.specs.Checking.{checked}
+use Rattle.reader.specs.Checking.{checked, askedNumber}
 
 -- a tree stands from `at` to `to`
 pub record Stands {A : Type 0} (words : A → List ℕ) (fine : A → Type 0) (w : List ℕ) (at to : ℕ) : Type 0 where
@@ -42,6 +45,12 @@ module _ {A : Type 0} {words : A → List ℕ} {fine : A → Type 0} {read : Rea
       let s : Stop to ≡ placed at (got a (length (words a))) = e ∙ ap (placed at) b in
       let z : _≡_ {A = ℕ} 0 1 = cc in
       omega arith
+
+-- the number tells what came of reading
+pub as-checked : (c : Checked) (a : Asked) → checkedNumber c ≡ askedNumber a → c ≡ checked a
+unfolding checked askedNumber
+as-checked c (asks q) e = checked-apart c Fine e
+as-checked c (refuses r) e = checked-apart c (Refused r) e
 
 module _ (ws : List ℕ) where
   pub question-asked : Fine ≡ checked (readQuestion desk ws) → (q : Question) × (readQuestion desk ws ≡ asks q)

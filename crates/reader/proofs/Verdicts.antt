@@ -17,21 +17,22 @@ use Rattle.language.proofs.Questions.{bad-length, bad-counts, bad-offset, bad-l
 use Rattle.language.proofs.Alternatives.{question-declared}
 use Rattle.reader.specs.declared.Header.{Header}
 use Rattle.reader.specs.declared.Scan.the-variants.{Declared, Undeclared}
-use Rattle.reader.specs.declared.Checked.the-variants.{Fine, Refused}
-use Rattle.reader.specs.Checking.{readable, headerOf, countsIn, firstUndeclared, checked}
+use Rattle.outcomes.specs.declared.Checked.the-variants.{Fine, Refused}
+use Rattle.outcomes.specs.Numbers.{checkedNumber}
+use Rattle.reader.specs.Checking.{readable, headerOf, countsIn, firstUndeclared, askedNumber}
 use Rattle.reader.proofs.Checks.{scan-clean, scan-finds}
 
 module _ (ws : List ℕ) where
-  refused : (r : Refusal) → readQuestion desk ws ≡ refuses r → Refused r ≡ checked (readQuestion desk ws)
-  unfolding checked
-  refused r e = sym (ap checked e)
+  refused : (r : Refusal) → readQuestion desk ws ≡ refuses r → checkedNumber (Refused r) ≡ askedNumber (readQuestion desk ws)
+  unfolding askedNumber
+  refused r e = sym (ap askedNumber e)
 
-  pub too-short : length ws < 6 → Refused QuestionLength ≡ checked (readQuestion desk ws)
+  pub too-short : length ws < 6 → checkedNumber (Refused QuestionLength) ≡ askedNumber (readQuestion desk ws)
   unfolding lengthFits
   too-short p = refused QuestionLength (bad-length desk ws (rw (lt-leb 6 (length ws) p)))
 
   module _ (l : 6 ≤ length ws) where
-    pub too-long : desk .question < length ws → Refused QuestionLength ≡ checked (readQuestion desk ws)
+    pub too-long : desk .question < length ws → checkedNumber (Refused QuestionLength) ≡ askedNumber (readQuestion desk ws)
     unfolding lengthFits
     too-long p = refused QuestionLength (bad-length desk ws (rw (le-leb 6 (length ws) l, lt-leb (length ws) (desk .question) p)))
 
@@ -48,22 +49,22 @@ module _ (ws : List ℕ) where
         tabled : laidOut 5 (h .alternatives) ws ≡ laidOut 5 (alternativesOf ws) ws
         tabled = ap (λ (h : Header). laidOut 5 (h .alternatives) ws) e
 
-        pub counts-wrong : countsFit desk (countsIn h) (h .alternatives) ≡ false → Refused CountRange ≡ checked (readQuestion desk ws)
+        pub counts-wrong : countsFit desk (countsIn h) (h .alternatives) ≡ false → checkedNumber (Refused CountRange) ≡ askedNumber (readQuestion desk ws)
         counts-wrong c = refused CountRange (bad-counts desk ws fits (sym counted ∙ c))
 
         module _ (c : countsFit desk (countsIn h) (h .alternatives) ≡ true) where
-          pub offsets-wrong : laidOut 5 (h .alternatives) ws ≡ false → Refused BadOffset ≡ checked (readQuestion desk ws)
+          pub offsets-wrong : laidOut 5 (h .alternatives) ws ≡ false → checkedNumber (Refused BadOffset) ≡ askedNumber (readQuestion desk ws)
           offsets-wrong o = refused BadOffset (bad-offset desk ws fits (sym counted ∙ c) (sym tabled ∙ o))
 
           module _ (o : laidOut 5 (h .alternatives) ws ≡ true) where
             readings : readAll desk (parts 5 (h .alternatives) ws) ≡ readAll desk (parts 5 (alternativesOf ws) ws)
             readings = ap (λ (h : Header). readAll desk (parts 5 (h .alternatives) ws)) e
 
-            pub literals-wrong : readable (readAll desk (parts 5 (h .alternatives) ws)) ≡ false → Refused NotLiterals ≡ checked (readQuestion desk ws)
+            pub literals-wrong : readable (readAll desk (parts 5 (h .alternatives) ws)) ≡ false → checkedNumber (Refused NotLiterals) ≡ askedNumber (readQuestion desk ws)
             unfolding readable
             literals-wrong r = on (readAll desk (parts 5 (alternativesOf ws) ws)) refl (sym (ap readable readings) ∙ r)
               where
-                on : (ks : Option (List Conj)) → readAll desk (parts 5 (alternativesOf ws) ws) ≡ ks → readable ks ≡ false → Refused NotLiterals ≡ checked (readQuestion desk ws)
+                on : (ks : Option (List Conj)) → readAll desk (parts 5 (alternativesOf ws) ws) ≡ ks → readable ks ≡ false → checkedNumber (Refused NotLiterals) ≡ askedNumber (readQuestion desk ws)
                 on none i r = refused NotLiterals (bad-literals desk ws fits (sym counted ∙ c) (sym tabled ∙ o) i)
                 on (some ks) i r = absurd (let z : _≡_ {A = ℕ} 0 1 = cc in omega arith)
 
@@ -86,9 +87,9 @@ module _ (ws : List ℕ) where
                   on none i t = absurd (let z : _≡_ {A = ℕ} 0 1 = cc in omega arith)
                   on (some ks) i t = k ks i
 
-              pub number-wrong : (p : ℕ) → firstUndeclared desk (countsIn h) (m + 6) (drop (m + 6) ws) ≡ Undeclared p → Refused NotDeclared ≡ checked (readQuestion desk ws)
+              pub number-wrong : (p : ℕ) → firstUndeclared desk (countsIn h) (m + 6) (drop (m + 6) ws) ≡ Undeclared p → checkedNumber (Refused NotDeclared) ≡ askedNumber (readQuestion desk ws)
               number-wrong p d = with-readings (λ ks i. refused NotDeclared (not-declared desk ws fits (sym counted ∙ c) (sym tabled ∙ o) ks i (sym (words-declared ks i) ∙ scan-finds (countsIn h) (m + 6) (drop (m + 6) ws) p d)))
 
-              pub nothing-wrong : firstUndeclared desk (countsIn h) (m + 6) (drop (m + 6) ws) ≡ Declared → Fine ≡ checked (readQuestion desk ws)
-              unfolding checked
-              nothing-wrong d = with-readings (λ ks i. sym (ap checked (asked desk ws fits (sym counted ∙ c) (sym tabled ∙ o) ks i (sym (words-declared ks i) ∙ scan-clean (countsIn h) (m + 6) (drop (m + 6) ws) d))))
+              pub nothing-wrong : firstUndeclared desk (countsIn h) (m + 6) (drop (m + 6) ws) ≡ Declared → checkedNumber Fine ≡ askedNumber (readQuestion desk ws)
+              unfolding askedNumber
+              nothing-wrong d = with-readings (λ ks i. sym (ap askedNumber (asked desk ws fits (sym counted ∙ c) (sym tabled ∙ o) ks i (sym (words-declared ks i) ∙ scan-clean (countsIn h) (m + 6) (drop (m + 6) ws) d))))

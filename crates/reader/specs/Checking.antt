@@ -13,8 +13,8 @@ use Rattle.language.specs.Undeclared.{declaredWord}
 use Rattle.reader.specs.declared.Header.{Header}
 use Rattle.reader.specs.declared.Scan.{Scan}
 use Rattle.reader.specs.declared.Scan.the-variants.{Declared, Undeclared}
-use Rattle.reader.specs.declared.Checked.{Checked}
-use Rattle.reader.specs.declared.Checked.the-variants.{Fine, Refused}
+use Rattle.outcomes.specs.declared.Checked.{Checked}
+use Rattle.outcomes.specs.declared.Checked.the-variants.{Fine, Refused}
 
 -- each part was a conjunction
 unfoldable pub readable : Option (List Conj) → Bool
@@ -38,7 +38,7 @@ unfoldable pub checked : Asked → Checked
 checked (asks q) = Fine
 checked (refuses r) = Refused r
 
--- the number that comes back
-abbrev pub checkedNumber : Checked → ℕ
-checkedNumber Fine = 0
-checkedNumber (Refused r) = numberOf r
+-- the same in numbers: the number of the table, 0 for a question that is not refused
+unfoldable pub askedNumber : Asked → ℕ
+askedNumber (asks q) = 0
+askedNumber (refuses r) = numberOf r

@@ -5,8 +5,8 @@ use language::classify;
 use language::limits::ALTERNATIVES;
 use language::limits::EACH;
 use language::limits::QUESTION;
-use language::number;
 use language::wide;
+use outcomes::Checked;
 ghost use mathlib.Core.Path.{_≡_};
 ghost use mathlib.Core.Bool.{true};
 ghost use Prim.Native.Nat.{_≤_};
@@ -16,8 +16,9 @@ ghost use Rattle.language.specs.Reading.{readTerm, readHedge, readExpr, readLit
 ghost use Rattle.language.specs.Question.{rising, laidOut, parts, readAll, countsFit, readQuestion};
 ghost use Rattle.language.specs.Undeclared.{declaredWord};
 ghost use Rattle.language.specs.Between.{between};
+ghost use Rattle.outcomes.specs.Numbers.{checkedNumber};
 ghost use Rattle.reader.specs.Places.{placed};
-ghost use Rattle.reader.specs.Checking.{readable, headerOf, countsIn, firstUndeclared, checked, checkedNumber};
+ghost use Rattle.reader.specs.Checking.{readable, headerOf, countsIn, firstUndeclared, askedNumber};
 
 // The place after what was read, or the place of the first word that cannot go on.
 pub enum Read {
@@ -239,15 +240,9 @@ fn find_undeclared(h: Header, w: &[u16], from: usize) -> Scan
     Scan::Declared
 }
 
-// What comes of reading a question.
-pub enum Checked {
-    Fine,
-    Refused(Refusal),
-}
-
 // Whether a question can be worked on, or which of 2 to 6 is given: in their order, each over the whole question.
 pub fn read_question(question: &[u16]) -> Checked
-    ensures { λ r. ⌜ r ≡ checked (readQuestion desk (now (question .entry))) ⌝ }
+    ensures { λ r. ⌜ checkedNumber r ≡ askedNumber (readQuestion desk (now (question .entry))) ⌝ }
 {
     if question.len() < 6 {
         return Checked::Refused(Refusal::QuestionLength);
@@ -269,15 +264,5 @@ pub fn read_question(question: &[u16]) -> Checked
     match find_undeclared(h, question, wide(n) + 6) {
         Scan::Undeclared(_) => Checked::Refused(Refusal::Undeclared),
         Scan::Declared => Checked::Fine,
-    }
-}
-
-// The number that comes back for it: 0 for a question that is not refused.
-pub fn verdict_number(verdict: Checked) -> u16
-    ensures { λ r. ⌜ r ≡ checkedNumber verdict ⌝ }
-{
-    match verdict {
-        Checked::Fine => 0,
-        Checked::Refused(refusal) => number(refusal),
     }
 }

@@ -6,7 +6,7 @@ fn one(line: &[u8]) {
     let mut words = [0u16; 2 * QUESTION];
     let n = cases::words_of(line, &mut words);
     let verdict = reader::read_question(&words[0..n]);
-    io::print_decimal(1, reader::verdict_number(verdict) as u64);
+    io::print_decimal(1, outcomes::verdict_number(verdict) as u64);
     io::write_all(1, b"\n");
 }
 

@@ -101,7 +101,7 @@ fn lines_end(answer: &[u16]) -> usize {
 fn solved(question: &[u16], work: &mut [u16], answer: &mut [u16]) {
     let s = solver::solve(question, work, answer);
     let outcome = s.outcome;
-    let refusal = solver::outcome_number(outcome);
+    let refusal = outcomes::outcome_number(outcome);
     number(wide(refusal));
     number(s.lines as u64);
     number(s.open as u64);

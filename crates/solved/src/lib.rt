@@ -14,7 +14,7 @@ ghost use Rattle.rules.specs.Solved.{inMember, solvedLiteral, solved};
 ghost use Rattle.words.specs.Spans.{member};
 ghost use Rattle.views.specs.Views.{Shows};
 ghost use Rattle.views.specs.Variables.{variableWord, fineVar};
-ghost use Rattle.views.specs.Standing.{LiteralAt};
+ghost use Rattle.views.specs.Standing.{LiteralAt, Conjunction};
 ghost use Rattle.solved.specs.Lone.{singleTerm, bareFunctor, lone, sideVariable, loneVariable, loneWord, aloneSide};
 ghost use Rattle.solved.specs.Ranges.{Between};
 use language::FunVar;
@@ -198,6 +198,7 @@ fn solved_literal(k: &[u16], at: usize) -> bool
 
 // Whether a line is solved.
 pub fn is_solved(k: &[u16]) -> bool
+    requires { ⌜ Conjunction (now k) ⌝ }
     ensures { λ r. ⌜ ((c : Conj) → fineConj desk c → now (k .entry) ≡ conjWords c → r ≡ solved c) ⌝ }
 {
     let mut i = 0;

@@ -1,11 +1,11 @@
 -- A step of the first waiting conjunction, by what was found in it and what taking the step left.
-use Prim.Native.Nat.{ℕ, _+_, _<_, _≤_}
+use Prim.Native.Nat.{ℕ, _+_, _-_, _<_, _≤_}
 use native.Mathlib.Omega.{arith}
 use mathlib.Core.Path.{_≡_, sym, ap, _∙_, subst}
 use mathlib.Core.Bool.{Bool}
 use mathlib.Core.List.{List, _∷_, _++_, map}
 use mathlib.Core.Option.{some}
-use lib.ListN.{length, take, drop}
+use lib.ListN.{length, getD, take, drop, replicate, length-replicate}
 use lib.Seq.{sets, slice, sets-eq, take-at}
 use Rattle.language.specs.Limits.{desk}
 use Rattle.language.specs.declared.Refusal.the-variants.{LongResult, LongWaiting, StepLimit}
@@ -17,16 +17,20 @@ use Rattle.rules.specs.Rules.{Branch}
 use Rattle.rules.specs.Places.{noRule}
 use Rattle.plans.specs.Sizes.{placedWords}
 use Rattle.steps.specs.Ranking.{Found, nowhere, somewhere, sideAnswer}
+use Rattle.steps.specs.Asking.{RuleAt}
+use Rattle.steps.specs.Seeking.{bestOf}
+use Rattle.steps.specs.declared.Best.{Best}
+use Rattle.steps.proofs.Finding.{best-found}
 use Rattle.views.proofs.LiteralWalks.{stands-here}
 use Rattle.steps.proofs.Pass.{searched}
-use Rattle.views.specs.Standing.{LiteralAt}
+use Rattle.views.specs.Standing.{LiteralAt, Conjunction}
 use Rattle.solver.specs.declared.State.{State}
 use Rattle.solver.specs.declared.Turned.the-variants.{On, Stop}
 use Rattle.steps.specs.declared.Stepped.{Stepped}
 use Rattle.steps.specs.declared.Stepped.the-variants.{Long, Room, Done}
 use Rattle.steps.specs.Taking.{Took, long, room, done}
 use Rattle.solver.specs.Running.{Running, Turns}
-use Rattle.solver.proofs.Going.{placed-words, no-more-steps, step-long, step-room, step-on}
+use Rattle.solver.proofs.Going.{first-size, first-words, placed-words, no-more-steps, step-long, step-room, step-on}
 
 module _ (oldWork oldAnswer : List ℕ) (ls : List Conj) (c : Conj) (w : List Conj) (s : State) (work answer : List ℕ)
     (p : Running oldWork oldAnswer ls (c ∷ w) s work answer) (k : List ℕ) (ek : k ≡ conjWords c) (next : ℕ) (en : next ≡ s .at + 1 + length k)
@@ -84,7 +88,31 @@ pub none-found : (c : Conj) (n at : ℕ) (swap : Bool) → Found c n at swap →
 none-found c n at swap (nowhere e d) h = searched c _ d
 none-found c n at swap (somewhere before l behind bs e q m a d) h = absurd (omega arith)
 
+-- where something was found, its rule applies there
+pub rule-found : (k : List ℕ) (x : Conjunction k) (b : Best) → b ≡ bestOf (x .conj) → b .rank < noRule → RuleAt k b
+rule-found k x b e h = go (best-found (x .conj) b e)
+  where
+    go : Found (x .conj) (b .rank) (b .at) (b .swap) → RuleAt k b
+    go (nowhere n d) = absurd (omega arith)
+    go (somewhere before l behind bs s q m a d) = record {
+      before = before;
+      l = l;
+      behind = behind;
+      results = bs;
+      stands = stands-here k (x .conj) (x .fine) (x .words) (b .at) before l behind s q;
+      answer = a;
+    }
+
 -- the first block, copied to the front of an array
-pub taken-out : (z a work b : List ℕ) (from to n : ℕ) → a ≡ sets z 0 (slice from to work) → slice from to work ≡ b → length b ≡ n → n ≤ length z → take n a ≡ b
+taken-out : (z a work b : List ℕ) (from to n : ℕ) → a ≡ sets z 0 (slice from to work) → slice from to work ≡ b → length b ≡ n → n ≤ length z → take n a ≡ b
 taken-out z a work b from to n e d l h =
     ap (take n) (e ∙ ap (sets z 0) d ∙ sets-eq b z 0 (omega arith)) ∙ take-at b (drop (0 + length b) z) n l
+
+pub first-taken : (oldWork oldAnswer : List ℕ) (ls : List Conj) (c : Conj) (w : List Conj) (s : State) (work answer : List ℕ)
+    → Running oldWork oldAnswer ls (c ∷ w) s work answer → (n : ℕ) → n ≡ getD work (s .at) 0 → n ≤ desk .question
+    → (a : List ℕ) → a ≡ sets (replicate (desk .question) 0) 0 (slice (s .at + 1) (s .at + 1 + n) work) → take (n - 0) a ≡ conjWords c
+first-taken oldWork oldAnswer ls c w s work answer p n en h a ea =
+    let e : n ≡ length (conjWords c) = en ∙ first-size oldWork oldAnswer ls c w s work answer p in
+    let b : slice (s .at + 1) (s .at + 1 + n) work ≡ conjWords c = ap (λ m. slice (s .at + 1) (s .at + 1 + m) work) e ∙ first-words oldWork oldAnswer ls c w s work answer p in
+    ap (λ m. take m a) (let z : n - 0 ≡ n = omega arith in z)
+    ∙ taken-out (replicate (desk .question) 0) a work (conjWords c) (s .at + 1) (s .at + 1 + n) n ea b (sym e) (let l = length-replicate {A = ℕ} (desk .question) 0 in omega arith)

@@ -21,7 +21,7 @@ use Rattle.answers.specs.declared.Tally.{Tally}
 use Rattle.answers.specs.Lined.{Lined}
 use Rattle.reader.proofs.Answers.{question-asked}
 use Rattle.reader.specs.Checking.{checked}
-use Rattle.reader.specs.declared.Checked.the-variants.{Fine}
+use Rattle.outcomes.specs.declared.Checked.the-variants.{Fine}
 use Rattle.rules.specs.Run.{size, run}
 use Rattle.rules.specs.Each.{Each}
 use Rattle.solver.specs.Running.{Running, leftOf, conjunctionsOf}

@@ -19,13 +19,15 @@ use Rattle.rules.specs.Answer as rules
 use Rattle.answers.specs.declared.Tally.{Tally}
 use Rattle.reader.proofs.Answers.{question-asked, question-refused}
 use Rattle.reader.specs.Checking.{checked}
-use Rattle.reader.specs.declared.Checked.the-variants.{Fine, Refused}
-use Rattle.solver.specs.declared.Outcome as outcome
-use Rattle.solver.specs.declared.Solved.{Solved}
+use Rattle.outcomes.specs.declared.Checked.the-variants.{Fine, Refused}
+use Rattle.outcomes.specs.declared.Outcome as outcome
+use Rattle.outcomes.specs.declared.Solved.{Solved}
+use Rattle.outcomes.specs.Numbers.{solvedNumbers}
 use Rattle.solver.specs.declared.Ran.{Ran}
 use Rattle.solver.specs.declared.Ran.the-variants.{Done, Stopped}
 use Rattle.solver.specs.Running.{Ends, ended, given-up, conjunctionsOf}
-use Rattle.solver.specs.Leaves.{verdict, verdictFor, refusedBy, leaves}
+use Rattle.solver.specs.Leaves.{verdict, verdictFor, refusedBy, leaves, toldLeaves}
+use Rattle.solver.proofs.Told.{told-leaves}
 
 -- the verdict by the counts
 picked : (b : Bool) → pick b outcome.the-variants.SomeOpen outcome.the-variants.AllSolved ≡ verdict (pick b rules.someOpen rules.allSolved)
@@ -98,14 +100,15 @@ module _ (ws work answer : List ℕ) where
       ∙ ap (λ b. elim a [ true ↦ unread ShortSlice | false ↦ elim b [ true ↦ unread ShortSlice | false ↦ solvingOf desk (readQuestion desk ws) ] ]) eb
 
   unread-leaves : (x : Refusal) (s : Solved) → s ≡ refusedBy x → solving desk (length work) (length answer) ws ≡ unread x
-      → (s, work, answer) ≡ leaves (solving desk (length work) (length answer) ws) work answer
-  unread-leaves x s es e = ap (λ s. (s, work, answer)) es ∙ sym (ap (λ z. leaves z work answer) e)
+      → (solvedNumbers s, work, answer) ≡ toldLeaves (solving desk (length work) (length answer) ws) work answer
+  unread-leaves x s es e =
+      told-leaves (s, work, answer) (solving desk (length work) (length answer) ws) work answer (ap (λ s. (s, work, answer)) es ∙ sym (ap (λ z. leaves z work answer) e))
 
-  pub work-short : (s : Solved) → s ≡ refusedBy ShortSlice → length work < desk .room → (s, work, answer) ≡ leaves (solving desk (length work) (length answer) ws) work answer
+  pub work-short : (s : Solved) → s ≡ refusedBy ShortSlice → length work < desk .room → (solvedNumbers s, work, answer) ≡ toldLeaves (solving desk (length work) (length answer) ws) work answer
   work-short s es h = unread-leaves ShortSlice s es (solves true (ltb (length answer) (desk .room)) (lt-ltb _ _ h) refl)
 
   module _ (h : desk .room ≤ length work) where
-    pub answer-short : (s : Solved) → s ≡ refusedBy ShortSlice → length answer < desk .room → (s, work, answer) ≡ leaves (solving desk (length work) (length answer) ws) work answer
+    pub answer-short : (s : Solved) → s ≡ refusedBy ShortSlice → length answer < desk .room → (solvedNumbers s, work, answer) ≡ toldLeaves (solving desk (length work) (length answer) ws) work answer
     answer-short s es g = unread-leaves ShortSlice s es (solves false true (le-ltb _ _ h) (lt-ltb _ _ g))
 
     module _ (g : desk .room ≤ length answer) where
@@ -113,8 +116,9 @@ module _ (ws work answer : List ℕ) where
       both-long = solves false false (le-ltb _ _ h) (le-ltb _ _ g)
 
       pub not-read : (x : Refusal) (c : _) (s : Solved) → s ≡ refusedBy x → c ≡ checked (readQuestion desk ws) → c ≡ Refused x
-          → (s, work, answer) ≡ leaves (solving desk (length work) (length answer) ws) work answer
+          → (solvedNumbers s, work, answer) ≡ toldLeaves (solving desk (length work) (length answer) ws) work answer
       not-read x c s es ec e = unread-leaves x s es (both-long ∙ ap (solvingOf desk) (question-refused ws x (sym e ∙ ec)))
 
-      pub was-read : (t : Solved × List ℕ × List ℕ) → t ≡ leaves (solvingOf desk (readQuestion desk ws)) work answer → t ≡ leaves (solving desk (length work) (length answer) ws) work answer
-      was-read t e = e ∙ sym (ap (λ z. leaves z work answer) both-long)
+      pub was-read : (t : Solved × List ℕ × List ℕ) → t ≡ leaves (solvingOf desk (readQuestion desk ws)) work answer
+          → (solvedNumbers (t .0), t .1, t .2) ≡ toldLeaves (solving desk (length work) (length answer) ws) work answer
+      was-read t e = told-leaves t (solving desk (length work) (length answer) ws) work answer (e ∙ sym (ap (λ z. leaves z work answer) both-long))

@@ -13,7 +13,7 @@ use Rattle.solver.specs.declared.Turned.{Turned}
 use Rattle.solver.specs.declared.Turned.the-variants.{On, Stop}
 use Rattle.solver.specs.declared.Ran.{Ran}
 use Rattle.solver.specs.declared.Ran.the-variants.{Done, Stopped}
-use Rattle.solver.specs.Running.{Running, leftOf, measure, Turns, on, stop, Ends, ended, given-up}
+use Rattle.solver.specs.Running.{Running, leftOf, measure, Turns, on, stop, Awaits, Ends, ended, given-up}
 use Rattle.solver.proofs.Turns.{run-ends}
 use Rattle.solver.proofs.Going.{waiting-kept, first-size, first-fits, open-fits, end-fits, work-fits, answer-fits}
 
@@ -27,7 +27,8 @@ pub record Gone (oldWork oldAnswer : List ℕ) (o : Outcome) (s : State) (work a
 -- what a turn asks
 abbrev pub Ready : State → List ℕ → List ℕ → Type 0
 Ready s work answer =
-    (s .at + 1 + getD work (s .at) 0 ≤ desk .room) × (getD work (s .at) 0 ≤ desk .question) × (desk .room ≤ length work) × (s .tally .«open» ≤ s .tally .lines) × (s .tally .end ≤ desk .room) × (desk .room ≤ length answer)
+    ((s .at + 1 + getD work (s .at) 0 ≤ desk .room) × (getD work (s .at) 0 ≤ desk .question) × (desk .room ≤ length work) × (s .tally .«open» ≤ s .tally .lines) × (s .tally .end ≤ desk .room) × (desk .room ≤ length answer))
+    × Awaits s work answer
 
 module _ (oldWork oldAnswer : List ℕ) (o : Outcome) (s : State) (work answer : List ℕ) (g : Gone oldWork oldAnswer o s work answer) where
   -- one waits first
@@ -44,12 +45,15 @@ module _ (oldWork oldAnswer : List ℕ) (o : Outcome) (s : State) (work answer :
       let n = first-size oldWork oldAnswer ls c w s work answer p in
       let b = first-fits oldWork oldAnswer ls c w s work answer p in
       let k = p .short .0 in (
-        omega arith,
-        omega arith,
-        work-fits oldWork oldAnswer ls c w s work answer p,
-        open-fits oldWork oldAnswer ls c w s work answer p,
-        end-fits oldWork oldAnswer ls c w s work answer p,
-        answer-fits oldWork oldAnswer ls c w s work answer p,
+        (
+          omega arith,
+          omega arith,
+          work-fits oldWork oldAnswer ls c w s work answer p,
+          open-fits oldWork oldAnswer ls c w s work answer p,
+          end-fits oldWork oldAnswer ls c w s work answer p,
+          answer-fits oldWork oldAnswer ls c w s work answer p,
+        ),
+        record { oldWork = oldWork; oldAnswer = oldAnswer; lines = ls; first = c; rest = w; running = p },
       )
 
   pub run-over : desk .room ≤ s .at → Ends o oldWork oldAnswer (Done (s .steps) (s .tally)) work answer

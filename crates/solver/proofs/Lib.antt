@@ -4,5 +4,6 @@ pub mod Going
 pub mod Advancing
 pub mod Gone
 pub mod Asked
+pub mod Told
 pub mod Ending
 pub mod Determined

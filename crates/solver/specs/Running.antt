@@ -1,7 +1,7 @@
 -- A run under way in the two lent slices, and what a turn makes of it.
 use Prim.Native.Nat.{ℕ, _+_, _-_, _*_, _<_, _≤_}
 use mathlib.Core.Path.{_≡_}
-use mathlib.Core.List.{List, [], map}
+use mathlib.Core.List.{List, [], _∷_, map}
 use lib.ListN.{length, drop}
 use Rattle.language.specs.declared.Refusal.{Refusal}
 use Rattle.language.specs.Limits.{desk}
@@ -69,3 +69,12 @@ pub record Begun (s : State) (work answer : List ℕ) : Type 0 where
   pub lines : List Conj
   pub waits : List Conj
   pub running : Running oldWork oldAnswer lines waits s work answer
+
+-- and a conjunction waits in it
+pub record Awaits (s : State) (work answer : List ℕ) : Type 0 where
+  pub oldWork : List ℕ
+  pub oldAnswer : List ℕ
+  pub lines : List Conj
+  pub first : Conj
+  pub rest : List Conj
+  pub running : Running oldWork oldAnswer lines (first ∷ rest) s work answer

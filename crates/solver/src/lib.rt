@@ -11,12 +11,15 @@ ghost use Rattle.rules.specs.Reply.{nothing};
 ghost use Rattle.rules.specs.Step.{step};
 ghost use Rattle.rules.specs.Run.{run as runs};
 ghost use Rattle.rules.specs.Answer.{solvingOf, solving};
+ghost use Rattle.views.specs.Standing.{Conjunction};
 ghost use Rattle.steps.specs.Ranking.{Found};
+ghost use Rattle.steps.specs.Asking.{RuleAt};
 ghost use Rattle.reader.specs.Checking.{checked};
-ghost use Rattle.reader.specs.declared.Checked.the-variants.{Fine};
+ghost use Rattle.outcomes.specs.declared.Checked.the-variants.{Fine};
+ghost use Rattle.outcomes.specs.Numbers.{solvedNumbers};
 ghost use Rattle.rules.specs.Places.{noRule};
-ghost use Rattle.solver.specs.Running.{Running, leftOf, Turns, Begun, Ends, conjunctionsOf};
-ghost use Rattle.solver.specs.Leaves.{leaves, outcomeNumber, refusedBy, verdictFor};
+ghost use Rattle.solver.specs.Running.{Running, leftOf, Turns, Begun, Awaits, Ends, conjunctionsOf};
+ghost use Rattle.solver.specs.Leaves.{leaves, toldLeaves, refusedBy, verdictFor};
 use answers::Tally;
 use answers::add_line;
 use answers::begin;
@@ -27,8 +30,9 @@ use language::limits::LINES;
 use language::limits::QUESTION;
 use language::limits::ROOM;
 use language::limits::STEPS;
-use language::number;
-use reader::Checked;
+use outcomes::Checked;
+use outcomes::Outcome;
+use outcomes::Solved;
 use reader::read_question;
 use rules::places::NO_RULE;
 use solved::is_solved;
@@ -59,37 +63,10 @@ pub enum Ran {
     Stopped(Refusal),
 }
 
-// "Solving returns the refusal or (none, all solved, some open)."
-pub enum Outcome {
-    Refused(Refusal),
-    NoLine,
-    AllSolved,
-    SomeOpen,
-}
-
-// What comes back from solving.
-pub struct Solved {
-    pub outcome: Outcome,
-    pub lines: usize,
-    pub open: usize,
-    pub steps: usize,
-}
-
-// The number that comes back: the refusal's, or 0.
-pub fn outcome_number(outcome: Outcome) -> u16
-    ensures { λ n. ⌜ n ≡ outcomeNumber outcome ⌝ }
-{
-    match outcome {
-        Outcome::Refused(r) => number(r),
-        Outcome::NoLine => 0,
-        Outcome::AllSolved => 0,
-        Outcome::SomeOpen => 0,
-    }
-}
-
 // No rule applies to k: it becomes the next line, and `next` is where those that wait then begin.
 fn line(k: &[u16], next: usize, answer: &mut [u16], s: State) -> Turned
     requires { ⌜ (length (now k) ≤ desk .question) × (s .tally .«open» ≤ s .tally .lines) × (s .tally .end ≤ desk .room) × (desk .room ≤ length (now answer)) ⌝ }
+    requires { ⌜ Conjunction (now k) ⌝ }
     ensures { λ r. ⌜ ((oldWork oldAnswer : List ℕ) (ls : List Conj) (c : Conj) (w : List Conj) (work : List ℕ) → Running oldWork oldAnswer ls (c ∷ w) s work (now (answer .entry)) → now (k .entry) ≡ conjWords c → next ≡ s .at + 1 + length (now (k .entry)) → step c ≡ nothing → Turns oldWork oldAnswer ls (c ∷ w) s r work (now (answer .exit))) ⌝ }
 {
     let t = s.tally;
@@ -111,6 +88,7 @@ fn line(k: &[u16], next: usize, answer: &mut [u16], s: State) -> Turned
 // A rule applies to k: the step is made in its place, unless a number stands against it.
 fn advance(k: &[u16], b: Best, work: &mut [u16], next: usize, s: State) -> Turned
     requires { ⌜ (length (now k) ≤ desk .question) × (b .at < length (now k)) × (next ≤ length (now work)) × (next ≤ desk .room) ⌝ }
+    requires { ⌜ RuleAt (now k) b ⌝ }
     ensures { λ r. ⌜ ((oldWork oldAnswer : List ℕ) (ls : List Conj) (c : Conj) (w : List Conj) (answer : List ℕ) → Running oldWork oldAnswer ls (c ∷ w) s (now (work .entry)) answer → now (k .entry) ≡ conjWords c → next ≡ s .at + 1 + length (now (k .entry)) → b .rank < noRule → Found c (b .rank) (b .at) (b .swap) → Turns oldWork oldAnswer ls (c ∷ w) s r (now (work .exit)) answer) ⌝ }
 {
     if STEPS <= s.steps {
@@ -131,6 +109,7 @@ fn advance(k: &[u16], b: Best, work: &mut [u16], next: usize, s: State) -> Turne
 // One turn, the first waiting conjunction being k.
 fn turn_with(k: &[u16], next: usize, work: &mut [u16], answer: &mut [u16], s: State) -> Turned
     requires { ⌜ (length (now k) ≤ desk .question) × (next ≤ desk .room) × (desk .room ≤ length (now work)) × (s .tally .«open» ≤ s .tally .lines) × (s .tally .end ≤ desk .room) × (desk .room ≤ length (now answer)) ⌝ }
+    requires { ⌜ Conjunction (now k) ⌝ }
     ensures { λ r. ⌜ ((oldWork oldAnswer : List ℕ) (ls : List Conj) (c : Conj) (w : List Conj) → Running oldWork oldAnswer ls (c ∷ w) s (now (work .entry)) (now (answer .entry)) → now (k .entry) ≡ conjWords c → next ≡ s .at + 1 + length (now (k .entry)) → Turns oldWork oldAnswer ls (c ∷ w) s r (now (work .exit)) (now (answer .exit))) ⌝ }
 {
     let b = find(k);
@@ -143,6 +122,7 @@ fn turn_with(k: &[u16], next: usize, work: &mut [u16], answer: &mut [u16], s: St
 // One turn: the first waiting conjunction is taken out, so that results can be written over its place.
 fn turn(work: &mut [u16], answer: &mut [u16], s: State) -> Turned
     requires { ⌜ (s .at + 1 + getD (now work) (s .at) 0 ≤ desk .room) × (getD (now work) (s .at) 0 ≤ desk .question) × (desk .room ≤ length (now work)) × (s .tally .«open» ≤ s .tally .lines) × (s .tally .end ≤ desk .room) × (desk .room ≤ length (now answer)) ⌝ }
+    requires { ⌜ Awaits s (now work) (now answer) ⌝ }
     ensures { λ r. ⌜ ((oldWork oldAnswer : List ℕ) (ls : List Conj) (c : Conj) (w : List Conj) → Running oldWork oldAnswer ls (c ∷ w) s (now (work .entry)) (now (answer .entry)) → Turns oldWork oldAnswer ls (c ∷ w) s r (now (work .exit)) (now (answer .exit))) ⌝ }
 {
     let at = s.at;
@@ -236,7 +216,7 @@ fn solve_read(question: &[u16], work: &mut [u16], answer: &mut [u16]) -> Solved
 
 // Solves a question: what comes back, and what the two lent slices then hold, is what `solving` says of them.
 pub fn solve(question: &[u16], work: &mut [u16], answer: &mut [u16]) -> Solved
-    ensures { λ r. ⌜ (r, now (work .exit), now (answer .exit)) ≡ leaves (solving desk (length (now (work .entry))) (length (now (answer .entry))) (now (question .entry))) (now (work .entry)) (now (answer .entry)) ⌝ }
+    ensures { λ r. ⌜ (solvedNumbers r, now (work .exit), now (answer .exit)) ≡ toldLeaves (solving desk (length (now (work .entry))) (length (now (answer .entry))) (now (question .entry))) (now (work .entry)) (now (answer .entry)) ⌝ }
 {
     if work.len() < ROOM {
         return refused(Refusal::ShortSlice);

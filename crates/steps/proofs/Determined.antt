@@ -1,39 +1,21 @@
--- Any two outcomes that a contract of this crate allows coincide, for words that are those of a conjunction.
+-- Any two outcomes that a contract of this crate allows coincide.
 use Prim.Native.Nat.{ℕ, _+_, _<_}
 use native.Mathlib.Omega.{arith}
 use mathlib.Core.Path.{_≡_, sym, ap, _∙_}
-use mathlib.Core.List.{List, _++_}
-use mathlib.Core.Option.{some}
+use mathlib.Core.List.{List}
 use lib.Seq.{sets}
-use Rattle.language.specs.Limits.{desk}
-use Rattle.language.specs.Trees.{Literal, Conj}
-use Rattle.language.specs.Writing.{conjWords}
-use Rattle.language.specs.Fine.{fineConj}
-use Rattle.language.proofs.Determined.{DeterminedFor, Asks}
-use Rattle.rules.specs.Rules.{Branch}
+use Rattle.language.proofs.Determined.{Determined}
 use Rattle.frames.specs.Frames.{framed}
 use Rattle.plans.specs.declared.Size.{Size}
 use Rattle.plans.specs.declared.Size.the-variants.{Fits, Over}
-use Rattle.views.specs.Standing.{LiteralAt}
-use Rattle.steps.specs.Ranking.{sideAnswer}
 use Rattle.steps.specs.declared.Stepped.{Stepped}
 use Rattle.steps.specs.declared.Stepped.the-variants.{Done}
 use Rattle.steps.specs.Taking.{Took, long, room, done}
 use Rattle.steps.proofs.find as find
 use Rattle.steps.proofs.take_step as take_step
 
--- the words are those of a conjunction
-abbrev Conjunction : Asks find.ended
-Conjunction κs a = (c : Conj) × fineConj desk c × (a .0 .now ≡ conjWords c)
-
-find-determined : DeterminedFor find.ended Conjunction find.Reads.Pre find.Reads.Post
-find-determined κs a g p o q e d = ap (λ z. (z, o .1)) (e .1 (g .0) (g .1) (g .2) ∙ sym (d .1 (g .0) (g .1) (g .2)))
-
--- a literal stands at the place, and the rule of the rank answers there
-abbrev Applies : Asks take_step.ended
-Applies κs a =
-    (before : Conj) × (l : Literal) × (behind : Conj) × (bs : List Branch) × LiteralAt (a .0 .now) (a .1 .0 .at) before l behind
-    × (sideAnswer (a .1 .0 .swap) (a .1 .0 .rank) (before ++ behind) l ≡ some bs)
+find-determined : Determined find.ended find.Reads.Pre find.Reads.Post
+find-determined κs a p o q e d = ap (λ z. (z, o .1)) (e .1 (p .conj) (p .fine) (p .words) ∙ sym (d .1 (p .conj) (p .fine) (p .words)))
 
 one-size : (s : Size) (n m : ℕ) → s ≡ Fits n → s ≡ Fits m → n ≡ m
 one-size s n m e d = cc
@@ -55,7 +37,10 @@ took-one ws old next r u new now (done n at e s i d) (done m bt f t h g) =
     let z : at ≡ bt = omega arith in
     (e ∙ ap Done z ∙ sym f, d ∙ ap (λ x. sets old x (framed ws)) z ∙ sym g)
 
-take_step-determined : DeterminedFor take_step.ended Applies take_step.Reads.Pre take_step.Reads.Post
-take_step-determined κs a g p o q e d =
-    let z = took-one _ _ _ _ _ _ _ (e (g .0) (g .1) (g .2) (g .3) (g .4) (g .5)) (d (g .0) (g .1) (g .2) (g .3) (g .4) (g .5)) in
+take_step-determined : Determined take_step.ended take_step.Reads.Pre take_step.Reads.Post
+take_step-determined κs a p o q e d =
+    let m = p .1 in
+    let z =
+    took-one _ _ _ _ _ _ _ (e (m .before) (m .l) (m .behind) (m .results) (m .stands) (m .answer)) (d (m .before) (m .l) (m .behind) (m .results) (m .stands) (m .answer))
+    in
     ap (λ r. (r, o .1)) (z .0) ∙ ap (λ s. (q .0, (tt, (tt, (s, (tt, tt)))))) (z .1)

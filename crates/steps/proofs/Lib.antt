@@ -1,5 +1,7 @@
 pub mod Finding
 pub mod Taken
+pub mod Asked
+pub mod Numbered
 pub mod Determined
 pub mod Ranks
 pub mod First

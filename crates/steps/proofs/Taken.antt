@@ -54,7 +54,7 @@ monomials : (K : Conj) (h : Hedge) (R : Expr) → Answers (λ bs. bs ≡ map (mo
 monomials K h R =
     look (firstTerm h) (first-parts h) λ a e. test _ λ _ _. test _ λ _ _. answers (ap (λ a. map (monomialResult (a .0) (a .1)) (linear R)) e)
 
-no-equation : (swap : Bool) (K : Conj) (l r : Hedge) → sideAnswer swap atM2 K (eqn l r) ≡ none
+pub no-equation : (swap : Bool) (K : Conj) (l r : Hedge) → sideAnswer swap atM2 K (eqn l r) ≡ none
 unfolding eqnAnswer
 no-equation true K l r = refl
 no-equation false K l r = refl

@@ -1,3 +1,4 @@
 pub mod Taking
 pub mod Seeking
 pub mod Ranking
+pub mod Asking

@@ -10,11 +10,12 @@ ghost use Rattle.language.specs.Writing.{conjWords};
 ghost use Rattle.language.specs.Fine.{fineConj};
 ghost use Rattle.plans.specs.Results.{resultsOf};
 ghost use Rattle.plans.specs.Sizes.{placedWords, monomialWords};
-ghost use Rattle.views.specs.Standing.{LiteralAt};
+ghost use Rattle.views.specs.Standing.{LiteralAt, SomeLiteral, Conjunction};
 ghost use Rattle.rules.specs.Rules.{Branch};
 ghost use Rattle.steps.specs.Ranking.{sideAnswer};
 ghost use Rattle.steps.specs.Seeking.{lesserOf, bestAt, bestOf};
 ghost use Rattle.steps.specs.Taking.{Took};
+ghost use Rattle.steps.specs.Asking.{RuleAt, SomeMembership};
 ghost use Rattle.equations.specs.Planned.{Planned};
 ghost use Rattle.rules.specs.Places.{atM2, noRule};
 use equations::plan::plan_equation;
@@ -50,6 +51,7 @@ struct Passed {
 // with it, so that its words need no other pass.
 fn rank_at(k: &[u16], at: usize) -> Passed
     requires { ⌜ at < length (now k) ⌝ }
+    requires { ⌜ SomeLiteral (now k) at ⌝ }
     ensures { λ p. ⌜ (p .best .at ≡ at) × ((before : Conj) (l : Literal) (behind : Conj) → LiteralAt (now (k .entry)) at before l behind → (p .best ≡ bestAt before l behind) × (drop (p .end) (now (k .entry)) ≡ conjWords behind)) ⌝ }
 {
     if k[at] == 5000 {
@@ -103,6 +105,7 @@ fn lesser(a: Best, b: Best) -> Best
 
 // The earliest literal of the least rank.
 pub fn find(k: &[u16]) -> Best
+    requires { ⌜ Conjunction (now k) ⌝ }
     ensures { λ b. ⌜ (b .rank < noRule → b .at < length (now (k .entry))) × ((c : Conj) → fineConj desk c → now (k .entry) ≡ conjWords c → b ≡ bestOf c) ⌝ }
 {
     let mut best = Best {
@@ -130,6 +133,7 @@ pub enum Stepped {
 // The plan of the rule of that rank at that literal.
 fn plan_at(k: &[u16], b: Best) -> Plan
     requires { ⌜ b .at < length (now k) ⌝ }
+    requires { ⌜ RuleAt (now k) b ⌝ }
     ensures { λ p. ⌜ ((before : Conj) (l : Literal) (behind : Conj) → LiteralAt (now (k .entry)) (b .at) before l behind → (b .rank ≡ atM2 → ⊥) → Planned (now (k .entry)) p before behind (sideAnswer (b .swap) (b .rank) (before ++ behind) l)) ⌝ }
 {
     let at = b.at;
@@ -167,6 +171,7 @@ fn step_planned(k: &[u16], plan: Plan, out: &mut [u16], next: usize) -> Stepped
 // The results of M2 at the membership at a place, right before `next`.
 fn step_monomials(k: &[u16], literal: usize, out: &mut [u16], next: usize) -> Stepped
     requires { ⌜ (length (now k) ≤ desk .question) × (literal < length (now k)) × (next ≤ length (now out)) × (next ≤ desk .room) ⌝ }
+    requires { ⌜ SomeMembership (now k) literal ⌝ }
     ensures { λ r. ⌜ ((before : Conj) (h : Hedge) (R : Expr) (behind : Conj) → LiteralAt (now (k .entry)) literal before (mem h R) behind → Took (monomialWords before h R behind) (now (out .entry)) next r (now (out .exit))) ⌝ }
 {
     let s = show_membership(k, literal);
@@ -186,6 +191,7 @@ fn step_monomials(k: &[u16], literal: usize, out: &mut [u16], next: usize) -> St
 // A step of the conjunction k: the results of the rule of that rank at that literal, right before `next`.
 pub fn take_step(k: &[u16], b: Best, out: &mut [u16], next: usize) -> Stepped
     requires { ⌜ (length (now k) ≤ desk .question) × (b .at < length (now k)) × (next ≤ length (now out)) × (next ≤ desk .room) ⌝ }
+    requires { ⌜ RuleAt (now k) b ⌝ }
     ensures { λ r. ⌜ ((before : Conj) (l : Literal) (behind : Conj) (bs : List Branch) → LiteralAt (now (k .entry)) (b .at) before l behind → sideAnswer (b .swap) (b .rank) (before ++ behind) l ≡ some bs → Took (placedWords before behind bs) (now (out .entry)) next r (now (out .exit))) ⌝ }
 {
     if b.rank == AT_M2 {

@@ -11,9 +11,9 @@ fn one(question: &[u8], filling: &[u8]) {
     let n = cases::words_of(question, &mut asked);
     let m = cases::words_of(filling, &mut given);
     let tried = trying::try_filling(&asked[0..n], &given[0..m], &mut work);
-    io::print_decimal(1, trying::tried_number(tried) as u64);
+    io::print_decimal(1, outcomes::tried_number(tried) as u64);
     io::write_all(1, b" ");
-    io::print_decimal(1, trying::tried_value(tried) as u64);
+    io::print_decimal(1, outcomes::tried_value(tried) as u64);
     io::write_all(1, b"\n");
 }
 

@@ -6,5 +6,6 @@ pub mod Meeting
 pub mod Conjunctions
 pub mod Scans
 pub mod Questions
+pub mod Told
 pub mod Outcomes
 pub mod Determined

@@ -20,16 +20,17 @@ use Rattle.meaning.specs.Values as values
 use Rattle.rules.specs.Answer.{zeros, overwritten}
 use Rattle.rules.specs.Calls.{tooLong, Trying, decides, unread, given-up, tryingWith, tryingOf, trying}
 use Rattle.reader.specs.declared.Header.{Header}
-use Rattle.reader.specs.declared.Checked.{Checked}
-use Rattle.reader.specs.declared.Checked.the-variants.{Fine}
-use Rattle.reader.specs.declared.Checked.the-variants as checked-as
+use Rattle.outcomes.specs.declared.Checked.{Checked}
+use Rattle.outcomes.specs.declared.Checked.the-variants.{Fine}
+use Rattle.outcomes.specs.declared.Checked.the-variants as checked-as
 use Rattle.reader.specs.Checking.{headerOf, countsIn, checked}
 use Rattle.filling.specs.Checking.{given}
-use Rattle.trying.specs.declared.Tried.{Tried}
-use Rattle.trying.specs.declared.Tried.the-variants.{Yes, No, Refused}
+use Rattle.outcomes.specs.declared.Tried.{Tried}
+use Rattle.outcomes.specs.declared.Tried.the-variants.{Yes, No, Refused}
 use Rattle.trying.specs.Tasks.{Keeps, AQuestion, SomeQuestion, FittingQuestion, QuestionTooLong, QuestionMet, AskedQuestion}
-use Rattle.trying.specs.Outcome.{Answers, Outcome, TriedAsked, TriedGiven}
+use Rattle.trying.specs.Outcome.{Answers, Outcome, ToldOutcome, TriedAsked, TriedGiven}
 use Rattle.trying.proofs.Rooms.{keeps-cleared}
+use Rattle.trying.proofs.Told.{told-outcome}
 
 -- ---- neither refused
 
@@ -91,7 +92,7 @@ module _ (h : Header) (fs ws : List ℕ) where
 -- ---- every input
 
 module _ (ws fs w : List ℕ) where
-  pub short-slice : length w < desk .room → Outcome (trying desk (length w) ws fs) (Refused ShortSlice) w w
+  pub short-slice : length w < desk .room → ToldOutcome (trying desk (length w) ws fs) (Refused ShortSlice) w w
   unfolding trying
   short-slice p = rw (trying, lt-ltb (length w) (desk .room) p) (refl, refl)
 
@@ -100,9 +101,9 @@ module _ (ws fs w : List ℕ) where
     unfolding trying
     reads-on = rw (trying, le-ltb (length w) (desk .room) p)
 
-    pub refused-question : {c : Checked} {r : Refusal} → c ≡ checked (readQuestion desk ws) → c ≡ checked-as.Refused r → Outcome (trying desk (length w) ws fs) (Refused r) w w
+    pub refused-question : {c : Checked} {r : Refusal} → c ≡ checked (readQuestion desk ws) → c ≡ checked-as.Refused r → ToldOutcome (trying desk (length w) ws fs) (Refused r) w w
     unfolding checked
-    refused-question {c} {r} e f = subst (λ x. Outcome x (Refused r) w w) (sym reads-on) (on (readQuestion desk ws) (sym f ∙ e))
+    refused-question {c} {r} e f = told-outcome (trying desk (length w) ws fs) (Refused r) w w (subst (λ x. Outcome x (Refused r) w w) (sym reads-on) (on (readQuestion desk ws) (sym f ∙ e)))
       where
         on : (a : Asked) → checked-as.Refused r ≡ checked a → Outcome (tryingOf desk a fs) (Refused r) w w
         on (asks q) e = absurd (let z : _≡_ {A = ℕ} 0 1 = cc in omega arith)
@@ -122,7 +123,7 @@ module _ (ws fs w : List ℕ) where
     pub question-asked : {c : Checked} {h : Header} → c ≡ checked (readQuestion desk ws) → c ≡ Fine → h ≡ headerOf ws → AskedQuestion h ws
     question-asked e f g = let (q, i) = fine-asks e f in record { q = q; read = i; head = g }
 
-    pub question-tried : {c : Checked} {h : Header} {t : Tried} {w′ : List ℕ} → c ≡ checked (readQuestion desk ws) → c ≡ Fine → h ≡ headerOf ws → TriedAsked h fs ws t w w′ → Outcome (trying desk (length w) ws fs) t w w′
+    pub question-tried : {c : Checked} {h : Header} {t : Tried} {w′ : List ℕ} → c ≡ checked (readQuestion desk ws) → c ≡ Fine → h ≡ headerOf ws → TriedAsked h fs ws t w w′ → ToldOutcome (trying desk (length w) ws fs) t w w′
     question-tried {t = t} {w′} e f g a =
         let (q, i) = fine-asks e f in
-        subst (λ x. Outcome x t w w′) (sym (reads-on ∙ ap (λ x. tryingOf desk x fs) i)) (a .each q i g)
+        told-outcome (trying desk (length w) ws fs) t w w′ (subst (λ x. Outcome x t w w′) (sym (reads-on ∙ ap (λ x. tryingOf desk x fs) i)) (a .each q i g))

@@ -2,8 +2,8 @@
 use language::Refusal;
 use language::limits::LITERAL;
 use language::limits::ROOM;
-use language::number;
-use reader::Checked;
+use outcomes::Checked;
+use outcomes::Tried;
 use reader::Header;
 use reader::Read;
 ghost use mathlib.Core.Path.{_≡_};
@@ -15,14 +15,7 @@ ghost use Rattle.rules.specs.Calls.{trying};
 ghost use Rattle.reader.specs.Checking.{countsIn};
 ghost use Rattle.filling.specs.Showing.{filled, Shows};
 ghost use Rattle.trying.specs.Tasks.{SameWords, FirstEnd, EquationMet, Testable, MembershipMet, FittingLiteral, LiteralMet, LiteralEnd, SomeConj, FittingConj, ConjTooLong, ConjMet, SomeQuestion, FittingQuestion, QuestionTooLong, QuestionMet, AskedQuestion};
-ghost use Rattle.trying.specs.Outcome.{Outcome, TriedGiven, TriedAsked, triedNumber, triedValue};
-
-// What comes of trying a filling.
-pub enum Tried {
-    Yes,
-    No,
-    Refused(Refusal),
-}
+ghost use Rattle.trying.specs.Outcome.{ToldOutcome, TriedGiven, TriedAsked};
 
 fn wide(x: u16) -> usize
     ensures { λ r. ⌜ r ≡ x ⌝ }
@@ -259,7 +252,7 @@ fn try_asked<'a>(h: Header, question: &'a [u16], filling: &'a [u16], work: &mut 
 
 // Whether the filling meets the question; or 1 to 6, 11, 12 with the work slice as it was; or 13. Else it is left with zeros.
 pub fn try_filling<'a>(question: &'a [u16], filling: &'a [u16], work: &mut [u16]) -> Tried
-    ensures { λ r. ⌜ Outcome (trying desk (length (now (work .entry))) (now (question .entry)) (now (filling .entry))) r (now (work .entry)) (now (work .exit)) ⌝ }
+    ensures { λ r. ⌜ ToldOutcome (trying desk (length (now (work .entry))) (now (question .entry)) (now (filling .entry))) r (now (work .entry)) (now (work .exit)) ⌝ }
 {
     if work.len() < ROOM {
         return Tried::Refused(Refusal::ShortSlice);
@@ -270,29 +263,5 @@ pub fn try_filling<'a>(question: &'a [u16], filling: &'a [u16], work: &mut [u16]
             let h = reader::read_header(question);
             try_asked(h, question, filling, work)
         }
-    }
-}
-
-// ---- What comes back.
-
-// The number in the table, 0 for none.
-pub fn tried_number(tried: Tried) -> u16
-    ensures { λ r. ⌜ r ≡ triedNumber tried ⌝ }
-{
-    match tried {
-        Tried::Yes => 0,
-        Tried::No => 0,
-        Tried::Refused(refusal) => number(refusal),
-    }
-}
-
-// 1 for yes, and else 0.
-pub fn tried_value(tried: Tried) -> u16
-    ensures { λ r. ⌜ r ≡ triedValue tried ⌝ }
-{
-    match tried {
-        Tried::Yes => 1,
-        Tried::No => 0,
-        Tried::Refused(_) => 0,
     }
 }

@@ -20,3 +20,16 @@ pub record LiteralAt (k : List ℕ) (at : ℕ) (before : Conj) (l : Literal) (be
   pub fineBefore : fineConj desk before
   pub fine : fineLiteral desk l
   pub fineBehind : fineConj desk behind
+
+-- some literal stands at `at`
+pub record SomeLiteral (k : List ℕ) (at : ℕ) : Type 0 where
+  pub before : Conj
+  pub l : Literal
+  pub behind : Conj
+  pub stands : LiteralAt k at before l behind
+
+-- the words are those of a conjunction
+pub record Conjunction (k : List ℕ) : Type 0 where
+  pub conj : Conj
+  pub fine : fineConj desk conj
+  pub words : k ≡ conjWords conj

@@ -42,3 +42,19 @@ pub record Shows (k : List ℕ) (v : Shape) (before : Conj) (h : Hedge) (R : Exp
   pub len : v .len ≡ length k
   pub fineBefore : fineConj desk before
   pub fineBehind : fineConj desk behind
+
+-- some equation stands in k where v says
+pub record EquationAt (k : List ℕ) (v : View) : Type 0 where
+  pub before : Conj
+  pub l : Hedge
+  pub r : Hedge
+  pub behind : Conj
+  pub sees : Sees k v before l r behind
+
+-- some membership stands in k where v says
+pub record MembershipAt (k : List ℕ) (v : Shape) : Type 0 where
+  pub before : Conj
+  pub h : Hedge
+  pub R : Expr
+  pub behind : Conj
+  pub shows : Shows k v before h R behind

@@ -10,22 +10,22 @@ use Rattle.words.proofs.elsewhere as elsewhere
 use Rattle.words.proofs.same_part as same_part
 
 word-determined : Determined word.ended word.Reads.Pre word.Reads.Post
-word-determined κs a g p o q e d = ap (λ z. (z, o .1)) (e ∙ sym d)
+word-determined κs a p o q e d = ap (λ z. (z, o .1)) (e ∙ sym d)
 
 stands-determined : Determined stands.ended stands.Reads.Pre stands.Reads.Post
-stands-determined κs a g p o q e d = ap (λ z. (z, o .1)) (e ∙ sym d)
+stands-determined κs a p o q e d = ap (λ z. (z, o .1)) (e ∙ sym d)
 
 hedge_end-determined : Determined hedge_end.ended hedge_end.Reads.Pre hedge_end.Reads.Post
-hedge_end-determined κs a g p o q e d = ap (λ z. (z, o .1)) (e ∙ sym d)
+hedge_end-determined κs a p o q e d = ap (λ z. (z, o .1)) (e ∙ sym d)
 
 element_end-determined : Determined element_end.ended element_end.Reads.Pre element_end.Reads.Post
-element_end-determined κs a g p o q e d = ap (λ z. (z, o .1)) (e ∙ sym d)
+element_end-determined κs a p o q e d = ap (λ z. (z, o .1)) (e ∙ sym d)
 
 next_literal-determined : Determined next_literal.ended next_literal.Reads.Pre next_literal.Reads.Post
-next_literal-determined κs a g p o q e d = ap (λ z. (z, o .1)) (e ∙ sym d)
+next_literal-determined κs a p o q e d = ap (λ z. (z, o .1)) (e ∙ sym d)
 
 elsewhere-determined : Determined elsewhere.ended elsewhere.Reads.Pre elsewhere.Reads.Post
-elsewhere-determined κs a g p o q e d = ap (λ z. (z, o .1)) (e ∙ sym d)
+elsewhere-determined κs a p o q e d = ap (λ z. (z, o .1)) (e ∙ sym d)
 
 same_part-determined : Determined same_part.ended same_part.Reads.Pre same_part.Reads.Post
-same_part-determined κs a g p o q e d = ap (λ z. (z, o .1)) (e ∙ sym d)
+same_part-determined κs a p o q e d = ap (λ z. (z, o .1)) (e ∙ sym d)

@@ -1,6 +1,7 @@
 -- 1, then 2 to 6 by the reader, then the run.
 use mathlib.Core.Path.{sym, _∙_}
 use borrow.Author.Needs.{needs}
+use Rattle.reader.proofs.Answers.{as-checked}
 use Rattle.solver.proofs.Ending.{work-short, answer-short, not-read, was-read}
 use Rattle.solver.proofs.solve.Statement.{statement}
 use Rattle.solver.proofs.solve.Tie as tie
@@ -18,7 +19,7 @@ returns-2 c =
 solve-read-requires : tie.Need-solve-read-requires
 solve-read-requires c κs =
     let c₁ = c .before .before in let c₂ = c₁ .before .before in let c₃ = c₂ .before in let c₄ = c₃ .before in
-    (sym (c₁ .enum-told .given .1) ∙ c₂ .read-question .ensures, c₄ .if1 .left, c₃ .if2 .left)
+    (sym (c₁ .enum-told .given .1) ∙ as-checked (c₂ .read-question .result) _ (c₂ .read-question .ensures), c₄ .if1 .left, c₃ .if2 .left)
 
 returns-3 : tie.Need-returns-3
 returns-3 c =
@@ -30,7 +31,7 @@ returns-4 : tie.Need-returns-4
 returns-4 c =
     let c₁ = c .before .before in let c₂ = c₁ .before .before in let c₃ = c₂ .before in let c₄ = c₃ .before in
     let c₅ = c₄ .before .before .before .before in
-    not-read (c₅ .args .question .now) (c₅ .args .work .now) (c₅ .args .answer .now) (c₄ .if1 .left) (c₃ .if2 .left) _ _ _ (c .refused3 .ensures) (c₂ .read-question .ensures) (c₁ .r .given .1)
+    not-read (c₅ .args .question .now) (c₅ .args .work .now) (c₅ .args .answer .now) (c₄ .if1 .left) (c₃ .if2 .left) _ _ _ (c .refused3 .ensures) (as-checked (c₂ .read-question .result) _ (c₂ .read-question .ensures)) (c₁ .r .given .1)
 
 pub solve-spec : {M : Type 1} → statement M
 solve-spec =

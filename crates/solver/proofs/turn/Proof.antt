@@ -1,31 +1,36 @@
 -- The first block is taken out, and the turn is made with it.
-use Prim.Native.Nat.{ℕ, _+_, _-_}
 use native.Mathlib.Omega.{arith}
-use mathlib.Core.Path.{_≡_, sym, ap, _∙_}
-use lib.ListN.{length, take, replicate, length-replicate}
-use lib.Seq.{slice}
+use mathlib.Core.Path.{ap, _∙_}
+use lib.ListN.{length}
 use borrow.Author.Needs.{needs}
-use Rattle.language.specs.Limits.{desk}
-use Rattle.language.specs.Writing.{conjWords}
-use Rattle.solver.proofs.Going.{first-size, first-words}
-use Rattle.solver.proofs.Advancing.{taken-out}
+use Rattle.solver.proofs.Going.{first-size}
+use Rattle.solver.proofs.Advancing.{first-taken}
 use Rattle.solver.proofs.turn.Statement.{statement}
 use Rattle.solver.proofs.turn.Tie as tie
+
+turn-with-requires : tie.Need-turn-with-requires
+turn-with-requires c κs =
+    let c₁ = c .before .before .before .before .before in let c₂ = c₁ .before .before .before in let c₃ = c₂ .before .before .before .before in
+    let x = c₃ .pre .1 in
+    let n = c₂ .read-frame .ensures in
+    let h = c₃ .pre .0 .1 in (
+      search needs,
+      record {
+        conj = x .first;
+        fine = x .running .fine .0;
+        words = first-taken (x .oldWork) (x .oldAnswer) (x .lines) (x .first) (x .rest) (c₃ .args .s) (c₃ .args .work .now) (c₃ .args .answer .now) (x .running) (c₂ .read-frame .result) n (omega arith) _ (c₁ .copy .ensures);
+      },
+    )
 
 returns : tie.Need-returns
 returns c =
     let c₁ = c .before .before .before .before in let c₂ = c₁ .before .before .before .before .before .before in let c₃ = c₂ .before .before .before in
     let c₄ = c₃ .before .before .before .before in
     λ oldWork oldAnswer ls x w p.
-    let work = c₄ .args .work .now in
-    let at : ℕ = c₄ .args .s .at in
-    let n : ℕ = c₃ .read-frame .result in
-    let e : n ≡ length (conjWords x) = c₃ .read-frame .ensures ∙ first-size oldWork oldAnswer ls x w (c₄ .args .s) work (c₄ .args .answer .now) p in
-    let b : slice (at + 1) (at + 1 + n) work ≡ conjWords x = ap (λ m. slice (at + 1) (at + 1 + m) work) e ∙ first-words oldWork oldAnswer ls x w (c₄ .args .s) work (c₄ .args .answer .now) p in
-    let d : take (n - 0) (c₂ .copy .last .1 .1 .1 .0) ≡ conjWords x =
-    ap (λ m. take m (c₂ .copy .last .1 .1 .1 .0)) (let z : n - 0 ≡ n = omega arith in z)
-    ∙ taken-out (replicate (desk .question) 0) _ work (conjWords x) (at + 1) (at + 1 + n) n (c₂ .copy .ensures) b (sym e) (let h = c₄ .pre .1 in let g = c₃ .read-frame .ensures in let l = length-replicate {A = ℕ} (desk .question) 0 in omega arith)
-    in
+    let n = c₃ .read-frame .ensures in
+    let h = c₄ .pre .0 .1 in
+    let e = n ∙ first-size oldWork oldAnswer ls x w (c₄ .args .s) (c₄ .args .work .now) (c₄ .args .answer .now) p in
+    let d = first-taken oldWork oldAnswer ls x w (c₄ .args .s) (c₄ .args .work .now) (c₄ .args .answer .now) p (c₃ .read-frame .result) n (omega arith) _ (c₂ .copy .ensures) in
     let f = ap length d in
     c₁ .turn-with .ensures oldWork oldAnswer ls x w p d (omega arith)
 
@@ -41,7 +46,7 @@ turn-spec =
     (λ c. search needs)
     (λ c. search needs)
     (λ c. search needs)
-    (λ c κs. search needs)
+    turn-with-requires
     (λ c. search needs)
     (λ c. search needs)
     returns)

@@ -2,7 +2,7 @@
 use native.Mathlib.Omega.{arith}
 use borrow.Author.Needs.{needs}
 use Rattle.steps.proofs.Finding.{best-found}
-use Rattle.solver.proofs.Advancing.{none-found}
+use Rattle.solver.proofs.Advancing.{none-found, rule-found}
 use Rattle.solver.proofs.turn_with.Statement.{statement}
 use Rattle.solver.proofs.turn_with.Tie as tie
 
@@ -12,7 +12,11 @@ returns c =
     λ oldWork oldAnswer ls x w p ek en. c₁ .line .ensures oldWork oldAnswer ls x w (c₄ .args .work .now) p ek en (none-found x _ _ _ (best-found x _ (c₃ .find .ensures .1 x (p .fine .0) ek)) (c₂ .if1 .taken))
 
 advance-requires : tie.Need-advance-requires
-advance-requires c κs = let p = c .before .before .before .before .before .before .before .pre in (p .0, c .before .before .before .find .ensures .0 (c .before .if1 .left), omega arith, p .1)
+advance-requires c κs =
+    let c₁ = c .before in let c₂ = c₁ .before .before in let c₃ = c₂ .before .before .before .before in
+    let p = c₃ .pre .0 in
+    let x = c₃ .pre .1 in
+    ((p .0, c₂ .find .ensures .0 (c₁ .if1 .left), omega arith, p .1), rule-found (c₃ .args .k .now) x _ (c₂ .find .ensures .1 (x .conj) (x .fine) (x .words)) (c₁ .if1 .left))
 
 returns-2 : tie.Need-returns-2
 returns-2 c =

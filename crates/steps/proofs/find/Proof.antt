@@ -10,9 +10,10 @@ use Rattle.language.specs.Trees.{Conj}
 use Rattle.language.specs.Writing.{conjWords}
 use Rattle.language.specs.Fine.{fineConj}
 use Rattle.rules.specs.Places.{noRule}
+use Rattle.views.specs.Standing.{SomeLiteral}
 use Rattle.steps.specs.declared.Best.{Best}
 use Rattle.steps.specs.Seeking.{lesserOf, bestFrom, bestOf}
-use Rattle.views.proofs.LiteralWalks.{Walked, walk-starts, walk-to, walk-ends}
+use Rattle.views.proofs.LiteralWalks.{Walked, walk-starts, walk-here, walk-to, walk-ends}
 use Rattle.steps.proofs.Finding.{placed-on, passed-to}
 use Rattle.steps.proofs.find.Statement.{statement}
 use Rattle.steps.proofs.find.Tie as tie
@@ -29,6 +30,16 @@ abbrev μ-loop : tie.MeasureT-loop
 loop-holds : tie.Need-loop-holds Inv-loop μ-loop
 unfolding bestOf
 loop-holds c = (λ h. absurd (omega arith), λ x f e. walk-starts (Known _ x) x refl)
+
+rank-at-requires : tie.Need-rank-at-requires Inv-loop μ-loop
+rank-at-requires c κs =
+    let c₁ = c .before in let c₂ = c₁ .before .before in
+    let k = c₂ .args .k .now in
+    let x = c₂ .pre in (
+      c .loop-test .taken,
+      walk-here k (x .conj) (x .fine) (x .words) (c₁ .loop .i) (Known (c₁ .loop .best) (x .conj)) (SomeLiteral k (c₁ .loop .i)) (c₁ .loop .inv .1 (x .conj) (x .fine) (x .words)) (c .loop-test .taken)
+          λ done l rest p d. record { before = done; l = l; behind = rest; stands = p },
+    )
 
 loop-less : tie.Need-loop-less Inv-loop μ-loop
 loop-less c = let z = c .beyond .ensures .0 in omega arith
@@ -54,7 +65,7 @@ find-spec =
     tie.close
     (tie.spec Inv-loop μ-loop
     loop-holds
-    (λ c κs. search needs)
+    rank-at-requires
     (λ c κs. search needs)
     (λ c κs. search needs)
     loop-less

@@ -6,8 +6,25 @@ use Rattle.rules.specs.Places.{atM2}
 use Rattle.steps.specs.Ranking.{sideAnswer}
 use Rattle.views.proofs.LiteralWalks.{at-equation, at-membership}
 use Rattle.equations.specs.Planned.{Planned}
+use Rattle.steps.proofs.Asked.{applies-swapped, applies-written, applies-member}
 use Rattle.steps.proofs.plan_at.Statement.{statement}
 use Rattle.steps.proofs.plan_at.Tie as tie
+
+plan-equation-requires : tie.Need-plan-equation-requires
+plan-equation-requires c κs =
+    let c₁ = c .before in let c₂ = c₁ .before in let c₃ = c₂ .before in let c₄ = c₃ .before .before .before in
+    let k = c₄ .args .k .now in
+    applies-swapped k (c₄ .args .b) (c₄ .pre .1) _ (c₃ .if1 .taken) (c₁ .if2 .taken) λ before l r behind p. c .swapped .ensures .0 k before behind l r (c₂ .see .ensures .0 before l r behind p)
+
+plan-equation-requires-2 : tie.Need-plan-equation-requires-2
+plan-equation-requires-2 c κs =
+    let c₁ = c .before in let c₂ = c₁ .before in let c₃ = c₂ .before .before .before in
+    applies-written (c₃ .args .k .now) (c₃ .args .b) (c₃ .pre .1) _ (c₂ .if1 .taken) (c .if2 .left) (c₁ .see .ensures .0)
+
+plan-membership-requires : tie.Need-plan-membership-requires
+plan-membership-requires c κs =
+    let c₁ = c .before in let c₂ = c₁ .before .before .before in
+    applies-member (c₂ .args .k .now) (c₂ .args .b) (c₂ .pre .1) _ (c₁ .if1 .left) (c .show-membership .ensures .0)
 
 returns : tie.Need-returns
 returns c =
@@ -43,10 +60,10 @@ plan-at-spec =
     (λ c. search needs)
     (λ c κs. search needs)
     (λ c κs. search needs)
-    (λ c κs. search needs)
+    plan-equation-requires
     returns
-    (λ c κs. search needs)
+    plan-equation-requires-2
     returns-2
     (λ c κs. search needs)
-    (λ c κs. search needs)
+    plan-membership-requires
     returns-3)

@@ -8,8 +8,24 @@ use Rattle.views.proofs.Sides.{shows-finish}
 use Rattle.views.proofs.LiteralWalks.{at-equation, at-membership}
 use Rattle.steps.specs.Seeking.{best, bestAt}
 use Rattle.steps.proofs.Finding.{best-swapped, best-written, best-member}
+use Rattle.steps.proofs.Asked.{equation-at, membership-at, turned-at}
 use Rattle.steps.proofs.rank_at.Statement.{statement}
 use Rattle.steps.proofs.rank_at.Tie as tie
+
+rank-equation-requires : tie.Need-rank-equation-requires
+rank-equation-requires c κs =
+    let c₁ = c .before in let c₂ = c₁ .before .before .before in
+    equation-at (c₂ .args .k .now) (c₂ .args .at) (c₂ .pre .1) _ (c₁ .if1 .taken) (c .see .ensures .0)
+
+rank-equation-requires-2 : tie.Need-rank-equation-requires-2
+rank-equation-requires-2 c κs =
+    let c₁ = c .before .before in let c₂ = c₁ .before in let c₃ = c₂ .before .before .before in
+    turned-at (c₃ .args .k .now) _ _ (c .swapped .ensures .0) (equation-at (c₃ .args .k .now) (c₃ .args .at) (c₃ .pre .1) _ (c₂ .if1 .taken) (c₁ .see .ensures .0))
+
+rank-membership-requires : tie.Need-rank-membership-requires
+rank-membership-requires c κs =
+    let c₁ = c .before in let c₂ = c₁ .before .before .before in
+    membership-at (c₂ .args .k .now) (c₂ .args .at) (c₂ .pre .1) _ (c₁ .if1 .left) (c .show-membership .ensures .0)
 
 returns : tie.Need-returns
 returns c =
@@ -56,11 +72,11 @@ rank-at-spec =
     (λ c. search needs)
     (λ c. search needs)
     (λ c κs. search needs)
+    rank-equation-requires
     (λ c κs. search needs)
-    (λ c κs. search needs)
-    (λ c κs. search needs)
+    rank-equation-requires-2
     returns
     returns-2
     (λ c κs. search needs)
-    (λ c κs. search needs)
+    rank-membership-requires
     returns-3)

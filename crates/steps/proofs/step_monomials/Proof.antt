@@ -1,9 +1,30 @@
 -- By the size of the results.
+use native.Mathlib.Omega.{arith}
 use borrow.Author.Needs.{needs}
 use Rattle.plans.specs.Sizes.{monomialWords}
 use Rattle.steps.proofs.Taken.{took-long, took-room, took-ready, took-done}
+use Rattle.steps.proofs.Asked.{shown-at}
 use Rattle.steps.proofs.step_monomials.Statement.{statement}
 use Rattle.steps.proofs.step_monomials.Tie as tie
+
+size-monomials-requires : tie.Need-size-monomials-requires
+size-monomials-requires c κs =
+    let c₁ = c .before .before .before in
+    (c₁ .pre .0 .0, shown-at (c₁ .args .k .now) (c₁ .args .literal) _ (c .show-membership .ensures .0) (c₁ .pre .1))
+
+write-monomials-requires : tie.Need-write-monomials-requires
+write-monomials-requires c κs =
+    let c₁ = c .before in let c₂ = c₁ .before .before in let c₃ = c₂ .before .before in let c₄ = c₃ .before in let c₅ = c₄ .before .before .before in
+    let d = c₅ .pre .0 in
+    let m = shown-at (c₅ .args .k .now) (c₅ .args .literal) _ (c₄ .show-membership .ensures .0) (c₅ .pre .1) in (
+      (d .0, omega arith),
+      record {
+        membership = m;
+        ready =
+            took-ready (monomialWords (m .before) (m .h) (m .R) (m .behind)) (c₅ .args .out .now) (c₅ .args .next) _
+            (c₃ .size-monomials .ensures .each (m .before) (m .h) (m .R) (m .behind) (m .shows)) _ (c₂ .n .given .1) (c₁ .if1 .left) (d .3) (d .2);
+      },
+    )
 
 returns : tie.Need-returns
 returns c = λ before h R behind p.
@@ -21,7 +42,7 @@ returns-3 c =
     let c₆ = c₅ .before .before .before in
     λ before h R behind p.
     let s = c₅ .show-membership .ensures .0 before h R behind p in
-    let d = c₆ .pre in
+    let d = c₆ .pre .0 in
     let e = c₄ .size-monomials .ensures .each before h R behind s in
     took-done (monomialWords before h R behind) (c₆ .args .out .now) (c₆ .args .next) _ e _ (c₃ .n .given .1) (c₂ .if1 .left) _ _
     (c₁ .write-monomials .ensures .each before h R behind s (took-ready (monomialWords before h R behind) (c₆ .args .out .now) (c₆ .args .next) _ e _ (c₃ .n .given .1) (c₂ .if1 .left) (d .3) (d .2)))
@@ -31,11 +52,11 @@ step-monomials-spec =
     tie.close
     (tie.spec
     (λ c κs. search needs)
-    (λ c κs. search needs)
+    size-monomials-requires
     (λ c. search needs)
     (λ c. search needs)
     returns
-    (λ c κs. search needs)
+    write-monomials-requires
     returns-2
     (λ c. search needs)
     returns-3)

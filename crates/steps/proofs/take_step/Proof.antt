@@ -1,8 +1,14 @@
 -- M2 by its monomials, every other rule by its plan.
 use borrow.Author.Needs.{needs}
 use Rattle.steps.proofs.Taken.{took-monomials, took-as}
+use Rattle.steps.proofs.Asked.{monomials-at}
 use Rattle.steps.proofs.take_step.Statement.{statement}
 use Rattle.steps.proofs.take_step.Tie as tie
+
+step-monomials-requires : tie.Need-step-monomials-requires
+step-monomials-requires c κs =
+    let c₁ = c .before in let c₂ = c₁ .before .before .before .before in
+    (c₂ .pre .0, monomials-at (c₂ .args .k .now) (c₂ .args .b) (c₂ .pre .1) (c₁ .if1 .taken))
 
 returns : tie.Need-returns
 returns c =
@@ -17,7 +23,7 @@ pub take-step-spec : {M : Type 1} → statement M
 take-step-spec =
     tie.close
     (tie.spec
-    (λ c κs. search needs)
+    step-monomials-requires
     (λ c. search needs)
     returns
     (λ c κs. search needs)

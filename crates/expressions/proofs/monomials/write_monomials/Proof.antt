@@ -6,8 +6,7 @@ use Rattle.expressions.proofs.monomials.write_monomials.Tie as tie
 
 returns : tie.Need-returns
 returns c =
-    let c₁ = c .before .before .before .before in let c₂ = c₁ .before .before .before .before .before .before .before in
-    let c₃ = c₂ .before .before .before in
+    let c₁ = c .before .before .before in let c₂ = c₁ .before .before .before .before .before .before .before in let c₃ = c₂ .before .before .before in
     walk-writes (c₃ .args .s) (c₂ .keeping .ensures) (c₁ .walk .ensures) (omega arith)
 
 pub write-monomials-spec : {M : Type 1} → statement M

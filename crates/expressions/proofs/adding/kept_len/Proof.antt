@@ -2,9 +2,9 @@
 use borrow.Author.Needs.{needs}
 use native.Mathlib.Omega.{arith}
 use Rattle.results.proofs.Parts.{part-short}
-use Rattle.expressions.proofs.Rows.{front-length}
-use Rattle.expressions.proofs.adding.front_len.Statement.{statement}
-use Rattle.expressions.proofs.adding.front_len.Tie as tie
+use Rattle.expressions.specs.Rows.{keptLength}
+use Rattle.expressions.proofs.adding.kept_len.Statement.{statement}
+use Rattle.expressions.proofs.adding.kept_len.Tie as tie
 
 add-result : tie.Need-add-result
 add-result c =
@@ -12,8 +12,8 @@ add-result c =
     let h = c .before .before .before .before .before .pre in
     let w = part-short (a .k .now) 0 (a .s .at) in
     let x = part-short (a .k .now) (a .s .from) (a .s .rest) in
-    let y = part-short (a .k .now) (a .p .place) (a .p .past) in
-    let z = part-short (a .k .now) (a .s .rest) (a .s .to) in
+    let y = part-short (a .k .now) (a .s .rest) (a .s .to) in
+    let z = part-short (a .k .now) (a .s .end) (a .s .len) in
     omega arith
 
 add-result-2 : tie.Need-add-result-2
@@ -22,8 +22,8 @@ add-result-2 c =
     let h = c .before .before .before .before .before .pre in
     let w = part-short (a .k .now) 0 (a .s .at) in
     let x = part-short (a .k .now) (a .s .from) (a .s .rest) in
-    let y = part-short (a .k .now) (a .p .place) (a .p .past) in
-    let z = part-short (a .k .now) (a .s .rest) (a .s .to) in
+    let y = part-short (a .k .now) (a .s .rest) (a .s .to) in
+    let z = part-short (a .k .now) (a .s .end) (a .s .len) in
     omega arith
 
 add-result-3 : tie.Need-add-result-3
@@ -32,8 +32,8 @@ add-result-3 c =
     let h = c .before .before .before .before .before .pre in
     let w = part-short (a .k .now) 0 (a .s .at) in
     let x = part-short (a .k .now) (a .s .from) (a .s .rest) in
-    let y = part-short (a .k .now) (a .p .place) (a .p .past) in
-    let z = part-short (a .k .now) (a .s .rest) (a .s .to) in
+    let y = part-short (a .k .now) (a .s .rest) (a .s .to) in
+    let z = part-short (a .k .now) (a .s .end) (a .s .len) in
     omega arith
 
 add-result-4 : tie.Need-add-result-4
@@ -42,15 +42,16 @@ add-result-4 c =
     let h = c .before .before .before .before .before .pre in
     let w = part-short (a .k .now) 0 (a .s .at) in
     let x = part-short (a .k .now) (a .s .from) (a .s .rest) in
-    let y = part-short (a .k .now) (a .p .place) (a .p .past) in
-    let z = part-short (a .k .now) (a .s .rest) (a .s .to) in
+    let y = part-short (a .k .now) (a .s .rest) (a .s .to) in
+    let z = part-short (a .k .now) (a .s .end) (a .s .len) in
     omega arith
 
 returns : tie.Need-returns
-returns c = let a = c .before .before .before .before .before .args in let l = front-length (a .k .now) (a .s) (a .p) in omega arith
+unfolding keptLength
+returns c = omega arith
 
-pub front-len-spec : {M : Type 1} → statement M
-front-len-spec =
+pub kept-len-spec : {M : Type 1} → statement M
+kept-len-spec =
     tie.close
     (tie.spec
     (λ c κs. search needs)

@@ -1,0 +1,108 @@
+-- What a step's calls ask, from what the step itself is asked to have.
+use Prim.Native.Nat.{ℕ}
+use native.Mathlib.Omega.{arith}
+use mathlib.Core.Path.{_≡_, sym, ap, _∙_}
+use mathlib.Core.Bool.{true, false}
+use mathlib.Core.List.{List, _++_}
+use mathlib.Core.Option.{some}
+use lib.ListN.{getD}
+use Rattle.language.specs.Trees.{Hedge, Expr, Literal, eqn, mem, Conj}
+use Rattle.rules.specs.Rules.{Branch}
+use Rattle.rules.specs.Places.{atM2}
+use Rattle.views.specs.declared.View.{View}
+use Rattle.views.specs.declared.Shape.{Shape}
+use Rattle.views.specs.Views.{Sees, Shows, EquationAt, MembershipAt}
+use Rattle.views.specs.Standing.{LiteralAt, SomeLiteral}
+use Rattle.views.proofs.LiteralWalks.{at-equation, at-membership}
+use Rattle.equations.specs.Planned as equation
+use Rattle.memberships.specs.Planned as membership
+use Rattle.steps.specs.declared.Best.{Best}
+use Rattle.steps.specs.Ranking.{sideAnswer}
+use Rattle.steps.specs.Asking.{RuleAt, SomeMembership}
+use Rattle.steps.proofs.Taken.{no-equation}
+
+-- ---- the literal at a place is what the word there says
+
+module _ (k : List ℕ) (at : ℕ) (m : SomeLiteral k at) where
+  pub equation-at : (v : View) → getD k at 0 ≡ 5000 → ((before : Conj) (l r : Hedge) (behind : Conj) → LiteralAt k at before (eqn l r) behind → Sees k v before l r behind)
+      → EquationAt k v
+  equation-at v e f =
+      at-equation k at (λ before l behind. EquationAt k v) e
+      (λ before l r behind p. record { before = before; l = l; r = r; behind = behind; sees = f before l r behind p }) (m .before) (m .l) (m .behind) (m .stands)
+
+  pub membership-at : (s : Shape) → (getD k at 0 ≡ 5000 → ⊥) → ((before : Conj) (h : Hedge) (R : Expr) (behind : Conj) → LiteralAt k at before (mem h R) behind → Shows k s before h R behind)
+      → MembershipAt k s
+  membership-at s e f =
+      at-membership k at (λ before l behind. MembershipAt k s) e
+      (λ before h R behind p. record { before = before; h = h; R = R; behind = behind; shows = f before h R behind p }) (m .before) (m .l) (m .behind) (m .stands)
+
+pub turned-at : (k : List ℕ) (v u : View) → ((k : List ℕ) (before behind : Conj) (l r : Hedge) → Sees k v before l r behind → Sees k u before r l behind)
+    → EquationAt k v → EquationAt k u
+turned-at k v u f m = record { before = m .before; l = m .r; r = m .l; behind = m .behind; sees = f k (m .before) (m .behind) (m .l) (m .r) (m .sees) }
+
+pub shown-at : (k : List ℕ) (at : ℕ) (s : Shape) → ((before : Conj) (h : Hedge) (R : Expr) (behind : Conj) → LiteralAt k at before (mem h R) behind → Shows k s before h R behind)
+    → SomeMembership k at → MembershipAt k s
+shown-at k at s f m = record { before = m .before; h = m .h; R = m .R; behind = m .behind; shows = f (m .before) (m .h) (m .R) (m .behind) (m .stands) }
+
+-- ---- the rule that answers there
+
+module _ (k : List ℕ) (b : Best) (m : RuleAt k b) where
+  pub applies-swapped : (v : View) → getD k (b .at) 0 ≡ 5000 → b .swap ≡ true
+      → ((before : Conj) (l r : Hedge) (behind : Conj) → LiteralAt k (b .at) before (eqn l r) behind → Sees k v before r l behind) → equation.RuleApplies (b .rank) k v
+  applies-swapped v e t f =
+      at-equation k (b .at) (λ before l behind. sideAnswer (b .swap) (b .rank) (before ++ behind) l ≡ some (m .results) → equation.RuleApplies (b .rank) k v) e
+      (λ before l r behind p a. record {
+        l = r;
+        r = l;
+        applies = record {
+          before = before;
+          behind = behind;
+          seen = f before l r behind p;
+          results = m .results;
+          answer = ap (λ u. sideAnswer u (b .rank) (before ++ behind) (eqn l r)) (sym t) ∙ a;
+        };
+      })
+      (m .before) (m .l) (m .behind) (m .stands) (m .answer)
+
+  pub applies-written : (v : View) → getD k (b .at) 0 ≡ 5000 → b .swap ≡ false
+      → ((before : Conj) (l r : Hedge) (behind : Conj) → LiteralAt k (b .at) before (eqn l r) behind → Sees k v before l r behind) → equation.RuleApplies (b .rank) k v
+  applies-written v e t f =
+      at-equation k (b .at) (λ before l behind. sideAnswer (b .swap) (b .rank) (before ++ behind) l ≡ some (m .results) → equation.RuleApplies (b .rank) k v) e
+      (λ before l r behind p a. record {
+        l = l;
+        r = r;
+        applies = record {
+          before = before;
+          behind = behind;
+          seen = f before l r behind p;
+          results = m .results;
+          answer = ap (λ u. sideAnswer u (b .rank) (before ++ behind) (eqn l r)) (sym t) ∙ a;
+        };
+      })
+      (m .before) (m .l) (m .behind) (m .stands) (m .answer)
+
+  pub applies-member : (s : Shape) → (getD k (b .at) 0 ≡ 5000 → ⊥)
+      → ((before : Conj) (h : Hedge) (R : Expr) (behind : Conj) → LiteralAt k (b .at) before (mem h R) behind → Shows k s before h R behind) → membership.RuleApplies (b .rank) k s
+  applies-member s e f =
+      at-membership k (b .at) (λ before l behind. sideAnswer (b .swap) (b .rank) (before ++ behind) l ≡ some (m .results) → membership.RuleApplies (b .rank) k s) e
+      (λ before h R behind p a. record {
+        h = h;
+        R = R;
+        applies = record {
+          before = before;
+          behind = behind;
+          shown = f before h R behind p;
+          results = m .results;
+          answer = a;
+        };
+      })
+      (m .before) (m .l) (m .behind) (m .stands) (m .answer)
+
+  -- where the rule is M2, the literal is a membership
+  pub monomials-at : b .rank ≡ atM2 → SomeMembership k (b .at)
+  monomials-at e = go (m .l) (m .stands) (m .answer)
+    where
+      go : (l : Literal) → LiteralAt k (b .at) (m .before) l (m .behind) → sideAnswer (b .swap) (b .rank) (m .before ++ m .behind) l ≡ some (m .results) → SomeMembership k (b .at)
+      go (eqn l r) p a =
+          absurd (let d = sym (no-equation (b .swap) (m .before ++ m .behind) l r) ∙ ap (λ n. sideAnswer (b .swap) n (m .before ++ m .behind) (eqn l r)) (sym e) ∙ a in let z : _≡_ {A = ℕ} 0 1 = cc in omega arith)
+      go (mem h R) p a = record { before = m .before; h = h; R = R; behind = m .behind; stands = p }

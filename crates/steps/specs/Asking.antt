@@ -1,0 +1,27 @@
+-- What a step is asked to have: a literal at its place, to which the rule of its rank applies.
+use Prim.Native.Nat.{ℕ}
+use mathlib.Core.Path.{_≡_}
+use mathlib.Core.List.{List, _++_}
+use mathlib.Core.Option.{some}
+use Rattle.language.specs.Trees.{Hedge, Expr, Literal, mem, Conj}
+use Rattle.rules.specs.Rules.{Branch}
+use Rattle.views.specs.Standing.{LiteralAt}
+use Rattle.steps.specs.declared.Best.{Best}
+use Rattle.steps.specs.Ranking.{sideAnswer}
+
+-- a literal stands at the place of b, and the rule of its rank answers there from its side
+pub record RuleAt (k : List ℕ) (b : Best) : Type 0 where
+  pub before : Conj
+  pub l : Literal
+  pub behind : Conj
+  pub results : List Branch
+  pub stands : LiteralAt k (b .at) before l behind
+  pub answer : sideAnswer (b .swap) (b .rank) (before ++ behind) l ≡ some results
+
+-- some membership stands at `at`
+pub record SomeMembership (k : List ℕ) (at : ℕ) : Type 0 where
+  pub before : Conj
+  pub h : Hedge
+  pub R : Expr
+  pub behind : Conj
+  pub stands : LiteralAt k at before (mem h R) behind
