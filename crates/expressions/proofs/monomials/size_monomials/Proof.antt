@@ -8,7 +8,7 @@ use Rattle.expressions.proofs.monomials.size_monomials.Tie as tie
 tally-requires : tie.Need-tally-requires
 tally-requires c κs =
     let c₁ = c .before in let c₂ = c₁ .before .before .before .before in let c₃ = c₂ .before .before in
-    let z = kept-short (c₃ .args .k .now) (c₂ .keeping .result) (c₃ .pre) in let e = c₁ .kept-len .ensures in (search needs, search needs, omega arith, search needs, search needs)
+    let z = kept-short (c₃ .args .k .now) (c₂ .keeping .result) (c₃ .pre .0) in let e = c₁ .kept-len .ensures in (search needs, search needs, omega arith, search needs, search needs)
 
 returns : tie.Need-returns
 returns c =
