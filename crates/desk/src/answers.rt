@@ -4,13 +4,8 @@ use crate::print::number;
 use crate::print::say;
 use crate::trees::hedge;
 use crate::trees::literals;
+use language::wide;
 use words::word;
-
-fn wide(w: u16) -> usize
-    ensures { λ r. ⌜ r < 65536 ⌝ }
-{
-    w as usize
-}
 
 // Line i of an answer: its number and its mark, then its literals.
 fn line(answer: &[u16], i: usize)

@@ -4,4 +4,3 @@ pub mod plan;
 pub mod rank;
 mod runs;
 mod terms;
-mod tests;

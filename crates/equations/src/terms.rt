@@ -11,7 +11,7 @@ ghost use Rattle.rules.specs.Places.{atE1, noRule};
 ghost use Rattle.views.specs.Views.{Sees};
 ghost use Rattle.views.specs.Standing.{Stands};
 ghost use Rattle.equations.specs.Ranked.{Ranks};
-use crate::tests::and;
+use bools::and;
 use language::TermVar;
 use language::term_word;
 use rules::places::AT_D2;

@@ -14,6 +14,7 @@ ghost use Rattle.example.specs.Answers.{Ranged, Answered, WordsShown, Pa
 ghost use Rattle.example.specs.Fillings.{FillingLength, TableWritten, ValuesWritten, LineShown};
 use language::Refusal;
 use language::limits::FILLING;
+use language::wide;
 use outcomes::Outcome;
 use outcomes::Shown;
 use samples::put;
@@ -23,7 +24,6 @@ use values::short;
 use values::values_len;
 use values::write_starts;
 use values::write_values;
-use waiting::wide;
 use words::word;
 
 // How many words the filling has.

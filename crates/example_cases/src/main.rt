@@ -3,11 +3,8 @@
 ghost use Rattle.cases.specs.Lines.{Parsed};
 use language::limits::QUESTION;
 use language::limits::ROOM;
+use language::wide;
 use outcomes::Shown;
-
-fn wide(x: u16) -> usize {
-    x as usize
-}
 
 fn print(x: u16) {
     io::print_decimal(1, x as u64);

@@ -14,8 +14,8 @@ use Rattle.frames.specs.Frames.{frame, frameOf, framed}
 use Rattle.plans.specs.Sizes.{Short, grown, sizedFrom, sized}
 use Rattle.plans.specs.declared.Size.{Size}
 use Rattle.plans.specs.declared.Size.the-variants.{Fits, Over}
-use Rattle.results.specs.Written.{Wrote}
-use Rattle.results.proofs.Still.{wrote-as}
+use Rattle.slices.specs.Written.{Wrote}
+use Rattle.slices.proofs.Still.{wrote-as}
 use Rattle.expressions.specs.declared.adding.Kept.{Kept}
 use Rattle.expressions.specs.declared.adding.Spot.{Spot}
 use Rattle.expressions.specs.Loose.{Loose, firstWords, restWords, opening}

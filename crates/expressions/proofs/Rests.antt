@@ -4,7 +4,7 @@ use mathlib.Core.Path.{_≡_, refl, ap, sym, _∙_}
 use mathlib.Core.List.{[], _∷_}
 use native.Mathlib.Omega.{arith}
 use lib.ListN.{length}
-use Rattle.results.proofs.Parts.{Split}
+use Rattle.slices.proofs.Parts.{Split}
 use Rattle.expressions.specs.Loose.{joins, opening}
 
 length-joins : (n : ℕ) → length (joins n) ≡ n

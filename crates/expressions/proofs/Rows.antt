@@ -17,7 +17,7 @@ use Rattle.views.specs.Views.{Shows}
 use Rattle.views.specs.declared.Shape.{Shape}
 use Rattle.views.proofs.Words.{words-body, words-append}
 use Rattle.views.proofs.Sides.{side-head, side-tail, shows-before, shows-behind}
-use Rattle.results.proofs.Parts.{part-short}
+use Rattle.slices.proofs.Parts.{part-short}
 use Rattle.expressions.specs.declared.adding.Kept.{Kept}
 use Rattle.expressions.specs.declared.adding.Spot.{Spot}
 use Rattle.expressions.specs.Loose.{Loose, firstWords, restWords, met}

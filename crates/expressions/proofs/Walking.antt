@@ -16,7 +16,7 @@ use Rattle.rules.specs.Expressions.{nullable}
 use Rattle.plans.specs.Sizes.{monomialWords}
 use Rattle.views.specs.Views.{Shows}
 use Rattle.views.specs.declared.Shape.{Shape}
-use Rattle.results.specs.Written.{Wrote}
+use Rattle.slices.specs.Written.{Wrote}
 use Rattle.expressions.specs.declared.adding.Kept.{Kept}
 use Rattle.expressions.specs.declared.monomials.Outside.{Outside}
 use Rattle.expressions.specs.declared.monomials.Walked.{Walked}

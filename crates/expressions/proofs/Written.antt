@@ -6,9 +6,9 @@ use native.Mathlib.Omega.{arith}
 use lib.ListN.{length, drop, length-append}
 use lib.Seq.{slice, sets, take-length}
 use Rattle.frames.specs.Frames.{frame, frameOf}
-use Rattle.results.specs.Written.{Wrote}
+use Rattle.slices.specs.Written.{Wrote}
 use Rattle.language.proofs.Stores.{sets-append}
-use Rattle.results.proofs.Still.{wrote-as}
+use Rattle.slices.proofs.Still.{wrote-as}
 use Rattle.expressions.specs.declared.adding.Kept.{Kept}
 use Rattle.expressions.specs.declared.adding.Spot.{Spot}
 use Rattle.expressions.specs.Loose.{opening}

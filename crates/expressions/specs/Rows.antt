@@ -9,12 +9,12 @@ use Rattle.language.specs.Kinds.{pick}
 use Rattle.language.specs.Limits.{desk}
 use Rattle.language.specs.Trees.{Hedge, Expr, Conj}
 use Rattle.frames.specs.Frames.{frame, frameOf, framed}
-use Rattle.plans.specs.Sizes.{grown, sized, monomialWords}
+use Rattle.plans.specs.Sizes.{grown, sized, monomialWords, Ready}
 use Rattle.views.specs.Views.{Shows, MembershipAt}
 use Rattle.views.specs.declared.Shape.{Shape}
 use Rattle.plans.specs.declared.Size.{Size}
 use Rattle.plans.specs.declared.Size.the-variants.{Fits, Over}
-use Rattle.results.specs.Written.{Wrote, Ready}
+use Rattle.slices.specs.Written.{Wrote}
 use Rattle.expressions.specs.declared.adding.Kept.{Kept}
 use Rattle.expressions.specs.declared.adding.Spot.{Spot}
 use Rattle.expressions.specs.Loose.{Loose, opening, restWords, firstWords}

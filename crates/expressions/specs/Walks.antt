@@ -14,7 +14,7 @@ use Rattle.rules.specs.Looks.{isEps}
 use Rattle.rules.specs.Expressions.{nullable}
 use Rattle.frames.specs.Frames.{framed}
 use Rattle.plans.specs.Sizes.{Short}
-use Rattle.results.specs.Written.{Wrote}
+use Rattle.slices.specs.Written.{Wrote}
 use Rattle.expressions.specs.declared.adding.Kept.{Kept}
 use Rattle.expressions.specs.declared.monomials.Outside.{Outside}
 use Rattle.expressions.specs.declared.monomials.Counted.{Counted}

@@ -5,16 +5,16 @@ ghost use Prim.Native.Nat.{_≤_, _<_, _+_, _-_, _*_};
 ghost use lib.ListN.{length, drop};
 ghost use Rattle.frames.specs.Frames.{frame, frameOf};
 ghost use Rattle.language.specs.Limits.{desk};
-ghost use Rattle.results.specs.Written.{Wrote};
+ghost use Rattle.slices.specs.Written.{Wrote};
 ghost use Rattle.expressions.specs.Loose.{opening};
 ghost use Rattle.expressions.specs.Rows.{keptOf, frontWords, keptLength, lengthBy, resultLength, resultWords, Bounded, counted, Rowed};
 use frames::FRAME;
 use frames::write_frame;
 use language::limits::QUESTION;
 use plans::Size;
-use results::copying::copy;
-use results::copying::part_len;
-use results::grow;
+use plans::grow;
+use slices::copy;
+use slices::part_len;
 use views::Shape;
 
 // What a result keeps of the conjunction: the words up to `at`, of the literal its hedge's first element and what follows it, and the words

@@ -11,6 +11,8 @@ ghost use Rattle.expressions.specs.Charted.{ChartedFrom};
 ghost use Rattle.views.specs.Views.{MembershipAt};
 ghost use Rattle.expressions.specs.Rows.{Sized, Written, RoomFor};
 ghost use Rattle.expressions.specs.Walks.{Widened, Enclosed, Handed, closes, joined, Tallies, Walks};
+use bools::and;
+use bools::or;
 use crate::adding::Kept;
 use crate::adding::Spot;
 use crate::adding::add_row;
@@ -18,13 +20,11 @@ use crate::adding::count;
 use crate::adding::keeping;
 use crate::adding::kept_len;
 use crate::adding::result_len;
-use crate::both;
 use crate::chart::chart;
 use crate::chart::expression_end;
-use crate::either;
 use language::limits::QUESTION;
 use plans::Size;
-use results::copying::copy;
+use slices::copy;
 use views::Shape;
 use words::word;
 
@@ -108,7 +108,7 @@ fn closed(x: u16, null: bool) -> bool
 fn join(x: u16, a: bool, b: bool) -> bool
     ensures { λ r. ⌜ r ≡ joined x a b ⌝ }
 {
-    if x == 7001 { both(a, b) } else { either(a, b) }
+    if x == 7001 { and(a, b) } else { or(a, b) }
 }
 
 // Passes the expression at a place, and counts the results of its monomials as it meets them, each of which keeps so many words.

@@ -1,7 +1,6 @@
 pub mod Terms
 pub mod Lookups
 pub mod Filled
-pub mod Stores
 pub mod Writes
 pub mod Values
 pub mod Becomes

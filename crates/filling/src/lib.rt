@@ -7,10 +7,10 @@ use language::wide;
 use outcomes::Checked;
 use reader::Header;
 use reader::Read;
+use slices::copy;
 ghost use mathlib.Core.Path.{_≡_};
 ghost use Prim.Native.Nat.{_+_, _≤_, _<_};
 ghost use lib.ListN.{length, drop};
-ghost use lib.Seq.{sets};
 ghost use Rattle.filling.specs.Showing.{bodyAt, nameAt, TermEnd, shown, stepOn, filled, HasValue, Shows, Written};
 ghost use mathlib.Core.Bool.{true};
 ghost use Rattle.language.specs.Limits.{desk};
@@ -131,18 +131,6 @@ pub fn filled_len<'a>(filling: &'a [u16], words: &'a [u16], terms: usize, hedges
     total
 }
 
-// The words of `from`, into `room` at `at`.
-fn copy(room: &mut [u16], at: usize, from: &[u16])
-    requires { ⌜ at + length (now from) ≤ length (now room) ⌝ }
-    ensures { λ _. ⌜ now (room .exit) ≡ sets (now (room .entry)) at (now (from .entry)) ⌝ }
-{
-    let mut i: usize = 0;
-    while i < from.len() {
-        room[at + i] = from[i];
-        i += 1;
-    }
-}
-
 // What these words become, into `room` at `start`. The place after them.
 pub fn fill_in<'a>(
     filling: &'a [u16],
@@ -161,8 +149,7 @@ pub fn fill_in<'a>(
     while at < words.len() {
         let value = lookup(filling, words, at, terms, hedges);
         let n = value.len();
-        copy(room, to, value);
-        to += n;
+        to = copy(value, 0, n, room, to);
         at += step(words[at], n);
     }
     to

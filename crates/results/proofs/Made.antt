@@ -13,7 +13,7 @@ use Rattle.plans.specs.declared.Slot.{Slot}
 use Rattle.plans.specs.declared.Recipe.{Recipe}
 use Rattle.results.specs.declared.replacing.Swap.{Swap}
 use Rattle.results.specs.Marked.{bare}
-use Rattle.results.proofs.Parts.{Split, part-short}
+use Rattle.slices.proofs.Parts.{Split, part-short}
 use Rattle.results.proofs.Replaced.{put-short, length-empty-each}
 
 -- the recipe of these pieces and this substitution

@@ -6,13 +6,13 @@ use native.Mathlib.Omega.{arith}
 use lib.ListN.{length}
 use Rattle.plans.specs.Results.{waysFrom, resultsOf}
 use Rattle.frames.specs.Frames.{framed}
-use Rattle.plans.specs.Sizes.{Short, sizedFrom, sized}
+use Rattle.plans.specs.Sizes.{Short, sizedFrom, sized, Ready}
 use Rattle.plans.specs.declared.Plan.{Plan}
 use Rattle.plans.specs.declared.Ways.{Ways}
 use Rattle.plans.specs.declared.Size.{Size}
 use Rattle.plans.specs.declared.Size.the-variants.{Fits, Over}
-use Rattle.results.specs.Written.{Wrote, Ready}
-use Rattle.results.proofs.Still.{wrote-as}
+use Rattle.slices.specs.Written.{Wrote}
+use Rattle.slices.proofs.Still.{wrote-as}
 
 -- one result in a row
 pub framed-one : (w : List ℕ) → framed (w ∷ []) ≡ length w ∷ w

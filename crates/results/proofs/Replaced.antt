@@ -11,9 +11,9 @@ use Rattle.language.specs.Kinds.{pick}
 use Rattle.plans.specs.Results.{replaced, changed, emptyEach}
 use Rattle.words.specs.Spans.{member}
 use Rattle.plans.specs.declared.Recipe.{Recipe}
-use Rattle.results.specs.Written.{Within}
+use Rattle.slices.specs.Written.{Within}
 use Rattle.results.specs.Marked.{swapped}
-use Rattle.results.proofs.Parts.{Split, part-cons, part-none, part-short}
+use Rattle.slices.proofs.Parts.{Split, part-cons, part-none, part-short}
 
 module _ (old new : List ℕ) (x : ℕ) (b : Bool) (m : b ≡ member x old) where
   pub swapped-old : b ≡ true → swapped old new x ≡ new

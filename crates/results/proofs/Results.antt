@@ -16,7 +16,7 @@ use Rattle.plans.specs.Sizes.{Short, grown, sizedFrom, sized}
 use Rattle.plans.specs.declared.Recipe.{Recipe}
 use Rattle.plans.specs.declared.Size.{Size}
 use Rattle.plans.specs.declared.Size.the-variants.{Fits, Over}
-use Rattle.results.proofs.Parts.{Split}
+use Rattle.slices.proofs.Parts.{Split}
 
 -- ---- counting
 

@@ -14,10 +14,9 @@ use Rattle.language.specs.Trees.{Conj}
 use Rattle.language.specs.Writing.{conjWords}
 use Rattle.rules.specs.Run.{size, anyLong, waitingSize}
 use Rattle.frames.specs.Frames.{framed}
-use Rattle.plans.specs.Sizes.{Short, grown, sizedFrom, sized}
+use Rattle.plans.specs.Sizes.{Short, grown, sizedFrom, sized, Ready}
 use Rattle.plans.specs.declared.Size.{Size}
 use Rattle.plans.specs.declared.Size.the-variants.{Fits, Over}
-use Rattle.results.specs.Written.{Ready}
 
 -- whether some result is too long
 abbrev pub tooLong : List (List ℕ) → Bool

@@ -2,26 +2,21 @@
 use language::Refusal;
 use language::limits::LITERAL;
 use language::limits::ROOM;
+use language::wide;
 use outcomes::Checked;
 use outcomes::Tried;
 use reader::Header;
 use reader::Read;
+use slices::clear;
 ghost use mathlib.Core.Path.{_≡_};
 ghost use Prim.Native.Nat.{_+_, _≤_, _<_};
 ghost use lib.ListN.{length};
 ghost use Rattle.language.specs.Limits.{desk};
-ghost use Rattle.rules.specs.Answer.{zeros, overwritten};
 ghost use Rattle.rules.specs.Calls.{trying};
 ghost use Rattle.reader.specs.Checking.{countsIn};
 ghost use Rattle.filling.specs.Showing.{filled, Shows};
 ghost use Rattle.trying.specs.Tasks.{SameWords, FirstEnd, EquationMet, Testable, MembershipMet, FittingLiteral, LiteralMet, LiteralEnd, SomeConj, FittingConj, ConjTooLong, ConjMet, SomeQuestion, FittingQuestion, QuestionTooLong, QuestionMet, AskedQuestion};
 ghost use Rattle.trying.specs.Outcome.{ToldOutcome, TriedGiven, TriedAsked};
-
-fn wide(x: u16) -> usize
-    ensures { λ r. ⌜ r ≡ x ⌝ }
-{
-    x as usize
-}
 
 fn same(a: &[u16], b: &[u16]) -> bool
     ensures { λ r. ⌜ SameWords (now (a .entry)) (now (b .entry)) r ⌝ }
@@ -37,17 +32,6 @@ fn same(a: &[u16], b: &[u16]) -> bool
         i += 1;
     }
     true
-}
-
-fn clear(work: &mut [u16])
-    requires { ⌜ desk .room ≤ length (now work) ⌝ }
-    ensures { λ _. ⌜ now (work .exit) ≡ overwritten desk (zeros desk) (now (work .entry)) ⌝ }
-{
-    let mut i: usize = 0;
-    while i < ROOM {
-        work[i] = 0;
-        i += 1;
-    }
 }
 
 // ---- A literal.

@@ -18,12 +18,6 @@ copy-requires c κs =
     let b = c .before .before .before in
     writing-fits _ _ _ (b .loop .inv) (omega arith) (c .before .lookup .ensures) (b .before .before .before .before .pre .1)
 
-add-to : tie.Need-add-to Inv-loop μ-loop
-add-to c =
-    let l = c .before .before .before .before in
-    let b = l .before .before in
-    omega (arith, writing-fits _ _ _ (b .loop .inv) (omega arith) (l .lookup .ensures) (b .before .before .before .before .pre .1))
-
 loop-again : tie.Need-loop-again Inv-loop μ-loop
 loop-again c =
     let l = c .before .before .before .before .before .before in
@@ -38,7 +32,6 @@ fill-in-spec =
     (λ c. writing-starts _ _ _ _ _ _)
     (λ c κs. search needs)
     copy-requires
-    add-to
     (λ c. search needs)
     (λ c. search needs)
     (λ c κs. search needs)

@@ -3,7 +3,7 @@ use Rattle.words.specs.Spans.{elementEnd}
 use Rattle.frames.specs.Frames.{framed}
 use Rattle.plans.specs.Sizes.{Short}
 use mathlib.Core.Path.{refl, ap}
-use Rattle.results.proofs.Still.{Still, still-all, still-none, still-fits, still-run}
+use Rattle.slices.proofs.Still.{Still, still-all, still-none, still-fits, still-run}
 use Rattle.results.proofs.Results.{cuts, cuts-none, cuts-split, cuts-short}
 use borrow.Author.Needs.{needs}
 use Rattle.results.proofs.write_cuts.Statement.{statement}

@@ -1,7 +1,7 @@
 -- By the plan's ways.
 use Rattle.plans.specs.Results.{made}
 use Rattle.plans.specs.declared.Ways.the-variants.{Drop, Two, Monomials}
-use Rattle.results.proofs.Still.{wrote-as, fits-as}
+use Rattle.slices.proofs.Still.{wrote-as, fits-as}
 use Rattle.results.proofs.Planned.{framed-one, ready-by, wrote-by, wrote-none}
 use borrow.Author.Needs.{needs}
 use Rattle.results.proofs.write_results.Statement.{statement}

@@ -2,7 +2,7 @@
 use mathlib.Core.Path.{refl}
 use mathlib.Core.List.{[], _∷_}
 use Rattle.plans.specs.Results.{made}
-use Rattle.results.proofs.Still.{still-all, still-none, still-fits, still-run}
+use Rattle.slices.proofs.Still.{still-all, still-none, still-fits, still-run}
 use Rattle.results.proofs.Results.{framed-split}
 use borrow.Author.Needs.{needs}
 use Rattle.results.proofs.write_two.Statement.{statement}

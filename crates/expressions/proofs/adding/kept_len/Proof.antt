@@ -1,7 +1,7 @@
 -- Four parts, each no longer than the words.
 use borrow.Author.Needs.{needs}
 use native.Mathlib.Omega.{arith}
-use Rattle.results.proofs.Parts.{part-short}
+use Rattle.slices.proofs.Parts.{part-short}
 use Rattle.expressions.specs.Rows.{keptLength}
 use Rattle.expressions.proofs.adding.kept_len.Statement.{statement}
 use Rattle.expressions.proofs.adding.kept_len.Tie as tie

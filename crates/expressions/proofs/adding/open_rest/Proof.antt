@@ -4,7 +4,7 @@ use native.Mathlib.Omega.{arith}
 use mathlib.Core.Path.{ap}
 use lib.ListN.{length}
 use Rattle.expressions.specs.Loose.{joins, opening}
-use Rattle.results.proofs.Still.{Still, still-all, still-none, still-fits, still-run, wrote-word, wrote-as}
+use Rattle.slices.proofs.Still.{Still, still-all, still-none, still-fits, still-run, wrote-word, wrote-as}
 use Rattle.expressions.proofs.Rests.{opening-joins, opening-none, joins-split, joins-none}
 use Rattle.expressions.proofs.adding.open_rest.Statement.{statement}
 use Rattle.expressions.proofs.adding.open_rest.Tie as tie

@@ -1,7 +1,7 @@
 -- The lengths of what is kept, of the first term and of the rest, each bounded.
 use borrow.Author.Needs.{needs}
 use native.Mathlib.Omega.{arith}
-use Rattle.results.proofs.Parts.{part-short}
+use Rattle.slices.proofs.Parts.{part-short}
 use Rattle.expressions.specs.Rows.{lengthBy}
 use Rattle.expressions.proofs.Rests.{opening-short}
 use Rattle.expressions.proofs.adding.result_len.Statement.{statement}

@@ -3,7 +3,7 @@ use Prim.Native.Nat.{_+_, _-_}
 use lib.Seq.{slice}
 use Rattle.plans.specs.Results.{emptyEach}
 use Rattle.results.proofs.Replaced.{each-step, each-none}
-use Rattle.results.proofs.Still.{Still, still-all, still-none, still-fits, still-run}
+use Rattle.slices.proofs.Still.{Still, still-all, still-none, still-fits, still-run}
 use borrow.Author.Needs.{needs}
 use Rattle.results.proofs.emptying.empty_each.Statement.{statement}
 use Rattle.results.proofs.emptying.empty_each.Tie as tie

@@ -1,6 +1,6 @@
 -- Four stores in a row.
 use lib.ListN.{length-set}
-use Rattle.results.proofs.Still.{wrote-four}
+use Rattle.results.proofs.Stores.{wrote-four}
 use native.Mathlib.Omega.{arith}
 use borrow.Author.Needs.{needs}
 use Rattle.results.proofs.emptying.empty_one.Statement.{statement}

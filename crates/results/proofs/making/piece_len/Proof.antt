@@ -4,8 +4,8 @@ use mathlib.Core.Path.{sym, ap, _∙_}
 use lib.Seq.{slice}
 use Rattle.plans.specs.Results.{pieceWords}
 use Rattle.results.specs.Marked.{bare}
-use Rattle.results.proofs.Parts.{part-short}
-use Rattle.results.proofs.Still.{counted-as}
+use Rattle.slices.proofs.Parts.{part-short}
+use Rattle.slices.proofs.Still.{counted-as}
 use Rattle.results.proofs.Replaced.{length-empty-each}
 use native.Mathlib.Omega.{arith}
 use borrow.Author.Needs.{needs}

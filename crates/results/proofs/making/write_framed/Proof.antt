@@ -1,7 +1,7 @@
 -- The length is the distance from the place after the frame to the end.
 use mathlib.Core.Path.{ap, _∙_}
 use lib.ListN.{set}
-use Rattle.results.proofs.Still.{wrote-framed}
+use Rattle.results.proofs.Stores.{wrote-framed}
 use native.Mathlib.Omega.{arith}
 use borrow.Author.Needs.{needs}
 use Rattle.results.proofs.making.write_framed.Statement.{statement}

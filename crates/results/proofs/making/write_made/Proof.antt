@@ -1,7 +1,7 @@
 -- The loop's invariant: the pieces from the i-th on are still to come.
 use Prim.Native.Nat.{_-_, _≤_}
 use Rattle.plans.specs.Results.{made}
-use Rattle.results.proofs.Still.{Still, still-all, still-none, still-fits, still-run}
+use Rattle.slices.proofs.Still.{Still, still-all, still-none, still-fits, still-run}
 use Rattle.results.proofs.Made.{whole, from, bare-step, made-none}
 use native.Mathlib.Omega.{arith}
 use borrow.Author.Needs.{needs}

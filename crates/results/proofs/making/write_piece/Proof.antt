@@ -2,7 +2,7 @@
 use mathlib.Core.Path.{ap}
 use Rattle.plans.specs.Results.{pieceWords}
 use Rattle.results.specs.Marked.{bare}
-use Rattle.results.proofs.Still.{wrote-word, wrote-as, fits-as}
+use Rattle.slices.proofs.Still.{wrote-word, wrote-as, fits-as}
 use native.Mathlib.Omega.{arith}
 use borrow.Author.Needs.{needs}
 use Rattle.results.proofs.making.write_piece.Statement.{statement}

@@ -4,7 +4,7 @@ use mathlib.Core.Path.{_≡_, refl, sym, subst, ap, _∙_}
 use mathlib.Core.Bool.{true}
 use lib.ListN.{getD, set}
 use lib.Seq.{slice}
-use Rattle.results.proofs.Parts.{part-cons, part-none}
+use Rattle.slices.proofs.Parts.{part-cons, part-none}
 use Rattle.results.proofs.Marking.{in-place, Marking, none-marked, marking-step, marking-done, not-only}
 use native.Mathlib.Omega.{arith}
 use borrow.Author.Needs.{needs}

@@ -2,7 +2,7 @@
 use Prim.Native.Nat.{_+_, _-_}
 use lib.Seq.{slice}
 use Rattle.plans.specs.Results.{replaced, changed}
-use Rattle.results.proofs.Still.{Still, still-all, still-none, still-fits, still-run}
+use Rattle.slices.proofs.Still.{Still, still-all, still-none, still-fits, still-run}
 use Rattle.results.proofs.Replaced.{put-step, put-none}
 use borrow.Author.Needs.{needs}
 use Rattle.results.proofs.replacing.put.Statement.{statement}

@@ -1,5 +1,5 @@
 -- A word that is replaced gives the part that replaces it, and any other gives itself.
-use Rattle.results.proofs.Still.{wrote-word, wrote-as, fits-as}
+use Rattle.slices.proofs.Still.{wrote-word, wrote-as, fits-as}
 use Rattle.results.proofs.Replaced.{swapped-old, swapped-other}
 use native.Mathlib.Omega.{arith}
 use borrow.Author.Needs.{needs}
