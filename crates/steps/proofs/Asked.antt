@@ -14,8 +14,8 @@ use Rattle.views.specs.declared.Shape.{Shape}
 use Rattle.views.specs.Views.{Sees, Shows, EquationAt, MembershipAt}
 use Rattle.views.specs.Standing.{LiteralAt, SomeLiteral}
 use Rattle.views.proofs.LiteralWalks.{at-equation, at-membership}
-use Rattle.equations.specs.Planned as equation
-use Rattle.memberships.specs.Planned as membership
+use Rattle.equation_plans.specs.Planned as equation
+use Rattle.membership_plans.specs.Planned as membership
 use Rattle.steps.specs.declared.Best.{Best}
 use Rattle.steps.specs.Ranking.{sideAnswer}
 use Rattle.steps.specs.Asking.{RuleAt, SomeMembership}

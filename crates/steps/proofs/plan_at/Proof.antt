@@ -5,7 +5,7 @@ use borrow.Author.Needs.{needs}
 use Rattle.rules.specs.Places.{atM2}
 use Rattle.steps.specs.Ranking.{sideAnswer}
 use Rattle.views.proofs.LiteralWalks.{at-equation, at-membership}
-use Rattle.equations.specs.Planned.{Planned}
+use Rattle.plans.specs.Planned.{Planned}
 use Rattle.steps.proofs.Asked.{applies-swapped, applies-written, applies-member}
 use Rattle.steps.proofs.plan_at.Statement.{statement}
 use Rattle.steps.proofs.plan_at.Tie as tie

@@ -1,0 +1,5 @@
+pub mod Plain
+pub mod Eliminating
+pub mod Cutting
+pub mod Dispatch
+pub mod Determined
