@@ -1,10 +1,4 @@
-// Expressions standing in words: where one ends and whether it is nullable, the monomials of its linear form.
-mod adding;
-mod chart;
-pub mod monomials;
-
-pub use monomials::size_monomials;
-pub use monomials::write_monomials;
+// Expressions standing in words: where one ends, and whether it is nullable.
 ghost use mathlib.Core.Path.{_≡_};
 ghost use mathlib.Core.Bool.{_&&_, _||_};
 ghost use Rattle.expressions.specs.Standing.{Parted};
@@ -16,13 +10,13 @@ pub struct Part {
     pub bare: bool,
 }
 
-pub(crate) fn both(a: bool, b: bool) -> bool
+fn both(a: bool, b: bool) -> bool
     ensures { λ r. ⌜ r ≡ (a && b) ⌝ }
 {
     if a { b } else { false }
 }
 
-pub(crate) fn either(a: bool, b: bool) -> bool
+fn either(a: bool, b: bool) -> bool
     ensures { λ r. ⌜ r ≡ (a || b) ⌝ }
 {
     if a { true } else { b }
