@@ -1,10 +1,4 @@
-// Expressions standing in words: where one ends and whether it is nullable, the monomials of its linear form.
-mod adding;
-mod chart;
-pub mod monomials;
-
-pub use monomials::size_monomials;
-pub use monomials::write_monomials;
+// Expressions standing in words: where one ends, and whether it is nullable.
 ghost use Rattle.expressions.specs.Standing.{Parted};
 use bools::and;
 use bools::or;
