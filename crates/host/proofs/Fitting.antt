@@ -20,7 +20,8 @@ use Rattle.rules.specs.Example.{example}
 use Rattle.rules.specs.Answer.{Solving, answered, unread, given-up, solvingOf, solving}
 use Rattle.rules.specs.Calls.{Trying, tryingWith, tryingOf, trying, Showing, shows, denied, lineAt, fitted, shown, showingOf, showing}
 use Rattle.rules.specs.Calls as calls
-use Rattle.host.specs.Bytes.{fitting, used}
+use Rattle.word_bytes.specs.Bytes.{fitting}
+use Rattle.host.specs.Numbers.{used}
 
 and-false : (b : Bool) → (b && false) ≡ false
 and-false true = refl

@@ -12,9 +12,9 @@ use Rattle.language.specs.declared.Refusal.the-variants.{ShortSlice}
 use Rattle.language.specs.Limits.{desk}
 use Rattle.language.specs.Question.{readQuestion}
 use Rattle.rules.specs.Answer.{Solving, answered, unread, given-up, solvingOf, solving, answerWords, zeros}
-use Rattle.host.specs.Bytes.{bytesOf, wordsIn, fitting}
+use Rattle.word_bytes.specs.Bytes.{bytesOf, wordsIn, fitting}
 use Rattle.host.specs.Host.{solvingBytes, solveNumber, solveLeaves}
-use Rattle.host.proofs.Pairs.{written, odd-holds-none}
+use Rattle.word_bytes.proofs.Pairs.{written, odd-holds-none}
 use Rattle.host.proofs.Fitting.{fitting-solving, no-question}
 use Rattle.host.proofs.Refusals.{Numbered}
 

@@ -21,8 +21,6 @@ use adding::count;
 use adding::keeping;
 use adding::kept_len;
 use adding::result_len;
-use bools::and;
-use bools::or;
 use chart::chart;
 use chart::expression_end;
 use language::limits::QUESTION;

@@ -2,7 +2,7 @@
 use mathlib.Core.Path.{sym}
 use native.Mathlib.Omega.{arith}
 use Rattle.language.specs.Limits.{desk}
-use Rattle.host.proofs.Pairs.{used-all, used-most}
+use Rattle.host.proofs.Numbering.{used-all, used-most}
 use Rattle.host.proofs.most.Statement.{statement}
 use Rattle.host.proofs.most.Tie as tie
 
