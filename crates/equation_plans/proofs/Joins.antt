@@ -32,9 +32,9 @@ joins-onto : (glue : Hedge → Hedge → Hedge) (g r : Hedge) (m : Option (Hedge
 joins-onto glue g r none law j a b e = absurd (let y : _≡_ {A = ℕ} 0 1 = cc in omega arith)
 joins-onto glue g r (some c) law j a b e = ap (λ h. g ⧺ h) (j (c .0) (c .1) refl) ∙ sym (law (c .0) (c .1)) ∙ ap (glued glue) e
 
-joins-pick : (glue : Hedge → Hedge → Hedge) (h : Hedge) (c : Bool) (a b : Hedge) (m : Option (Hedge × Hedge)) → (c ≡ true → h ≡ glue a b) → Joins glue h m → Joins glue h (pick c (some (a, b)) m)
-joins-pick glue h true a b m e j x y d = e refl ∙ ap (glued glue) d
-joins-pick glue h false a b m e j x y d = j x y d
+joins-either : (glue : Hedge → Hedge → Hedge) (h : Hedge) (c : Bool) (a b : Hedge) (m : Option (Hedge × Hedge)) → (c ≡ true → h ≡ glue a b) → Joins glue h m → Joins glue h (pick c (some (a, b)) m)
+joins-either glue h true a b m e j x y d = e refl ∙ ap (glued glue) d
+joins-either glue h false a b m e j x y d = j x y d
 
 -- ---- the terms up to one that holds q
 
@@ -43,7 +43,7 @@ upTo-whole q ε = λ a b e. absurd (let y : _≡_ {A = ℕ} 0 1 = cc in omega ar
 upTo-whole q (tvar x r) = joins-onto (λ a b. a ⧺ b) (tvar x ε) r (upTo q r) (λ a b. refl) (upTo-whole q r)
 upTo-whole q (hvar p r) = λ a b e. absurd (let y : _≡_ {A = ℕ} 0 1 = cc in omega arith)
 upTo-whole q (node f c r) =
-    joins-pick (λ a b. a ⧺ b) (node f c r) (holds (hv q) c) ε (node f c r) (onto (node f c) (upTo q r)) (λ _. refl)
+    joins-either (λ a b. a ⧺ b) (node f c r) (holds (hv q) c) ε (node f c r) (onto (node f c) (upTo q r)) (λ _. refl)
     (joins-onto (λ a b. a ⧺ b) (node f c ε) r (upTo q r) (λ a b. refl) (upTo-whole q r))
 
 -- ---- what stands around q
@@ -52,7 +52,7 @@ around-whole : (q : HedgeVar) (h a b : Hedge) → around q h ≡ some (a, b) →
 around-whole q ε = λ a b e. absurd (let y : _≡_ {A = ℕ} 0 1 = cc in omega arith)
 around-whole q (tvar x r) = joins-onto (λ a b. a ⧺ hvar q b) (tvar x ε) r (around q r) (λ a b. refl) (around-whole q r)
 around-whole q (hvar p r) =
-    joins-pick (λ a b. a ⧺ hvar q b) (hvar p r) (eqb (q .0) (p .0)) ε r (onto (hvar p) (around q r)) (λ e. ap (λ n. hvar (record { 0 = n }) r) (sym (eqb-true (q .0) (p .0) e)))
+    joins-either (λ a b. a ⧺ hvar q b) (hvar p r) (eqb (q .0) (p .0)) ε r (onto (hvar p) (around q r)) (λ e. ap (λ n. hvar (record { 0 = n }) r) (sym (eqb-true (q .0) (p .0) e)))
     (joins-onto (λ a b. a ⧺ hvar q b) (hvar p ε) r (around q r) (λ a b. refl) (around-whole q r))
 around-whole q (node f c r) = joins-onto (λ a b. a ⧺ hvar q b) (node f c ε) r (around q r) (λ a b. refl) (around-whole q r)
 
