@@ -13,6 +13,7 @@ use Rattle.language.specs.Fine.{fineHedge}
 use Rattle.rules.specs.Looks.{firstRun, loneH, allTerms, upTo, inside, cuts}
 use Rattle.rules.specs.Rules.{plain, cutResult, Del3, E3, E4}
 use Rattle.rules.specs.Step.{place}
+use Rattle.rules.proofs.Tests.{test-true}
 use Rattle.rules.proofs.Answers.{look, test, answers}
 use Rattle.rules.proofs.Looks.{firstRun-is, loneH-is}
 use Rattle.plans.specs.declared.Recipe.{Recipe}
@@ -21,17 +22,17 @@ use Rattle.views.specs.Looks.{head, tail, bodyWords}
 use Rattle.views.specs.Views.{Sided, Sees}
 use Rattle.plans.specs.Results.{made, resultsOf}
 use Rattle.plans.specs.Sizes.{placedWords}
-use Rattle.views.specs.declared.Terms.{Terms}
-use Rattle.views.specs.declared.Found.{Found}
-use Rattle.views.specs.declared.Spot.{Spot}
+use Rattle.finds.specs.declared.Terms.{Terms}
+use Rattle.finds.specs.declared.Found.{Found}
+use Rattle.finds.specs.declared.Spot.{Spot}
 use Rattle.views.specs.Standing.{Stands}
-use Rattle.views.specs.Walks.{size, Counted, Ahead, Spotted}
+use Rattle.finds.specs.Walks.{size, Counted, Ahead, Spotted}
 use Rattle.views.proofs.Words.{words-body, words-join, words-append, join-nil}
 use Rattle.views.proofs.Sides.{side-stands, side-head, side-tail, sees-before, sees-behind}
 use Rattle.plans.proofs.Places.{forth-within}
-use Rattle.views.proofs.Cuts.{Cut, side-cuts}
-use Rattle.views.proofs.Joins.{upTo-whole, inside-whole, inside-before, inside-behind}
-use Rattle.plans.proofs.Planned.{answered, planned, it-found, T-true, one-result}
+use Rattle.equation_plans.proofs.Cuts.{Cut, side-cuts}
+use Rattle.equation_plans.proofs.Joins.{upTo-whole, inside-whole, inside-before, inside-behind}
+use Rattle.plans.proofs.Planned.{answered, planned, it-found, one-result}
 use Rattle.plans.proofs.Replaced.{acts-hedge, put-conj, put-hedge}
 use Rattle.equation_plans.specs.Recipes.{cutPlan, e3Plan, e4Plan, del3Plan, ahead, termsAhead, hedgeAhead, spotOf}
 use Rattle.equation_plans.specs.Planned.{Is}
@@ -73,7 +74,7 @@ e3-is k v t count l r a = answered (λ _. cutPlan v (t .count + 1) ≡ e3Plan v 
     (look (firstRun l) (firstRun-is l) λ _ _. test _ λ _ _. test _ λ _ all. test _ λ _ _.
     answers
     (let m = count r _ (side-stands (a .seen .right)) in
-    let q = m .count (m .all ∙ T-true (allTerms r) all) in
+    let q = m .count (m .all ∙ test-true (allTerms r) .0 all) in
     let n : t .count + 1 ≡ suc (size r) = omega arith in ap (cutPlan v) n))
     (a .results) (a .answer)
 

@@ -14,7 +14,7 @@ use Rattle.views.specs.declared.View.{View}
 use Rattle.plans.specs.declared.Within.{Within}
 use Rattle.views.specs.Looks.{bodyWords}
 use Rattle.plans.specs.Slots.{nothing, fullRecipe, fewRecipe, single, tabled, innerOf}
-use Rattle.views.specs.Walks.{size}
+use Rattle.finds.specs.Walks.{size}
 
 -- the part of each side between its first and its last word
 abbrev pub leftInner : List ℕ → View → Within

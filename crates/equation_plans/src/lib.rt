@@ -8,6 +8,9 @@ ghost use Rattle.rules.specs.Rules.{E3, E4, Del3};
 ghost use Rattle.plans.specs.Slots.{dropPlan};
 ghost use Rattle.equation_plans.specs.Recipes.{r1Plan, equated, del1Plan, d0Plan, d2Plan, eliminated, e1Plan, e5Plan, e6Plan, cutPlan, struck, e3Plan, e4Plan, del3Plan, spotOf};
 ghost use Rattle.equation_plans.specs.Planned.{Is, Planning, RuleApplies};
+use finds::all_terms;
+use finds::inside;
+use finds::up_to;
 use language::HedgeVar;
 use plans::Piece;
 use plans::Plan;
@@ -30,9 +33,6 @@ use rules::places::AT_R1;
 use views::Look;
 use views::Side;
 use views::View;
-use views::all_terms;
-use views::inside;
-use views::up_to;
 
 // The literal is removed.
 fn plan_r1(v: View) -> Plan

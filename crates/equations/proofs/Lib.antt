@@ -1,4 +1,5 @@
 pub mod Decisions
+pub mod Same
 pub mod Names
 pub mod Looked
 pub mod Nodes

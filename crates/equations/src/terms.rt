@@ -12,6 +12,8 @@ ghost use Rattle.views.specs.Views.{Sees};
 ghost use Rattle.views.specs.Standing.{Stands};
 ghost use Rattle.equations.specs.Ranked.{Ranks};
 use bools::and;
+use finds::has_term;
+use finds::under;
 use language::TermVar;
 use language::term_word;
 use rules::places::AT_D2;
@@ -23,8 +25,6 @@ use rules::places::NO_RULE;
 use views::Look;
 use views::Side;
 use views::View;
-use views::has_term;
-use views::under;
 use words::elsewhere;
 use words::same_part;
 

@@ -8,13 +8,12 @@ use Rattle.rules.specs.Looks.{loneNode, asSymbol, asOver}
 use Rattle.rules.specs.Rules.{R2, F5, F6, F7, M1, M3, M4, M5, M6, M7, M10, M11, Rule, onEqn, onMem, onPair, rules}
 use Rattle.rules.specs.Places.{atR2, atM1, atM2, atM3, atM4, atM5, atM6, atM7, atM10, atM11}
 use Rattle.rules.proofs.Answers.{look, test, answers}
-use Rattle.plans.specs.declared.Ways.the-variants.{Monomials}
 use Rattle.plans.specs.declared.Plan.{Plan}
 use Rattle.views.specs.declared.Shape.{Shape}
 use Rattle.plans.specs.Results.{resultsOf}
 use Rattle.rules.specs.Ranks.{atMem, answerAt, memAnswer}
 use Rattle.plans.proofs.Ranking.{_▸_, Apart, not-tabled}
-use Rattle.plans.specs.Slots.{blankRecipe, single, dropPlan}
+use Rattle.plans.specs.Slots.{dropPlan}
 use Rattle.plans.proofs.Planned.{planned, it-found, nothing-left, not-there}
 use Rattle.membership_plans.specs.Recipes.{r2Plan, m1Plan, m3Plan, m4Plan, m11Plan, shared, halved, m10Plan, exprInner, midOf, membershipPlans, membershipPlan}
 use Rattle.membership_plans.specs.Planned.{Is, Answered}
@@ -61,12 +60,11 @@ plan-law k s n z =
     ▸ tt) n z
 
 -- what is the plan of its rule wherever the rule applies makes what the rule answers
-answering : {n : ℕ} {k : List ℕ} {s : Shape} {p : Plan} → (n ≡ atM2 → p .ways ≡ Monomials) → Is (memAnswer n) k s (membershipPlan n k s) p → Answered n k s p
-answering {n} {k} {s} {p} m e =
+answering : {n : ℕ} {k : List ℕ} {s : Shape} {p : Plan} → (n ≡ atM2 → ⊥) → Is (memAnswer n) k s (membershipPlan n k s) p → Answered n k s p
+answering {n} {k} {s} {p} z e =
     record {
       whole = e;
-      monomials = m;
-      results = λ z before h R behind v. record {
+      results = λ before h R behind v. record {
         results = λ bs a.
             ap (resultsOf k) (e h R (record { before = before; behind = behind; shown = v; results = bs; answer = a })) ∙ plan-law k s n z before h R behind v .results bs a;
       };
@@ -74,7 +72,7 @@ answering {n} {k} {s} {p} m e =
 
 -- the plan of a place is known, and the place, which is not M2's
 for-rank : {n : ℕ} {k : List ℕ} {s : Shape} {p : Plan} (m : ℕ) → n ≡ m → (m ≡ atM2 → ⊥) → Is (memAnswer m) k s (membershipPlan m k s) p → Answered n k s p
-for-rank {n} {k} {s} {p} m e z d = answering (λ q. absurd (z (sym e ∙ q))) (subst (λ (i : ℕ). Is (memAnswer i) k s (membershipPlan i k s) p) (sym e) d)
+for-rank {n} {k} {s} {p} m e z d = answering (λ q. z (sym e ∙ q)) (subst (λ (i : ℕ). Is (memAnswer i) k s (membershipPlan i k s) p) (sym e) d)
 
 -- ---- the rule and the plan of each place
 
@@ -86,10 +84,6 @@ module _ {n : ℕ} {k : List ℕ} {s : Shape} {p : Plan} where
   pub for-M1 : n ≡ atM1 → Is M1 k s (λ R. m1Plan k s) p → Answered n k s p
   unfolding memAnswer membershipPlan
   for-M1 e d = for-rank atM1 e (λ q. absurd (omega arith)) d
-
-  pub for-M2 : n ≡ atM2 → p ≡ single Monomials blankRecipe → Answered n k s p
-  unfolding membershipPlan
-  for-M2 d e = answering (λ _. ap (λ (q : Plan). q .ways) e) (subst (λ (i : ℕ). Is (memAnswer i) k s (membershipPlan i k s) p) (sym d) (λ h R a. e))
 
   pub for-M3 : n ≡ atM3 → Is M3 k s (λ R. m3Plan s) p → Answered n k s p
   unfolding memAnswer membershipPlan
@@ -119,6 +113,6 @@ module _ {n : ℕ} {k : List ℕ} {s : Shape} {p : Plan} where
   unfolding memAnswer membershipPlan
   for-M11 e d = for-rank atM11 e (λ q. absurd (omega arith)) d
 
-  pub dropped : Apart n (atR2 ∷ atM1 ∷ atM2 ∷ atM3 ∷ atM4 ∷ atM5 ∷ atM6 ∷ atM7 ∷ atM10 ∷ atM11 ∷ []) → p ≡ dropPlan → Answered n k s p
+  pub dropped : (n ≡ atM2 → ⊥) → Apart n (atR2 ∷ atM1 ∷ atM3 ∷ atM4 ∷ atM5 ∷ atM6 ∷ atM7 ∷ atM10 ∷ atM11 ∷ []) → p ≡ dropPlan → Answered n k s p
   unfolding membershipPlan
-  dropped a e = answering (λ q. absurd (a .1 .1 .0 q)) (λ h R _. e ∙ sym (not-tabled n (membershipPlans k s R) a))
+  dropped z a e = answering z (λ h R _. e ∙ sym (not-tabled n (membershipPlans k s R) a))

@@ -15,6 +15,7 @@ use Rattle.rules.specs.Substitution.{setF, emptied, put}
 use Rattle.rules.specs.Looks.{allRuns, loneNode, asBlank, asOver}
 use Rattle.rules.specs.Rules.{elims, vanish, M1, M10}
 use Rattle.rules.specs.Step.{place}
+use Rattle.rules.proofs.Tests.{test-true}
 use Rattle.rules.proofs.Answers.{look, test, answers}
 use Rattle.rules.proofs.Looks.{loneNode-is, asBlank-is, asOver-is}
 use Rattle.plans.specs.declared.Recipe.{Recipe}
@@ -25,7 +26,7 @@ use Rattle.plans.specs.Results.{emptyEach, changed, made}
 use Rattle.views.proofs.Words.{words-append}
 use Rattle.views.proofs.Sides.{side-whole, shows-before, shows-behind, shows-expr}
 use Rattle.plans.proofs.Replaced.{Acts, acts-functor, acts-emptied, put-conj, put-hedge, set-self}
-use Rattle.plans.proofs.Planned.{planned, one-result, T-true}
+use Rattle.plans.proofs.Planned.{planned, one-result}
 use Rattle.plans.proofs.Sides.{side-forth, side-body, side-functor}
 use Rattle.membership_plans.specs.Recipes.{vanished, m1Plan, m10Plan, hedgeInner, exprInner}
 use Rattle.membership_plans.proofs.Parts.{word-part}
@@ -55,7 +56,7 @@ pub m1-plans : (k : List ℕ) (s : Shape) → Makes M1 k s (λ R. m1Plan k s)
 m1-plans k s before h R behind v = planned
     (test _ λ _ _. test _ λ _ t. test _ λ _ _.
     answers (one-result k before behind (m1Plan k s .first) (m1Plan k s .first) 0 (elims (vanish h) [] (emptied h))
-    (m1-words v (hedgeInner k s .to) (side-body (v .hedge)) (T-true (allRuns h) t))))
+    (m1-words v (hedgeInner k s .to) (side-body (v .hedge)) (test-true (allRuns h) .0 t))))
 
 -- ---- M10
 

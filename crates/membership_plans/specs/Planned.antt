@@ -6,7 +6,6 @@ use mathlib.Core.Option.{some}
 use Rattle.language.specs.Trees.{Hedge, Expr, Conj}
 use Rattle.rules.specs.Rules.{Branch, InRule}
 use Rattle.rules.specs.Places.{atM2}
-use Rattle.plans.specs.declared.Ways.the-variants.{Monomials}
 use Rattle.plans.specs.declared.Plan.{Plan}
 use Rattle.views.specs.declared.Shape.{Shape}
 use Rattle.views.specs.Views.{Shows}
@@ -22,18 +21,18 @@ pub record Applies (rule : InRule) (k : List ℕ) (s : Shape) (h : Hedge) (R : E
   pub results : List Branch
   pub answer : rule (before ++ behind) h R ≡ some results
 
--- the rule of a place in the list applies to the membership that stands where the shape says
+-- the rule of a place in the list, which is not M2, applies to the membership that stands where the shape says
 pub record RuleApplies (rank : ℕ) (k : List ℕ) (s : Shape) : Type 0 where
   pub h : Hedge
   pub R : Expr
   pub applies : Applies (memAnswer rank) k s h R
+  pub other : rank ≡ atM2 → ⊥
 
 -- wherever the rule applies, p is the plan that is said
 abbrev pub Is : InRule → List ℕ → Shape → (Expr → Plan) → Plan → Type 0
 Is rule k s plan p = (h : Hedge) (R : Expr) → Applies rule k s h R → p ≡ plan R
 
--- the plan of the rule of a place in the list: M2's results are made by monomials, all others by the plan
+-- the plan of the rule of a place in the list, at every membership that the shape shows
 pub record Answered (rank : ℕ) (k : List ℕ) (s : Shape) (p : Plan) : Type 0 where
   pub whole : Is (memAnswer rank) k s (membershipPlan rank k s) p
-  pub monomials : rank ≡ atM2 → p .ways ≡ Monomials
-  pub results : (rank ≡ atM2 → ⊥) → (before : Conj) (h : Hedge) (R : Expr) (behind : Conj) → Shows k s before h R behind → Planned k p before behind (memAnswer rank (before ++ behind) h R)
+  pub results : (before : Conj) (h : Hedge) (R : Expr) (behind : Conj) → Shows k s before h R behind → Planned k p before behind (memAnswer rank (before ++ behind) h R)

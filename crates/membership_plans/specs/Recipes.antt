@@ -5,14 +5,14 @@ use mathlib.Core.List.{List, [], _∷_}
 use lib.ListN.{length}
 use Rattle.language.specs.Trees.{Expr, eps, cat, alt, star, over}
 use Rattle.language.specs.Writing.{exprWords}
-use Rattle.rules.specs.Places.{atR2, atM1, atM2, atM3, atM4, atM5, atM6, atM7, atM10, atM11}
+use Rattle.rules.specs.Places.{atR2, atM1, atM3, atM4, atM5, atM6, atM7, atM10, atM11}
 use Rattle.plans.specs.declared.Piece.the-variants.{Word, Copy, Put, Each}
 use Rattle.plans.specs.declared.Recipe.{Recipe}
-use Rattle.plans.specs.declared.Ways.the-variants.{One, Two, Monomials}
+use Rattle.plans.specs.declared.Ways.the-variants.{One, Two}
 use Rattle.plans.specs.declared.Plan.{Plan}
 use Rattle.views.specs.declared.Shape.{Shape}
 use Rattle.plans.specs.declared.Within.{Within}
-use Rattle.plans.specs.Slots.{nothing, fullRecipe, fewRecipe, blankRecipe, planOf, single, tabled, innerOf}
+use Rattle.plans.specs.Slots.{nothing, fullRecipe, fewRecipe, planOf, single, tabled, innerOf}
 
 -- the part of the hedge, and of the expression, behind the first word and before the last
 abbrev pub hedgeInner : List ℕ → Shape → Within
@@ -105,10 +105,10 @@ midOf k s R = exprInner k s .from + length (firstPart R)
 -- the plans of the rules by their places
 abbrev pub membershipPlans : List ℕ → Shape → Expr → List (ℕ × Plan)
 membershipPlans k s R =
-    (atR2, r2Plan s) ∷ (atM1, m1Plan k s) ∷ (atM2, single Monomials blankRecipe) ∷ (atM3, m3Plan s) ∷ (atM4, m4Plan k s)
+    (atR2, r2Plan s) ∷ (atM1, m1Plan k s) ∷ (atM3, m3Plan s) ∷ (atM4, m4Plan k s)
     ∷ (atM5, shared s (exprInner k s .from) (midOf k s R)) ∷ (atM6, halved s (exprInner k s .from) (midOf k s R)) ∷ (atM7, halved s (exprInner k s .from) (midOf k s R))
     ∷ (atM10, m10Plan k s) ∷ (atM11, m11Plan k s) ∷ []
 
--- the plan of the rule of a place in the list: M2's results are made by monomials, and the F rules drop the conjunction
+-- the plan of the rule of a place in the list; the F rules drop the conjunction
 unfoldable pub membershipPlan : ℕ → List ℕ → Shape → Expr → Plan
 membershipPlan n k s R = tabled n (membershipPlans k s R)

@@ -1,7 +1,7 @@
 // What each rule of memberships makes of the words: its results, described by parts of them.
 ghost use mathlib.Core.Path.{_≡_};
 ghost use Rattle.rules.specs.Rules.{M5, M6, M7};
-ghost use Rattle.plans.specs.Slots.{blankRecipe, single};
+ghost use Rattle.plans.specs.Slots.{dropPlan};
 ghost use Rattle.membership_plans.specs.Recipes.{r2Plan, vanished, m1Plan, m3First, m3Second, m3Plan, memberIn, m4Plan, m11Plan, m5First, m5Second, shared, halved, named, m10Plan, exprInner, midOf};
 ghost use Rattle.membership_plans.specs.Planned.{Is, Answered, RuleApplies};
 use plans::Piece;
@@ -12,7 +12,6 @@ use plans::few;
 use plans::full;
 use plans::inner;
 use rules::places::AT_M1;
-use rules::places::AT_M2;
 use rules::places::AT_M3;
 use rules::places::AT_M4;
 use rules::places::AT_M5;
@@ -24,14 +23,14 @@ use rules::places::AT_R2;
 use views::Shape;
 use views::Side;
 
-// A plan without a piece.
-fn bare(ways: Ways) -> Plan
-    ensures { λ p. ⌜ p ≡ single ways blankRecipe ⌝ }
+// No result.
+fn plan_drop() -> Plan
+    ensures { λ p. ⌜ p ≡ dropPlan ⌝ }
 {
     let none = Piece::Copy(0, 0);
     let first = few(none, none, none, none, none, 0, 0, 0);
     Plan {
-        ways,
+        ways: Ways::Drop,
         first,
         second: first,
     }
@@ -303,7 +302,7 @@ fn plan_m10(k: &[u16], s: Shape) -> Plan
     }
 }
 
-// The results of the rule of that place in the list, which applies; M2's are made elsewhere.
+// The results of the rule of that place in the list, which applies; M2's are made by monomials, and have no plan.
 pub fn plan_membership(rank: usize, k: &[u16], s: Shape) -> Plan
     requires { ⌜ RuleApplies rank (now k) s ⌝ }
     ensures { λ p. ⌜ Answered rank (now (k .entry)) s p ⌝ }
@@ -311,7 +310,6 @@ pub fn plan_membership(rank: usize, k: &[u16], s: Shape) -> Plan
     match rank {
         AT_R2 => plan_r2(s),
         AT_M1 => plan_m1(k, s),
-        AT_M2 => bare(Ways::Monomials),
         AT_M3 => plan_m3(s),
         AT_M4 => plan_m4(k, s),
         AT_M5 => plan_m5(k, s),
@@ -319,6 +317,6 @@ pub fn plan_membership(rank: usize, k: &[u16], s: Shape) -> Plan
         AT_M7 => halves(k, s),
         AT_M10 => plan_m10(k, s),
         AT_M11 => plan_m11(k, s),
-        _ => bare(Ways::Drop),
+        _ => plan_drop(),
     }
 }

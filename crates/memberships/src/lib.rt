@@ -96,7 +96,7 @@ fn rank_run(k: &[u16], from: usize, first: Kind, last: bool) -> usize
 {
     match first {
         Kind::Eps => {
-            if views::has_term(k, from) {
+            if finds::has_term(k, from) {
                 return AT_F7;
             }
             AT_M1

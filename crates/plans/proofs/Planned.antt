@@ -2,10 +2,8 @@
 use Prim.Native.Nat.{ℕ}
 use native.Mathlib.Omega.{arith}
 use mathlib.Core.Path.{_≡_, refl, ap, _∙_, subst}
-use mathlib.Core.Bool.{Bool, true, false}
 use mathlib.Core.List.{List, [], _∷_}
 use mathlib.Core.Option.{Option, none, some}
-use lib.Dec.{T}
 use Rattle.language.specs.Trees.{Conj}
 use Rattle.language.specs.Writing.{conjWords}
 use Rattle.rules.specs.Rules.{Branch, Answer}
@@ -39,11 +37,6 @@ not-there = record { results = λ bs e. absurd (let z : _≡_ {A = ℕ} 0 1 = cc
 pub it-found : {A : Type 0} (m : Option A) → Where (λ a. m ≡ some a) m
 it-found none = tt
 it-found (some a) = refl
-
--- a test that holds is true
-pub T-true : (b : Bool) → T b → b ≡ true
-T-true true t = refl
-T-true false t = absurd t
 
 -- a plan by two parts, where the parts are known
 pub by-parts : (plan : Within → Within → Plan) {p : Plan} {a b c d : Within} → p ≡ plan a b → a ≡ c → b ≡ d → p ≡ plan c d

@@ -1,6 +1,6 @@
 -- The words of a tree with a substitution put in are its words with words replaced, for every substitution that does to each word what the replacing does.
 use mathlib.Core.Path.{_≡_, refl, sym, ap, _∙_}
-use mathlib.Core.Bool.{Bool, true, false, _||_}
+use mathlib.Core.Bool.{Bool, true, false, _||_, or-false}
 use mathlib.Core.List.{List, [], _∷_, _++_, append-assoc}
 use mathlib.Core.Logic.{_⊎_, inl, inr}
 use Prim.Native.Nat.{ℕ, _+_, _<_, _≤_}
@@ -23,7 +23,7 @@ use Rattle.plans.specs.declared.Recipe.{Recipe}
 use Rattle.plans.specs.Results.{replaced, changed}
 use Rattle.words.specs.Spans.{member}
 use Rattle.views.proofs.Words.{words-join}
-use Rattle.views.proofs.Members.{or-false, both-or, eqb-base, member-body}
+use Rattle.views.proofs.Members.{both-or, eqb-base, member-body}
 
 pub replaced-append : (old new a b : List ℕ) → replaced old new (a ++ b) ≡ replaced old new a ++ replaced old new b
 replaced-append old new [] b = refl

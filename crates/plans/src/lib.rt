@@ -31,13 +31,12 @@ pub struct Recipe {
     pub new: usize,
 }
 
-// The results: none; one, at a cut; two; one for each of so many cuts, element by element; one for each monomial of the literal's expression.
+// The results: none; one, at a cut; two; one for each of so many cuts, element by element.
 pub enum Ways {
     Drop,
     One(usize),
     Two,
     Cuts(usize, usize),
-    Monomials,
 }
 
 pub struct Plan {

@@ -80,7 +80,6 @@ pub fn size_results(k: &[u16], plan: Plan) -> Size
         Ways::One(cut) => size_one(k, first, cut, 0),
         Ways::Two => size_two(k, first, second),
         Ways::Cuts(cut, n) => size_cuts(k, first, cut, n),
-        Ways::Monomials => Size::Fits(0),
     }
 }
 
@@ -120,6 +119,5 @@ pub fn write_results(k: &[u16], plan: Plan, out: &mut [u16], at: usize) -> usize
         Ways::One(cut) => write_framed(k, first, cut, out, at),
         Ways::Two => write_two(k, first, second, out, at),
         Ways::Cuts(cut, n) => write_cuts(k, first, cut, n, out, at),
-        Ways::Monomials => at,
     }
 }

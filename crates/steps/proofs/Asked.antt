@@ -81,9 +81,9 @@ module _ (k : List ℕ) (b : Best) (m : RuleAt k b) where
       })
       (m .before) (m .l) (m .behind) (m .stands) (m .answer)
 
-  pub applies-member : (s : Shape) → (getD k (b .at) 0 ≡ 5000 → ⊥)
+  pub applies-member : (s : Shape) → (b .rank ≡ atM2 → ⊥) → (getD k (b .at) 0 ≡ 5000 → ⊥)
       → ((before : Conj) (h : Hedge) (R : Expr) (behind : Conj) → LiteralAt k (b .at) before (mem h R) behind → Shows k s before h R behind) → membership.RuleApplies (b .rank) k s
-  applies-member s e f =
+  applies-member s z e f =
       at-membership k (b .at) (λ before l behind. sideAnswer (b .swap) (b .rank) (before ++ behind) l ≡ some (m .results) → membership.RuleApplies (b .rank) k s) e
       (λ before h R behind p a. record {
         h = h;
@@ -95,6 +95,7 @@ module _ (k : List ℕ) (b : Best) (m : RuleAt k b) where
           results = m .results;
           answer = a;
         };
+        other = z;
       })
       (m .before) (m .l) (m .behind) (m .stands) (m .answer)
 

@@ -130,11 +130,11 @@ pub enum Stepped {
     Done(usize),
 }
 
-// The plan of the rule of that rank at that literal.
+// The plan of the rule of that rank at that literal; M2 has none.
 fn plan_at(k: &[u16], b: Best) -> Plan
-    requires { ⌜ b .at < length (now k) ⌝ }
+    requires { ⌜ (b .at < length (now k)) × (b .rank ≡ atM2 → ⊥) ⌝ }
     requires { ⌜ RuleAt (now k) b ⌝ }
-    ensures { λ p. ⌜ ((before : Conj) (l : Literal) (behind : Conj) → LiteralAt (now (k .entry)) (b .at) before l behind → (b .rank ≡ atM2 → ⊥) → Planned (now (k .entry)) p before behind (sideAnswer (b .swap) (b .rank) (before ++ behind) l)) ⌝ }
+    ensures { λ p. ⌜ ((before : Conj) (l : Literal) (behind : Conj) → LiteralAt (now (k .entry)) (b .at) before l behind → Planned (now (k .entry)) p before behind (sideAnswer (b .swap) (b .rank) (before ++ behind) l)) ⌝ }
 {
     let at = b.at;
     let rank = b.rank;

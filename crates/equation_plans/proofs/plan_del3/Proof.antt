@@ -5,7 +5,7 @@ use Prim.Native.Nat.{_<_}
 use Rattle.language.specs.declared.HedgeVar.{HedgeVar}
 use Rattle.language.specs.Limits.{desk}
 use Rattle.language.specs.Trees.{ε}
-use Rattle.views.specs.Walks.{Spotted}
+use Rattle.finds.specs.Walks.{Spotted}
 use Rattle.views.proofs.Sides.{side-stands}
 use Rattle.equation_plans.proofs.Cutting.{del3-is}
 use Rattle.equation_plans.proofs.plan_del3.Statement.{statement}

@@ -4,7 +4,7 @@ use mathlib.Core.Path.{sym, subst, _∙_}
 use Prim.Native.Nat.{_<_}
 use Rattle.language.specs.declared.HedgeVar.{HedgeVar}
 use Rattle.language.specs.Limits.{desk}
-use Rattle.views.specs.Walks.{Ahead}
+use Rattle.finds.specs.Walks.{Ahead}
 use Rattle.views.proofs.Sides.{side-stands}
 use Rattle.equation_plans.proofs.Cutting.{e4-is}
 use Rattle.equation_plans.proofs.plan_e4.Statement.{statement}
