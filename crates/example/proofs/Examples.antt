@@ -19,9 +19,9 @@ use Rattle.rules.proofs.Names.{eqV-is}
 use Rattle.rules.proofs.Answers.{orElse-is, Where}
 use Rattle.rules.proofs.Looks.{empty-is}
 use Rattle.lines.proofs.Tests.{given-is}
-use Rattle.example.specs.Values.{Settled, valueWords}
+use Rattle.values.specs.Values.{Settled, valueWords}
 use Rattle.example.specs.Rows.{valuesBy}
-use Rattle.example.proofs.Following.{single}
+use Rattle.values.proofs.Following.{single}
 use Rattle.example.specs.Fillings.{valuesOf, tableOf}
 
 -- ---- what a variable is bound to has the form that the variable takes

@@ -18,7 +18,7 @@ use Rattle.rules.specs.Solved.{given, loneVar, onlyMember, solvedLiteral, solve
 use Rattle.rules.specs.Example.{expressionOf}
 use Rattle.lines.proofs.Quiet.{quiet-mem, at-literal}
 use Rattle.lines.proofs.Example.{over-only}
-use Rattle.example.specs.Values.{Settled}
+use Rattle.values.specs.Values.{Settled}
 
 -- ---- a membership
 

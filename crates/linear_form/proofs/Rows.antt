@@ -20,8 +20,9 @@ use Rattle.views.proofs.Sides.{side-head, side-tail, shows-before, shows-behind
 use Rattle.slices.proofs.Parts.{part-short}
 use Rattle.linear_form.specs.declared.adding.Kept.{Kept}
 use Rattle.linear_form.specs.declared.adding.Spot.{Spot}
-use Rattle.linear_form.specs.Loose.{Loose, firstWords, restWords, met}
-use Rattle.linear_form.specs.Rows.{keptOf, frontWords, backWords, rowWords, keptLength, lengthBy, resultLength}
+use Rattle.linear_form.specs.Loose.{Loose, firstWords, restWords, opening, met}
+use Rattle.linear_form.specs.Rows.{keptOf, frontWords, backWords, rowWords, keptLength, lengthBy, resultLength, Bounded}
+use Rattle.linear_form.proofs.Rests.{opening-short}
 use Rattle.linear_form.proofs.Linear.{Fits, rest-of, pairs, results-same}
 
 pub front-length : (k : List ℕ) (s : Kept) (p : Spot) → length (frontWords k s p)
@@ -34,13 +35,27 @@ front-length k s p =
     let a = length-append (slice 0 (s .at) k) (6000 ∷ (slice (s .from) (s .rest) k ++ (0 ∷ (slice (p .place) (p .past) k ++ (6000 ∷ d))))) in
     omega arith
 
-pub kept-short : (k : List ℕ) (s : Kept) → length k ≤ desk .question → keptLength k s ≤ 4 * desk .question + 3
-unfolding keptLength
-kept-short k s h =
+-- what every result keeps, and what else a bounded one has
+pub parts-short : (k : List ℕ) (s : Kept) → length k ≤ desk .question
+    → length (slice 0 (s .at) k) + length (slice (s .from) (s .rest) k) + length (slice (s .rest) (s .to) k) + length (slice (s .end) (s .len) k) ≤ 4 * desk .question
+parts-short k s h =
     let a = part-short k 0 (s .at) in
     let b = part-short k (s .from) (s .rest) in
     let c = part-short k (s .rest) (s .to) in
     let d = part-short k (s .end) (s .len) in
+    omega arith
+
+pub kept-short : (k : List ℕ) (s : Kept) → length k ≤ desk .question → keptLength k s ≤ 4 * desk .question + 3
+unfolding keptLength
+kept-short k s h = let p = parts-short k s h in omega arith
+
+pub row-short : (k : List ℕ) (p : Spot) → length k ≤ desk .question → Bounded p
+    → length (slice (p .place) (p .past) k) + (length (opening (p .parts)) + p .words) ≤ 2 * desk .question + 1 + desk .question * desk .question
+row-short k p h b =
+    let a = part-short k (p .place) (p .past) in
+    let c = opening-short (p .parts) in
+    let d = b .few in
+    let e = b .short in
     omega arith
 
 pub length-by : (k : List ℕ) (s : Kept) (p : Spot) → resultLength k s p ≡ lengthBy k (keptLength k s) p
