@@ -5,8 +5,5 @@ pub mod Stores
 pub mod Writes
 pub mod Values
 pub mod Becomes
-pub mod Plain
-pub mod Forms
-pub mod Readings
 pub mod Given
 pub mod Determined
