@@ -244,7 +244,7 @@ fn try_asked<'a>(h: Header, question: &'a [u16], filling: &'a [u16], work: &mut 
     requires { ⌜ desk .room ≤ length (now work) ⌝ }
     ensures { λ r. ⌜ TriedAsked h (now (filling .entry)) (now (question .entry)) r (now (work .entry)) (now (work .exit)) ⌝ }
 {
-    match values::read_filling(h, filling) {
+    match given::read_filling(h, filling) {
         Checked::Refused(refusal) => Tried::Refused(refusal),
         Checked::Fine => try_given(h, question, filling, work),
     }

@@ -2,9 +2,9 @@
 use mathlib.Core.Path.{_≡_, sym, _∙_}
 use native.Mathlib.Omega.{arith}
 use borrow.Author.Needs.{needs}
-use Rattle.values.proofs.Plain.{judged-stop, judged-short, judged-all}
-use Rattle.values.proofs.is_complete.Statement.{statement}
-use Rattle.values.proofs.is_complete.Tie as tie
+use Rattle.given.proofs.Plain.{judged-stop, judged-short, judged-all}
+use Rattle.given.proofs.is_complete.Statement.{statement}
+use Rattle.given.proofs.is_complete.Tie as tie
 
 pub is-complete-spec : {M : Type 1} → statement M
 is-complete-spec =

@@ -18,8 +18,8 @@ use Rattle.language.proofs.Offsets.{table-count}
 use Rattle.language.proofs.Walks.{passes}
 use Rattle.meaning.specs.Complete.{Complete}
 use Rattle.meaning.specs.Values.{Form, aTerm, aHedge, aName, forms, variables, valueOf, withValue, valuesOf}
-use Rattle.values.specs.Checking.{isSome, ofForm, formAt, Judged, OneTerm, allOfForm}
-use Rattle.values.proofs.Plain.{complete-words, name-size}
+use Rattle.given.specs.Checking.{isSome, ofForm, formAt, Judged, OneTerm, allOfForm}
+use Rattle.given.proofs.Plain.{complete-words, name-size}
 
 -- ---- the form at a number
 

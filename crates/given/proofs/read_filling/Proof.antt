@@ -3,9 +3,9 @@ use mathlib.Core.Path.{_≡_, sym, _∙_}
 use native.Mathlib.Omega.{arith}
 use borrow.Author.Needs.{needs}
 use borrow.Author.Tests.{not-true, not-false}
-use Rattle.values.proofs.Readings.{too-long, no-words, other-count, not-laid, bad-value, good-values}
-use Rattle.values.proofs.read_filling.Statement.{statement}
-use Rattle.values.proofs.read_filling.Tie as tie
+use Rattle.given.proofs.Readings.{too-long, no-words, other-count, not-laid, bad-value, good-values}
+use Rattle.given.proofs.read_filling.Statement.{statement}
+use Rattle.given.proofs.read_filling.Tie as tie
 
 returns-3 : tie.Need-returns-3
 returns-3 c =

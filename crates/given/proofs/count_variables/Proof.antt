@@ -1,9 +1,9 @@
 -- `values::count_variables` meets its contract: counts that fit are small.
 use native.Mathlib.Omega.{arith}
 use borrow.Author.Needs.{needs}
-use Rattle.values.proofs.Readings.{small}
-use Rattle.values.proofs.count_variables.Statement.{statement}
-use Rattle.values.proofs.count_variables.Tie as tie
+use Rattle.given.proofs.Readings.{small}
+use Rattle.given.proofs.count_variables.Statement.{statement}
+use Rattle.given.proofs.count_variables.Tie as tie
 
 pub count-variables-spec : {M : Type 1} → statement M
 count-variables-spec =

@@ -5,10 +5,10 @@ use native.Mathlib.Omega.{arith}
 use borrow.Author.Needs.{needs}
 use borrow.Author.Tests.{not-true, not-false}
 use lib.ListN.{length, drop}
-use Rattle.values.specs.Checking.{plainWords}
-use Rattle.values.proofs.Plain.{plain-on, plain-fails, plain-done}
-use Rattle.values.proofs.is_plain.Statement.{statement}
-use Rattle.values.proofs.is_plain.Tie as tie
+use Rattle.given.specs.Checking.{plainWords}
+use Rattle.given.proofs.Plain.{plain-on, plain-fails, plain-done}
+use Rattle.given.proofs.is_plain.Statement.{statement}
+use Rattle.given.proofs.is_plain.Tie as tie
 
 abbrev Inv-loop : tie.InvT-loop
 Inv-loop words symbols i₀ i = plainWords symbols (drop i words) ≡ plainWords symbols words

@@ -8,9 +8,9 @@ use borrow.Author.Tests.{not-true, not-false}
 use Rattle.language.proofs.Walks.{Walk, walk-starts, walk-room, walk-part, walk-on, walk-fails, walk-ends}
 use Rattle.meaning.specs.Values.{variables}
 use Rattle.reader.specs.Checking.{countsIn}
-use Rattle.values.proofs.Forms.{valueTest, all-pass}
-use Rattle.values.proofs.values_fit.Statement.{statement}
-use Rattle.values.proofs.values_fit.Tie as tie
+use Rattle.given.proofs.Forms.{valueTest, all-pass}
+use Rattle.given.proofs.values_fit.Statement.{statement}
+use Rattle.given.proofs.values_fit.Tie as tie
 
 abbrev Inv-loop : tie.InvT-loop
 Inv-loop h filling n stop from₀ i₀ from i =

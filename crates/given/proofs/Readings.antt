@@ -18,7 +18,7 @@ use Rattle.meaning.specs.Complete.{Complete}
 use Rattle.meaning.specs.Values.{variables, forms, valuesOf, filling, Given, gives, refuses, readFilling}
 use Rattle.outcomes.specs.declared.Checked.{Checked}
 use Rattle.outcomes.specs.declared.Checked.the-variants.{Fine, Refused}
-use Rattle.values.specs.Checking.{isSome, allOfForm, given}
+use Rattle.given.specs.Checking.{isSome, allOfForm, given}
 
 -- the counts that fit
 pub record Small (n : Counts) (c : ℕ) : Type 0 where

@@ -27,7 +27,7 @@ use Rattle.meaning.specs.Complete.{Complete, nil, tree, completeWords}
 use Rattle.meaning.specs.Values.{withNode, complete, Form, aTerm, aHedge, aName, fits, fitting, valueOf}
 use Rattle.trees.specs.declared.Read.the-variants.{Next, Stop}
 use Rattle.trees.specs.Places.{placed}
-use Rattle.values.specs.Checking.{isSome, plainOn, plainWords, ofForm, Of, Plain, Judged, OneTerm}
+use Rattle.given.specs.Checking.{isSome, plainOn, plainWords, ofForm, Of, Plain, Judged, OneTerm}
 
 module _ (s : ℕ) where
   plain-append : (us vs : List ℕ) → plainWords s (us ++ vs) ≡ (plainWords s us && plainWords s vs)

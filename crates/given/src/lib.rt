@@ -16,7 +16,7 @@ ghost use Rattle.language.specs.Kinds.{kindOf};
 ghost use Rattle.language.specs.Question.{laidOut, countsFit};
 ghost use Rattle.meaning.specs.Values.{variables, readFilling};
 ghost use Rattle.reader.specs.Checking.{countsIn};
-ghost use Rattle.values.specs.Checking.{plainOn, plainWords, ofForm, formAt, Judged, OneTerm, allOfForm, given};
+ghost use Rattle.given.specs.Checking.{plainOn, plainWords, ofForm, formAt, Judged, OneTerm, allOfForm, given};
 
 // No variable, and a symbol only if it is declared.
 fn is_plain_word(word: u16, symbols: u16) -> bool

@@ -6,9 +6,9 @@ use Prim.Native.Nat.{ℕ}
 use borrow.Author.Needs.{needs}
 use Rattle.language.specs.declared.Kind.{Kind}
 use Rattle.language.proofs.Arms.{Among, each-kind}
-use Rattle.values.specs.Checking.{plainOn}
-use Rattle.values.proofs.is_plain_word.Statement.{statement}
-use Rattle.values.proofs.is_plain_word.Tie as tie
+use Rattle.given.specs.Checking.{plainOn}
+use Rattle.given.proofs.is_plain_word.Statement.{statement}
+use Rattle.given.proofs.is_plain_word.Tie as tie
 
 is : (n : ℕ) {k j i : Kind} → k ≡ j → k ≡ i → plainOn n i ≡ plainOn n j
 is n e g = ap (plainOn n) (sym g ∙ e)

@@ -2,9 +2,9 @@
 use mathlib.Core.Path.{_≡_, sym, _∙_}
 use native.Mathlib.Omega.{arith}
 use borrow.Author.Needs.{needs}
-use Rattle.values.proofs.Plain.{few-words, term-next, term-stop}
-use Rattle.values.proofs.is_term.Statement.{statement}
-use Rattle.values.proofs.is_term.Tie as tie
+use Rattle.given.proofs.Plain.{few-words, term-next, term-stop}
+use Rattle.given.proofs.is_term.Statement.{statement}
+use Rattle.given.proofs.is_term.Tie as tie
 
 pub is-term-spec : {M : Type 1} → statement M
 is-term-spec =

@@ -2,9 +2,9 @@
 use native.Mathlib.Omega.{arith}
 use borrow.Author.Needs.{needs}
 use borrow.Author.Tests.{not-true, not-false}
-use Rattle.values.proofs.Forms.{fits-none, fits-term, fits-hedge, fits-name}
-use Rattle.values.proofs.value_fits.Statement.{statement}
-use Rattle.values.proofs.value_fits.Tie as tie
+use Rattle.given.proofs.Forms.{fits-none, fits-term, fits-hedge, fits-name}
+use Rattle.given.proofs.value_fits.Statement.{statement}
+use Rattle.given.proofs.value_fits.Tie as tie
 
 pub value-fits-spec : {M : Type 1} → statement M
 value-fits-spec =
