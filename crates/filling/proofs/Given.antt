@@ -22,9 +22,9 @@ use Rattle.meaning.specs.Complete.{Complete, nil, completeWords}
 use Rattle.meaning.specs.Meaning.{Filling}
 use Rattle.meaning.specs.Values.{complete, Form, aTerm, aName, fits, fitting, forms, variables, valueOf, withValue, valuesOf, filling, Given, gives, refuses, readFilling}
 use Rattle.filling.specs.Showing.{offset, ending}
-use Rattle.filling.specs.Checking.{formAt}
-use Rattle.filling.proofs.Plain.{its-words, complete-words}
-use Rattle.filling.proofs.Forms.{at-term, at-name, forms-length, form-is}
+use Rattle.given.specs.Checking.{formAt}
+use Rattle.given.proofs.Plain.{its-words, complete-words}
+use Rattle.given.proofs.Forms.{at-term, at-name, forms-length, form-is}
 use Rattle.filling.proofs.Values.{Value, Values}
 
 -- ---- one value

@@ -4,8 +4,5 @@ pub mod Filled
 pub mod Writes
 pub mod Values
 pub mod Becomes
-pub mod Plain
-pub mod Forms
-pub mod Readings
 pub mod Given
 pub mod Determined

@@ -24,9 +24,9 @@ use Rattle.language.proofs.Undeclared.{literal-declared}
 use Rattle.meaning.specs.Complete.{completeWords}
 use Rattle.meaning.specs.Meaning.{Filling, fill, Meets, MeetsAll}
 use Rattle.rules.specs.Calls.{filledSize, anyOver}
-use Rattle.reader.specs.declared.Read.{Read}
-use Rattle.reader.specs.declared.Read.the-variants.{Next, Stop}
-use Rattle.reader.specs.Places.{placed}
+use Rattle.trees.specs.declared.Read.{Read}
+use Rattle.trees.specs.declared.Read.the-variants.{Next, Stop}
+use Rattle.trees.specs.Places.{placed}
 use Rattle.filling.specs.Showing.{filled, Shows}
 use Rattle.filling.proofs.Values.{declared-shows}
 use Rattle.filling.proofs.Becomes.{filled-word, filled-parts, expr-becomes}

@@ -10,9 +10,9 @@ use Rattle.language.specs.Writing.{hedgeWords, exprWords, literalWords}
 use Rattle.language.specs.Fine.{fineHedge, fineLiteral}
 use Rattle.language.specs.Reading.{got, readHedge}
 use Rattle.language.proofs.Laws.{hedges-read}
-use Rattle.reader.specs.declared.Read.{Read}
-use Rattle.reader.specs.declared.Read.the-variants.{Next, Stop}
-use Rattle.reader.specs.Places.{placed}
+use Rattle.trees.specs.declared.Read.{Read}
+use Rattle.trees.specs.declared.Read.the-variants.{Next, Stop}
+use Rattle.trees.specs.Places.{placed}
 use Rattle.trying.specs.Tasks.{firstHedge, FirstEnd}
 
 module _ (ws : List ℕ) where

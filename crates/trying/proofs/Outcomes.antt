@@ -24,7 +24,7 @@ use Rattle.outcomes.specs.declared.Checked.{Checked}
 use Rattle.outcomes.specs.declared.Checked.the-variants.{Fine}
 use Rattle.outcomes.specs.declared.Checked.the-variants as checked-as
 use Rattle.reader.specs.Checking.{headerOf, countsIn, checked}
-use Rattle.filling.specs.Checking.{given}
+use Rattle.given.specs.Checking.{given}
 use Rattle.outcomes.specs.declared.Tried.{Tried}
 use Rattle.outcomes.specs.declared.Tried.the-variants.{Yes, No, Refused}
 use Rattle.trying.specs.Tasks.{Keeps, AQuestion, SomeQuestion, FittingQuestion, QuestionTooLong, QuestionMet, AskedQuestion}

@@ -6,8 +6,8 @@ use language::wide;
 use outcomes::Checked;
 use outcomes::Tried;
 use reader::Header;
-use reader::Read;
 use slices::clear;
+use trees::Read;
 ghost use mathlib.Core.Path.{_≡_};
 ghost use Prim.Native.Nat.{_+_, _≤_, _<_};
 ghost use lib.ListN.{length};
@@ -40,7 +40,7 @@ fn same(a: &[u16], b: &[u16]) -> bool
 fn first_end(literal: &[u16]) -> usize
     ensures { λ r. ⌜ FirstEnd (now (literal .entry)) r ⌝ }
 {
-    match reader::read_hedge(literal, 1) {
+    match trees::read_hedge(literal, 1) {
         Read::Next(end) => end,
         Read::Stop(place) => place,
     }
@@ -122,7 +122,7 @@ fn meets_literal<'a>(h: Header, filling: &'a [u16], literal: &'a [u16], work: &m
 fn literal_end(conj: &[u16], at: usize) -> usize
     ensures { λ r. ⌜ LiteralEnd (now (conj .entry)) at r ⌝ }
 {
-    match reader::read_literal(conj, at) {
+    match trees::read_literal(conj, at) {
         Read::Next(end) => end,
         Read::Stop(place) => place,
     }
@@ -228,7 +228,7 @@ fn try_asked<'a>(h: Header, question: &'a [u16], filling: &'a [u16], work: &mut 
     requires { ⌜ desk .room ≤ length (now work) ⌝ }
     ensures { λ r. ⌜ TriedAsked h (now (filling .entry)) (now (question .entry)) r (now (work .entry)) (now (work .exit)) ⌝ }
 {
-    match filling::read_filling(h, filling) {
+    match given::read_filling(h, filling) {
         Checked::Refused(refusal) => Tried::Refused(refusal),
         Checked::Fine => try_given(h, question, filling, work),
     }

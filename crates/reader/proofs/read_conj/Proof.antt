@@ -7,9 +7,9 @@ use lib.ListN.{length, drop}
 use borrow.Author.Needs.{needs}
 use Rattle.language.specs.Limits.{desk}
 use Rattle.language.specs.Reading.{readConj}
-use Rattle.reader.specs.Places.{placed}
-use Rattle.reader.proofs.Placing.{goes-on, halts}
-use Rattle.reader.proofs.Parts.{literal-moves, conj-literal, conj-end}
+use Rattle.trees.specs.Places.{placed}
+use Rattle.trees.proofs.Placing.{goes-on, halts}
+use Rattle.trees.proofs.Parts.{literal-moves, conj-literal, conj-end}
 use Rattle.reader.proofs.read_conj.Statement.{statement}
 use Rattle.reader.proofs.read_conj.Tie as tie
 
