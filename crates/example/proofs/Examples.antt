@@ -7,12 +7,12 @@ use mathlib.Core.Option.{Option, none, some}
 use lib.Dec.{T}
 use Rattle.language.specs.declared.TermVar.{TermVar}
 use Rattle.language.specs.declared.FunVar.{FunVar}
-use Rattle.language.specs.Trees.{Functor, symbol, fvar, Hedge, ε, tvar, hvar, node, Literal, eqn, mem, Conj, Counts, Var, tv, hv, fv, eqV, holds, inLiteral, inConj}
+use Rattle.language.specs.Trees.{symbol, fvar, Hedge, ε, tvar, hvar, node, Literal, eqn, mem, Conj, Counts, Var, tv, hv, fv, eqV, holds, inLiteral, inConj}
 use Rattle.meaning.specs.Complete.{Complete, nil, tree, completeWords}
 use Rattle.meaning.specs.Meaning.{fill}
 use Rattle.meaning.specs.Values.{rootOf, childrenOf, variables, numbers, valuesIn, offsetsOf, joined, fillingWords}
 use Rattle.rules.specs.Looks.{empty}
-use Rattle.rules.specs.Solved.{given, isTerm, isFunctor, variable, alone, solves}
+use Rattle.rules.specs.Solved.{isTerm, isFunctor, variable, alone, solves}
 use Rattle.rules.specs.Example.{of, unsolved, binds, bound, followed, example}
 use Rattle.rules.proofs.Tests.{and-parts, picks}
 use Rattle.rules.proofs.Names.{eqV-is}

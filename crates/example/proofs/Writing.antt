@@ -6,7 +6,7 @@ use mathlib.Core.List.{List, [], _∷_, _++_, append-assoc}
 use native.Mathlib.Omega.{arith}
 use lib.Dec.{ltb}
 use lib.ListN.{length, drop, length-append}
-use lib.Seq.{sets, sets-eq}
+use lib.Seq.{sets-eq}
 use borrow.Author.Tests.{lt-ltb, le-ltb}
 use Rattle.language.specs.declared.Refusal.the-variants.{LongExample}
 use Rattle.language.specs.Limits.{desk}
@@ -21,7 +21,6 @@ use Rattle.values.specs.Values.{Settled}
 use Rattle.example.specs.Rows.{Makes, valuesBy, starts, KindLength, KindStarts, KindWritten}
 use Rattle.example.specs.declared.sorts.Sort.the-variants.{Terms, Runs, Functions}
 use Rattle.example.specs.declared.sorts.Row.{Row}
-use Rattle.outcomes.specs.declared.Shown.{Shown}
 use Rattle.outcomes.specs.declared.Shown.the-variants.{Shows, Denied}
 use Rattle.example.specs.Shown.{resultOf, roomOf}
 use Rattle.example.specs.Fillings.{valuesOf, tableOf, Counted, FillingLength, TableWritten, ValuesWritten, LineShown}

@@ -1,5 +1,5 @@
 -- Any two outcomes that a contract of this crate allows coincide.
-use mathlib.Core.Path.{_≡_, sym, ap, ap₂, _∙_}
+use mathlib.Core.Path.{sym, ap, ap₂, _∙_}
 use Rattle.language.proofs.Determined.{Determined}
 use Rattle.filling.proofs.filled_len as filled-len
 use Rattle.filling.proofs.fill_in as fill-in

@@ -10,7 +10,6 @@ use lib.ListN.{length, getD, drop, length-append, List·getD-append, drop-of-len
 use lib.Seq.{drop-cons, getD-append-add}
 use borrow.Author.Tests.{lt-ltb, le-ltb, ltb-true, ltb-false}
 use Rattle.language.specs.Limits.{desk}
-use Rattle.language.specs.Kinds.{pick}
 use Rattle.language.specs.Trees.{Counts}
 use Rattle.language.specs.Reading.{readHedge}
 use Rattle.language.specs.Question.{laidOut, parts}

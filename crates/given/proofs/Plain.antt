@@ -1,6 +1,6 @@
 -- The words of a hedge without variables, and which forms it has.
-use Prim.Native.Nat.{ℕ, suc, _+_, _-_, _<_, _≤_}
-use mathlib.Core.Path.{_≡_, refl, sym, ap, subst, _∙_}
+use Prim.Native.Nat.{ℕ, _+_, _-_, _<_, _≤_}
+use mathlib.Core.Path.{_≡_, refl, sym, ap, _∙_}
 use mathlib.Core.Bool.{Bool, true, false, _&&_, and-false, and-assoc}
 use mathlib.Core.List.{List, [], _∷_, _++_, append-nil}
 use mathlib.Core.Option.{Option, none, some}
@@ -11,23 +11,22 @@ use lib.Seq.{drop-cons}
 use lib.ListN.{length, getD, drop, length-append, drop-of-length-le}
 use borrow.Author.Tests.{eq-eqb, ne-eqb}
 use Rattle.language.specs.declared.Kind.{Kind}
-use Rattle.language.specs.declared.Kind.the-variants.{End, Term, Run, Symbol, Function, Equation, Membership, Eps, Cat, Alt, Star, Other}
+use Rattle.language.specs.declared.Kind.the-variants.{End, Term, Run, Symbol, Function}
 use Rattle.language.specs.declared.Sym.{Sym}
 use Rattle.language.specs.Limits.{desk}
 use Rattle.language.specs.Kinds.{kindOf}
-use Rattle.language.specs.Trees.{Functor, symbol, fvar, Hedge, ε, tvar, hvar, node, Counts}
-use Rattle.language.specs.Writing.{functorWord, hedgeWords}
+use Rattle.language.specs.Trees.{symbol, fvar, Hedge, ε, tvar, hvar, node, Counts}
+use Rattle.language.specs.Writing.{hedgeWords}
 use Rattle.language.specs.Fine.{fineHedge}
 use Rattle.language.specs.Reading.{Got, got, stop, readHedge}
 use Rattle.language.specs.Question.{declaredF, declared}
-use Rattle.language.proofs.Bools.{both-true}
 use Rattle.language.proofs.Words.{kind-end, kind-term, kind-run, kind-symbol, kind-function}
 use Rattle.language.proofs.Laws.{hedges-read}
 use Rattle.meaning.specs.Complete.{Complete, nil, tree, completeWords}
-use Rattle.meaning.specs.Values.{withNode, complete, Form, aTerm, aHedge, aName, fits, fitting, valueOf}
+use Rattle.meaning.specs.Values.{withNode, complete, Form, aTerm, aName, fits, fitting, valueOf}
 use Rattle.trees.specs.declared.Read.the-variants.{Next, Stop}
 use Rattle.trees.specs.Places.{placed}
-use Rattle.given.specs.Checking.{isSome, plainOn, plainWords, ofForm, Of, Plain, Judged, OneTerm}
+use Rattle.given.specs.Checking.{isSome, plainOn, plainWords, ofForm, Of, Judged, OneTerm}
 
 module _ (s : ℕ) where
   plain-append : (us vs : List ℕ) → plainWords s (us ++ vs) ≡ (plainWords s us && plainWords s vs)

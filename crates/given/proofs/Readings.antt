@@ -1,5 +1,5 @@
 -- A filling, check by check: which of 11 and 12 is given, and when neither is.
-use Prim.Native.Nat.{ℕ, _+_, _<_, _≤_}
+use Prim.Native.Nat.{ℕ, _<_, _≤_}
 use mathlib.Core.Path.{_≡_, refl, sym, ap, _∙_}
 use mathlib.Core.Bool.{Bool, true, false, _&&_, and-false}
 use mathlib.Core.List.{List}
@@ -16,7 +16,6 @@ use Rattle.language.proofs.Bools.{both-true}
 use Rattle.language.proofs.Offsets.{laid-short}
 use Rattle.meaning.specs.Complete.{Complete}
 use Rattle.meaning.specs.Values.{variables, forms, valuesOf, filling, Given, gives, refuses, readFilling}
-use Rattle.outcomes.specs.declared.Checked.{Checked}
 use Rattle.outcomes.specs.declared.Checked.the-variants.{Fine, Refused}
 use Rattle.given.specs.Checking.{isSome, allOfForm, given}
 

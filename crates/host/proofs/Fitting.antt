@@ -11,7 +11,7 @@ use borrow.Author.Tests.{leb-false, ltb-false, lt-leb, le-ltb}
 use Rattle.language.specs.declared.Refusal.the-variants.{ShortSlice, QuestionLength, FillingLayout, LongExample, OpenLine}
 use Rattle.language.specs.Kinds.{pick}
 use Rattle.language.specs.Limits.{desk}
-use Rattle.language.specs.Trees.{Conj, Counts, Question}
+use Rattle.language.specs.Trees.{Conj, Counts}
 use Rattle.language.specs.Question.{Asked, asks, refuses, readQuestion, lengthFits, laidOut, rises, offsets, countsOf}
 use Rattle.meaning.specs.Values.{Given, readFilling, variables, fillingWords}
 use Rattle.meaning.specs.Values as values

@@ -12,7 +12,6 @@ use Rattle.language.specs.Writing.{exprWords, conjWords}
 use Rattle.rules.specs.Looks.{isEps}
 use Rattle.rules.specs.Expressions.{nullable}
 use Rattle.plans.specs.Sizes.{monomialWords}
-use Rattle.views.specs.Views.{Shows}
 use Rattle.views.specs.declared.Shape.{Shape}
 use Rattle.plans.specs.declared.Size.{Size}
 use Rattle.plans.specs.declared.Size.the-variants.{Fits}

@@ -1,8 +1,6 @@
 -- Any two outcomes that a contract of this crate allows coincide.
 use mathlib.Core.Path.{sym, ap, _∙_}
 use Rattle.language.proofs.Determined.{Determined}
-use Rattle.samples.specs.declared.Sample.{Sample}
-use Rattle.samples.specs.declared.Wrote.{Wrote}
 use Rattle.samples.proofs.put as put
 use Rattle.samples.proofs.measure as measure
 use Rattle.samples.proofs.write_sample as write_sample

@@ -1,9 +1,9 @@
 -- The invariant of every writer: which words are still to come, and from which place on.
 use mathlib.Core.Path.{_≡_, refl, sym, ap, _∙_}
-use mathlib.Core.List.{List, [], _∷_, _++_}
+use mathlib.Core.List.{List, [], _∷_}
 use Prim.Native.Nat.{ℕ, suc, _+_, _<_, _≤_}
 use native.Mathlib.Omega.{arith}
-use lib.ListN.{length, set, length-append, length-set}
+use lib.ListN.{length, set, length-append}
 use lib.Seq.{sets, length-sets, set-comm}
 use Rattle.language.proofs.Stores.{sets-append}
 use Rattle.slices.specs.Written.{Wrote}

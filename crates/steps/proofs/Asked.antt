@@ -7,7 +7,6 @@ use mathlib.Core.List.{List, _++_}
 use mathlib.Core.Option.{some}
 use lib.ListN.{getD}
 use Rattle.language.specs.Trees.{Hedge, Expr, Literal, eqn, mem, Conj}
-use Rattle.rules.specs.Rules.{Branch}
 use Rattle.rules.specs.Places.{atM2}
 use Rattle.views.specs.declared.View.{View}
 use Rattle.views.specs.declared.Shape.{Shape}

@@ -1,6 +1,6 @@
 -- Testing an equation and a membership: what was written into the work slice, and what comparing or deciding says of it.
 use Prim.Native.Nat.{ℕ, _+_, _≤_}
-use mathlib.Core.Path.{_≡_, refl, sym, ap, subst, _∙_}
+use mathlib.Core.Path.{_≡_, sym, ap, _∙_}
 use mathlib.Core.Bool.{Bool}
 use mathlib.Core.List.{List, _++_}
 use native.Mathlib.Omega.{arith}
@@ -11,7 +11,7 @@ use Rattle.language.specs.Between.{between}
 use Rattle.meaning.specs.Complete.{Complete, completeWords}
 use Rattle.member.specs.Places.{StandsC, Both, Decided}
 use Rattle.filling.specs.Showing.{filled, Written}
-use Rattle.trying.specs.Tasks.{SameWords, Keeps, EquationMet, Testable, MembershipMet}
+use Rattle.trying.specs.Tasks.{SameWords, EquationMet, Testable, MembershipMet}
 use Rattle.trying.proofs.Rooms.{at-front, keeps-sets, keeps-both, first-written, second-written}
 
 module _ {t h : ℕ} {fs : List ℕ} where

@@ -17,7 +17,7 @@ use Rattle.rules.proofs.Answers.{Where}
 use Rattle.views.specs.Views.{Sees}
 use Rattle.views.specs.declared.View.{View}
 use Rattle.views.specs.Variables.{variableWord, fineVar}
-use Rattle.views.specs.Standing.{Stands, LiteralAt}
+use Rattle.views.specs.Standing.{LiteralAt}
 use Rattle.views.proofs.Sides.{side-stands}
 use Rattle.views.proofs.Members.{eqb-base}
 use Rattle.words.proofs.Parts.{word-of}

@@ -10,10 +10,8 @@ use Rattle.language.specs.declared.TermVar.{TermVar}
 use Rattle.language.specs.Trees.{Hedge, Expr, Conj, Var, tv}
 use Rattle.language.specs.Writing.{hedgeWords}
 use Rattle.meaning.specs.Complete.{nil, tree, completeWords}
-use Rattle.meaning.specs.Meaning.{fill}
 use Rattle.meaning.specs.Values.{rootOf, childrenOf}
-use Rattle.rules.specs.Expressions.{sample}
-use Rattle.rules.specs.Example.{of, expressionOf, sampled, unsolved, bound, followed}
+use Rattle.rules.specs.Example.{expressionOf, sampled, unsolved, bound, followed}
 use Rattle.samples.specs.Bodies.{body}
 use Rattle.samples.specs.Laid.{Laid}
 use Rattle.samples.proofs.Bodies.{words-body}

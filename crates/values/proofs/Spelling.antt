@@ -12,7 +12,7 @@ use Rattle.language.specs.Kinds.{kindOf}
 use Rattle.language.proofs.Words.{Is, term, run, is, kind-end, kind-term, kind-run, kind-symbol, kind-function}
 use Rattle.values.specs.declared.Variable.the-variants as one
 use Rattle.language.specs.Limits.{desk}
-use Rattle.language.specs.Trees.{Functor, symbol, fvar, Hedge, ε, tvar, hvar, node, Var, tv, hv, fv}
+use Rattle.language.specs.Trees.{Functor, symbol, fvar, Hedge, ε, tvar, hvar, node, tv, hv, fv}
 use Rattle.language.specs.Writing.{functorWord, hedgeWords}
 use Rattle.language.specs.Fine.{fineFunctor, fineHedge}
 use Rattle.meaning.specs.Complete.{nil, tree, completeWords}

@@ -6,7 +6,7 @@ use mathlib.Core.List.{List, [], _∷_}
 use mathlib.Core.Option.{none}
 use native.Mathlib.Omega.{arith}
 use lib.ListN.{length}
-use Rattle.language.specs.Trees.{Expr, Conj, Var, tv, hv, fv}
+use Rattle.language.specs.Trees.{Conj, Var, tv, hv, fv}
 use Rattle.rules.specs.Example.{defaultSymbol, default, expressionOf, sampled, unsolved}
 use Rattle.rules.specs.Expressions.{sample}
 use Rattle.samples.specs.Bodies.{body}

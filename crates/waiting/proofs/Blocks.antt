@@ -1,5 +1,5 @@
 -- Blocks put before those that wait, and the first of them taken.
-use Prim.Native.Nat.{ℕ, suc, _+_, _-_, _<_, _≤_}
+use Prim.Native.Nat.{ℕ, suc, _+_, _-_, _≤_}
 use native.Mathlib.Omega.{arith}
 use native.Mathlib.Nat.{add-zero}
 use mathlib.Core.Path.{_≡_, refl, sym, ap, _∙_}
@@ -46,10 +46,6 @@ laid-before old at bs w p xs r new e d =
 -- ---- blocks that wait
 
 module _ (old : List ℕ) (at : ℕ) where
-  pub wait-ends : (bs : List (List ℕ)) (w : List ℕ) → Waiting old at bs w → desk .room ≤ at → bs ≡ []
-  wait-ends [] w p h = refl
-  wait-ends (b ∷ bs) w p h = absurd (let q = p .place in omega arith)
-
   -- words that are blocks, stored right before those that wait
   pub laid : (bs : List (List ℕ)) (w : List ℕ) → Waiting old at bs w → desk .room ≤ length old → (xs : List (List ℕ)) (r : ℕ) (new : List ℕ)
       → r + length (framed xs) ≡ at → new ≡ sets w r (framed xs) → Waiting old r (xs ++ bs) new

@@ -19,6 +19,4 @@ returns c =
     line-written (c₄ .args .answer .now) _ _ (c₄ .args .k .now) (c₄ .args .at) _ _ (c₄ .args .solved) (c₂ .store .ensures) (c₁ .copy .ensures .list) (c₃ .mark .ensures .0) refl
 
 pub write-line-spec : {M : Type 1} → statement M
-write-line-spec =
-    tie.close
-    (tie.spec (λ c κs. search needs) (λ c κs. search needs) (λ c. search needs) copy-requires (λ c. search needs) returns)
+write-line-spec = tie.close (tie.spec (λ c κs. search needs) (λ c κs. search needs) (λ c. search needs) copy-requires (λ c. search needs) returns)

@@ -5,8 +5,5 @@ use Rattle.plans.specs.Slots.{single}
 use Rattle.equation_plans.proofs.cut_by.Statement.{statement}
 use Rattle.equation_plans.proofs.cut_by.Tie as tie
 
-returns : tie.Need-returns
-returns c = ap (single _) (c .full .ensures)
-
 pub cut-by-spec : {M : Type 1} → statement M
-cut-by-spec = tie.close (tie.spec (λ c κs. search needs) returns)
+cut-by-spec = tie.close (tie.spec (λ c κs. search needs) (λ c. ap (single _) (c .full .ensures)))

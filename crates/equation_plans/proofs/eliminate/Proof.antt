@@ -5,8 +5,5 @@ use Rattle.plans.specs.Slots.{single}
 use Rattle.equation_plans.proofs.eliminate.Statement.{statement}
 use Rattle.equation_plans.proofs.eliminate.Tie as tie
 
-returns : tie.Need-returns
-returns c = ap (single _) (c .few .ensures)
-
 pub eliminate-spec : {M : Type 1} → statement M
-eliminate-spec = tie.close (tie.spec (λ c κs. search needs) returns)
+eliminate-spec = tie.close (tie.spec (λ c κs. search needs) (λ c. ap (single _) (c .few .ensures)))

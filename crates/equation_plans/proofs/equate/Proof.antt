@@ -5,8 +5,5 @@ use Rattle.plans.specs.Slots.{single}
 use Rattle.equation_plans.proofs.equate.Statement.{statement}
 use Rattle.equation_plans.proofs.equate.Tie as tie
 
-returns : tie.Need-returns
-returns c = ap (single _) (c .few .ensures)
-
 pub equate-spec : {M : Type 1} → statement M
-equate-spec = tie.close (tie.spec (λ c κs. search needs) returns)
+equate-spec = tie.close (tie.spec (λ c κs. search needs) (λ c. ap (single _) (c .few .ensures)))

@@ -5,8 +5,5 @@ use Rattle.plans.specs.Slots.{single}
 use Rattle.equation_plans.proofs.plan_d2.Statement.{statement}
 use Rattle.equation_plans.proofs.plan_d2.Tie as tie
 
-returns : tie.Need-returns
-returns c = ap (single _) (c .full .ensures)
-
 pub plan-d2-spec : {M : Type 1} → statement M
-plan-d2-spec = tie.close (tie.spec (λ c κs. search needs) returns)
+plan-d2-spec = tie.close (tie.spec (λ c κs. search needs) (λ c. ap (single _) (c .full .ensures)))

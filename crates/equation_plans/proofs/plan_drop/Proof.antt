@@ -5,8 +5,5 @@ use Rattle.plans.specs.Slots.{single}
 use Rattle.equation_plans.proofs.plan_drop.Statement.{statement}
 use Rattle.equation_plans.proofs.plan_drop.Tie as tie
 
-returns : tie.Need-returns
-returns c = ap (single _) (c .few .ensures)
-
 pub plan-drop-spec : {M : Type 1} → statement M
-plan-drop-spec = tie.close (tie.spec (λ c κs. search needs) returns)
+plan-drop-spec = tie.close (tie.spec (λ c κs. search needs) (λ c. ap (single _) (c .few .ensures)))

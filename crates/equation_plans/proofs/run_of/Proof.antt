@@ -7,7 +7,6 @@ use mathlib.Core.Bool.{Bool}
 use Rattle.language.specs.declared.TermVar.{TermVar}
 use Rattle.language.specs.declared.HedgeVar.{HedgeVar}
 use Rattle.language.specs.declared.Name.{Name}
-use Rattle.views.specs.declared.Look.{Look}
 use Rattle.views.specs.declared.Look.the-variants.{Empty, Term, Run, Node}
 use Rattle.equation_plans.proofs.run_of.Statement.{statement}
 use Rattle.equation_plans.proofs.run_of.Tie as tie
@@ -25,29 +24,17 @@ module _ {p : HedgeVar} {a : Bool} where
   same : {q : HedgeVar} {b : Bool} → Run q b ≡ Run p a → q ≡ p
   same e = cc
 
-enum-told : tie.Need-enum-told
-enum-told c = search needs
-
-enum-told-2 : tie.Need-enum-told-2
-enum-told-2 c = search needs
-
-enum-known-look : tie.Need-enum-known-look
-enum-known-look c = search needs
-
-enum-told-3 : tie.Need-enum-told-3
-enum-told-3 c = search needs
-
 returns : tie.Need-returns
 returns c = λ p h e. absurd (no-empty (sym (c .enum-told .given .1) ∙ e))
 
 returns-2 : tie.Need-returns-2
 returns-2 c = λ p h e. absurd (no-term (sym (c .enum-told2 .given .1) ∙ e))
 
-returns-3 : tie.Need-returns-3
-returns-3 c = λ p h e. same (sym (c .before .look .given .1) ∙ e)
-
 returns-4 : tie.Need-returns-4
 returns-4 c = λ p h e. absurd (no-node (sym (c .enum-told3 .given .1) ∙ e))
 
 pub run-of-spec : {M : Type 1} → statement M
-run-of-spec = tie.close (tie.spec enum-told enum-told-2 enum-known-look enum-told-3 returns returns-2 returns-3 returns-4)
+run-of-spec =
+    tie.close (tie.spec
+    (λ c. search needs) (λ c. search needs) (λ c. search needs) (λ c. search needs) returns returns-2
+    (λ c. λ p h e. same (sym (c .before .look .given .1) ∙ e)) returns-4)

@@ -8,30 +8,6 @@ use Rattle.equations.proofs.Looked.{at-empty, at-term, at-run, at-node}
 use Rattle.equations.proofs.rank_equation.Statement.{statement}
 use Rattle.equations.proofs.rank_equation.Tie as tie
 
-enum-told : tie.Need-enum-told
-enum-told c = search needs
-
-rank-empty-requires : tie.Need-rank-empty-requires
-rank-empty-requires c κs = search needs
-
-enum-known-look : tie.Need-enum-known-look
-enum-known-look c = search needs
-
-rank-term-requires : tie.Need-rank-term-requires
-rank-term-requires c κs = search needs
-
-enum-known-look-2 : tie.Need-enum-known-look-2
-enum-known-look-2 c = search needs
-
-rank-run-requires : tie.Need-rank-run-requires
-rank-run-requires c κs = search needs
-
-enum-known-look-3 : tie.Need-enum-known-look-3
-enum-known-look-3 c = search needs
-
-rank-node-requires : tie.Need-rank-node-requires
-rank-node-requires c κs = search needs
-
 returns : tie.Need-returns
 returns c = λ before behind l r w.
     at-empty (λ m. Ranks (c .before .before .before .before .before .args .k .now) (c .before .before .before .before .before .args .v) m r (c .rank-empty .result)) l (sym (c .before .enum-told .given .1) ∙ w .left .look) (c .rank-empty .ensures r) before behind w ∙ sym (rank-law (before ++ behind) l r)
@@ -56,4 +32,6 @@ returns-4 c =
 
 pub rank-equation-spec : {M : Type 1} → statement M
 rank-equation-spec =
-    tie.close (tie.spec enum-told rank-empty-requires enum-known-look rank-term-requires enum-known-look-2 rank-run-requires enum-known-look-3 rank-node-requires returns returns-2 returns-3 returns-4)
+    tie.close (tie.spec
+    (λ c. search needs) (λ c κs. search needs) (λ c. search needs) (λ c κs. search needs) (λ c. search needs) (λ c κs. search needs)
+    (λ c. search needs) (λ c κs. search needs) returns returns-2 returns-3 returns-4)

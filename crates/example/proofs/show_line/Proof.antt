@@ -6,18 +6,9 @@ use Rattle.example.proofs.show_line.Tie as tie
 
 pub show-line-spec : {M : Type 1} → statement M
 show-line-spec =
-    tie.close
-    (tie.spec
-    (λ c κs. search needs)
-    (λ c κs. search needs)
-    -- returns
-    (λ c. line-missing (c .before .before .word .ensures) (c .before .wide .ensures) (c .if1 .taken))
-    (λ c. search needs)
-    (λ c κs. search needs)
-    (λ c κs. search needs)
-    (λ c. search needs)
-    (λ c κs. search needs)
-    (λ c κs. search needs)
+    tie.close (tie.spec
+    (λ c κs. search needs) (λ c κs. search needs) (λ c. line-missing (c .before .before .word .ensures) (c .before .wide .ensures) (c .if1 .taken))
+    (λ c. search needs) (λ c κs. search needs) (λ c κs. search needs) (λ c. search needs) (λ c κs. search needs) (λ c κs. search needs)
     -- show-part-requires
     (λ c κs.
     let c₁ = c .before in let c₂ = c₁ .before in let c₃ = c₂ .before in let c₄ = c₃ .before in let c₅ = c₄ .before in let c₆ = c₅ .before in

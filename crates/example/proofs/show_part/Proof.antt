@@ -7,19 +7,11 @@ use Rattle.example.proofs.show_part.Tie as tie
 
 pub show-part-spec : {M : Type 1} → statement M
 show-part-spec =
-    tie.close
-    (tie.spec
-    (λ c κs. search needs)
-    -- returns
-    (λ c. part-open (c .before .word .ensures) (c .if1 .taken))
-    (λ c. search needs)
-    (λ c. search needs)
-    (λ c. search needs)
-    (λ c. search needs)
-    (λ c. search needs)
+    tie.close (tie.spec
+    (λ c κs. search needs) (λ c. part-open (c .before .word .ensures) (c .if1 .taken)) (λ c. search needs) (λ c. search needs) (λ c. search needs)
+    (λ c. search needs) (λ c. search needs)
     -- show-words-requires
     (λ c κs.
     let p = c .before .before .before .before .before .before .before .pre in (p .0, omega arith, part-settled (c .before .before .before .word .ensures) (c .before .before .if1 .left) (p .4)))
     (λ c. search needs)
-    -- returns-2
     (λ c. part-shown (c .before .before .before .before .before .before .word .ensures) (c .before .before .before .before .before .if1 .left) (c .before .before .show-words .ensures)))

@@ -24,25 +24,13 @@ Inv-loop k at i₀ n₀ x₀ i n x =
 abbrev μ-loop : tie.MeasureT-loop
 μ-loop k at i₀ n₀ x₀ i n x = length k - i
 
-word-requires : tie.Need-word-requires Inv-loop μ-loop
-word-requires c κs = search needs
-
 loop-holds : tie.Need-loop-holds Inv-loop μ-loop
 loop-holds c = ((λ h beyond s. pass-start s (refl, omega arith)), c .word .ensures, omega arith, omega arith, gone-start)
-
-is-term-requires : tie.Need-is-term-requires Inv-loop μ-loop
-is-term-requires c κs = search needs
-
-element-end-requires : tie.Need-element-end-requires Inv-loop μ-loop
-element-end-requires c κs = search needs
 
 add-n : tie.Need-add-n Inv-loop μ-loop
 add-n c =
     let c₁ = c .before in let c₂ = c₁ .before in let c₃ = c₂ .before in let c₄ = c₃ .before .before .before in
     let z = goes-on (c₄ .args .k .now) (c₃ .loop .i) (c₃ .loop .inv .1) (c .element-end .ensures) (term-some _ (sym (c₂ .is-term .ensures) ∙ c₁ .if1 .taken)) in omega arith
-
-word-requires-2 : tie.Need-word-requires-2 Inv-loop μ-loop
-word-requires-2 c κs = search needs
 
 loop-less : tie.Need-loop-less Inv-loop μ-loop
 loop-less c =
@@ -74,16 +62,6 @@ returns c =
 
 pub all-terms-spec : {M : Type 1} → statement M
 all-terms-spec =
-    tie.close
-    (tie.spec
-    Inv-loop
-    μ-loop
-    word-requires
-    loop-holds
-    is-term-requires
-    element-end-requires
-    add-n
-    word-requires-2
-    loop-less
-    loop-again
+    tie.close (tie.spec
+    Inv-loop μ-loop (λ c κs. search needs) loop-holds (λ c κs. search needs) (λ c κs. search needs) add-n (λ c κs. search needs) loop-less loop-again
     returns)

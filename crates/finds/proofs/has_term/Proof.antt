@@ -22,20 +22,8 @@ Inv-loop k at i₀ x₀ i x = ((h : Hedge) (beyond : List ℕ) → Stands k at h
 abbrev μ-loop : tie.MeasureT-loop
 μ-loop k at i₀ x₀ i x = length k - i
 
-word-requires : tie.Need-word-requires Inv-loop μ-loop
-word-requires c κs = search needs
-
 loop-holds : tie.Need-loop-holds Inv-loop μ-loop
 loop-holds c = ((λ h beyond s. pass-start s refl), c .word .ensures, going-start)
-
-is-run-requires : tie.Need-is-run-requires Inv-loop μ-loop
-is-run-requires c κs = search needs
-
-element-end-requires : tie.Need-element-end-requires Inv-loop μ-loop
-element-end-requires c κs = search needs
-
-word-requires-2 : tie.Need-word-requires-2 Inv-loop μ-loop
-word-requires-2 c κs = search needs
 
 loop-less : tie.Need-loop-less Inv-loop μ-loop
 loop-less c =
@@ -54,15 +42,6 @@ returns c =
 
 pub has-term-spec : {M : Type 1} → statement M
 has-term-spec =
-    tie.close
-    (tie.spec
-    Inv-loop
-    μ-loop
-    word-requires
-    loop-holds
-    is-run-requires
-    element-end-requires
-    word-requires-2
-    loop-less
-    loop-again
+    tie.close (tie.spec
+    Inv-loop μ-loop (λ c κs. search needs) loop-holds (λ c κs. search needs) (λ c κs. search needs) (λ c κs. search needs) loop-less loop-again
     returns)

@@ -1,6 +1,6 @@
 -- `is_run`: the kinds of words that `runWord` names.
 use mathlib.Core.Path.{_≡_, refl, sym, ap, _∙_}
-use mathlib.Core.Bool.{true, false}
+use mathlib.Core.Bool.{false}
 use mathlib.Core.List.{[], _∷_}
 use borrow.Author.Needs.{needs}
 use Rattle.language.specs.declared.Kind.{Kind}
@@ -16,12 +16,6 @@ others : {k j : Kind} → k ≡ j → Among (0 ∷ 1 ∷ 3 ∷ 4 ∷ 5 ∷ 6 ∷
 others {k} e o =
     each-kind (0 ∷ 1 ∷ 3 ∷ 4 ∷ 5 ∷ 6 ∷ 7 ∷ 8 ∷ 9 ∷ 10 ∷ 11 ∷ []) (λ j. false ≡ runsBy j) refl (λ x. refl) tt (λ x. refl) (λ x. refl) refl refl refl refl refl refl refl k o ∙ ap runsBy e
 
-classify-requires : tie.Need-classify-requires
-classify-requires c κs = search needs
-
-enum-told : tie.Need-enum-told
-enum-told c = search needs
-
 returns : tie.Need-returns
 unfolding runWord
 returns c = found (c .before .before .classify .ensures) (c .enum-told .given .1)
@@ -31,4 +25,4 @@ unfolding runWord
 returns-2 c = others (c .before .classify .ensures) (c .match .keys2)
 
 pub is-run-spec : {M : Type 1} → statement M
-is-run-spec = tie.close (tie.spec classify-requires enum-told returns returns-2)
+is-run-spec = tie.close (tie.spec (λ c κs. search needs) (λ c. search needs) returns returns-2)

@@ -1,5 +1,5 @@
 -- `is_term`: the kinds of words that `termWord` names.
-use mathlib.Core.Path.{_≡_, refl, sym, ap, _∙_}
+use mathlib.Core.Path.{_≡_, refl, ap, _∙_}
 use mathlib.Core.Bool.{true, false}
 use mathlib.Core.List.{[], _∷_}
 use borrow.Author.Needs.{needs}
@@ -16,9 +16,6 @@ others : {k j : Kind} → k ≡ j → Among (0 ∷ 2 ∷ 5 ∷ 6 ∷ 7 ∷ 8 ∷
 others {k} e o =
     each-kind (0 ∷ 2 ∷ 5 ∷ 6 ∷ 7 ∷ 8 ∷ 9 ∷ 10 ∷ 11 ∷ []) (λ j. false ≡ beginsBy j) refl tt (λ x. refl) tt tt refl refl refl refl refl refl refl k o ∙ ap beginsBy e
 
-classify-requires : tie.Need-classify-requires
-classify-requires c κs = search needs
-
 returns : tie.Need-returns
 unfolding termWord
 returns c = found (c .before .classify .ensures) (c .match .keys1)
@@ -28,4 +25,4 @@ unfolding termWord
 returns-2 c = others (c .before .classify .ensures) (c .match .keys2)
 
 pub is-term-spec : {M : Type 1} → statement M
-is-term-spec = tie.close (tie.spec classify-requires returns returns-2)
+is-term-spec = tie.close (tie.spec (λ c κs. search needs) returns returns-2)

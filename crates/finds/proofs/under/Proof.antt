@@ -5,14 +5,8 @@ use Rattle.language.specs.Trees.{tv}
 use Rattle.finds.proofs.under.Statement.{statement}
 use Rattle.finds.proofs.under.Tie as tie
 
-term-word-requires : tie.Need-term-word-requires
-term-word-requires c κs = search needs
-
-word-under-requires : tie.Need-word-under-requires
-word-under-requires c κs = search needs
-
 returns : tie.Need-returns
 returns c = ((λ h beyond b s. c .word-under .ensures .0 (tv _) h beyond b (c .before .term-word .ensures) s), rw (sym (c .before .term-word .ensures)) (c .word-under .ensures .1))
 
 pub under-spec : {M : Type 1} → statement M
-under-spec = tie.close (tie.spec term-word-requires word-under-requires returns)
+under-spec = tie.close (tie.spec (λ c κs. search needs) (λ c κs. search needs) returns)

@@ -4,14 +4,8 @@ use borrow.Author.Needs.{needs}
 use Rattle.finds.proofs.up_to.Statement.{statement}
 use Rattle.finds.proofs.up_to.Tie as tie
 
-run-word-requires : tie.Need-run-word-requires
-run-word-requires c κs = search needs
-
-up-to-word-requires : tie.Need-up-to-word-requires
-up-to-word-requires c κs = search needs
-
 returns : tie.Need-returns
 returns c = ((λ h beyond b s. c .up-to-word .ensures .0 _ h beyond b (c .before .run-word .ensures) s), c .up-to-word .ensures .1, rw (sym (c .before .run-word .ensures)) (c .up-to-word .ensures .2))
 
 pub up-to-spec : {M : Type 1} → statement M
-up-to-spec = tie.close (tie.spec run-word-requires up-to-word-requires returns)
+up-to-spec = tie.close (tie.spec (λ c κs. search needs) (λ c κs. search needs) returns)

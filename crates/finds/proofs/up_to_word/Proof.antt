@@ -26,20 +26,8 @@ Inv-loop k at p i₀ n₀ x₀ i n x =
 abbrev μ-loop : tie.MeasureT-loop
 μ-loop k at p i₀ n₀ x₀ i n x = length k - i
 
-word-requires : tie.Need-word-requires Inv-loop μ-loop
-word-requires c κs = search needs
-
 loop-holds : tie.Need-loop-holds Inv-loop μ-loop
 loop-holds c = ((λ q h beyond f w s. pass-start s without-start), c .word .ensures, omega arith, omega arith, gone-start)
-
-is-term-requires : tie.Need-is-term-requires Inv-loop μ-loop
-is-term-requires c κs = search needs
-
-element-end-requires : tie.Need-element-end-requires Inv-loop μ-loop
-element-end-requires c κs = search needs
-
-stands-requires : tie.Need-stands-requires Inv-loop μ-loop
-stands-requires c κs = search needs
 
 returns : tie.Need-returns Inv-loop μ-loop
 returns c =
@@ -55,9 +43,6 @@ add-n : tie.Need-add-n Inv-loop μ-loop
 add-n c =
     let c₁ = c .before .before in let c₂ = c₁ .before in let c₃ = c₂ .before in let c₄ = c₃ .before in let c₅ = c₄ .before .before .before in
     let z = goes-on (c₅ .args .k .now) (c₄ .loop .i) (c₄ .loop .inv .1) (c₁ .element-end .ensures) (term-some _ (sym (c₃ .is-term .ensures) ∙ c₂ .if1 .taken)) in omega arith
-
-word-requires-2 : tie.Need-word-requires-2 Inv-loop μ-loop
-word-requires-2 c κs = search needs
 
 loop-less : tie.Need-loop-less Inv-loop μ-loop
 loop-less c =
@@ -83,18 +68,6 @@ returns-2 c =
 
 pub up-to-word-spec : {M : Type 1} → statement M
 up-to-word-spec =
-    tie.close
-    (tie.spec
-    Inv-loop
-    μ-loop
-    word-requires
-    loop-holds
-    is-term-requires
-    element-end-requires
-    stands-requires
-    returns
-    add-n
-    word-requires-2
-    loop-less
-    loop-again
-    returns-2)
+    tie.close (tie.spec
+    Inv-loop μ-loop (λ c κs. search needs) loop-holds (λ c κs. search needs) (λ c κs. search needs) (λ c κs. search needs) returns add-n
+    (λ c κs. search needs) loop-less loop-again returns-2)

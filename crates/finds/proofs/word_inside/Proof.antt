@@ -26,28 +26,13 @@ Inv-loop k at p i₀ x₀ i x =
 abbrev μ-loop : tie.MeasureT-loop
 μ-loop k at p i₀ x₀ i x = length k - i
 
-element-end-requires : tie.Need-element-end-requires Inv-loop μ-loop
-element-end-requires c κs = search needs
-
-word-requires : tie.Need-word-requires Inv-loop μ-loop
-word-requires c κs = search needs
-
 loop-holds : tie.Need-loop-holds Inv-loop μ-loop
 loop-holds c = ((λ q h beyond f w s. pass-first (c .before .element-end .ensures) s behind-start), c .word .ensures, rw (c .before .element-end .ensures) going-start)
-
-wide-requires : tie.Need-wide-requires Inv-loop μ-loop
-wide-requires c κs = search needs
 
 returns : tie.Need-returns Inv-loop μ-loop
 returns c =
     let c₁ = c .before in let c₂ = c₁ .before in let c₃ = c₂ .before in
     ((λ q h beyond f w s. behind-found w (c₃ .loop .inv .1) f (sym (c₁ .wide .ensures) ∙ c .if1 .taken) (c₃ .loop .inv .0 q h beyond f w s)), others-found _ _ (c₃ .loop .inv .1) _ _ (c₂ .loop-test .taken) (sym (c₁ .wide .ensures) ∙ c .if1 .taken) (c₃ .loop .inv .2))
-
-element-end-requires-2 : tie.Need-element-end-requires-2 Inv-loop μ-loop
-element-end-requires-2 c κs = search needs
-
-word-requires-2 : tie.Need-word-requires-2 Inv-loop μ-loop
-word-requires-2 c κs = search needs
 
 loop-less : tie.Need-loop-less Inv-loop μ-loop
 loop-less c =
@@ -64,17 +49,6 @@ returns-2 c = ((λ q h beyond f w s. behind-end w (c .before .loop .inv .1) (c .
 
 pub word-inside-spec : {M : Type 1} → statement M
 word-inside-spec =
-    tie.close
-    (tie.spec
-    Inv-loop
-    μ-loop
-    element-end-requires
-    word-requires
-    loop-holds
-    wide-requires
-    returns
-    element-end-requires-2
-    word-requires-2
-    loop-less
-    loop-again
-    returns-2)
+    tie.close (tie.spec
+    Inv-loop μ-loop (λ c κs. search needs) (λ c κs. search needs) loop-holds (λ c κs. search needs) returns (λ c κs. search needs)
+    (λ c κs. search needs) loop-less loop-again returns-2)

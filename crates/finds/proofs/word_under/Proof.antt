@@ -26,28 +26,16 @@ Inv-loop k at v i₀ x₀ i x =
 abbrev μ-loop : tie.MeasureT-loop
 μ-loop k at v i₀ x₀ i x = length k - i
 
-word-requires : tie.Need-word-requires Inv-loop μ-loop
-word-requires c κs = search needs
-
 loop-holds : tie.Need-loop-holds Inv-loop μ-loop
 loop-holds c = ((λ y h beyond f w s. pass-start s refl), c .word .ensures, going-start)
 
-element-end-requires : tie.Need-element-end-requires Inv-loop μ-loop
-element-end-requires c κs = search needs
-
 add-stands : tie.Need-add-stands Inv-loop μ-loop
 add-stands c = let z = goes-on (c .before .before .before .before .before .args .k .now) (c .before .before .loop .i) (c .before .before .loop .inv .1) (c .element-end .ensures) (c .before .loop-test .taken) in omega arith
-
-stands-requires : tie.Need-stands-requires Inv-loop μ-loop
-stands-requires c κs = search needs
 
 returns : tie.Need-returns Inv-loop μ-loop
 returns c =
     let c₁ = c .before in let c₂ = c₁ .before in let c₃ = c₂ .before in let c₄ = c₃ .before in
     ((λ y h beyond f w s. let u = c₄ .loop .inv .0 y h beyond f w s in under-found y (u .left) f w (u .here) (c₂ .element-end .ensures) (c₁ .stands .ensures) (c .if1 .taken) ∙ u .keeps), below-found _ _ (c₄ .loop .inv .1) _ (c₃ .loop-test .taken) (c₂ .element-end .ensures) (c₁ .stands .ensures) (c .if1 .taken) (c₄ .loop .inv .2))
-
-word-requires-2 : tie.Need-word-requires-2 Inv-loop μ-loop
-word-requires-2 c κs = search needs
 
 loop-less : tie.Need-loop-less Inv-loop μ-loop
 loop-less c =
@@ -67,17 +55,6 @@ returns-2 c = ((λ y h beyond f w s. let u = c .before .loop .inv .0 y h beyond 
 
 pub word-under-spec : {M : Type 1} → statement M
 word-under-spec =
-    tie.close
-    (tie.spec
-    Inv-loop
-    μ-loop
-    word-requires
-    loop-holds
-    element-end-requires
-    add-stands
-    stands-requires
-    returns
-    word-requires-2
-    loop-less
-    loop-again
-    returns-2)
+    tie.close (tie.spec
+    Inv-loop μ-loop (λ c κs. search needs) loop-holds (λ c κs. search needs) add-stands (λ c κs. search needs) returns (λ c κs. search needs)
+    loop-less loop-again returns-2)

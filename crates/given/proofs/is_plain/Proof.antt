@@ -18,19 +18,12 @@ abbrev μ-loop : tie.MeasureT-loop
 
 pub is-plain-spec : {M : Type 1} → statement M
 is-plain-spec =
-    tie.close
-    (tie.spec
-    Inv-loop
-    μ-loop
-    (λ c. refl)
-    (λ c. search needs)
-    (λ c. search needs)
-    (λ c κs. search needs)
+    tie.close (tie.spec
+    Inv-loop μ-loop (λ c. refl) (λ c. search needs) (λ c. search needs) (λ c κs. search needs)
     (λ c.
     let c₁ = c .before in let c₂ = c₁ .before .before .before in let c₃ = c₂ .before .before in
     plain-fails _ (c₃ .args .words .now) (c₂ .loop .i) (omega arith) _ (c₁ .is-plain-word .ensures) (not-true _ (c .if1 .taken)) ∙ c₂ .loop .inv)
-    (λ c. search needs)
-    (λ c. search needs)
+    (λ c. search needs) (λ c. search needs)
     (λ c.
     let c₁ = c .before in let c₂ = c₁ .before .before .before in let c₃ = c₂ .before .before in
     plain-on _ (c₃ .args .words .now) (c₂ .loop .i) (omega arith) _ (c₁ .is-plain-word .ensures) (not-false _ (c .if1 .left)) ∙ c₂ .loop .inv)

@@ -1,6 +1,6 @@
 -- `values::is_plain_word` meets its contract: an end, a symbol, and any other kind.
 use mathlib.Core.Path.{_≡_, refl, sym, ap, _∙_}
-use mathlib.Core.Bool.{true, false}
+use mathlib.Core.Bool.{false}
 use mathlib.Core.List.{[], _∷_}
 use Prim.Native.Nat.{ℕ}
 use borrow.Author.Needs.{needs}
@@ -20,11 +20,7 @@ other n {k} e o =
 
 pub is-plain-word-spec : {M : Type 1} → statement M
 is-plain-word-spec =
-    tie.close
-    (tie.spec
-    (λ c κs. search needs)
-    (λ c. search needs)
-    (λ c. search needs)
-    (λ c. is _ (c .before .before .classify .ensures) (c .enum-told .given .1))
+    tie.close (tie.spec
+    (λ c κs. search needs) (λ c. search needs) (λ c. search needs) (λ c. is _ (c .before .before .classify .ensures) (c .enum-told .given .1))
     (λ c. is _ (c .before .before .before .before .classify .ensures) (c .before .before .f .given .1))
     (λ c. other _ (c .before .classify .ensures) (c .match .keys3)))

@@ -1,5 +1,5 @@
 -- `values::read_filling` meets its contract: a law for each return.
-use mathlib.Core.Path.{_≡_, sym, _∙_}
+use mathlib.Core.Path.{sym, _∙_}
 use native.Mathlib.Omega.{arith}
 use borrow.Author.Needs.{needs}
 use borrow.Author.Tests.{not-true, not-false}
@@ -30,15 +30,6 @@ returns-6 c =
 
 pub read-filling-spec : {M : Type 1} → statement M
 read-filling-spec =
-    tie.close
-    (tie.spec
-    (λ c. too-long _ _ (omega arith))
-    (λ c. no-words _ _ (omega arith))
-    (λ c κs. search needs)
-    (λ c. search needs)
-    returns-3
-    (λ c κs. search needs)
-    returns-4
-    values-fit-requires
-    returns-5
-    returns-6)
+    tie.close (tie.spec
+    (λ c. too-long _ _ (omega arith)) (λ c. no-words _ _ (omega arith)) (λ c κs. search needs) (λ c. search needs) returns-3 (λ c κs. search needs)
+    returns-4 values-fit-requires returns-5 returns-6)

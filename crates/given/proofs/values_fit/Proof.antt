@@ -1,5 +1,5 @@
 -- `values::values_fit` meets its contract. The loop walks along the parts.
-use Prim.Native.Nat.{ℕ, _≤_, _-_, _+_}
+use Prim.Native.Nat.{_≤_, _-_, _+_}
 use mathlib.Core.Path.{_≡_, refl, sym, _∙_}
 use native.Mathlib.Omega.{arith}
 use lib.ListN.{length}
@@ -21,20 +21,14 @@ abbrev μ-loop : tie.MeasureT-loop
 
 pub values-fit-spec : {M : Type 1} → statement M
 values-fit-spec =
-    tie.close
-    (tie.spec
-    Inv-loop
-    μ-loop
-    (λ c κs. search needs)
-    (λ c. search needs)
+    tie.close (tie.spec
+    Inv-loop μ-loop (λ c κs. search needs) (λ c. search needs)
     (λ c.
     let p = c .before .before .pre in
     let e = c .wide .ensures in
     let w = walk-starts (valueTest (countsIn (c .before .before .args .h))) 1 _ _ 2 _ (p .1) refl (omega arith) in
     (omega arith, omega arith, omega arith, omega (arith, walk-room _ _ _ _ w), p .0, w))
-    (λ c. search needs)
-    (λ c. search needs)
-    (λ c κs. search needs)
+    (λ c. search needs) (λ c. search needs) (λ c κs. search needs)
     (λ c.
     let l = c .before .before .before .loop in
     let s = walk-part _ _ _ _ (l .inv .5) (omega arith) _ (c .wide2 .ensures) in
@@ -51,14 +45,12 @@ values-fit-spec =
     let l = c .before .before .before .loop in
     let s = walk-part _ _ _ _ (l .inv .5) (omega arith) _ (c .wide2 .ensures) in
     search needs)
-    (λ c. search needs)
-    (λ c κs. search needs)
+    (λ c. search needs) (λ c κs. search needs)
     (λ c.
     let w = c .before .before .before .wide2 in
     let l = c .before .before .before .before .before .before .loop in
     walk-fails _ _ _ _ (l .inv .5) (omega arith) _ (w .ensures) (sym (c .before .value-fits .ensures) ∙ not-true _ (c .if1 .taken)) ∙ all-pass _ _ _ (l .inv .4) (l .inv .5 .laid))
-    (λ c. search needs)
-    (λ c. search needs)
+    (λ c. search needs) (λ c. search needs)
     (λ c.
     let w = c .before .before .before .wide2 in
     let l = c .before .before .before .before .before .before .loop in

@@ -17,9 +17,6 @@ use Rattle.host.proofs.desk_example.Tie as tie
 abbrev clear : List ℕ
 clear = replicate (desk .filling) 0
 
-slice-aggregate-show-2 : tie.Need-slice-aggregate-show-2
-slice-aggregate-show-2 c = sym (length-take-le _ clear (omega arith))
-
 show-requires : tie.Need-show-requires
 show-requires c κs = let n : length (take (c .before .before .before .most .result) clear) ≡ c .before .before .before .most .result = length-take-le _ clear (omega arith) in (omega arith, omega arith)
 
@@ -34,15 +31,6 @@ returns c =
 
 pub desk-example-spec : {M : Type 1} → statement M
 desk-example-spec =
-    tie.close
-    (tie.spec
-    (λ c. search needs)
-    (λ c κs. search needs)
-    (λ c κs. search needs)
-    (λ c. search needs)
-    (λ c. search needs)
-    (λ c. search needs)
-    slice-aggregate-show-2
-    show-requires
-    (λ c. search needs)
-    returns)
+    tie.close (tie.spec
+    (λ c. search needs) (λ c κs. search needs) (λ c κs. search needs) (λ c. search needs) (λ c. search needs) (λ c. search needs)
+    (λ c. sym (length-take-le _ clear (omega arith))) show-requires (λ c. search needs) returns)

@@ -15,9 +15,6 @@ use Rattle.host.proofs.desk_solve.Tie as tie
 abbrev clear : List ℕ
 clear = replicate (desk .room) 0
 
-returns : tie.Need-returns
-returns c = too-short _ _ (c .if1 .taken)
-
 returns-2 : tie.Need-returns-2
 returns-2 c =
     let c₁ = c .before .before in let c₂ = c₁ .before .before .before in let c₃ = c₂ .before in let c₄ = c₃ .before .before .before in
@@ -40,23 +37,7 @@ returns-4 c =
 
 pub desk-solve-spec : {M : Type 1} → statement M
 desk-solve-spec =
-    tie.close
-    (tie.spec
-    returns
-    (λ c. search needs)
-    (λ c κs. search needs)
-    (λ c. search needs)
-    (λ c. search needs)
-    (λ c. search needs)
-    (λ c. search needs)
-    (λ c κs. search needs)
-    (λ c κs. search needs)
-    (λ c. search needs)
-    (λ c κs. search needs)
-    (λ c. search needs)
-    returns-2
-    returns-3
-    (λ c. search needs)
-    (λ c κs. search needs)
-    (λ c. search needs)
-    returns-4)
+    tie.close (tie.spec
+    (λ c. too-short _ _ (c .if1 .taken)) (λ c. search needs) (λ c κs. search needs) (λ c. search needs) (λ c. search needs) (λ c. search needs)
+    (λ c. search needs) (λ c κs. search needs) (λ c κs. search needs) (λ c. search needs) (λ c κs. search needs) (λ c. search needs) returns-2
+    returns-3 (λ c. search needs) (λ c κs. search needs) (λ c. search needs) returns-4)

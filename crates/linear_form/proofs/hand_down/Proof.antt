@@ -22,20 +22,8 @@ returns-2 c =
     let c₁ = c .before .before in let c₂ = c₁ .before .before in let c₃ = c₂ .before in let c₄ = c₃ .before .before .before .before .before .before in
     let p = c₄ .pre in let e = c₂ .expression-end .ensures in handed-cat (c₃ .if2 .taken) (e .within (p .2)) (p .3) e (c₁ .enclose .ensures)
 
-returns-3 : tie.Need-returns-3
-returns-3 c = handed-alt (c .before .if1 .left) (c .if2 .left)
-
 pub hand-down-spec : {M : Type 1} → statement M
 hand-down-spec =
-    tie.close
-    (tie.spec
-    (λ c. search needs)
-    (λ c. search needs)
-    widen-requires
-    (λ c. search needs)
-    returns
-    expression-end-requires
-    enclose-requires
-    (λ c. search needs)
-    returns-2
-    returns-3)
+    tie.close (tie.spec
+    (λ c. search needs) (λ c. search needs) widen-requires (λ c. search needs) returns expression-end-requires enclose-requires (λ c. search needs)
+    returns-2 (λ c. handed-alt (c .before .if1 .left) (c .if2 .left)))

@@ -20,13 +20,5 @@ returns-2 c =
 
 pub widen-spec : {M : Type 1} → statement M
 widen-spec =
-    tie.close
-    (tie.spec
-    (λ c. search needs)
-    (λ c. search needs)
-    (λ c. search needs)
-    returns
-    (λ c. search needs)
-    copy-requires
-    (λ c. search needs)
-    returns-2)
+    tie.close (tie.spec
+    (λ c. search needs) (λ c. search needs) (λ c. search needs) returns (λ c. search needs) copy-requires (λ c. search needs) returns-2)

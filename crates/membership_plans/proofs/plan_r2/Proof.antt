@@ -5,8 +5,5 @@ use Rattle.plans.specs.Slots.{single}
 use Rattle.membership_plans.proofs.plan_r2.Statement.{statement}
 use Rattle.membership_plans.proofs.plan_r2.Tie as tie
 
-returns : tie.Need-returns
-returns c = ap (single _) (c .few .ensures)
-
 pub plan-r2-spec : {M : Type 1} → statement M
-plan-r2-spec = tie.close (tie.spec (λ c κs. search needs) returns)
+plan-r2-spec = tie.close (tie.spec (λ c κs. search needs) (λ c. ap (single _) (c .few .ensures)))

@@ -16,20 +16,11 @@ use Rattle.memberships.proofs.rank_over.Tie as tie
 symbols : (f : Name) (a g : Sym) (b : Bool) → f ≡ Symbol a → eqS a g ≡ b → pick b atM11 atF5 ≡ overBy f g
 symbols f a g b e q = ap (λ b. pick b atM11 atF5) (sym q) ∙ ap (λ f. overBy f g) (sym e)
 
-enum-known-f : tie.Need-enum-known-f
-enum-known-f c = search needs
-
 returns : tie.Need-returns
 returns c = symbols _ _ (c .before .before .before .before .before .before .args .g) true (c .before .before .before .before .f .given .1) (eq-eqb _ _ (c .if1 .taken))
-
-enum-told : tie.Need-enum-told
-enum-told c = search needs
 
 returns-2 : tie.Need-returns-2
 returns-2 c = symbols _ _ (c .before .before .before .before .before .before .args .g) false (c .before .before .before .before .f .given .1) (ne-eqb _ _ (c .if1 .left))
 
-returns-3 : tie.Need-returns-3
-returns-3 c = search needs
-
 pub rank-over-spec : {M : Type 1} → statement M
-rank-over-spec = tie.close (tie.spec enum-known-f returns enum-told returns-2 returns-3)
+rank-over-spec = tie.close (tie.spec (λ c. search needs) returns (λ c. search needs) returns-2 (λ c. search needs))

@@ -21,20 +21,8 @@ others : (last terms : Bool) (k : Kind) → Among (0 ∷ 1 ∷ 2 ∷ 4 ∷ 5 ∷
 others last terms k o =
     each-kind (0 ∷ 1 ∷ 2 ∷ 4 ∷ 5 ∷ 6 ∷ 8 ∷ 10 ∷ 11 ∷ []) (λ k. noRule ≡ runBy k last terms) refl (λ x. refl) (λ x. refl) tt (λ x. refl) refl refl tt refl tt refl refl k o
 
-enum-told : tie.Need-enum-told
-enum-told c = search needs
-
-has-term-requires : tie.Need-has-term-requires
-has-term-requires c κs = search needs
-
 returns : tie.Need-returns
 returns c = λ h beyond s. so-of (c .before .before .before .before .before .args .last) (hasTerm h) _ _ (c .before .before .enum-told .given .1) (ap (λ b. pick b atF7 atM1) (sym (c .if1 .taken) ∙ c .before .has-term .ensures .0 h beyond s))
-
-enum-told-2 : tie.Need-enum-told-2
-enum-told-2 c = search needs
-
-enum-told-3 : tie.Need-enum-told-3
-enum-told-3 c = search needs
 
 returns-2 : tie.Need-returns-2
 returns-2 c = λ h beyond s. so-of (c .before .before .before .before .args .last) (hasTerm h) _ _ (c .before .enum-told3 .given .1) (ap (λ b. pick b noRule atM3) (sym (c .if2 .taken)))
@@ -53,15 +41,5 @@ returns-6 c = λ h beyond s. others (c .before .before .args .last) (hasTerm h) 
 
 pub rank-run-spec : {M : Type 1} → statement M
 rank-run-spec =
-    tie.close
-    (tie.spec
-    enum-told
-    has-term-requires
-    returns
-    enum-told-2
-    enum-told-3
-    returns-2
-    returns-3
-    returns-4
-    returns-5
-    returns-6)
+    tie.close (tie.spec
+    (λ c. search needs) (λ c κs. search needs) returns (λ c. search needs) (λ c. search needs) returns-2 returns-3 returns-4 returns-5 returns-6)

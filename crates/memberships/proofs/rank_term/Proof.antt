@@ -21,39 +21,6 @@ others : (look : Look) (last : Bool) (k : Kind) → Among (0 ∷ 1 ∷ 2 ∷ 4 �
 others look last k o =
     each-kind (0 ∷ 1 ∷ 2 ∷ 4 ∷ 5 ∷ 6 ∷ 11 ∷ []) (λ k. noRule ≡ termBy look last k) refl (λ x. refl) (λ x. refl) tt (λ x. refl) refl refl tt tt tt tt refl k o
 
-enum-told : tie.Need-enum-told
-enum-told c = search needs
-
-enum-told-2 : tie.Need-enum-told-2
-enum-told-2 c = search needs
-
-or-more-requires : tie.Need-or-more-requires
-or-more-requires c κs = search needs
-
-enum-told-3 : tie.Need-enum-told-3
-enum-told-3 c = search needs
-
-or-more-requires-2 : tie.Need-or-more-requires-2
-or-more-requires-2 c κs = search needs
-
-enum-told-4 : tie.Need-enum-told-4
-enum-told-4 c = search needs
-
-or-more-requires-3 : tie.Need-or-more-requires-3
-or-more-requires-3 c κs = search needs
-
-enum-known-first : tie.Need-enum-known-first
-enum-known-first c = search needs
-
-rank-single-requires : tie.Need-rank-single-requires
-rank-single-requires c κs = search needs
-
-or-more-requires-4 : tie.Need-or-more-requires-4
-or-more-requires-4 c κs = search needs
-
-returns : tie.Need-returns
-returns c = search needs
-
 returns-2 : tie.Need-returns-2
 returns-2 c = so-of (c .before .before .before .args .look) (c .before .before .before .args .last) _ _ (c .before .enum-told2 .given .1) (c .or-more .ensures)
 
@@ -73,21 +40,7 @@ returns-6 c = others (c .before .args .look) (c .before .args .last) (c .before 
 
 pub rank-term-spec : {M : Type 1} → statement M
 rank-term-spec =
-    tie.close
-    (tie.spec
-    enum-told
-    enum-told-2
-    or-more-requires
-    enum-told-3
-    or-more-requires-2
-    enum-told-4
-    or-more-requires-3
-    enum-known-first
-    rank-single-requires
-    or-more-requires-4
-    returns
-    returns-2
-    returns-3
-    returns-4
-    returns-5
-    returns-6)
+    tie.close (tie.spec
+    (λ c. search needs) (λ c. search needs) (λ c κs. search needs) (λ c. search needs) (λ c κs. search needs) (λ c. search needs)
+    (λ c κs. search needs) (λ c. search needs) (λ c κs. search needs) (λ c κs. search needs) (λ c. search needs) returns-2 returns-3 returns-4
+    returns-5 returns-6)

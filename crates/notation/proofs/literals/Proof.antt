@@ -1,7 +1,5 @@
 -- `notation::literals` is safe and ends: a turn for each word at most.
-use Prim.Native.Nat.{_≤_, _<_, _-_, _+_}
-use lib.ListN.{length}
-use native.Mathlib.Omega.{arith}
+use Prim.Native.Nat.{_-_}
 use borrow.Author.Needs.{needs}
 use Rattle.notation.proofs.literals.Statement.{statement}
 use Rattle.notation.proofs.literals.Tie as tie
@@ -14,19 +12,6 @@ abbrev μ-loop : tie.MeasureT-loop
 
 pub literals-spec : {M : Type 1} → statement M
 literals-spec =
-    tie.close
-    (tie.spec
-    Inv-loop
-    μ-loop
-    (λ c. search needs)
-    (λ c. search needs)
-    (λ c. search needs)
-    (λ c κs. search needs)
-    (λ c κs. search needs)
-    (λ c. search needs)
-    (λ c κs. search needs)
-    (λ c. search needs)
-    (λ c. search needs)
-    (λ c. search needs)
-    (λ c. search needs)
-    (λ c. search needs))
+    tie.close (tie.spec
+    Inv-loop μ-loop (λ c. search needs) (λ c. search needs) (λ c. search needs) (λ c κs. search needs) (λ c κs. search needs) (λ c. search needs)
+    (λ c κs. search needs) (λ c. search needs) (λ c. search needs) (λ c. search needs) (λ c. search needs) (λ c. search needs))

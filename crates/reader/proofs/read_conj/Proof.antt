@@ -21,11 +21,8 @@ abbrev μ-loop : tie.MeasureT-loop
 
 pub read-conj-spec : {M : Type 1} → statement M
 read-conj-spec =
-    tie.close
-    (tie.spec Inv-loop μ-loop
-    (λ c. refl)
-    (λ c κs. search needs)
-    (λ c. search needs)
+    tie.close (tie.spec
+    Inv-loop μ-loop (λ c. refl) (λ c κs. search needs) (λ c. search needs)
     (λ c. let m = literal-moves _ _ _ (sym (c .before .before .before .read-literal .ensures) ∙ c .before .after .given .1) in omega arith)
     (λ c. goes-on _ _ _ _ (sym (c .before .before .before .read-literal .ensures) ∙ c .before .after .given .1) ∙ conj-literal _ _ (omega arith) ∙ c .before .before .before .before .before .loop .inv)
     (λ c. search needs)

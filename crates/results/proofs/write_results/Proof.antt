@@ -39,19 +39,6 @@ returns-4 c = wrote-by _ (c .before .before .before .before .before .before .bef
 
 pub write-results-spec : {M : Type 1} → statement M
 write-results-spec =
-    tie.close
-    (tie.spec
-    (λ c. search needs)
-    (λ c. search needs)
-    write-framed-requires
-    (λ c. search needs)
-    write-two-requires
-    (λ c. search needs)
-    write-cuts-requires
-    returns
-    (λ c. search needs)
-    returns-2
-    (λ c. search needs)
-    returns-3
-    (λ c. search needs)
-    returns-4)
+    tie.close (tie.spec
+    (λ c. search needs) (λ c. search needs) write-framed-requires (λ c. search needs) write-two-requires (λ c. search needs) write-cuts-requires
+    returns (λ c. search needs) returns-2 (λ c. search needs) returns-3 (λ c. search needs) returns-4)

@@ -6,11 +6,5 @@ use Rattle.samples.proofs.put.Tie as tie
 
 pub put-spec : {M : Type 1} → statement M
 put-spec =
-    tie.close
-    (tie.spec
-    (λ c. search needs)
-    (λ c. search needs)
-    (λ c. search needs)
-    (λ c. search needs)
-    (λ c. search (laid-one))
-    (λ c. search (laid-full)))
+    tie.close (tie.spec
+    (λ c. search needs) (λ c. search needs) (λ c. search needs) (λ c. search needs) (λ c. search (laid-one)) (λ c. search (laid-full)))

@@ -1,5 +1,5 @@
 -- The length of a part whose end lies within the words is a difference.
-use mathlib.Core.Path.{sym, _∙_}
+use mathlib.Core.Path.{sym}
 use Rattle.slices.proofs.Parts.{part-length}
 use native.Mathlib.Omega.{arith}
 use borrow.Author.Needs.{needs}
@@ -13,10 +13,4 @@ returns-2 : tie.Need-returns-2
 returns-2 c = sym (part-length (c .before .within .ensures) (c .before .before .before .args .from))
 
 pub part-len-spec : {M : Type 1} → statement M
-part-len-spec =
-    tie.close
-    (tie.spec
-    (λ c κs. search needs)
-    (λ c. search needs)
-    returns
-    returns-2)
+part-len-spec = tie.close (tie.spec (λ c κs. search needs) (λ c. search needs) returns returns-2)

@@ -5,12 +5,5 @@ use borrow.Author.Needs.{needs}
 use Rattle.slices.proofs.within.Statement.{statement}
 use Rattle.slices.proofs.within.Tie as tie
 
-returns-2 : tie.Need-returns-2
-returns-2 c = within-all _ _ (omega arith)
-
 pub within-spec : {M : Type 1} → statement M
-within-spec =
-    tie.close
-    (tie.spec
-    (λ c. search needs)
-    returns-2)
+within-spec = tie.close (tie.spec (λ c. search needs) (λ c. within-all _ _ (omega arith)))

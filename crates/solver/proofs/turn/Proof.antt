@@ -46,17 +46,6 @@ returns c =
 
 pub turn-spec : {M : Type 1} → statement M
 turn-spec =
-    tie.close
-    (tie.spec
-    (λ c κs. search needs)
-    (λ c. search needs)
-    (λ c. search needs)
-    (λ c. search needs)
-    copy-requires
-    (λ c. search needs)
-    (λ c. search needs)
-    (λ c. search needs)
-    turn-with-requires
-    (λ c. search needs)
-    (λ c. search needs)
-    returns)
+    tie.close (tie.spec
+    (λ c κs. search needs) (λ c. search needs) (λ c. search needs) (λ c. search needs) copy-requires (λ c. search needs) (λ c. search needs)
+    (λ c. search needs) turn-with-requires (λ c. search needs) (λ c. search needs) returns)

@@ -52,16 +52,6 @@ returns-3 c =
 
 pub plan-at-spec : {M : Type 1} → statement M
 plan-at-spec =
-    tie.close
-    (tie.spec
-    (λ c. search needs)
-    (λ c. search needs)
-    (λ c κs. search needs)
-    (λ c κs. search needs)
-    plan-equation-requires
-    returns
-    plan-equation-requires-2
-    returns-2
-    (λ c κs. search needs)
-    plan-membership-requires
-    returns-3)
+    tie.close (tie.spec
+    (λ c. search needs) (λ c. search needs) (λ c κs. search needs) (λ c κs. search needs) plan-equation-requires returns plan-equation-requires-2
+    returns-2 (λ c κs. search needs) plan-membership-requires returns-3)

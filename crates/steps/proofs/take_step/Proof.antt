@@ -21,12 +21,5 @@ returns-2 c = λ before l behind bs p a. took-as (c .before .before .before .bef
 
 pub take-step-spec : {M : Type 1} → statement M
 take-step-spec =
-    tie.close
-    (tie.spec
-    step-monomials-requires
-    (λ c. search needs)
-    returns
-    (λ c κs. search needs)
-    (λ c κs. search needs)
-    (λ c. search needs)
-    returns-2)
+    tie.close (tie.spec
+    step-monomials-requires (λ c. search needs) returns (λ c κs. search needs) (λ c κs. search needs) (λ c. search needs) returns-2)

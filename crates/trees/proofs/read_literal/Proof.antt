@@ -12,24 +12,10 @@ use Rattle.trees.proofs.read_literal.Tie as tie
 
 pub read-literal-spec : {M : Type 1} → statement M
 read-literal-spec =
-    tie.close
-    (tie.spec
-    (λ c. past-literal _ _ (c .if1 .taken))
-    (λ c. search needs)
-    (λ c. search needs)
-    (λ c κs. search needs)
-    (λ c. search needs)
-    (λ c. search needs)
-    (λ c κs. search needs)
-    (λ c. search needs)
-    (λ c κs. search needs)
-    (λ c. search needs)
-    (λ c. search needs)
-    (λ c. search needs)
-    (λ c κs. search needs)
-    (λ c. search needs)
-    (λ c κs. search needs)
-    (λ c. search needs)
+    tie.close (tie.spec
+    (λ c. past-literal _ _ (c .if1 .taken)) (λ c. search needs) (λ c. search needs) (λ c κs. search needs) (λ c. search needs) (λ c. search needs)
+    (λ c κs. search needs) (λ c. search needs) (λ c κs. search needs) (λ c. search needs) (λ c. search needs) (λ c. search needs)
+    (λ c κs. search needs) (λ c. search needs) (λ c κs. search needs) (λ c. search needs)
     (λ c.
     let c₁ = c .before .before in let c₂ = c₁ .before .before in let c₃ = c₂ .before in let c₄ = c₃ .before .before in
     c .read-hedge2 .ensures ∙ goes-on _ _ _ _ (sym (c₂ .read-hedge .ensures) ∙ c₁ .after .given .1) ∙ literal-equation _ _ (omega arith) _ (c₄ .classify .ensures) (c₃ .enum-told .given .1))

@@ -14,26 +14,13 @@ abbrev μ-loop : tie.MeasureT-loop
 
 pub part-len-spec : {M : Type 1} → statement M
 part-len-spec =
-    tie.close
-    (tie.spec
-    Inv-loop
-    μ-loop
-    -- loop-holds
-    (λ c. count-start)
-    -- returns
-    (λ c. count-past (c .before .before .loop .inv) (c .before .before .before .before .pre) (c .if1 .taken))
-    (λ c. search needs)
-    (λ c. search needs)
-    (λ c κs. search needs)
-    -- add-n
+    tie.close (tie.spec
+    Inv-loop μ-loop (λ c. count-start) (λ c. count-past (c .before .before .loop .inv) (c .before .before .before .before .pre) (c .if1 .taken))
+    (λ c. search needs) (λ c. search needs) (λ c κs. search needs)
     (λ c. let r = count-room (c .before .before .before .before .loop .inv) (c .before .before .before .before .before .before .pre) (c .before .before .if1 .left) (c .word-len .ensures) in omega arith)
-    -- add-i
-    (λ c. omega arith)
-    -- loop-less
-    (λ c. omega arith)
+    (λ c. omega arith) (λ c. omega arith)
     -- loop-again
     (λ c.
     let c₁ = c .before .before in let c₂ = c₁ .before in let c₃ = c₂ .before in let c₄ = c₃ .before .before in
     count-next (c₃ .loop .inv) (c₂ .loop-test .taken) (c₁ .if1 .left) (c .word-len .ensures) (c₄ .pre))
-    -- returns-2
     (λ c. count-done (c .before .loop .inv) (c .before .before .before .pre) (c .loop-test .left)))

@@ -6,14 +6,7 @@ use Rattle.values.proofs.unsolved_len.Tie as tie
 
 pub unsolved-len-spec : {M : Type 1} → statement M
 unsolved-len-spec =
-    tie.close
-    (tie.spec
-    (λ c κs. search needs)
-    (λ c. search needs)
-    (λ c κs. search needs)
-    (λ c. search needs)
-    (λ c κs. search needs)
-    -- returns
+    tie.close (tie.spec
+    (λ c κs. search needs) (λ c. search needs) (λ c κs. search needs) (λ c. search needs) (λ c κs. search needs)
     (λ c. let t = c .before .before .before .before .expression-of .ensures in search (sample-length))
-    -- returns-2
     (λ c. default-length (c .before .before .before .expression-of .ensures) (c .before .enum-told .given .1) (c .default-len .ensures)))

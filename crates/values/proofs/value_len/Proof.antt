@@ -7,15 +7,7 @@ use Rattle.values.proofs.value_len.Tie as tie
 
 pub value-len-spec : {M : Type 1} → statement M
 value-len-spec =
-    tie.close
-    (tie.spec
-    (λ c κs. search needs)
-    (λ c. search needs)
-    (λ c κs. search needs)
-    (λ c. search needs)
-    (λ c κs. search needs)
-    (λ c. omega arith)
-    -- returns
+    tie.close (tie.spec
+    (λ c κs. search needs) (λ c. search needs) (λ c κs. search needs) (λ c. search needs) (λ c κs. search needs) (λ c. omega arith)
     (λ c. let t = c .before .before .before .before .bound-to .ensures in search (bound-length))
-    -- returns-2
     (λ c. free-length (c .before .before .before .bound-to .ensures) (c .before .enum-told .given .1) (c .before .before .before .before .before .pre .0) (c .unsolved-len .ensures)))

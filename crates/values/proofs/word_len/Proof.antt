@@ -6,16 +6,8 @@ use Rattle.values.proofs.word_len.Tie as tie
 
 pub word-len-spec : {M : Type 1} → statement M
 word-len-spec =
-    tie.close
-    (tie.spec
-    (λ c κs. search needs)
-    (λ c. search needs)
-    (λ c κs. search needs)
-    (λ c. search needs)
-    (λ c κs. search needs)
-    -- returns
+    tie.close (tie.spec
+    (λ c κs. search needs) (λ c. search needs) (λ c κs. search needs) (λ c. search needs) (λ c κs. search needs)
     (λ c. length-term _ (c .before .before .before .before .classify .ensures) _ (c .before .before .y .given .1) (c .unsolved-len .ensures))
-    -- returns-2
     (λ c. length-run _ (c .before .before .before .before .classify .ensures) _ (c .before .before .p .given .1) (c .unsolved-len2 .ensures))
-    -- returns-3
     (λ c. length-other _ (c .before .classify .ensures) (c .match .keys3)))

@@ -6,15 +6,9 @@ use Rattle.values.proofs.write_default.Tie as tie
 
 pub write-default-spec : {M : Type 1} → statement M
 write-default-spec =
-    tie.close
-    (tie.spec
-    (λ c κs. search needs)
-    -- returns
-    (λ c. default-empty (runs-named (c .before .is-run .ensures)) (c .if1 .taken))
-    (λ c κs. search needs)
-    (λ c κs. search needs)
-    (λ c κs. search needs)
-    (λ c. search needs)
+    tie.close (tie.spec
+    (λ c κs. search needs) (λ c. default-empty (runs-named (c .before .is-run .ensures)) (c .if1 .taken)) (λ c κs. search needs)
+    (λ c κs. search needs) (λ c κs. search needs) (λ c. search needs)
     -- returns-2
     (λ c.
     let c₁ = c .before .before in let c₂ = c₁ .before .before .before .before in let c₃ = c₂ .before .before in let c₄ = c₃ .before in

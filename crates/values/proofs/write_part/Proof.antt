@@ -16,28 +16,11 @@ abbrev μ-loop : tie.MeasureT-loop
 
 pub write-part-spec : {M : Type 1} → statement M
 write-part-spec =
-    tie.close
-    (tie.spec
-    Inv-loop
-    μ-loop
-    -- loop-holds
-    (λ c. (refl, writing-start))
-    -- same-length
-    (λ c. omega arith)
-    -- returns
-    (λ c. writing-past (c .before .before .loop .inv .1) (c .if1 .taken))
-    (λ c. search needs)
-    (λ c. search needs)
-    (λ c κs. search needs)
-    -- add-i
-    (λ c. omega arith)
-    -- loop-less
-    (λ c. omega arith)
+    tie.close (tie.spec
+    Inv-loop μ-loop (λ c. (refl, writing-start)) (λ c. omega arith) (λ c. writing-past (c .before .before .loop .inv .1) (c .if1 .taken))
+    (λ c. search needs) (λ c. search needs) (λ c κs. search needs) (λ c. omega arith) (λ c. omega arith)
     -- loop-again
     (λ c.
     let c₁ = c .before .before in let c₂ = c₁ .before .before .before in let c₃ = c₂ .before in let c₄ = c₃ .before in
     (omega arith, writing-next (c₄ .loop .inv .1) (c₃ .loop-test .taken) (c₂ .if1 .left) (c₁ .write-word .ensures)))
-    -- same-length-2
-    (λ c. omega arith)
-    -- returns-2
-    (λ c. writing-done (c .before .loop .inv .1) (c .loop-test .left)))
+    (λ c. omega arith) (λ c. writing-done (c .before .loop .inv .1) (c .loop-test .left)))

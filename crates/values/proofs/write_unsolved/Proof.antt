@@ -6,16 +6,8 @@ use Rattle.values.proofs.write_unsolved.Tie as tie
 
 pub write-unsolved-spec : {M : Type 1} → statement M
 write-unsolved-spec =
-    tie.close
-    (tie.spec
-    (λ c κs. search needs)
-    (λ c. search needs)
-    (λ c κs. search needs)
-    (λ c. search needs)
-    (λ c κs. search needs)
-    (λ c. search needs)
-    -- returns
+    tie.close (tie.spec
+    (λ c κs. search needs) (λ c. search needs) (λ c κs. search needs) (λ c. search needs) (λ c κs. search needs) (λ c. search needs)
     (λ c d v s w. let t = c .before .before .before .before .before .before .before .expression-of .ensures in let a = c .before .before .write-sample .ensures in search (sample-laid))
     (λ c. search needs)
-    -- returns-2
     (λ c. default-written (c .before .before .before .before .before .before .expression-of .ensures) (c .before .before .before .before .enum-told .given .1) (c .before .before .write-default .ensures)))

@@ -6,16 +6,9 @@ use Rattle.values.proofs.write_value.Tie as tie
 
 pub write-value-spec : {M : Type 1} → statement M
 write-value-spec =
-    tie.close
-    (tie.spec
-    (λ c κs. search needs)
+    tie.close (tie.spec
+    (λ c κs. search needs) (λ c. search needs) (λ c κs. search needs) (λ c. search needs) (λ c κs. search needs) (λ c κs. search needs)
     (λ c. search needs)
-    (λ c κs. search needs)
-    (λ c. search needs)
-    (λ c κs. search needs)
-    (λ c κs. search needs)
-    (λ c. search needs)
-    -- returns
     (λ c d v s q w. let t = c .before .before .before .before .before .before .before .bound-to .ensures in let f = c .before .before .write-part .ensures in search (bound-laid))
     (λ c. search needs)
     -- returns-2

@@ -7,9 +7,6 @@ use Rattle.word_bytes.proofs.Pairs.{takes-none-of-odd, takes-none-of-lo
 use Rattle.word_bytes.proofs.take_words.Statement.{statement}
 use Rattle.word_bytes.proofs.take_words.Tie as tie
 
-returns : tie.Need-returns
-returns c = (search needs, takes-none-of-odd _ _ _ (c .if1 .taken))
-
 returns-2 : tie.Need-returns-2
 returns-2 c = (search needs, takes-none-of-long _ _ (c .before .if1 .left) _ (c .if2 .taken))
 
@@ -20,4 +17,6 @@ returns-3 c = (
 )
 
 pub take-words-spec : {M : Type 1} → statement M
-take-words-spec = tie.close (tie.spec returns returns-2 (λ c κs. search needs) (λ c. search needs) returns-3)
+take-words-spec =
+    tie.close (tie.spec
+    (λ c. (search needs, takes-none-of-odd _ _ _ (c .if1 .taken))) returns-2 (λ c κs. search needs) (λ c. search needs) returns-3)

@@ -14,22 +14,10 @@ abbrev μ-loop : tie.MeasureT-loop
 
 pub values-len-spec : {M : Type 1} → statement M
 values-len-spec =
-    tie.close
-    (tie.spec
-    Inv-loop
-    μ-loop
-    -- loop-holds
-    (λ c. summed-start)
-    (λ c κs. search needs)
-    -- value-len-requires
+    tie.close (tie.spec
+    Inv-loop μ-loop (λ c. summed-start) (λ c κs. search needs)
     (λ c κs. let c₁ = c .before .before .before .before in let p = c₁ .pre in (p .0, p .2, named-numbered (c₁ .args .of) (c .before .loop-test .taken) (p .1) (c .numbered .ensures)))
-    -- add-n
-    (λ c. let f = c .before .before .before .loop .inv .few in let g = c .value-len .ensures .few in omega arith)
-    -- add-j
+    (λ c. let f = c .before .before .before .loop .inv .few in let g = c .value-len .ensures .few in omega arith) (λ c. omega arith)
     (λ c. omega arith)
-    -- loop-less
-    (λ c. omega arith)
-    -- loop-again
     (λ c. let p = c .before .before .before .before .before .pre .1 in let t = c .before .before .loop-test .taken in summed-next (c .before .before .before .loop .inv) (c .before .numbered .ensures (omega arith)) t (c .value-len .ensures))
-    -- returns
     (λ c. summed-done (c .before .loop .inv) (c .before .before .before .pre .1) (c .loop-test .left)))

@@ -16,15 +16,8 @@ abbrev μ-loop : tie.MeasureT-loop
 
 pub write-starts-spec : {M : Type 1} → statement M
 write-starts-spec =
-    tie.close
-    (tie.spec
-    Inv-loop
-    μ-loop
-    -- loop-holds
-    (λ c. (refl, started-start))
-    (λ c κs. search needs)
-    (λ c κs. search needs)
-    (λ c κs. search needs)
+    tie.close (tie.spec
+    Inv-loop μ-loop (λ c. (refl, started-start)) (λ c κs. search needs) (λ c κs. search needs) (λ c κs. search needs)
     -- value-len-requires
     (λ c κs.
     let c₁ = c .before .before .before .before .before .before in let c₂ = c₁ .before .before .before .before in
@@ -33,16 +26,10 @@ write-starts-spec =
     (λ c.
     let c₁ = c .before .before .before .before .before .before .before .before in let c₂ = c₁ .before .before .before in
     let f = c₁ .loop .inv .1 .few in let g = c .value-len .ensures .few in let p = c₂ .pre in omega arith)
-    -- add-j
-    (λ c. omega arith)
-    -- loop-less
-    (λ c. omega arith)
+    (λ c. omega arith) (λ c. omega arith)
     -- loop-again
     (λ c.
     let c₁ = c .before in let c₂ = c₁ .before .before .before in let c₃ = c₂ .before in let c₄ = c₃ .before .before in let c₅ = c₄ .before in
     let c₆ = c₅ .before .before .before in
     let p = c₆ .pre .1 in let t = c₄ .loop-test .taken in (omega arith, started-next (c₅ .loop .inv .1) (c₁ .numbered .ensures (omega arith)) t (c₃ .short .ensures) (c₂ .put .ensures) (c .value-len .ensures)))
-    -- same-length
-    (λ c. omega arith)
-    -- returns
-    (λ c. started-done (c .before .loop .inv .1) (c .before .before .before .before .pre .1) (c .loop-test .left)))
+    (λ c. omega arith) (λ c. started-done (c .before .loop .inv .1) (c .before .before .before .before .pre .1) (c .loop-test .left)))

@@ -16,26 +16,15 @@ abbrev μ-loop : tie.MeasureT-loop
 
 pub write-values-spec : {M : Type 1} → statement M
 write-values-spec =
-    tie.close
-    (tie.spec
-    Inv-loop
-    μ-loop
-    -- loop-holds
-    (λ c. (refl, written-start))
-    (λ c κs. search needs)
+    tie.close (tie.spec
+    Inv-loop μ-loop (λ c. (refl, written-start)) (λ c κs. search needs)
     -- write-value-requires
     (λ c κs.
     let c₁ = c .before in let c₂ = c₁ .before in let c₃ = c₂ .before .before .before .before in
     let p = c₃ .pre in (p .1, named-numbered (c₃ .args .of) (c₂ .loop-test .taken) (p .0) (c₁ .numbered .ensures)))
-    -- add-j
-    (λ c. omega arith)
-    -- loop-less
-    (λ c. omega arith)
+    (λ c. omega arith) (λ c. omega arith)
     -- loop-again
     (λ c.
     let c₁ = c .before .before in let c₂ = c₁ .before .before in let c₃ = c₂ .before in let c₄ = c₃ .before in let c₅ = c₄ .before .before .before in
     let p = c₅ .pre .0 in let t = c₃ .loop-test .taken in (omega arith, written-next (c₄ .loop .inv .1) (c₂ .numbered .ensures (omega arith)) t (c₁ .write-value .ensures)))
-    -- same-length
-    (λ c. omega arith)
-    -- returns
-    (λ c. written-done (c .before .loop .inv .1) (c .loop-test .left)))
+    (λ c. omega arith) (λ c. written-done (c .before .loop .inv .1) (c .loop-test .left)))

@@ -5,9 +5,6 @@ use Rattle.linear_form.proofs.Rows.{kept-short, length-as}
 use Rattle.linear_form.proofs.adding.add_row.Statement.{statement}
 use Rattle.linear_form.proofs.adding.add_row.Tie as tie
 
-kept-len-requires : tie.Need-kept-len-requires
-kept-len-requires c κs = c .before .before .before .pre .0
-
 result-len-requires : tie.Need-result-len-requires
 result-len-requires c κs = let a = c .before .before .before .before .args in let p = c .before .before .before .before .pre in let e = c .kept-len .ensures in let z = kept-short (a .k .now) (a .s) (p .0) in (p .0, omega arith, p .1)
 
@@ -41,15 +38,6 @@ returns-4 c =
 
 pub add-row-spec : {M : Type 1} → statement M
 add-row-spec =
-    tie.close
-    (tie.spec
-    kept-len-requires
-    result-len-requires
-    returns
-    returns-2
-    (λ c. search needs)
-    (λ c. search needs)
-    returns-3
-    write-row-requires
-    (λ c. search needs)
-    returns-4)
+    tie.close (tie.spec
+    (λ c κs. c .before .before .before .pre .0) result-len-requires returns returns-2 (λ c. search needs) (λ c. search needs) returns-3
+    write-row-requires (λ c. search needs) returns-4)

@@ -13,12 +13,4 @@ returns-3 : tie.Need-returns-3
 returns-3 c = counted-more (c .before .before .before .size .given .1) (c .before .if1 .left) (c .grow .ensures)
 
 pub count-spec : {M : Type 1} → statement M
-count-spec =
-    tie.close
-    (tie.spec
-    (λ c. search needs)
-    (λ c. search needs)
-    returns
-    (λ c κs. search needs)
-    returns-2
-    returns-3)
+count-spec = tie.close (tie.spec (λ c. search needs) (λ c. search needs) returns (λ c κs. search needs) returns-2 returns-3)

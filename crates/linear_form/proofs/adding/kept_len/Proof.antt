@@ -12,15 +12,9 @@ returns c = omega arith
 
 pub kept-len-spec : {M : Type 1} → statement M
 kept-len-spec =
-    tie.close
-    (tie.spec
-    (λ c κs. search needs)
-    (λ c κs. search needs)
-    (λ c κs. search needs)
-    (λ c κs. search needs)
-    -- the sums fit
+    tie.close (tie.spec
+    (λ c κs. search needs) (λ c κs. search needs) (λ c κs. search needs) (λ c κs. search needs)
     (λ c. let c₁ = c .before .before .before .before .before in let p = parts-short (c₁ .args .k .now) (c₁ .args .s) (c₁ .pre) in omega arith)
     (λ c. let c₁ = c .before .before .before .before .before in let p = parts-short (c₁ .args .k .now) (c₁ .args .s) (c₁ .pre) in omega arith)
     (λ c. let c₁ = c .before .before .before .before .before in let p = parts-short (c₁ .args .k .now) (c₁ .args .s) (c₁ .pre) in omega arith)
-    (λ c. let c₁ = c .before .before .before .before .before in let p = parts-short (c₁ .args .k .now) (c₁ .args .s) (c₁ .pre) in omega arith)
-    returns)
+    (λ c. let c₁ = c .before .before .before .before .before in let p = parts-short (c₁ .args .k .now) (c₁ .args .s) (c₁ .pre) in omega arith) returns)

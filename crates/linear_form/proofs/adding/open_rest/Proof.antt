@@ -18,9 +18,6 @@ abbrev μ-loop : tie.MeasureT-loop
 slice-write-out : tie.Need-slice-write-out Inv-loop μ-loop
 slice-write-out c = let z = ap length (opening-none _ (c .if1 .taken)) in omega arith
 
-returns : tie.Need-returns Inv-loop μ-loop
-returns c = wrote-as (opening-none _ (c .if1 .taken)) (wrote-word _ _ _)
-
 loop-holds : tie.Need-loop-holds Inv-loop μ-loop
 loop-holds c = rw (← opening-joins (c .before .args .parts) (c .if1 .left)) (still-all _ _ _ (c .before .pre))
 
@@ -30,30 +27,12 @@ slice-write-out-2 c = let z = still-fits (c .before .loop .inv) (joins-split _ (
 loop-again : tie.Need-loop-again Inv-loop μ-loop
 loop-again c = still-run (c .before .loop .inv) (joins-split _ (c .loop-test .taken)) (wrote-word _ _ _)
 
-same-length-2 : tie.Need-same-length-2 Inv-loop μ-loop
-same-length-2 c = c .before .loop .inv .size
-
 returns-2 : tie.Need-returns-2 Inv-loop μ-loop
 returns-2 c = still-none (c .before .loop .inv) (joins-none _ (c .loop-test .left))
 
 pub open-rest-spec : {M : Type 1} → statement M
 open-rest-spec =
-    tie.close
-    (tie.spec
-    Inv-loop
-    μ-loop
-    (λ c. search needs)
-    slice-write-out
-    (λ c. search needs)
-    (λ c. search needs)
-    returns
-    (λ c. search needs)
-    loop-holds
-    (λ c. search needs)
-    slice-write-out-2
-    (λ c. search needs)
-    (λ c. search needs)
-    (λ c. search needs)
-    loop-again
-    same-length-2
-    returns-2)
+    tie.close (tie.spec
+    Inv-loop μ-loop (λ c. search needs) slice-write-out (λ c. search needs) (λ c. search needs)
+    (λ c. wrote-as (opening-none _ (c .if1 .taken)) (wrote-word _ _ _)) (λ c. search needs) loop-holds (λ c. search needs) slice-write-out-2
+    (λ c. search needs) (λ c. search needs) (λ c. search needs) loop-again (λ c. c .before .loop .inv .size) returns-2)

@@ -5,11 +5,7 @@ use Rattle.linear_form.proofs.Rests.{opening-length, opening-none}
 use Rattle.linear_form.proofs.adding.opening_len.Statement.{statement}
 use Rattle.linear_form.proofs.adding.opening_len.Tie as tie
 
-returns : tie.Need-returns
-returns c = sym (ap length (opening-none _ (c .if1 .taken)))
-
-returns-2 : tie.Need-returns-2
-returns-2 c = opening-length _ (c .if1 .left)
-
 pub opening-len-spec : {M : Type 1} → statement M
-opening-len-spec = tie.close (tie.spec (λ c. search needs) returns returns-2)
+opening-len-spec =
+    tie.close (tie.spec
+    (λ c. search needs) (λ c. sym (ap length (opening-none _ (c .if1 .taken)))) (λ c. opening-length _ (c .if1 .left)))

@@ -12,11 +12,8 @@ returns c = omega arith
 
 pub result-len-spec : {M : Type 1} → statement M
 result-len-spec =
-    tie.close
-    (tie.spec
-    (λ c κs. search needs)
-    (λ c κs. search needs)
-    -- the sums fit
+    tie.close (tie.spec
+    (λ c κs. search needs) (λ c κs. search needs)
     (λ c. let c₁ = c .before .before .before in let h = c₁ .pre in let r = row-short (c₁ .args .k .now) (c₁ .args .p) (h .0) (h .2) in omega arith)
     (λ c. let c₁ = c .before .before .before .before in let h = c₁ .pre in let r = row-short (c₁ .args .k .now) (c₁ .args .p) (h .0) (h .2) in omega arith)
     (λ c. let c₁ = c .before .before .before .before in let h = c₁ .pre in let r = row-short (c₁ .args .k .now) (c₁ .args .p) (h .0) (h .2) in omega arith)

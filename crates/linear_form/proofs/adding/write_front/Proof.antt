@@ -130,14 +130,5 @@ returns c =
 
 pub write-front-spec : {M : Type 1} → statement M
 write-front-spec =
-    tie.close
-    (tie.spec
-    copy-requires
-    put-requires
-    copy-requires-2
-    put-requires-2
-    copy-requires-3
-    put-requires-3
-    copy-requires-4
-    same-length
-    returns)
+    tie.close (tie.spec
+    copy-requires put-requires copy-requires-2 put-requires-2 copy-requires-3 put-requires-3 copy-requires-4 same-length returns)

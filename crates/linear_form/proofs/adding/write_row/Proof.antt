@@ -82,14 +82,6 @@ returns c =
 
 pub write-row-spec : {M : Type 1} → statement M
 write-row-spec =
-    tie.close
-    (tie.spec
-    (λ c κs. search needs)
-    (λ c. search needs)
-    write-front-requires
-    open-rest-requires
-    (λ c. search needs)
-    copy-requires
-    copy-requires-2
-    same-length
+    tie.close (tie.spec
+    (λ c κs. search needs) (λ c. search needs) write-front-requires open-rest-requires (λ c. search needs) copy-requires copy-requires-2 same-length
     returns)

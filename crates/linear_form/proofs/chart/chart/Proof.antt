@@ -15,9 +15,6 @@ Inv-loop k ends₀ i₀ ends i = (i ≤ length k) × ChartedFrom i k ends × (le
 abbrev μ-loop : tie.MeasureT-loop
 μ-loop k ends₀ i₀ ends i = i
 
-loop-holds : tie.Need-loop-holds Inv-loop μ-loop
-loop-holds c = (omega arith, chart-none (c .before .before .pre), refl)
-
 end-by-parts-requires : tie.Need-end-by-parts-requires Inv-loop μ-loop
 end-by-parts-requires c κs = let h = c .before .before .loop .inv .0 in (omega arith, chart-from (omega arith) (c .before .before .loop .inv .1))
 
@@ -32,24 +29,8 @@ loop-again c =
     let m = c₁ .loop .inv .2 in
     (omega arith, chart-more (omega arith) (c .end-by-parts .ensures) (chart-from (omega arith) (c₁ .loop .inv .1)), omega arith)
 
-same-length : tie.Need-same-length Inv-loop μ-loop
-same-length c = c .before .loop .inv .2
-
-returns : tie.Need-returns Inv-loop μ-loop
-returns c = chart-from (omega arith) (c .before .loop .inv .1)
-
 pub chart-spec : {M : Type 1} → statement M
 chart-spec =
-    tie.close
-    (tie.spec
-    Inv-loop
-    μ-loop
-    loop-holds
-    (λ c. search needs)
-    end-by-parts-requires
-    (λ c. search needs)
-    slice-write-ends
-    (λ c. search needs)
-    loop-again
-    same-length
-    returns)
+    tie.close (tie.spec
+    Inv-loop μ-loop (λ c. (omega arith, chart-none (c .before .before .pre), refl)) (λ c. search needs) end-by-parts-requires (λ c. search needs)
+    slice-write-ends (λ c. search needs) loop-again (λ c. c .before .loop .inv .2) (λ c. chart-from (omega arith) (c .before .loop .inv .1)))

@@ -58,31 +58,8 @@ returns-6 c = let a = c .before .before .before .before .before .before .before 
 
 pub write-piece-spec : {M : Type 1} → statement M
 write-piece-spec =
-    tie.close
-    (tie.spec
-    (λ c. search needs)
-    (λ c. search needs)
-    slice-write-out
-    (λ c. search needs)
-    (λ c. search needs)
-    copy-requires
-    (λ c. search needs)
-    put-requires
-    (λ c. search needs)
-    copy-requires-2
-    (λ c. search needs)
-    put-requires-2
-    (λ c. search needs)
-    empty-each-requires
-    (λ c. search needs)
-    returns
-    (λ c. search needs)
-    returns-2
-    (λ c. search needs)
-    returns-3
-    (λ c. search needs)
-    returns-4
-    (λ c. search needs)
-    returns-5
-    (λ c. search needs)
+    tie.close (tie.spec
+    (λ c. search needs) (λ c. search needs) slice-write-out (λ c. search needs) (λ c. search needs) copy-requires (λ c. search needs) put-requires
+    (λ c. search needs) copy-requires-2 (λ c. search needs) put-requires-2 (λ c. search needs) empty-each-requires (λ c. search needs) returns
+    (λ c. search needs) returns-2 (λ c. search needs) returns-3 (λ c. search needs) returns-4 (λ c. search needs) returns-5 (λ c. search needs)
     returns-6)

@@ -6,13 +6,7 @@ use Rattle.values.proofs.bindings.bound_to.Tie as tie
 
 pub bound-to-spec : {M : Type 1} → statement M
 bound-to-spec =
-    tie.close
-    (tie.spec
-    (λ c κs. search needs)
-    (λ c. search needs)
-    (λ c κs. search needs)
-    (λ c. search needs)
-    -- returns
+    tie.close (tie.spec
+    (λ c κs. search needs) (λ c. search needs) (λ c κs. search needs) (λ c. search needs)
     (λ c d v s w. let h = c .before .before .before .before .holder .ensures d v s w in let g = c .bound-in .ensures in search (bound-held))
-    -- returns-2
     (λ c d v s w. bound-nowhere (c .before .before .holder .ensures d v s w) (c .enum-told .given .1)))

@@ -6,18 +6,8 @@ use Rattle.values.proofs.bindings.expression_at.Tie as tie
 
 pub expression-at-spec : {M : Type 1} → statement M
 expression-at-spec =
-    tie.close
-    (tie.spec
-    (λ c. search needs)
-    (λ c. search needs)
-    -- returns
-    (λ c before l behind v a w. shown-other a (c .if1 .taken))
-    (λ c. search needs)
-    (λ c κs. search needs)
-    (λ c. search needs)
-    (λ c κs. search needs)
-    (λ c κs. search needs)
-    -- returns-2
+    tie.close (tie.spec
+    (λ c. search needs) (λ c. search needs) (λ c before l behind v a w. shown-other a (c .if1 .taken)) (λ c. search needs) (λ c κs. search needs)
+    (λ c. search needs) (λ c κs. search needs) (λ c κs. search needs)
     (λ c before l behind v a n. let w = worded n (c .before .before .word-of .ensures) in search (shown-held))
-    -- returns-3
     (λ c before l behind v a n. let w = worded n (c .before .before .word-of .ensures) in search (shown-unheld)))

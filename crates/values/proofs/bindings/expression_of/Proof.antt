@@ -19,21 +19,9 @@ abbrev μ-loop : tie.MeasureT-loop
 
 pub expression-of-spec : {M : Type 1} → statement M
 expression-of-spec =
-    tie.close
-    (tie.spec
-    Inv-loop
-    μ-loop
-    -- loop-holds
-    (λ c d v s w. walk-start refl)
-    -- expression-at-requires
-    (λ c κs. search needs)
-    -- returns
+    tie.close (tie.spec
+    Inv-loop μ-loop (λ c d v s w. walk-start refl) (λ c κs. search needs)
     (λ c d v s w. expressed-here s (worded w refl) (c .before .before .before .loop .inv d v s w) (c .before .before .loop-test .taken) (λ b l e a. c .before .expression-at .ensures b l e v a w) (c .if1 .taken))
-    -- next-literal-requires
-    (λ c κs. search needs)
-    -- loop-less
-    (λ c. omega arith)
-    -- loop-again
+    (λ c κs. search needs) (λ c. omega arith)
     (λ c d v s w. seeking-on s (worded w refl) (c .before .before .before .before .loop .inv d v s w) (c .before .before .before .loop-test .taken) (λ b l e a. c .before .before .expression-at .ensures b l e v a w) (c .before .if1 .left) (c .next-literal .ensures))
-    -- returns-2
     (λ c d v s w. expressed-nowhere s (worded w refl) (c .before .loop .inv d v s w) (c .loop-test .left)))

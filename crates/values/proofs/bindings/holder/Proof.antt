@@ -19,23 +19,9 @@ abbrev μ-loop : tie.MeasureT-loop
 
 pub holder-spec : {M : Type 1} → statement M
 holder-spec =
-    tie.close
-    (tie.spec
-    Inv-loop
-    μ-loop
-    -- loop-holds
-    (λ c d v s w. walk-start refl)
-    -- next-literal-requires
-    (λ c κs. search needs)
-    -- word-of-requires
-    (λ c κs. search needs)
-    -- stands-requires
-    (λ c κs. search needs)
-    -- returns
+    tie.close (tie.spec
+    Inv-loop μ-loop (λ c d v s w. walk-start refl) (λ c κs. search needs) (λ c κs. search needs) (λ c κs. search needs)
     (λ c d v s w. held-here s (worded w (c .before .before .word-of .ensures)) (c .before .before .before .before .before .loop .inv d v s w) (c .before .before .before .before .loop-test .taken) (c .before .before .before .next-literal .ensures) (c .before .stands .ensures) (c .if1 .taken))
-    -- loop-less
     (λ c. omega arith)
-    -- loop-again
     (λ c d v s w. binding-on s (worded w (c .before .before .word-of .ensures)) (c .before .before .before .before .before .loop .inv d v s w) (c .before .before .before .before .loop-test .taken) (c .before .before .before .next-literal .ensures) (c .before .stands .ensures) (c .if1 .left))
-    -- returns-2
     (λ c d v s w. held-nowhere s (worded w refl) (c .before .loop .inv d v s w) (c .loop-test .left)))

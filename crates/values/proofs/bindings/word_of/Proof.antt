@@ -8,17 +8,8 @@ use Rattle.values.proofs.bindings.word_of.Tie as tie
 
 pub word-of-spec : {M : Type 1} → statement M
 word-of-spec =
-    tie.close
-    (tie.spec
-    (λ c. search needs)
-    (λ c κs. search needs)
-    (λ c. search needs)
-    (λ c κs. search needs)
-    (λ c. search needs)
-    (λ c κs. search needs)
-    -- returns
+    tie.close (tie.spec
+    (λ c. search needs) (λ c κs. search needs) (λ c. search needs) (λ c κs. search needs) (λ c. search needs) (λ c κs. search needs)
     (λ c. c .term-word .ensures ∙ ap (λ x. variableWord (varOf x)) (sym (c .before .before .x .given .1)))
-    -- returns-2
     (λ c. c .run-word .ensures ∙ ap (λ x. variableWord (varOf x)) (sym (c .before .before .x2 .given .1)))
-    -- returns-3
     (λ c. c .function-word .ensures ∙ ap (λ x. variableWord (varOf x)) (sym (c .before .before .x3 .given .1))))
