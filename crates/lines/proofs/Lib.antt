@@ -25,3 +25,4 @@ pub mod Agreement
 pub mod DeclaredExample
 pub mod Shown
 pub mod Lines
+pub mod Wider
