@@ -1,5 +1,5 @@
 -- What the functions of the answer leave, from what each of their stores leaves.
-use Prim.Native.Nat.{ℕ, suc, _+_, _-_, _<_, _≤_}
+use Prim.Native.Nat.{ℕ, suc, _+_, _<_, _≤_}
 use native.Mathlib.Omega.{arith}
 use native.Mathlib.Numerals.{add-one}
 use mathlib.Core.Path.{_≡_, refl, sym, ap, _∙_}
@@ -37,17 +37,14 @@ line-written a b c k at n m s e d f g =
     ∙ ap (λ l. sets l (suc at) k) (e ∙ ap (set a at) f)
 
 -- the stores of a line, one after another
-pub line-stored : (t : Tally) (a k : List ℕ) (s : Bool) (a₁ a₂ a₃ a₄ : List ℕ) (v x y opens : ℕ)
-    → a₁ ≡ sets a (t .end) (pick s 1 2 ∷ k) → a₂ ≡ set a₁ (t .lines + 1 + 2) v → v ≡ t .end + 1 + length k → a₃ ≡ set a₂ 0 x → x ≡ t .lines + 1
-    → a₄ ≡ set a₃ 1 y → y ≡ opens → opens ≡ pick s (t .«open») (t .«open» + 1)
+pub line-stored : (t : Tally) (a k : List ℕ) (s : Bool) (a₁ a₂ a₃ a₄ : List ℕ) (opens : ℕ)
+    → a₁ ≡ sets a (t .end) (pick s 1 2 ∷ k) → a₂ ≡ set a₁ (t .lines + 1 + 2) (t .end + 1 + length k) → a₃ ≡ set a₂ 0 (t .lines + 1)
+    → a₄ ≡ set a₃ 1 opens → opens ≡ pick s (t .«open») (t .«open» + 1)
     → (record { lines = t .lines + 1; «open» = opens; end = t .end + 1 + length k } ≡ counted t s k)
     × (a₄ ≡ withLine t (record { lines = t .lines + 1; «open» = opens; end = t .end + 1 + length k }) s k a)
-line-stored t a k s a₁ a₂ a₃ a₄ v x y opens e₁ e₂ ev e₃ ex e₄ ey eo = (
+line-stored t a k s a₁ a₂ a₃ a₄ opens e₁ e₂ e₃ e₄ eo = (
   ap (λ o. record { lines = t .lines + 1; «open» = o; end = t .end + 1 + length k }) eo,
-  e₄ ∙ ap (λ l. set l 1 y) (e₃ ∙ ap (λ l. set l 0 x) (e₂ ∙ ap (λ l. set l (t .lines + 1 + 2) v) e₁))
-      ∙ ap (λ n. set (set (set (sets a (t .end) (pick s 1 2 ∷ k)) (t .lines + 1 + 2) n) 0 x) 1 y) ev
-      ∙ ap (λ n. set (set (set (sets a (t .end) (pick s 1 2 ∷ k)) (t .lines + 1 + 2) (t .end + 1 + length k)) 0 n) 1 y) ex
-      ∙ ap (λ n. set (set (set (sets a (t .end) (pick s 1 2 ∷ k)) (t .lines + 1 + 2) (t .end + 1 + length k)) 0 (t .lines + 1)) 1 n) ey,
+  e₄ ∙ ap (λ l. set l 1 opens) (e₃ ∙ ap (λ l. set l 0 (t .lines + 1)) (e₂ ∙ ap (λ l. set l (t .lines + 1 + 2) (t .end + 1 + length k)) e₁)),
 )
 
 -- with the words of a conjunction for a line, an answer's words are those of the answer that has this line too

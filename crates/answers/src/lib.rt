@@ -8,13 +8,9 @@ ghost use Rattle.language.specs.Limits.{desk};
 ghost use Rattle.language.specs.Kinds.{pick};
 ghost use Rattle.answers.specs.Lined.{Lined, counted, withLine};
 use language::limits::LINES_AT;
-use waiting::clear;
-use waiting::copy;
-use waiting::narrow;
-use waiting::store;
-
-// Where the lines begin, as a word.
-const FIRST_OFFSET: u16 = LINES_AT as u16;
+use slices::clear;
+use slices::copy;
+use slices::store;
 
 // How many lines there are, how many of them open, and the place after the last.
 pub struct Tally {
@@ -24,8 +20,8 @@ pub struct Tally {
 }
 
 // The mark of a line.
-fn mark(solved: bool) -> u16
-    ensures { λ r. ⌜ r ≡ pick solved 1 2 ⌝ }
+fn mark(solved: bool) -> usize
+    ensures { λ r. ⌜ (r ≡ pick solved 1 2) × (r ≤ 2) ⌝ }
 {
     if solved { 1 } else { 2 }
 }
@@ -44,7 +40,7 @@ pub fn begin(answer: &mut [u16]) -> Tally
     ensures { λ t. ⌜ Lined (now (answer .entry)) [] t (now (answer .exit)) ⌝ }
 {
     clear(answer);
-    store(answer, 2, FIRST_OFFSET);
+    store(answer, 2, LINES_AT);
     Tally {
         lines: 0,
         open: 0,
@@ -71,8 +67,8 @@ pub fn add_line(k: &[u16], solved: bool, t: Tally, answer: &mut [u16]) -> Tally
     let end = at + 1 + k.len();
     let open = opened(t.open, solved);
     write_line(k, solved, at, answer);
-    store(answer, lines + 2, narrow(end));
-    store(answer, 0, narrow(lines));
-    store(answer, 1, narrow(open));
+    store(answer, lines + 2, end);
+    store(answer, 0, lines);
+    store(answer, 1, open);
     Tally { lines, open, end }
 }

@@ -1,5 +1,5 @@
 -- Any two outcomes that a contract of this crate allows coincide.
-use mathlib.Core.Path.{_≡_, sym, ap, ap₂, _∙_}
+use mathlib.Core.Path.{sym, ap, ap₂, _∙_}
 use Rattle.language.proofs.Determined.{Determined}
 use Rattle.cases.proofs.line_end as line-end
 use Rattle.cases.proofs.words_of as words-of

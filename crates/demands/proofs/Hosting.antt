@@ -21,10 +21,10 @@ use Rattle.meaning.specs.Values as values
 use Rattle.exact.proofs.Declared.{read-declared}
 use Rattle.example.specs.Shown.{resultOf, roomOf}
 use Rattle.example.specs.Answers.{Answer}
-use Rattle.host.specs.Bytes.{wordsOf, bytesOf, wordsIn}
+use Rattle.word_bytes.specs.Bytes.{wordsOf, bytesOf, wordsIn}
 use Rattle.host.specs.Host as host
 use Rattle.host.proofs.Refusals.{each-number, Numbered, numbered}
-use Rattle.host.proofs.Pairs.{length-wordsOf}
+use Rattle.word_bytes.proofs.Pairs.{length-wordsOf}
 use Rattle.demands.specs.Answers.{literalsOf, lineNumbered}
 use Rattle.demands.specs.Promises.{Promised, Told}
 use Rattle.demands.specs.HostCalls.{DeskSolve, DeskTry, DeskExample}

@@ -1,6 +1,5 @@
 -- What the contracts say in numbers, of the answers that have these numbers.
 use Prim.Native.Nat.{ℕ}
-use mathlib.Core.Path.{_≡_}
 use mathlib.Core.List.{List}
 use lib.ListN.{length}
 use Rattle.language.specs.Limits.{desk}

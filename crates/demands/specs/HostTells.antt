@@ -14,7 +14,7 @@ use Rattle.meaning.specs.Values.{gives, readFilling}
 use Rattle.rules.specs.Answer.{answerWords, zeros}
 use Rattle.outcomes.specs.declared.Shown.{Shown}
 use Rattle.outcomes.specs.declared.Shown.the-variants.{Shows, Denied}
-use Rattle.host.specs.Bytes.{wordsOf, bytesOf, wordsIn}
+use Rattle.word_bytes.specs.Bytes.{wordsOf, bytesOf, wordsIn}
 use Rattle.demands.specs.Columns.{Column, unchanged, zeroed, as-solved, column}
 use Rattle.demands.specs.HostCalls.{DeskSolve, DeskTry, DeskExample}
 use Rattle.demands.specs.Answers.{Line, literalsOf, MeetsLines, lineNumbered}

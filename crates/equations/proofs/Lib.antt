@@ -1,8 +1,5 @@
 pub mod Decisions
-pub mod Plain
-pub mod Eliminating
-pub mod Cutting
-pub mod Dispatch
+pub mod Same
 pub mod Names
 pub mod Looked
 pub mod Nodes

@@ -1,7 +1,7 @@
 -- Single terms by their functors: what each test says of the first rule.
 use Prim.Native.Nat.{ℕ, _+_, _<_}
 use mathlib.Core.Path.{_≡_, refl, sym, ap, _∙_}
-use mathlib.Core.Bool.{Bool, true, false, not, _&&_, _||_}
+use mathlib.Core.Bool.{Bool, true, false, not, _&&_, _||_, and-true}
 use mathlib.Core.List.{List, _++_}
 use borrow.Author.Tests.{eq-eqb, ne-eqb}
 use lib.ListN.{take, drop}
@@ -17,7 +17,6 @@ use Rattle.rules.specs.Places.{atF3, atD0, atE5, atE6, noRule}
 use Rattle.views.specs.declared.View.{View}
 use Rattle.views.specs.Looks.{nameOf}
 use Rattle.views.specs.Views.{Sees}
-use Rattle.plans.proofs.Ranking.{and-true}
 use Rattle.words.specs.Spans.{member}
 use Rattle.views.proofs.Members.{elsewhere-sees}
 use Rattle.equations.specs.Rank.{functors}

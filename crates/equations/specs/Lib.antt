@@ -1,4 +1,2 @@
 pub mod Rank
-pub mod Recipes
-pub mod Planned
 pub mod Ranked

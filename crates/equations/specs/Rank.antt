@@ -2,7 +2,6 @@
 -- The answer is the rule's place in the list, or `noRule`.
 use Prim.Native.Nat.{ℕ}
 use mathlib.Core.Bool.{not, _&&_, _||_}
-use mathlib.Core.Option.{none}
 use Rattle.language.specs.declared.HedgeVar.{HedgeVar}
 use Rattle.language.specs.Kinds.{pick}
 use Rattle.language.specs.Trees.{Functor, symbol, fvar, Hedge, ε, tvar, hvar, node, Conj, eqT, eqH, eqS, eqX, eqF, sameWords, tv, hv, fv, holds, inConj}

@@ -11,7 +11,7 @@ ghost use Rattle.views.specs.Looks.{nameOf};
 ghost use Rattle.views.specs.Views.{Sees};
 ghost use Rattle.equations.specs.Rank.{functors};
 ghost use Rattle.equations.specs.Ranked.{Ranks, blanksIn};
-use crate::tests::and;
+use bools::and;
 use language::FunVar;
 use language::Name;
 use language::Sym;

@@ -1,7 +1,33 @@
-// The first rule at an equation, and the plan of its results.
+// The first rule at an equation, seen from its left side.
+ghost use mathlib.Core.Path.{_≡_};
+ghost use mathlib.Core.List.{_++_};
+ghost use Rattle.language.specs.Trees.{Hedge, Conj};
+ghost use Rattle.views.specs.Views.{Sees, EquationAt};
+ghost use Rattle.rules.specs.Ranks.{eqnRank};
+
 mod functors;
-pub mod plan;
-pub mod rank;
 mod runs;
 mod terms;
-mod tests;
+
+use functors::rank_node;
+use runs::rank_run;
+use terms::rank_empty;
+use terms::rank_term;
+use views::Look;
+use views::Side;
+use views::View;
+
+// The place of the first rule in the list, or NO_RULE where none applies.
+pub fn rank_equation(k: &[u16], v: View) -> usize
+    requires { ⌜ EquationAt (now k) v ⌝ }
+    ensures { λ n. ⌜ ((before behind : Conj) (l r : Hedge) → Sees (now (k .entry)) v before l r behind → n ≡ eqnRank (before ++ behind) l r) ⌝ }
+{
+    let l = v.l;
+    let look = l.look;
+    match look {
+        Look::Empty => rank_empty(k, v),
+        Look::Term(x, lone) => rank_term(k, v, x, lone),
+        Look::Run(p, lone) => rank_run(k, v, p, lone),
+        Look::Node(f, lone, bare) => rank_node(k, v, f, lone, bare),
+    }
+}

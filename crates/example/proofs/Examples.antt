@@ -7,21 +7,21 @@ use mathlib.Core.Option.{Option, none, some}
 use lib.Dec.{T}
 use Rattle.language.specs.declared.TermVar.{TermVar}
 use Rattle.language.specs.declared.FunVar.{FunVar}
-use Rattle.language.specs.Trees.{Functor, symbol, fvar, Hedge, ε, tvar, hvar, node, Literal, eqn, mem, Conj, Counts, Var, tv, hv, fv, eqV, holds, inLiteral, inConj}
+use Rattle.language.specs.Trees.{symbol, fvar, Hedge, ε, tvar, hvar, node, Literal, eqn, mem, Conj, Counts, Var, tv, hv, fv, eqV, holds, inLiteral, inConj}
 use Rattle.meaning.specs.Complete.{Complete, nil, tree, completeWords}
 use Rattle.meaning.specs.Meaning.{fill}
 use Rattle.meaning.specs.Values.{rootOf, childrenOf, variables, numbers, valuesIn, offsetsOf, joined, fillingWords}
 use Rattle.rules.specs.Looks.{empty}
-use Rattle.rules.specs.Solved.{given, isTerm, isFunctor, variable, alone, solves}
+use Rattle.rules.specs.Solved.{isTerm, isFunctor, variable, alone, solves}
 use Rattle.rules.specs.Example.{of, unsolved, binds, bound, followed, example}
 use Rattle.rules.proofs.Tests.{and-parts, picks}
 use Rattle.rules.proofs.Names.{eqV-is}
 use Rattle.rules.proofs.Answers.{orElse-is, Where}
 use Rattle.rules.proofs.Looks.{empty-is}
 use Rattle.lines.proofs.Tests.{given-is}
-use Rattle.example.specs.Values.{Settled, valueWords}
+use Rattle.values.specs.Values.{Settled, valueWords}
 use Rattle.example.specs.Rows.{valuesBy}
-use Rattle.example.proofs.Following.{single}
+use Rattle.values.proofs.Following.{single}
 use Rattle.example.specs.Fillings.{valuesOf, tableOf}
 
 -- ---- what a variable is bound to has the form that the variable takes

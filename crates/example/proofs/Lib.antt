@@ -1,14 +1,3 @@
-pub mod Bodies
-pub mod Laid
-pub mod Sampling
-pub mod Walks
-pub mod Places
-pub mod Looks
-pub mod Binding
-pub mod Spelling
-pub mod Unsolved
-pub mod Parts
-pub mod Following
 pub mod Rows
 pub mod Tables
 pub mod Examples

@@ -15,7 +15,6 @@ use Rattle.rules.specs.Answer.{lineWords, answerWords}
 use Rattle.rules.specs.Calls.{lineAt}
 use Rattle.rules.specs.Each.{Each}
 use Rattle.answers.proofs.Rows.{header, in-a-row, length-header, length-lines, length-answer}
-use Rattle.words.proofs.Parts.{drop-of, part-of, word-of}
 use Rattle.example.specs.Answers.{Good, Answer}
 use Rattle.example.proofs.Tables.{joined-row}
 

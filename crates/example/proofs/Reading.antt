@@ -17,13 +17,14 @@ use Rattle.rules.specs.Solved.{solved}
 use Rattle.rules.specs.Answer.{markOf, lineWords}
 use Rattle.rules.specs.Example.{example}
 use Rattle.rules.specs.Calls.{Showing, denied, fitted, shown}
-use Rattle.example.specs.Lines.{Line}
+use Rattle.values.specs.Lines.{Line}
+use Rattle.values.specs.Values.{SettledLine}
 use Rattle.words.proofs.Parts.{drop-of, word-of}
 use Rattle.outcomes.specs.declared.Shown.{Shown}
 use Rattle.outcomes.specs.declared.Shown.the-variants.{Denied}
 use Rattle.example.specs.Shown.{resultOf, roomOf}
 use Rattle.example.specs.Fillings.{LineShown}
-use Rattle.example.specs.Answers.{Good, Answer, Answered, WordsShown, PartShown, AnswerShown}
+use Rattle.example.specs.Answers.{Good, Answer, Answered, LineIn, WordsShown, PartShown, AnswerShown}
 use Rattle.example.proofs.Lines.{no-line, Place, whole, count-is, place-of}
 
 -- ---- with the variables that the question declares
@@ -52,6 +53,24 @@ by-solved n room c b = elim b [ true ↦ fitted desk room (fillingWords n (examp
 mark-is : (answer : List ℕ) (from mark : ℕ) → mark ≡ getD answer from 0 → (c : Conj) (beyond : List ℕ) → drop from answer ≡ lineWords c ++ beyond → mark ≡ pick (solved c) 1 2
 mark-is answer from mark m c beyond e = m ∙ word-of answer from (lineWords c ++ beyond) e
 
+line-of : (answer : List ℕ) (from to : ℕ) (c : Conj) (beyond : List ℕ) → drop from answer ≡ lineWords c ++ beyond → to ≡ from + suc (length (conjWords c)) → Good c → Line (take (to - (from + 1)) (drop (from + 1) answer)) c
+line-of answer from to c beyond e d g = record {
+  words =
+      let n : to - (from + 1) ≡ length (conjWords c) = omega arith in
+      ap (take (to - (from + 1))) (drop-of answer from (from + 1) (markOf c ∷ []) (conjWords c ++ beyond) e refl) ∙ ap (λ i. take i (conjWords c ++ beyond)) n ∙ take-append-seam (conjWords c) beyond;
+  fine = g .fine;
+}
+
+is-solved : (answer : List ℕ) (from mark : ℕ) → mark ≡ getD answer from 0 → mark ≡ 1 → (c : Conj) (beyond : List ℕ) → drop from answer ≡ lineWords c ++ beyond → solved c ≡ true
+is-solved answer from mark m z c beyond e = by-mark (solved c) (sym (mark-is answer from mark m c beyond e) ∙ z)
+
+pub part-settled : {answer : List ℕ} {from to mark : ℕ} → mark ≡ getD answer from 0 → mark ≡ 1 → LineIn answer from to → SettledLine (take (to - (from + 1)) (drop (from + 1) answer))
+part-settled {answer} {from} {to} {mark} m z l = record {
+  c = l .c;
+  line = line-of answer from to (l .c) (l .beyond) (l .here) (l .end) (l .good);
+  settled = l .good .settled (is-solved answer from mark m z (l .c) (l .beyond) (l .here));
+}
+
 module _ {question answer old : List ℕ} {from to mark : ℕ} (m : mark ≡ getD answer from 0) where
   pub part-open : (mark ≡ 1 → ⊥) → PartShown question answer from to old old (Denied OpenLine)
   part-open n = record {
@@ -65,23 +84,12 @@ module _ {question answer old : List ℕ} {from to mark : ℕ} (m : mark ≡ get
   pub part-shown : {new : List ℕ} {r : Shown} → mark ≡ 1 → WordsShown question (take (to - (from + 1)) (drop (from + 1) answer)) old new r → PartShown question answer from to old new r
   part-shown z s = record {
     result = λ c beyond e d g.
-        let y = is-solved c beyond e in
-        s .result c (line c beyond e d g) (g .settled y) ∙ ap (λ b. resultOf (by-solved (countsOf question) (length old) c b)) (sym y);
+        let y = is-solved answer from mark m z c beyond e in
+        s .result c (line-of answer from to c beyond e d g) (g .settled y) ∙ ap (λ b. resultOf (by-solved (countsOf question) (length old) c b)) (sym y);
     room = λ c beyond e d g.
-        let y = is-solved c beyond e in
-        s .room c (line c beyond e d g) (g .settled y) ∙ ap (λ b. roomOf (by-solved (countsOf question) (length old) c b) old) (sym y);
+        let y = is-solved answer from mark m z c beyond e in
+        s .room c (line-of answer from to c beyond e d g) (g .settled y) ∙ ap (λ b. roomOf (by-solved (countsOf question) (length old) c b) old) (sym y);
   }
-    where
-      is-solved : (c : Conj) (beyond : List ℕ) → drop from answer ≡ lineWords c ++ beyond → solved c ≡ true
-      is-solved c beyond e = by-mark (solved c) (sym (mark-is answer from mark m c beyond e) ∙ z)
-
-      line : (c : Conj) (beyond : List ℕ) → drop from answer ≡ lineWords c ++ beyond → to ≡ from + suc (length (conjWords c)) → Good c → Line (take (to - (from + 1)) (drop (from + 1) answer)) c
-      line c beyond e d g = record {
-        words =
-            let n : to - (from + 1) ≡ length (conjWords c) = omega arith in
-            ap (take (to - (from + 1))) (drop-of answer from (from + 1) (markOf c ∷ []) (conjWords c ++ beyond) e refl) ∙ ap (λ i. take i (conjWords c ++ beyond)) n ∙ take-append-seam (conjWords c) beyond;
-        fine = g .fine;
-      }
 
 -- ---- by its number
 
@@ -99,14 +107,16 @@ module _ {answer : List ℕ} {lines w : ℕ} (d : w ≡ getD answer 0 0) (e : li
     place : (ls : List Conj) → Answer answer ls → Place answer ls line
     place ls a = let n = count ls a in place-of a line (omega arith)
 
-    pub part-fits : Answered answer → (from < to) × (to ≤ length answer) × (to ≤ 65536)
+    pub part-fits : Answered answer → (from < to) × (to ≤ length answer) × (to ≤ 65536) × LineIn answer from to
     part-fits a =
         let q = place (a .ls) (a .is) in
         let x = q .offset in
         let y = q .next in
         let z = q .within in
         let w = whole (a .is) in
-        (omega arith, omega arith, omega arith)
+        let d = g ∙ f ∙ q .offset in
+        let t = i ∙ h ∙ q .next in
+        (omega arith, omega arith, omega arith, record { c = q .l; beyond = q .beyond; here = ap (λ j. drop j answer) d ∙ q .here; end = omega arith; good = q .good })
 
     pub line-shown : {question old new : List ℕ} {r : Shown} → PartShown question answer from to old new r → AnswerShown question line answer old new r
     line-shown {question} {old} s = record {

@@ -1,19 +1,30 @@
 -- The values of the variables of one kind, one after the other.
 use Prim.Native.Nat.{ℕ, suc, _+_, _*_, _-_, _<_, _≤_}
-use mathlib.Core.Path.{_≡_, sym, ap, _∙_}
+use mathlib.Core.Path.{_≡_, refl, sym, subst, ap, _∙_}
 use mathlib.Core.List.{List, [], _∷_, map}
 use native.Mathlib.Omega.{arith}
 use lib.ListN.{length, length-append}
 use Rattle.language.specs.Limits.{desk}
 use Rattle.language.specs.Trees.{Conj, Var}
 use Rattle.meaning.specs.Values.{joined, numbers}
-use Rattle.example.specs.declared.bindings.Variable.{Variable}
-use Rattle.example.specs.declared.values.Sort.{Sort}
-use Rattle.example.specs.Laid.{Laid}
-use Rattle.example.proofs.Laid.{laid-none, laid-row, laid-as}
-use Rattle.example.specs.Lines.{varOf, Named, Line}
-use Rattle.example.specs.Values.{Settled, valueWords, ValueLength}
+use Rattle.values.specs.declared.Variable.{Variable}
+use Rattle.example.specs.declared.sorts.Sort.{Sort}
+use Rattle.example.specs.declared.sorts.Sort.the-variants.{Terms, Runs, Functions}
+use Rattle.samples.specs.Laid.{Laid}
+use Rattle.samples.proofs.Laid.{laid-none, laid-row, laid-as}
+use Rattle.values.specs.Lines.{varOf, Named, Line}
+use Rattle.values.specs.Values.{Settled, valueWords, ValueLength}
 use Rattle.example.specs.Rows.{numberedOf, Makes, valuesBy, starts, KindLength, KindStarts, KindWritten}
+
+-- ---- the j-th variable
+
+named : (of : Sort) (j : ℕ) → j < desk .each → Named (varOf (numberedOf of j)) (numberedOf of j)
+named Terms j h = record { fine = h; is = refl }
+named Runs j h = record { fine = h; is = refl }
+named Functions j h = record { fine = h; is = refl }
+
+pub named-numbered : (of : Sort) {j count : ℕ} {x : Variable} → j < count → count ≤ desk .each → (j < 65536 → x ≡ numberedOf of j) → Named (varOf x) x
+named-numbered of {j} t l e = subst (λ x. Named (varOf x) x) (sym (e (omega arith))) (named of j (omega arith))
 
 -- ---- the values from the j-th on
 

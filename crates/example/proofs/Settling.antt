@@ -1,7 +1,7 @@
 -- Of a solved line to which no rule applies: a term variable's expression is a symbol's, and a function variable has none.
 use Prim.Native.Nat.{ℕ, _+_}
-use mathlib.Core.Path.{_≡_, refl, sym, ap, _∙_}
-use mathlib.Core.Bool.{Bool, true, false, not}
+use mathlib.Core.Path.{_≡_, refl, ap, _∙_}
+use mathlib.Core.Bool.{Bool, true, false}
 use mathlib.Core.List.{[], _∷_, _++_, append-assoc}
 use mathlib.Core.Option.{Option, none, some}
 use native.Mathlib.Omega.{arith}
@@ -9,7 +9,7 @@ use Rattle.language.specs.declared.TermVar.{TermVar}
 use Rattle.language.specs.declared.FunVar.{FunVar}
 use Rattle.language.specs.declared.Sym.{Sym}
 use Rattle.language.specs.Kinds.{pick}
-use Rattle.language.specs.Trees.{Hedge, ε, tvar, hvar, node, Expr, over, Literal, eqn, mem, Conj, Var, tv, hv, fv, holds}
+use Rattle.language.specs.Trees.{Hedge, ε, tvar, hvar, node, Expr, over, eqn, mem, Conj, Var, tv, hv, fv, holds}
 use Rattle.language.proofs.Bools.{both-true}
 use Rattle.rules.specs.Reply.{nothing}
 use Rattle.rules.specs.Step.{step}
@@ -18,7 +18,7 @@ use Rattle.rules.specs.Solved.{given, loneVar, onlyMember, solvedLiteral, solve
 use Rattle.rules.specs.Example.{expressionOf}
 use Rattle.lines.proofs.Quiet.{quiet-mem, at-literal}
 use Rattle.lines.proofs.Example.{over-only}
-use Rattle.example.specs.Values.{Settled}
+use Rattle.values.specs.Values.{Settled}
 
 -- ---- a membership
 

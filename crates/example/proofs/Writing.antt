@@ -6,7 +6,7 @@ use mathlib.Core.List.{List, [], _∷_, _++_, append-assoc}
 use native.Mathlib.Omega.{arith}
 use lib.Dec.{ltb}
 use lib.ListN.{length, drop, length-append}
-use lib.Seq.{sets, sets-eq}
+use lib.Seq.{sets-eq}
 use borrow.Author.Tests.{lt-ltb, le-ltb}
 use Rattle.language.specs.declared.Refusal.the-variants.{LongExample}
 use Rattle.language.specs.Limits.{desk}
@@ -14,14 +14,13 @@ use Rattle.language.specs.Trees.{Conj, Counts, Var, tv, hv, fv}
 use Rattle.meaning.specs.Values.{variables, joined, offsetsOf, fillingWords}
 use Rattle.rules.specs.Example.{example}
 use Rattle.rules.specs.Calls.{Showing, shows, denied, fitted}
-use Rattle.example.specs.Laid.{Laid}
-use Rattle.example.proofs.Laid.{laid-row, laid-as}
-use Rattle.example.specs.Lines.{Line}
-use Rattle.example.specs.Values.{Settled}
+use Rattle.samples.specs.Laid.{Laid}
+use Rattle.samples.proofs.Laid.{laid-row, laid-as}
+use Rattle.values.specs.Lines.{Line}
+use Rattle.values.specs.Values.{Settled}
 use Rattle.example.specs.Rows.{Makes, valuesBy, starts, KindLength, KindStarts, KindWritten}
-use Rattle.example.specs.declared.values.Sort.the-variants.{Terms, Runs, Functions}
-use Rattle.example.specs.declared.values.Row.{Row}
-use Rattle.outcomes.specs.declared.Shown.{Shown}
+use Rattle.example.specs.declared.sorts.Sort.the-variants.{Terms, Runs, Functions}
+use Rattle.example.specs.declared.sorts.Row.{Row}
 use Rattle.outcomes.specs.declared.Shown.the-variants.{Shows, Denied}
 use Rattle.example.specs.Shown.{resultOf, roomOf}
 use Rattle.example.specs.Fillings.{valuesOf, tableOf, Counted, FillingLength, TableWritten, ValuesWritten, LineShown}
@@ -199,7 +198,7 @@ module _ {k : List ℕ} {terms hedges functions r : ℕ} (m : FillingLength k te
         let w = size-all c n s t q in
         let l = laid-as (sym (filling-words c t n)) (laid-row (tableOf c n) (joined (valuesOf c n)) (a .each c n s t q (omega arith)) (b .each c n s t q)) in
         let o : 0 + length ws ≡ length ws = omega arith in
-        l .list (omega arith) ∙ sets-eq ws old 0 (omega arith) ∙ ap (λ i. ws ++ drop i old) o ∙ ap (λ v. roomOf v old) (sym (has-room (length old) ws (omega arith) (omega arith)));
+        l .list ∙ sets-eq ws old 0 (omega arith) ∙ ap (λ i. ws ++ drop i old) o ∙ ap (λ v. roomOf v old) (sym (has-room (length old) ws (omega arith) (omega arith)));
   }
     where
       size-all : (c : Conj) (n : Counts) → Line k c → Settled c → Counted n terms hedges functions → length (tableOf c n) ≡ variables n + 2

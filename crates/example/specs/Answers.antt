@@ -10,7 +10,7 @@ use Rattle.language.specs.Trees.{Conj}
 use Rattle.language.specs.Writing.{conjWords}
 use Rattle.language.specs.Fine.{fineConj}
 use Rattle.meaning.specs.Values.{fillingWords}
-use Rattle.example.specs.Lines.{Line}
+use Rattle.values.specs.Lines.{Line}
 use Rattle.language.specs.Question.{countsOf}
 use Rattle.rules.specs.Solved.{solved}
 use Rattle.rules.specs.Run.{linesSize, linesAt}
@@ -18,7 +18,7 @@ use Rattle.rules.specs.Answer.{lineWords, answerWords}
 use Rattle.rules.specs.Example.{example}
 use Rattle.rules.specs.Calls.{fitted, shown, lineAt}
 use Rattle.rules.specs.Each.{Each}
-use Rattle.example.specs.Values.{Settled}
+use Rattle.values.specs.Values.{Settled}
 use Rattle.outcomes.specs.declared.Shown.{Shown}
 use Rattle.example.specs.Shown.{resultOf, roomOf}
 
@@ -50,6 +50,14 @@ pub record Ranged (question : List ℕ) : Type 0 where
 pub record WordsShown (question k old new : List ℕ) (r : Shown) : Type 0 where
   pub result : (c : Conj) → Line k c → Settled c → r ≡ resultOf (fitted desk (length old) (fillingWords (countsOf question) (example c)))
   pub room : (c : Conj) → Line k c → Settled c → new ≡ roomOf (fitted desk (length old) (fillingWords (countsOf question) (example c))) old
+
+-- a line stands in this part of an answer, its mark first
+pub record LineIn (answer : List ℕ) (from to : ℕ) : Type 0 where
+  pub c : Conj
+  pub beyond : List ℕ
+  pub here : drop from answer ≡ lineWords c ++ beyond
+  pub end : to ≡ from + suc (length (conjWords c))
+  pub good : Good c
 
 -- the example of the line whose mark and words are this part
 pub record PartShown (question answer : List ℕ) (from to : ℕ) (old new : List ℕ) (r : Shown) : Type 0 where

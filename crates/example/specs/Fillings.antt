@@ -8,9 +8,9 @@ use Rattle.language.specs.Trees.{Conj, Counts, tv, hv, fv}
 use Rattle.meaning.specs.Values.{variables, joined, offsetsOf, fillingWords}
 use Rattle.rules.specs.Example.{example}
 use Rattle.rules.specs.Calls.{fitted}
-use Rattle.example.specs.Laid.{Laid}
-use Rattle.example.specs.Lines.{Line}
-use Rattle.example.specs.Values.{Settled}
+use Rattle.samples.specs.Laid.{Laid}
+use Rattle.values.specs.Lines.{Line}
+use Rattle.values.specs.Values.{Settled}
 use Rattle.example.specs.Rows.{valuesBy}
 use Rattle.outcomes.specs.declared.Shown.{Shown}
 use Rattle.example.specs.Shown.{resultOf, roomOf}

@@ -1,10 +1,3 @@
-pub mod Bodies
-pub mod Laid
-pub mod Samples
-pub mod Lines
-pub mod Binding
-pub mod Spelling
-pub mod Values
 pub mod Rows
 pub mod Shown
 pub mod Fillings

@@ -6,14 +6,14 @@ use lib.ListN.{length}
 use Rattle.language.specs.Limits.{desk}
 use Rattle.language.specs.Trees.{Conj, Var}
 use Rattle.meaning.specs.Values.{joined, numbers}
-use Rattle.example.specs.Laid.{Laid}
-use Rattle.example.specs.Lines.{Named, Line}
-use Rattle.example.specs.declared.bindings.Variable.{Variable}
-use Rattle.example.specs.declared.bindings.Variable.the-variants.{Term, Run, Function}
-use Rattle.example.specs.declared.values.Sort.{Sort}
-use Rattle.example.specs.declared.values.Sort.the-variants.{Terms, Runs, Functions}
-use Rattle.example.specs.declared.values.Row.{Row}
-use Rattle.example.specs.Values.{Settled, valueWords}
+use Rattle.samples.specs.Laid.{Laid}
+use Rattle.values.specs.Lines.{Named, Line}
+use Rattle.values.specs.declared.Variable.{Variable}
+use Rattle.values.specs.declared.Variable.the-variants.{Term, Run, Function}
+use Rattle.example.specs.declared.sorts.Sort.{Sort}
+use Rattle.example.specs.declared.sorts.Sort.the-variants.{Terms, Runs, Functions}
+use Rattle.example.specs.declared.sorts.Row.{Row}
+use Rattle.values.specs.Values.{Settled, valueWords}
 
 -- the variable of a kind with a number
 abbrev pub numberedOf : Sort → ℕ → Variable

@@ -1,34 +1,32 @@
-// The example of a line, written as a filling. What a line says of its variables, the sample of an expression and the values that follow are
-// modules of this crate alone: no other call rests on them.
-mod bindings;
-mod samples;
-mod values;
+// The example of a line, written as a filling: a table of offsets, and the values of the variables.
+mod sorts;
 
 ghost use Prim.Native.Nat.{_<_, _≤_};
 ghost use lib.ListN.{length};
 ghost use mathlib.Core.Path.{_≡_};
 ghost use Rattle.language.specs.Limits.{desk};
 ghost use Rattle.outcomes.specs.Numbers.{shownNumbers};
+ghost use Rattle.values.specs.Values.{SettledLine};
 ghost use Rattle.example.specs.Exhibits.{toldExhibits};
-ghost use Rattle.example.specs.Answers.{Ranged, Answered, WordsShown, PartShown, AnswerShown};
+ghost use Rattle.example.specs.Answers.{Ranged, Answered, LineIn, WordsShown, PartShown, AnswerShown};
 ghost use Rattle.example.specs.Fillings.{FillingLength, TableWritten, ValuesWritten, LineShown};
 use language::Refusal;
 use language::limits::FILLING;
+use language::wide;
 use outcomes::Outcome;
 use outcomes::Shown;
 use samples::put;
 use solver::solve;
-use values::Sort;
-use values::short;
-use values::values_len;
-use values::write_starts;
-use values::write_values;
-use waiting::wide;
+use sorts::Sort;
+use sorts::short;
+use sorts::values_len;
+use sorts::write_starts;
+use sorts::write_values;
 use words::word;
 
 // How many words the filling has.
 fn filling_len(k: &[u16], terms: usize, hedges: usize, functions: usize) -> usize
-    requires { ⌜ (length (now k) ≤ 65536) × (terms ≤ desk .each) × (hedges ≤ desk .each) × (functions ≤ desk .each) ⌝ }
+    requires { ⌜ (length (now k) ≤ 65536) × (terms ≤ desk .each) × (hedges ≤ desk .each) × (functions ≤ desk .each) × SettledLine (now k) ⌝ }
     ensures { λ r. ⌜ FillingLength (now (k .entry)) terms hedges functions r ⌝ }
 {
     let a = values_len(k, Sort::Terms, terms);
@@ -39,7 +37,7 @@ fn filling_len(k: &[u16], terms: usize, hedges: usize, functions: usize) -> usiz
 
 // Writes the number of variables and the offsets of their values.
 fn write_table(k: &[u16], terms: usize, hedges: usize, functions: usize, room: &mut [u16]) -> usize
-    requires { ⌜ (length (now k) ≤ 65536) × (terms ≤ desk .each) × (hedges ≤ desk .each) × (functions ≤ desk .each) ⌝ }
+    requires { ⌜ (length (now k) ≤ 65536) × (terms ≤ desk .each) × (hedges ≤ desk .each) × (functions ≤ desk .each) × SettledLine (now k) ⌝ }
     ensures { λ e. ⌜ TableWritten (now (k .entry)) terms hedges functions (now (room .entry)) 0 (now (room .exit)) e ⌝ }
 {
     let n = terms + hedges + functions;
@@ -59,7 +57,7 @@ fn write_all(
     room: &mut [u16],
     at: usize,
 ) -> usize
-    requires { ⌜ (terms ≤ desk .each) × (hedges ≤ desk .each) × (functions ≤ desk .each) ⌝ }
+    requires { ⌜ (terms ≤ desk .each) × (hedges ≤ desk .each) × (functions ≤ desk .each) × SettledLine (now k) ⌝ }
     ensures { λ e. ⌜ ValuesWritten (now (k .entry)) terms hedges functions (now (room .entry)) at (now (room .exit)) e ⌝ }
 {
     let s = write_values(k, Sort::Terms, terms, room, at);
@@ -69,7 +67,7 @@ fn write_all(
 
 // The example of a line, where it has room.
 fn fill_line(k: &[u16], terms: usize, hedges: usize, functions: usize, room: &mut [u16]) -> Shown
-    requires { ⌜ (length (now k) ≤ 65536) × (terms ≤ desk .each) × (hedges ≤ desk .each) × (functions ≤ desk .each) ⌝ }
+    requires { ⌜ (length (now k) ≤ 65536) × (terms ≤ desk .each) × (hedges ≤ desk .each) × (functions ≤ desk .each) × SettledLine (now k) ⌝ }
     ensures { λ r. ⌜ LineShown (now (k .entry)) terms hedges functions (now (room .entry)) (now (room .exit)) r ⌝ }
 {
     let n = filling_len(k, terms, hedges, functions);
@@ -86,7 +84,7 @@ fn fill_line(k: &[u16], terms: usize, hedges: usize, functions: usize, room: &mu
 
 // The example of the line that these words are, with the variables that a question declares.
 fn show_words(question: &[u16], k: &[u16], room: &mut [u16]) -> Shown
-    requires { ⌜ Ranged (now question) × (length (now k) ≤ 65536) ⌝ }
+    requires { ⌜ Ranged (now question) × (length (now k) ≤ 65536) × SettledLine (now k) ⌝ }
     ensures { λ r. ⌜ WordsShown (now (question .entry)) (now (k .entry)) (now (room .entry)) (now (room .exit)) r ⌝ }
 {
     let terms = wide(question[1]);
@@ -97,7 +95,7 @@ fn show_words(question: &[u16], k: &[u16], room: &mut [u16]) -> Shown
 
 // The example of the line that stands in a part of an answer, its mark first.
 fn show_part(question: &[u16], answer: &[u16], from: usize, to: usize, room: &mut [u16]) -> Shown
-    requires { ⌜ Ranged (now question) × (from < to) × (to ≤ length (now answer)) × (to ≤ 65536) ⌝ }
+    requires { ⌜ Ranged (now question) × (from < to) × (to ≤ length (now answer)) × (to ≤ 65536) × LineIn (now answer) from to ⌝ }
     ensures { λ r. ⌜ PartShown (now (question .entry)) (now (answer .entry)) from to (now (room .entry)) (now (room .exit)) r ⌝ }
 {
     let mark = word(answer, from);

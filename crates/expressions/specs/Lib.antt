@@ -1,6 +1,2 @@
 pub mod Passing
 pub mod Standing
-pub mod Charted
-pub mod Loose
-pub mod Rows
-pub mod Walks

@@ -10,7 +10,7 @@ use Rattle.language.specs.Fine.{fineExpr}
 use Rattle.rules.specs.Looks.{isEps}
 use Rattle.rules.specs.Expressions.{nullable}
 use Rattle.expressions.specs.declared.Part.{Part}
-use Rattle.expressions.specs.Passing.{reach, partAt}
+use Rattle.expressions.specs.Passing.{partAt}
 
 -- R stands in k at `at`, followed by `beyond`
 pub record Here (k : List ℕ) (at : ℕ) (R : Expr) (beyond : List ℕ) : Type 0 where
@@ -29,10 +29,3 @@ pub record Parted (k : List ℕ) (at : ℕ) (p : Part) : Type 0 where
   pub within : at ≤ length k → p .end ≤ length k
   pub is : p ≡ partAt k at
   pub each : (R : Expr) (beyond : List ℕ) → Here k at R beyond → PartOf at R p
-
--- e is the place after whatever stands in k at `at`
-pub record Past (k : List ℕ) (at e : ℕ) : Type 0 where
-  pub after : at ≤ e
-  pub within : at ≤ length k → e ≤ length k
-  pub is : e ≡ at + reach 1 (drop at k)
-  pub each : (R : Expr) (beyond : List ℕ) → Here k at R beyond → e ≡ at + length (exprWords R)

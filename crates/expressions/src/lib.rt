@@ -1,31 +1,13 @@
-// Expressions standing in words: where one ends and whether it is nullable, the monomials of its linear form.
-mod adding;
-mod chart;
-pub mod monomials;
-
-pub use monomials::size_monomials;
-pub use monomials::write_monomials;
-ghost use mathlib.Core.Path.{_≡_};
-ghost use mathlib.Core.Bool.{_&&_, _||_};
+// Expressions standing in words: where one ends, and whether it is nullable.
 ghost use Rattle.expressions.specs.Standing.{Parted};
+use bools::and;
+use bools::or;
 
 // Of an expression in the words: the place after it, whether it is nullable, whether it is eps.
 pub struct Part {
     pub end: usize,
     pub null: bool,
     pub bare: bool,
-}
-
-pub(crate) fn both(a: bool, b: bool) -> bool
-    ensures { λ r. ⌜ r ≡ (a && b) ⌝ }
-{
-    if a { b } else { false }
-}
-
-pub(crate) fn either(a: bool, b: bool) -> bool
-    ensures { λ r. ⌜ r ≡ (a || b) ⌝ }
-{
-    if a { true } else { b }
 }
 
 // Passes the expression at a place.
@@ -66,14 +48,14 @@ pub fn pass(k: &[u16], at: usize) -> Part
     let b = pass(k, mid);
     let end = b.end;
     if x == 7001 {
-        let null = both(a.null, b.null);
+        let null = and(a.null, b.null);
         return Part {
             end,
             null,
             bare: false,
         };
     }
-    let null = either(a.null, b.null);
+    let null = or(a.null, b.null);
     Part {
         end,
         null,

@@ -1,27 +1,26 @@
 -- What the words of a tree become are the words of the tree filled in.
-use Prim.Native.Nat.{ℕ, suc, _+_, _<_, _≤_}
-use mathlib.Core.Path.{_≡_, refl, sym, ap, subst, _∙_}
-use mathlib.Core.Bool.{Bool, true, false, _&&_}
+use Prim.Native.Nat.{ℕ, _+_}
+use mathlib.Core.Path.{_≡_, refl, sym, ap, _∙_}
+use mathlib.Core.Bool.{true, _&&_}
 use mathlib.Core.List.{List, [], _∷_, _++_, append-assoc, append-nil}
 use native.Mathlib.Omega.{arith}
 use borrow.Author.Tests.{ltb-true}
-use lib.ListN.{length, getD, take, length-append}
+use lib.ListN.{getD, take}
 use Rattle.language.specs.declared.Kind.{Kind}
-use Rattle.language.specs.declared.Kind.the-variants.{End, Term, Run, Symbol, Function, Equation, Membership, Eps, Cat, Alt, Star, Other}
-use Rattle.language.specs.declared.Sym.{Sym}
+use Rattle.language.specs.declared.Kind.the-variants.{End, Term, Run, Symbol, Function, Eps, Cat, Alt, Star}
 use Rattle.language.specs.Limits.{desk}
 use Rattle.language.specs.Kinds.{kindOf}
-use Rattle.language.specs.Trees.{Functor, symbol, fvar, Hedge, ε, tvar, hvar, node, Expr, eps, cat, alt, star, over, Literal, eqn, mem, Counts}
-use Rattle.language.specs.Writing.{functorWord, hedgeWords, exprWords, literalWords}
-use Rattle.language.specs.Fine.{fineFunctor, fineHedge, fineExpr, fineLiteral}
-use Rattle.language.specs.Question.{declaredF, declared, declaredL}
-use Rattle.language.proofs.Words.{kind-end, kind-term, kind-run, kind-symbol, kind-function, kind-equation, kind-membership, kind-eps, kind-cat, kind-alt, kind-star}
+use Rattle.language.specs.Trees.{Functor, symbol, fvar, Hedge, ε, tvar, hvar, node, Expr, eps, cat, alt, star, over, Counts}
+use Rattle.language.specs.Writing.{functorWord, hedgeWords, exprWords}
+use Rattle.language.specs.Fine.{fineFunctor, fineHedge, fineExpr}
+use Rattle.language.specs.Question.{declaredF, declared}
+use Rattle.language.proofs.Words.{kind-end, kind-term, kind-run, kind-symbol, kind-function, kind-eps, kind-cat, kind-alt, kind-star}
 use Rattle.language.proofs.Bools.{both-true}
 use Rattle.meaning.specs.Complete.{Complete, nil, tree, _·_, completeWords}
 use Rattle.meaning.specs.Meaning.{Filling, fillF, fill}
-use Rattle.meaning.specs.Values.{aTerm, aName, fits, variables, rootOf, childrenOf, filling}
-use Rattle.filling.specs.Showing.{bodyAt, nameAt, wordOn, filled}
-use Rattle.filling.proofs.Values.{Value, Values, topWords, top-end, body-words, name-words}
+use Rattle.meaning.specs.Values.{aTerm, aName, fits, rootOf, childrenOf, filling}
+use Rattle.filling.specs.Showing.{wordOn, filled}
+use Rattle.filling.proofs.Values.{Values, topWords, body-words, name-words}
 
 -- two in a row
 pub words-in-row : (g k : Complete) → completeWords (g · k) ≡ topWords g ++ completeWords k

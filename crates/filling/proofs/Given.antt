@@ -1,5 +1,5 @@
 -- What is known of a filling that is not refused: each of its values stands in its words, and has its form.
-use Prim.Native.Nat.{ℕ, zero, suc, _+_, _-_, _<_, _≤_}
+use Prim.Native.Nat.{ℕ, zero, suc, _+_, _<_, _≤_}
 use mathlib.Core.Path.{_≡_, refl, sym, ap, subst, _∙_}
 use mathlib.Core.Bool.{Bool, true, false, _&&_}
 use mathlib.Core.List.{List, [], _∷_}
@@ -12,7 +12,6 @@ use Rattle.language.specs.declared.Refusal.{Refusal}
 use Rattle.language.specs.declared.Refusal.the-variants.{FillingLayout, FillingValue}
 use Rattle.language.specs.Limits.{desk}
 use Rattle.language.specs.Trees.{Hedge, Counts}
-use Rattle.language.specs.Writing.{hedgeWords}
 use Rattle.language.specs.Reading.{Got, got, stop, readHedge}
 use Rattle.language.specs.Question.{laidOut, parts, declared}
 use Rattle.language.specs.Between.{between}
@@ -20,12 +19,12 @@ use Rattle.language.proofs.Bools.{both-true}
 use Rattle.language.proofs.Offsets.{laid-length, part-is, table-part}
 use Rattle.meaning.specs.Complete.{Complete, nil, completeWords}
 use Rattle.meaning.specs.Meaning.{Filling}
-use Rattle.meaning.specs.Values.{complete, Form, aTerm, aName, fits, fitting, forms, variables, valueOf, withValue, valuesOf, filling, Given, gives, refuses, readFilling}
+use Rattle.meaning.specs.Values.{complete, Form, aTerm, fits, fitting, forms, variables, valueOf, withValue, valuesOf, filling, Given, gives, refuses, readFilling}
 use Rattle.filling.specs.Showing.{offset, ending}
-use Rattle.filling.specs.Checking.{formAt}
-use Rattle.filling.proofs.Plain.{its-words, complete-words}
-use Rattle.filling.proofs.Forms.{at-term, at-name, forms-length, form-is}
-use Rattle.filling.proofs.Values.{Value, Values}
+use Rattle.given.specs.Checking.{formAt}
+use Rattle.given.proofs.Plain.{its-words, complete-words}
+use Rattle.given.proofs.Forms.{at-term, at-name, forms-length, form-is}
+use Rattle.filling.proofs.Values.{Values}
 
 -- ---- one value
 

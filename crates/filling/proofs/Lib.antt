@@ -1,12 +1,8 @@
 pub mod Terms
 pub mod Lookups
 pub mod Filled
-pub mod Stores
 pub mod Writes
 pub mod Values
 pub mod Becomes
-pub mod Plain
-pub mod Forms
-pub mod Readings
 pub mod Given
 pub mod Determined

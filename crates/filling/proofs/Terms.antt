@@ -1,19 +1,18 @@
 -- Finding the end of a term without variables, one word at a time.
-use Prim.Native.Nat.{ℕ, suc, _+_, _-_, _<_, _≤_}
+use Prim.Native.Nat.{ℕ, _+_, _-_, _<_, _≤_}
 use mathlib.Core.Path.{_≡_, refl, sym, ap, _∙_}
 use mathlib.Core.List.{List, [], _∷_}
 use mathlib.Core.Option.{Option, none, some}
 use native.Mathlib.Numerals.{add-one}
 use native.Mathlib.Omega.{arith}
-use lib.Dec.{eqb}
 use lib.ListN.{length, getD, drop, drop-of-length-le}
 use lib.Seq.{drop-cons, drop-drop}
 use borrow.Author.Tests.{eq-eqb, ne-eqb}
 use Rattle.language.specs.declared.Kind.{Kind}
-use Rattle.language.specs.declared.Kind.the-variants.{End, Term, Run, Symbol, Function, Equation, Membership, Eps, Cat, Alt, Star, Other}
+use Rattle.language.specs.declared.Kind.the-variants.{End, Symbol}
 use Rattle.language.specs.declared.Sym.{Sym}
 use Rattle.language.specs.Limits.{desk}
-use Rattle.language.specs.Kinds.{pick, kindOf}
+use Rattle.language.specs.Kinds.{kindOf}
 use Rattle.language.proofs.Arms.{Among, each-kind}
 use Rattle.filling.specs.Showing.{more, closesOn, closes, orOne, termSize, TermEnd}
 

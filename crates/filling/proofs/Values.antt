@@ -1,12 +1,12 @@
 -- The values of a filling in its words, and that every declared word is shown.
 use Prim.Native.Nat.{ℕ, suc, _+_, _-_, _<_, _≤_}
-use mathlib.Core.Path.{_≡_, refl, sym, ap, subst, _∙_}
-use mathlib.Core.Bool.{Bool, true, false, _&&_}
+use mathlib.Core.Path.{_≡_, refl, sym, ap, _∙_}
+use mathlib.Core.Bool.{true}
 use mathlib.Core.List.{List, [], _∷_, _++_, append-assoc}
 use native.Mathlib.Omega.{arith}
 use borrow.Author.Tests.{ltb-true}
 use lib.ListN.{length, getD, take, drop, length-append, length-take, length-drop}
-use lib.Seq.{take-take, take-at, length-take-le}
+use lib.Seq.{take-take, take-at}
 use Rattle.language.specs.declared.Kind.{Kind}
 use Rattle.language.specs.declared.Kind.the-variants.{End, Term, Run, Symbol, Function, Equation, Membership, Eps, Cat, Alt, Star, Other}
 use Rattle.language.specs.Limits.{desk}
@@ -15,7 +15,7 @@ use Rattle.language.specs.Trees.{Counts}
 use Rattle.language.specs.Undeclared.{declaredKind, declaredWord, declaredWords}
 use Rattle.language.proofs.Bools.{both-true}
 use Rattle.meaning.specs.Complete.{Complete, nil, tree, completeWords}
-use Rattle.meaning.specs.Values.{Form, aTerm, aHedge, aName, fits, variables, rootOf}
+use Rattle.meaning.specs.Values.{aTerm, aName, fits, variables}
 use Rattle.language.specs.Between.{between}
 use Rattle.filling.specs.Showing.{offset, ending, bodyAt, nameAt, HasValue, ShowsOn, Shows}
 

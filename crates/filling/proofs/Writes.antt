@@ -1,14 +1,16 @@
 -- Writing one value after another writes what the words become.
 use Prim.Native.Nat.{ℕ, _+_, _<_, _≤_}
 use mathlib.Core.Path.{_≡_, refl, sym, ap, _∙_}
-use mathlib.Core.List.{List, [], _++_}
+use mathlib.Core.List.{List, []}
 use native.Mathlib.Nat.{add-zero}
 use native.Mathlib.Omega.{arith}
 use lib.ListN.{length, getD, drop, length-append, length-drop, drop-of-length-le}
-use lib.Seq.{sets, length-sets, drop-drop}
+use lib.Seq.{sets, slice, length-sets, drop-drop}
 use Rattle.language.specs.Limits.{desk}
 use Rattle.language.specs.Kinds.{kindOf}
 use Rattle.language.proofs.Stores.{sets-append}
+use Rattle.slices.specs.Written.{Wrote}
+use Rattle.slices.proofs.Parts.{part-whole}
 use Rattle.filling.specs.Showing.{shown, stepOn, filled, Written}
 use Rattle.filling.proofs.Filled.{First, first-at}
 
@@ -27,18 +29,20 @@ module _ (t h : ℕ) (fs : List ℕ) where
     it : {k : ℕ} → k ≡ stepOn (length v) (kindOf desk (getD ws at 0)) → First t h fs (drop at ws) v k
     it g = rw (g, e) (first-at t h fs ws at (length (shown t h fs (drop at ws))) p refl)
 
-    pub writing-fits : start + length (filled t h fs ws) ≤ length room → to + length v ≤ length room′
-    writing-fits q = omega (arith, c .place, c .len, ap length (it refl .rest), length-append v (filled t h fs (drop (stepOn (length v) (kindOf desk (getD ws at 0))) (drop at ws))))
+    pub writing-fits : start + length (filled t h fs ws) ≤ length room → to + length (slice 0 (length v) v) ≤ length room′
+    writing-fits q = omega (arith, ap length (part-whole v), c .place, c .len, ap length (it refl .rest), length-append v (filled t h fs (drop (stepOn (length v) (kindOf desk (getD ws at 0))) (drop at ws))))
 
-    pub writing-on : {k : ℕ} {room″ : List ℕ} → room″ ≡ sets room′ to v → k ≡ stepOn (length v) (kindOf desk (getD ws at 0)) → Writing ws room start (at + k) (to + length v) room″ × (0 < k)
-    writing-on {k} {room″} w g =
+    pub writing-on : {k to″ : ℕ} {room″ : List ℕ} → Wrote room′ to (slice 0 (length v) v) room″ to″ → k ≡ stepOn (length v) (kindOf desk (getD ws at 0)) → Writing ws room start (at + k) to″ room″ × (0 < k)
+    writing-on {k} {to″} {room″} o g =
         let f = it g in
+        let w : room″ ≡ sets room′ to v = o .list ∙ ap (sets room′ to) (part-whole v) in
+        let z : to″ ≡ to + length v = o .end ∙ ap (λ l. to + length l) (part-whole v) in
         let d : filled t h fs (drop k (drop at ws)) ≡ filled t h fs (drop (at + k) ws) = ap (filled t h fs) (drop-drop k at ws) in (
           record {
             inside = omega (arith, f .inside, length-drop at ws, p);
             len = ap length w ∙ length-sets room′ to v ∙ c .len;
-            place = rw (← d) (omega (arith, c .place, ap length (f .rest), length-append v (filled t h fs (drop k (drop at ws)))));
-            same = rw (← d, w) (sym (sets-append v (filled t h fs (drop k (drop at ws))) room′ to) ∙ ap (sets room′ to) (f .rest) ∙ c .same);
+            place = rw (← d) (omega (arith, z, c .place, ap length (f .rest), length-append v (filled t h fs (drop k (drop at ws)))));
+            same = rw (← d, w, z) (sym (sets-append v (filled t h fs (drop k (drop at ws))) room′ to) ∙ ap (sets room′ to) (f .rest) ∙ c .same);
           },
           f .on,
         )

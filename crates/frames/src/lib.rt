@@ -4,6 +4,7 @@ ghost use Prim.Native.Nat.{_<_, _≤_, _+_};
 ghost use lib.ListN.{length};
 ghost use lib.Seq.{sets};
 ghost use Rattle.frames.specs.Frames.{frame, frameOf, framedLength};
+use language::wide;
 
 // How many words a frame has.
 pub const FRAME: usize = 1;
@@ -14,12 +15,6 @@ pub fn write_frame(out: &mut [u16], at: usize, n: usize)
     ensures { λ _. ⌜ now (out .exit) ≡ sets (now (out .entry)) at (frameOf n) ⌝ }
 {
     out[at] = n as u16;
-}
-
-fn wide(x: u16) -> usize
-    ensures { λ r. ⌜ r ≡ x ⌝ }
-{
-    x as usize
 }
 
 // How many words stand after the frame at a place.

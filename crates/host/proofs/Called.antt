@@ -9,7 +9,7 @@ use Rattle.language.specs.Limits.{desk}
 use Rattle.rules.specs.Answer.{Solving, answered, unread, given-up, solving}
 use Rattle.outcomes.specs.Numbers.{SolveNumbers}
 use Rattle.solver.specs.Leaves.{toldLeaves}
-use Rattle.host.specs.Bytes.{bytesOf, wordsIn, fitting}
+use Rattle.word_bytes.specs.Bytes.{bytesOf, wordsIn, fitting}
 use Rattle.host.specs.Host.{solvingBytes, solveNumber}
 use Rattle.host.proofs.Refusals.{Numbered, numbered}
 use Rattle.host.proofs.Solves.{Left, Own, same, kept, wrote, bytes-left}

@@ -11,7 +11,7 @@ use borrow.Author.Tests.{leb-false, ltb-false, lt-leb, le-ltb}
 use Rattle.language.specs.declared.Refusal.the-variants.{ShortSlice, QuestionLength, FillingLayout, LongExample, OpenLine}
 use Rattle.language.specs.Kinds.{pick}
 use Rattle.language.specs.Limits.{desk}
-use Rattle.language.specs.Trees.{Conj, Counts, Question}
+use Rattle.language.specs.Trees.{Conj, Counts}
 use Rattle.language.specs.Question.{Asked, asks, refuses, readQuestion, lengthFits, laidOut, rises, offsets, countsOf}
 use Rattle.meaning.specs.Values.{Given, readFilling, variables, fillingWords}
 use Rattle.meaning.specs.Values as values
@@ -20,7 +20,8 @@ use Rattle.rules.specs.Example.{example}
 use Rattle.rules.specs.Answer.{Solving, answered, unread, given-up, solvingOf, solving}
 use Rattle.rules.specs.Calls.{Trying, tryingWith, tryingOf, trying, Showing, shows, denied, lineAt, fitted, shown, showingOf, showing}
 use Rattle.rules.specs.Calls as calls
-use Rattle.host.specs.Bytes.{fitting, used}
+use Rattle.word_bytes.specs.Bytes.{fitting}
+use Rattle.host.specs.Numbers.{used}
 
 and-false : (b : Bool) → (b && false) ≡ false
 and-false true = refl

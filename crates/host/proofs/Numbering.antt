@@ -1,14 +1,22 @@
 -- The host's number of a refusal is the refusal's, and any other is 100 and the value.
-use Prim.Native.Nat.{ℕ, _+_}
+use Prim.Native.Nat.{ℕ, _+_, _≤_, _<_}
 use mathlib.Core.Path.{_≡_, ap, _∙_}
 use native.Mathlib.Omega.{arith}
-use borrow.Author.Tests.{eq-eqb, ne-eqb}
+use borrow.Author.Tests.{eq-eqb, ne-eqb, le-leb, lt-leb}
 use Rattle.language.specs.Limits.{desk}
 use Rattle.language.specs.declared.Refusal.{Refusal}
 use Rattle.language.specs.Numbers.{numberOf}
-use Rattle.host.specs.Bytes.{used}
-use Rattle.host.specs.Numbers.{toldBy}
+use Rattle.host.specs.Numbers.{used, toldBy}
 use Rattle.host.proofs.Refusals.{each-number}
+
+module _ (most lent : ℕ) where
+  pub used-all : lent ≤ most → used most lent ≡ lent
+  unfolding used
+  used-all h = simp (le-leb _ _ h)
+
+  pub used-most : most < lent → used most lent ≡ most
+  unfolding used
+  used-most h = simp (lt-leb _ _ h)
 
 module _ (refusal value : ℕ) where
   pub told-value : refusal ≡ 0 → toldBy refusal value ≡ 100 + used (desk .filling) value

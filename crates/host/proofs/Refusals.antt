@@ -8,9 +8,9 @@ use Rattle.language.specs.declared.Refusal.{Refusal}
 use Rattle.language.specs.declared.Refusal.the-variants.{ShortSlice, QuestionLength, CountRange, BadOffset, NotLiterals, Undeclared, LongResult, LongWaiting, LineRoom, StepLimit, FillingLayout, FillingValue, LongLiteral, NoSuchLine, OpenLine, LongExample}
 use Rattle.language.specs.Limits.{Limits}
 use Rattle.language.specs.Numbers.{numberOf}
-use Rattle.language.specs.Trees.{Conj, Question}
+use Rattle.language.specs.Trees.{Conj}
 use Rattle.language.specs.Question.{Asked, asks, refuses, readQuestion, lengthFits, countsFit, laidOut, readAll, parts, declaredQ, countsOf, alternativesOf}
-use Rattle.rules.specs.Run.{Outcome, finished, refused, turn, lined, anyLong, waitingSize, linesFit, runFrom, run}
+use Rattle.rules.specs.Run.{Outcome, finished, refused, turn, anyLong, waitingSize, linesFit, runFrom, run}
 use Rattle.rules.specs.Reply.{Reply, nothing, results, stops}
 use Rattle.rules.specs.Step.{step}
 use Rattle.rules.specs.Answer.{Solving, answered, unread, given-up, ran, solvingOf, solving}

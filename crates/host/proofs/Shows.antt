@@ -20,11 +20,11 @@ use Rattle.rules.specs.Answer.{Solving, answered, unread, given-up, solving}
 use Rattle.rules.specs.Calls.{Showing, shows, denied, lineAt, fitted, shown, showingOf, showing}
 use Rattle.example.specs.Shown.{numbersOf, roomOf}
 use Rattle.example.specs.Exhibits.{toldExhibits}
-use Rattle.host.specs.Bytes.{bytesOf, wordsIn, fitting, used}
-use Rattle.host.specs.Numbers.{toldBy}
+use Rattle.word_bytes.specs.Bytes.{bytesOf, wordsIn, fitting}
+use Rattle.host.specs.Numbers.{used, toldBy}
 use Rattle.host.specs.Host.{showingBytes, showNumber, showLeaves}
-use Rattle.host.proofs.Pairs.{written, used-all}
-use Rattle.host.proofs.Numbering.{told-value, told-number}
+use Rattle.word_bytes.proofs.Pairs.{written}
+use Rattle.host.proofs.Numbering.{used-all, told-value, told-number}
 use Rattle.host.proofs.Fitting.{fitting-showing}
 
 -- ---- how long an example can be

@@ -1,10 +1,9 @@
 -- What the returns of desk_solve cite: by the refusal's number, how the answer's bytes are left.
-use Prim.Native.Nat.{ℕ, _*_, _/_, _%_, _≤_, _<_}
+use Prim.Native.Nat.{ℕ, _*_, _/_, _≤_, _<_}
 use mathlib.Core.Path.{_≡_, refl, ap, _∙_, sym}
 use mathlib.Core.Bool.{Bool, true, false}
 use mathlib.Core.List.{List, _++_}
 use native.Mathlib.Omega.{arith}
-use lib.Dec.{ltb}
 use lib.ListN.{length, drop}
 use lib.Seq.{sets}
 use borrow.Author.Tests.{lt-ltb, le-ltb}
@@ -12,10 +11,10 @@ use Rattle.language.specs.declared.Refusal.the-variants.{ShortSlice}
 use Rattle.language.specs.Limits.{desk}
 use Rattle.language.specs.Question.{readQuestion}
 use Rattle.rules.specs.Answer.{Solving, answered, unread, given-up, solvingOf, solving, answerWords, zeros}
-use Rattle.host.specs.Bytes.{bytesOf, wordsIn, fitting}
+use Rattle.word_bytes.specs.Bytes.{bytesOf, wordsIn, fitting}
 use Rattle.host.specs.Host.{solvingBytes, solveNumber, solveLeaves}
-use Rattle.host.proofs.Pairs.{written, odd-holds-none}
-use Rattle.host.proofs.Fitting.{fitting-solving, no-question}
+use Rattle.word_bytes.proofs.Pairs.{written}
+use Rattle.host.proofs.Fitting.{fitting-solving}
 use Rattle.host.proofs.Refusals.{Numbered}
 
 abbrev unless-short : Solving → Bool → Solving

@@ -10,8 +10,8 @@ use Rattle.rules.specs.Calls as calls
 use Rattle.outcomes.specs.declared.Tried.{Tried}
 use Rattle.outcomes.specs.Numbers.{triedNumbers}
 use Rattle.trying.specs.Outcome.{ToldOutcome}
-use Rattle.host.specs.Bytes.{wordsIn, fitting, used}
-use Rattle.host.specs.Numbers.{toldBy}
+use Rattle.word_bytes.specs.Bytes.{wordsIn, fitting}
+use Rattle.host.specs.Numbers.{used, toldBy}
 use Rattle.host.specs.Host.{tryingBytes, TryNumber}
 use Rattle.host.proofs.Fitting.{fitting-trying}
 use Rattle.host.proofs.Numbering.{told-number}

@@ -10,7 +10,7 @@ use Rattle.meaning.specs.Meaning.{MeetsQuestion}
 use Rattle.rules.specs.Answer.{Solving, answered, unread, given-up, solving, answerWords, zeros}
 use Rattle.rules.specs.Calls.{Trying, trying, Showing, shows, denied, showing}
 use Rattle.rules.specs.Calls as calls
-use Rattle.host.specs.Bytes.{wordsIn, bytesOf}
+use Rattle.word_bytes.specs.Bytes.{wordsIn, bytesOf}
 
 -- ---- desk_solve
 

@@ -1,11 +1,14 @@
 -- The numbers that the host gets, from the number and the value of what comes back from the calls on words.
 use Prim.Native.Nat.{ℕ, _+_}
-use lib.Dec.{eqb}
+use lib.Dec.{eqb, leb}
 use Rattle.language.specs.Limits.{desk}
 use Rattle.language.specs.Kinds.{pick}
 use Rattle.outcomes.specs.declared.Solved.{Solved}
 use Rattle.outcomes.specs.Numbers.{outcomeNumber}
-use Rattle.host.specs.Bytes.{used}
+
+-- of so many words lent, as many as are ever used
+unfoldable pub used : ℕ → ℕ → ℕ
+used most lent = pick (leb lent most) lent most
 
 -- the refusal's number, or 0
 abbrev pub solvedNumber : Solved → ℕ

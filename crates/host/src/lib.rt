@@ -1,17 +1,12 @@
 // The calls of the control room's host: bytes and numbers around the calls on words. The slices that a call on words is lent are arrays of
 // the desk's own, cleared at the start.
-mod bytes;
-
 ghost use Prim.Native.Nat.{_+_, _*_, _≤_};
 ghost use mathlib.Core.Path.{_≡_};
 ghost use lib.ListN.{length};
 ghost use Rattle.language.specs.Limits.{desk};
 ghost use Rattle.host.specs.Host.{solvingBytes, solveNumber, solveLeaves, tryingBytes, TryNumber, showingBytes, showNumber, showLeaves};
 ghost use Rattle.rules.specs.Calls.{showing};
-ghost use Rattle.host.specs.Bytes.{used};
-ghost use Rattle.host.specs.Numbers.{solvedNumber, toldBy};
-use bytes::take_words;
-use bytes::write_words;
+ghost use Rattle.host.specs.Numbers.{used, solvedNumber, toldBy};
 use language::limits::ANSWER_BYTES;
 use language::limits::FILLING;
 use language::limits::QUESTION;
@@ -22,6 +17,8 @@ use outcomes::shown_length;
 use outcomes::shown_number;
 use outcomes::tried_number;
 use outcomes::tried_value;
+use word_bytes::take_words;
+use word_bytes::write_words;
 
 fn wide(n: u16) -> u32
     ensures { λ r. ⌜ r ≡ n ⌝ }

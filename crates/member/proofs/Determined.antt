@@ -1,6 +1,5 @@
 -- Any two outcomes that a contract of this crate allows coincide.
-use Prim.Native.Nat.{ℕ}
-use mathlib.Core.Path.{_≡_, refl, sym, ap, _∙_}
+use mathlib.Core.Path.{_≡_, refl, sym, ap}
 use mathlib.Core.Logic.{_↔_}
 use mathlib.Core.Bool.{Bool, true, false}
 use Rattle.language.proofs.Determined.{Determined}

@@ -1,6 +1,6 @@
 -- What one more term does to the bools that keep the marks, by the word that stands there.
 use Prim.Native.Nat.{ℕ, _+_, _-_, _*_, _<_, _≤_}
-use mathlib.Core.Path.{_≡_, refl, sym, _∙_, ap}
+use mathlib.Core.Path.{_≡_, refl, _∙_, ap}
 use mathlib.Core.Bool.{Bool, true, false, _&&_, _||_}
 use mathlib.Core.List.{List}
 use native.Mathlib.Omega.{arith}
@@ -8,13 +8,13 @@ use borrow.Author.Tests.{eq-eqb, ne-eqb}
 use lib.ListN.{length, getD, set, length-set}
 use lib.Seq.{getD-set-same, getD-set-other}
 use Rattle.language.specs.declared.Sym.{Sym}
-use Rattle.language.specs.Trees.{Expr, eps, cat, alt, star, over}
-use Rattle.meaning.specs.Complete.{Complete, nil, tree}
+use Rattle.language.specs.Trees.{Expr}
+use Rattle.meaning.specs.Complete.{Complete, tree}
 use Rattle.rules.specs.Expressions.{nullable}
 use Rattle.member.specs.declared.Seen.{Seen}
 use Rattle.member.specs.declared.Step.{Step}
-use Rattle.member.specs.Marks.{Marked, mcat, malt, mstar, mover, bare, final, shift, ofTerm}
-use Rattle.member.specs.Places.{sizeE, At, sizeC, Holds, at-tree, Kept, kept-eps, kept-cat, kept-alt, kept-star, kept-over, Expression, Looked, Beside, Shifted, Accepted}
+use Rattle.member.specs.Marks.{Marked, mcat, malt, mstar, bare, final, shift, ofTerm}
+use Rattle.member.specs.Places.{sizeE, At, Holds, at-tree, Kept, kept-eps, kept-cat, kept-alt, kept-star, kept-over, Expression, Looked, Beside, Shifted, Accepted}
 use Rattle.member.proofs.Decides.{bare-shift}
 use Rattle.member.proofs.Standing.{at-lt, first, by-eps, by-cat, by-alt, by-star, by-over, m-eps, m-cat, m-alt, m-star, m-over}
 

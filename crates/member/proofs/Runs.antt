@@ -1,18 +1,17 @@
 -- What a run over the terms of a hedge keeps, and that it decides.
 use Prim.Native.Nat.{ℕ, _+_, _<_, _≤_}
-use mathlib.Core.Path.{_≡_, refl, sym, _∙_, ap}
+use mathlib.Core.Path.{_≡_, refl, _∙_}
 use mathlib.Core.Bool.{Bool, true, false, _&&_, _||_}
 use mathlib.Core.List.{List}
 use native.Mathlib.Omega.{arith}
-use lib.ListN.{length, getD}
-use Rattle.language.specs.declared.Sym.{Sym}
+use lib.ListN.{getD}
 use Rattle.language.specs.Trees.{Expr, eps, cat, alt, star, over}
-use Rattle.meaning.specs.Complete.{Complete, nil, tree}
+use Rattle.meaning.specs.Complete.{Complete}
 use Rattle.rules.specs.Expressions.{nullable}
 use Rattle.member.specs.declared.Seen.{Seen}
 use Rattle.member.specs.declared.Step.{Step}
 use Rattle.member.specs.Marks.{Marked, bare, blank, final, shift, run, accepts, ofTerm}
-use Rattle.member.specs.Places.{sizeE, At, sizeC, Holds, Kept, kept-eps, kept-cat, kept-alt, kept-star, kept-over, Expression, Hedge, Term, Looked, Skipped, Beside, Cleared, Shifted, Accepted}
+use Rattle.member.specs.Places.{sizeE, At, Holds, Kept, kept-eps, kept-cat, kept-alt, kept-star, kept-over, Expression, Hedge, Term, Looked, Skipped, Beside, Cleared, Shifted, Accepted}
 use Rattle.member.proofs.Decides.{bare-blank, bare-shift}
 use Rattle.member.proofs.Standing.{by-nil, by-tree, rest}
 use Rattle.member.proofs.Moves.{beside-refl, beside-wide, beside-trans, child}

@@ -1,9 +1,8 @@
 -- What is written in words stands there: from the words of an expression and of a complete hedge to their places.
-use Prim.Native.Nat.{ℕ, _+_, _<_, _≤_}
-use mathlib.Core.Path.{_≡_, refl, sym, _∙_, ap}
-use mathlib.Core.Logic.{_↔_}
-use mathlib.Core.Bool.{Bool, true}
-use mathlib.Core.List.{List, [], _∷_, _++_, append-assoc}
+use Prim.Native.Nat.{ℕ, _+_, _<_}
+use mathlib.Core.Path.{_≡_, _∙_, ap}
+use mathlib.Core.Bool.{Bool}
+use mathlib.Core.List.{List, _∷_, _++_, append-assoc}
 use native.Mathlib.Numerals.{add-one}
 use native.Mathlib.Omega.{arith}
 use lib.ListN.{length, getD, drop, length-drop}
@@ -13,7 +12,6 @@ use Rattle.language.specs.Trees.{Expr, eps, cat, alt, star, over}
 use Rattle.language.specs.Writing.{exprWords}
 use Rattle.language.specs.Fine.{fineExpr}
 use Rattle.meaning.specs.Complete.{Complete, nil, tree, completeWords}
-use Rattle.meaning.specs.Meaning.{Member}
 use Rattle.member.specs.Places.{sizeE, At, at-eps, at-cat, at-alt, at-star, at-over, sizeC, Holds, at-nil, at-tree, Expression, Hedge, Accepted, Stands, StandsC, Both, Decided}
 use Rattle.member.proofs.Decides.{decides}
 

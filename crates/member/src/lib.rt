@@ -7,6 +7,8 @@ ghost use lib.ListN.{length, set};
 ghost use Rattle.language.specs.Limits.{desk};
 ghost use Rattle.language.specs.Kinds.{pick};
 ghost use Rattle.member.specs.Places.{Expression, Hedge, Term, Looked, Skipped, Cleared, Shifted, Accepted, Both, Decided};
+use bools::and;
+use bools::or;
 use language::limits::QUESTION;
 
 // The place after an expression, and whether the empty hedge is in its language.
@@ -20,18 +22,6 @@ struct Step {
     pub end: usize,
     pub null: bool,
     pub fin: bool,
-}
-
-fn both(a: bool, b: bool) -> bool
-    ensures { λ r. ⌜ r ≡ (a && b) ⌝ }
-{
-    if a { b } else { false }
-}
-
-fn either(a: bool, b: bool) -> bool
-    ensures { λ r. ⌜ r ≡ (a || b) ⌝ }
-{
-    if a { true } else { b }
 }
 
 // Recursion over the expression's parts. Place and emptiness in one pass: one after the other they would cost the square.
@@ -64,12 +54,12 @@ fn look(e: &[u16], at: usize) -> Seen
     if x == 7001 {
         return Seen {
             end: b.end,
-            null: both(a.null, b.null),
+            null: and(a.null, b.null),
         };
     }
     Seen {
         end: b.end,
-        null: either(a.null, b.null),
+        null: or(a.null, b.null),
     }
 }
 
@@ -150,7 +140,7 @@ fn shift(e: &[u16], at: usize, h: &[u16], j: usize, k: &mut [bool], m: bool) -> 
     }
     if x == 7003 {
         let old = k[at];
-        let a = shift(e, at + 1, h, j, k, either(m, old));
+        let a = shift(e, at + 1, h, j, k, or(m, old));
         put(k, at, a.fin);
         return Step {
             end: a.end,
@@ -163,11 +153,11 @@ fn shift(e: &[u16], at: usize, h: &[u16], j: usize, k: &mut [bool], m: bool) -> 
         let a = shift(e, at + 1, h, j, k, m);
         put(k, at, a.fin);
         let n = a.end;
-        let b = shift(e, n, h, j, k, either(old, both(m, a.null)));
+        let b = shift(e, n, h, j, k, or(old, and(m, a.null)));
         return Step {
             end: b.end,
-            null: both(a.null, b.null),
-            fin: either(both(a.fin, b.null), b.fin),
+            null: and(a.null, b.null),
+            fin: or(and(a.fin, b.null), b.fin),
         };
     }
     let a = shift(e, at + 1, h, j, k, m);
@@ -175,8 +165,8 @@ fn shift(e: &[u16], at: usize, h: &[u16], j: usize, k: &mut [bool], m: bool) -> 
     let b = shift(e, n, h, j, k, m);
     Step {
         end: b.end,
-        null: either(a.null, b.null),
-        fin: either(a.fin, b.fin),
+        null: or(a.null, b.null),
+        fin: or(a.fin, b.fin),
     }
 }
 

@@ -1,14 +1,13 @@
 -- The tree of decisions finds the first rule at a membership.
 use mathlib.Core.Path.{_≡_, refl}
-use mathlib.Core.Bool.{Bool, true, false, not, _&&_}
+use mathlib.Core.Bool.{Bool, true, false, not, _&&_, and-true, and-false}
 use Rattle.language.specs.Kinds.{pick}
 use Rattle.language.specs.Trees.{symbol, fvar, Hedge, ε, tvar, hvar, node, Expr, eps, cat, alt, star, over, Conj, eqS}
 use Rattle.rules.specs.Looks.{empty, hasTerm, allRuns}
 use Rattle.rules.specs.Expressions.{nullable}
-use Rattle.rules.specs.Rules.{_>>=_}
 use Rattle.rules.specs.Places.{atR2, atF5, atF6, atF7, atM1, atM2, atM3, atM4, atM5, atM6, atM10, atM11, noRule}
 use Rattle.rules.specs.Ranks.{memRank}
-use Rattle.plans.proofs.Ranking.{check-on, lone-on, pick-suc, and-true, and-false, pick-not, pick-else, pick-other}
+use Rattle.plans.proofs.Ranking.{check-on, lone-on, pick-suc, pick-not, pick-else, pick-other}
 use Rattle.memberships.specs.Rank.{rankIn}
 
 runs-terms : (r : Hedge) → allRuns r ≡ not (hasTerm r)

@@ -1,7 +1,3 @@
 pub mod Decisions
 pub mod Worded
-pub mod Parts
-pub mod Plain
-pub mod Eliminating
-pub mod Dispatch
 pub mod Determined

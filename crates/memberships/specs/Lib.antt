@@ -1,3 +1,1 @@
 pub mod Rank
-pub mod Recipes
-pub mod Planned

@@ -4,6 +4,7 @@ use Rattle.language.proofs.Determined.{Determined}
 use Rattle.plans.proofs.full as full
 use Rattle.plans.proofs.few as few
 use Rattle.plans.proofs.inner as inner
+use Rattle.plans.proofs.grow as grow
 
 full-determined : Determined full.ended full.Reads.Pre full.Reads.Post
 full-determined κs a p o q e d = ap (λ z. (z, o .1)) (e ∙ sym d)
@@ -13,3 +14,6 @@ few-determined κs a p o q e d = ap (λ z. (z, o .1)) (e ∙ sym d)
 
 inner-determined : Determined inner.ended inner.Reads.Pre inner.Reads.Post
 inner-determined κs a p o q e d = ap (λ z. (z, o .1)) (e ∙ sym d)
+
+grow-determined : Determined grow.ended grow.Reads.Pre grow.Reads.Post
+grow-determined κs a p o q e d = ap (λ z. (z, o .1)) (e ∙ sym d)

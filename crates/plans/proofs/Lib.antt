@@ -1,4 +1,6 @@
 pub mod Ranking
 pub mod Places
-pub mod Determined
+pub mod Sides
 pub mod Replaced
+pub mod Planned
+pub mod Determined

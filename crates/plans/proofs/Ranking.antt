@@ -28,14 +28,6 @@ pub pick-suc : (b : Bool) (x y : ℕ) → suc (pick b x y) ≡ pick b (suc x) (s
 pick-suc true x y = refl
 pick-suc false x y = refl
 
-pub and-true : (b : Bool) → b && true ≡ b
-and-true true = refl
-and-true false = refl
-
-pub and-false : (b : Bool) → b && false ≡ false
-and-false true = refl
-and-false false = refl
-
 -- ---- a test that the rules make after another, and a tree of decisions once, whatever is picked
 
 module _ {A : Type 0} where

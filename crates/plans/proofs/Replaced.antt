@@ -1,27 +1,29 @@
 -- The words of a tree with a substitution put in are its words with words replaced, for every substitution that does to each word what the replacing does.
 use mathlib.Core.Path.{_≡_, refl, sym, ap, _∙_}
-use mathlib.Core.Bool.{Bool, true, false, _||_}
+use mathlib.Core.Bool.{Bool, true, false, _||_, or-false}
 use mathlib.Core.List.{List, [], _∷_, _++_, append-assoc}
 use mathlib.Core.Logic.{_⊎_, inl, inr}
 use Prim.Native.Nat.{ℕ, _+_, _<_, _≤_}
 use native.Mathlib.Omega.{arith}
-use lib.Dec.{eqb}
+use lib.Dec.{eqb, eqb-refl, T}
+use lib.Seq.{slice}
 use borrow.Author.Tests.{ne-eqb}
 use Rattle.language.specs.declared.TermVar.{TermVar}
 use Rattle.language.specs.declared.HedgeVar.{HedgeVar}
 use Rattle.language.specs.declared.FunVar.{FunVar}
 use Rattle.language.specs.Limits.{desk}
 use Rattle.language.specs.Kinds.{pick}
-use Rattle.language.specs.Trees.{Functor, symbol, fvar, Hedge, ε, tvar, hvar, node, Expr, eps, cat, alt, star, over, Literal, eqn, mem, Conj, hv, holds}
+use Rattle.language.specs.Trees.{Functor, symbol, fvar, Hedge, ε, tvar, hvar, node, Expr, eps, cat, alt, star, over, Literal, eqn, mem, Conj, eqX, hv, holds}
 use Rattle.language.specs.Writing.{functorWord, hedgeWords, exprWords, literalWords, conjWords}
 use Rattle.language.specs.Fine.{fineFunctor, fineHedge, fineExpr, fineLiteral, fineConj}
 use Rattle.rules.specs.Substitution.{Subst, keepT, keepH, setT, setH, setF, emptied, put, putF, putL, putC}
 use Rattle.rules.specs.Looks.{allRuns}
 use Rattle.views.specs.Looks.{bodyWords}
-use Rattle.plans.specs.Results.{replaced}
+use Rattle.plans.specs.declared.Recipe.{Recipe}
+use Rattle.plans.specs.Results.{replaced, changed}
 use Rattle.words.specs.Spans.{member}
 use Rattle.views.proofs.Words.{words-join}
-use Rattle.views.proofs.Members.{or-false, both-or, eqb-base, member-body}
+use Rattle.views.proofs.Members.{both-or, eqb-base, member-body}
 
 pub replaced-append : (old new a b : List ℕ) → replaced old new (a ++ b) ≡ replaced old new a ++ replaced old new b
 replaced-append old new [] b = refl
@@ -153,3 +155,24 @@ acts-emptied h f a = record {
     chosen : (b : Bool) (p : HedgeVar) → pick b [] ((2000 + p .0) ∷ []) ≡ bodyWords (pick b ε (keepH p))
     chosen true p = refl
     chosen false p = refl
+
+-- X ↦ F makes X to F
+pub set-self : (X : FunVar) (F : Functor) → setF X F .functor X ≡ F
+set-self X F = go (eqX X X) (eqb-refl (X .0))
+  where
+    go : (b : Bool) → T b → pick b F (fvar X) ≡ F
+    go true t = refl
+    go false t = absurd t
+
+-- ---- a part under the substitution of a recipe
+
+module _ {s : Subst} {us rs : List ℕ} (a : Acts s us rs) (k : List ℕ) (r : Recipe) (cut : ℕ) (eu : slice (r .old) (r .until) k ≡ us) (er : slice (r .new) cut k ≡ rs) where
+  put-words : (ws : List ℕ) → changed k r cut ws ≡ replaced us rs ws
+  unfolding changed
+  put-words ws = ap (λ u. replaced u (slice (r .new) cut k) ws) eu ∙ ap (λ n. replaced us n ws) er
+
+  pub put-conj : (f t : ℕ) (c : Conj) → fineConj desk c → slice f t k ≡ conjWords c → changed k r cut (slice f t k) ≡ conjWords (putC s c)
+  put-conj f t c fine e = put-words (slice f t k) ∙ ap (replaced us rs) e ∙ replaced-conj a c fine
+
+  pub put-hedge : (f t : ℕ) (h : Hedge) → fineHedge desk h → slice f t k ≡ hedgeWords h → changed k r cut (slice f t k) ≡ hedgeWords (put s h)
+  put-hedge f t h fine e = put-words (slice f t k) ∙ ap (replaced us rs) e ∙ replaced-hedge a h fine

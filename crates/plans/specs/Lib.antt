@@ -1,3 +1,4 @@
 pub mod Results
 pub mod Sizes
 pub mod Slots
+pub mod Planned

@@ -9,7 +9,7 @@ use Rattle.plans.specs.declared.Piece.{Piece}
 use Rattle.plans.specs.declared.Piece.the-variants.{Word, Copy, Put, ToCut, PutFromCut, Each}
 use Rattle.plans.specs.declared.Recipe.{Recipe}
 use Rattle.plans.specs.declared.Ways.{Ways}
-use Rattle.plans.specs.declared.Ways.the-variants.{Drop, One, Two, Cuts, Monomials}
+use Rattle.plans.specs.declared.Ways.the-variants.{Drop, One, Two, Cuts}
 use Rattle.plans.specs.declared.Plan.{Plan}
 
 -- `new` for each word that is one of `old`
@@ -46,13 +46,12 @@ piecesFrom (suc n) i k r cut = pieceWords k r cut (slotAt r i) ++ piecesFrom n (
 unfoldable pub made : List ℕ → Recipe → ℕ → List ℕ
 made k r cut = piecesFrom 12 0 k r cut
 
--- ---- the results in order; those by monomials are made elsewhere
+-- ---- the results in order
 abbrev pub waysFrom : List ℕ → Recipe → Recipe → Ways → List (List ℕ)
 waysFrom k a b Drop = []
 waysFrom k a b (One cut) = made k a cut ∷ []
 waysFrom k a b Two = made k a 0 ∷ made k b 0 ∷ []
 waysFrom k a b (Cuts cut n) = map (made k a) (places n k cut)
-waysFrom k a b Monomials = []
 
 unfoldable pub resultsOf : List ℕ → Plan → List (List ℕ)
 resultsOf k p = waysFrom k (p .first) (p .second) (p .ways)

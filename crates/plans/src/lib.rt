@@ -1,8 +1,12 @@
 // How the results of a rule are described: by parts of a conjunction's words, copied or with words replaced.
-ghost use Prim.Native.Nat.{ℕ, _-_};
+ghost use Prim.Native.Nat.{ℕ, _-_, _≤_};
 ghost use mathlib.Core.Path.{_≡_};
 ghost use lib.ListN.{length};
+ghost use Rattle.language.specs.Limits.{desk};
+ghost use Rattle.plans.specs.Sizes.{grown};
 ghost use Rattle.plans.specs.Slots.{fullRecipe, fewRecipe, forthIn, innerOf};
+use frames::FRAME;
+use language::limits::ROOM;
 
 // A piece of a result: one word; a part as it is; a part under the substitution; a part up to the cut as it is;
 // a part from the cut on under the substitution; for each word p of a part the equation p = ε.
@@ -27,13 +31,12 @@ pub struct Recipe {
     pub new: usize,
 }
 
-// The results: none; one, at a cut; two; one for each of so many cuts, element by element; one for each monomial of the literal's expression.
+// The results: none; one, at a cut; two; one for each of so many cuts, element by element.
 pub enum Ways {
     Drop,
     One(usize),
     Two,
     Cuts(usize, usize),
-    Monomials,
 }
 
 pub struct Plan {
@@ -153,4 +156,12 @@ pub fn inner(k: &[u16], from: usize, to: usize) -> Within
         from: start,
         to: end,
     }
+}
+
+// A result more, counted until a lent slice is passed.
+pub fn grow(n: usize, one: usize) -> usize
+    requires { ⌜ one ≤ desk .question ⌝ }
+    ensures { λ r. ⌜ r ≡ grown n one ⌝ }
+{
+    if n <= ROOM { n + FRAME + one } else { n }
 }

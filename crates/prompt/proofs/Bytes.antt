@@ -1,13 +1,11 @@
 -- One byte: what each test that the code makes says of it.
 use Prim.Native.Nat.{ℕ, _+_, _*_, _-_, _<_, _≤_}
 use mathlib.Core.Path.{_≡_, refl, sym, ap, ap₂, _∙_}
-use mathlib.Core.Bool.{Bool, true, false, _&&_, _||_}
+use mathlib.Core.Bool.{true, false}
 use native.Mathlib.Omega.{arith}
 use lib.Dec.{leb}
 use borrow.Author.Tests.{leb-true, lt-ltb, le-ltb, le-leb, lt-leb, eq-eqb, ne-eqb}
-use Rattle.language.specs.Kinds.{pick}
 use Rattle.language.proofs.Bools.{both-true}
-use Rattle.prompt.specs.declared.Mode.{Mode}
 use Rattle.prompt.specs.declared.Place.{Place}
 use Rattle.prompt.specs.declared.Mode.the-variants.{Between, Number, Remark, Wrong}
 use Rattle.prompt.specs.Texts.{digit, gap, longer, afterWord, outside, inRemark, after}

@@ -1,20 +1,19 @@
 -- Reading byte by byte: with what is still to come, the words, the line and the room are as they are to be.
-use Prim.Native.Nat.{ℕ, suc, _+_, _<_, _≤_, min}
+use Prim.Native.Nat.{ℕ, _+_, _<_, _≤_, min}
 use mathlib.Core.Path.{_≡_, refl, sym, ap, ap₂, subst, _∙_}
 use mathlib.Core.Bool.{Bool, true, false}
 use mathlib.Core.List.{List, [], _∷_, _++_}
 use native.Mathlib.Numerals.{add-one}
 use native.Mathlib.Omega.{arith, min-cases}
 use lib.Dec.{eqb}
-use lib.ListN.{length, getD, drop, set, length-append, drop-of-length-le}
+use lib.ListN.{length, getD, drop, length-append, drop-of-length-le}
 use lib.Seq.{sets, length-sets, drop-cons}
 use Rattle.language.specs.Kinds.{pick}
 use Rattle.language.proofs.Stores.{sets-append, set-past, sets-past}
-use Rattle.prompt.specs.declared.Text.{Text}
 use Rattle.prompt.specs.declared.Mode.{Mode}
 use Rattle.prompt.specs.declared.Place.{Place}
-use Rattle.prompt.specs.declared.Mode.the-variants.{Between, Number, Remark, Wrong}
-use Rattle.prompt.specs.Texts.{digit, next, isWrong, begins, after, ended, Reading, behind, reads, readText}
+use Rattle.prompt.specs.declared.Mode.the-variants.{Between, Number}
+use Rattle.prompt.specs.Texts.{digit, next, isWrong, begins, after, ended, behind, reads, readText}
 use Rattle.prompt.specs.Parsed.{Put, Parsed}
 
 -- ---- one byte, in the mode that the code found

@@ -17,12 +17,12 @@ use Rattle.language.specs.Question.{withConj, readAll, countsFit}
 use Rattle.language.specs.Undeclared.{declaredKind, declaredWord, declaredWords}
 use Rattle.language.proofs.Arms.{Among, each-kind}
 use Rattle.language.proofs.Walks.{passes}
-use Rattle.reader.specs.declared.Read.the-variants.{Next, Stop}
+use Rattle.trees.specs.declared.Read.the-variants.{Next, Stop}
 use Rattle.reader.specs.declared.Scan.the-variants.{Declared, Undeclared}
 use Rattle.reader.specs.declared.Header.{Header}
-use Rattle.reader.specs.Places.{placed}
+use Rattle.trees.specs.Places.{placed}
 use Rattle.reader.specs.Checking.{readable, countsIn, firstUndeclared}
-use Rattle.reader.proofs.Placing.{here}
+use Rattle.trees.proofs.Placing.{here}
 
 -- ---- conjunctions
 

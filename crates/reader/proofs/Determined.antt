@@ -1,18 +1,10 @@
 -- Any two outcomes that a contract of this crate allows coincide.
-use mathlib.Core.Path.{_≡_, sym, ap, _∙_}
+use mathlib.Core.Path.{sym, ap, _∙_}
 use Rattle.language.proofs.Determined.{Determined}
 use Rattle.outcomes.proofs.Apart.{checked-apart}
-use Rattle.reader.proofs.read_hedge as read-hedge
-use Rattle.reader.proofs.read_literal as read-literal
 use Rattle.reader.proofs.laid_out as laid-out
 use Rattle.reader.proofs.read_header as read-header
 use Rattle.reader.proofs.read_question as read-question
-
-read_hedge-determined : Determined read-hedge.ended read-hedge.Reads.Pre read-hedge.Reads.Post
-read_hedge-determined κs a p o q e d = ap (λ z. (z, o .1)) (e ∙ sym d)
-
-read_literal-determined : Determined read-literal.ended read-literal.Reads.Pre read-literal.Reads.Post
-read_literal-determined κs a p o q e d = ap (λ z. (z, o .1)) (e ∙ sym d)
 
 laid_out-determined : Determined laid-out.ended laid-out.Reads.Pre laid-out.Reads.Post
 laid_out-determined κs a p o q e d = ap (λ z. (z, o .1)) (e ∙ sym d)

@@ -1,5 +1,3 @@
-pub mod Placing
-pub mod Parts
 pub mod Checks
 pub mod Verdicts
 pub mod Answers

@@ -1,5 +1,4 @@
-pub mod Parts
-pub mod Still
+pub mod Stores
 pub mod Marking
 pub mod Replaced
 pub mod Made

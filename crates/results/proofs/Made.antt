@@ -1,19 +1,19 @@
 -- A result, piece by piece.
 use mathlib.Core.Path.{_≡_, refl, sym, ap, _∙_}
-use mathlib.Core.List.{List, [], _∷_, _++_}
+use mathlib.Core.List.{List, [], _++_}
 use Prim.Native.Nat.{ℕ, suc, _+_, _*_, _-_, _<_, _≤_}
 use native.Mathlib.Omega.{arith}
 use lib.ListN.{length, length-append}
 use lib.Seq.{slice}
 use Rattle.language.specs.Limits.{desk}
-use Rattle.plans.specs.Results.{changed, pieceWords, slotAt, piecesFrom, made}
+use Rattle.plans.specs.Results.{changed, pieceWords, slotAt, piecesFrom}
 use Rattle.plans.specs.declared.Piece.{Piece}
 use Rattle.plans.specs.declared.Piece.the-variants.{Word, Copy, Put, ToCut, PutFromCut, Each}
 use Rattle.plans.specs.declared.Slot.{Slot}
 use Rattle.plans.specs.declared.Recipe.{Recipe}
 use Rattle.results.specs.declared.replacing.Swap.{Swap}
 use Rattle.results.specs.Marked.{bare}
-use Rattle.results.proofs.Parts.{Split, part-short}
+use Rattle.slices.proofs.Parts.{Split, part-short}
 use Rattle.results.proofs.Replaced.{put-short, length-empty-each}
 
 -- the recipe of these pieces and this substitution
@@ -38,10 +38,6 @@ module _ (k : List ℕ) (r : Recipe) (cut : ℕ) where
   -- the pieces from the i-th on
   abbrev pub from : ℕ → List ℕ
   from i = piecesFrom (12 - i) i k r cut
-
-  pub made-whole : made k r cut ≡ from 0
-  unfolding made
-  made-whole = refl
 
   module _ (i : ℕ) where
     pub made-step : i < 12 → Split (from i) (pieceWords k r cut (slotAt r i)) (from (i + 1))

@@ -17,7 +17,6 @@ use Rattle.language.proofs.Words.{Is, end, term, run, symbol, function, equatio
 use Rattle.language.proofs.Arms.{Among, each-kind}
 use Rattle.words.specs.Spans.{member}
 use Rattle.results.specs.Marked.{markedBy, marked, Marked}
-use Rattle.results.specs.declared.replacing.Marks.{Marks}
 
 -- ---- what the kind of a word says of its mark
 

@@ -1,19 +1,18 @@
 -- Words replaced in a part: word by word, nothing at the end, and how long it becomes.
 use mathlib.Core.Path.{_≡_, refl, sym, ap, _∙_}
 use mathlib.Core.Bool.{Bool, true, false}
-use mathlib.Core.List.{List, [], _∷_, _++_}
-use Prim.Native.Nat.{ℕ, _+_, _*_, _-_, _<_, _≤_}
+use mathlib.Core.List.{List, [], _∷_}
+use Prim.Native.Nat.{ℕ, _+_, _*_, _<_, _≤_}
 use native.Mathlib.Omega.{arith}
 use lib.ListN.{length, getD, length-append}
 use lib.Seq.{slice}
 use Rattle.language.specs.Limits.{desk}
 use Rattle.language.specs.Kinds.{pick}
-use Rattle.plans.specs.Results.{replaced, changed, emptyEach}
+use Rattle.plans.specs.Results.{replaced, emptyEach}
 use Rattle.words.specs.Spans.{member}
-use Rattle.plans.specs.declared.Recipe.{Recipe}
-use Rattle.results.specs.Written.{Within}
+use Rattle.slices.specs.Written.{Within}
 use Rattle.results.specs.Marked.{swapped}
-use Rattle.results.proofs.Parts.{Split, part-cons, part-none, part-short}
+use Rattle.slices.proofs.Parts.{Split, part-cons, part-none, part-short}
 
 module _ (old new : List ℕ) (x : ℕ) (b : Bool) (m : b ≡ member x old) where
   pub swapped-old : b ≡ true → swapped old new x ≡ new

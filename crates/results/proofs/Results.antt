@@ -1,22 +1,22 @@
 -- Results one after the other: how they are counted, and how they stand in a row.
 use mathlib.Core.Path.{_≡_, refl, sym, subst, ap, _∙_}
 use mathlib.Core.Bool.{Bool, true, false}
-use mathlib.Core.List.{List, [], _∷_, _++_, map}
-use Prim.Native.Nat.{ℕ, zero, suc, _+_, _-_, _<_, _≤_}
+use mathlib.Core.List.{List, [], _∷_, map}
+use Prim.Native.Nat.{ℕ, suc, _-_, _<_, _≤_}
 use native.Mathlib.Omega.{arith}
 use lib.Dec.{leb}
-use lib.ListN.{length, length-append}
+use lib.ListN.{length}
 use borrow.Author.Tests.{le-leb, lt-leb}
 use Rattle.language.specs.Limits.{desk}
 use Rattle.language.specs.Kinds.{pick}
 use Rattle.plans.specs.Results.{made}
 use Rattle.words.specs.Spans.{elementEnd, places}
 use Rattle.frames.specs.Frames.{framed}
-use Rattle.plans.specs.Sizes.{Short, grown, sizedFrom, sized}
+use Rattle.plans.specs.Sizes.{Short, grown, sizedFrom}
 use Rattle.plans.specs.declared.Recipe.{Recipe}
 use Rattle.plans.specs.declared.Size.{Size}
 use Rattle.plans.specs.declared.Size.the-variants.{Fits, Over}
-use Rattle.results.proofs.Parts.{Split}
+use Rattle.slices.proofs.Parts.{Split}
 
 -- ---- counting
 

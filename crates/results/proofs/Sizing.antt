@@ -1,8 +1,8 @@
 -- What a size says: `Fits` of the words in a row and of each result, `Over` that one of them is too long, and both of the run's numbers 7 and 8.
 use mathlib.Core.Path.{_≡_, refl, sym, ap, _∙_}
 use mathlib.Core.Bool.{Bool, true, false, _||_}
-use mathlib.Core.List.{List, [], _∷_, _++_, map}
-use Prim.Native.Nat.{ℕ, suc, _+_, _<_, _≤_}
+use mathlib.Core.List.{List, [], _∷_, map}
+use Prim.Native.Nat.{ℕ, _+_, _<_, _≤_}
 use native.Mathlib.Omega.{arith}
 use native.Mathlib.Decide.{decLe}
 use lib.Dec.{leb, ltb}
@@ -14,10 +14,8 @@ use Rattle.language.specs.Trees.{Conj}
 use Rattle.language.specs.Writing.{conjWords}
 use Rattle.rules.specs.Run.{size, anyLong, waitingSize}
 use Rattle.frames.specs.Frames.{framed}
-use Rattle.plans.specs.Sizes.{Short, grown, sizedFrom, sized}
-use Rattle.plans.specs.declared.Size.{Size}
+use Rattle.plans.specs.Sizes.{Short, grown, sizedFrom, sized, Ready}
 use Rattle.plans.specs.declared.Size.the-variants.{Fits, Over}
-use Rattle.results.specs.Written.{Ready}
 
 -- whether some result is too long
 abbrev pub tooLong : List (List ℕ) → Bool
@@ -120,13 +118,3 @@ module _ (ks : List Conj) (ws : List (List ℕ)) (e : ws ≡ map conjWords ks) w
 
   pub fits-anyLong : (m : ℕ) → sized ws ≡ Fits m → anyLong desk ks ≡ false
   fits-anyLong m s = words-long ks ∙ ap tooLong (sym e) ∙ short-not-long ws (sized-fits ws m s .short)
-
-  pub anyLong-over : anyLong desk ks ≡ true → sized ws ≡ Over
-  anyLong-over h = go (sized ws) refl
-    where
-      go : (s : Size) → sized ws ≡ s → s ≡ Over
-      go Over f = refl
-      go (Fits m) f = absurd (let y : true ≡ false = sym h ∙ fits-anyLong m f in let z : _≡_ {A = ℕ} 0 1 = cc in omega arith)
-
-  pub waiting-framed : waitingSize ks ≡ length (framed ws)
-  waiting-framed = words-waiting ks ∙ ap (λ l. length (framed l)) (sym e)

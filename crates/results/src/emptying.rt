@@ -4,8 +4,8 @@ ghost use mathlib.Core.List.{[], _∷_};
 ghost use lib.ListN.{length};
 ghost use lib.Seq.{slice};
 ghost use Rattle.plans.specs.Results.{emptyEach};
-ghost use Rattle.results.specs.Written.{Wrote};
-use super::copying::within;
+ghost use Rattle.slices.specs.Written.{Wrote};
+use slices::within;
 
 // The equation p = ε.
 fn empty_one(p: u16, out: &mut [u16], at: usize) -> usize

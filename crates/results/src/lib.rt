@@ -1,7 +1,6 @@
 // A plan's results in words: how long they are together, and writing them in a row, each in its frame.
-pub mod copying;
 mod emptying;
-pub mod making;
+mod making;
 mod replacing;
 
 ghost use Prim.Native.Nat.{_≤_};
@@ -12,26 +11,17 @@ ghost use Rattle.language.specs.Limits.{desk};
 ghost use Rattle.plans.specs.Results.{made, resultsOf};
 ghost use Rattle.words.specs.Spans.{places};
 ghost use Rattle.frames.specs.Frames.{framed};
-ghost use Rattle.plans.specs.Sizes.{grown, sizedFrom, sized};
-ghost use Rattle.results.specs.Written.{Wrote, Ready};
-use frames::FRAME;
+ghost use Rattle.plans.specs.Sizes.{sizedFrom, sized, Ready};
+ghost use Rattle.slices.specs.Written.{Wrote};
 use language::limits::QUESTION;
-use language::limits::ROOM;
 use making::made_len;
 use making::write_framed;
 use plans::Plan;
 use plans::Recipe;
 use plans::Size;
 use plans::Ways;
+use plans::grow;
 use words::element_end;
-
-// A result more, counted until a lent slice is passed.
-pub fn grow(n: usize, one: usize) -> usize
-    requires { ⌜ one ≤ desk .question ⌝ }
-    ensures { λ r. ⌜ r ≡ grown n one ⌝ }
-{
-    if n <= ROOM { n + FRAME + one } else { n }
-}
 
 // n words and those of one result.
 fn size_one(k: &[u16], r: Recipe, cut: usize, n: usize) -> Size
@@ -90,7 +80,6 @@ pub fn size_results(k: &[u16], plan: Plan) -> Size
         Ways::One(cut) => size_one(k, first, cut, 0),
         Ways::Two => size_two(k, first, second),
         Ways::Cuts(cut, n) => size_cuts(k, first, cut, n),
-        Ways::Monomials => Size::Fits(0),
     }
 }
 
@@ -130,6 +119,5 @@ pub fn write_results(k: &[u16], plan: Plan, out: &mut [u16], at: usize) -> usize
         Ways::One(cut) => write_framed(k, first, cut, out, at),
         Ways::Two => write_two(k, first, second, out, at),
         Ways::Cuts(cut, n) => write_cuts(k, first, cut, n, out, at),
-        Ways::Monomials => at,
     }
 }

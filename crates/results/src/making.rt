@@ -6,10 +6,8 @@ ghost use lib.Seq.{slice};
 ghost use Rattle.frames.specs.Frames.{inFrame};
 ghost use Rattle.language.specs.Limits.{desk};
 ghost use Rattle.plans.specs.Results.{pieceWords, made};
-ghost use Rattle.results.specs.Written.{Wrote};
+ghost use Rattle.slices.specs.Written.{Wrote};
 ghost use Rattle.results.specs.Marked.{Marked, bare};
-use super::copying::copy;
-use super::copying::part_len;
 use super::emptying::empty_each;
 use super::replacing::Marks;
 use super::replacing::Swap;
@@ -21,6 +19,8 @@ use frames::write_frame;
 use plans::Piece;
 use plans::Recipe;
 use plans::Slot;
+use slices::copy;
+use slices::part_len;
 
 fn piece_len(k: &[u16], s: Swap, cut: usize, m: Marks, p: Piece) -> usize
     requires { ⌜ Marked (slice (s .old) (s .until) (now k)) m × (length (now k) ≤ desk .question) ⌝ }
@@ -62,7 +62,7 @@ fn write_piece(
 }
 
 // How long a result is.
-pub fn made_len(k: &[u16], r: Recipe, cut: usize) -> usize
+pub(crate) fn made_len(k: &[u16], r: Recipe, cut: usize) -> usize
     requires { ⌜ length (now k) ≤ desk .question ⌝ }
     ensures { λ n. ⌜ n ≡ length (made (now (k .entry)) r cut) ⌝ }
 {
@@ -85,7 +85,7 @@ pub fn made_len(k: &[u16], r: Recipe, cut: usize) -> usize
 }
 
 // The words of a result.
-pub fn write_made(k: &[u16], r: Recipe, cut: usize, out: &mut [u16], at: usize) -> usize
+pub(crate) fn write_made(k: &[u16], r: Recipe, cut: usize, out: &mut [u16], at: usize) -> usize
     requires { ⌜ at + length (made (now k) r cut) ≤ length (now out) ⌝ }
     ensures { λ e. ⌜ Wrote (now (out .entry)) at (made (now (k .entry)) r cut) (now (out .exit)) e ⌝ }
 {

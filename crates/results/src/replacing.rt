@@ -7,15 +7,15 @@ ghost use Rattle.language.specs.Limits.{desk};
 ghost use Rattle.language.specs.Kinds.{pick};
 ghost use Rattle.plans.specs.Results.{changed};
 ghost use Rattle.words.specs.Spans.{member};
-ghost use Rattle.results.specs.Written.{Wrote};
+ghost use Rattle.slices.specs.Written.{Wrote};
 ghost use Rattle.results.specs.Marked.{marked, Marked, swapped, bare};
-use super::copying::copy;
-use super::copying::part_len;
-use super::copying::within;
 use language::Kind;
 use language::classify;
 use language::limits::PLACES;
 use language::wide;
+use slices::copy;
+use slices::part_len;
+use slices::within;
 use words::stands;
 
 // Which hedge variables a part has, where it has no other words.

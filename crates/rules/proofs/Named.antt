@@ -1,5 +1,4 @@
 -- The name of a rule's place is where the rule stands in the list, and no rule stands at `noRule`.
-use Prim.Native.Nat.{ℕ}
 use mathlib.Core.Path.{_≡_, refl}
 use mathlib.Core.List.{[], _∷_, map}
 use mathlib.Core.Option.{none, some}

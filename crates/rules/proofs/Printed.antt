@@ -6,10 +6,9 @@ use lib.ListN.{replicate}
 use Rattle.language.specs.declared.Refusal.the-variants.{QuestionLength, NotLiterals, Undeclared}
 use Rattle.language.specs.Limits.{Limits, desk, firstDesk}
 use Rattle.language.specs.Kinds.{kindOf, within}
-use Rattle.language.specs.Trees.{Conj, Counts, Literal, eqn, mem}
 use Rattle.language.specs.Reading.{reading, readHedge, readExpr, readLiteral, readConj}
 use Rattle.language.specs.Question.{laidOut, parts, lengthFits, countsFit, Asked, asks, refuses, readQuestion}
-use Rattle.rules.specs.Rules.{_>>=_, check}
+use Rattle.rules.specs.Rules.{check}
 use Rattle.rules.specs.Step.{search, step}
 use Rattle.rules.specs.Solved.{solved}
 use Rattle.rules.specs.Run.{runFrom, run}

@@ -17,6 +17,7 @@ ghost use Rattle.views.specs.Variables.{variableWord, fineVar};
 ghost use Rattle.views.specs.Standing.{LiteralAt, Conjunction};
 ghost use Rattle.solved.specs.Lone.{singleTerm, bareFunctor, lone, sideVariable, loneVariable, loneWord, aloneSide};
 ghost use Rattle.solved.specs.Ranges.{Between};
+use bools::and;
 use language::FunVar;
 use language::HedgeVar;
 use language::Name;
@@ -40,12 +41,6 @@ pub enum Lone {
     Term(TermVar),
     Run(HedgeVar),
     Blank(FunVar),
-}
-
-fn and(a: bool, b: bool) -> bool
-    ensures { λ r. ⌜ r ≡ (a && b) ⌝ }
-{
-    if a { b } else { false }
 }
 
 fn chosen(t: bool, x: Lone) -> Lone

@@ -35,13 +35,13 @@ use outcomes::Outcome;
 use outcomes::Solved;
 use reader::read_question;
 use rules::places::NO_RULE;
+use slices::clear;
+use slices::copy;
 use solved::is_solved;
 use steps::Best;
 use steps::Stepped;
 use steps::find;
 use steps::take_step;
-use waiting::clear;
-use waiting::copy;
 use waiting::lay_out;
 
 // Where the waiting conjunctions begin, the steps made, and the lines.

@@ -7,15 +7,14 @@ use mathlib.Core.List.{List, _++_}
 use mathlib.Core.Option.{some}
 use lib.ListN.{getD}
 use Rattle.language.specs.Trees.{Hedge, Expr, Literal, eqn, mem, Conj}
-use Rattle.rules.specs.Rules.{Branch}
 use Rattle.rules.specs.Places.{atM2}
 use Rattle.views.specs.declared.View.{View}
 use Rattle.views.specs.declared.Shape.{Shape}
 use Rattle.views.specs.Views.{Sees, Shows, EquationAt, MembershipAt}
 use Rattle.views.specs.Standing.{LiteralAt, SomeLiteral}
 use Rattle.views.proofs.LiteralWalks.{at-equation, at-membership}
-use Rattle.equations.specs.Planned as equation
-use Rattle.memberships.specs.Planned as membership
+use Rattle.equation_plans.specs.Planned as equation
+use Rattle.membership_plans.specs.Planned as membership
 use Rattle.steps.specs.declared.Best.{Best}
 use Rattle.steps.specs.Ranking.{sideAnswer}
 use Rattle.steps.specs.Asking.{RuleAt, SomeMembership}
@@ -81,9 +80,9 @@ module _ (k : List ℕ) (b : Best) (m : RuleAt k b) where
       })
       (m .before) (m .l) (m .behind) (m .stands) (m .answer)
 
-  pub applies-member : (s : Shape) → (getD k (b .at) 0 ≡ 5000 → ⊥)
+  pub applies-member : (s : Shape) → (b .rank ≡ atM2 → ⊥) → (getD k (b .at) 0 ≡ 5000 → ⊥)
       → ((before : Conj) (h : Hedge) (R : Expr) (behind : Conj) → LiteralAt k (b .at) before (mem h R) behind → Shows k s before h R behind) → membership.RuleApplies (b .rank) k s
-  applies-member s e f =
+  applies-member s z e f =
       at-membership k (b .at) (λ before l behind. sideAnswer (b .swap) (b .rank) (before ++ behind) l ≡ some (m .results) → membership.RuleApplies (b .rank) k s) e
       (λ before h R behind p a. record {
         h = h;
@@ -95,6 +94,7 @@ module _ (k : List ℕ) (b : Best) (m : RuleAt k b) where
           results = m .results;
           answer = a;
         };
+        other = z;
       })
       (m .before) (m .l) (m .behind) (m .stands) (m .answer)
 

@@ -16,10 +16,10 @@ use Rattle.rules.proofs.Answers.{where-some, Where, Answers, look, test, answer
 use Rattle.views.specs.Looks.{head, tail}
 use Rattle.rules.specs.Ranks.{eqnAnswer, memAnswer}
 use Rattle.frames.specs.Frames.{framed}
-use Rattle.plans.specs.Sizes.{sized, placedWords, monomialWords}
+use Rattle.plans.specs.Sizes.{sized, placedWords, monomialWords, Ready}
 use Rattle.plans.specs.declared.Size.{Size}
 use Rattle.plans.specs.declared.Size.the-variants.{Fits, Over}
-use Rattle.results.specs.Written.{Wrote, Ready}
+use Rattle.slices.specs.Written.{Wrote}
 use Rattle.results.proofs.Sizing.{fits-ready}
 use Rattle.views.specs.Standing.{LiteralAt}
 use Rattle.steps.specs.Ranking.{sideAnswer}

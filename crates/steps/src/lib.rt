@@ -16,14 +16,14 @@ ghost use Rattle.steps.specs.Ranking.{sideAnswer};
 ghost use Rattle.steps.specs.Seeking.{lesserOf, bestAt, bestOf};
 ghost use Rattle.steps.specs.Taking.{Took};
 ghost use Rattle.steps.specs.Asking.{RuleAt, SomeMembership};
-ghost use Rattle.equations.specs.Planned.{Planned};
+ghost use Rattle.plans.specs.Planned.{Planned};
 ghost use Rattle.rules.specs.Places.{atM2, noRule};
-use equations::plan::plan_equation;
-use equations::rank::rank_equation;
-use expressions::size_monomials;
-use expressions::write_monomials;
-use memberships::plan::plan_membership;
-use memberships::rank::rank_membership;
+use equation_plans::plan_equation;
+use equations::rank_equation;
+use linear_form::size_monomials;
+use linear_form::write_monomials;
+use membership_plans::plan_membership;
+use memberships::rank_membership;
 use plans::Plan;
 use plans::Size;
 use results::size_results;
@@ -130,11 +130,11 @@ pub enum Stepped {
     Done(usize),
 }
 
-// The plan of the rule of that rank at that literal.
+// The plan of the rule of that rank at that literal; M2 has none.
 fn plan_at(k: &[u16], b: Best) -> Plan
-    requires { ⌜ b .at < length (now k) ⌝ }
+    requires { ⌜ (b .at < length (now k)) × (b .rank ≡ atM2 → ⊥) ⌝ }
     requires { ⌜ RuleAt (now k) b ⌝ }
-    ensures { λ p. ⌜ ((before : Conj) (l : Literal) (behind : Conj) → LiteralAt (now (k .entry)) (b .at) before l behind → (b .rank ≡ atM2 → ⊥) → Planned (now (k .entry)) p before behind (sideAnswer (b .swap) (b .rank) (before ++ behind) l)) ⌝ }
+    ensures { λ p. ⌜ ((before : Conj) (l : Literal) (behind : Conj) → LiteralAt (now (k .entry)) (b .at) before l behind → Planned (now (k .entry)) p before behind (sideAnswer (b .swap) (b .rank) (before ++ behind) l)) ⌝ }
 {
     let at = b.at;
     let rank = b.rank;

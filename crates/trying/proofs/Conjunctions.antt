@@ -1,19 +1,16 @@
 -- A conjunction, literal by literal.
 use Prim.Native.Nat.{ℕ, suc, _+_, _-_, _<_, _≤_}
-use mathlib.Core.Path.{_≡_, refl, sym, ap, subst, _∙_}
-use mathlib.Core.Logic.{_↔_}
-use mathlib.Core.Bool.{Bool, true, false, _&&_, _||_}
+use mathlib.Core.Path.{_≡_, refl, sym, ap, _∙_}
+use mathlib.Core.Bool.{true}
 use mathlib.Core.List.{List, [], _∷_, _++_}
 use native.Mathlib.Omega.{arith}
-use lib.Dec.{ltb}
-use lib.ListN.{length, getD, take, drop, length-append, length-drop}
+use lib.ListN.{length, take, drop, length-append, length-drop}
 use lib.Seq.{take-at, drop-at, drop-drop}
-use borrow.Author.Tests.{lt-ltb, le-ltb, ltb-false}
 use Rattle.language.specs.declared.Kind.the-variants.{Equation, Membership}
 use Rattle.language.specs.Limits.{desk}
-use Rattle.language.specs.Trees.{Hedge, Expr, Literal, eqn, mem, Conj, Counts}
+use Rattle.language.specs.Trees.{Literal, eqn, mem, Conj, Counts}
 use Rattle.language.specs.Writing.{hedgeWords, exprWords, literalWords, conjWords}
-use Rattle.language.specs.Fine.{fineLiteral, fineConj}
+use Rattle.language.specs.Fine.{fineLiteral}
 use Rattle.language.specs.Question.{declared, declaredE, declaredL, declaredC}
 use Rattle.language.specs.Reading.{readLiteral}
 use Rattle.language.specs.Between.{between}
@@ -22,16 +19,16 @@ use Rattle.language.proofs.Words.{kind-equation, kind-membership}
 use Rattle.language.proofs.Laws.{literals-read}
 use Rattle.language.proofs.Undeclared.{literal-declared}
 use Rattle.meaning.specs.Complete.{completeWords}
-use Rattle.meaning.specs.Meaning.{Filling, fill, Meets, MeetsAll}
-use Rattle.rules.specs.Calls.{filledSize, anyOver}
-use Rattle.reader.specs.declared.Read.{Read}
-use Rattle.reader.specs.declared.Read.the-variants.{Next, Stop}
-use Rattle.reader.specs.Places.{placed}
+use Rattle.meaning.specs.Meaning.{Filling, fill}
+use Rattle.rules.specs.Calls.{filledSize}
+use Rattle.trees.specs.declared.Read.{Read}
+use Rattle.trees.specs.declared.Read.the-variants.{Next, Stop}
+use Rattle.trees.specs.Places.{placed}
 use Rattle.filling.specs.Showing.{filled, Shows}
 use Rattle.filling.proofs.Values.{declared-shows}
 use Rattle.filling.proofs.Becomes.{filled-word, filled-parts, expr-becomes}
 use Rattle.filling.proofs.Given.{was, has-values}
-use Rattle.trying.specs.Tasks.{LiteralEnd, ALiteral, FittingLiteral, LiteralMet, AConj, SomeConj, FittingConj}
+use Rattle.trying.specs.Tasks.{LiteralEnd, ALiteral, AConj}
 use Rattle.trying.proofs.Parts.{becomes}
 
 -- ---- where a literal ends

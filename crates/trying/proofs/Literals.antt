@@ -1,18 +1,18 @@
 -- A literal's words: where its first hedge ends.
-use Prim.Native.Nat.{ℕ, suc, _+_, _<_, _≤_}
-use mathlib.Core.Path.{_≡_, refl, sym, ap, subst, _∙_}
-use mathlib.Core.List.{List, [], _∷_, _++_}
+use Prim.Native.Nat.{ℕ, _+_}
+use mathlib.Core.Path.{_≡_, sym, ap, _∙_}
+use mathlib.Core.List.{List, _++_}
 use native.Mathlib.Omega.{arith}
 use lib.ListN.{length, drop}
 use Rattle.language.specs.Limits.{desk}
 use Rattle.language.specs.Trees.{Hedge, Literal, eqn, mem}
 use Rattle.language.specs.Writing.{hedgeWords, exprWords, literalWords}
 use Rattle.language.specs.Fine.{fineHedge, fineLiteral}
-use Rattle.language.specs.Reading.{got, readHedge}
+use Rattle.language.specs.Reading.{readHedge}
 use Rattle.language.proofs.Laws.{hedges-read}
-use Rattle.reader.specs.declared.Read.{Read}
-use Rattle.reader.specs.declared.Read.the-variants.{Next, Stop}
-use Rattle.reader.specs.Places.{placed}
+use Rattle.trees.specs.declared.Read.{Read}
+use Rattle.trees.specs.declared.Read.the-variants.{Next, Stop}
+use Rattle.trees.specs.Places.{placed}
 use Rattle.trying.specs.Tasks.{firstHedge, FirstEnd}
 
 module _ (ws : List ℕ) where

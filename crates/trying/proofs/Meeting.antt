@@ -1,25 +1,25 @@
 -- A literal: what its test needs, and what it says.
-use Prim.Native.Nat.{ℕ, suc, _+_, _-_, _<_, _≤_}
-use mathlib.Core.Path.{_≡_, refl, sym, ap, subst, _∙_}
+use Prim.Native.Nat.{ℕ, _+_, _≤_}
+use mathlib.Core.Path.{_≡_, refl, sym, ap, _∙_}
 use mathlib.Core.Logic.{_↔_}
-use mathlib.Core.Bool.{Bool, true, false, _&&_}
+use mathlib.Core.Bool.{Bool, true, false}
 use mathlib.Core.List.{List, [], _∷_, _++_, append-nil}
 use native.Mathlib.Omega.{arith}
 use lib.ListN.{length, getD, length-append}
 use Rattle.language.specs.Limits.{desk}
-use Rattle.language.specs.Trees.{Hedge, Expr, Literal, eqn, mem, Counts}
+use Rattle.language.specs.Trees.{Expr, Literal, eqn, mem, Counts}
 use Rattle.language.specs.Writing.{hedgeWords, exprWords, literalWords}
-use Rattle.language.specs.Fine.{fineHedge, fineExpr, fineLiteral}
+use Rattle.language.specs.Fine.{fineExpr}
 use Rattle.language.specs.Question.{declared, declaredE}
 use Rattle.language.specs.Between.{between}
 use Rattle.language.proofs.Bools.{both-true}
-use Rattle.meaning.specs.Complete.{Complete, completeWords}
-use Rattle.meaning.specs.Meaning.{Filling, fill, Member, Meets}
+use Rattle.meaning.specs.Complete.{completeWords}
+use Rattle.meaning.specs.Meaning.{Filling, fill, Meets}
 use Rattle.meaning.proofs.Same.{same-words}
 use Rattle.rules.specs.Calls.{filledSize}
 use Rattle.member.specs.Places.{Stands}
 use Rattle.filling.specs.Showing.{filled, Shows}
-use Rattle.trying.specs.Tasks.{firstHedge, FirstEnd, SameWords, Keeps, EquationMet, Testable, MembershipMet, ALiteral, FittingLiteral, LiteralMet}
+use Rattle.trying.specs.Tasks.{firstHedge, FirstEnd, EquationMet, Testable, MembershipMet, ALiteral, FittingLiteral, LiteralMet}
 use Rattle.trying.proofs.Parts.{inside, first-part, second-part, shows, becomes, by-equation, by-membership}
 
 -- the rest of a literal, after its first hedge

@@ -1,33 +1,32 @@
 -- The call, step by step: what each return answers and leaves.
 use Prim.Native.Nat.{ℕ, _<_, _≤_}
 use mathlib.Core.Path.{_≡_, refl, sym, ap, subst, _∙_}
-use mathlib.Core.Logic.{_⊎_, inl, inr}
+use mathlib.Core.Logic.{inl, inr}
 use mathlib.Core.Bool.{Bool, true, false}
 use mathlib.Core.List.{List}
 use native.Mathlib.Omega.{arith}
-use lib.Dec.{ltb}
 use lib.ListN.{length}
 use borrow.Author.Tests.{lt-ltb, le-ltb}
 use Rattle.language.specs.declared.Refusal.{Refusal}
 use Rattle.language.specs.declared.Refusal.the-variants.{ShortSlice, LongLiteral}
 use Rattle.language.specs.Limits.{desk}
-use Rattle.language.specs.Trees.{Counts, Question}
+use Rattle.language.specs.Trees.{Question}
 use Rattle.language.specs.Question.{countsFit, Asked, asks, refuses, readQuestion}
 use Rattle.language.proofs.Asking.{passed, ranges}
 use Rattle.meaning.specs.Meaning.{Filling, MeetsQuestion}
 use Rattle.meaning.specs.Values.{Given, gives, readFilling}
 use Rattle.meaning.specs.Values as values
 use Rattle.rules.specs.Answer.{zeros, overwritten}
-use Rattle.rules.specs.Calls.{tooLong, Trying, decides, unread, given-up, tryingWith, tryingOf, trying}
+use Rattle.rules.specs.Calls.{Trying, decides, given-up, tryingWith, tryingOf, trying}
 use Rattle.reader.specs.declared.Header.{Header}
 use Rattle.outcomes.specs.declared.Checked.{Checked}
 use Rattle.outcomes.specs.declared.Checked.the-variants.{Fine}
 use Rattle.outcomes.specs.declared.Checked.the-variants as checked-as
 use Rattle.reader.specs.Checking.{headerOf, countsIn, checked}
-use Rattle.filling.specs.Checking.{given}
+use Rattle.given.specs.Checking.{given}
 use Rattle.outcomes.specs.declared.Tried.{Tried}
 use Rattle.outcomes.specs.declared.Tried.the-variants.{Yes, No, Refused}
-use Rattle.trying.specs.Tasks.{Keeps, AQuestion, SomeQuestion, FittingQuestion, QuestionTooLong, QuestionMet, AskedQuestion}
+use Rattle.trying.specs.Tasks.{AQuestion, SomeQuestion, FittingQuestion, QuestionTooLong, QuestionMet, AskedQuestion}
 use Rattle.trying.specs.Outcome.{Answers, Outcome, ToldOutcome, TriedAsked, TriedGiven}
 use Rattle.trying.proofs.Rooms.{keeps-cleared}
 use Rattle.trying.proofs.Told.{told-outcome}

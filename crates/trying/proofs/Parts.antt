@@ -1,18 +1,17 @@
 -- The parts of a literal's words, and what they become.
-use Prim.Native.Nat.{ℕ, suc, _+_, _-_, _<_, _≤_}
+use Prim.Native.Nat.{ℕ, _+_, _-_, _≤_}
 use mathlib.Core.Path.{_≡_, sym, ap, _∙_}
-use mathlib.Core.Bool.{Bool, true, false, _&&_}
+use mathlib.Core.Bool.{true}
 use mathlib.Core.List.{List, _∷_, _++_}
 use native.Mathlib.Omega.{arith}
 use lib.ListN.{length, getD, take, drop, length-append}
 use lib.Seq.{take-at, drop-at, take-all}
 use Rattle.language.specs.Limits.{desk}
 use Rattle.language.specs.Trees.{Hedge, Expr, Literal, eqn, mem, Counts}
-use Rattle.language.specs.Writing.{hedgeWords, exprWords, literalWords}
-use Rattle.language.specs.Fine.{fineHedge, fineExpr, fineLiteral}
-use Rattle.language.specs.Question.{declared, declaredE, declaredL}
+use Rattle.language.specs.Writing.{hedgeWords, literalWords}
+use Rattle.language.specs.Fine.{fineHedge}
+use Rattle.language.specs.Question.{declared}
 use Rattle.language.specs.Between.{between}
-use Rattle.language.proofs.Bools.{both-true}
 use Rattle.language.proofs.Undeclared.{hedge-declared}
 use Rattle.meaning.specs.Complete.{completeWords}
 use Rattle.meaning.specs.Meaning.{Filling, fill}
@@ -20,8 +19,7 @@ use Rattle.meaning.specs.Values.{gives, readFilling}
 use Rattle.filling.specs.Showing.{filled, Shows}
 use Rattle.filling.proofs.Values.{declared-shows}
 use Rattle.filling.proofs.Becomes.{hedge-becomes}
-use Rattle.filling.proofs.Given.{Was, was, has-values}
-use Rattle.trying.specs.Tasks.{firstHedge, FirstEnd, ALiteral}
+use Rattle.filling.proofs.Given.{was, has-values}
 
 -- ---- the parts
 

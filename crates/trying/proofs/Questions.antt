@@ -1,24 +1,24 @@
 -- The loops over a question's alternatives: what is left, and what it says of the whole.
-use Prim.Native.Nat.{ℕ, suc, _+_, _<_, _≤_}
+use Prim.Native.Nat.{ℕ, _+_, _<_, _≤_}
 use mathlib.Core.Path.{_≡_, refl, sym, ap, subst, _∙_}
-use mathlib.Core.Logic.{_⊎_, inl, inr, _↔_}
-use mathlib.Core.Bool.{Bool, true, false, _&&_, _||_}
-use mathlib.Core.List.{List, [], _∷_, _++_}
+use mathlib.Core.Logic.{inl, inr, _↔_}
+use mathlib.Core.Bool.{Bool, true, false, _||_}
+use mathlib.Core.List.{List, [], _∷_}
 use native.Mathlib.Numerals.{add-one}
 use native.Mathlib.Omega.{arith}
 use lib.ListN.{length, getD, drop, drop-of-length-le}
 use lib.Seq.{drop-cons}
 use Rattle.language.specs.Limits.{desk}
-use Rattle.language.specs.Trees.{Conj, Counts, Question}
+use Rattle.language.specs.Trees.{Question}
 use Rattle.language.specs.Writing.{conjWords}
-use Rattle.language.specs.Question.{countsOf, alternativesOf, declaredC, asks, readQuestion}
+use Rattle.language.specs.Question.{alternativesOf, declaredC}
 use Rattle.language.specs.Between.{between}
-use Rattle.language.proofs.Offsets.{laid-length, length-between}
-use Rattle.language.proofs.Asking.{passed, ranges, how-many, alternative}
+use Rattle.language.proofs.Offsets.{laid-length}
+use Rattle.language.proofs.Asking.{passed, how-many, alternative}
 use Rattle.meaning.specs.Meaning.{Filling, MeetsAll, MeetsOne}
 use Rattle.rules.specs.Calls.{anyOver, tooLong}
 use Rattle.reader.specs.declared.Header.{Header}
-use Rattle.reader.specs.Checking.{headerOf, countsIn}
+use Rattle.reader.specs.Checking.{countsIn}
 use Rattle.trying.specs.Tasks.{Keeps, AConj, SomeConj, FittingConj, ConjTooLong, ConjMet, AQuestion, SomeQuestion, FittingQuestion, QuestionTooLong, QuestionMet}
 use Rattle.trying.proofs.Rooms.{keeps-none, keeps-both}
 use Rattle.trying.proofs.Scans.{or-false, true≢false}

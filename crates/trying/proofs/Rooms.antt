@@ -1,6 +1,6 @@
 -- What is written into the work slice, what stays, and comparing words.
 use Prim.Native.Nat.{ℕ, suc, _+_, _-_, _<_, _≤_}
-use mathlib.Core.Path.{_≡_, refl, sym, ap, subst, _∙_}
+use mathlib.Core.Path.{_≡_, refl, sym, ap, _∙_}
 use mathlib.Core.Bool.{Bool, true, false}
 use mathlib.Core.List.{List, [], _∷_, _++_, append-assoc}
 use native.Mathlib.Nat.{zero-add}
@@ -12,7 +12,6 @@ use Rattle.language.specs.Limits.{desk}
 use Rattle.language.specs.Between.{between}
 use Rattle.language.proofs.Stores.{sets-append}
 use Rattle.rules.specs.Answer.{zeros, overwritten}
-use Rattle.filling.specs.Showing.{filled, Written}
 use Rattle.trying.specs.Tasks.{SameWords, Keeps}
 
 -- ---- what stays

@@ -1,21 +1,20 @@
 -- The loops over a conjunction's literals: what is left, and what it says of the whole.
-use Prim.Native.Nat.{ℕ, _+_, _<_, _≤_}
+use Prim.Native.Nat.{ℕ, _<_, _≤_}
 use mathlib.Core.Path.{_≡_, refl, sym, ap, subst, _∙_}
-use mathlib.Core.Logic.{_↔_}
-use mathlib.Core.Bool.{Bool, true, false, _&&_, _||_}
-use mathlib.Core.List.{List, [], _∷_, _++_}
+use mathlib.Core.Bool.{Bool, true, false, _||_}
+use mathlib.Core.List.{List, [], _∷_}
 use native.Mathlib.Omega.{arith}
 use lib.Dec.{ltb}
 use lib.ListN.{length, drop, drop-of-length-le}
 use borrow.Author.Tests.{lt-ltb, le-ltb, ltb-false}
 use Rattle.language.specs.Limits.{desk}
-use Rattle.language.specs.Trees.{Literal, eqn, mem, Conj, Counts}
-use Rattle.language.specs.Writing.{literalWords, conjWords}
+use Rattle.language.specs.Trees.{eqn, mem, Conj, Counts}
+use Rattle.language.specs.Writing.{conjWords}
 use Rattle.language.specs.Between.{between}
-use Rattle.meaning.specs.Meaning.{Filling, Meets, MeetsAll}
+use Rattle.meaning.specs.Meaning.{Filling, MeetsAll}
 use Rattle.rules.specs.Calls.{filledSize, anyOver}
 use Rattle.filling.specs.Showing.{filled, Shows}
-use Rattle.trying.specs.Tasks.{Keeps, LiteralEnd, ALiteral, FittingLiteral, LiteralMet, AConj, SomeConj, FittingConj, ConjTooLong, ConjMet}
+use Rattle.trying.specs.Tasks.{Keeps, LiteralEnd, FittingLiteral, LiteralMet, AConj, SomeConj, FittingConj, ConjTooLong, ConjMet}
 use Rattle.trying.proofs.Rooms.{keeps-none, keeps-both}
 use Rattle.trying.proofs.Conjunctions.{Next-literal, next-literal, literal-shows, filling-few, literal-size}
 

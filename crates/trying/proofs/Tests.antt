@@ -1,17 +1,17 @@
 -- Testing an equation and a membership: what was written into the work slice, and what comparing or deciding says of it.
 use Prim.Native.Nat.{ℕ, _+_, _≤_}
-use mathlib.Core.Path.{_≡_, refl, sym, ap, subst, _∙_}
+use mathlib.Core.Path.{_≡_, sym, ap, _∙_}
 use mathlib.Core.Bool.{Bool}
 use mathlib.Core.List.{List, _++_}
 use native.Mathlib.Omega.{arith}
 use lib.ListN.{length, drop}
-use lib.Seq.{sets, length-sets}
+use lib.Seq.{sets}
 use Rattle.language.specs.Limits.{desk}
 use Rattle.language.specs.Between.{between}
 use Rattle.meaning.specs.Complete.{Complete, completeWords}
 use Rattle.member.specs.Places.{StandsC, Both, Decided}
 use Rattle.filling.specs.Showing.{filled, Written}
-use Rattle.trying.specs.Tasks.{SameWords, Keeps, EquationMet, Testable, MembershipMet}
+use Rattle.trying.specs.Tasks.{SameWords, EquationMet, Testable, MembershipMet}
 use Rattle.trying.proofs.Rooms.{at-front, keeps-sets, keeps-both, first-written, second-written}
 
 module _ {t h : ℕ} {fs : List ℕ} where
@@ -42,12 +42,6 @@ module _ {t h : ℕ} {fs : List ℕ} where
 
     both-written : v ≡ sets (sets w 0 a) (0 + length a) b
     both-written = y .words ∙ ap (λ l. sets l m b) (x .words) ∙ ap (λ k. sets (sets w 0 a) k b) (x .place)
-
-    pub written-room : (m + length b ≤ length u) × (m ≤ n) × (n ≤ length v)
-    written-room =
-        let lu = ap length (x .words) ∙ length-sets w 0 a in
-        let lv = ap length (y .words) ∙ length-sets u m b in
-        (omega (arith, x .place), omega (arith, y .place), omega (arith, x .place, y .place))
 
     pub equation-met : {r : Bool} → SameWords (between 0 m v) (between m n v) r → EquationMet t h fs left right w v r
     equation-met s = record {

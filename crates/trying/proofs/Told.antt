@@ -1,7 +1,7 @@
 -- What trying a filling answers, in numbers and as the answer that has them: each gives the other, since the numbers tell the cases apart.
 use Prim.Native.Nat.{ℕ}
-use mathlib.Core.Path.{_≡_, ap}
-use mathlib.Core.Logic.{_⊎_, inl, inr}
+use mathlib.Core.Path.{ap}
+use mathlib.Core.Logic.{inl, inr}
 use mathlib.Core.List.{List}
 use Rattle.rules.specs.Calls.{Trying, decides, unread, given-up}
 use Rattle.outcomes.specs.declared.Tried.{Tried}

@@ -2,26 +2,21 @@
 use language::Refusal;
 use language::limits::LITERAL;
 use language::limits::ROOM;
+use language::wide;
 use outcomes::Checked;
 use outcomes::Tried;
 use reader::Header;
-use reader::Read;
+use slices::clear;
+use trees::Read;
 ghost use mathlib.Core.Path.{_≡_};
 ghost use Prim.Native.Nat.{_+_, _≤_, _<_};
 ghost use lib.ListN.{length};
 ghost use Rattle.language.specs.Limits.{desk};
-ghost use Rattle.rules.specs.Answer.{zeros, overwritten};
 ghost use Rattle.rules.specs.Calls.{trying};
 ghost use Rattle.reader.specs.Checking.{countsIn};
 ghost use Rattle.filling.specs.Showing.{filled, Shows};
 ghost use Rattle.trying.specs.Tasks.{SameWords, FirstEnd, EquationMet, Testable, MembershipMet, FittingLiteral, LiteralMet, LiteralEnd, SomeConj, FittingConj, ConjTooLong, ConjMet, SomeQuestion, FittingQuestion, QuestionTooLong, QuestionMet, AskedQuestion};
 ghost use Rattle.trying.specs.Outcome.{ToldOutcome, TriedGiven, TriedAsked};
-
-fn wide(x: u16) -> usize
-    ensures { λ r. ⌜ r ≡ x ⌝ }
-{
-    x as usize
-}
 
 fn same(a: &[u16], b: &[u16]) -> bool
     ensures { λ r. ⌜ SameWords (now (a .entry)) (now (b .entry)) r ⌝ }
@@ -39,24 +34,13 @@ fn same(a: &[u16], b: &[u16]) -> bool
     true
 }
 
-fn clear(work: &mut [u16])
-    requires { ⌜ desk .room ≤ length (now work) ⌝ }
-    ensures { λ _. ⌜ now (work .exit) ≡ overwritten desk (zeros desk) (now (work .entry)) ⌝ }
-{
-    let mut i: usize = 0;
-    while i < ROOM {
-        work[i] = 0;
-        i += 1;
-    }
-}
-
 // ---- A literal.
 
 // The place after its first hedge.
 fn first_end(literal: &[u16]) -> usize
     ensures { λ r. ⌜ FirstEnd (now (literal .entry)) r ⌝ }
 {
-    match reader::read_hedge(literal, 1) {
+    match trees::read_hedge(literal, 1) {
         Read::Next(end) => end,
         Read::Stop(place) => place,
     }
@@ -138,7 +122,7 @@ fn meets_literal<'a>(h: Header, filling: &'a [u16], literal: &'a [u16], work: &m
 fn literal_end(conj: &[u16], at: usize) -> usize
     ensures { λ r. ⌜ LiteralEnd (now (conj .entry)) at r ⌝ }
 {
-    match reader::read_literal(conj, at) {
+    match trees::read_literal(conj, at) {
         Read::Next(end) => end,
         Read::Stop(place) => place,
     }
@@ -244,7 +228,7 @@ fn try_asked<'a>(h: Header, question: &'a [u16], filling: &'a [u16], work: &mut 
     requires { ⌜ desk .room ≤ length (now work) ⌝ }
     ensures { λ r. ⌜ TriedAsked h (now (filling .entry)) (now (question .entry)) r (now (work .entry)) (now (work .exit)) ⌝ }
 {
-    match filling::read_filling(h, filling) {
+    match given::read_filling(h, filling) {
         Checked::Refused(refusal) => Tried::Refused(refusal),
         Checked::Fine => try_given(h, question, filling, work),
     }

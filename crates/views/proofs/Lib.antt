@@ -5,12 +5,5 @@ pub mod Members
 pub mod Looks
 pub mod Literals
 pub mod Seen
-pub mod Same
-pub mod Walks
-pub mod Firsts
-pub mod Stops
-pub mod Finds
-pub mod Cuts
-pub mod Joins
-pub mod Determined
 pub mod LiteralWalks
+pub mod Determined

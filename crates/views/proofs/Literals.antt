@@ -9,7 +9,7 @@ use Rattle.language.specs.Limits.{desk}
 use Rattle.language.specs.Trees.{Functor, symbol, fvar, Hedge, ε, tvar, hvar, node, Expr, eps, cat, alt, star, over, Literal, eqn, mem, Conj}
 use Rattle.language.specs.Writing.{functorWord, hedgeWords, exprWords, literalWords, conjWords}
 use Rattle.language.specs.Fine.{fineFunctor, fineHedge, fineExpr, fineLiteral}
-use Rattle.words.specs.Places.{begins, untilLiteral}
+use Rattle.words.specs.Places.{untilLiteral}
 use Rattle.words.proofs.Parts.{drop-of}
 use Rattle.words.proofs.Literals.{on, off}
 

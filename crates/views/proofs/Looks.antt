@@ -1,12 +1,11 @@
 -- How a hedge that stands at a place begins, told by its words there.
 use mathlib.Core.Path.{_≡_, refl, sym, ap, _∙_}
 use mathlib.Core.Bool.{Bool}
-use mathlib.Core.List.{List, [], _∷_, _++_, append-assoc, append-nil}
+use mathlib.Core.List.{List, [], _∷_, _++_, append-assoc}
 use Prim.Native.Nat.{ℕ, _+_, _<_}
 use native.Mathlib.Omega.{arith}
 use lib.Dec.{eqb}
 use lib.ListN.{length, getD, drop}
-use lib.Seq.{slice}
 use borrow.Author.Tests.{ne-eqb}
 use Rattle.language.specs.declared.TermVar.{TermVar}
 use Rattle.language.specs.declared.HedgeVar.{HedgeVar}
@@ -30,9 +29,8 @@ use Rattle.views.specs.declared.Look.the-variants.{Empty, Term, Run, Nod
 use Rattle.views.specs.declared.Side.{Side}
 use Rattle.views.specs.Standing.{Stands}
 use Rattle.views.specs.Places.{lookBy, lookAt, sideAt}
-use Rattle.words.proofs.Parts.{part-of, drop-of, below-of-word}
+use Rattle.words.proofs.Parts.{drop-of, below-of-word}
 use Rattle.views.proofs.Words.{firstWord}
-use Rattle.views.proofs.Sides.{side-stands}
 use Rattle.views.proofs.Spans.{functor-some, stands-word, stands-rest, stands-place, stands-end}
 
 pub empty-word : (h : Hedge) → eqb (firstWord h) 0 ≡ empty h
@@ -147,8 +145,3 @@ is-node ε e = absurd (let y : _≡_ {A = ℕ} 0 1 = cc in omega arith)
 is-node (tvar x r) e = absurd (let y : _≡_ {A = ℕ} 0 1 = cc in omega arith)
 is-node (hvar p r) e = absurd (let y : _≡_ {A = ℕ} 0 1 = cc in omega arith)
 is-node (node f c r) e = record { functor = f; children = c; rest = r; whole = refl; name = cc; last = cc; bare = cc }
-
--- from + 1..rest: the children of a functor that begins the side
-pub side-children : {k : List ℕ} {s : Side} {f : Functor} {c r : Hedge} → Sided k s (node f c r) → slice (s .from + 1) (s .rest) k ≡ hedgeWords c
-side-children {k} {s} {f} {c} {r} v =
-    part-of k (s .from + 1) (s .rest) (hedgeWords c) (hedgeWords r ++ v .beyond) (stands-children (side-stands v) .here) (let d = v .rest in let l = ap length (append-nil (hedgeWords c)) in omega arith)

@@ -1,6 +1,6 @@
 -- A variable's word stands among a tree's words exactly if the variable stands in the tree.
 use mathlib.Core.Path.{_≡_, refl, sym, ap, _∙_}
-use mathlib.Core.Bool.{Bool, true, false, _||_}
+use mathlib.Core.Bool.{Bool, true, false, _||_, or-false}
 use mathlib.Core.List.{List, [], _∷_, _++_}
 use mathlib.Core.Logic.{_⊎_, inl, inr}
 use Prim.Native.Nat.{ℕ, _+_, _<_, _≤_}
@@ -17,21 +17,15 @@ use Rattle.language.specs.Writing.{functorWord, hedgeWords, exprWords, literalW
 use Rattle.language.specs.Fine.{fineFunctor, fineHedge, fineExpr, fineLiteral, fineConj}
 use Rattle.views.specs.Looks.{bodyWords}
 use Rattle.words.specs.Spans.{member}
-use Rattle.views.specs.Views.{Sees, Shows}
+use Rattle.views.specs.Views.{Sees}
 use Rattle.views.specs.declared.View.{View}
-use Rattle.views.specs.declared.Shape.{Shape}
 use Rattle.views.specs.Variables.{variableWord, fineVar}
-use Rattle.views.proofs.Sides.{shows-finish}
 
 -- ---- tests
 
 pub or-assoc : (p q r : Bool) → (p || (q || r)) ≡ ((p || q) || r)
 or-assoc true q r = refl
 or-assoc false q r = refl
-
-pub or-false : (p : Bool) → (p || false) ≡ p
-or-false true = refl
-or-false false = refl
 
 pub both-or : {p q r s : Bool} → p ≡ q → r ≡ s → (p || r) ≡ (q || s)
 both-or {p} {q} {r} {s} e d = ap (λ t. t || r) e ∙ ap (λ t. q || t) d
@@ -145,7 +139,3 @@ module _ (v : Var) (fine : fineVar desk v) where
   pub elsewhere-sees : {k : List ℕ} {u : View} {before : Conj} {l r : Hedge} {behind : Conj} → Sees k u before l r behind
       → (member (variableWord v) (take (u .at) k) || member (variableWord v) (drop (u .end) k)) ≡ inConj v (before ++ behind)
   elsewhere-sees {k} {u} {before} {l} {r} {behind} s = outside k (u .at) (u .end) before behind (s .start) (s .finish) (s .fineBefore) (s .fineBehind)
-
-  pub elsewhere-shows : {k : List ℕ} {u : Shape} {before : Conj} {h : Hedge} {R : Expr} {behind : Conj} → Shows k u before h R behind
-      → (member (variableWord v) (take (u .at) k) || member (variableWord v) (drop (u .end) k)) ≡ inConj v (before ++ behind)
-  elsewhere-shows {k} {u} {before} {h} {R} {behind} s = outside k (u .at) (u .end) before behind (s .start) (shows-finish s) (s .fineBefore) (s .fineBehind)

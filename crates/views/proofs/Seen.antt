@@ -29,10 +29,7 @@ module _ {k : List ℕ} {at : ℕ} {before : Conj} {l : Literal} {behind : Conj}
   pub literal-here : drop at k ≡ literalWords l ++ conjWords behind
   literal-here = drop-of k 0 at (conjWords before) (literalWords l ++ conjWords behind) (s .words) (let y = s .place in omega arith)
 
-  -- the words behind it, by its length and by the scan
-  pub literal-behind : drop (at + length (literalWords l)) k ≡ conjWords behind
-  literal-behind = drop-of k at (at + length (literalWords l)) (literalWords l) (conjWords behind) literal-here refl
-
+  -- where it ends, by its length and by the scan
   pub literal-next : at + 1 + untilLiteral (drop (at + 1) k) ≡ at + length (literalWords l)
   literal-next = next-literal k at l behind (s .fine) literal-here
 

@@ -3,7 +3,7 @@ use mathlib.Core.Path.{_≡_, ap, _∙_}
 use mathlib.Core.List.{List, _++_}
 use Prim.Native.Nat.{ℕ, _+_}
 use native.Mathlib.Omega.{arith}
-use lib.ListN.{length, getD, drop, length-append}
+use lib.ListN.{length, drop, length-append}
 use lib.Seq.{slice}
 use Rattle.language.specs.Trees.{Hedge, Expr, Conj}
 use Rattle.language.specs.Writing.{hedgeWords, exprWords, conjWords}
@@ -14,8 +14,8 @@ use Rattle.views.specs.declared.View.{View}
 use Rattle.views.specs.declared.Shape.{Shape}
 use Rattle.views.specs.Standing.{Stands}
 use Rattle.words.proofs.Parts.{part-of, drop-of, part-rest}
-use Rattle.views.proofs.Words.{words-split, firstWord}
-use Rattle.views.proofs.Spans.{stands-word, stands-split, stands-rest}
+use Rattle.views.proofs.Words.{words-split}
+use Rattle.views.proofs.Spans.{stands-split, stands-rest}
 
 module _ {k : List ℕ} {s : Side} {h : Hedge} (v : Sided k s h) where
   pub side-stands : Stands k (s .from) h (v .beyond)
@@ -38,13 +38,6 @@ module _ {k : List ℕ} {s : Side} {h : Hedge} (v : Sided k s h) where
   -- rest..to
   pub side-tail : slice (s .rest) (s .to) k ≡ hedgeWords (tail h)
   side-tail = part-of k (s .rest) (s .to) (hedgeWords (tail h)) (v .beyond) (side-rest .here) side-size
-
-  -- the words behind the side
-  pub side-beyond : drop (s .to) k ≡ v .beyond
-  side-beyond = drop-of k (s .from) (s .to) (hedgeWords h) (v .beyond) (v .here) (v .to)
-
-  pub side-word : getD k (s .from) 0 ≡ firstWord h
-  side-word = stands-word side-stands
 
 module _ {k : List ℕ} {v : View} {before : Conj} {l r : Hedge} {behind : Conj} (s : Sees k v before l r behind) where
   -- 0..at

@@ -1,14 +1,15 @@
 -- Blocks put before those that wait, and the first of them taken.
-use Prim.Native.Nat.{ℕ, suc, _+_, _-_, _<_, _≤_}
+use Prim.Native.Nat.{ℕ, suc, _+_, _-_, _≤_}
 use native.Mathlib.Omega.{arith}
 use native.Mathlib.Nat.{add-zero}
 use mathlib.Core.Path.{_≡_, refl, sym, ap, _∙_}
 use mathlib.Core.List.{List, [], _∷_, _++_, append-assoc}
 use lib.ListN.{length, take, drop, getD, set, length-append}
-use lib.Seq.{sets, sets-eq, length-sets, set-comm, slice, drop-at, take-at, drop-drop, getD-drop, length-take-le}
+use lib.Seq.{sets, sets-eq, length-sets, slice, drop-at, take-at, drop-drop, getD-drop, length-take-le}
 use Rattle.language.specs.Limits.{desk}
 use Rattle.language.proofs.Offsets.{slice-between}
 use Rattle.frames.specs.Frames.{framed}
+use Rattle.slices.proofs.Still.{set-sets}
 use Rattle.waiting.specs.Waiting.{Laid, Waiting}
 
 -- what stands from i on after words are stored there
@@ -18,14 +19,10 @@ drop-sets l i vs h =
     ∙ drop-at (take i l) (vs ++ drop (i + length vs) l) i (length-take-le i l (omega arith))
 
 -- words stored right before others are stored with them
-set-before : (l : List ℕ) (i x at : ℕ) (ws : List ℕ) → i < at → set (sets l at ws) i x ≡ sets (set l i x) at ws
-set-before l i x at [] h = refl
-set-before l i x at (w ∷ ws) h = set-before (set l at w) i x (suc at) ws (omega arith) ∙ ap (λ m. sets m (suc at) ws) (set-comm l at i w x (λ e. omega arith))
-
 sets-before : (l : List ℕ) (r at : ℕ) (vs ws : List ℕ) → r + length vs ≡ at → sets (sets l at ws) r vs ≡ sets l r (vs ++ ws)
 sets-before l r at [] ws e = ap (λ n. sets l n ws) (let z : at ≡ r = omega arith in z)
 sets-before l r at (v ∷ vs) ws e =
-    ap (λ m. sets m (suc r) vs) (set-before l r v at ws (omega arith)) ∙ sets-before (set l r v) (suc r) at vs ws (omega arith)
+    ap (λ m. sets m (suc r) vs) (set-sets l r v at ws (omega arith)) ∙ sets-before (set l r v) (suc r) at vs ws (omega arith)
 
 pub framed-append : (xs ys : List (List ℕ)) → framed (xs ++ ys) ≡ framed xs ++ framed ys
 framed-append [] ys = refl
@@ -49,10 +46,6 @@ laid-before old at bs w p xs r new e d =
 -- ---- blocks that wait
 
 module _ (old : List ℕ) (at : ℕ) where
-  pub wait-ends : (bs : List (List ℕ)) (w : List ℕ) → Waiting old at bs w → desk .room ≤ at → bs ≡ []
-  wait-ends [] w p h = refl
-  wait-ends (b ∷ bs) w p h = absurd (let q = p .place in omega arith)
-
   -- words that are blocks, stored right before those that wait
   pub laid : (bs : List (List ℕ)) (w : List ℕ) → Waiting old at bs w → desk .room ≤ length old → (xs : List (List ℕ)) (r : ℕ) (new : List ℕ)
       → r + length (framed xs) ≡ at → new ≡ sets w r (framed xs) → Waiting old r (xs ++ bs) new

@@ -6,27 +6,7 @@ use lib.Seq.{sets}
 use Rattle.language.specs.Question.{parts}
 use Rattle.language.proofs.Determined.{Determined}
 use Rattle.frames.specs.Frames.{framed}
-use Rattle.waiting.proofs.wide as wide
-use Rattle.waiting.proofs.narrow as narrow
-use Rattle.waiting.proofs.store as store
-use Rattle.waiting.proofs.copy as copy
-use Rattle.waiting.proofs.clear as clear
 use Rattle.waiting.proofs.lay_out as lay_out
-
-wide-determined : Determined wide.ended wide.Reads.Pre wide.Reads.Post
-wide-determined κs a p o q e d = ap (λ z. (z, o .1)) (e ∙ sym d)
-
-narrow-determined : Determined narrow.ended narrow.Reads.Pre narrow.Reads.Post
-narrow-determined κs a p o q e d = ap (λ z. (z, o .1)) (e ∙ sym d)
-
-store-determined : Determined store.ended store.Reads.Pre store.Reads.Post
-store-determined κs a p o q e d = ap (λ s. (tt, (s, (tt, (tt, tt))))) (e ∙ sym d)
-
-copy-determined : Determined copy.ended copy.Reads.Pre copy.Reads.Post
-copy-determined κs a p o q e d = ap (λ s. (tt, (tt, (tt, (tt, (s, (tt, tt))))))) (e ∙ sym d)
-
-clear-determined : Determined clear.ended clear.Reads.Pre clear.Reads.Post
-clear-determined κs a p o q e d = ap (λ s. (tt, (s, tt))) (e ∙ sym d)
 
 -- where the blocks begin follows from how long they are
 lay_out-determined : Determined lay_out.ended lay_out.Reads.Pre lay_out.Reads.Post

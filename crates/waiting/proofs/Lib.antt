@@ -1,4 +1,3 @@
 pub mod Blocks
-pub mod Copies
 pub mod Pushing
 pub mod Determined

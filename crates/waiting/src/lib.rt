@@ -1,65 +1,19 @@
-// Conjunctions that wait in a lent slice: the first at the low end, each in its frame, the last ending at word 8,191.
+// Conjunctions that wait in a lent slice: the first at the low end, each in its frame, the last ending at word 16,383.
 ghost use Prim.Native.Nat.{_+_, _-_, _≤_, _<_};
 ghost use mathlib.Core.Path.{_≡_};
 ghost use mathlib.Core.Bool.{true};
 ghost use mathlib.Core.List.{_++_};
-ghost use lib.ListN.{length, getD, set};
+ghost use lib.ListN.{length, getD};
 ghost use lib.Seq.{slice, sets};
 ghost use Rattle.language.specs.Limits.{desk};
 ghost use Rattle.language.specs.Question.{laidOut, parts};
 ghost use Rattle.frames.specs.Frames.{frame, frameOf};
-ghost use Rattle.rules.specs.Answer.{zeros, overwritten};
 ghost use Rattle.waiting.specs.Waiting.{Laid};
 use frames::FRAME;
 use frames::write_frame;
 use language::limits::ROOM;
-
-pub fn wide(x: u16) -> usize
-    ensures { λ r. ⌜ r ≡ x ⌝ }
-{
-    x as usize
-}
-
-pub fn narrow(n: usize) -> u16
-    requires { ⌜ n < 65536 ⌝ }
-    ensures { λ r. ⌜ r ≡ n ⌝ }
-{
-    n as u16
-}
-
-// One word stored.
-pub fn store(s: &mut [u16], i: usize, x: u16)
-    requires { ⌜ i < length (now s) ⌝ }
-    ensures { λ _. ⌜ now (s .exit) ≡ set (now (s .entry)) i x ⌝ }
-{
-    s[i] = x;
-}
-
-// The part from..to of src, stored in dst from `at` on.
-pub fn copy(src: &[u16], from: usize, to: usize, dst: &mut [u16], at: usize)
-    requires { ⌜ (from ≤ to) × (to ≤ length (now src)) × (at + (to - from) ≤ length (now dst)) ⌝ }
-    ensures { λ _. ⌜ now (dst .exit) ≡ sets (now (dst .entry)) at (slice from to (now (src .entry))) ⌝ }
-{
-    let mut i = from;
-    let mut e = at;
-    while i < to {
-        dst[e] = src[i];
-        i += 1;
-        e += 1;
-    }
-}
-
-// Zeros in the first 8,192 words.
-pub fn clear(s: &mut [u16])
-    requires { ⌜ desk .room ≤ length (now s) ⌝ }
-    ensures { λ _. ⌜ now (s .exit) ≡ overwritten desk (zeros desk) (now (s .entry)) ⌝ }
-{
-    let mut i = 0;
-    while i < ROOM {
-        s[i] = 0;
-        i += 1;
-    }
-}
+use language::wide;
+use slices::copy;
 
 // The part from..to as a block before those that wait from `at` on. The answer is where they now begin.
 fn push(src: &[u16], from: usize, to: usize, work: &mut [u16], at: usize) -> usize

@@ -5,8 +5,5 @@ use borrow.Author.Needs.{needs}
 use Rattle.answers.proofs.opened.Statement.{statement}
 use Rattle.answers.proofs.opened.Tie as tie
 
-returns-2 : tie.Need-returns-2
-returns-2 c = rw (c .if1 .left) (refl, omega arith)
-
 pub opened-spec : {M : Type 1} → statement M
-opened-spec = tie.close (tie.spec (λ c. search needs) (λ c. search needs) returns-2)
+opened-spec = tie.close (tie.spec (λ c. search needs) (λ c. search needs) (λ c. rw (c .if1 .left) (refl, omega arith)))

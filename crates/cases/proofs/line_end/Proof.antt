@@ -15,12 +15,7 @@ abbrev μ-loop : tie.MeasureT-loop
 
 pub line-end-spec : {M : Type 1} → statement M
 line-end-spec =
-    tie.close
-    (tie.spec Inv-loop μ-loop
-    (λ c. starts _ _)
-    (λ c. search needs)
-    (λ c. ends-here _ _ (c .before .before .before .loop .inv) (omega arith) (c .if1 .taken))
-    (λ c. search needs)
-    (λ c. search needs)
-    (λ c. passes _ _ (c .before .before .before .loop .inv) (omega arith) (c .if1 .left))
+    tie.close (tie.spec
+    Inv-loop μ-loop (λ c. starts _ _) (λ c. search needs) (λ c. ends-here _ _ (c .before .before .before .loop .inv) (omega arith) (c .if1 .taken))
+    (λ c. search needs) (λ c. search needs) (λ c. passes _ _ (c .before .before .before .loop .inv) (omega arith) (c .if1 .left))
     (λ c. ends-last _ _ (c .before .loop .inv) (omega arith)))

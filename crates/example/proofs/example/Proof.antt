@@ -6,12 +6,8 @@ use Rattle.example.proofs.example.Tie as tie
 
 pub example-spec : {M : Type 1} → statement M
 example-spec =
-    tie.close
-    (tie.spec
-    (λ c κs. search needs)
-    (λ c. search needs)
-    (λ c. search needs)
-    (λ c. search needs)
+    tie.close (tie.spec
+    (λ c κs. search needs) (λ c. search needs) (λ c. search needs) (λ c. search needs)
     -- returns
     (λ c.
     let c₁ = c .before in let c₂ = c₁ .before .before .before .before .before .before in
@@ -23,9 +19,7 @@ example-spec =
     let c₁ = c .before .before in let c₂ = c₁ .before .before .before .before .before in
     let c₃ = c₂ .before .before .before .before .before .before .before in
     let a = c₃ .args in ready (a .question .now) (a .work .now) (a .answer .now) (c₂ .solve .result) (c₂ .solve .ensures) (c₁ .match .keys2))
-    (λ c. search needs)
-    (λ c. search needs)
-    (λ c. search needs)
+    (λ c. search needs) (λ c. search needs) (λ c. search needs)
     -- returns-2
     (λ c.
     let c₁ = c .before .before in let c₂ = c₁ .before .before .before in let c₃ = c₂ .before .before .before .before .before in

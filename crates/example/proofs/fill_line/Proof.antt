@@ -6,16 +6,9 @@ use Rattle.example.proofs.fill_line.Tie as tie
 
 pub fill-line-spec : {M : Type 1} → statement M
 fill-line-spec =
-    tie.close
-    (tie.spec
-    (λ c κs. search needs)
-    -- returns
-    (λ c. shown-long (c .before .filling-len .ensures) (c .if1 .taken))
-    -- returns-2
-    (λ c. shown-full (c .before .before .filling-len .ensures) (c .if2 .taken))
-    (λ c κs. search needs)
-    (λ c κs. search needs)
-    (λ c. search needs)
+    tie.close (tie.spec
+    (λ c κs. search needs) (λ c. shown-long (c .before .filling-len .ensures) (c .if1 .taken))
+    (λ c. shown-full (c .before .before .filling-len .ensures) (c .if2 .taken)) (λ c κs. search needs) (λ c κs. search needs) (λ c. search needs)
     -- returns-3
     (λ c.
     let c₁ = c .before .before in let c₂ = c₁ .before .before .before .before in let c₃ = c₂ .before .before in let c₄ = c₃ .before in

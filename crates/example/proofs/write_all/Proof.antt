@@ -6,12 +6,8 @@ use Rattle.example.proofs.write_all.Tie as tie
 
 pub write-all-spec : {M : Type 1} → statement M
 write-all-spec =
-    tie.close
-    (tie.spec
-    (λ c κs. search needs)
-    (λ c κs. search needs)
-    (λ c κs. search needs)
-    (λ c. search needs)
+    tie.close (tie.spec
+    (λ c κs. search needs) (λ c κs. search needs) (λ c κs. search needs) (λ c. search needs)
     -- returns
     (λ c.
     let c₁ = c .before .before in let c₂ = c₁ .before .before .before .before in let c₃ = c₂ .before .before .before .before in

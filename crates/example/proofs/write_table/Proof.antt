@@ -6,19 +6,9 @@ use Rattle.example.proofs.write_table.Tie as tie
 
 pub write-table-spec : {M : Type 1} → statement M
 write-table-spec =
-    tie.close
-    (tie.spec
-    (λ c. search needs)
-    (λ c. search needs)
-    (λ c κs. search needs)
-    (λ c κs. search needs)
-    (λ c. search needs)
-    (λ c κs. search needs)
-    (λ c κs. search needs)
-    (λ c κs. search needs)
-    (λ c κs. search needs)
-    (λ c κs. search needs)
-    (λ c. search needs)
+    tie.close (tie.spec
+    (λ c. search needs) (λ c. search needs) (λ c κs. search needs) (λ c κs. search needs) (λ c. search needs) (λ c κs. search needs)
+    (λ c κs. search needs) (λ c κs. search needs) (λ c κs. search needs) (λ c κs. search needs) (λ c. search needs)
     -- returns
     (λ c.
     let c₁ = c .before .before in let c₂ = c₁ .before in let c₃ = c₂ .before .before .before .before in let c₄ = c₃ .before .before .before .before in

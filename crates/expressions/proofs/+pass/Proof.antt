@@ -1,7 +1,7 @@
 -- The place after the expression at a place and its emptiness, by recursion over its parts; the words left fall.
 use borrow.Author.Needs.{needs}
 use native.Mathlib.Omega.{arith}
-use Prim.Native.Nat.{ℕ, _<_, _-_}
+use Prim.Native.Nat.{ℕ, _-_}
 use lib.ListN.{length}
 use Rattle.expressions.proofs.Passed.{passed-end, passed-eps, passed-star, passed-over, passed-cat, passed-alt}
 use borrow.Fn.Kinds.{In}
@@ -9,8 +9,8 @@ use borrow.Fn.PlainCycle.{Measures, is, falls, and}
 use Rattle.expressions.proofs.pass.Reads as f
 use Rattle.expressions.proofs.pass.Kinds as kinds
 use Rattle.expressions.proofs.+pass.Lts-pass as lts
-use Rattle.expressions.proofs.both.Reads as both-reads
-use Rattle.expressions.proofs.either.Reads as either-reads
+use Rattle.bools.proofs.and.Reads as and-reads
+use Rattle.bools.proofs.or.Reads as or-reads
 use Rattle.expressions.proofs.+pass.{statement}
 use Rattle.expressions.proofs.+pass.Tie.{close}
 
@@ -25,7 +25,7 @@ Below t = and 1 kinds.ps (falls 1 kinds.ps _<_ μ t) f.Pre
 
 pub +pass-spec : {M : Type 1} → statement M
 +pass-spec =
-    close μ λ t. lts.spec (Below t, f.Post, both-reads.Asked, both-reads.Learnt, either-reads.Asked, either-reads.Learnt) (At t) f.Post
+    close μ λ t. lts.spec (Below t, f.Post, and-reads.Asked, and-reads.Learnt, or-reads.Asked, or-reads.Learnt) (At t) f.Post
     -- returns
     (λ c. search (passed-end))
     -- mul-x
@@ -46,11 +46,11 @@ pub +pass-spec : {M : Type 1} → statement M
     (λ c. search (passed-over))
     -- pass-requires-2
     (λ c κs. (omega arith, tt))
-    -- both-requires
+    -- and-requires
     (λ c κs. search needs)
     -- returns-5
     (λ c. search (passed-cat))
-    -- either-requires
+    -- or-requires
     (λ c κs. search needs)
     -- returns-6
     (λ c. search (passed-alt))

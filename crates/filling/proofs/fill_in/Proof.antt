@@ -18,12 +18,6 @@ copy-requires c κs =
     let b = c .before .before .before in
     writing-fits _ _ _ (b .loop .inv) (omega arith) (c .before .lookup .ensures) (b .before .before .before .before .pre .1)
 
-add-to : tie.Need-add-to Inv-loop μ-loop
-add-to c =
-    let l = c .before .before .before .before in
-    let b = l .before .before in
-    omega (arith, writing-fits _ _ _ (b .loop .inv) (omega arith) (l .lookup .ensures) (b .before .before .before .before .pre .1))
-
 loop-again : tie.Need-loop-again Inv-loop μ-loop
 loop-again c =
     let l = c .before .before .before .before .before .before in
@@ -31,22 +25,11 @@ loop-again c =
 
 pub fill-in-spec : {M : Type 1} → statement M
 fill-in-spec =
-    tie.close
-    (tie.spec
-    Inv-loop
-    μ-loop
-    (λ c. writing-starts _ _ _ _ _ _)
-    (λ c κs. search needs)
-    copy-requires
-    add-to
-    (λ c. search needs)
-    (λ c. search needs)
-    (λ c κs. search needs)
-    (λ c. omega (arith, loop-again c .inside))
+    tie.close (tie.spec
+    Inv-loop μ-loop (λ c. writing-starts _ _ _ _ _ _) (λ c κs. search needs) copy-requires (λ c. search needs) (λ c. search needs)
+    (λ c κs. search needs) (λ c. omega (arith, loop-again c .inside))
     (λ c.
     let l = c .before .before .before .before .before .before in
     let f = writing-on _ _ _ (l .before .before .loop .inv) (omega arith) (l .lookup .ensures) (c .before .before .before .before .copy .ensures) (c .step .ensures) in
     omega arith)
-    loop-again
-    (λ c. c .before .loop .inv .len)
-    (λ c. writing-ends _ _ _ (c .before .loop .inv) (omega arith)))
+    loop-again (λ c. c .before .loop .inv .len) (λ c. writing-ends _ _ _ (c .before .loop .inv) (omega arith)))

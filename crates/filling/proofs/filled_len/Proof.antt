@@ -21,25 +21,17 @@ on c =
 
 pub filled-len-spec : {M : Type 1} → statement M
 filled-len-spec =
-    tie.close
-    (tie.spec
-    Inv-loop
-    μ-loop
-    (λ c. counted-starts _ _ _ _)
-    (λ c κs. search needs)
+    tie.close (tie.spec
+    Inv-loop μ-loop (λ c. counted-starts _ _ _ _) (λ c κs. search needs)
     (λ c.
     let b = c .before .before in
     let p = b .before .before .before .pre in
     let f = counted-fits _ _ _ (b .loop .inv) (omega arith) (p .0) (p .1 .0) (c .lookup .ensures) in
     omega arith)
-    (λ c. search needs)
-    (λ c. search needs)
-    (λ c κs. search needs)
-    (λ c. omega (arith, on c .inside))
+    (λ c. search needs) (λ c. search needs) (λ c κs. search needs) (λ c. omega (arith, on c .inside))
     (λ c.
     let b = c .before .before .before .before in
     let p = b .before .before .before .pre in
     let f = counted-on _ _ _ (b .loop .inv) (omega arith) (p .0) (p .1 .0) (c .before .before .lookup .ensures) (c .step .ensures) in
     omega arith)
-    on
-    (λ c. counted-ends _ _ _ (c .before .loop .inv) (omega arith)))
+    on (λ c. counted-ends _ _ _ (c .before .loop .inv) (omega arith)))

@@ -1,8 +1,7 @@
 -- `filling::lookup` meets its contract: a law for each kind of word.
-use mathlib.Core.Path.{_∙_, ap}
+use mathlib.Core.Path.{_∙_}
 use native.Mathlib.Omega.{arith}
 use borrow.Author.Needs.{needs}
-use Rattle.filling.specs.Showing.{bodyAt, nameAt, HasValue}
 use Rattle.filling.proofs.Lookups.{has-term, has-run, has-name, shown-term, shown-run, shown-name, shown-symbol, shown-other}
 use Rattle.filling.proofs.lookup.Statement.{statement}
 use Rattle.filling.proofs.lookup.Tie as tie
@@ -74,36 +73,8 @@ returns-5 c =
 
 pub lookup-spec : {M : Type 1} → statement M
 lookup-spec =
-    tie.close
-    (tie.spec
-    (λ c. search needs)
-    (λ c. search needs)
-    (λ c κs. search needs)
-    (λ c. search needs)
-    (λ c κs. search needs)
-    body-requires
-    (λ c. search needs)
-    (λ c κs. search needs)
-    has2
-    body-requires-2
-    (λ c. search needs)
-    add-i-2
-    (λ c κs. search needs)
-    add-i-3
-    name-requires
-    (λ c. search needs)
-    (λ c κs. search needs)
-    (λ c. search needs)
-    (λ c. search needs)
-    (λ c. search needs)
-    (λ c. search needs)
-    (λ c. search needs)
-    (λ c. search needs)
-    (λ c. search needs)
-    (λ c. search needs)
-    (λ c. search needs)
-    returns
-    returns-2
-    returns-3
-    returns-4
-    returns-5)
+    tie.close (tie.spec
+    (λ c. search needs) (λ c. search needs) (λ c κs. search needs) (λ c. search needs) (λ c κs. search needs) body-requires (λ c. search needs)
+    (λ c κs. search needs) has2 body-requires-2 (λ c. search needs) add-i-2 (λ c κs. search needs) add-i-3 name-requires (λ c. search needs)
+    (λ c κs. search needs) (λ c. search needs) (λ c. search needs) (λ c. search needs) (λ c. search needs) (λ c. search needs) (λ c. search needs)
+    (λ c. search needs) (λ c. search needs) (λ c. search needs) returns returns-2 returns-3 returns-4 returns-5)

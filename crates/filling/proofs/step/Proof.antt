@@ -21,9 +21,6 @@ other {k} n e o =
 
 pub step-spec : {M : Type 1} → statement M
 step-spec =
-    tie.close
-    (tie.spec
-    (λ c κs. search needs)
-    (λ c. search needs)
-    (λ c. symbol _ (c .before .before .classify .ensures) (c .enum-told .given .1))
+    tie.close (tie.spec
+    (λ c κs. search needs) (λ c. search needs) (λ c. symbol _ (c .before .before .classify .ensures) (c .enum-told .given .1))
     (λ c. other _ (c .before .classify .ensures) (c .match .keys2)))

@@ -15,27 +15,14 @@ abbrev μ-loop : tie.MeasureT-loop
 
 pub term-end-spec : {M : Type 1} → statement M
 term-end-spec =
-    tie.close
-    (tie.spec
-    Inv-loop
-    μ-loop
-    (λ c. search needs)
-    (λ c. closing-starts (c .before .pre))
-    (λ c. search needs)
-    (λ c. search needs)
-    (λ c κs. search needs)
-    (λ c. search needs)
-    (λ c. search needs)
+    tie.close (tie.spec
+    Inv-loop μ-loop (λ c. search needs) (λ c. closing-starts (c .before .pre)) (λ c. search needs) (λ c. search needs) (λ c κs. search needs)
+    (λ c. search needs) (λ c. search needs)
     (λ c. closing-done (c .before .before .before .before .before .before .loop .inv) (omega arith) _ (c .before .before .before .classify .ensures) (c .before .enum-told .given .1) (omega arith))
-    (λ c. search needs)
-    (λ c. search needs)
+    (λ c. search needs) (λ c. search needs)
     (λ c. closing-less (c .before .before .before .before .before .before .loop .inv) (omega arith) _ (c .before .before .before .classify .ensures) (c .before .enum-told .given .1) (omega arith))
-    (λ c. search needs)
-    (λ c. search needs)
-    (λ c. search needs)
-    (λ c. search needs)
+    (λ c. search needs) (λ c. search needs) (λ c. search needs) (λ c. search needs)
     (λ c. closing-more (c .before .before .before .before .before .loop .inv) (omega arith) _ (c .before .before .classify .ensures) (c .enum-told2 .given .1))
     (λ c. search needs)
     (λ c. closing-stops (c .before .before .before .before .loop .inv) (omega arith) _ (c .before .classify .ensures) (c .match .keys3))
-    (λ c. search needs)
-    (λ c. closing-past (c .before .loop .inv) (omega arith)))
+    (λ c. search needs) (λ c. closing-past (c .before .loop .inv) (omega arith)))

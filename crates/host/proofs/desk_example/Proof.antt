@@ -17,9 +17,6 @@ use Rattle.host.proofs.desk_example.Tie as tie
 abbrev clear : List ℕ
 clear = replicate (desk .filling) 0
 
-slice-aggregate-show-2 : tie.Need-slice-aggregate-show-2
-slice-aggregate-show-2 c = sym (length-take-le _ clear (omega arith))
-
 show-requires : tie.Need-show-requires
 show-requires c κs = let n : length (take (c .before .before .before .most .result) clear) ≡ c .before .before .before .most .result = length-take-le _ clear (omega arith) in (omega arith, omega arith)
 
@@ -29,20 +26,11 @@ returns c =
     let c₄ = c₃ .before .before .before .before in
     let a = c₄ .args in
     let n : length (take (c₂ .most .result) clear) ≡ c₂ .most .result = length-take-le _ clear (omega arith) in
-    let e = bytes-show (a .question .now) _ (a .room .now) (a .line) _ (c₃ .take-words .ensures .1) (n ∙ c₂ .most .ensures .0) in
+    let e = bytes-show (a .question .now) _ (a .room .now) (a .line) _ (c₃ .take-words .ensures .1 .0) (n ∙ c₂ .most .ensures .0) in
     (c₁ .show .ensures .0 ∙ ap showNumber e, c₁ .show .ensures .1 ∙ ap (λ (s : Showing). showLeaves s (a .room .now)) e)
 
 pub desk-example-spec : {M : Type 1} → statement M
 desk-example-spec =
-    tie.close
-    (tie.spec
-    (λ c. search needs)
-    (λ c κs. search needs)
-    (λ c κs. search needs)
-    (λ c. search needs)
-    (λ c. search needs)
-    (λ c. search needs)
-    slice-aggregate-show-2
-    show-requires
-    (λ c. search needs)
-    returns)
+    tie.close (tie.spec
+    (λ c. search needs) (λ c κs. search needs) (λ c κs. search needs) (λ c. search needs) (λ c. search needs) (λ c. search needs)
+    (λ c. sym (length-take-le _ clear (omega arith))) show-requires (λ c. search needs) returns)

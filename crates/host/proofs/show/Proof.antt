@@ -45,17 +45,6 @@ returns c =
 
 pub show-spec : {M : Type 1} → statement M
 show-spec =
-    tie.close
-    (tie.spec
-    (λ c. search needs)
-    (λ c. search needs)
-    (λ c κs. search needs)
-    (λ c κs. search needs)
-    slice-reshare-prefix-write-words
-    slice-aggregate-write-words
-    write-words-requires
-    (λ c κs. search needs)
-    (λ c κs. search needs)
-    (λ c. search needs)
-    (λ c. search needs)
-    returns)
+    tie.close (tie.spec
+    (λ c. search needs) (λ c. search needs) (λ c κs. search needs) (λ c κs. search needs) slice-reshare-prefix-write-words slice-aggregate-write-words
+    write-words-requires (λ c κs. search needs) (λ c κs. search needs) (λ c. search needs) (λ c. search needs) returns)

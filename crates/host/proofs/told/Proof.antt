@@ -7,9 +7,6 @@ use Rattle.host.proofs.told.Tie as tie
 
 pub told-spec : {M : Type 1} → statement M
 told-spec =
-    tie.close
-    (tie.spec
-    (λ c κs. search needs)
-    (λ c. c .counted .ensures ∙ sym (told-value _ _ (c .before .if1 .taken)))
-    (λ c κs. search needs)
+    tie.close (tie.spec
+    (λ c κs. search needs) (λ c. c .counted .ensures ∙ sym (told-value _ _ (c .before .if1 .taken))) (λ c κs. search needs)
     (λ c. c .wide .ensures ∙ sym (told-refusal _ _ (c .before .if1 .left))))

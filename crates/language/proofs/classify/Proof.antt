@@ -41,20 +41,13 @@ module _ (w : ℕ) (n : None w) where
 
 pub classify-spec : {M : Type 1} → statement M
 classify-spec =
-    tie.close
-    (tie.spec
-    (λ c. sym (at-end desk _ (c .match .keys1)))
-    (λ c. same _ 5000 _ (kind-equation desk) (c .match .keys2))
-    (λ c. same _ 6000 _ (kind-membership desk) (c .match .keys3))
-    (λ c. same _ 7000 _ (kind-eps desk) (c .match .keys4))
-    (λ c. same _ 7001 _ (kind-cat desk) (c .match .keys5))
-    (λ c. same _ 7002 _ (kind-alt desk) (c .match .keys6))
-    (λ c. same _ 7003 _ (kind-star desk) (c .match .keys7))
-    (λ c. sym (at-term desk _ (omega arith) (omega arith)))
-    (λ c. sym (at-run desk _ (omega arith) (omega arith)))
-    (λ c. sym (at-symbol desk _ (omega arith) (omega arith)))
-    (λ c. sym (at-function desk _ (omega arith) (omega arith)))
-    (λ c. below-1000 _ (c .before .match .rest) (c .if1 .taken))
+    tie.close (tie.spec
+    (λ c. sym (at-end desk _ (c .match .keys1))) (λ c. same _ 5000 _ (kind-equation desk) (c .match .keys2))
+    (λ c. same _ 6000 _ (kind-membership desk) (c .match .keys3)) (λ c. same _ 7000 _ (kind-eps desk) (c .match .keys4))
+    (λ c. same _ 7001 _ (kind-cat desk) (c .match .keys5)) (λ c. same _ 7002 _ (kind-alt desk) (c .match .keys6))
+    (λ c. same _ 7003 _ (kind-star desk) (c .match .keys7)) (λ c. sym (at-term desk _ (omega arith) (omega arith)))
+    (λ c. sym (at-run desk _ (omega arith) (omega arith))) (λ c. sym (at-symbol desk _ (omega arith) (omega arith)))
+    (λ c. sym (at-function desk _ (omega arith) (omega arith))) (λ c. below-1000 _ (c .before .match .rest) (c .if1 .taken))
     (λ c. below-2000 _ (c .before .before .before .match .rest) (c .before .if2 .left) (c .if3 .taken))
     (λ c. below-3000 _ (c .before .before .before .before .before .match .rest) (c .before .if4 .left) (c .if5 .taken))
     (λ c. below-4000 _ (c .before .before .before .before .before .before .before .match .rest) (c .before .if6 .left) (c .if7 .taken))

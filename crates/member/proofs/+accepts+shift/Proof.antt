@@ -1,6 +1,6 @@
 -- `member::accepts` and `member::shift` call one another. The measure is twice the words of the expression that are left, and one more for `accepts`,
 -- which calls `shift` at the same place.
-use Prim.Native.Nat.{ℕ, _<_, _+_, _-_, _*_}
+use Prim.Native.Nat.{ℕ, _+_, _-_, _*_}
 use native.Mathlib.Omega.{arith}
 use borrow.Author.Needs.{needs}
 use lib.ListN.{length}
@@ -15,9 +15,9 @@ use Rattle.member.proofs.+accepts+shift.Lts-accepts as accepts-lts
 use Rattle.member.proofs.shift.Reads as shift
 use Rattle.member.proofs.shift.Kinds as shift-kinds
 use Rattle.member.proofs.+accepts+shift.Lts-shift as shift-lts
-use Rattle.member.proofs.both.Reads as both-reads
+use Rattle.bools.proofs.and.Reads as and-reads
 use Rattle.member.proofs.clear.Reads as clear-reads
-use Rattle.member.proofs.either.Reads as either-reads
+use Rattle.bools.proofs.or.Reads as or-reads
 use Rattle.member.proofs.look.Reads as look-reads
 use Rattle.member.proofs.put.Reads as put-reads
 use Rattle.member.proofs.skip.Reads as skip-reads
@@ -64,7 +64,7 @@ pub +accepts+shift-spec : {M : Type 1} → statement M
     (λ c. search (goes-on, looked-end))  -- loop-again
     (λ c. omega arith)  -- same-length
     (λ c. search (ended, looked-end)))  -- returns
-    (λ t. shift-lts.spec (look-reads.Asked, look-reads.Learnt, accepts-below t, accepts.Post, either-reads.Asked, either-reads.Learnt, shift-below t, shift.Post, put-reads.Asked, put-reads.Learnt, both-reads.Asked, both-reads.Learnt) (shift-at t) shift.Post
+    (λ t. shift-lts.spec (look-reads.Asked, look-reads.Learnt, accepts-below t, accepts.Post, or-reads.Asked, or-reads.Learnt, shift-below t, shift.Post, put-reads.Asked, put-reads.Learnt, and-reads.Asked, and-reads.Learnt) (shift-at t) shift.Post
     (λ c. omega (arith, expression-lt))  -- mul-x
     (λ c. omega (arith, expression-lt))  -- shared-slice-read-x
     (λ c. omega (arith, expression-lt))  -- add-t23
@@ -104,8 +104,8 @@ pub +accepts+shift-spec : {M : Type 1} → statement M
     let c15 = c11 .before .before .before .before in
     let c18 = c15 .before .before .before in
     let p = c18 .before .before .before .before .before .before .before .before .pre .1 in
-    sh-cat (c18 .if6 .taken) (p .0) (p .1 .1) (c15 .shift2 .ensures) (c11 .put2 .ensures) (c5 .before .before .both .ensures) (c5 .before .either2 .ensures) (c5 .shift3 .ensures)
-    (c .before .before .both2 .ensures) (c .before .both3 .ensures) (c .either3 .ensures))  -- returns-6
+    sh-cat (c18 .if6 .taken) (p .0) (p .1 .1) (c15 .shift2 .ensures) (c11 .put2 .ensures) (c5 .before .before .and .ensures) (c5 .before .or2 .ensures) (c5 .shift3 .ensures)
+    (c .before .before .and2 .ensures) (c .before .and3 .ensures) (c .or3 .ensures))  -- returns-6
     (λ c. omega (arith, expression-lt))  -- add-shift-3
     (λ c κs. (omega (arith, expression-lt), (search (first), (search needs, omega arith))))  -- shift-requires-4
     (λ c κs. (search (shifted-falls), (search (second, shifted-end), (search needs, omega arith))))  -- shift-requires-5

@@ -14,8 +14,8 @@ use Rattle.member.proofs.Standing.{expression-lt, first, second, is-alt
 use Rattle.member.proofs.look.Reads as look
 use Rattle.member.proofs.look.Kinds as look-kinds
 use Rattle.member.proofs.+look.Lts-look as look-lts
-use Rattle.member.proofs.both.Reads as both-reads
-use Rattle.member.proofs.either.Reads as either-reads
+use Rattle.bools.proofs.and.Reads as and-reads
+use Rattle.bools.proofs.or.Reads as or-reads
 use Rattle.member.proofs.+look.{statement}
 use Rattle.member.proofs.+look.Tie.{close}
 
@@ -56,7 +56,7 @@ module _ {e : List ℕ} {at : ℕ} where
 
 pub +look-spec : {M : Type 1} → statement M
 +look-spec =
-    close μ λ t. look-lts.spec (look-below t, look.Post, both-reads.Asked, both-reads.Learnt, either-reads.Asked, either-reads.Learnt) (look-at t) look.Post
+    close μ λ t. look-lts.spec (look-below t, look.Post, and-reads.Asked, and-reads.Learnt, or-reads.Asked, or-reads.Learnt) (look-at t) look.Post
     (λ c. omega (arith, expression-lt))
     (λ c. omega (arith, expression-lt))
     (λ c. omega (arith, expression-lt))

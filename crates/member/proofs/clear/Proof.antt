@@ -37,14 +37,8 @@ abbrev μ-loop : tie.MeasureT-loop
 
 pub clear-spec : {M : Type 1} → statement M
 clear-spec =
-    tie.close
-    (tie.spec
-    Inv-loop
-    μ-loop
-    (λ c. (omega arith, omega arith, cleared-none))
-    (λ c. omega (arith, c .before .loop .inv .2 .beside .len))
-    (λ c. omega arith)
-    (λ c. omega arith)
-    (λ c. (omega arith, omega arith, cleared-more (c .before .loop .inv .2) (c .before .loop .inv .0) (omega arith)))
+    tie.close (tie.spec
+    Inv-loop μ-loop (λ c. (omega arith, omega arith, cleared-none)) (λ c. omega (arith, c .before .loop .inv .2 .beside .len)) (λ c. omega arith)
+    (λ c. omega arith) (λ c. (omega arith, omega arith, cleared-more (c .before .loop .inv .2) (c .before .loop .inv .0) (omega arith)))
     (λ c. c .before .loop .inv .2 .beside .len)
     (λ c. let z : c .before .loop .i ≡ c .before .before .args .to = omega arith in rw z at (c .before .loop .inv .2)))

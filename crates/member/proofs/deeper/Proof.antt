@@ -1,5 +1,5 @@
 -- `member::deeper` meets its contract: each arm rewrites `pick` by its test.
-use mathlib.Core.Path.{_≡_, refl}
+use mathlib.Core.Path.{_≡_}
 use Prim.Native.Nat.{ℕ}
 use lib.Dec.{eqb}
 use borrow.Author.Needs.{needs}

@@ -14,15 +14,7 @@ abbrev μ-loop : tie.MeasureT-loop
 
 pub skip-spec : {M : Type 1} → statement M
 skip-spec =
-    tie.close
-    (tie.spec
-    Inv-loop
-    μ-loop
-    (λ c. search (passing-starts))
-    (λ c. omega (arith, passing-depth))
-    (λ c. omega (arith, passing-depth))
-    (λ c κs. (omega arith, omega (arith, passing-depth)))
-    (λ c. omega (arith, passing-depth))
-    (λ c. omega (arith, passing-depth))
-    (λ c. search (passing-on))
-    (λ c. search (passing-ends)))
+    tie.close (tie.spec
+    Inv-loop μ-loop (λ c. search (passing-starts)) (λ c. omega (arith, passing-depth)) (λ c. omega (arith, passing-depth))
+    (λ c κs. (omega arith, omega (arith, passing-depth))) (λ c. omega (arith, passing-depth)) (λ c. omega (arith, passing-depth))
+    (λ c. search (passing-on)) (λ c. search (passing-ends)))

@@ -7,11 +7,5 @@ use Rattle.prompt.proofs.put.Tie as tie
 
 pub put-spec : {M : Type 1} → statement M
 put-spec =
-    tie.close
-    (tie.spec
-    (λ c. search needs)
-    (λ c. search needs)
-    (λ c. search needs)
-    (λ c. search needs)
-    (λ c. search needs)
-    (λ c. put-full (omega arith) _ (c .if1 .left)))
+    tie.close (tie.spec
+    (λ c. search needs) (λ c. search needs) (λ c. search needs) (λ c. search needs) (λ c. search needs) (λ c. put-full (omega arith) _ (c .if1 .left)))

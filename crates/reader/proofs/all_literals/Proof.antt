@@ -18,17 +18,13 @@ abbrev μ-loop : tie.MeasureT-loop
 
 pub all-literals-spec : {M : Type 1} → statement M
 all-literals-spec =
-    tie.close
-    (tie.spec Inv-loop μ-loop
-    (λ c κs. search needs)
-    (λ c. search needs)
+    tie.close (tie.spec
+    Inv-loop μ-loop (λ c κs. search needs) (λ c. search needs)
     (λ c.
     let e = c .wide .ensures in
     let w = walk-starts literals 5 _ _ 6 _ (c .before .before .pre) refl (omega arith) in
     (omega arith, omega arith, omega (arith, walk-room _ _ _ _ w), w))
-    (λ c. search needs)
-    (λ c. search needs)
-    (λ c κs. search needs)
+    (λ c. search needs) (λ c. search needs) (λ c κs. search needs)
     (λ c.
     let l = c .before .before .before .loop in
     let s = walk-part _ _ _ _ (l .inv .3) (omega arith) _ (c .wide2 .ensures) in
@@ -45,10 +41,7 @@ all-literals-spec =
     let l = c .before .before .before .loop in
     let s = walk-part _ _ _ _ (l .inv .3) (omega arith) _ (c .wide2 .ensures) in
     search needs)
-    (λ c κs. search needs)
-    (λ c. search needs)
-    (λ c. search needs)
-    (λ c. search needs)
+    (λ c κs. search needs) (λ c. search needs) (λ c. search needs) (λ c. search needs)
     (λ c.
     let l = c .before .before .before .before .before .before .before .loop in
     (omega arith, l .inv .1, l .inv .2, walk-on _ _ _ _ (l .inv .3) (omega arith) _ (c .before .before .before .before .wide2 .ensures) (reads-next _ _ (sym (c .before .before .read-conj .ensures) ∙ c .enum-told .given .1))))

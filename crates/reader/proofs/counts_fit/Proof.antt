@@ -6,10 +6,8 @@ use Rattle.reader.proofs.counts_fit.Tie as tie
 
 pub counts-fit-spec : {M : Type 1} → statement M
 counts-fit-spec =
-    tie.close
-    (tie.spec
-    (λ c. no-symbol _ (c .if1 .taken))
-    (λ c. many-symbols _ (c .before .before .if1 .left) (c .if2 .taken))
+    tie.close (tie.spec
+    (λ c. no-symbol _ (c .if1 .taken)) (λ c. many-symbols _ (c .before .before .if1 .left) (c .if2 .taken))
     (λ c. many-terms _ (c .before .before .before .before .if1 .left) (c .before .before .if2 .left) (c .if3 .taken))
     (λ c. many-hedges _ (c .before .before .before .before .before .before .if1 .left) (c .before .before .before .before .if2 .left) (c .before .before .if3 .left) (c .if4 .taken))
     (λ c.

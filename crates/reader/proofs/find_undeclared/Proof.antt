@@ -20,14 +20,9 @@ abbrev μ-loop : tie.MeasureT-loop
 
 pub find-undeclared-spec : {M : Type 1} → statement M
 find-undeclared-spec =
-    tie.close
-    (tie.spec Inv-loop μ-loop
-    (λ c. refl)
-    (λ c. search needs)
-    (λ c. search needs)
-    (λ c κs. search needs)
+    tie.close (tie.spec
+    Inv-loop μ-loop (λ c. refl) (λ c. search needs) (λ c. search needs) (λ c κs. search needs)
     (λ c. scan-here _ _ _ (omega arith) (fails _ _ (c .before .is-declared .ensures) (c .if1 .taken)) ∙ c .before .before .before .before .loop .inv)
-    (λ c. search needs)
-    (λ c. search needs)
+    (λ c. search needs) (λ c. search needs)
     (λ c. scan-on _ _ _ (omega arith) (holds _ _ (c .before .is-declared .ensures) (c .if1 .left)) ∙ c .before .before .before .before .loop .inv)
     (λ c. scan-done _ _ _ (omega arith) ∙ c .before .loop .inv))

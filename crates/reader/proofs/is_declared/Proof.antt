@@ -7,13 +7,8 @@ use Rattle.reader.proofs.is_declared.Tie as tie
 
 pub is-declared-spec : {M : Type 1} → statement M
 is-declared-spec =
-    tie.close
-    (tie.spec
-    (λ c κs. search needs)
-    (λ c. search needs)
-    (λ c. search needs)
-    (λ c. search needs)
-    (λ c. search needs)
+    tie.close (tie.spec
+    (λ c κs. search needs) (λ c. search needs) (λ c. search needs) (λ c. search needs) (λ c. search needs)
     (λ c. declared-as _ _ _ _ (c .before .before .before .before .before .classify .ensures) (c .before .before .before .x .given .1))
     (λ c. declared-as _ _ _ _ (c .before .before .before .before .before .classify .ensures) (c .before .before .before .p .given .1))
     (λ c. declared-as _ _ _ _ (c .before .before .before .before .before .classify .ensures) (c .before .before .before .f .given .1))

@@ -28,21 +28,14 @@ module _ (w : List ℕ) (head n h m : ℕ) (eh : h ≡ head) (em : m ≡ n) wher
 
 pub laid-out-spec : {M : Type 1} → statement M
 laid-out-spec =
-    tie.close
-    (tie.spec
-    (λ c κs. search needs)
-    (λ c κs. search needs)
-    (λ c. search needs)
-    (λ c. search needs)
-    (λ c. short _ _ _ _ _ (c .before .before .wide .ensures) (c .before .wide2 .ensures) (c .if1 .taken))
-    (λ c. search needs)
-    (λ c. search needs)
+    tie.close (tie.spec
+    (λ c κs. search needs) (λ c κs. search needs) (λ c. search needs) (λ c. search needs)
+    (λ c. short _ _ _ _ _ (c .before .before .wide .ensures) (c .before .wide2 .ensures) (c .if1 .taken)) (λ c. search needs) (λ c. search needs)
     (λ c κs. search needs)
     (λ c.
     let c₁ = c .before in let c₂ = c₁ .before .before in let c₃ = c₂ .before in let c₄ = c₃ .before in
     elsewhere _ _ _ _ _ (c₄ .wide .ensures) (c₃ .wide2 .ensures) (c₂ .if1 .left) _ (c₁ .wide3 .ensures) (c .if2 .taken))
-    (λ c. search needs)
-    (λ c κs. search needs)
+    (λ c. search needs) (λ c κs. search needs)
     (λ c.
     let c₁ = c .before in let c₂ = c₁ .before in let c₃ = c₂ .before .before in let c₄ = c₃ .before in let c₅ = c₄ .before in
     c .rises .ensures ∙ rest _ _ _ _ _ (c₅ .wide .ensures) (c₄ .wide2 .ensures) (c₃ .if1 .left) _ (c₂ .wide3 .ensures) (c₁ .if2 .left)))

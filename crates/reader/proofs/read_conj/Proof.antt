@@ -7,9 +7,9 @@ use lib.ListN.{length, drop}
 use borrow.Author.Needs.{needs}
 use Rattle.language.specs.Limits.{desk}
 use Rattle.language.specs.Reading.{readConj}
-use Rattle.reader.specs.Places.{placed}
-use Rattle.reader.proofs.Placing.{goes-on, halts}
-use Rattle.reader.proofs.Parts.{literal-moves, conj-literal, conj-end}
+use Rattle.trees.specs.Places.{placed}
+use Rattle.trees.proofs.Placing.{goes-on, halts}
+use Rattle.trees.proofs.Parts.{literal-moves, conj-literal, conj-end}
 use Rattle.reader.proofs.read_conj.Statement.{statement}
 use Rattle.reader.proofs.read_conj.Tie as tie
 
@@ -21,11 +21,8 @@ abbrev μ-loop : tie.MeasureT-loop
 
 pub read-conj-spec : {M : Type 1} → statement M
 read-conj-spec =
-    tie.close
-    (tie.spec Inv-loop μ-loop
-    (λ c. refl)
-    (λ c κs. search needs)
-    (λ c. search needs)
+    tie.close (tie.spec
+    Inv-loop μ-loop (λ c. refl) (λ c κs. search needs) (λ c. search needs)
     (λ c. let m = literal-moves _ _ _ (sym (c .before .before .before .read-literal .ensures) ∙ c .before .after .given .1) in omega arith)
     (λ c. goes-on _ _ _ _ (sym (c .before .before .before .read-literal .ensures) ∙ c .before .after .given .1) ∙ conj-literal _ _ (omega arith) ∙ c .before .before .before .before .before .loop .inv)
     (λ c. search needs)

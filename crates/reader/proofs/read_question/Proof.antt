@@ -10,12 +10,8 @@ use Rattle.reader.proofs.read_question.Tie as tie
 -- `two` to `five` are the places behind the tests of those numbers
 pub read-question-spec : {M : Type 1} → statement M
 read-question-spec =
-    tie.close
-    (tie.spec
-    (λ c. too-short _ (c .if1 .taken))
-    (λ c. too-long _ (c .before .if1 .left) (c .if2 .taken))
-    (λ c κs. search needs)
-    (λ c κs. search needs)
+    tie.close (tie.spec
+    (λ c. too-short _ (c .if1 .taken)) (λ c. too-long _ (c .before .if1 .left) (c .if2 .taken)) (λ c κs. search needs) (λ c κs. search needs)
     (λ c.
     let two = c .before .before .before in
     counts-wrong _ (two .before .if1 .left) (two .if2 .left) _ (c .before .before .read-header .ensures) (fails _ _ (c .before .counts-fit .ensures) (c .if3 .taken)))
@@ -32,11 +28,7 @@ read-question-spec =
     let two = three .before .before .before in
     literals-wrong _ (two .before .if1 .left) (two .if2 .left) _ (three .before .before .read-header .ensures) (holds _ _ (three .before .counts-fit .ensures) (three .if3 .left))
     (holds _ _ (four .before .laid-out .ensures) (four .if4 .left)) (fails _ _ (c .before .all-literals .ensures) (c .if5 .taken)))
-    (λ c κs. search needs)
-    (λ c. search needs)
-    (λ c κs. search needs)
-    (λ c. search needs)
-    (λ c. search needs)
+    (λ c κs. search needs) (λ c. search needs) (λ c κs. search needs) (λ c. search needs) (λ c. search needs)
     (λ c.
     let five = c .before .before .before .before in
     let four = five .before .before in

@@ -19,18 +19,13 @@ abbrev μ-loop : tie.MeasureT-loop
 
 pub rises-spec : {M : Type 1} → statement M
 rises-spec =
-    tie.close
-    (tie.spec Inv-loop μ-loop
-    (λ c. (omega arith, refl))
-    (λ c. search needs)
-    (λ c. search needs)
-    (λ c κs. search needs)
+    tie.close (tie.spec
+    Inv-loop μ-loop (λ c. (omega arith, refl)) (λ c. search needs) (λ c. search needs) (λ c κs. search needs)
     (λ c.
     let a = c .before .before .before .before .before .before .args in
     let l = c .before .before .before .before .loop in
     rising-falls (l .i) (a .stop) (l .last) (length (a .w .now)) (a .w .now) (omega arith) (omega arith) _ (c .before .wide .ensures) (c .if1 .taken) ∙ l .inv .1)
-    (λ c. search needs)
-    (λ c. search needs)
+    (λ c. search needs) (λ c. search needs)
     (λ c.
     let a = c .before .before .before .before .before .before .args in
     let l = c .before .before .before .before .loop in

@@ -12,12 +12,6 @@ Inv-loop k r cut times left₀ at₀ n₀ left at n = sizedFrom n (cuts k r left
 abbrev μ-loop : tie.MeasureT-loop
 μ-loop k r cut times left₀ at₀ n₀ left at n = left
 
-loop-holds : tie.Need-loop-holds Inv-loop μ-loop
-loop-holds c = refl
-
-made-len-requires : tie.Need-made-len-requires Inv-loop μ-loop
-made-len-requires c κs = c .before .before .before .pre
-
 returns : tie.Need-returns Inv-loop μ-loop
 unfolding sized
 returns c =
@@ -36,16 +30,6 @@ returns-2 c = let a = c .before .before .before .args in sym (ap (sizedFrom (c .
 
 pub size-cuts-spec : {M : Type 1} → statement M
 size-cuts-spec =
-    tie.close
-    (tie.spec
-    Inv-loop
-    μ-loop
-    loop-holds
-    made-len-requires
-    returns
-    (λ c κs. search needs)
-    (λ c κs. search needs)
-    (λ c. search needs)
-    (λ c. search needs)
-    loop-again
-    returns-2)
+    tie.close (tie.spec
+    Inv-loop μ-loop (λ c. refl) (λ c κs. c .before .before .before .pre) returns (λ c κs. search needs) (λ c κs. search needs) (λ c. search needs)
+    (λ c. search needs) loop-again returns-2)

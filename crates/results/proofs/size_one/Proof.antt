@@ -13,10 +13,4 @@ returns-2 : tie.Need-returns-2
 returns-2 c = let a = c .before .before .before .before .args in size-more (a .n) (made (a .k .now) (a .r) (a .cut)) [] _ (c .before .before .made-len .ensures) (c .before .if1 .left) _ (c .grow .ensures)
 
 pub size-one-spec : {M : Type 1} → statement M
-size-one-spec =
-    tie.close
-    (tie.spec
-    (λ c κs. search needs)
-    returns
-    (λ c κs. search needs)
-    returns-2)
+size-one-spec = tie.close (tie.spec (λ c κs. search needs) returns (λ c κs. search needs) returns-2)

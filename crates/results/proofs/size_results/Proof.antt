@@ -1,7 +1,7 @@
 -- By the plan's ways.
 use mathlib.Core.Path.{refl}
 use Rattle.plans.specs.Sizes.{sized}
-use Rattle.plans.specs.declared.Ways.the-variants.{Drop, Two, Monomials}
+use Rattle.plans.specs.declared.Ways.the-variants.{Drop, Two}
 use Rattle.results.proofs.Planned.{sized-by}
 use borrow.Author.Needs.{needs}
 use Rattle.results.proofs.size_results.Statement.{statement}
@@ -21,23 +21,8 @@ returns-4 : tie.Need-returns-4
 unfolding sized
 returns-4 c = sized-by _ (c .before .before .before .before .before .before .before .args .plan) _ (c .before .before .ways2 .given .1) (c .size-cuts .ensures)
 
-returns-5 : tie.Need-returns-5
-returns-5 c = sized-by _ (c .before .before .before .before .before .args .plan) Monomials (search needs) refl
-
 pub size-results-spec : {M : Type 1} → statement M
 size-results-spec =
-    tie.close
-    (tie.spec
-    (λ c. search needs)
-    (λ c. search needs)
-    (λ c κs. search needs)
-    (λ c. search needs)
-    (λ c κs. search needs)
-    (λ c. search needs)
-    (λ c κs. search needs)
-    (λ c. search needs)
-    returns
-    returns-2
-    returns-3
-    returns-4
-    returns-5)
+    tie.close (tie.spec
+    (λ c. search needs) (λ c. search needs) (λ c κs. search needs) (λ c. search needs) (λ c κs. search needs) (λ c. search needs)
+    (λ c κs. search needs) returns returns-2 returns-3 returns-4)

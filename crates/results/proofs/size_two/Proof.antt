@@ -15,12 +15,4 @@ unfolding sized
 returns-2 c = let a = c .before .before .before .before .before .before .args in two-more (made (a .k .now) (a .a) 0) (made (a .k .now) (a .b) 0) _ (c .before .before .before .before .size-one .ensures) _ (c .before .before .s .given .1) _ (c .size-one2 .ensures)
 
 pub size-two-spec : {M : Type 1} → statement M
-size-two-spec =
-    tie.close
-    (tie.spec
-    (λ c κs. search needs)
-    (λ c. search needs)
-    (λ c. search needs)
-    (λ c κs. search needs)
-    returns
-    returns-2)
+size-two-spec = tie.close (tie.spec (λ c κs. search needs) (λ c. search needs) (λ c. search needs) (λ c κs. search needs) returns returns-2)

@@ -1,9 +1,8 @@
 -- The loop's invariant: the results for the cuts that are left are still to come, and none is too long.
-use Rattle.words.specs.Spans.{elementEnd}
 use Rattle.frames.specs.Frames.{framed}
 use Rattle.plans.specs.Sizes.{Short}
 use mathlib.Core.Path.{refl, ap}
-use Rattle.results.proofs.Still.{Still, still-all, still-none, still-fits, still-run}
+use Rattle.slices.proofs.Still.{Still, still-all, still-none, still-fits, still-run}
 use Rattle.results.proofs.Results.{cuts, cuts-none, cuts-split, cuts-short}
 use borrow.Author.Needs.{needs}
 use Rattle.results.proofs.write_cuts.Statement.{statement}
@@ -34,23 +33,11 @@ loop-again c =
       cuts-short (a .k .now) (a .r) (c₃ .loop .left) (c₃ .loop .c) (c₂ .loop-test .taken) _ (c .element-end .ensures) (c₃ .loop .inv .1) .1,
     )
 
-same-length : tie.Need-same-length Inv-loop μ-loop
-same-length c = c .before .loop .inv .0 .size
-
 returns : tie.Need-returns Inv-loop μ-loop
 returns c = let a = c .before .before .before .before .args in still-none (c .before .loop .inv .0) (ap framed (cuts-none (a .k .now) (a .r) (c .before .loop .left) (c .before .loop .c) (c .loop-test .left)))
 
 pub write-cuts-spec : {M : Type 1} → statement M
 write-cuts-spec =
-    tie.close
-    (tie.spec
-    Inv-loop
-    μ-loop
-    loop-holds
-    write-framed-requires
-    (λ c κs. search needs)
-    (λ c. search needs)
-    (λ c. search needs)
-    loop-again
-    same-length
-    returns)
+    tie.close (tie.spec
+    Inv-loop μ-loop loop-holds write-framed-requires (λ c κs. search needs) (λ c. search needs) (λ c. search needs) loop-again
+    (λ c. c .before .loop .inv .0 .size) returns)

@@ -1,7 +1,7 @@
 -- By the plan's ways.
 use Rattle.plans.specs.Results.{made}
-use Rattle.plans.specs.declared.Ways.the-variants.{Drop, Two, Monomials}
-use Rattle.results.proofs.Still.{wrote-as, fits-as}
+use Rattle.plans.specs.declared.Ways.the-variants.{Drop, Two}
+use Rattle.slices.proofs.Still.{wrote-as, fits-as}
 use Rattle.results.proofs.Planned.{framed-one, ready-by, wrote-by, wrote-none}
 use borrow.Author.Needs.{needs}
 use Rattle.results.proofs.write_results.Statement.{statement}
@@ -37,26 +37,8 @@ returns-3 c = wrote-by _ (c .before .before .before .before .before .before .bef
 returns-4 : tie.Need-returns-4
 returns-4 c = wrote-by _ (c .before .before .before .before .before .before .before .before .before .before .before .args .plan) _ (c .before .before .before .before .before .ways2 .given .1) (c .before .before .write-cuts .ensures)
 
-returns-5 : tie.Need-returns-5
-returns-5 c = wrote-by _ (c .before .before .before .before .before .before .args .plan) Monomials (search needs) (wrote-none _ _)
-
 pub write-results-spec : {M : Type 1} → statement M
 write-results-spec =
-    tie.close
-    (tie.spec
-    (λ c. search needs)
-    (λ c. search needs)
-    write-framed-requires
-    (λ c. search needs)
-    write-two-requires
-    (λ c. search needs)
-    write-cuts-requires
-    (λ c. search needs)
-    returns
-    (λ c. search needs)
-    returns-2
-    (λ c. search needs)
-    returns-3
-    (λ c. search needs)
-    returns-4
-    returns-5)
+    tie.close (tie.spec
+    (λ c. search needs) (λ c. search needs) write-framed-requires (λ c. search needs) write-two-requires (λ c. search needs) write-cuts-requires
+    returns (λ c. search needs) returns-2 (λ c. search needs) returns-3 (λ c. search needs) returns-4)

@@ -2,7 +2,7 @@
 use mathlib.Core.Path.{refl}
 use mathlib.Core.List.{[], _∷_}
 use Rattle.plans.specs.Results.{made}
-use Rattle.results.proofs.Still.{still-all, still-none, still-fits, still-run}
+use Rattle.slices.proofs.Still.{still-all, still-none, still-fits, still-run}
 use Rattle.results.proofs.Results.{framed-split}
 use borrow.Author.Needs.{needs}
 use Rattle.results.proofs.write_two.Statement.{statement}
@@ -31,10 +31,4 @@ returns c =
     still-none (still-run (still-run (still-all (a .out .now) _ _ (c₃ .pre .room)) (framed-split v (w ∷ [])) (c₂ .write-framed .ensures)) (framed-split w []) (c₁ .write-framed2 .ensures)) refl
 
 pub write-two-spec : {M : Type 1} → statement M
-write-two-spec =
-    tie.close
-    (tie.spec
-    write-framed-requires
-    write-framed-requires-2
-    (λ c. search needs)
-    returns)
+write-two-spec = tie.close (tie.spec write-framed-requires write-framed-requires-2 (λ c. search needs) returns)

@@ -14,15 +14,8 @@ abbrev μ-loop : tie.MeasureT-loop
 
 pub all-spec : {M : Type 1} → statement M
 all-spec =
-    tie.close
-    (tie.spec Inv-loop μ-loop
-    (λ c. search needs)
-    (λ c κs. search needs)
-    (λ c. let a = c .line-end .ensures .ahead (omega arith) in search needs)
-    (λ c. let a = c .line-end .ensures .ahead (omega arith) in search needs)
-    (λ c. let a = c .line-end .ensures .ahead (omega arith) in search needs)
-    (λ c κs. search needs)
-    (λ c. search needs)
-    (λ c. let a = c .before .before .line-end .ensures .ahead (omega arith) in search needs)
-    (λ c. search needs)
-    (λ c. search needs))
+    tie.close (tie.spec
+    Inv-loop μ-loop (λ c. search needs) (λ c κs. search needs) (λ c. let a = c .line-end .ensures .ahead (omega arith) in search needs)
+    (λ c. let a = c .line-end .ensures .ahead (omega arith) in search needs) (λ c. let a = c .line-end .ensures .ahead (omega arith) in search needs)
+    (λ c κs. search needs) (λ c. search needs) (λ c. let a = c .before .before .line-end .ensures .ahead (omega arith) in search needs)
+    (λ c. search needs) (λ c. search needs))

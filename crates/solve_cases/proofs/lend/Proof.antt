@@ -14,14 +14,6 @@ abbrev μ-loop : tie.MeasureT-loop
 
 pub lend-spec : {M : Type 1} → statement M
 lend-spec =
-    tie.close
-    (tie.spec Inv-loop μ-loop
-    (λ c. search needs)
-    (λ c κs. search needs)
-    (λ c. search needs)
-    (λ c. search needs)
-    (λ c. search needs)
-    (λ c. search needs)
-    (λ c. simp length-set (c .before .before .loop .inv))
-    (λ c. search needs)
-    (λ c. search needs))
+    tie.close (tie.spec
+    Inv-loop μ-loop (λ c. search needs) (λ c κs. search needs) (λ c. search needs) (λ c. search needs) (λ c. search needs) (λ c. search needs)
+    (λ c. simp length-set (c .before .before .loop .inv)) (λ c. search needs) (λ c. search needs))

@@ -41,13 +41,4 @@ returns-2 c =
     λ v d behind f e b. scan-ends (c₂ .args .k .now) v (c₂ .args .x) f e (c₁ .loop .i) (c₂ .args .to) d behind (c₁ .loop .inv v d behind f e b) (c .loop-test .left)
 
 pub in-members-spec : {M : Type 1} → statement M
-in-members-spec =
-    tie.close
-    (tie.spec Inv-loop μ-loop
-    loop-holds
-    (λ c κs. search needs)
-    (λ c κs. search needs)
-    returns
-    loop-less
-    loop-again
-    returns-2)
+in-members-spec = tie.close (tie.spec Inv-loop μ-loop loop-holds (λ c κs. search needs) (λ c κs. search needs) returns loop-less loop-again returns-2)

@@ -22,9 +22,6 @@ Inv-loop k i₀ i = (c : Conj) → fineConj desk c → k ≡ conjWords c → Wal
 abbrev μ-loop : tie.MeasureT-loop
 μ-loop k i₀ i = length k - i
 
-loop-holds : tie.Need-loop-holds Inv-loop μ-loop
-loop-holds c = λ x f e. walk-starts (Decides x) x (decides-starts x)
-
 returns : tie.Need-returns Inv-loop μ-loop
 returns c =
     let c₁ = c .before in let c₂ = c₁ .before .before in let c₃ = c₂ .before in let c₄ = c₃ .before .before in
@@ -47,12 +44,6 @@ returns-2 c = λ x f e. walk-ends (c .before .before .before .args .k .now) x f 
 
 pub is-solved-spec : {M : Type 1} → statement M
 is-solved-spec =
-    tie.close
-    (tie.spec Inv-loop μ-loop
-    loop-holds
-    (λ c κs. search needs)
-    (λ c κs. search needs)
-    returns
-    loop-less
-    loop-again
-    returns-2)
+    tie.close (tie.spec
+    Inv-loop μ-loop (λ c. λ x f e. walk-starts (Decides x) x (decides-starts x)) (λ c κs. search needs) (λ c κs. search needs) returns loop-less
+    loop-again returns-2)

@@ -1,5 +1,4 @@
 -- The run is under way, and its end is that of the beginning.
-use Prim.Native.Nat.{_-_}
 use mathlib.Core.Path.{_≡_, refl, _∙_}
 use mathlib.Core.List.{List}
 use Prim.Native.Nat.{ℕ}
@@ -54,17 +53,6 @@ returns-2 c = λ oldWork oldAnswer ls w p. run-over oldWork oldAnswer _ _ _ _ (c
 
 pub go-on-spec : {M : Type 1} → statement M
 go-on-spec =
-    tie.close
-    (tie.spec Inv-loop μ-loop
-    loop-holds
-    turn-requires
-    (λ c. search needs)
-    loop-less
-    loop-again
-    (λ c. search needs)
-    (λ c. search needs)
-    (λ c. search needs)
-    returns
-    (λ c. search needs)
-    (λ c. search needs)
-    returns-2)
+    tie.close (tie.spec
+    Inv-loop μ-loop loop-holds turn-requires (λ c. search needs) loop-less loop-again (λ c. search needs) (λ c. search needs) (λ c. search needs)
+    returns (λ c. search needs) (λ c. search needs) returns-2)

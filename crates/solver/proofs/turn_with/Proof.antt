@@ -25,12 +25,5 @@ returns-2 c =
 
 pub turn-with-spec : {M : Type 1} → statement M
 turn-with-spec =
-    tie.close
-    (tie.spec
-    (λ c κs. search needs)
-    (λ c κs. search needs)
-    (λ c. search needs)
-    returns
-    advance-requires
-    (λ c. search needs)
-    returns-2)
+    tie.close (tie.spec
+    (λ c κs. search needs) (λ c κs. search needs) (λ c. search needs) returns advance-requires (λ c. search needs) returns-2)

@@ -41,9 +41,6 @@ rank-at-requires c κs =
           λ done l rest p d. record { before = done; l = l; behind = rest; stands = p },
     )
 
-loop-less : tie.Need-loop-less Inv-loop μ-loop
-loop-less c = let z = c .beyond .ensures .0 in omega arith
-
 loop-again : tie.Need-loop-again Inv-loop μ-loop
 loop-again c =
     let c₁ = c .before in let c₂ = c₁ .before .before in let c₃ = c₂ .before in let c₄ = c₃ .before in let c₅ = c₄ .before .before in (
@@ -62,12 +59,6 @@ returns c = (c .before .loop .inv .0, λ x f e. walk-ends (c .before .before .be
 
 pub find-spec : {M : Type 1} → statement M
 find-spec =
-    tie.close
-    (tie.spec Inv-loop μ-loop
-    loop-holds
-    rank-at-requires
-    (λ c κs. search needs)
-    (λ c κs. search needs)
-    loop-less
-    loop-again
-    returns)
+    tie.close (tie.spec
+    Inv-loop μ-loop loop-holds rank-at-requires (λ c κs. search needs) (λ c κs. search needs) (λ c. let z = c .beyond .ensures .0 in omega arith)
+    loop-again returns)

@@ -1,11 +1,9 @@
 -- The plan of the side that the rank was found from, or of the membership.
-use mathlib.Core.Path.{_≡_}
 use mathlib.Core.List.{_++_}
 use borrow.Author.Needs.{needs}
-use Rattle.rules.specs.Places.{atM2}
 use Rattle.steps.specs.Ranking.{sideAnswer}
 use Rattle.views.proofs.LiteralWalks.{at-equation, at-membership}
-use Rattle.equations.specs.Planned.{Planned}
+use Rattle.plans.specs.Planned.{Planned}
 use Rattle.steps.proofs.Asked.{applies-swapped, applies-written, applies-member}
 use Rattle.steps.proofs.plan_at.Statement.{statement}
 use Rattle.steps.proofs.plan_at.Tie as tie
@@ -24,15 +22,15 @@ plan-equation-requires-2 c κs =
 plan-membership-requires : tie.Need-plan-membership-requires
 plan-membership-requires c κs =
     let c₁ = c .before in let c₂ = c₁ .before .before .before in
-    applies-member (c₂ .args .k .now) (c₂ .args .b) (c₂ .pre .1) _ (c₁ .if1 .left) (c .show-membership .ensures .0)
+    applies-member (c₂ .args .k .now) (c₂ .args .b) (c₂ .pre .1) _ (c₂ .pre .0 .1) (c₁ .if1 .left) (c .show-membership .ensures .0)
 
 returns : tie.Need-returns
 returns c =
     let c₁ = c .before in let c₂ = c₁ .before in let c₃ = c₂ .before in let c₄ = c₃ .before in let c₅ = c₄ .before .before .before in
     let b = c₅ .args .b in
     let k = c₅ .args .k .now in
-    at-equation k (b .at) (λ before l behind. (b .rank ≡ atM2 → ⊥) → Planned k (c .plan-equation .result) before behind (sideAnswer (b .swap) (b .rank) (before ++ behind) l)) (c₄ .if1 .taken)
-    λ before l r behind p n.
+    at-equation k (b .at) (λ before l behind. Planned k (c .plan-equation .result) before behind (sideAnswer (b .swap) (b .rank) (before ++ behind) l)) (c₄ .if1 .taken)
+    λ before l r behind p.
     let s = c₃ .see .ensures .0 before l r behind p in
     rw (c₂ .if2 .taken) (c .plan-equation .ensures .results before behind r l (c₁ .swapped .ensures .0 k before behind l r s))
 
@@ -41,29 +39,19 @@ returns-2 c =
     let c₁ = c .before in let c₂ = c₁ .before in let c₃ = c₂ .before in let c₄ = c₃ .before .before .before in
     let b = c₄ .args .b in
     let k = c₄ .args .k .now in
-    at-equation k (b .at) (λ before l behind. (b .rank ≡ atM2 → ⊥) → Planned k (c .plan-equation2 .result) before behind (sideAnswer (b .swap) (b .rank) (before ++ behind) l)) (c₃ .if1 .taken)
-    λ before l r behind p n. rw (c₁ .if2 .left) (c .plan-equation2 .ensures .results before behind l r (c₂ .see .ensures .0 before l r behind p))
+    at-equation k (b .at) (λ before l behind. Planned k (c .plan-equation2 .result) before behind (sideAnswer (b .swap) (b .rank) (before ++ behind) l)) (c₃ .if1 .taken)
+    λ before l r behind p. rw (c₁ .if2 .left) (c .plan-equation2 .ensures .results before behind l r (c₂ .see .ensures .0 before l r behind p))
 
 returns-3 : tie.Need-returns-3
 returns-3 c =
     let c₁ = c .before in let c₂ = c₁ .before in let c₃ = c₂ .before .before .before in
     let b = c₃ .args .b in
     let k = c₃ .args .k .now in
-    at-membership k (b .at) (λ before l behind. (b .rank ≡ atM2 → ⊥) → Planned k (c .plan-membership .result) before behind (sideAnswer (b .swap) (b .rank) (before ++ behind) l)) (c₂ .if1 .left)
-    λ before h R behind p n. c .plan-membership .ensures .results n before h R behind (c₁ .show-membership .ensures .0 before h R behind p)
+    at-membership k (b .at) (λ before l behind. Planned k (c .plan-membership .result) before behind (sideAnswer (b .swap) (b .rank) (before ++ behind) l)) (c₂ .if1 .left)
+    λ before h R behind p. c .plan-membership .ensures .results before h R behind (c₁ .show-membership .ensures .0 before h R behind p)
 
 pub plan-at-spec : {M : Type 1} → statement M
 plan-at-spec =
-    tie.close
-    (tie.spec
-    (λ c. search needs)
-    (λ c. search needs)
-    (λ c κs. search needs)
-    (λ c κs. search needs)
-    plan-equation-requires
-    returns
-    plan-equation-requires-2
-    returns-2
-    (λ c κs. search needs)
-    plan-membership-requires
-    returns-3)
+    tie.close (tie.spec
+    (λ c. search needs) (λ c. search needs) (λ c κs. search needs) (λ c κs. search needs) plan-equation-requires returns plan-equation-requires-2
+    returns-2 (λ c κs. search needs) plan-membership-requires returns-3)

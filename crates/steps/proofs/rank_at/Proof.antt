@@ -67,16 +67,6 @@ returns-3 c =
 
 pub rank-at-spec : {M : Type 1} → statement M
 rank-at-spec =
-    tie.close
-    (tie.spec
-    (λ c. search needs)
-    (λ c. search needs)
-    (λ c κs. search needs)
-    rank-equation-requires
-    (λ c κs. search needs)
-    rank-equation-requires-2
-    returns
-    returns-2
-    (λ c κs. search needs)
-    rank-membership-requires
-    returns-3)
+    tie.close (tie.spec
+    (λ c. search needs) (λ c. search needs) (λ c κs. search needs) rank-equation-requires (λ c κs. search needs) rank-equation-requires-2 returns
+    returns-2 (λ c κs. search needs) rank-membership-requires returns-3)

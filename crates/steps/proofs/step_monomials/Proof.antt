@@ -49,14 +49,6 @@ returns-3 c =
 
 pub step-monomials-spec : {M : Type 1} → statement M
 step-monomials-spec =
-    tie.close
-    (tie.spec
-    (λ c κs. search needs)
-    size-monomials-requires
-    (λ c. search needs)
-    (λ c. search needs)
-    returns
-    write-monomials-requires
-    returns-2
-    (λ c. search needs)
-    returns-3)
+    tie.close (tie.spec
+    (λ c κs. search needs) size-monomials-requires (λ c. search needs) (λ c. search needs) returns write-monomials-requires returns-2
+    (λ c. search needs) returns-3)

@@ -22,13 +22,5 @@ returns-3 c =
 
 pub step-planned-spec : {M : Type 1} → statement M
 step-planned-spec =
-    tie.close
-    (tie.spec
-    (λ c κs. search needs)
-    (λ c. search needs)
-    (λ c. search needs)
-    returns
-    write-results-requires
-    returns-2
-    (λ c. search needs)
-    returns-3)
+    tie.close (tie.spec
+    (λ c κs. search needs) (λ c. search needs) (λ c. search needs) returns write-results-requires returns-2 (λ c. search needs) returns-3)

@@ -17,16 +17,9 @@ returns c =
     took-monomials (c₃ .args .k .now) _ _ (c₃ .args .next) (b .at) (b .rank) (b .swap) _ (c₂ .if1 .taken) (c₁ .step-monomials .ensures)
 
 returns-2 : tie.Need-returns-2
-returns-2 c = λ before l behind bs p a. took-as (c .before .before .before .before .plan-at .ensures before l behind p (c .before .before .before .before .before .if1 .left) .results bs a) (c .before .before .step-planned .ensures)
+returns-2 c = λ before l behind bs p a. took-as (c .before .before .before .before .plan-at .ensures before l behind p .results bs a) (c .before .before .step-planned .ensures)
 
 pub take-step-spec : {M : Type 1} → statement M
 take-step-spec =
-    tie.close
-    (tie.spec
-    step-monomials-requires
-    (λ c. search needs)
-    returns
-    (λ c κs. search needs)
-    (λ c κs. search needs)
-    (λ c. search needs)
-    returns-2)
+    tie.close (tie.spec
+    step-monomials-requires (λ c. search needs) returns (λ c κs. search needs) (λ c κs. search needs) (λ c. search needs) returns-2)

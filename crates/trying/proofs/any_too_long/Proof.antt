@@ -71,32 +71,9 @@ loop-again c =
     let c₁ = c .before in let c₂ = c₁ .before .before in let c₃ = c₂ .before .before in let c₄ = c₃ .before .before .before in
     measuring-on _ _ _ (c₄ .loop .inv) (omega arith) (c₃ .wide2 .ensures) (c₂ .wide3 .ensures) (c₁ .too-long .ensures) (c .if1 .left)
 
-returns-2 : tie.Need-returns-2 Inv-loop μ-loop
-returns-2 c = measuring-ends _ _ _ (c .before .loop .inv) (omega arith)
-
 pub any-too-long-spec : {M : Type 1} → statement M
 any-too-long-spec =
-    tie.close
-    (tie.spec
-    Inv-loop
-    μ-loop
-    (λ c κs. search needs)
-    loop-holds
-    add-wide
-    mul-wide
-    shared-slice-read-wide
-    (λ c κs. search needs)
-    add-wide-2
-    mul-wide-2
-    shared-slice-read-wide-2
-    (λ c κs. search needs)
-    mul-too-long
-    sub-too-long
-    part-too-long-start
-    part-too-long-end
-    too-long-requires
-    returns
-    add-i
-    (λ c. search needs)
-    loop-again
-    returns-2)
+    tie.close (tie.spec
+    Inv-loop μ-loop (λ c κs. search needs) loop-holds add-wide mul-wide shared-slice-read-wide (λ c κs. search needs) add-wide-2 mul-wide-2
+    shared-slice-read-wide-2 (λ c κs. search needs) mul-too-long sub-too-long part-too-long-start part-too-long-end too-long-requires returns add-i
+    (λ c. search needs) loop-again (λ c. measuring-ends _ _ _ (c .before .loop .inv) (omega arith)))

@@ -15,9 +15,6 @@ Inv-loop h filling conj work₀ i₀ work i = Testing (countsIn h) filling conj 
 abbrev μ-loop : tie.MeasureT-loop
 μ-loop h filling conj work₀ i₀ work i = length conj - i
 
-loop-holds : tie.Need-loop-holds Inv-loop μ-loop
-loop-holds c = test-starts _ _ _ _ (c .before .before .before .pre .0)
-
 mul-meets-literal : tie.Need-mul-meets-literal Inv-loop μ-loop
 mul-meets-literal c =
     let x = test-here _ _ _ (c .before .before .loop .inv) (c .literal-end .ensures) (omega arith) in
@@ -59,28 +56,9 @@ loop-again c =
     let c₁ = c .before .before .before in let c₂ = c₁ .before .before .before in let c₃ = c₂ .before .before in
     test-on _ _ _ (c₃ .loop .inv) (c₂ .literal-end .ensures) (omega arith) (c₁ .meets-literal .ensures) (not-false _ (c .if1 .left))
 
-same-length-2 : tie.Need-same-length-2 Inv-loop μ-loop
-same-length-2 c = c .before .loop .inv .keeps .len
-
-returns-2 : tie.Need-returns-2 Inv-loop μ-loop
-returns-2 c = test-ends _ _ _ (c .before .loop .inv) (omega arith)
-
 pub meets-all-spec : {M : Type 1} → statement M
 meets-all-spec =
-    tie.close
-    (tie.spec
-    Inv-loop
-    μ-loop
-    loop-holds
-    (λ c κs. search needs)
-    mul-meets-literal
-    sub-meets-literal
-    part-meets-literal-start
-    part-meets-literal-end
-    meets-literal-requires
-    same-length
-    returns
-    loop-less
-    loop-again
-    same-length-2
-    returns-2)
+    tie.close (tie.spec
+    Inv-loop μ-loop (λ c. test-starts _ _ _ _ (c .before .before .before .pre .0)) (λ c κs. search needs) mul-meets-literal sub-meets-literal
+    part-meets-literal-start part-meets-literal-end meets-literal-requires same-length returns loop-less loop-again
+    (λ c. c .before .loop .inv .keeps .len) (λ c. test-ends _ _ _ (c .before .loop .inv) (omega arith)))

@@ -1,5 +1,4 @@
 -- `trying::meets_equation` meets its contract: both sides stand in the work slice, one after the other, and are compared.
-use native.Mathlib.Omega.{arith}
 use borrow.Author.Needs.{needs}
 use Rattle.trying.proofs.Tests.{equation-met}
 use Rattle.trying.proofs.meets_equation.Statement.{statement}
@@ -14,17 +13,6 @@ returns c =
 
 pub meets-equation-spec : {M : Type 1} → statement M
 meets-equation-spec =
-    tie.close
-    (tie.spec
-    (λ c κs. search needs)
-    (λ c κs. search needs)
-    (λ c. search needs)
-    (λ c. search needs)
-    (λ c. search needs)
-    (λ c. search needs)
-    (λ c. search needs)
-    (λ c. search needs)
-    (λ c. search needs)
-    (λ c κs. search needs)
-    (λ c. search needs)
-    returns)
+    tie.close (tie.spec
+    (λ c κs. search needs) (λ c κs. search needs) (λ c. search needs) (λ c. search needs) (λ c. search needs) (λ c. search needs) (λ c. search needs)
+    (λ c. search needs) (λ c. search needs) (λ c κs. search needs) (λ c. search needs) returns)

@@ -78,29 +78,8 @@ returns-2 c =
 
 pub meets-literal-spec : {M : Type 1} → statement M
 meets-literal-spec =
-    tie.close
-    (tie.spec
-    (λ c κs. search needs)
-    (λ c κs. search needs)
-    (λ c κs. search needs)
-    shared-slice-read-if1
-    sub-meets-equation
-    part-meets-equation-start
-    part-meets-equation-end
-    mul-meets-equation
-    sub-meets-equation-2
-    part-meets-equation-start-2
-    part-meets-equation-end-2
-    meets-equation-requires
-    (λ c. search needs)
-    returns
-    sub-meets-membership
-    part-meets-membership-start
-    part-meets-membership-end
-    mul-meets-membership
-    sub-meets-membership-2
-    part-meets-membership-start-2
-    part-meets-membership-end-2
-    meets-membership-requires
-    (λ c. search needs)
-    returns-2)
+    tie.close (tie.spec
+    (λ c κs. search needs) (λ c κs. search needs) (λ c κs. search needs) shared-slice-read-if1 sub-meets-equation part-meets-equation-start
+    part-meets-equation-end mul-meets-equation sub-meets-equation-2 part-meets-equation-start-2 part-meets-equation-end-2 meets-equation-requires
+    (λ c. search needs) returns sub-meets-membership part-meets-membership-start part-meets-membership-end mul-meets-membership sub-meets-membership-2
+    part-meets-membership-start-2 part-meets-membership-end-2 meets-membership-requires (λ c. search needs) returns-2)

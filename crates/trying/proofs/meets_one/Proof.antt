@@ -76,37 +76,9 @@ loop-again c =
     let c₁ = c .before .before .before in let c₂ = c₁ .before .before .before in let c₃ = c₂ .before .before in let c₄ = c₃ .before .before .before in
     trying-next _ _ _ (c₄ .loop .inv) (omega arith) (c₃ .wide2 .ensures) (c₂ .wide3 .ensures) (c₁ .meets-all .ensures) (c .if1 .left)
 
-same-length-2 : tie.Need-same-length-2 Inv-loop μ-loop
-same-length-2 c = c .before .loop .inv .keeps .len
-
-returns-2 : tie.Need-returns-2 Inv-loop μ-loop
-returns-2 c = trying-ends _ _ _ (c .before .loop .inv) (omega arith)
-
 pub meets-one-spec : {M : Type 1} → statement M
 meets-one-spec =
-    tie.close
-    (tie.spec
-    Inv-loop
-    μ-loop
-    (λ c κs. search needs)
-    loop-holds
-    add-wide
-    mul-wide
-    shared-slice-read-wide
-    (λ c κs. search needs)
-    add-wide-2
-    mul-wide-2
-    shared-slice-read-wide-2
-    (λ c κs. search needs)
-    mul-meets-all
-    sub-meets-all
-    part-meets-all-start
-    part-meets-all-end
-    meets-all-requires
-    same-length
-    returns
-    add-i
-    (λ c. search needs)
-    loop-again
-    same-length-2
-    returns-2)
+    tie.close (tie.spec
+    Inv-loop μ-loop (λ c κs. search needs) loop-holds add-wide mul-wide shared-slice-read-wide (λ c κs. search needs) add-wide-2 mul-wide-2
+    shared-slice-read-wide-2 (λ c κs. search needs) mul-meets-all sub-meets-all part-meets-all-start part-meets-all-end meets-all-requires same-length
+    returns add-i (λ c. search needs) loop-again (λ c. c .before .loop .inv .keeps .len) (λ c. trying-ends _ _ _ (c .before .loop .inv) (omega arith)))

@@ -15,18 +15,8 @@ abbrev μ-loop : tie.MeasureT-loop
 
 pub same-spec : {M : Type 1} → statement M
 same-spec =
-    tie.close
-    (tie.spec
-    Inv-loop
-    μ-loop
-    (λ c. other-length (omega arith))
-    (λ c. alike-starts (omega arith))
-    (λ c. search needs)
-    (λ c. search needs)
-    (λ c. omega (arith, c .before .before .loop .inv .len))
-    (λ c. omega (arith, c .before .before .before .loop .inv .len))
-    (λ c. differs _ _ (c .before .before .before .before .loop .i) (c .if2 .taken))
-    (λ c. search needs)
-    (λ c. search needs)
-    (λ c. alike-on (c .before .before .before .before .loop .inv) (c .if2 .left))
-    (λ c. alike-ends (c .before .loop .inv) (omega arith)))
+    tie.close (tie.spec
+    Inv-loop μ-loop (λ c. other-length (omega arith)) (λ c. alike-starts (omega arith)) (λ c. search needs) (λ c. search needs)
+    (λ c. omega (arith, c .before .before .loop .inv .len)) (λ c. omega (arith, c .before .before .before .loop .inv .len))
+    (λ c. differs _ _ (c .before .before .before .before .loop .i) (c .if2 .taken)) (λ c. search needs) (λ c. search needs)
+    (λ c. alike-on (c .before .before .before .before .loop .inv) (c .if2 .left)) (λ c. alike-ends (c .before .loop .inv) (omega arith)))

@@ -3,7 +3,6 @@ use Prim.Native.Nat.{_-_}
 use native.Mathlib.Omega.{arith}
 use lib.ListN.{length}
 use borrow.Author.Needs.{needs}
-use borrow.Author.Tests.{not-true, not-false}
 use Rattle.reader.specs.Checking.{countsIn}
 use Rattle.trying.proofs.Scans.{Scanning, scan-starts, scan-here, scan-ready, scan-over, scan-on, scan-ends}
 use Rattle.trying.proofs.too_long.Statement.{statement}
@@ -14,9 +13,6 @@ Inv-loop h filling conj i₀ i = Scanning (countsIn h) filling conj i
 
 abbrev μ-loop : tie.MeasureT-loop
 μ-loop h filling conj i₀ i = length conj - i
-
-loop-holds : tie.Need-loop-holds Inv-loop μ-loop
-loop-holds c = scan-starts _ _ _ (c .before .before .pre)
 
 mul-filled-len : tie.Need-mul-filled-len Inv-loop μ-loop
 mul-filled-len c =
@@ -58,25 +54,9 @@ loop-again c =
     let c₁ = c .before in let c₂ = c₁ .before .before in let c₃ = c₂ .before in let c₄ = c₃ .before in let c₅ = c₄ .before .before in
     scan-on _ _ _ (c₅ .loop .inv) (c₄ .literal-end .ensures) (omega arith) (c₃ .wide .ensures) (c₂ .wide2 .ensures) (c₁ .filled-len .ensures) (omega arith)
 
-returns-2 : tie.Need-returns-2 Inv-loop μ-loop
-returns-2 c = scan-ends _ _ _ (c .before .loop .inv) (omega arith)
-
 pub too-long-spec : {M : Type 1} → statement M
 too-long-spec =
-    tie.close
-    (tie.spec
-    Inv-loop
-    μ-loop
-    loop-holds
-    (λ c κs. search needs)
-    (λ c κs. search needs)
-    (λ c κs. search needs)
-    mul-filled-len
-    sub-filled-len
-    part-filled-len-start
-    part-filled-len-end
-    filled-len-requires
-    returns
-    loop-less
-    loop-again
-    returns-2)
+    tie.close (tie.spec
+    Inv-loop μ-loop (λ c. scan-starts _ _ _ (c .before .before .pre)) (λ c κs. search needs) (λ c κs. search needs) (λ c κs. search needs)
+    mul-filled-len sub-filled-len part-filled-len-start part-filled-len-end filled-len-requires returns loop-less loop-again
+    (λ c. scan-ends _ _ _ (c .before .loop .inv) (omega arith)))

@@ -17,4 +17,6 @@ returns-2 : tie.Need-returns-2
 returns-2 c = asked-given _ _ _ (c .before .before .before .before .before .before .read-filling .ensures) (c .before .before .before .before .enum-told .given .1) (c .before .before .try-given .ensures)
 
 pub try-asked-spec : {M : Type 1} → statement M
-try-asked-spec = tie.close (tie.spec read-filling-requires (λ c. search needs) (λ c. search needs) try-given-requires returns (λ c. search needs) returns-2)
+try-asked-spec =
+    tie.close (tie.spec
+    read-filling-requires (λ c. search needs) (λ c. search needs) try-given-requires returns (λ c. search needs) returns-2)

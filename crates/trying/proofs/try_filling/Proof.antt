@@ -17,8 +17,9 @@ read-header-requires c κs =
 
 try-asked-requires : tie.Need-try-asked-requires
 try-asked-requires c κs =
-    let a = c .before .before .before .before .before .before .before .before .before .args in
-    (question-asked (a .question .now) (a .filling .now) (a .work .now) (omega arith) (as-checked (c .before .before .before .before .read-question .result) _ (c .before .before .before .before .read-question .ensures)) (c .before .before .enum-told .given .1) (c .before .read-header .ensures), search needs)
+    let c₁ = c .before in let c₂ = c₁ .before in let c₃ = c₂ .before .before in let c₄ = c₃ .before .before .before .before .before in
+    let a = c₄ .args in
+    (question-asked (a .question .now) (a .filling .now) (a .work .now) (omega arith) (as-checked (c₃ .read-question .result) _ (c₃ .read-question .ensures)) (c₂ .enum-told .given .1) (c₁ .read-header .ensures), search needs)
 
 returns-2 : tie.Need-returns-2
 returns-2 c = refused-question _ _ (c .before .before .before .before .before .before .before .before .args .work .now) (omega arith) (as-checked (c .before .before .before .read-question .result) _ (c .before .before .before .read-question .ensures)) (c .before .refusal .given .1)
@@ -30,14 +31,6 @@ returns-3 c =
 
 pub try-filling-spec : {M : Type 1} → statement M
 try-filling-spec =
-    tie.close
-    (tie.spec
-    returns
-    (λ c κs. search needs)
-    (λ c. search needs)
-    (λ c. search needs)
-    read-header-requires
-    try-asked-requires
-    returns-2
-    (λ c. search needs)
+    tie.close (tie.spec
+    returns (λ c κs. search needs) (λ c. search needs) (λ c. search needs) read-header-requires try-asked-requires returns-2 (λ c. search needs)
     returns-3)

@@ -22,15 +22,6 @@ returns-3 c =
 
 pub try-given-spec : {M : Type 1} → statement M
 try-given-spec =
-    tie.close
-    (tie.spec
-    (λ c κs. search needs)
-    (λ c κs. search needs)
-    (λ c. search needs)
-    returns
-    meets-one-requires
-    (λ c κs. search needs)
-    (λ c. search needs)
-    returns-2
-    (λ c. search needs)
-    returns-3)
+    tie.close (tie.spec
+    (λ c κs. search needs) (λ c κs. search needs) (λ c. search needs) returns meets-one-requires (λ c κs. search needs) (λ c. search needs) returns-2
+    (λ c. search needs) returns-3)

@@ -2,41 +2,17 @@
 use native.Mathlib.Omega.{arith}
 use borrow.Author.Needs.{needs}
 use Prim.Native.Nat.{ℕ}
-use mathlib.Core.Path.{_≡_, _∙_}
+use mathlib.Core.Path.{_∙_}
 use Rattle.language.specs.declared.Kind.the-variants.{Symbol, Function}
 use Rattle.views.specs.Places.{nodeAt}
 use Rattle.views.proofs.Looks.{looked, look-kind, look-term, look-run, look-other, look-within}
 use Rattle.views.proofs.look_at.Statement.{statement}
 use Rattle.views.proofs.look_at.Tie as tie
 
-word-requires : tie.Need-word-requires
-word-requires c κs = search needs
-
-classify-requires : tie.Need-classify-requires
-classify-requires c κs = search needs
-
-enum-known-x : tie.Need-enum-known-x
-enum-known-x c = search needs
-
-word-requires-2 : tie.Need-word-requires-2
-word-requires-2 c κs = search needs
-
-enum-known-p : tie.Need-enum-known-p
-enum-known-p c = search needs
-
-word-requires-3 : tie.Need-word-requires-3
-word-requires-3 c κs = search needs
-
-enum-known-f : tie.Need-enum-known-f
-enum-known-f c = search needs
-
 node-at-requires : tie.Need-node-at-requires
 node-at-requires c κs =
     let c₁ = c .before in let c₂ = c₁ .before .before in let c₃ = c₂ .before in let c₄ = c₃ .before .before in
     look-within (c₄ .args .k .now) (c₄ .args .from) 0 (c₃ .word .ensures) (c₂ .classify .ensures) (Symbol _) (c₁ .f .given .1) (λ e. absurd (let z : _≡_ {A = ℕ} 0 1 = cc in omega arith))
-
-enum-known-f-2 : tie.Need-enum-known-f-2
-enum-known-f-2 c = search needs
 
 node-at-requires-2 : tie.Need-node-at-requires-2
 node-at-requires-2 c κs =
@@ -66,5 +42,6 @@ returns-5 c = looked _ _ _ (look-other _ _ _ (c .before .before .word .ensures) 
 
 pub look-at-spec : {M : Type 1} → statement M
 look-at-spec =
-    tie.close
-    (tie.spec word-requires classify-requires enum-known-x word-requires-2 enum-known-p word-requires-3 enum-known-f node-at-requires enum-known-f-2 node-at-requires-2 returns returns-2 returns-3 returns-4 returns-5)
+    tie.close (tie.spec
+    (λ c κs. search needs) (λ c κs. search needs) (λ c. search needs) (λ c κs. search needs) (λ c. search needs) (λ c κs. search needs)
+    (λ c. search needs) node-at-requires (λ c. search needs) node-at-requires-2 returns returns-2 returns-3 returns-4 returns-5)

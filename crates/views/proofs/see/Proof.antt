@@ -4,17 +4,8 @@ use Rattle.views.proofs.Seen.{sees-of, view-is}
 use Rattle.views.proofs.see.Statement.{statement}
 use Rattle.views.proofs.see.Tie as tie
 
-add-side-at : tie.Need-add-side-at
-add-side-at c = search needs
-
-side-at-requires : tie.Need-side-at-requires
-side-at-requires c κs = search needs
-
-side-at-requires-2 : tie.Need-side-at-requires-2
-side-at-requires-2 c κs = search needs
-
 returns : tie.Need-returns
 returns c = ((λ before l r behind s. sees-of s (c .before .side-at .ensures) (c .side-at2 .ensures)), view-is _ _ (c .before .side-at .ensures .2) (c .side-at2 .ensures .2))
 
 pub see-spec : {M : Type 1} → statement M
-see-spec = tie.close (tie.spec add-side-at side-at-requires side-at-requires-2 returns)
+see-spec = tie.close (tie.spec (λ c. search needs) (λ c κs. search needs) (λ c κs. search needs) returns)

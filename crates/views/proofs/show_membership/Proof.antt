@@ -7,21 +7,6 @@ use Rattle.views.proofs.Seen.{shows-of, shape-is}
 use Rattle.views.proofs.show_membership.Statement.{statement}
 use Rattle.views.proofs.show_membership.Tie as tie
 
-add-side-at : tie.Need-add-side-at
-add-side-at c = search needs
-
-side-at-requires : tie.Need-side-at-requires
-side-at-requires c κs = search needs
-
-word-requires : tie.Need-word-requires
-word-requires c κs = search needs
-
-classify-requires : tie.Need-classify-requires
-classify-requires c κs = search needs
-
-next-literal-requires : tie.Need-next-literal-requires
-next-literal-requires c κs = search needs
-
 returns : tie.Need-returns
 returns c =
     let c₁ = c .before in let c₂ = c₁ .before in let c₃ = c₂ .before in
@@ -29,4 +14,5 @@ returns c =
 
 pub show-membership-spec : {M : Type 1} → statement M
 show-membership-spec =
-    tie.close (tie.spec add-side-at side-at-requires word-requires classify-requires next-literal-requires returns)
+    tie.close (tie.spec
+    (λ c. search needs) (λ c κs. search needs) (λ c κs. search needs) (λ c κs. search needs) (λ c κs. search needs) returns)

@@ -6,17 +6,8 @@ use Rattle.views.proofs.Looks.{side-of, side-is}
 use Rattle.views.proofs.side_at.Statement.{statement}
 use Rattle.views.proofs.side_at.Tie as tie
 
-element-end-requires : tie.Need-element-end-requires
-element-end-requires c κs = search needs
-
-hedge-end-requires : tie.Need-hedge-end-requires
-hedge-end-requires c κs = search needs
-
-look-at-requires : tie.Need-look-at-requires
-look-at-requires c κs = search needs
-
 returns : tie.Need-returns
 returns c = (refl, (λ h beyond s. side-of s (c .before .before .element-end .ensures) (c .before .hedge-end .ensures) (c .look-at .ensures .0 h beyond s (c .before .before .element-end .ensures ∙ stands-place s))), side-is _ _ (c .before .before .element-end .ensures) (c .before .hedge-end .ensures) (c .look-at .ensures .1))
 
 pub side-at-spec : {M : Type 1} → statement M
-side-at-spec = tie.close (tie.spec element-end-requires hedge-end-requires look-at-requires returns)
+side-at-spec = tie.close (tie.spec (λ c κs. search needs) (λ c κs. search needs) (λ c κs. search needs) returns)

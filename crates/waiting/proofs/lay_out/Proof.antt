@@ -70,22 +70,7 @@ returns c =
 
 pub lay-out-spec : {M : Type 1} → statement M
 lay-out-spec =
-    tie.close
-    (tie.spec Inv-loop μ-loop
-    shared-slice-read-wide
-    (λ c κs. search needs)
-    loop-holds
-    (λ c. search needs)
-    (λ c. search needs)
-    (λ c. search needs)
-    (λ c. search needs)
-    (λ c κs. search needs)
-    (λ c. search needs)
-    (λ c. search needs)
-    (λ c. search needs)
-    (λ c κs. search needs)
-    push-requires
-    (λ c. search needs)
-    loop-again
-    (λ c. laid-size (c .before .loop .inv .3))
-    returns)
+    tie.close (tie.spec
+    Inv-loop μ-loop shared-slice-read-wide (λ c κs. search needs) loop-holds (λ c. search needs) (λ c. search needs) (λ c. search needs)
+    (λ c. search needs) (λ c κs. search needs) (λ c. search needs) (λ c. search needs) (λ c. search needs) (λ c κs. search needs) push-requires
+    (λ c. search needs) loop-again (λ c. laid-size (c .before .loop .inv .3)) returns)

@@ -2,11 +2,17 @@
 use Prim.Native.Nat.{ℕ, _-_, _<_}
 use native.Mathlib.Omega.{arith}
 use mathlib.Core.Path.{refl}
-use lib.Seq.{slice}
+use lib.Seq.{slice, length-slice}
 use borrow.Author.Needs.{needs}
 use Rattle.waiting.proofs.Pushing.{stored}
 use Rattle.waiting.proofs.push.Statement.{statement}
 use Rattle.waiting.proofs.push.Tie as tie
+
+copy-requires : tie.Need-copy-requires
+copy-requires c κs =
+    let c₁ = c .before .before .before .before .before .before .before in
+    let n = length-slice (c₁ .args .from) (c₁ .args .to) (c₁ .args .src .now) (c₁ .pre .1) in
+    search needs
 
 returns : tie.Need-returns
 returns c =
@@ -14,17 +20,9 @@ returns c =
     let a = c₃ .args in
     let start : ℕ = a .at - (a .to - a .from) in
     let h : 0 < start = omega arith in
-    (omega arith, stored (a .work .now) _ _ (slice (a .from) (a .to) (a .src .now)) start _ _ (c₂ .write-frame .ensures) (c₁ .copy .ensures) refl h)
+    (omega arith, stored (a .work .now) _ _ (slice (a .from) (a .to) (a .src .now)) start _ _ (c₂ .write-frame .ensures) (c₁ .copy .ensures .list) refl h)
 
 pub push-spec : {M : Type 1} → statement M
 push-spec =
-    tie.close
-    (tie.spec
-    (λ c. search needs)
-    (λ c. search needs)
-    (λ c. search needs)
-    (λ c κs. search needs)
-    (λ c κs. search needs)
-    (λ c. search needs)
-    (λ c. search needs)
-    returns)
+    tie.close (tie.spec
+    (λ c. search needs) (λ c. search needs) (λ c. search needs) (λ c κs. search needs) copy-requires (λ c. search needs) (λ c. search needs) returns)

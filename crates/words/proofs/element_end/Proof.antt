@@ -10,14 +10,8 @@ use Rattle.words.proofs.Spans.{opens-le, opens-pos, element-stop, eleme
 use Rattle.words.proofs.element_end.Statement.{statement}
 use Rattle.words.proofs.element_end.Tie as tie
 
-word-requires : tie.Need-word-requires
-word-requires c κs = search needs
-
 returns : tie.Need-returns
 returns c = element-stop (c .before .before .before .args .k .now) (c .before .before .before .args .i) (sym (c .before .word .ensures) ∙ c .if1 .taken)
-
-opened-requires : tie.Need-opened-requires
-opened-requires c κs = search needs
 
 add-passed : tie.Need-add-passed
 add-passed c = let b = below-of-word (c .before .before .before .before .args .k .now) (c .before .before .before .before .args .i) (λ z. c .before .if1 .left (c .before .before .word .ensures ∙ z)) in omega arith
@@ -38,4 +32,4 @@ returns-2 c =
     ∙ sym (element-on k i (λ z. c₂ .if1 .left (c₃ .word .ensures ∙ z)))
 
 pub element-end-spec : {M : Type 1} → statement M
-element-end-spec = tie.close (tie.spec word-requires returns opened-requires add-passed sub-passed passed-requires returns-2)
+element-end-spec = tie.close (tie.spec (λ c κs. search needs) returns (λ c κs. search needs) add-passed sub-passed passed-requires returns-2)

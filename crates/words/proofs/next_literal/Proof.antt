@@ -16,39 +16,15 @@ Inv-loop k at i₀ i = (i ≤ length k) × (i + untilLiteral (drop i k) ≡ at +
 abbrev μ-loop : tie.MeasureT-loop
 μ-loop k at i₀ i = length k - i
 
-add-i : tie.Need-add-i Inv-loop μ-loop
-add-i c = search needs
-
-loop-holds : tie.Need-loop-holds Inv-loop μ-loop
-loop-holds c = (omega arith, refl)
-
-mul-if1 : tie.Need-mul-if1 Inv-loop μ-loop
-mul-if1 c = search needs
-
-shared-slice-read-if1 : tie.Need-shared-slice-read-if1 Inv-loop μ-loop
-shared-slice-read-if1 c = search needs
-
 returns : tie.Need-returns Inv-loop μ-loop
 returns c =
     let c₁ = c .before .before in let c₂ = c₁ .before in let c₃ = c₂ .before in
     let y = c₂ .loop .inv .1 in let z = until-stop (c₃ .args .k .now) (c₂ .loop .i) (c₁ .loop-test .taken) (inl (c .if1 .taken)) in omega arith
 
-mul-if2 : tie.Need-mul-if2 Inv-loop μ-loop
-mul-if2 c = search needs
-
-shared-slice-read-if2 : tie.Need-shared-slice-read-if2 Inv-loop μ-loop
-shared-slice-read-if2 c = search needs
-
 returns-2 : tie.Need-returns-2 Inv-loop μ-loop
 returns-2 c =
     let c₁ = c .before .before .before .before in let c₂ = c₁ .before in let c₃ = c₂ .before in
     let y = c₂ .loop .inv .1 in let z = until-stop (c₃ .args .k .now) (c₂ .loop .i) (c₁ .loop-test .taken) (inr (c .if2 .taken)) in omega arith
-
-add-i-2 : tie.Need-add-i-2 Inv-loop μ-loop
-add-i-2 c = search needs
-
-loop-less : tie.Need-loop-less Inv-loop μ-loop
-loop-less c = search needs
 
 loop-again : tie.Need-loop-again Inv-loop μ-loop
 loop-again c =
@@ -60,19 +36,6 @@ returns-3 c = let y = c .before .loop .inv .1 in let z = until-end (c .before .b
 
 pub next-literal-spec : {M : Type 1} → statement M
 next-literal-spec =
-    tie.close
-    (tie.spec
-    Inv-loop
-    μ-loop
-    add-i
-    loop-holds
-    mul-if1
-    shared-slice-read-if1
-    returns
-    mul-if2
-    shared-slice-read-if2
-    returns-2
-    add-i-2
-    loop-less
-    loop-again
-    returns-3)
+    tie.close (tie.spec
+    Inv-loop μ-loop (λ c. search needs) (λ c. (omega arith, refl)) (λ c. search needs) (λ c. search needs) returns (λ c. search needs)
+    (λ c. search needs) returns-2 (λ c. search needs) (λ c. search needs) loop-again returns-3)

@@ -2,7 +2,6 @@
 use mathlib.Core.Path.{_≡_, refl, sym, ap, _∙_}
 use mathlib.Core.List.{[], _∷_}
 use borrow.Author.Needs.{needs}
-use Prim.Native.Nat.{ℕ}
 use Rattle.language.specs.declared.Kind.{Kind}
 use Rattle.language.proofs.Arms.{Among, each-kind}
 use Rattle.words.specs.Spans.{opensBy, opens}
@@ -19,12 +18,6 @@ others : {k j : Kind} → k ≡ j → Among (1 ∷ 2 ∷ 5 ∷ 6 ∷ 7 ∷ 8 ∷
 others {k} e o =
     each-kind (1 ∷ 2 ∷ 5 ∷ 6 ∷ 7 ∷ 8 ∷ 9 ∷ 10 ∷ 11 ∷ []) (λ j. 1 ≡ opensBy j) tt (λ x. refl) (λ x. refl) tt tt refl refl refl refl refl refl refl k o ∙ ap opensBy e
 
-classify-requires : tie.Need-classify-requires
-classify-requires c κs = search needs
-
-enum-told : tie.Need-enum-told
-enum-told c = search needs
-
 returns : tie.Need-returns
 unfolding opens
 returns c = is (c .before .before .classify .ensures) (c .enum-told .given .1)
@@ -38,4 +31,4 @@ unfolding opens
 returns-3 c = others (c .before .classify .ensures) (c .match .keys3)
 
 pub opened-spec : {M : Type 1} → statement M
-opened-spec = tie.close (tie.spec classify-requires enum-told returns returns-2 returns-3)
+opened-spec = tie.close (tie.spec (λ c κs. search needs) (λ c. search needs) returns returns-2 returns-3)

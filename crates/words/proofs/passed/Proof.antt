@@ -15,32 +15,11 @@ Inv-loop k at hedges i₀ need₀ i need = (at ≤ i) × (need + at ≤ i + 2) �
 abbrev μ-loop : tie.MeasureT-loop
 μ-loop k at hedges i₀ need₀ i need = length k - i
 
-loop-holds : tie.Need-loop-holds Inv-loop μ-loop
-loop-holds c = (omega arith, omega arith, refl)
-
 returns : tie.Need-returns Inv-loop μ-loop
 returns c = let k = c .before .before .before .before .args .k .now in let z = span-past (c .before .before .loop .need) k (c .before .before .loop .i) (c .if1 .taken) in let y = c .before .before .loop .inv .2 in omega arith
 
-mul-opened : tie.Need-mul-opened Inv-loop μ-loop
-mul-opened c = search needs
-
-shared-slice-read-opened : tie.Need-shared-slice-read-opened Inv-loop μ-loop
-shared-slice-read-opened c = search needs
-
-opened-requires : tie.Need-opened-requires Inv-loop μ-loop
-opened-requires c κs = search needs
-
-sub-need : tie.Need-sub-need Inv-loop μ-loop
-sub-need c = search needs
-
 add-need : tie.Need-add-need Inv-loop μ-loop
 add-need c = let k = c .before .before .before .before .before .before .args .k .now in let z = opens-le (getD k (c .before .before .before .before .loop .i) 0) in let y = c .opened .ensures in omega arith
-
-add-i : tie.Need-add-i Inv-loop μ-loop
-add-i c = search needs
-
-loop-less : tie.Need-loop-less Inv-loop μ-loop
-loop-less c = search needs
 
 loop-again : tie.Need-loop-again Inv-loop μ-loop
 loop-again c =
@@ -62,18 +41,6 @@ returns-2 c =
 
 pub passed-spec : {M : Type 1} → statement M
 passed-spec =
-    tie.close
-    (tie.spec
-    Inv-loop
-    μ-loop
-    loop-holds
-    returns
-    mul-opened
-    shared-slice-read-opened
-    opened-requires
-    sub-need
-    add-need
-    add-i
-    loop-less
-    loop-again
-    returns-2)
+    tie.close (tie.spec
+    Inv-loop μ-loop (λ c. (omega arith, omega arith, refl)) returns (λ c. search needs) (λ c. search needs) (λ c κs. search needs) (λ c. search needs)
+    add-need (λ c. search needs) (λ c. search needs) loop-again returns-2)

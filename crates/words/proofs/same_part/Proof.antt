@@ -16,45 +16,15 @@ Inv-loop k from to start end m n i₀ j₀ i j =
 abbrev μ-loop : tie.MeasureT-loop
 μ-loop k from to start end m n i₀ j₀ i j = m - i
 
-least-requires : tie.Need-least-requires Inv-loop μ-loop
-least-requires c κs = search needs
-
-least-requires-2 : tie.Need-least-requires-2 Inv-loop μ-loop
-least-requires-2 c κs = search needs
-
-loop-holds : tie.Need-loop-holds Inv-loop μ-loop
-loop-holds c = (c .before .least .ensures, c .least2 .ensures, refl)
-
 returns : tie.Need-returns Inv-loop μ-loop
 returns c =
     let c₁ = c .before in let c₂ = c₁ .before in let c₃ = c₂ .before .before .before .before in
     same-short (c₃ .args .k .now) (c₂ .loop .i) (c₃ .args .to) (c₂ .loop .j) (c₃ .args .end) (c₂ .loop .inv .0) (c₂ .loop .inv .1) (c₁ .loop-test .taken) (c .if1 .taken) ∙ c₂ .loop .inv .2
 
-mul-if2 : tie.Need-mul-if2 Inv-loop μ-loop
-mul-if2 c = search needs
-
-shared-slice-read-if2 : tie.Need-shared-slice-read-if2 Inv-loop μ-loop
-shared-slice-read-if2 c = search needs
-
-mul-if2-2 : tie.Need-mul-if2-2 Inv-loop μ-loop
-mul-if2-2 c = search needs
-
-shared-slice-read-if2-2 : tie.Need-shared-slice-read-if2-2 Inv-loop μ-loop
-shared-slice-read-if2-2 c = search needs
-
 returns-2 : tie.Need-returns-2 Inv-loop μ-loop
 returns-2 c =
     let c₁ = c .before .before .before in let c₂ = c₁ .before in let c₃ = c₂ .before in let c₄ = c₃ .before .before .before .before in
     same-differ (c₄ .args .k .now) (c₃ .loop .i) (c₄ .args .to) (c₃ .loop .j) (c₄ .args .end) (c₃ .loop .inv .0) (c₃ .loop .inv .1) (c₂ .loop-test .taken) (c₁ .if1 .left) (c .if2 .taken) ∙ c₃ .loop .inv .2
-
-add-i : tie.Need-add-i Inv-loop μ-loop
-add-i c = search needs
-
-add-j : tie.Need-add-j Inv-loop μ-loop
-add-j c = search needs
-
-loop-less : tie.Need-loop-less Inv-loop μ-loop
-loop-less c = search needs
 
 loop-again : tie.Need-loop-again Inv-loop μ-loop
 loop-again c =
@@ -68,21 +38,7 @@ returns-3 c =
 
 pub same-part-spec : {M : Type 1} → statement M
 same-part-spec =
-    tie.close
-    (tie.spec
-    Inv-loop
-    μ-loop
-    least-requires
-    least-requires-2
-    loop-holds
-    returns
-    mul-if2
-    shared-slice-read-if2
-    mul-if2-2
-    shared-slice-read-if2-2
-    returns-2
-    add-i
-    add-j
-    loop-less
-    loop-again
-    returns-3)
+    tie.close (tie.spec
+    Inv-loop μ-loop (λ c κs. search needs) (λ c κs. search needs) (λ c. (c .before .least .ensures, c .least2 .ensures, refl)) returns
+    (λ c. search needs) (λ c. search needs) (λ c. search needs) (λ c. search needs) returns-2 (λ c. search needs) (λ c. search needs)
+    (λ c. search needs) loop-again returns-3)

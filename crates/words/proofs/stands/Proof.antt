@@ -14,31 +14,13 @@ Inv-loop k from to x i₀ i = member x (slice i to k) ≡ member x (slice from t
 abbrev μ-loop : tie.MeasureT-loop
 μ-loop k from to x i₀ i = to - i
 
-loop-holds : tie.Need-loop-holds Inv-loop μ-loop
-loop-holds c = refl
-
 returns : tie.Need-returns Inv-loop μ-loop
 returns c = let a = c .before .before .before .before .args in member-past (a .k .now) (a .x) _ (a .to) (c .if1 .taken) ∙ c .before .before .loop .inv
-
-mul-wide : tie.Need-mul-wide Inv-loop μ-loop
-mul-wide c = search needs
-
-shared-slice-read-wide : tie.Need-shared-slice-read-wide Inv-loop μ-loop
-shared-slice-read-wide c = search needs
-
-wide-requires : tie.Need-wide-requires Inv-loop μ-loop
-wide-requires c κs = search needs
 
 returns-2 : tie.Need-returns-2 Inv-loop μ-loop
 returns-2 c =
     let c₁ = c .before in let c₂ = c₁ .before .before in let c₃ = c₂ .before in let c₄ = c₃ .before in
     member-here _ _ _ _ (c₃ .loop-test .taken) (c₂ .if1 .left) (sym (c₁ .wide .ensures) ∙ c .if2 .taken) ∙ c₄ .loop .inv
-
-add-i : tie.Need-add-i Inv-loop μ-loop
-add-i c = search needs
-
-loop-less : tie.Need-loop-less Inv-loop μ-loop
-loop-less c = search needs
 
 loop-again : tie.Need-loop-again Inv-loop μ-loop
 loop-again c =
@@ -50,17 +32,6 @@ returns-3 c = member-none _ _ _ _ (c .loop-test .left) ∙ c .before .loop .inv
 
 pub stands-spec : {M : Type 1} → statement M
 stands-spec =
-    tie.close
-    (tie.spec
-    Inv-loop
-    μ-loop
-    loop-holds
-    returns
-    mul-wide
-    shared-slice-read-wide
-    wide-requires
-    returns-2
-    add-i
-    loop-less
-    loop-again
-    returns-3)
+    tie.close (tie.spec
+    Inv-loop μ-loop (λ c. refl) returns (λ c. search needs) (λ c. search needs) (λ c κs. search needs) returns-2 (λ c. search needs)
+    (λ c. search needs) loop-again returns-3)

@@ -6,26 +6,8 @@ use Rattle.equations.proofs.Names.{not-true, not-false, blank-elsewhere
 use Rattle.equations.proofs.functors.both_elsewhere.Statement.{statement}
 use Rattle.equations.proofs.functors.both_elsewhere.Tie as tie
 
-function-word-requires : tie.Need-function-word-requires
-function-word-requires c κs = search needs
-
-elsewhere-requires : tie.Need-elsewhere-requires
-elsewhere-requires c κs = search needs
-
 returns : tie.Need-returns
 returns c = λ before behind l r G w b d y. not-elsewhere (before ++ behind) (c .before .before .before .before .args .f) G (sym (blank-elsewhere w (c .before .before .before .before .args .f) b (c .before .before .function-word .ensures)) ∙ sym (c .before .elsewhere .ensures) ∙ not-true (c .if1 .taken))
-
-enum-told : tie.Need-enum-told
-enum-told c = search needs
-
-enum-known-g : tie.Need-enum-known-g
-enum-known-g c = search needs
-
-function-word-requires-2 : tie.Need-function-word-requires-2
-function-word-requires-2 c κs = search needs
-
-elsewhere-requires-2 : tie.Need-elsewhere-requires-2
-elsewhere-requires-2 c κs = search needs
 
 returns-2 : tie.Need-returns-2
 returns-2 c =
@@ -42,5 +24,6 @@ returns-3 c =
 
 pub both-elsewhere-spec : {M : Type 1} → statement M
 both-elsewhere-spec =
-    tie.close
-    (tie.spec function-word-requires elsewhere-requires returns enum-told enum-known-g function-word-requires-2 elsewhere-requires-2 returns-2 returns-3)
+    tie.close (tie.spec
+    (λ c κs. search needs) (λ c κs. search needs) returns (λ c. search needs) (λ c. search needs) (λ c κs. search needs) (λ c κs. search needs)
+    returns-2 returns-3)

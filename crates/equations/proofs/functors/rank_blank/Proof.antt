@@ -8,17 +8,11 @@ use Rattle.equations.proofs.Names.{not-true, not-false, blank-same, bla
 use Rattle.equations.proofs.functors.rank_blank.Statement.{statement}
 use Rattle.equations.proofs.functors.rank_blank.Tie as tie
 
-same-blank-requires : tie.Need-same-blank-requires
-same-blank-requires c κs = search needs
-
 returns : tie.Need-returns
 returns c = λ before behind l r G h d w x q y b. blank-same (before ++ behind) h d (c .before .before .before .args .f) G (sym (c .before .same-blank .ensures G q) ∙ c .if1 .taken)
 
 returns-2 : tie.Need-returns-2
 returns-2 c = λ before behind l r G h d w x q y b. blank-over (before ++ behind) h d (c .before .before .before .before .args .f) G (sym (c .before .before .same-blank .ensures G q) ∙ c .before .if1 .left) (sym b ∙ not-true (c .if2 .taken))
-
-both-elsewhere-requires : tie.Need-both-elsewhere-requires
-both-elsewhere-requires c κs = search needs
 
 returns-3 : tie.Need-returns-3
 returns-3 c =
@@ -35,4 +29,4 @@ returns-4 c =
     ∙ blank-bare (before ++ behind) h d (c₅ .args .f) G (sym (c₄ .same-blank .ensures G q) ∙ c₃ .if1 .left) (sym b ∙ not-false (c₂ .if2 .left)) _ (c₁ .both-elsewhere .ensures before behind l r G w x q y)
 
 pub rank-blank-spec : {M : Type 1} → statement M
-rank-blank-spec = tie.close (tie.spec same-blank-requires returns returns-2 both-elsewhere-requires returns-3 returns-4)
+rank-blank-spec = tie.close (tie.spec (λ c κs. search needs) returns returns-2 (λ c κs. search needs) returns-3 returns-4)

@@ -9,18 +9,6 @@ use Rattle.equations.proofs.Looked.{at-symbol, at-blank}
 use Rattle.equations.proofs.functors.rank_functors.Statement.{statement}
 use Rattle.equations.proofs.functors.rank_functors.Tie as tie
 
-enum-known-f : tie.Need-enum-known-f
-enum-known-f c = search needs
-
-rank-symbol-requires : tie.Need-rank-symbol-requires
-rank-symbol-requires c κs = search needs
-
-enum-known-f-2 : tie.Need-enum-known-f-2
-enum-known-f-2 c = search needs
-
-rank-blank-requires : tie.Need-rank-blank-requires
-rank-blank-requires c κs = search needs
-
 returns : tie.Need-returns
 returns c = λ before behind l r F G h d w p x q y b.
     at-symbol (λ F. c .rank-symbol .result ≡ functors (before ++ behind) F h G d) F (sym (c .before .before .f .given .1) ∙ p) (c .rank-symbol .ensures (before ++ behind) h d G q)
@@ -30,4 +18,4 @@ returns-2 c = λ before behind l r F G h d w p x q y b.
     at-blank (λ F. fineFunctor desk F → c .rank-blank .result ≡ functors (before ++ behind) F h G d) F (sym (c .before .before .f2 .given .1) ∙ p) (λ x. c .rank-blank .ensures before behind l r G h d w x q y b) x
 
 pub rank-functors-spec : {M : Type 1} → statement M
-rank-functors-spec = tie.close (tie.spec enum-known-f rank-symbol-requires enum-known-f-2 rank-blank-requires returns returns-2)
+rank-functors-spec = tie.close (tie.spec (λ c. search needs) (λ c κs. search needs) (λ c. search needs) (λ c κs. search needs) returns returns-2)

@@ -9,27 +9,9 @@ use Rattle.equations.proofs.Nodes.{node-empty, node-run, node-term, nod
 use Rattle.equations.proofs.functors.rank_node.Statement.{statement}
 use Rattle.equations.proofs.functors.rank_node.Tie as tie
 
-enum-told : tie.Need-enum-told
-enum-told c = search needs
-
-enum-told-2 : tie.Need-enum-told-2
-enum-told-2 c = search needs
-
-enum-known-look : tie.Need-enum-known-look
-enum-known-look c = search needs
-
-and-requires : tie.Need-and-requires
-and-requires c κs = search needs
-
 returns : tie.Need-returns
 returns c = λ F h s r e i j before behind w.
     node-term (before ++ behind) F h s r (sym (c .before .before .before .look .given .1) ∙ w .right .look) i (c .before .and .ensures) (c .if1 .taken)
-
-enum-known-look-2 : tie.Need-enum-known-look-2
-enum-known-look-2 c = search needs
-
-rank-nodes-requires : tie.Need-rank-nodes-requires
-rank-nodes-requires c κs = search needs
 
 returns-2 : tie.Need-returns-2
 returns-2 c = λ F h s r e i j before behind w. node-empty (before ++ behind) F h s r (sym (c .enum-told .given .1) ∙ w .right .look)
@@ -48,5 +30,6 @@ returns-5 c = λ F h s r e i j before behind w.
 
 pub rank-node-spec : {M : Type 1} → statement M
 rank-node-spec =
-    tie.close
-    (tie.spec enum-told enum-told-2 enum-known-look and-requires returns enum-known-look-2 rank-nodes-requires returns-2 returns-3 returns-4 returns-5)
+    tie.close (tie.spec
+    (λ c. search needs) (λ c. search needs) (λ c. search needs) (λ c κs. search needs) returns (λ c. search needs) (λ c κs. search needs) returns-2
+    returns-3 returns-4 returns-5)

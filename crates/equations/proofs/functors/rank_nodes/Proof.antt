@@ -2,26 +2,14 @@
 use borrow.Author.Needs.{needs}
 use mathlib.Core.Path.{sym, _∙_}
 use mathlib.Core.List.{_++_}
-use Rattle.views.proofs.Same.{same-sides}
+use Rattle.equations.proofs.Same.{same-sides}
 use Rattle.equations.proofs.Looked.{both}
 use Rattle.equations.proofs.Nodes.{nodes-same, nodes-longer, nodes-single}
 use Rattle.equations.proofs.functors.rank_nodes.Statement.{statement}
 use Rattle.equations.proofs.functors.rank_nodes.Tie as tie
 
-same-part-requires : tie.Need-same-part-requires
-same-part-requires c κs = search needs
-
 returns : tie.Need-returns
 returns c = λ F G h s d t e i j f k l before behind w. nodes-same (before ++ behind) F h s G d t (sym (same-sides (w .left) (w .right)) ∙ sym (c .before .same-part .ensures) ∙ c .if1 .taken)
-
-and-requires : tie.Need-and-requires
-and-requires c κs = search needs
-
-and-requires-2 : tie.Need-and-requires-2
-and-requires-2 c κs = search needs
-
-rank-functors-requires : tie.Need-rank-functors-requires
-rank-functors-requires c κs = search needs
 
 returns-2 : tie.Need-returns-2
 returns-2 c =
@@ -38,4 +26,5 @@ returns-3 c = λ F G h s d t e i j f k l before behind w.
 
 pub rank-nodes-spec : {M : Type 1} → statement M
 rank-nodes-spec =
-    tie.close (tie.spec same-part-requires returns and-requires and-requires-2 rank-functors-requires returns-2 returns-3)
+    tie.close (tie.spec
+    (λ c κs. search needs) returns (λ c κs. search needs) (λ c κs. search needs) (λ c κs. search needs) returns-2 returns-3)

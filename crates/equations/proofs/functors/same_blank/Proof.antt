@@ -8,12 +8,6 @@ use Rattle.equations.proofs.Looked.{at-symbol, at-blank}
 use Rattle.equations.proofs.functors.same_blank.Statement.{statement}
 use Rattle.equations.proofs.functors.same_blank.Tie as tie
 
-enum-told : tie.Need-enum-told
-enum-told c = search needs
-
-enum-known-g : tie.Need-enum-known-g
-enum-known-g c = search needs
-
 returns : tie.Need-returns
 returns c = λ G e. at-symbol (λ G. false ≡ eqF (fvar (c .before .before .args .f)) G) G (sym (c .enum-told .given .1) ∙ e) refl
 
@@ -23,4 +17,4 @@ returns-2 c =
     λ G e. at-blank (λ G. eqb (c₂ .args .f .0) (c₁ .g .given .0 .0 .0) ≡ eqF (fvar (c₂ .args .f)) G) G (sym (c₁ .g .given .1) ∙ e) refl
 
 pub same-blank-spec : {M : Type 1} → statement M
-same-blank-spec = tie.close (tie.spec enum-told enum-known-g returns returns-2)
+same-blank-spec = tie.close (tie.spec (λ c. search needs) (λ c. search needs) returns returns-2)

@@ -6,15 +6,6 @@ use Rattle.equations.proofs.Leading.{run-held, terms-held, terms-free, 
 use Rattle.equations.proofs.runs.free_terms.Statement.{statement}
 use Rattle.equations.proofs.runs.free_terms.Tie as tie
 
-all-terms-requires : tie.Need-all-terms-requires
-all-terms-requires c κs = search needs
-
-run-word-requires : tie.Need-run-word-requires
-run-word-requires c κs = search needs
-
-stands-requires : tie.Need-stands-requires
-stands-requires c κs = search needs
-
 returns : tie.Need-returns
 returns c =
     let c₁ = c .before in let c₂ = c₁ .before in let c₃ = c₂ .before in let c₄ = c₃ .before in let c₅ = c₄ .before .before .before in
@@ -29,5 +20,4 @@ returns-3 : tie.Need-returns-3
 returns-3 c = λ before behind l r w b. terms-not (c .before .before .before .before .args .p) r (sym (c .before .all-terms .ensures .0 r _ (side-stands (w .right)) .all) ∙ c .if1 .left)
 
 pub free-terms-spec : {M : Type 1} → statement M
-free-terms-spec =
-    tie.close (tie.spec all-terms-requires run-word-requires stands-requires returns returns-2 returns-3)
+free-terms-spec = tie.close (tie.spec (λ c κs. search needs) (λ c κs. search needs) (λ c κs. search needs) returns returns-2 returns-3)

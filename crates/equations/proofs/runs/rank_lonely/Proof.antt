@@ -7,22 +7,10 @@ use Rattle.equations.proofs.Leading.{run-held, run-elsewhere, lonely-fa
 use Rattle.equations.proofs.runs.rank_lonely.Statement.{statement}
 use Rattle.equations.proofs.runs.rank_lonely.Tie as tie
 
-run-word-requires : tie.Need-run-word-requires
-run-word-requires c κs = search needs
-
-stands-requires : tie.Need-stands-requires
-stands-requires c κs = search needs
-
-has-term-requires : tie.Need-has-term-requires
-has-term-requires c κs = search needs
-
 returns : tie.Need-returns
 returns c =
     let c₁ = c .before in let c₂ = c₁ .before in let c₃ = c₂ .before in let c₄ = c₃ .before in let c₅ = c₄ .before .before .before in
     λ before behind s r w. lonely-fails (before ++ behind) (c₅ .args .p) r (sym (c₃ .stands .ensures ∙ run-held (w .right) (c₅ .args .p) (w .left .fine .0) (c₄ .run-word .ensures)) ∙ c₂ .if1 .taken) (sym (c₁ .has-term .ensures .0 r _ (side-stands (w .right))) ∙ c .if2 .taken)
-
-inside-requires : tie.Need-inside-requires
-inside-requires c κs = search needs
 
 returns-2 : tie.Need-returns-2
 returns-2 c =
@@ -35,12 +23,6 @@ returns-3 c =
     let c₁ = c .before in let c₂ = c₁ .before in let c₃ = c₂ .before in let c₄ = c₃ .before in let c₅ = c₄ .before in let c₆ = c₅ .before in
     let c₇ = c₆ .before .before .before in
     λ before behind s r w. lonely-open (before ++ behind) (c₇ .args .p) r (sym (c₅ .stands .ensures ∙ run-held (w .right) (c₇ .args .p) (w .left .fine .0) (c₆ .run-word .ensures)) ∙ c₄ .if1 .taken) (sym (c₃ .has-term .ensures .0 r _ (side-stands (w .right))) ∙ c₂ .if2 .left) (sym (c₁ .inside .ensures .0 r _ (w .left .fine .0) (side-stands (w .right)) .found) ∙ c .if3 .left)
-
-elsewhere-requires : tie.Need-elsewhere-requires
-elsewhere-requires c κs = search needs
-
-too-elsewhere-requires : tie.Need-too-elsewhere-requires
-too-elsewhere-requires c κs = search needs
 
 returns-4 : tie.Need-returns-4
 returns-4 c =
@@ -61,4 +43,6 @@ returns-6 c =
 
 pub rank-lonely-spec : {M : Type 1} → statement M
 rank-lonely-spec =
-    tie.close (tie.spec run-word-requires stands-requires has-term-requires returns inside-requires returns-2 returns-3 elsewhere-requires too-elsewhere-requires returns-4 returns-5 returns-6)
+    tie.close (tie.spec
+    (λ c κs. search needs) (λ c κs. search needs) (λ c κs. search needs) returns (λ c κs. search needs) returns-2 returns-3 (λ c κs. search needs)
+    (λ c κs. search needs) returns-4 returns-5 returns-6)

@@ -9,15 +9,6 @@ use Rattle.equations.proofs.Leading.{run-elsewhere, run-ends, run-rests
 use Rattle.equations.proofs.runs.rank_run.Statement.{statement}
 use Rattle.equations.proofs.runs.rank_run.Tie as tie
 
-enum-told : tie.Need-enum-told
-enum-told c = search needs
-
-run-word-requires : tie.Need-run-word-requires
-run-word-requires c κs = search needs
-
-elsewhere-requires : tie.Need-elsewhere-requires
-elsewhere-requires c κs = search needs
-
 returns : tie.Need-returns
 returns c =
     let c₁ = c .before in let c₂ = c₁ .before in let c₃ = c₂ .before in let c₄ = c₃ .before in let c₅ = c₄ .before .before .before .before in
@@ -27,24 +18,6 @@ returns-2 : tie.Need-returns-2
 returns-2 c =
     let c₁ = c .before in let c₂ = c₁ .before in let c₃ = c₂ .before in let c₄ = c₃ .before in let c₅ = c₄ .before .before .before .before in
     λ s r e before behind w. run-rests (before ++ behind) (c₅ .args .p) s r (sym (c₄ .enum-told .given .1) ∙ w .right .look) (sym e ∙ c₃ .if1 .taken) (sym (c₁ .elsewhere .ensures ∙ run-elsewhere w (c₅ .args .p) (w .left .fine .0) (c₂ .run-word .ensures)) ∙ c .if2 .left)
-
-enum-told-2 : tie.Need-enum-told-2
-enum-told-2 c = search needs
-
-rank-run-term-requires : tie.Need-rank-run-term-requires
-rank-run-term-requires c κs = search needs
-
-enum-known-look : tie.Need-enum-known-look
-enum-known-look c = search needs
-
-rank-run-run-requires : tie.Need-rank-run-run-requires
-rank-run-run-requires c κs = search needs
-
-enum-told-3 : tie.Need-enum-told-3
-enum-told-3 c = search needs
-
-rank-run-term-requires-2 : tie.Need-rank-run-term-requires-2
-rank-run-term-requires-2 c κs = search needs
 
 returns-3 : tie.Need-returns-3
 returns-3 c = λ s r e before behind w. run-vanishes (before ++ behind) (c .before .before .before .before .before .args .p) s r (sym (c .before .enum-told .given .1) ∙ w .right .look) (sym e ∙ c .if1 .left)
@@ -63,4 +36,6 @@ returns-6 c = λ s r e before behind w. c .rank-run-term2 .ensures s r e (begins
 
 pub rank-run-spec : {M : Type 1} → statement M
 rank-run-spec =
-    tie.close (tie.spec enum-told run-word-requires elsewhere-requires returns returns-2 enum-told-2 rank-run-term-requires enum-known-look rank-run-run-requires enum-told-3 rank-run-term-requires-2 returns-3 returns-4 returns-5 returns-6)
+    tie.close (tie.spec
+    (λ c. search needs) (λ c κs. search needs) (λ c κs. search needs) returns returns-2 (λ c. search needs) (λ c κs. search needs) (λ c. search needs)
+    (λ c κs. search needs) (λ c. search needs) (λ c κs. search needs) returns-3 returns-4 returns-5 returns-6)

@@ -8,17 +8,11 @@ use Rattle.equations.proofs.Leading.{same-run, runs-lonely, runs-open}
 use Rattle.equations.proofs.runs.rank_run_run.Statement.{statement}
 use Rattle.equations.proofs.runs.rank_run_run.Tie as tie
 
-rank-struck-requires : tie.Need-rank-struck-requires
-rank-struck-requires c κs = search needs
-
 returns : tie.Need-returns
 returns c =
     let c₁ = c .before in let c₂ = c₁ .before .before .before .before in
     λ s t e.
     subst (λ u. Ranks (c₂ .args .k .now) (c₂ .args .v) (hvar (c₂ .args .p) s) (hvar u t) (c .rank-struck .result)) (same-run (c₂ .args .p) (c₂ .args .z) (c₁ .if1 .taken)) (c .rank-struck .ensures (c₂ .args .p) s t e)
-
-rank-lonely-requires : tie.Need-rank-lonely-requires
-rank-lonely-requires c κs = search needs
 
 returns-2 : tie.Need-returns-2
 returns-2 c =
@@ -30,5 +24,4 @@ returns-3 : tie.Need-returns-3
 returns-3 c = λ s t e before behind w. runs-open (before ++ behind) (c .before .before .before .before .before .args .p) (c .before .before .before .before .before .args .z) s t (c .before .if1 .left) (sym e ∙ c .if2 .left)
 
 pub rank-run-run-spec : {M : Type 1} → statement M
-rank-run-run-spec =
-    tie.close (tie.spec rank-struck-requires returns rank-lonely-requires returns-2 returns-3)
+rank-run-run-spec = tie.close (tie.spec (λ c κs. search needs) returns (λ c κs. search needs) returns-2 returns-3)

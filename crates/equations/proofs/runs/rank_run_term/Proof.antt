@@ -6,18 +6,11 @@ use Rattle.equations.proofs.Leading.{run-lonely, run-leading}
 use Rattle.equations.proofs.runs.rank_run_term.Statement.{statement}
 use Rattle.equations.proofs.runs.rank_run_term.Tie as tie
 
-rank-lonely-requires : tie.Need-rank-lonely-requires
-rank-lonely-requires c κs = search needs
-
 returns : tie.Need-returns
 returns c = λ s r e b before behind w. run-lonely (before ++ behind) (c .before .before .before .args .p) s r b (sym e ∙ c .before .if1 .taken) (c .rank-lonely .ensures before behind s r w)
-
-rank-leading-requires : tie.Need-rank-leading-requires
-rank-leading-requires c κs = search needs
 
 returns-2 : tie.Need-returns-2
 returns-2 c = λ s r e b before behind w. run-leading (before ++ behind) (c .before .before .before .args .p) s r b (sym e ∙ c .before .if1 .left) (c .rank-leading .ensures before behind s r w)
 
 pub rank-run-term-spec : {M : Type 1} → statement M
-rank-run-term-spec =
-    tie.close (tie.spec rank-lonely-requires returns rank-leading-requires returns-2)
+rank-run-term-spec = tie.close (tie.spec (λ c κs. search needs) returns (λ c κs. search needs) returns-2)

@@ -8,27 +8,9 @@ use Rattle.equations.proofs.Leading.{run-elsewhere, too-empty, too-term
 use Rattle.equations.proofs.runs.too_elsewhere.Statement.{statement}
 use Rattle.equations.proofs.runs.too_elsewhere.Tie as tie
 
-enum-told : tie.Need-enum-told
-enum-told c = search needs
-
-enum-told-2 : tie.Need-enum-told-2
-enum-told-2 c = search needs
-
-enum-known-look : tie.Need-enum-known-look
-enum-known-look c = search needs
-
-run-word-requires : tie.Need-run-word-requires
-run-word-requires c κs = search needs
-
-elsewhere-requires : tie.Need-elsewhere-requires
-elsewhere-requires c κs = search needs
-
 returns : tie.Need-returns
 returns c = λ before behind l r w.
     too-alone (before ++ behind) r (sym (c .before .before .before .before .look .given .1) ∙ w .right .look) (c .before .before .if1 .taken) (λ t i. c .elsewhere .ensures ∙ run-elsewhere w (c .before .before .before .before .look .given .0 .0) (subst (fineHedge desk) i (w .right .fine) .0) (c .before .run-word .ensures))
-
-enum-told-3 : tie.Need-enum-told-3
-enum-told-3 c = search needs
 
 returns-2 : tie.Need-returns-2
 returns-2 c = λ before behind l r w. too-empty (before ++ behind) r (sym (c .enum-told .given .1) ∙ w .right .look)
@@ -44,4 +26,6 @@ returns-5 c = λ before behind l r w. too-node (before ++ behind) r (sym (c .enu
 
 pub too-elsewhere-spec : {M : Type 1} → statement M
 too-elsewhere-spec =
-    tie.close (tie.spec enum-told enum-told-2 enum-known-look run-word-requires elsewhere-requires returns enum-told-3 returns-2 returns-3 returns-4 returns-5)
+    tie.close (tie.spec
+    (λ c. search needs) (λ c. search needs) (λ c. search needs) (λ c κs. search needs) (λ c κs. search needs) returns (λ c. search needs) returns-2
+    returns-3 returns-4 returns-5)

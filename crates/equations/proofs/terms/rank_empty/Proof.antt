@@ -7,23 +7,8 @@ use Rattle.views.proofs.Sides.{side-stands}
 use Rattle.equations.proofs.terms.rank_empty.Statement.{statement}
 use Rattle.equations.proofs.terms.rank_empty.Tie as tie
 
-enum-told : tie.Need-enum-told
-enum-told c = search needs
-
-enum-told-2 : tie.Need-enum-told-2
-enum-told-2 c = search needs
-
-enum-told-3 : tie.Need-enum-told-3
-enum-told-3 c = search needs
-
-has-term-requires : tie.Need-has-term-requires
-has-term-requires c κs = search needs
-
 returns : tie.Need-returns
 returns c = λ r before behind w. empty-run (before ++ behind) r (sym (c .before .before .enum-told3 .given .1) ∙ w .right .look) (sym (c .before .has-term .ensures .0 r _ (side-stands (w .right))) ∙ c .if1 .taken)
-
-enum-told-4 : tie.Need-enum-told-4
-enum-told-4 c = search needs
 
 returns-2 : tie.Need-returns-2
 returns-2 c = λ r before behind w. empty-empty (before ++ behind) r (sym (c .enum-told .given .1) ∙ w .right .look)
@@ -39,4 +24,6 @@ returns-5 c = λ r before behind w. empty-node (before ++ behind) r (sym (c .enu
 
 pub rank-empty-spec : {M : Type 1} → statement M
 rank-empty-spec =
-    tie.close (tie.spec enum-told enum-told-2 enum-told-3 has-term-requires returns enum-told-4 returns-2 returns-3 returns-4 returns-5)
+    tie.close (tie.spec
+    (λ c. search needs) (λ c. search needs) (λ c. search needs) (λ c κs. search needs) returns (λ c. search needs) returns-2 returns-3 returns-4
+    returns-5)

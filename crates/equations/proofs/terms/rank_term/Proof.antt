@@ -11,31 +11,10 @@ use Rattle.equations.proofs.Variables.{term-empty, term-run, term-runs}
 use Rattle.equations.proofs.terms.rank_term.Statement.{statement}
 use Rattle.equations.proofs.terms.rank_term.Tie as tie
 
-enum-told : tie.Need-enum-told
-enum-told c = search needs
-
-enum-known-look : tie.Need-enum-known-look
-enum-known-look c = search needs
-
-rank-term-term-requires : tie.Need-rank-term-term-requires
-rank-term-term-requires c κs = search needs
-
-enum-told-2 : tie.Need-enum-told-2
-enum-told-2 c = search needs
-
-hidden-requires : tie.Need-hidden-requires
-hidden-requires c κs = search needs
-
 returns : tie.Need-returns
 returns c =
     let c₁ = c .before in let c₂ = c₁ .before in let c₃ = c₂ .before .before .before .before in
     λ s r e before behind w. term-run (before ++ behind) (c₃ .args .x) s r (sym (c₂ .enum-told2 .given .1) ∙ w .right .look) (sym (both-on (under (tv (c₃ .args .x)) r) (c₁ .hidden .ensures r _ (w .left .fine .0) (side-stands (w .right))) e) ∙ c .if1 .taken)
-
-enum-known-look-2 : tie.Need-enum-known-look-2
-enum-known-look-2 c = search needs
-
-rank-term-node-requires : tie.Need-rank-term-node-requires
-rank-term-node-requires c κs = search needs
 
 returns-2 : tie.Need-returns-2
 returns-2 c = λ s r e before behind w. term-empty (before ++ behind) (c .before .before .before .before .args .x) s r (sym (c .enum-told .given .1) ∙ w .right .look)
@@ -59,4 +38,6 @@ returns-5 c =
 
 pub rank-term-spec : {M : Type 1} → statement M
 rank-term-spec =
-    tie.close (tie.spec enum-told enum-known-look rank-term-term-requires enum-told-2 hidden-requires returns enum-known-look-2 rank-term-node-requires returns-2 returns-3 returns-4 returns-5)
+    tie.close (tie.spec
+    (λ c. search needs) (λ c. search needs) (λ c κs. search needs) (λ c. search needs) (λ c κs. search needs) returns (λ c. search needs)
+    (λ c κs. search needs) returns-2 returns-3 returns-4 returns-5)

@@ -12,21 +12,9 @@ use Rattle.equations.proofs.Variables.{term-elsewhere, node-hidden, nod
 use Rattle.equations.proofs.terms.rank_term_node.Statement.{statement}
 use Rattle.equations.proofs.terms.rank_term_node.Tie as tie
 
-hidden-requires : tie.Need-hidden-requires
-hidden-requires c κs = search needs
-
 returns : tie.Need-returns
 returns c = λ s G d t e f before behind w.
     node-hidden (before ++ behind) (c .before .before .before .before .args .x) s G d t (sym (both-on (under (tv (c .before .before .before .before .args .x)) (node G d t)) (c .before .hidden .ensures (node G d t) _ (w .left .fine .0) (side-stands (w .right))) e) ∙ c .if1 .taken)
-
-and-requires : tie.Need-and-requires
-and-requires c κs = search needs
-
-term-word-requires : tie.Need-term-word-requires
-term-word-requires c κs = search needs
-
-elsewhere-requires : tie.Need-elsewhere-requires
-elsewhere-requires c κs = search needs
 
 returns-2 : tie.Need-returns-2
 returns-2 c =
@@ -50,4 +38,5 @@ returns-4 c =
 
 pub rank-term-node-spec : {M : Type 1} → statement M
 rank-term-node-spec =
-    tie.close (tie.spec hidden-requires returns and-requires term-word-requires elsewhere-requires returns-2 returns-3 returns-4)
+    tie.close (tie.spec
+    (λ c κs. search needs) returns (λ c κs. search needs) (λ c κs. search needs) (λ c κs. search needs) returns-2 returns-3 returns-4)

@@ -5,32 +5,20 @@ use mathlib.Core.List.{_++_}
 use Rattle.language.specs.Trees.{tvar, tv}
 use Rattle.rules.specs.Looks.{under}
 use Rattle.views.proofs.Sides.{side-stands}
-use Rattle.views.proofs.Same.{same-sides}
+use Rattle.equations.proofs.Same.{same-sides}
 use Rattle.equations.proofs.Looked.{both, both-on}
 use Rattle.equations.proofs.Variables.{terms-same, terms-hidden, terms-longer, terms-single}
 use Rattle.equations.proofs.terms.rank_term_term.Statement.{statement}
 use Rattle.equations.proofs.terms.rank_term_term.Tie as tie
 
-same-part-requires : tie.Need-same-part-requires
-same-part-requires c κs = search needs
-
 returns : tie.Need-returns
 returns c = λ s t e f before behind w. terms-same (before ++ behind) (c .before .before .before .before .before .args .x) s (c .before .before .before .before .before .args .z) t (sym (same-sides (w .left) (w .right)) ∙ sym (c .before .same-part .ensures) ∙ c .if1 .taken)
-
-hidden-requires : tie.Need-hidden-requires
-hidden-requires c κs = search needs
 
 returns-2 : tie.Need-returns-2
 returns-2 c =
     let c₁ = c .before in let c₂ = c₁ .before in let c₃ = c₂ .before in let c₄ = c₃ .before .before .before .before in
     λ s t e f before behind w.
     terms-hidden (before ++ behind) (c₄ .args .x) s (c₄ .args .z) t (sym (same-sides (w .left) (w .right)) ∙ sym (c₃ .same-part .ensures) ∙ c₂ .if1 .left) (sym (both-on (under (tv (c₄ .args .x)) (tvar (c₄ .args .z) t)) (c₁ .hidden .ensures (tvar (c₄ .args .z) t) _ (w .left .fine .0) (side-stands (w .right))) e) ∙ c .if2 .taken)
-
-and-requires : tie.Need-and-requires
-and-requires c κs = search needs
-
-rank-variables-requires : tie.Need-rank-variables-requires
-rank-variables-requires c κs = search needs
 
 returns-3 : tie.Need-returns-3
 returns-3 c =
@@ -49,4 +37,5 @@ returns-4 c =
 
 pub rank-term-term-spec : {M : Type 1} → statement M
 rank-term-term-spec =
-    tie.close (tie.spec same-part-requires returns hidden-requires returns-2 and-requires rank-variables-requires returns-3 returns-4)
+    tie.close (tie.spec
+    (λ c κs. search needs) returns (λ c κs. search needs) returns-2 (λ c κs. search needs) (λ c κs. search needs) returns-3 returns-4)

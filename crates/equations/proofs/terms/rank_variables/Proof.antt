@@ -12,21 +12,6 @@ use Rattle.equations.proofs.terms.rank_variables.Tie as tie
 returns : tie.Need-returns
 returns c = λ before behind l r s i j. same-variable (before ++ behind) (c .before .before .before .before .args .x) (c .before .before .before .before .args .z) (c .if1 .taken)
 
-term-word-requires : tie.Need-term-word-requires
-term-word-requires c κs = search needs
-
-elsewhere-requires : tie.Need-elsewhere-requires
-elsewhere-requires c κs = search needs
-
-term-word-requires-2 : tie.Need-term-word-requires-2
-term-word-requires-2 c κs = search needs
-
-elsewhere-requires-2 : tie.Need-elsewhere-requires-2
-elsewhere-requires-2 c κs = search needs
-
-and-requires : tie.Need-and-requires
-and-requires c κs = search needs
-
 returns-2 : tie.Need-returns-2
 returns-2 c =
     let c₁ = c .before in let c₂ = c₁ .before in let c₃ = c₂ .before in let c₄ = c₃ .before in let c₅ = c₄ .before in let c₆ = c₅ .before in
@@ -45,4 +30,5 @@ returns-3 c =
 
 pub rank-variables-spec : {M : Type 1} → statement M
 rank-variables-spec =
-    tie.close (tie.spec returns term-word-requires elsewhere-requires term-word-requires-2 elsewhere-requires-2 and-requires returns-2 returns-3)
+    tie.close (tie.spec
+    returns (λ c κs. search needs) (λ c κs. search needs) (λ c κs. search needs) (λ c κs. search needs) (λ c κs. search needs) returns-2 returns-3)

@@ -53,17 +53,6 @@ returns c = let a = c .before .before .before .before .before .args in
 
 pub made-len-spec : {M : Type 1} → statement M
 made-len-spec =
-    tie.close
-    (tie.spec
-    Inv-loop
-    μ-loop
-    (λ c κs. search needs)
-    loop-holds
-    (λ c. search needs)
-    (λ c. search needs)
-    piece-len-requires
-    add-n
-    (λ c. search needs)
-    (λ c. search needs)
-    loop-again
-    returns)
+    tie.close (tie.spec
+    Inv-loop μ-loop (λ c κs. search needs) loop-holds (λ c. search needs) (λ c. search needs) piece-len-requires add-n (λ c. search needs)
+    (λ c. search needs) loop-again returns)

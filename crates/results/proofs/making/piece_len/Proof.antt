@@ -4,8 +4,8 @@ use mathlib.Core.Path.{sym, ap, _∙_}
 use lib.Seq.{slice}
 use Rattle.plans.specs.Results.{pieceWords}
 use Rattle.results.specs.Marked.{bare}
-use Rattle.results.proofs.Parts.{part-short}
-use Rattle.results.proofs.Still.{counted-as}
+use Rattle.slices.proofs.Parts.{part-short}
+use Rattle.slices.proofs.Still.{counted-as}
 use Rattle.results.proofs.Replaced.{length-empty-each}
 use native.Mathlib.Omega.{arith}
 use borrow.Author.Needs.{needs}
@@ -37,23 +37,7 @@ returns-6 c = let a = c .before .before .before .before .before .args in
 
 pub piece-len-spec : {M : Type 1} → statement M
 piece-len-spec =
-    tie.close
-    (tie.spec
-    (λ c. search needs)
-    (λ c. search needs)
-    (λ c κs. search needs)
-    (λ c. search needs)
-    (λ c κs. search needs)
-    (λ c. search needs)
-    (λ c κs. search needs)
-    (λ c. search needs)
-    (λ c κs. search needs)
-    (λ c. search needs)
-    (λ c κs. search needs)
-    mul-result
-    (λ c. search needs)
-    returns-2
-    returns-3
-    returns-4
-    returns-5
-    returns-6)
+    tie.close (tie.spec
+    (λ c. search needs) (λ c. search needs) (λ c κs. search needs) (λ c. search needs) (λ c κs. search needs) (λ c. search needs)
+    (λ c κs. search needs) (λ c. search needs) (λ c κs. search needs) (λ c. search needs) (λ c κs. search needs) mul-result (λ c. search needs)
+    returns-2 returns-3 returns-4 returns-5 returns-6)

@@ -1,7 +1,5 @@
 -- The length is the distance from the place after the frame to the end.
-use mathlib.Core.Path.{ap, _∙_}
-use lib.ListN.{set}
-use Rattle.results.proofs.Still.{wrote-framed}
+use Rattle.results.proofs.Stores.{wrote-framed}
 use native.Mathlib.Omega.{arith}
 use borrow.Author.Needs.{needs}
 use Rattle.results.proofs.making.write_framed.Statement.{statement}
@@ -14,11 +12,5 @@ returns c =
 
 pub write-framed-spec : {M : Type 1} → statement M
 write-framed-spec =
-    tie.close
-    (tie.spec
-    (λ c. search needs)
-    (λ c κs. search needs)
-    (λ c. search needs)
-    (λ c κs. search needs)
-    (λ c. search needs)
-    returns)
+    tie.close (tie.spec
+    (λ c. search needs) (λ c κs. search needs) (λ c. search needs) (λ c κs. search needs) (λ c. search needs) returns)

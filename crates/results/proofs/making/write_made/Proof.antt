@@ -1,7 +1,7 @@
 -- The loop's invariant: the pieces from the i-th on are still to come.
 use Prim.Native.Nat.{_-_, _≤_}
 use Rattle.plans.specs.Results.{made}
-use Rattle.results.proofs.Still.{Still, still-all, still-none, still-fits, still-run}
+use Rattle.slices.proofs.Still.{Still, still-all, still-none, still-fits, still-run}
 use Rattle.results.proofs.Made.{whole, from, bare-step, made-none}
 use native.Mathlib.Omega.{arith}
 use borrow.Author.Needs.{needs}
@@ -28,26 +28,12 @@ loop-again c =
     let c₁ = c .before .before in let c₂ = c₁ .before .before .before in let c₃ = c₂ .before in let c₄ = c₃ .before .before .before .before .before in
     let a = c₄ .args in (still-run (c₃ .loop .inv .0) (bare-step (a .k .now) (a .r) (a .cut) _ (c₂ .loop-test .taken)) (c₁ .write-piece .ensures), omega arith)
 
-same-length : tie.Need-same-length Inv-loop μ-loop
-same-length c = c .before .loop .inv .0 .size
-
 returns : tie.Need-returns Inv-loop μ-loop
 unfolding made
 returns c = let a = c .before .before .before .before .before .before .args in still-none (c .before .loop .inv .0) (made-none (a .k .now) (a .r) (a .cut) _ (c .loop-test .left))
 
 pub write-made-spec : {M : Type 1} → statement M
 write-made-spec =
-    tie.close
-    (tie.spec
-    Inv-loop
-    μ-loop
-    (λ c κs. search needs)
-    loop-holds
-    (λ c. search needs)
-    (λ c. search needs)
-    write-piece-requires
-    (λ c. search needs)
-    (λ c. search needs)
-    loop-again
-    same-length
-    returns)
+    tie.close (tie.spec
+    Inv-loop μ-loop (λ c κs. search needs) loop-holds (λ c. search needs) (λ c. search needs) write-piece-requires (λ c. search needs)
+    (λ c. search needs) loop-again (λ c. c .before .loop .inv .0 .size) returns)

@@ -1,5 +1,5 @@
 -- Of a hedge variable the mark is read; any other word is not marked.
-use mathlib.Core.Path.{sym, ap, _∙_}
+use mathlib.Core.Path.{ap, _∙_}
 use mathlib.Core.Bool.{false}
 use lib.ListN.{getD}
 use Rattle.results.proofs.Marking.{in-place, marked-run, marked-none}
@@ -23,12 +23,4 @@ returns-2 : tie.Need-returns-2
 returns-2 c = marked-none _ _ (c .before .classify .ensures) (c .match .keys2)
 
 pub is-marked-spec : {M : Type 1} → statement M
-is-marked-spec =
-    tie.close
-    (tie.spec
-    (λ c κs. search needs)
-    (λ c. search needs)
-    (λ c κs. search needs)
-    array-read-result
-    returns
-    returns-2)
+is-marked-spec = tie.close (tie.spec (λ c κs. search needs) (λ c. search needs) (λ c κs. search needs) array-read-result returns returns-2)

@@ -15,11 +15,4 @@ returns-2 c =
     c .stands .ensures ∙ ap (λ x. member x (slice (a .old) (a .until) (a .k .now))) (c .before .wide .ensures)
 
 pub is-old-spec : {M : Type 1} → statement M
-is-old-spec =
-    tie.close
-    (tie.spec
-    (λ c κs. search needs)
-    returns
-    (λ c κs. search needs)
-    (λ c κs. search needs)
-    returns-2)
+is-old-spec = tie.close (tie.spec (λ c κs. search needs) returns (λ c κs. search needs) (λ c κs. search needs) returns-2)

@@ -1,10 +1,10 @@
 -- The loop's invariant: a word of the part is marked or stands in what is left of it.
 use Prim.Native.Nat.{_+_, _-_}
-use mathlib.Core.Path.{_≡_, refl, sym, subst, ap, _∙_}
+use mathlib.Core.Path.{refl, sym, subst}
 use mathlib.Core.Bool.{true}
-use lib.ListN.{getD, set}
+use lib.ListN.{set}
 use lib.Seq.{slice}
-use Rattle.results.proofs.Parts.{part-cons, part-none}
+use Rattle.slices.proofs.Parts.{part-cons, part-none}
 use Rattle.results.proofs.Marking.{in-place, Marking, none-marked, marking-step, marking-done, not-only}
 use native.Mathlib.Omega.{arith}
 use borrow.Author.Needs.{needs}
@@ -16,9 +16,6 @@ Inv-loop k from to set₀ end i₀ set i = Marking set (slice i to k) (slice fro
 
 abbrev μ-loop : tie.MeasureT-loop
 μ-loop k from to set₀ end i₀ set i = end - i
-
-loop-holds : tie.Need-loop-holds Inv-loop μ-loop
-loop-holds c = none-marked _ _ refl refl
 
 shared-slice-read-classify : tie.Need-shared-slice-read-classify Inv-loop μ-loop
 shared-slice-read-classify c = let w = c .before .before .before .within .ensures .low in omega arith
@@ -37,28 +34,11 @@ loop-again c =
     subst (λ n. Marking (set (l .loop .set) n true) (slice (l .loop .i + 1) (a .to) (a .k .now)) (slice (a .from) (a .to) (a .k .now))) (sym (c .wide .ensures))
     (marking-step (l .loop .inv) _ _ (part-cons (l .before .within .ensures) _ (c₃ .loop-test .taken)) (c₂ .classify .ensures) _ (c₁ .p .given .1))
 
-returns : tie.Need-returns Inv-loop μ-loop
-returns c = not-only _ _
-
 returns-2 : tie.Need-returns-2 Inv-loop μ-loop
 returns-2 c = marking-done (c .before .loop .inv) (part-none (c .before .before .within .ensures) _ (c .loop-test .left))
 
 pub note-spec : {M : Type 1} → statement M
 note-spec =
-    tie.close
-    (tie.spec
-    Inv-loop
-    μ-loop
-    (λ c κs. search needs)
-    loop-holds
-    (λ c. search needs)
-    shared-slice-read-classify
-    (λ c κs. search needs)
-    (λ c. search needs)
-    (λ c κs. search needs)
-    array-write-set
-    (λ c. search needs)
-    (λ c. search needs)
-    loop-again
-    returns
-    returns-2)
+    tie.close (tie.spec
+    Inv-loop μ-loop (λ c κs. search needs) (λ c. none-marked _ _ refl refl) (λ c. search needs) shared-slice-read-classify (λ c κs. search needs)
+    (λ c. search needs) (λ c κs. search needs) array-write-set (λ c. search needs) (λ c. search needs) loop-again (λ c. not-only _ _) returns-2)

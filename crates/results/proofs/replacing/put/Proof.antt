@@ -1,8 +1,8 @@
 -- The loop's invariant: what stands for the rest of the part is still to come.
-use Prim.Native.Nat.{_+_, _-_}
+use Prim.Native.Nat.{_-_}
 use lib.Seq.{slice}
 use Rattle.plans.specs.Results.{replaced, changed}
-use Rattle.results.proofs.Still.{Still, still-all, still-none, still-fits, still-run}
+use Rattle.slices.proofs.Still.{Still, still-all, still-none, still-fits, still-run}
 use Rattle.results.proofs.Replaced.{put-step, put-none}
 use borrow.Author.Needs.{needs}
 use Rattle.results.proofs.replacing.put.Statement.{statement}
@@ -28,26 +28,12 @@ loop-again c =
     let c₁ = c .before .before in let c₂ = c₁ .before .before .before in let c₃ = c₂ .before in let c₄ = c₃ .before in
     still-run (c₃ .loop .inv) (put-step (c₄ .within .ensures) _ _ _ (c₂ .loop-test .taken)) (c₁ .put-word .ensures)
 
-same-length : tie.Need-same-length Inv-loop μ-loop
-same-length c = c .before .loop .inv .size
-
 returns : tie.Need-returns Inv-loop μ-loop
 unfolding changed
 returns c = still-none (c .before .loop .inv) (put-none (c .before .before .within .ensures) _ _ _ (c .loop-test .left))
 
 pub put-spec : {M : Type 1} → statement M
 put-spec =
-    tie.close
-    (tie.spec
-    Inv-loop
-    μ-loop
-    (λ c κs. search needs)
-    loop-holds
-    (λ c. search needs)
-    (λ c. search needs)
-    put-word-requires
-    (λ c. search needs)
-    (λ c. search needs)
-    loop-again
-    same-length
-    returns)
+    tie.close (tie.spec
+    Inv-loop μ-loop (λ c κs. search needs) loop-holds (λ c. search needs) (λ c. search needs) put-word-requires (λ c. search needs)
+    (λ c. search needs) loop-again (λ c. c .before .loop .inv .size) returns)

@@ -16,12 +16,6 @@ Inv-loop k cut m from to old until new gain end i₀ n₀ i n = n + length (repl
 abbrev μ-loop : tie.MeasureT-loop
 μ-loop k cut m from to old until new gain end i₀ n₀ i n = end - i
 
-loop-holds : tie.Need-loop-holds Inv-loop μ-loop
-loop-holds c = omega arith
-
-is-old-requires : tie.Need-is-old-requires Inv-loop μ-loop
-is-old-requires c κs = c .before .before .before .before .before .before .pre .0
-
 add-n : tie.Need-add-n Inv-loop μ-loop
 add-n c =
     let c₁ = c .before in let c₂ = c₁ .before .before in let c₃ = c₂ .before in let c₄ = c₃ .before in let c₅ = c₄ .before in
@@ -53,19 +47,7 @@ returns c = let a = c .before .before .before .before .before .args in
 
 pub put-len-spec : {M : Type 1} → statement M
 put-len-spec =
-    tie.close
-    (tie.spec
-    Inv-loop
-    μ-loop
-    (λ c κs. search needs)
-    (λ c κs. search needs)
-    loop-holds
-    (λ c. search needs)
-    (λ c. search needs)
-    is-old-requires
-    (λ c κs. search needs)
-    add-n
-    (λ c. search needs)
-    (λ c. search needs)
-    loop-again
-    returns)
+    tie.close (tie.spec
+    Inv-loop μ-loop (λ c κs. search needs) (λ c κs. search needs) (λ c. omega arith) (λ c. search needs) (λ c. search needs)
+    (λ c κs. c .before .before .before .before .before .before .pre .0) (λ c κs. search needs) add-n (λ c. search needs) (λ c. search needs)
+    loop-again returns)

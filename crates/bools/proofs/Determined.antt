@@ -1,0 +1,11 @@
+-- Any two outcomes that a contract of this crate allows coincide.
+use mathlib.Core.Path.{sym, ap, _∙_}
+use Rattle.language.proofs.Determined.{Determined}
+use Rattle.bools.proofs.and as and
+use Rattle.bools.proofs.or as or
+
+and-determined : Determined and.ended and.Reads.Pre and.Reads.Post
+and-determined κs a p o q e d = ap (λ z. (z, o .1)) (e ∙ sym d)
+
+or-determined : Determined or.ended or.Reads.Pre or.Reads.Post
+or-determined κs a p o q e d = ap (λ z. (z, o .1)) (e ∙ sym d)

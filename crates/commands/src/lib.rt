@@ -1,0 +1,242 @@
+// The commands of the desk at its prompt: a question solved, a filling tried, an example shown.
+mod arguments;
+mod files;
+mod status;
+
+ghost use Prim.Native.Nat.{_<_};
+use arguments::is;
+use arguments::is_last;
+use arguments::warn_of;
+use arguments::wrong_use;
+use files::load;
+use language::Refusal;
+use language::limits::FILLING;
+use language::limits::QUESTION;
+use language::limits::ROOM;
+use outcomes::Outcome;
+use outcomes::Shown;
+use outcomes::Solved;
+use outcomes::Tried;
+use print::say;
+use print::warn;
+use prompt::parse;
+use status::FAILED;
+use status::FOUND;
+use status::NOTHING;
+use wording::answers::answered;
+use wording::answers::filling;
+use wording::help::help;
+use wording::help::version;
+use wording::refusals::refusal;
+
+fn wide(n: u16) -> u64 {
+    n as u64
+}
+
+fn refuse(r: Refusal) -> u8 {
+    refusal(wide(language::number(r)));
+    FAILED
+}
+
+// Says what solving came to.
+fn solved(s: Solved, answer: &[u16]) -> u8 {
+    let outcome = s.outcome;
+    match outcome {
+        Outcome::Refused(r) => refuse(r),
+        Outcome::NoLine => {
+            answered(b"none: nothing meets the question\n", s, answer);
+            NOTHING
+        }
+        Outcome::AllSolved => {
+            answered(b"settled: every line can be met\n", s, answer);
+            FOUND
+        }
+        Outcome::SomeOpen => {
+            answered(
+                b"still open: there may be something that meets an open line, or nothing\n",
+                s,
+                answer,
+            );
+            FOUND
+        }
+    }
+}
+
+fn solve(question: &[u16]) -> u8 {
+    let mut work = [0u16; ROOM];
+    let mut answer = [0u16; ROOM];
+    let s = solver::solve(question, &mut work, &mut answer);
+    solved(s, &answer)
+}
+
+fn tell(t: Tried) -> u8 {
+    match t {
+        Tried::Yes => {
+            say(b"yes: the filling meets the question\n");
+            FOUND
+        }
+        Tried::No => {
+            say(b"no: the filling does not meet the question\n");
+            NOTHING
+        }
+        Tried::Refused(r) => refuse(r),
+    }
+}
+
+fn attempt<'a>(question: &'a [u16], values: &'a [u16]) -> u8 {
+    let mut work = [0u16; ROOM];
+    tell(trying::try_filling(question, values, &mut work))
+}
+
+// Whether the filling that argument `i` names meets the question.
+fn try_file(question: &[u16], i: usize) -> u8 {
+    let mut values = [0u16; 2 * FILLING];
+    let t = load(i, &mut values);
+    if t.line != 0 {
+        return FAILED;
+    }
+    let n = t.words;
+    attempt(question, &values[0..n])
+}
+
+// The first words of the room, as a filling.
+fn show_words(question: &[u16], room: &[u16], n: usize) {
+    if n <= room.len() {
+        filling(question, &room[0..n]);
+    }
+}
+
+// Says what an example came to.
+fn shown<'a>(s: Shown, question: &'a [u16], room: &'a [u16]) -> u8 {
+    match s {
+        Shown::Shows(n) => {
+            show_words(question, room, n);
+            FOUND
+        }
+        Shown::Denied(r) => refuse(r),
+    }
+}
+
+fn show(question: &[u16], line: usize) -> u8 {
+    let mut work = [0u16; ROOM];
+    let mut answer = [0u16; ROOM];
+    let mut room = [0u16; FILLING];
+    let s = example::example(question, line, &mut work, &mut answer, &mut room);
+    shown(s, question, &room)
+}
+
+fn place(n: u16) -> usize {
+    n as usize
+}
+
+// The example of the line that argument `i` names.
+fn show_line(question: &[u16], i: usize) -> u8 {
+    let mut text = io::buffer();
+    let n = os::arg(i, &mut text);
+    let mut line = [0u16; 1];
+    let t = parse(&text[..n], &mut line);
+    if t.line != 0 {
+        return wrong_use(b"a line is named by a number, and the first is 0");
+    }
+    show(question, place(line[0]))
+}
+
+enum Command {
+    Solve,
+    Try,
+    Example,
+}
+
+// Does what is asked with a question; argument `i` says more.
+fn ask(command: Command, question: &[u16], i: usize) -> u8 {
+    match command {
+        Command::Solve => solve(question),
+        Command::Try => try_file(question, i),
+        Command::Example => show_line(question, i),
+    }
+}
+
+// Does what is asked with the question of the file that argument `i` names.
+fn with_question(command: Command, i: usize) -> u8
+    requires { ⌜ i < 10 ⌝ }
+{
+    let mut words = [0u16; 2 * QUESTION];
+    let t = load(i, &mut words);
+    if t.line != 0 {
+        return FAILED;
+    }
+    let n = t.words;
+    ask(command, &words[0..n], i + 1)
+}
+
+// The command that argument `i` names takes the file behind it, and to solve a question nothing more.
+fn solve_command(i: usize) -> u8
+    requires { ⌜ i < 9 ⌝ }
+{
+    if is_last(i + 1) {
+        return with_question(Command::Solve, i + 1);
+    }
+    wrong_use(b"solve takes a file")
+}
+
+fn try_command(i: usize) -> u8
+    requires { ⌜ i < 9 ⌝ }
+{
+    if is_last(i + 2) {
+        return with_question(Command::Try, i + 1);
+    }
+    wrong_use(b"try takes a file with a question and a file with a filling")
+}
+
+fn example_command(i: usize) -> u8
+    requires { ⌜ i < 9 ⌝ }
+{
+    if is_last(i + 2) {
+        return with_question(Command::Example, i + 1);
+    }
+    wrong_use(b"example takes a file and the number of a line")
+}
+
+// What asks for no question.
+fn other_command(i: usize) -> u8 {
+    if is(i, b"--help") {
+        help();
+        return FOUND;
+    }
+    if is(i, b"--version") {
+        version();
+        return FOUND;
+    }
+    if os::arg_count() <= i {
+        return wrong_use(b"no command is given");
+    }
+    warn(b"desk: no command ");
+    warn_of(i);
+    warn(b"\n");
+    wrong_use(b"the commands are solve, try and example")
+}
+
+// Does what argument `i` and those behind it ask for.
+fn run(i: usize) -> u8
+    requires { ⌜ i < 9 ⌝ }
+{
+    if is(i, b"solve") {
+        return solve_command(i);
+    }
+    if is(i, b"try") {
+        return try_command(i);
+    }
+    if is(i, b"example") {
+        return example_command(i);
+    }
+    other_command(i)
+}
+
+// Does what the arguments ask for. Where the first of them asks for it, the status is reported on the descriptor that the caller opened.
+pub fn obey() {
+    if is(1, b"--status-on-3") {
+        status::report(run(2));
+        return;
+    }
+    run(1);
+}

@@ -1,0 +1,5 @@
+pub mod Walks
+pub mod Firsts
+pub mod Stops
+pub mod Searches
+pub mod Determined

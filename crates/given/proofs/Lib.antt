@@ -1,0 +1,4 @@
+pub mod Plain
+pub mod Forms
+pub mod Readings
+pub mod Determined

@@ -1,0 +1,4 @@
+pub mod Charted
+pub mod Loose
+pub mod Rows
+pub mod Walks

@@ -1,0 +1,5 @@
+pub mod Parts
+pub mod Plain
+pub mod Eliminating
+pub mod Dispatch
+pub mod Determined

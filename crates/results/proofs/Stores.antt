@@ -1,0 +1,29 @@
+-- Words stored one by one: four in a row, and a frame before its words.
+use mathlib.Core.Path.{_≡_, refl, ap, _∙_}
+use mathlib.Core.List.{List, [], _∷_}
+use Prim.Native.Nat.{ℕ, suc, _+_}
+use native.Mathlib.Numerals.{add-one}
+use native.Mathlib.Omega.{arith}
+use lib.ListN.{length, set}
+use lib.Seq.{sets}
+use Rattle.frames.specs.Frames.{frame, frameOf, inFrame}
+use Rattle.slices.specs.Written.{Wrote}
+use Rattle.slices.proofs.Still.{set-sets}
+
+-- four
+pub wrote-four : (l : List ℕ) (e a b c d : ℕ) → Wrote l e (a ∷ b ∷ c ∷ d ∷ []) (set (set (set (set l e a) (e + 1) b) (e + 2) c) (e + 3) d) (e + 4)
+wrote-four l e a b c d =
+    let p : e + 1 ≡ suc e = omega arith in
+    let q : e + 2 ≡ suc (suc e) = omega arith in
+    let r : e + 3 ≡ suc (suc (suc e)) = omega arith in
+    record { end = refl; list = cc }
+
+-- a frame before its words, stored when they stand
+pub wrote-framed : {l : List ℕ} {at : ℕ} {ws new : List ℕ} {e x : ℕ} {new′ : List ℕ} → Wrote l (at + frame) ws new e → x ≡ length ws → new′ ≡ sets new at (frameOf x)
+    → Wrote l at (inFrame ws) new′ e
+wrote-framed {l} {at} {ws} {new} {e} {x} w z s = record {
+  end = let q = w .end in omega arith;
+  list =
+      s ∙ ap (λ m. set m at x) (w .list) ∙ set-sets l at x (at + 1) ws (omega arith) ∙ ap (λ n. sets (set l at x) n ws) (add-one at)
+      ∙ ap (λ y. sets (set l at y) (suc at) ws) z;
+}

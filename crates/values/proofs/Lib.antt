@@ -1,0 +1,9 @@
+pub mod Walks
+pub mod Places
+pub mod Looks
+pub mod Binding
+pub mod Spelling
+pub mod Unsolved
+pub mod Parts
+pub mod Following
+pub mod Determined

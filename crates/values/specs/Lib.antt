@@ -1,0 +1,4 @@
+pub mod Lines
+pub mod Binding
+pub mod Spelling
+pub mod Values

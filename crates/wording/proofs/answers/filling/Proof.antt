@@ -1,0 +1,19 @@
+-- `wording::answers::filling` is safe and ends.
+use Prim.Native.Nat.{_≤_, _<_, _-_}
+use borrow.Author.Needs.{needs}
+use Rattle.wording.proofs.answers.filling.Statement.{statement}
+use Rattle.wording.proofs.answers.filling.Tie as tie
+
+abbrev Inv-loop : tie.InvT-loop
+Inv-loop question ws n i₀ t5 t6 t7 i = (i ≤ n) × (n < 65536)
+
+abbrev μ-loop : tie.MeasureT-loop
+μ-loop question ws n i₀ t5 t6 t7 i = n - i
+
+pub filling-spec : {M : Type 1} → statement M
+filling-spec =
+    tie.close (tie.spec
+    Inv-loop μ-loop (λ c κs. search needs) (λ c κs. search needs) (λ c. search needs) (λ c. search needs) (λ c κs. search needs)
+    (λ c κs. search needs) (λ c κs. search needs) (λ c κs. search needs) (λ c κs. search needs) (λ c κs. search needs) (λ c. search needs)
+    (λ c κs. search needs) (λ c. search needs) (λ c κs. search needs) (λ c κs. search needs) (λ c κs. search needs) (λ c. search needs)
+    (λ c κs. search needs) (λ c. search needs) (λ c. search needs) (λ c. search needs) (λ c κs. search needs) (λ c. search needs))

@@ -1,0 +1,109 @@
+// The lines of an answer, and the values of a filling.
+ghost use Prim.Native.Nat.{_<_};
+use language::wide;
+use notation::hedge;
+use notation::literals;
+use outcomes::Solved;
+use print::number;
+use print::say;
+use words::word;
+
+// Line i of an answer: its number and its mark, then its literals.
+fn line(answer: &[u16], i: usize)
+    requires { ⌜ i < 65536 ⌝ }
+{
+    let from = wide(word(answer, i + 2));
+    let to = wide(word(answer, i + 3));
+    say(b"line ");
+    number(i as u64);
+    if word(answer, from) == 1 {
+        say(b", settled\n");
+    } else {
+        say(b", open\n");
+    }
+    if from + 1 >= to {
+        say(b"  every report meets it\n");
+    }
+    literals(answer, from + 1, to);
+}
+
+// Every line of an answer.
+fn lines(answer: &[u16]) {
+    let n = wide(word(answer, 0));
+    let mut i = 0;
+    while i < n {
+        line(answer, i);
+        i += 1;
+    }
+}
+
+fn count(n: usize) {
+    number(n as u64);
+}
+
+fn counts(s: Solved) {
+    say(b"lines ");
+    count(s.lines);
+    say(b", open lines ");
+    count(s.open);
+    say(b", steps ");
+    count(s.steps);
+    say(b"\n");
+}
+
+// An answer: its verdict, its counts and its lines.
+pub fn answered(verdict: &[u8], s: Solved, answer: &[u16]) {
+    say(verdict);
+    counts(s);
+    lines(answer);
+}
+
+// A word in decimal, apart from the one before it.
+fn decimal(w: u16, i: usize) {
+    if i > 0 {
+        say(b" ");
+    }
+    number(w as u64);
+}
+
+// Words in decimal, in a row.
+fn words(ws: &[u16]) {
+    let mut i = 0;
+    while i < ws.len() {
+        decimal(ws[i], i);
+        i += 1;
+    }
+    say(b"\n");
+}
+
+// The name of variable i of a filling: term, hedge, function variables in order.
+fn variable(i: usize, terms: usize, hedges: usize) {
+    if i < terms {
+        say(b"x");
+        number(i as u64);
+        return;
+    }
+    let j = i - terms;
+    if j < hedges {
+        say(b"p");
+        number(j as u64);
+        return;
+    }
+    say(b"X");
+    number((j - hedges) as u64);
+}
+
+// A filling's values as remarks, and then its words, so that what is written here can be read again.
+pub fn filling(question: &[u16], ws: &[u16]) {
+    let n = wide(word(ws, 0));
+    let mut i = 0;
+    while i < n {
+        say(b"# ");
+        variable(i, wide(word(question, 1)), wide(word(question, 2)));
+        say(b" = ");
+        hedge(ws, wide(word(ws, i + 1)));
+        say(b"\n");
+        i += 1;
+    }
+    words(ws);
+}

@@ -1,0 +1,25 @@
+// What `desk --help` and `desk --version` say.
+use print::say;
+
+pub fn version() {
+    say(b"desk 1.0: can any report meet all of this, and if so, which?\n");
+}
+
+pub fn help() {
+    version();
+    say(b"\n");
+    say(b"desk solve FILE            the lines of a question\n");
+    say(b"desk try FILE FILLING      whether a filling meets a question\n");
+    say(b"desk example FILE LINE     a filling that meets a settled line; the first line is 0\n");
+    say(b"\n");
+    say(b"A file holds words in decimal; # begins a remark, and - is standard input.\n");
+    say(b"The folder examples has some questions.\n");
+    say(b"\n");
+    say(b"In an answer x0 is a blank for one part, p0 for a run of parts, X0 for a name;\n");
+    say(b"a0 is a symbol, () no part at all. In a pattern R . S is one after the other,\n");
+    say(b"R + S either, R* any number. An open line may be met by some report or by none.\n");
+    say(b"\n");
+    say(b"The exit status is 0 where there are lines, a yes or an example, 1 where the\n");
+    say(b"answer is none or no, and 2 where the desk refuses, is used wrongly or cannot\n");
+    say(b"read a file. Answers go to standard output, all else to standard error.\n");
+}
