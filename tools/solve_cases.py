@@ -20,7 +20,7 @@ def worked(path):
     cases = []
     for line in open(path):
         if line[0] == 'Q': question = list(words(line[1:]))
-        if line[0] == 'R': cases.append((question, line[1:].split(), []))
+        if line[0] == 'R': cases.append((question, list(words(line[1:])), []))
         if line[0] == 'A': cases[-1][2].extend(words(line[1:]))
     return cases
 
