@@ -8,7 +8,8 @@ use native.Mathlib.Omega.{arith}
 use borrow.Author.Tests.{le-ltb}
 use lib.Dec.{ltb}
 use lib.ListN.{length}
-use Rattle.language.specs.Limits.{Limits, Within}
+use Rattle.language.specs.Limits.{Limits, desk, firstDesk, Within}
+use Rattle.language.proofs.Wider.{first-within}
 use Rattle.language.specs.Trees.{Counts, Conj}
 use Rattle.language.specs.Question.{countsOf}
 use Rattle.meaning.specs.Values.{fillingWords}
@@ -34,3 +35,9 @@ showing-wider L M i work answer work′ answer′ room line ws fs e p q =
     let f = le-ltb (M .filling) (length fs) (omega arith) in
     let g = le-ltb room (length fs) (s .fits-room) in
     rw (showing, more, s .there) (fits M (countsOf ws) room (s .literals) fs (s .is-solved) (s .written) f g)
+
+-- ---- the first desk and the one of "Bigger sheets"
+
+pub shown-still : (work answer work′ answer′ room line : ℕ) (ws fs : List ℕ) → showing firstDesk work answer room line ws ≡ shows fs
+    → desk .room ≤ work′ → desk .room ≤ answer′ → showing desk work′ answer′ room line ws ≡ shows fs
+shown-still = showing-wider firstDesk desk first-within
