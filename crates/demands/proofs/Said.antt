@@ -1,4 +1,5 @@
 -- What the contracts say in numbers, of the answers that have these numbers.
+use mathlib.Core.Path.{_≡_}
 use Prim.Native.Nat.{ℕ}
 use mathlib.Core.List.{List}
 use lib.ListN.{length}

@@ -1,6 +1,6 @@
 -- Any two outcomes that a contract of this crate allows coincide.
 use Prim.Native.Nat.{ℕ}
-use mathlib.Core.Path.{sym, ap, _∙_}
+use mathlib.Core.Path.{sym, ap, _∙_, _≡_}
 use mathlib.Core.List.{List}
 use Rattle.language.proofs.Determined.{Determined}
 use Rattle.outcomes.specs.Numbers.{shownNumbers}

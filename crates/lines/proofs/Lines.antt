@@ -30,7 +30,7 @@ use Rattle.exact.proofs.Run.{run-same}
 use Rattle.exact.proofs.Declared.{lines-declared, read-declared}
 use Rattle.lines.specs.Matching.{Matching, KeepsMatching}
 use Rattle.lines.specs.Fillings.{DeclaredFilling, Agree, WordsMeet}
-use Rattle.lines.proofs.Sample.{sample-member}
+use Rattle.rules.proofs.Sample.{sample-member}
 use Rattle.lines.proofs.Example.{example-meets}
 use Rattle.lines.proofs.ReadBack.{symbols-fit, filling-back}
 use Rattle.lines.proofs.Agreement.{filling-agrees, agree-meets}

@@ -1,4 +1,5 @@
 -- The tree of decisions finds the first rule at a membership.
+use Rattle.rules.specs.Rules.{_>>=_}
 use mathlib.Core.Path.{_≡_, refl}
 use mathlib.Core.Bool.{Bool, true, false, not, _&&_, and-true, and-false}
 use Rattle.language.specs.Kinds.{pick}

@@ -8,7 +8,7 @@ use Rattle.language.specs.Limits.{Limits, desk, firstDesk}
 use Rattle.language.specs.Kinds.{kindOf, within}
 use Rattle.language.specs.Reading.{reading, readHedge, readExpr, readLiteral, readConj}
 use Rattle.language.specs.Question.{laidOut, parts, lengthFits, countsFit, Asked, asks, refuses, readQuestion}
-use Rattle.rules.specs.Rules.{check}
+use Rattle.rules.specs.Rules.{check, _>>=_}
 use Rattle.rules.specs.Step.{search, step}
 use Rattle.rules.specs.Solved.{solved}
 use Rattle.rules.specs.Run.{runFrom, run}

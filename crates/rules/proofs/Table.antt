@@ -4,7 +4,7 @@ use mathlib.Core.Bool.{true, false}
 use mathlib.Core.List.{[], _∷_, map}
 use Rattle.language.specs.Trees.{eqn, mem}
 use Rattle.rules.specs.Reply.{results}
-use Rattle.rules.specs.Rules.{check}
+use Rattle.rules.specs.Rules.{check, _>>=_}
 use Rattle.rules.specs.Places.{atF3, atD0, atE1}
 use Rattle.rules.specs.Step.{search, step}
 use Rattle.rules.specs.Solved.{solved}

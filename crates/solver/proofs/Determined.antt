@@ -1,5 +1,5 @@
 -- Any two outcomes that the contract of `solve` allows coincide: what comes back and what the two lent slices then hold.
-use mathlib.Core.Path.{sym, ap, _∙_}
+use mathlib.Core.Path.{sym, ap, _∙_, _≡_}
 use mathlib.Core.List.{List}
 use Prim.Native.Nat.{ℕ}
 use Rattle.language.proofs.Determined.{Determined}

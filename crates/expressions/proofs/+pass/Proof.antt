@@ -1,7 +1,7 @@
 -- The place after the expression at a place and its emptiness, by recursion over its parts; the words left fall.
 use borrow.Author.Needs.{needs}
 use native.Mathlib.Omega.{arith}
-use Prim.Native.Nat.{ℕ, _-_}
+use Prim.Native.Nat.{ℕ, _-_, _<_}
 use lib.ListN.{length}
 use Rattle.expressions.proofs.Passed.{passed-end, passed-eps, passed-star, passed-over, passed-cat, passed-alt}
 use borrow.Fn.Kinds.{In}

@@ -1,6 +1,6 @@
 -- `member::accepts` and `member::shift` call one another. The measure is twice the words of the expression that are left, and one more for `accepts`,
 -- which calls `shift` at the same place.
-use Prim.Native.Nat.{ℕ, _+_, _-_, _*_}
+use Prim.Native.Nat.{ℕ, _+_, _-_, _*_, _<_}
 use native.Mathlib.Omega.{arith}
 use borrow.Author.Needs.{needs}
 use lib.ListN.{length}

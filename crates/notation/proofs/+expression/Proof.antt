@@ -1,5 +1,5 @@
 -- `notation::expression` meets its contract, by recursion over the parts; the words left fall.
-use Prim.Native.Nat.{ℕ, _-_}
+use Prim.Native.Nat.{ℕ, _-_, _<_}
 use lib.ListN.{length}
 use native.Mathlib.Omega.{arith}
 use borrow.Author.Needs.{needs}

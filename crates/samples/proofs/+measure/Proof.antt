@@ -1,7 +1,7 @@
 -- The sample of the expression at a place is measured by recursion over its parts; the words left fall.
 use borrow.Author.Needs.{needs}
 use native.Mathlib.Omega.{arith}
-use Prim.Native.Nat.{ℕ, _-_}
+use Prim.Native.Nat.{ℕ, _-_, _<_}
 use lib.ListN.{length}
 use Rattle.samples.proofs.Sampling.{measured-end, measured-eps, measured-star, measured-over, measured-cat, measured-alt}
 use borrow.Fn.Kinds.{In}

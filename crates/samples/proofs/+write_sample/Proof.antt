@@ -1,7 +1,7 @@
 -- The sample of the expression at a place is written by recursion over its parts; the words left fall.
 use borrow.Author.Needs.{needs}
 use native.Mathlib.Omega.{arith}
-use Prim.Native.Nat.{ℕ, _-_}
+use Prim.Native.Nat.{ℕ, _-_, _<_}
 use lib.ListN.{length}
 use Rattle.samples.proofs.Sampling.{written-end, written-eps, written-star, written-over, written-cat, written-alt}
 use borrow.Fn.Kinds.{In}

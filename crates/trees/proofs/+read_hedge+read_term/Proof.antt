@@ -1,7 +1,7 @@
 -- The proof of the cycle of calls {read_hedge, read_term}. The words left fall: `read_term` at a place is below `read_hedge` at the same place.
 -- The loop of `read_hedge` keeps what is to be returned: what reading at `i` gives is what reading at `at` gives.
 -- Assumes nothing.
-use Prim.Native.Nat.{ℕ, _≤_, _+_, _-_, _*_}
+use Prim.Native.Nat.{ℕ, _≤_, _+_, _-_, _*_, _<_}
 use mathlib.Core.Path.{_≡_, refl, sym, _∙_}
 use native.Mathlib.Omega.{arith}
 use lib.ListN.{length, drop}

@@ -2,7 +2,7 @@
 use native.Mathlib.Omega.{arith}
 use borrow.Author.Needs.{needs}
 use Prim.Native.Nat.{ℕ}
-use mathlib.Core.Path.{_∙_}
+use mathlib.Core.Path.{_∙_, _≡_}
 use Rattle.language.specs.declared.Kind.the-variants.{Symbol, Function}
 use Rattle.views.specs.Places.{nodeAt}
 use Rattle.views.proofs.Looks.{looked, look-kind, look-term, look-run, look-other, look-within}
