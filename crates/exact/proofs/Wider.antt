@@ -20,7 +20,7 @@ use Rattle.rules.specs.Reply.{Reply, nothing, results, stops}
 use Rattle.rules.specs.Step.{step}
 use Rattle.rules.specs.Run.{size, anyLong, waitingSize, linesAt, linesSize, linesFit, Outcome, finished, refused, checked, lined, turn, runFrom, run}
 use Rattle.rules.specs.Answer.{lineWords, countOpen, padded, answerWords, answered, ran, solvingOf, solving}
-use Rattle.exact.proofs.Run.{answered-run}
+use Rattle.rules.proofs.Invariant.{answered-run}
 
 -- ---- what is within the one is within the other
 
