@@ -20,6 +20,10 @@
 
 #define LENT 0xA5
 
+/* How many requests the proved desk has learnt, of ORDER in second/src/desk.rs.
+ * The second desk is compared as the one that knows as many. */
+#define LANDED 0
+
 static void need(int done)
 {
     if (!done)

@@ -1,16 +1,17 @@
 //! The words of an answer.
 
 use crate::run::{Line, Run};
-use crate::words::{ANSWER, FIRST_LINE, MARK_OPEN, MARK_SOLVED};
+use crate::words::{FIRST_LINE, MARK_OPEN, MARK_SOLVED};
 
 /// The number of open lines.
 pub fn open_lines(lines: &[Line]) -> u16 {
     lines.iter().filter(|line| !line.solved).count() as u16
 }
 
-/// Writes the answer: counts, offsets, zeros, then the lines, then zeros.
-pub fn answer(run: &Run) -> Vec<u16> {
-    let mut words = Vec::with_capacity(ANSWER);
+/// Writes the answer of so many words: counts, offsets, zeros, then the
+/// lines, then zeros.
+pub fn answer(run: &Run, length: usize) -> Vec<u16> {
+    let mut words = Vec::with_capacity(length);
     words.resize(FIRST_LINE, 0);
     words[0] = run.lines.len() as u16;
     words[1] = open_lines(&run.lines);
@@ -20,6 +21,6 @@ pub fn answer(run: &Run) -> Vec<u16> {
         line.conjunction.write(&mut words);
         words[3 + number] = words.len() as u16;
     }
-    words.resize(ANSWER, 0);
+    words.resize(length, 0);
     words
 }

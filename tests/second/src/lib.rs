@@ -1,10 +1,11 @@
 //! A second desk for hedge questions: plain, unproved, written from the
 //! request alone, to compare the proved desk with.
 //!
-//! The three calls take words and give words. They lend nothing, so number 1
+//! A desk's three calls take words and give words. They lend nothing, so number 1
 //! (a lent slice is too short) is left to whoever lends slices.
 
 pub mod answer;
+pub mod desk;
 pub mod example;
 pub mod expression;
 pub mod filling;
@@ -17,13 +18,16 @@ pub mod records;
 pub mod rules;
 pub mod run;
 pub mod solved;
+pub mod stack;
 pub mod step;
 pub mod substitution;
 pub mod tree;
 pub mod words;
+pub mod worked;
 
+pub use desk::Desk;
 use rules::RULES;
-use words::{Refusal, ANSWER};
+use words::Refusal;
 
 /// What an answered question comes to.
 #[derive(Clone, Copy, PartialEq, Eq, Debug)]
@@ -47,32 +51,54 @@ pub struct SolveOut {
     pub lines: u16,
     pub open: u16,
     pub steps: u32,
-    /// The answer's 8,192 words, all zeros after 7 to 10; no word at all after
+    /// The answer's words, all zeros after 7 to 10; no word at all after
     /// 2 to 6, where a lent answer stays unchanged.
     pub answer: Vec<u16>,
     /// How often each rule was used, in the order of `rules::ALL`.
     pub uses: [u32; RULES],
 }
 
-/// Solves a question.
-pub fn solve(question: &[u16]) -> SolveOut {
-    let question = match read::question(question) {
-        Ok(question) => question,
-        Err(refusal) => return refused(refusal, Vec::new()),
-    };
-    let run = match run::run(&question) {
-        Ok(run) => run,
-        Err(refusal) => return refused(refusal, vec![0; ANSWER]),
-    };
-    let lines = run.lines.len() as u16;
-    let open = answer::open_lines(&run.lines);
-    let verdict = match (lines, open) {
-        (0, _) => Verdict::None,
-        (_, 0) => Verdict::AllSolved,
-        _ => Verdict::SomeOpen,
-    };
-    let answer = answer::answer(&run);
-    SolveOut { refusal: 0, verdict, lines, open, steps: run.steps, answer, uses: run.uses }
+impl Desk {
+    /// Solves a question.
+    pub fn solve(&self, question: &[u16]) -> SolveOut {
+        let question = match read::question(question, &self.limits) {
+            Ok(question) => question,
+            Err(refusal) => return refused(refusal, Vec::new()),
+        };
+        let run = match run::run(self, &question) {
+            Ok(run) => run,
+            Err(refusal) => return refused(refusal, vec![0; self.limits.answer]),
+        };
+        let lines = run.lines.len() as u16;
+        let open = answer::open_lines(&run.lines);
+        let verdict = match (lines, open) {
+            (0, _) => Verdict::None,
+            (_, 0) => Verdict::AllSolved,
+            _ => Verdict::SomeOpen,
+        };
+        let answer = answer::answer(&run, self.limits.answer);
+        SolveOut { refusal: 0, verdict, lines, open, steps: run.steps, answer, uses: run.uses }
+    }
+
+    /// Tries a filling on a question: yes or no, or 2 to 6, 11, 12, 13.
+    pub fn try_filling(&self, question: &[u16], filling: &[u16]) -> Result<bool, u16> {
+        let tried = || {
+            let question = read::question(question, &self.limits)?;
+            filling::read_filling(filling, &question.declared)?.answers(&question)
+        };
+        tried().map_err(Refusal::number)
+    }
+
+    /// The example of a line (the first is 0) in a room of so many words: the
+    /// filling's words, or 2 to 10, 14, 15, 16.
+    pub fn example(&self, question: &[u16], line: usize, room: usize) -> Result<Vec<u16>, u16> {
+        let shown = || {
+            let question = read::question(question, &self.limits)?;
+            let run = run::run(self, &question)?;
+            example::example(&run, &question.declared, line, room)
+        };
+        shown().map_err(Refusal::number)
+    }
 }
 
 fn refused(refusal: Refusal, answer: Vec<u16>) -> SolveOut {
@@ -85,24 +111,4 @@ fn refused(refusal: Refusal, answer: Vec<u16>) -> SolveOut {
         answer,
         uses: [0; RULES],
     }
-}
-
-/// Tries a filling on a question: yes or no, or 2 to 6, 11, 12, 13.
-pub fn try_filling(question: &[u16], filling: &[u16]) -> Result<bool, u16> {
-    let tried = || {
-        let question = read::question(question)?;
-        filling::read_filling(filling, &question.declared)?.answers(&question)
-    };
-    tried().map_err(Refusal::number)
-}
-
-/// The example of a line (the first is 0) in a room of so many words: the
-/// filling's words, or 2 to 10, 14, 15, 16.
-pub fn example(question: &[u16], line: usize, room: usize) -> Result<Vec<u16>, u16> {
-    let shown = || {
-        let question = read::question(question)?;
-        let run = run::run(&question)?;
-        example::example(&run, &question.declared, line, room)
-    };
-    shown().map_err(Refusal::number)
 }

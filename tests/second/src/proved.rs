@@ -1,6 +1,8 @@
 //! The proved desk, on the other side of a pipe (`../bridge.c` has the words).
 
+use crate::desk::{Desk, ORDER};
 use std::io::{BufReader, BufWriter, Read, Write};
+use std::path::{Path, PathBuf};
 use std::process::{Child, ChildStdin, ChildStdout, Command, Stdio};
 
 /// What a lent byte holds before a call.
@@ -9,6 +11,28 @@ pub const LENT: u8 = 0xA5;
 pub const NO: u32 = 100;
 pub const YES: u32 = 101;
 pub const SHOWN: u32 = 100;
+
+/// How many requests the proved desk has learnt. The bridge has the number,
+/// since it has to know which calls there are.
+pub fn landed() -> usize {
+    include_str!("../../bridge.c")
+        .lines()
+        .find_map(|line| line.strip_prefix("#define LANDED ")?.trim().parse().ok())
+        .expect("the bridge says how many requests have landed")
+}
+
+/// The desk that knows as many requests as the proved one does.
+pub fn desk() -> Desk {
+    Desk::after(landed())
+}
+
+/// The folder of worked answers of the proved desk: those of the last request
+/// that it has learnt and that has any.
+pub fn worked_folder() -> PathBuf {
+    let folder = Path::new(env!("CARGO_MANIFEST_DIR")).join("../vectors");
+    let wishes = ORDER[..landed()].iter().rev().map(|request| format!("wish-{request:02}"));
+    wishes.map(|wish| folder.join(wish)).find(|wish| wish.exists()).unwrap_or(folder)
+}
 
 /// A request as the bridge reads it.
 pub enum Request<'a> {

@@ -1,9 +1,10 @@
 //! Reading: from words to trees, the question's header and the numbers 2 to 6.
 
+use crate::desk::Limits;
 use crate::expression::Expression;
 use crate::literal::{Conjunction, Literal};
 use crate::tree::{Functor, Hedge, Item};
-use crate::words::{classify, Refusal, Word, KIND, QUESTION_LEAST, QUESTION_MOST};
+use crate::words::{classify, Refusal, Word, CONJUNCTIONS_MOST, KIND_MOST, QUESTION_LEAST};
 use std::rc::Rc;
 
 /// How many symbols and variables a question declares.
@@ -22,7 +23,7 @@ impl Declared {
 
     /// Whether a word is no number of a symbol or variable left undeclared.
     pub fn allows(&self, word: u16) -> bool {
-        match classify(word) {
+        match classify(word, KIND_MOST) {
             Word::TermVariable(number) => (number as u16) < self.terms,
             Word::HedgeVariable(number) => (number as u16) < self.hedges,
             Word::Symbol(number) => (number as u16) < self.symbols,
@@ -40,13 +41,13 @@ pub struct Question {
 }
 
 /// Reads a question, or gives the first of the numbers 2 to 6 that holds.
-pub fn question(words: &[u16]) -> Result<Question, Refusal> {
-    if words.len() < QUESTION_LEAST || words.len() > QUESTION_MOST {
+pub fn question(words: &[u16], limits: &Limits) -> Result<Question, Refusal> {
+    if words.len() < QUESTION_LEAST || words.len() > limits.question {
         return Err(Refusal::Length);
     }
-    let in_range = (1..=KIND).contains(&words[0])
-        && words[1..4].iter().all(|count| *count <= KIND)
-        && words[4] <= 16;
+    let in_range = (1..=limits.kind).contains(&words[0])
+        && words[1..4].iter().all(|count| *count <= limits.kind)
+        && words[4] <= CONJUNCTIONS_MOST;
     if !in_range {
         return Err(Refusal::Count);
     }
@@ -57,7 +58,7 @@ pub fn question(words: &[u16]) -> Result<Question, Refusal> {
     let mut conjunctions = Vec::with_capacity(count);
     for ends in offsets.windows(2) {
         let part = &words[ends[0] as usize..ends[1] as usize];
-        conjunctions.push(conjunction(part).ok_or(Refusal::Form)?);
+        conjunctions.push(conjunction(part, limits.kind).ok_or(Refusal::Form)?);
     }
     if !words[6 + count..].iter().all(|word| declared.allows(*word)) {
         return Err(Refusal::Undeclared);
@@ -77,8 +78,8 @@ pub fn offsets(words: &[u16], at: usize, count: usize) -> Option<&[u16]> {
 }
 
 /// Reads words that are exactly literals.
-pub fn conjunction(words: &[u16]) -> Option<Conjunction> {
-    let mut reader = Reader::new(words);
+pub fn conjunction(words: &[u16], kind: u16) -> Option<Conjunction> {
+    let mut reader = Reader { words, at: 0, kind };
     let mut conjunction = Conjunction::default();
     while !reader.at_end() {
         conjunction.push(reader.literal()?);
@@ -88,23 +89,20 @@ pub fn conjunction(words: &[u16]) -> Option<Conjunction> {
 
 /// Reads words that are exactly one hedge and its 0.
 pub fn whole_hedge(words: &[u16]) -> Option<Hedge> {
-    let mut reader = Reader::new(words);
+    let mut reader = Reader { words, at: 0, kind: KIND_MOST };
     let hedge = reader.hedge()?;
     reader.at_end().then_some(hedge)
 }
 
-/// Words and how many of them are read. Each call gives nothing on words
+/// Words, how many of them are read, and how many words each kind has. Each call gives nothing on words
 /// that are malformed or end too soon.
 struct Reader<'a> {
     words: &'a [u16],
     at: usize,
+    kind: u16,
 }
 
-impl<'a> Reader<'a> {
-    fn new(words: &'a [u16]) -> Reader<'a> {
-        Reader { words, at: 0 }
-    }
-
+impl Reader<'_> {
     fn at_end(&self) -> bool {
         self.at == self.words.len()
     }
@@ -112,7 +110,7 @@ impl<'a> Reader<'a> {
     fn next(&mut self) -> Option<Word> {
         let word = *self.words.get(self.at)?;
         self.at += 1;
-        Some(classify(word))
+        Some(classify(word, self.kind))
     }
 
     fn literal(&mut self) -> Option<Rc<Literal>> {

@@ -364,6 +364,7 @@ fn m11(hedge: &Hedge, expression: &Expression) -> bool {
 #[cfg(test)]
 mod tests {
     use super::*;
+    use crate::desk::Desk;
     use crate::gen::pieces::{declared, Pieces};
     use crate::gen::random::Random;
 
@@ -375,7 +376,7 @@ mod tests {
         let mut seen = 0;
         for index in 0..50_000 {
             let mut random = Random::of_case(11, index);
-            let pieces = Pieces { declared: declared(&mut random) };
+            let pieces = Pieces { declared: declared(&mut random, &Desk::newest()) };
             let literal = pieces.equation(&mut random);
             let Reach::IfElsewhere(first, way, needed) = *literal.reach() else { continue };
             let Claim::Equation(left, right) = literal.claim() else { unreachable!() };

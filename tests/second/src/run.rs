@@ -1,11 +1,12 @@
 //! The run: steps until no conjunction waits, and the numbers 7 to 10.
 
+use crate::desk::Desk;
 use crate::literal::Conjunction;
 use crate::read::Question;
 use crate::rules::{choose, RULES};
 use crate::solved::is_solved;
 use crate::step::step;
-use crate::words::{Refusal, ANSWER, FIRST_LINE, LINES_MOST, STEPS_MOST, WAITING_MOST};
+use crate::words::{Refusal, FIRST_LINE, LINES_MOST, STEPS_MOST};
 
 /// A line of the answer.
 #[derive(Clone, Debug)]
@@ -24,10 +25,11 @@ pub struct Run {
 }
 
 /// Runs a question to its end, or to one of the numbers 7 to 10.
-pub fn run(question: &Question) -> Result<Run, Refusal> {
+pub fn run(desk: &Desk, question: &Question) -> Result<Run, Refusal> {
+    let limits = &desk.limits;
     let mut waiting = Waiting::default();
     waiting.put_first(question.conjunctions.clone());
-    let mut lines = Lines { list: Vec::new(), end: FIRST_LINE };
+    let mut lines = Lines { list: Vec::new(), end: FIRST_LINE, most: limits.answer };
     let mut steps = 0;
     let mut uses = [0; RULES];
     while let Some(conjunction) = waiting.take_first() {
@@ -38,8 +40,8 @@ pub fn run(question: &Question) -> Result<Run, Refusal> {
         if steps == STEPS_MOST {
             return Err(Refusal::Steps);
         }
-        waiting.put_first(step(&conjunction, choice)?);
-        if waiting.room > WAITING_MOST {
+        waiting.put_first(step(&conjunction, choice, limits.result)?);
+        if waiting.room > limits.waiting {
             return Err(Refusal::WaitingTooLong);
         }
         steps += 1;
@@ -71,16 +73,18 @@ impl Waiting {
     }
 }
 
-/// The lines so far, and where the next would start in the answer.
+/// The lines so far, where the next would start in the answer, and the
+/// answer's words.
 struct Lines {
     list: Vec<Line>,
     end: usize,
+    most: usize,
 }
 
 impl Lines {
     fn add(&mut self, conjunction: Conjunction) -> Result<(), Refusal> {
         let end = self.end + 1 + conjunction.words();
-        if self.list.len() == LINES_MOST || end > ANSWER {
+        if self.list.len() == LINES_MOST || end > self.most {
             return Err(Refusal::Lines);
         }
         self.end = end;

@@ -7,14 +7,14 @@ use crate::literal::{Claim, Conjunction, Literal};
 use crate::rules::{leading, terms_before, Choice, Rule, Way};
 use crate::substitution::Substitution;
 use crate::tree::{Functor, Hedge, Item};
-use crate::words::{Refusal, RESULT_MOST};
+use crate::words::Refusal;
 
 /// The results of a step, in order; number 7 where one is too long.
 pub type Results = Result<Vec<Conjunction>, Refusal>;
 
-/// Uses the chosen rule.
-pub fn step(conjunction: &Conjunction, choice: Choice) -> Results {
-    let place = Place { conjunction, at: choice.at };
+/// Uses the chosen rule; a result may have `most` words.
+pub fn step(conjunction: &Conjunction, choice: Choice, most: usize) -> Results {
+    let place = Place { conjunction, at: choice.at, most };
     match (conjunction.literals()[choice.at].claim(), choice.way) {
         (Claim::Equation(left, right), Way::Written) => {
             on_equation(place, choice.rule, left, right)
@@ -79,11 +79,12 @@ fn on_membership(place: Place, rule: Rule, hedge: &Hedge, expression: &Expressio
     }
 }
 
-/// A literal's place in a conjunction.
+/// A literal's place in a conjunction, and the most words of a result.
 #[derive(Clone, Copy)]
 struct Place<'a> {
     conjunction: &'a Conjunction,
     at: usize,
+    most: usize,
 }
 
 impl Place<'_> {
@@ -104,7 +105,7 @@ impl Place<'_> {
         let after = old[self.at + 1..].iter().map(in_rest);
         for literal in before.chain(new.iter().cloned()).chain(after) {
             result.push(literal);
-            if result.words() > RESULT_MOST {
+            if result.words() > self.most {
                 return Err(Refusal::ResultTooLong);
             }
         }

@@ -8,9 +8,9 @@ use crate::words::{END, FUNCTION_VARIABLE, HEDGE_VARIABLE, SYMBOL, TERM_VARIABLE
 /// A set of variables, one bit for each number of each kind.
 #[derive(Clone, Copy, PartialEq, Eq, Default, Debug)]
 pub struct Variables {
-    pub term: u32,
-    pub hedge: u32,
-    pub function: u32,
+    pub term: u128,
+    pub hedge: u128,
+    pub function: u128,
 }
 
 impl Variables {

@@ -11,13 +11,15 @@ use std::process::ExitCode;
 
 use second::gen::random::Random;
 use second::gen::{case, SEED};
-use second::proved::{bytes, words, Proved, Request, LENT, NO, SHOWN, YES};
+use second::proved::{self, bytes, words, Proved, Request, LENT, NO, SHOWN, YES};
 use second::records::{cases, Case};
-use second::words::ANSWER;
+use second::Desk;
 
 /// How many comparisons there were, how many disagreed, and how often each
 /// number came back.
 struct Tally {
+    /// The second desk, with as many requests as the proved one.
+    desk: Desk,
     proved: Proved,
     passed: u64,
     failed: u64,
@@ -45,10 +47,10 @@ impl Tally {
 
     fn solve(&mut self, name: &str, question: &[u8], length: usize) {
         let (number, answer) = self.proved.call(Request::Solve { question, answer: length });
-        let (expected, expected_left) = if length < 2 * ANSWER {
+        let (expected, expected_left) = if length < 2 * self.desk.limits.answer {
             (1, left(length, &[]))
         } else {
-            let out = second::solve(&words(question));
+            let out = self.desk.solve(&words(question));
             (out.refusal as u32, left(length, &bytes(&out.answer)))
         };
         self.solve[number.min(101) as usize] += 1;
@@ -60,7 +62,7 @@ impl Tally {
 
     fn tried(&mut self, name: &str, question: &[u8], filling: &[u8]) {
         let (number, _) = self.proved.call(Request::Try { question, filling });
-        let expected = match second::try_filling(&words(question), &words(filling)) {
+        let expected = match self.desk.try_filling(&words(question), &words(filling)) {
             Ok(true) => YES,
             Ok(false) => NO,
             Err(refusal) => refusal as u32,
@@ -74,7 +76,7 @@ impl Tally {
     fn example(&mut self, name: &str, question: &[u8], line: u32, length: usize) {
         let (number, room) = self.proved.call(Request::Example { question, line, room: length });
         let (expected, expected_left) =
-            match second::example(&words(question), line as usize, length / 2) {
+            match self.desk.example(&words(question), line as usize, length / 2) {
                 Ok(filling) => (SHOWN + filling.len() as u32, left(length, &bytes(&filling))),
                 Err(refusal) => (refusal as u32, left(length, &[])),
             };
@@ -87,15 +89,16 @@ impl Tally {
 
 /// What is expected of the proved desk by the worked answers themselves.
 fn worked(tally: &mut Tally, folder: &Path) {
+    let whole = 2 * tally.desk.limits.answer;
     for case in cases(&folder.join("solve.txt")) {
         let question = bytes(&case.words('Q'));
         let (number, answer) =
-            tally.proved.call(Request::Solve { question: &question, answer: 2 * ANSWER });
+            tally.proved.call(Request::Solve { question: &question, answer: whole });
         let expected = case.needed('R')[0];
         let expected_left = match case.field('A') {
-            Some(_) => bytes(&padded(case.words('A'))),
-            None if expected >= 7 => vec![0; 2 * ANSWER],
-            None => left(2 * ANSWER, &[]),
+            Some(_) => left_zeros(whole, &bytes(&case.words('A'))),
+            None if expected >= 7 => vec![0; whole],
+            None => left(whole, &[]),
         };
         tally.note(number == expected && answer == expected_left, || {
             said("solve.txt", &case, number)
@@ -127,9 +130,11 @@ fn worked(tally: &mut Tally, folder: &Path) {
     }
 }
 
-fn padded(mut words: Vec<u16>) -> Vec<u16> {
-    words.resize(ANSWER, 0);
-    words
+/// Written bytes, and zeros up to a length.
+fn left_zeros(length: usize, written: &[u8]) -> Vec<u8> {
+    let mut left = written.to_vec();
+    left.resize(length, 0);
+    left
 }
 
 fn said(file: &str, case: &Case, number: u32) -> String {
@@ -138,18 +143,19 @@ fn said(file: &str, case: &Case, number: u32) -> String {
 
 /// One random case, in whole words and, now and then, in bytes that are none.
 fn random_case(tally: &mut Tally, seed: u64, index: u64) {
-    let case = case(seed, index);
+    let whole = 2 * tally.desk.limits.answer;
+    let case = case(&tally.desk, seed, index);
     let mut random = Random::of_case(seed ^ 0xB17E5, index);
     let name = format!("case {index} ({})", case.kind);
     let question = bytes(&case.question);
     let spare = random.pick(&[0, 0, 0, 1, 2, 777]);
-    tally.solve(&name, &question, 2 * ANSWER + spare);
+    tally.solve(&name, &question, whole + spare);
     if random.chance(1, 8) {
-        tally.solve(&name, &question, random.below(2 * ANSWER));
-        tally.solve(&name, &question, 2 * ANSWER - 1);
+        tally.solve(&name, &question, random.below(whole));
+        tally.solve(&name, &question, whole - 1);
     }
     if random.chance(1, 8) && !question.is_empty() {
-        tally.solve(&name, &question[..question.len() - 1], 2 * ANSWER);
+        tally.solve(&name, &question[..question.len() - 1], whole);
         tally.tried(&name, &question[1..], &[]);
         tally.example(&name, &question[1..], 0, 64);
     }
@@ -176,9 +182,16 @@ fn main() -> ExitCode {
         number => number.parse().expect("a seed"),
     };
     let proved = Proved::start(&args[2..]);
-    let mut tally =
-        Tally { proved, passed: 0, failed: 0, solve: [0; 102], tried: [0; 102], example: [0; 102] };
-    worked(&mut tally, &Path::new(env!("CARGO_MANIFEST_DIR")).join("../vectors"));
+    let mut tally = Tally {
+        desk: proved::desk(),
+        proved,
+        passed: 0,
+        failed: 0,
+        solve: [0; 102],
+        tried: [0; 102],
+        example: [0; 102],
+    };
+    worked(&mut tally, &proved::worked_folder());
     println!("worked answers: {} compared", tally.passed + tally.failed);
     for index in 0..count {
         random_case(&mut tally, seed, index);

@@ -12,9 +12,9 @@ use std::io::{stdin, stdout, BufRead, BufReader, BufWriter, Read, Write};
 use std::path::Path;
 
 use second::gen::{case, Case, SEED};
-use second::proved::{bytes, words, Request, LENT, NO, SHOWN, YES};
+use second::proved::{self, bytes, words, Request, LENT, NO, SHOWN, YES};
 use second::records::cases;
-use second::words::{ANSWER, QUESTION_MOST};
+use second::Desk;
 
 /// Cases of a family.
 const SHARE: usize = 30;
@@ -26,22 +26,22 @@ fn put(words: &[u16], out: &mut [u8]) {
 }
 
 /// This desk, called as the proved one is, on what is lent.
-fn second(request: &Request, lent: &mut [u8]) -> u32 {
+fn second(desk: &Desk, request: &Request, lent: &mut [u8]) -> u32 {
     match request {
         Request::Solve { question, .. } => {
-            let out = second::solve(&words(question));
+            let out = desk.solve(&words(question));
             put(&out.answer, lent);
             out.refusal as u32
         }
         Request::Try { question, filling } => {
-            match second::try_filling(&words(question), &words(filling)) {
+            match desk.try_filling(&words(question), &words(filling)) {
                 Ok(true) => YES,
                 Ok(false) => NO,
                 Err(refusal) => refusal as u32,
             }
         }
         Request::Example { question, line, room } => {
-            match second::example(&words(question), *line as usize, *room / 2) {
+            match desk.example(&words(question), *line as usize, *room / 2) {
                 Ok(filling) => {
                     put(&filling, lent);
                     SHOWN + filling.len() as u32
@@ -66,6 +66,7 @@ fn block(from: &mut impl Read) -> Vec<u8> {
 
 /// Answers the requests of standard input, with each call made so often.
 fn answer(times: u64) -> std::io::Result<()> {
+    let desk = proved::desk();
     let mut from = BufReader::new(stdin().lock());
     let mut to = BufWriter::new(stdout().lock());
     while let Some(letter) = from.fill_buf()?.first().copied() {
@@ -86,7 +87,7 @@ fn answer(times: u64) -> std::io::Result<()> {
         let mut lent = vec![LENT; request.lent()];
         let mut number = 0;
         for _ in 0..times {
-            number = black_box(second(&request, &mut lent));
+            number = black_box(second(&desk, &request, &mut lent));
         }
         to.write_all(&number.to_le_bytes())?;
         to.write_all(&lent)?;
@@ -100,7 +101,12 @@ fn family(name: &str) -> Vec<Case> {
     if name == "worked" {
         return worked();
     }
-    (0..).map(|index| case(SEED, index)).filter(|case| case.kind == name).take(SHARE).collect()
+    let desk = proved::desk();
+    (0..)
+        .map(|index| case(&desk, SEED, index))
+        .filter(|case| case.kind == name)
+        .take(SHARE)
+        .collect()
 }
 
 fn worked() -> Vec<Case> {
@@ -128,7 +134,7 @@ fn each(call: &str, name: &str, mut take: impl FnMut(Request)) {
     for case in family(name) {
         let question = &bytes(&case.question)[..];
         match call {
-            "solve" => take(Request::Solve { question, answer: 2 * ANSWER }),
+            "solve" => take(Request::Solve { question, answer: 2 * proved::desk().limits.answer }),
             "try" => {
                 for filling in &case.fillings {
                     take(Request::Try { question, filling: &bytes(filling) });
@@ -176,7 +182,7 @@ fn tried(kind: &str, shape: usize, run: usize) -> (Vec<u16>, Vec<u16>) {
 
 /// As many of a word as a question of one literal has room for beside the literal's other words.
 fn nested(word: u16, others: usize) -> Vec<u16> {
-    vec![word; QUESTION_MOST - 7 - others]
+    vec![word; proved::desk().limits.question - 7 - others]
 }
 
 /// A question of one literal over the symbol a and the hedge variable p.
@@ -194,7 +200,7 @@ fn deep(shape: &str) -> Vec<u16> {
         "symbols" => one([vec![6000, 2000, 0], nested(3000, 4), vec![7000]].concat()),
         // p = a(a(..a()..))
         _ => {
-            let half = (QUESTION_MOST - 7 - 4) / 2;
+            let half = (proved::desk().limits.question - 7 - 4) / 2;
             one([vec![5000, 2000, 0], vec![3000; half], vec![0; half + 1]].concat())
         }
     }
@@ -220,18 +226,23 @@ fn main() {
         "same" => {
             let question: Vec<u16> =
                 args[1..].iter().map(|word| word.parse().expect("a word")).collect();
-            write(Request::Solve { question: &bytes(&question), answer: 2 * ANSWER });
+            write(Request::Solve {
+                question: &bytes(&question),
+                answer: 2 * proved::desk().limits.answer,
+            });
         }
         "bad" => {
             let size = |word: &String| word.parse().expect("a number");
             let (question, filling) = tried(&args[1], size(&args[2]), size(&args[3]));
-            assert_eq!(second::try_filling(&question, &filling), Ok(false));
+            assert_eq!(proved::desk().try_filling(&question, &filling), Ok(false));
             write(Request::Try { question: &bytes(&question), filling: &bytes(&filling) });
         }
         "deep" => {
             let question = &bytes(&deep(&args[2]))[..];
             match args[1].as_str() {
-                "solve" => write(Request::Solve { question, answer: 2 * ANSWER }),
+                "solve" => {
+                    write(Request::Solve { question, answer: 2 * proved::desk().limits.answer })
+                }
                 "try" => write(Request::Try { question, filling: &bytes(&deep_filling()) }),
                 _ => write(Request::Example { question, line: 0, room: 8192 }),
             }

@@ -1,5 +1,7 @@
-//! Puts random cases of a fixed seed to the desk and checks that it agrees
-//! with itself. The number of cases may be given as an argument.
+//! Puts random cases of a fixed seed to a desk and checks that it agrees with
+//! itself.
+//!
+//!     selfcheck [CASES] [KNOWN]    KNOWN is how many requests the desk knows: all, if it is not said
 
 use std::process::ExitCode;
 
@@ -12,8 +14,8 @@ use second::literal::Conjunction;
 use second::read::{self, Question};
 use second::rules::{ALL, RULES};
 use second::run::{run, Run};
-use second::words::{ANSWER, FIRST_LINE, MARK_OPEN, MARK_SOLVED};
-use second::{example, solve, try_filling, SolveOut, Verdict};
+use second::words::{FIRST_LINE, MARK_OPEN, MARK_SOLVED};
+use second::{Desk, SolveOut, Verdict};
 
 const CASES: u64 = 20_000;
 /// Examples looked at in one case.
@@ -41,12 +43,14 @@ fn ensure(holds: bool, what: &str) -> Checked {
 }
 
 fn main() -> ExitCode {
-    let cases = std::env::args().nth(1).map_or(CASES, |text| text.parse().expect("a number"));
+    let number = |at: usize| std::env::args().nth(at).map(|text| text.parse().expect("a number"));
+    let cases = number(1).unwrap_or(CASES);
+    let desk = number(2).map_or(Desk::newest(), |known| Desk::after(known as usize));
     let mut counts = Counts::default();
     let (mut passed, mut failed) = (0, 0);
     for index in 0..cases {
-        let case = case(SEED, index);
-        match check(&case, index, &mut counts) {
+        let case = case(&desk, SEED, index);
+        match check(&desk, &case, index, &mut counts) {
             Ok(()) => passed += 1,
             Err(what) => {
                 failed += 1;
@@ -65,19 +69,19 @@ fn main() -> ExitCode {
 }
 
 /// All checks of one case.
-fn check(case: &Case, index: u64, counts: &mut Counts) -> Checked {
-    let out = solve(&case.question);
+fn check(desk: &Desk, case: &Case, index: u64, counts: &mut Counts) -> Checked {
+    let out = desk.solve(&case.question);
     counts.solve[out.refusal as usize] += 1;
     counts.lines += out.lines as u64;
     for (sum, uses) in counts.uses.iter_mut().zip(out.uses) {
         *sum += uses as u64;
     }
-    check_numbers(&out)?;
+    check_numbers(desk, &out)?;
     for (line, room) in &case.asks {
-        check_ask(case, &out, *line, *room, counts)?;
+        check_ask(desk, case, &out, (*line, *room), counts)?;
     }
     let mut fillings = case.fillings.clone();
-    let question = read::question(&case.question);
+    let question = read::question(&case.question, &desk.limits);
     if let Ok(question) = &question {
         let mut random = Random::of_case(!SEED, index);
         for _ in 0..3 {
@@ -85,7 +89,7 @@ fn check(case: &Case, index: u64, counts: &mut Counts) -> Checked {
         }
     }
     for filling in &fillings {
-        match try_filling(&case.question, filling) {
+        match desk.try_filling(&case.question, filling) {
             Ok(yes) => {
                 counts.tried[0] += 1;
                 counts.yes += yes as u32;
@@ -97,14 +101,15 @@ fn check(case: &Case, index: u64, counts: &mut Counts) -> Checked {
         return Ok(());
     }
     let question = question.map_err(|_| "solved, but not read")?;
-    let run = run(&question).map_err(|_| "solved, but not run")?;
-    check_lines(&question, &out, counts)?;
-    check_examples(case, &question, &run, counts)?;
+    let run = run(desk, &question).map_err(|_| "solved, but not run")?;
+    check_lines(desk, &question, &out, counts)?;
+    check_examples(desk, case, &question, &run, counts)?;
     fillings.iter().try_for_each(|filling| check_filling(&question, &run, filling))
 }
 
 /// Refusal, verdict, counts and the answer's size belong together.
-fn check_numbers(out: &SolveOut) -> Checked {
+fn check_numbers(desk: &Desk, out: &SolveOut) -> Checked {
+    let zeros = vec![0; desk.limits.answer];
     let verdict = match (out.refusal, out.lines, out.open) {
         (0, 0, 0) => Verdict::None,
         (0, _, 0) => Verdict::AllSolved,
@@ -116,16 +121,16 @@ fn check_numbers(out: &SolveOut) -> Checked {
     let used: u32 = out.uses.iter().sum();
     ensure(used == out.steps && out.steps <= 10_000, "wrong number of steps")?;
     match out.refusal {
-        0 => ensure(out.answer.len() == ANSWER, "the answer is short"),
+        0 => ensure(out.answer.len() == zeros.len(), "the answer is short"),
         2..=6 => ensure(out.answer.is_empty() && out.steps == 0, "refused, yet changed"),
-        7..=10 => ensure(out.answer == [0; ANSWER] && out.steps == 0, "refused without zeros"),
+        7..=10 => ensure(out.answer == zeros && out.steps == 0, "refused without zeros"),
         _ => Err("a number that solving does not give".to_string()),
     }
 }
 
 /// The answer can be read back, and each of its lines, asked again, is left
 /// as it is, in no step and with the same mark.
-fn check_lines(question: &Question, out: &SolveOut, counts: &mut Counts) -> Checked {
+fn check_lines(desk: &Desk, question: &Question, out: &SolveOut, counts: &mut Counts) -> Checked {
     counts.verdicts[match out.verdict {
         Verdict::None => 0,
         Verdict::AllSolved => 1,
@@ -139,15 +144,16 @@ fn check_lines(question: &Question, out: &SolveOut, counts: &mut Counts) -> Chec
     ensure(out.answer[end..].iter().all(|word| *word == 0), "no zeros at the end")?;
     for ends in offsets.windows(2) {
         let words = &out.answer[ends[0] as usize..ends[1] as usize];
-        let line = read::conjunction(&words[1..]).ok_or("a line cannot be read")?;
-        check_line(question, words, line)?;
+        let line =
+            read::conjunction(&words[1..], desk.limits.kind).ok_or("a line cannot be read")?;
+        check_line(desk, question, words, line)?;
     }
     Ok(())
 }
 
-fn check_line(question: &Question, words: &[u16], line: Conjunction) -> Checked {
+fn check_line(desk: &Desk, question: &Question, words: &[u16], line: Conjunction) -> Checked {
     let alone = Question { declared: question.declared, conjunctions: vec![line] };
-    let again = solve(&question_words(&alone));
+    let again = desk.solve(&question_words(&alone));
     if again.refusal == 2 {
         return Ok(());
     }
@@ -160,10 +166,16 @@ fn check_line(question: &Question, words: &[u16], line: Conjunction) -> Checked 
 }
 
 /// The example of each solved line is an answer to the question.
-fn check_examples(case: &Case, question: &Question, run: &Run, counts: &mut Counts) -> Checked {
+fn check_examples(
+    desk: &Desk,
+    case: &Case,
+    question: &Question,
+    run: &Run,
+    counts: &mut Counts,
+) -> Checked {
     for number in 0..run.lines.len().min(LINES_LOOKED_AT) {
         match line_example(run, &question.declared, number, 4096) {
-            Ok(filling) => match try_filling(&case.question, &filling) {
+            Ok(filling) => match desk.try_filling(&case.question, &filling) {
                 Ok(yes) => {
                     ensure(yes, "an example is no answer")?;
                     counts.examples_met += 1;
@@ -198,13 +210,13 @@ fn check_filling(question: &Question, run: &Run, filling: &[u16]) -> Checked {
 
 /// An example asked for is what the room and the line allow.
 fn check_ask(
+    desk: &Desk,
     case: &Case,
     out: &SolveOut,
-    line: usize,
-    room: usize,
+    (line, room): (usize, usize),
     counts: &mut Counts,
 ) -> Checked {
-    let asked = example(&case.question, line, room);
+    let asked = desk.example(&case.question, line, room);
     counts.example[asked.as_ref().err().map_or(0, |refusal| *refusal as usize)] += 1;
     match asked {
         Ok(filling) => {

@@ -4,17 +4,19 @@ use super::damage;
 use super::pieces::{conjunction, question_words};
 use super::planted::filling as random_filling;
 use super::random::Random;
+use crate::desk::Desk;
 use crate::example::write;
 use crate::expression::Expression;
 use crate::filling::Filling;
 use crate::literal::Literal;
 use crate::read::{self, Declared, Question};
 use crate::tree::{Functor, Hedge, Item};
+use crate::words::{FILLED_MOST, FILLING_MOST};
 
 /// Adds random fillings of the right form for a question, where its header
 /// can be made out, and damaged ones.
-pub fn more(random: &mut Random, question: &[u16], fillings: &mut Vec<Vec<u16>>) {
-    let declared = match read::question(question) {
+pub fn more(random: &mut Random, desk: &Desk, question: &[u16], fillings: &mut Vec<Vec<u16>>) {
+    let declared = match read::question(question, &desk.limits) {
         Ok(question) => question.declared,
         Err(_) => Declared { symbols: 2, terms: 1, hedges: 1, functions: 1 },
     };
@@ -41,7 +43,7 @@ pub fn wide(random: &mut Random) -> (Vec<u16>, Vec<u16>) {
     items.push(Item::HedgeVariable(1));
     let hedge = Hedge::new(items);
     let leaf = Item::Over(Functor::Symbol(0), Hedge::EMPTY);
-    let wanted = 8192 - 6 + random.below(14);
+    let wanted = FILLED_MOST - 6 + random.below(14);
     let (literal, own) = if random.chance(1, 2) {
         (Literal::equation(hedge.clone(), hedge), 3 + wanted / 2)
     } else {
@@ -83,7 +85,7 @@ pub fn long_example(random: &mut Random) -> Vec<u16> {
     let expression =
         (1..leaves).fold(leaf.clone(), |rest, _| Expression::concatenation(leaf.clone(), rest));
     // The filling has 4 + (2 leaves + 1) + (2 leaves times + 1) words.
-    let about = (4096 - 6 - 2 * leaves) / (2 * leaves);
+    let about = (FILLING_MOST - 6 - 2 * leaves) / (2 * leaves);
     let times = (about + random.below(3)).max(2) - 1;
     let copies = Hedge::new(vec![Item::HedgeVariable(0); times.min(300)]);
     let first = if random.chance(1, 3) {

@@ -4,26 +4,29 @@ use std::rc::Rc;
 
 use super::pieces::{conjunction, question_words};
 use super::random::Random;
+use crate::desk::Desk;
 use crate::expression::Expression;
 use crate::literal::{Conjunction, Literal};
 use crate::read::{Declared, Question};
 use crate::tree::{Functor, Hedge, Item};
+use crate::words::FIRST_LINE;
 
 const A: Functor = Functor::Symbol(0);
 
 /// A question that reaches one of the numbers 7 to 10, or almost.
-pub fn question(random: &mut Random) -> Vec<u16> {
+pub fn question(random: &mut Random, desk: &Desk) -> Vec<u16> {
+    let limits = &desk.limits;
     match random.below(10) {
         0 => doubling(random),
-        1 => swelling(random),
-        2 => cut_run(random, 8192),
-        3 => cut_run(random, 8192 - 515),
+        1 => swelling(random, limits.result),
+        2 => cut_run(random, limits.waiting),
+        3 => cut_run(random, limits.answer - FIRST_LINE),
         4 => products(random),
         5 => counted_steps(random),
         6 => many_cuts(random),
         7 => nested_stars(random),
         8 => swelling_cuts(random),
-        _ => full_question(random),
+        _ => full_question(random, limits.question),
     }
 }
 
@@ -82,8 +85,8 @@ fn doubling(random: &mut Random) -> Vec<u16> {
 }
 
 /// y = f(x, ..., x), x = t, and padding, so that the result of the first step
-/// has about 1,024 words.
-fn swelling(random: &mut Random) -> Vec<u16> {
+/// has about `most` words.
+fn swelling(random: &mut Random, most: usize) -> Vec<u16> {
     let times = random.range(2, 12);
     let leaf_count = random.range(5, 25);
     let term = Item::Over(A, Hedge::new(leaves(leaf_count)));
@@ -93,7 +96,7 @@ fn swelling(random: &mut Random) -> Vec<u16> {
         Literal::equation(term_variable(1), copies),
         Literal::equation(term_variable(0), Hedge::one(term)),
     ];
-    let wanted = around(random, 1024);
+    let wanted = around(random, most);
     if wanted >= long + 5 {
         literals.push(padding(0, wanted - long));
     }
@@ -198,8 +201,16 @@ fn many_cuts(random: &mut Random) -> Vec<u16> {
     words(declared(3, 0, 6, 0), vec![conjunction(&literals)])
 }
 
-/// Terms in stars within stars and concatenations: the rests grow.
+/// Terms in stars within stars and concatenations: the rests grow, with the
+/// square of the depth where there are stars alone, past 65,535 words.
 fn nested_stars(random: &mut Random) -> Vec<u16> {
+    if random.chance(1, 6) {
+        let leaf = Expression::over(0, Expression::Eps);
+        let deep = random.pick(&[80, 89, 90, 250, 361, 362, 400]);
+        let stars = (0..deep).fold(leaf, |inner, _| Expression::star(inner));
+        let literal = Literal::membership(Hedge::new(leaves(2)), stars);
+        return words(declared(2, 0, 1, 0), vec![conjunction(&[literal])]);
+    }
     let deep = random.range(3, 45);
     let mut expression = Expression::over(0, Expression::Eps);
     for _ in 0..deep {
@@ -233,9 +244,9 @@ fn swelling_cuts(random: &mut Random) -> Vec<u16> {
     words(declared(1, 1, 2, 0), vec![conjunction(&literals)])
 }
 
-/// About 1,024 words in one literal: wide, deep, or an expression.
-fn full_question(random: &mut Random) -> Vec<u16> {
-    let wanted = around(random, 1024) - 7;
+/// About `most` words in one literal: wide, deep, or an expression.
+fn full_question(random: &mut Random, most: usize) -> Vec<u16> {
+    let wanted = around(random, most) - 7;
     let literal = match random.below(4) {
         0 => padding(0, wanted),
         1 => Literal::equation(hedge_variable(0), Hedge::new(leaves((wanted - 4) / 2))),

@@ -8,10 +8,10 @@ pub mod pieces;
 pub mod planted;
 pub mod random;
 
+use crate::desk::Desk;
 use crate::example::write;
 use crate::literal::Conjunction;
 use crate::read::Question;
-use crate::words::QUESTION_MOST;
 use pieces::{conjunction, question_words, Pieces};
 use random::Random;
 
@@ -42,8 +42,8 @@ const KINDS: [(&str, usize); 8] = [
     ("bare header", 20),
 ];
 
-/// Case number `index` of a seed.
-pub fn case(seed: u64, index: u64) -> Case {
+/// Case number `index` of a seed, for a desk.
+pub fn case(desk: &Desk, seed: u64, index: u64) -> Case {
     let mut random = Random::of_case(seed, index);
     let mut drawn = random.below(KINDS.iter().map(|kind| kind.1).sum());
     let mut kind = KINDS[0].0;
@@ -54,39 +54,39 @@ pub fn case(seed: u64, index: u64) -> Case {
         }
         drawn -= share;
     }
-    let (question, mut fillings) = question_of(kind, &mut random);
-    let asks = asks(&mut random, &question, &mut fillings);
-    fillings::more(&mut random, &question, &mut fillings);
+    let (question, mut fillings) = question_of(kind, &mut random, desk);
+    let asks = asks(&mut random, desk, &question, &mut fillings);
+    fillings::more(&mut random, desk, &question, &mut fillings);
     Case { kind, question, fillings, asks }
 }
 
 /// A question of a kind, and fillings that belong to it.
-fn question_of(kind: &str, random: &mut Random) -> (Vec<u16>, Vec<Vec<u16>>) {
+fn question_of(kind: &str, random: &mut Random, desk: &Desk) -> (Vec<u16>, Vec<Vec<u16>>) {
     match kind {
-        "small" => (small(random), Vec::new()),
-        "planted" => planted_question(random, 2),
-        "long" => long(random),
-        "damaged" => damaged(random),
-        "limits" => (limits::question(random), Vec::new()),
+        "small" => (small(random, desk), Vec::new()),
+        "planted" => planted_question(random, desk, 2),
+        "long" => long(random, desk),
+        "damaged" => damaged(random, desk),
+        "limits" => (limits::question(random, desk), Vec::new()),
         "wide" => {
             let (question, filling) = fillings::wide(random);
             (question, vec![filling])
         }
         "long example" => (fillings::long_example(random), Vec::new()),
-        _ => (bare_header(random), Vec::new()),
+        _ => (bare_header(random, desk), Vec::new()),
     }
 }
 
 /// A few alternatives of a few random literals.
-fn small(random: &mut Random) -> Vec<u16> {
-    let pieces = Pieces { declared: pieces::declared(random) };
+fn small(random: &mut Random, desk: &Desk) -> Vec<u16> {
+    let pieces = Pieces { declared: pieces::declared(random, desk) };
     let alternatives = random.pick(&[0, 1, 1, 1, 1, 1, 2, 2, 3, 4]);
     let conjunctions = (0..alternatives).map(|_| {
         let most = random.pick(&[1, 2, 3, 5]);
         random_conjunction(random, &pieces, most)
     });
     let conjunctions = conjunctions.collect();
-    fitted(Question { declared: pieces.declared, conjunctions })
+    fitted(desk, Question { declared: pieces.declared, conjunctions })
 }
 
 fn random_conjunction(random: &mut Random, pieces: &Pieces, most: usize) -> Conjunction {
@@ -96,8 +96,8 @@ fn random_conjunction(random: &mut Random, pieces: &Pieces, most: usize) -> Conj
 }
 
 /// A question around a filling, and that filling.
-fn planted_question(random: &mut Random, most: usize) -> (Vec<u16>, Vec<Vec<u16>>) {
-    let pieces = Pieces { declared: pieces::declared(random) };
+fn planted_question(random: &mut Random, desk: &Desk, most: usize) -> (Vec<u16>, Vec<Vec<u16>>) {
+    let pieces = Pieces { declared: pieces::declared(random, desk) };
     let filling = planted::filling(random, &pieces.declared, 1, 2);
     let literals = random.range(1, most.max(2));
     let mut conjunctions = vec![planted::planted(random, &pieces, &filling, literals)];
@@ -105,43 +105,40 @@ fn planted_question(random: &mut Random, most: usize) -> (Vec<u16>, Vec<Vec<u16>
         let at = random.below(conjunctions.len() + 1);
         conjunctions.insert(at, random_conjunction(random, &pieces, 2));
     }
-    let question = fitted(Question { declared: pieces.declared, conjunctions });
+    let question = fitted(desk, Question { declared: pieces.declared, conjunctions });
     (question, vec![write(&filling)])
 }
 
 /// A question of some hundred words.
-fn long(random: &mut Random) -> (Vec<u16>, Vec<Vec<u16>>) {
+fn long(random: &mut Random, desk: &Desk) -> (Vec<u16>, Vec<Vec<u16>>) {
     if random.chance(1, 3) {
-        return planted_question(random, 40);
+        return planted_question(random, desk, 40);
     }
-    let pieces = Pieces { declared: pieces::declared(random) };
+    let pieces = Pieces { declared: pieces::declared(random, desk) };
     let alternatives = random.range(1, 16);
     let most = 90 / alternatives + 1;
     let conjunctions =
         (0..alternatives).map(|_| random_conjunction(random, &pieces, most)).collect();
-    (fitted(Question { declared: pieces.declared, conjunctions }), Vec::new())
+    (fitted(desk, Question { declared: pieces.declared, conjunctions }), Vec::new())
 }
 
 /// A question of another kind with damage.
-fn damaged(random: &mut Random) -> (Vec<u16>, Vec<Vec<u16>>) {
+fn damaged(random: &mut Random, desk: &Desk) -> (Vec<u16>, Vec<Vec<u16>>) {
     let (mut words, fillings) = match random.below(8) {
-        0..=3 => (small(random), Vec::new()),
-        4..=6 => planted_question(random, 3),
-        _ => long(random),
+        0..=3 => (small(random, desk), Vec::new()),
+        4..=6 => planted_question(random, desk, 3),
+        _ => long(random, desk),
     };
-    damage::question(random, &mut words);
+    damage::question(random, desk, &mut words);
     (words, fillings)
 }
 
 /// Few words, mostly header.
-fn bare_header(random: &mut Random) -> Vec<u16> {
-    let mut words = vec![
-        random.range(0, 34) as u16,
-        random.range(0, 34) as u16,
-        random.range(0, 34) as u16,
-        random.range(0, 34) as u16,
-        random.below(19) as u16,
-    ];
+fn bare_header(random: &mut Random, desk: &Desk) -> Vec<u16> {
+    let kind = desk.limits.kind;
+    let counts = [0, 1, 2, 31, 32, 33, kind - 1, kind, kind + 1, kind + 2];
+    let mut words: Vec<u16> = (0..4).map(|_| random.pick(&counts)).collect();
+    words.push(random.below(19) as u16);
     let count = words[4];
     words.resize(6 + count as usize, 6 + count);
     if random.chance(1, 3) {
@@ -155,10 +152,10 @@ fn bare_header(random: &mut Random) -> Vec<u16> {
 
 /// The words of a question, alternatives left out at the end where it would
 /// otherwise be too long.
-fn fitted(mut question: Question) -> Vec<u16> {
+fn fitted(desk: &Desk, mut question: Question) -> Vec<u16> {
     loop {
         let words = question_words(&question);
-        if words.len() <= QUESTION_MOST || question.conjunctions.pop().is_none() {
+        if words.len() <= desk.limits.question || question.conjunctions.pop().is_none() {
             return words;
         }
     }
@@ -167,12 +164,13 @@ fn fitted(mut question: Question) -> Vec<u16> {
 /// Lines and rooms to ask for, and the examples found on the way as fillings.
 fn asks(
     random: &mut Random,
+    desk: &Desk,
     question: &[u16],
     fillings: &mut Vec<Vec<u16>>,
 ) -> Vec<(usize, usize)> {
     let mut asks = vec![(random.below(3), 4096)];
-    let Ok(question) = crate::read::question(question) else { return asks };
-    let Ok(run) = crate::run::run(&question) else { return asks };
+    let Ok(question) = crate::read::question(question, &desk.limits) else { return asks };
+    let Ok(run) = crate::run::run(desk, &question) else { return asks };
     if run.lines.is_empty() {
         return asks;
     }

@@ -3,6 +3,7 @@
 use std::rc::Rc;
 
 use super::random::Random;
+use crate::desk::Desk;
 use crate::expression::Expression;
 use crate::literal::{Conjunction, Literal};
 use crate::read::{Declared, Question};
@@ -32,13 +33,14 @@ pub fn conjunction(literals: &[Rc<Literal>]) -> Conjunction {
 }
 
 /// Counts of symbols and variables: mostly few, so that they meet.
-pub fn declared(random: &mut Random) -> Declared {
+pub fn declared(random: &mut Random, desk: &Desk) -> Declared {
     if random.chance(1, 30) {
+        let most = desk.limits.kind as usize;
         return Declared {
-            symbols: random.range(1, 32) as u16,
-            terms: random.below(33) as u16,
-            hedges: random.below(33) as u16,
-            functions: random.below(33) as u16,
+            symbols: random.range(1, most) as u16,
+            terms: random.range(0, most) as u16,
+            hedges: random.range(0, most) as u16,
+            functions: random.range(0, most) as u16,
         };
     }
     Declared {

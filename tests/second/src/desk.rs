@@ -1,0 +1,65 @@
+//! What a desk knows. Requests are learnt one after another; each desk here
+//! is the base with the requests up to one of them, so that the worked answers
+//! of every time can be run, and the proved desk is compared with the one that
+//! knows as much as it does.
+
+/// The limits that a desk keeps.
+#[derive(Clone, Copy, PartialEq, Eq, Debug)]
+pub struct Limits {
+    /// Symbols, and variables of each kind.
+    pub kind: u16,
+    /// Words of a question.
+    pub question: usize,
+    /// Words of a conjunction that a step leaves.
+    pub result: usize,
+    /// Words that the waiting conjunctions cost together.
+    pub waiting: usize,
+    /// Words of an answer.
+    pub answer: usize,
+}
+
+impl Limits {
+    /// Those of the base.
+    pub const FIRST: Limits =
+        Limits { kind: 32, question: 1024, result: 1024, waiting: 8192, answer: 8192 };
+    /// Those of request 12.
+    pub const WIDE: Limits =
+        Limits { kind: 128, question: 4096, result: 4096, waiting: 16_384, answer: 16_384 };
+}
+
+/// A desk, by what it knows.
+#[derive(Clone, Copy, PartialEq, Eq, Debug)]
+pub struct Desk {
+    pub limits: Limits,
+}
+
+/// The requests in the order in which they are learnt.
+pub const ORDER: [u8; 1] = [12];
+
+impl Desk {
+    /// The desk before any request.
+    pub const BASE: Desk = Desk { limits: Limits::FIRST };
+
+    /// The desk that knows the first `count` requests of the order.
+    pub fn after(count: usize) -> Desk {
+        ORDER[..count].iter().fold(Desk::BASE, |desk, request| desk.learn(*request))
+    }
+
+    /// The desk that knows a request and all before it in the order.
+    pub fn up_to(request: u8) -> Desk {
+        let place = ORDER.iter().position(|known| *known == request);
+        Desk::after(1 + place.unwrap_or_else(|| panic!("request {request} is not known")))
+    }
+
+    /// The desk that knows all requests.
+    pub fn newest() -> Desk {
+        Desk::after(ORDER.len())
+    }
+
+    fn learn(self, request: u8) -> Desk {
+        match request {
+            12 => Desk { limits: Limits::WIDE, ..self },
+            _ => unreachable!("every request of the order is learnt here"),
+        }
+    }
+}

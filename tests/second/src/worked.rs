@@ -1,0 +1,109 @@
+//! Worked answers put to a desk.
+
+use std::path::Path;
+
+use crate::desk::{Desk, ORDER};
+use crate::records::{cases, Case};
+
+/// What a case expects and what the desk gives, both as lists of numbers.
+type Compare = fn(&Desk, &Case) -> (Vec<u32>, Vec<u32>);
+
+/// The files of worked answers.
+const FILES: [(&str, Compare); 3] =
+    [("solve.txt", compare_solve), ("try.txt", compare_try), ("example.txt", compare_example)];
+
+/// Agreements, and a text for each disagreement.
+#[derive(Default)]
+pub struct Outcome {
+    pub passed: u64,
+    pub failed: Vec<String>,
+}
+
+/// Runs the worked answers of a folder and of the folders in it: those of the
+/// base, and for request N, in `wish-NN`, those of the desk that knows it and
+/// all requests before it.
+pub fn run(folder: &Path) -> Vec<(String, Outcome)> {
+    let mut outcomes = Vec::new();
+    let folders = [(String::from("base"), folder.to_path_buf(), Desk::BASE)].into_iter();
+    let requests = ORDER.iter().map(|request| {
+        let name = format!("wish-{request:02}");
+        let within = folder.join(&name);
+        (name, within, Desk::up_to(*request))
+    });
+    for (name, folder, desk) in folders.chain(requests) {
+        let outcome = run_folder(&folder, &desk);
+        if outcome.passed > 0 || !outcome.failed.is_empty() {
+            outcomes.push((name, outcome));
+        }
+    }
+    outcomes
+}
+
+/// Runs the files of worked answers that a folder has.
+pub fn run_folder(folder: &Path, desk: &Desk) -> Outcome {
+    let mut outcome = Outcome::default();
+    for (file, compare) in FILES {
+        let path = folder.join(file);
+        if !path.exists() {
+            continue;
+        }
+        for case in cases(&path) {
+            let (expected, got) = compare(desk, &case);
+            if expected == got {
+                outcome.passed += 1;
+            } else {
+                outcome.failed.push(format!(
+                    "{}: {}\n  expected {}\n  got      {}",
+                    path.display(),
+                    case.name,
+                    shown(&expected),
+                    shown(&got)
+                ));
+            }
+        }
+    }
+    outcome
+}
+
+/// Numbers up to the last that is not 0.
+fn shown(numbers: &[u32]) -> String {
+    let end = numbers.iter().rposition(|number| *number != 0).map_or(1, |last| last + 1);
+    let list: Vec<String> = numbers[..end].iter().map(u32::to_string).collect();
+    list.join(" ")
+}
+
+fn wide(words: &[u16]) -> impl Iterator<Item = u32> + '_ {
+    words.iter().map(|word| *word as u32)
+}
+
+fn compare_solve(desk: &Desk, case: &Case) -> (Vec<u32>, Vec<u32>) {
+    let out = desk.solve(&case.words('Q'));
+    let mut expected = case.needed('R').to_vec();
+    let mut got = vec![out.refusal as u32, out.lines as u32, out.open as u32, out.steps];
+    if let Some(answer) = case.field('A') {
+        expected.extend(answer);
+        expected.resize(4 + desk.limits.answer, 0);
+    } else if expected[0] >= 7 {
+        expected.resize(4 + desk.limits.answer, 0);
+    }
+    got.extend(wide(&out.answer));
+    (expected, got)
+}
+
+fn compare_try(desk: &Desk, case: &Case) -> (Vec<u32>, Vec<u32>) {
+    let got = match desk.try_filling(&case.words('Q'), &case.words('F')) {
+        Ok(yes) => vec![0, yes as u32],
+        Err(refusal) => vec![refusal as u32, 0],
+    };
+    (case.needed('V').to_vec(), got)
+}
+
+fn compare_example(desk: &Desk, case: &Case) -> (Vec<u32>, Vec<u32>) {
+    let asked = case.needed('L');
+    let mut got = vec![0];
+    match desk.example(&case.words('Q'), asked[0] as usize, asked[1] as usize) {
+        Ok(filling) => got.extend(wide(&filling)),
+        Err(refusal) => got[0] = refusal as u32,
+    }
+    (case.needed('E').to_vec(), got)
+}
