@@ -31,14 +31,16 @@ impl Limits {
 #[derive(Clone, Copy, PartialEq, Eq, Debug)]
 pub struct Desk {
     pub limits: Limits,
+    /// Request 3: of two literals with the same words the later goes.
+    pub folds: bool,
 }
 
 /// The requests in the order in which they are learnt.
-pub const ORDER: [u8; 1] = [12];
+pub const ORDER: [u8; 2] = [12, 3];
 
 impl Desk {
     /// The desk before any request.
-    pub const BASE: Desk = Desk { limits: Limits::FIRST };
+    pub const BASE: Desk = Desk { limits: Limits::FIRST, folds: false };
 
     /// The desk that knows the first `count` requests of the order.
     pub fn after(count: usize) -> Desk {
@@ -59,6 +61,7 @@ impl Desk {
     fn learn(self, request: u8) -> Desk {
         match request {
             12 => Desk { limits: Limits::WIDE, ..self },
+            3 => Desk { folds: true, ..self },
             _ => unreachable!("every request of the order is learnt here"),
         }
     }

@@ -5,11 +5,11 @@ use std::rc::Rc;
 
 use crate::expression::Expression;
 use crate::rules::{reach, Reach};
-use crate::tree::{Hedge, Variables};
+use crate::tree::{mixed, Hedge, Variables};
 use crate::words::{END, EQUATION, MEMBERSHIP};
 
 /// What a literal says.
-#[derive(Clone, Debug)]
+#[derive(Clone, PartialEq, Debug)]
 pub enum Claim {
     Equation(Hedge, Hedge),
     Membership(Hedge, Expression),
@@ -51,6 +51,23 @@ impl Literal {
 
     pub fn words(&self) -> usize {
         self.words
+    }
+
+    /// A number that differs for most literals with different words.
+    pub fn hash(&self) -> u64 {
+        match &self.claim {
+            Claim::Equation(left, right) => {
+                mixed(mixed(EQUATION as u64, left.hash()), right.hash())
+            }
+            Claim::Membership(hedge, expression) => {
+                mixed(mixed(MEMBERSHIP as u64, hedge.hash()), expression.hash())
+            }
+        }
+    }
+
+    /// The same words.
+    pub fn same(&self, other: &Literal) -> bool {
+        self.words == other.words && self.claim == other.claim
     }
 
     pub fn variables(&self) -> Variables {

@@ -4,15 +4,18 @@
 //! variables occur in the other literals. So a literal is looked at once, when
 //! it is made, and the search compares what was found.
 
+use std::rc::Rc;
+
+use crate::desk::Desk;
 use crate::expression::Expression;
-use crate::literal::{Claim, Conjunction};
+use crate::literal::{Claim, Conjunction, Literal};
 use crate::tree::{repeated, Functor, Hedge, Item, Variables};
 
 /// The rules in their order.
 #[derive(Clone, Copy, PartialEq, Eq, PartialOrd, Ord, Debug)]
 #[rustfmt::skip]
 pub enum Rule {
-    R1, R2,
+    R1, R2, Fold,
     F1, F2, F3, F4, F5, F6, F7,
     Del1, Del3,
     D2, D0,
@@ -26,7 +29,7 @@ pub const RULES: usize = Rule::M11 as usize + 1;
 /// All rules, in their order.
 #[rustfmt::skip]
 pub const ALL: [Rule; RULES] = [
-    Rule::R1, Rule::R2,
+    Rule::R1, Rule::R2, Rule::Fold,
     Rule::F1, Rule::F2, Rule::F3, Rule::F4, Rule::F5, Rule::F6, Rule::F7,
     Rule::Del1, Rule::Del3,
     Rule::D2, Rule::D0,
@@ -61,7 +64,7 @@ pub struct Choice {
 
 /// The first rule that applies to any literal, and for it the earliest
 /// literal, and for that the written way before the swapped one.
-pub fn choose(conjunction: &Conjunction) -> Option<Choice> {
+pub fn choose(desk: &Desk, conjunction: &Conjunction) -> Option<Choice> {
     let literals = conjunction.literals();
     // A variable of a literal is in another literal if it is in two or more.
     let shared = repeated(literals.iter().map(|literal| literal.variables()));
@@ -76,7 +79,26 @@ pub fn choose(conjunction: &Conjunction) -> Option<Choice> {
             best = Some(Choice { rule, at, way });
         }
     }
+    if desk.folds && best.is_none_or(|found| Rule::Fold < found.rule) {
+        if let Some(at) = repeated_literal(literals) {
+            best = Some(Choice { rule: Rule::Fold, at, way: Way::Written });
+        }
+    }
     best
+}
+
+/// The earliest literal that has a later one with the same words.
+fn repeated_literal(literals: &[Rc<Literal>]) -> Option<usize> {
+    let mut hashes: Vec<(u64, usize)> =
+        literals.iter().enumerate().map(|(at, literal)| (literal.hash(), at)).collect();
+    hashes.sort_unstable();
+    let maybe = hashes.windows(2).filter(|two| two[0].0 == two[1].0).map(|two| two[0].1);
+    maybe.filter(|at| later_equal(literals, *at).is_some()).min()
+}
+
+/// The first literal behind `at` with the same words as the one there.
+pub fn later_equal(literals: &[Rc<Literal>], at: usize) -> Option<usize> {
+    (at + 1..literals.len()).find(|later| literals[*later].same(&literals[at]))
 }
 
 /// What a literal allows. At most one rule of a literal depends on other
@@ -364,7 +386,6 @@ fn m11(hedge: &Hedge, expression: &Expression) -> bool {
 #[cfg(test)]
 mod tests {
     use super::*;
-    use crate::desk::Desk;
     use crate::gen::pieces::{declared, Pieces};
     use crate::gen::random::Random;
 

@@ -33,7 +33,7 @@ pub fn run(desk: &Desk, question: &Question) -> Result<Run, Refusal> {
     let mut steps = 0;
     let mut uses = [0; RULES];
     while let Some(conjunction) = waiting.take_first() {
-        let Some(choice) = choose(&conjunction) else {
+        let Some(choice) = choose(desk, &conjunction) else {
             lines.add(conjunction)?;
             continue;
         };

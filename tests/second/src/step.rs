@@ -4,7 +4,7 @@ use std::rc::Rc;
 
 use crate::expression::{Expression, Two};
 use crate::literal::{Claim, Conjunction, Literal};
-use crate::rules::{leading, terms_before, Choice, Rule, Way};
+use crate::rules::{later_equal, leading, terms_before, Choice, Rule, Way};
 use crate::substitution::Substitution;
 use crate::tree::{Functor, Hedge, Item};
 use crate::words::Refusal;
@@ -15,6 +15,10 @@ pub type Results = Result<Vec<Conjunction>, Refusal>;
 /// Uses the chosen rule; a result may have `most` words.
 pub fn step(conjunction: &Conjunction, choice: Choice, most: usize) -> Results {
     let place = Place { conjunction, at: choice.at, most };
+    if choice.rule == Rule::Fold {
+        let later = later_equal(conjunction.literals(), choice.at).expect("a later equal");
+        return Place { at: later, ..place }.leaves(&[]);
+    }
     match (conjunction.literals()[choice.at].claim(), choice.way) {
         (Claim::Equation(left, right), Way::Written) => {
             on_equation(place, choice.rule, left, right)

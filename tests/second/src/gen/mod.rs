@@ -91,7 +91,12 @@ fn small(random: &mut Random, desk: &Desk) -> Vec<u16> {
 
 fn random_conjunction(random: &mut Random, pieces: &Pieces, most: usize) -> Conjunction {
     let count = random.below(most + 1).max(random.below(2));
-    let literals: Vec<_> = (0..count).map(|_| pieces.literal(random)).collect();
+    let mut literals: Vec<_> = (0..count).map(|_| pieces.literal(random)).collect();
+    if count > 0 && random.chance(1, 8) {
+        // The same again, for the fold.
+        let again = random.pick(&literals);
+        literals.insert(random.below(count + 1), again);
+    }
     conjunction(&literals)
 }
 
