@@ -1,32 +1,60 @@
-//! Puts the same questions, fillings and lines to the proved desk and to this
-//! one, and compares what comes back and every byte lent: the worked answers,
-//! then random cases of a seed.
+//! Makes the same calls to the proved desk and to this one, and compares what
+//! comes back and every byte lent: the worked answers, then random cases of a
+//! seed.
 //!
 //!     compare CASES SEED COMMAND..    COMMAND starts the bridge to the proved desk
 //!
 //! A seed is a number, and `-` is the seed of every day.
 
+use std::collections::BTreeMap;
 use std::path::Path;
 use std::process::ExitCode;
 
 use second::gen::random::Random;
 use second::gen::{case, SEED};
-use second::proved::{self, bytes, words, Proved, Request, LENT, NO, SHOWN, YES};
+use second::host::{self, LENT, NO, SHOWN};
+use second::proved::{self, Proved};
 use second::records::{cases, Case};
+use second::request::{bytes, Request};
+use second::stack::deep;
 use second::Desk;
 
 /// How many comparisons there were, how many disagreed, and how often each
-/// number came back.
+/// number came back from each call.
 struct Tally {
     /// The second desk, with as many requests as the proved one.
     desk: Desk,
     proved: Proved,
     passed: u64,
     failed: u64,
-    solve: [u64; 102],
-    tried: [u64; 102],
-    example: [u64; 102],
+    gave: BTreeMap<&'static str, BTreeMap<u32, u64>>,
 }
+
+impl Tally {
+    /// Compares a call to the proved desk with what should come of it.
+    fn expect(&mut self, name: &str, request: &Request, expected: u32, expected_left: &[u8]) {
+        let (number, left) = self.proved.call(request);
+        let shown = number.min(YES_AND_MORE);
+        *self.gave.entry(request.name()).or_default().entry(shown).or_default() += 1;
+        if number == expected && left == expected_left {
+            self.passed += 1;
+            return;
+        }
+        self.failed += 1;
+        let at = left.iter().zip(expected_left).position(|(a, b)| a != b);
+        println!("{name}: {number}, expected {expected}, first byte apart {at:?}\n  {request:?}");
+    }
+
+    /// Compares a call to both desks.
+    fn both(&mut self, name: &str, request: Request) {
+        let mut lent = vec![LENT; request.lent()];
+        let expected = host::call(&self.desk, &request, &mut lent);
+        self.expect(name, &request, expected, &lent);
+    }
+}
+
+/// Answers are counted together from here on.
+const YES_AND_MORE: u32 = 101;
 
 /// Lent bytes after a call that wrote `written` at their start.
 fn left(length: usize, written: &[u8]) -> Vec<u8> {
@@ -35,110 +63,51 @@ fn left(length: usize, written: &[u8]) -> Vec<u8> {
     left
 }
 
-impl Tally {
-    fn note(&mut self, agree: bool, what: impl Fn() -> String) {
-        if agree {
-            self.passed += 1;
-        } else {
-            self.failed += 1;
-            println!("{}", what());
-        }
-    }
-
-    fn solve(&mut self, name: &str, question: &[u8], length: usize) {
-        let (number, answer) = self.proved.call(Request::Solve { question, answer: length });
-        let (expected, expected_left) = if length < 2 * self.desk.limits.answer {
-            (1, left(length, &[]))
-        } else {
-            let out = self.desk.solve(&words(question));
-            (out.refusal as u32, left(length, &bytes(&out.answer)))
-        };
-        self.solve[number.min(101) as usize] += 1;
-        self.note(number == expected && answer == expected_left, || {
-            let at = answer.iter().zip(&expected_left).position(|(a, b)| a != b);
-            format!("{name}: solve {number}, expected {expected}, first byte apart {at:?}\n  {question:?}")
-        });
-    }
-
-    fn tried(&mut self, name: &str, question: &[u8], filling: &[u8]) {
-        let (number, _) = self.proved.call(Request::Try { question, filling });
-        let expected = match self.desk.try_filling(&words(question), &words(filling)) {
-            Ok(true) => YES,
-            Ok(false) => NO,
-            Err(refusal) => refusal as u32,
-        };
-        self.tried[number.min(101) as usize] += 1;
-        self.note(number == expected, || {
-            format!("{name}: try {number}, expected {expected}\n  {question:?}\n  {filling:?}")
-        });
-    }
-
-    fn example(&mut self, name: &str, question: &[u8], line: u32, length: usize) {
-        let (number, room) = self.proved.call(Request::Example { question, line, room: length });
-        let (expected, expected_left) =
-            match self.desk.example(&words(question), line as usize, length / 2) {
-                Ok(filling) => (SHOWN + filling.len() as u32, left(length, &bytes(&filling))),
-                Err(refusal) => (refusal as u32, left(length, &[])),
-            };
-        self.example[number.min(101) as usize] += 1;
-        self.note(number == expected && room == expected_left, || {
-            format!("{name}: example of line {line} in {length} bytes {number}, expected {expected}\n  {question:?}")
-        });
+/// Each record of a file, where the folder has it.
+fn records(folder: &Path, file: &str) -> Vec<Case> {
+    let path = folder.join(file);
+    if path.exists() {
+        cases(&path)
+    } else {
+        Vec::new()
     }
 }
 
 /// What is expected of the proved desk by the worked answers themselves.
 fn worked(tally: &mut Tally, folder: &Path) {
     let whole = 2 * tally.desk.limits.answer;
-    for case in cases(&folder.join("solve.txt")) {
-        let question = bytes(&case.words('Q'));
-        let (number, answer) =
-            tally.proved.call(Request::Solve { question: &question, answer: whole });
+    for case in records(folder, "solve.txt") {
+        let request = Request::Solve { question: bytes(&case.words('Q')), answer: whole };
         let expected = case.needed('R')[0];
         let expected_left = match case.field('A') {
-            Some(_) => left_zeros(whole, &bytes(&case.words('A'))),
+            Some(_) => {
+                let mut left = bytes(&case.words('A'));
+                left.resize(whole, 0);
+                left
+            }
             None if expected >= 7 => vec![0; whole],
             None => left(whole, &[]),
         };
-        tally.note(number == expected && answer == expected_left, || {
-            said("solve.txt", &case, number)
-        });
+        tally.expect(&case.name, &request, expected, &expected_left);
     }
-    for case in cases(&folder.join("try.txt")) {
+    for case in records(folder, "try.txt") {
         let (question, filling) = (bytes(&case.words('Q')), bytes(&case.words('F')));
-        let (number, _) =
-            tally.proved.call(Request::Try { question: &question, filling: &filling });
         let expected = match case.needed('V') {
             [0, yes] => NO + yes,
             verdict => verdict[0],
         };
-        tally.note(number == expected, || said("try.txt", &case, number));
+        tally.expect(&case.name, &Request::Try { question, filling }, expected, &[]);
     }
-    for case in cases(&folder.join("example.txt")) {
+    for case in records(folder, "example.txt") {
         let (line, room) = (case.needed('L')[0], 2 * case.needed('L')[1] as usize);
-        let question = bytes(&case.words('Q'));
-        let (number, lent) =
-            tally.proved.call(Request::Example { question: &question, line, room });
+        let request = Request::Example { question: bytes(&case.words('Q')), line, room };
         let shown = case.words('E');
         let (expected, expected_left) = match shown[0] {
             0 => (SHOWN + shown.len() as u32 - 1, left(room, &bytes(&shown[1..]))),
             refusal => (refusal as u32, left(room, &[])),
         };
-        tally.note(number == expected && lent == expected_left, || {
-            said("example.txt", &case, number)
-        });
+        tally.expect(&case.name, &request, expected, &expected_left);
     }
-}
-
-/// Written bytes, and zeros up to a length.
-fn left_zeros(length: usize, written: &[u8]) -> Vec<u8> {
-    let mut left = written.to_vec();
-    left.resize(length, 0);
-    left
-}
-
-fn said(file: &str, case: &Case, number: u32) -> String {
-    format!("{file}: {}: got {number}", case.name)
 }
 
 /// One random case, in whole words and, now and then, in bytes that are none.
@@ -148,48 +117,52 @@ fn random_case(tally: &mut Tally, seed: u64, index: u64) {
     let mut random = Random::of_case(seed ^ 0xB17E5, index);
     let name = format!("case {index} ({})", case.kind);
     let question = bytes(&case.question);
+    let solve = |question: &[u8], answer| Request::Solve { question: question.to_vec(), answer };
+    let tried = |question: &[u8], filling: &[u8]| Request::Try {
+        question: question.to_vec(),
+        filling: filling.to_vec(),
+    };
+    let example =
+        |question: &[u8], line, room| Request::Example { question: question.to_vec(), line, room };
     let spare = random.pick(&[0, 0, 0, 1, 2, 777]);
-    tally.solve(&name, &question, whole + spare);
+    tally.both(&name, solve(&question, whole + spare));
     if random.chance(1, 8) {
-        tally.solve(&name, &question, random.below(whole));
-        tally.solve(&name, &question, whole - 1);
+        tally.both(&name, solve(&question, random.below(whole)));
+        tally.both(&name, solve(&question, whole - 1));
     }
     if random.chance(1, 8) && !question.is_empty() {
-        tally.solve(&name, &question[..question.len() - 1], whole);
-        tally.tried(&name, &question[1..], &[]);
-        tally.example(&name, &question[1..], 0, 64);
+        tally.both(&name, solve(&question[..question.len() - 1], whole));
+        tally.both(&name, tried(&question[1..], &[]));
+        tally.both(&name, example(&question[1..], 0, 64));
     }
     for filling in &case.fillings {
         let filling = bytes(filling);
-        tally.tried(&name, &question, &filling);
+        tally.both(&name, tried(&question, &filling));
         if random.chance(1, 8) && !filling.is_empty() {
-            tally.tried(&name, &question, &filling[..filling.len() - 1]);
+            tally.both(&name, tried(&question, &filling[..filling.len() - 1]));
         }
     }
     for (line, room) in &case.asks {
-        tally.example(&name, &question, *line as u32, 2 * room + random.below(2));
+        tally.both(&name, example(&question, *line as u32, 2 * room + random.below(2)));
     }
     if random.chance(1, 8) {
-        tally.example(&name, &question, random.pick(&[512, 65_536, u32::MAX]), 100);
+        tally.both(&name, example(&question, random.pick(&[512, 65_536, u32::MAX]), 100));
     }
 }
 
-fn main() -> ExitCode {
+fn compare() -> ExitCode {
     let args: Vec<String> = std::env::args().skip(1).collect();
     let count: u64 = args[0].parse().expect("a number of cases");
     let seed: u64 = match args[1].as_str() {
         "-" => SEED,
         number => number.parse().expect("a seed"),
     };
-    let proved = Proved::start(&args[2..]);
     let mut tally = Tally {
         desk: proved::desk(),
-        proved,
+        proved: Proved::start(&args[2..]),
         passed: 0,
         failed: 0,
-        solve: [0; 102],
-        tried: [0; 102],
-        example: [0; 102],
+        gave: BTreeMap::new(),
     };
     worked(&mut tally, &proved::worked_folder());
     println!("worked answers: {} compared", tally.passed + tally.failed);
@@ -197,10 +170,8 @@ fn main() -> ExitCode {
         random_case(&mut tally, seed, index);
     }
     println!("random cases: {count}, seed {seed}");
-    for (call, counts) in [("solve", tally.solve), ("try", tally.tried), ("example", tally.example)]
-    {
-        let shown: Vec<String> =
-            (0..102).filter(|n| counts[*n] > 0).map(|n| format!("{n}: {}", counts[n])).collect();
+    for (call, counts) in &tally.gave {
+        let shown: Vec<String> = counts.iter().map(|(n, times)| format!("{n}: {times}")).collect();
         println!("{call} gave {}", shown.join(", "));
     }
     let failed = tally.failed + !tally.proved.end() as u64;
@@ -210,4 +181,8 @@ fn main() -> ExitCode {
     } else {
         ExitCode::SUCCESS
     }
+}
+
+fn main() -> ExitCode {
+    deep(compare)
 }

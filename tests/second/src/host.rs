@@ -1,0 +1,56 @@
+//! This desk called as a C program calls the proved one: on bytes, with every
+//! byte that is lent.
+
+use crate::desk::Desk;
+use crate::request::{words, Request};
+
+/// What a lent byte holds before a call.
+pub const LENT: u8 = 0xA5;
+/// What comes back beside the refusals.
+pub const NO: u32 = 100;
+pub const YES: u32 = 101;
+pub const SHOWN: u32 = 100;
+
+/// Makes a call: the number that comes back. What the desk writes goes to the
+/// start of the lent bytes, the others stay.
+pub fn call(desk: &Desk, request: &Request, lent: &mut [u8]) -> u32 {
+    match request {
+        Request::Solve { question, .. } => solve(desk, question, lent),
+        Request::Try { question, filling } => {
+            match desk.try_filling(&words(question), &words(filling)) {
+                Ok(true) => YES,
+                Ok(false) => NO,
+                Err(refusal) => refusal as u32,
+            }
+        }
+        Request::Example { question, line, .. } => {
+            let shown = desk.example(&words(question), *line as usize, lent.len() / 2);
+            filling_shown(shown, lent)
+        }
+    }
+}
+
+fn put(words: &[u16], out: &mut [u8]) {
+    for (word, pair) in words.iter().zip(out.chunks_exact_mut(2)) {
+        pair.copy_from_slice(&word.to_le_bytes());
+    }
+}
+
+fn solve(desk: &Desk, question: &[u8], answer: &mut [u8]) -> u32 {
+    if answer.len() < 2 * desk.limits.answer {
+        return 1;
+    }
+    let out = desk.solve(&words(question));
+    put(&out.answer, answer);
+    out.refusal as u32
+}
+
+fn filling_shown(shown: Result<Vec<u16>, u16>, room: &mut [u8]) -> u32 {
+    match shown {
+        Ok(filling) => {
+            put(&filling, room);
+            SHOWN + filling.len() as u32
+        }
+        Err(refusal) => refusal as u32,
+    }
+}
