@@ -33,14 +33,17 @@ pub struct Desk {
     pub limits: Limits,
     /// Request 3: of two literals with the same words the later goes.
     pub folds: bool,
+    /// Request 5: waiting conjunctions and lines carry the number of the
+    /// alternative that they come from.
+    pub numbers: bool,
 }
 
 /// The requests in the order in which they are learnt.
-pub const ORDER: [u8; 2] = [12, 3];
+pub const ORDER: [u8; 3] = [12, 3, 5];
 
 impl Desk {
     /// The desk before any request.
-    pub const BASE: Desk = Desk { limits: Limits::FIRST, folds: false };
+    pub const BASE: Desk = Desk { limits: Limits::FIRST, folds: false, numbers: false };
 
     /// The desk that knows the first `count` requests of the order.
     pub fn after(count: usize) -> Desk {
@@ -58,10 +61,17 @@ impl Desk {
         Desk::after(ORDER.len())
     }
 
+    /// The words that a waiting conjunction costs beside its own, and that a
+    /// line has before its literals.
+    pub fn beside(&self) -> usize {
+        1 + self.numbers as usize
+    }
+
     fn learn(self, request: u8) -> Desk {
         match request {
             12 => Desk { limits: Limits::WIDE, ..self },
             3 => Desk { folds: true, ..self },
+            5 => Desk { numbers: true, ..self },
             _ => unreachable!("every request of the order is learnt here"),
         }
     }

@@ -78,7 +78,7 @@ impl Desk {
             (_, 0) => Verdict::AllSolved,
             _ => Verdict::SomeOpen,
         };
-        let answer = answer::answer(&run, self.limits.answer);
+        let answer = answer::answer(self, &run);
         SolveOut { refusal: 0, verdict, lines, open, steps: run.steps, answer, uses: run.uses }
     }
 

@@ -13,6 +13,8 @@ use crate::words::{Refusal, FIRST_LINE, LINES_MOST, STEPS_MOST};
 pub struct Line {
     pub conjunction: Conjunction,
     pub solved: bool,
+    /// The alternative it comes from, the first one 0.
+    pub alternative: u16,
 }
 
 /// A run that came to its end.
@@ -27,20 +29,23 @@ pub struct Run {
 /// Runs a question to its end, or to one of the numbers 7 to 10.
 pub fn run(desk: &Desk, question: &Question) -> Result<Run, Refusal> {
     let limits = &desk.limits;
-    let mut waiting = Waiting::default();
-    waiting.put_first(question.conjunctions.clone());
-    let mut lines = Lines { list: Vec::new(), end: FIRST_LINE, most: limits.answer };
+    let mut waiting = Waiting { stack: Vec::new(), room: 0, beside: desk.beside() };
+    for (alternative, conjunction) in question.conjunctions.iter().enumerate().rev() {
+        waiting.put_first(vec![conjunction.clone()], alternative as u16);
+    }
+    let mut lines =
+        Lines { list: Vec::new(), end: FIRST_LINE, most: limits.answer, beside: desk.beside() };
     let mut steps = 0;
     let mut uses = [0; RULES];
-    while let Some(conjunction) = waiting.take_first() {
+    while let Some((conjunction, alternative)) = waiting.take_first() {
         let Some(choice) = choose(desk, &conjunction) else {
-            lines.add(conjunction)?;
+            lines.add(conjunction, alternative)?;
             continue;
         };
         if steps == STEPS_MOST {
             return Err(Refusal::Steps);
         }
-        waiting.put_first(step(&conjunction, choice, limits.result)?);
+        waiting.put_first(step(&conjunction, choice, limits.result)?, alternative);
         if waiting.room > limits.waiting {
             return Err(Refusal::WaitingTooLong);
         }
@@ -50,46 +55,47 @@ pub fn run(desk: &Desk, question: &Question) -> Result<Run, Refusal> {
     Ok(Run { lines: lines.list, steps, uses })
 }
 
-/// The waiting conjunctions, the first one last, and the room they take:
-/// their lengths, plus one for each.
-#[derive(Default)]
+/// The waiting conjunctions with the numbers of their alternatives, the first
+/// one last, and the room they take: their lengths, and what each costs beside.
 struct Waiting {
-    stack: Vec<Conjunction>,
+    stack: Vec<(Conjunction, u16)>,
     room: usize,
+    beside: usize,
 }
 
 impl Waiting {
-    fn take_first(&mut self) -> Option<Conjunction> {
+    fn take_first(&mut self) -> Option<(Conjunction, u16)> {
         let first = self.stack.pop()?;
-        self.room -= first.words() + 1;
+        self.room -= first.0.words() + self.beside;
         Some(first)
     }
 
-    fn put_first(&mut self, results: Vec<Conjunction>) {
+    fn put_first(&mut self, results: Vec<Conjunction>, alternative: u16) {
         for result in results.into_iter().rev() {
-            self.room += result.words() + 1;
-            self.stack.push(result);
+            self.room += result.words() + self.beside;
+            self.stack.push((result, alternative));
         }
     }
 }
 
-/// The lines so far, where the next would start in the answer, and the
-/// answer's words.
+/// The lines so far, where the next would start in the answer, the answer's
+/// words, and those of a line before its literals.
 struct Lines {
     list: Vec<Line>,
     end: usize,
     most: usize,
+    beside: usize,
 }
 
 impl Lines {
-    fn add(&mut self, conjunction: Conjunction) -> Result<(), Refusal> {
-        let end = self.end + 1 + conjunction.words();
+    fn add(&mut self, conjunction: Conjunction, alternative: u16) -> Result<(), Refusal> {
+        let end = self.end + self.beside + conjunction.words();
         if self.list.len() == LINES_MOST || end > self.most {
             return Err(Refusal::Lines);
         }
         self.end = end;
         let solved = is_solved(&conjunction);
-        self.list.push(Line { conjunction, solved });
+        self.list.push(Line { conjunction, solved, alternative });
         Ok(())
     }
 }

@@ -144,8 +144,8 @@ fn check_lines(desk: &Desk, question: &Question, out: &SolveOut, counts: &mut Co
     ensure(out.answer[end..].iter().all(|word| *word == 0), "no zeros at the end")?;
     for ends in offsets.windows(2) {
         let words = &out.answer[ends[0] as usize..ends[1] as usize];
-        let line =
-            read::conjunction(&words[1..], desk.limits.kind).ok_or("a line cannot be read")?;
+        let line = read::conjunction(&words[desk.beside()..], desk.limits.kind)
+            .ok_or("a line cannot be read")?;
         check_line(desk, question, words, line)?;
     }
     Ok(())
@@ -161,8 +161,8 @@ fn check_line(desk: &Desk, question: &Question, words: &[u16], line: Conjunction
     ensure(again.refusal == 0 && again.lines == 1, "a line is no line")?;
     ensure(again.steps == 0, "a rule applies to a line")?;
     ensure(mark == words[0], "a line has another mark")?;
-    let same = again.answer[FIRST_LINE..].starts_with(words);
-    ensure(same, "a line changes")
+    let literals = &again.answer[FIRST_LINE + desk.beside()..];
+    ensure(literals.starts_with(&words[desk.beside()..]), "a line changes")
 }
 
 /// The example of each solved line is an answer to the question.
@@ -193,19 +193,19 @@ fn check_examples(
     Ok(())
 }
 
-/// A filling meets the question exactly if it meets one of the lines.
+/// A filling meets an alternative exactly if it meets one of its lines.
 fn check_filling(question: &Question, run: &Run, filling: &[u16]) -> Checked {
     let Ok(filling) = read_filling(filling, &question.declared) else { return Ok(()) };
-    let lines = Question {
-        declared: question.declared,
-        conjunctions: run.lines.iter().map(|line| line.conjunction.clone()).collect(),
-    };
-    match (filling.answers(question), filling.answers(&lines)) {
-        (Ok(of_question), Ok(of_lines)) => {
-            ensure(of_question == of_lines, "question and lines differ on a filling")
+    for (number, alternative) in question.conjunctions.iter().enumerate() {
+        let own = run.lines.iter().filter(|line| line.alternative as usize == number);
+        let of = |conjunctions| Question { declared: question.declared, conjunctions };
+        let alone = of(vec![alternative.clone()]);
+        let lines = of(own.map(|line| line.conjunction.clone()).collect());
+        if let (Ok(met), Ok(line_met)) = (filling.answers(&alone), filling.answers(&lines)) {
+            ensure(met == line_met, "an alternative and its lines differ on a filling")?;
         }
-        _ => Ok(()),
     }
+    Ok(())
 }
 
 /// An example asked for is what the room and the line allow.

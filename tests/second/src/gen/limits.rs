@@ -19,8 +19,8 @@ pub fn question(random: &mut Random, desk: &Desk) -> Vec<u16> {
     match random.below(10) {
         0 => doubling(random),
         1 => swelling(random, limits.result),
-        2 => cut_run(random, limits.waiting),
-        3 => cut_run(random, limits.answer - FIRST_LINE),
+        2 => cut_run(random, limits.waiting, desk.beside()),
+        3 => cut_run(random, limits.answer - FIRST_LINE, desk.beside()),
         4 => products(random),
         5 => counted_steps(random),
         6 => many_cuts(random),
@@ -104,18 +104,18 @@ fn swelling(random: &mut Random, most: usize) -> Vec<u16> {
 }
 
 /// (p, q) = (a, ..., a) and padding in two alternatives, so that the results
-/// of the first step and what waits take about `total` words, one more for
+/// of the first step and what waits take about `total` words, `beside` more for
 /// each conjunction counted in.
-fn cut_run(random: &mut Random, total: usize) -> Vec<u16> {
+fn cut_run(random: &mut Random, total: usize, beside: usize) -> Vec<u16> {
     let count = random.range(14, 45);
     let total = around(random, total);
     let each = (total - 12) / (count + 1);
     let rest = total - (count + 1) * each;
     // A result has 8 words of its own, 2 for each a, and the padding.
-    let pad = each - 9 - 2 * count;
+    let pad = each - 8 - beside - 2 * count;
     let left = Hedge::new(vec![Item::HedgeVariable(0), Item::HedgeVariable(1)]);
     let first = [Literal::equation(left, Hedge::new(leaves(count))), padding(2, pad)];
-    let second = [padding(2, rest - 1)];
+    let second = [padding(2, rest - beside)];
     words(declared(1, 0, 3, 0), vec![conjunction(&first), conjunction(&second)])
 }
 
