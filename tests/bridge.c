@@ -4,7 +4,8 @@
  * its length and its bytes, and then
  *   s  the answer's length
  *   t  a filling, as its length and its bytes
- *   e  the line and the room's length
+ *   e  the line, the flag for old sheets (taken from request 8 on) and the
+ *      room's length
  * Numbers are 32 bits, low byte first. Bytes are lent full of LENT. Each answer
  * is the number that came back and, after s and e, every byte that was lent.
  *
@@ -89,10 +90,16 @@ int main(int argc, char **argv)
             free(filling);
         } else {
             uint32_t line = number_in();
+            uint32_t old_sheets = number_in();
             size_t length = number_in();
             uint8_t *room = block(length);
             for (long i = 0; i < times; i++)
+#if LANDED >= 4
+                number = desk_example(question, question_len, line, old_sheets, room, length);
+#else
                 number = desk_example(question, question_len, line, room, length);
+            (void)old_sheets;
+#endif
             number_out(number);
             lent_out(room, length);
         }

@@ -36,14 +36,17 @@ pub struct Desk {
     /// Request 5: waiting conjunctions and lines carry the number of the
     /// alternative that they come from.
     pub numbers: bool,
+    /// Request 8: examples fill free blanks with the last declared symbol.
+    pub placeholder: bool,
 }
 
 /// The requests in the order in which they are learnt.
-pub const ORDER: [u8; 3] = [12, 3, 5];
+pub const ORDER: [u8; 4] = [12, 3, 5, 8];
 
 impl Desk {
     /// The desk before any request.
-    pub const BASE: Desk = Desk { limits: Limits::FIRST, folds: false, numbers: false };
+    pub const BASE: Desk =
+        Desk { limits: Limits::FIRST, folds: false, numbers: false, placeholder: false };
 
     /// The desk that knows the first `count` requests of the order.
     pub fn after(count: usize) -> Desk {
@@ -72,6 +75,7 @@ impl Desk {
             12 => Desk { limits: Limits::WIDE, ..self },
             3 => Desk { folds: true, ..self },
             5 => Desk { numbers: true, ..self },
+            8 => Desk { placeholder: true, ..self },
             _ => unreachable!("every request of the order is learnt here"),
         }
     }

@@ -2,6 +2,7 @@
 //! byte that is lent.
 
 use crate::desk::Desk;
+use crate::example::Ask;
 use crate::request::{words, Request};
 
 /// What a lent byte holds before a call.
@@ -23,8 +24,9 @@ pub fn call(desk: &Desk, request: &Request, lent: &mut [u8]) -> u32 {
                 Err(refusal) => refusal as u32,
             }
         }
-        Request::Example { question, line, .. } => {
-            let shown = desk.example(&words(question), *line as usize, lent.len() / 2);
+        Request::Example { question, line, old_sheets, .. } => {
+            let ask = ask(*line, *old_sheets, lent.len());
+            let shown = desk.example(&words(question), ask);
             filling_shown(shown, lent)
         }
     }
@@ -43,6 +45,11 @@ fn solve(desk: &Desk, question: &[u8], answer: &mut [u8]) -> u32 {
     let out = desk.solve(&words(question));
     put(&out.answer, answer);
     out.refusal as u32
+}
+
+/// Any number but 0 is for old sheets.
+fn ask(line: u32, old_sheets: u32, room: usize) -> Ask {
+    Ask { line: line as usize, room: room / 2, old_sheets: old_sheets != 0 }
 }
 
 fn filling_shown(shown: Result<Vec<u16>, u16>, room: &mut [u8]) -> u32 {

@@ -28,6 +28,7 @@ pub mod words;
 pub mod worked;
 
 pub use desk::Desk;
+pub use example::Ask;
 use rules::RULES;
 use words::Refusal;
 
@@ -91,13 +92,12 @@ impl Desk {
         tried().map_err(Refusal::number)
     }
 
-    /// The example of a line (the first is 0) in a room of so many words: the
-    /// filling's words, or 2 to 10, 14, 15, 16.
-    pub fn example(&self, question: &[u16], line: usize, room: usize) -> Result<Vec<u16>, u16> {
+    /// The example of a line: the filling's words, or 2 to 10, 14, 15, 16.
+    pub fn example(&self, question: &[u16], ask: Ask) -> Result<Vec<u16>, u16> {
         let shown = || {
             let question = read::question(question, &self.limits)?;
             let run = run::run(self, &question)?;
-            example::example(&run, &question.declared, line, room)
+            example::example(self, &run, &question.declared, ask)
         };
         shown().map_err(Refusal::number)
     }

@@ -7,7 +7,7 @@ use std::io::{Read, Write};
 pub enum Request {
     Solve { question: Vec<u8>, answer: usize },
     Try { question: Vec<u8>, filling: Vec<u8> },
-    Example { question: Vec<u8>, line: u32, room: usize },
+    Example { question: Vec<u8>, line: u32, old_sheets: u32, room: usize },
 }
 
 /// A part of a request in the pipe.
@@ -43,8 +43,9 @@ impl Request {
                 (b's', vec![Block(question), Number(*answer as u32)])
             }
             Request::Try { question, filling } => (b't', vec![Block(question), Block(filling)]),
-            Request::Example { question, line, room } => {
-                (b'e', vec![Block(question), Number(*line), Number(*room as u32)])
+            Request::Example { question, line, old_sheets, room } => {
+                let numbers = [*line, *old_sheets, *room as u32].map(Number);
+                (b'e', [Block(question)].into_iter().chain(numbers).collect())
             }
         }
     }
@@ -72,6 +73,7 @@ impl Request {
             b'e' => Request::Example {
                 question: block(from),
                 line: number(from),
+                old_sheets: number(from),
                 room: number(from) as usize,
             },
             _ => panic!("{letter} is no request"),

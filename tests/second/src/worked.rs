@@ -3,6 +3,7 @@
 use std::path::Path;
 
 use crate::desk::{Desk, ORDER};
+use crate::example::Ask;
 use crate::records::{cases, Case};
 
 /// What a case expects and what the desk gives, both as lists of numbers.
@@ -101,7 +102,12 @@ fn compare_try(desk: &Desk, case: &Case) -> (Vec<u32>, Vec<u32>) {
 fn compare_example(desk: &Desk, case: &Case) -> (Vec<u32>, Vec<u32>) {
     let asked = case.needed('L');
     let mut got = vec![0];
-    match desk.example(&case.words('Q'), asked[0] as usize, asked[1] as usize) {
+    let ask = Ask {
+        line: asked[0] as usize,
+        room: asked[1] as usize,
+        old_sheets: asked.get(2) == Some(&1),
+    };
+    match desk.example(&case.words('Q'), ask) {
         Ok(filling) => got.extend(wide(&filling)),
         Err(refusal) => got[0] = refusal as u32,
     }

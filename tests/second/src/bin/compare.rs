@@ -99,8 +99,14 @@ fn worked(tally: &mut Tally, folder: &Path) {
         tally.expect(&case.name, &Request::Try { question, filling }, expected, &[]);
     }
     for case in records(folder, "example.txt") {
-        let (line, room) = (case.needed('L')[0], 2 * case.needed('L')[1] as usize);
-        let request = Request::Example { question: bytes(&case.words('Q')), line, room };
+        let asked = case.needed('L');
+        let room = 2 * asked[1] as usize;
+        let request = Request::Example {
+            question: bytes(&case.words('Q')),
+            line: asked[0],
+            old_sheets: asked.get(2).copied().unwrap_or(0),
+            room,
+        };
         let shown = case.words('E');
         let (expected, expected_left) = match shown[0] {
             0 => (SHOWN + shown.len() as u32 - 1, left(room, &bytes(&shown[1..]))),
@@ -122,8 +128,13 @@ fn random_case(tally: &mut Tally, seed: u64, index: u64) {
         question: question.to_vec(),
         filling: filling.to_vec(),
     };
-    let example =
-        |question: &[u8], line, room| Request::Example { question: question.to_vec(), line, room };
+    let old_sheets = random.pick(&[0, 0, 1, 2, u32::MAX]);
+    let example = |question: &[u8], line, room| Request::Example {
+        question: question.to_vec(),
+        line,
+        old_sheets,
+        room,
+    };
     let spare = random.pick(&[0, 0, 0, 1, 2, 777]);
     tally.both(&name, solve(&question, whole + spare));
     if random.chance(1, 8) {
@@ -142,8 +153,9 @@ fn random_case(tally: &mut Tally, seed: u64, index: u64) {
             tally.both(&name, tried(&question, &filling[..filling.len() - 1]));
         }
     }
-    for (line, room) in &case.asks {
-        tally.both(&name, example(&question, *line as u32, 2 * room + random.below(2)));
+    for ask in &case.asks {
+        let room = 2 * ask.room + random.below(2);
+        tally.both(&name, example(&question, ask.line as u32, room));
     }
     if random.chance(1, 8) {
         tally.both(&name, example(&question, random.pick(&[512, 65_536, u32::MAX]), 100));

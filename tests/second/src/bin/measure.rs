@@ -16,6 +16,7 @@ use second::host::{self, LENT};
 use second::proved;
 use second::records::cases;
 use second::request::{bytes, Request};
+use second::Ask;
 
 /// Cases of a family.
 const SHARE: usize = 30;
@@ -66,7 +67,11 @@ fn worked() -> Vec<Case> {
     for record in cases(&folder.join("example.txt")) {
         let asked = record.needed('L');
         all.push(Case {
-            asks: vec![(asked[0] as usize, asked[1] as usize)],
+            asks: vec![Ask {
+                line: asked[0] as usize,
+                room: asked[1] as usize,
+                old_sheets: asked.get(2) == Some(&1),
+            }],
             ..case(record.words('Q'))
         });
     }
@@ -85,9 +90,14 @@ fn each(call: &str, name: &str, mut take: impl FnMut(Request)) {
                 }
             }
             _ => {
-                for (line, room) in &case.asks {
+                for ask in &case.asks {
                     let question = question.clone();
-                    take(Request::Example { question, line: *line as u32, room: 2 * room });
+                    take(Request::Example {
+                        question,
+                        line: ask.line as u32,
+                        old_sheets: ask.old_sheets as u32,
+                        room: 2 * ask.room,
+                    });
                 }
             }
         }
@@ -189,7 +199,7 @@ fn main() {
                     write(Request::Solve { question, answer: 2 * proved::desk().limits.answer })
                 }
                 "try" => write(Request::Try { question, filling: bytes(&deep_filling()) }),
-                _ => write(Request::Example { question, line: 0, room: 8192 }),
+                _ => write(Request::Example { question, line: 0, old_sheets: 0, room: 8192 }),
             }
         }
         _ => answer(args[1].parse().expect("a number")).expect("answered"),

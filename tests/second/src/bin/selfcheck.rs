@@ -15,7 +15,7 @@ use second::read::{self, Question};
 use second::rules::{ALL, RULES};
 use second::run::{run, Run};
 use second::words::{FIRST_LINE, MARK_OPEN, MARK_SOLVED};
-use second::{Desk, SolveOut, Verdict};
+use second::{Ask, Desk, SolveOut, Verdict};
 
 const CASES: u64 = 20_000;
 /// Examples looked at in one case.
@@ -77,8 +77,8 @@ fn check(desk: &Desk, case: &Case, index: u64, counts: &mut Counts) -> Checked {
         *sum += uses as u64;
     }
     check_numbers(desk, &out)?;
-    for (line, room) in &case.asks {
-        check_ask(desk, case, &out, (*line, *room), counts)?;
+    for ask in &case.asks {
+        check_ask(desk, case, &out, *ask, counts)?;
     }
     let mut fillings = case.fillings.clone();
     let question = read::question(&case.question, &desk.limits);
@@ -174,7 +174,8 @@ fn check_examples(
     counts: &mut Counts,
 ) -> Checked {
     for number in 0..run.lines.len().min(LINES_LOOKED_AT) {
-        match line_example(run, &question.declared, number, 4096) {
+        let ask = Ask { line: number, room: 4096, old_sheets: number % 2 == 1 };
+        match line_example(desk, run, &question.declared, ask) {
             Ok(filling) => match desk.try_filling(&case.question, &filling) {
                 Ok(yes) => {
                     ensure(yes, "an example is no answer")?;
@@ -209,14 +210,9 @@ fn check_filling(question: &Question, run: &Run, filling: &[u16]) -> Checked {
 }
 
 /// An example asked for is what the room and the line allow.
-fn check_ask(
-    desk: &Desk,
-    case: &Case,
-    out: &SolveOut,
-    (line, room): (usize, usize),
-    counts: &mut Counts,
-) -> Checked {
-    let asked = desk.example(&case.question, line, room);
+fn check_ask(desk: &Desk, case: &Case, out: &SolveOut, ask: Ask, counts: &mut Counts) -> Checked {
+    let Ask { line, room, .. } = ask;
+    let asked = desk.example(&case.question, ask);
     counts.example[asked.as_ref().err().map_or(0, |refusal| *refusal as usize)] += 1;
     match asked {
         Ok(filling) => {

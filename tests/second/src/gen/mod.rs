@@ -9,7 +9,7 @@ pub mod planted;
 pub mod random;
 
 use crate::desk::Desk;
-use crate::example::write;
+use crate::example::{write, Ask};
 use crate::literal::Conjunction;
 use crate::read::Question;
 use pieces::{conjunction, question_words, Pieces};
@@ -26,8 +26,8 @@ pub struct Case {
     pub question: Vec<u16>,
     /// Fillings to try on it.
     pub fillings: Vec<Vec<u16>>,
-    /// Examples to ask for: a line, and words of room.
-    pub asks: Vec<(usize, usize)>,
+    /// Examples to ask for.
+    pub asks: Vec<Ask>,
 }
 
 /// The kinds of questions, and how many in 1,000 are of each.
@@ -166,14 +166,16 @@ fn fitted(desk: &Desk, mut question: Question) -> Vec<u16> {
     }
 }
 
-/// Lines and rooms to ask for, and the examples found on the way as fillings.
+/// Examples to ask for, and those found on the way as fillings.
 fn asks(
     random: &mut Random,
     desk: &Desk,
     question: &[u16],
     fillings: &mut Vec<Vec<u16>>,
-) -> Vec<(usize, usize)> {
-    let mut asks = vec![(random.below(3), 4096)];
+) -> Vec<Ask> {
+    let old_sheets = random.chance(1, 2);
+    let ask = |line, room| Ask { line, room, old_sheets };
+    let mut asks = vec![ask(random.below(3), 4096)];
     let Ok(question) = crate::read::question(question, &desk.limits) else { return asks };
     let Ok(run) = crate::run::run(desk, &question) else { return asks };
     if run.lines.is_empty() {
@@ -181,18 +183,18 @@ fn asks(
     }
     for _ in 0..2 {
         let line = random.below(run.lines.len());
-        match crate::example::example(&run, &question.declared, line, 4096) {
+        match crate::example::example(desk, &run, &question.declared, ask(line, 4096)) {
             Ok(example) => {
                 let spare = random.pick(&[0, 1, 5000]);
-                asks.push((line, example.len() + spare));
-                asks.push((line, example.len() - 1));
+                asks.push(ask(line, example.len() + spare));
+                asks.push(ask(line, example.len() - 1));
                 fillings.push(example);
             }
-            Err(_) => asks.push((line, random.pick(&[0, 100, 4096, 8192]))),
+            Err(_) => asks.push(ask(line, random.pick(&[0, 100, 4096, 8192]))),
         }
     }
     if random.chance(1, 4) {
-        asks.push((run.lines.len(), random.pick(&[0, 4096])));
+        asks.push(ask(run.lines.len(), random.pick(&[0, 4096])));
     }
     asks
 }
