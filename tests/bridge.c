@@ -6,6 +6,7 @@
  *   t  a filling, as its length and its bytes
  *   e  the line, the flag for old sheets (taken from request 8 on) and the
  *      room's length
+ *   p  nothing more
  * Numbers are 32 bits, low byte first. Bytes are lent full of LENT. Each answer
  * is the number that came back and, after s and e, every byte that was lent.
  *
@@ -88,6 +89,12 @@ int main(int argc, char **argv)
                 number = desk_try(question, question_len, filling, filling_len);
             number_out(number);
             free(filling);
+#if LANDED >= 5
+        } else if (letter == 'p') {
+            for (long i = 0; i < times; i++)
+                number = desk_place(question, question_len);
+            number_out(number);
+#endif
         } else {
             uint32_t line = number_in();
             uint32_t old_sheets = number_in();

@@ -79,6 +79,8 @@ for (let letter = bytesIn(1); letter.length === 1; letter = bytesIn(1)) {
         [number, bytes] = call([question, lent(numberIn())], desk.desk_solve);
     } else if (letter[0] === 0x74) {
         [number] = call([question, blockIn()], desk.desk_try);
+    } else if (letter[0] === 0x70) {
+        [number] = call([question], desk.desk_place);
     } else {
         const flags = landed >= 4 ? [numberIn(), numberIn()] : [numberIn(), numberIn()].slice(0, 1);
         const example = (q, qlen, room, length) => desk.desk_example(q, qlen, ...flags, room, length);

@@ -41,7 +41,7 @@ pub struct Desk {
 }
 
 /// The requests in the order in which they are learnt.
-pub const ORDER: [u8; 4] = [12, 3, 5, 8];
+pub const ORDER: [u8; 5] = [12, 3, 5, 8, 1];
 
 impl Desk {
     /// The desk before any request.
@@ -76,6 +76,8 @@ impl Desk {
             3 => Desk { folds: true, ..self },
             5 => Desk { numbers: true, ..self },
             8 => Desk { placeholder: true, ..self },
+            // The place of a mistake comes beside what came before.
+            1 => self,
             _ => unreachable!("every request of the order is learnt here"),
         }
     }

@@ -4,6 +4,7 @@
 use crate::desk::Desk;
 use crate::example::Ask;
 use crate::request::{words, Request};
+use crate::words::Refused;
 
 /// What a lent byte holds before a call.
 pub const LENT: u8 = 0xA5;
@@ -21,9 +22,10 @@ pub fn call(desk: &Desk, request: &Request, lent: &mut [u8]) -> u32 {
             match desk.try_filling(&words(question), &words(filling)) {
                 Ok(true) => YES,
                 Ok(false) => NO,
-                Err(refusal) => refusal as u32,
+                Err(refused) => refused.number() as u32,
             }
         }
+        Request::Place { question } => desk.place(&words(question)) as u32,
         Request::Example { question, line, old_sheets, .. } => {
             let ask = ask(*line, *old_sheets, lent.len());
             let shown = desk.example(&words(question), ask);
@@ -52,12 +54,12 @@ fn ask(line: u32, old_sheets: u32, room: usize) -> Ask {
     Ask { line: line as usize, room: room / 2, old_sheets: old_sheets != 0 }
 }
 
-fn filling_shown(shown: Result<Vec<u16>, u16>, room: &mut [u8]) -> u32 {
+fn filling_shown(shown: Result<Vec<u16>, Refused>, room: &mut [u8]) -> u32 {
     match shown {
         Ok(filling) => {
             put(&filling, room);
             SHOWN + filling.len() as u32
         }
-        Err(refusal) => refusal as u32,
+        Err(refused) => refused.number() as u32,
     }
 }

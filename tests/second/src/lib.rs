@@ -30,7 +30,7 @@ pub mod worked;
 pub use desk::Desk;
 pub use example::Ask;
 use rules::RULES;
-use words::Refusal;
+pub use words::Refused;
 
 /// What an answered question comes to.
 #[derive(Clone, Copy, PartialEq, Eq, Debug)]
@@ -54,6 +54,8 @@ pub struct SolveOut {
     pub lines: u16,
     pub open: u16,
     pub steps: u32,
+    /// For 5 and 6 the word of the question at which the reader stopped, else 0.
+    pub place: usize,
     /// The answer's words, all zeros after 7 to 10; no word at all after
     /// 2 to 6, where a lent answer stays unchanged.
     pub answer: Vec<u16>,
@@ -66,11 +68,11 @@ impl Desk {
     pub fn solve(&self, question: &[u16]) -> SolveOut {
         let question = match read::question(question, &self.limits) {
             Ok(question) => question,
-            Err(refusal) => return refused(refusal, Vec::new()),
+            Err(refused) => return refused_with(refused, Vec::new()),
         };
         let run = match run::run(self, &question) {
             Ok(run) => run,
-            Err(refusal) => return refused(refusal, vec![0; self.limits.answer]),
+            Err(refusal) => return refused_with(refusal.into(), vec![0; self.limits.answer]),
         };
         let lines = run.lines.len() as u16;
         let open = answer::open_lines(&run.lines);
@@ -80,36 +82,38 @@ impl Desk {
             _ => Verdict::SomeOpen,
         };
         let answer = answer::answer(self, &run);
-        SolveOut { refusal: 0, verdict, lines, open, steps: run.steps, answer, uses: run.uses }
+        let (steps, uses) = (run.steps, run.uses);
+        SolveOut { refusal: 0, verdict, lines, open, steps, place: 0, answer, uses }
     }
 
     /// Tries a filling on a question: yes or no, or 2 to 6, 11, 12, 13.
-    pub fn try_filling(&self, question: &[u16], filling: &[u16]) -> Result<bool, u16> {
-        let tried = || {
-            let question = read::question(question, &self.limits)?;
-            filling::read_filling(filling, &question.declared)?.answers(&question)
-        };
-        tried().map_err(Refusal::number)
+    pub fn try_filling(&self, question: &[u16], filling: &[u16]) -> Result<bool, Refused> {
+        let question = read::question(question, &self.limits)?;
+        let filling = filling::read_filling(filling, &question.declared)?;
+        Ok(filling.answers(&question)?)
     }
 
     /// The example of a line: the filling's words, or 2 to 10, 14, 15, 16.
-    pub fn example(&self, question: &[u16], ask: Ask) -> Result<Vec<u16>, u16> {
-        let shown = || {
-            let question = read::question(question, &self.limits)?;
-            let run = run::run(self, &question)?;
-            example::example(self, &run, &question.declared, ask)
-        };
-        shown().map_err(Refusal::number)
+    pub fn example(&self, question: &[u16], ask: Ask) -> Result<Vec<u16>, Refused> {
+        let question = read::question(question, &self.limits)?;
+        let run = run::run(self, &question)?;
+        Ok(example::example(self, &run, &question.declared, ask)?)
+    }
+
+    /// The word of a question at which the reader stops with 5 or 6, else 0.
+    pub fn place(&self, question: &[u16]) -> usize {
+        read::question(question, &self.limits).map_or_else(|refused| refused.place, |_| 0)
     }
 }
 
-fn refused(refusal: Refusal, answer: Vec<u16>) -> SolveOut {
+fn refused_with(refused: Refused, answer: Vec<u16>) -> SolveOut {
     SolveOut {
-        refusal: refusal.number(),
+        refusal: refused.number(),
         verdict: Verdict::Refused,
         lines: 0,
         open: 0,
         steps: 0,
+        place: refused.place,
         answer,
         uses: [0; RULES],
     }

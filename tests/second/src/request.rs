@@ -8,6 +8,7 @@ pub enum Request {
     Solve { question: Vec<u8>, answer: usize },
     Try { question: Vec<u8>, filling: Vec<u8> },
     Example { question: Vec<u8>, line: u32, old_sheets: u32, room: usize },
+    Place { question: Vec<u8> },
 }
 
 /// A part of a request in the pipe.
@@ -23,6 +24,7 @@ impl Request {
             Request::Solve { .. } => "solve",
             Request::Try { .. } => "try",
             Request::Example { .. } => "example",
+            Request::Place { .. } => "place",
         }
     }
 
@@ -30,7 +32,7 @@ impl Request {
     pub fn lent(&self) -> usize {
         match self {
             Request::Solve { answer, .. } => *answer,
-            Request::Try { .. } => 0,
+            Request::Try { .. } | Request::Place { .. } => 0,
             Request::Example { room, .. } => *room,
         }
     }
@@ -47,6 +49,7 @@ impl Request {
                 let numbers = [*line, *old_sheets, *room as u32].map(Number);
                 (b'e', [Block(question)].into_iter().chain(numbers).collect())
             }
+            Request::Place { question } => (b'p', vec![Block(question)]),
         }
     }
 
@@ -76,6 +79,7 @@ impl Request {
                 old_sheets: number(from),
                 room: number(from) as usize,
             },
+            b'p' => Request::Place { question: block(from) },
             _ => panic!("{letter} is no request"),
         }
     }

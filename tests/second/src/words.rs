@@ -109,3 +109,24 @@ impl Refusal {
         self as u16
     }
 }
+
+/// A call refused: the number, and the word of the question at which the
+/// reader stopped, for 5 and 6; else 0.
+#[derive(Clone, Copy, PartialEq, Eq, Debug)]
+pub struct Refused {
+    pub refusal: Refusal,
+    pub place: usize,
+}
+
+impl Refused {
+    pub fn number(self) -> u16 {
+        self.refusal.number()
+    }
+}
+
+/// Refused at no place.
+impl From<Refusal> for Refused {
+    fn from(refusal: Refusal) -> Refused {
+        Refused { refusal, place: 0 }
+    }
+}

@@ -88,20 +88,34 @@ fn compare_solve(desk: &Desk, case: &Case) -> (Vec<u32>, Vec<u32>) {
         expected.resize(4 + desk.limits.answer, 0);
     }
     got.extend(wide(&out.answer));
-    (expected, got)
+    with_place(case, expected, got, out.place)
 }
 
 fn compare_try(desk: &Desk, case: &Case) -> (Vec<u32>, Vec<u32>) {
-    let got = match desk.try_filling(&case.words('Q'), &case.words('F')) {
-        Ok(yes) => vec![0, yes as u32],
-        Err(refusal) => vec![refusal as u32, 0],
+    let (got, place) = match desk.try_filling(&case.words('Q'), &case.words('F')) {
+        Ok(yes) => (vec![0, yes as u32], 0),
+        Err(refused) => (vec![refused.number() as u32, 0], refused.place),
     };
-    (case.needed('V').to_vec(), got)
+    with_place(case, case.needed('V').to_vec(), got, place)
+}
+
+/// Compares the place of a mistake too, where the record has it.
+fn with_place(
+    case: &Case,
+    mut expected: Vec<u32>,
+    mut got: Vec<u32>,
+    place: usize,
+) -> (Vec<u32>, Vec<u32>) {
+    if let Some(recorded) = case.field('W') {
+        expected.insert(0, recorded[0]);
+        got.insert(0, place as u32);
+    }
+    (expected, got)
 }
 
 fn compare_example(desk: &Desk, case: &Case) -> (Vec<u32>, Vec<u32>) {
     let asked = case.needed('L');
-    let mut got = vec![0];
+    let (mut got, mut place) = (vec![0], 0);
     let ask = Ask {
         line: asked[0] as usize,
         room: asked[1] as usize,
@@ -109,7 +123,10 @@ fn compare_example(desk: &Desk, case: &Case) -> (Vec<u32>, Vec<u32>) {
     };
     match desk.example(&case.words('Q'), ask) {
         Ok(filling) => got.extend(wide(&filling)),
-        Err(refusal) => got[0] = refusal as u32,
+        Err(refused) => {
+            got[0] = refused.number() as u32;
+            place = refused.place;
+        }
     }
-    (case.needed('E').to_vec(), got)
+    with_place(case, case.needed('E').to_vec(), got, place)
 }

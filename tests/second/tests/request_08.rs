@@ -2,7 +2,7 @@
 
 use second::gen::{case, SEED};
 use second::stack::deep;
-use second::{Ask, Desk};
+use second::{Ask, Desk, Refused};
 
 fn ask(line: usize, old_sheets: bool) -> Ask {
     Ask { line, room: 4096, old_sheets }
@@ -36,7 +36,7 @@ fn it_meets_its_line_under_either_setting() {
                 assert_eq!(new.as_ref().err(), old.as_ref().err());
                 different += (new != old) as u32;
                 for filling in [new, old].into_iter().flatten() {
-                    let tried = desk.try_filling(&question, &filling);
+                    let tried = desk.try_filling(&question, &filling).map_err(Refused::number);
                     assert!(matches!(tried, Ok(true) | Err(13)), "case {index}");
                     met += 1;
                 }

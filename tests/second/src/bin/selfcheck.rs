@@ -15,7 +15,7 @@ use second::read::{self, Question};
 use second::rules::{ALL, RULES};
 use second::run::{run, Run};
 use second::words::{FIRST_LINE, MARK_OPEN, MARK_SOLVED};
-use second::{Ask, Desk, SolveOut, Verdict};
+use second::{Ask, Desk, Refused, SolveOut, Verdict};
 
 const CASES: u64 = 20_000;
 /// Examples looked at in one case.
@@ -77,6 +77,7 @@ fn check(desk: &Desk, case: &Case, index: u64, counts: &mut Counts) -> Checked {
         *sum += uses as u64;
     }
     check_numbers(desk, &out)?;
+    check_place(desk, case, &out)?;
     for ask in &case.asks {
         check_ask(desk, case, &out, *ask, counts)?;
     }
@@ -94,7 +95,7 @@ fn check(desk: &Desk, case: &Case, index: u64, counts: &mut Counts) -> Checked {
                 counts.tried[0] += 1;
                 counts.yes += yes as u32;
             }
-            Err(refusal) => counts.tried[refusal as usize] += 1,
+            Err(refused) => counts.tried[refused.number() as usize] += 1,
         }
     }
     if out.refusal != 0 {
@@ -128,6 +129,18 @@ fn check_numbers(desk: &Desk, out: &SolveOut) -> Checked {
     }
 }
 
+/// The place of a mistake is 0 except for 5 and 6, and then among the
+/// conjunctions' words or at their end.
+fn check_place(desk: &Desk, case: &Case, out: &SolveOut) -> Checked {
+    ensure(desk.place(&case.question) == out.place, "two places")?;
+    if out.refusal != 5 && out.refusal != 6 {
+        return ensure(out.place == 0, "a place of no mistake");
+    }
+    let body = 6 + case.question[4] as usize;
+    let within = (body..=case.question.len()).contains(&out.place);
+    ensure(within, "a place outside the conjunctions")
+}
+
 /// The answer can be read back, and each of its lines, asked again, is left
 /// as it is, in no step and with the same mark.
 fn check_lines(desk: &Desk, question: &Question, out: &SolveOut, counts: &mut Counts) -> Checked {
@@ -145,7 +158,7 @@ fn check_lines(desk: &Desk, question: &Question, out: &SolveOut, counts: &mut Co
     for ends in offsets.windows(2) {
         let words = &out.answer[ends[0] as usize..ends[1] as usize];
         let line = read::conjunction(&words[desk.beside()..], desk.limits.kind)
-            .ok_or("a line cannot be read")?;
+            .map_err(|_| "a line cannot be read")?;
         check_line(desk, question, words, line)?;
     }
     Ok(())
@@ -181,7 +194,7 @@ fn check_examples(
                     ensure(yes, "an example is no answer")?;
                     counts.examples_met += 1;
                 }
-                Err(13) => counts.examples_13 += 1,
+                Err(refused) if refused.number() == 13 => counts.examples_13 += 1,
                 Err(_) => return Err("an example is no filling".to_string()),
             },
             Err(refusal) => match refusal.number() {
@@ -212,7 +225,7 @@ fn check_filling(question: &Question, run: &Run, filling: &[u16]) -> Checked {
 /// An example asked for is what the room and the line allow.
 fn check_ask(desk: &Desk, case: &Case, out: &SolveOut, ask: Ask, counts: &mut Counts) -> Checked {
     let Ask { line, room, .. } = ask;
-    let asked = desk.example(&case.question, ask);
+    let asked = desk.example(&case.question, ask).map_err(Refused::number);
     counts.example[asked.as_ref().err().map_or(0, |refusal| *refusal as usize)] += 1;
     match asked {
         Ok(filling) => {
