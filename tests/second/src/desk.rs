@@ -41,7 +41,7 @@ pub struct Desk {
 }
 
 /// The requests in the order in which they are learnt.
-pub const ORDER: [u8; 5] = [12, 3, 5, 8, 1];
+pub const ORDER: [u8; 6] = [12, 3, 5, 8, 1, 4];
 
 impl Desk {
     /// The desk before any request.
@@ -78,6 +78,8 @@ impl Desk {
             8 => Desk { placeholder: true, ..self },
             // The place of a mistake comes beside what came before.
             1 => self,
+            // Less copying, which no caller can see.
+            4 => self,
             _ => unreachable!("every request of the order is learnt here"),
         }
     }
