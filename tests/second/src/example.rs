@@ -1,12 +1,13 @@
 //! The example of a solved line, written as a filling.
 
+use crate::counts::Counts;
 use crate::desk::Desk;
 use crate::filling::Filling;
 use crate::literal::{Claim, Conjunction};
 use crate::read::Declared;
 use crate::run::Run;
 use crate::solved::solved_side;
-use crate::tree::{repeated, Functor, Hedge, Item};
+use crate::tree::{Functor, Hedge, Item};
 use crate::words::{Refusal, END, FILLING_MOST};
 
 /// Which example is asked for.
@@ -43,11 +44,11 @@ pub fn example(desk: &Desk, run: &Run, declared: &Declared, ask: Ask) -> Result<
 /// alone passes `most` words.
 fn values(line: &Conjunction, free: Filling, most: usize) -> Result<Filling, Refusal> {
     let mut filling = free.clone();
-    let shared = repeated(line.literals().iter().map(|literal| literal.variables()));
+    let counts = Counts::of(line);
     for literal in line.literals() {
         let Claim::Equation(left, right) = literal.claim() else { continue };
         let (variable, value) =
-            solved_side(left, right, shared).expect("a solved line's equations are solved");
+            solved_side(left, right, &counts).expect("a solved line's equations are solved");
         if free.filled_words(value) > most {
             return Err(Refusal::ExampleTooLong);
         }

@@ -5,6 +5,7 @@
 //! (a lent slice is too short) is left to whoever lends slices.
 
 pub mod answer;
+pub mod counts;
 pub mod desk;
 pub mod example;
 pub mod expression;

@@ -6,10 +6,11 @@
 
 use std::rc::Rc;
 
+use crate::counts::Counts;
 use crate::desk::Desk;
 use crate::expression::Expression;
 use crate::literal::{Claim, Conjunction, Literal};
-use crate::tree::{repeated, Functor, Hedge, Item, Variables};
+use crate::tree::{Functor, Hedge, Item, Variables};
 
 /// The rules in their order.
 #[derive(Clone, Copy, PartialEq, Eq, PartialOrd, Ord, Debug)]
@@ -50,7 +51,8 @@ pub enum Reach {
     Nothing,
     /// The rule applies, whatever the other literals are.
     Always(Rule, Way),
-    /// The rule applies where all these variables occur in other literals.
+    /// The rule applies where all these variables occur in other literals. In
+    /// this one each of them occurs once.
     IfElsewhere(Rule, Way, Variables),
 }
 
@@ -63,16 +65,15 @@ pub struct Choice {
 }
 
 /// The first rule that applies to any literal, and for it the earliest
-/// literal, and for that the written way before the swapped one.
-pub fn choose(desk: &Desk, conjunction: &Conjunction) -> Option<Choice> {
+/// literal, and for that the written way before the swapped one. The counts
+/// are those of the conjunction.
+pub fn choose(desk: &Desk, conjunction: &Conjunction, counts: &Counts) -> Option<Choice> {
     let literals = conjunction.literals();
-    // A variable of a literal is in another literal if it is in two or more.
-    let shared = repeated(literals.iter().map(|literal| literal.variables()));
     let mut best: Option<Choice> = None;
     for (at, literal) in literals.iter().enumerate() {
         let (rule, way) = match *literal.reach() {
             Reach::Always(rule, way) => (rule, way),
-            Reach::IfElsewhere(rule, way, needed) if shared.holds(needed) => (rule, way),
+            Reach::IfElsewhere(rule, way, needed) if counts.all_repeated(needed) => (rule, way),
             _ => continue,
         };
         if best.is_none_or(|found| rule < found.rule) {

@@ -1,5 +1,6 @@
 //! The run: steps until no conjunction waits, and the numbers 7 to 10.
 
+use crate::counts::Counts;
 use crate::desk::Desk;
 use crate::literal::Conjunction;
 use crate::read::Question;
@@ -37,15 +38,24 @@ pub fn run(desk: &Desk, question: &Question) -> Result<Run, Refusal> {
         Lines { list: Vec::new(), end: FIRST_LINE, most: limits.answer, beside: desk.beside() };
     let mut steps = 0;
     let mut uses = [0; RULES];
+    // The counts of the first waiting conjunction, where a step left them.
+    let mut table: Option<Counts> = None;
     while let Some((conjunction, alternative)) = waiting.take_first() {
-        let Some(choice) = choose(desk, &conjunction) else {
-            lines.add(conjunction, alternative)?;
+        let mut counts = table.take().unwrap_or_else(|| Counts::of(&conjunction));
+        debug_assert_eq!(counts, Counts::of(&conjunction));
+        let Some(choice) = choose(desk, &conjunction, &counts) else {
+            lines.add(conjunction, &counts, alternative)?;
             continue;
         };
         if steps == STEPS_MOST {
             return Err(Refusal::Steps);
         }
-        waiting.put_first(step(&conjunction, choice, limits.result)?, alternative);
+        let results = step(&conjunction, choice, limits.result)?;
+        if let Some(first) = results.first() {
+            counts.follow(&conjunction, first);
+            table = Some(counts);
+        }
+        waiting.put_first(results, alternative);
         if waiting.room > limits.waiting {
             return Err(Refusal::WaitingTooLong);
         }
@@ -88,13 +98,18 @@ struct Lines {
 }
 
 impl Lines {
-    fn add(&mut self, conjunction: Conjunction, alternative: u16) -> Result<(), Refusal> {
+    fn add(
+        &mut self,
+        conjunction: Conjunction,
+        counts: &Counts,
+        alternative: u16,
+    ) -> Result<(), Refusal> {
         let end = self.end + self.beside + conjunction.words();
         if self.list.len() == LINES_MOST || end > self.most {
             return Err(Refusal::Lines);
         }
         self.end = end;
-        let solved = is_solved(&conjunction);
+        let solved = is_solved(&conjunction, counts);
         self.list.push(Line { conjunction, solved, alternative });
         Ok(())
     }
