@@ -38,15 +38,22 @@ pub struct Desk {
     pub numbers: bool,
     /// Request 8: examples fill free blanks with the last declared symbol.
     pub placeholder: bool,
+    /// Request 6: the last symbols may be unordered.
+    pub shuffles: bool,
 }
 
 /// The requests in the order in which they are learnt.
-pub const ORDER: [u8; 7] = [12, 3, 5, 8, 1, 4, 13];
+pub const ORDER: [u8; 8] = [12, 3, 5, 8, 1, 4, 13, 6];
 
 impl Desk {
     /// The desk before any request.
-    pub const BASE: Desk =
-        Desk { limits: Limits::FIRST, folds: false, numbers: false, placeholder: false };
+    pub const BASE: Desk = Desk {
+        limits: Limits::FIRST,
+        folds: false,
+        numbers: false,
+        placeholder: false,
+        shuffles: false,
+    };
 
     /// The desk that knows the first `count` requests of the order.
     pub fn after(count: usize) -> Desk {
@@ -82,6 +89,7 @@ impl Desk {
             4 => self,
             // A table beside the first waiting conjunction, which no caller can see.
             13 => self,
+            6 => Desk { shuffles: true, ..self },
             _ => unreachable!("every request of the order is learnt here"),
         }
     }

@@ -5,8 +5,10 @@
 //! (a lent slice is too short) is left to whoever lends slices.
 
 pub mod answer;
+pub mod any_order;
 pub mod counts;
 pub mod desk;
+pub mod equations;
 pub mod example;
 pub mod expression;
 pub mod filling;
@@ -14,12 +16,15 @@ pub mod gen;
 pub mod host;
 pub mod literal;
 pub mod member;
+pub mod memberships;
+pub mod orders;
 pub mod proved;
 pub mod read;
 pub mod records;
 pub mod request;
 pub mod rules;
 pub mod run;
+pub mod same;
 pub mod solved;
 pub mod stack;
 pub mod step;
@@ -67,7 +72,7 @@ pub struct SolveOut {
 impl Desk {
     /// Solves a question.
     pub fn solve(&self, question: &[u16]) -> SolveOut {
-        let question = match read::question(question, &self.limits) {
+        let question = match read::question(question, self) {
             Ok(question) => question,
             Err(refused) => return refused_with(refused, Vec::new()),
         };
@@ -89,21 +94,21 @@ impl Desk {
 
     /// Tries a filling on a question: yes or no, or 2 to 6, 11, 12, 13.
     pub fn try_filling(&self, question: &[u16], filling: &[u16]) -> Result<bool, Refused> {
-        let question = read::question(question, &self.limits)?;
+        let question = read::question(question, self)?;
         let filling = filling::read_filling(filling, &question.declared)?;
         Ok(filling.answers(&question)?)
     }
 
     /// The example of a line: the filling's words, or 2 to 10, 14, 15, 16.
     pub fn example(&self, question: &[u16], ask: Ask) -> Result<Vec<u16>, Refused> {
-        let question = read::question(question, &self.limits)?;
+        let question = read::question(question, self)?;
         let run = run::run(self, &question)?;
         Ok(example::example(self, &run, &question.declared, ask)?)
     }
 
     /// The word of a question at which the reader stops with 5 or 6, else 0.
     pub fn place(&self, question: &[u16]) -> usize {
-        read::question(question, &self.limits).map_or_else(|refused| refused.place, |_| 0)
+        read::question(question, self).map_or_else(|refused| refused.place, |_| 0)
     }
 }
 

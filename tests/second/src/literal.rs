@@ -1,9 +1,11 @@
 //! Literals and conjunctions. A literal knows its length, its variables and
 //! the rule it allows by itself; conjunctions share their literals.
 
+use std::cell::OnceCell;
 use std::rc::Rc;
 
 use crate::expression::Expression;
+use crate::read::Declared;
 use crate::rules::{reach, Reach};
 use crate::tree::{mixed, Hedge, Variables};
 use crate::words::{END, EQUATION, MEMBERSHIP};
@@ -20,7 +22,7 @@ pub struct Literal {
     claim: Claim,
     words: usize,
     variables: Variables,
-    reach: Reach,
+    reach: OnceCell<Reach>,
 }
 
 impl Literal {
@@ -33,8 +35,7 @@ impl Literal {
                 (2 + hedge.words() + expression.words(), hedge.variables())
             }
         };
-        let reach = reach(&claim);
-        Rc::new(Literal { claim, words, variables, reach })
+        Rc::new(Literal { claim, words, variables, reach: OnceCell::new() })
     }
 
     pub fn equation(left: Hedge, right: Hedge) -> Rc<Literal> {
@@ -74,8 +75,10 @@ impl Literal {
         self.variables
     }
 
-    pub fn reach(&self) -> &Reach {
-        &self.reach
+    /// The rule it allows by itself, looked for once: a literal belongs to one
+    /// question, and so to one declaration.
+    pub fn reach(&self, declared: &Declared) -> &Reach {
+        self.reach.get_or_init(|| reach(declared, &self.claim))
     }
 
     pub fn write(&self, out: &mut Vec<u16>) {

@@ -1,6 +1,6 @@
 //! Reading: from words to trees, the question's header and the numbers 2 to 6.
 
-use crate::desk::Limits;
+use crate::desk::Desk;
 use crate::expression::Expression;
 use crate::literal::{Conjunction, Literal};
 use crate::tree::{Functor, Hedge, Item};
@@ -13,6 +13,8 @@ use std::rc::Rc;
 #[derive(Clone, Copy, Debug)]
 pub struct Declared {
     pub symbols: u16,
+    /// How many of the symbols are unordered: the last ones.
+    pub unordered: u16,
     pub terms: u16,
     pub hedges: u16,
     pub functions: u16,
@@ -21,6 +23,16 @@ pub struct Declared {
 impl Declared {
     pub fn variables(&self) -> usize {
         (self.terms + self.hedges + self.functions) as usize
+    }
+
+    /// Whether the order of children under a symbol does not matter.
+    pub fn is_unordered(&self, symbol: u8) -> bool {
+        symbol as u16 >= self.symbols - self.unordered
+    }
+
+    /// Word 0 of a question.
+    pub fn first_word(&self) -> u16 {
+        self.symbols + 256 * self.unordered
     }
 
     /// Whether a word is no number of a symbol or variable left undeclared.
@@ -44,18 +56,24 @@ pub struct Question {
 
 /// Reads a question, or gives the first of the numbers 2 to 6 that holds, and
 /// for 5 and 6 the word where it stopped.
-pub fn question(words: &[u16], limits: &Limits) -> Result<Question, Refused> {
+pub fn question(words: &[u16], desk: &Desk) -> Result<Question, Refused> {
+    let limits = &desk.limits;
     if words.len() < QUESTION_LEAST || words.len() > limits.question {
         return Err(Refusal::Length.into());
     }
-    let in_range = (1..=limits.kind).contains(&words[0])
+    let (symbols, unordered) = match desk.shuffles {
+        true => (words[0] % 256, words[0] / 256),
+        false => (words[0], 0),
+    };
+    let in_range = (1..=limits.kind).contains(&symbols)
+        && unordered <= symbols
         && words[1..4].iter().all(|count| *count <= limits.kind)
         && words[4] <= CONJUNCTIONS_MOST;
     if !in_range {
         return Err(Refusal::Count.into());
     }
     let declared =
-        Declared { symbols: words[0], terms: words[1], hedges: words[2], functions: words[3] };
+        Declared { symbols, unordered, terms: words[1], hedges: words[2], functions: words[3] };
     let count = words[4] as usize;
     let offsets = offsets(words, 5, count).ok_or(Refusal::Offset)?;
     let mut conjunctions = Vec::with_capacity(count);

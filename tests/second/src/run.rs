@@ -4,7 +4,7 @@ use crate::counts::Counts;
 use crate::desk::Desk;
 use crate::literal::Conjunction;
 use crate::read::Question;
-use crate::rules::{choose, RULES};
+use crate::rules::{choose, Setting, RULES};
 use crate::solved::is_solved;
 use crate::step::step;
 use crate::words::{Refusal, FIRST_LINE, LINES_MOST, STEPS_MOST};
@@ -30,6 +30,7 @@ pub struct Run {
 /// Runs a question to its end, or to one of the numbers 7 to 10.
 pub fn run(desk: &Desk, question: &Question) -> Result<Run, Refusal> {
     let limits = &desk.limits;
+    let setting = Setting { desk: *desk, declared: question.declared };
     let mut waiting = Waiting { stack: Vec::new(), room: 0, beside: desk.beside() };
     for (alternative, conjunction) in question.conjunctions.iter().enumerate().rev() {
         waiting.put_first(vec![conjunction.clone()], alternative as u16);
@@ -43,14 +44,14 @@ pub fn run(desk: &Desk, question: &Question) -> Result<Run, Refusal> {
     while let Some((conjunction, alternative)) = waiting.take_first() {
         let mut counts = table.take().unwrap_or_else(|| Counts::of(&conjunction));
         debug_assert_eq!(counts, Counts::of(&conjunction));
-        let Some(choice) = choose(desk, &conjunction, &counts) else {
+        let Some(choice) = choose(&setting, &conjunction, &counts) else {
             lines.add(conjunction, &counts, alternative)?;
             continue;
         };
         if steps == STEPS_MOST {
             return Err(Refusal::Steps);
         }
-        let results = step(&conjunction, choice, limits.result)?;
+        let results = step(&setting, &conjunction, choice)?;
         if let Some(first) = results.first() {
             counts.follow(&conjunction, first);
             table = Some(counts);

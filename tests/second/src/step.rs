@@ -2,9 +2,11 @@
 
 use std::rc::Rc;
 
+use crate::equations::{leading, shared_element, terms_before};
 use crate::expression::{Expression, Two};
 use crate::literal::{Claim, Conjunction, Literal};
-use crate::rules::{later_equal, leading, terms_before, Choice, Rule, Way};
+use crate::orders::Orders;
+use crate::rules::{later_equal, Choice, Rule, Setting, Way};
 use crate::substitution::Substitution;
 use crate::tree::{Functor, Hedge, Item};
 use crate::words::Refusal;
@@ -12,9 +14,9 @@ use crate::words::Refusal;
 /// The results of a step, in order; number 7 where one is too long.
 pub type Results = Result<Vec<Conjunction>, Refusal>;
 
-/// Uses the chosen rule; a result may have `most` words.
-pub fn step(conjunction: &Conjunction, choice: Choice, most: usize) -> Results {
-    let place = Place { conjunction, at: choice.at, most };
+/// Uses the chosen rule.
+pub fn step(setting: &Setting, conjunction: &Conjunction, choice: Choice) -> Results {
+    let place = Place { conjunction, at: choice.at, setting };
     if choice.rule == Rule::Fold {
         let later = later_equal(conjunction.literals(), choice.at).expect("a later equal");
         return Place { at: later, ..place }.leaves(&[]);
@@ -37,7 +39,13 @@ fn on_equation(place: Place, rule: Rule, left: &Hedge, right: &Hedge) -> Results
         Rule::R1 => place.leaves(&[]),
         Rule::F1 | Rule::F2 | Rule::F3 | Rule::F4 => Ok(Vec::new()),
         Rule::Del1 => place.leaves(&[Literal::equation(from(left, 1), from(right, 1))]),
+        Rule::Del2 => del2(place, left, right),
         Rule::Del3 => del3(place, left, right),
+        Rule::D1 => {
+            let (_, h1) = over(left);
+            let (_, h2) = over(right);
+            place.for_each_order(h2, |order| Literal::equation(h1.clone(), order))
+        }
         Rule::D2 => place.leaves(&[
             Literal::equation(upto(left, 1), upto(right, 1)),
             Literal::equation(from(left, 1), from(right, 1)),
@@ -55,6 +63,7 @@ fn on_equation(place: Place, rule: Rule, left: &Hedge, right: &Hedge) -> Results
             cuts(place, left, right, most)
         }
         Rule::E6 => e6(place, left, right),
+        Rule::E7 => e7(place, left, right),
         _ => unreachable!("{rule:?} is no rule of equations"),
     }
 }
@@ -79,16 +88,21 @@ fn on_membership(place: Place, rule: Rule, hedge: &Hedge, expression: &Expressio
             let (_, children) = over(hedge);
             place.leaves(&[Literal::membership(children.clone(), one.inner.clone())])
         }
+        (Rule::M12, Expression::Over(_, one)) => {
+            let (_, children) = over(hedge);
+            let in_order = |order| Literal::membership(order, one.inner.clone());
+            place.for_each_order(children, in_order)
+        }
         _ => unreachable!("{rule:?} is no rule of this membership"),
     }
 }
 
-/// A literal's place in a conjunction, and the most words of a result.
+/// A literal's place in a conjunction.
 #[derive(Clone, Copy)]
 struct Place<'a> {
     conjunction: &'a Conjunction,
     at: usize,
-    most: usize,
+    setting: &'a Setting,
 }
 
 impl Place<'_> {
@@ -109,7 +123,7 @@ impl Place<'_> {
         let after = old[self.at + 1..].iter().map(in_rest);
         for literal in before.chain(new.iter().cloned()).chain(after) {
             result.push(literal);
-            if result.words() > self.most {
+            if result.words() > self.setting.desk.limits.result {
                 return Err(Refusal::ResultTooLong);
             }
         }
@@ -119,6 +133,24 @@ impl Place<'_> {
     /// One result, without a substitution.
     fn leaves(self, new: &[Rc<Literal>]) -> Results {
         Ok(vec![self.result(new, None)?])
+    }
+
+    /// One result for each order of the terms, without a substitution. They
+    /// are of one length, so 7 is decided by the first; and where they pass
+    /// what may wait, 8 is, and the others are not made.
+    fn for_each_order(self, terms: &Hedge, literal: impl Fn(Hedge) -> Rc<Literal>) -> Results {
+        let mut results = Vec::new();
+        let mut room = 0;
+        for order in Orders::of(terms.items().len()) {
+            let items = order.iter().map(|at| terms.items()[*at].clone()).collect();
+            let result = self.result(&[literal(Hedge::new(items))], None)?;
+            room += result.words() + self.setting.desk.beside();
+            results.push(result);
+            if room > self.setting.desk.limits.waiting {
+                break;
+            }
+        }
+        Ok(results)
     }
 }
 
@@ -135,6 +167,18 @@ fn from(hedge: &Hedge, count: usize) -> Hedge {
 /// The functor and children of a lone term that is known to have them.
 fn over(hedge: &Hedge) -> (Functor, &Hedge) {
     hedge.lone_over().expect("a lone term with a functor")
+}
+
+/// Del2: the first shared element is struck from both sides.
+fn del2(place: Place, left: &Hedge, right: &Hedge) -> Results {
+    let (f, h1) = over(left);
+    let (_, h2) = over(right);
+    let (at, other) = shared_element(h1, h2).expect("a shared element");
+    let without = |hedge: &Hedge, at: usize| {
+        let rest = [&hedge.items()[..at], &hedge.items()[at + 1..]].concat();
+        Hedge::one(Item::Over(f, Hedge::new(rest)))
+    };
+    place.leaves(&[Literal::equation(without(h1, at), without(h2, other))])
 }
 
 /// Del3: lone p = (H1, p, H2), H1 not empty, first such p: H1 = ε, H2 = ε.
@@ -184,10 +228,21 @@ fn cuts(place: Place, left: &Hedge, right: &Hedge, most: usize) -> Results {
 
 /// E6: X(H1) = F(H2): X() = F(), F(H1) = F(H2).
 fn e6(place: Place, left: &Hedge, right: &Hedge) -> Results {
+    Ok(vec![named(place, left, right, over(right).0)?])
+}
+
+/// E7: X(H1) = X(H2): the same for each declared symbol.
+fn e7(place: Place, left: &Hedge, right: &Hedge) -> Results {
+    let symbols = 0..place.setting.declared.symbols;
+    symbols.map(|f| named(place, left, right, Functor::Symbol(f as u8))).collect()
+}
+
+/// X(H1) = F(H2) with f for X: X() = f(), f(H1) = f(H2).
+fn named(place: Place, left: &Hedge, right: &Hedge, f: Functor) -> Result<Conjunction, Refusal> {
     let (Functor::Variable(x), h1) = over(left) else {
-        unreachable!("E6 has a function variable on the left")
+        unreachable!("a function variable stands on the left")
     };
-    let (f, h2) = over(right);
+    let (_, h2) = over(right);
     let substitution = Substitution::Function(x, f);
     let new = [
         Literal::equation(Hedge::bare(Functor::Variable(x)), Hedge::bare(f)),
@@ -196,7 +251,7 @@ fn e6(place: Place, left: &Hedge, right: &Hedge) -> Results {
             Hedge::one(Item::Over(f, substitution.in_hedge(h2))),
         ),
     ];
-    Ok(vec![place.result(&new, Some(&substitution))?])
+    place.result(&new, Some(&substitution))
 }
 
 /// M1: hedge variables in eps: each is empty, once for each place.

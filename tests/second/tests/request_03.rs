@@ -55,7 +55,7 @@ fn demand_3_stands() {
         let mut compared = 0;
         for index in 0..3_000 {
             let case = case(&desk(), SEED, index);
-            let Ok(question) = read::question(&case.question, &desk().limits) else { continue };
+            let Ok(question) = read::question(&case.question, &desk()) else { continue };
             let Ok(run) = run(&desk(), &question) else { continue };
             if run.uses[Rule::Fold as usize] == 0 {
                 continue;

@@ -5,7 +5,7 @@ use second::counts::Counts;
 use second::gen::{case, SEED};
 use second::literal::Conjunction;
 use second::read;
-use second::rules::choose;
+use second::rules::{choose, Setting};
 use second::stack::deep;
 use second::step::step;
 use second::Desk;
@@ -18,10 +18,10 @@ fn occurrences(conjunction: &Conjunction, word: u16) -> usize {
 }
 
 /// Goes from each conjunction to all results, with one table for each.
-fn check(desk: &Desk, conjunction: Conjunction, counts: Counts, left: &mut u32) {
+fn check(setting: &Setting, conjunction: Conjunction, counts: Counts, left: &mut u32) {
     assert_eq!(counts, Counts::of(&conjunction));
-    let Some(choice) = choose(desk, &conjunction, &counts) else { return };
-    let Ok(results) = step(&conjunction, choice, desk.limits.result) else { return };
+    let Some(choice) = choose(setting, &conjunction, &counts) else { return };
+    let Ok(results) = step(setting, &conjunction, choice) else { return };
     for result in results {
         if *left == 0 {
             return;
@@ -29,7 +29,7 @@ fn check(desk: &Desk, conjunction: Conjunction, counts: Counts, left: &mut u32) 
         *left -= 1;
         let mut table = counts.clone();
         table.follow(&conjunction, &result);
-        check(desk, result, table, left);
+        check(setting, result, table, left);
     }
 }
 
@@ -39,10 +39,11 @@ fn the_table_equals_the_count_afresh() {
         let (desk, mut steps) = (Desk::up_to(13), 0);
         for index in 0..2_000 {
             let words = case(&desk, SEED, index).question;
-            let Ok(question) = read::question(&words, &desk.limits) else { continue };
+            let Ok(question) = read::question(&words, &desk) else { continue };
+            let setting = Setting { desk, declared: question.declared };
             for conjunction in question.conjunctions {
                 let mut left = 50;
-                check(&desk, conjunction.clone(), Counts::of(&conjunction), &mut left);
+                check(&setting, conjunction.clone(), Counts::of(&conjunction), &mut left);
                 steps += 50 - left;
             }
         }
@@ -57,7 +58,7 @@ fn the_count_is_that_of_the_words() {
     let desk = Desk::up_to(13);
     for index in 0..500 {
         let words = case(&desk, SEED, index).question;
-        let Ok(question) = read::question(&words, &desk.limits) else { continue };
+        let Ok(question) = read::question(&words, &desk) else { continue };
         for conjunction in &question.conjunctions {
             let counts = Counts::of(conjunction);
             for number in 0..question.declared.terms.min(4) {

@@ -30,7 +30,7 @@ struct Counts {
     verdicts: [u32; 3],
     yes: u32,
     lines: u64,
-    uses: [u64; RULES],
+    uses: Vec<u64>,
     examples_met: u32,
     examples_13: u32,
     examples_16: u32,
@@ -46,7 +46,7 @@ fn main() -> ExitCode {
     let number = |at: usize| std::env::args().nth(at).map(|text| text.parse().expect("a number"));
     let cases = number(1).unwrap_or(CASES);
     let desk = number(2).map_or(Desk::newest(), |known| Desk::after(known as usize));
-    let mut counts = Counts::default();
+    let mut counts = Counts { uses: vec![0; RULES], ..Counts::default() };
     let (mut passed, mut failed) = (0, 0);
     for index in 0..cases {
         let case = case(&desk, SEED, index);
@@ -82,7 +82,7 @@ fn check(desk: &Desk, case: &Case, index: u64, counts: &mut Counts) -> Checked {
         check_ask(desk, case, &out, *ask, counts)?;
     }
     let mut fillings = case.fillings.clone();
-    let question = read::question(&case.question, &desk.limits);
+    let question = read::question(&case.question, desk);
     if let Ok(question) = &question {
         let mut random = Random::of_case(!SEED, index);
         for _ in 0..3 {
@@ -258,7 +258,7 @@ fn print_counts(counts: &Counts) {
     println!("examples giving 16  {:9}", counts.examples_16);
     println!();
     println!("rule        uses");
-    for (rule, uses) in ALL.iter().zip(counts.uses) {
+    for (rule, uses) in ALL.iter().zip(&counts.uses) {
         println!("{:5} {uses:10}", format!("{rule:?}"));
     }
     println!();

@@ -16,6 +16,9 @@ const A: Functor = Functor::Symbol(0);
 /// A question that reaches one of the numbers 7 to 10, or almost.
 pub fn question(random: &mut Random, desk: &Desk) -> Vec<u16> {
     let limits = &desk.limits;
+    if desk.shuffles && random.chance(1, 6) {
+        return orders(random, desk);
+    }
     match random.below(10) {
         0 => doubling(random),
         1 => swelling(random, limits.result),
@@ -31,7 +34,7 @@ pub fn question(random: &mut Random, desk: &Desk) -> Vec<u16> {
 }
 
 fn declared(symbols: u16, terms: u16, hedges: u16, functions: u16) -> Declared {
-    Declared { symbols, terms, hedges, functions }
+    Declared { symbols, unordered: 0, terms, hedges, functions }
 }
 
 fn words(declared: Declared, conjunctions: Vec<Conjunction>) -> Vec<u16> {
@@ -229,6 +232,28 @@ fn nested_stars(random: &mut Random) -> Vec<u16> {
     }
     let literal = Literal::membership(Hedge::new(items), expression);
     words(declared(2, 0, 1, 0), vec![conjunction(&[literal])])
+}
+
+/// f(T) = f(T') or f(T) in f(R) with f unordered, and padding, so that the
+/// orders of T take about as many words as may wait, or are too many.
+fn orders(random: &mut Random, desk: &Desk) -> Vec<u16> {
+    let count = random.pick(&[2, 3, 3, 4, 4, 5, 5, 6, 7, 9, 40]);
+    let f = |items| Hedge::one(Item::Over(Functor::Symbol(2), Hedge::new(items)));
+    let other = vec![Item::Over(Functor::Symbol(1), Hedge::EMPTY); count];
+    let first = match random.below(3) {
+        0 => Literal::membership(f(leaves(count)), Expression::over(2, choices(2))),
+        1 => Literal::equation(f(leaves(count)), f(other)),
+        _ => Literal::equation(f(vec![Item::HedgeVariable(0)]), f(leaves(count))),
+    };
+    let mut literals = vec![first];
+    // A result has two or four words less than the question.
+    let results: usize = (1..=count.min(8)).product();
+    let each = desk.limits.waiting / results;
+    let own = literals[0].words() + desk.beside();
+    if (own + 10..desk.limits.result - 20).contains(&each) {
+        literals.push(padding(1, around(random, each - own + 3)));
+    }
+    words(Declared { unordered: 1, ..declared(3, 0, 2, 0) }, vec![conjunction(&literals)])
 }
 
 /// (p, q) = (a, ..., a), and p many times elsewhere: a late cut is too long.

@@ -176,7 +176,7 @@ fn asks(
     let old_sheets = random.chance(1, 2);
     let ask = |line, room| Ask { line, room, old_sheets };
     let mut asks = vec![ask(random.below(3), 4096)];
-    let Ok(question) = crate::read::question(question, &desk.limits) else { return asks };
+    let Ok(question) = crate::read::question(question, desk) else { return asks };
     let Ok(run) = crate::run::run(desk, &question) else { return asks };
     if run.lines.is_empty() {
         return asks;
