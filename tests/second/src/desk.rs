@@ -40,10 +40,13 @@ pub struct Desk {
     pub placeholder: bool,
     /// Request 6: the last symbols may be unordered.
     pub shuffles: bool,
+    /// Request 7: two memberships of one variable that share nothing drop the
+    /// conjunction.
+    pub clashes: bool,
 }
 
 /// The requests in the order in which they are learnt.
-pub const ORDER: [u8; 8] = [12, 3, 5, 8, 1, 4, 13, 6];
+pub const ORDER: [u8; 9] = [12, 3, 5, 8, 1, 4, 13, 6, 7];
 
 impl Desk {
     /// The desk before any request.
@@ -53,6 +56,7 @@ impl Desk {
         numbers: false,
         placeholder: false,
         shuffles: false,
+        clashes: false,
     };
 
     /// The desk that knows the first `count` requests of the order.
@@ -90,6 +94,7 @@ impl Desk {
             // A table beside the first waiting conjunction, which no caller can see.
             13 => self,
             6 => Desk { shuffles: true, ..self },
+            7 => Desk { clashes: true, ..self },
             _ => unreachable!("every request of the order is learnt here"),
         }
     }

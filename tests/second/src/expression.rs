@@ -90,6 +90,18 @@ impl Expression {
         }
     }
 
+    /// Whether such a symbol stands anywhere in it.
+    pub fn mentions(&self, such: &dyn Fn(u8) -> bool) -> bool {
+        match self {
+            Expression::Eps => false,
+            Expression::Concatenation(two) | Expression::Choice(two) => {
+                two.left.mentions(such) || two.right.mentions(such)
+            }
+            Expression::Star(one) => one.inner.mentions(such),
+            Expression::Over(symbol, one) => such(*symbol) || one.inner.mentions(such),
+        }
+    }
+
     pub fn write(&self, out: &mut Vec<u16>) {
         match self {
             Expression::Eps => out.push(EPS),

@@ -6,12 +6,14 @@
 
 pub mod answer;
 pub mod any_order;
+pub mod clash;
 pub mod counts;
 pub mod desk;
 pub mod equations;
 pub mod example;
 pub mod expression;
 pub mod filling;
+pub mod forms;
 pub mod gen;
 pub mod host;
 pub mod literal;
@@ -62,7 +64,7 @@ pub struct SolveOut {
     pub steps: u32,
     /// For 5 and 6 the word of the question at which the reader stopped, else 0.
     pub place: usize,
-    /// The answer's words, all zeros after 7 to 10; no word at all after
+    /// The answer's words, all zeros after 7 to 10 and 21; no word at all after
     /// 2 to 6, where a lent answer stays unchanged.
     pub answer: Vec<u16>,
     /// How often each rule was used, in the order of `rules::ALL`.
@@ -99,7 +101,7 @@ impl Desk {
         Ok(filling.answers(&question)?)
     }
 
-    /// The example of a line: the filling's words, or 2 to 10, 14, 15, 16.
+    /// The example of a line: the filling's words, or 2 to 10, 21, 14, 15, 16.
     pub fn example(&self, question: &[u16], ask: Ask) -> Result<Vec<u16>, Refused> {
         let question = read::question(question, self)?;
         let run = run::run(self, &question)?;

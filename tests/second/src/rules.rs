@@ -6,6 +6,7 @@
 
 use std::rc::Rc;
 
+use crate::clash::first_clash;
 use crate::counts::Counts;
 use crate::desk::Desk;
 use crate::equations::EQUATION_RULES;
@@ -13,6 +14,7 @@ use crate::literal::{Claim, Conjunction, Literal};
 use crate::memberships::MEMBERSHIP_RULES;
 use crate::read::Declared;
 use crate::tree::{Functor, Hedge, Variables};
+use crate::words::Refusal;
 
 /// The rules in their order.
 #[derive(Clone, Copy, PartialEq, Eq, PartialOrd, Ord, Debug)]
@@ -24,10 +26,11 @@ pub enum Rule {
     D1, D2, D0,
     E1, E2, E3, E4, E5, E6, E7,
     M1, M2, M3, M4, M5, M6, M7, M10, M11, M12,
+    Clash,
 }
 
 /// How many rules there are.
-pub const RULES: usize = Rule::M12 as usize + 1;
+pub const RULES: usize = Rule::Clash as usize + 1;
 
 /// All rules, in their order.
 #[rustfmt::skip]
@@ -39,6 +42,7 @@ pub const ALL: [Rule; RULES] = [
     Rule::E1, Rule::E2, Rule::E3, Rule::E4, Rule::E5, Rule::E6, Rule::E7,
     Rule::M1, Rule::M2, Rule::M3, Rule::M4, Rule::M5, Rule::M6, Rule::M7, Rule::M10, Rule::M11,
     Rule::M12,
+    Rule::Clash,
 ];
 
 /// What the rules look at beside a conjunction: what the desk knows, and what
@@ -75,10 +79,14 @@ pub struct Choice {
     pub way: Way,
 }
 
+/// The rule to use, or none, or 21.
+pub type Chosen = Result<Option<Choice>, Refusal>;
+
 /// The first rule that applies to any literal, and for it the earliest
-/// literal, and for that the written way before the swapped one. The counts
-/// are those of the conjunction.
-pub fn choose(setting: &Setting, conjunction: &Conjunction, counts: &Counts) -> Option<Choice> {
+/// literal, and for that the written way before the swapped one; 21 where the
+/// last rule is tried and a walk is too long. The counts are those of the
+/// conjunction.
+pub fn choose(setting: &Setting, conjunction: &Conjunction, counts: &Counts) -> Chosen {
     let literals = conjunction.literals();
     let mut best: Option<Choice> = None;
     for (at, literal) in literals.iter().enumerate() {
@@ -96,7 +104,11 @@ pub fn choose(setting: &Setting, conjunction: &Conjunction, counts: &Counts) -> 
             best = Some(Choice { rule: Rule::Fold, at, way: Way::Written });
         }
     }
-    best
+    if setting.desk.clashes && best.is_none() {
+        let clash = first_clash(&setting.declared, literals)?;
+        best = clash.map(|at| Choice { rule: Rule::Clash, at, way: Way::Written });
+    }
+    Ok(best)
 }
 
 /// The earliest literal that has a later one with the same words.

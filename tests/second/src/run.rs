@@ -1,4 +1,4 @@
-//! The run: steps until no conjunction waits, and the numbers 7 to 10.
+//! The run: steps until no conjunction waits, and the numbers 7 to 10 and 21.
 
 use crate::counts::Counts;
 use crate::desk::Desk;
@@ -27,7 +27,7 @@ pub struct Run {
     pub uses: [u32; RULES],
 }
 
-/// Runs a question to its end, or to one of the numbers 7 to 10.
+/// Runs a question to its end, or to one of the numbers 7 to 10 and 21.
 pub fn run(desk: &Desk, question: &Question) -> Result<Run, Refusal> {
     let limits = &desk.limits;
     let setting = Setting { desk: *desk, declared: question.declared };
@@ -44,7 +44,7 @@ pub fn run(desk: &Desk, question: &Question) -> Result<Run, Refusal> {
     while let Some((conjunction, alternative)) = waiting.take_first() {
         let mut counts = table.take().unwrap_or_else(|| Counts::of(&conjunction));
         debug_assert_eq!(counts, Counts::of(&conjunction));
-        let Some(choice) = choose(&setting, &conjunction, &counts) else {
+        let Some(choice) = choose(&setting, &conjunction, &counts)? else {
             lines.add(conjunction, &counts, alternative)?;
             continue;
         };

@@ -17,6 +17,9 @@ pub type Results = Result<Vec<Conjunction>, Refusal>;
 /// Uses the chosen rule.
 pub fn step(setting: &Setting, conjunction: &Conjunction, choice: Choice) -> Results {
     let place = Place { conjunction, at: choice.at, setting };
+    if choice.rule == Rule::Clash {
+        return Ok(Vec::new());
+    }
     if choice.rule == Rule::Fold {
         let later = later_equal(conjunction.literals(), choice.at).expect("a later equal");
         return Place { at: later, ..place }.leaves(&[]);

@@ -83,7 +83,7 @@ pub fn classify(word: u16, kind: u16) -> Word {
     }
 }
 
-/// A number that comes back, 2 to 16.
+/// A number that comes back.
 #[derive(Clone, Copy, PartialEq, Eq, Debug)]
 pub enum Refusal {
     Length = 2,
@@ -101,6 +101,7 @@ pub enum Refusal {
     NoSuchLine = 14,
     OpenLine = 15,
     ExampleTooLong = 16,
+    WalkTooLong = 21,
 }
 
 impl Refusal {

@@ -20,7 +20,7 @@ fn occurrences(conjunction: &Conjunction, word: u16) -> usize {
 /// Goes from each conjunction to all results, with one table for each.
 fn check(setting: &Setting, conjunction: Conjunction, counts: Counts, left: &mut u32) {
     assert_eq!(counts, Counts::of(&conjunction));
-    let Some(choice) = choose(setting, &conjunction, &counts) else { return };
+    let Some(choice) = choose(setting, &conjunction, &counts).expect("no walk") else { return };
     let Ok(results) = step(setting, &conjunction, choice) else { return };
     for result in results {
         if *left == 0 {

@@ -24,9 +24,9 @@ const LINES_LOOKED_AT: usize = 60;
 /// How often each outcome came up.
 #[derive(Default)]
 struct Counts {
-    solve: [u32; 17],
-    tried: [u32; 17],
-    example: [u32; 17],
+    solve: [u32; 32],
+    tried: [u32; 32],
+    example: [u32; 32],
     verdicts: [u32; 3],
     yes: u32,
     lines: u64,
@@ -124,7 +124,7 @@ fn check_numbers(desk: &Desk, out: &SolveOut) -> Checked {
     match out.refusal {
         0 => ensure(out.answer.len() == zeros.len(), "the answer is short"),
         2..=6 => ensure(out.answer.is_empty() && out.steps == 0, "refused, yet changed"),
-        7..=10 => ensure(out.answer == zeros && out.steps == 0, "refused without zeros"),
+        7..=10 | 21 => ensure(out.answer == zeros && out.steps == 0, "refused without zeros"),
         _ => Err("a number that solving does not give".to_string()),
     }
 }
@@ -241,7 +241,11 @@ fn check_ask(desk: &Desk, case: &Case, out: &SolveOut, ask: Ask, counts: &mut Co
 
 fn print_counts(counts: &Counts) {
     println!("refusal     solve       try   example");
-    for number in (0..17).filter(|number| *number != 1) {
+    for number in 0..32 {
+        let all = [counts.solve[number], counts.tried[number], counts.example[number]];
+        if all == [0; 3] {
+            continue;
+        }
         println!(
             "{number:7} {:9} {:9} {:9}",
             counts.solve[number], counts.tried[number], counts.example[number]

@@ -1,6 +1,7 @@
 //! Random cases, the same for the same seed: questions of many shapes, whole
 //! and damaged, fillings to try on them, and lines to ask an example of.
 
+pub mod clash;
 pub mod damage;
 pub mod fillings;
 pub mod limits;
@@ -31,12 +32,13 @@ pub struct Case {
 }
 
 /// The kinds of questions, and how many in 1,000 are of each.
-const KINDS: [(&str, usize); 8] = [
+const KINDS: [(&str, usize); 9] = [
     ("small", 330),
     ("planted", 250),
     ("long", 60),
     ("damaged", 240),
     ("limits", 60),
+    ("clash", 60),
     ("wide", 20),
     ("long example", 20),
     ("bare header", 20),
@@ -68,6 +70,7 @@ fn question_of(kind: &str, random: &mut Random, desk: &Desk) -> (Vec<u16>, Vec<V
         "long" => long(random, desk),
         "damaged" => damaged(random, desk),
         "limits" => (limits::question(random, desk), Vec::new()),
+        "clash" => (clash::question(random, desk), Vec::new()),
         "wide" => {
             let (question, filling) = fillings::wide(random);
             (question, vec![filling])
