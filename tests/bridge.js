@@ -54,8 +54,9 @@ function memory(from, count) {
     return new Uint8Array(desk.memory.buffer, from, count);
 }
 
-// call(blocks, run): lends the blocks, has run called with where each is and its length, and gives the number and the last block's bytes.
-function call(blocks, run) {
+// call(blocks, run, count): lends the blocks, has run called with where each is and its length, and gives the number and the bytes of the
+// last blocks, so many of them.
+function call(blocks, run, count = 1) {
     let at = desk.__heap_base.value;
     const places = [];
     for (const block of blocks) {
@@ -66,7 +67,7 @@ function call(blocks, run) {
     memory(at, BEHIND).fill(LENT);
     const number = run(...places) >>> 0;
     need(memory(at, BEHIND).every((byte) => byte === LENT));
-    const last = blocks[blocks.length - 1].length;
+    const last = blocks.slice(-count).reduce((sum, block) => sum + block.length, 0);
     return [number, memory(at - last, last)];
 }
 
@@ -81,6 +82,15 @@ for (let letter = bytesIn(1); letter.length === 1; letter = bytesIn(1)) {
         [number] = call([question, blockIn()], desk.desk_try);
     } else if (letter[0] === 0x70) {
         [number] = call([question], desk.desk_place);
+    } else if (letter[0] === 0x53) {
+        [number, bytes] = call([question, lent(numberIn()), lent(numberIn())], desk.desk_solve_trail, 2);
+    } else if (letter[0] === 0x52) {
+        [number, bytes] = call([question, blockIn(), lent(numberIn())], desk.desk_replay);
+    } else if (letter[0] === 0x45) {
+        const trail = blockIn();
+        const flags = [numberIn(), numberIn()];
+        const example = (q, qlen, t, tlen, room, length) => desk.desk_example_trail(q, qlen, t, tlen, ...flags, room, length);
+        [number, bytes] = call([question, trail, lent(numberIn())], example);
     } else {
         const flags = landed >= 4 ? [numberIn(), numberIn()] : [numberIn(), numberIn()].slice(0, 1);
         const example = (q, qlen, room, length) => desk.desk_example(q, qlen, ...flags, room, length);

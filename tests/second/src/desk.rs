@@ -43,10 +43,12 @@ pub struct Desk {
     /// Request 7: two memberships of one variable that share nothing drop the
     /// conjunction.
     pub clashes: bool,
+    /// Request 11: trails and their replay.
+    pub replays: bool,
 }
 
 /// The requests in the order in which they are learnt.
-pub const ORDER: [u8; 9] = [12, 3, 5, 8, 1, 4, 13, 6, 7];
+pub const ORDER: [u8; 10] = [12, 3, 5, 8, 1, 4, 13, 6, 7, 11];
 
 impl Desk {
     /// The desk before any request.
@@ -57,6 +59,7 @@ impl Desk {
         placeholder: false,
         shuffles: false,
         clashes: false,
+        replays: false,
     };
 
     /// The desk that knows the first `count` requests of the order.
@@ -95,6 +98,7 @@ impl Desk {
             13 => self,
             6 => Desk { shuffles: true, ..self },
             7 => Desk { clashes: true, ..self },
+            11 => Desk { replays: true, ..self },
             _ => unreachable!("every request of the order is learnt here"),
         }
     }

@@ -4,6 +4,7 @@
 use crate::desk::Desk;
 use crate::example::Ask;
 use crate::request::{words, Request};
+use crate::trail::Trail;
 use crate::words::Refused;
 
 /// What a lent byte holds before a call.
@@ -26,6 +27,17 @@ pub fn call(desk: &Desk, request: &Request, lent: &mut [u8]) -> u32 {
             }
         }
         Request::Place { question } => desk.place(&words(question)) as u32,
+        Request::SolveTrail { question, answer, .. } => {
+            let (answer, trail) = lent.split_at_mut(*answer);
+            solve_trail(desk, question, answer, trail)
+        }
+        Request::Replay { question, trail, .. } => replay(desk, question, trail, lent),
+        Request::ExampleTrail { question, trail, line, old_sheets, .. } => {
+            let ask = ask(*line, *old_sheets, lent.len());
+            let steps = whole_words(trail);
+            let trail = Trail { words: &steps, half: trail.len() % 2 == 1 };
+            filling_shown(desk.example_with_trail(&words(question), &trail, ask), lent)
+        }
         Request::Example { question, line, old_sheets, .. } => {
             let ask = ask(*line, *old_sheets, lent.len());
             let shown = desk.example(&words(question), ask);
@@ -47,6 +59,35 @@ fn solve(desk: &Desk, question: &[u8], answer: &mut [u8]) -> u32 {
     let out = desk.solve(&words(question));
     put(&out.answer, answer);
     out.refusal as u32
+}
+
+fn solve_trail(desk: &Desk, question: &[u8], answer: &mut [u8], trail: &mut [u8]) -> u32 {
+    if answer.len() < 2 * desk.limits.answer {
+        return 1;
+    }
+    let out = desk.solve_with_trail(&words(question), trail.len() / 2);
+    put(&out.answer, answer);
+    put(&out.trail, trail);
+    match out.refusal {
+        0 => SHOWN + out.steps,
+        refusal => refusal as u32,
+    }
+}
+
+fn replay(desk: &Desk, question: &[u8], trail: &[u8], answer: &mut [u8]) -> u32 {
+    if answer.len() < 2 * desk.limits.answer {
+        return 1;
+    }
+    let steps = whole_words(trail);
+    let trail = Trail { words: &steps, half: trail.len() % 2 == 1 };
+    let out = desk.replay(&words(question), &trail);
+    put(&out.answer, answer);
+    out.refusal as u32
+}
+
+/// The whole words of bytes; an odd last byte is left out.
+fn whole_words(bytes: &[u8]) -> Vec<u16> {
+    words(&bytes[..bytes.len() - bytes.len() % 2])
 }
 
 /// Any number but 0 is for old sheets.

@@ -31,13 +31,18 @@ pub mod solved;
 pub mod stack;
 pub mod step;
 pub mod substitution;
+pub mod trail;
 pub mod tree;
 pub mod words;
 pub mod worked;
 
 pub use desk::Desk;
 pub use example::Ask;
+use read::Question;
 use rules::RULES;
+use run::Run;
+pub use trail::Trail;
+use words::Refusal;
 pub use words::Refused;
 
 /// What an answered question comes to.
@@ -64,9 +69,11 @@ pub struct SolveOut {
     pub steps: u32,
     /// For 5 and 6 the word of the question at which the reader stopped, else 0.
     pub place: usize,
-    /// The answer's words, all zeros after 7 to 10 and 21; no word at all after
+    /// The answer's words, all zeros after 7 and more; no word at all after
     /// 2 to 6, where a lent answer stays unchanged.
     pub answer: Vec<u16>,
+    /// The trail's words; after 7 on, zeros for all words lent for it.
+    pub trail: Vec<u16>,
     /// How often each rule was used, in the order of `rules::ALL`.
     pub uses: [u32; RULES],
 }
@@ -74,13 +81,36 @@ pub struct SolveOut {
 impl Desk {
     /// Solves a question.
     pub fn solve(&self, question: &[u16]) -> SolveOut {
+        self.answered(question, 0, |question| run::run(self, question))
+    }
+
+    /// Solves a question and writes its trail to a room of so many words.
+    pub fn solve_with_trail(&self, question: &[u16], room: usize) -> SolveOut {
+        self.answered(question, room, |question| run::run_with_room(self, question, room))
+    }
+
+    /// Builds the lines by a trail.
+    pub fn replay(&self, question: &[u16], trail: &Trail) -> SolveOut {
+        self.answered(question, 0, |question| run::replay(self, question, trail))
+    }
+
+    /// Reads a question, has it run and writes the answer; so many words are
+    /// lent for a trail.
+    fn answered(
+        &self,
+        question: &[u16],
+        room: usize,
+        run: impl Fn(&Question) -> Result<Run, Refusal>,
+    ) -> SolveOut {
         let question = match read::question(question, self) {
             Ok(question) => question,
-            Err(refused) => return refused_with(refused, Vec::new()),
+            Err(refused) => return refused_with(refused, Vec::new(), Vec::new()),
         };
-        let run = match run::run(self, &question) {
+        let run = match run(&question) {
             Ok(run) => run,
-            Err(refusal) => return refused_with(refusal.into(), vec![0; self.limits.answer]),
+            Err(refusal) => {
+                return refused_with(refusal.into(), vec![0; self.limits.answer], vec![0; room])
+            }
         };
         let lines = run.lines.len() as u16;
         let open = answer::open_lines(&run.lines);
@@ -90,8 +120,8 @@ impl Desk {
             _ => Verdict::SomeOpen,
         };
         let answer = answer::answer(self, &run);
-        let (steps, uses) = (run.steps, run.uses);
-        SolveOut { refusal: 0, verdict, lines, open, steps, place: 0, answer, uses }
+        let Run { steps, uses, trail, .. } = run;
+        SolveOut { refusal: 0, verdict, lines, open, steps, place: 0, answer, trail, uses }
     }
 
     /// Tries a filling on a question: yes or no, or 2 to 6, 11, 12, 13.
@@ -108,13 +138,25 @@ impl Desk {
         Ok(example::example(self, &run, &question.declared, ask)?)
     }
 
+    /// The same of the lines that a trail gives: 2 to 9, 21, 26 to 28, 14 to 16.
+    pub fn example_with_trail(
+        &self,
+        question: &[u16],
+        trail: &Trail,
+        ask: Ask,
+    ) -> Result<Vec<u16>, Refused> {
+        let question = read::question(question, self)?;
+        let run = run::replay(self, &question, trail)?;
+        Ok(example::example(self, &run, &question.declared, ask)?)
+    }
+
     /// The word of a question at which the reader stops with 5 or 6, else 0.
     pub fn place(&self, question: &[u16]) -> usize {
         read::question(question, self).map_or_else(|refused| refused.place, |_| 0)
     }
 }
 
-fn refused_with(refused: Refused, answer: Vec<u16>) -> SolveOut {
+fn refused_with(refused: Refused, answer: Vec<u16>, trail: Vec<u16>) -> SolveOut {
     SolveOut {
         refusal: refused.number(),
         verdict: Verdict::Refused,
@@ -123,6 +165,7 @@ fn refused_with(refused: Refused, answer: Vec<u16>) -> SolveOut {
         steps: 0,
         place: refused.place,
         answer,
+        trail,
         uses: [0; RULES],
     }
 }

@@ -9,6 +9,9 @@ pub enum Request {
     Try { question: Vec<u8>, filling: Vec<u8> },
     Example { question: Vec<u8>, line: u32, old_sheets: u32, room: usize },
     Place { question: Vec<u8> },
+    SolveTrail { question: Vec<u8>, answer: usize, trail: usize },
+    Replay { question: Vec<u8>, trail: Vec<u8>, answer: usize },
+    ExampleTrail { question: Vec<u8>, trail: Vec<u8>, line: u32, old_sheets: u32, room: usize },
 }
 
 /// A part of a request in the pipe.
@@ -25,15 +28,21 @@ impl Request {
             Request::Try { .. } => "try",
             Request::Example { .. } => "example",
             Request::Place { .. } => "place",
+            Request::SolveTrail { .. } => "solve with a trail",
+            Request::Replay { .. } => "replay",
+            Request::ExampleTrail { .. } => "example with a trail",
         }
     }
 
-    /// Bytes that the call is lent to write to.
+    /// Bytes that the call is lent to write to; where it is lent two blocks,
+    /// both together, in the order of the call.
     pub fn lent(&self) -> usize {
         match self {
             Request::Solve { answer, .. } => *answer,
             Request::Try { .. } | Request::Place { .. } => 0,
-            Request::Example { room, .. } => *room,
+            Request::Example { room, .. } | Request::ExampleTrail { room, .. } => *room,
+            Request::SolveTrail { answer, trail, .. } => answer + trail,
+            Request::Replay { answer, .. } => *answer,
         }
     }
 
@@ -50,6 +59,16 @@ impl Request {
                 (b'e', [Block(question)].into_iter().chain(numbers).collect())
             }
             Request::Place { question } => (b'p', vec![Block(question)]),
+            Request::SolveTrail { question, answer, trail } => {
+                (b'S', vec![Block(question), Number(*answer as u32), Number(*trail as u32)])
+            }
+            Request::Replay { question, trail, answer } => {
+                (b'R', vec![Block(question), Block(trail), Number(*answer as u32)])
+            }
+            Request::ExampleTrail { question, trail, line, old_sheets, room } => {
+                let numbers = [*line, *old_sheets, *room as u32].map(Number);
+                (b'E', [Block(question), Block(trail)].into_iter().chain(numbers).collect())
+            }
         }
     }
 
@@ -80,6 +99,23 @@ impl Request {
                 room: number(from) as usize,
             },
             b'p' => Request::Place { question: block(from) },
+            b'S' => Request::SolveTrail {
+                question: block(from),
+                answer: number(from) as usize,
+                trail: number(from) as usize,
+            },
+            b'R' => Request::Replay {
+                question: block(from),
+                trail: block(from),
+                answer: number(from) as usize,
+            },
+            b'E' => Request::ExampleTrail {
+                question: block(from),
+                trail: block(from),
+                line: number(from),
+                old_sheets: number(from),
+                room: number(from) as usize,
+            },
             _ => panic!("{letter} is no request"),
         }
     }

@@ -56,8 +56,8 @@ pub struct Setting {
 /// The way an equation is read.
 #[derive(Clone, Copy, PartialEq, Eq, Debug)]
 pub enum Way {
-    Written,
-    Swapped,
+    Written = 0,
+    Swapped = 1,
 }
 
 /// What one literal allows.
@@ -151,7 +151,7 @@ pub fn reach(declared: &Declared, claim: &Claim) -> Reach {
 }
 
 /// E1, E2 and E5 need the variable elsewhere, and a lone variable opposite too.
-fn with_needs(rule: Rule, way: Way, left: &Hedge, right: &Hedge) -> Reach {
+pub fn with_needs(rule: Rule, way: Way, left: &Hedge, right: &Hedge) -> Reach {
     let opposite_is_variable = match rule {
         Rule::E1 => right.lone_term_variable().is_some(),
         Rule::E2 => right.lone_hedge_variable().is_some(),

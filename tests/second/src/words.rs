@@ -102,6 +102,10 @@ pub enum Refusal {
     OpenLine = 15,
     ExampleTooLong = 16,
     WalkTooLong = 21,
+    NoSuchStep = 26,
+    TrailTooShort = 27,
+    TrailTooLong = 28,
+    TrailRoom = 29,
 }
 
 impl Refusal {

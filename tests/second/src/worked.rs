@@ -5,13 +5,21 @@ use std::path::Path;
 use crate::desk::{Desk, ORDER};
 use crate::example::Ask;
 use crate::records::{cases, Case};
+use crate::trail::Trail;
+use crate::SolveOut;
 
 /// What a case expects and what the desk gives, both as lists of numbers.
 type Compare = fn(&Desk, &Case) -> (Vec<u32>, Vec<u32>);
 
 /// The files of worked answers.
-const FILES: [(&str, Compare); 3] =
-    [("solve.txt", compare_solve), ("try.txt", compare_try), ("example.txt", compare_example)];
+const FILES: [(&str, Compare); 6] = [
+    ("solve.txt", |desk, case| compare_solved(desk, case, desk.solve(&case.words('Q')))),
+    ("try.txt", compare_try),
+    ("example.txt", compare_example),
+    ("trail.txt", compare_trail),
+    ("replay.txt", compare_replay),
+    ("example-trail.txt", compare_example),
+];
 
 /// Agreements, and a text for each disagreement.
 #[derive(Default)]
@@ -77,8 +85,26 @@ fn wide(words: &[u16]) -> impl Iterator<Item = u32> + '_ {
     words.iter().map(|word| *word as u32)
 }
 
-fn compare_solve(desk: &Desk, case: &Case) -> (Vec<u32>, Vec<u32>) {
-    let out = desk.solve(&case.words('Q'));
+fn compare_trail(desk: &Desk, case: &Case) -> (Vec<u32>, Vec<u32>) {
+    let room = case.needed('N')[0] as usize;
+    let out = desk.solve_with_trail(&case.words('Q'), room);
+    let trail = out.trail.clone();
+    let (mut expected, mut got) = compare_solved(desk, case, out);
+    match case.field('T') {
+        Some(words) => expected.extend(words),
+        None if case.needed('R')[0] >= 7 => expected.resize(expected.len() + room, 0),
+        None => {}
+    }
+    got.extend(wide(&trail));
+    (expected, got)
+}
+
+fn compare_replay(desk: &Desk, case: &Case) -> (Vec<u32>, Vec<u32>) {
+    let out = desk.replay(&case.words('Q'), &Trail::of(&case.words('T')));
+    compare_solved(desk, case, out)
+}
+
+fn compare_solved(desk: &Desk, case: &Case, out: SolveOut) -> (Vec<u32>, Vec<u32>) {
     let mut expected = case.needed('R').to_vec();
     let mut got = vec![out.refusal as u32, out.lines as u32, out.open as u32, out.steps];
     if let Some(answer) = case.field('A') {
@@ -121,7 +147,12 @@ fn compare_example(desk: &Desk, case: &Case) -> (Vec<u32>, Vec<u32>) {
         room: asked[1] as usize,
         old_sheets: asked.get(2) == Some(&1),
     };
-    match desk.example(&case.words('Q'), ask) {
+    let question = case.words('Q');
+    let shown = match case.field('T') {
+        None => desk.example(&question, ask),
+        Some(_) => desk.example_with_trail(&question, &Trail::of(&case.words('T')), ask),
+    };
+    match shown {
         Ok(filling) => got.extend(wide(&filling)),
         Err(refused) => {
             got[0] = refused.number() as u32;

@@ -11,7 +11,7 @@ use std::path::Path;
 use std::process::ExitCode;
 
 use second::gen::random::Random;
-use second::gen::{case, SEED};
+use second::gen::{self, case, SEED};
 use second::host::{self, LENT, NO, SHOWN};
 use second::proved::{self, Proved};
 use second::records::{cases, Case};
@@ -116,6 +116,56 @@ fn worked(tally: &mut Tally, folder: &Path) {
     }
 }
 
+/// A trail that passes its room, or does not, and replays of trails, whole and
+/// not.
+fn with_trails(tally: &mut Tally, name: &str, case: &gen::Case, random: &mut Random) {
+    if case.trails.is_empty() {
+        return;
+    }
+    let whole = 2 * tally.desk.limits.answer;
+    let question = bytes(&case.question);
+    let steps = 2 * tally.desk.solve(&case.question).trail.len();
+    for room in [0, random.below(steps + 1), steps.saturating_sub(1), steps, steps + 7] {
+        let (question, answer) = (question.clone(), whole + random.below(2));
+        tally.both(name, Request::SolveTrail { question, answer, trail: room });
+    }
+    let short = Request::SolveTrail { question: question.clone(), answer: whole - 1, trail: 9 };
+    tally.both(name, short);
+    for trail in &case.trails {
+        let mut trail = bytes(trail);
+        if random.chance(1, 6) {
+            trail.push(0);
+        }
+        let answer = random.pick(&[whole, whole, whole, whole + 1, whole - 1]);
+        let replay = Request::Replay { question: question.clone(), trail: trail.clone(), answer };
+        tally.both(name, replay);
+        for ask in case.asks.iter().take(2) {
+            let (line, old_sheets) = (ask.line as u32, ask.old_sheets as u32);
+            let (question, trail, room) = (question.clone(), trail.clone(), 2 * ask.room);
+            tally.both(name, Request::ExampleTrail { question, trail, line, old_sheets, room });
+        }
+    }
+}
+
+/// The worked answers of trails: this desk gives them, so both are compared.
+fn worked_trails(tally: &mut Tally, folder: &Path) {
+    let whole = 2 * tally.desk.limits.answer;
+    for case in records(folder, "trail.txt") {
+        let (question, trail) = (bytes(&case.words('Q')), 2 * case.needed('N')[0] as usize);
+        tally.both(&case.name, Request::SolveTrail { question, answer: whole, trail });
+    }
+    for case in records(folder, "replay.txt") {
+        let (question, trail) = (bytes(&case.words('Q')), bytes(&case.words('T')));
+        tally.both(&case.name, Request::Replay { question, trail, answer: whole });
+    }
+    for case in records(folder, "example-trail.txt") {
+        let (question, trail) = (bytes(&case.words('Q')), bytes(&case.words('T')));
+        let asked = case.needed('L');
+        let (line, room, old_sheets) = (asked[0], 2 * asked[1] as usize, asked[2]);
+        tally.both(&case.name, Request::ExampleTrail { question, trail, line, old_sheets, room });
+    }
+}
+
 /// One random case, in whole words and, now and then, in bytes that are none.
 fn random_case(tally: &mut Tally, seed: u64, index: u64) {
     let whole = 2 * tally.desk.limits.answer;
@@ -160,6 +210,7 @@ fn random_case(tally: &mut Tally, seed: u64, index: u64) {
         let room = 2 * ask.room + random.below(2);
         tally.both(&name, example(&question, ask.line as u32, room));
     }
+    with_trails(tally, &name, &case, &mut random);
     if random.chance(1, 8) {
         tally.both(&name, example(&question, random.pick(&[512, 65_536, u32::MAX]), 100));
     }
@@ -180,6 +231,7 @@ fn compare() -> ExitCode {
         gave: BTreeMap::new(),
     };
     worked(&mut tally, &proved::worked_folder());
+    worked_trails(&mut tally, &proved::worked_folder());
     println!("worked answers: {} compared", tally.passed + tally.failed);
     for index in 0..count {
         random_case(&mut tally, seed, index);

@@ -56,7 +56,13 @@ fn family(name: &str) -> Vec<Case> {
 
 fn worked() -> Vec<Case> {
     let folder = Path::new(env!("CARGO_MANIFEST_DIR")).join("../vectors");
-    let case = |question| Case { kind: "worked", question, fillings: Vec::new(), asks: Vec::new() };
+    let case = |question| Case {
+        kind: "worked",
+        question,
+        fillings: Vec::new(),
+        asks: Vec::new(),
+        trails: Vec::new(),
+    };
     let mut all = Vec::new();
     for record in cases(&folder.join("solve.txt")) {
         all.push(case(record.words('Q')));

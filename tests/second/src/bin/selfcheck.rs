@@ -13,9 +13,9 @@ use second::gen::{case, planted, Case, SEED};
 use second::literal::Conjunction;
 use second::read::{self, Question};
 use second::rules::{ALL, RULES};
-use second::run::{run, Run};
+use second::run::{replay, run, Run};
 use second::words::{FIRST_LINE, MARK_OPEN, MARK_SOLVED};
-use second::{Ask, Desk, Refused, SolveOut, Verdict};
+use second::{Ask, Desk, Refused, SolveOut, Trail, Verdict};
 
 const CASES: u64 = 20_000;
 /// Examples looked at in one case.
@@ -105,7 +105,41 @@ fn check(desk: &Desk, case: &Case, index: u64, counts: &mut Counts) -> Checked {
     let run = run(desk, &question).map_err(|_| "solved, but not run")?;
     check_lines(desk, &question, &out, counts)?;
     check_examples(desk, case, &question, &run, counts)?;
-    fillings.iter().try_for_each(|filling| check_filling(&question, &run, filling))
+    fillings.iter().try_for_each(|filling| check_filling(&question, &run, filling))?;
+    if desk.replays {
+        check_trail(desk, case, &question, &out, &fillings)?;
+    }
+    Ok(())
+}
+
+/// The trail of a solve is accepted and gives the same lines; and what any
+/// trail gives fulfils the same as what solving gives.
+fn check_trail(
+    desk: &Desk,
+    case: &Case,
+    question: &Question,
+    out: &SolveOut,
+    fillings: &[Vec<u16>],
+) -> Checked {
+    let room = out.trail.len();
+    let exact = desk.solve_with_trail(&case.question, room);
+    ensure(exact.refusal == 0 && exact.trail == out.trail, "a trail that fits is refused")?;
+    if room > 0 {
+        let short = desk.solve_with_trail(&case.question, room - 1);
+        ensure(
+            short.refusal == 29 && short.trail == vec![0; room - 1],
+            "a trail that does not fit",
+        )?;
+    }
+    let again = desk.replay(&case.question, &Trail::of(&out.trail));
+    let same = again.refusal == 0 && again.answer == out.answer && again.steps == out.steps;
+    ensure(same, "the replay differs")?;
+    for trail in &case.trails {
+        if let Ok(run) = replay(desk, question, &Trail::of(trail)) {
+            fillings.iter().try_for_each(|filling| check_filling(question, &run, filling))?;
+        }
+    }
+    Ok(())
 }
 
 /// Refusal, verdict, counts and the answer's size belong together.

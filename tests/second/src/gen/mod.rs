@@ -8,6 +8,7 @@ pub mod limits;
 pub mod pieces;
 pub mod planted;
 pub mod random;
+pub mod trails;
 
 use crate::desk::Desk;
 use crate::example::{write, Ask};
@@ -29,6 +30,8 @@ pub struct Case {
     pub fillings: Vec<Vec<u16>>,
     /// Examples to ask for.
     pub asks: Vec<Ask>,
+    /// Trails to replay.
+    pub trails: Vec<Vec<u16>>,
 }
 
 /// The kinds of questions, and how many in 1,000 are of each.
@@ -59,7 +62,11 @@ pub fn case(desk: &Desk, seed: u64, index: u64) -> Case {
     let (question, mut fillings) = question_of(kind, &mut random, desk);
     let asks = asks(&mut random, desk, &question, &mut fillings);
     fillings::more(&mut random, desk, &question, &mut fillings);
-    Case { kind, question, fillings, asks }
+    let trails = match desk.replays && random.chance(1, 2) {
+        true => trails::trails(&mut random, desk, &question),
+        false => Vec::new(),
+    };
+    Case { kind, question, fillings, asks, trails }
 }
 
 /// A question of a kind, and fillings that belong to it.
