@@ -101,6 +101,9 @@ fn check(desk: &Desk, case: &Case, index: u64, counts: &mut Counts) -> Checked {
     if out.refusal != 0 {
         return Ok(());
     }
+    if case.kind == "last" {
+        ensure(out.open == 0, "a line is open where hedge variables stand last")?;
+    }
     let question = question.map_err(|_| "solved, but not read")?;
     let run = run(desk, &question).map_err(|_| "solved, but not run")?;
     check_lines(desk, &question, &out, counts)?;

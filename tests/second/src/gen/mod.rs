@@ -4,6 +4,7 @@
 pub mod clash;
 pub mod damage;
 pub mod fillings;
+pub mod last;
 pub mod limits;
 pub mod pieces;
 pub mod planted;
@@ -35,13 +36,14 @@ pub struct Case {
 }
 
 /// The kinds of questions, and how many in 1,000 are of each.
-const KINDS: [(&str, usize); 9] = [
+const KINDS: [(&str, usize); 10] = [
     ("small", 330),
     ("planted", 250),
     ("long", 60),
     ("damaged", 240),
     ("limits", 60),
     ("clash", 60),
+    ("last", 30),
     ("wide", 20),
     ("long example", 20),
     ("bare header", 20),
@@ -78,6 +80,7 @@ fn question_of(kind: &str, random: &mut Random, desk: &Desk) -> (Vec<u16>, Vec<V
         "damaged" => damaged(random, desk),
         "limits" => (limits::question(random, desk), Vec::new()),
         "clash" => (clash::question(random, desk), Vec::new()),
+        "last" => (last::question(random, desk), Vec::new()),
         "wide" => {
             let (question, filling) = fillings::wide(random);
             (question, vec![filling])
