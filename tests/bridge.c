@@ -7,6 +7,7 @@
  *   e  the line, the flag for old sheets (taken from request 8 on) and the
  *      room's length
  *   p  nothing more
+ *   d  the room's length; a day's sheet stands for the question
  *   S  the answer's and the trail's length
  *   R  a trail, as its length and its bytes, and the answer's length
  *   E  a trail, the line, the flag and the room's length
@@ -127,6 +128,15 @@ static void answer_request(int letter, long times)
         number_out(number);
         lent_out(room, length);
         free(trail);
+#endif
+#if LANDED >= 12
+    } else if (letter == 'd') {
+        size_t length = number_in();
+        uint8_t *room = block(length);
+        for (long i = 0; i < times; i++)
+            number = desk_day(question, question_len, room, length);
+        number_out(number);
+        lent_out(room, length);
 #endif
     } else {
         uint32_t line = number_in(), old_sheets = number_in();

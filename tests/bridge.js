@@ -82,6 +82,8 @@ for (let letter = bytesIn(1); letter.length === 1; letter = bytesIn(1)) {
         [number] = call([question, blockIn()], desk.desk_try);
     } else if (letter[0] === 0x70) {
         [number] = call([question], desk.desk_place);
+    } else if (letter[0] === 0x64) {
+        [number, bytes] = call([question, lent(numberIn())], desk.desk_day);
     } else if (letter[0] === 0x53) {
         [number, bytes] = call([question, lent(numberIn()), lent(numberIn())], desk.desk_solve_trail, 2);
     } else if (letter[0] === 0x52) {

@@ -5,7 +5,7 @@ use crate::desk::Desk;
 use crate::example::Ask;
 use crate::request::{words, Request};
 use crate::trail::Trail;
-use crate::words::Refused;
+use crate::words::{Refusal, Refused};
 
 /// What a lent byte holds before a call.
 pub const LENT: u8 = 0xA5;
@@ -27,6 +27,7 @@ pub fn call(desk: &Desk, request: &Request, lent: &mut [u8]) -> u32 {
             }
         }
         Request::Place { question } => desk.place(&words(question)) as u32,
+        Request::Day { sheet, .. } => day(desk, sheet, lent),
         Request::SolveTrail { question, answer, .. } => {
             let (answer, trail) = lent.split_at_mut(*answer);
             solve_trail(desk, question, answer, trail)
@@ -83,6 +84,22 @@ fn replay(desk: &Desk, question: &[u8], trail: &[u8], answer: &mut [u8]) -> u32 
     let out = desk.replay(&words(question), &trail);
     put(&out.answer, answer);
     out.refusal as u32
+}
+
+/// An odd count of bytes is no sheet, and has no words here.
+fn day(desk: &Desk, sheet: &[u8], room: &mut [u8]) -> u32 {
+    match desk.day(&words(sheet), room.len() / 2) {
+        Ok(answers) => {
+            put(&answers, room);
+            0
+        }
+        Err(refusal) => {
+            if refusal == Refusal::DayRoom {
+                put(&vec![0; room.len() / 2], room);
+            }
+            refusal.number() as u32
+        }
+    }
 }
 
 /// The whole words of bytes; an odd last byte is left out.

@@ -8,6 +8,7 @@ pub mod answer;
 pub mod any_order;
 pub mod clash;
 pub mod counts;
+pub mod day;
 pub mod desk;
 pub mod equations;
 pub mod example;

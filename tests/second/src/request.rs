@@ -9,6 +9,7 @@ pub enum Request {
     Try { question: Vec<u8>, filling: Vec<u8> },
     Example { question: Vec<u8>, line: u32, old_sheets: u32, room: usize },
     Place { question: Vec<u8> },
+    Day { sheet: Vec<u8>, room: usize },
     SolveTrail { question: Vec<u8>, answer: usize, trail: usize },
     Replay { question: Vec<u8>, trail: Vec<u8>, answer: usize },
     ExampleTrail { question: Vec<u8>, trail: Vec<u8>, line: u32, old_sheets: u32, room: usize },
@@ -28,6 +29,7 @@ impl Request {
             Request::Try { .. } => "try",
             Request::Example { .. } => "example",
             Request::Place { .. } => "place",
+            Request::Day { .. } => "day",
             Request::SolveTrail { .. } => "solve with a trail",
             Request::Replay { .. } => "replay",
             Request::ExampleTrail { .. } => "example with a trail",
@@ -40,7 +42,9 @@ impl Request {
         match self {
             Request::Solve { answer, .. } => *answer,
             Request::Try { .. } | Request::Place { .. } => 0,
-            Request::Example { room, .. } | Request::ExampleTrail { room, .. } => *room,
+            Request::Example { room, .. }
+            | Request::ExampleTrail { room, .. }
+            | Request::Day { room, .. } => *room,
             Request::SolveTrail { answer, trail, .. } => answer + trail,
             Request::Replay { answer, .. } => *answer,
         }
@@ -59,6 +63,7 @@ impl Request {
                 (b'e', [Block(question)].into_iter().chain(numbers).collect())
             }
             Request::Place { question } => (b'p', vec![Block(question)]),
+            Request::Day { sheet, room } => (b'd', vec![Block(sheet), Number(*room as u32)]),
             Request::SolveTrail { question, answer, trail } => {
                 (b'S', vec![Block(question), Number(*answer as u32), Number(*trail as u32)])
             }
@@ -99,6 +104,7 @@ impl Request {
                 room: number(from) as usize,
             },
             b'p' => Request::Place { question: block(from) },
+            b'd' => Request::Day { sheet: block(from), room: number(from) as usize },
             b'S' => Request::SolveTrail {
                 question: block(from),
                 answer: number(from) as usize,

@@ -102,6 +102,8 @@ pub enum Refusal {
     OpenLine = 15,
     ExampleTooLong = 16,
     WalkTooLong = 21,
+    SheetHeader = 22,
+    DayRoom = 23,
     NoSuchStep = 26,
     TrailTooShort = 27,
     TrailTooLong = 28,

@@ -12,13 +12,14 @@ use crate::SolveOut;
 type Compare = fn(&Desk, &Case) -> (Vec<u32>, Vec<u32>);
 
 /// The files of worked answers.
-const FILES: [(&str, Compare); 6] = [
+const FILES: [(&str, Compare); 7] = [
     ("solve.txt", |desk, case| compare_solved(desk, case, desk.solve(&case.words('Q')))),
     ("try.txt", compare_try),
     ("example.txt", compare_example),
     ("trail.txt", compare_trail),
     ("replay.txt", compare_replay),
     ("example-trail.txt", compare_example),
+    ("day.txt", compare_day),
 ];
 
 /// Agreements, and a text for each disagreement.
@@ -97,6 +98,15 @@ fn compare_trail(desk: &Desk, case: &Case) -> (Vec<u32>, Vec<u32>) {
     }
     got.extend(wide(&trail));
     (expected, got)
+}
+
+fn compare_day(desk: &Desk, case: &Case) -> (Vec<u32>, Vec<u32>) {
+    let mut got = vec![0];
+    match desk.day(&case.words('S'), case.needed('N')[0] as usize) {
+        Ok(words) => got.extend(wide(&words)),
+        Err(refusal) => got[0] = refusal.number() as u32,
+    }
+    (case.needed('D').to_vec(), got)
 }
 
 fn compare_replay(desk: &Desk, case: &Case) -> (Vec<u32>, Vec<u32>) {

@@ -11,7 +11,7 @@ use std::path::Path;
 use std::process::ExitCode;
 
 use second::gen::random::Random;
-use second::gen::{self, case, SEED};
+use second::gen::{self, case, days, SEED};
 use second::host::{self, LENT, NO, SHOWN};
 use second::proved::{self, Proved};
 use second::records::{cases, Case};
@@ -147,8 +147,9 @@ fn with_trails(tally: &mut Tally, name: &str, case: &gen::Case, random: &mut Ran
     }
 }
 
-/// The worked answers of trails: this desk gives them, so both are compared.
-fn worked_trails(tally: &mut Tally, folder: &Path) {
+/// The worked answers of later calls: this desk gives them, so both are
+/// compared.
+fn worked_later(tally: &mut Tally, folder: &Path) {
     let whole = 2 * tally.desk.limits.answer;
     for case in records(folder, "trail.txt") {
         let (question, trail) = (bytes(&case.words('Q')), 2 * case.needed('N')[0] as usize);
@@ -163,6 +164,25 @@ fn worked_trails(tally: &mut Tally, folder: &Path) {
         let asked = case.needed('L');
         let (line, room, old_sheets) = (asked[0], 2 * asked[1] as usize, asked[2]);
         tally.both(&case.name, Request::ExampleTrail { question, trail, line, old_sheets, room });
+    }
+    for case in records(folder, "day.txt") {
+        let (sheet, room) = (bytes(&case.words('S')), 2 * case.needed('N')[0] as usize);
+        tally.both(&case.name, Request::Day { sheet, room });
+    }
+}
+
+/// A day's sheets, in rooms that fit and that do not.
+fn random_day(tally: &mut Tally, seed: u64, index: u64) {
+    let mut random = Random::of_case(seed ^ 0xDA7, index);
+    let name = format!("day {index}");
+    let sheet = days::sheet(&mut random, &tally.desk, seed);
+    let fits = 2 * tally.desk.day(&sheet, usize::MAX).map_or(20, |words| words.len());
+    let sheet = bytes(&sheet);
+    for room in [fits, fits + 5, fits.saturating_sub(1), fits / 2, 0] {
+        tally.both(&name, Request::Day { sheet: sheet.clone(), room });
+    }
+    if let Some((_, odd)) = sheet.split_last() {
+        tally.both(&name, Request::Day { sheet: odd.to_vec(), room: fits });
     }
 }
 
@@ -231,10 +251,13 @@ fn compare() -> ExitCode {
         gave: BTreeMap::new(),
     };
     worked(&mut tally, &proved::worked_folder());
-    worked_trails(&mut tally, &proved::worked_folder());
+    worked_later(&mut tally, &proved::worked_folder());
     println!("worked answers: {} compared", tally.passed + tally.failed);
     for index in 0..count {
         random_case(&mut tally, seed, index);
+        if proved::landed() >= 12 && index % 50 == 0 {
+            random_day(&mut tally, seed, index);
+        }
     }
     println!("random cases: {count}, seed {seed}");
     for (call, counts) in &tally.gave {

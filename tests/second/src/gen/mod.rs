@@ -3,6 +3,7 @@
 
 pub mod clash;
 pub mod damage;
+pub mod days;
 pub mod fillings;
 pub mod last;
 pub mod limits;
