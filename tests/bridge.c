@@ -7,6 +7,8 @@
  *   e  the line, the flag for old sheets (taken from request 8 on) and the
  *      room's length
  *   p  nothing more
+ *   o  the second pattern, as its length and its bytes, word 0 and the room's
+ *      length; the first pattern stands for the question
  *   d  the room's length; a day's sheet stands for the question
  *   S  the answer's and the trail's length
  *   R  a trail, as its length and its bytes, and the answer's length
@@ -30,6 +32,10 @@
 /* How many requests the proved desk has learnt, of ORDER in second/src/desk.rs.
  * The second desk is compared as the one that knows as many. */
 #define LANDED 0
+
+#if LANDED >= 13
+#include "overlap.h"
+#endif
 
 static void need(int done)
 {
@@ -137,6 +143,19 @@ static void answer_request(int letter, long times)
             number = desk_day(question, question_len, room, length);
         number_out(number);
         lent_out(room, length);
+#endif
+#if LANDED >= 13
+    } else if (letter == 'o') {
+        size_t second_len;
+        uint8_t *second = bytes_in(&second_len);
+        uint32_t word_0 = number_in();
+        size_t length = number_in();
+        uint8_t *room = block(length);
+        for (long i = 0; i < times; i++)
+            number = overlap_pair(word_0, question, question_len, second, second_len, room, length);
+        number_out(number);
+        lent_out(room, length);
+        free(second);
 #endif
     } else {
         uint32_t line = number_in(), old_sheets = number_in();

@@ -82,6 +82,11 @@ for (let letter = bytesIn(1); letter.length === 1; letter = bytesIn(1)) {
         [number] = call([question, blockIn()], desk.desk_try);
     } else if (letter[0] === 0x70) {
         [number] = call([question], desk.desk_place);
+    } else if (letter[0] === 0x6f) {
+        const second = blockIn();
+        const word0 = numberIn();
+        const pair = (...places) => desk.overlap_pair(word0, ...places);
+        [number, bytes] = call([question, second, lent(numberIn())], pair);
     } else if (letter[0] === 0x64) {
         [number, bytes] = call([question, lent(numberIn())], desk.desk_day);
     } else if (letter[0] === 0x53) {

@@ -48,7 +48,7 @@ pub struct Desk {
 }
 
 /// The requests in the order in which they are learnt.
-pub const ORDER: [u8; 12] = [12, 3, 5, 8, 1, 4, 13, 6, 7, 11, 14, 9];
+pub const ORDER: [u8; 13] = [12, 3, 5, 8, 1, 4, 13, 6, 7, 11, 14, 9, 10];
 
 impl Desk {
     /// The desk before any request.
@@ -101,8 +101,8 @@ impl Desk {
             11 => Desk { replays: true, ..self },
             // That the run ends is a fact about it and changes nothing.
             14 => self,
-            // A call of its own.
-            9 => self,
+            // Calls of their own.
+            9 | 10 => self,
             _ => unreachable!("every request of the order is learnt here"),
         }
     }

@@ -3,6 +3,7 @@
 
 use crate::desk::Desk;
 use crate::example::Ask;
+use crate::overlap::{Meeting, Sheet};
 use crate::request::{words, Request};
 use crate::trail::Trail;
 use crate::words::{Refusal, Refused};
@@ -13,6 +14,9 @@ pub const LENT: u8 = 0xA5;
 pub const NO: u32 = 100;
 pub const YES: u32 = 101;
 pub const SHOWN: u32 = 100;
+pub const CANNOT_MEET: u32 = 100;
+pub const NOT_SETTLED: u32 = 101;
+pub const CAN_MEET: u32 = 200;
 
 /// Makes a call: the number that comes back. What the desk writes goes to the
 /// start of the lent bytes, the others stay.
@@ -28,6 +32,11 @@ pub fn call(desk: &Desk, request: &Request, lent: &mut [u8]) -> u32 {
         }
         Request::Place { question } => desk.place(&words(question)) as u32,
         Request::Day { sheet, .. } => day(desk, sheet, lent),
+        Request::Overlap { first, second, first_word, .. } => {
+            let sheet =
+                Sheet { first_word: *first_word as u16, room: lent.len() / 2, old_sheets: false };
+            overlap(desk, &sheet, [first, second], lent)
+        }
         Request::SolveTrail { question, answer, .. } => {
             let (answer, trail) = lent.split_at_mut(*answer);
             solve_trail(desk, question, answer, trail)
@@ -99,6 +108,18 @@ fn day(desk: &Desk, sheet: &[u8], room: &mut [u8]) -> u32 {
             }
             refusal.number() as u32
         }
+    }
+}
+
+fn overlap(desk: &Desk, sheet: &Sheet, patterns: [&[u8]; 2], room: &mut [u8]) -> u32 {
+    match desk.overlap(sheet, &words(patterns[0]), &words(patterns[1])) {
+        Ok(Meeting::CannotMeet) => CANNOT_MEET,
+        Ok(Meeting::NotSettled) => NOT_SETTLED,
+        Ok(Meeting::CanMeet(report)) => {
+            put(&report, room);
+            CAN_MEET + report.len() as u32
+        }
+        Err(refusal) => refusal as u32,
     }
 }
 

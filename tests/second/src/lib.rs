@@ -21,6 +21,7 @@ pub mod literal;
 pub mod member;
 pub mod memberships;
 pub mod orders;
+pub mod overlap;
 pub mod proved;
 pub mod read;
 pub mod records;

@@ -10,6 +10,7 @@ pub enum Request {
     Example { question: Vec<u8>, line: u32, old_sheets: u32, room: usize },
     Place { question: Vec<u8> },
     Day { sheet: Vec<u8>, room: usize },
+    Overlap { first: Vec<u8>, second: Vec<u8>, first_word: u32, room: usize },
     SolveTrail { question: Vec<u8>, answer: usize, trail: usize },
     Replay { question: Vec<u8>, trail: Vec<u8>, answer: usize },
     ExampleTrail { question: Vec<u8>, trail: Vec<u8>, line: u32, old_sheets: u32, room: usize },
@@ -30,6 +31,7 @@ impl Request {
             Request::Example { .. } => "example",
             Request::Place { .. } => "place",
             Request::Day { .. } => "day",
+            Request::Overlap { .. } => "overlap",
             Request::SolveTrail { .. } => "solve with a trail",
             Request::Replay { .. } => "replay",
             Request::ExampleTrail { .. } => "example with a trail",
@@ -44,7 +46,8 @@ impl Request {
             Request::Try { .. } | Request::Place { .. } => 0,
             Request::Example { room, .. }
             | Request::ExampleTrail { room, .. }
-            | Request::Day { room, .. } => *room,
+            | Request::Day { room, .. }
+            | Request::Overlap { room, .. } => *room,
             Request::SolveTrail { answer, trail, .. } => answer + trail,
             Request::Replay { answer, .. } => *answer,
         }
@@ -63,6 +66,10 @@ impl Request {
                 (b'e', [Block(question)].into_iter().chain(numbers).collect())
             }
             Request::Place { question } => (b'p', vec![Block(question)]),
+            Request::Overlap { first, second, first_word, room } => {
+                let numbers = [*first_word, *room as u32].map(Number);
+                (b'o', [Block(first), Block(second)].into_iter().chain(numbers).collect())
+            }
             Request::Day { sheet, room } => (b'd', vec![Block(sheet), Number(*room as u32)]),
             Request::SolveTrail { question, answer, trail } => {
                 (b'S', vec![Block(question), Number(*answer as u32), Number(*trail as u32)])
@@ -104,6 +111,12 @@ impl Request {
                 room: number(from) as usize,
             },
             b'p' => Request::Place { question: block(from) },
+            b'o' => Request::Overlap {
+                first: block(from),
+                second: block(from),
+                first_word: number(from),
+                room: number(from) as usize,
+            },
             b'd' => Request::Day { sheet: block(from), room: number(from) as usize },
             b'S' => Request::SolveTrail {
                 question: block(from),

@@ -104,6 +104,8 @@ pub enum Refusal {
     WalkTooLong = 21,
     SheetHeader = 22,
     DayRoom = 23,
+    TooManyRules = 24,
+    TooManyBlanks = 25,
     NoSuchStep = 26,
     TrailTooShort = 27,
     TrailTooLong = 28,

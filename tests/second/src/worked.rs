@@ -4,6 +4,7 @@ use std::path::Path;
 
 use crate::desk::{Desk, ORDER};
 use crate::example::Ask;
+use crate::overlap::{Action, LiveRule, Meeting, Sheet};
 use crate::records::{cases, Case};
 use crate::trail::Trail;
 use crate::SolveOut;
@@ -12,7 +13,7 @@ use crate::SolveOut;
 type Compare = fn(&Desk, &Case) -> (Vec<u32>, Vec<u32>);
 
 /// The files of worked answers.
-const FILES: [(&str, Compare); 7] = [
+const FILES: [(&str, Compare); 9] = [
     ("solve.txt", |desk, case| compare_solved(desk, case, desk.solve(&case.words('Q')))),
     ("try.txt", compare_try),
     ("example.txt", compare_example),
@@ -20,6 +21,8 @@ const FILES: [(&str, Compare); 7] = [
     ("replay.txt", compare_replay),
     ("example-trail.txt", compare_example),
     ("day.txt", compare_day),
+    ("overlap.txt", compare_overlap),
+    ("overlap-sheet.txt", compare_overlap_sheet),
 ];
 
 /// Agreements, and a text for each disagreement.
@@ -107,6 +110,48 @@ fn compare_day(desk: &Desk, case: &Case) -> (Vec<u32>, Vec<u32>) {
         Err(refusal) => got[0] = refusal.number() as u32,
     }
     (case.needed('D').to_vec(), got)
+}
+
+/// What the rules of a record have in common.
+fn sheet(case: &Case) -> Sheet {
+    let [first_word, room, flag] = case.needed('O') else { panic!("{}: O has three", case.name) };
+    Sheet { first_word: *first_word as u16, room: *room as usize, old_sheets: *flag == 1 }
+}
+
+fn meeting_numbers(meeting: Result<Meeting, u16>) -> Vec<u32> {
+    match meeting {
+        Err(refusal) => vec![refusal as u32],
+        Ok(Meeting::CannotMeet) => vec![0, 0],
+        Ok(Meeting::NotSettled) => vec![0, 2],
+        Ok(Meeting::CanMeet(report)) => [0, 1].into_iter().chain(wide(&report)).collect(),
+    }
+}
+
+fn compare_overlap(desk: &Desk, case: &Case) -> (Vec<u32>, Vec<u32>) {
+    let meeting = desk.overlap(&sheet(case), &case.words('G'), &case.words('H'));
+    (case.needed('M').to_vec(), meeting_numbers(meeting))
+}
+
+fn compare_overlap_sheet(desk: &Desk, case: &Case) -> (Vec<u32>, Vec<u32>) {
+    let actions = [Action::Keep, Action::Drop, Action::Forward];
+    let rule = |line: &[u32]| LiveRule {
+        action: actions[line[0] as usize],
+        pattern: line[1..].iter().map(|word| *word as u16).collect(),
+    };
+    let rules: Vec<LiveRule> = case.fields('G').into_iter().map(rule).collect();
+    let mut expected = case.needed('Z').to_vec();
+    expected.extend(case.fields('M').concat());
+    let mut got = vec![0];
+    match desk.overlaps(&sheet(case), &rules) {
+        Err(refusal) => got[0] = refusal as u32,
+        Ok(rows) => {
+            for row in rows {
+                got.extend(row.rules.map(|place| place as u32));
+                got.extend(meeting_numbers(row.meeting));
+            }
+        }
+    }
+    (expected, got)
 }
 
 fn compare_replay(desk: &Desk, case: &Case) -> (Vec<u32>, Vec<u32>) {

@@ -11,7 +11,7 @@ use std::path::Path;
 use std::process::ExitCode;
 
 use second::gen::random::Random;
-use second::gen::{self, case, days, SEED};
+use second::gen::{self, case, days, overlaps, SEED};
 use second::host::{self, LENT, NO, SHOWN};
 use second::proved::{self, Proved};
 use second::records::{cases, Case};
@@ -165,6 +165,11 @@ fn worked_later(tally: &mut Tally, folder: &Path) {
         let (line, room, old_sheets) = (asked[0], 2 * asked[1] as usize, asked[2]);
         tally.both(&case.name, Request::ExampleTrail { question, trail, line, old_sheets, room });
     }
+    for case in records(folder, "overlap.txt") {
+        let (first, second) = (bytes(&case.words('G')), bytes(&case.words('H')));
+        let (first_word, room) = (case.needed('O')[0], 2 * case.needed('O')[1] as usize);
+        tally.both(&case.name, Request::Overlap { first, second, first_word, room });
+    }
     for case in records(folder, "day.txt") {
         let (sheet, room) = (bytes(&case.words('S')), 2 * case.needed('N')[0] as usize);
         tally.both(&case.name, Request::Day { sheet, room });
@@ -183,6 +188,24 @@ fn random_day(tally: &mut Tally, seed: u64, index: u64) {
     }
     if let Some((_, odd)) = sheet.split_last() {
         tally.both(&name, Request::Day { sheet: odd.to_vec(), room: fits });
+    }
+}
+
+/// Two rules, with rooms that the report fits and does not fit.
+fn random_overlap(tally: &mut Tally, seed: u64, index: u64) {
+    let mut random = Random::of_case(seed ^ 0x0E71A, index);
+    let (first_word, first, second) = overlaps::pair(&mut random, &tally.desk);
+    let (first_word, first, second) = (first_word as u32, bytes(&first), bytes(&second));
+    let overlap = |room| {
+        let (first, second) = (first.clone(), second.clone());
+        Request::Overlap { first, second, first_word, room }
+    };
+    let name = format!("rules {index}");
+    let mut lent = vec![LENT; 8192];
+    let number = host::call(&tally.desk, &overlap(lent.len()), &mut lent);
+    let fits = 2 * number.saturating_sub(host::CAN_MEET) as usize;
+    for room in [8192, fits, fits + 1, fits.saturating_sub(1)] {
+        tally.both(&name, overlap(room));
     }
 }
 
@@ -257,6 +280,9 @@ fn compare() -> ExitCode {
         random_case(&mut tally, seed, index);
         if proved::landed() >= 12 && index % 50 == 0 {
             random_day(&mut tally, seed, index);
+        }
+        if proved::landed() >= 13 {
+            random_overlap(&mut tally, seed, index);
         }
     }
     println!("random cases: {count}, seed {seed}");

@@ -7,6 +7,7 @@ pub mod days;
 pub mod fillings;
 pub mod last;
 pub mod limits;
+pub mod overlaps;
 pub mod pieces;
 pub mod planted;
 pub mod random;

@@ -74,7 +74,7 @@ fn other_order(random: &mut Random, pieces: &Pieces, value: &Hedge) -> Hedge {
 }
 
 /// A hedge with the given value, parts of it replaced by variables.
-fn hidden(random: &mut Random, filling: &Filling, value: &Hedge) -> Hedge {
+pub fn hidden(random: &mut Random, filling: &Filling, value: &Hedge) -> Hedge {
     let values = value.items();
     let mut items = Vec::new();
     let mut at = 0;
