@@ -9,6 +9,8 @@
  *   p  nothing more
  *   o  the second pattern, as its length and its bytes, word 0 and the room's
  *      length; the first pattern stands for the question
+ *   r  the room's length; a text stands for the question
+ *   w  the room's length
  *   d  the room's length; a day's sheet stands for the question
  *   S  the answer's and the trail's length
  *   R  a trail, as its length and its bytes, and the answer's length
@@ -156,6 +158,16 @@ static void answer_request(int letter, long times)
         number_out(number);
         lent_out(room, length);
         free(second);
+#endif
+#if LANDED >= 14
+    } else if (letter == 'r' || letter == 'w') {
+        size_t length = number_in();
+        uint8_t *room = block(length);
+        for (long i = 0; i < times; i++)
+            number = letter == 'r' ? desk_read_text(question, question_len, room, length)
+                                   : desk_write_text(question, question_len, room, length);
+        number_out(number);
+        lent_out(room, length);
 #endif
     } else {
         uint32_t line = number_in(), old_sheets = number_in();

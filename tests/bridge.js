@@ -87,6 +87,9 @@ for (let letter = bytesIn(1); letter.length === 1; letter = bytesIn(1)) {
         const word0 = numberIn();
         const pair = (...places) => desk.overlap_pair(word0, ...places);
         [number, bytes] = call([question, second, lent(numberIn())], pair);
+    } else if (letter[0] === 0x72 || letter[0] === 0x77) {
+        const text = letter[0] === 0x72 ? desk.desk_read_text : desk.desk_write_text;
+        [number, bytes] = call([question, lent(numberIn())], text);
     } else if (letter[0] === 0x64) {
         [number, bytes] = call([question, lent(numberIn())], desk.desk_day);
     } else if (letter[0] === 0x53) {

@@ -32,6 +32,22 @@ pub fn call(desk: &Desk, request: &Request, lent: &mut [u8]) -> u32 {
         }
         Request::Place { question } => desk.place(&words(question)) as u32,
         Request::Day { sheet, .. } => day(desk, sheet, lent),
+        Request::ReadText { text, .. } => match desk.read_text(text, lent.len() / 2) {
+            Ok(question) => {
+                put(&question, lent);
+                SHOWN + question.len() as u32
+            }
+            Err(refusal) => refusal.number() as u32,
+        },
+        Request::WriteText { question, .. } => {
+            match desk.write_text(&words(question), lent.len()) {
+                Ok(text) => {
+                    lent[..text.len()].copy_from_slice(&text);
+                    SHOWN + text.len() as u32
+                }
+                Err(refused) => refused.number() as u32,
+            }
+        }
         Request::Overlap { first, second, first_word, .. } => {
             let sheet =
                 Sheet { first_word: *first_word as u16, room: lent.len() / 2, old_sheets: false };

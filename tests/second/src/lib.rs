@@ -33,6 +33,7 @@ pub mod solved;
 pub mod stack;
 pub mod step;
 pub mod substitution;
+pub mod text;
 pub mod trail;
 pub mod tree;
 pub mod words;

@@ -10,6 +10,8 @@ pub enum Request {
     Example { question: Vec<u8>, line: u32, old_sheets: u32, room: usize },
     Place { question: Vec<u8> },
     Day { sheet: Vec<u8>, room: usize },
+    ReadText { text: Vec<u8>, room: usize },
+    WriteText { question: Vec<u8>, room: usize },
     Overlap { first: Vec<u8>, second: Vec<u8>, first_word: u32, room: usize },
     SolveTrail { question: Vec<u8>, answer: usize, trail: usize },
     Replay { question: Vec<u8>, trail: Vec<u8>, answer: usize },
@@ -31,6 +33,8 @@ impl Request {
             Request::Example { .. } => "example",
             Request::Place { .. } => "place",
             Request::Day { .. } => "day",
+            Request::ReadText { .. } => "read a text",
+            Request::WriteText { .. } => "write a text",
             Request::Overlap { .. } => "overlap",
             Request::SolveTrail { .. } => "solve with a trail",
             Request::Replay { .. } => "replay",
@@ -47,6 +51,8 @@ impl Request {
             Request::Example { room, .. }
             | Request::ExampleTrail { room, .. }
             | Request::Day { room, .. }
+            | Request::ReadText { room, .. }
+            | Request::WriteText { room, .. }
             | Request::Overlap { room, .. } => *room,
             Request::SolveTrail { answer, trail, .. } => answer + trail,
             Request::Replay { answer, .. } => *answer,
@@ -69,6 +75,10 @@ impl Request {
             Request::Overlap { first, second, first_word, room } => {
                 let numbers = [*first_word, *room as u32].map(Number);
                 (b'o', [Block(first), Block(second)].into_iter().chain(numbers).collect())
+            }
+            Request::ReadText { text, room } => (b'r', vec![Block(text), Number(*room as u32)]),
+            Request::WriteText { question, room } => {
+                (b'w', vec![Block(question), Number(*room as u32)])
             }
             Request::Day { sheet, room } => (b'd', vec![Block(sheet), Number(*room as u32)]),
             Request::SolveTrail { question, answer, trail } => {
@@ -117,6 +127,8 @@ impl Request {
                 first_word: number(from),
                 room: number(from) as usize,
             },
+            b'r' => Request::ReadText { text: block(from), room: number(from) as usize },
+            b'w' => Request::WriteText { question: block(from), room: number(from) as usize },
             b'd' => Request::Day { sheet: block(from), room: number(from) as usize },
             b'S' => Request::SolveTrail {
                 question: block(from),

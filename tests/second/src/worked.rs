@@ -7,13 +7,14 @@ use crate::example::Ask;
 use crate::overlap::{Action, LiveRule, Meeting, Sheet};
 use crate::records::{cases, Case};
 use crate::trail::Trail;
+use crate::words::{Refusal, Refused};
 use crate::SolveOut;
 
 /// What a case expects and what the desk gives, both as lists of numbers.
 type Compare = fn(&Desk, &Case) -> (Vec<u32>, Vec<u32>);
 
 /// The files of worked answers.
-const FILES: [(&str, Compare); 9] = [
+const FILES: [(&str, Compare); 10] = [
     ("solve.txt", |desk, case| compare_solved(desk, case, desk.solve(&case.words('Q')))),
     ("try.txt", compare_try),
     ("example.txt", compare_example),
@@ -23,6 +24,7 @@ const FILES: [(&str, Compare); 9] = [
     ("day.txt", compare_day),
     ("overlap.txt", compare_overlap),
     ("overlap-sheet.txt", compare_overlap_sheet),
+    ("writer.txt", compare_writer),
 ];
 
 /// Agreements, and a text for each disagreement.
@@ -152,6 +154,30 @@ fn compare_overlap_sheet(desk: &Desk, case: &Case) -> (Vec<u32>, Vec<u32>) {
         }
     }
     (expected, got)
+}
+
+/// The writer's number; where a text is due it is read back to the same words,
+/// and both rooms are needed whole.
+fn compare_writer(desk: &Desk, case: &Case) -> (Vec<u32>, Vec<u32>) {
+    let question = case.words('Q');
+    let expected = case.needed('X').to_vec();
+    let written = |room: usize| desk.write_text(&question, room).map_err(Refused::number);
+    let got = match written(usize::MAX) {
+        Err(refusal) => {
+            assert_eq!(written(0), Err(refusal), "{}: the room changes the number", case.name);
+            refusal
+        }
+        Ok(text) => {
+            let read = |room: usize| desk.read_text(&text, room).map_err(Refusal::number);
+            assert_eq!(read(question.len()), Ok(question.clone()), "{}: read back", case.name);
+            assert_eq!(read(question.len() - 1), Err(19), "{}: words of room", case.name);
+            assert_eq!(written(text.len()), Ok(text.clone()), "{}: bytes of room", case.name);
+            let short = text.len().checked_sub(1).map_or(Err(19), written);
+            assert_eq!(short, Err(19), "{}: bytes of room", case.name);
+            0
+        }
+    };
+    (expected, vec![got as u32])
 }
 
 fn compare_replay(desk: &Desk, case: &Case) -> (Vec<u32>, Vec<u32>) {

@@ -11,6 +11,7 @@ pub mod overlaps;
 pub mod pieces;
 pub mod planted;
 pub mod random;
+pub mod texts;
 pub mod trails;
 
 use crate::desk::Desk;
