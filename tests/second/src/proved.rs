@@ -20,12 +20,19 @@ pub fn desk() -> Desk {
     Desk::after(landed())
 }
 
-/// The folder of worked answers of the proved desk: those of the last request
-/// that it has learnt and that has any.
-pub fn worked_folder() -> PathBuf {
+/// The folders of worked answers up to those of the proved desk, which come
+/// last: of the base, and of each request that it has learnt.
+pub fn worked_folders() -> Vec<PathBuf> {
     let folder = Path::new(env!("CARGO_MANIFEST_DIR")).join("../vectors");
-    let wishes = ORDER[..landed()].iter().rev().map(|request| format!("wish-{request:02}"));
-    wishes.map(|wish| folder.join(wish)).find(|wish| wish.exists()).unwrap_or(folder)
+    let wishes = ORDER[..landed()].iter().map(|request| folder.join(format!("wish-{request:02}")));
+    let folders = std::iter::once(folder.clone()).chain(wishes);
+    folders.filter(|folder| folder.exists()).collect()
+}
+
+/// The newest folder that has a file of worked answers.
+pub fn worked_folder(file: &str) -> PathBuf {
+    let mut folders = worked_folders().into_iter().rev();
+    folders.find(|folder| folder.join(file).exists()).expect("the base has worked answers")
 }
 
 /// The proved desk's process.

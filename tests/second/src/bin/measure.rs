@@ -9,7 +9,6 @@
 
 use std::hint::black_box;
 use std::io::{stdin, stdout, BufRead, BufReader, BufWriter, Write};
-use std::path::Path;
 
 use second::gen::{case, Case, SEED};
 use second::host::{self, LENT};
@@ -55,7 +54,6 @@ fn family(name: &str) -> Vec<Case> {
 }
 
 fn worked() -> Vec<Case> {
-    let folder = Path::new(env!("CARGO_MANIFEST_DIR")).join("../vectors");
     let case = |question| Case {
         kind: "worked",
         question,
@@ -64,13 +62,13 @@ fn worked() -> Vec<Case> {
         trails: Vec::new(),
     };
     let mut all = Vec::new();
-    for record in cases(&folder.join("solve.txt")) {
+    for record in cases(&proved::worked_folder("solve.txt").join("solve.txt")) {
         all.push(case(record.words('Q')));
     }
-    for record in cases(&folder.join("try.txt")) {
+    for record in cases(&proved::worked_folder("try.txt").join("try.txt")) {
         all.push(Case { fillings: vec![record.words('F')], ..case(record.words('Q')) });
     }
-    for record in cases(&folder.join("example.txt")) {
+    for record in cases(&proved::worked_folder("example.txt").join("example.txt")) {
         let asked = record.needed('L');
         all.push(Case {
             asks: vec![Ask {

@@ -97,6 +97,26 @@ pub fn worked_later(tally: &mut Tally, folder: &Path) {
     }
 }
 
+/// The questions of an older desk's worked answers, put to both desks.
+pub fn asked_again(tally: &mut Tally, folder: &Path) {
+    let whole = 2 * tally.desk.limits.answer;
+    for case in records(folder, "solve.txt") {
+        let question = bytes(&case.words('Q'));
+        tally.both(&case.name, Request::Solve { question, answer: whole });
+    }
+    for case in records(folder, "try.txt") {
+        let (question, filling) = (bytes(&case.words('Q')), bytes(&case.words('F')));
+        tally.both(&case.name, Request::Try { question, filling });
+    }
+    for case in records(folder, "example.txt") {
+        let asked = case.needed('L');
+        let old_sheets = asked.get(2).copied().unwrap_or(0);
+        let (question, line, room) = (bytes(&case.words('Q')), asked[0], 2 * asked[1] as usize);
+        tally.both(&case.name, Request::Example { question, line, old_sheets, room });
+    }
+    worked_later(tally, folder);
+}
+
 /// The questions of the writer's worked answers.
 pub fn written(folder: &Path) -> Vec<(String, Vec<u16>)> {
     let cases = records(folder, "writer.txt");
