@@ -13,6 +13,11 @@ impl Case {
         self.fields.iter().find(|field| field.0 == letter).map(|field| &field.1[..])
     }
 
+    /// The numbers of each line with the letter.
+    pub fn fields(&self, letter: char) -> Vec<&[u32]> {
+        self.fields.iter().filter(|field| field.0 == letter).map(|field| &field.1[..]).collect()
+    }
+
     pub fn needed(&self, letter: char) -> &[u32] {
         self.field(letter).unwrap_or_else(|| panic!("case {} has no line {letter}", self.name))
     }

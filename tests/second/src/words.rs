@@ -83,7 +83,7 @@ pub fn classify(word: u16, kind: u16) -> Word {
     }
 }
 
-/// A number that comes back, 2 to 16.
+/// A number that comes back.
 #[derive(Clone, Copy, PartialEq, Eq, Debug)]
 pub enum Refusal {
     Length = 2,
@@ -101,11 +101,45 @@ pub enum Refusal {
     NoSuchLine = 14,
     OpenLine = 15,
     ExampleTooLong = 16,
+    Text = 17,
+    TextNames = 18,
+    TextRoom = 19,
+    Numbering = 20,
+    WalkTooLong = 21,
+    SheetHeader = 22,
+    DayRoom = 23,
+    TooManyRules = 24,
+    TooManyBlanks = 25,
+    NoSuchStep = 26,
+    TrailTooShort = 27,
+    TrailTooLong = 28,
+    TrailRoom = 29,
 }
 
 impl Refusal {
     /// The number itself.
     pub fn number(self) -> u16 {
         self as u16
+    }
+}
+
+/// A call refused: the number, and the word of the question at which the
+/// reader stopped, for 5 and 6; else 0.
+#[derive(Clone, Copy, PartialEq, Eq, Debug)]
+pub struct Refused {
+    pub refusal: Refusal,
+    pub place: usize,
+}
+
+impl Refused {
+    pub fn number(self) -> u16 {
+        self.refusal.number()
+    }
+}
+
+/// Refused at no place.
+impl From<Refusal> for Refused {
+    fn from(refusal: Refusal) -> Refused {
+        Refused { refusal, place: 0 }
     }
 }

@@ -1,6 +1,6 @@
 //! The limits of a run and of a filling, met exactly and passed by one.
 
-use second::Desk;
+use second::{Desk, Refused};
 
 fn question(header: [u16; 4], conjunctions: &[Vec<u16>]) -> Vec<u16> {
     let count = conjunctions.len() as u16;
@@ -118,7 +118,9 @@ fn filled_literal_of_8192_words() {
         literal.extend([7003].repeat(stars));
         literal.extend([3000, 7000]);
         // An empty alternative is met, but the length is decided before.
-        Desk::BASE.try_filling(&question([1, 0, 1, 0], &[vec![], literal]), &leaves(1022))
+        Desk::BASE
+            .try_filling(&question([1, 0, 1, 0], &[vec![], literal]), &leaves(1022))
+            .map_err(Refused::number)
     };
     assert_eq!(tried(12), Ok(true));
     assert_eq!(tried(13), Err(13));
@@ -128,8 +130,8 @@ fn filled_literal_of_8192_words() {
 fn filling_of_4096_words() {
     let asked = question([1, 0, 1, 0], &[vec![]]);
     assert_eq!(leaves(2046).len(), 4096);
-    assert_eq!(Desk::BASE.try_filling(&asked, &leaves(2046)), Ok(true));
-    assert_eq!(Desk::BASE.try_filling(&asked, &leaves(2047)), Err(11));
+    assert_eq!(Desk::BASE.try_filling(&asked, &leaves(2046)).map_err(Refused::number), Ok(true));
+    assert_eq!(Desk::BASE.try_filling(&asked, &leaves(2047)).map_err(Refused::number), Err(11));
 }
 
 #[test]
@@ -146,6 +148,6 @@ fn deep_filling_in_a_deep_question() {
     filling.extend([3000].repeat(2046));
     filling.resize(4096, 0);
     let asked = question([1, 0, 1, 0], &[literal]);
-    assert_eq!(Desk::BASE.try_filling(&asked, &filling), Ok(false));
-    assert_eq!(Desk::BASE.try_filling(&asked, &leaves(1000)), Ok(true));
+    assert_eq!(Desk::BASE.try_filling(&asked, &filling).map_err(Refused::number), Ok(false));
+    assert_eq!(Desk::BASE.try_filling(&asked, &leaves(1000)).map_err(Refused::number), Ok(true));
 }

@@ -1,7 +1,7 @@
 //! The cases P1 to P12 of the request, with their lines and steps, and the
 //! limits it names.
 
-use second::{Desk, Verdict};
+use second::{Ask, Desk, Refused, Verdict};
 
 /// A question of four symbols a, b, f, g and so many variables of each kind.
 fn question(terms: u16, hedges: u16, functions: u16, conjunctions: &[&[u16]]) -> Vec<u16> {
@@ -172,25 +172,29 @@ fn refusals_go_in_order_over_the_whole_question() {
     assert_eq!(Desk::BASE.solve(&asked).refusal, 3);
 }
 
+fn ask(line: usize, room: usize) -> Ask {
+    Ask { line, room, old_sheets: false }
+}
+
 #[test]
 fn fillings_of_p4() {
     let asked = [4, 0, 2, 0, 1, 7, 16, 5000, 2000, 2001, 0, 3000, 0, 3001, 0, 0];
     let yes = [2, 4, 7, 10, 3000, 0, 0, 3001, 0, 0];
-    assert_eq!(Desk::BASE.try_filling(&asked, &yes), Ok(true));
-    assert_eq!(Desk::BASE.example(&asked, 1, 10), Ok(yes.to_vec()));
-    assert_eq!(Desk::BASE.example(&asked, 1, 9), Err(16));
-    assert_eq!(Desk::BASE.example(&asked, 3, 10), Err(14));
+    assert_eq!(Desk::BASE.try_filling(&asked, &yes).map_err(Refused::number), Ok(true));
+    assert_eq!(Desk::BASE.example(&asked, ask(1, 10)).map_err(Refused::number), Ok(yes.to_vec()));
+    assert_eq!(Desk::BASE.example(&asked, ask(1, 9)).map_err(Refused::number), Err(16));
+    assert_eq!(Desk::BASE.example(&asked, ask(3, 10)).map_err(Refused::number), Err(14));
     let no = [2, 4, 7, 10, 3001, 0, 0, 3000, 0, 0];
-    assert_eq!(Desk::BASE.try_filling(&asked, &no), Ok(false));
-    assert_eq!(Desk::BASE.try_filling(&asked, &yes[..9]), Err(11));
+    assert_eq!(Desk::BASE.try_filling(&asked, &no).map_err(Refused::number), Ok(false));
+    assert_eq!(Desk::BASE.try_filling(&asked, &yes[..9]).map_err(Refused::number), Err(11));
     let undeclared = [2, 4, 7, 10, 3004, 0, 0, 3001, 0, 0];
-    assert_eq!(Desk::BASE.try_filling(&asked, &undeclared), Err(12));
+    assert_eq!(Desk::BASE.try_filling(&asked, &undeclared).map_err(Refused::number), Err(12));
     let variable = [2, 4, 6, 9, 2000, 0, 3001, 0, 0];
-    assert_eq!(Desk::BASE.try_filling(&asked, &variable), Err(12));
+    assert_eq!(Desk::BASE.try_filling(&asked, &variable).map_err(Refused::number), Err(12));
 }
 
 #[test]
 fn example_of_an_open_line() {
     let asked = question(0, 1, 0, &[&[5000, 2000, 3000, 0, 0, 3000, 0, 2000, 0]]);
-    assert_eq!(Desk::BASE.example(&asked, 0, 4096), Err(15));
+    assert_eq!(Desk::BASE.example(&asked, ask(0, 4096)).map_err(Refused::number), Err(15));
 }

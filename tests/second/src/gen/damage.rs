@@ -68,6 +68,11 @@ fn header(random: &mut Random, desk: &Desk, words: &mut [u16]) {
     if words.len() >= 5 {
         let counts = [0, 1, 2, 3, 16, 17, kind - 1, kind, kind + 1, kind + 2, 65535];
         words[random.below(5)] = random.pick(&counts);
+        if random.chance(1, 4) {
+            // So many unordered symbols, or one too many.
+            let unordered = random.pick(&[1, 2, words[0] % 256, words[0] % 256 + 1]);
+            words[0] = (words[0] % 256).wrapping_add(256 * (unordered % 256));
+        }
     }
 }
 

@@ -16,9 +16,9 @@ use crate::words::{FILLED_MOST, FILLING_MOST};
 /// Adds random fillings of the right form for a question, where its header
 /// can be made out, and damaged ones.
 pub fn more(random: &mut Random, desk: &Desk, question: &[u16], fillings: &mut Vec<Vec<u16>>) {
-    let declared = match read::question(question, &desk.limits) {
+    let declared = match read::question(question, desk) {
         Ok(question) => question.declared,
-        Err(_) => Declared { symbols: 2, terms: 1, hedges: 1, functions: 1 },
+        Err(_) => Declared { symbols: 2, unordered: 0, terms: 1, hedges: 1, functions: 1 },
     };
     let deep = random.range(0, 2);
     fillings.push(write(&random_filling(random, &declared, deep, 3)));
@@ -37,7 +37,7 @@ pub fn more(random: &mut Random, desk: &Desk, question: &[u16], fillings: &mut V
 /// A question with a variable many times, and a filling that makes a literal
 /// about 8,192 words long.
 pub fn wide(random: &mut Random) -> (Vec<u16>, Vec<u16>) {
-    let declared = Declared { symbols: 2, terms: 0, hedges: 2, functions: 0 };
+    let declared = Declared { symbols: 2, unordered: 0, terms: 0, hedges: 2, functions: 0 };
     let times = random.range(3, 8);
     let mut items = vec![Item::HedgeVariable(0); times];
     items.push(Item::HedgeVariable(1));
@@ -79,7 +79,7 @@ pub fn wide(random: &mut Random) -> (Vec<u16>, Vec<u16>) {
 /// A question whose example is about 4,096 words long: q = (p, ..., p), and p
 /// in an expression with a long sample.
 pub fn long_example(random: &mut Random) -> Vec<u16> {
-    let declared = Declared { symbols: 1, terms: 0, hedges: 2, functions: 0 };
+    let declared = Declared { symbols: 1, unordered: 0, terms: 0, hedges: 2, functions: 0 };
     let leaves = random.range(10, 100);
     let leaf = Expression::over(0, Expression::Eps);
     let expression =

@@ -16,11 +16,14 @@ const A: Functor = Functor::Symbol(0);
 /// A question that reaches one of the numbers 7 to 10, or almost.
 pub fn question(random: &mut Random, desk: &Desk) -> Vec<u16> {
     let limits = &desk.limits;
+    if desk.shuffles && random.chance(1, 6) {
+        return orders(random, desk);
+    }
     match random.below(10) {
         0 => doubling(random),
         1 => swelling(random, limits.result),
-        2 => cut_run(random, limits.waiting),
-        3 => cut_run(random, limits.answer - FIRST_LINE),
+        2 => cut_run(random, limits.waiting, desk.beside()),
+        3 => cut_run(random, limits.answer - FIRST_LINE, desk.beside()),
         4 => products(random),
         5 => counted_steps(random),
         6 => many_cuts(random),
@@ -31,7 +34,7 @@ pub fn question(random: &mut Random, desk: &Desk) -> Vec<u16> {
 }
 
 fn declared(symbols: u16, terms: u16, hedges: u16, functions: u16) -> Declared {
-    Declared { symbols, terms, hedges, functions }
+    Declared { symbols, unordered: 0, terms, hedges, functions }
 }
 
 fn words(declared: Declared, conjunctions: Vec<Conjunction>) -> Vec<u16> {
@@ -104,18 +107,18 @@ fn swelling(random: &mut Random, most: usize) -> Vec<u16> {
 }
 
 /// (p, q) = (a, ..., a) and padding in two alternatives, so that the results
-/// of the first step and what waits take about `total` words, one more for
+/// of the first step and what waits take about `total` words, `beside` more for
 /// each conjunction counted in.
-fn cut_run(random: &mut Random, total: usize) -> Vec<u16> {
+fn cut_run(random: &mut Random, total: usize, beside: usize) -> Vec<u16> {
     let count = random.range(14, 45);
     let total = around(random, total);
     let each = (total - 12) / (count + 1);
     let rest = total - (count + 1) * each;
     // A result has 8 words of its own, 2 for each a, and the padding.
-    let pad = each - 9 - 2 * count;
+    let pad = each - 8 - beside - 2 * count;
     let left = Hedge::new(vec![Item::HedgeVariable(0), Item::HedgeVariable(1)]);
     let first = [Literal::equation(left, Hedge::new(leaves(count))), padding(2, pad)];
-    let second = [padding(2, rest - 1)];
+    let second = [padding(2, rest - beside)];
     words(declared(1, 0, 3, 0), vec![conjunction(&first), conjunction(&second)])
 }
 
@@ -229,6 +232,28 @@ fn nested_stars(random: &mut Random) -> Vec<u16> {
     }
     let literal = Literal::membership(Hedge::new(items), expression);
     words(declared(2, 0, 1, 0), vec![conjunction(&[literal])])
+}
+
+/// f(T) = f(T') or f(T) in f(R) with f unordered, and padding, so that the
+/// orders of T take about as many words as may wait, or are too many.
+fn orders(random: &mut Random, desk: &Desk) -> Vec<u16> {
+    let count = random.pick(&[2, 3, 3, 4, 4, 5, 5, 6, 7, 9, 40]);
+    let f = |items| Hedge::one(Item::Over(Functor::Symbol(2), Hedge::new(items)));
+    let other = vec![Item::Over(Functor::Symbol(1), Hedge::EMPTY); count];
+    let first = match random.below(3) {
+        0 => Literal::membership(f(leaves(count)), Expression::over(2, choices(2))),
+        1 => Literal::equation(f(leaves(count)), f(other)),
+        _ => Literal::equation(f(vec![Item::HedgeVariable(0)]), f(leaves(count))),
+    };
+    let mut literals = vec![first];
+    // A result has two or four words less than the question.
+    let results: usize = (1..=count.min(8)).product();
+    let each = desk.limits.waiting / results;
+    let own = literals[0].words() + desk.beside();
+    if (own + 10..desk.limits.result - 20).contains(&each) {
+        literals.push(padding(1, around(random, each - own + 3)));
+    }
+    words(Declared { unordered: 1, ..declared(3, 0, 2, 0) }, vec![conjunction(&literals)])
 }
 
 /// (p, q) = (a, ..., a), and p many times elsewhere: a late cut is too long.

@@ -1,15 +1,21 @@
 //! Random cases, the same for the same seed: questions of many shapes, whole
 //! and damaged, fillings to try on them, and lines to ask an example of.
 
+pub mod clash;
 pub mod damage;
+pub mod days;
 pub mod fillings;
+pub mod last;
 pub mod limits;
+pub mod overlaps;
 pub mod pieces;
 pub mod planted;
 pub mod random;
+pub mod texts;
+pub mod trails;
 
 use crate::desk::Desk;
-use crate::example::write;
+use crate::example::{write, Ask};
 use crate::literal::Conjunction;
 use crate::read::Question;
 use pieces::{conjunction, question_words, Pieces};
@@ -26,17 +32,21 @@ pub struct Case {
     pub question: Vec<u16>,
     /// Fillings to try on it.
     pub fillings: Vec<Vec<u16>>,
-    /// Examples to ask for: a line, and words of room.
-    pub asks: Vec<(usize, usize)>,
+    /// Examples to ask for.
+    pub asks: Vec<Ask>,
+    /// Trails to replay.
+    pub trails: Vec<Vec<u16>>,
 }
 
 /// The kinds of questions, and how many in 1,000 are of each.
-const KINDS: [(&str, usize); 8] = [
+const KINDS: [(&str, usize); 10] = [
     ("small", 330),
     ("planted", 250),
     ("long", 60),
     ("damaged", 240),
     ("limits", 60),
+    ("clash", 60),
+    ("last", 30),
     ("wide", 20),
     ("long example", 20),
     ("bare header", 20),
@@ -57,7 +67,11 @@ pub fn case(desk: &Desk, seed: u64, index: u64) -> Case {
     let (question, mut fillings) = question_of(kind, &mut random, desk);
     let asks = asks(&mut random, desk, &question, &mut fillings);
     fillings::more(&mut random, desk, &question, &mut fillings);
-    Case { kind, question, fillings, asks }
+    let trails = match desk.replays && random.chance(1, 2) {
+        true => trails::trails(&mut random, desk, &question),
+        false => Vec::new(),
+    };
+    Case { kind, question, fillings, asks, trails }
 }
 
 /// A question of a kind, and fillings that belong to it.
@@ -68,6 +82,8 @@ fn question_of(kind: &str, random: &mut Random, desk: &Desk) -> (Vec<u16>, Vec<V
         "long" => long(random, desk),
         "damaged" => damaged(random, desk),
         "limits" => (limits::question(random, desk), Vec::new()),
+        "clash" => (clash::question(random, desk), Vec::new()),
+        "last" => (last::question(random, desk), Vec::new()),
         "wide" => {
             let (question, filling) = fillings::wide(random);
             (question, vec![filling])
@@ -91,7 +107,12 @@ fn small(random: &mut Random, desk: &Desk) -> Vec<u16> {
 
 fn random_conjunction(random: &mut Random, pieces: &Pieces, most: usize) -> Conjunction {
     let count = random.below(most + 1).max(random.below(2));
-    let literals: Vec<_> = (0..count).map(|_| pieces.literal(random)).collect();
+    let mut literals: Vec<_> = (0..count).map(|_| pieces.literal(random)).collect();
+    if count > 0 && random.chance(1, 8) {
+        // The same again, for the fold.
+        let again = random.pick(&literals);
+        literals.insert(random.below(count + 1), again);
+    }
     conjunction(&literals)
 }
 
@@ -161,33 +182,35 @@ fn fitted(desk: &Desk, mut question: Question) -> Vec<u16> {
     }
 }
 
-/// Lines and rooms to ask for, and the examples found on the way as fillings.
+/// Examples to ask for, and those found on the way as fillings.
 fn asks(
     random: &mut Random,
     desk: &Desk,
     question: &[u16],
     fillings: &mut Vec<Vec<u16>>,
-) -> Vec<(usize, usize)> {
-    let mut asks = vec![(random.below(3), 4096)];
-    let Ok(question) = crate::read::question(question, &desk.limits) else { return asks };
+) -> Vec<Ask> {
+    let old_sheets = random.chance(1, 2);
+    let ask = |line, room| Ask { line, room, old_sheets };
+    let mut asks = vec![ask(random.below(3), 4096)];
+    let Ok(question) = crate::read::question(question, desk) else { return asks };
     let Ok(run) = crate::run::run(desk, &question) else { return asks };
     if run.lines.is_empty() {
         return asks;
     }
     for _ in 0..2 {
         let line = random.below(run.lines.len());
-        match crate::example::example(&run, &question.declared, line, 4096) {
+        match crate::example::example(desk, &run, &question.declared, ask(line, 4096)) {
             Ok(example) => {
                 let spare = random.pick(&[0, 1, 5000]);
-                asks.push((line, example.len() + spare));
-                asks.push((line, example.len() - 1));
+                asks.push(ask(line, example.len() + spare));
+                asks.push(ask(line, example.len() - 1));
                 fillings.push(example);
             }
-            Err(_) => asks.push((line, random.pick(&[0, 100, 4096, 8192]))),
+            Err(_) => asks.push(ask(line, random.pick(&[0, 100, 4096, 8192]))),
         }
     }
     if random.chance(1, 4) {
-        asks.push((run.lines.len(), random.pick(&[0, 4096])));
+        asks.push(ask(run.lines.len(), random.pick(&[0, 4096])));
     }
     asks
 }
