@@ -31,7 +31,7 @@ fn all_same(items: &[Item]) -> Vec<Vec<Item>> {
         };
         for order in orders {
             let term = Item::Over(*functor, Hedge::new(order));
-            all.extend(rests.iter().map(|rest| [&[term.clone()], &rest[..]].concat()));
+            all.extend(rests.iter().map(|rest| [std::slice::from_ref(&term), &rest[..]].concat()));
         }
     }
     all
