@@ -23,13 +23,13 @@ extern "C" {
 /* Why a call refuses. A refusal comes back as its number, 1 to 16. */
 enum desk_refusal {
     DESK_SHORT_SLICE = 1,      /* the answer has under DESK_ANSWER_BYTES bytes */
-    DESK_QUESTION_LENGTH = 2,  /* question: an odd count of bytes, under 6 or over 1,024 words */
+    DESK_QUESTION_LENGTH = 2,  /* question: an odd count of bytes, under 6 or over 4,096 words */
     DESK_COUNT_RANGE = 3,      /* question: a count out of range */
     DESK_BAD_OFFSET = 4,       /* question: an offset missing or out of place */
     DESK_NOT_LITERALS = 5,     /* question: a conjunction is not exactly literals */
     DESK_UNDECLARED = 6,       /* question: a number that is not declared */
-    DESK_LONG_RESULT = 7,      /* run: a step's result passes 1,024 words */
-    DESK_LONG_WAITING = 8,     /* run: the waiting conjunctions pass 8,192 words */
+    DESK_LONG_RESULT = 7,      /* run: a step's result passes 4,096 words */
+    DESK_LONG_WAITING = 8,     /* run: the waiting conjunctions pass 16,384 words */
     DESK_LINE_ROOM = 9,        /* run: a 513th line, or a line past the answer's end */
     DESK_STEP_LIMIT = 10,      /* run: 10,000 steps made and a rule still applies */
     DESK_FILLING_LAYOUT = 11,  /* filling: an odd count of bytes, its length, count or offsets */
@@ -41,8 +41,8 @@ enum desk_refusal {
 };
 
 /* Bytes of an answer, of the longest question and of the longest filling. */
-#define DESK_ANSWER_BYTES 16384
-#define DESK_QUESTION_BYTES 2048
+#define DESK_ANSWER_BYTES 32768
+#define DESK_QUESTION_BYTES 8192
 #define DESK_FILLING_BYTES 8192
 
 /* Solves a question. Gives 0, or why not: 1 to 10, in this order.

@@ -4,9 +4,20 @@
  * its length and its bytes, and then
  *   s  the answer's length
  *   t  a filling, as its length and its bytes
- *   e  the line and the room's length
+ *   e  the line, the flag for old sheets (taken from request 8 on) and the
+ *      room's length
+ *   p  nothing more
+ *   o  the second pattern, as its length and its bytes, word 0 and the room's
+ *      length; the first pattern stands for the question
+ *   r  the room's length; a text stands for the question
+ *   w  the room's length
+ *   d  the room's length; a day's sheet stands for the question
+ *   S  the answer's and the trail's length
+ *   R  a trail, as its length and its bytes, and the answer's length
+ *   E  a trail, the line, the flag and the room's length
  * Numbers are 32 bits, low byte first. Bytes are lent full of LENT. Each answer
- * is the number that came back and, after s and e, every byte that was lent.
+ * is the number that came back and then every byte that was lent, in the order
+ * of the call.
  *
  *     bridge [TIMES]    makes each call so often: once, if it is not said
  *
@@ -19,6 +30,14 @@
 #include "desk.h"
 
 #define LENT 0xA5
+
+/* How many requests the proved desk has learnt, of ORDER in second/src/desk.rs.
+ * The second desk is compared as the one that knows as many. */
+#define LANDED 1
+
+#if LANDED >= 13
+#include "overlap.h"
+#endif
 
 static void need(int done)
 {
@@ -62,37 +81,117 @@ static void lent_out(uint8_t *bytes, size_t length)
     free(bytes);
 }
 
+/* Makes the call of one request. */
+static void answer_request(int letter, long times)
+{
+    size_t question_len, filling_len;
+    uint8_t *question = bytes_in(&question_len);
+    uint32_t number = 0;
+    if (letter == 's') {
+        size_t length = number_in();
+        uint8_t *answer = block(length);
+        for (long i = 0; i < times; i++)
+            number = desk_solve(question, question_len, answer, length);
+        number_out(number);
+        lent_out(answer, length);
+    } else if (letter == 't') {
+        uint8_t *filling = bytes_in(&filling_len);
+        for (long i = 0; i < times; i++)
+            number = desk_try(question, question_len, filling, filling_len);
+        number_out(number);
+        free(filling);
+#if LANDED >= 5
+    } else if (letter == 'p') {
+        for (long i = 0; i < times; i++)
+            number = desk_place(question, question_len);
+        number_out(number);
+#endif
+#if LANDED >= 10
+    } else if (letter == 'S') {
+        size_t length = number_in(), trail_len = number_in();
+        uint8_t *answer = block(length), *trail = block(trail_len);
+        for (long i = 0; i < times; i++)
+            number = desk_solve_trail(question, question_len, answer, length, trail, trail_len);
+        number_out(number);
+        lent_out(answer, length);
+        lent_out(trail, trail_len);
+    } else if (letter == 'R') {
+        size_t trail_len;
+        uint8_t *trail = bytes_in(&trail_len);
+        size_t length = number_in();
+        uint8_t *answer = block(length);
+        for (long i = 0; i < times; i++)
+            number = desk_replay(question, question_len, trail, trail_len, answer, length);
+        number_out(number);
+        lent_out(answer, length);
+        free(trail);
+    } else if (letter == 'E') {
+        size_t trail_len;
+        uint8_t *trail = bytes_in(&trail_len);
+        uint32_t line = number_in(), old_sheets = number_in();
+        size_t length = number_in();
+        uint8_t *room = block(length);
+        for (long i = 0; i < times; i++)
+            number = desk_example_trail(question, question_len, trail, trail_len, line, old_sheets, room, length);
+        number_out(number);
+        lent_out(room, length);
+        free(trail);
+#endif
+#if LANDED >= 12
+    } else if (letter == 'd') {
+        size_t length = number_in();
+        uint8_t *room = block(length);
+        for (long i = 0; i < times; i++)
+            number = desk_day(question, question_len, room, length);
+        number_out(number);
+        lent_out(room, length);
+#endif
+#if LANDED >= 13
+    } else if (letter == 'o') {
+        size_t second_len;
+        uint8_t *second = bytes_in(&second_len);
+        uint32_t word_0 = number_in();
+        size_t length = number_in();
+        uint8_t *room = block(length);
+        for (long i = 0; i < times; i++)
+            number = overlap_pair(word_0, question, question_len, second, second_len, room, length);
+        number_out(number);
+        lent_out(room, length);
+        free(second);
+#endif
+#if LANDED >= 14
+    } else if (letter == 'r' || letter == 'w') {
+        size_t length = number_in();
+        uint8_t *room = block(length);
+        for (long i = 0; i < times; i++)
+            number = letter == 'r' ? desk_read_text(question, question_len, room, length)
+                                   : desk_write_text(question, question_len, room, length);
+        number_out(number);
+        lent_out(room, length);
+#endif
+    } else {
+        uint32_t line = number_in(), old_sheets = number_in();
+        size_t length = number_in();
+        uint8_t *room = block(length);
+        for (long i = 0; i < times; i++)
+#if LANDED >= 4
+            number = desk_example(question, question_len, line, old_sheets, room, length);
+#else
+            number = desk_example(question, question_len, line, room, length);
+        (void)old_sheets;
+#endif
+        number_out(number);
+        lent_out(room, length);
+    }
+    free(question);
+}
+
 int main(int argc, char **argv)
 {
     long times = argc > 1 ? atol(argv[1]) : 1;
     int letter;
     while ((letter = getchar()) != EOF) {
-        size_t question_len, filling_len;
-        uint8_t *question = bytes_in(&question_len);
-        uint32_t number = 0;
-        if (letter == 's') {
-            size_t length = number_in();
-            uint8_t *answer = block(length);
-            for (long i = 0; i < times; i++)
-                number = desk_solve(question, question_len, answer, length);
-            number_out(number);
-            lent_out(answer, length);
-        } else if (letter == 't') {
-            uint8_t *filling = bytes_in(&filling_len);
-            for (long i = 0; i < times; i++)
-                number = desk_try(question, question_len, filling, filling_len);
-            number_out(number);
-            free(filling);
-        } else {
-            uint32_t line = number_in();
-            size_t length = number_in();
-            uint8_t *room = block(length);
-            for (long i = 0; i < times; i++)
-                number = desk_example(question, question_len, line, room, length);
-            number_out(number);
-            lent_out(room, length);
-        }
-        free(question);
+        answer_request(letter, times);
         fflush(stdout);
     }
     return EXIT_SUCCESS;

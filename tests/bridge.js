@@ -10,6 +10,8 @@ const fs = require("fs");
 
 const LENT = 0xa5;
 const BEHIND = 64;
+// how many requests the desk has learnt, which bridge.c says
+const landed = Number(/^#define LANDED (\d+)/m.exec(fs.readFileSync(__dirname + "/bridge.c", "utf8"))[1]);
 const desk = new WebAssembly.Instance(new WebAssembly.Module(fs.readFileSync(process.argv[2])), {}).exports;
 
 // Bytes of standard input; fewer than asked for only at its end.
@@ -52,8 +54,9 @@ function memory(from, count) {
     return new Uint8Array(desk.memory.buffer, from, count);
 }
 
-// call(blocks, run): lends the blocks, has run called with where each is and its length, and gives the number and the last block's bytes.
-function call(blocks, run) {
+// call(blocks, run, count): lends the blocks, has run called with where each is and its length, and gives the number and the bytes of the
+// last blocks, so many of them.
+function call(blocks, run, count = 1) {
     let at = desk.__heap_base.value;
     const places = [];
     for (const block of blocks) {
@@ -64,7 +67,7 @@ function call(blocks, run) {
     memory(at, BEHIND).fill(LENT);
     const number = run(...places) >>> 0;
     need(memory(at, BEHIND).every((byte) => byte === LENT));
-    const last = blocks[blocks.length - 1].length;
+    const last = blocks.slice(-count).reduce((sum, block) => sum + block.length, 0);
     return [number, memory(at - last, last)];
 }
 
@@ -77,9 +80,30 @@ for (let letter = bytesIn(1); letter.length === 1; letter = bytesIn(1)) {
         [number, bytes] = call([question, lent(numberIn())], desk.desk_solve);
     } else if (letter[0] === 0x74) {
         [number] = call([question, blockIn()], desk.desk_try);
+    } else if (letter[0] === 0x70) {
+        [number] = call([question], desk.desk_place);
+    } else if (letter[0] === 0x6f) {
+        const second = blockIn();
+        const word0 = numberIn();
+        const pair = (...places) => desk.overlap_pair(word0, ...places);
+        [number, bytes] = call([question, second, lent(numberIn())], pair);
+    } else if (letter[0] === 0x72 || letter[0] === 0x77) {
+        const text = letter[0] === 0x72 ? desk.desk_read_text : desk.desk_write_text;
+        [number, bytes] = call([question, lent(numberIn())], text);
+    } else if (letter[0] === 0x64) {
+        [number, bytes] = call([question, lent(numberIn())], desk.desk_day);
+    } else if (letter[0] === 0x53) {
+        [number, bytes] = call([question, lent(numberIn()), lent(numberIn())], desk.desk_solve_trail, 2);
+    } else if (letter[0] === 0x52) {
+        [number, bytes] = call([question, blockIn(), lent(numberIn())], desk.desk_replay);
+    } else if (letter[0] === 0x45) {
+        const trail = blockIn();
+        const flags = [numberIn(), numberIn()];
+        const example = (q, qlen, t, tlen, room, length) => desk.desk_example_trail(q, qlen, t, tlen, ...flags, room, length);
+        [number, bytes] = call([question, trail, lent(numberIn())], example);
     } else {
-        const line = numberIn();
-        const example = (q, qlen, room, length) => desk.desk_example(q, qlen, line, room, length);
+        const flags = landed >= 4 ? [numberIn(), numberIn()] : [numberIn(), numberIn()].slice(0, 1);
+        const example = (q, qlen, room, length) => desk.desk_example(q, qlen, ...flags, room, length);
         [number, bytes] = call([question, lent(numberIn())], example);
     }
     const head = Buffer.alloc(4);

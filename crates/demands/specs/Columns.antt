@@ -27,7 +27,7 @@ column NoSuchLine = as-solved
 column OpenLine = as-solved
 column LongExample = as-solved
 
--- What a slice that held `old` holds after a refusal, if solving leaves `solved` in it. '"Zeros" covers the first 8,192 words; later words of a
+-- What a slice that held `old` holds after a refusal, if solving leaves `solved` in it. '"Zeros" covers the first' 16,384 'words; later words of a
 -- longer slice stay.'
 abbrev pub leftIn : Column → List ℕ → List ℕ → List ℕ
 leftIn unchanged solved old = old

@@ -24,13 +24,13 @@ module _ (L : Limits) (alternatives : List Conj) where
 
   -- what stops the run: "In a step: 10, 7, 8"
   pub data Stops (e : Refusal) : Type 0 where
-    -- "a step's result passes 1,024 words"
+    -- "a step's result passes" 4,096 "words"
     long-result : e ≡ LongResult → {made left : ℕ} {lines : List Conj} (k : Conj) (ks waiting : List Conj) → Reached made (suc left) lines (k ∷ waiting)
         → step k ≡ results ks → anyLong L ks ≡ true → Stops e
-    -- "lengths of waiting conjunctions, plus one for each, pass 8,192"
+    -- "lengths of waiting conjunctions, plus one for each, pass" 16,384
     long-waiting : e ≡ LongWaiting → {made left : ℕ} {lines : List Conj} (k : Conj) (ks waiting : List Conj) → Reached made (suc left) lines (k ∷ waiting)
         → step k ≡ results ks → anyLong L ks ≡ false → L .room < waitingSize (ks ++ waiting) → Stops e
-    -- "a 513th line, or a line past word 8,191"
+    -- "a 513th line, or a line past word" 16,383
     no-line-fits : e ≡ LineRoom → {made left : ℕ} {lines : List Conj} (k : Conj) (waiting : List Conj) → Reached made left lines (k ∷ waiting)
         → step k ≡ nothing → linesFit L (lines ++ (k ∷ [])) ≡ false → Stops e
     -- "10,000 steps made and a rule still applies"

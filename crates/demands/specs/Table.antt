@@ -25,7 +25,7 @@ OutOfRange n c =
     (n .symbols < 1) ⊎ (desk .each < n .symbols) ⊎ (desk .each < n .terms) ⊎ (desk .each < n .hedges) ⊎ (desk .each < n .functions) ⊎ (desk .alternatives < c)
 
 pub data QuestionFault (ws : List ℕ) (e : Refusal) : Type 0 where
-  -- "question under 6 or over 1,024 words"
+  -- "question under 6 or over" 4,096 "words"
   bad-length : e ≡ QuestionLength → (length ws < 6) ⊎ (desk .question < length ws) → QuestionFault ws e
   -- "a count out of range"
   bad-count : e ≡ CountRange → OutOfRange (countsOf ws) (alternativesOf ws) → QuestionFault ws e
@@ -39,7 +39,7 @@ pub data QuestionFault (ws : List ℕ) (e : Refusal) : Type 0 where
 -- ---- solving: 1 to 10
 
 pub data SolveFault (work answer : ℕ) (ws : List ℕ) (e : Refusal) : Type 0 where
-  -- "a lent work or answer slice has under 8,192 words"
+  -- "a lent work or answer slice has under" 16,384 "words"
   short-slice : e ≡ ShortSlice → (work < desk .room) ⊎ (answer < desk .room) → SolveFault work answer ws e
   in-question : QuestionFault ws e → SolveFault work answer ws e
   in-run : (q : Question) → readQuestion desk ws ≡ asks q → Stops desk (q .alternatives) e → SolveFault work answer ws e

@@ -11,3 +11,4 @@ pub mod Made
 pub mod MadeByRules
 pub mod Declared
 pub mod Exact
+pub mod Wider

@@ -1,10 +1,10 @@
 // The limits of the desk, each named once, with the numbers of `desk` in specs/Limits.antt. No other file of code has one of them as a number.
 
 // words of a question, and of a conjunction that a step leaves
-pub const QUESTION: usize = 1024;
+pub const QUESTION: usize = 4096;
 
 // words of a lent slice, of the waiting conjunctions together, and of an answer
-pub const ROOM: usize = 8192;
+pub const ROOM: usize = 16384;
 
 // words of a literal filled in
 pub const LITERAL: usize = 8192;
@@ -22,7 +22,7 @@ pub const STEPS: usize = 10000;
 pub const FILLING: usize = 4096;
 
 // symbols, and variables of each kind
-pub const EACH: u16 = 32;
+pub const EACH: u16 = 128;
 
 // an array that has a place for each number of a kind
 pub const PLACES: usize = EACH as usize;

@@ -24,3 +24,4 @@ pub mod Agreement
 pub mod DeclaredExample
 pub mod Shown
 pub mod Lines
+pub mod Wider

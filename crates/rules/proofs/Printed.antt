@@ -1,10 +1,10 @@
 -- What the paper prints in words: P4 whole, and the limits under its table.
-use Prim.Native.Nat.{ℕ}
+use Prim.Native.Nat.{ℕ, _-_}
 use mathlib.Core.Path.{_≡_, refl}
 use mathlib.Core.List.{List, [], _∷_, _++_}
 use lib.ListN.{replicate}
 use Rattle.language.specs.declared.Refusal.the-variants.{QuestionLength, NotLiterals, Undeclared}
-use Rattle.language.specs.Limits.{desk}
+use Rattle.language.specs.Limits.{Limits, desk, firstDesk}
 use Rattle.language.specs.Kinds.{kindOf, within}
 use Rattle.language.specs.Reading.{reading, readHedge, readExpr, readLiteral, readConj}
 use Rattle.language.specs.Question.{laidOut, parts, lengthFits, countsFit, Asked, asks, refuses, readQuestion}
@@ -19,29 +19,34 @@ pub data Written : Type 0 where
   written : ℕ → List ℕ → Written
   nothing : Written
 
-abbrev pub inWords : Solving → Written
-inWords (answered ls n) = written n (answerWords desk ls)
-inWords (unread r) = nothing
-inWords (given-up r) = nothing
+abbrev pub inWords : Limits → Solving → Written
+inWords L (answered ls n) = written n (answerWords L ls)
+inWords L (unread r) = nothing
+inWords L (given-up r) = nothing
 
--- P4 whole, in slices of 8,192 words
-pub P4-whole :
-    inWords (solving desk 8192 8192 (4 ∷ 0 ∷ 2 ∷ 0 ∷ 1 ∷ 7 ∷ 16 ∷ 5000 ∷ 2000 ∷ 2001 ∷ 0 ∷ 3000 ∷ 0 ∷ 3001 ∷ 0 ∷ 0 ∷ []))
-    ≡ written 1
+-- P4 whole: its words, and those of its answer, n zeros at their end
+abbrev pub P4 : List ℕ
+P4 = 4 ∷ 0 ∷ 2 ∷ 0 ∷ 1 ∷ 7 ∷ 16 ∷ 5000 ∷ 2000 ∷ 2001 ∷ 0 ∷ 3000 ∷ 0 ∷ 3001 ∷ 0 ∷ 0 ∷ []
+
+abbrev pub P4-answer : ℕ → Written
+P4-answer n = written 1
     ((3 ∷ 0 ∷ 515 ∷ 528 ∷ 541 ∷ 554 ∷ replicate 509 0)
     ++ ((1 ∷ 5000 ∷ 2000 ∷ 0 ∷ 0 ∷ 5000 ∷ 2001 ∷ 0 ∷ 3000 ∷ 0 ∷ 3001 ∷ 0 ∷ 0 ∷ [])
     ++ ((1 ∷ 5000 ∷ 2000 ∷ 0 ∷ 3000 ∷ 0 ∷ 0 ∷ 5000 ∷ 2001 ∷ 0 ∷ 3001 ∷ 0 ∷ 0 ∷ [])
-    ++ ((1 ∷ 5000 ∷ 2000 ∷ 0 ∷ 3000 ∷ 0 ∷ 3001 ∷ 0 ∷ 0 ∷ 5000 ∷ 2001 ∷ 0 ∷ 0 ∷ []) ++ replicate 7638 0))))
+    ++ ((1 ∷ 5000 ∷ 2000 ∷ 0 ∷ 3000 ∷ 0 ∷ 3001 ∷ 0 ∷ 0 ∷ 5000 ∷ 2001 ∷ 0 ∷ 0 ∷ []) ++ replicate n 0))))
+
+-- in slices as long as the room, for the desk of today and for the one of which the paper prints it
+pub P4-whole : inWords desk (solving desk (desk .room) (desk .room) P4) ≡ P4-answer 15830
 unfolding solving answerWords readQuestion lengthFits countsFit laidOut parts reading readHedge readExpr readLiteral readConj kindOf within _>>=_ check search step solved runFrom run
 P4-whole = refl
 
+pub P4-first : inWords firstDesk (solving firstDesk (firstDesk .room) (firstDesk .room) P4) ≡ P4-answer 7638
+unfolding solving answerWords readQuestion lengthFits countsFit laidOut parts reading readHedge readExpr readLiteral readConj kindOf within _>>=_ check search step solved runFrom run
+P4-first = refl
+
 -- ---- the limits
 
--- the number of alternatives read, or the refusal
-abbrev pub Read : Asked → Asked → Type 0
-Read r s = r ≡ s
-
--- one equation, H = H for H that is n terms a()
+-- one equation: n hedge variables = ε
 abbrev pub long : ℕ → List ℕ
 long n = 5000 ∷ (replicate n 2000 ++ (0 ∷ 0 ∷ []))
 
@@ -55,12 +60,30 @@ header symbols hedges end = symbols ∷ 0 ∷ hedges ∷ 0 ∷ 1 ∷ 7 ∷ end �
 abbrev pub fine : ℕ → ℕ → Asked
 fine s h = asks (record { counts = record { symbols = s; terms = 0; hedges = h; functions = 0 }; alternatives = [] })
 
+-- a question of so many words, and one with that number of symbols and that symbol
+abbrev pub ofLength : ℕ → List ℕ
+ofLength n = header 1 1 n ++ long (n - 10)
+
+abbrev pub withSymbol : ℕ → ℕ → List ℕ
+withSymbol symbols w = header symbols 0 12 ++ (5000 ∷ w ∷ 0 ∷ 0 ∷ 0 ∷ [])
+
 -- "1,024 question words pass, 1,025 give 2; symbol 3031 passes with 32 declared, gives 6 with 31; 3032 gives 5."
-pub limits-printed :
-    (refusalOf (readQuestion desk (header 1 1 1024 ++ long 1014)) ≡ fine 1 1)
-    × (refusalOf (readQuestion desk (header 1 1 1025 ++ long 1015)) ≡ refuses QuestionLength)
-    × (refusalOf (readQuestion desk (header 32 0 12 ++ (5000 ∷ 3031 ∷ 0 ∷ 0 ∷ 0 ∷ []))) ≡ fine 32 0)
-    × (refusalOf (readQuestion desk (header 31 0 12 ++ (5000 ∷ 3031 ∷ 0 ∷ 0 ∷ 0 ∷ []))) ≡ refuses Undeclared)
-    × (refusalOf (readQuestion desk (header 32 0 12 ++ (5000 ∷ 3032 ∷ 0 ∷ 0 ∷ 0 ∷ []))) ≡ refuses NotLiterals)
+pub first-limits-printed :
+    (refusalOf (readQuestion firstDesk (ofLength 1024)) ≡ fine 1 1)
+    × (refusalOf (readQuestion firstDesk (ofLength 1025)) ≡ refuses QuestionLength)
+    × (refusalOf (readQuestion firstDesk (withSymbol 32 3031)) ≡ fine 32 0)
+    × (refusalOf (readQuestion firstDesk (withSymbol 31 3031)) ≡ refuses Undeclared)
+    × (refusalOf (readQuestion firstDesk (withSymbol 32 3032)) ≡ refuses NotLiterals)
 unfolding readQuestion lengthFits countsFit laidOut parts reading readHedge readExpr readLiteral readConj kindOf within
-limits-printed = (refl, refl, refl, refl, refl)
+first-limits-printed = (refl, refl, refl, refl, refl)
+
+-- the same with the numbers of "Bigger sheets"; what was 5 because no count reached it is 6 now
+pub limits-printed :
+    (refusalOf (readQuestion desk (ofLength 4096)) ≡ fine 1 1)
+    × (refusalOf (readQuestion desk (ofLength 4097)) ≡ refuses QuestionLength)
+    × (refusalOf (readQuestion desk (withSymbol 128 3127)) ≡ fine 128 0)
+    × (refusalOf (readQuestion desk (withSymbol 127 3127)) ≡ refuses Undeclared)
+    × (refusalOf (readQuestion desk (withSymbol 128 3128)) ≡ refuses NotLiterals)
+    × (refusalOf (readQuestion desk (withSymbol 32 3032)) ≡ refuses Undeclared)
+unfolding readQuestion lengthFits countsFit laidOut parts reading readHedge readExpr readLiteral readConj kindOf within
+limits-printed = (refl, refl, refl, refl, refl, refl)

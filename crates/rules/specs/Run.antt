@@ -17,7 +17,7 @@ use Rattle.rules.specs.Step.{step}
 abbrev pub size : Conj → ℕ
 size k = length (conjWords k)
 
--- "7: a step's result passes 1,024 words"
+-- "7: a step's result passes" 4,096 "words"
 abbrev pub anyLong : Limits → List Conj → Bool
 anyLong L [] = false
 anyLong L (k ∷ ks) = ltb (L .question) (size k) || anyLong L ks

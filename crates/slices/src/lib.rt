@@ -47,7 +47,7 @@ pub fn store(s: &mut [u16], i: usize, n: usize)
     s[i] = n as u16;
 }
 
-// Zeros in the first 8,192 words.
+// Zeros in the first 16,384 words.
 pub fn clear(s: &mut [u16])
     requires { ⌜ desk .room ≤ length (now s) ⌝ }
     ensures { λ _. ⌜ now (s .exit) ≡ overwritten desk (zeros desk) (now (s .entry)) ⌝ }

@@ -25,7 +25,7 @@ pub record SameWords (a b : List ℕ) (r : Bool) : Type 0 where
   pub same : r ≡ true → a ≡ b
   pub other : r ≡ false → a ≡ b → ⊥
 
--- the work slice keeps its length, and its words from 8,192 on
+-- the work slice keeps its length, and its words from 16,384 on
 pub record Keeps (w w′ : List ℕ) : Type 0 where
   pub len : length w′ ≡ length w
   pub later : drop (desk .room) w′ ≡ drop (desk .room) w

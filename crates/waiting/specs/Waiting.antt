@@ -1,4 +1,4 @@
--- Blocks of words that wait in a lent slice: the first at the low end, each in its frame, the last ending at word 8,191.
+-- Blocks of words that wait in a lent slice: the first at the low end, each in its frame, the last ending at word 16,383.
 use Prim.Native.Nat.{ℕ, _+_}
 use mathlib.Core.Path.{_≡_}
 use mathlib.Core.List.{List, _++_}

@@ -1,4 +1,4 @@
-// Conjunctions that wait in a lent slice: the first at the low end, each in its frame, the last ending at word 8,191.
+// Conjunctions that wait in a lent slice: the first at the low end, each in its frame, the last ending at word 16,383.
 ghost use Prim.Native.Nat.{_+_, _-_, _≤_, _<_};
 ghost use mathlib.Core.Path.{_≡_};
 ghost use mathlib.Core.Bool.{true};

@@ -14,12 +14,12 @@ fn explain<'a>(meaning: &'a [u8], remedy: &'a [u8]) {
 fn of_question(n: u64) {
     match n {
         2 => explain(
-            b"the question has under 6 or over 1,024 words",
+            b"the question has under 6 or over 4,096 words",
             b"Look for words that are left out, or ask in several questions.",
         ),
         3 => explain(
             b"a count of the question is out of range",
-            b"The first five words count symbols (1 to 32), term, hedge and function variables (0 to 32 each) and conjunctions (0 to 16).",
+            b"The first five words count symbols (1 to 128), term, hedge and function variables (0 to 128 each) and conjunctions (0 to 16).",
         ),
         4 => explain(
             b"an offset of the question is missing or out of place",
@@ -40,11 +40,11 @@ fn of_question(n: u64) {
 fn of_run(n: u64) {
     match n {
         7 => explain(
-            b"a step's result is longer than 1,024 words",
+            b"a step's result is longer than 4,096 words",
             b"Ask a smaller question.",
         ),
         8 => explain(
-            b"the waiting conjunctions are longer than 8,192 words together",
+            b"the waiting conjunctions are longer than 16,384 words together",
             b"Ask about one alternative at a time, or add what is known.",
         ),
         9 => explain(

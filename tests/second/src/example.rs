@@ -1,40 +1,54 @@
 //! The example of a solved line, written as a filling.
 
+use crate::counts::Counts;
+use crate::desk::Desk;
 use crate::filling::Filling;
 use crate::literal::{Claim, Conjunction};
 use crate::read::Declared;
 use crate::run::Run;
 use crate::solved::solved_side;
-use crate::tree::{repeated, Functor, Hedge, Item};
+use crate::tree::{Functor, Hedge, Item};
 use crate::words::{Refusal, END, FILLING_MOST};
 
+/// Which example is asked for.
+#[derive(Clone, Copy, Debug)]
+pub struct Ask {
+    /// The line, the first one 0.
+    pub line: usize,
+    /// Words of room.
+    pub room: usize,
+    /// Whether free blanks take symbol 0, as on old training sheets.
+    pub old_sheets: bool,
+}
+
 /// The words of a line's example, or 14, 15 or 16.
-pub fn example(
-    run: &Run,
-    declared: &Declared,
-    line: usize,
-    room: usize,
-) -> Result<Vec<u16>, Refusal> {
-    let line = run.lines.get(line).ok_or(Refusal::NoSuchLine)?;
+pub fn example(desk: &Desk, run: &Run, declared: &Declared, ask: Ask) -> Result<Vec<u16>, Refusal> {
+    let line = run.lines.get(ask.line).ok_or(Refusal::NoSuchLine)?;
     if !line.solved {
         return Err(Refusal::OpenLine);
     }
-    let filling = values(&line.conjunction, declared, room.min(FILLING_MOST))?;
-    if words(&filling) > room.min(FILLING_MOST) {
+    let simplest = match desk.placeholder && !ask.old_sheets {
+        true => Functor::Symbol((declared.symbols - 1) as u8),
+        false => Functor::Symbol(0),
+    };
+    let most = ask.room.min(FILLING_MOST);
+    let filling =
+        values(&line.conjunction, free_values(&line.conjunction, declared, simplest), most)?;
+    if words(&filling) > most {
         return Err(Refusal::ExampleTooLong);
     }
     Ok(write(&filling))
 }
 
-/// The value of each variable; 16 as soon as one alone passes `most` words.
-fn values(line: &Conjunction, declared: &Declared, most: usize) -> Result<Filling, Refusal> {
-    let free = free_values(line, declared);
+/// The value of each variable, by those of the free ones; 16 as soon as one
+/// alone passes `most` words.
+fn values(line: &Conjunction, free: Filling, most: usize) -> Result<Filling, Refusal> {
     let mut filling = free.clone();
-    let shared = repeated(line.literals().iter().map(|literal| literal.variables()));
+    let counts = Counts::of(line);
     for literal in line.literals() {
         let Claim::Equation(left, right) = literal.claim() else { continue };
         let (variable, value) =
-            solved_side(left, right, shared).expect("a solved line's equations are solved");
+            solved_side(left, right, &counts).expect("a solved line's equations are solved");
         if free.filled_words(value) > most {
             return Err(Refusal::ExampleTooLong);
         }
@@ -54,8 +68,7 @@ fn values(line: &Conjunction, declared: &Declared, most: usize) -> Result<Fillin
 
 /// The values of the variables that no equation solves: the sample of their
 /// membership, or else the simplest value of their kind.
-fn free_values(line: &Conjunction, declared: &Declared) -> Filling {
-    let simplest = Functor::Symbol(0);
+fn free_values(line: &Conjunction, declared: &Declared, simplest: Functor) -> Filling {
     let mut filling = Filling {
         terms: vec![Hedge::bare(simplest); declared.terms as usize],
         hedges: vec![Hedge::EMPTY; declared.hedges as usize],

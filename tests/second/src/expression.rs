@@ -3,11 +3,11 @@
 
 use std::rc::Rc;
 
-use crate::tree::{Functor, Hedge, Item};
+use crate::tree::{mixed, Functor, Hedge, Item};
 use crate::words::{CHOICE, CONCATENATION, EPS, STAR, SYMBOL};
 
 /// An expression; its parts are shared with the expressions made from it.
-#[derive(Clone, Debug)]
+#[derive(Clone, PartialEq, Debug)]
 pub enum Expression {
     Eps,
     Concatenation(Rc<Two>),
@@ -16,11 +16,12 @@ pub enum Expression {
     Over(u8, Rc<One>),
 }
 
-/// The part of a star or of a symbol, and the length of the whole.
+/// The part of a star or of a symbol, and what is known of the whole.
 #[derive(Debug)]
 pub struct One {
     pub inner: Expression,
     words: usize,
+    hash: u64,
 }
 
 /// The parts of a concatenation or a choice, and what is known of the whole.
@@ -30,29 +31,34 @@ pub struct Two {
     pub right: Expression,
     words: usize,
     has_empty: bool,
+    hash: u64,
 }
 
 impl Expression {
     pub fn concatenation(left: Expression, right: Expression) -> Expression {
         let words = 1 + left.words() + right.words();
         let has_empty = left.has_empty() && right.has_empty();
-        Expression::Concatenation(Rc::new(Two { left, right, words, has_empty }))
+        let hash = mixed(mixed(CONCATENATION as u64, left.hash()), right.hash());
+        Expression::Concatenation(Rc::new(Two { left, right, words, has_empty, hash }))
     }
 
     pub fn choice(left: Expression, right: Expression) -> Expression {
         let words = 1 + left.words() + right.words();
         let has_empty = left.has_empty() || right.has_empty();
-        Expression::Choice(Rc::new(Two { left, right, words, has_empty }))
+        let hash = mixed(mixed(CHOICE as u64, left.hash()), right.hash());
+        Expression::Choice(Rc::new(Two { left, right, words, has_empty, hash }))
     }
 
     pub fn star(inner: Expression) -> Expression {
         let words = 1 + inner.words();
-        Expression::Star(Rc::new(One { inner, words }))
+        let hash = mixed(STAR as u64, inner.hash());
+        Expression::Star(Rc::new(One { inner, words, hash }))
     }
 
     pub fn over(symbol: u8, inner: Expression) -> Expression {
         let words = 1 + inner.words();
-        Expression::Over(symbol, Rc::new(One { inner, words }))
+        let hash = mixed((SYMBOL + symbol as u16) as u64, inner.hash());
+        Expression::Over(symbol, Rc::new(One { inner, words, hash }))
     }
 
     pub fn is_eps(&self) -> bool {
@@ -67,12 +73,32 @@ impl Expression {
         }
     }
 
+    pub fn hash(&self) -> u64 {
+        match self {
+            Expression::Eps => EPS as u64,
+            Expression::Concatenation(two) | Expression::Choice(two) => two.hash,
+            Expression::Star(one) | Expression::Over(_, one) => one.hash,
+        }
+    }
+
     /// Whether the empty hedge is a member.
     pub fn has_empty(&self) -> bool {
         match self {
             Expression::Eps | Expression::Star(_) => true,
             Expression::Concatenation(two) | Expression::Choice(two) => two.has_empty,
             Expression::Over(..) => false,
+        }
+    }
+
+    /// Whether such a symbol stands anywhere in it.
+    pub fn mentions(&self, such: &dyn Fn(u8) -> bool) -> bool {
+        match self {
+            Expression::Eps => false,
+            Expression::Concatenation(two) | Expression::Choice(two) => {
+                two.left.mentions(such) || two.right.mentions(such)
+            }
+            Expression::Star(one) => one.inner.mentions(such),
+            Expression::Over(symbol, one) => such(*symbol) || one.inner.mentions(such),
         }
     }
 
@@ -153,6 +179,25 @@ impl Two {
         out.push(head);
         self.left.write(out);
         self.right.write(out);
+    }
+}
+
+/// The same words, since parts determine them; the lengths and hashes come
+/// first because they mostly tell.
+impl PartialEq for One {
+    fn eq(&self, other: &One) -> bool {
+        std::ptr::eq(self, other)
+            || (self.hash == other.hash && self.words == other.words && self.inner == other.inner)
+    }
+}
+
+impl PartialEq for Two {
+    fn eq(&self, other: &Two) -> bool {
+        std::ptr::eq(self, other)
+            || (self.hash == other.hash
+                && self.words == other.words
+                && self.left == other.left
+                && self.right == other.right)
     }
 }
 

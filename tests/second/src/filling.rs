@@ -3,6 +3,7 @@
 use crate::literal::{Claim, Literal};
 use crate::member::is_member;
 use crate::read::{offsets, whole_hedge, Declared, Question};
+use crate::same::same;
 use crate::tree::{Functor, Hedge, Item};
 use crate::words::{Refusal, FILLED_MOST, FILLING_MOST};
 
@@ -101,10 +102,12 @@ impl Filling {
     }
 
     /// Whether the filling meets a literal.
-    fn meets(&self, literal: &Literal) -> bool {
+    fn meets(&self, declared: &Declared, literal: &Literal) -> bool {
         match literal.claim() {
-            Claim::Equation(left, right) => self.filled(left) == self.filled(right),
-            Claim::Membership(hedge, expression) => is_member(&self.filled(hedge), expression),
+            Claim::Equation(left, right) => same(declared, &self.filled(left), &self.filled(right)),
+            Claim::Membership(hedge, expression) => {
+                is_member(declared, &self.filled(hedge), expression)
+            }
         }
     }
 
@@ -115,8 +118,7 @@ impl Filling {
         if literals.any(|literal| self.literal_words(literal) > FILLED_MOST) {
             return Err(Refusal::FilledTooLong);
         }
-        let meets_all =
-            |literals: &[std::rc::Rc<Literal>]| literals.iter().all(|literal| self.meets(literal));
-        Ok(question.conjunctions.iter().any(|one| meets_all(one.literals())))
+        let meets = |literal: &std::rc::Rc<Literal>| self.meets(&question.declared, literal);
+        Ok(question.conjunctions.iter().any(|one| one.literals().iter().all(meets)))
     }
 }

@@ -1,15 +1,17 @@
 //! Literals and conjunctions. A literal knows its length, its variables and
 //! the rule it allows by itself; conjunctions share their literals.
 
+use std::cell::OnceCell;
 use std::rc::Rc;
 
 use crate::expression::Expression;
+use crate::read::Declared;
 use crate::rules::{reach, Reach};
-use crate::tree::{Hedge, Variables};
+use crate::tree::{mixed, Hedge, Variables};
 use crate::words::{END, EQUATION, MEMBERSHIP};
 
 /// What a literal says.
-#[derive(Clone, Debug)]
+#[derive(Clone, PartialEq, Debug)]
 pub enum Claim {
     Equation(Hedge, Hedge),
     Membership(Hedge, Expression),
@@ -20,7 +22,7 @@ pub struct Literal {
     claim: Claim,
     words: usize,
     variables: Variables,
-    reach: Reach,
+    reach: OnceCell<Reach>,
 }
 
 impl Literal {
@@ -33,8 +35,7 @@ impl Literal {
                 (2 + hedge.words() + expression.words(), hedge.variables())
             }
         };
-        let reach = reach(&claim);
-        Rc::new(Literal { claim, words, variables, reach })
+        Rc::new(Literal { claim, words, variables, reach: OnceCell::new() })
     }
 
     pub fn equation(left: Hedge, right: Hedge) -> Rc<Literal> {
@@ -53,12 +54,31 @@ impl Literal {
         self.words
     }
 
+    /// A number that differs for most literals with different words.
+    pub fn hash(&self) -> u64 {
+        match &self.claim {
+            Claim::Equation(left, right) => {
+                mixed(mixed(EQUATION as u64, left.hash()), right.hash())
+            }
+            Claim::Membership(hedge, expression) => {
+                mixed(mixed(MEMBERSHIP as u64, hedge.hash()), expression.hash())
+            }
+        }
+    }
+
+    /// The same words.
+    pub fn same(&self, other: &Literal) -> bool {
+        self.words == other.words && self.claim == other.claim
+    }
+
     pub fn variables(&self) -> Variables {
         self.variables
     }
 
-    pub fn reach(&self) -> &Reach {
-        &self.reach
+    /// The rule it allows by itself, looked for once: a literal belongs to one
+    /// question, and so to one declaration.
+    pub fn reach(&self, declared: &Declared) -> &Reach {
+        self.reach.get_or_init(|| reach(declared, &self.claim))
     }
 
     pub fn write(&self, out: &mut Vec<u16>) {

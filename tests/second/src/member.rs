@@ -6,11 +6,14 @@
 //! marks on, once through the expression, so the whole takes no more than the
 //! words of the hedge times the words of the expression.
 
+use crate::any_order::some_order;
 use crate::expression::Expression;
+use crate::read::Declared;
 use crate::tree::{Functor, Hedge, Item};
 
-/// Membership as in the paper.
-pub fn is_member(hedge: &Hedge, expression: &Expression) -> bool {
+/// Membership as in the paper; under an unordered symbol some order of the
+/// children has to be a member.
+pub fn is_member(declared: &Declared, hedge: &Hedge, expression: &Expression) -> bool {
     if hedge.is_empty() {
         return expression.has_empty();
     }
@@ -18,7 +21,7 @@ pub fn is_member(hedge: &Hedge, expression: &Expression) -> bool {
     number_parts(expression, &mut ended);
     let mut whole = false;
     for (place, item) in hedge.items().iter().enumerate() {
-        let mut pass = Pass { item, ended: &mut ended, next: 0, alive: false };
+        let mut pass = Pass { declared, item, ended: &mut ended, next: 0, alive: false };
         whole = pass.shift(expression, place == 0);
         if !pass.alive {
             return false;
@@ -43,6 +46,7 @@ fn number_parts(expression: &Expression, ended: &mut Vec<bool>) {
 
 /// One term read.
 struct Pass<'a> {
+    declared: &'a Declared,
     item: &'a Item,
     /// For each part, whether it was ended before this term; then, after.
     ended: &'a mut [bool],
@@ -60,7 +64,7 @@ impl Pass<'_> {
         let ended = match expression {
             Expression::Eps => false,
             Expression::Over(symbol, one) => {
-                let read = open && is_over(self.item, *symbol, &one.inner);
+                let read = open && is_over(self.declared, self.item, *symbol, &one.inner);
                 self.alive |= read;
                 read
             }
@@ -86,9 +90,15 @@ impl Pass<'_> {
 }
 
 /// Whether a term is the symbol over a member of the expression.
-fn is_over(item: &Item, symbol: u8, inner: &Expression) -> bool {
+pub fn is_over(declared: &Declared, item: &Item, symbol: u8, inner: &Expression) -> bool {
     match item {
-        Item::Over(Functor::Symbol(f), children) => *f == symbol && is_member(children, inner),
+        Item::Over(Functor::Symbol(f), children) if *f == symbol => {
+            if declared.is_unordered(symbol) {
+                some_order(declared, children.items(), inner)
+            } else {
+                is_member(declared, children, inner)
+            }
+        }
         _ => false,
     }
 }

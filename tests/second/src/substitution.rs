@@ -9,7 +9,7 @@ use std::rc::Rc;
 pub enum Substitution {
     Term(u8, Item),
     /// The same hedge for each variable of a set.
-    Hedges(u32, Hedge),
+    Hedges(u128, Hedge),
     Function(u8, Functor),
 }
 

@@ -8,9 +8,9 @@ use crate::words::{END, FUNCTION_VARIABLE, HEDGE_VARIABLE, SYMBOL, TERM_VARIABLE
 /// A set of variables, one bit for each number of each kind.
 #[derive(Clone, Copy, PartialEq, Eq, Default, Debug)]
 pub struct Variables {
-    pub term: u32,
-    pub hedge: u32,
-    pub function: u32,
+    pub term: u128,
+    pub hedge: u128,
+    pub function: u128,
 }
 
 impl Variables {
@@ -68,6 +68,12 @@ pub fn repeated(sets: impl Iterator<Item = Variables>) -> Variables {
     twice
 }
 
+/// Numbers mixed into one, by which different trees are told apart quickly.
+pub fn mixed(hash: u64, number: u64) -> u64 {
+    let mixed = (hash ^ number).wrapping_mul(0x9E37_79B9_7F4A_7C15);
+    mixed ^ (mixed >> 29)
+}
+
 /// A symbol or a function variable.
 #[derive(Clone, Copy, PartialEq, Eq, Debug)]
 pub enum Functor {
@@ -123,6 +129,14 @@ impl Item {
         }
     }
 
+    fn hash(&self) -> u64 {
+        match self {
+            Item::TermVariable(number) => (TERM_VARIABLE + *number as u16) as u64,
+            Item::HedgeVariable(number) => (HEDGE_VARIABLE + *number as u16) as u64,
+            Item::Over(functor, children) => mixed(functor.word() as u64, children.hash()),
+        }
+    }
+
     fn write(&self, out: &mut Vec<u16>) {
         match self {
             Item::TermVariable(number) => out.push(TERM_VARIABLE + *number as u16),
@@ -145,6 +159,7 @@ struct Node {
     items: Vec<Item>,
     words: usize,
     variables: Variables,
+    hash: u64,
 }
 
 impl Hedge {
@@ -156,7 +171,8 @@ impl Hedge {
         }
         let words = items.iter().map(Item::words).sum();
         let variables = items.iter().fold(Variables::NONE, |set, item| set.union(item.variables()));
-        Hedge(Some(Rc::new(Node { items, words, variables })))
+        let hash = items.iter().fold(1, |hash, item| mixed(hash, item.hash()));
+        Hedge(Some(Rc::new(Node { items, words, variables, hash })))
     }
 
     pub fn one(item: Item) -> Hedge {
@@ -190,6 +206,10 @@ impl Hedge {
 
     pub fn variables(&self) -> Variables {
         self.0.as_ref().map_or(Variables::NONE, |node| node.variables)
+    }
+
+    pub fn hash(&self) -> u64 {
+        self.0.as_ref().map_or(0, |node| node.hash)
     }
 
     pub fn has_term(&self) -> bool {
@@ -252,8 +272,7 @@ impl PartialEq for Hedge {
         match (&self.0, &other.0) {
             (None, None) => true,
             (Some(a), Some(b)) => {
-                Rc::ptr_eq(a, b)
-                    || (a.words == b.words && a.variables == b.variables && a.items == b.items)
+                Rc::ptr_eq(a, b) || (a.hash == b.hash && a.words == b.words && a.items == b.items)
             }
             _ => false,
         }

@@ -2,12 +2,13 @@
 
 /// The end of a hedge.
 pub const END: u16 = 0;
-/// First word of each numbered kind; each kind has `KIND` words.
+/// First word of each numbered kind; each kind has as many words as a desk's
+/// limits say, and `KIND_MOST` at most.
 pub const TERM_VARIABLE: u16 = 1000;
 pub const HEDGE_VARIABLE: u16 = 2000;
 pub const SYMBOL: u16 = 3000;
 pub const FUNCTION_VARIABLE: u16 = 4000;
-pub const KIND: u16 = 32;
+pub const KIND_MOST: u16 = 128;
 /// The heads of literals.
 pub const EQUATION: u16 = 5000;
 pub const MEMBERSHIP: u16 = 6000;
@@ -21,15 +22,11 @@ pub const STAR: u16 = 7003;
 pub const MARK_SOLVED: u16 = 1;
 pub const MARK_OPEN: u16 = 2;
 
-/// The least and the greatest length of a question.
+/// The least length of a question.
 pub const QUESTION_LEAST: usize = 6;
-pub const QUESTION_MOST: usize = 1024;
-/// The greatest length of a conjunction that a step may leave.
-pub const RESULT_MOST: usize = 1024;
-/// The greatest sum of the waiting conjunctions' lengths, each plus one.
-pub const WAITING_MOST: usize = 8192;
-/// The length of an answer, the place of its first line, and its most lines.
-pub const ANSWER: usize = 8192;
+/// The most conjunctions of a question.
+pub const CONJUNCTIONS_MOST: u16 = 16;
+/// The place of an answer's first line, and its most lines.
 pub const FIRST_LINE: usize = 515;
 pub const LINES_MOST: usize = 512;
 /// The most steps of a run.
@@ -56,15 +53,26 @@ pub enum Word {
     Malformed,
 }
 
-/// Tells what a word is.
-pub fn classify(word: u16) -> Word {
-    let number = |first: u16| (word - first) as u8;
+/// Tells what a word is where each kind has `kind` numbers.
+pub fn classify(word: u16, kind: u16) -> Word {
+    let numbered = |first: u16| {
+        let number = word.checked_sub(first)?;
+        (number < kind).then_some(number as u8)
+    };
+    if let Some(number) = numbered(TERM_VARIABLE) {
+        return Word::TermVariable(number);
+    }
+    if let Some(number) = numbered(HEDGE_VARIABLE) {
+        return Word::HedgeVariable(number);
+    }
+    if let Some(number) = numbered(SYMBOL) {
+        return Word::Symbol(number);
+    }
+    if let Some(number) = numbered(FUNCTION_VARIABLE) {
+        return Word::FunctionVariable(number);
+    }
     match word {
         END => Word::End,
-        1000..=1031 => Word::TermVariable(number(TERM_VARIABLE)),
-        2000..=2031 => Word::HedgeVariable(number(HEDGE_VARIABLE)),
-        3000..=3031 => Word::Symbol(number(SYMBOL)),
-        4000..=4031 => Word::FunctionVariable(number(FUNCTION_VARIABLE)),
         EQUATION => Word::Equation,
         MEMBERSHIP => Word::Membership,
         EPS => Word::Eps,
@@ -75,7 +83,7 @@ pub fn classify(word: u16) -> Word {
     }
 }
 
-/// A number that comes back, 2 to 16.
+/// A number that comes back.
 #[derive(Clone, Copy, PartialEq, Eq, Debug)]
 pub enum Refusal {
     Length = 2,
@@ -93,11 +101,45 @@ pub enum Refusal {
     NoSuchLine = 14,
     OpenLine = 15,
     ExampleTooLong = 16,
+    Text = 17,
+    TextNames = 18,
+    TextRoom = 19,
+    Numbering = 20,
+    WalkTooLong = 21,
+    SheetHeader = 22,
+    DayRoom = 23,
+    TooManyRules = 24,
+    TooManyBlanks = 25,
+    NoSuchStep = 26,
+    TrailTooShort = 27,
+    TrailTooLong = 28,
+    TrailRoom = 29,
 }
 
 impl Refusal {
     /// The number itself.
     pub fn number(self) -> u16 {
         self as u16
+    }
+}
+
+/// A call refused: the number, and the word of the question at which the
+/// reader stopped, for 5 and 6; else 0.
+#[derive(Clone, Copy, PartialEq, Eq, Debug)]
+pub struct Refused {
+    pub refusal: Refusal,
+    pub place: usize,
+}
+
+impl Refused {
+    pub fn number(self) -> u16 {
+        self.refusal.number()
+    }
+}
+
+/// Refused at no place.
+impl From<Refusal> for Refused {
+    fn from(refusal: Refusal) -> Refused {
+        Refused { refusal, place: 0 }
     }
 }

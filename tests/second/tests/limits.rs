@@ -1,6 +1,6 @@
 //! The limits of a run and of a filling, met exactly and passed by one.
 
-use second::{solve, try_filling};
+use second::{Desk, Refused};
 
 fn question(header: [u16; 4], conjunctions: &[Vec<u16>]) -> Vec<u16> {
     let count = conjunctions.len() as u16;
@@ -42,7 +42,7 @@ fn result_of_1024_words() {
         literals.extend([3000, 0].repeat(50));
         literals.extend([0, 0]);
         literals.extend(padding(2000, pad));
-        solve(&question([1, 2, 1, 0], &[literals])).refusal
+        Desk::BASE.solve(&question([1, 2, 1, 0], &[literals])).refusal
     };
     assert_eq!(refusal(1024 - 316), 0);
     assert_eq!(refusal(1024 - 316 + 1), 7);
@@ -60,26 +60,26 @@ fn cuts(pad: usize, second: usize) -> Vec<u16> {
 #[test]
 fn waiting_8192_words() {
     // 21 * (49 + 340) = 8169, and 23 for the second alternative.
-    assert_eq!(solve(&cuts(340, 22)).refusal, 9);
-    assert_eq!(solve(&cuts(340, 23)).refusal, 8);
+    assert_eq!(Desk::BASE.solve(&cuts(340, 22)).refusal, 9);
+    assert_eq!(Desk::BASE.solve(&cuts(340, 23)).refusal, 8);
 }
 
 #[test]
 fn last_word_of_an_answer() {
     // 515 + 21 * (49 + 315) = 8159, and 33 for the second alternative.
-    let out = solve(&cuts(315, 32));
+    let out = Desk::BASE.solve(&cuts(315, 32));
     assert_eq!((out.refusal, out.lines), (0, 22));
     assert_eq!(out.answer[2 + 22], 8192);
     assert_eq!(out.answer[8191], 7000);
-    assert_eq!(solve(&cuts(315, 33)).refusal, 9);
+    assert_eq!(Desk::BASE.solve(&cuts(315, 33)).refusal, 9);
 }
 
 #[test]
 fn lines_512() {
     let product = [membership(&[1000], choices(16)), membership(&[1001], choices(32))].concat();
-    let out = solve(&question([1, 2, 0, 0], std::slice::from_ref(&product)));
+    let out = Desk::BASE.solve(&question([1, 2, 0, 0], std::slice::from_ref(&product)));
     assert_eq!((out.refusal, out.lines, out.steps), (0, 512, 15 + 16 * 31));
-    assert_eq!(solve(&question([1, 2, 0, 0], &[product, vec![]])).refusal, 9);
+    assert_eq!(Desk::BASE.solve(&question([1, 2, 0, 0], &[product, vec![]])).refusal, 9);
 }
 
 #[test]
@@ -92,7 +92,8 @@ fn steps_10000() {
     .concat();
     let clash = vec![5000, 3000, 0, 0, 3001, 0, 0];
     let steps = |more: &[Vec<u16>]| {
-        let out = solve(&question([2, 2, 0, 0], &[std::slice::from_ref(&failing), more].concat()));
+        let out = Desk::BASE
+            .solve(&question([2, 2, 0, 0], &[std::slice::from_ref(&failing), more].concat()));
         (out.refusal, out.lines, out.steps)
     };
     assert_eq!(steps(&[]), (0, 0, 9_999));
@@ -117,7 +118,9 @@ fn filled_literal_of_8192_words() {
         literal.extend([7003].repeat(stars));
         literal.extend([3000, 7000]);
         // An empty alternative is met, but the length is decided before.
-        try_filling(&question([1, 0, 1, 0], &[vec![], literal]), &leaves(1022))
+        Desk::BASE
+            .try_filling(&question([1, 0, 1, 0], &[vec![], literal]), &leaves(1022))
+            .map_err(Refused::number)
     };
     assert_eq!(tried(12), Ok(true));
     assert_eq!(tried(13), Err(13));
@@ -127,8 +130,8 @@ fn filled_literal_of_8192_words() {
 fn filling_of_4096_words() {
     let asked = question([1, 0, 1, 0], &[vec![]]);
     assert_eq!(leaves(2046).len(), 4096);
-    assert_eq!(try_filling(&asked, &leaves(2046)), Ok(true));
-    assert_eq!(try_filling(&asked, &leaves(2047)), Err(11));
+    assert_eq!(Desk::BASE.try_filling(&asked, &leaves(2046)).map_err(Refused::number), Ok(true));
+    assert_eq!(Desk::BASE.try_filling(&asked, &leaves(2047)).map_err(Refused::number), Err(11));
 }
 
 #[test]
@@ -145,6 +148,6 @@ fn deep_filling_in_a_deep_question() {
     filling.extend([3000].repeat(2046));
     filling.resize(4096, 0);
     let asked = question([1, 0, 1, 0], &[literal]);
-    assert_eq!(try_filling(&asked, &filling), Ok(false));
-    assert_eq!(try_filling(&asked, &leaves(1000)), Ok(true));
+    assert_eq!(Desk::BASE.try_filling(&asked, &filling).map_err(Refused::number), Ok(false));
+    assert_eq!(Desk::BASE.try_filling(&asked, &leaves(1000)).map_err(Refused::number), Ok(true));
 }

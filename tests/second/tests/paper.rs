@@ -1,7 +1,7 @@
 //! The cases P1 to P12 of the request, with their lines and steps, and the
 //! limits it names.
 
-use second::{example, solve, try_filling, Verdict};
+use second::{Ask, Desk, Refused, Verdict};
 
 /// A question of four symbols a, b, f, g and so many variables of each kind.
 fn question(terms: u16, hedges: u16, functions: u16, conjunctions: &[&[u16]]) -> Vec<u16> {
@@ -18,7 +18,7 @@ fn question(terms: u16, hedges: u16, functions: u16, conjunctions: &[&[u16]]) ->
 
 /// Checks the whole answer: lines with their marks, and steps.
 fn check(question: &[u16], lines: &[&[u16]], steps: u32) {
-    let out = solve(question);
+    let out = Desk::BASE.solve(question);
     let open = lines.iter().filter(|line| line[0] == 2).count() as u16;
     let mut answer = vec![0; 8192];
     answer[0] = lines.len() as u16;
@@ -65,7 +65,7 @@ fn p4_two_hedge_variables() {
         &[1, 5000, 2000, 0, 3000, 0, 3001, 0, 0, 5000, 2001, 0, 0],
     ];
     check(&asked, &lines, 1);
-    assert_eq!(solve(&asked).answer[..6], [3, 0, 515, 528, 541, 554]);
+    assert_eq!(Desk::BASE.solve(&asked).answer[..6], [3, 0, 515, 528, 541, 554]);
 }
 
 #[test]
@@ -140,11 +140,11 @@ fn long_question(words: usize) -> Vec<u16> {
 #[test]
 fn length_of_a_question() {
     assert_eq!(long_question(1024).len(), 1024);
-    assert_eq!(solve(&long_question(1024)).refusal, 0);
-    assert_eq!(solve(&long_question(1025)).refusal, 2);
-    assert_eq!(solve(&[1, 0, 0, 0, 0]).refusal, 2);
-    assert_eq!(solve(&[]).refusal, 2);
-    assert_eq!(solve(&[1, 0, 0, 0, 0, 6]).refusal, 0);
+    assert_eq!(Desk::BASE.solve(&long_question(1024)).refusal, 0);
+    assert_eq!(Desk::BASE.solve(&long_question(1025)).refusal, 2);
+    assert_eq!(Desk::BASE.solve(&[1, 0, 0, 0, 0]).refusal, 2);
+    assert_eq!(Desk::BASE.solve(&[]).refusal, 2);
+    assert_eq!(Desk::BASE.solve(&[1, 0, 0, 0, 0, 6]).refusal, 0);
 }
 
 #[test]
@@ -152,7 +152,7 @@ fn last_symbol() {
     let with = |symbols: u16, symbol: u16| {
         let mut asked = question(0, 1, 0, &[&[5000, 2000, 0, symbol, 0, 0]]);
         asked[0] = symbols;
-        solve(&asked).refusal
+        Desk::BASE.solve(&asked).refusal
     };
     assert_eq!(with(32, 3031), 0);
     assert_eq!(with(31, 3031), 6);
@@ -163,34 +163,38 @@ fn last_symbol() {
 fn refusals_go_in_order_over_the_whole_question() {
     // Undeclared in the first conjunction, malformed in the second.
     let asked = question(0, 0, 0, &[&[5000, 2000, 0, 0], &[5000]]);
-    assert_eq!(solve(&asked).refusal, 5);
+    assert_eq!(Desk::BASE.solve(&asked).refusal, 5);
     let mut asked = question(0, 0, 0, &[&[5000, 2000, 0, 0]]);
-    assert_eq!(solve(&asked).refusal, 6);
+    assert_eq!(Desk::BASE.solve(&asked).refusal, 6);
     asked[6] += 1;
-    assert_eq!(solve(&asked).refusal, 4);
+    assert_eq!(Desk::BASE.solve(&asked).refusal, 4);
     asked[0] = 33;
-    assert_eq!(solve(&asked).refusal, 3);
+    assert_eq!(Desk::BASE.solve(&asked).refusal, 3);
+}
+
+fn ask(line: usize, room: usize) -> Ask {
+    Ask { line, room, old_sheets: false }
 }
 
 #[test]
 fn fillings_of_p4() {
     let asked = [4, 0, 2, 0, 1, 7, 16, 5000, 2000, 2001, 0, 3000, 0, 3001, 0, 0];
     let yes = [2, 4, 7, 10, 3000, 0, 0, 3001, 0, 0];
-    assert_eq!(try_filling(&asked, &yes), Ok(true));
-    assert_eq!(example(&asked, 1, 10), Ok(yes.to_vec()));
-    assert_eq!(example(&asked, 1, 9), Err(16));
-    assert_eq!(example(&asked, 3, 10), Err(14));
+    assert_eq!(Desk::BASE.try_filling(&asked, &yes).map_err(Refused::number), Ok(true));
+    assert_eq!(Desk::BASE.example(&asked, ask(1, 10)).map_err(Refused::number), Ok(yes.to_vec()));
+    assert_eq!(Desk::BASE.example(&asked, ask(1, 9)).map_err(Refused::number), Err(16));
+    assert_eq!(Desk::BASE.example(&asked, ask(3, 10)).map_err(Refused::number), Err(14));
     let no = [2, 4, 7, 10, 3001, 0, 0, 3000, 0, 0];
-    assert_eq!(try_filling(&asked, &no), Ok(false));
-    assert_eq!(try_filling(&asked, &yes[..9]), Err(11));
+    assert_eq!(Desk::BASE.try_filling(&asked, &no).map_err(Refused::number), Ok(false));
+    assert_eq!(Desk::BASE.try_filling(&asked, &yes[..9]).map_err(Refused::number), Err(11));
     let undeclared = [2, 4, 7, 10, 3004, 0, 0, 3001, 0, 0];
-    assert_eq!(try_filling(&asked, &undeclared), Err(12));
+    assert_eq!(Desk::BASE.try_filling(&asked, &undeclared).map_err(Refused::number), Err(12));
     let variable = [2, 4, 6, 9, 2000, 0, 3001, 0, 0];
-    assert_eq!(try_filling(&asked, &variable), Err(12));
+    assert_eq!(Desk::BASE.try_filling(&asked, &variable).map_err(Refused::number), Err(12));
 }
 
 #[test]
 fn example_of_an_open_line() {
     let asked = question(0, 1, 0, &[&[5000, 2000, 3000, 0, 0, 3000, 0, 2000, 0]]);
-    assert_eq!(example(&asked, 0, 4096), Err(15));
+    assert_eq!(Desk::BASE.example(&asked, ask(0, 4096)).map_err(Refused::number), Err(15));
 }

@@ -1,7 +1,7 @@
 //! Points of the request that are easily read another way and that few other
 //! cases tell apart.
 
-use second::solve;
+use second::Desk;
 
 /// One conjunction over three symbols a, b, c.
 fn question(terms: u16, hedges: u16, literals: &[u16]) -> Vec<u16> {
@@ -16,7 +16,7 @@ fn monomials_in_their_places() {
     // (x, p) in (a + a·b)·c
     let expression = [7001, 7002, 3000, 7000, 7001, 3000, 7000, 3001, 7000, 3002, 7000];
     let asked = question(1, 1, &[&[6000, 1000, 2000, 0], &expression[..]].concat());
-    let out = solve(&asked);
+    let out = Desk::BASE.solve(&asked);
     assert_eq!((out.refusal, out.lines, out.open, out.steps), (0, 2, 0, 1));
     let first = [1, 6000, 1000, 0, 3000, 7000, 6000, 2000, 0, 3002, 7000];
     let second = [1, 6000, 1000, 0, 3000, 7000, 6000, 2000, 0, 7001, 3001, 7000, 3002, 7000];
@@ -27,7 +27,7 @@ fn monomials_in_their_places() {
 /// the second equation away.
 #[test]
 fn m1_once_for_each_place() {
-    let out = solve(&question(0, 1, &[6000, 2000, 2000, 0, 7000]));
+    let out = Desk::BASE.solve(&question(0, 1, &[6000, 2000, 2000, 0, 7000]));
     assert_eq!((out.refusal, out.lines, out.open, out.steps), (0, 1, 0, 3));
     assert_eq!(out.answer[515..520], [1, 5000, 2000, 0, 0]);
 }
@@ -40,5 +40,5 @@ fn seven_before_eight() {
     literals.extend([0, 5000, 1000, 0, 3000]);
     literals.extend([2000].repeat(40));
     literals.extend([0, 0]);
-    assert_eq!(solve(&question(1, 2, &literals)).refusal, 7);
+    assert_eq!(Desk::BASE.solve(&question(1, 2, &literals)).refusal, 7);
 }

@@ -8,85 +8,30 @@
 //!     measure answer TIMES           answers requests by this desk as `tests/bridge.c` does by the proved one
 
 use std::hint::black_box;
-use std::io::{stdin, stdout, BufRead, BufReader, BufWriter, Read, Write};
-use std::path::Path;
+use std::io::{stdin, stdout, BufRead, BufReader, BufWriter, Write};
 
 use second::gen::{case, Case, SEED};
-use second::proved::{bytes, words, Request, LENT, NO, SHOWN, YES};
+use second::host::{self, LENT};
+use second::proved;
 use second::records::cases;
-use second::words::{ANSWER, QUESTION_MOST};
+use second::request::{bytes, Request};
+use second::Ask;
 
 /// Cases of a family.
 const SHARE: usize = 30;
 
-fn put(words: &[u16], out: &mut [u8]) {
-    for (word, pair) in words.iter().zip(out.chunks_exact_mut(2)) {
-        pair.copy_from_slice(&word.to_le_bytes());
-    }
-}
-
-/// This desk, called as the proved one is, on what is lent.
-fn second(request: &Request, lent: &mut [u8]) -> u32 {
-    match request {
-        Request::Solve { question, .. } => {
-            let out = second::solve(&words(question));
-            put(&out.answer, lent);
-            out.refusal as u32
-        }
-        Request::Try { question, filling } => {
-            match second::try_filling(&words(question), &words(filling)) {
-                Ok(true) => YES,
-                Ok(false) => NO,
-                Err(refusal) => refusal as u32,
-            }
-        }
-        Request::Example { question, line, room } => {
-            match second::example(&words(question), *line as usize, *room / 2) {
-                Ok(filling) => {
-                    put(&filling, lent);
-                    SHOWN + filling.len() as u32
-                }
-                Err(refusal) => refusal as u32,
-            }
-        }
-    }
-}
-
-fn number(from: &mut impl Read) -> usize {
-    let mut bytes = [0; 4];
-    from.read_exact(&mut bytes).expect("a number");
-    u32::from_le_bytes(bytes) as usize
-}
-
-fn block(from: &mut impl Read) -> Vec<u8> {
-    let mut bytes = vec![0; number(from)];
-    from.read_exact(&mut bytes).expect("its bytes");
-    bytes
-}
-
 /// Answers the requests of standard input, with each call made so often.
 fn answer(times: u64) -> std::io::Result<()> {
+    let desk = proved::desk();
     let mut from = BufReader::new(stdin().lock());
     let mut to = BufWriter::new(stdout().lock());
     while let Some(letter) = from.fill_buf()?.first().copied() {
         from.consume(1);
-        let question = &block(&mut from)[..];
-        let filling;
-        let request = match letter {
-            b's' => Request::Solve { question, answer: number(&mut from) },
-            b't' => {
-                filling = block(&mut from);
-                Request::Try { question, filling: &filling }
-            }
-            _ => {
-                let line = number(&mut from) as u32;
-                Request::Example { question, line, room: number(&mut from) }
-            }
-        };
+        let request = Request::read(letter, &mut from);
         let mut lent = vec![LENT; request.lent()];
         let mut number = 0;
         for _ in 0..times {
-            number = black_box(second(&request, &mut lent));
+            number = black_box(host::call(&desk, &request, &mut lent));
         }
         to.write_all(&number.to_le_bytes())?;
         to.write_all(&lent)?;
@@ -100,23 +45,37 @@ fn family(name: &str) -> Vec<Case> {
     if name == "worked" {
         return worked();
     }
-    (0..).map(|index| case(SEED, index)).filter(|case| case.kind == name).take(SHARE).collect()
+    let desk = proved::desk();
+    (0..)
+        .map(|index| case(&desk, SEED, index))
+        .filter(|case| case.kind == name)
+        .take(SHARE)
+        .collect()
 }
 
 fn worked() -> Vec<Case> {
-    let folder = Path::new(env!("CARGO_MANIFEST_DIR")).join("../vectors");
-    let case = |question| Case { kind: "worked", question, fillings: Vec::new(), asks: Vec::new() };
+    let case = |question| Case {
+        kind: "worked",
+        question,
+        fillings: Vec::new(),
+        asks: Vec::new(),
+        trails: Vec::new(),
+    };
     let mut all = Vec::new();
-    for record in cases(&folder.join("solve.txt")) {
+    for record in cases(&proved::worked_folder("solve.txt").join("solve.txt")) {
         all.push(case(record.words('Q')));
     }
-    for record in cases(&folder.join("try.txt")) {
+    for record in cases(&proved::worked_folder("try.txt").join("try.txt")) {
         all.push(Case { fillings: vec![record.words('F')], ..case(record.words('Q')) });
     }
-    for record in cases(&folder.join("example.txt")) {
+    for record in cases(&proved::worked_folder("example.txt").join("example.txt")) {
         let asked = record.needed('L');
         all.push(Case {
-            asks: vec![(asked[0] as usize, asked[1] as usize)],
+            asks: vec![Ask {
+                line: asked[0] as usize,
+                room: asked[1] as usize,
+                old_sheets: asked.get(2) == Some(&1),
+            }],
             ..case(record.words('Q'))
         });
     }
@@ -126,17 +85,23 @@ fn worked() -> Vec<Case> {
 /// Hands each request of a call and a family on.
 fn each(call: &str, name: &str, mut take: impl FnMut(Request)) {
     for case in family(name) {
-        let question = &bytes(&case.question)[..];
+        let question = bytes(&case.question);
         match call {
-            "solve" => take(Request::Solve { question, answer: 2 * ANSWER }),
+            "solve" => take(Request::Solve { question, answer: 2 * proved::desk().limits.answer }),
             "try" => {
                 for filling in &case.fillings {
-                    take(Request::Try { question, filling: &bytes(filling) });
+                    take(Request::Try { question: question.clone(), filling: bytes(filling) });
                 }
             }
             _ => {
-                for (line, room) in &case.asks {
-                    take(Request::Example { question, line: *line as u32, room: 2 * room });
+                for ask in &case.asks {
+                    let question = question.clone();
+                    take(Request::Example {
+                        question,
+                        line: ask.line as u32,
+                        old_sheets: ask.old_sheets as u32,
+                        room: 2 * ask.room,
+                    });
                 }
             }
         }
@@ -176,7 +141,7 @@ fn tried(kind: &str, shape: usize, run: usize) -> (Vec<u16>, Vec<u16>) {
 
 /// As many of a word as a question of one literal has room for beside the literal's other words.
 fn nested(word: u16, others: usize) -> Vec<u16> {
-    vec![word; QUESTION_MOST - 7 - others]
+    vec![word; proved::desk().limits.question - 7 - others]
 }
 
 /// A question of one literal over the symbol a and the hedge variable p.
@@ -194,7 +159,7 @@ fn deep(shape: &str) -> Vec<u16> {
         "symbols" => one([vec![6000, 2000, 0], nested(3000, 4), vec![7000]].concat()),
         // p = a(a(..a()..))
         _ => {
-            let half = (QUESTION_MOST - 7 - 4) / 2;
+            let half = (proved::desk().limits.question - 7 - 4) / 2;
             one([vec![5000, 2000, 0], vec![3000; half], vec![0; half + 1]].concat())
         }
     }
@@ -220,20 +185,25 @@ fn main() {
         "same" => {
             let question: Vec<u16> =
                 args[1..].iter().map(|word| word.parse().expect("a word")).collect();
-            write(Request::Solve { question: &bytes(&question), answer: 2 * ANSWER });
+            write(Request::Solve {
+                question: bytes(&question),
+                answer: 2 * proved::desk().limits.answer,
+            });
         }
         "bad" => {
             let size = |word: &String| word.parse().expect("a number");
             let (question, filling) = tried(&args[1], size(&args[2]), size(&args[3]));
-            assert_eq!(second::try_filling(&question, &filling), Ok(false));
-            write(Request::Try { question: &bytes(&question), filling: &bytes(&filling) });
+            assert_eq!(proved::desk().try_filling(&question, &filling), Ok(false));
+            write(Request::Try { question: bytes(&question), filling: bytes(&filling) });
         }
         "deep" => {
-            let question = &bytes(&deep(&args[2]))[..];
+            let question = bytes(&deep(&args[2]));
             match args[1].as_str() {
-                "solve" => write(Request::Solve { question, answer: 2 * ANSWER }),
-                "try" => write(Request::Try { question, filling: &bytes(&deep_filling()) }),
-                _ => write(Request::Example { question, line: 0, room: 8192 }),
+                "solve" => {
+                    write(Request::Solve { question, answer: 2 * proved::desk().limits.answer })
+                }
+                "try" => write(Request::Try { question, filling: bytes(&deep_filling()) }),
+                _ => write(Request::Example { question, line: 0, old_sheets: 0, room: 8192 }),
             }
         }
         _ => answer(args[1].parse().expect("a number")).expect("answered"),

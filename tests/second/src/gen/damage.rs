@@ -1,12 +1,13 @@
 //! Damage: words changed, taken away or added, in questions and fillings.
 
 use super::random::Random;
+use crate::desk::Desk;
 
 /// Words worth putting anywhere.
 #[rustfmt::skip]
-const SUSPECTS: [u16; 34] = [
-    0, 1, 2, 6, 7, 16, 17, 32, 33, 999, 1000, 1001, 1031, 1032, 1999, 2000, 2031, 2032,
-    2999, 3000, 3001, 3031, 3032, 4000, 4031, 4032, 5000, 6000, 7000, 7001, 7002, 7003, 7004,
+const SUSPECTS: [u16; 44] = [
+    0, 1, 2, 6, 7, 16, 17, 32, 33, 128, 129, 999, 1000, 1001, 1031, 1032, 1127, 1128, 1999, 2000,
+    2031, 2032, 2127, 2128, 2999, 3000, 3001, 3031, 3032, 3127, 3128, 4000, 4031, 4032, 4127, 4128, 5000, 6000, 7000, 7001, 7002, 7003, 7004,
     65535,
 ];
 
@@ -19,11 +20,11 @@ fn suspect(random: &mut Random) -> u16 {
 
 /// Damages a question in one to three places. In half of the cases the
 /// offsets are put right again, so that the damage is met further on.
-pub fn question(random: &mut Random, words: &mut Vec<u16>) {
+pub fn question(random: &mut Random, desk: &Desk, words: &mut Vec<u16>) {
     let body = 6 + *words.get(4).unwrap_or(&0) as usize;
     for _ in 0..random.range(1, 3) {
         match random.below(10) {
-            0 => header(random, words),
+            0 => header(random, desk, words),
             1 => offset(random, words),
             2 => lower_count(random, words),
             3 if random.chance(1, 3) => words.truncate(random.below(words.len() + 1)),
@@ -35,7 +36,8 @@ pub fn question(random: &mut Random, words: &mut Vec<u16>) {
         mend_offsets(words);
     }
     if random.chance(1, 150) {
-        words.resize(random.range(1020, 1030), 0);
+        let most = desk.limits.question;
+        words.resize(random.range(most - 4, most + 6), 0);
     }
 }
 
@@ -61,9 +63,16 @@ pub fn anywhere(random: &mut Random, words: &mut Vec<u16>, from: usize) {
 }
 
 /// A count of the header out of range, or just another.
-fn header(random: &mut Random, words: &mut [u16]) {
+fn header(random: &mut Random, desk: &Desk, words: &mut [u16]) {
+    let kind = desk.limits.kind;
     if words.len() >= 5 {
-        words[random.below(5)] = random.pick(&[0, 1, 2, 3, 16, 17, 31, 32, 33, 34, 65535]);
+        let counts = [0, 1, 2, 3, 16, 17, kind - 1, kind, kind + 1, kind + 2, 65535];
+        words[random.below(5)] = random.pick(&counts);
+        if random.chance(1, 4) {
+            // So many unordered symbols, or one too many.
+            let unordered = random.pick(&[1, 2, words[0] % 256, words[0] % 256 + 1]);
+            words[0] = (words[0] % 256).wrapping_add(256 * (unordered % 256));
+        }
     }
 }
 

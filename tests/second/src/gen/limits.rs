@@ -4,31 +4,37 @@ use std::rc::Rc;
 
 use super::pieces::{conjunction, question_words};
 use super::random::Random;
+use crate::desk::Desk;
 use crate::expression::Expression;
 use crate::literal::{Conjunction, Literal};
 use crate::read::{Declared, Question};
 use crate::tree::{Functor, Hedge, Item};
+use crate::words::FIRST_LINE;
 
 const A: Functor = Functor::Symbol(0);
 
 /// A question that reaches one of the numbers 7 to 10, or almost.
-pub fn question(random: &mut Random) -> Vec<u16> {
+pub fn question(random: &mut Random, desk: &Desk) -> Vec<u16> {
+    let limits = &desk.limits;
+    if desk.shuffles && random.chance(1, 6) {
+        return orders(random, desk);
+    }
     match random.below(10) {
         0 => doubling(random),
-        1 => swelling(random),
-        2 => cut_run(random, 8192),
-        3 => cut_run(random, 8192 - 515),
+        1 => swelling(random, limits.result),
+        2 => cut_run(random, limits.waiting, desk.beside()),
+        3 => cut_run(random, limits.answer - FIRST_LINE, desk.beside()),
         4 => products(random),
         5 => counted_steps(random),
         6 => many_cuts(random),
         7 => nested_stars(random),
         8 => swelling_cuts(random),
-        _ => full_question(random),
+        _ => full_question(random, limits.question),
     }
 }
 
 fn declared(symbols: u16, terms: u16, hedges: u16, functions: u16) -> Declared {
-    Declared { symbols, terms, hedges, functions }
+    Declared { symbols, unordered: 0, terms, hedges, functions }
 }
 
 fn words(declared: Declared, conjunctions: Vec<Conjunction>) -> Vec<u16> {
@@ -82,8 +88,8 @@ fn doubling(random: &mut Random) -> Vec<u16> {
 }
 
 /// y = f(x, ..., x), x = t, and padding, so that the result of the first step
-/// has about 1,024 words.
-fn swelling(random: &mut Random) -> Vec<u16> {
+/// has about `most` words.
+fn swelling(random: &mut Random, most: usize) -> Vec<u16> {
     let times = random.range(2, 12);
     let leaf_count = random.range(5, 25);
     let term = Item::Over(A, Hedge::new(leaves(leaf_count)));
@@ -93,7 +99,7 @@ fn swelling(random: &mut Random) -> Vec<u16> {
         Literal::equation(term_variable(1), copies),
         Literal::equation(term_variable(0), Hedge::one(term)),
     ];
-    let wanted = around(random, 1024);
+    let wanted = around(random, most);
     if wanted >= long + 5 {
         literals.push(padding(0, wanted - long));
     }
@@ -101,18 +107,18 @@ fn swelling(random: &mut Random) -> Vec<u16> {
 }
 
 /// (p, q) = (a, ..., a) and padding in two alternatives, so that the results
-/// of the first step and what waits take about `total` words, one more for
+/// of the first step and what waits take about `total` words, `beside` more for
 /// each conjunction counted in.
-fn cut_run(random: &mut Random, total: usize) -> Vec<u16> {
+fn cut_run(random: &mut Random, total: usize, beside: usize) -> Vec<u16> {
     let count = random.range(14, 45);
     let total = around(random, total);
     let each = (total - 12) / (count + 1);
     let rest = total - (count + 1) * each;
     // A result has 8 words of its own, 2 for each a, and the padding.
-    let pad = each - 9 - 2 * count;
+    let pad = each - 8 - beside - 2 * count;
     let left = Hedge::new(vec![Item::HedgeVariable(0), Item::HedgeVariable(1)]);
     let first = [Literal::equation(left, Hedge::new(leaves(count))), padding(2, pad)];
-    let second = [padding(2, rest - 1)];
+    let second = [padding(2, rest - beside)];
     words(declared(1, 0, 3, 0), vec![conjunction(&first), conjunction(&second)])
 }
 
@@ -198,8 +204,16 @@ fn many_cuts(random: &mut Random) -> Vec<u16> {
     words(declared(3, 0, 6, 0), vec![conjunction(&literals)])
 }
 
-/// Terms in stars within stars and concatenations: the rests grow.
+/// Terms in stars within stars and concatenations: the rests grow, with the
+/// square of the depth where there are stars alone, past 65,535 words.
 fn nested_stars(random: &mut Random) -> Vec<u16> {
+    if random.chance(1, 6) {
+        let leaf = Expression::over(0, Expression::Eps);
+        let deep = random.pick(&[80, 89, 90, 250, 361, 362, 400]);
+        let stars = (0..deep).fold(leaf, |inner, _| Expression::star(inner));
+        let literal = Literal::membership(Hedge::new(leaves(2)), stars);
+        return words(declared(2, 0, 1, 0), vec![conjunction(&[literal])]);
+    }
     let deep = random.range(3, 45);
     let mut expression = Expression::over(0, Expression::Eps);
     for _ in 0..deep {
@@ -220,6 +234,28 @@ fn nested_stars(random: &mut Random) -> Vec<u16> {
     words(declared(2, 0, 1, 0), vec![conjunction(&[literal])])
 }
 
+/// f(T) = f(T') or f(T) in f(R) with f unordered, and padding, so that the
+/// orders of T take about as many words as may wait, or are too many.
+fn orders(random: &mut Random, desk: &Desk) -> Vec<u16> {
+    let count = random.pick(&[2, 3, 3, 4, 4, 5, 5, 6, 7, 9, 40]);
+    let f = |items| Hedge::one(Item::Over(Functor::Symbol(2), Hedge::new(items)));
+    let other = vec![Item::Over(Functor::Symbol(1), Hedge::EMPTY); count];
+    let first = match random.below(3) {
+        0 => Literal::membership(f(leaves(count)), Expression::over(2, choices(2))),
+        1 => Literal::equation(f(leaves(count)), f(other)),
+        _ => Literal::equation(f(vec![Item::HedgeVariable(0)]), f(leaves(count))),
+    };
+    let mut literals = vec![first];
+    // A result has two or four words less than the question.
+    let results: usize = (1..=count.min(8)).product();
+    let each = desk.limits.waiting / results;
+    let own = literals[0].words() + desk.beside();
+    if (own + 10..desk.limits.result - 20).contains(&each) {
+        literals.push(padding(1, around(random, each - own + 3)));
+    }
+    words(Declared { unordered: 1, ..declared(3, 0, 2, 0) }, vec![conjunction(&literals)])
+}
+
 /// (p, q) = (a, ..., a), and p many times elsewhere: a late cut is too long.
 fn swelling_cuts(random: &mut Random) -> Vec<u16> {
     let count = random.range(5, 40);
@@ -233,9 +269,9 @@ fn swelling_cuts(random: &mut Random) -> Vec<u16> {
     words(declared(1, 1, 2, 0), vec![conjunction(&literals)])
 }
 
-/// About 1,024 words in one literal: wide, deep, or an expression.
-fn full_question(random: &mut Random) -> Vec<u16> {
-    let wanted = around(random, 1024) - 7;
+/// About `most` words in one literal: wide, deep, or an expression.
+fn full_question(random: &mut Random, most: usize) -> Vec<u16> {
+    let wanted = around(random, most) - 7;
     let literal = match random.below(4) {
         0 => padding(0, wanted),
         1 => Literal::equation(hedge_variable(0), Hedge::new(leaves((wanted - 4) / 2))),

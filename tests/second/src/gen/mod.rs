@@ -1,17 +1,23 @@
 //! Random cases, the same for the same seed: questions of many shapes, whole
 //! and damaged, fillings to try on them, and lines to ask an example of.
 
+pub mod clash;
 pub mod damage;
+pub mod days;
 pub mod fillings;
+pub mod last;
 pub mod limits;
+pub mod overlaps;
 pub mod pieces;
 pub mod planted;
 pub mod random;
+pub mod texts;
+pub mod trails;
 
-use crate::example::write;
+use crate::desk::Desk;
+use crate::example::{write, Ask};
 use crate::literal::Conjunction;
 use crate::read::Question;
-use crate::words::QUESTION_MOST;
 use pieces::{conjunction, question_words, Pieces};
 use random::Random;
 
@@ -26,24 +32,28 @@ pub struct Case {
     pub question: Vec<u16>,
     /// Fillings to try on it.
     pub fillings: Vec<Vec<u16>>,
-    /// Examples to ask for: a line, and words of room.
-    pub asks: Vec<(usize, usize)>,
+    /// Examples to ask for.
+    pub asks: Vec<Ask>,
+    /// Trails to replay.
+    pub trails: Vec<Vec<u16>>,
 }
 
 /// The kinds of questions, and how many in 1,000 are of each.
-const KINDS: [(&str, usize); 8] = [
+const KINDS: [(&str, usize); 10] = [
     ("small", 330),
     ("planted", 250),
     ("long", 60),
     ("damaged", 240),
     ("limits", 60),
+    ("clash", 60),
+    ("last", 30),
     ("wide", 20),
     ("long example", 20),
     ("bare header", 20),
 ];
 
-/// Case number `index` of a seed.
-pub fn case(seed: u64, index: u64) -> Case {
+/// Case number `index` of a seed, for a desk.
+pub fn case(desk: &Desk, seed: u64, index: u64) -> Case {
     let mut random = Random::of_case(seed, index);
     let mut drawn = random.below(KINDS.iter().map(|kind| kind.1).sum());
     let mut kind = KINDS[0].0;
@@ -54,50 +64,61 @@ pub fn case(seed: u64, index: u64) -> Case {
         }
         drawn -= share;
     }
-    let (question, mut fillings) = question_of(kind, &mut random);
-    let asks = asks(&mut random, &question, &mut fillings);
-    fillings::more(&mut random, &question, &mut fillings);
-    Case { kind, question, fillings, asks }
+    let (question, mut fillings) = question_of(kind, &mut random, desk);
+    let asks = asks(&mut random, desk, &question, &mut fillings);
+    fillings::more(&mut random, desk, &question, &mut fillings);
+    let trails = match desk.replays && random.chance(1, 2) {
+        true => trails::trails(&mut random, desk, &question),
+        false => Vec::new(),
+    };
+    Case { kind, question, fillings, asks, trails }
 }
 
 /// A question of a kind, and fillings that belong to it.
-fn question_of(kind: &str, random: &mut Random) -> (Vec<u16>, Vec<Vec<u16>>) {
+fn question_of(kind: &str, random: &mut Random, desk: &Desk) -> (Vec<u16>, Vec<Vec<u16>>) {
     match kind {
-        "small" => (small(random), Vec::new()),
-        "planted" => planted_question(random, 2),
-        "long" => long(random),
-        "damaged" => damaged(random),
-        "limits" => (limits::question(random), Vec::new()),
+        "small" => (small(random, desk), Vec::new()),
+        "planted" => planted_question(random, desk, 2),
+        "long" => long(random, desk),
+        "damaged" => damaged(random, desk),
+        "limits" => (limits::question(random, desk), Vec::new()),
+        "clash" => (clash::question(random, desk), Vec::new()),
+        "last" => (last::question(random, desk), Vec::new()),
         "wide" => {
             let (question, filling) = fillings::wide(random);
             (question, vec![filling])
         }
         "long example" => (fillings::long_example(random), Vec::new()),
-        _ => (bare_header(random), Vec::new()),
+        _ => (bare_header(random, desk), Vec::new()),
     }
 }
 
 /// A few alternatives of a few random literals.
-fn small(random: &mut Random) -> Vec<u16> {
-    let pieces = Pieces { declared: pieces::declared(random) };
+fn small(random: &mut Random, desk: &Desk) -> Vec<u16> {
+    let pieces = Pieces { declared: pieces::declared(random, desk) };
     let alternatives = random.pick(&[0, 1, 1, 1, 1, 1, 2, 2, 3, 4]);
     let conjunctions = (0..alternatives).map(|_| {
         let most = random.pick(&[1, 2, 3, 5]);
         random_conjunction(random, &pieces, most)
     });
     let conjunctions = conjunctions.collect();
-    fitted(Question { declared: pieces.declared, conjunctions })
+    fitted(desk, Question { declared: pieces.declared, conjunctions })
 }
 
 fn random_conjunction(random: &mut Random, pieces: &Pieces, most: usize) -> Conjunction {
     let count = random.below(most + 1).max(random.below(2));
-    let literals: Vec<_> = (0..count).map(|_| pieces.literal(random)).collect();
+    let mut literals: Vec<_> = (0..count).map(|_| pieces.literal(random)).collect();
+    if count > 0 && random.chance(1, 8) {
+        // The same again, for the fold.
+        let again = random.pick(&literals);
+        literals.insert(random.below(count + 1), again);
+    }
     conjunction(&literals)
 }
 
 /// A question around a filling, and that filling.
-fn planted_question(random: &mut Random, most: usize) -> (Vec<u16>, Vec<Vec<u16>>) {
-    let pieces = Pieces { declared: pieces::declared(random) };
+fn planted_question(random: &mut Random, desk: &Desk, most: usize) -> (Vec<u16>, Vec<Vec<u16>>) {
+    let pieces = Pieces { declared: pieces::declared(random, desk) };
     let filling = planted::filling(random, &pieces.declared, 1, 2);
     let literals = random.range(1, most.max(2));
     let mut conjunctions = vec![planted::planted(random, &pieces, &filling, literals)];
@@ -105,43 +126,40 @@ fn planted_question(random: &mut Random, most: usize) -> (Vec<u16>, Vec<Vec<u16>
         let at = random.below(conjunctions.len() + 1);
         conjunctions.insert(at, random_conjunction(random, &pieces, 2));
     }
-    let question = fitted(Question { declared: pieces.declared, conjunctions });
+    let question = fitted(desk, Question { declared: pieces.declared, conjunctions });
     (question, vec![write(&filling)])
 }
 
 /// A question of some hundred words.
-fn long(random: &mut Random) -> (Vec<u16>, Vec<Vec<u16>>) {
+fn long(random: &mut Random, desk: &Desk) -> (Vec<u16>, Vec<Vec<u16>>) {
     if random.chance(1, 3) {
-        return planted_question(random, 40);
+        return planted_question(random, desk, 40);
     }
-    let pieces = Pieces { declared: pieces::declared(random) };
+    let pieces = Pieces { declared: pieces::declared(random, desk) };
     let alternatives = random.range(1, 16);
     let most = 90 / alternatives + 1;
     let conjunctions =
         (0..alternatives).map(|_| random_conjunction(random, &pieces, most)).collect();
-    (fitted(Question { declared: pieces.declared, conjunctions }), Vec::new())
+    (fitted(desk, Question { declared: pieces.declared, conjunctions }), Vec::new())
 }
 
 /// A question of another kind with damage.
-fn damaged(random: &mut Random) -> (Vec<u16>, Vec<Vec<u16>>) {
+fn damaged(random: &mut Random, desk: &Desk) -> (Vec<u16>, Vec<Vec<u16>>) {
     let (mut words, fillings) = match random.below(8) {
-        0..=3 => (small(random), Vec::new()),
-        4..=6 => planted_question(random, 3),
-        _ => long(random),
+        0..=3 => (small(random, desk), Vec::new()),
+        4..=6 => planted_question(random, desk, 3),
+        _ => long(random, desk),
     };
-    damage::question(random, &mut words);
+    damage::question(random, desk, &mut words);
     (words, fillings)
 }
 
 /// Few words, mostly header.
-fn bare_header(random: &mut Random) -> Vec<u16> {
-    let mut words = vec![
-        random.range(0, 34) as u16,
-        random.range(0, 34) as u16,
-        random.range(0, 34) as u16,
-        random.range(0, 34) as u16,
-        random.below(19) as u16,
-    ];
+fn bare_header(random: &mut Random, desk: &Desk) -> Vec<u16> {
+    let kind = desk.limits.kind;
+    let counts = [0, 1, 2, 31, 32, 33, kind - 1, kind, kind + 1, kind + 2];
+    let mut words: Vec<u16> = (0..4).map(|_| random.pick(&counts)).collect();
+    words.push(random.below(19) as u16);
     let count = words[4];
     words.resize(6 + count as usize, 6 + count);
     if random.chance(1, 3) {
@@ -155,41 +173,44 @@ fn bare_header(random: &mut Random) -> Vec<u16> {
 
 /// The words of a question, alternatives left out at the end where it would
 /// otherwise be too long.
-fn fitted(mut question: Question) -> Vec<u16> {
+fn fitted(desk: &Desk, mut question: Question) -> Vec<u16> {
     loop {
         let words = question_words(&question);
-        if words.len() <= QUESTION_MOST || question.conjunctions.pop().is_none() {
+        if words.len() <= desk.limits.question || question.conjunctions.pop().is_none() {
             return words;
         }
     }
 }
 
-/// Lines and rooms to ask for, and the examples found on the way as fillings.
+/// Examples to ask for, and those found on the way as fillings.
 fn asks(
     random: &mut Random,
+    desk: &Desk,
     question: &[u16],
     fillings: &mut Vec<Vec<u16>>,
-) -> Vec<(usize, usize)> {
-    let mut asks = vec![(random.below(3), 4096)];
-    let Ok(question) = crate::read::question(question) else { return asks };
-    let Ok(run) = crate::run::run(&question) else { return asks };
+) -> Vec<Ask> {
+    let old_sheets = random.chance(1, 2);
+    let ask = |line, room| Ask { line, room, old_sheets };
+    let mut asks = vec![ask(random.below(3), 4096)];
+    let Ok(question) = crate::read::question(question, desk) else { return asks };
+    let Ok(run) = crate::run::run(desk, &question) else { return asks };
     if run.lines.is_empty() {
         return asks;
     }
     for _ in 0..2 {
         let line = random.below(run.lines.len());
-        match crate::example::example(&run, &question.declared, line, 4096) {
+        match crate::example::example(desk, &run, &question.declared, ask(line, 4096)) {
             Ok(example) => {
                 let spare = random.pick(&[0, 1, 5000]);
-                asks.push((line, example.len() + spare));
-                asks.push((line, example.len() - 1));
+                asks.push(ask(line, example.len() + spare));
+                asks.push(ask(line, example.len() - 1));
                 fillings.push(example);
             }
-            Err(_) => asks.push((line, random.pick(&[0, 100, 4096, 8192]))),
+            Err(_) => asks.push(ask(line, random.pick(&[0, 100, 4096, 8192]))),
         }
     }
     if random.chance(1, 4) {
-        asks.push((run.lines.len(), random.pick(&[0, 4096])));
+        asks.push(ask(run.lines.len(), random.pick(&[0, 4096])));
     }
     asks
 }

@@ -3,6 +3,7 @@
 use std::rc::Rc;
 
 use super::random::Random;
+use crate::desk::Desk;
 use crate::expression::Expression;
 use crate::literal::{Conjunction, Literal};
 use crate::read::{Declared, Question};
@@ -12,8 +13,13 @@ use crate::tree::{Functor, Hedge, Item};
 pub fn question_words(question: &Question) -> Vec<u16> {
     let declared = &question.declared;
     let count = question.conjunctions.len();
-    let mut words =
-        vec![declared.symbols, declared.terms, declared.hedges, declared.functions, count as u16];
+    let mut words = vec![
+        declared.first_word(),
+        declared.terms,
+        declared.hedges,
+        declared.functions,
+        count as u16,
+    ];
     words.push(6 + count as u16);
     words.resize(6 + count, 0);
     for (number, conjunction) in question.conjunctions.iter().enumerate() {
@@ -31,22 +37,28 @@ pub fn conjunction(literals: &[Rc<Literal>]) -> Conjunction {
     conjunction
 }
 
-/// Counts of symbols and variables: mostly few, so that they meet.
-pub fn declared(random: &mut Random) -> Declared {
-    if random.chance(1, 30) {
-        return Declared {
-            symbols: random.range(1, 32) as u16,
-            terms: random.below(33) as u16,
-            hedges: random.below(33) as u16,
-            functions: random.below(33) as u16,
-        };
+/// Counts of symbols and variables: mostly few, so that they meet. In half of
+/// the questions of a desk that knows them, some symbols are unordered.
+pub fn declared(random: &mut Random, desk: &Desk) -> Declared {
+    let (symbols, variables) = match random.chance(1, 30) {
+        true => (desk.limits.kind as usize, [desk.limits.kind as usize; 3]),
+        false => (4, [3, 3, 2]),
+    };
+    let symbols = random.range(1, symbols);
+    let unordered = match desk.shuffles && random.chance(1, 2) {
+        true => random.range(1, symbols.min(3)),
+        false => 0,
+    };
+    let [terms, hedges, functions] = variables.map(|most| random.range(0, most) as u16);
+    Declared { symbols: symbols as u16, unordered: unordered as u16, terms, hedges, functions }
+}
+
+/// The same elements in another order.
+pub fn shuffled(random: &mut Random, mut items: Vec<Item>) -> Hedge {
+    for at in (1..items.len()).rev() {
+        items.swap(at, random.below(at + 1));
     }
-    Declared {
-        symbols: random.range(1, 4) as u16,
-        terms: random.below(4) as u16,
-        hedges: random.below(4) as u16,
-        functions: random.below(3) as u16,
-    }
+    Hedge::new(items)
 }
 
 /// What hedges and expressions are drawn from.
@@ -181,7 +193,7 @@ impl Pieces {
     }
 
     fn sides(&self, random: &mut Random) -> (Hedge, Hedge) {
-        match random.below(12) {
+        match random.below(14) {
             // A lone variable.
             0 => (self.lone_variable(random), Hedge::one(self.term(random, 2))),
             1 => (self.lone_variable(random), self.hedge(random, 2, 4)),
@@ -226,8 +238,19 @@ impl Pieces {
                 right.extend_from_slice(self.hedge(random, 1, 2).items());
                 (Hedge::new(left), Hedge::new(right))
             }
+            // The same functor over elements of the one and the other, some shared.
+            10 | 11 => {
+                let functor = self.functor(random);
+                let shared = self.hedge(random, 1, 2);
+                let mut side = || {
+                    let more = self.hedge(random, 1, 3);
+                    let items = [shared.items(), more.items()].concat();
+                    Hedge::one(Item::Over(functor, shuffled(random, items)))
+                };
+                (side(), side())
+            }
             // Terms against terms.
-            10 => (Hedge::new(self.terms(random, 2, 3)), Hedge::new(self.terms(random, 2, 3))),
+            12 => (Hedge::new(self.terms(random, 2, 3)), Hedge::new(self.terms(random, 2, 3))),
             _ => (self.hedge(random, 2, 4), self.hedge(random, 2, 4)),
         }
     }

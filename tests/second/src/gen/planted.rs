@@ -2,7 +2,7 @@
 
 use std::rc::Rc;
 
-use super::pieces::{conjunction, Pieces};
+use super::pieces::{conjunction, shuffled, Pieces};
 use super::random::Random;
 use crate::expression::Expression;
 use crate::filling::Filling;
@@ -40,7 +40,7 @@ pub fn planted(
 
 fn literal(random: &mut Random, pieces: &Pieces, filling: &Filling) -> Rc<Literal> {
     let hedge = pieces.hedge(random, 2, 4);
-    let value = filling.filled(&hedge);
+    let value = other_order(random, pieces, &filling.filled(&hedge));
     if random.chance(1, 2) {
         let other = hidden(random, filling, &value);
         if random.chance(1, 2) {
@@ -53,8 +53,28 @@ fn literal(random: &mut Random, pieces: &Pieces, filling: &Filling) -> Rc<Litera
     }
 }
 
+/// A hedge that is the same, the children of unordered symbols shuffled.
+fn other_order(random: &mut Random, pieces: &Pieces, value: &Hedge) -> Hedge {
+    if pieces.declared.unordered == 0 {
+        return value.clone();
+    }
+    let mut items = Vec::new();
+    for item in value.items() {
+        let Item::Over(Functor::Symbol(f), children) = item else {
+            unreachable!("a value has no variables")
+        };
+        let children = other_order(random, pieces, children);
+        let children = match pieces.declared.is_unordered(*f) {
+            true => shuffled(random, children.items().to_vec()),
+            false => children,
+        };
+        items.push(Item::Over(Functor::Symbol(*f), children));
+    }
+    Hedge::new(items)
+}
+
 /// A hedge with the given value, parts of it replaced by variables.
-fn hidden(random: &mut Random, filling: &Filling, value: &Hedge) -> Hedge {
+pub fn hidden(random: &mut Random, filling: &Filling, value: &Hedge) -> Hedge {
     let values = value.items();
     let mut items = Vec::new();
     let mut at = 0;

@@ -1,0 +1,43 @@
+-- An example that is shown under some limits is shown, with the same words, under wider ones.
+use Prim.Native.Nat.{ℕ, _≤_}
+use mathlib.Core.Path.{_≡_, sym, ap, _∙_}
+use mathlib.Core.Bool.{Bool, true, false, _||_}
+use mathlib.Core.List.{List}
+use mathlib.Core.Option.{Option, some}
+use native.Mathlib.Omega.{arith}
+use borrow.Author.Tests.{le-ltb}
+use lib.Dec.{ltb}
+use lib.ListN.{length}
+use Rattle.language.specs.Limits.{Limits, desk, firstDesk, Within}
+use Rattle.language.proofs.Wider.{first-within}
+use Rattle.language.specs.Trees.{Counts, Conj}
+use Rattle.language.specs.Question.{countsOf}
+use Rattle.meaning.specs.Values.{fillingWords}
+use Rattle.rules.specs.Solved.{solved}
+use Rattle.rules.specs.Answer.{Solving, answered, solving}
+use Rattle.rules.specs.Example.{example}
+use Rattle.rules.specs.Calls.{lineAt, Showing, shows, fitted, shown, showingOf, showing}
+use Rattle.exact.proofs.Wider.{solving-wider}
+use Rattle.lines.proofs.Shown.{Shows, shown-is}
+
+fits : (M : Limits) (n : Counts) (room : ℕ) (k : Conj) (fs : List ℕ) → solved k ≡ true → fs ≡ fillingWords n (example k)
+    → ltb (M .filling) (length fs) ≡ false → ltb room (length fs) ≡ false → shown M n room (some k) ≡ shows fs
+fits M n room k fs s w f g = rw (shown, s, ← w, fitted, f, g) (ap shows (sym w))
+
+pub showing-wider : (L M : Limits) → Within L M → (work answer work′ answer′ room line : ℕ) (ws fs : List ℕ) → showing L work answer room line ws ≡ shows fs
+    → M .room ≤ work′ → M .room ≤ answer′ → showing M work′ answer′ room line ws ≡ shows fs
+unfolding showing
+showing-wider L M i work answer work′ answer′ room line ws fs e p q =
+    let s = shown-is L work answer room line ws fs e in
+    let more = solving-wider L M i work answer work′ answer′ ws (s .lines) (s .steps) (s .was-answered) p q in
+    let a = s .fits in
+    let b = i .filling in
+    let f = le-ltb (M .filling) (length fs) (omega arith) in
+    let g = le-ltb room (length fs) (s .fits-room) in
+    rw (showing, more, s .there) (fits M (countsOf ws) room (s .literals) fs (s .is-solved) (s .written) f g)
+
+-- ---- the first desk and the one of "Bigger sheets"
+
+pub shown-still : (work answer work′ answer′ room line : ℕ) (ws fs : List ℕ) → showing firstDesk work answer room line ws ≡ shows fs
+    → desk .room ≤ work′ → desk .room ≤ answer′ → showing desk work′ answer′ room line ws ≡ shows fs
+shown-still = showing-wider firstDesk desk first-within

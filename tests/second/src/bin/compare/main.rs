@@ -1,0 +1,74 @@
+//! Makes the same calls to the proved desk and to this one, and compares what
+//! comes back and every byte lent: the worked answers, then random cases of a
+//! seed.
+//!
+//!     compare CASES SEED COMMAND..    COMMAND starts the bridge to the proved desk
+//!
+//! A seed is a number, and `-` is the seed of every day.
+
+mod random;
+mod tally;
+mod worked;
+
+use std::collections::BTreeMap;
+use std::process::ExitCode;
+
+use second::gen::SEED;
+use second::proved::{self, Proved};
+use second::stack::deep;
+
+use tally::Tally;
+
+fn compare() -> ExitCode {
+    let args: Vec<String> = std::env::args().skip(1).collect();
+    let count: u64 = args[0].parse().expect("a number of cases");
+    let seed: u64 = match args[1].as_str() {
+        "-" => SEED,
+        number => number.parse().expect("a seed"),
+    };
+    let mut tally = Tally {
+        desk: proved::desk(),
+        proved: Proved::start(&args[2..]),
+        passed: 0,
+        failed: 0,
+        gave: BTreeMap::new(),
+    };
+    let folders = proved::worked_folders();
+    let (newest, others) = folders.split_last().expect("the base has worked answers");
+    worked::worked(&mut tally, newest);
+    worked::worked_later(&mut tally, newest);
+    for (name, question) in worked::written(newest) {
+        random::written(&mut tally, &name, &question);
+    }
+    // What a desk that knew less was asked is asked again.
+    others.iter().for_each(|folder| worked::asked_again(&mut tally, folder));
+    println!("worked answers: {} compared", tally.passed + tally.failed);
+    for index in 0..count {
+        random::random_case(&mut tally, seed, index);
+        if proved::landed() >= 12 && index % 50 == 0 {
+            random::random_day(&mut tally, seed, index);
+        }
+        if proved::landed() >= 13 {
+            random::random_overlap(&mut tally, seed, index);
+        }
+        if proved::landed() >= 14 {
+            random::random_text(&mut tally, seed, index);
+        }
+    }
+    println!("random cases: {count}, seed {seed}");
+    for (call, counts) in &tally.gave {
+        let shown: Vec<String> = counts.iter().map(|(n, times)| format!("{n}: {times}")).collect();
+        println!("{call} gave {}", shown.join(", "));
+    }
+    let failed = tally.failed + !tally.proved.end() as u64;
+    println!("{} passed, {failed} failed", tally.passed);
+    if failed > 0 {
+        ExitCode::FAILURE
+    } else {
+        ExitCode::SUCCESS
+    }
+}
+
+fn main() -> ExitCode {
+    deep(compare)
+}

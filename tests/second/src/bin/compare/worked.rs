@@ -1,0 +1,124 @@
+//! The worked answers.
+
+use std::path::Path;
+
+use second::host::{LENT, NO, SHOWN};
+use second::records::{cases, Case};
+use second::request::{bytes, Request};
+
+use crate::tally::Tally;
+
+/// Lent bytes after a call that wrote `written` at their start.
+fn left(length: usize, written: &[u8]) -> Vec<u8> {
+    let mut left = vec![LENT; length];
+    left[..written.len()].copy_from_slice(written);
+    left
+}
+
+/// Each record of a file, where the folder has it.
+fn records(folder: &Path, file: &str) -> Vec<Case> {
+    let path = folder.join(file);
+    if path.exists() {
+        cases(&path)
+    } else {
+        Vec::new()
+    }
+}
+
+/// What is expected of the proved desk by the worked answers themselves.
+pub fn worked(tally: &mut Tally, folder: &Path) {
+    let whole = 2 * tally.desk.limits.answer;
+    for case in records(folder, "solve.txt") {
+        let request = Request::Solve { question: bytes(&case.words('Q')), answer: whole };
+        let expected = case.needed('R')[0];
+        let expected_left = match case.field('A') {
+            Some(_) => {
+                let mut left = bytes(&case.words('A'));
+                left.resize(whole, 0);
+                left
+            }
+            None if expected >= 7 => vec![0; whole],
+            None => left(whole, &[]),
+        };
+        tally.expect(&case.name, &request, expected, &expected_left);
+    }
+    for case in records(folder, "try.txt") {
+        let (question, filling) = (bytes(&case.words('Q')), bytes(&case.words('F')));
+        let expected = match case.needed('V') {
+            [0, yes] => NO + yes,
+            verdict => verdict[0],
+        };
+        tally.expect(&case.name, &Request::Try { question, filling }, expected, &[]);
+    }
+    for case in records(folder, "example.txt") {
+        let asked = case.needed('L');
+        let room = 2 * asked[1] as usize;
+        let request = Request::Example {
+            question: bytes(&case.words('Q')),
+            line: asked[0],
+            old_sheets: asked.get(2).copied().unwrap_or(0),
+            room,
+        };
+        let shown = case.words('E');
+        let (expected, expected_left) = match shown[0] {
+            0 => (SHOWN + shown.len() as u32 - 1, left(room, &bytes(&shown[1..]))),
+            refusal => (refusal as u32, left(room, &[])),
+        };
+        tally.expect(&case.name, &request, expected, &expected_left);
+    }
+}
+
+/// The worked answers of later calls: this desk gives them, so both are
+/// compared.
+pub fn worked_later(tally: &mut Tally, folder: &Path) {
+    let whole = 2 * tally.desk.limits.answer;
+    for case in records(folder, "trail.txt") {
+        let (question, trail) = (bytes(&case.words('Q')), 2 * case.needed('N')[0] as usize);
+        tally.both(&case.name, Request::SolveTrail { question, answer: whole, trail });
+    }
+    for case in records(folder, "replay.txt") {
+        let (question, trail) = (bytes(&case.words('Q')), bytes(&case.words('T')));
+        tally.both(&case.name, Request::Replay { question, trail, answer: whole });
+    }
+    for case in records(folder, "example-trail.txt") {
+        let (question, trail) = (bytes(&case.words('Q')), bytes(&case.words('T')));
+        let asked = case.needed('L');
+        let (line, room, old_sheets) = (asked[0], 2 * asked[1] as usize, asked[2]);
+        tally.both(&case.name, Request::ExampleTrail { question, trail, line, old_sheets, room });
+    }
+    for case in records(folder, "overlap.txt") {
+        let (first, second) = (bytes(&case.words('G')), bytes(&case.words('H')));
+        let (first_word, room) = (case.needed('O')[0], 2 * case.needed('O')[1] as usize);
+        tally.both(&case.name, Request::Overlap { first, second, first_word, room });
+    }
+    for case in records(folder, "day.txt") {
+        let (sheet, room) = (bytes(&case.words('S')), 2 * case.needed('N')[0] as usize);
+        tally.both(&case.name, Request::Day { sheet, room });
+    }
+}
+
+/// The questions of an older desk's worked answers, put to both desks.
+pub fn asked_again(tally: &mut Tally, folder: &Path) {
+    let whole = 2 * tally.desk.limits.answer;
+    for case in records(folder, "solve.txt") {
+        let question = bytes(&case.words('Q'));
+        tally.both(&case.name, Request::Solve { question, answer: whole });
+    }
+    for case in records(folder, "try.txt") {
+        let (question, filling) = (bytes(&case.words('Q')), bytes(&case.words('F')));
+        tally.both(&case.name, Request::Try { question, filling });
+    }
+    for case in records(folder, "example.txt") {
+        let asked = case.needed('L');
+        let old_sheets = asked.get(2).copied().unwrap_or(0);
+        let (question, line, room) = (bytes(&case.words('Q')), asked[0], 2 * asked[1] as usize);
+        tally.both(&case.name, Request::Example { question, line, old_sheets, room });
+    }
+    worked_later(tally, folder);
+}
+
+/// The questions of the writer's worked answers.
+pub fn written(folder: &Path) -> Vec<(String, Vec<u16>)> {
+    let cases = records(folder, "writer.txt");
+    cases.into_iter().map(|case| (case.name.clone(), case.words('Q'))).collect()
+}
