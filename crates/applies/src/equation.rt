@@ -1,22 +1,9 @@
 // Whether a rule of equations applies, seen from the left side: a test for each, over what the search looks at.
-ghost use Prim.Native.Nat.{ℕ, _<_};
-ghost use mathlib.Core.Path.{_≡_};
 ghost use mathlib.Core.Bool.{not, _||_};
-ghost use mathlib.Core.List.{_++_};
-ghost use Rattle.language.specs.Trees.{Hedge, Conj, tv, hv, inConj};
+ghost use Rattle.language.specs.Trees.{tv, hv, inConj};
 ghost use Rattle.views.specs.Looks.{lookOf};
 ghost use Rattle.applies.specs.Parts.{loneVariable, loneRun, variableOf, runOf};
 ghost use Rattle.applies.specs.Tests.{Asks, testR1, testF1, testF2, testF3, testF4, testDel1, testDel3, testD2, testD0, testE1, testE2, testE3, testE4, blanksIn, testE5, testE6};
-use bools::and;
-use bools::or;
-use finds::all_terms;
-use finds::has_term;
-use finds::inside;
-use finds::under;
-use finds::up_to;
-use language::function_word;
-use language::run_word;
-use language::term_word;
 use crate::looks::blank_of;
 use crate::looks::is_bare;
 use crate::looks::is_blank;
@@ -34,12 +21,23 @@ use crate::looks::same_name;
 use crate::looks::single;
 use crate::looks::symbol_of;
 use crate::looks::variable_of;
+use bools::and;
+use bools::or;
+use finds::all_terms;
+use finds::has_term;
+use finds::inside;
+use finds::under;
+use finds::up_to;
+use language::function_word;
+use language::run_word;
+use language::term_word;
 use views::Side;
 use views::View;
 use words::elsewhere;
 use words::same_part;
 use words::stands;
 
+// R1: the same words.
 pub fn r1(k: &[u16], v: View) -> bool
     ensures { λ b. ⌜ Asks testR1 (now (k .entry)) v b ⌝ }
 {
@@ -48,6 +46,7 @@ pub fn r1(k: &[u16], v: View) -> bool
     same_part(k, l.from, l.to, r.from, r.to)
 }
 
+// F1: x against a hedge that has x below a functor at its top.
 pub fn f1(k: &[u16], v: View) -> bool
     ensures { λ b. ⌜ Asks testF1 (now (k .entry)) v b ⌝ }
 {
@@ -58,6 +57,7 @@ pub fn f1(k: &[u16], v: View) -> bool
     and(lone_variable(a), below)
 }
 
+// F2: p against a hedge that has a term and holds p.
 pub fn f2(k: &[u16], v: View) -> bool
     ensures { λ b. ⌜ Asks testF2 (now (k .entry)) v b ⌝ }
 {
@@ -69,6 +69,7 @@ pub fn f2(k: &[u16], v: View) -> bool
     and(lone_run(a), and(terms, held))
 }
 
+// F3: single terms with different symbols.
 pub fn f3(k: &[u16], v: View) -> bool
     ensures { λ b. ⌜ Asks testF3 (now (k .entry)) v b ⌝ }
 {
@@ -84,6 +85,7 @@ pub fn f3(k: &[u16], v: View) -> bool
     and(lone_functor(a), and(lone_functor(b), clash))
 }
 
+// F4: nothing against a hedge that has a term.
 pub fn f4(k: &[u16], v: View) -> bool
     ensures { λ b. ⌜ Asks testF4 (now (k .entry)) v b ⌝ }
 {
@@ -94,6 +96,7 @@ pub fn f4(k: &[u16], v: View) -> bool
     and(is_empty(a), terms)
 }
 
+// Del1: the same hedge variable in front of both.
 pub fn del1(k: &[u16], v: View) -> bool
     ensures { λ b. ⌜ Asks testDel1 (now (k .entry)) v b ⌝ }
 {
@@ -106,6 +109,7 @@ pub fn del1(k: &[u16], v: View) -> bool
     and(is_run(a), and(is_run(b), p.0 == q.0))
 }
 
+// Del3: p against a hedge that has p behind another element.
 pub fn del3(k: &[u16], v: View) -> bool
     ensures { λ b. ⌜ Asks testDel3 (now (k .entry)) v b ⌝ }
 {
@@ -116,6 +120,7 @@ pub fn del3(k: &[u16], v: View) -> bool
     and(lone_run(a), spot.found)
 }
 
+// D2: terms in front of both, and something behind one of them.
 pub fn d2(k: &[u16], v: View) -> bool
     ensures { λ b. ⌜ Asks testD2 (now (k .entry)) v b ⌝ }
 {
@@ -127,6 +132,7 @@ pub fn d2(k: &[u16], v: View) -> bool
     and(is_term(a), and(is_term(b), !ends))
 }
 
+// D0: single terms with the same functor.
 pub fn d0(k: &[u16], v: View) -> bool
     ensures { λ b. ⌜ Asks testD0 (now (k .entry)) v b ⌝ }
 {
@@ -149,6 +155,7 @@ fn variable_too(k: &[u16], v: View) -> bool
     or(!lone, there)
 }
 
+// E1: x against a term without it, and the variables elsewhere too.
 pub fn e1(k: &[u16], v: View) -> bool
     ensures { λ b. ⌜ Asks testE1 (now (k .entry)) v b ⌝ }
 {
@@ -174,6 +181,7 @@ fn run_too(k: &[u16], v: View) -> bool
     or(!lone, there)
 }
 
+// E2: p against a hedge without it, and the variables elsewhere too.
 pub fn e2(k: &[u16], v: View) -> bool
     ensures { λ b. ⌜ Asks testE2 (now (k .entry)) v b ⌝ }
 {
@@ -186,6 +194,7 @@ pub fn e2(k: &[u16], v: View) -> bool
     and(lone_run(a), and(!held, and(there, run_too(k, v))))
 }
 
+// E3: p and more against terms alone, without p.
 pub fn e3(k: &[u16], v: View) -> bool
     ensures { λ b. ⌜ Asks testE3 (now (k .entry)) v b ⌝ }
 {
@@ -198,6 +207,7 @@ pub fn e3(k: &[u16], v: View) -> bool
     and(is_run(a), and(!last, and(terms.all, !held)))
 }
 
+// E4: p and more against terms up to one that holds p.
 pub fn e4(k: &[u16], v: View) -> bool
     ensures { λ b. ⌜ Asks testE4 (now (k .entry)) v b ⌝ }
 {
@@ -223,6 +233,7 @@ fn blanks_elsewhere(k: &[u16], v: View) -> bool
     and(first, or(is_symbol(g), second))
 }
 
+// E5: X() against F(), another functor, and the variables elsewhere too.
 pub fn e5(k: &[u16], v: View) -> bool
     ensures { λ b. ⌜ Asks testE5 (now (k .entry)) v b ⌝ }
 {
@@ -238,6 +249,7 @@ pub fn e5(k: &[u16], v: View) -> bool
     and(lone_functor(a), and(!symbol, and(lone_functor(b), bare)))
 }
 
+// E6: X(..) against F(..), another functor, not both without children.
 pub fn e6(k: &[u16], v: View) -> bool
     ensures { λ b. ⌜ Asks testE6 (now (k .entry)) v b ⌝ }
 {
@@ -249,5 +261,8 @@ pub fn e6(k: &[u16], v: View) -> bool
     let symbol = is_symbol(f);
     let same = is_blank(blank_of(f), name_in(b));
     let bare = and(is_bare(a), is_bare(b));
-    and(lone_functor(a), and(!symbol, and(lone_functor(b), and(!bare, !same))))
+    and(
+        lone_functor(a),
+        and(!symbol, and(lone_functor(b), and(!bare, !same))),
+    )
 }

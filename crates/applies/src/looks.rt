@@ -163,6 +163,7 @@ pub fn is_symbol(name: Name) -> bool
     }
 }
 
+// The symbol.
 pub fn symbol_of(name: Name) -> Sym
     ensures { λ r. ⌜ r ≡ symbolOf name ⌝ }
 {
@@ -172,6 +173,7 @@ pub fn symbol_of(name: Name) -> Sym
     }
 }
 
+// The function variable.
 pub fn blank_of(name: Name) -> FunVar
     ensures { λ r. ⌜ r ≡ blankOf name ⌝ }
 {
@@ -201,6 +203,7 @@ fn is_named(f: Sym, name: Name) -> bool
     }
 }
 
+// The same name twice.
 pub fn same_name(a: Name, b: Name) -> bool
     ensures { λ r. ⌜ r ≡ sameName a b ⌝ }
 {

@@ -1,14 +1,7 @@
 // Whether a rule of memberships applies: a test for each, over what the search looks at.
-ghost use Prim.Native.Nat.{ℕ};
 ghost use mathlib.Core.Path.{_≡_};
-ghost use mathlib.Core.Bool.{not, _&&_};
-ghost use Rattle.language.specs.Trees.{Hedge, Expr, Conj};
 ghost use Rattle.applies.specs.Parts.{formWord, symbolIn};
 ghost use Rattle.applies.specs.Tests.{AsksIn, singleIn, testR2, testF5, testF6, testF7, testM1, testM2, testM3, testM7, testM10, testM11};
-use bools::and;
-use expressions::pass;
-use finds::has_term;
-use language::Sym;
 use crate::looks::form_word;
 use crate::looks::is_empty;
 use crate::looks::is_last;
@@ -20,6 +13,10 @@ use crate::looks::name_in;
 use crate::looks::single;
 use crate::looks::symbol_in;
 use crate::looks::symbol_of;
+use bools::and;
+use expressions::pass;
+use finds::has_term;
+use language::Sym;
 use views::Shape;
 use views::Side;
 
@@ -31,6 +28,7 @@ fn form_of(s: Shape) -> usize
     form_word(first)
 }
 
+// The symbol that it begins with.
 fn symbol_at(s: Shape) -> Sym
     ensures { λ r. ⌜ r ≡ symbolIn (s .first) ⌝ }
 {
@@ -38,6 +36,7 @@ fn symbol_at(s: Shape) -> Sym
     symbol_in(first)
 }
 
+// R2: nothing, in an expression that has the empty hedge.
 pub fn r2(k: &[u16], s: Shape) -> bool
     ensures { λ b. ⌜ AsksIn testR2 (now (k .entry)) s b ⌝ }
 {
@@ -47,6 +46,7 @@ pub fn r2(k: &[u16], s: Shape) -> bool
     and(is_empty(a), p.null)
 }
 
+// F5: f(H) in g(R), another symbol.
 pub fn f5(k: &[u16], s: Shape) -> bool
     ensures { λ b. ⌜ AsksIn testF5 (now (k .entry)) s b ⌝ }
 {
@@ -59,6 +59,7 @@ pub fn f5(k: &[u16], s: Shape) -> bool
     and(lone_functor(a), and(is_symbol(f), clash))
 }
 
+// F6: nothing, in an expression without the empty hedge.
 pub fn f6(k: &[u16], s: Shape) -> bool
     ensures { λ b. ⌜ AsksIn testF6 (now (k .entry)) s b ⌝ }
 {
@@ -69,6 +70,7 @@ pub fn f6(k: &[u16], s: Shape) -> bool
     and(is_empty(a), !null)
 }
 
+// F7: a hedge that has a term, in eps.
 pub fn f7(k: &[u16], s: Shape) -> bool
     ensures { λ b. ⌜ AsksIn testF7 (now (k .entry)) s b ⌝ }
 {
@@ -77,6 +79,7 @@ pub fn f7(k: &[u16], s: Shape) -> bool
     and(terms, form_of(s) == 7000)
 }
 
+// M1: hedge variables alone, in eps.
 pub fn m1(k: &[u16], s: Shape) -> bool
     ensures { λ b. ⌜ AsksIn testM1 (now (k .entry)) s b ⌝ }
 {
@@ -87,6 +90,7 @@ pub fn m1(k: &[u16], s: Shape) -> bool
     and(!none, and(!terms, form_of(s) == 7000))
 }
 
+// M2: a term and more, in what is not eps.
 pub fn m2(k: &[u16], s: Shape) -> bool
     ensures { λ b. ⌜ AsksIn testM2 (now (k .entry)) s b ⌝ }
 {
@@ -96,6 +100,7 @@ pub fn m2(k: &[u16], s: Shape) -> bool
     and(is_term(a), and(!last, form_of(s) != 7000))
 }
 
+// M3: p and more, in g(R).
 pub fn m3(k: &[u16], s: Shape) -> bool
     ensures { λ b. ⌜ AsksIn testM3 (now (k .entry)) s b ⌝ }
 {
@@ -114,6 +119,7 @@ pub fn single_in(k: &[u16], s: Shape, x: usize) -> bool
     and(single(a), form_of(s) == x)
 }
 
+// M7: a hedge that begins with p, in a choice.
 pub fn m7(k: &[u16], s: Shape) -> bool
     ensures { λ b. ⌜ AsksIn testM7 (now (k .entry)) s b ⌝ }
 {
@@ -122,6 +128,7 @@ pub fn m7(k: &[u16], s: Shape) -> bool
     and(is_run(a), form_of(s) == 7002)
 }
 
+// M10: X(H) in g(R).
 pub fn m10(k: &[u16], s: Shape) -> bool
     ensures { λ b. ⌜ AsksIn testM10 (now (k .entry)) s b ⌝ }
 {
@@ -131,6 +138,7 @@ pub fn m10(k: &[u16], s: Shape) -> bool
     and(lone_functor(a), and(!symbol, form_of(s) == 3000))
 }
 
+// M11: f(H) in f(R).
 pub fn m11(k: &[u16], s: Shape) -> bool
     ensures { λ b. ⌜ AsksIn testM11 (now (k .entry)) s b ⌝ }
 {
