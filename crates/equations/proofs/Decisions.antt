@@ -4,20 +4,14 @@ use mathlib.Core.Bool.{Bool, true, false, not, _&&_, _||_, and-true, and-false}
 use mathlib.Core.Option.{Option, none, some}
 use Rattle.language.specs.Kinds.{pick}
 use Rattle.language.specs.Trees.{symbol, fvar, Hedge, ε, tvar, hvar, node, Conj, eqT, eqH, eqS, eqX, sameWords, tv, hv, fv, holds, inConj}
-use mathlib.Core.List.{List}
 use Rattle.language.specs.declared.HedgeVar.{HedgeVar}
 use Rattle.rules.specs.Looks.{empty, hasTerm, allTerms, under, onto, around, inside, upTo, lone}
-use Rattle.rules.specs.Rules.{Branch, _>>=_, too}
+use Rattle.rules.specs.Rules.{_>>=_, too}
 use Rattle.rules.specs.Solved.{isSome}
 use Rattle.rules.specs.Places.{atR1, atF1, atF2, atF3, atDel1, atDel3, atD2, atD0, atE1, atE2, atE3, atE4, atE5, atE6, noRule}
 use Rattle.rules.specs.Ranks.{eqnRank}
-use Rattle.plans.proofs.Ranking.{check-on, lone-on, pick-suc, pick-not}
+use Rattle.plans.proofs.Ranking.{check-on, lone-on, bind-on, pick-suc, pick-not}
 use Rattle.equations.specs.Rank.{rankOf}
-
-bind-on : {A : Type 0} (m : Option A) (g : A → List Branch) → isSome (m >>= (λ a. some (g a))) ≡ isSome m
-unfolding _>>=_
-bind-on none g = refl
-bind-on (some a) g = refl
 
 -- what stands inside is held
 onto-on : (q : Hedge → Hedge) (m : Option (Hedge × Hedge)) → isSome (onto q m) ≡ isSome m

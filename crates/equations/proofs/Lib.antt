@@ -1,5 +1,4 @@
 pub mod Decisions
-pub mod Same
 pub mod Names
 pub mod Looked
 pub mod Nodes

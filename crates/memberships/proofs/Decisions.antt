@@ -4,18 +4,12 @@ use mathlib.Core.Path.{_≡_, refl}
 use mathlib.Core.Bool.{Bool, true, false, not, _&&_, and-true, and-false}
 use Rattle.language.specs.Kinds.{pick}
 use Rattle.language.specs.Trees.{symbol, fvar, Hedge, ε, tvar, hvar, node, Expr, eps, cat, alt, star, over, Conj, eqS}
-use Rattle.rules.specs.Looks.{empty, hasTerm, allRuns}
+use Rattle.rules.specs.Looks.{empty, hasTerm}
 use Rattle.rules.specs.Expressions.{nullable}
 use Rattle.rules.specs.Places.{atR2, atF5, atF6, atF7, atM1, atM2, atM3, atM4, atM5, atM6, atM10, atM11, noRule}
 use Rattle.rules.specs.Ranks.{memRank}
-use Rattle.plans.proofs.Ranking.{check-on, lone-on, pick-suc, pick-not, pick-else, pick-other}
+use Rattle.plans.proofs.Ranking.{check-on, lone-on, runs-terms, pick-suc, pick-not, pick-else, pick-other}
 use Rattle.memberships.specs.Rank.{rankIn}
-
-runs-terms : (r : Hedge) → allRuns r ≡ not (hasTerm r)
-runs-terms ε = refl
-runs-terms (tvar x r) = refl
-runs-terms (hvar p r) = runs-terms r
-runs-terms (node f c r) = refl
 
 -- F5, M2, M11 in the rules' order and in the tree's, whatever is picked
 symbol-order : {A : Type 0} (clash more same rest : A) (e q : Bool) → pick (e && not q) clash (pick (not e) more (pick (e && q) same rest)) ≡ pick e (pick q same clash) more

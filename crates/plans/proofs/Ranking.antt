@@ -3,11 +3,12 @@ use Prim.Native.Nat.{ℕ, suc}
 use mathlib.Core.Path.{_≡_, refl, ap, _∙_}
 use mathlib.Core.Bool.{Bool, true, false, not, _&&_}
 use mathlib.Core.List.{List, [], _∷_, map}
+use mathlib.Core.Option.{Option, none, some}
 use borrow.Author.Tests.{ne-eqb}
 use Rattle.language.specs.Kinds.{pick}
 use Rattle.language.specs.Trees.{Hedge, ε, tvar, hvar, node}
-use Rattle.rules.specs.Looks.{empty, lone}
-use Rattle.rules.specs.Rules.{Answer, _>>=_, check}
+use Rattle.rules.specs.Looks.{empty, lone, hasTerm, allRuns}
+use Rattle.rules.specs.Rules.{Branch, Answer, _>>=_, check}
 use Rattle.rules.specs.Solved.{isSome}
 use Rattle.plans.specs.declared.Plan.{Plan}
 use Rattle.plans.specs.Slots.{dropPlan, tabled}
@@ -23,6 +24,17 @@ lone-on a ε f = refl
 lone-on a (tvar x s) f = refl
 lone-on a (hvar p s) f = refl
 lone-on a (node g c s) f = refl
+
+pub bind-on : {A : Type 0} (m : Option A) (g : A → List Branch) → isSome (m >>= (λ a. some (g a))) ≡ isSome m
+unfolding _>>=_
+bind-on none g = refl
+bind-on (some a) g = refl
+
+pub runs-terms : (r : Hedge) → allRuns r ≡ not (hasTerm r)
+runs-terms ε = refl
+runs-terms (tvar x r) = refl
+runs-terms (hvar p r) = runs-terms r
+runs-terms (node f c r) = refl
 
 pub pick-suc : (b : Bool) (x y : ℕ) → suc (pick b x y) ≡ pick b (suc x) (suc y)
 pick-suc true x y = refl

@@ -2,6 +2,7 @@ pub mod Words
 pub mod Spans
 pub mod Sides
 pub mod Members
+pub mod Same
 pub mod Looks
 pub mod Literals
 pub mod Seen

@@ -2,7 +2,7 @@
 use borrow.Author.Needs.{needs}
 use mathlib.Core.Path.{sym, _∙_}
 use mathlib.Core.List.{_++_}
-use Rattle.equations.proofs.Same.{same-sides}
+use Rattle.views.proofs.Same.{same-sides}
 use Rattle.equations.proofs.Looked.{both}
 use Rattle.equations.proofs.Nodes.{nodes-same, nodes-longer, nodes-single}
 use Rattle.equations.proofs.functors.rank_nodes.Statement.{statement}

@@ -3,7 +3,7 @@ use borrow.Author.Needs.{needs}
 use mathlib.Core.Path.{sym, _∙_}
 use mathlib.Core.List.{_++_}
 use Rattle.views.proofs.Sides.{side-stands}
-use Rattle.equations.proofs.Same.{same-sides}
+use Rattle.views.proofs.Same.{same-sides}
 use Rattle.equations.proofs.Leading.{struck-same, struck-fails, struck-lone, struck-more}
 use Rattle.equations.proofs.runs.rank_struck.Statement.{statement}
 use Rattle.equations.proofs.runs.rank_struck.Tie as tie

@@ -5,7 +5,7 @@ use mathlib.Core.List.{_++_}
 use Rattle.language.specs.Trees.{tvar, tv}
 use Rattle.rules.specs.Looks.{under}
 use Rattle.views.proofs.Sides.{side-stands}
-use Rattle.equations.proofs.Same.{same-sides}
+use Rattle.views.proofs.Same.{same-sides}
 use Rattle.equations.proofs.Looked.{both, both-on}
 use Rattle.equations.proofs.Variables.{terms-same, terms-hidden, terms-longer, terms-single}
 use Rattle.equations.proofs.terms.rank_term_term.Statement.{statement}

@@ -1,0 +1,5 @@
+pub mod Lines
+pub mod Laws
+pub mod Named
+pub mod Reading
+pub mod Determined

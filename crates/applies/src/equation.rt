@@ -1,0 +1,268 @@
+// Whether a rule of equations applies, seen from the left side: a test for each, over what the search looks at.
+ghost use mathlib.Core.Bool.{not, _||_};
+ghost use Rattle.language.specs.Trees.{tv, hv, inConj};
+ghost use Rattle.views.specs.Looks.{lookOf};
+ghost use Rattle.applies.specs.Parts.{loneVariable, loneRun, variableOf, runOf};
+ghost use Rattle.applies.specs.Tests.{Asks, testR1, testF1, testF2, testF3, testF4, testDel1, testDel3, testD2, testD0, testE1, testE2, testE3, testE4, blanksIn, testE5, testE6};
+use crate::looks::blank_of;
+use crate::looks::is_bare;
+use crate::looks::is_blank;
+use crate::looks::is_empty;
+use crate::looks::is_last;
+use crate::looks::is_run;
+use crate::looks::is_symbol;
+use crate::looks::is_term;
+use crate::looks::lone_functor;
+use crate::looks::lone_run;
+use crate::looks::lone_variable;
+use crate::looks::name_in;
+use crate::looks::run_of;
+use crate::looks::same_name;
+use crate::looks::single;
+use crate::looks::symbol_of;
+use crate::looks::variable_of;
+use bools::and;
+use bools::or;
+use finds::all_terms;
+use finds::has_term;
+use finds::inside;
+use finds::under;
+use finds::up_to;
+use language::function_word;
+use language::run_word;
+use language::term_word;
+use views::Side;
+use views::View;
+use words::elsewhere;
+use words::same_part;
+use words::stands;
+
+// R1: the same words.
+pub fn r1(k: &[u16], v: View) -> bool
+    ensures { λ b. ⌜ Asks testR1 (now (k .entry)) v b ⌝ }
+{
+    let l = v.l;
+    let r = v.r;
+    same_part(k, l.from, l.to, r.from, r.to)
+}
+
+// F1: x against a hedge that has x below a functor at its top.
+pub fn f1(k: &[u16], v: View) -> bool
+    ensures { λ b. ⌜ Asks testF1 (now (k .entry)) v b ⌝ }
+{
+    let l = v.l;
+    let r = v.r;
+    let a = l.look;
+    let below = under(k, r.from, variable_of(a));
+    and(lone_variable(a), below)
+}
+
+// F2: p against a hedge that has a term and holds p.
+pub fn f2(k: &[u16], v: View) -> bool
+    ensures { λ b. ⌜ Asks testF2 (now (k .entry)) v b ⌝ }
+{
+    let l = v.l;
+    let r = v.r;
+    let a = l.look;
+    let terms = has_term(k, r.from);
+    let held = stands(k, r.from, r.to, run_word(run_of(a)));
+    and(lone_run(a), and(terms, held))
+}
+
+// F3: single terms with different symbols.
+pub fn f3(k: &[u16], v: View) -> bool
+    ensures { λ b. ⌜ Asks testF3 (now (k .entry)) v b ⌝ }
+{
+    let l = v.l;
+    let r = v.r;
+    let a = l.look;
+    let b = r.look;
+    let f = name_in(a);
+    let g = name_in(b);
+    let c = symbol_of(f);
+    let d = symbol_of(g);
+    let clash = and(is_symbol(f), and(is_symbol(g), c.0 != d.0));
+    and(lone_functor(a), and(lone_functor(b), clash))
+}
+
+// F4: nothing against a hedge that has a term.
+pub fn f4(k: &[u16], v: View) -> bool
+    ensures { λ b. ⌜ Asks testF4 (now (k .entry)) v b ⌝ }
+{
+    let l = v.l;
+    let r = v.r;
+    let a = l.look;
+    let terms = has_term(k, r.from);
+    and(is_empty(a), terms)
+}
+
+// Del1: the same hedge variable in front of both.
+pub fn del1(k: &[u16], v: View) -> bool
+    ensures { λ b. ⌜ Asks testDel1 (now (k .entry)) v b ⌝ }
+{
+    let l = v.l;
+    let r = v.r;
+    let a = l.look;
+    let b = r.look;
+    let p = run_of(a);
+    let q = run_of(b);
+    and(is_run(a), and(is_run(b), p.0 == q.0))
+}
+
+// Del3: p against a hedge that has p behind another element.
+pub fn del3(k: &[u16], v: View) -> bool
+    ensures { λ b. ⌜ Asks testDel3 (now (k .entry)) v b ⌝ }
+{
+    let l = v.l;
+    let r = v.r;
+    let a = l.look;
+    let spot = inside(k, r.from, run_of(a));
+    and(lone_run(a), spot.found)
+}
+
+// D2: terms in front of both, and something behind one of them.
+pub fn d2(k: &[u16], v: View) -> bool
+    ensures { λ b. ⌜ Asks testD2 (now (k .entry)) v b ⌝ }
+{
+    let l = v.l;
+    let r = v.r;
+    let a = l.look;
+    let b = r.look;
+    let ends = and(is_last(a), is_last(b));
+    and(is_term(a), and(is_term(b), !ends))
+}
+
+// D0: single terms with the same functor.
+pub fn d0(k: &[u16], v: View) -> bool
+    ensures { λ b. ⌜ Asks testD0 (now (k .entry)) v b ⌝ }
+{
+    let l = v.l;
+    let r = v.r;
+    let a = l.look;
+    let b = r.look;
+    let same = same_name(name_in(a), name_in(b));
+    and(lone_functor(a), and(lone_functor(b), same))
+}
+
+// Where the right side is one term variable, it is in the others too.
+fn variable_too(k: &[u16], v: View) -> bool
+    ensures { λ b. ⌜ Asks (λ K l r. not (loneVariable (lookOf r)) || inConj (tv (variableOf (lookOf r))) K) (now (k .entry)) v b ⌝ }
+{
+    let r = v.r;
+    let b = r.look;
+    let there = elsewhere(k, v.at, v.end, term_word(variable_of(b)));
+    let lone = lone_variable(b);
+    or(!lone, there)
+}
+
+// E1: x against a term without it, and the variables elsewhere too.
+pub fn e1(k: &[u16], v: View) -> bool
+    ensures { λ b. ⌜ Asks testE1 (now (k .entry)) v b ⌝ }
+{
+    let l = v.l;
+    let r = v.r;
+    let a = l.look;
+    let b = r.look;
+    let x = term_word(variable_of(a));
+    let held = stands(k, r.from, r.to, x);
+    let there = elsewhere(k, v.at, v.end, x);
+    let bound = and(!held, and(there, variable_too(k, v)));
+    and(lone_variable(a), and(single(b), bound))
+}
+
+// Where the right side is one hedge variable, it is in the others too.
+fn run_too(k: &[u16], v: View) -> bool
+    ensures { λ b. ⌜ Asks (λ K l r. not (loneRun (lookOf r)) || inConj (hv (runOf (lookOf r))) K) (now (k .entry)) v b ⌝ }
+{
+    let r = v.r;
+    let b = r.look;
+    let there = elsewhere(k, v.at, v.end, run_word(run_of(b)));
+    let lone = lone_run(b);
+    or(!lone, there)
+}
+
+// E2: p against a hedge without it, and the variables elsewhere too.
+pub fn e2(k: &[u16], v: View) -> bool
+    ensures { λ b. ⌜ Asks testE2 (now (k .entry)) v b ⌝ }
+{
+    let l = v.l;
+    let r = v.r;
+    let a = l.look;
+    let x = run_word(run_of(a));
+    let held = stands(k, r.from, r.to, x);
+    let there = elsewhere(k, v.at, v.end, x);
+    and(lone_run(a), and(!held, and(there, run_too(k, v))))
+}
+
+// E3: p and more against terms alone, without p.
+pub fn e3(k: &[u16], v: View) -> bool
+    ensures { λ b. ⌜ Asks testE3 (now (k .entry)) v b ⌝ }
+{
+    let l = v.l;
+    let r = v.r;
+    let a = l.look;
+    let terms = all_terms(k, r.from);
+    let held = stands(k, r.from, r.to, run_word(run_of(a)));
+    let last = is_last(a);
+    and(is_run(a), and(!last, and(terms.all, !held)))
+}
+
+// E4: p and more against terms up to one that holds p.
+pub fn e4(k: &[u16], v: View) -> bool
+    ensures { λ b. ⌜ Asks testE4 (now (k .entry)) v b ⌝ }
+{
+    let l = v.l;
+    let r = v.r;
+    let a = l.look;
+    let ahead = up_to(k, r.from, run_of(a));
+    let last = is_last(a);
+    and(is_run(a), and(!last, ahead.found))
+}
+
+// The function variable of the left side is in the others, and that of the right side too.
+fn blanks_elsewhere(k: &[u16], v: View) -> bool
+    ensures { λ b. ⌜ Asks blanksIn (now (k .entry)) v b ⌝ }
+{
+    let l = v.l;
+    let r = v.r;
+    let a = l.look;
+    let b = r.look;
+    let g = name_in(b);
+    let first = elsewhere(k, v.at, v.end, function_word(blank_of(name_in(a))));
+    let second = elsewhere(k, v.at, v.end, function_word(blank_of(g)));
+    and(first, or(is_symbol(g), second))
+}
+
+// E5: X() against F(), another functor, and the variables elsewhere too.
+pub fn e5(k: &[u16], v: View) -> bool
+    ensures { λ b. ⌜ Asks testE5 (now (k .entry)) v b ⌝ }
+{
+    let l = v.l;
+    let r = v.r;
+    let a = l.look;
+    let b = r.look;
+    let f = name_in(a);
+    let symbol = is_symbol(f);
+    let same = is_blank(blank_of(f), name_in(b));
+    let bound = and(!same, blanks_elsewhere(k, v));
+    let bare = and(is_bare(a), and(is_bare(b), bound));
+    and(lone_functor(a), and(!symbol, and(lone_functor(b), bare)))
+}
+
+// E6: X(..) against F(..), another functor, not both without children.
+pub fn e6(k: &[u16], v: View) -> bool
+    ensures { λ b. ⌜ Asks testE6 (now (k .entry)) v b ⌝ }
+{
+    let l = v.l;
+    let r = v.r;
+    let a = l.look;
+    let b = r.look;
+    let f = name_in(a);
+    let symbol = is_symbol(f);
+    let same = is_blank(blank_of(f), name_in(b));
+    let bare = and(is_bare(a), is_bare(b));
+    and(
+        lone_functor(a),
+        and(!symbol, and(lone_functor(b), and(!bare, !same))),
+    )
+}
