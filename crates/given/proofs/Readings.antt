@@ -7,43 +7,16 @@ use mathlib.Core.Option.{Option, none, some}
 use native.Mathlib.Omega.{arith}
 use lib.Dec.{leb, eqb}
 use lib.ListN.{length, getD}
-use borrow.Author.Tests.{leb-true, le-leb, lt-leb, eq-eqb, ne-eqb}
+use borrow.Author.Tests.{le-leb, lt-leb, eq-eqb, ne-eqb}
 use Rattle.language.specs.declared.Refusal.the-variants.{FillingLayout, FillingValue}
 use Rattle.language.specs.Limits.{desk}
 use Rattle.language.specs.Trees.{Counts}
-use Rattle.language.specs.Question.{laidOut, parts, countsFit}
-use Rattle.language.proofs.Bools.{both-true}
+use Rattle.language.specs.Question.{laidOut, parts}
 use Rattle.language.proofs.Offsets.{laid-short}
 use Rattle.meaning.specs.Complete.{Complete}
 use Rattle.meaning.specs.Values.{variables, forms, valuesOf, filling, Given, gives, refuses, readFilling}
 use Rattle.outcomes.specs.declared.Checked.the-variants.{Fine, Refused}
 use Rattle.given.specs.Checking.{isSome, allOfForm, given}
-
--- the counts that fit
-pub record Small (n : Counts) (c : ℕ) : Type 0 where
-  pub symbol : 1 ≤ n .symbols
-  pub symbols : n .symbols ≤ desk .each
-  pub terms : n .terms ≤ desk .each
-  pub hedges : n .hedges ≤ desk .each
-  pub functions : n .functions ≤ desk .each
-  pub alternatives : c ≤ 16
-
-pub small : (n : Counts) (c : ℕ) → countsFit desk n c ≡ true → Small n c
-unfolding countsFit
-small n c e =
-    let a = both-true _ _ e in
-    let f = both-true _ _ (a .0) in
-    let h = both-true _ _ (f .0) in
-    let t = both-true _ _ (h .0) in
-    let s = both-true _ _ (t .0) in
-    record {
-      symbol = leb-true _ _ (s .0);
-      symbols = leb-true _ _ (s .1);
-      terms = leb-true _ _ (t .1);
-      hedges = leb-true _ _ (h .1);
-      functions = leb-true _ _ (f .1);
-      alternatives = leb-true _ _ (a .1);
-    }
 
 module _ (n : Counts) (ws : List ℕ) where
   abbrev layout : Bool

@@ -1,4 +1,4 @@
--- `values::is_complete` meets its contract: where reading a hedge ended, and then whether its words are plain.
+-- `given::is_complete` meets its contract: where reading a hedge ended, and then whether its words are plain.
 use mathlib.Core.Path.{sym, _∙_}
 use native.Mathlib.Omega.{arith}
 use borrow.Author.Needs.{needs}

@@ -1,4 +1,4 @@
--- `values::is_plain` meets its contract. The loop keeps what is to be returned.
+-- `given::is_plain` meets its contract. The loop keeps what is to be returned.
 use Prim.Native.Nat.{_-_}
 use mathlib.Core.Path.{_≡_, refl, _∙_}
 use native.Mathlib.Omega.{arith}

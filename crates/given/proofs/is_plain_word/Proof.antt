@@ -1,4 +1,4 @@
--- `values::is_plain_word` meets its contract: an end, a symbol, and any other kind.
+-- `given::is_plain_word` meets its contract: an end, a symbol, and any other kind.
 use mathlib.Core.Path.{_≡_, refl, sym, ap, _∙_}
 use mathlib.Core.Bool.{false}
 use mathlib.Core.List.{[], _∷_}

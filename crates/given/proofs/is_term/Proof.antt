@@ -1,4 +1,4 @@
--- `values::is_term` meets its contract: too few words, and where the children end.
+-- `given::is_term` meets its contract: too few words, and where the children end.
 use mathlib.Core.Path.{sym, _∙_}
 use native.Mathlib.Omega.{arith}
 use borrow.Author.Needs.{needs}

@@ -1,4 +1,4 @@
--- `values::read_filling` meets its contract: a law for each return.
+-- `given::read_filling` meets its contract: a law for each return.
 use mathlib.Core.Path.{sym, _∙_}
 use native.Mathlib.Omega.{arith}
 use borrow.Author.Needs.{needs}

@@ -1,4 +1,4 @@
--- `values::value_fits` meets its contract: a law for each return.
+-- `given::value_fits` meets its contract: a law for each return.
 use native.Mathlib.Omega.{arith}
 use borrow.Author.Needs.{needs}
 use borrow.Author.Tests.{not-true, not-false}

@@ -1,4 +1,4 @@
--- `values::values_fit` meets its contract. The loop walks along the parts.
+-- `given::values_fit` meets its contract. The loop walks along the parts.
 use Prim.Native.Nat.{_≤_, _-_, _+_}
 use mathlib.Core.Path.{_≡_, refl, sym, _∙_}
 use native.Mathlib.Omega.{arith}
