@@ -3,8 +3,8 @@
 use Prim.Native.Nat.{ℕ}
 use mathlib.Core.Path.{_≡_}
 use mathlib.Core.Logic.{_↔_, Iff·trans, Iff·symm}
-use mathlib.Core.Bool.{Bool, true}
-use mathlib.Core.List.{List, [], _∷_, _++_, List·Memᴰ}
+use mathlib.Core.Bool.{Bool, true, false}
+use mathlib.Core.List.{List, [], _∷_, _++_, map, List·Memᴰ}
 use Rattle.language.specs.declared.Sym.{Sym}
 use Rattle.language.specs.Limits.{Limits}
 use Rattle.language.specs.Trees.{Expr, Literal, Conj, Counts, Question}
@@ -13,7 +13,7 @@ use Rattle.meaning.specs.Complete.{Complete, nil, tree}
 use Rattle.meaning.specs.Meaning.{Filling, Member, MeetsAll, MeetsOne, MeetsQuestion}
 use Rattle.rules.specs.Expressions.{nullable, linear}
 use Rattle.rules.specs.Reply.{nothing, results}
-use Rattle.rules.specs.Rules.{Rule, rules}
+use Rattle.rules.specs.Rules.{Rule, Fold, rules}
 use Rattle.rules.specs.Step.{resultsAt, Spot, stepAt, search, step}
 use Rattle.rules.specs.Run.{finished, run}
 use Rattle.rules.specs.Answer.{answered, solving}
@@ -21,10 +21,11 @@ use Rattle.rules.specs.Each.{Each, Some}
 use Rattle.rules.specs.Sides.{AtSides, Idle}
 use Rattle.rules.proofs.Each.{each-in, each-imp}
 use Rattle.rules.proofs.Tests.{test-true}
-use Rattle.rules.proofs.Steps.{named-at-sides, search-named, step-none}
+use Rattle.rules.proofs.Steps.{each-nothing, named-at-sides, search-named, step-none}
+use Rattle.rules.proofs.Folding.{fold-none}
 use Rattle.rules.proofs.Invariant.{answered-run, lines-keep, lines-rest}
 use Rattle.exact.specs.Monomials.{Takes}
-use Rattle.exact.specs.Places.{SameFillings}
+use Rattle.exact.specs.Places.{SameFillings, Apart}
 use Rattle.exact.specs.Made.{Name, MadeC}
 use Rattle.exact.proofs.Expressions.{nullable-exact, linear-exact}
 use Rattle.exact.proofs.Places.{each-rule-exact}
@@ -79,6 +80,13 @@ lines-settled = lines-rest
 -- the same in full: no rule of the list applies at any literal of a line
 pub lines-idle : (L : Limits) (w ls : List Conj) (n : ℕ) → run L w ≡ finished ls n → Each (λ k. Each (Idle k) rules) ls
 lines-idle L w ls n e = each-imp (λ k. step k ≡ nothing) (λ k. Each (Idle k) rules) step-none ls (lines-rest L w ls n e)
+
+-- "The same test twice": no two literals of a line have the same words.
+pub lines-apart : (L : Limits) (w ls : List Conj) (n : ℕ) → run L w ≡ finished ls n → Each Apart ls
+lines-apart L w ls n e =
+    each-imp (λ k. Each (Idle k) rules) Apart
+    (λ k q before l behind d. fold-none l behind (each-nothing (map (λ (c : Conj). before ++ c)) (Fold l behind) (q .1 .1 .0 false before l behind d))) ls
+    (lines-idle L w ls n e)
 
 -- "Waiting conjunctions stand in order": what every step keeps and every waiting conjunction has, every line has.
 pub lines-inherit : (P : Conj → Type 0) → ((k : Conj) (ks : List Conj) → P k → step k ≡ results ks → Each P ks)

@@ -5,6 +5,7 @@ pub mod Cuts
 pub mod Expressions
 pub mod Equations
 pub mod Memberships
+pub mod Pairs
 pub mod Places
 pub mod Run
 pub mod Made

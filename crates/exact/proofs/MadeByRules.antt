@@ -17,6 +17,7 @@ use Rattle.rules.proofs.Each.{_also_, each-map, each-imp}
 use Rattle.rules.proofs.Answers.{Answers, look, test, answers}
 use Rattle.rules.proofs.Looks.{loneT-is, loneH-is, loneNode-is, loneTerm-is, firstTerm-is, firstRun-is, asSymbol-is, asBlank-is, inside-is, upTo-is, asCat-is, asAlt-is, asStar-is, asOver-is, CutOf, cuts-join}
 use Rattle.rules.proofs.Steps.{Gives, OnSides, Kept, kept-at-sides, gives-behind, step-at-sides}
+use Rattle.rules.proofs.Folding.{Struck, here, further, fold-is}
 use Rattle.exact.specs.Made.{Name, aVariable, Made, MadeE, MadeL, MadeC}
 use Rattle.exact.proofs.Made.{made-⧺, made-++, Puts, putC-made, setT-made, setH-made, setF-made, emptied-made, MadeMonomial, linear-made}
 
@@ -201,6 +202,15 @@ module _ (A : Name → Type 0) where
       look (loneNode h) (loneNode-is h) λ c p. look (asSymbol (c .0)) (asSymbol-is (c .0)) λ f s. look (asOver R) (asOver-is R) λ g q.
       test _ λ _ _. let m = rw p at a in let n = rw q at b in answers (((m .1, n .1), tt), tt)
 
+  -- ---- two literals
+
+  struck-made : {l : Literal} {k j : Conj} → Struck l k j → MadeC A k → MadeC A j
+  struck-made here m = m .1
+  struck-made (further s) m = (m .0, struck-made s (m .1))
+
+  Fold-makes : MakesPair rules.Fold
+  Fold-makes l behind m n = fold-is (Each (MadeC A)) l behind λ k s. ((m, struck-made s n), tt)
+
   -- ---- at a place
 
   place-made : (before behind : Conj) (b : Branch) → MadeC A before → MadeC A behind → MadeBranch b → MadeC A (place before behind b)
@@ -238,7 +248,7 @@ module _ (A : Name → Type 0) where
   pub each-rule-makes : Each (AtSides (Kept (MadeC A))) rules.rules
   each-rule-makes =
       each-imp RuleMakes (AtSides (Kept (MadeC A))) rule-makes rules.rules
-      (R1-makes also R2-makes
+      (R1-makes also R2-makes also Fold-makes
       also F1-makes also F2-makes also F3-makes also F4-makes also F5-makes also F6-makes also F7-makes
       also Del1-makes also Del3-makes
       also D2-makes also D0-makes

@@ -6,7 +6,7 @@ use Rattle.language.specs.Trees.{Hedge, Literal, eqn, mem, Conj}
 use Rattle.meaning.specs.Meaning.{Filling, MeetsAll, MeetsOne}
 use Rattle.meaning.proofs.Same.{same-sym}
 use Rattle.rules.specs.Substitution.{putC}
-use Rattle.rules.specs.Reply.{Reply, PairRule}
+use Rattle.rules.specs.Reply.{Reply}
 use Rattle.rules.specs.Rules.{Branch, plain, elims, Answer, Rule, onEqn, onMem, onPair, rules}
 use Rattle.rules.specs.Step.{each, place, placed}
 use Rattle.rules.specs.Each.{Each, Some}
@@ -18,6 +18,7 @@ use Rattle.exact.proofs.Fillings.{putC-meets, all-++, one-some}
 use Rattle.exact.proofs.Answers.{MeetsBranch, MeetsBranches, Faithful, ExactAnswer}
 use Rattle.exact.proofs.Equations.{ExactEqn, R1-exact, F1-exact, F2-exact, F3-exact, F4-exact, Del1-exact, Del3-exact, D2-exact, D0-exact, E1-exact, E2-exact, E3-exact, E4-exact, E5-exact, E6-exact}
 use Rattle.exact.proofs.Memberships.{ExactMem, R2-exact, F5-exact, F6-exact, F7-exact, M1-exact, M2-exact, M3-exact, M4-exact, M5-exact, M6-exact, M7-exact, M10-exact, M11-exact}
+use Rattle.exact.proofs.Pairs.{ExactPair, Fold-exact}
 
 -- ---- a result in its place
 
@@ -73,10 +74,6 @@ at-literal before behind l (some bs) p = λ ρ.
 
 -- ---- a rule at a literal and those behind it
 
--- what a rule of two literals has to be: a filling meets the literal and those behind it exactly when it meets one of the results
-abbrev pub ExactPair : PairRule → Type 0
-ExactPair rule = (l : Literal) (behind : Conj) → Gives (SameFillings (l ∷ behind)) (rule l behind)
-
 -- what stands before them says what it said
 behind-same : (ρ : Filling) (before : Conj) (ks : List Conj) → MeetsOne ρ (map (λ (k : Conj). before ++ k) ks) ↔ (MeetsAll ρ before × MeetsOne ρ ks)
 behind-same ρ before [] = (λ z. absurd z, λ m. m .1)
@@ -126,7 +123,7 @@ rule-exact rule p = at-sides SameFillings rule (sides-exact rule p)
 pub each-rule-exact : Each (AtSides SameFillings) rules
 each-rule-exact =
     each-imp RuleExact (AtSides SameFillings) rule-exact rules
-    (R1-exact also R2-exact
+    (R1-exact also R2-exact also Fold-exact
     also F1-exact also F2-exact also F3-exact also F4-exact also F5-exact also F6-exact also F7-exact
     also Del1-exact also Del3-exact
     also D2-exact also D0-exact

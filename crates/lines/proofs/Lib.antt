@@ -15,6 +15,7 @@ pub mod Fitting
 pub mod EquationRules
 pub mod EliminationRules
 pub mod MembershipRules
+pub mod PairRules
 pub mod MatchingRun
 pub mod ValueLists
 pub mod WrittenTable

@@ -7,7 +7,7 @@ use mathlib.Core.Option.{none, some}
 use lib.Dec.{T}
 use Rattle.language.specs.Limits.{Limits}
 use Rattle.language.specs.Trees.{Literal, eqn, mem, Conj}
-use Rattle.rules.specs.Reply.{nothing, results, PairRule}
+use Rattle.rules.specs.Reply.{nothing, results}
 use Rattle.rules.specs.Rules.{Answer, Rule, onEqn, onMem, onPair, rules}
 use Rattle.rules.specs.Step.{place, placed, step}
 use Rattle.rules.specs.Solved.{solved}
@@ -27,13 +27,10 @@ use Rattle.lines.proofs.Keeping.{Keeps, keeps-self, keeps-row, keeps-ma
 use Rattle.lines.proofs.EquationRules.{StaysEqn, R1-stays, F1-stays, F2-stays, F3-stays, F4-stays, Del1-stays, Del3-stays, D2-stays, D0-stays}
 use Rattle.lines.proofs.EliminationRules.{E1-stays, E2-stays, E3-stays, E4-stays, E5-stays, E6-stays}
 use Rattle.lines.proofs.MembershipRules.{StaysMem, R2-stays, F5-stays, F6-stays, F7-stays, M1-stays, M2-stays, M3-stays, M4-stays, M5-stays, M6-stays, M7-stays, M10-stays, M11-stays}
+use Rattle.lines.proofs.PairRules.{StaysPair, Fold-stays}
 use Rattle.lines.proofs.Unopened.{matching-solved}
 
 -- ---- a rule at a literal
-
--- whatever stands for the literal and those behind it keeps them
-abbrev pub StaysPair : PairRule → Type 0
-StaysPair rule = (l : Literal) (behind : Conj) → Gives (Each (Keeps [] (l ∷ behind))) (rule l behind)
 
 abbrev RuleStays : Rule → Type 0
 RuleStays (onEqn rule) = StaysEqn rule
@@ -69,7 +66,7 @@ rule-stays rule p = kept-at-sides Matching rule λ before l behind m.
 pub each-rule-stays : Each (AtSides KeepsMatching) rules
 each-rule-stays =
     each-imp RuleStays (AtSides KeepsMatching) rule-stays rules
-    (R1-stays also R2-stays
+    (R1-stays also R2-stays also Fold-stays
     also F1-stays also F2-stays also F3-stays also F4-stays also F5-stays also F6-stays also F7-stays
     also Del1-stays also Del3-stays
     also D2-stays also D0-stays

@@ -71,12 +71,12 @@ pub record QuietMem (K : Conj) (h : Hedge) (R : Expr) : Type 0 where
 
 pub quiet-eqn : (K : Conj) (l r : Hedge) → NoRule K (eqn l r) → QuietEqn K l r × QuietEqn K r l
 quiet-eqn K l r q =
-    let (r1, (_, (_, (_, (f3, (f4, (_, (_, (_, (_, (_, (d2, (d0, (e1, (e2, (e3, (_, (e5, (e6, _))))))))))))))))))) = q in (
+    let (r1, (_, (_, (_, (_, (f3, (f4, (_, (_, (_, (_, (_, (d2, (d0, (e1, (e2, (e3, (_, (e5, (e6, _)))))))))))))))))))) = q in (
       record { r1 = r1 .0; f3 = f3 .0; f4 = f4 .0; d2 = d2 .0; d0 = d0 .0; e1 = e1 .0; e2 = e2 .0; e3 = e3 .0; e5 = e5 .0; e6 = e6 .0 },
       record { r1 = r1 .1; f3 = f3 .1; f4 = f4 .1; d2 = d2 .1; d0 = d0 .1; e1 = e1 .1; e2 = e2 .1; e3 = e3 .1; e5 = e5 .1; e6 = e6 .1 },
     )
 
 pub quiet-mem : (K : Conj) (h : Hedge) (R : Expr) → NoRule K (mem h R) → QuietMem K h R
 quiet-mem K h R q =
-    let (_, (r2, (_, (_, (_, (_, (f5, (f6, (f7, (_, (_, (_, (_, (_, (_, (_, (_, (_, (_, (_, (m2, (_, (m4, (m5, (m6, (_, (_, (m11, _)))))))))))))))))))))))))))) = q in
+    let (_, (r2, (_, (_, (_, (_, (_, (f5, (f6, (f7, (_, (_, (_, (_, (_, (_, (_, (_, (_, (_, (_, (m2, (_, (m4, (m5, (m6, (_, (_, (m11, _))))))))))))))))))))))))))))) = q in
     record { r2 = r2; f5 = f5; f6 = f6; f7 = f7; m2 = m2; m4 = m4; m5 = m5; m6 = m6; m11 = m11 }

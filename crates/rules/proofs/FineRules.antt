@@ -6,12 +6,13 @@ use Rattle.language.specs.Fine.{fineFunctor, fineHedge, fineExpr, fineLiteral, 
 use Rattle.rules.specs.Looks.{firstTerm, firstRun, loneTerm, loneT, loneH, loneNode, asSymbol, asBlank, inside, upTo, cuts, asCat, asAlt, asStar, asOver}
 use Rattle.rules.specs.Expressions.{linear}
 use Rattle.rules.specs.Reply.{PairRule}
-use Rattle.rules.specs.Rules.{Branch, plain, elims, Answer, EqRule, InRule, Rule, onEqn, onMem, onPair, rules, R1, R2, F1, F2, F3, F4, F5, F6, F7, Del1, Del3, D2, D0, E1, E2, E3, E4, E5, E6, M1, M2, M3, M4, M5, M6, M7, M10, M11, cutResult, monomialResult}
+use Rattle.rules.specs.Rules.{Branch, plain, elims, Answer, EqRule, InRule, Rule, onEqn, onMem, onPair, rules, R1, R2, Fold, F1, F2, F3, F4, F5, F6, F7, Del1, Del3, D2, D0, E1, E2, E3, E4, E5, E6, M1, M2, M3, M4, M5, M6, M7, M10, M11, cutResult, monomialResult}
 use Rattle.rules.specs.Each.{Each}
-use Rattle.rules.proofs.Each.{each-map}
+use Rattle.rules.proofs.Each.{_also_, each-map}
 use Rattle.rules.proofs.Answers.{Answers, look, test, answers}
 use Rattle.rules.proofs.Looks.{loneT-is, loneH-is, loneNode-is, loneTerm-is, firstTerm-is, firstRun-is, asSymbol-is, asBlank-is, inside-is, upTo-is, asCat-is, asAlt-is, asStar-is, asOver-is}
 use Rattle.rules.proofs.Steps.{Gives}
+use Rattle.rules.proofs.Folding.{Struck, here, further, fold-is}
 use Rattle.rules.proofs.FineParts.{FineSubst, fine-join, fine-both, FinePair, fine-cuts, fine-vanish, FineMonomial, fine-linear, fine-setT, fine-setH, fine-setF, fine-emptied}
 
 module _ (L : Limits) where
@@ -184,6 +185,15 @@ module _ (L : Limits) where
       look (loneNode h) (loneNode-is h) λ a e. look (asSymbol (a .0)) (asSymbol-is (a .0)) λ _ _. look (asOver R) (asOver-is R) λ g d. test _ λ _ _.
       answers (((like e p .1, of d q .1), tt), tt)
 
+  -- ---- two literals
+
+  struck-fine : {l : Literal} {k j : Conj} → Struck l k j → fineConj L k → fineConj L j
+  struck-fine here f = f .1
+  struck-fine (further s) f = (f .0, struck-fine s (f .1))
+
+  Fold-fine : FineBehind Fold
+  Fold-fine l behind p q = fold-is (Each (fineConj L)) l behind λ k s. ((p, struck-fine s q), tt)
+
   -- ---- in their order
 
   abbrev pub RuleFine : Rule → Type 0
@@ -192,61 +202,11 @@ module _ (L : Limits) where
   RuleFine (onPair rule) = FineBehind rule
 
   pub each-rule-fine : Each RuleFine rules
-  each-rule-fine = (
-    R1-fine,
-    (
-      R2-fine,
-      (
-        F1-fine,
-        (
-          F2-fine,
-          (
-            F3-fine,
-            (
-              F4-fine,
-              (
-                F5-fine,
-                (
-                  F6-fine,
-                  (
-                    F7-fine,
-                    (
-                      Del1-fine,
-                      (
-                        Del3-fine,
-                        (
-                          D2-fine,
-                          (
-                            D0-fine,
-                            (
-                              E1-fine,
-                              (
-                                E2-fine,
-                                (
-                                  E3-fine,
-                                  (
-                                    E4-fine,
-                                    (
-                                      E5-fine,
-                                      (
-                                        E6-fine,
-                                        (M1-fine, (M2-fine, (M3-fine, (M4-fine, (M5-fine, (M6-fine, (M7-fine, (M10-fine, (M11-fine, tt))))))))),
-                                      ),
-                                    ),
-                                  ),
-                                ),
-                              ),
-                            ),
-                          ),
-                        ),
-                      ),
-                    ),
-                  ),
-                ),
-              ),
-            ),
-          ),
-        ),
-      ),
-    ),
-  )
+  each-rule-fine =
+      R1-fine also R2-fine also Fold-fine
+      also F1-fine also F2-fine also F3-fine also F4-fine also F5-fine also F6-fine also F7-fine
+      also Del1-fine also Del3-fine
+      also D2-fine also D0-fine
+      also E1-fine also E2-fine also E3-fine also E4-fine also E5-fine also E6-fine
+      also M1-fine also M2-fine also M3-fine also M4-fine also M5-fine also M6-fine also M7-fine also M10-fine also M11-fine
+      also tt

@@ -1,12 +1,12 @@
--- With which refusals of its own a step can stop: those of the rules of two literals, of which the list has none.
+-- With which refusals of its own a step can stop: those of the rules of two literals, of which the fold has none.
 use Prim.Native.Nat.{ℕ, suc}
 use mathlib.Core.Bool.{Bool, true, false}
 use mathlib.Core.List.{List, [], _∷_, _++_, map}
-use mathlib.Core.Option.{none, some}
+use mathlib.Core.Option.{Option, none, some}
 use Rattle.language.specs.declared.Refusal.{Refusal}
 use Rattle.language.specs.Trees.{Literal, eqn, mem, Conj}
 use Rattle.rules.specs.Reply.{Reply, nothing, results, stops}
-use Rattle.rules.specs.Rules.{Answer, Rule, onEqn, onMem, onPair, rules}
+use Rattle.rules.specs.Rules.{Answer, Rule, onEqn, onMem, onPair, strike, folded, Fold, rules}
 use Rattle.rules.specs.Step.{orNext, each, placed, resultsAt, found, earliest, first, search, step}
 
 module _ (P : Refusal → Type 0) where
@@ -71,6 +71,13 @@ module _ (P : Refusal → Type 0) where
   unfolding step search
   step-stops-by p k = by-each _ (first 0 rules k) (at-first 0 rules p k)
 
+  Fold-stops : RuleStopsBy (onPair Fold)
+  Fold-stops l behind = go (strike l behind)
+    where
+      go : (w : Option Conj) → StopsBy (folded l w)
+      go none = tt
+      go (some k) = tt
+
 -- No rule of the list has a refusal of its own.
 pub step-never-stops : (k : Conj) → StopsBy (λ _. ⊥) (step k)
-step-never-stops k = step-stops-by (λ _. ⊥) tt k
+step-never-stops k = step-stops-by (λ _. ⊥) (Fold-stops (λ _. ⊥), tt) k

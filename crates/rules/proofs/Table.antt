@@ -4,12 +4,12 @@ use mathlib.Core.Bool.{true, false}
 use mathlib.Core.List.{[], _∷_, map}
 use Rattle.language.specs.Trees.{eqn, mem}
 use Rattle.rules.specs.Reply.{results}
-use Rattle.rules.specs.Rules.{check, _>>=_}
-use Rattle.rules.specs.Places.{atF3, atD0, atE1}
+use Rattle.rules.specs.Rules.{_>>=_, check}
+use Rattle.rules.specs.Places.{atR1, atFold, atF3, atD0, atE1}
 use Rattle.rules.specs.Step.{search, step}
 use Rattle.rules.specs.Solved.{solved}
 use Rattle.rules.specs.Run.{runFrom, run}
-use Rattle.rules.specs.Table.{Case, solve, table, a, b, f, x, aᴱ}
+use Rattle.rules.specs.Table.{Case, solve, table, a, b, f, g, x, aᴱ, bᴱ}
 
 pub table-holds : map (λ (c : Case). solve (c .question)) table ≡ map (λ (c : Case). c .answer) table
 unfolding _>>=_ check search step solved runFrom run solve
@@ -23,3 +23,15 @@ pub places-found :
     × (search (eqn a x ∷ mem x aᴱ ∷ []) ≡ results (record { rule = atE1; literal = 0; swapped = true }, (eqn x a ∷ mem a aᴱ ∷ []) ∷ []))
 unfolding _>>=_ check search
 places-found = (refl, refl, refl)
+
+-- The fold: after R1 and R2 and before all others, so at "a = b" twice it comes before F3; "of two literals with the same words the later is
+-- removed", the first later one alone; the words as they stand decide, so that an equation turned round is another literal.
+pub folds-found :
+    (search (mem x aᴱ ∷ mem x aᴱ ∷ []) ≡ results (record { rule = atFold; literal = 0; swapped = false }, (mem x aᴱ ∷ []) ∷ []))
+    × (search (eqn a b ∷ eqn a b ∷ []) ≡ results (record { rule = atFold; literal = 0; swapped = false }, (eqn a b ∷ []) ∷ []))
+    × (search (eqn x a ∷ eqn x a ∷ eqn a a ∷ []) ≡ results (record { rule = atR1; literal = 2; swapped = false }, (eqn x a ∷ eqn x a ∷ []) ∷ []))
+    × (search (mem x bᴱ ∷ mem x aᴱ ∷ eqn a b ∷ mem x aᴱ ∷ mem x aᴱ ∷ [])
+    ≡ results (record { rule = atFold; literal = 1; swapped = false }, (mem x bᴱ ∷ mem x aᴱ ∷ eqn a b ∷ mem x aᴱ ∷ []) ∷ []))
+    × (search (eqn (f x) (g x) ∷ eqn (g x) (f x) ∷ []) ≡ results (record { rule = atF3; literal = 0; swapped = false }, []))
+unfolding _>>=_ check search
+folds-found = (refl, refl, refl, refl, refl)

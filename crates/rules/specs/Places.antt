@@ -7,8 +7,11 @@ atR1 = zero
 abbrev pub atR2 : ℕ
 atR2 = suc atR1
 
+abbrev pub atFold : ℕ
+atFold = suc atR2
+
 abbrev pub atF1 : ℕ
-atF1 = suc atR2
+atF1 = suc atFold
 
 abbrev pub atF2 : ℕ
 atF2 = suc atF1

@@ -1,16 +1,17 @@
--- The rules R1 to M11, each a definition of its own, and their order. A rule says, of one literal among others, what stands for it; or, of a
+-- The rules R1 to M11 and the fold, each a definition of its own, and their order. A rule says, of one literal among others, what stands for it; or, of a
 -- literal and those behind it, what stands for all of these.
 use mathlib.Core.Bool.{Bool, true, false, not, _&&_}
 use mathlib.Core.List.{List, [], _∷_, _++_, map}
-use mathlib.Core.Option.{Option, none, some}
+use mathlib.Core.Option.{Option, none, some, Option·map}
 use Rattle.language.specs.declared.TermVar.{TermVar}
 use Rattle.language.specs.declared.HedgeVar.{HedgeVar}
 use Rattle.language.specs.declared.FunVar.{FunVar}
-use Rattle.language.specs.Trees.{Functor, symbol, fvar, Hedge, ε, tvar, hvar, node, Expr, over, Literal, eqn, mem, Conj, _⧺_, eqH, eqS, eqF, sameWords, Var, tv, hv, fv, holds, inConj}
+use Rattle.language.specs.Kinds.{pick}
+use Rattle.language.specs.Trees.{Functor, symbol, fvar, Hedge, ε, tvar, hvar, node, Expr, over, Literal, eqn, mem, Conj, _⧺_, eqH, eqS, eqF, sameWords, sameLiteral, Var, tv, hv, fv, holds, inConj}
 use Rattle.rules.specs.Substitution.{Subst, setT, setH, setF, emptied}
 use Rattle.rules.specs.Looks.{empty, firstTerm, firstRun, loneTerm, loneT, loneH, loneNode, asSymbol, asBlank, hasTerm, allTerms, allRuns, under, inside, upTo, cuts, isEps, asCat, asAlt, asStar, asOver}
 use Rattle.rules.specs.Expressions.{nullable, Monomial, linear}
-use Rattle.rules.specs.Reply.{PairRule}
+use Rattle.rules.specs.Reply.{Reply, nothing, results, PairRule}
 
 -- ---- what a rule answers
 
@@ -71,6 +72,19 @@ R2 K h R = do
   _ ← check (empty h)
   _ ← check (nullable R)
   into []
+
+-- the literals without the first that has the same words as l
+abbrev pub strike : Literal → Conj → Option Conj
+strike l [] = none
+strike l (m ∷ k) = pick (sameLiteral l m) (some k) (Option·map (λ (c : Conj). m ∷ c) (strike l k))
+
+abbrev pub folded : Literal → Option Conj → Reply (List Conj)
+folded l none = nothing
+folded l (some k) = results ((l ∷ k) ∷ [])
+
+-- Fold: of two literals with the same words the later is removed.
+abbrev pub Fold : PairRule
+Fold l behind = folded l (strike l behind)
 
 -- F1: x = hedge with a top-level F(H) holding x.
 abbrev pub F1 : EqRule
@@ -315,7 +329,7 @@ pub data Rule : Type 0 where
 
 abbrev pub rules : List Rule
 rules =
-    onEqn R1 ∷ onMem R2
+    onEqn R1 ∷ onMem R2 ∷ onPair Fold
     ∷ onEqn F1 ∷ onEqn F2 ∷ onEqn F3 ∷ onEqn F4 ∷ onMem F5 ∷ onMem F6 ∷ onMem F7
     ∷ onEqn Del1 ∷ onEqn Del3
     ∷ onEqn D2 ∷ onEqn D0

@@ -105,10 +105,10 @@ abbrev pub P8 : Case
 P8 = one (eqn (X a) (g p) ∷ []) (settled (eqn (X ε) (g ε) ∷ eqn a p ∷ []) ∷ []) 2
 
 abbrev pub P9 : Case
-P9 = one (mem p (cat (fᴱ (star aᴱ)) (star bᴱ)) ∷ eqn p (f (a ⧺ a) ⧺ b) ∷ []) (settled (eqn p (f (a ⧺ a) ⧺ b) ∷ []) ∷ []) 12
+P9 = one (mem p (cat (fᴱ (star aᴱ)) (star bᴱ)) ∷ eqn p (f (a ⧺ a) ⧺ b) ∷ []) (settled (eqn p (f (a ⧺ a) ⧺ b) ∷ []) ∷ []) 11
 
 abbrev pub P10 : Case
-P10 = one (mem x aᴱ ∷ mem x aᴱ ∷ []) (open-line (mem x aᴱ ∷ mem x aᴱ ∷ []) ∷ []) 0
+P10 = one (mem x aᴱ ∷ mem x aᴱ ∷ []) (settled (mem x aᴱ ∷ []) ∷ []) 1
 
 abbrev pub P11 : Case
 P11 = one (mem (p ⧺ q) (fᴱ eps) ∷ []) (settled (mem p (fᴱ eps) ∷ eqn q ε ∷ []) ∷ settled (eqn p ε ∷ mem q (fᴱ eps) ∷ []) ∷ []) 1

@@ -3,7 +3,9 @@ pub const AT_R1: usize = 0;
 
 pub const AT_R2: usize = AT_R1 + 1;
 
-pub const AT_F1: usize = AT_R2 + 1;
+pub const AT_FOLD: usize = AT_R2 + 1;
+
+pub const AT_F1: usize = AT_FOLD + 1;
 
 pub const AT_F2: usize = AT_F1 + 1;
 

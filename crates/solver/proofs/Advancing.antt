@@ -1,10 +1,9 @@
 -- A step of the first waiting conjunction, by what was found in it and what taking the step left.
 use Prim.Native.Nat.{ℕ, _+_, _-_, _<_, _≤_}
 use native.Mathlib.Omega.{arith}
-use mathlib.Core.Path.{_≡_, sym, ap, _∙_, subst}
+use mathlib.Core.Path.{_≡_, refl, sym, ap, _∙_, subst}
 use mathlib.Core.Bool.{Bool}
-use mathlib.Core.List.{List, _∷_, _++_, map}
-use mathlib.Core.Option.{some}
+use mathlib.Core.List.{List, _∷_, map}
 use lib.ListN.{length, getD, take, drop, replicate, length-replicate}
 use lib.Seq.{sets, slice, sets-eq, take-at}
 use Rattle.language.specs.Limits.{desk}
@@ -12,11 +11,9 @@ use Rattle.language.specs.declared.Refusal.the-variants.{LongResult, LongWaitin
 use Rattle.language.specs.Trees.{Literal, Conj}
 use Rattle.language.specs.Writing.{conjWords}
 use Rattle.rules.specs.Reply.{nothing, results}
-use Rattle.rules.specs.Step.{place, step}
-use Rattle.rules.specs.Rules.{Branch}
+use Rattle.rules.specs.Step.{step}
 use Rattle.rules.specs.Places.{noRule}
-use Rattle.plans.specs.Sizes.{placedWords}
-use Rattle.steps.specs.Ranking.{Found, nowhere, somewhere, sideAnswer}
+use Rattle.steps.specs.Ranking.{Found, nowhere, somewhere, sideResults}
 use Rattle.steps.specs.Asking.{RuleAt}
 use Rattle.steps.specs.Seeking.{bestOf}
 use Rattle.steps.specs.declared.Best.{Best}
@@ -30,63 +27,61 @@ use Rattle.steps.specs.declared.Stepped.{Stepped}
 use Rattle.steps.specs.declared.Stepped.the-variants.{Long, Room, Done}
 use Rattle.steps.specs.Taking.{Took, long, room, done}
 use Rattle.solver.specs.Running.{Running, Turns}
-use Rattle.solver.proofs.Going.{first-size, first-words, placed-words, no-more-steps, step-long, step-room, step-on}
+use Rattle.solver.proofs.Going.{first-size, first-words, no-more-steps, step-long, step-room, step-on}
 
 module _ (oldWork oldAnswer : List ℕ) (ls : List Conj) (c : Conj) (w : List Conj) (s : State) (work answer : List ℕ)
     (p : Running oldWork oldAnswer ls (c ∷ w) s work answer) (k : List ℕ) (ek : k ≡ conjWords c) (next : ℕ) (en : next ≡ s .at + 1 + length k)
     (n at : ℕ) (swap : Bool) (h : n < noRule) where
   pub limit-met : Found c n at swap → desk .steps ≤ s .steps → Turns oldWork oldAnswer ls (c ∷ w) s (Stop StepLimit) work answer
   limit-met (nowhere e f) g = absurd (omega arith)
-  limit-met (somewhere before l behind bs e q m a d) g =
-      no-more-steps oldWork oldAnswer ls c w s work answer p k ek next en (map (place before behind) bs) (searched c _ d) g
+  limit-met (somewhere before l behind ks e q m a d) g = no-more-steps oldWork oldAnswer ls c w s work answer p k ek next en ks (searched c _ d) g
 
   module _ (g : s .steps < desk .steps) (r : Stepped) (new : List ℕ)
-      (f : (before : Conj) (l : Literal) (behind : Conj) (bs : List Branch) → LiteralAt k at before l behind → sideAnswer swap n (before ++ behind) l ≡ some bs
-      → Took (placedWords before behind bs) work next r new) where
+      (f : (before : Conj) (l : Literal) (behind : Conj) (ks : List Conj) → LiteralAt k at before l behind → sideResults swap n before l behind ≡ results ks
+      → Took (map conjWords ks) work next r new) where
     -- what is shown from what was found and taken
-    both : (Q : Type 0) → ((before behind : Conj) (bs : List Branch) → step c ≡ results (map (place before behind) bs) → Took (placedWords before behind bs) work next r new → Q)
-        → Found c n at swap → Q
+    both : (Q : Type 0) → ((ks : List Conj) → step c ≡ results ks → Took (map conjWords ks) work next r new → Q) → Found c n at swap → Q
     both Q u (nowhere e d) = absurd (omega arith)
-    both Q u (somewhere before l behind bs e q m a d) = u before behind bs (searched c _ d) (f before l behind bs (stands-here k c (p .fine .0) ek at before l behind e q) a)
+    both Q u (somewhere before l behind ks e q m a d) = u ks (searched c _ d) (f before l behind ks (stands-here k c (p .fine .0) ek at before l behind e q) a)
 
     pub took-too-long : r ≡ Long → Found c n at swap → Turns oldWork oldAnswer ls (c ∷ w) s (Stop LongResult) new answer
     took-too-long er = both _ go
       where
-        go : (before behind : Conj) (bs : List Branch) → step c ≡ results (map (place before behind) bs) → Took (placedWords before behind bs) work next r new
+        go : (ks : List Conj) → step c ≡ results ks → Took (map conjWords ks) work next r new
             → Turns oldWork oldAnswer ls (c ∷ w) s (Stop LongResult) new answer
-        go before behind bs d (long e o y) =
+        go ks d (long e o y) =
             subst (λ x. Turns oldWork oldAnswer ls (c ∷ w) s (Stop LongResult) x answer) (sym y)
-            (step-long oldWork oldAnswer ls c w s work answer p k ek next en _ d g _ (placed-words before behind bs) o)
-        go before behind bs d (room m e o i y) = absurd (let z : _≡_ {A = ℕ} 0 1 = cc in omega arith)
-        go before behind bs d (done m to e o i y) = absurd (let z : _≡_ {A = ℕ} 0 1 = cc in omega arith)
+            (step-long oldWork oldAnswer ls c w s work answer p k ek next en _ d g _ refl o)
+        go ks d (room m e o i y) = absurd (let z : _≡_ {A = ℕ} 0 1 = cc in omega arith)
+        go ks d (done m to e o i y) = absurd (let z : _≡_ {A = ℕ} 0 1 = cc in omega arith)
 
     pub took-no-room : r ≡ Room → Found c n at swap → Turns oldWork oldAnswer ls (c ∷ w) s (Stop LongWaiting) new answer
     took-no-room er = both _ go
       where
-        go : (before behind : Conj) (bs : List Branch) → step c ≡ results (map (place before behind) bs) → Took (placedWords before behind bs) work next r new
+        go : (ks : List Conj) → step c ≡ results ks → Took (map conjWords ks) work next r new
             → Turns oldWork oldAnswer ls (c ∷ w) s (Stop LongWaiting) new answer
-        go before behind bs d (long e o y) = absurd (let z : _≡_ {A = ℕ} 0 1 = cc in omega arith)
-        go before behind bs d (room m e o i y) =
+        go ks d (long e o y) = absurd (let z : _≡_ {A = ℕ} 0 1 = cc in omega arith)
+        go ks d (room m e o i y) =
             subst (λ x. Turns oldWork oldAnswer ls (c ∷ w) s (Stop LongWaiting) x answer) (sym y)
-            (step-room oldWork oldAnswer ls c w s work answer p k ek next en _ d g _ (placed-words before behind bs) m o i)
-        go before behind bs d (done m to e o i y) = absurd (let z : _≡_ {A = ℕ} 0 1 = cc in omega arith)
+            (step-room oldWork oldAnswer ls c w s work answer p k ek next en _ d g _ refl m o i)
+        go ks d (done m to e o i y) = absurd (let z : _≡_ {A = ℕ} 0 1 = cc in omega arith)
 
     pub took-step : (to : ℕ) → r ≡ Done to → Found c n at swap → Turns oldWork oldAnswer ls (c ∷ w) s (On (record { at = to; steps = s .steps + 1; tally = s .tally })) new answer
     took-step to er = both _ go
       where
-        go : (before behind : Conj) (bs : List Branch) → step c ≡ results (map (place before behind) bs) → Took (placedWords before behind bs) work next r new
+        go : (ks : List Conj) → step c ≡ results ks → Took (map conjWords ks) work next r new
             → Turns oldWork oldAnswer ls (c ∷ w) s (On (record { at = to; steps = s .steps + 1; tally = s .tally })) new answer
-        go before behind bs d (long e o y) = absurd (let z : _≡_ {A = ℕ} 0 1 = cc in omega arith)
-        go before behind bs d (room m e o i y) = absurd (let z : _≡_ {A = ℕ} 0 1 = cc in omega arith)
-        go before behind bs d (done m here e o i y) =
+        go ks d (long e o y) = absurd (let z : _≡_ {A = ℕ} 0 1 = cc in omega arith)
+        go ks d (room m e o i y) = absurd (let z : _≡_ {A = ℕ} 0 1 = cc in omega arith)
+        go ks d (done m here e o i y) =
             let z : to ≡ here = cc in
             subst (λ x. Turns oldWork oldAnswer ls (c ∷ w) s (On (record { at = x; steps = s .steps + 1; tally = s .tally })) new answer) (sym z)
-            (step-on oldWork oldAnswer ls c w s work answer p k ek next en _ d g _ (placed-words before behind bs) m o here new i y)
+            (step-on oldWork oldAnswer ls c w s work answer p k ek next en _ d g _ refl m o here new i y)
 
 -- where nothing was found, no rule applies
 pub none-found : (c : Conj) (n at : ℕ) (swap : Bool) → Found c n at swap → noRule ≤ n → step c ≡ nothing
 none-found c n at swap (nowhere e d) h = searched c _ d
-none-found c n at swap (somewhere before l behind bs e q m a d) h = absurd (omega arith)
+none-found c n at swap (somewhere before l behind ks e q m a d) h = absurd (omega arith)
 
 -- where something was found, its rule applies there
 pub rule-found : (k : List ℕ) (x : Conjunction k) (b : Best) → b ≡ bestOf (x .conj) → b .rank < noRule → RuleAt k b
@@ -94,13 +89,13 @@ rule-found k x b e h = go (best-found (x .conj) b e)
   where
     go : Found (x .conj) (b .rank) (b .at) (b .swap) → RuleAt k b
     go (nowhere n d) = absurd (omega arith)
-    go (somewhere before l behind bs s q m a d) = record {
+    go (somewhere before l behind ks s q m a d) = record {
       before = before;
       l = l;
       behind = behind;
-      results = bs;
+      made = ks;
       stands = stands-here k (x .conj) (x .fine) (x .words) (b .at) before l behind s q;
-      answer = a;
+      applies = a;
     }
 
 -- the first block, copied to the front of an array

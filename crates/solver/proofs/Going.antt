@@ -15,13 +15,12 @@ use Rattle.language.specs.Trees.{Conj}
 use Rattle.language.specs.Writing.{conjWords}
 use Rattle.language.specs.Fine.{fineConj}
 use Rattle.rules.specs.Reply.{nothing, results}
-use Rattle.rules.specs.Step.{place, step}
-use Rattle.rules.specs.Rules.{Branch}
+use Rattle.rules.specs.Step.{step}
 use Rattle.rules.specs.Run.{waitingSize, linesFit, refused, runFrom}
 use Rattle.rules.specs.Answer.{answerWords}
 use Rattle.rules.proofs.Each.{each-++}
 use Rattle.frames.specs.Frames.{framed}
-use Rattle.plans.specs.Sizes.{placedWords, sized}
+use Rattle.plans.specs.Sizes.{sized}
 use Rattle.plans.specs.declared.Size.the-variants.{Fits, Over}
 use Rattle.results.proofs.Sizing.{sized-fits, fits-exact, fits-past, over-anyLong, fits-anyLong, words-waiting}
 use Rattle.rules.proofs.FineSteps.{step-fine}
@@ -46,12 +45,6 @@ waiting-kept old at bs new p =
 
 pub lined-kept : (old : List ℕ) (ls : List Conj) (t : Tally) (new : List ℕ) → Lined old ls t new → Kept old new
 lined-kept old ls t new p = ap (drop (desk .room)) (p .words) ∙ drop-at (answerWords desk ls) (drop (desk .room) old) (desk .room) (length-answer ls (p .few) (p .room))
-
--- the results in words
-pub placed-words : (before behind : Conj) (bs : List Branch) → placedWords before behind bs ≡ map conjWords (map (place before behind) bs)
-unfolding placedWords
-placed-words before behind [] = refl
-placed-words before behind (b ∷ bs) = ap (λ l. conjWords (place before behind b) ∷ l) (placed-words before behind bs)
 
 module _ (oldWork oldAnswer : List ℕ) (ls : List Conj) (c : Conj) (w : List Conj) (s : State) (work answer : List ℕ)
     (p : Running oldWork oldAnswer ls (c ∷ w) s work answer) where

@@ -17,7 +17,7 @@ use Rattle.equation_plans.specs.Planned as equation
 use Rattle.membership_plans.specs.Planned as membership
 use Rattle.steps.specs.declared.Best.{Best}
 use Rattle.steps.specs.Ranking.{sideAnswer}
-use Rattle.steps.specs.Asking.{RuleAt, SomeMembership}
+use Rattle.steps.specs.Asking.{AnswerAt, SomeMembership}
 use Rattle.steps.proofs.Taken.{no-equation}
 
 -- ---- the literal at a place is what the word there says
@@ -43,13 +43,13 @@ pub shown-at : (k : List ℕ) (at : ℕ) (s : Shape) → ((before : Conj) (h : H
     → SomeMembership k at → MembershipAt k s
 shown-at k at s f m = record { before = m .before; h = m .h; R = m .R; behind = m .behind; shows = f (m .before) (m .h) (m .R) (m .behind) (m .stands) }
 
--- ---- the rule that answers there
+-- ---- the rule of one literal that answers there
 
-module _ (k : List ℕ) (b : Best) (m : RuleAt k b) where
+module _ (k : List ℕ) (b : Best) (m : AnswerAt k b) where
   pub applies-swapped : (v : View) → getD k (b .at) 0 ≡ 5000 → b .swap ≡ true
       → ((before : Conj) (l r : Hedge) (behind : Conj) → LiteralAt k (b .at) before (eqn l r) behind → Sees k v before r l behind) → equation.RuleApplies (b .rank) k v
   applies-swapped v e t f =
-      at-equation k (b .at) (λ before l behind. sideAnswer (b .swap) (b .rank) (before ++ behind) l ≡ some (m .results) → equation.RuleApplies (b .rank) k v) e
+      at-equation k (b .at) (λ before l behind. sideAnswer (b .swap) (b .rank) (before ++ behind) l ≡ some (m .branches) → equation.RuleApplies (b .rank) k v) e
       (λ before l r behind p a. record {
         l = r;
         r = l;
@@ -57,7 +57,7 @@ module _ (k : List ℕ) (b : Best) (m : RuleAt k b) where
           before = before;
           behind = behind;
           seen = f before l r behind p;
-          results = m .results;
+          results = m .branches;
           answer = ap (λ u. sideAnswer u (b .rank) (before ++ behind) (eqn l r)) (sym t) ∙ a;
         };
       })
@@ -66,7 +66,7 @@ module _ (k : List ℕ) (b : Best) (m : RuleAt k b) where
   pub applies-written : (v : View) → getD k (b .at) 0 ≡ 5000 → b .swap ≡ false
       → ((before : Conj) (l r : Hedge) (behind : Conj) → LiteralAt k (b .at) before (eqn l r) behind → Sees k v before l r behind) → equation.RuleApplies (b .rank) k v
   applies-written v e t f =
-      at-equation k (b .at) (λ before l behind. sideAnswer (b .swap) (b .rank) (before ++ behind) l ≡ some (m .results) → equation.RuleApplies (b .rank) k v) e
+      at-equation k (b .at) (λ before l behind. sideAnswer (b .swap) (b .rank) (before ++ behind) l ≡ some (m .branches) → equation.RuleApplies (b .rank) k v) e
       (λ before l r behind p a. record {
         l = l;
         r = r;
@@ -74,7 +74,7 @@ module _ (k : List ℕ) (b : Best) (m : RuleAt k b) where
           before = before;
           behind = behind;
           seen = f before l r behind p;
-          results = m .results;
+          results = m .branches;
           answer = ap (λ u. sideAnswer u (b .rank) (before ++ behind) (eqn l r)) (sym t) ∙ a;
         };
       })
@@ -83,7 +83,7 @@ module _ (k : List ℕ) (b : Best) (m : RuleAt k b) where
   pub applies-member : (s : Shape) → (b .rank ≡ atM2 → ⊥) → (getD k (b .at) 0 ≡ 5000 → ⊥)
       → ((before : Conj) (h : Hedge) (R : Expr) (behind : Conj) → LiteralAt k (b .at) before (mem h R) behind → Shows k s before h R behind) → membership.RuleApplies (b .rank) k s
   applies-member s z e f =
-      at-membership k (b .at) (λ before l behind. sideAnswer (b .swap) (b .rank) (before ++ behind) l ≡ some (m .results) → membership.RuleApplies (b .rank) k s) e
+      at-membership k (b .at) (λ before l behind. sideAnswer (b .swap) (b .rank) (before ++ behind) l ≡ some (m .branches) → membership.RuleApplies (b .rank) k s) e
       (λ before h R behind p a. record {
         h = h;
         R = R;
@@ -91,7 +91,7 @@ module _ (k : List ℕ) (b : Best) (m : RuleAt k b) where
           before = before;
           behind = behind;
           shown = f before h R behind p;
-          results = m .results;
+          results = m .branches;
           answer = a;
         };
         other = z;
@@ -102,7 +102,7 @@ module _ (k : List ℕ) (b : Best) (m : RuleAt k b) where
   pub monomials-at : b .rank ≡ atM2 → SomeMembership k (b .at)
   monomials-at e = go (m .l) (m .stands) (m .answer)
     where
-      go : (l : Literal) → LiteralAt k (b .at) (m .before) l (m .behind) → sideAnswer (b .swap) (b .rank) (m .before ++ m .behind) l ≡ some (m .results) → SomeMembership k (b .at)
+      go : (l : Literal) → LiteralAt k (b .at) (m .before) l (m .behind) → sideAnswer (b .swap) (b .rank) (m .before ++ m .behind) l ≡ some (m .branches) → SomeMembership k (b .at)
       go (eqn l r) p a =
           absurd (let d = sym (no-equation (b .swap) (m .before ++ m .behind) l r) ∙ ap (λ n. sideAnswer (b .swap) n (m .before ++ m .behind) (eqn l r)) (sym e) ∙ a in let z : _≡_ {A = ℕ} 0 1 = cc in omega arith)
       go (mem h R) p a = record { before = m .before; h = h; R = R; behind = m .behind; stands = p }

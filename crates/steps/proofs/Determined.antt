@@ -15,7 +15,7 @@ use Rattle.steps.proofs.find as find
 use Rattle.steps.proofs.take_step as take_step
 
 find-determined : Determined find.ended find.Reads.Pre find.Reads.Post
-find-determined κs a p o q e d = ap (λ z. (z, o .1)) (e .1 (p .conj) (p .fine) (p .words) ∙ sym (d .1 (p .conj) (p .fine) (p .words)))
+find-determined κs a p o q e d = let x = p .1 in ap (λ z. (z, o .1)) (e .1 (x .conj) (x .fine) (x .words) ∙ sym (d .1 (x .conj) (x .fine) (x .words)))
 
 one-size : (s : Size) (n m : ℕ) → s ≡ Fits n → s ≡ Fits m → n ≡ m
 one-size s n m e d = cc
@@ -41,6 +41,6 @@ take_step-determined : Determined take_step.ended take_step.Reads.Pre take_step.
 take_step-determined κs a p o q e d =
     let m = p .1 in
     let z =
-    took-one _ _ _ _ _ _ _ (e (m .before) (m .l) (m .behind) (m .results) (m .stands) (m .answer)) (d (m .before) (m .l) (m .behind) (m .results) (m .stands) (m .answer))
+    took-one _ _ _ _ _ _ _ (e (m .before) (m .l) (m .behind) (m .made) (m .stands) (m .applies)) (d (m .before) (m .l) (m .behind) (m .made) (m .stands) (m .applies))
     in
     ap (λ r. (r, o .1)) (z .0) ∙ ap (λ s. (q .0, (tt, (tt, (s, (tt, tt)))))) (z .1)

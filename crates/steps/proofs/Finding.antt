@@ -1,7 +1,7 @@
 -- The best literal makes the step: its rank is the rank of the literal, from the side that comes first, and one pass over the literals finds it.
 use Prim.Native.Nat.{ℕ, _+_, _-_, _<_, _≤_}
 use native.Mathlib.Omega.{arith}
-use mathlib.Core.Path.{_≡_, refl, sym, ap, _∙_, subst}
+use mathlib.Core.Path.{_≡_, refl, sym, ap, ap₂, _∙_, subst}
 use mathlib.Core.Bool.{Bool, true, false}
 use mathlib.Core.List.{List, [], _∷_, _++_, append-assoc, append-nil}
 use lib.Dec.{ltb, leb}
@@ -10,15 +10,18 @@ use borrow.Author.Tests.{ltb-true, ltb-false, leb-true, leb-false, lt-ltb, le-lt
 use Rattle.language.specs.Kinds.{pick}
 use Rattle.language.specs.Trees.{Hedge, Expr, Literal, eqn, mem, Conj}
 use Rattle.language.specs.Writing.{literalWords, conjWords}
-use Rattle.rules.specs.Places.{noRule}
+use Rattle.rules.specs.Places.{atFold, noRule}
 use Rattle.views.specs.Standing.{LiteralAt}
 use Rattle.rules.specs.Ranks.{eqnRank, memRank}
 use Rattle.steps.specs.Ranking.{Ranked, Sought, Found}
 use Rattle.steps.proofs.Ranks.{rank-written, rank-swapped, rank-member}
 use Rattle.views.proofs.LiteralWalks.{literal-some}
-use Rattle.steps.proofs.Pass.{start, keep, better, finish}
+use Rattle.folding.specs.Twice.{firstTwice}
+use Rattle.folding.proofs.Folds.{found-none, found-at}
+use Rattle.steps.proofs.Applied.{idle-low, idle-once}
+use Rattle.steps.proofs.Pass.{start, below, keep, better, finish, finish-fold}
 use Rattle.steps.specs.declared.Best.{Best}
-use Rattle.steps.specs.Seeking.{best, lesserOf, bestAt, bestFrom, bestOf}
+use Rattle.steps.specs.Seeking.{best, lesserOf, bestAt, bestFrom, bestAlone, bestFold, bestOf}
 
 -- ---- one literal
 
@@ -99,15 +102,60 @@ pass-all b done (l ∷ rest) s =
     subst (λ d. Seeks d [] (bestFrom (lesserOf b (bestAt done l rest)) (done ++ (l ∷ [])) rest)) (append-assoc done (l ∷ []) rest)
     (pass-all (lesserOf b (bestAt done l rest)) (done ++ (l ∷ [])) rest (pass-on done l rest b (bestAt done l rest) (best-place done l rest) (best-ranked done l rest) s))
 
+-- the pass, and the fold beside it
+alone-sought : (c : Conj) → Seeks c [] (bestAlone c)
+unfolding bestAlone
+alone-sought c = pass-all (best noRule 0 false) [] c (start c 0 false)
+
+abbrev Finds : Conj → Best → Type 0
+Finds c b = Found c (b .rank) (b .at) (b .swap)
+
+-- what is found: by the pass's best, whether a literal stands twice, and which of the two is less
+found-by : (c : Conj) (a : Best) → Seeks c [] a → (twice less : Bool) → ltb (firstTwice c) (length (conjWords c)) ≡ twice → ltb (pick twice atFold noRule) (a .rank) ≡ less
+    → Finds c (pick less (best (pick twice atFold noRule) (firstTwice c) false) a)
+found-by c a s true true d e =
+    finish-fold c (a .rank) (a .at) (a .swap) (let h = ltb-true atFold (a .rank) e in omega arith) s (firstTwice c) (found-at c (firstTwice c) refl (ltb-true _ _ d))
+found-by c a s true false d e = finish c (a .rank) (a .at) (a .swap) (idle-low c (a .rank) (ltb-false atFold (a .rank) e)) s
+found-by c a s false true d e = absurd (let h = ltb-true noRule (a .rank) e in let b = below c [] (a .rank) (a .at) (a .swap) s in omega arith)
+found-by c a s false false d e = finish c (a .rank) (a .at) (a .swap) (idle-once c (found-none c (firstTwice c) refl (ltb-false _ _ d)) (a .rank)) s
+
 pub best-found : (c : Conj) (b : Best) → b ≡ bestOf c → Found c (b .rank) (b .at) (b .swap)
+unfolding bestOf bestFold
+best-found c b e = subst (Finds c) (sym e) (found-by c (bestAlone c) (alone-sought c) (ltb (firstTwice c) (length (conjWords c))) _ refl refl)
+
+-- ---- the fold beside the pass
+
+fold-rank : (c : Conj) → atFold ≤ bestFold c .rank
+unfolding bestFold
+fold-rank c = go (ltb (firstTwice c) (length (conjWords c)))
+  where
+    go : (t : Bool) → atFold ≤ pick t atFold noRule
+    go true = omega arith
+    go false = omega arith
+
+-- where a rule before the fold applies, the fold is not looked for
+pub alone-best : (c : Conj) (a : Best) → a ≡ bestAlone c → a .rank < atFold → a ≡ bestOf c
 unfolding bestOf
-best-found c b e = rw e (finish c _ _ _ (pass-all (best noRule 0 false) [] c (start c 0 false)))
+alone-best c a e h =
+    e ∙ ap (λ t. pick t (bestFold c) (bestAlone c)) (sym (le-ltb (bestFold c .rank) (bestAlone c .rank) (let f = fold-rank c in let d = ap (λ b. b .rank) e in omega arith)))
+
+pub both-best : (c : Conj) (a f r : Best) → a ≡ bestAlone c → f ≡ bestFold c → r ≡ lesserOf a f → r ≡ bestOf c
+unfolding bestOf
+both-best c a f r e d g = g ∙ ap₂ lesserOf e d
+
+pub fold-there : (c : Conj) (at : ℕ) → at ≡ firstTwice c → at < length (conjWords c) → best atFold at false ≡ bestFold c
+unfolding bestFold
+fold-there c at e h = ap (λ n. best atFold n false) e ∙ ap (λ t. best (pick t atFold noRule) (firstTwice c) false) (sym (lt-ltb (firstTwice c) (length (conjWords c)) (omega arith)))
+
+pub fold-absent : (c : Conj) (at : ℕ) → at ≡ firstTwice c → length (conjWords c) ≤ at → best noRule at false ≡ bestFold c
+unfolding bestFold
+fold-absent c at e h = ap (λ n. best noRule n false) e ∙ ap (λ t. best (pick t atFold noRule) (firstTwice c) false) (sym (le-ltb (firstTwice c) (length (conjWords c)) (omega arith)))
 
 -- ---- places
 
-pub placed-on : (n : ℕ) (a b r : Best) → r ≡ lesserOf a b → (a .rank < noRule → a .at < n) → b .at < n → r .rank < noRule → r .at < n
+pub placed-on : (n : ℕ) (a b r : Best) → r ≡ lesserOf a b → (a .rank < noRule → a .at < n) → (b .rank < noRule → b .at < n) → r .rank < noRule → r .at < n
 placed-on n a b r e f g = rw e (go (ltb (b .rank) (a .rank)))
   where
     go : (t : Bool) → pick t b a .rank < noRule → pick t b a .at < n
-    go true h = g
+    go true h = g h
     go false h = f h

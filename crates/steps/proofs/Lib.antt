@@ -6,3 +6,5 @@ pub mod Determined
 pub mod Ranks
 pub mod First
 pub mod Pass
+pub mod Applied
+pub mod Made

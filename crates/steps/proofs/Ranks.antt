@@ -11,7 +11,7 @@ use Rattle.language.specs.Trees.{Hedge, Expr, Literal, eqn, mem, Conj}
 use Rattle.rules.specs.Reply.{nothing, results, stops}
 use Rattle.rules.specs.Rules.{Answer, Rule, onEqn, onMem, onPair, rules}
 use Rattle.rules.specs.Solved.{isSome}
-use Rattle.rules.specs.Step.{orNext, placed, resultsAt}
+use Rattle.rules.specs.Step.{orNext, placed}
 use Rattle.rules.specs.Ranks.{atEqn, atMem, firstOf, answerAt, eqnRank, memRank, eqnAnswer, memAnswer}
 use Rattle.steps.specs.Ranking.{Tried, sided, tried, applies, firstReply, replyAt, litRank, Ranked}
 
@@ -61,15 +61,7 @@ module _ (at0 at1 : Rule → Tried) where
       go nothing (stops q) zero e r h ih = (refl, r)
       go nothing (stops q) (suc n) e r h ih = absurd (omega arith)
 
--- no rank passes the number of rules, and at a rank below it something applies
-rank-most : (at : Rule → Tried) (rs : List Rule) → firstReply at rs ≤ length rs
-rank-most at [] = omega arith
-rank-most at (rule ∷ rs) = go (applies (at rule)) (rank-most at rs)
-  where
-    go : (b : Bool) → firstReply at rs ≤ length rs → pick b 0 (suc (firstReply at rs)) ≤ suc (length rs)
-    go true h = omega arith
-    go false h = omega arith
-
+-- at a rank below the number of rules something applies
 pub rank-applies : (at : Rule → Tried) (rs : List Rule) (n : ℕ) → n ≡ firstReply at rs → n < length rs → applies (replyAt at rs n) ≡ true
 rank-applies at [] n e h = absurd (omega arith)
 rank-applies at (rule ∷ rs) n e h = go (at rule) n e h (rank-applies at rs)
@@ -106,25 +98,9 @@ module _ (before behind : Conj) (swap : Bool) (at : Rule → Answer) where
   answered-leads : (rs : List Rule) (n : ℕ) → n ≡ firstOf at rs → Leads answered rs n (sided swap (placed before behind (answerAt at rs n)))
   answered-leads rs n e = (e ∙ answered-first rs, answered-at rs n)
 
--- ---- rules of two literals
-
-abbrev atPair : Conj → Literal → Conj → Rule → Tried
-atPair before l behind (onEqn rule) = nothing
-atPair before l behind (onMem rule) = nothing
-atPair before l behind (onPair rule) = sided false (resultsAt false (onPair rule) before l behind)
-
--- the list has none
-no-pairs : (before : Conj) (l : Literal) (behind : Conj) → length rules ≡ firstReply (atPair before l behind) rules
-no-pairs before l behind = refl
-
--- so a rule of one literal leads
-one-leads : (at : Rule → Tried) (before : Conj) (l : Literal) (behind : Conj) (n : ℕ) (m : Tried) → Leads at rules n m → Leads (or at (atPair before l behind)) rules n m
-one-leads at before l behind n m p =
-    first-leads at (atPair before l behind) rules n m p (let h = rank-most at rules in let e = no-pairs before l behind in let d = p .0 in omega arith)
-
 -- ---- at an equation and at a membership
 
-or-nothing : (m : Tried) → m ≡ orNext m (λ _. nothing)
+or-nothing : (m : Tried) → orNext m (λ _. nothing) ≡ m
 or-nothing nothing = refl
 or-nothing (results a) = refl
 or-nothing (stops r) = refl
@@ -136,16 +112,15 @@ abbrev member-at : Conj → Hedge → Expr → Conj → Rule → Tried
 member-at before h R behind = answered before behind false (λ rule. atMem rule (before ++ behind) h R)
 
 tried-eqn : (before : Conj) (l r : Hedge) (behind : Conj) (rule : Rule)
-    → tried rule before (eqn l r) behind ≡ or (or (side-at false before l r behind) (side-at true before r l behind)) (atPair before (eqn l r) behind) rule
-tried-eqn before l r behind (onEqn rule) = or-nothing _
+    → tried rule before (eqn l r) behind ≡ or (side-at false before l r behind) (side-at true before r l behind) rule
+tried-eqn before l r behind (onEqn rule) = refl
 tried-eqn before l r behind (onMem rule) = refl
-tried-eqn before l r behind (onPair rule) = sym (or-nothing _)
+tried-eqn before l r behind (onPair rule) = refl
 
-tried-mem : (before : Conj) (h : Hedge) (R : Expr) (behind : Conj) (rule : Rule)
-    → tried rule before (mem h R) behind ≡ or (member-at before h R behind) (atPair before (mem h R) behind) rule
+tried-mem : (before : Conj) (h : Hedge) (R : Expr) (behind : Conj) (rule : Rule) → tried rule before (mem h R) behind ≡ member-at before h R behind rule
 tried-mem before h R behind (onEqn rule) = refl
-tried-mem before h R behind (onMem rule) = refl
-tried-mem before h R behind (onPair rule) = sym (or-nothing _)
+tried-mem before h R behind (onMem rule) = or-nothing _
+tried-mem before h R behind (onPair rule) = refl
 
 -- the same rules, so the same leads
 leads-as : (at bt : Rule → Tried) → ((rule : Rule) → at rule ≡ bt rule) → (n : ℕ) (m : Tried) → Leads bt rules n m → Leads at rules n m
@@ -164,7 +139,7 @@ module _ (before : Conj) (l r : Hedge) (behind : Conj) (a b : ℕ) (ea : a ≡ e
       let w = answered-leads before behind false (λ rule. atEqn rule (before ++ behind) l r) rules a ea in
       let o = answered-leads before behind true (λ rule. atEqn rule (before ++ behind) r l) rules b eb in
       let (rank, side) = leads-as (λ rule. tried rule before (eqn l r) behind) _ (tried-eqn before l r behind) a _
-      (one-leads (or written other) before (eqn l r) behind a _ (first-leads written other rules a _ w (let d = o .0 in omega arith))) in
+      (first-leads written other rules a _ w (let d = o .0 in omega arith)) in
       record { rank = rank; side = side }
 
   pub rank-swapped : b < a → Ranked before (eqn l r) behind b true
@@ -173,12 +148,12 @@ module _ (before : Conj) (l r : Hedge) (behind : Conj) (a b : ℕ) (ea : a ≡ e
       let w = answered-leads before behind false (λ rule. atEqn rule (before ++ behind) l r) rules a ea in
       let o = answered-leads before behind true (λ rule. atEqn rule (before ++ behind) r l) rules b eb in
       let (rank, side) = leads-as (λ rule. tried rule before (eqn l r) behind) _ (tried-eqn before l r behind) b _
-      (one-leads (or written other) before (eqn l r) behind b _ (second-leads written other rules b _ o (let d = w .0 in omega arith))) in
+      (second-leads written other rules b _ o (let d = w .0 in omega arith)) in
       record { rank = rank; side = side }
 
 pub rank-member : (before : Conj) (h : Hedge) (R : Expr) (behind : Conj) (a : ℕ) → a ≡ memRank (before ++ behind) h R → Ranked before (mem h R) behind a false
 unfolding litRank memRank memAnswer
 rank-member before h R behind a e =
     let (rank, side) = leads-as (λ rule. tried rule before (mem h R) behind) _ (tried-mem before h R behind) a _
-    (one-leads (member-at before h R behind) before (mem h R) behind a _ (answered-leads before behind false (λ rule. atMem rule (before ++ behind) h R) rules a e)) in
+    (answered-leads before behind false (λ rule. atMem rule (before ++ behind) h R) rules a e) in
     record { rank = rank; side = side }

@@ -3,12 +3,14 @@ use Prim.Native.Nat.{ℕ, _+_, _-_, _<_, _≤_}
 use native.Mathlib.Omega.{arith}
 use mathlib.Core.Path.{_≡_, refl, sym, ap, _∙_, subst}
 use mathlib.Core.Bool.{Bool, true, false}
-use mathlib.Core.List.{List, _++_, map}
+use mathlib.Core.List.{List, [], _∷_, _++_, map}
 use mathlib.Core.Option.{none, some}
 use lib.ListN.{length}
 use Rattle.language.specs.Limits.{desk}
 use Rattle.language.specs.Trees.{Hedge, ε, tvar, hvar, node, Expr, Literal, eqn, mem, Conj}
+use Rattle.language.specs.Writing.{conjWords}
 use Rattle.rules.specs.Looks.{firstTerm}
+use Rattle.rules.specs.Step.{place}
 use Rattle.rules.specs.Expressions.{linear}
 use Rattle.rules.specs.Rules.{Branch, monomialResult, M2}
 use Rattle.rules.specs.Places.{atM2}
@@ -71,7 +73,12 @@ took-monomials k old new next at n swap r e f before (mem h R) behind bs p a =
     let d = where-some (λ bs. bs ≡ map (monomialResult (head h) (tail h)) (linear R)) (M2 (before ++ behind) h R) bs (monomials (before ++ behind) h R .given) (ap (λ n. memAnswer n (before ++ behind) h R) (sym e) ∙ a) in
     subst (λ bs. Took (placedWords before behind bs) old next r new) (sym d) (f before h R behind p)
 
--- ---- every other rule
+-- ---- every rule of one literal
+
+pub placed-words : (before behind : Conj) (bs : List Branch) → placedWords before behind bs ≡ map conjWords (map (place before behind) bs)
+unfolding placedWords
+placed-words before behind [] = refl
+placed-words before behind (b ∷ bs) = ap (λ l. conjWords (place before behind b) ∷ l) (placed-words before behind bs)
 
 pub took-as : {ws vs : List (List ℕ)} {old : List ℕ} {next : ℕ} {r : Stepped} {new : List ℕ} → ws ≡ vs → Took ws old next r new → Took vs old next r new
 took-as {old = old} {next} {r} {new} e t = subst (λ ws. Took ws old next r new) e t

@@ -4,19 +4,38 @@ use mathlib.Core.Path.{_≡_}
 use mathlib.Core.List.{List, _++_}
 use mathlib.Core.Option.{some}
 use Rattle.language.specs.Trees.{Hedge, Expr, Literal, mem, Conj}
-use Rattle.rules.specs.Rules.{Branch}
+use Rattle.rules.specs.Reply.{results}
+use Rattle.rules.specs.Rules.{Branch, Fold}
 use Rattle.views.specs.Standing.{LiteralAt}
 use Rattle.steps.specs.declared.Best.{Best}
-use Rattle.steps.specs.Ranking.{sideAnswer}
+use Rattle.steps.specs.Ranking.{sideAnswer, sideResults}
 
--- a literal stands at the place of b, and the rule of its rank answers there from its side
+-- a literal stands at the place of b, and the rule of its rank applies there from its side
 pub record RuleAt (k : List ℕ) (b : Best) : Type 0 where
   pub before : Conj
   pub l : Literal
   pub behind : Conj
-  pub results : List Branch
+  pub made : List Conj
   pub stands : LiteralAt k (b .at) before l behind
-  pub answer : sideAnswer (b .swap) (b .rank) (before ++ behind) l ≡ some results
+  pub applies : sideResults (b .swap) (b .rank) before l behind ≡ results made
+
+-- the same of a rule of one literal, by what it answers
+pub record AnswerAt (k : List ℕ) (b : Best) : Type 0 where
+  pub before : Conj
+  pub l : Literal
+  pub behind : Conj
+  pub branches : List Branch
+  pub stands : LiteralAt k (b .at) before l behind
+  pub answer : sideAnswer (b .swap) (b .rank) (before ++ behind) l ≡ some branches
+
+-- the same of the fold
+pub record FoldHere (k : List ℕ) (at : ℕ) : Type 0 where
+  pub before : Conj
+  pub l : Literal
+  pub behind : Conj
+  pub made : List Conj
+  pub stands : LiteralAt k at before l behind
+  pub applies : Fold l behind ≡ results made
 
 -- some membership stands at `at`
 pub record SomeMembership (k : List ℕ) (at : ℕ) : Type 0 where

@@ -1,16 +1,16 @@
--- The rank of a literal between others: the place of the first rule that comes to anything there. The search of a step by one pass over the literals.
+-- The rank of a literal between others: the place of the first rule of one literal that comes to anything there. The search of a step by one pass over
+-- the literals, and beside it the rules of two.
 use Prim.Native.Nat.{ℕ, suc, _<_, _≤_}
 use mathlib.Core.Path.{_≡_}
 use mathlib.Core.Bool.{Bool, true, false}
 use mathlib.Core.List.{List, [], _∷_, _++_, map}
-use mathlib.Core.Option.{some}
 use lib.ListN.{length}
 use Rattle.language.specs.Kinds.{pick}
 use Rattle.language.specs.Trees.{Literal, eqn, mem, Conj}
 use Rattle.language.specs.Writing.{conjWords}
 use Rattle.rules.specs.Reply.{Reply, nothing, results, stops}
-use Rattle.rules.specs.Rules.{Branch, Answer, Rule, rules}
-use Rattle.rules.specs.Step.{orNext, each, place, placed, resultsAt, search}
+use Rattle.rules.specs.Rules.{Answer, Rule, onEqn, onMem, onPair, rules}
+use Rattle.rules.specs.Step.{orNext, each, placed, resultsAt, search}
 use Rattle.rules.specs.Places.{noRule}
 use Rattle.rules.specs.Ranks.{eqnAnswer, memAnswer}
 
@@ -24,8 +24,14 @@ abbrev pub sided : Bool → Reply (List Conj) → Tried
 sided swap m = each (λ (ks : List Conj). (swap, ks)) m
 
 -- an equation as it is written first, then swapped
+abbrev pub sides : Rule → Conj → Literal → Conj → Tried
+sides rule before l behind = orNext (sided false (resultsAt false rule before l behind)) (λ _. sided true (resultsAt true rule before l behind))
+
+-- a rule of one literal; one of two is looked for among all literals, and nothing here
 abbrev pub tried : Rule → Conj → Literal → Conj → Tried
-tried rule before l behind = orNext (sided false (resultsAt false rule before l behind)) (λ _. sided true (resultsAt true rule before l behind))
+tried (onEqn rule) before l behind = sides (onEqn rule) before l behind
+tried (onMem rule) before l behind = sides (onMem rule) before l behind
+tried (onPair rule) before l behind = nothing
 
 abbrev pub applies : Tried → Bool
 applies nothing = false
@@ -50,6 +56,24 @@ litRank before l behind = firstReply (λ rule. tried rule before l behind) rules
 abbrev pub sideAnswer : Bool → ℕ → Conj → Literal → Answer
 sideAnswer swap n K (eqn l r) = pick swap (eqnAnswer n K r l) (eqnAnswer n K l r)
 sideAnswer swap n K (mem h R) = memAnswer n K h R
+
+-- what a rule of two literals makes of a literal and those behind it
+abbrev pub atPair : Rule → Literal → Conj → Reply (List Conj)
+atPair (onEqn rule) l behind = nothing
+atPair (onMem rule) l behind = nothing
+atPair (onPair rule) l behind = rule l behind
+
+abbrev pub pairAt : List Rule → ℕ → Literal → Conj → Reply (List Conj)
+pairAt [] n l behind = nothing
+pairAt (rule ∷ rs) n l behind = elim n [ ℕ.zero ↦ atPair rule l behind | ℕ.suc m ↦ pairAt rs m l behind ]
+
+unfoldable pub pairAnswer : ℕ → Literal → Conj → Reply (List Conj)
+pairAnswer n l behind = pairAt rules n l behind
+
+-- what the rule of a place comes to at the literal between the others: a rule of one literal from its side, a rule of two with those behind it
+abbrev pub sideResults : Bool → ℕ → Conj → Literal → Conj → Reply (List Conj)
+sideResults swap n before l behind =
+    orNext (placed before behind (sideAnswer swap n (before ++ behind) l)) (λ _. each (map (λ (k : Conj). before ++ k)) (pairAnswer n l behind))
 
 -- the rank of a literal, and from which side its rule answers
 pub record Ranked (before : Conj) (l : Literal) (behind : Conj) (n : ℕ) (swap : Bool) : Type 0 where
@@ -83,7 +107,7 @@ pub data Sought (done rest : Conj) (n at : ℕ) (swap : Bool) : Type 0 where
 -- literal by its number, with these results.
 pub data Found (c : Conj) (n at : ℕ) (swap : Bool) : Type 0 where
   nowhere : n ≡ noRule → search c ≡ nothing → Found c n at swap
-  somewhere : (before : Conj) (l : Literal) (behind : Conj) (bs : List Branch) → c ≡ before ++ (l ∷ behind) → at ≡ length (conjWords before)
-      → n < noRule → sideAnswer swap n (before ++ behind) l ≡ some bs
-      → search c ≡ results (record { rule = n; literal = length before; swapped = swap }, map (place before behind) bs)
+  somewhere : (before : Conj) (l : Literal) (behind : Conj) (ks : List Conj) → c ≡ before ++ (l ∷ behind) → at ≡ length (conjWords before)
+      → n < noRule → sideResults swap n before l behind ≡ results ks
+      → search c ≡ results (record { rule = n; literal = length before; swapped = swap }, ks)
       → Found c n at swap

@@ -7,8 +7,9 @@ use lib.ListN.{length}
 use Rattle.language.specs.Kinds.{pick}
 use Rattle.language.specs.Trees.{Literal, eqn, mem, Conj}
 use Rattle.language.specs.Writing.{conjWords}
-use Rattle.rules.specs.Places.{noRule}
+use Rattle.rules.specs.Places.{atFold, noRule}
 use Rattle.rules.specs.Ranks.{eqnRank, memRank}
+use Rattle.folding.specs.Twice.{firstTwice}
 use Rattle.steps.specs.declared.Best.{Best}
 
 abbrev pub best : ℕ → ℕ → Bool → Best
@@ -29,6 +30,14 @@ abbrev pub bestFrom : Best → Conj → Conj → Best
 bestFrom b before [] = b
 bestFrom b before (l ∷ behind) = bestFrom (lesserOf b (bestAt before l behind)) (before ++ (l ∷ [])) behind
 
+-- the best by the rules of one literal
+unfoldable pub bestAlone : Conj → Best
+bestAlone c = bestFrom (best noRule 0 false) [] c
+
+-- the fold, at the earliest literal that stands there again
+unfoldable pub bestFold : Conj → Best
+bestFold c = best (pick (ltb (firstTwice c) (length (conjWords c))) atFold noRule) (firstTwice c) false
+
 -- of a whole conjunction; rank `noRule`, where no rule applies
 unfoldable pub bestOf : Conj → Best
-bestOf c = bestFrom (best noRule 0 false) [] c
+bestOf c = lesserOf (bestAlone c) (bestFold c)

@@ -1,38 +1,45 @@
 // A step in words: the search for the first rule that applies to a conjunction, and its results in place.
 ghost use Prim.Native.Nat.{_+_, _≤_, _<_};
 ghost use mathlib.Core.Path.{_≡_};
-ghost use mathlib.Core.List.{List, _++_};
-ghost use mathlib.Core.Option.{some};
+ghost use mathlib.Core.List.{List, _++_, map};
 ghost use lib.ListN.{length, drop};
 ghost use Rattle.language.specs.Limits.{desk};
 ghost use Rattle.language.specs.Trees.{Hedge, Expr, Literal, mem, Conj};
 ghost use Rattle.language.specs.Writing.{conjWords};
 ghost use Rattle.language.specs.Fine.{fineConj};
 ghost use Rattle.plans.specs.Results.{resultsOf};
-ghost use Rattle.plans.specs.Sizes.{placedWords, monomialWords};
+ghost use Rattle.plans.specs.Sizes.{monomialWords};
 ghost use Rattle.views.specs.Standing.{LiteralAt, SomeLiteral, Conjunction};
-ghost use Rattle.rules.specs.Rules.{Branch};
-ghost use Rattle.steps.specs.Ranking.{sideAnswer};
-ghost use Rattle.steps.specs.Seeking.{lesserOf, bestAt, bestOf};
+ghost use Rattle.rules.specs.Reply.{results};
+ghost use Rattle.rules.specs.Rules.{Fold};
+ghost use Rattle.steps.specs.Ranking.{sideAnswer, sideResults};
+ghost use Rattle.steps.specs.Seeking.{lesserOf, bestAt, bestAlone, bestFold, bestOf};
 ghost use Rattle.steps.specs.Taking.{Took};
-ghost use Rattle.steps.specs.Asking.{RuleAt, SomeMembership};
+ghost use Rattle.steps.specs.Asking.{RuleAt, AnswerAt, FoldHere, SomeMembership};
 ghost use Rattle.plans.specs.Planned.{Planned};
 ghost use Rattle.rules.specs.Places.{atM2, noRule};
 use equation_plans::plan_equation;
 use equations::rank_equation;
+use folding::first_twice;
+use folding::later_equal;
 use linear_form::size_monomials;
 use linear_form::write_monomials;
 use membership_plans::plan_membership;
 use memberships::rank_membership;
+use plans::Piece;
 use plans::Plan;
 use plans::Size;
+use plans::Ways;
+use plans::few;
 use results::size_results;
 use results::write_results;
+use rules::places::AT_FOLD;
 use rules::places::AT_M2;
 use rules::places::NO_RULE;
 use views::see;
 use views::show_membership;
 use views::swapped;
+use words::next_literal;
 
 // The literal of the least rank so far: its rank, its place, and whether its equation is seen from the other side.
 pub struct Best {
@@ -103,10 +110,10 @@ fn lesser(a: Best, b: Best) -> Best
     if b.rank < a.rank { b } else { a }
 }
 
-// The earliest literal of the least rank.
-pub fn find(k: &[u16]) -> Best
+// The earliest literal of the least rank, by the rules of one literal.
+fn find_alone(k: &[u16]) -> Best
     requires { ⌜ Conjunction (now k) ⌝ }
-    ensures { λ b. ⌜ (b .rank < noRule → b .at < length (now (k .entry))) × ((c : Conj) → fineConj desk c → now (k .entry) ≡ conjWords c → b ≡ bestOf c) ⌝ }
+    ensures { λ b. ⌜ (b .rank < noRule → b .at < length (now (k .entry))) × ((c : Conj) → fineConj desk c → now (k .entry) ≡ conjWords c → b ≡ bestAlone c) ⌝ }
 {
     let mut best = Best {
         rank: NO_RULE,
@@ -123,6 +130,40 @@ pub fn find(k: &[u16]) -> Best
     best
 }
 
+// The fold, at the earliest literal that stands twice.
+fn find_fold(k: &[u16]) -> Best
+    requires { ⌜ length (now k) ≤ desk .question ⌝ }
+    requires { ⌜ Conjunction (now k) ⌝ }
+    ensures { λ b. ⌜ (b .rank < noRule → b .at < length (now (k .entry))) × ((c : Conj) → fineConj desk c → now (k .entry) ≡ conjWords c → b ≡ bestFold c) ⌝ }
+{
+    let at = first_twice(k);
+    if at < k.len() {
+        return Best {
+            rank: AT_FOLD,
+            at,
+            swap: false,
+        };
+    }
+    Best {
+        rank: NO_RULE,
+        at,
+        swap: false,
+    }
+}
+
+// The first rule that applies, at the earliest literal. The fold is looked for only where no rule before it applies.
+pub fn find(k: &[u16]) -> Best
+    requires { ⌜ length (now k) ≤ desk .question ⌝ }
+    requires { ⌜ Conjunction (now k) ⌝ }
+    ensures { λ b. ⌜ (b .rank < noRule → b .at < length (now (k .entry))) × ((c : Conj) → fineConj desk c → now (k .entry) ≡ conjWords c → b ≡ bestOf c) ⌝ }
+{
+    let alone = find_alone(k);
+    if alone.rank < AT_FOLD {
+        return alone;
+    }
+    lesser(alone, find_fold(k))
+}
+
 // What a step comes to: a result is too long; the results have no room before those that wait; or they are written, from a place on.
 pub enum Stepped {
     Long,
@@ -130,10 +171,10 @@ pub enum Stepped {
     Done(usize),
 }
 
-// The plan of the rule of that rank at that literal; M2 has none.
+// The plan of the rule of one literal of that rank at that literal; M2 has none.
 fn plan_at(k: &[u16], b: Best) -> Plan
     requires { ⌜ (b .at < length (now k)) × (b .rank ≡ atM2 → ⊥) ⌝ }
-    requires { ⌜ RuleAt (now k) b ⌝ }
+    requires { ⌜ AnswerAt (now k) b ⌝ }
     ensures { λ p. ⌜ ((before : Conj) (l : Literal) (behind : Conj) → LiteralAt (now (k .entry)) (b .at) before l behind → Planned (now (k .entry)) p before behind (sideAnswer (b .swap) (b .rank) (before ++ behind) l)) ⌝ }
 {
     let at = b.at;
@@ -148,6 +189,33 @@ fn plan_at(k: &[u16], b: Best) -> Plan
     }
     let s = show_membership(k, at);
     plan_membership(rank, k, s)
+}
+
+// The plan of the fold: all words but those of the first literal behind this one that has the same.
+fn plan_fold(k: &[u16], at: usize) -> Plan
+    requires { ⌜ at < length (now k) ⌝ }
+    requires { ⌜ FoldHere (now k) at ⌝ }
+    ensures { λ p. ⌜ ((before : Conj) (l : Literal) (behind : Conj) (ks : List Conj) → LiteralAt (now (k .entry)) at before l behind → Fold l behind ≡ results ks → resultsOf (now (k .entry)) p ≡ map (λ (c : Conj). conjWords (before ++ c)) ks) ⌝ }
+{
+    let from = later_equal(k, at);
+    let to = next_literal(k, from);
+    let len = k.len();
+    let none = Piece::Copy(0, 0);
+    let first = few(
+        Piece::Copy(0, from),
+        Piece::Copy(to, len),
+        none,
+        none,
+        none,
+        0,
+        0,
+        0,
+    );
+    Plan {
+        ways: Ways::One(0),
+        first,
+        second: first,
+    }
 }
 
 // The results of a plan, right before `next`.
@@ -192,10 +260,13 @@ fn step_monomials(k: &[u16], literal: usize, out: &mut [u16], next: usize) -> St
 pub fn take_step(k: &[u16], b: Best, out: &mut [u16], next: usize) -> Stepped
     requires { ⌜ (length (now k) ≤ desk .question) × (b .at < length (now k)) × (next ≤ length (now out)) × (next ≤ desk .room) ⌝ }
     requires { ⌜ RuleAt (now k) b ⌝ }
-    ensures { λ r. ⌜ ((before : Conj) (l : Literal) (behind : Conj) (bs : List Branch) → LiteralAt (now (k .entry)) (b .at) before l behind → sideAnswer (b .swap) (b .rank) (before ++ behind) l ≡ some bs → Took (placedWords before behind bs) (now (out .entry)) next r (now (out .exit))) ⌝ }
+    ensures { λ r. ⌜ ((before : Conj) (l : Literal) (behind : Conj) (ks : List Conj) → LiteralAt (now (k .entry)) (b .at) before l behind → sideResults (b .swap) (b .rank) before l behind ≡ results ks → Took (map conjWords ks) (now (out .entry)) next r (now (out .exit))) ⌝ }
 {
     if b.rank == AT_M2 {
         return step_monomials(k, b.at, out, next);
+    }
+    if b.rank == AT_FOLD {
+        return step_planned(k, plan_fold(k, b.at), out, next);
     }
     step_planned(k, plan_at(k, b), out, next)
 }
