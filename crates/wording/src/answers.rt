@@ -8,7 +8,10 @@ use print::number;
 use print::say;
 use words::word;
 
-// Line i of an answer: its number and its mark, then its literals.
+// How many words of a line stand before its literals: its mark and its number.
+const LINE_HEAD: usize = 2;
+
+// Line i of an answer: its place among the lines, its mark and the number of its alternative, then its literals.
 fn line(answer: &[u16], i: usize)
     requires { ⌜ i < 65536 ⌝ }
 {
@@ -17,14 +20,18 @@ fn line(answer: &[u16], i: usize)
     say(b"line ");
     number(i as u64);
     if word(answer, from) == 1 {
-        say(b", settled\n");
+        say(b", settled");
     } else {
-        say(b", open\n");
+        say(b", open");
     }
-    if from + 1 >= to {
+    say(b", of alternative ");
+    decimal(word(answer, from + 1), 0);
+    say(b"\n");
+    let start = from + LINE_HEAD;
+    if start >= to {
         say(b"  every report meets it\n");
     }
-    literals(answer, from + 1, to);
+    literals(answer, start, to);
 }
 
 // Every line of an answer.
