@@ -85,8 +85,8 @@ int main(int argc, char **argv)
     for (uint16_t i = 0; i < lines; i++) {
         size_t from = word(answer, 2 + i), to = word(answer, 3 + i);
         int settled = word(answer, from) == 1;
-        printf("line %u, %s:", i, settled ? "settled" : "open");
-        print_words(answer, from + 1, to);
+        printf("line %u, %s, of alternative %u:", i, settled ? "settled" : "open", word(answer, from + 1));
+        print_words(answer, from + 2, to);
         if (settled)
             print_example(question, length, i);
     }

@@ -8,7 +8,7 @@
  * lent to one call must not overlap. A slice of length 0 may have any pointer.
  * Calls from several threads at once are independent of each other.
  *
- * A call needs some stack, up to about half a megabyte: docs/BENCH.md has the figures.
+ * A call needs some stack, up to about 1.7 megabytes: docs/BENCH.md has the figures.
  */
 #ifndef DESK_H
 #define DESK_H
@@ -29,7 +29,7 @@ enum desk_refusal {
     DESK_NOT_LITERALS = 5,     /* question: a conjunction is not exactly literals */
     DESK_UNDECLARED = 6,       /* question: a number that is not declared */
     DESK_LONG_RESULT = 7,      /* run: a step's result passes 4,096 words */
-    DESK_LONG_WAITING = 8,     /* run: the waiting conjunctions pass 16,384 words */
+    DESK_LONG_WAITING = 8,     /* run: the waiting conjunctions, two words more each, pass 16,384 */
     DESK_LINE_ROOM = 9,        /* run: a 513th line, or a line past the answer's end */
     DESK_STEP_LIMIT = 10,      /* run: 10,000 steps made and a rule still applies */
     DESK_FILLING_LAYOUT = 11,  /* filling: an odd count of bytes, its length, count or offsets */
@@ -50,9 +50,11 @@ enum desk_refusal {
  * After 0 the first DESK_ANSWER_BYTES bytes of the answer hold it: word 0 the
  * number of lines, word 1 how many of them are open, words 2 to 514 where each
  * line begins and the last one ends, and from word 515 the lines, each a mark
- * (1 settled, 2 open) and its literals; then zeros. No line means that nothing
- * meets the question. After 1 to 6 the answer is unchanged; after 7 to 10 its
- * first DESK_ANSWER_BYTES bytes are zeros. Later bytes are never touched. */
+ * (1 settled, 2 open), the number of the alternative that it comes from, the
+ * first being 0, and its literals; then zeros. No line means that nothing meets
+ * the question; a filling meets alternative n exactly when it meets a line of
+ * that number. After 1 to 6 the answer is unchanged; after 7 to 10 its first
+ * DESK_ANSWER_BYTES bytes are zeros. Later bytes are never touched. */
 uint32_t desk_solve(const uint8_t *question, size_t question_len,
                     uint8_t *answer, size_t answer_len);
 

@@ -6,10 +6,9 @@ use mathlib.Core.List.{List, [], _∷_, _++_, map, append-assoc, map-append}
 use lib.ListN.{length, take, drop, set, length-append, replicate, length-replicate, replicate-append-replicate}
 use lib.Seq.{sets, sets-eq, take-at, drop-at, set-at}
 use Rattle.language.specs.Limits.{desk}
-use Rattle.language.specs.Trees.{Conj}
 use Rattle.language.specs.Writing.{conjWords}
 use Rattle.meaning.specs.Values.{offsetsOf, joined}
-use Rattle.rules.specs.Run.{linesSize, linesAt}
+use Rattle.rules.specs.Run.{Numbered, linesSize, linesAt}
 use Rattle.rules.specs.Answer.{lineWords, countOpen, answerWords, zeros}
 use Rattle.answers.proofs.Rows.{joined-more, offsets-more, length-lines, lines-size-more, count-more, in-a-row, length-header}
 
@@ -60,7 +59,7 @@ row-counts : (x y x′ y′ : ℕ) (os : List ℕ) (m : ℕ) (ls : List ℕ) (n 
 unfolding row
 row-counts x y x′ y′ os m ls n rest = refl
 
-answer-row : (ls : List Conj) (rest : List ℕ) → length ls ≤ desk .lines
+answer-row : (ls : List Numbered) (rest : List ℕ) → length ls ≤ desk .lines
     → answerWords desk ls ++ rest ≡ row (length ls) (countOpen ls) (offsetsOf (linesAt desk) (map lineWords ls)) (desk .lines - length ls) (joined (map lineWords ls)) (desk .room - (linesAt desk + linesSize ls)) rest
 unfolding row
 answer-row ls rest few =
@@ -82,9 +81,9 @@ answer-none old =
 
 -- ---- one line more
 
-pub answer-more : (ls : List Conj) (k : Conj) (rest : List ℕ) (end lines opens : ℕ)
-    → lines ≡ length ls → end ≡ linesAt desk + linesSize ls → opens ≡ countOpen (ls ++ (k ∷ [])) → length ls < desk .lines → end + suc (length (conjWords k)) ≤ desk .room
-    → set (set (set (sets (answerWords desk ls ++ rest) end (lineWords k)) (lines + 3) (end + suc (length (conjWords k)))) 0 (lines + 1)) 1 opens
+pub answer-more : (ls : List Numbered) (k : Numbered) (rest : List ℕ) (end lines opens : ℕ)
+    → lines ≡ length ls → end ≡ linesAt desk + linesSize ls → opens ≡ countOpen (ls ++ (k ∷ [])) → length ls < desk .lines → end + suc (suc (length (conjWords (k .literals)))) ≤ desk .room
+    → set (set (set (sets (answerWords desk ls ++ rest) end (lineWords k)) (lines + 3) (end + suc (suc (length (conjWords (k .literals)))))) 0 (lines + 1)) 1 opens
     ≡ answerWords desk (ls ++ (k ∷ [])) ++ rest
 answer-more ls k rest end lines opens el ee eo few room =
     let w = lineWords k in
@@ -96,16 +95,16 @@ answer-more ls k rest end lines opens el ee eo few room =
     let b = length-lines ls in
     let h = length-header ls in
     let m = map-append lineWords ls (k ∷ []) in
-    ap (λ a. set (set (set (sets a end w) (lines + 3) (end + suc (length (conjWords k)))) 0 (lines + 1)) 1 opens) (answer-row ls rest (omega arith))
-    ∙ ap (λ a. set (set (set a (lines + 3) (end + suc (length (conjWords k)))) 0 (lines + 1)) 1 opens)
+    ap (λ a. set (set (set (sets a end w) (lines + 3) (end + suc (suc (length (conjWords (k .literals)))))) 0 (lines + 1)) 1 opens) (answer-row ls rest (omega arith))
+    ∙ ap (λ a. set (set (set a (lines + 3) (end + suc (suc (length (conjWords (k .literals)))))) 0 (lines + 1)) 1 opens)
     (row-line (length ls) (countOpen ls) os (desk .lines - length ls) (joined ws) z rest w end (desk .room - (linesAt desk + linesSize ls)) (omega arith) (omega arith))
     ∙ ap (λ a. set (set a 0 (lines + 1)) 1 opens)
-    (row-offset (length ls) (countOpen ls) os (desk .lines - length (ls ++ (k ∷ []))) (joined ws ++ w) z rest (lines + 3) (desk .lines - length ls) (end + suc (length (conjWords k))) (omega arith) (omega arith))
-    ∙ row-counts (length ls) (countOpen ls) (lines + 1) opens (os ++ ((end + suc (length (conjWords k))) ∷ [])) (desk .lines - length (ls ++ (k ∷ []))) (joined ws ++ w) z rest
-    ∙ ap (λ x. row x opens (os ++ ((end + suc (length (conjWords k))) ∷ [])) (desk .lines - length (ls ++ (k ∷ []))) (joined ws ++ w) z rest) (let q : lines + 1 ≡ length (ls ++ (k ∷ [])) = omega arith in q)
-    ∙ ap (λ y. row (length (ls ++ (k ∷ []))) y (os ++ ((end + suc (length (conjWords k))) ∷ [])) (desk .lines - length (ls ++ (k ∷ []))) (joined ws ++ w) z rest) eo
+    (row-offset (length ls) (countOpen ls) os (desk .lines - length (ls ++ (k ∷ []))) (joined ws ++ w) z rest (lines + 3) (desk .lines - length ls) (end + suc (suc (length (conjWords (k .literals))))) (omega arith) (omega arith))
+    ∙ row-counts (length ls) (countOpen ls) (lines + 1) opens (os ++ ((end + suc (suc (length (conjWords (k .literals))))) ∷ [])) (desk .lines - length (ls ++ (k ∷ []))) (joined ws ++ w) z rest
+    ∙ ap (λ x. row x opens (os ++ ((end + suc (suc (length (conjWords (k .literals))))) ∷ [])) (desk .lines - length (ls ++ (k ∷ []))) (joined ws ++ w) z rest) (let q : lines + 1 ≡ length (ls ++ (k ∷ [])) = omega arith in q)
+    ∙ ap (λ y. row (length (ls ++ (k ∷ []))) y (os ++ ((end + suc (suc (length (conjWords (k .literals))))) ∷ [])) (desk .lines - length (ls ++ (k ∷ []))) (joined ws ++ w) z rest) eo
     ∙ ap (λ o. row (length (ls ++ (k ∷ []))) (countOpen (ls ++ (k ∷ []))) o (desk .lines - length (ls ++ (k ∷ []))) (joined ws ++ w) z rest)
-    (ap (λ n. os ++ (n ∷ [])) (let q : end + suc (length (conjWords k)) ≡ linesAt desk + length (joined ws) + suc (length (conjWords k)) = omega arith in q)
+    (ap (λ n. os ++ (n ∷ [])) (let q : end + suc (suc (length (conjWords (k .literals)))) ≡ linesAt desk + length (joined ws) + suc (suc (length (conjWords (k .literals)))) = omega arith in q)
     ∙ sym (offsets-more (linesAt desk) ws w) ∙ ap (offsetsOf (linesAt desk)) (sym m))
     ∙ ap (λ j. row (length (ls ++ (k ∷ []))) (countOpen (ls ++ (k ∷ []))) (offsetsOf (linesAt desk) (map lineWords (ls ++ (k ∷ [])))) (desk .lines - length (ls ++ (k ∷ []))) j z rest)
     (sym (joined-more ws w) ∙ ap joined (sym m))

@@ -7,11 +7,10 @@ use mathlib.Core.List.{List, [], _∷_, _++_, map, append-assoc, append-nil}
 use lib.ListN.{length, length-append, length-map, replicate, length-replicate}
 use Rattle.language.specs.Limits.{desk}
 use Rattle.language.specs.Kinds.{pick}
-use Rattle.language.specs.Trees.{Conj}
 use Rattle.language.specs.Writing.{conjWords}
 use Rattle.meaning.specs.Values.{offsetsOf, joined}
 use Rattle.rules.specs.Solved.{solved}
-use Rattle.rules.specs.Run.{linesSize, linesAt}
+use Rattle.rules.specs.Run.{Numbered, linesSize, linesAt}
 use Rattle.rules.specs.Answer.{lineWords, countOpen, answerWords}
 
 -- ---- one part more
@@ -34,21 +33,21 @@ length-offsets at (x ∷ ws) = ap suc (length-offsets (at + length x) ws)
 
 -- ---- lines
 
-pub length-lines : (ls : List Conj) → length (joined (map lineWords ls)) ≡ linesSize ls
+pub length-lines : (ls : List Numbered) → length (joined (map lineWords ls)) ≡ linesSize ls
 length-lines [] = refl
 length-lines (k ∷ ls) =
-    length-append (lineWords k) (joined (map lineWords ls)) ∙ ap (λ n. suc (length (conjWords k)) + n) (length-lines ls)
+    length-append (lineWords k) (joined (map lineWords ls)) ∙ ap (λ n. suc (suc (length (conjWords (k .literals)))) + n) (length-lines ls)
 
-pub lines-size-more : (ls : List Conj) (k : Conj) → linesSize (ls ++ (k ∷ [])) ≡ linesSize ls + suc (length (conjWords k))
-lines-size-more [] k = let z : suc (length (conjWords k)) + 0 ≡ 0 + suc (length (conjWords k)) = omega arith in z
-lines-size-more (x ∷ ls) k = let e = lines-size-more ls k in let z : suc (length (conjWords x)) + linesSize (ls ++ (k ∷ [])) ≡ suc (length (conjWords x)) + linesSize ls + suc (length (conjWords k)) = omega arith in z
+pub lines-size-more : (ls : List Numbered) (k : Numbered) → linesSize (ls ++ (k ∷ [])) ≡ linesSize ls + suc (suc (length (conjWords (k .literals))))
+lines-size-more [] k = let z : suc (suc (length (conjWords (k .literals)))) + 0 ≡ 0 + suc (suc (length (conjWords (k .literals)))) = omega arith in z
+lines-size-more (x ∷ ls) k = let e = lines-size-more ls k in let z : suc (suc (length (conjWords (x .literals)))) + linesSize (ls ++ (k ∷ [])) ≡ suc (suc (length (conjWords (x .literals)))) + linesSize ls + suc (suc (length (conjWords (k .literals)))) = omega arith in z
 
-pub count-more : (ls : List Conj) (k : Conj) → length (ls ++ (k ∷ [])) ≡ length ls + 1
+pub count-more : (ls : List Numbered) (k : Numbered) → length (ls ++ (k ∷ [])) ≡ length ls + 1
 count-more ls k = length-append ls (k ∷ [])
 
-pub open-more : (ls : List Conj) (k : Conj) → countOpen (ls ++ (k ∷ [])) ≡ pick (solved k) (countOpen ls) (suc (countOpen ls))
+pub open-more : (ls : List Numbered) (k : Numbered) → countOpen (ls ++ (k ∷ [])) ≡ pick (solved (k .literals)) (countOpen ls) (suc (countOpen ls))
 open-more [] k = refl
-open-more (x ∷ ls) k = go (solved x) (solved k) (open-more ls k)
+open-more (x ∷ ls) k = go (solved (x .literals)) (solved (k .literals)) (open-more ls k)
   where
     go : (a b : Bool) → countOpen (ls ++ (k ∷ [])) ≡ pick b (countOpen ls) (suc (countOpen ls))
         → pick a (countOpen (ls ++ (k ∷ []))) (suc (countOpen (ls ++ (k ∷ [])))) ≡ pick b (pick a (countOpen ls) (suc (countOpen ls))) (suc (pick a (countOpen ls) (suc (countOpen ls))))
@@ -57,9 +56,9 @@ open-more (x ∷ ls) k = go (solved x) (solved k) (open-more ls k)
     go false true e = ap suc e
     go false false e = ap suc e
 
-pub open-most : (ls : List Conj) → countOpen ls ≤ length ls
+pub open-most : (ls : List Numbered) → countOpen ls ≤ length ls
 open-most [] = omega arith
-open-most (x ∷ ls) = go (solved x) (open-most ls)
+open-most (x ∷ ls) = go (solved (x .literals)) (open-most ls)
   where
     go : (a : Bool) → countOpen ls ≤ length ls → pick a (countOpen ls) (suc (countOpen ls)) ≤ suc (length ls)
     go true h = omega arith
@@ -67,16 +66,16 @@ open-most (x ∷ ls) = go (solved x) (open-most ls)
 
 -- ---- the answer in a row: counts and offsets, zeros, the lines, zeros
 
-abbrev pub header : List Conj → List ℕ
+abbrev pub header : List Numbered → List ℕ
 header ls = length ls ∷ countOpen ls ∷ offsetsOf (linesAt desk) (map lineWords ls)
 
-pub length-header : (ls : List Conj) → length (header ls) ≡ length ls + 3
+pub length-header : (ls : List Numbered) → length (header ls) ≡ length ls + 3
 length-header ls =
     let e = length-offsets (linesAt desk) (map lineWords ls) in
     let f = length-map ls lineWords in
     let z : suc (suc (length (offsetsOf (linesAt desk) (map lineWords ls)))) ≡ length ls + 3 = omega arith in z
 
-pub in-a-row : (ls : List Conj) → length ls ≤ desk .lines
+pub in-a-row : (ls : List Numbered) → length ls ≤ desk .lines
     → answerWords desk ls ≡ header ls ++ (replicate (desk .lines - length ls) 0 ++ (joined (map lineWords ls) ++ replicate (desk .room - (linesAt desk + linesSize ls)) 0))
 unfolding answerWords
 in-a-row ls few =
@@ -91,7 +90,7 @@ in-a-row ls few =
     ∙ append-assoc (header ls) (replicate (linesAt desk - length (header ls)) 0) _
     ∙ ap (λ n. header ls ++ (replicate n 0 ++ (joined (map lineWords ls) ++ replicate (desk .room - (linesAt desk + linesSize ls)) 0))) z₁
 
-pub length-answer : (ls : List Conj) → length ls ≤ desk .lines → linesAt desk + linesSize ls ≤ desk .room → length (answerWords desk ls) ≡ desk .room
+pub length-answer : (ls : List Numbered) → length ls ≤ desk .lines → linesAt desk + linesSize ls ≤ desk .room → length (answerWords desk ls) ≡ desk .room
 length-answer ls few room =
     let a = ap length (in-a-row ls few) in
     let z₁ : List ℕ = replicate (desk .lines - length ls) 0 in

@@ -1,12 +1,12 @@
 // The answer slice, line by line: at any time it is the answer that has the lines so far.
-ghost use Prim.Native.Nat.{suc, _+_, _≤_, _<_};
+ghost use Prim.Native.Nat.{_+_, _≤_, _<_};
 ghost use mathlib.Core.Path.{_≡_};
 ghost use mathlib.Core.List.{[], _∷_};
 ghost use lib.ListN.{length};
 ghost use lib.Seq.{sets};
 ghost use Rattle.language.specs.Limits.{desk};
 ghost use Rattle.language.specs.Kinds.{pick};
-ghost use Rattle.answers.specs.Lined.{Lined, counted, withLine};
+ghost use Rattle.answers.specs.Lined.{lineHead, Lined, counted, withLine};
 use language::limits::LINES_AT;
 use slices::clear;
 use slices::copy;
@@ -18,6 +18,9 @@ pub struct Tally {
     pub open: usize,
     pub end: usize,
 }
+
+// How many words of a line stand before its literals: its mark, and the number of the alternative that it descends from.
+pub const LINE_HEAD: usize = 2;
 
 // The mark of a line.
 fn mark(solved: bool) -> usize
@@ -48,25 +51,26 @@ pub fn begin(answer: &mut [u16]) -> Tally
     }
 }
 
-// The line's mark and its words, behind the others.
-fn write_line(k: &[u16], solved: bool, at: usize, answer: &mut [u16])
-    requires { ⌜ at + suc (length (now k)) ≤ length (now answer) ⌝ }
-    ensures { λ _. ⌜ now (answer .exit) ≡ sets (now (answer .entry)) at (pick solved 1 2 ∷ now (k .entry)) ⌝ }
+// The line's mark, its number and its words, behind the others.
+fn write_line(k: &[u16], number: u16, solved: bool, at: usize, answer: &mut [u16])
+    requires { ⌜ at + lineHead + length (now k) ≤ length (now answer) ⌝ }
+    ensures { λ _. ⌜ now (answer .exit) ≡ sets (now (answer .entry)) at (pick solved 1 2 ∷ number ∷ now (k .entry)) ⌝ }
 {
     store(answer, at, mark(solved));
-    copy(k, 0, k.len(), answer, at + 1);
+    answer[at + 1] = number;
+    copy(k, 0, k.len(), answer, at + LINE_HEAD);
 }
 
 // A line more.
-pub fn add_line(k: &[u16], solved: bool, t: Tally, answer: &mut [u16]) -> Tally
-    requires { ⌜ (t .lines < desk .lines) × (t .«open» ≤ t .lines) × (t .end + suc (length (now k)) ≤ desk .room) × (desk .room ≤ length (now answer)) ⌝ }
-    ensures { λ r. ⌜ (r ≡ counted t solved (now (k .entry))) × (now (answer .exit) ≡ withLine t r solved (now (k .entry)) (now (answer .entry))) ⌝ }
+pub fn add_line(k: &[u16], number: u16, solved: bool, t: Tally, answer: &mut [u16]) -> Tally
+    requires { ⌜ (t .lines < desk .lines) × (t .«open» ≤ t .lines) × (t .end + lineHead + length (now k) ≤ desk .room) × (desk .room ≤ length (now answer)) ⌝ }
+    ensures { λ r. ⌜ (r ≡ counted t solved (now (k .entry))) × (now (answer .exit) ≡ withLine t r number solved (now (k .entry)) (now (answer .entry))) ⌝ }
 {
     let at = t.end;
     let lines = t.lines + 1;
-    let end = at + 1 + k.len();
+    let end = at + LINE_HEAD + k.len();
     let open = opened(t.open, solved);
-    write_line(k, solved, at, answer);
+    write_line(k, number, solved, at, answer);
     store(answer, lines + 2, end);
     store(answer, 0, lines);
     store(answer, 1, open);

@@ -10,8 +10,9 @@ use Rattle.language.specs.declared.Refusal.{Refusal}
 use Rattle.language.specs.declared.Refusal.the-variants.{LongLiteral}
 use Rattle.language.specs.Numbers.{numberOf}
 use Rattle.language.specs.Limits.{desk}
-use Rattle.language.specs.Trees.{Conj, Question}
+use Rattle.language.specs.Trees.{Question}
 use Rattle.language.specs.Question.{asks, readQuestion, countsOf}
+use Rattle.rules.specs.Run.{Numbered}
 use Rattle.rules.specs.Answer.{Solving, answered, unread, given-up, solving, answerWords}
 use Rattle.rules.specs.Calls.{Trying, decides, tooLong, tryingWith, tryingOf, trying, Showing, shows, denied, lineAt, shown, showingOf, showing}
 use Rattle.rules.specs.Calls as calls
@@ -23,14 +24,14 @@ use Rattle.example.specs.Shown.{resultOf, roomOf}
 use Rattle.example.specs.Answers.{Answer}
 use Rattle.word_bytes.specs.Bytes.{wordsOf, bytesOf, wordsIn}
 use Rattle.host.specs.Host as host
-use Rattle.host.proofs.Refusals.{each-number, Numbered, numbered}
+use Rattle.host.proofs.Refusals.{each-number, InRange, in-range}
 use Rattle.word_bytes.proofs.Pairs.{length-wordsOf}
-use Rattle.demands.specs.Answers.{literalsOf, lineNumbered}
+use Rattle.demands.specs.Answers.{numberedOf, nthLine}
 use Rattle.demands.specs.Promises.{Promised, Told}
 use Rattle.demands.specs.HostCalls.{DeskSolve, DeskTry, DeskExample}
 use Rattle.demands.specs.HostTells.{leftInBytes, DeskSolveTells, DeskTryTells, DeskTryAgrees, hostNumber, BytesTold, DeskExampleTells}
 use Rattle.demands.specs.HostTells as tells
-use Rattle.demands.proofs.Reading.{asLine, literals-back}
+use Rattle.demands.proofs.Reading.{asLine, numbered-back}
 use Rattle.demands.proofs.Promising.{From, promise, tell}
 use Rattle.demands.proofs.Between.{stands, not-zero, long-enough, one-answer}
 use Rattle.demands.proofs.Columns.{early-column, late-column}
@@ -63,12 +64,12 @@ module _ (c : DeskSolve) where
 
   -- an answer, and what solving came to
   record Solves : Type 0 where
-    ls : List Conj
+    ls : List Numbered
     n : ℕ
     solved : comes ≡ answered ls n
     from : From words (wordsOf (c .answerLeft)) ls n
 
-  from-so : (ls : List Conj) (n : ℕ) → comes ≡ answered ls n → c .answerLeft ≡ bytesOf (answerWords desk ls) ++ drop (2 * desk .room) (c .answer)
+  from-so : (ls : List Numbered) (n : ℕ) → comes ≡ answered ls n → c .answerLeft ≡ bytesOf (answerWords desk ls) ++ drop (2 * desk .room) (c .answer)
       → From words (wordsOf (c .answerLeft)) ls n
   from-so ls n d f =
       let s = stands (desk .room) (length (c .answer) / 2) words [] ls n d in
@@ -101,12 +102,12 @@ module _ (c : DeskSolve) where
           → SolveJudged (desk .room) (length (c .answer) / 2) words v → DeskSolveTells c
       by (answered ls n) d e f j =
           let s = from-so ls n d f in
-          tells.answers e (s .promised) (f ∙ ap (λ ks. bytesOf (answerWords desk ks) ++ drop (2 * desk .room) (c .answer)) (sym (ap literalsOf (s .lines) ∙ literals-back ls)))
+          tells.answers e (s .promised) (f ∙ ap (λ ks. bytesOf (answerWords desk ks) ++ drop (2 * desk .room) (c .answer)) (sym (ap numberedOf (s .lines) ∙ numbered-back ls)))
       by (unread r) d e f j =
-          let b : Numbered (unread r) = subst Numbered d (numbered desk _ _ _) in
+          let b : InRange (unread r) = subst InRange d (in-range desk _ _ _) in
           tells.DeskSolveTells.refuses r e (omega (arith, b .1)) j (f ∙ sym (ap (λ k. leftInBytes k (c .answer) (c .answer)) (early-column r (b .1))))
       by (given-up r) d e f j =
-          let b : Numbered (given-up r) = subst Numbered d (numbered desk _ _ _) in
+          let b : InRange (given-up r) = subst InRange d (in-range desk _ _ _) in
           tells.DeskSolveTells.refuses r e (b .1) j (f ∙ sym (ap (λ k. leftInBytes k (c .answer) (c .answer)) (late-column r (b .0) (b .1))))
 
 -- ---- desk_example
@@ -126,12 +127,12 @@ module _ (c : DeskExample) where
   asked-for = wordsIn (c .question)
 
   -- by the lines of the answer to the question
-  record ToldFrom (ls : List Conj) (n : ℕ) : Type 0 where
+  record ToldFrom (ls : List Numbered) (n : ℕ) : Type 0 where
     answer : List ℕ
     from : From asked-for answer ls n
-    tells : BytesTold (from .promised .asked .counts) (lineNumbered (c .line) (from .promised .lines)) (c .room) (c .number) (c .roomLeft)
+    tells : BytesTold (from .promised .asked .counts) (nthLine (c .line) (from .promised .lines)) (c .room) (c .number) (c .roomLeft)
 
-  told-from : (ls : List Conj) (n : ℕ) → solving desk (desk .room) (desk .room) asked-for ≡ answered ls n → ToldFrom ls n
+  told-from : (ls : List Numbered) (n : ℕ) → solving desk (desk .room) (desk .room) asked-for ≡ answered ls n → ToldFrom ls n
   unfolding host.showingBytes showing
   told-from ls n d =
       let q = asked-for in
@@ -140,7 +141,7 @@ module _ (c : DeskExample) where
       let t = tell (desk .room) (desk .room) q ls n d (c .line) (wordsOf (c .room)) in
       let sh : Showing = shown desk (countsOf q) (length (c .room) / 2) (lineAt (c .line) ls) in
       let is-sh : showingOf desk (countsOf q) (length (c .room) / 2) (c .line) (solving desk (desk .room) (desk .room) q) ≡ sh = ap (showingOf desk (countsOf q) (length (c .room) / 2) (c .line)) d in
-      let u : Told (countsOf q) (wordsOf (c .room)) (lineNumbered (c .line) (map asLine ls)) (resultOf sh) (roomOf sh (wordsOf (c .room))) = rw length-wordsOf at t in
+      let u : Told (countsOf q) (wordsOf (c .room)) (nthLine (c .line) (map asLine ls)) (resultOf sh) (roomOf sh (wordsOf (c .room))) = rw length-wordsOf at t in
       record {
         answer = _;
         from = f;
@@ -161,14 +162,14 @@ module _ (c : DeskExample) where
           → SolveJudged (desk .room) (desk .room) asked-for v → DeskExampleTells c
       by (answered ls n) d e f j = let t = told-from ls n d in tells.told (t .answer) (t .from .promised) (t .tells)
       by (unread r) d e f j =
-          let b : Numbered (unread r) = subst Numbered d (numbered desk _ _ _) in
+          let b : InRange (unread r) = subst InRange d (in-range desk _ _ _) in
           tells.DeskExampleTells.refuses r e (omega (arith, b .1)) j f
       by (given-up r) d e f j =
-          let b : Numbered (given-up r) = subst Numbered d (numbered desk _ _ _) in
+          let b : InRange (given-up r) = subst InRange d (in-range desk _ _ _) in
           tells.DeskExampleTells.refuses r e (b .1) j f
 
 pub example-follows : (s : DeskSolve) (z : s .number ≡ 0) (c : DeskExample) → s .question ≡ c .question → (p : Promised (wordsIn (s .question)) (wordsOf (s .answerLeft)))
-    → BytesTold (p .asked .counts) (lineNumbered (c .line) (p .lines)) (c .room) (c .number) (c .roomLeft)
+    → BytesTold (p .asked .counts) (nthLine (c .line) (p .lines)) (c .room) (c .number) (c .roomLeft)
 example-follows s z c same p =
     let v = solves s z in
     let d : solving desk (desk .room) (desk .room) (asked-for c) ≡ answered (v .ls) (v .n) =

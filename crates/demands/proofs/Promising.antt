@@ -20,22 +20,23 @@ use Rattle.meaning.specs.Values.{readFilling, fillingWords}
 use Rattle.rules.specs.Reply.{nothing}
 use Rattle.rules.specs.Step.{step}
 use Rattle.rules.specs.Solved.{solved}
+use Rattle.rules.specs.Run.{Numbered, EachLine}
 use Rattle.rules.specs.Answer.{markOf, answered, solving}
 use Rattle.rules.specs.Example.{example}
 use Rattle.rules.specs.Calls.{lineAt, Showing, shows, denied, fitted, shown}
 use Rattle.rules.specs.Each.{Each}
 use Rattle.rules.proofs.Each.{each-map}
 use Rattle.rules.proofs.Invariant.{answered-run}
-use Rattle.exact.proofs.Run.{run-same}
+use Rattle.exact.proofs.Run.{run-numbered, run-same}
 use Rattle.rules.proofs.Invariant.{lines-rest}
 use Rattle.exact.proofs.Declared.{lines-declared, read-declared}
 use Rattle.lines.proofs.Lines.{example-meets-line, example-written, matching-lines-solved}
 use Rattle.lines.proofs.Shown.{each-line, read-counts}
 use Rattle.example.specs.Shown.{resultOf, roomOf}
 use Rattle.example.specs.Answers.{Answer}
-use Rattle.demands.specs.Answers.{Line, MeetsLine, lineNumbered}
+use Rattle.demands.specs.Answers.{Line, MeetsLine, nthLine}
 use Rattle.demands.specs.Promises.{Promised, Told, missing, is-open, too-long, shown as is-shown}
-use Rattle.demands.proofs.Reading.{asLine, answer-back, meets-back, literals-back, asLineOf, line-numbered}
+use Rattle.demands.proofs.Reading.{asLine, answer-back, meets-back, numbers-back, numbered-back, asLineOf, nth-line}
 
 -- no rule applies
 abbrev Quiet : Conj → Type 0
@@ -56,20 +57,20 @@ mark-settled k e = ap (λ b. pick {A = ℕ} b 1 2) e
 mark-open : (k : Conj) → solved k ≡ false → markOf k ≡ 2
 mark-open k e = ap (λ b. pick {A = ℕ} b 1 2) e
 
-each-line-of : (P : Line → Type 0) (Q : Conj → Type 0) → ((k : Conj) → Q k → P (asLine k)) → (ls : List Conj) → Each Q ls → Each P (map asLine ls)
-each-line-of P Q h ls q = each-map Q P asLine h ls q
+each-line-of : (P : Line → Type 0) (Q : Conj → Type 0) → ((k : Numbered) → Q (k .literals) → P (asLine k)) → (ls : List Numbered) → EachLine Q ls → Each P (map asLine ls)
+each-line-of P Q h ls q = each-map (λ (k : Numbered). Q (k .literals)) P asLine h ls q
 
-every-line : (P : Line → Type 0) → ((k : Conj) → P (asLine k)) → (ls : List Conj) → Each P (map asLine ls)
+every-line : (P : Line → Type 0) → ((k : Numbered) → P (asLine k)) → (ls : List Numbered) → Each P (map asLine ls)
 every-line P h [] = tt
 every-line P h (k ∷ ls) = (h k, every-line P h ls)
 
 -- what is promised, and that its lines and steps are these
-pub record From (question words : List ℕ) (ls : List Conj) (n : ℕ) : Type 0 where
+pub record From (question words : List ℕ) (ls : List Numbered) (n : ℕ) : Type 0 where
   pub promised : Promised question words
   pub lines : promised .lines ≡ map asLine ls
   pub steps : promised .by-rules .steps ≡ n
 
-module _ (work answer : ℕ) (question : List ℕ) (ls : List Conj) (n : ℕ) (e : solving desk work answer question ≡ answered ls n) where
+module _ (work answer : ℕ) (question : List ℕ) (ls : List Numbered) (n : ℕ) (e : solving desk work answer question ≡ answered ls n) where
   -- ---- the answer
 
   pub promise : (words : List ℕ) → Answer words ls → From question words ls n
@@ -81,12 +82,13 @@ module _ (work answer : ℕ) (question : List ℕ) (ls : List Conj) (n : ℕ) (e
           question-read = asked;
           lines = map asLine ls;
           answer-read = answer-back a;
-          by-rules = record { steps = n; run = rw literals-back ran; marks = every-line (λ l. l .mark ≡ markOf (l .literals)) (λ k. refl) ls };
+          by-rules = record { steps = n; run = rw numbered-back ran; marks = every-line (λ l. l .mark ≡ markOf (l .literals)) (λ k. refl) ls };
           exact = record {
             same = λ ρ. Iff·trans (run-same desk (q .alternatives) ls n ran ρ) (meets-back ρ ls);
-            met = each-line-of (λ l. l .mark ≡ 1 → (ρ : Filling) × MeetsLine ρ l) Quiet (λ k quiet m. (example k, example-meets-line k (settled-mark k m) quiet)) ls
+            numbered = λ ρ m. Iff·trans (run-numbered desk (q .alternatives) ls n ran ρ m) (numbers-back ρ m ls);
+            met = each-line-of (λ l. l .mark ≡ 1 → (ρ : Filling) × MeetsLine ρ l) Quiet (λ k quiet m. (example (k .literals), example-meets-line (k .literals) (settled-mark (k .literals) m) quiet)) ls
                 (lines-rest desk (q .alternatives) ls n ran);
-            matched = λ m. each-line-of (λ l. l .mark ≡ 1) (λ k. solved k ≡ true) mark-settled ls (matching-lines-solved desk (q .alternatives) ls n ran m);
+            matched = λ m. each-line-of (λ l. l .mark ≡ 1) (λ k. solved k ≡ true) (λ k s. mark-settled (k .literals) s) ls (matching-lines-solved desk (q .alternatives) ls n ran m);
           };
         };
         lines = refl;
@@ -99,21 +101,21 @@ module _ (work answer : ℕ) (question : List ℕ) (ls : List Conj) (n : ℕ) (e
     abbrev Tells : Showing → Option Line → Type 0
     Tells s l = Told (countsOf question) room l (resultOf s) (roomOf s room)
 
-    fits : (k : Conj) → lineAt i ls ≡ some k → solved k ≡ true → (a b : Bool)
-        → ltb (desk .filling) (length (fillingWords (countsOf question) (example k))) ≡ a → ltb (length room) (length (fillingWords (countsOf question) (example k))) ≡ b
-        → Tells (elim (a || b) [ true ↦ denied LongExample | false ↦ shows (fillingWords (countsOf question) (example k)) ]) (some (asLine k))
-    fits k there s true b x y = too-long (asLine k) refl (mark-settled k s) (inl (ltb-true (desk .filling) _ x)) refl refl
-    fits k there s false true x y = too-long (asLine k) refl (mark-settled k s) (inr (ltb-true (length room) _ y)) refl refl
+    fits : (k : Numbered) → lineAt i ls ≡ some k → solved (k .literals) ≡ true → (a b : Bool)
+        → ltb (desk .filling) (length (fillingWords (countsOf question) (example (k .literals)))) ≡ a → ltb (length room) (length (fillingWords (countsOf question) (example (k .literals)))) ≡ b
+        → Tells (elim (a || b) [ true ↦ denied LongExample | false ↦ shows (fillingWords (countsOf question) (example (k .literals))) ]) (some (asLine k))
+    fits k there s true b x y = too-long (asLine k) refl (mark-settled (k .literals) s) (inl (ltb-true (desk .filling) _ x)) refl refl
+    fits k there s false true x y = too-long (asLine k) refl (mark-settled (k .literals) s) (inr (ltb-true (length room) _ y)) refl refl
     fits k there s false false x y =
-        let ws = fillingWords (countsOf question) (example k) in
+        let ws = fillingWords (countsOf question) (example (k .literals)) in
         let (q, asked, ran) = answered-run desk work answer question ls n e in
         let (counts, declared) = read-declared desk question q asked in
         let dec = each-line (λ j. declaredC (q .counts) j ≡ true) i ls k there (lines-declared (q .counts) desk (q .alternatives) ls n ran declared) in
         let quiet = each-line Quiet i ls k there (lines-rest desk (q .alternatives) ls n ran) in
         let short : length ws ≤ desk .filling = ltb-false (desk .filling) (length ws) x in
-        let (ρ, back, agree, m) = example-written desk (countsOf question) (alternativesOf question) k (read-counts desk question q asked) (rw counts at dec) s quiet short in
+        let (ρ, back, agree, m) = example-written desk (countsOf question) (alternativesOf question) (k .literals) (read-counts desk question q asked) (rw counts at dec) s quiet short in
         let front = take-append-seam ws (drop (length ws) room) in
-        is-shown (asLine k) (length ws) refl (mark-settled k s) refl short (ltb-false (length room) (length ws) y) refl
+        is-shown (asLine k) (length ws) refl (mark-settled (k .literals) s) refl short (ltb-false (length room) (length ws) y) refl
         (record {
           filling = ρ;
           words = front;
@@ -123,14 +125,14 @@ module _ (work answer : ℕ) (question : List ℕ) (ls : List Conj) (n : ℕ) (e
           rest = drop-append-seam ws (drop (length ws) room);
         })
 
-    settled : (k : Conj) → lineAt i ls ≡ some k → (b : Bool) → solved k ≡ b
-        → Tells (elim b [ true ↦ fitted desk (length room) (fillingWords (countsOf question) (example k)) | false ↦ denied OpenLine ]) (some (asLine k))
+    settled : (k : Numbered) → lineAt i ls ≡ some k → (b : Bool) → solved (k .literals) ≡ b
+        → Tells (elim b [ true ↦ fitted desk (length room) (fillingWords (countsOf question) (example (k .literals))) | false ↦ denied OpenLine ]) (some (asLine k))
     settled k there true s = fits k there s _ _ refl refl
-    settled k there false s = is-open (asLine k) refl (mark-open k s) refl refl
+    settled k there false s = is-open (asLine k) refl (mark-open (k .literals) s) refl refl
 
-    at-line : (o : Option Conj) → lineAt i ls ≡ o → Tells (shown desk (countsOf question) (length room) o) (asLineOf o)
+    at-line : (o : Option Numbered) → lineAt i ls ≡ o → Tells (shown desk (countsOf question) (length room) o) (asLineOf o)
     at-line none there = missing refl refl refl
-    at-line (some k) there = settled k there (solved k) refl
+    at-line (some k) there = settled k there (solved (k .literals)) refl
 
-    pub tell : Tells (shown desk (countsOf question) (length room) (lineAt i ls)) (lineNumbered i (map asLine ls))
-    tell = subst (Tells (shown desk (countsOf question) (length room) (lineAt i ls))) (sym (line-numbered i ls)) (at-line (lineAt i ls) refl)
+    pub tell : Tells (shown desk (countsOf question) (length room) (lineAt i ls)) (nthLine i (map asLine ls))
+    tell = subst (Tells (shown desk (countsOf question) (length room) (lineAt i ls))) (sym (nth-line i ls)) (at-line (lineAt i ls) refl)

@@ -1,4 +1,4 @@
--- The answer's words, read back by offsets and marks, are the lines that were written.
+-- The answer's words, read back by offsets, marks and numbers, are the lines that were written.
 use Prim.Native.Nat.{ℕ, zero, suc, _+_, _-_}
 use mathlib.Core.Path.{_≡_, refl, sym, ap, ap₂, _∙_}
 use mathlib.Core.Logic.{inl, inr, _↔_}
@@ -12,48 +12,49 @@ use lib.ListN.{length, getD, take, drop, length-append}
 use lib.Seq.{take-append-seam}
 use Rattle.language.specs.Limits.{desk}
 use Rattle.language.specs.Kinds.{pick}
-use Rattle.language.specs.Trees.{Conj}
 use Rattle.language.specs.Writing.{conjWords}
 use Rattle.language.specs.Fine.{fineConj}
 use Rattle.language.proofs.Laws.{conjunctions-read}
 use Rattle.meaning.specs.Meaning.{Filling, MeetsOne}
 use Rattle.rules.specs.Solved.{solved}
+use Rattle.rules.specs.Run.{Numbered, unnumbered}
 use Rattle.rules.specs.Answer.{markOf, lineWords, countOpen}
 use Rattle.rules.specs.Calls.{lineAt}
+use Rattle.exact.specs.Numbers.{MeetsNumbered}
 use Rattle.example.specs.Answers.{Answer}
 use Rattle.example.proofs.Lines.{Place, place-of, count-is}
-use Rattle.demands.specs.Answers.{Line, literalsOf, marked, readLine, lineIn, withLine, readLines, readAnswer, MeetsLines, lineNumbered, opens}
+use Rattle.demands.specs.Answers.{Line, numberedOf, marked, readLine, lineIn, withLine, readLines, readAnswer, MeetsLines, MeetsLinesOf, nthLine, opens}
 
 -- a line of the run as it stands in an answer
-abbrev pub asLine : Conj → Line
-asLine k = record { mark = markOf k; literals = k }
+abbrev pub asLine : Numbered → Line
+asLine k = record { mark = markOf (k .literals); number = k .number; literals = k .literals }
 
-line-back : (k : Conj) → fineConj desk k → readLine desk (lineWords k) ≡ some (asLine k)
-line-back k f = ap (marked (markOf k)) (conjunctions-read desk .read-back k f)
+line-back : (k : Numbered) → fineConj desk (k .literals) → readLine desk (lineWords k) ≡ some (asLine k)
+line-back k f = ap (marked (markOf (k .literals)) (k .number)) (conjunctions-read desk .read-back (k .literals) f)
 
-lineAt-behind : (before : List Conj) (k : Conj) (behind : List Conj) → lineAt (length before) (before ++ (k ∷ behind)) ≡ some k
+lineAt-behind : (before : List Numbered) (k : Numbered) (behind : List Numbered) → lineAt (length before) (before ++ (k ∷ behind)) ≡ some k
 lineAt-behind [] k behind = refl
 lineAt-behind (j ∷ before) k behind = lineAt-behind before k behind
 
-module _ {answer : List ℕ} {ls : List Conj} (a : Answer answer ls) where
+module _ {answer : List ℕ} {ls : List Numbered} (a : Answer answer ls) where
   words-at : {i : ℕ} (p : Place answer ls i) → lineIn answer i ≡ lineWords (p .l)
   words-at {i} p =
-      let n : ℕ = suc (length (conjWords (p .l))) in
+      let n : ℕ = suc (suc (length (conjWords (p .l .literals)))) in
       ap (λ x. take (getD answer (i + 3) 0 - x) (drop x answer)) (p .offset)
       ∙ ap (λ y. take (y - p .from) (drop (p .from) answer)) (p .next)
       ∙ ap (λ m. take m (drop (p .from) answer)) (let z : p .from + n - p .from ≡ n = omega arith in z)
       ∙ ap (take n) (p .here)
       ∙ take-append-seam (lineWords (p .l)) (p .beyond)
 
-  read-at : {i : ℕ} (p : Place answer ls i) (k : Conj) → lineAt i ls ≡ some k → readLine desk (lineIn answer i) ≡ some (asLine k)
+  read-at : {i : ℕ} (p : Place answer ls i) (k : Numbered) → lineAt i ls ≡ some k → readLine desk (lineIn answer i) ≡ some (asLine k)
   read-at {i} p k e =
       let z : p .l ≡ k = same (p .is) e in
       ap (readLine desk) (words-at p) ∙ line-back (p .l) (p .good .fine) ∙ ap (λ j. some (asLine j)) z
     where
-      same : {j l : Conj} {o : Option Conj} → o ≡ some j → o ≡ some l → j ≡ l
+      same : {j l : Numbered} {o : Option Numbered} → o ≡ some j → o ≡ some l → j ≡ l
       same d f = cc
 
-  lines-from : (before behind : List Conj) → ls ≡ before ++ behind → readLines desk answer (length before) (length behind) ≡ some (map asLine behind)
+  lines-from : (before behind : List Numbered) → ls ≡ before ++ behind → readLines desk answer (length before) (length behind) ≡ some (map asLine behind)
   lines-from before [] e = refl
   lines-from before (k ∷ behind) e =
       let len = ap length e ∙ length-append before (k ∷ behind) in
@@ -69,27 +70,32 @@ module _ {answer : List ℕ} {ls : List Conj} (a : Answer answer ls) where
 
 -- ---- what is said of lines is what is said of the run's lines
 
-pub meets-back : (ρ : Filling) (ls : List Conj) → MeetsOne ρ ls ↔ MeetsLines ρ (map asLine ls)
+pub meets-back : (ρ : Filling) (ls : List Numbered) → MeetsOne ρ (unnumbered ls) ↔ MeetsLines ρ (map asLine ls)
 meets-back ρ [] = (λ z. z, λ z. z)
 meets-back ρ (k ∷ ls) =
     (λ o. elim o [ inl m ↦ inl m | inr m ↦ inr (meets-back ρ ls .0 m) ], λ o. elim o [ inl m ↦ inl m | inr m ↦ inr (meets-back ρ ls .1 m) ])
 
-pub literals-back : (ls : List Conj) → literalsOf (map asLine ls) ≡ ls
-literals-back [] = refl
-literals-back (k ∷ ls) = ap (λ l. k ∷ l) (literals-back ls)
+pub numbers-back : (ρ : Filling) (n : ℕ) (ls : List Numbered) → MeetsNumbered ρ n ls ↔ MeetsLinesOf ρ n (map asLine ls)
+numbers-back ρ n [] = (λ z. z, λ z. z)
+numbers-back ρ n (k ∷ ls) =
+    (λ o. elim o [ inl m ↦ inl m | inr m ↦ inr (numbers-back ρ n ls .0 m) ], λ o. elim o [ inl m ↦ inl m | inr m ↦ inr (numbers-back ρ n ls .1 m) ])
 
-abbrev pub asLineOf : Option Conj → Option Line
+pub numbered-back : (ls : List Numbered) → numberedOf (map asLine ls) ≡ ls
+numbered-back [] = refl
+numbered-back (k ∷ ls) = ap (λ l. k ∷ l) (numbered-back ls)
+
+abbrev pub asLineOf : Option Numbered → Option Line
 asLineOf none = none
 asLineOf (some k) = some (asLine k)
 
-pub line-numbered : (i : ℕ) (ls : List Conj) → lineNumbered i (map asLine ls) ≡ asLineOf (lineAt i ls)
-line-numbered i [] = refl
-line-numbered zero (k ∷ ls) = refl
-line-numbered (suc i) (k ∷ ls) = line-numbered i ls
+pub nth-line : (i : ℕ) (ls : List Numbered) → nthLine i (map asLine ls) ≡ asLineOf (lineAt i ls)
+nth-line i [] = refl
+nth-line zero (k ∷ ls) = refl
+nth-line (suc i) (k ∷ ls) = nth-line i ls
 
-pub opens-back : (ls : List Conj) → opens (map asLine ls) ≡ countOpen ls
+pub opens-back : (ls : List Numbered) → opens (map asLine ls) ≡ countOpen ls
 opens-back [] = refl
-opens-back (k ∷ ls) = go (solved k) (opens-back ls)
+opens-back (k ∷ ls) = go (solved (k .literals)) (opens-back ls)
   where
     go : (b : Bool) → opens (map asLine ls) ≡ countOpen ls → pick (eqb (pick b 1 2) 2) (suc (opens (map asLine ls))) (opens (map asLine ls)) ≡ pick b (countOpen ls) (suc (countOpen ls))
     go true e = e

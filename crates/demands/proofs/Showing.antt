@@ -12,11 +12,12 @@ use Rattle.language.specs.declared.Refusal.{Refusal}
 use Rattle.language.specs.declared.Refusal.the-variants.{NoSuchLine, OpenLine, LongExample}
 use Rattle.language.specs.Numbers.{numberOf}
 use Rattle.language.specs.Limits.{desk}
-use Rattle.language.specs.Trees.{Conj, Counts}
+use Rattle.language.specs.Trees.{Counts}
 use Rattle.language.specs.Question.{countsOf}
 use Rattle.meaning.specs.Values.{fillingWords}
 use Rattle.rules.specs.Solved.{solved}
 use Rattle.rules.specs.Example.{example}
+use Rattle.rules.specs.Run.{Numbered}
 use Rattle.rules.specs.Answer.{Solving, answered, unread, given-up, solving, answerWords, zeros, overwritten}
 use Rattle.rules.specs.Calls.{lineAt, shows, denied, fitted, shown, showingOf, showing}
 use Rattle.exact.proofs.Declared.{read-declared}
@@ -27,16 +28,16 @@ use Rattle.outcomes.specs.declared.Shown.the-variants.{Shows, Denied}
 use Rattle.example.specs.Shown.{resultOf, roomOf}
 use Rattle.example.specs.Exhibits.{exhibits}
 use Rattle.example.specs.Answers.{Answer}
-use Rattle.host.proofs.Refusals.{Numbered, numbered}
+use Rattle.host.proofs.Refusals.{InRange, in-range}
 use Rattle.demands.specs.Solves.{Solve}
 use Rattle.demands.specs.Examples.{Example}
-use Rattle.demands.specs.Answers.{Line, literalsOf, lineNumbered}
+use Rattle.demands.specs.Answers.{Line, numberedOf, nthLine}
 use Rattle.demands.specs.Promises.{Promised, exampleWords, RoomShows, Told, missing, is-open, too-long, shown as is-shown}
 use Rattle.demands.specs.Columns.{leftIn}
 use Rattle.demands.specs.Table.{SolveFault, First}
 use Rattle.demands.specs.Tells.{ExampleTells, refuses, told}
 use Rattle.demands.proofs.Said.{example-said}
-use Rattle.demands.proofs.Reading.{asLine, literals-back}
+use Rattle.demands.proofs.Reading.{asLine, numbered-back}
 use Rattle.demands.proofs.Promising.{From, promise, tell}
 use Rattle.demands.proofs.Between.{stands, one-answer, long-enough}
 use Rattle.demands.proofs.Columns.{early-column, late-column}
@@ -49,16 +50,16 @@ abbrev Left : Type 0
 Left = Shown × List ℕ × List ℕ × List ℕ
 
 -- where there is an answer, a refusal has a number from 14 on
-late-number : (n : Counts) (room : ℕ) (e : Refusal) (o : Option Conj) → resultOf (shown desk n room o) ≡ Denied e → 14 ≤ numberOf e
+late-number : (n : Counts) (room : ℕ) (e : Refusal) (o : Option Numbered) → resultOf (shown desk n room o) ≡ Denied e → 14 ≤ numberOf e
 late-number n room e none d = let z : NoSuchLine ≡ e = cc in let y = ap numberOf z in omega arith
-late-number n room e (some k) d = go (solved k) d
+late-number n room e (some k) d = go (solved (k .literals)) d
   where
     at-room : (ws : List ℕ) (b : Bool) → resultOf (elim b [ true ↦ denied LongExample | false ↦ shows ws ]) ≡ Denied e → 14 ≤ numberOf e
     at-room ws true d = let z : LongExample ≡ e = cc in let y = ap numberOf z in omega arith
     at-room ws false d = absurd (let z : _≡_ {A = ℕ} 0 1 = cc in omega arith)
 
-    go : (b : Bool) → resultOf (elim b [ true ↦ fitted desk room (fillingWords n (example k)) | false ↦ denied OpenLine ]) ≡ Denied e → 14 ≤ numberOf e
-    go true d = at-room (fillingWords n (example k)) (ltb (desk .filling) (length (fillingWords n (example k))) || ltb room (length (fillingWords n (example k)))) d
+    go : (b : Bool) → resultOf (elim b [ true ↦ fitted desk room (fillingWords n (example (k .literals))) | false ↦ denied OpenLine ]) ≡ Denied e → 14 ≤ numberOf e
+    go true d = at-room (fillingWords n (example (k .literals))) (ltb (desk .filling) (length (fillingWords n (example (k .literals)))) || ltb room (length (fillingWords n (example (k .literals))))) d
     go false d = let z : OpenLine ≡ e = cc in let y = ap numberOf z in omega arith
 
 module _ (c : Example) where
@@ -79,17 +80,17 @@ module _ (c : Example) where
   says = example-said c
 
   -- an answer, and what is told of the line
-  record TellsFrom (ls : List Conj) (n : ℕ) : Type 0 where
+  record TellsFrom (ls : List Numbered) (n : ℕ) : Type 0 where
     from : From (c .question) (c .answerLeft) ls n
-    tells : Told (from .promised .asked .counts) (c .room) (lineNumbered (c .line) (from .promised .lines)) (c .returned) (c .roomLeft)
+    tells : Told (from .promised .asked .counts) (c .room) (nthLine (c .line) (from .promised .lines)) (c .returned) (c .roomLeft)
 
-  tells-from : (ls : List Conj) (n : ℕ) → comes ≡ answered ls n → came ≡ left (answered ls n) → TellsFrom ls n
+  tells-from : (ls : List Numbered) (n : ℕ) → comes ≡ answered ls n → came ≡ left (answered ls n) → TellsFrom ls n
   tells-from ls n d e =
       let there : Answer (c .answerLeft) ls = subst (λ w. Answer w ls) (sym (ap (λ (x : Left). x .2) e)) (stands (length (c .work)) (length (c .answer)) (c .question) (c .answer) ls n d) in
       let f = promise (length (c .work)) (length (c .answer)) (c .question) ls n d (c .answerLeft) there in
       let p = f .promised in
       let counts = read-declared desk (c .question) (p .asked) (p .question-read) .0 in
-      let l = lineNumbered (c .line) (map asLine ls) in
+      let l = nthLine (c .line) (map asLine ls) in
       let t = tell (length (c .work)) (length (c .answer)) (c .question) ls n d (c .line) (c .room) in
       record {
         from = f;
@@ -105,19 +106,19 @@ module _ (c : Example) where
     where
       by : (v : Solving) → comes ≡ v → came ≡ left v → ExampleTells c
       by (unread r) d e =
-          let b : Numbered (unread r) = subst Numbered d (numbered desk _ _ _) in
+          let b : InRange (unread r) = subst InRange d (in-range desk _ _ _) in
           let u = early-column r (b .1) in
           refuses r (ap (λ (x : Left). x .0) e) (b .0, omega arith) (ap (λ (x : Left). x .1) e ∙ sym (ap (λ k. leftIn k (overwritten desk (zeros desk) (c .work)) (c .work)) u))
           (ap (λ (x : Left). x .2) e ∙ sym (ap (λ k. leftIn k (overwritten desk (zeros desk) (c .answer)) (c .answer)) u)) (ap (λ (x : Left). x .3) e)
       by (given-up r) d e =
-          let b : Numbered (given-up r) = subst Numbered d (numbered desk _ _ _) in
+          let b : InRange (given-up r) = subst InRange d (in-range desk _ _ _) in
           let u = late-column r (b .0) (b .1) in
           refuses r (ap (λ (x : Left). x .0) e) (omega arith, b .1) (ap (λ (x : Left). x .1) e ∙ sym (ap (λ k. leftIn k (overwritten desk (zeros desk) (c .work)) (c .work)) u))
           (ap (λ (x : Left). x .2) e ∙ sym (ap (λ k. leftIn k (overwritten desk (zeros desk) (c .answer)) (c .answer)) u)) (ap (λ (x : Left). x .3) e)
       by (answered ls n) d e =
           let t = tells-from ls n d e in
           told (t .from .promised) (t .tells) (ap (λ (x : Left). x .1) e)
-          (ap (λ (x : Left). x .2) e ∙ ap (λ ks. overwritten desk (answerWords desk ks) (c .answer)) (sym (ap literalsOf (t .from .lines) ∙ literals-back ls)))
+          (ap (λ (x : Left). x .2) e ∙ ap (λ ks. overwritten desk (answerWords desk ks) (c .answer)) (sym (ap numberedOf (t .from .lines) ∙ numbered-back ls)))
 
   -- 1 to 10 come back exactly when the table says so, as from solving
   pub example-given : (e : Refusal) → numberOf e ≤ 10 → (c .returned ≡ Denied e) ↔ First (SolveFault (length (c .work)) (length (c .answer)) (c .question)) e
@@ -137,14 +138,14 @@ module _ (c : Example) where
 
   -- a length comes back only with a filling of so many words that meets the line asked for,
   pub shows-so : (m : ℕ) → c .returned ≡ Shows m
-      → (p : Promised (c .question) (c .answerLeft)) × (k : Line) × (lineNumbered (c .line) (p .lines) ≡ some k) × (k .mark ≡ 1) × RoomShows (p .asked .counts) k m (c .room) (c .roomLeft)
+      → (p : Promised (c .question) (c .answerLeft)) × (k : Line) × (nthLine (c .line) (p .lines) ≡ some k) × (k .mark ≡ 1) × RoomShows (p .asked .counts) k m (c .room) (c .roomLeft)
   shows-so m e = by tells
     where
       no : {A : Type 0} {r : Refusal} → c .returned ≡ Denied r → A
       no d = absurd (let z : _≡_ {A = ℕ} 0 1 = cc in omega arith)
 
       by : ExampleTells c
-          → (p : Promised (c .question) (c .answerLeft)) × (k : Line) × (lineNumbered (c .line) (p .lines) ≡ some k) × (k .mark ≡ 1) × RoomShows (p .asked .counts) k m (c .room) (c .roomLeft)
+          → (p : Promised (c .question) (c .answerLeft)) × (k : Line) × (nthLine (c .line) (p .lines) ≡ some k) × (k .mark ≡ 1) × RoomShows (p .asked .counts) k m (c .room) (c .roomLeft)
       by (refuses r d _ _ _ _) = no d
       by (told p (missing _ d _) _ _) = no d
       by (told p (is-open _ _ _ d _) _ _) = no d
@@ -153,12 +154,12 @@ module _ (c : Example) where
 
   -- and 16 only where the line is settled and its example is longer than the room lent or than a filling may be
   pub long-so : c .returned ≡ Denied LongExample
-      → (p : Promised (c .question) (c .answerLeft)) × (k : Line) × (lineNumbered (c .line) (p .lines) ≡ some k) × (k .mark ≡ 1)
+      → (p : Promised (c .question) (c .answerLeft)) × (k : Line) × (nthLine (c .line) (p .lines) ≡ some k) × (k .mark ≡ 1)
       × ((desk .filling < length (exampleWords (p .asked .counts) k)) ⊎ (length (c .room) < length (exampleWords (p .asked .counts) k)))
   long-so e = by tells
     where
       by : ExampleTells c
-          → (p : Promised (c .question) (c .answerLeft)) × (k : Line) × (lineNumbered (c .line) (p .lines) ≡ some k) × (k .mark ≡ 1)
+          → (p : Promised (c .question) (c .answerLeft)) × (k : Line) × (nthLine (c .line) (p .lines) ≡ some k) × (k .mark ≡ 1)
           × ((desk .filling < length (exampleWords (p .asked .counts) k)) ⊎ (length (c .room) < length (exampleWords (p .asked .counts) k)))
       by (refuses r d b _ _ _) = absurd (let z : r ≡ LongExample = cc in let y = ap numberOf z in omega arith)
       by (told p (missing _ d _) _ _) = absurd (let z : _≡_ {A = ℕ} 0 1 = cc in omega arith)
@@ -169,7 +170,7 @@ module _ (c : Example) where
 -- the lines that solve left decide what the example tells
 pub follows : (s : Solve) (z : outcomeNumber (s .returned .outcome) ≡ 0) (c : Example) → s .question ≡ c .question
     → desk .room ≤ length (c .work) → desk .room ≤ length (c .answer) → (p : Promised (s .question) (s .answerLeft))
-    → Told (p .asked .counts) (c .room) (lineNumbered (c .line) (p .lines)) (c .returned) (c .roomLeft)
+    → Told (p .asked .counts) (c .room) (nthLine (c .line) (p .lines)) (c .returned) (c .roomLeft)
 follows s z c same x y p =
     let v = solves s z in
     let d : comes c ≡ answered (v .ls) (v .n) =

@@ -11,9 +11,10 @@ use Rattle.language.specs.declared.Refusal.{Refusal}
 use Rattle.language.specs.Numbers.{numberOf}
 use Rattle.language.specs.Limits.{desk}
 use Rattle.language.specs.Kinds.{pick}
-use Rattle.language.specs.Trees.{Conj, Question}
+use Rattle.language.specs.Trees.{Question}
 use Rattle.language.specs.Question.{asks, readQuestion}
 use Rattle.meaning.specs.Meaning.{Filling, MeetsQuestion}
+use Rattle.rules.specs.Run.{Numbered}
 use Rattle.rules.specs.Answer.{Solving, answered, unread, given-up, solving, answerWords, zeros, overwritten, countOpen, someOpen, allSolved, verdictOf}
 use Rattle.rules.specs.Each.{Each}
 use Rattle.lines.specs.Matching.{Matching}
@@ -22,13 +23,13 @@ use Rattle.outcomes.specs.declared.Solved.{Solved}
 use Rattle.outcomes.specs.Numbers.{outcomeNumber}
 use Rattle.solver.specs.Leaves.{verdict, verdictFor, leaves}
 use Rattle.example.specs.Answers.{Answer}
-use Rattle.host.proofs.Refusals.{Numbered, numbered}
+use Rattle.host.proofs.Refusals.{InRange, in-range}
 use Rattle.demands.specs.Solves.{Solve}
-use Rattle.demands.specs.Answers.{Line, literalsOf, MeetsLines, opens}
+use Rattle.demands.specs.Answers.{Line, numberedOf, MeetsLines, opens}
 use Rattle.demands.specs.Columns.{leftIn}
 use Rattle.demands.specs.Tells.{SolveAnswers, SolveTells, refuses, answers}
 use Rattle.demands.proofs.Said.{solve-said}
-use Rattle.demands.proofs.Reading.{asLine, literals-back, opens-back}
+use Rattle.demands.proofs.Reading.{asLine, numbered-back, opens-back}
 use Rattle.demands.proofs.Promising.{promise}
 use Rattle.demands.proofs.Between.{not-zero, stands}
 use Rattle.demands.proofs.Columns.{early-column, late-column}
@@ -39,7 +40,7 @@ use Rattle.demands.proofs.Columns.{early-column, late-column}
 some-lines : (n o : ℕ) → verdictFor (suc n) o ≡ pick (ltb 0 o) SomeOpen AllSolved
 some-lines n o = ap (λ b. pick b NoLine (pick (ltb 0 o) SomeOpen AllSolved)) (ne-eqb (suc n) 0 (λ e. omega arith))
 
-verdict-back : (ls : List Conj) → verdict (verdictOf ls) ≡ verdictFor (length (map asLine ls)) (opens (map asLine ls))
+verdict-back : (ls : List Numbered) → verdict (verdictOf ls) ≡ verdictFor (length (map asLine ls)) (opens (map asLine ls))
 verdict-back [] = refl
 verdict-back (k ∷ ls) = go (ltb 0 (countOpen (k ∷ ls))) refl ∙ sym (some-lines (length (map asLine ls)) (opens (map asLine (k ∷ ls))))
   where
@@ -70,13 +71,13 @@ module _ (c : Solve) where
 
   -- an answer, and what solving came to
   pub record Solves : Type 0 where
-    pub ls : List Conj
+    pub ls : List Numbered
     pub n : ℕ
     pub solved : comes ≡ answered ls n
     pub answered : SolveAnswers c
     pub lines : answered .answered .promised .lines ≡ map asLine ls
 
-  solves-so : (ls : List Conj) (n : ℕ) → comes ≡ answered ls n → came ≡ leaves (answered ls n) (c .work) (c .answer) → Solves
+  solves-so : (ls : List Numbered) (n : ℕ) → comes ≡ answered ls n → came ≡ leaves (answered ls n) (c .work) (c .answer) → Solves
   solves-so ls n d e =
       let r = ap (λ (x : Left). x .0) e in
       let there : Answer (c .answerLeft) ls = subst (λ w. Answer w ls) (sym (ap (λ (x : Left). x .2) e)) (stands (length (c .work)) (length (c .answer)) (c .question) (c .answer) ls n d) in
@@ -94,7 +95,7 @@ module _ (c : Solve) where
             steps = ap (λ (r : Solved). r .steps) r ∙ sym (f .steps);
           };
           work = ap (λ (x : Left). x .1) e;
-          answer = ap (λ (x : Left). x .2) e ∙ ap (λ ks. overwritten desk (answerWords desk ks) (c .answer)) (sym (ap literalsOf (f .lines) ∙ literals-back ls));
+          answer = ap (λ (x : Left). x .2) e ∙ ap (λ ks. overwritten desk (answerWords desk ks) (c .answer)) (sym (ap numberedOf (f .lines) ∙ numbered-back ls));
         };
         lines = f .lines;
       }
@@ -118,7 +119,7 @@ module _ (c : Solve) where
       by : (v : Solving) → comes ≡ v → came ≡ leaves v (c .work) (c .answer) → SolveTells c
       by (answered ls n) d e = answers (solves-so ls n d e .answered)
       by (unread r) d e =
-          let b : Numbered (unread r) = subst Numbered d (numbered desk _ _ _) in
+          let b : InRange (unread r) = subst InRange d (in-range desk _ _ _) in
           let u = early-column r (b .1) in
           refuses r (record {
             returned = ap (λ (x : Left). x .0) e;
@@ -127,7 +128,7 @@ module _ (c : Solve) where
             answer = ap (λ (x : Left). x .2) e ∙ sym (ap (λ k. leftIn k (overwritten desk (zeros desk) (c .answer)) (c .answer)) u);
           })
       by (given-up r) d e =
-          let b : Numbered (given-up r) = subst Numbered d (numbered desk _ _ _) in
+          let b : InRange (given-up r) = subst InRange d (in-range desk _ _ _) in
           let u = late-column r (b .0) (b .1) in
           refuses r (record {
             returned = ap (λ (x : Left). x .0) e;

@@ -25,7 +25,7 @@ use Rattle.trying.specs.Outcome.{Answers, Outcome}
 use Rattle.outcomes.specs.declared.Shown.the-variants.{Shows}
 use Rattle.demands.specs.Tries.{Try}
 use Rattle.demands.specs.Examples.{Example}
-use Rattle.demands.specs.Answers.{Line, MeetsLine, MeetsLines, lineNumbered}
+use Rattle.demands.specs.Answers.{Line, MeetsLine, MeetsLines, nthLine}
 use Rattle.demands.specs.Promises.{Promised}
 use Rattle.demands.specs.Tells.{TryAgrees}
 use Rattle.demands.proofs.Said.{try-said}
@@ -82,7 +82,7 @@ agrees t same p =
 -- ---- what an example showed
 
 -- what meets the line of a number meets one of the lines
-pub line-met : (ρ : Filling) (i : ℕ) (ls : List Line) (l : Line) → lineNumbered i ls ≡ some l → MeetsLine ρ l → MeetsLines ρ ls
+pub line-met : (ρ : Filling) (i : ℕ) (ls : List Line) (l : Line) → nthLine i ls ≡ some l → MeetsLine ρ l → MeetsLines ρ ls
 line-met ρ i [] l e m = absurd (let z : _≡_ {A = ℕ} 0 1 = cc in omega arith)
 line-met ρ ℕ.zero (k ∷ ls) l e m = let d : k ≡ l = cc in inl (rw d m)
 line-met ρ (ℕ.suc i) (k ∷ ls) l e m = inr (line-met ρ i ls l e m)

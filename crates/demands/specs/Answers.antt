@@ -1,5 +1,6 @@
 -- A reader of answers: the lines that a caller can read off the words that solving leaves. The words are all that a C program gets.
 use Prim.Native.Nat.{ℕ, zero, suc, _+_}
+use mathlib.Core.Path.{_≡_}
 use mathlib.Core.Logic.{_⊎_}
 use mathlib.Core.List.{List, [], _∷_}
 use mathlib.Core.Option.{Option, none, some}
@@ -11,24 +12,27 @@ use Rattle.language.specs.Trees.{Conj}
 use Rattle.language.specs.Between.{between}
 use Rattle.language.specs.Reading.{Got, got, stop, readConj}
 use Rattle.meaning.specs.Meaning.{Filling, MeetsAll}
+use Rattle.rules.specs.Run.{Numbered}
 
--- "each a mark (1 solved, 2 open) and its literals"
+-- "each a mark (1 solved, 2 open) and its literals", and "in a word after the mark" the number of the alternative that it descends from
 pub record Line : Type 0 where
   pub mark : ℕ
+  pub number : ℕ
   pub literals : Conj
 
-abbrev pub literalsOf : List Line → List Conj
-literalsOf [] = []
-literalsOf (l ∷ ls) = l .literals ∷ literalsOf ls
+abbrev pub numberedOf : List Line → List Numbered
+numberedOf [] = []
+numberedOf (l ∷ ls) = record { number = l .number; literals = l .literals } ∷ numberedOf ls
 
--- the mark, and the literals if they are read
-abbrev pub marked : ℕ → Got Conj → Option Line
-marked m (got k n) = some (record { mark = m; literals = k })
-marked m (stop n) = none
+-- the mark and the number, and the literals if they are read
+abbrev pub marked : ℕ → ℕ → Got Conj → Option Line
+marked m a (got k n) = some (record { mark = m; number = a; literals = k })
+marked m a (stop n) = none
 
 abbrev pub readLine : Limits → List ℕ → Option Line
 readLine L [] = none
-readLine L (m ∷ ws) = marked m (readConj L ws)
+readLine L (m ∷ []) = none
+readLine L (m ∷ a ∷ ws) = marked m a (readConj L ws)
 
 -- "the offset of each line and the end of the last": the words of line i, from its offset to the next
 abbrev pub lineIn : List ℕ → ℕ → List ℕ
@@ -58,10 +62,15 @@ abbrev pub MeetsLines : Filling → List Line → Type 0
 MeetsLines ρ [] = ⊥
 MeetsLines ρ (l ∷ ls) = MeetsLine ρ l ⊎ MeetsLines ρ ls
 
--- the line of a number, from 0
-abbrev pub lineNumbered : ℕ → List Line → Option Line
-lineNumbered i [] = none
-lineNumbered i (l ∷ ls) = elim i [ ℕ.zero ↦ some l | ℕ.suc j ↦ lineNumbered j ls ]
+-- at least one of those that are of alternative n
+abbrev pub MeetsLinesOf : Filling → ℕ → List Line → Type 0
+MeetsLinesOf ρ n [] = ⊥
+MeetsLinesOf ρ n (l ∷ ls) = ((l .number ≡ n) × MeetsLine ρ l) ⊎ MeetsLinesOf ρ n ls
+
+-- the line at a place among them, from 0
+abbrev pub nthLine : ℕ → List Line → Option Line
+nthLine i [] = none
+nthLine i (l ∷ ls) = elim i [ ℕ.zero ↦ some l | ℕ.suc j ↦ nthLine j ls ]
 
 -- how many are marked open
 abbrev pub opens : List Line → ℕ

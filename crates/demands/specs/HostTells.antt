@@ -17,7 +17,7 @@ use Rattle.outcomes.specs.declared.Shown.the-variants.{Shows, Denied}
 use Rattle.word_bytes.specs.Bytes.{wordsOf, bytesOf, wordsIn}
 use Rattle.demands.specs.Columns.{Column, unchanged, zeroed, as-solved, column}
 use Rattle.demands.specs.HostCalls.{DeskSolve, DeskTry, DeskExample}
-use Rattle.demands.specs.Answers.{Line, literalsOf, MeetsLines, lineNumbered}
+use Rattle.demands.specs.Answers.{Line, numberedOf, MeetsLines, nthLine}
 use Rattle.demands.specs.Promises.{Promised, Told}
 use Rattle.demands.specs.Table.{SolveFault, TryFault, First}
 
@@ -33,7 +33,7 @@ pub data DeskSolveTells (c : DeskSolve) : Type 0 where
   refuses : (e : Refusal) → c .number ≡ numberOf e → numberOf e ≤ 10 → First (SolveFault (desk .room) (length (c .answer) / 2) (wordsIn (c .question))) e
       → c .answerLeft ≡ leftInBytes (column e) (c .answer) (c .answer) → DeskSolveTells c
   answers : c .number ≡ 0 → (p : Promised (wordsIn (c .question)) (wordsOf (c .answerLeft)))
-      → c .answerLeft ≡ bytesOf (answerWords desk (literalsOf (p .lines))) ++ drop (2 * desk .room) (c .answer) → DeskSolveTells c
+      → c .answerLeft ≡ bytesOf (answerWords desk (numberedOf (p .lines))) ++ drop (2 * desk .room) (c .answer) → DeskSolveTells c
 
 -- 100 is no, 101 is yes, and below stand the refusals
 pub data DeskTryTells (t : DeskTry) : Type 0 where
@@ -60,5 +60,5 @@ pub record BytesTold (n : Counts) (l : Option Line) (old : List ℕ) (number : �
 pub data DeskExampleTells (c : DeskExample) : Type 0 where
   refuses : (e : Refusal) → c .number ≡ numberOf e → numberOf e ≤ 10 → First (SolveFault (desk .room) (desk .room) (wordsIn (c .question))) e
       → c .roomLeft ≡ c .room → DeskExampleTells c
-  told : (answer : List ℕ) (p : Promised (wordsIn (c .question)) answer) → BytesTold (p .asked .counts) (lineNumbered (c .line) (p .lines)) (c .room) (c .number) (c .roomLeft)
+  told : (answer : List ℕ) (p : Promised (wordsIn (c .question)) answer) → BytesTold (p .asked .counts) (nthLine (c .line) (p .lines)) (c .room) (c .number) (c .roomLeft)
       → DeskExampleTells c

@@ -15,24 +15,27 @@ use Rattle.rules.specs.Run.{finished, run}
 use Rattle.rules.specs.Answer.{markOf}
 use Rattle.rules.specs.Example.{example}
 use Rattle.rules.specs.Each.{Each}
+use Rattle.exact.specs.Numbers.{MeetsAt}
 use Rattle.lines.specs.Matching.{Matching}
 use Rattle.lines.specs.Fillings.{Agree}
 use Rattle.outcomes.specs.declared.Solved.{Solved}
 use Rattle.solver.specs.Leaves.{verdictFor}
 use Rattle.outcomes.specs.declared.Shown.{Shown}
 use Rattle.outcomes.specs.declared.Shown.the-variants.{Shows, Denied}
-use Rattle.demands.specs.Answers.{Line, literalsOf, readAnswer, MeetsLine, MeetsLines, opens}
+use Rattle.demands.specs.Answers.{Line, numberedOf, readAnswer, MeetsLine, MeetsLines, MeetsLinesOf, opens}
 
--- Demand 2: the lines are those of the published rules, in their order, with their marks, after as many steps.
+-- Demand 2: the lines are those of the published rules, in their order, with their marks and numbers, after as many steps.
 pub record ByTheRules (asked : Question) (lines : List Line) : Type 0 where
   pub steps : ℕ
-  pub run : run desk (asked .alternatives) ≡ finished (literalsOf lines) steps
+  pub run : run desk (asked .alternatives) ≡ finished (numberedOf lines) steps
   pub marks : Each (λ l. l .mark ≡ markOf (l .literals)) lines
 
--- Demand 3: any filling meets the question exactly when it meets at least one line; every settled line has a filling; and if within each
--- alternative every equation has a side without blanks and each blank of a shape test also stands in an equation, no line is open.
+-- Demand 3: any filling meets the question exactly when it meets at least one line, and alternative n exactly when it meets a line numbered n;
+-- every settled line has a filling; and if within each alternative every equation has a side without blanks and each blank of a shape test also
+-- stands in an equation, no line is open.
 pub record Exact (asked : Question) (lines : List Line) : Type 0 where
   pub same : (ρ : Filling) → MeetsQuestion ρ asked ↔ MeetsLines ρ lines
+  pub numbered : (ρ : Filling) (n : ℕ) → MeetsAt ρ n (asked .alternatives) ↔ MeetsLinesOf ρ n lines
   pub met : Each (λ l. l .mark ≡ 1 → (ρ : Filling) × MeetsLine ρ l) lines
   pub matched : Each Matching (asked .alternatives) → Each (λ l. l .mark ≡ 1) lines
 

@@ -15,7 +15,7 @@ use Rattle.outcomes.specs.declared.Tried.the-variants.{Yes, No}
 use Rattle.outcomes.specs.declared.Tried.the-variants as tried
 use Rattle.outcomes.specs.declared.Shown.the-variants.{Denied}
 use Rattle.demands.specs.Columns.{column, leftIn}
-use Rattle.demands.specs.Answers.{literalsOf, MeetsLines, lineNumbered}
+use Rattle.demands.specs.Answers.{numberedOf, MeetsLines, nthLine}
 use Rattle.demands.specs.Promises.{Promised, Answered, Told}
 use Rattle.demands.specs.Solves.{Solve}
 use Rattle.demands.specs.Tries.{Try}
@@ -32,7 +32,7 @@ pub record SolveRefuses (c : Solve) (e : Refusal) : Type 0 where
 pub record SolveAnswers (c : Solve) : Type 0 where
   pub answered : Answered (c .question) (c .answerLeft) (c .returned)
   pub work : c .workLeft ≡ overwritten desk (zeros desk) (c .work)
-  pub answer : c .answerLeft ≡ overwritten desk (answerWords desk (literalsOf (answered .promised .lines))) (c .answer)
+  pub answer : c .answerLeft ≡ overwritten desk (answerWords desk (numberedOf (answered .promised .lines))) (c .answer)
 
 -- "Solving gives 1 to 10"
 pub data SolveTells (c : Solve) : Type 0 where
@@ -51,8 +51,8 @@ pub data ExampleTells (c : Example) : Type 0 where
   refuses : (e : Refusal) → c .returned ≡ Denied e → (1 ≤ numberOf e) × (numberOf e ≤ 10)
       → c .workLeft ≡ leftIn (column e) (overwritten desk (zeros desk) (c .work)) (c .work) → c .answerLeft ≡ leftIn (column e) (overwritten desk (zeros desk) (c .answer)) (c .answer)
       → c .roomLeft ≡ c .room → ExampleTells c
-  told : (p : Promised (c .question) (c .answerLeft)) → Told (p .asked .counts) (c .room) (lineNumbered (c .line) (p .lines)) (c .returned) (c .roomLeft)
-      → c .workLeft ≡ overwritten desk (zeros desk) (c .work) → c .answerLeft ≡ overwritten desk (answerWords desk (literalsOf (p .lines))) (c .answer) → ExampleTells c
+  told : (p : Promised (c .question) (c .answerLeft)) → Told (p .asked .counts) (c .room) (nthLine (c .line) (p .lines)) (c .returned) (c .roomLeft)
+      → c .workLeft ≡ overwritten desk (zeros desk) (c .work) → c .answerLeft ≡ overwritten desk (answerWords desk (numberedOf (p .lines))) (c .answer) → ExampleTells c
 
 -- yes and no are what the lines say of the filling that these words are
 pub record TryAgrees {question answer : List ℕ} (p : Promised question answer) (filling : List ℕ) (r : Tried) : Type 0 where

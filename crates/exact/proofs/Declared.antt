@@ -11,7 +11,7 @@ use Rattle.language.specs.declared.Refusal.{Refusal}
 use Rattle.language.specs.declared.Refusal.the-variants.{QuestionLength, CountRange, BadOffset, NotLiterals, Undeclared}
 use Rattle.language.specs.Trees.{Functor, symbol, fvar, Hedge, ε, tvar, hvar, node, Expr, eps, cat, alt, star, over, Literal, eqn, mem, Conj, Counts, Question, tv, hv, fv}
 use Rattle.language.specs.Question.{countsOf, alternativesOf, lengthFits, countsFit, laidOut, parts, readAll, declaredS, declaredT, declaredH, declaredX, declaredF, declared, declaredE, declaredL, declaredC, declaredQ, Asked, asks, refuses, readQuestion}
-use Rattle.rules.specs.Run.{finished, run}
+use Rattle.rules.specs.Run.{Numbered, EachLine, finished, run}
 use Rattle.rules.specs.Each.{Each}
 use Rattle.rules.proofs.Each.{each-imp}
 use Rattle.rules.proofs.Tests.{and-parts, and-both, test-true}
@@ -71,9 +71,9 @@ module _ (n : Counts) where
 
   -- ---- along the run
 
-  pub lines-declared : (L : Limits) (w ls : List Conj) (s : ℕ) → run L w ≡ finished ls s → Each DeclaredC w → Each DeclaredC ls
+  pub lines-declared : (L : Limits) (w : List Conj) (ls : List Numbered) (s : ℕ) → run L w ≡ finished ls s → Each DeclaredC w → EachLine DeclaredC ls
   lines-declared L w ls s e p =
-      each-imp (MadeC Declared) DeclaredC from-made ls
+      each-imp _ _ (λ (k : Numbered) m. from-made (k .literals) m) ls
       (lines-keep (MadeC Declared) (λ k ks m d. step-made Declared k ks d m) L w ls s e (each-imp DeclaredC (MadeC Declared) to-made w p))
 
   pub each-declared : (ks : List Conj) → T (declaredQ n ks) → Each DeclaredC ks

@@ -15,7 +15,7 @@ use Rattle.rules.specs.Expressions.{nullable, linear}
 use Rattle.rules.specs.Reply.{nothing, results}
 use Rattle.rules.specs.Rules.{Rule, Fold, rules}
 use Rattle.rules.specs.Step.{resultsAt, Spot, stepAt, search, step}
-use Rattle.rules.specs.Run.{finished, run}
+use Rattle.rules.specs.Run.{Numbered, EachLine, unnumbered, finished, run}
 use Rattle.rules.specs.Answer.{answered, solving}
 use Rattle.rules.specs.Each.{Each, Some}
 use Rattle.rules.specs.Sides.{AtSides, Idle}
@@ -26,10 +26,11 @@ use Rattle.rules.proofs.Folding.{fold-none}
 use Rattle.rules.proofs.Invariant.{answered-run, lines-keep, lines-rest}
 use Rattle.exact.specs.Monomials.{Takes}
 use Rattle.exact.specs.Places.{SameFillings, Apart}
+use Rattle.exact.specs.Numbers.{MeetsAt, MeetsNumbered}
 use Rattle.exact.specs.Made.{Name, MadeC}
 use Rattle.exact.proofs.Expressions.{nullable-exact, linear-exact}
 use Rattle.exact.proofs.Places.{each-rule-exact}
-use Rattle.exact.proofs.Run.{step-same, run-same}
+use Rattle.exact.proofs.Run.{step-same, run-numbered, whatever-number, run-same}
 use Rattle.exact.proofs.MadeByRules.{step-made}
 use Rattle.exact.proofs.Declared.{lines-declared, read-declared}
 
@@ -69,39 +70,52 @@ step-exact = step-same
 
 -- ---- the run with its limits, whatever they are
 
+-- "Each waiting conjunction carries the number of the alternative it descends from": a filling meets the alternative of a number exactly when it
+-- meets a line of that number.
+pub run-by-number : (L : Limits) (w : List Conj) (ls : List Numbered) (s : ℕ) → run L w ≡ finished ls s
+    → (ρ : Filling) (n : ℕ) → MeetsAt ρ n w ↔ MeetsNumbered ρ n ls
+run-by-number = run-numbered
+
 -- "Results stand in the place of the conjunction, in order": a filling meets a waiting conjunction exactly when it meets a line.
-pub run-exact : (L : Limits) (w ls : List Conj) (n : ℕ) → run L w ≡ finished ls n → (ρ : Filling) → MeetsOne ρ w ↔ MeetsOne ρ ls
+pub run-exact : (L : Limits) (w : List Conj) (ls : List Numbered) (n : ℕ) → run L w ≡ finished ls n → (ρ : Filling) → MeetsOne ρ w ↔ MeetsOne ρ (unnumbered ls)
 run-exact = run-same
 
 -- "If no rule applies, the conjunction becomes the next line": no rule applies to a line.
-pub lines-settled : (L : Limits) (w ls : List Conj) (n : ℕ) → run L w ≡ finished ls n → Each (λ k. step k ≡ nothing) ls
+pub lines-settled : (L : Limits) (w : List Conj) (ls : List Numbered) (n : ℕ) → run L w ≡ finished ls n → EachLine (λ k. step k ≡ nothing) ls
 lines-settled = lines-rest
 
 -- the same in full: no rule of the list applies at any literal of a line
-pub lines-idle : (L : Limits) (w ls : List Conj) (n : ℕ) → run L w ≡ finished ls n → Each (λ k. Each (Idle k) rules) ls
-lines-idle L w ls n e = each-imp (λ k. step k ≡ nothing) (λ k. Each (Idle k) rules) step-none ls (lines-rest L w ls n e)
+pub lines-idle : (L : Limits) (w : List Conj) (ls : List Numbered) (n : ℕ) → run L w ≡ finished ls n → EachLine (λ k. Each (Idle k) rules) ls
+lines-idle L w ls n e = each-imp _ _ (λ (k : Numbered) q. step-none (k .literals) q) ls (lines-rest L w ls n e)
 
 -- "The same test twice": no two literals of a line have the same words.
-pub lines-apart : (L : Limits) (w ls : List Conj) (n : ℕ) → run L w ≡ finished ls n → Each Apart ls
+pub lines-apart : (L : Limits) (w : List Conj) (ls : List Numbered) (n : ℕ) → run L w ≡ finished ls n → EachLine Apart ls
 lines-apart L w ls n e =
-    each-imp (λ k. Each (Idle k) rules) Apart
+    each-imp (λ (k : Numbered). Each (Idle (k .literals)) rules) (λ (k : Numbered). Apart (k .literals))
     (λ k q before l behind d. fold-none l behind (each-nothing (map (λ (c : Conj). before ++ c)) (Fold l behind) (q .1 .1 .0 false before l behind d))) ls
     (lines-idle L w ls n e)
 
 -- "Waiting conjunctions stand in order": what every step keeps and every waiting conjunction has, every line has.
 pub lines-inherit : (P : Conj → Type 0) → ((k : Conj) (ks : List Conj) → P k → step k ≡ results ks → Each P ks)
-    → (L : Limits) (w ls : List Conj) (n : ℕ) → run L w ≡ finished ls n → Each P w → Each P ls
+    → (L : Limits) (w : List Conj) (ls : List Numbered) (n : ℕ) → run L w ≡ finished ls n → Each P w → EachLine P ls
 lines-inherit = lines-keep
 
 -- ---- questions
 
--- "A conjunction needs all its literals, a question one conjunction": an answer is of a question that was read, and a filling meets the
--- question exactly when it meets a line.
-pub answer-exact : (L : Limits) (work answer : ℕ) (ws : List ℕ) (ls : List Conj) (n : ℕ) → solving L work answer ws ≡ answered ls n
-    → (q : Question) × (readQuestion L ws ≡ asks q) × ((ρ : Filling) → MeetsQuestion ρ q ↔ MeetsOne ρ ls)
+-- "a filling meets alternative n exactly when it meets a line numbered n": an answer is of a question that was read, and its lines are by their
+-- numbers those of the question's alternatives.
+pub answer-numbered : (L : Limits) (work answer : ℕ) (ws : List ℕ) (ls : List Numbered) (s : ℕ) → solving L work answer ws ≡ answered ls s
+    → (q : Question) × (readQuestion L ws ≡ asks q) × ((ρ : Filling) (n : ℕ) → MeetsAt ρ n (q .alternatives) ↔ MeetsNumbered ρ n ls)
+answer-numbered L work answer ws ls s e =
+    let (q, asked, ran) = answered-run L work answer ws ls s e in
+    (q, asked, run-numbered L (q .alternatives) ls s ran)
+
+-- "A conjunction needs all its literals, a question one conjunction": so a filling meets the question exactly when it meets a line.
+pub answer-exact : (L : Limits) (work answer : ℕ) (ws : List ℕ) (ls : List Numbered) (n : ℕ) → solving L work answer ws ≡ answered ls n
+    → (q : Question) × (readQuestion L ws ≡ asks q) × ((ρ : Filling) → MeetsQuestion ρ q ↔ MeetsOne ρ (unnumbered ls))
 answer-exact L work answer ws ls n e =
-    let (q, asked, ran) = answered-run L work answer ws ls n e in
-    (q, asked, run-same L (q .alternatives) ls n ran)
+    let (q, asked, same) = answer-numbered L work answer ws ls n e in
+    (q, asked, λ ρ. whatever-number ρ (q .alternatives) ls (same ρ))
 
 -- 'Answering "none" always breaks 3': "none" is said only rightly, for where there is no line, no filling meets the question.
 pub none-is-none : (L : Limits) (work answer : ℕ) (ws : List ℕ) (n : ℕ) → solving L work answer ws ≡ answered [] n
@@ -115,13 +129,13 @@ pub step-names : (A : Name → Type 0) (k : Conj) (ks : List Conj) → step k �
 step-names = step-made
 
 -- "6: an undeclared number": where every alternative is declared, so is every line.
-pub lines-all-declared : (c : Counts) (L : Limits) (w ls : List Conj) (n : ℕ) → run L w ≡ finished ls n
-    → Each (λ k. declaredC c k ≡ true) w → Each (λ k. declaredC c k ≡ true) ls
+pub lines-all-declared : (c : Counts) (L : Limits) (w : List Conj) (ls : List Numbered) (n : ℕ) → run L w ≡ finished ls n
+    → Each (λ k. declaredC c k ≡ true) w → EachLine (λ k. declaredC c k ≡ true) ls
 lines-all-declared = lines-declared
 
 -- every line of an answer is declared by the counts in the question's words
-pub answer-declared : (L : Limits) (work answer : ℕ) (ws : List ℕ) (ls : List Conj) (n : ℕ) → solving L work answer ws ≡ answered ls n
-    → Each (λ k. declaredC (countsOf ws) k ≡ true) ls
+pub answer-declared : (L : Limits) (work answer : ℕ) (ws : List ℕ) (ls : List Numbered) (n : ℕ) → solving L work answer ws ≡ answered ls n
+    → EachLine (λ k. declaredC (countsOf ws) k ≡ true) ls
 answer-declared L work answer ws ls n e =
     let (q, asked, ran) = answered-run L work answer ws ls n e in
     let (counts, declared) = read-declared L ws q asked in

@@ -18,7 +18,7 @@ use Rattle.language.proofs.Wider.{read-wider, first-within}
 use Rattle.meaning.specs.Values.{offsetsOf, joined}
 use Rattle.rules.specs.Reply.{Reply, nothing, results, stops}
 use Rattle.rules.specs.Step.{step}
-use Rattle.rules.specs.Run.{size, anyLong, waitingSize, linesAt, linesSize, linesFit, Outcome, finished, refused, checked, lined, turn, runFrom, run}
+use Rattle.rules.specs.Run.{Numbered, allOf, numbered, size, anyLong, waitingSize, linesAt, linesSize, linesFit, Outcome, finished, refused, checked, lined, turn, runFrom, run}
 use Rattle.rules.specs.Answer.{lineWords, countOpen, padded, answerWords, answered, ran, solvingOf, solving}
 use Rattle.rules.proofs.Invariant.{answered-run}
 
@@ -40,7 +40,7 @@ module _ (L M : Limits) (i : Within L M) where
   waiting-wider : (n : ℕ) → ltb (L .room) n ≡ false → ltb (M .room) n ≡ false
   waiting-wider n e = le-ltb (M .room) n (omega (arith, ltb-false (L .room) n e, i .lines, i .behind))
 
-  fit-wider : (ls : List Conj) → linesFit L ls ≡ true → linesFit M ls ≡ true
+  fit-wider : (ls : List Numbered) → linesFit L ls ≡ true → linesFit M ls ≡ true
   fit-wider ls e =
       let (a, b) = both-true (leb (length ls) (L .lines)) (leb (linesAt L + linesSize ls) (L .room)) e in
       let h = leb-true (length ls) (L .lines) a in
@@ -53,7 +53,7 @@ module _ (L M : Limits) (i : Within L M) where
 
   -- where the first finishes, the second does, in the same way
   abbrev Finishes : Outcome → Outcome → Type 0
-  Finishes o p = (ls : List Conj) (n : ℕ) → o ≡ finished ls n → p ≡ finished ls n
+  Finishes o p = (ls : List Numbered) (n : ℕ) → o ≡ finished ls n → p ≡ finished ls n
 
   never : (r : Refusal) (o : Outcome) → Finishes (refused r) o
   never r o ls n e = absurd (let z : _≡_ {A = ℕ} 0 1 = cc in omega arith)
@@ -71,22 +71,22 @@ module _ (L M : Limits) (i : Within L M) where
   in-room true false r o p h f = absurd (let e = h refl in let z : _≡_ {A = ℕ} 0 1 = cc in omega arith)
   in-room false b r o p h f = never r _
 
-  turn-wider : (go on : List Conj → List Conj → List Conj → Outcome)
-      → ((ls : List Conj) (ks : List Conj) (w : List Conj) → Finishes (go ls ks w) (on ls ks w))
-      → (n : ℕ) (ls w : List Conj) → Finishes (turn L go n ls w) (turn M on n ls w)
+  turn-wider : (go on : List Numbered → List Conj → List Numbered → Outcome)
+      → ((ls : List Numbered) (ks : List Conj) (w : List Numbered) → Finishes (go ls ks w) (on ls ks w))
+      → (n : ℕ) (ls w : List Numbered) → Finishes (turn L go n ls w) (turn M on n ls w)
   turn-wider go on f n ls [] = λ ms m e. e
   turn-wider go on f n ls (k ∷ w) =
-      taken (step k)
+      taken (step (k .literals))
       (in-room (linesFit L (ls ++ (k ∷ []))) (linesFit M (ls ++ (k ∷ []))) LineRoom _ _ (fit-wider (ls ++ (k ∷ []))) (turn-wider go on f n (ls ++ (k ∷ [])) w))
     where
       taken : (m : Reply (List Conj)) → Finishes (lined L (ls ++ (k ∷ [])) (λ ms. turn L go n ms w)) (lined M (ls ++ (k ∷ [])) (λ ms. turn M on n ms w))
-          → Finishes (elim m [ results ks ↦ go ls ks (ks ++ w) | nothing ↦ lined L (ls ++ (k ∷ [])) (λ ms. turn L go n ms w) | stops r ↦ refused r ])
-          (elim m [ results ks ↦ on ls ks (ks ++ w) | nothing ↦ lined M (ls ++ (k ∷ [])) (λ ms. turn M on n ms w) | stops r ↦ refused r ])
+          → Finishes (elim m [ results ks ↦ go ls ks (allOf (k .number) ks ++ w) | nothing ↦ lined L (ls ++ (k ∷ [])) (λ ms. turn L go n ms w) | stops r ↦ refused r ])
+          (elim m [ results ks ↦ on ls ks (allOf (k .number) ks ++ w) | nothing ↦ lined M (ls ++ (k ∷ [])) (λ ms. turn M on n ms w) | stops r ↦ refused r ])
       taken nothing line = line
-      taken (results ks) line = f ls ks (ks ++ w)
+      taken (results ks) line = f ls ks (allOf (k .number) ks ++ w)
       taken (stops r) line = never r (refused r)
 
-  from-wider : (d e n : ℕ) (ls w : List Conj) → d ≤ e → Finishes (runFrom L d n ls w) (runFrom M e n ls w)
+  from-wider : (d e n : ℕ) (ls w : List Numbered) → d ≤ e → Finishes (runFrom L d n ls w) (runFrom M e n ls w)
   unfolding runFrom
   from-wider zero zero n ls w h = turn-wider _ _ (λ ms ks v. never StepLimit _) n ls w
   from-wider zero (suc e) n ls w h = turn-wider _ _ (λ ms ks v. never StepLimit _) n ls w
@@ -96,12 +96,12 @@ module _ (L M : Limits) (i : Within L M) where
       past (anyLong L ks) (anyLong M ks) LongResult _ _ (long-wider ks)
       (past (ltb (L .room) (waitingSize v)) (ltb (M .room) (waitingSize v)) LongWaiting _ _ (waiting-wider (waitingSize v)) (from-wider d e (suc n) ms v (omega arith)))) n ls w
 
-  pub run-wider : (w : List Conj) (ls : List Conj) (n : ℕ) → run L w ≡ finished ls n → run M w ≡ finished ls n
+  pub run-wider : (w : List Conj) (ls : List Numbered) (n : ℕ) → run L w ≡ finished ls n → run M w ≡ finished ls n
   unfolding run
-  run-wider w ls n e = from-wider (L .steps) (M .steps) 0 [] w (i .steps) ls n e
+  run-wider w ls n e = from-wider (L .steps) (M .steps) 0 [] (numbered 0 w) (i .steps) ls n e
 
   -- "a question answered under the old limits has the same lines and steps under the new"; the lines' marks are made of the lines alone
-  pub solving-wider : (work answer work′ answer′ : ℕ) (ws : List ℕ) (ls : List Conj) (n : ℕ) → solving L work answer ws ≡ answered ls n
+  pub solving-wider : (work answer work′ answer′ : ℕ) (ws : List ℕ) (ls : List Numbered) (n : ℕ) → solving L work answer ws ≡ answered ls n
       → M .room ≤ work′ → M .room ≤ answer′ → solving M work′ answer′ ws ≡ answered ls n
   unfolding solving
   solving-wider work answer work′ answer′ ws ls n e p q =
@@ -126,26 +126,26 @@ module _ (L : Limits) where
   goes true r o p = p refl
   goes false r o p = tt
 
-  turn-fits : (go : List Conj → List Conj → List Conj → Outcome) → ((ls : List Conj) (ks : List Conj) (w : List Conj) → linesFit L ls ≡ true → Fits (go ls ks w))
-      → (n : ℕ) (ls w : List Conj) → linesFit L ls ≡ true → Fits (turn L go n ls w)
+  turn-fits : (go : List Numbered → List Conj → List Numbered → Outcome) → ((ls : List Numbered) (ks : List Conj) (w : List Numbered) → linesFit L ls ≡ true → Fits (go ls ks w))
+      → (n : ℕ) (ls w : List Numbered) → linesFit L ls ≡ true → Fits (turn L go n ls w)
   unfolding Fits
   turn-fits go on n ls [] p = p
-  turn-fits go on n ls (k ∷ w) p = taken (step k) (goes (linesFit L (ls ++ (k ∷ []))) LineRoom _ (λ q. turn-fits go on n (ls ++ (k ∷ [])) w q))
+  turn-fits go on n ls (k ∷ w) p = taken (step (k .literals)) (goes (linesFit L (ls ++ (k ∷ []))) LineRoom _ (λ q. turn-fits go on n (ls ++ (k ∷ [])) w q))
     where
       taken : (m : Reply (List Conj)) → Fits (lined L (ls ++ (k ∷ [])) (λ ms. turn L go n ms w))
-          → Fits (elim m [ results ks ↦ go ls ks (ks ++ w) | nothing ↦ lined L (ls ++ (k ∷ [])) (λ ms. turn L go n ms w) | stops r ↦ refused r ])
+          → Fits (elim m [ results ks ↦ go ls ks (allOf (k .number) ks ++ w) | nothing ↦ lined L (ls ++ (k ∷ [])) (λ ms. turn L go n ms w) | stops r ↦ refused r ])
       taken nothing line = line
-      taken (results ks) line = on ls ks (ks ++ w) p
+      taken (results ks) line = on ls ks (allOf (k .number) ks ++ w) p
       taken (stops r) line = tt
 
-  from-fits : (d n : ℕ) (ls w : List Conj) → linesFit L ls ≡ true → Fits (runFrom L d n ls w)
+  from-fits : (d n : ℕ) (ls w : List Numbered) → linesFit L ls ≡ true → Fits (runFrom L d n ls w)
   unfolding runFrom Fits
   from-fits zero n ls w p = turn-fits (λ _ _ _. refused StepLimit) (λ _ _ _ _. tt) n ls w p
   from-fits (suc d) n ls w p = turn-fits _ (λ ms ks v q. halts (anyLong L ks) LongResult _ (halts (ltb (L .room) (waitingSize v)) LongWaiting _ (from-fits d (suc n) ms v q))) n ls w p
 
-  pub lines-fit : linesFit L [] ≡ true → (w : List Conj) (ls : List Conj) (n : ℕ) → run L w ≡ finished ls n → linesFit L ls ≡ true
+  pub lines-fit : linesFit L [] ≡ true → (w : List Conj) (ls : List Numbered) (n : ℕ) → run L w ≡ finished ls n → linesFit L ls ≡ true
   unfolding run Fits
-  lines-fit t w ls n e = rw e at (from-fits (L .steps) 0 [] w t)
+  lines-fit t w ls n e = rw e at (from-fits (L .steps) 0 [] (numbered 0 w) t)
 
 -- ---- the answer's words
 
@@ -157,9 +157,9 @@ length-offsets : (at : ℕ) (ws : List (List ℕ)) → length (offsetsOf at ws) 
 length-offsets at [] = refl
 length-offsets at (x ∷ ws) = ap suc (length-offsets (at + length x) ws)
 
-length-lines : (ls : List Conj) → length (joined (map lineWords ls)) ≡ linesSize ls
+length-lines : (ls : List Numbered) → length (joined (map lineWords ls)) ≡ linesSize ls
 length-lines [] = refl
-length-lines (k ∷ ls) = length-append (lineWords k) (joined (map lineWords ls)) ∙ ap (λ n. suc (size k) + n) (length-lines ls)
+length-lines (k ∷ ls) = length-append (lineWords k) (joined (map lineWords ls)) ∙ ap (λ n. suc (suc (size (k .literals))) + n) (length-lines ls)
 
 length-padded : (n : ℕ) (ws : List ℕ) → length ws ≤ n → length (padded n ws) ≡ n
 length-padded n ws h = length-append ws (replicate (n - length ws) 0) ∙ (let e = length-replicate {A = ℕ} (n - length ws) 0 in let z : length ws + length (replicate {A = ℕ} (n - length ws) 0) ≡ n = omega arith in z)
@@ -171,10 +171,10 @@ padded-more m n ws h k =
     ∙ ap (λ us. ws ++ us) (replicate-append (m - length ws) (n - m)) ∙ sym (append-assoc ws (replicate (m - length ws) 0) (replicate (n - m) 0))
 
 -- the table and the lines, before the zeros, where the lines begin at that place
-abbrev written : ℕ → List Conj → List ℕ
+abbrev written : ℕ → List Numbered → List ℕ
 written at ls = padded at (length ls ∷ countOpen ls ∷ offsetsOf at (map lineWords ls)) ++ joined (map lineWords ls)
 
-written-short : (L : Limits) (ls : List Conj) → linesFit L ls ≡ true → length (written (linesAt L) ls) ≤ L .room
+written-short : (L : Limits) (ls : List Numbered) → linesFit L ls ≡ true → length (written (linesAt L) ls) ≤ L .room
 written-short L ls e =
     let ws = map lineWords ls in
     let (a, b) = both-true (leb (length ls) (L .lines)) (leb (linesAt L + linesSize ls) (L .room)) e in
@@ -187,7 +187,7 @@ written-short L ls e =
     omega (arith, length-append (padded (linesAt L) head) (joined ws), length-padded (linesAt L) head few, length-lines ls, r)
 
 -- With as many lines as before, the answer is the same words, and zeros up to the new length.
-pub answer-wider : (L M : Limits) → Within L M → L .lines ≡ M .lines → linesFit L [] ≡ true → (w : List Conj) (ls : List Conj) (n : ℕ) → run L w ≡ finished ls n
+pub answer-wider : (L M : Limits) → Within L M → L .lines ≡ M .lines → linesFit L [] ≡ true → (w : List Conj) (ls : List Numbered) (n : ℕ) → run L w ≡ finished ls n
     → answerWords M ls ≡ answerWords L ls ++ replicate (M .room - L .room) 0
 unfolding answerWords
 answer-wider L M i same t w ls n e =
@@ -199,11 +199,11 @@ answer-wider L M i same t w ls n e =
 -- ---- the first desk and the one of "Bigger sheets"
 
 -- "a question answered under the old limits has the same lines and steps under the new"
-pub answered-still : (work answer work′ answer′ : ℕ) (ws : List ℕ) (ls : List Conj) (n : ℕ) → solving firstDesk work answer ws ≡ answered ls n
+pub answered-still : (work answer work′ answer′ : ℕ) (ws : List ℕ) (ls : List Numbered) (n : ℕ) → solving firstDesk work answer ws ≡ answered ls n
     → desk .room ≤ work′ → desk .room ≤ answer′ → solving desk work′ answer′ ws ≡ answered ls n
 answered-still = solving-wider firstDesk desk first-within
 
 -- and the same words of an answer, up to where zeros begin
-pub same-answer : (w : List Conj) (ls : List Conj) (n : ℕ) → run firstDesk w ≡ finished ls n
+pub same-answer : (w : List Conj) (ls : List Numbered) (n : ℕ) → run firstDesk w ≡ finished ls n
     → answerWords desk ls ≡ answerWords firstDesk ls ++ replicate (desk .room - firstDesk .room) 0
 same-answer = answer-wider firstDesk desk first-within refl refl

@@ -8,8 +8,8 @@ use denote.Enum.Declared.{tagOf}
 use lib.ListN.{length, drop}
 use Rattle.language.specs.declared.Refusal.{Refusal}
 use Rattle.language.specs.Limits.{desk}
-use Rattle.language.specs.Trees.{Conj}
 use Rattle.language.specs.Question.{countsOf}
+use Rattle.rules.specs.Run.{Numbered}
 use Rattle.rules.specs.Answer.{Verdict, noLine, allSolved, someOpen, verdictOf, Solving, answered, unread, given-up, solving}
 use Rattle.rules.specs.Calls.{shown, lineAt, showingOf, showing}
 use Rattle.outcomes.specs.declared.Outcome.{Outcome}
@@ -70,7 +70,7 @@ module _ (question work answer room : List ℕ) (line : ℕ) where
 
 -- an answer stands in the slice
 Answers : List ℕ → ℕ → ℕ → List ℕ → Type 0
-Answers question work answer new = (ls : List Conj) × (n : ℕ) × (solving desk work answer question ≡ answered ls n) × Answer new ls
+Answers question work answer new = (ls : List Numbered) × (n : ℕ) × (solving desk work answer question ≡ answered ls n) × Answer new ls
 
 module _ (question work answer : List ℕ) (s : Solved) {w a : List ℕ} (solved : (solvedNumbers s, w, a) ≡ toldLeaves (solving desk (length work) (length answer) question) work answer) where
   left : _≡_ {A = Left} (s, w, a) (leaves (solving desk (length work) (length answer) question) work answer)
@@ -85,7 +85,7 @@ module _ (question work answer : List ℕ) (s : Solved) {w a : List ℕ} (solved
   unfolding Answers
   answers not = by (solving desk (length work) (length answer) question) refl left
     where
-      by : (v : Solving) → solving desk (length work) (length answer) question ≡ v → _≡_ {A = Left} (s, w, a) (leaves v work answer) → (ls : List Conj) × (n : ℕ) × (solving desk (length work) (length answer) question ≡ answered ls n) × Answer a ls
+      by : (v : Solving) → solving desk (length work) (length answer) question ≡ v → _≡_ {A = Left} (s, w, a) (leaves v work answer) → (ls : List Numbered) × (n : ℕ) × (solving desk (length work) (length answer) question ≡ answered ls n) × Answer a ls
       by (answered ls n) d f =
           let g = lines-end (length work) (length answer) question ls n d in
           (ls, n, d, record { few = g .few; size = g .size; rest = drop (desk .room) answer; words = ap (λ (x : Left). x .2) f; lines = g .lines })

@@ -17,9 +17,8 @@ use Rattle.language.proofs.Bools.{both-true}
 use Rattle.language.proofs.Asking.{ranges}
 use Rattle.rules.specs.Reply.{Reply, nothing, results, stops}
 use Rattle.rules.specs.Step.{step}
-use Rattle.rules.specs.Run.{anyLong, waitingSize, linesSize, linesFit, Outcome, finished, refused, lined, turn, runFrom, run, linesAt}
+use Rattle.rules.specs.Run.{Numbered, EachLine, allOf, numbered, anyLong, waitingSize, linesSize, linesFit, Outcome, finished, refused, lined, turn, runFrom, run, linesAt}
 use Rattle.rules.specs.Answer.{solving, answered}
-use Rattle.rules.specs.Each.{Each}
 use Rattle.rules.proofs.Invariant.{answered-run}
 use Rattle.exact.proofs.Exact.{lines-settled, answer-declared}
 use Rattle.example.specs.Answers.{Good, Ranged}
@@ -73,38 +72,38 @@ module _ (L : Limits) where
   goes true r o p = p refl
   goes false r o p = tt
 
-  turn-fits : (go : List Conj → List Conj → List Conj → Outcome) → ((ls ks w : List Conj) → linesFit L ls ≡ true → Fits (go ls ks w)) → (n : ℕ) (ls w : List Conj) → linesFit L ls ≡ true → Fits (turn L go n ls w)
+  turn-fits : (go : List Numbered → List Conj → List Numbered → Outcome) → ((ls : List Numbered) (ks : List Conj) (w : List Numbered) → linesFit L ls ≡ true → Fits (go ls ks w)) → (n : ℕ) (ls w : List Numbered) → linesFit L ls ≡ true → Fits (turn L go n ls w)
   unfolding Fits
   turn-fits go on n ls [] p = p
-  turn-fits go on n ls (k ∷ w) p = taken (step k) (goes (linesFit L (ls ++ (k ∷ []))) LineRoom _ (λ q. turn-fits go on n (ls ++ (k ∷ [])) w q))
+  turn-fits go on n ls (k ∷ w) p = taken (step (k .literals)) (goes (linesFit L (ls ++ (k ∷ []))) LineRoom _ (λ q. turn-fits go on n (ls ++ (k ∷ [])) w q))
     where
-      taken : (m : Reply (List Conj)) → Fits (lined L (ls ++ (k ∷ [])) (λ ms. turn L go n ms w)) → Fits (elim m [ results ks ↦ go ls ks (ks ++ w) | nothing ↦ lined L (ls ++ (k ∷ [])) (λ ms. turn L go n ms w) | stops r ↦ refused r ])
+      taken : (m : Reply (List Conj)) → Fits (lined L (ls ++ (k ∷ [])) (λ ms. turn L go n ms w)) → Fits (elim m [ results ks ↦ go ls ks (allOf (k .number) ks ++ w) | nothing ↦ lined L (ls ++ (k ∷ [])) (λ ms. turn L go n ms w) | stops r ↦ refused r ])
       taken nothing line = line
-      taken (results ks) line = on ls ks (ks ++ w) p
+      taken (results ks) line = on ls ks (allOf (k .number) ks ++ w) p
       taken (stops r) line = tt
 
-  from-fits : (d n : ℕ) (ls w : List Conj) → linesFit L ls ≡ true → Fits (runFrom L d n ls w)
+  from-fits : (d n : ℕ) (ls w : List Numbered) → linesFit L ls ≡ true → Fits (runFrom L d n ls w)
   unfolding runFrom Fits
   from-fits zero n ls w p = turn-fits (λ _ _ _. refused StepLimit) (λ _ _ _ _. tt) n ls w p
   from-fits (suc d) n ls w p = turn-fits _ (λ ms ks v q. halts (anyLong L ks) LongResult _ (halts (ltb (L .room) (waitingSize v)) LongWaiting _ (from-fits d (suc n) ms v q))) n ls w p
 
-lines-fit : (w ls : List Conj) (n : ℕ) → run desk w ≡ finished ls n → linesFit desk ls ≡ true
+lines-fit : (w : List Conj) (ls : List Numbered) (n : ℕ) → run desk w ≡ finished ls n → linesFit desk ls ≡ true
 unfolding run Fits
-lines-fit w ls n e = rw e at (from-fits desk (desk .steps) 0 [] w refl)
+lines-fit w ls n e = rw e at (from-fits desk (desk .steps) 0 [] (numbered 0 w) refl)
 
 -- ---- an answered question
 
-pub record Ends (question : List ℕ) (ls : List Conj) : Type 0 where
+pub record Ends (question : List ℕ) (ls : List Numbered) : Type 0 where
   pub ranged : Ranged question
   pub few : length ls ≤ desk .lines
   pub size : linesAt desk + linesSize ls ≤ desk .room
-  pub lines : Each Good ls
+  pub lines : EachLine Good ls
 
-each-good : (n : Counts) → n .symbols ≤ desk .each → n .terms ≤ desk .each → n .hedges ≤ desk .each → n .functions ≤ desk .each → (ls : List Conj) → Each (λ k. declaredC n k ≡ true) ls → Each (λ k. step k ≡ nothing) ls → Each Good ls
+each-good : (n : Counts) → n .symbols ≤ desk .each → n .terms ≤ desk .each → n .hedges ≤ desk .each → n .functions ≤ desk .each → (ls : List Numbered) → EachLine (λ k. declaredC n k ≡ true) ls → EachLine (λ k. step k ≡ nothing) ls → EachLine Good ls
 each-good n s t h f [] d q = tt
-each-good n s t h f (l ∷ ls) d q = (record { fine = conj-fine n s t h f l (d .0); settled = settled-line l (q .0) }, each-good n s t h f ls (d .1) (q .1))
+each-good n s t h f (l ∷ ls) d q = (record { fine = conj-fine n s t h f (l .literals) (d .0); settled = settled-line (l .literals) (q .0) }, each-good n s t h f ls (d .1) (q .1))
 
-pub lines-end : (work answer : ℕ) (question : List ℕ) (ls : List Conj) (n : ℕ) → solving desk work answer question ≡ answered ls n → Ends question ls
+pub lines-end : (work answer : ℕ) (question : List ℕ) (ls : List Numbered) (n : ℕ) → solving desk work answer question ≡ answered ls n → Ends question ls
 lines-end work answer question ls n e =
     let (q, asked, ran) = answered-run desk work answer question ls n e in
     let r = ranges desk question q asked in

@@ -7,72 +7,70 @@ use native.Mathlib.Omega.{arith}
 use lib.ListN.{length, getD, drop, length-append, List·getD-append, replicate, length-replicate}
 use lib.Seq.{drop-append-add, drop-append-seam}
 use Rattle.language.specs.Limits.{desk}
-use Rattle.language.specs.Trees.{Conj}
 use Rattle.language.specs.Writing.{conjWords}
 use Rattle.meaning.specs.Values.{offsetsOf, joined}
-use Rattle.rules.specs.Run.{linesSize, linesAt}
+use Rattle.rules.specs.Run.{Numbered, EachLine, linesSize, linesAt}
 use Rattle.rules.specs.Answer.{lineWords, answerWords}
 use Rattle.rules.specs.Calls.{lineAt}
-use Rattle.rules.specs.Each.{Each}
 use Rattle.answers.proofs.Rows.{header, in-a-row, length-header, length-lines, length-answer}
 use Rattle.example.specs.Answers.{Good, Answer}
 use Rattle.example.proofs.Tables.{joined-row}
 
 -- ---- the line of a number
 
-record Split (ls : List Conj) (i : ℕ) : Type 0 where
-  before : List Conj
-  l : Conj
-  behind : List Conj
+record Split (ls : List Numbered) (i : ℕ) : Type 0 where
+  before : List Numbered
+  l : Numbered
+  behind : List Numbered
   split : ls ≡ before ++ (l ∷ behind)
   place : i ≡ length before
   is : lineAt i ls ≡ some l
-  good : Good l
+  good : Good (l .literals)
 
-split-at : (ls : List Conj) (i : ℕ) → i < length ls → Each Good ls → Split ls i
+split-at : (ls : List Numbered) (i : ℕ) → i < length ls → EachLine Good ls → Split ls i
 split-at [] i p g = absurd (omega arith)
 split-at (k ∷ ls) zero p g = record { before = []; l = k; behind = ls; split = refl; place = refl; is = refl; good = g .0 }
 split-at (k ∷ ls) (suc i) p g =
     let s = split-at ls i (omega arith) (g .1) in
     record { before = k ∷ s .before; l = s .l; behind = s .behind; split = ap (λ r. k ∷ r) (s .split); place = ap suc (s .place); is = s .is; good = s .good }
 
-pub no-line : (ls : List Conj) (i : ℕ) → length ls ≤ i → lineAt i ls ≡ none
+pub no-line : (ls : List Numbered) (i : ℕ) → length ls ≤ i → lineAt i ls ≡ none
 no-line [] i p = refl
 no-line (k ∷ ls) zero p = absurd (omega arith)
 no-line (k ∷ ls) (suc i) p = no-line ls i (omega arith)
 
 -- ---- offsets
 
-offset-at : (at : ℕ) (before : List Conj) (l : Conj) (behind : List Conj) → getD (offsetsOf at (map lineWords (before ++ (l ∷ behind)))) (length before) 0 ≡ at + linesSize before
+offset-at : (at : ℕ) (before : List Numbered) (l : Numbered) (behind : List Numbered) → getD (offsetsOf at (map lineWords (before ++ (l ∷ behind)))) (length before) 0 ≡ at + linesSize before
 offset-at at [] l behind = let z : at ≡ at + 0 = omega arith in z
-offset-at at (k ∷ before) l behind = let e = offset-at (at + length (lineWords k)) before l behind in let z : at + suc (length (conjWords k)) + linesSize before ≡ at + (suc (length (conjWords k)) + linesSize before) = omega arith in e ∙ z
+offset-at at (k ∷ before) l behind = let e = offset-at (at + length (lineWords k)) before l behind in let z : at + suc (suc (length (conjWords (k .literals)))) + linesSize before ≡ at + (suc (suc (length (conjWords (k .literals)))) + linesSize before) = omega arith in e ∙ z
 
-offset-next : (at : ℕ) (before : List Conj) (l : Conj) (behind : List Conj) → getD (offsetsOf at (map lineWords (before ++ (l ∷ behind)))) (suc (length before)) 0 ≡ at + linesSize before + suc (length (conjWords l))
+offset-next : (at : ℕ) (before : List Numbered) (l : Numbered) (behind : List Numbered) → getD (offsetsOf at (map lineWords (before ++ (l ∷ behind)))) (suc (length before)) 0 ≡ at + linesSize before + suc (suc (length (conjWords (l .literals))))
 offset-next at [] l behind = first behind
   where
-    first : (behind : List Conj) → getD (offsetsOf (at + suc (length (conjWords l))) (map lineWords behind)) 0 0 ≡ at + 0 + suc (length (conjWords l))
-    first [] = let z : at + suc (length (conjWords l)) ≡ at + 0 + suc (length (conjWords l)) = omega arith in z
-    first (k ∷ ks) = let z : at + suc (length (conjWords l)) ≡ at + 0 + suc (length (conjWords l)) = omega arith in z
+    first : (behind : List Numbered) → getD (offsetsOf (at + suc (suc (length (conjWords (l .literals))))) (map lineWords behind)) 0 0 ≡ at + 0 + suc (suc (length (conjWords (l .literals))))
+    first [] = let z : at + suc (suc (length (conjWords (l .literals)))) ≡ at + 0 + suc (suc (length (conjWords (l .literals)))) = omega arith in z
+    first (k ∷ ks) = let z : at + suc (suc (length (conjWords (l .literals)))) ≡ at + 0 + suc (suc (length (conjWords (l .literals)))) = omega arith in z
 offset-next at (k ∷ before) l behind =
     let e = offset-next (at + length (lineWords k)) before l behind in
-    let z : at + suc (length (conjWords k)) + linesSize before + suc (length (conjWords l)) ≡ at + (suc (length (conjWords k)) + linesSize before) + suc (length (conjWords l)) = omega arith in
+    let z : at + suc (suc (length (conjWords (k .literals)))) + linesSize before + suc (suc (length (conjWords (l .literals)))) ≡ at + (suc (suc (length (conjWords (k .literals)))) + linesSize before) + suc (suc (length (conjWords (l .literals)))) = omega arith in
     e ∙ z
 
 -- ---- where a line stands
 
-pub record Place (answer : List ℕ) (ls : List Conj) (i : ℕ) : Type 0 where
-  pub l : Conj
+pub record Place (answer : List ℕ) (ls : List Numbered) (i : ℕ) : Type 0 where
+  pub l : Numbered
   pub is : lineAt i ls ≡ some l
-  pub good : Good l
+  pub good : Good (l .literals)
   pub from : ℕ
   pub offset : getD answer (i + 2) 0 ≡ from
-  pub next : getD answer (i + 3) 0 ≡ from + suc (length (conjWords l))
-  pub within : from + suc (length (conjWords l)) ≤ desk .room
+  pub next : getD answer (i + 3) 0 ≡ from + suc (suc (length (conjWords (l .literals))))
+  pub within : from + suc (suc (length (conjWords (l .literals)))) ≤ desk .room
   pub few : i ≤ desk .lines
   pub beyond : List ℕ
   pub here : drop from answer ≡ lineWords l ++ beyond
 
-module _ {answer : List ℕ} {ls : List Conj} (a : Answer answer ls) where
+module _ {answer : List ℕ} {ls : List Numbered} (a : Answer answer ls) where
   -- the words behind the header
   tail : List ℕ
   tail = replicate (desk .lines - length ls) 0 ++ ((joined (map lineWords ls) ++ replicate (desk .room - (linesAt desk + linesSize ls)) 0) ++ a .rest)
@@ -139,17 +137,17 @@ module _ {answer : List ℕ} {ls : List Conj} (a : Answer answer ls) where
           ap (λ j. getD answer j 0) two ∙ offsets-are i (omega arith) ∙ ap (λ j. getD (offsetsOf (linesAt desk) (map lineWords ls)) j 0) (s .place)
           ∙ ap (λ ks. getD (offsetsOf (linesAt desk) (map lineWords ks)) (length (s .before)) 0) (s .split) ∙ offset-at (linesAt desk) (s .before) (s .l) (s .behind)
 
-      next : (s : Split ls i) → getD answer (i + 3) 0 ≡ linesAt desk + linesSize (s .before) + suc (length (conjWords (s .l)))
+      next : (s : Split ls i) → getD answer (i + 3) 0 ≡ linesAt desk + linesSize (s .before) + suc (suc (length (conjWords (s .l .literals))))
       next s =
           let sizes = length-header ls in
           ap (λ j. getD answer j 0) three ∙ offsets-are (suc i) (omega arith) ∙ ap (λ j. getD (offsetsOf (linesAt desk) (map lineWords ls)) (suc j) 0) (s .place)
           ∙ ap (λ ks. getD (offsetsOf (linesAt desk) (map lineWords ks)) (suc (length (s .before))) 0) (s .split) ∙ offset-next (linesAt desk) (s .before) (s .l) (s .behind)
 
-      sizes-of : (before : List Conj) (l : Conj) (behind : List Conj) → linesSize before + suc (length (conjWords l)) ≤ linesSize (before ++ (l ∷ behind))
+      sizes-of : (before : List Numbered) (l : Numbered) (behind : List Numbered) → linesSize before + suc (suc (length (conjWords (l .literals)))) ≤ linesSize (before ++ (l ∷ behind))
       sizes-of [] l behind = omega arith
       sizes-of (k ∷ before) l behind = let h = sizes-of before l behind in omega arith
 
-      within : (s : Split ls i) → linesAt desk + linesSize (s .before) + suc (length (conjWords (s .l))) ≤ desk .room
+      within : (s : Split ls i) → linesAt desk + linesSize (s .before) + suc (suc (length (conjWords (s .l .literals)))) ≤ desk .room
       within s =
           let m = sizes-of (s .before) (s .l) (s .behind) in
           let e = ap linesSize (s .split) in

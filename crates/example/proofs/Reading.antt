@@ -1,5 +1,5 @@
 -- A line read back from an answer, and its example.
-use Prim.Native.Nat.{ℕ, suc, _+_, _-_, _<_, _≤_}
+use Prim.Native.Nat.{ℕ, _+_, _-_, _<_, _≤_}
 use mathlib.Core.Path.{_≡_, refl, sym, ap, _∙_}
 use mathlib.Core.Bool.{Bool, true, false}
 use mathlib.Core.List.{List, [], _∷_, _++_}
@@ -14,9 +14,11 @@ use Rattle.language.specs.Writing.{conjWords}
 use Rattle.language.specs.Question.{countsOf}
 use Rattle.meaning.specs.Values.{fillingWords}
 use Rattle.rules.specs.Solved.{solved}
+use Rattle.rules.specs.Run.{Numbered}
 use Rattle.rules.specs.Answer.{markOf, lineWords}
 use Rattle.rules.specs.Example.{example}
 use Rattle.rules.specs.Calls.{Showing, denied, fitted, shown}
+use Rattle.answers.specs.Lined.{lineHead}
 use Rattle.values.specs.Lines.{Line}
 use Rattle.values.specs.Values.{SettledLine}
 use Rattle.words.proofs.Parts.{drop-of, word-of}
@@ -50,23 +52,25 @@ by-other false n = refl
 abbrev by-solved : Counts → ℕ → Conj → Bool → Showing
 by-solved n room c b = elim b [ true ↦ fitted desk room (fillingWords n (example c)) | false ↦ denied OpenLine ]
 
-mark-is : (answer : List ℕ) (from mark : ℕ) → mark ≡ getD answer from 0 → (c : Conj) (beyond : List ℕ) → drop from answer ≡ lineWords c ++ beyond → mark ≡ pick (solved c) 1 2
+mark-is : (answer : List ℕ) (from mark : ℕ) → mark ≡ getD answer from 0 → (c : Numbered) (beyond : List ℕ) → drop from answer ≡ lineWords c ++ beyond → mark ≡ pick (solved (c .literals)) 1 2
 mark-is answer from mark m c beyond e = m ∙ word-of answer from (lineWords c ++ beyond) e
 
-line-of : (answer : List ℕ) (from to : ℕ) (c : Conj) (beyond : List ℕ) → drop from answer ≡ lineWords c ++ beyond → to ≡ from + suc (length (conjWords c)) → Good c → Line (take (to - (from + 1)) (drop (from + 1) answer)) c
+line-of : (answer : List ℕ) (from to : ℕ) (c : Numbered) (beyond : List ℕ) → drop from answer ≡ lineWords c ++ beyond → to ≡ from + lineHead + length (conjWords (c .literals)) → Good (c .literals)
+    → Line (take (to - (from + lineHead)) (drop (from + lineHead) answer)) (c .literals)
 line-of answer from to c beyond e d g = record {
   words =
-      let n : to - (from + 1) ≡ length (conjWords c) = omega arith in
-      ap (take (to - (from + 1))) (drop-of answer from (from + 1) (markOf c ∷ []) (conjWords c ++ beyond) e refl) ∙ ap (λ i. take i (conjWords c ++ beyond)) n ∙ take-append-seam (conjWords c) beyond;
+      let ws = conjWords (c .literals) in
+      let n : to - (from + lineHead) ≡ length ws = omega arith in
+      ap (take (to - (from + lineHead))) (drop-of answer from (from + lineHead) (markOf (c .literals) ∷ c .number ∷ []) (ws ++ beyond) e refl) ∙ ap (λ i. take i (ws ++ beyond)) n ∙ take-append-seam ws beyond;
   fine = g .fine;
 }
 
-is-solved : (answer : List ℕ) (from mark : ℕ) → mark ≡ getD answer from 0 → mark ≡ 1 → (c : Conj) (beyond : List ℕ) → drop from answer ≡ lineWords c ++ beyond → solved c ≡ true
-is-solved answer from mark m z c beyond e = by-mark (solved c) (sym (mark-is answer from mark m c beyond e) ∙ z)
+is-solved : (answer : List ℕ) (from mark : ℕ) → mark ≡ getD answer from 0 → mark ≡ 1 → (c : Numbered) (beyond : List ℕ) → drop from answer ≡ lineWords c ++ beyond → solved (c .literals) ≡ true
+is-solved answer from mark m z c beyond e = by-mark (solved (c .literals)) (sym (mark-is answer from mark m c beyond e) ∙ z)
 
-pub part-settled : {answer : List ℕ} {from to mark : ℕ} → mark ≡ getD answer from 0 → mark ≡ 1 → LineIn answer from to → SettledLine (take (to - (from + 1)) (drop (from + 1) answer))
+pub part-settled : {answer : List ℕ} {from to mark : ℕ} → mark ≡ getD answer from 0 → mark ≡ 1 → LineIn answer from to → SettledLine (take (to - (from + lineHead)) (drop (from + lineHead) answer))
 part-settled {answer} {from} {to} {mark} m z l = record {
-  c = l .c;
+  c = l .c .literals;
   line = line-of answer from to (l .c) (l .beyond) (l .here) (l .end) (l .good);
   settled = l .good .settled (is-solved answer from mark m z (l .c) (l .beyond) (l .here));
 }
@@ -74,27 +78,27 @@ part-settled {answer} {from} {to} {mark} m z l = record {
 module _ {question answer old : List ℕ} {from to mark : ℕ} (m : mark ≡ getD answer from 0) where
   pub part-open : (mark ≡ 1 → ⊥) → PartShown question answer from to old old (Denied OpenLine)
   part-open n = record {
-    result = λ c beyond e d g. ap (λ b. resultOf (by-solved (countsOf question) (length old) c b)) (sym (is-open c beyond e));
-    room = λ c beyond e d g. ap (λ b. roomOf (by-solved (countsOf question) (length old) c b) old) (sym (is-open c beyond e));
+    result = λ c beyond e d g. ap (λ b. resultOf (by-solved (countsOf question) (length old) (c .literals) b)) (sym (is-open c beyond e));
+    room = λ c beyond e d g. ap (λ b. roomOf (by-solved (countsOf question) (length old) (c .literals) b) old) (sym (is-open c beyond e));
   }
     where
-      is-open : (c : Conj) (beyond : List ℕ) → drop from answer ≡ lineWords c ++ beyond → solved c ≡ false
-      is-open c beyond e = by-other (solved c) (λ z. n (mark-is answer from mark m c beyond e ∙ z))
+      is-open : (c : Numbered) (beyond : List ℕ) → drop from answer ≡ lineWords c ++ beyond → solved (c .literals) ≡ false
+      is-open c beyond e = by-other (solved (c .literals)) (λ z. n (mark-is answer from mark m c beyond e ∙ z))
 
-  pub part-shown : {new : List ℕ} {r : Shown} → mark ≡ 1 → WordsShown question (take (to - (from + 1)) (drop (from + 1) answer)) old new r → PartShown question answer from to old new r
+  pub part-shown : {new : List ℕ} {r : Shown} → mark ≡ 1 → WordsShown question (take (to - (from + lineHead)) (drop (from + lineHead) answer)) old new r → PartShown question answer from to old new r
   part-shown z s = record {
     result = λ c beyond e d g.
         let y = is-solved answer from mark m z c beyond e in
-        s .result c (line-of answer from to c beyond e d g) (g .settled y) ∙ ap (λ b. resultOf (by-solved (countsOf question) (length old) c b)) (sym y);
+        s .result (c .literals) (line-of answer from to c beyond e d g) (g .settled y) ∙ ap (λ b. resultOf (by-solved (countsOf question) (length old) (c .literals) b)) (sym y);
     room = λ c beyond e d g.
         let y = is-solved answer from mark m z c beyond e in
-        s .room c (line-of answer from to c beyond e d g) (g .settled y) ∙ ap (λ b. roomOf (by-solved (countsOf question) (length old) c b) old) (sym y);
+        s .room (c .literals) (line-of answer from to c beyond e d g) (g .settled y) ∙ ap (λ b. roomOf (by-solved (countsOf question) (length old) (c .literals) b) old) (sym y);
   }
 
 -- ---- by its number
 
 module _ {answer : List ℕ} {lines w : ℕ} (d : w ≡ getD answer 0 0) (e : lines ≡ w) where
-  count : (ls : List Conj) → Answer answer ls → lines ≡ length ls
+  count : (ls : List Numbered) → Answer answer ls → lines ≡ length ls
   count ls a = e ∙ d ∙ count-is a
 
   pub line-missing : {question old : List ℕ} {line : ℕ} → lines ≤ line → AnswerShown question line answer old old (Denied NoSuchLine)
@@ -104,10 +108,10 @@ module _ {answer : List ℕ} {lines w : ℕ} (d : w ≡ getD answer 0 0) (e : li
   }
 
   module _ {line from to u v : ℕ} (f : u ≡ getD answer (line + 2) 0) (g : from ≡ u) (h : v ≡ getD answer (line + 3) 0) (i : to ≡ v) (p : line < lines) where
-    place : (ls : List Conj) → Answer answer ls → Place answer ls line
+    place : (ls : List Numbered) → Answer answer ls → Place answer ls line
     place ls a = let n = count ls a in place-of a line (omega arith)
 
-    pub part-fits : Answered answer → (from < to) × (to ≤ length answer) × (to ≤ 65536) × LineIn answer from to
+    pub part-fits : Answered answer → (from + lineHead ≤ to) × (to ≤ length answer) × (to ≤ 65536) × LineIn answer from to
     part-fits a =
         let q = place (a .ls) (a .is) in
         let x = q .offset in

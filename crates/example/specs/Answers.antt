@@ -1,5 +1,5 @@
 -- An answer that stands in a slice, and what is known of its lines.
-use Prim.Native.Nat.{ℕ, suc, _+_, _≤_}
+use Prim.Native.Nat.{ℕ, _+_, _≤_}
 use mathlib.Core.Path.{_≡_}
 use mathlib.Core.Bool.{true}
 use mathlib.Core.List.{List, _++_}
@@ -13,11 +13,11 @@ use Rattle.meaning.specs.Values.{fillingWords}
 use Rattle.values.specs.Lines.{Line}
 use Rattle.language.specs.Question.{countsOf}
 use Rattle.rules.specs.Solved.{solved}
-use Rattle.rules.specs.Run.{linesSize, linesAt}
+use Rattle.rules.specs.Run.{Numbered, EachLine, linesSize, linesAt}
 use Rattle.rules.specs.Answer.{lineWords, answerWords}
 use Rattle.rules.specs.Example.{example}
 use Rattle.rules.specs.Calls.{fitted, shown, lineAt}
-use Rattle.rules.specs.Each.{Each}
+use Rattle.answers.specs.Lined.{lineHead}
 use Rattle.values.specs.Values.{Settled}
 use Rattle.outcomes.specs.declared.Shown.{Shown}
 use Rattle.example.specs.Shown.{resultOf, roomOf}
@@ -27,16 +27,16 @@ pub record Good (l : Conj) : Type 0 where
   pub settled : solved l ≡ true → Settled l
 
 -- the answer that has the lines ls stands at the front
-pub record Answer (answer : List ℕ) (ls : List Conj) : Type 0 where
+pub record Answer (answer : List ℕ) (ls : List Numbered) : Type 0 where
   pub few : length ls ≤ desk .lines
   pub size : linesAt desk + linesSize ls ≤ desk .room
   pub rest : List ℕ
   pub words : answer ≡ answerWords desk ls ++ rest
-  pub lines : Each Good ls
+  pub lines : EachLine Good ls
 
 -- an answer stands at the front
 pub record Answered (answer : List ℕ) : Type 0 where
-  pub ls : List Conj
+  pub ls : List Numbered
   pub is : Answer answer ls
 
 -- no more variables of a kind than there may be
@@ -51,22 +51,22 @@ pub record WordsShown (question k old new : List ℕ) (r : Shown) : Type 0 where
   pub result : (c : Conj) → Line k c → Settled c → r ≡ resultOf (fitted desk (length old) (fillingWords (countsOf question) (example c)))
   pub room : (c : Conj) → Line k c → Settled c → new ≡ roomOf (fitted desk (length old) (fillingWords (countsOf question) (example c))) old
 
--- a line stands in this part of an answer, its mark first
+-- a line stands in this part of an answer, its mark first and then its number
 pub record LineIn (answer : List ℕ) (from to : ℕ) : Type 0 where
-  pub c : Conj
+  pub c : Numbered
   pub beyond : List ℕ
   pub here : drop from answer ≡ lineWords c ++ beyond
-  pub end : to ≡ from + suc (length (conjWords c))
-  pub good : Good c
+  pub end : to ≡ from + lineHead + length (conjWords (c .literals))
+  pub good : Good (c .literals)
 
--- the example of the line whose mark and words are this part
+-- the example of the line whose mark, number and words are this part
 pub record PartShown (question answer : List ℕ) (from to : ℕ) (old new : List ℕ) (r : Shown) : Type 0 where
-  pub result : (c : Conj) (beyond : List ℕ) → drop from answer ≡ lineWords c ++ beyond → to ≡ from + suc (length (conjWords c)) → Good c
+  pub result : (c : Numbered) (beyond : List ℕ) → drop from answer ≡ lineWords c ++ beyond → to ≡ from + lineHead + length (conjWords (c .literals)) → Good (c .literals)
       → r ≡ resultOf (shown desk (countsOf question) (length old) (some c))
-  pub room : (c : Conj) (beyond : List ℕ) → drop from answer ≡ lineWords c ++ beyond → to ≡ from + suc (length (conjWords c)) → Good c
+  pub room : (c : Numbered) (beyond : List ℕ) → drop from answer ≡ lineWords c ++ beyond → to ≡ from + lineHead + length (conjWords (c .literals)) → Good (c .literals)
       → new ≡ roomOf (shown desk (countsOf question) (length old) (some c)) old
 
 -- the example of a line of an answer is shown, or why not
 pub record AnswerShown (question : List ℕ) (line : ℕ) (answer old new : List ℕ) (r : Shown) : Type 0 where
-  pub result : (ls : List Conj) → Answer answer ls → r ≡ resultOf (shown desk (countsOf question) (length old) (lineAt line ls))
-  pub room : (ls : List Conj) → Answer answer ls → new ≡ roomOf (shown desk (countsOf question) (length old) (lineAt line ls)) old
+  pub result : (ls : List Numbered) → Answer answer ls → r ≡ resultOf (shown desk (countsOf question) (length old) (lineAt line ls))
+  pub room : (ls : List Numbered) → Answer answer ls → new ≡ roomOf (shown desk (countsOf question) (length old) (lineAt line ls)) old

@@ -1,15 +1,17 @@
 // The example of a line, written as a filling: a table of offsets, and the values of the variables.
 mod sorts;
 
-ghost use Prim.Native.Nat.{_<_, _≤_};
+ghost use Prim.Native.Nat.{_+_, _≤_};
 ghost use lib.ListN.{length};
 ghost use mathlib.Core.Path.{_≡_};
 ghost use Rattle.language.specs.Limits.{desk};
 ghost use Rattle.outcomes.specs.Numbers.{shownNumbers};
+ghost use Rattle.answers.specs.Lined.{lineHead};
 ghost use Rattle.values.specs.Values.{SettledLine};
 ghost use Rattle.example.specs.Exhibits.{toldExhibits};
 ghost use Rattle.example.specs.Answers.{Ranged, Answered, LineIn, WordsShown, PartShown, AnswerShown};
 ghost use Rattle.example.specs.Fillings.{FillingLength, TableWritten, ValuesWritten, LineShown};
+use answers::LINE_HEAD;
 use language::Refusal;
 use language::limits::FILLING;
 use language::wide;
@@ -93,16 +95,16 @@ fn show_words(question: &[u16], k: &[u16], room: &mut [u16]) -> Shown
     fill_line(k, terms, hedges, functions, room)
 }
 
-// The example of the line that stands in a part of an answer, its mark first.
+// The example of the line that stands in a part of an answer, its mark first and then its number.
 fn show_part(question: &[u16], answer: &[u16], from: usize, to: usize, room: &mut [u16]) -> Shown
-    requires { ⌜ Ranged (now question) × (from < to) × (to ≤ length (now answer)) × (to ≤ 65536) × LineIn (now answer) from to ⌝ }
+    requires { ⌜ Ranged (now question) × (from + lineHead ≤ to) × (to ≤ length (now answer)) × (to ≤ 65536) × LineIn (now answer) from to ⌝ }
     ensures { λ r. ⌜ PartShown (now (question .entry)) (now (answer .entry)) from to (now (room .entry)) (now (room .exit)) r ⌝ }
 {
     let mark = word(answer, from);
     if mark != 1 {
         return Shown::Denied(Refusal::OpenLine);
     }
-    show_words(question, &answer[from + 1..to], room)
+    show_words(question, &answer[from + LINE_HEAD..to], room)
 }
 
 // The example of a line of an answer, read where it stands.

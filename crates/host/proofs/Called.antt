@@ -11,7 +11,7 @@ use Rattle.outcomes.specs.Numbers.{SolveNumbers}
 use Rattle.solver.specs.Leaves.{toldLeaves}
 use Rattle.word_bytes.specs.Bytes.{bytesOf, wordsIn, fitting}
 use Rattle.host.specs.Host.{solvingBytes, solveNumber}
-use Rattle.host.proofs.Refusals.{Numbered, numbered}
+use Rattle.host.proofs.Refusals.{InRange, in-range}
 use Rattle.host.proofs.Solves.{Left, Own, same, kept, wrote, bytes-left}
 
 none-behind : (ws own : List ℕ) → length own ≡ desk .room → ws ++ drop (desk .room) own ≡ ws
@@ -41,9 +41,9 @@ module _ (q a : List ℕ) (room : 2 * desk .room ≤ length a)
   told : (r .number ≡ solveNumber comes) × Own comes o′
   told = read-off comes r w o w′ o′ own (solved ∙ ap (λ (s : Solving). toldLeaves s w o) comes-to)
 
-  some-number : Numbered comes
+  some-number : InRange comes
   unfolding solvingBytes
-  some-number = numbered desk (desk .room) (length a / 2) (wordsIn q)
+  some-number = in-range desk (desk .room) (length a / 2) (wordsIn q)
 
   pub refused-early : 1 ≤ k → k ≤ 6 → Left q a comes k a
   refused-early low high = kept q a room comes k some-number (number ∙ told .0) low high

@@ -11,12 +11,13 @@ use borrow.Author.Tests.{leb-false, ltb-false, lt-leb, le-ltb}
 use Rattle.language.specs.declared.Refusal.the-variants.{ShortSlice, QuestionLength, FillingLayout, LongExample, OpenLine}
 use Rattle.language.specs.Kinds.{pick}
 use Rattle.language.specs.Limits.{desk}
-use Rattle.language.specs.Trees.{Conj, Counts}
+use Rattle.language.specs.Trees.{Counts}
 use Rattle.language.specs.Question.{Asked, asks, refuses, readQuestion, lengthFits, laidOut, rises, offsets, countsOf}
 use Rattle.meaning.specs.Values.{Given, readFilling, variables, fillingWords}
 use Rattle.meaning.specs.Values as values
 use Rattle.rules.specs.Solved.{solved}
 use Rattle.rules.specs.Example.{example}
+use Rattle.rules.specs.Run.{Numbered}
 use Rattle.rules.specs.Answer.{Solving, answered, unread, given-up, solvingOf, solving}
 use Rattle.rules.specs.Calls.{Trying, tryingWith, tryingOf, trying, Showing, shows, denied, lineAt, fitted, shown, showingOf, showing}
 use Rattle.rules.specs.Calls as calls
@@ -113,10 +114,10 @@ fitted-used room ws = go (leb room (desk .filling)) refl where
   go true e = refl
   go false e = wide (ltb (desk .filling) (length ws)) refl (leb-false _ _ e)
 
-shown-used : (n : Counts) (room : ℕ) (o : Option Conj) → shown desk n (used (desk .filling) room) o ≡ shown desk n room o
+shown-used : (n : Counts) (room : ℕ) (o : Option Numbered) → shown desk n (used (desk .filling) room) o ≡ shown desk n room o
 shown-used n room none = refl
 shown-used n room (some k) =
-    ap (λ (s : Showing). elim (solved k) [ true ↦ s | false ↦ denied OpenLine ]) (fitted-used room (fillingWords n (example k)))
+    ap (λ (s : Showing). elim (solved (k .literals)) [ true ↦ s | false ↦ denied OpenLine ]) (fitted-used room (fillingWords n (example (k .literals))))
 
 showing-used : (n : Counts) (room line : ℕ) (s : Solving) → showingOf desk n (used (desk .filling) room) line s ≡ showingOf desk n room line s
 showing-used n room line (answered ls steps) = shown-used n room (lineAt line ls)

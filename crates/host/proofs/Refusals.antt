@@ -10,7 +10,7 @@ use Rattle.language.specs.Limits.{Limits}
 use Rattle.language.specs.Numbers.{numberOf}
 use Rattle.language.specs.Trees.{Conj}
 use Rattle.language.specs.Question.{Asked, asks, refuses, readQuestion, lengthFits, countsFit, laidOut, readAll, parts, declaredQ, countsOf, alternativesOf}
-use Rattle.rules.specs.Run.{Outcome, finished, refused, turn, anyLong, waitingSize, linesFit, runFrom, run}
+use Rattle.rules.specs.Run.{Numbered, allOf, numbered, Outcome, finished, refused, turn, anyLong, waitingSize, linesFit, runFrom, run}
 use Rattle.rules.specs.Reply.{Reply, nothing, results, stops}
 use Rattle.rules.specs.Step.{step}
 use Rattle.rules.specs.Answer.{Solving, answered, unread, given-up, ran, solvingOf, solving}
@@ -76,18 +76,19 @@ late-turned (results ks) s go x h e = h ks
 late-turned nothing s go x h e = e
 late-turned (stops r) s go x h e = absurd s
 
-late-turn : (L : Limits) (go : List Conj → List Conj → List Conj → Outcome) → ((ls ks w : List Conj) → Late (go ls ks w)) → (n : ℕ) (ls w : List Conj)
+late-turn : (L : Limits) (go : List Numbered → List Conj → List Numbered → Outcome) → ((ls : List Numbered) (ks : List Conj) (w : List Numbered) → Late (go ls ks w))
+    → (n : ℕ) (ls w : List Numbered)
     → Late (turn L go n ls w)
 late-turn L go h n ls [] = tt
 late-turn L go h n ls (k ∷ w) =
-    late-turned (step k) (step-never-stops k) (λ ks. go ls ks (ks ++ w)) _ (λ ks. h ls ks (ks ++ w))
+    late-turned (step (k .literals)) (step-never-stops (k .literals)) (λ ks. go ls ks (allOf (k .number) ks ++ w)) _ (λ ks. h ls ks (allOf (k .number) ks ++ w))
     (late-lined (linesFit L (ls ++ (k ∷ []))) _ (late-turn L go h n (ls ++ (k ∷ [])) w))
 
 late-tested : (b : Bool) (r : Refusal) (x : Outcome) → Between 7 10 r → Late x → Late (elim b [ true ↦ refused r | false ↦ x ])
 late-tested true r x h e = h
 late-tested false r x h e = e
 
-late-from : (L : Limits) (d n : ℕ) (ls w : List Conj) → Late (runFrom L d n ls w)
+late-from : (L : Limits) (d n : ℕ) (ls w : List Numbered) → Late (runFrom L d n ls w)
 unfolding runFrom
 late-from L zero n ls w = late-turn L _ (λ ms ks v. (lit≤ tt, lit≤ tt)) n ls w
 late-from L (suc d) n ls w =
@@ -99,29 +100,29 @@ late-from L (suc d) n ls w =
 
 late : (L : Limits) (w : List Conj) → Late (run L w)
 unfolding run
-late L w = late-from L (L .steps) 0 [] w
+late L w = late-from L (L .steps) 0 [] (numbered 0 w)
 
 -- ---- solving
 
 -- "1 to 6 ..: unchanged"; "7 to 10: zeros"
-abbrev pub Numbered : Solving → Type 0
-Numbered (answered ls n) = Unit {0}
-Numbered (unread r) = Between 1 6 r
-Numbered (given-up r) = Between 7 10 r
+abbrev pub InRange : Solving → Type 0
+InRange (answered ls n) = Unit {0}
+InRange (unread r) = Between 1 6 r
+InRange (given-up r) = Between 7 10 r
 
-numbered-run : (o : Outcome) → Late o → Numbered (ran o)
-numbered-run (finished ls n) h = tt
-numbered-run (refused r) h = h
+range-run : (o : Outcome) → Late o → InRange (ran o)
+range-run (finished ls n) h = tt
+range-run (refused r) h = h
 
-numbered-asked : (L : Limits) (a : Asked) → Early a → Numbered (solvingOf L a)
-numbered-asked L (asks q) h = numbered-run (run L (q .alternatives)) (late L (q .alternatives))
-numbered-asked L (refuses r) h = h
+range-asked : (L : Limits) (a : Asked) → Early a → InRange (solvingOf L a)
+range-asked L (asks q) h = range-run (run L (q .alternatives)) (late L (q .alternatives))
+range-asked L (refuses r) h = h
 
-numbered-tested : (b : Bool) (s : Solving) → Numbered s → Numbered (elim b [ true ↦ unread ShortSlice | false ↦ s ])
-numbered-tested true s h = (lit≤ tt, lit≤ tt)
-numbered-tested false s h = h
+range-tested : (b : Bool) (s : Solving) → InRange s → InRange (elim b [ true ↦ unread ShortSlice | false ↦ s ])
+range-tested true s h = (lit≤ tt, lit≤ tt)
+range-tested false s h = h
 
-pub numbered : (L : Limits) (work answer : ℕ) (ws : List ℕ) → Numbered (solving L work answer ws)
+pub in-range : (L : Limits) (work answer : ℕ) (ws : List ℕ) → InRange (solving L work answer ws)
 unfolding solving
-numbered L work answer ws =
-    numbered-tested (ltb work (L .room)) _ (numbered-tested (ltb answer (L .room)) _ (numbered-asked L (readQuestion L ws) (early L ws)))
+in-range L work answer ws =
+    range-tested (ltb work (L .room)) _ (range-tested (ltb answer (L .room)) _ (range-asked L (readQuestion L ws) (early L ws)))

@@ -11,11 +11,12 @@ use lib.Seq.{sets, take-at}
 use borrow.Author.Tests.{ltb-false}
 use Rattle.language.specs.declared.Refusal.the-variants.{OpenLine, LongExample}
 use Rattle.language.specs.Limits.{desk}
-use Rattle.language.specs.Trees.{Conj, Counts}
+use Rattle.language.specs.Trees.{Counts}
 use Rattle.language.specs.Question.{countsOf}
 use Rattle.meaning.specs.Values.{fillingWords}
 use Rattle.rules.specs.Solved.{solved}
 use Rattle.rules.specs.Example.{example}
+use Rattle.rules.specs.Run.{Numbered}
 use Rattle.rules.specs.Answer.{Solving, answered, unread, given-up, solving}
 use Rattle.rules.specs.Calls.{Showing, shows, denied, lineAt, fitted, shown, showingOf, showing}
 use Rattle.example.specs.Shown.{numbersOf, roomOf}
@@ -44,9 +45,9 @@ fits-line : (b : Bool) (room : ℕ) (s : Showing) → Fits room s → Fits room 
 fits-line true room s h = h
 fits-line false room s h = tt
 
-fits-shown : (n : Counts) (room : ℕ) (o : Option Conj) → Fits room (shown desk n room o)
+fits-shown : (n : Counts) (room : ℕ) (o : Option Numbered) → Fits room (shown desk n room o)
 fits-shown n room none = tt
-fits-shown n room (some k) = fits-line (solved k) room _ (fits-fitted room (fillingWords n (example k)))
+fits-shown n room (some k) = fits-line (solved (k .literals)) room _ (fits-fitted room (fillingWords n (example (k .literals))))
 
 fits-solved : (n : Counts) (room line : ℕ) (s : Solving) → Fits room (showingOf desk n room line s)
 fits-solved n room line (answered ls steps) = fits-shown n room (lineAt line ls)

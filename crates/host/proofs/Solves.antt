@@ -15,7 +15,7 @@ use Rattle.word_bytes.specs.Bytes.{bytesOf, wordsIn, fitting}
 use Rattle.host.specs.Host.{solvingBytes, solveNumber, solveLeaves}
 use Rattle.word_bytes.proofs.Pairs.{written}
 use Rattle.host.proofs.Fitting.{fitting-solving}
-use Rattle.host.proofs.Refusals.{Numbered}
+use Rattle.host.proofs.Refusals.{InRange}
 
 abbrev unless-short : Solving → Bool → Solving
 unless-short s b = elim b [ true ↦ unread ShortSlice | false ↦ s ]
@@ -50,7 +50,7 @@ module _ (q a : List ℕ) where
     unfolding solving
     same = fitting-solving (desk .room) (desk .room) (wordsIn q) ∙ sym (long-answer q (length a) room)
 
-    pub kept : (s : Solving) (k : ℕ) → Numbered s → k ≡ solveNumber s → 1 ≤ k → k ≤ 6 → Left s k a
+    pub kept : (s : Solving) (k : ℕ) → InRange s → k ≡ solveNumber s → 1 ≤ k → k ≤ 6 → Left s k a
     unfolding solveNumber solveLeaves
     kept (answered ls n) k b e low high = absurd (omega arith)
     kept (unread r) k b e low high = (e, refl)
@@ -59,7 +59,7 @@ module _ (q a : List ℕ) where
     pub bytes-left : (own a′ : List ℕ) → length own ≡ desk .room → a′ ≡ sets a 0 (bytesOf own) → a′ ≡ bytesOf own ++ drop (2 * desk .room) a
     bytes-left own a′ n e = e ∙ written a own (omega arith) ∙ ap (λ (m : ℕ). bytesOf own ++ drop (2 * m) a) n
 
-    pub wrote : (s : Solving) (k : ℕ) (own a′ : List ℕ) → Numbered s → k ≡ solveNumber s → (1 ≤ k → k ≤ 6 → ⊥) → Own s own → a′ ≡ bytesOf own ++ drop (2 * desk .room) a → Left s k a′
+    pub wrote : (s : Solving) (k : ℕ) (own a′ : List ℕ) → InRange s → k ≡ solveNumber s → (1 ≤ k → k ≤ 6 → ⊥) → Own s own → a′ ≡ bytesOf own ++ drop (2 * desk .room) a → Left s k a′
     unfolding solveNumber solveLeaves
     wrote (answered ls n) k own a′ b e h o f = (e, f ∙ ap (λ (ws : List ℕ). bytesOf ws ++ drop (2 * desk .room) a) o)
     wrote (unread r) k own a′ b e h o f = absurd (h (omega arith) (omega arith))

@@ -10,7 +10,8 @@ use lib.ListN.{length, take, drop, set, length-append, length-drop, drop-of-leng
 use lib.Seq.{sets, slice, length-sets, sets-eq, drop-at, length-take-le, drop-set-lt}
 use Rattle.language.specs.Kinds.{pick}
 use Rattle.language.specs.Limits.{desk}
-use Rattle.frames.specs.Frames.{frame, frameOf, framed}
+use Rattle.frames.specs.Frames.{frame, frameOf, inFrames}
+use Rattle.frames.proofs.Framing.{frames-append}
 use Rattle.plans.specs.Sizes.{Short, grown, sizedFrom, sized}
 use Rattle.plans.specs.declared.Size.{Size}
 use Rattle.plans.specs.declared.Size.the-variants.{Fits, Over}
@@ -47,10 +48,6 @@ unfolding sized
 tallied-all ws = tallied-from 0 ws
 
 -- ---- in a row
-
-framed-append : (us vs : List (List ℕ)) → framed (us ++ vs) ≡ framed us ++ framed vs
-framed-append [] vs = refl
-framed-append (u ∷ us) vs = ap (λ l. length u ∷ (u ++ l)) (framed-append us vs) ∙ ap (λ l. length u ∷ l) (sym (append-assoc u (framed us) (framed vs)))
 
 short-append : (us vs : List (List ℕ)) → Short (us ++ vs) → Short us × Short vs
 short-append [] vs h = (tt, h)
@@ -99,31 +96,31 @@ module _ (rest : List ℕ) (at : ℕ) (us : List ℕ) {n : ℕ} (e : at + length
 
 -- ---- adding
 
-pub added-none : {ws rest out : List ℕ} {t : ℕ} → Added [] ws rest out t rest out t
-added-none {ws} {rest} = record { keeps = keeps-all (length ws) rest; wrote = λ h q s r. record { end = omega arith; list = refl } }
+pub added-none : {number : ℕ} {ws rest out : List ℕ} {t : ℕ} → Added number [] ws rest out t rest out t
+added-none {ws = ws} {rest = rest} = record { keeps = keeps-all (length ws) rest; wrote = λ h q s r. record { end = omega arith; list = refl } }
 
-pub added-same : {ls ms : List (List ℕ)} {ws r₀ o₀ : List ℕ} {t₀ : ℕ} {r₁ o₁ : List ℕ} {t₁ : ℕ} → ms ≡ ls → Added ls ws r₀ o₀ t₀ r₁ o₁ t₁ → Added ms ws r₀ o₀ t₀ r₁ o₁ t₁
+pub added-same : {number : ℕ} {ls ms : List (List ℕ)} {ws r₀ o₀ : List ℕ} {t₀ : ℕ} {r₁ o₁ : List ℕ} {t₁ : ℕ} → ms ≡ ls → Added number ls ws r₀ o₀ t₀ r₁ o₁ t₁ → Added number ms ws r₀ o₀ t₀ r₁ o₁ t₁
 added-same e a = rw e a
 
-pub added-append : {us vs : List (List ℕ)} {ws r₀ o₀ : List ℕ} {t₀ : ℕ} {r₁ o₁ : List ℕ} {t₁ : ℕ} {r₂ o₂ : List ℕ} {t₂ : ℕ}
-    → Added us ws r₀ o₀ t₀ r₁ o₁ t₁ → Added vs ws r₁ o₁ t₁ r₂ o₂ t₂ → Added (us ++ vs) ws r₀ o₀ t₀ r₂ o₂ t₂
-added-append {us} {vs} {ws} {r₀} {o₀} {t₀} {r₁} {o₁} {t₁} {r₂} {o₂} {t₂} a b =
+pub added-append : {number : ℕ} {us vs : List (List ℕ)} {ws r₀ o₀ : List ℕ} {t₀ : ℕ} {r₁ o₁ : List ℕ} {t₁ : ℕ} {r₂ o₂ : List ℕ} {t₂ : ℕ}
+    → Added number us ws r₀ o₀ t₀ r₁ o₁ t₁ → Added number vs ws r₁ o₁ t₁ r₂ o₂ t₂ → Added number (us ++ vs) ws r₀ o₀ t₀ r₂ o₂ t₂
+added-append {number} {us} {vs} {ws} {r₀} {o₀} {t₀} {r₁} {o₁} {t₁} {r₂} {o₂} {t₂} a b =
     record {
       keeps = keeps-on (omega arith) (a .keeps) (b .keeps);
       wrote = λ h q s r.
-          let f = framed-append us vs in
-          let l = ap length f ∙ length-append (framed us) (framed vs) in
+          let f = frames-append number us vs in
+          let l = ap length f ∙ length-append (inFrames number us) (inFrames number vs) in
           let x = short-append us vs s in
           let u = a .wrote h q (x .0) (omega arith) in
-          let n = ap length (u .list) ∙ length-sets o₀ t₀ (framed us) in
+          let n = ap length (u .list) ∙ length-sets o₀ t₀ (inFrames number us) in
           let e = u .end in
           let k = a .keeps .long in
           wrote-as f (wrote-append u (b .wrote (a .keeps .holds ws (omega arith) h) (omega arith) (x .1) (omega arith)));
     }
 
 -- with more from outside
-pub added-inner : {ls : List (List ℕ)} {ws vs r₀ r₁ o₀ : List ℕ} {t₀ : ℕ} {r₂ o₂ : List ℕ} {t₂ : ℕ} → length ws ≤ length vs
-    → Keeps (length ws) r₀ r₁ → (Holds r₀ ws → Holds r₁ vs) → Added ls vs r₁ o₀ t₀ r₂ o₂ t₂ → Added ls ws r₀ o₀ t₀ r₂ o₂ t₂
+pub added-inner : {number : ℕ} {ls : List (List ℕ)} {ws vs r₀ r₁ o₀ : List ℕ} {t₀ : ℕ} {r₂ o₂ : List ℕ} {t₂ : ℕ} → length ws ≤ length vs
+    → Keeps (length ws) r₀ r₁ → (Holds r₀ ws → Holds r₁ vs) → Added number ls vs r₁ o₀ t₀ r₂ o₂ t₂ → Added number ls ws r₀ o₀ t₀ r₂ o₂ t₂
 added-inner l k f a =
     record {
       keeps = keeps-on l k (a .keeps);
@@ -148,7 +145,7 @@ pub tallied-one : (k : List ℕ) (s : Kept) (p : Spot) (size : Size) {one : ℕ}
 tallied-one k s p size m h e c w = ap (counted size) (h ∙ sym (length-by k s p) ∙ row-length k s p m (row-of k s p m e) c w)
 
 pub added-one : {k : List ℕ} {s : Kept} {p : Spot} {rest out : List ℕ} {t : ℕ} {out′ : List ℕ} {r : ℕ} (m : Loose) → Rowed k s p rest out t out′ r
-    → slice (p .place) (p .past) k ≡ firstWords m → p .parts ≡ m .parts → p .words ≡ length (m .words) → Added (rowWords k s m ∷ []) (m .words) rest out t rest out′ r
+    → slice (p .place) (p .past) k ≡ firstWords m → p .parts ≡ m .parts → p .words ≡ length (m .words) → Added (s .number) (rowWords k s m ∷ []) (m .words) rest out t rest out′ r
 unfolding resultWords
 added-one {k} {s} {p} {rest} {out} {t} {out′} {r} m a e c w =
     let row = row-of k s p m e in
@@ -158,9 +155,9 @@ added-one {k} {s} {p} {rest} {out} {t} {out′} {r} m a e c w =
       wrote = λ h q x y.
           let z = length-append (rowWords k s m) [] in
           let v = x .0 in
-          let words : framed (rowWords k s m ∷ []) ≡ resultLength k s p ∷ (frontWords k s p ++ ((opening (p .parts) ++ m .words) ++ backWords k s)) =
-          ap (λ l. length (rowWords k s m) ∷ l) (append-nil (rowWords k s m)) ∙ ap (λ n. n ∷ rowWords k s m) (sym n) ∙ ap (λ l. resultLength k s p ∷ l) (sym row)
-          ∙ ap (λ n. resultLength k s p ∷ (frontWords k s p ++ ((opening n ++ m .words) ++ backWords k s))) (sym c) in
+          let words : inFrames (s .number) (rowWords k s m ∷ []) ≡ resultLength k s p ∷ s .number ∷ (frontWords k s p ++ ((opening (p .parts) ++ m .words) ++ backWords k s)) =
+          ap (λ l. length (rowWords k s m) ∷ s .number ∷ l) (append-nil (rowWords k s m)) ∙ ap (λ n. n ∷ s .number ∷ rowWords k s m) (sym n) ∙ ap (λ l. resultLength k s p ∷ s .number ∷ l) (sym row)
+          ∙ ap (λ n. resultLength k s p ∷ s .number ∷ (frontWords k s p ++ ((opening n ++ m .words) ++ backWords k s))) (sym c) in
           wrote-as words (a .wrote (m .words) (sym w) h q (omega arith) (omega arith));
     }
 
@@ -199,7 +196,7 @@ module _ {k : List ℕ} {s : Kept} {p : Spot} {rest out : List ℕ} {t one : ℕ
   rowed-full h = record { room = fit; wrote = λ ws l d q x y. absurd (omega arith) }
 
   pub rowed-more : {out′ : List ℕ} {end : ℕ} → p .words ≤ length rest → length out′ ≡ length out → t + frame + one ≤ length out
-      → Wrote out t (frameOf (resultLength k s p) ++ resultWords k s p (drop (length rest - p .words) rest)) out′ end → Rowed k s p rest out t out′ end
+      → Wrote out t (frameOf (resultLength k s p) (s .number) ++ resultWords k s p (drop (length rest - p .words) rest)) out′ end → Rowed k s p rest out t out′ end
   rowed-more {out′} {end} f n y w =
       let d = length-drop (length rest - p .words) rest in
       let l = words-length k s p (drop (length rest - p .words) rest) (omega arith) in
@@ -208,5 +205,5 @@ module _ {k : List ℕ} {s : Kept} {p : Spot} {rest out : List ℕ} {t one : ℕ
         room = omega arith;
         wrote = λ ws l d q x z.
             let v : drop (length rest - p .words) rest ≡ ws = ap (λ m. drop (length rest - m) rest) (sym l) ∙ d .last (omega arith) in
-            subst (λ ws. Wrote out t (frameOf (resultLength k s p) ++ resultWords k s p ws) out′ end) v w;
+            subst (λ ws. Wrote out t (frameOf (resultLength k s p) (s .number) ++ resultWords k s p ws) out′ end) v w;
       }

@@ -14,4 +14,4 @@ write_monomials-determined κs a p o q e d =
     let m = p .1 .membership in
     let v = e .each (m .before) (m .h) (m .R) (m .behind) (m .shows) (p .1 .ready) in
     let w = d .each (m .before) (m .h) (m .R) (m .behind) (m .shows) (p .1 .ready) in
-    ap (λ z. (z, o .1)) (v .end ∙ sym (w .end)) ∙ ap (λ s. (q .0, (tt, (tt, (s, (tt, tt)))))) (v .list ∙ sym (w .list))
+    ap (λ z. (z, o .1)) (v .end ∙ sym (w .end)) ∙ ap (λ s. (q .0, (tt, (tt, (tt, (s, (tt, tt))))))) (v .list ∙ sym (w .list))

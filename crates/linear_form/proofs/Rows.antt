@@ -76,12 +76,12 @@ row-of k s p m e =
     ∙ ap (λ c. slice 0 (s .at) k ++ (6000 ∷ (slice (s .from) (s .rest) k ++ (0 ∷ (c ++ (6000 ∷ (slice (s .rest) (s .to) k ++ (restWords m ++ backWords k s)))))))) e
 
 module _ {k : List ℕ} {s : Shape} {before : Conj} {h : Hedge} {R : Expr} {behind : Conj} (v : Shows k s before h R behind) where
-  row : (m : Monomial) (n : Loose) → Fits m n → conjWords (place before behind (monomialResult (head h) (tail h) m)) ≡ rowWords k (keptOf s) n
+  row : (number : ℕ) (m : Monomial) (n : Loose) → Fits m n → conjWords (place before behind (monomialResult (head h) (tail h) m)) ≡ rowWords k (keptOf s number) n
   unfolding rowWords backWords
-  row m n f =
+  row number m n f =
       rw (shows-before v, side-head (v .hedge), side-tail (v .hedge), shows-behind v, words-append before (mem (head h) (over (m .name) (m .inner)) ∷ mem (tail h) (m .rest) ∷ behind), words-body (head h), ← rest-of f, ← f .name, ← f .inner)
       (simp append-assoc)
 
-  pub rows : monomialWords before h R behind ≡ map (rowWords k (keptOf s)) (met R 0 [])
+  pub rows : (number : ℕ) → monomialWords before h R behind ≡ map (rowWords k (keptOf s number)) (met R 0 [])
   unfolding monomialWords placedWords
-  rows = map-map (λ b. conjWords (place before behind b)) (monomialResult (head h) (tail h)) (linear R) ∙ results-same (λ m. conjWords (place before behind (monomialResult (head h) (tail h) m))) (rowWords k (keptOf s)) row (pairs R)
+  rows number = map-map (λ b. conjWords (place before behind b)) (monomialResult (head h) (tail h)) (linear R) ∙ results-same (λ m. conjWords (place before behind (monomialResult (head h) (tail h) m))) (rowWords k (keptOf s number)) (row number) (pairs R)

@@ -132,11 +132,11 @@ module _ {k : List ℕ} {kept at : ℕ} {o : Outside} {size : Size} {mid : ℕ} 
 
 -- ---- the whole, with nothing outside
 
-pub tally-sizes : {k : List ℕ} (s : Shape) {t : Kept} {kept : ℕ} {r : Counted} → t ≡ keptOf s → kept ≡ keptLength k t → Tallies k kept (s .expr) (record { parts = 0; words = 0 }) (Fits 0) r → Sized k s (r .size)
+pub tally-sizes : {k : List ℕ} (s : Shape) {t : Kept} {kept : ℕ} {r : Counted} → t ≡ keptOf s 0 → kept ≡ keptLength k t → Tallies k kept (s .expr) (record { parts = 0; words = 0 }) (Fits 0) r → Sized k s (r .size)
 tally-sizes {k} s {t} {kept} {r} e q w =
     record {
       each = λ before h R behind v.
           w .each t R (conjWords behind) [] q (record { fine = v .fine; words = v .here }) refl .size
-          ∙ ap (tallied (Fits 0)) (sym (rows v ∙ ap (λ t. map (rowWords k t) (met R 0 [])) (sym e)))
+          ∙ ap (tallied (Fits 0)) (sym (rows v 0 ∙ ap (λ t. map (rowWords k t) (met R 0 [])) (sym e)))
           ∙ tallied-all (monomialWords before h R behind);
     }

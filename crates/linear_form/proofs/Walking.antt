@@ -117,7 +117,7 @@ handed-alt n m = record { few = omega arith; short = omega arith; star = λ y. a
 
 first-added : {k : List ℕ} {s : Kept} {o : Outside} {r₀ o₀ : List ℕ} {t : ℕ} {x mid end : ℕ} {i : Outside} {r₁ r₂ o₂ : List ℕ} {a : Walked}
     → Past k mid end → Enclosed k mid end o r₀ r₁ i → Walks k s x i r₁ o₀ t r₂ o₂ a → (A B : Expr) (w ws : List ℕ) → Here k x A (exprWords B ++ w) → Here k mid B w → length ws ≡ o .words
-    → Added (map (rowWords k s) (met A (pick (isEps B) (o .parts) (suc (o .parts))) (pick (isEps B) ws (exprWords B ++ ws)))) ws r₀ o₀ t r₂ o₂ (a .to)
+    → Added (s .number) (map (rowWords k s) (met A (pick (isEps B) (o .parts) (suc (o .parts))) (pick (isEps B) ws (exprWords B ++ ws)))) ws r₀ o₀ t r₂ o₂ (a .to)
 first-added {k} {s} e p b A B w ws h g l =
     let c = p .each B w ws g (e .each B w g) l in
     let q = b .each A (exprWords B ++ w) (pick (isEps B) ws (exprWords B ++ ws)) h (c .words) in
@@ -242,11 +242,12 @@ module _ {k : List ℕ} {s : Kept} {at : ℕ} {o : Outside} {r₀ o₀ : List �
 
 -- ---- the whole, with nothing outside
 
-module _ {k : List ℕ} (s : Shape) {t : Kept} {rest out : List ℕ} {at : ℕ} {rest′ out′ : List ℕ} {r : Walked} (e : t ≡ keptOf s)
+module _ {k : List ℕ} (s : Shape) (number : ℕ) {t : Kept} {rest out : List ℕ} {at : ℕ} {rest′ out′ : List ℕ} {r : Walked} (e : t ≡ keptOf s number)
     (w : Walks k t (s .expr) (record { parts = 0; words = 0 }) rest out at rest′ out′ r) where
-  all-added : {before : Conj} {h : Hedge} {R : Expr} {behind : Conj} → Shows k s before h R behind → Added (monomialWords before h R behind) [] rest out at rest′ out′ (r .to)
-  all-added {R = R} {behind = behind} v =
-      added-same (rows v ∙ ap (λ t. map (rowWords k t) (met R 0 [])) (sym e)) (w .each R (conjWords behind) [] (record { fine = v .fine; words = v .here }) refl .added)
+  all-added : {before : Conj} {h : Hedge} {R : Expr} {behind : Conj} → Shows k s before h R behind → Added number (monomialWords before h R behind) [] rest out at rest′ out′ (r .to)
+  all-added {before = before} {h = h} {R = R} {behind = behind} v =
+      subst (λ n. Added n (monomialWords before h R behind) [] rest out at rest′ out′ (r .to)) (ap (λ (t : Kept). t .number) e)
+      (added-same (rows v number ∙ ap (λ t. map (rowWords k t) (met R 0 [])) (sym e)) (w .each R (conjWords behind) [] (record { fine = v .fine; words = v .here }) refl .added))
 
-  pub walk-writes : desk .question ≤ length rest → Written k s out at out′ (r .to)
+  pub walk-writes : desk .question ≤ length rest → Written k s number out at out′ (r .to)
   walk-writes q = record { each = λ before h R behind v d. all-added v .wrote (holds-none rest) q (d .short) (d .room) }

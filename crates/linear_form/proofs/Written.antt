@@ -39,12 +39,12 @@ pub to-the-end : (from : ℕ) (l : List ℕ) → slice from (length l) l ≡ dro
 to-the-end from l = ap (drop from) (take-length l)
 
 pub result-wrote : (k : List ℕ) (s : Kept) (p : Spot) (rest old : List ℕ) (at : ℕ) {one : ℕ} {o₁ o₂ o₃ o₄ o₅ : List ℕ} {a b c e : ℕ}
-    → one ≡ resultLength k s p → o₁ ≡ sets old at (frameOf one) → Wrote o₁ (at + frame) (frontWords k s p) o₂ a → Wrote o₂ a (opening (p .parts)) o₃ b
+    → one ≡ resultLength k s p → o₁ ≡ sets old at (frameOf one (s .number)) → Wrote o₁ (at + frame) (frontWords k s p) o₂ a → Wrote o₂ a (opening (p .parts)) o₃ b
     → Wrote o₃ b (slice (length rest - p .words) (length rest) rest) o₄ c → Wrote o₄ c (slice (s .end) (s .len) k) o₅ e
-    → Wrote old at (frameOf (resultLength k s p) ++ resultWords k s p (drop (length rest - p .words) rest)) o₅ e
+    → Wrote old at (frameOf (resultLength k s p) (s .number) ++ resultWords k s p (drop (length rest - p .words) rest)) o₅ e
 unfolding resultWords backWords
 result-wrote k s p rest old at {one} {o₁} n w₁ w₂ w₃ w₄ w₅ =
     let ws = drop (length rest - p .words) rest in
-    let w₀ : Wrote old at (frameOf one) o₁ (at + frame) = record { end = refl; list = w₁ } in
-    let same : resultLength k s p ∷ (frontWords k s p ++ ((opening (p .parts) ++ ws) ++ slice (s .end) (s .len) k)) ≡ one ∷ (frontWords k s p ++ ((opening (p .parts) ++ ws) ++ slice (s .end) (s .len) k)) = ap (λ n. n ∷ (frontWords k s p ++ ((opening (p .parts) ++ ws) ++ slice (s .end) (s .len) k))) (sym n) in
+    let w₀ : Wrote old at (frameOf one (s .number)) o₁ (at + frame) = record { end = refl; list = w₁ } in
+    let same : resultLength k s p ∷ s .number ∷ (frontWords k s p ++ ((opening (p .parts) ++ ws) ++ slice (s .end) (s .len) k)) ≡ one ∷ s .number ∷ (frontWords k s p ++ ((opening (p .parts) ++ ws) ++ slice (s .end) (s .len) k)) = ap (λ n. n ∷ s .number ∷ (frontWords k s p ++ ((opening (p .parts) ++ ws) ++ slice (s .end) (s .len) k))) (sym n) in
     wrote-as same (wrote-append w₀ (wrote-append w₂ (wrote-append (wrote-append w₃ (wrote-as (sym (to-the-end (length rest - p .words) rest)) w₄)) w₅)))

@@ -8,7 +8,7 @@ use lib.Seq.{slice}
 use Rattle.language.specs.Kinds.{pick}
 use Rattle.language.specs.Limits.{desk}
 use Rattle.language.specs.Trees.{Hedge, Expr, Conj}
-use Rattle.frames.specs.Frames.{frame, frameOf, framed}
+use Rattle.frames.specs.Frames.{frame, frameOf, inFrames}
 use Rattle.plans.specs.Sizes.{grown, sized, monomialWords, Ready}
 use Rattle.views.specs.Views.{Shows, MembershipAt}
 use Rattle.views.specs.declared.Shape.{Shape}
@@ -20,8 +20,8 @@ use Rattle.linear_form.specs.declared.adding.Spot.{Spot}
 use Rattle.linear_form.specs.Loose.{Loose, opening, restWords, firstWords}
 
 -- what a result keeps of the conjunction
-abbrev pub keptOf : Shape → Kept
-keptOf s = record { at = s .at; from = s .h .from; rest = s .h .rest; to = s .h .to; end = s .end; len = s .len }
+abbrev pub keptOf : Shape → ℕ → Kept
+keptOf s number = record { at = s .at; from = s .h .from; rest = s .h .rest; to = s .h .to; end = s .end; len = s .len; number = number }
 
 -- what stands before the rest: the literals before, t in f(R1), and H
 unfoldable pub frontWords : List ℕ → Kept → Spot → List ℕ
@@ -75,17 +75,17 @@ pub record Holds (rest ws : List ℕ) : Type 0 where
 pub record Rowed (k : List ℕ) (s : Kept) (p : Spot) (rest out : List ℕ) (t : ℕ) (out′ : List ℕ) (r : ℕ) : Type 0 where
   pub room : r ≤ length out′
   pub wrote : (ws : List ℕ) → length ws ≡ p .words → Holds rest ws → desk .question ≤ length rest → resultLength k s p ≤ desk .question
-      → t + frame + resultLength k s p ≤ length out → Wrote out t (frameOf (resultLength k s p) ++ resultWords k s p ws) out′ r
+      → t + frame + resultLength k s p ≤ length out → Wrote out t (frameOf (resultLength k s p) (s .number) ++ resultWords k s p ws) out′ r
 
 -- some membership stands in k where s says, and `out` has room for M2's results from `at` on, none of which is too long
-pub record RoomFor (k : List ℕ) (s : Shape) (out : List ℕ) (at : ℕ) : Type 0 where
+pub record RoomFor (k : List ℕ) (s : Shape) (number : ℕ) (out : List ℕ) (at : ℕ) : Type 0 where
   pub membership : MembershipAt k s
-  pub ready : Ready (monomialWords (membership .before) (membership .h) (membership .R) (membership .behind)) out at
+  pub ready : Ready number (monomialWords (membership .before) (membership .h) (membership .R) (membership .behind)) out at
 
 -- all of them: their size, and that they are written
 pub record Sized (k : List ℕ) (s : Shape) (n : Size) : Type 0 where
   pub each : (before : Conj) (h : Hedge) (R : Expr) (behind : Conj) → Shows k s before h R behind → n ≡ sized (monomialWords before h R behind)
 
-pub record Written (k : List ℕ) (s : Shape) (old : List ℕ) (at : ℕ) (new : List ℕ) (e : ℕ) : Type 0 where
+pub record Written (k : List ℕ) (s : Shape) (number : ℕ) (old : List ℕ) (at : ℕ) (new : List ℕ) (e : ℕ) : Type 0 where
   pub each : (before : Conj) (h : Hedge) (R : Expr) (behind : Conj) → Shows k s before h R behind
-      → Ready (monomialWords before h R behind) old at → Wrote old at (framed (monomialWords before h R behind)) new e
+      → Ready number (monomialWords before h R behind) old at → Wrote old at (inFrames number (monomialWords before h R behind)) new e

@@ -12,7 +12,7 @@ use Rattle.language.specs.Trees.{Expr}
 use Rattle.language.specs.Writing.{exprWords}
 use Rattle.rules.specs.Looks.{isEps}
 use Rattle.rules.specs.Expressions.{nullable}
-use Rattle.frames.specs.Frames.{framed}
+use Rattle.frames.specs.Frames.{inFrames}
 use Rattle.plans.specs.Sizes.{Short}
 use Rattle.slices.specs.Written.{Wrote}
 use Rattle.linear_form.specs.declared.adding.Kept.{Kept}
@@ -80,15 +80,15 @@ pub record TalliesOver (k : List ℕ) (s : Kept) (R : Expr) (n : ℕ) (ws : List
 pub record Tallies (k : List ℕ) (kept at : ℕ) (o : Outside) (before : Size) (r : Counted) : Type 0 where
   pub each : (s : Kept) (R : Expr) (beyond ws : List ℕ) → kept ≡ keptLength k s → Here k at R beyond → length ws ≡ o .words → TalliesOver k s R (o .parts) ws before r
 
--- the results ls are written after the others where none is too long and there is room; the words from outside are ws
-pub record Added (ls : List (List ℕ)) (ws rest out : List ℕ) (t : ℕ) (rest′ out′ : List ℕ) (r : ℕ) : Type 0 where
+-- the results ls, which get this number, are written after the others where none is too long and there is room; the words from outside are ws
+pub record Added (number : ℕ) (ls : List (List ℕ)) (ws rest out : List ℕ) (t : ℕ) (rest′ out′ : List ℕ) (r : ℕ) : Type 0 where
   pub keeps : Keeps (length ws) rest rest′
-  pub wrote : Holds rest ws → desk .question ≤ length rest → Short ls → t + length (framed ls) ≤ length out → Wrote out t (framed ls) out′ r
+  pub wrote : Holds rest ws → desk .question ≤ length rest → Short ls → t + length (inFrames number ls) ≤ length out → Wrote out t (inFrames number ls) out′ r
 
 -- R, which stands at the place, is passed, and the results of its monomials are written
 pub record WalksOver (k : List ℕ) (s : Kept) (R : Expr) (n : ℕ) (ws rest out : List ℕ) (t : ℕ) (rest′ out′ : List ℕ) (r : Walked) : Type 0 where
   pub null : r .null ≡ nullable R
-  pub added : Added (map (rowWords k s) (met R n ws)) ws rest out t rest′ out′ (r .to)
+  pub added : Added (s .number) (map (rowWords k s) (met R n ws)) ws rest out t rest′ out′ (r .to)
 
 pub record Walks (k : List ℕ) (s : Kept) (at : ℕ) (o : Outside) (rest out : List ℕ) (t : ℕ) (rest′ out′ : List ℕ) (r : Walked) : Type 0 where
   pub room : r .to ≤ length out′

@@ -17,8 +17,8 @@ use slices::copy;
 use slices::part_len;
 use views::Shape;
 
-// What a result keeps of the conjunction: the words up to `at`, of the literal its hedge's first element and what follows it, and the words
-// from `end` on. It is smaller than the literal's shape, since each level of the recursion holds it.
+// What a result keeps of the conjunction: the words up to `at`, of the literal its hedge's first element and what follows it, the words
+// from `end` on, and the number of its alternative. It is smaller than the literal's shape, since each level of the recursion holds it.
 pub struct Kept {
     pub at: usize,
     pub from: usize,
@@ -26,6 +26,7 @@ pub struct Kept {
     pub to: usize,
     pub end: usize,
     pub len: usize,
+    pub number: u16,
 }
 
 // A monomial f(R1), R2: the part of f(R1), how many parts R2 has, and how many words they have together.
@@ -36,8 +37,8 @@ pub struct Spot {
     pub words: usize,
 }
 
-pub(crate) fn keeping(s: Shape) -> Kept
-    ensures { λ r. ⌜ r ≡ keptOf s ⌝ }
+pub(crate) fn keeping(s: Shape, number: u16) -> Kept
+    ensures { λ r. ⌜ r ≡ keptOf s number ⌝ }
 {
     let h = s.h;
     Kept {
@@ -47,6 +48,7 @@ pub(crate) fn keeping(s: Shape) -> Kept
         to: h.to,
         end: s.end,
         len: s.len,
+        number,
     }
 }
 
@@ -148,9 +150,9 @@ fn write_row(
     at: usize,
 ) -> usize
     requires { ⌜ (p .words ≤ length (now rest)) × (one ≡ resultLength (now k) s p) × (one ≤ desk .question) × (at + frame + one ≤ length (now out)) ⌝ }
-    ensures { λ e. ⌜ Wrote (now (out .entry)) at (frameOf (resultLength (now (k .entry)) s p) ++ resultWords (now (k .entry)) s p (drop (length (now (rest .entry)) - p .words) (now (rest .entry)))) (now (out .exit)) e ⌝ }
+    ensures { λ e. ⌜ Wrote (now (out .entry)) at (frameOf (resultLength (now (k .entry)) s p) (s .number) ++ resultWords (now (k .entry)) s p (drop (length (now (rest .entry)) - p .words) (now (rest .entry)))) (now (out .exit)) e ⌝ }
 {
-    write_frame(out, at, one);
+    write_frame(out, at, one, s.number);
     let a = write_front(k, s, p, out, at + FRAME);
     let b = open_rest(out, a, p.parts);
     let words = p.words;

@@ -219,13 +219,13 @@ fn walk(
     Walked { null, to: second }
 }
 
-// How many words M2's results take, each in its frame; or that one of them is too long.
+// How many words M2's results take, each in its frame, whatever their number; or that one of them is too long.
 pub fn size_monomials(k: &[u16], s: Shape) -> Size
     requires { ⌜ length (now k) ≤ desk .question ⌝ }
     requires { ⌜ MembershipAt (now k) s ⌝ }
     ensures { λ n. ⌜ Sized (now (k .entry)) s n ⌝ }
 {
-    let t = keeping(s);
+    let t = keeping(s, 0);
     let mut ends: [usize; QUESTION] = [0; QUESTION];
     chart(k, &mut ends);
     let kept = kept_len(k, t);
@@ -234,13 +234,13 @@ pub fn size_monomials(k: &[u16], s: Shape) -> Size
     w.size
 }
 
-// M2's results, each in its frame.
-pub fn write_monomials(k: &[u16], s: Shape, out: &mut [u16], at: usize) -> usize
+// M2's results, each in its frame, all with the number of the conjunction that they come from.
+pub fn write_monomials(k: &[u16], s: Shape, number: u16, out: &mut [u16], at: usize) -> usize
     requires { ⌜ (length (now k) ≤ desk .question) × (at ≤ length (now out)) ⌝ }
-    requires { ⌜ RoomFor (now k) s (now out) at ⌝ }
-    ensures { λ e. ⌜ Written (now (k .entry)) s (now (out .entry)) at (now (out .exit)) e ⌝ }
+    requires { ⌜ RoomFor (now k) s number (now out) at ⌝ }
+    ensures { λ e. ⌜ Written (now (k .entry)) s number (now (out .entry)) at (now (out .exit)) e ⌝ }
 {
-    let t = keeping(s);
+    let t = keeping(s, number);
     let mut ends: [usize; QUESTION] = [0; QUESTION];
     chart(k, &mut ends);
     let mut rest = [0; QUESTION];

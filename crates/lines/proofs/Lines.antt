@@ -17,7 +17,7 @@ use Rattle.rules.specs.Reply.{nothing, results}
 use Rattle.rules.specs.Rules.{rules}
 use Rattle.rules.specs.Step.{step}
 use Rattle.rules.specs.Solved.{solved}
-use Rattle.rules.specs.Run.{finished, run}
+use Rattle.rules.specs.Run.{Numbered, EachLine, finished, run}
 use Rattle.rules.specs.Answer.{countOpen, answered, solving}
 use Rattle.rules.specs.Example.{example}
 use Rattle.rules.specs.Table.{a, b, f, p, P9}
@@ -50,11 +50,11 @@ pub example-meets-line : (k : Conj) → solved k ≡ true → step k ≡ nothing
 example-meets-line = example-meets
 
 -- so the example of a solved line of a finished run meets the line, and one of the conjunctions that the run began with
-pub example-meets-run : (L : Limits) (w ls : List Conj) (n : ℕ) → run L w ≡ finished ls n
-    → (i : ℕ) (k : Conj) → lineAt i ls ≡ some k → solved k ≡ true → MeetsAll (example k) k × MeetsOne (example k) w
+pub example-meets-run : (L : Limits) (w : List Conj) (ls : List Numbered) (n : ℕ) → run L w ≡ finished ls n
+    → (i : ℕ) (k : Numbered) → lineAt i ls ≡ some k → solved (k .literals) ≡ true → MeetsAll (example (k .literals)) (k .literals) × MeetsOne (example (k .literals)) w
 example-meets-run L w ls n e i k there is-solved =
-    let m = example-meets k is-solved (each-line (λ j. step j ≡ nothing) i ls k there (lines-rest L w ls n e)) in
-    (m, run-same L w ls n e (example k) .1 (meets-lines (example k) i ls k there m))
+    let m = example-meets (k .literals) is-solved (each-line (λ j. step j ≡ nothing) i ls k there (lines-rest L w ls n e)) in
+    (m, run-same L w ls n e (example (k .literals)) .1 (meets-lines (example (k .literals)) i ls k there m))
 
 -- ---- its words
 
@@ -88,13 +88,13 @@ example-written L n c k e d is-solved quiet s = (
 )
 
 -- So the example of a solved line of a finished run, written and read back, meets one of the declared conjunctions that the run began with.
-pub example-written-run : (L : Limits) (n : Counts) (c : ℕ) (w ls : List Conj) (steps : ℕ) → countsFit L n c ≡ true → Each (λ k. declaredC n k ≡ true) w
-    → run L w ≡ finished ls steps → (i : ℕ) (k : Conj) → lineAt i ls ≡ some k → solved k ≡ true → length (fillingWords n (example k)) ≤ L .filling
-    → WordsMeet L n (fillingWords n (example k)) w
+pub example-written-run : (L : Limits) (n : Counts) (c : ℕ) (w : List Conj) (ls : List Numbered) (steps : ℕ) → countsFit L n c ≡ true → Each (λ k. declaredC n k ≡ true) w
+    → run L w ≡ finished ls steps → (i : ℕ) (k : Numbered) → lineAt i ls ≡ some k → solved (k .literals) ≡ true
+    → length (fillingWords n (example (k .literals))) ≤ L .filling → WordsMeet L n (fillingWords n (example (k .literals))) w
 example-written-run L n c w ls steps e d ran i k there is-solved s =
     let declared = each-line (λ j. declaredC n j ≡ true) i ls k there (lines-declared n L w ls steps ran d) in
     let quiet = each-line (λ j. step j ≡ nothing) i ls k there (lines-rest L w ls steps ran) in
-    let (ρ, back, _, m) = example-written L n c k e declared is-solved quiet s in
+    let (ρ, back, _, m) = example-written L n c (k .literals) e declared is-solved quiet s in
     (ρ, back, run-same L w ls steps ran ρ .1 (meets-lines ρ i ls k there m))
 
 -- "the example solves anew": the words that the example call shows are a filling of the question that was asked, and it meets the question.
@@ -108,7 +108,7 @@ shown-meets L work answer room line ws fs e =
       asked,
       words-meet L (q .counts) (countsOf ws) fs (s .literals) (q .alternatives) counts (s .written) (s .fits)
           (example-written-run L (q .counts) (alternativesOf ws) (q .alternatives) (s .lines) (s .steps) (rw counts (read-counts L ws q asked)) declared ran
-          line (s .literals) (s .there) (s .is-solved)),
+          line (record { number = s .number; literals = s .literals }) (s .there) (s .is-solved)),
     )
 
 -- ---- no line is open in the matching fragment: every equation has a side without blanks, and each variable of a membership stands in one
@@ -126,12 +126,12 @@ pub matching-line-solved : (k : Conj) → Matching k → step k ≡ nothing → 
 matching-line-solved = matching-solved
 
 -- Every line of a finished run that began in the fragment is solved,
-pub matching-lines-solved : (L : Limits) (w ls : List Conj) (n : ℕ) → run L w ≡ finished ls n → Each Matching w → Each (λ k. solved k ≡ true) ls
+pub matching-lines-solved : (L : Limits) (w : List Conj) (ls : List Numbered) (n : ℕ) → run L w ≡ finished ls n → Each Matching w → EachLine (λ k. solved k ≡ true) ls
 matching-lines-solved L w ls n e m = run-solved L w ls n m e
 
 -- and in the answer to a question whose alternatives are in the fragment no line is open.
-pub matching-none-open : (L : Limits) (work answer : ℕ) (ws : List ℕ) (ls : List Conj) (n : ℕ) → solving L work answer ws ≡ answered ls n
-    → ((q : Question) → readQuestion L ws ≡ asks q → Each Matching (q .alternatives)) → Each (λ k. solved k ≡ true) ls × (countOpen ls ≡ 0)
+pub matching-none-open : (L : Limits) (work answer : ℕ) (ws : List ℕ) (ls : List Numbered) (n : ℕ) → solving L work answer ws ≡ answered ls n
+    → ((q : Question) → readQuestion L ws ≡ asks q → Each Matching (q .alternatives)) → EachLine (λ k. solved k ≡ true) ls × (countOpen ls ≡ 0)
 matching-none-open L work answer ws ls n e m =
     let (q, asked, ran) = answered-run L work answer ws ls n e in
     let all = run-solved L (q .alternatives) ls n (m q asked) ran in

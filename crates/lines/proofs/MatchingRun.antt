@@ -11,7 +11,7 @@ use Rattle.rules.specs.Reply.{nothing, results}
 use Rattle.rules.specs.Rules.{Answer, Rule, onEqn, onMem, onPair, rules}
 use Rattle.rules.specs.Step.{place, placed, step}
 use Rattle.rules.specs.Solved.{solved}
-use Rattle.rules.specs.Run.{finished, run}
+use Rattle.rules.specs.Run.{Numbered, EachLine, finished, run}
 use Rattle.rules.specs.Answer.{countOpen}
 use Rattle.rules.specs.Each.{Each}
 use Rattle.rules.specs.Sides.{AtSides}
@@ -81,13 +81,13 @@ step-matching k ks m e = step-at-sides KeepsMatching each-rule-stays k ks e m
 -- ---- the run
 
 -- matching lines to which no rule applies
-each-solved : (ls : List Conj) → Each Matching ls → Each (λ k. step k ≡ nothing) ls → Each (λ k. solved k ≡ true) ls
+each-solved : (ls : List Numbered) → EachLine Matching ls → EachLine (λ k. step k ≡ nothing) ls → EachLine (λ k. solved k ≡ true) ls
 each-solved [] m q = tt
-each-solved (k ∷ ls) m q = (matching-solved k (m .0) (q .0), each-solved ls (m .1) (q .1))
+each-solved (k ∷ ls) m q = (matching-solved (k .literals) (m .0) (q .0), each-solved ls (m .1) (q .1))
 
-pub none-open : (ls : List Conj) → Each (λ k. solved k ≡ true) ls → countOpen ls ≡ 0
+pub none-open : (ls : List Numbered) → EachLine (λ k. solved k ≡ true) ls → countOpen ls ≡ 0
 none-open [] s = refl
 none-open (k ∷ ls) s = rw (s .0) (none-open ls (s .1))
 
-pub run-solved : (L : Limits) (w ls : List Conj) (n : ℕ) → Each Matching w → run L w ≡ finished ls n → Each (λ k. solved k ≡ true) ls
+pub run-solved : (L : Limits) (w : List Conj) (ls : List Numbered) (n : ℕ) → Each Matching w → run L w ≡ finished ls n → EachLine (λ k. solved k ≡ true) ls
 run-solved L w ls n m e = each-solved ls (lines-keep Matching step-matching L w ls n e m) (lines-rest L w ls n e)

@@ -16,23 +16,23 @@ use Rattle.language.specs.Question.{countsOf, alternativesOf, lengthFits, count
 use Rattle.meaning.specs.Meaning.{Filling, MeetsAll, MeetsOne}
 use Rattle.meaning.specs.Values.{fillingWords}
 use Rattle.rules.specs.Solved.{solved}
+use Rattle.rules.specs.Run.{Numbered, EachLine, unnumbered}
 use Rattle.rules.specs.Answer.{Solving, answered, unread, given-up, solving}
 use Rattle.rules.specs.Example.{example}
 use Rattle.rules.specs.Calls.{lineAt, Showing, shows, denied, fitted, shown, showingOf, showing}
-use Rattle.rules.specs.Each.{Each}
 use Rattle.rules.proofs.Tests.{test-true}
 use Rattle.exact.proofs.Declared.{Asks, passes, reads}
 use Rattle.lines.specs.Fillings.{WordsMeet}
 
 -- ---- a line of a list
 
-pub each-line : (P : Conj → Type 0) (i : ℕ) (ls : List Conj) (k : Conj) → lineAt i ls ≡ some k → Each P ls → P k
+pub each-line : (P : Conj → Type 0) (i : ℕ) (ls : List Numbered) (k : Numbered) → lineAt i ls ≡ some k → EachLine P ls → P (k .literals)
 each-line P i [] k e p = absurd (let z : _≡_ {A = ℕ} 0 1 = cc in omega arith)
 each-line P ℕ.zero (l ∷ ls) k e p = let d : l ≡ k = cc in rw d at (p .0)
 each-line P (ℕ.suc i) (l ∷ ls) k e p = each-line P i ls k e (p .1)
 
 -- what meets a line meets the lines
-pub meets-lines : (ρ : Filling) (i : ℕ) (ls : List Conj) (k : Conj) → lineAt i ls ≡ some k → MeetsAll ρ k → MeetsOne ρ ls
+pub meets-lines : (ρ : Filling) (i : ℕ) (ls : List Numbered) (k : Numbered) → lineAt i ls ≡ some k → MeetsAll ρ (k .literals) → MeetsOne ρ (unnumbered ls)
 meets-lines ρ i [] k e m = absurd (let z : _≡_ {A = ℕ} 0 1 = cc in omega arith)
 meets-lines ρ ℕ.zero (l ∷ ls) k e m = let d : l ≡ k = cc in inl (rw d m)
 meets-lines ρ (ℕ.suc i) (l ∷ ls) k e m = inr (meets-lines ρ i ls k e m)
@@ -41,11 +41,12 @@ meets-lines ρ (ℕ.suc i) (l ∷ ls) k e m = inr (meets-lines ρ i ls k e m)
 
 -- the words fs are those of the example of this line of an answered question, and fit
 pub record Shows (L : Limits) (n : Counts) (room line : ℕ) (s : Solving) (fs : List ℕ) : Type 0 where
-  pub lines : List Conj
+  pub lines : List Numbered
   pub steps : ℕ
+  pub number : ℕ
   pub literals : Conj
   pub was-answered : s ≡ answered lines steps
-  pub there : lineAt line lines ≡ some literals
+  pub there : lineAt line lines ≡ some (record { number = number; literals = literals })
   pub is-solved : solved literals ≡ true
   pub written : fs ≡ fillingWords n (example literals)
   pub fits : length fs ≤ L .filling
@@ -63,21 +64,22 @@ module _ (L : Limits) (n : Counts) (room line : ℕ) (fs : List ℕ) where
   open-denied true o e = (refl, e)
   open-denied false o e = absurd (let z : _≡_ {A = ℕ} 0 1 = cc in omega arith)
 
-  of-line : (ls : List Conj) (m : ℕ) (l : Option Conj) → lineAt line ls ≡ l → shown L n room l ≡ shows fs → Shows L n room line (answered ls m) fs
+  of-line : (ls : List Numbered) (m : ℕ) (l : Option Numbered) → lineAt line ls ≡ l → shown L n room l ≡ shows fs → Shows L n room line (answered ls m) fs
   of-line ls m none d e = absurd (let z : _≡_ {A = ℕ} 0 1 = cc in omega arith)
   of-line ls m (some k) d e =
-      let (s, f) = open-denied (solved k) (fitted L room (fillingWords n (example k))) e in
-      let (a, b, w) = fit (ltb (L .filling) (length (fillingWords n (example k)))) (ltb room (length (fillingWords n (example k)))) (fillingWords n (example k)) f in
+      let (s, f) = open-denied (solved (k .literals)) (fitted L room (fillingWords n (example (k .literals)))) e in
+      let (a, b, w) = fit (ltb (L .filling) (length (fillingWords n (example (k .literals))))) (ltb room (length (fillingWords n (example (k .literals))))) (fillingWords n (example (k .literals))) f in
       record {
         lines = ls;
         steps = m;
-        literals = k;
+        number = k .number;
+        literals = k .literals;
         was-answered = refl;
         there = d;
         is-solved = s;
         written = cc;
-        fits = rw w at (ltb-false (L .filling) (length (fillingWords n (example k))) a);
-        fits-room = rw w at (ltb-false room (length (fillingWords n (example k))) b);
+        fits = rw w at (ltb-false (L .filling) (length (fillingWords n (example (k .literals)))) a);
+        fits-room = rw w at (ltb-false room (length (fillingWords n (example (k .literals)))) b);
       }
 
   of-solving : (s : Solving) → showingOf L n room line s ≡ shows fs → Shows L n room line s fs

@@ -14,13 +14,14 @@ use Rattle.language.specs.Trees.{Counts, Conj}
 use Rattle.language.specs.Question.{countsOf}
 use Rattle.meaning.specs.Values.{fillingWords}
 use Rattle.rules.specs.Solved.{solved}
+use Rattle.rules.specs.Run.{Numbered}
 use Rattle.rules.specs.Answer.{Solving, answered, solving}
 use Rattle.rules.specs.Example.{example}
 use Rattle.rules.specs.Calls.{lineAt, Showing, shows, fitted, shown, showingOf, showing}
 use Rattle.exact.proofs.Wider.{solving-wider}
 use Rattle.lines.proofs.Shown.{Shows, shown-is}
 
-fits : (M : Limits) (n : Counts) (room : ℕ) (k : Conj) (fs : List ℕ) → solved k ≡ true → fs ≡ fillingWords n (example k)
+fits : (M : Limits) (n : Counts) (room : ℕ) (k : Numbered) (fs : List ℕ) → solved (k .literals) ≡ true → fs ≡ fillingWords n (example (k .literals))
     → ltb (M .filling) (length fs) ≡ false → ltb room (length fs) ≡ false → shown M n room (some k) ≡ shows fs
 fits M n room k fs s w f g = rw (shown, s, ← w, fitted, f, g) (ap shows (sym w))
 
@@ -34,7 +35,7 @@ showing-wider L M i work answer work′ answer′ room line ws fs e p q =
     let b = i .filling in
     let f = le-ltb (M .filling) (length fs) (omega arith) in
     let g = le-ltb room (length fs) (s .fits-room) in
-    rw (showing, more, s .there) (fits M (countsOf ws) room (s .literals) fs (s .is-solved) (s .written) f g)
+    rw (showing, more, s .there) (fits M (countsOf ws) room (record { number = s .number; literals = s .literals }) fs (s .is-solved) (s .written) f g)
 
 -- ---- the first desk and the one of "Bigger sheets"
 

@@ -12,7 +12,7 @@ use Rattle.language.specs.Writing.{conjWords}
 use Rattle.rules.specs.Rules.{Branch, monomialResult}
 use Rattle.rules.specs.Expressions.{linear}
 use Rattle.rules.specs.Step.{place}
-use Rattle.frames.specs.Frames.{frame, framed}
+use Rattle.frames.specs.Frames.{frame, inFrames}
 use Rattle.views.specs.Looks.{head, tail}
 use Rattle.plans.specs.declared.Size.{Size}
 use Rattle.plans.specs.declared.Size.the-variants.{Fits, Over}
@@ -31,10 +31,10 @@ abbrev pub Short : List (List ℕ) → Type 0
 Short [] = Unit {0}
 Short (w ∷ ws) = (length w ≤ desk .question) × Short ws
 
--- none of the results is too long, and there is room for them from `at` on
-pub record Ready (ws : List (List ℕ)) (out : List ℕ) (at : ℕ) : Type 0 where
+-- none of the results, which get this number, is too long, and there is room for them from `at` on
+pub record Ready (number : ℕ) (ws : List (List ℕ)) (out : List ℕ) (at : ℕ) : Type 0 where
   pub short : Short ws
-  pub room : at + length (framed ws) ≤ length out
+  pub room : at + length (inFrames number ws) ≤ length out
 
 -- one more of l words; past a slice's room there is no need to count on
 abbrev pub grown : ℕ → ℕ → ℕ

@@ -8,4 +8,4 @@ size_results-determined : Determined size_results.ended size_results.Reads.Pre s
 size_results-determined κs a p o q e d = ap (λ z. (z, o .1)) (e ∙ sym d)
 
 write_results-determined : Determined write_results.ended write_results.Reads.Pre write_results.Reads.Post
-write_results-determined κs a p o q e d = ap (λ z. (z, o .1)) (e .end ∙ sym (d .end)) ∙ ap (λ s. (q .0, (tt, (tt, (s, (tt, tt)))))) (e .list ∙ sym (d .list))
+write_results-determined κs a p o q e d = ap (λ z. (z, o .1)) (e .end ∙ sym (d .end)) ∙ ap (λ s. (q .0, (tt, (tt, (tt, (s, (tt, tt))))))) (e .list ∙ sym (d .list))

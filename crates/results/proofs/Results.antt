@@ -11,7 +11,7 @@ use Rattle.language.specs.Limits.{desk}
 use Rattle.language.specs.Kinds.{pick}
 use Rattle.plans.specs.Results.{made}
 use Rattle.words.specs.Spans.{elementEnd, places}
-use Rattle.frames.specs.Frames.{framed}
+use Rattle.frames.specs.Frames.{inFrame, inFrames}
 use Rattle.plans.specs.Sizes.{Short, grown, sizedFrom}
 use Rattle.plans.specs.declared.Recipe.{Recipe}
 use Rattle.plans.specs.declared.Size.{Size}
@@ -51,8 +51,8 @@ module _ (a b : List ℕ) (s : Size) (e : s ≡ sizedFrom 0 (a ∷ [])) where
   two-more n f t g = g ∙ sym (ap (λ s. then s (b ∷ [])) f) ∙ ap (λ s. then s (b ∷ [])) e ∙ size-then 0 a (b ∷ [])
 
 -- results in a row
-pub framed-split : (w : List ℕ) (ws : List (List ℕ)) → Split (framed (w ∷ ws)) (length w ∷ w) (framed ws)
-framed-split w ws = record { eq = refl }
+pub framed-split : (number : ℕ) (w : List ℕ) (ws : List (List ℕ)) → Split (inFrames number (w ∷ ws)) (inFrame number w) (inFrames number ws)
+framed-split number w ws = record { eq = refl }
 
 -- ---- a result for each cut
 abbrev pub cuts : List ℕ → Recipe → ℕ → ℕ → List (List ℕ)
@@ -75,8 +75,8 @@ module _ (k : List ℕ) (r : Recipe) (n c : ℕ) where
         → sizedFrom m′ (cuts k r (n - 1) d) ≡ sizedFrom m (cuts k r n c)
     cuts-more m one f h m′ g = size-more m (made k r c) (cuts k r (n - 1) d) one f h m′ g ∙ ap (sizedFrom m) (sym cuts-cons)
 
-    pub cuts-split : Split (framed (cuts k r n c)) (length (made k r c) ∷ made k r c) (framed (cuts k r (n - 1) d))
-    cuts-split = record { eq = ap framed cuts-cons }
+    pub cuts-split : (number : ℕ) → Split (inFrames number (cuts k r n c)) (inFrame number (made k r c)) (inFrames number (cuts k r (n - 1) d))
+    cuts-split number = record { eq = ap (inFrames number) cuts-cons }
 
     pub cuts-short : Short (cuts k r n c) → (length (made k r c) ≤ desk .question) × Short (cuts k r (n - 1) d)
     cuts-short s = subst Short cuts-cons s

@@ -1,4 +1,4 @@
--- What a size says: `Fits` of the words in a row and of each result, `Over` that one of them is too long, and both of the run's numbers 7 and 8.
+-- What a size says: `Fits` of the words in a row and of each result, `Over` that one of them is too long, and of the run's number 7.
 use mathlib.Core.Path.{_≡_, refl, sym, ap, _∙_}
 use mathlib.Core.Bool.{Bool, true, false, _||_}
 use mathlib.Core.List.{List, [], _∷_, map}
@@ -12,8 +12,8 @@ use Rattle.language.specs.Kinds.{pick}
 use Rattle.language.specs.Limits.{desk}
 use Rattle.language.specs.Trees.{Conj}
 use Rattle.language.specs.Writing.{conjWords}
-use Rattle.rules.specs.Run.{size, anyLong, waitingSize}
-use Rattle.frames.specs.Frames.{framed}
+use Rattle.rules.specs.Run.{size, anyLong}
+use Rattle.frames.specs.Frames.{frame, inFrames}
 use Rattle.plans.specs.Sizes.{Short, grown, sizedFrom, sized, Ready}
 use Rattle.plans.specs.declared.Size.the-variants.{Fits, Over}
 
@@ -25,8 +25,8 @@ tooLong (w ∷ ws) = ltb (desk .question) (length w) || tooLong ws
 -- m is n and the words of the results in a row, as far as it was counted
 pub record Counted (n : ℕ) (ws : List (List ℕ)) (m : ℕ) : Type 0 where
   pub short : Short ws
-  pub exact : m ≤ desk .room → n + length (framed ws) ≡ m
-  pub past : desk .room < m → desk .room < n + length (framed ws)
+  pub exact : (number : ℕ) → m ≤ desk .room → n + length (inFrames number ws) ≡ m
+  pub past : (number : ℕ) → desk .room < m → desk .room < n + length (inFrames number ws)
 
 module _ (n : ℕ) (w : List ℕ) (ws : List (List ℕ)) where
   fitting : length w ≤ desk .question → sizedFrom n (w ∷ ws) ≡ sizedFrom (grown n (length w)) ws
@@ -41,22 +41,25 @@ module _ (n : ℕ) (w : List ℕ) (ws : List (List ℕ)) where
     where
       go : Dec (n ≤ desk .room) → Counted n (w ∷ ws) m
       go (yes p) =
-          let l = length-append w (framed ws) in
-          let e : grown n (length w) ≡ n + 1 + length w = ap (λ b. pick b (n + 1 + length w) n) (le-leb n (desk .room) p) in
-          record { short = (h, r .short); exact = λ q. let x = r .exact q in omega arith; past = λ q. let x = r .past q in omega arith }
+          let e : grown n (length w) ≡ n + frame + length w = ap (λ b. pick b (n + frame + length w) n) (le-leb n (desk .room) p) in
+          record {
+            short = (h, r .short);
+            exact = λ number q. let l = length-append w (inFrames number ws) in let x = r .exact number q in omega arith;
+            past = λ number q. let l = length-append w (inFrames number ws) in let x = r .past number q in omega arith;
+          }
       go (no p) =
-          let e : grown n (length w) ≡ n = ap (λ b. pick b (n + 1 + length w) n) (lt-leb n (desk .room) (omega arith)) in
-          record { short = (h, r .short); exact = λ q. absurd (omega arith); past = λ q. omega arith }
+          let e : grown n (length w) ≡ n = ap (λ b. pick b (n + frame + length w) n) (lt-leb n (desk .room) (omega arith)) in
+          record { short = (h, r .short); exact = λ number q. absurd (omega arith); past = λ number q. omega arith }
 
 grown-up : (n l : ℕ) → n ≤ grown n l
 grown-up n l = go (leb n (desk .room))
   where
-    go : (b : Bool) → n ≤ pick b (n + 1 + l) n
+    go : (b : Bool) → n ≤ pick b (n + frame + l) n
     go true = omega arith
     go false = omega arith
 
 counted : (ws : List (List ℕ)) (n m : ℕ) → sizedFrom n ws ≡ Fits m → (n ≤ m) × Counted n ws m
-counted [] n m e = let z : n ≡ m = cc in (omega arith, record { short = tt; exact = λ q. omega arith; past = λ q. omega arith })
+counted [] n m e = let z : n ≡ m = cc in (omega arith, record { short = tt; exact = λ number q. omega arith; past = λ number q. omega arith })
 counted (w ∷ ws) n m e = go (counted ws (grown n (length w)) m) (decLe (length w) (desk .question))
   where
     go : (sizedFrom (grown n (length w)) ws ≡ Fits m → (grown n (length w) ≤ m) × Counted (grown n (length w)) ws m) → Dec (length w ≤ desk .question)
@@ -73,15 +76,15 @@ pub sized-fits : (ws : List (List ℕ)) (m : ℕ) → sized ws ≡ Fits m → Co
 unfolding sized
 sized-fits ws m e = counted ws 0 m e .1
 
-pub fits-exact : (ws : List (List ℕ)) (m : ℕ) → sized ws ≡ Fits m → m ≤ desk .room → length (framed ws) ≡ m
-fits-exact ws m e h = let x = sized-fits ws m e .exact h in omega arith
+pub fits-exact : (number : ℕ) (ws : List (List ℕ)) (m : ℕ) → sized ws ≡ Fits m → m ≤ desk .room → length (inFrames number ws) ≡ m
+fits-exact number ws m e h = let x = sized-fits ws m e .exact number h in omega arith
 
-pub fits-past : (ws : List (List ℕ)) (m : ℕ) → sized ws ≡ Fits m → desk .room < m → desk .room < length (framed ws)
-fits-past ws m e h = let x = sized-fits ws m e .past h in omega arith
+pub fits-past : (number : ℕ) (ws : List (List ℕ)) (m : ℕ) → sized ws ≡ Fits m → desk .room < m → desk .room < length (inFrames number ws)
+fits-past number ws m e h = let x = sized-fits ws m e .past number h in omega arith
 
 -- what the writer asks
-pub fits-ready : (ws : List (List ℕ)) (m : ℕ) → sized ws ≡ Fits m → m ≤ desk .room → (out : List ℕ) (at : ℕ) → at + m ≤ length out → Ready ws out at
-fits-ready ws m e h out at r = record { short = sized-fits ws m e .short; room = let x = fits-exact ws m e h in omega arith }
+pub fits-ready : (number : ℕ) (ws : List (List ℕ)) (m : ℕ) → sized ws ≡ Fits m → m ≤ desk .room → (out : List ℕ) (at : ℕ) → at + m ≤ length out → Ready number ws out at
+fits-ready number ws m e h out at r = record { short = sized-fits ws m e .short; room = let x = fits-exact number ws m e h in omega arith }
 
 -- ---- `Over`
 over-from : (ws : List (List ℕ)) (n : ℕ) → sizedFrom n ws ≡ Over → tooLong ws ≡ true
@@ -100,17 +103,10 @@ pub short-not-long : (ws : List (List ℕ)) → Short ws → tooLong ws ≡ fals
 short-not-long [] s = refl
 short-not-long (w ∷ ws) s = ap (λ b. b || tooLong ws) (le-ltb (desk .question) (length w) (s .0)) ∙ short-not-long ws (s .1)
 
--- ---- numbers 7 and 8: the results of a step in words
+-- ---- number 7: the results of a step in words
 pub words-long : (ks : List Conj) → anyLong desk ks ≡ tooLong (map conjWords ks)
 words-long [] = refl
 words-long (k ∷ ks) = ap (λ b. ltb (desk .question) (size k) || b) (words-long ks)
-
-pub words-waiting : (ks : List Conj) → waitingSize ks ≡ length (framed (map conjWords ks))
-words-waiting [] = refl
-words-waiting (k ∷ ks) =
-    let a = words-waiting ks in
-    let l = length-append (conjWords k) (framed (map conjWords ks)) in
-    omega arith
 
 module _ (ks : List Conj) (ws : List (List ℕ)) (e : ws ≡ map conjWords ks) where
   pub over-anyLong : sized ws ≡ Over → anyLong desk ks ≡ true

@@ -2,7 +2,6 @@
 use mathlib.Core.Path.{_≡_, refl, ap, _∙_}
 use mathlib.Core.List.{List, [], _∷_}
 use Prim.Native.Nat.{ℕ, suc, _+_}
-use native.Mathlib.Numerals.{add-one}
 use native.Mathlib.Omega.{arith}
 use lib.ListN.{length, set}
 use lib.Seq.{sets}
@@ -19,11 +18,13 @@ wrote-four l e a b c d =
     record { end = refl; list = cc }
 
 -- a frame before its words, stored when they stand
-pub wrote-framed : {l : List ℕ} {at : ℕ} {ws new : List ℕ} {e x : ℕ} {new′ : List ℕ} → Wrote l (at + frame) ws new e → x ≡ length ws → new′ ≡ sets new at (frameOf x)
-    → Wrote l at (inFrame ws) new′ e
-wrote-framed {l} {at} {ws} {new} {e} {x} w z s = record {
+pub wrote-framed : {l : List ℕ} {at : ℕ} {ws new : List ℕ} {e x : ℕ} (number : ℕ) {new′ : List ℕ} → Wrote l (at + frame) ws new e → x ≡ length ws → new′ ≡ sets new at (frameOf x number)
+    → Wrote l at (inFrame number ws) new′ e
+wrote-framed {l} {at} {ws} {new} {e} {x} number w z s = record {
   end = let q = w .end in omega arith;
   list =
-      s ∙ ap (λ m. set m at x) (w .list) ∙ set-sets l at x (at + 1) ws (omega arith) ∙ ap (λ n. sets (set l at x) n ws) (add-one at)
-      ∙ ap (λ y. sets (set l at y) (suc at) ws) z;
+      s ∙ ap (λ m. set (set m at x) (suc at) number) (w .list) ∙ ap (λ m. set m (suc at) number) (set-sets l at x (at + frame) ws (omega arith))
+      ∙ set-sets (set l at x) (suc at) number (at + frame) ws (omega arith)
+      ∙ ap (λ n. sets (set (set l at x) (suc at) number) n ws) (let y : at + frame ≡ suc (suc at) = omega arith in y)
+      ∙ ap (λ y. sets (set (set l at y) (suc at) number) (suc (suc at)) ws) z;
 }

@@ -10,7 +10,7 @@ ghost use lib.ListN.{length};
 ghost use Rattle.language.specs.Limits.{desk};
 ghost use Rattle.plans.specs.Results.{made, resultsOf};
 ghost use Rattle.words.specs.Spans.{places};
-ghost use Rattle.frames.specs.Frames.{framed};
+ghost use Rattle.frames.specs.Frames.{inFrames};
 ghost use Rattle.plans.specs.Sizes.{sizedFrom, sized, Ready};
 ghost use Rattle.slices.specs.Written.{Wrote};
 use language::limits::QUESTION;
@@ -83,41 +83,49 @@ pub fn size_results(k: &[u16], plan: Plan) -> Size
     }
 }
 
-fn write_cuts(k: &[u16], r: Recipe, cut: usize, times: usize, out: &mut [u16], at: usize) -> usize
-    requires { ⌜ Ready (map (made (now k) r) (places times (now k) cut)) (now out) at ⌝ }
-    ensures { λ e. ⌜ Wrote (now (out .entry)) at (framed (map (made (now (k .entry)) r) (places times (now (k .entry)) cut))) (now (out .exit)) e ⌝ }
+fn write_cuts(
+    k: &[u16],
+    r: Recipe,
+    cut: usize,
+    times: usize,
+    number: u16,
+    out: &mut [u16],
+    at: usize,
+) -> usize
+    requires { ⌜ Ready number (map (made (now k) r) (places times (now k) cut)) (now out) at ⌝ }
+    ensures { λ e. ⌜ Wrote (now (out .entry)) at (inFrames number (map (made (now (k .entry)) r) (places times (now (k .entry)) cut))) (now (out .exit)) e ⌝ }
 {
     let mut left = times;
     let mut c = cut;
     let mut e = at;
     while left != 0 {
-        e = write_framed(k, r, c, out, e);
+        e = write_framed(k, r, c, number, out, e);
         c = element_end(k, c);
         left -= 1;
     }
     e
 }
 
-fn write_two(k: &[u16], a: Recipe, b: Recipe, out: &mut [u16], at: usize) -> usize
-    requires { ⌜ Ready (made (now k) a 0 ∷ made (now k) b 0 ∷ []) (now out) at ⌝ }
-    ensures { λ e. ⌜ Wrote (now (out .entry)) at (framed (made (now (k .entry)) a 0 ∷ made (now (k .entry)) b 0 ∷ [])) (now (out .exit)) e ⌝ }
+fn write_two(k: &[u16], a: Recipe, b: Recipe, number: u16, out: &mut [u16], at: usize) -> usize
+    requires { ⌜ Ready number (made (now k) a 0 ∷ made (now k) b 0 ∷ []) (now out) at ⌝ }
+    ensures { λ e. ⌜ Wrote (now (out .entry)) at (inFrames number (made (now (k .entry)) a 0 ∷ made (now (k .entry)) b 0 ∷ [])) (now (out .exit)) e ⌝ }
 {
-    let e = write_framed(k, a, 0, out, at);
-    write_framed(k, b, 0, out, e)
+    let e = write_framed(k, a, 0, number, out, at);
+    write_framed(k, b, 0, number, out, e)
 }
 
-// A plan's results, each in its frame.
-pub fn write_results(k: &[u16], plan: Plan, out: &mut [u16], at: usize) -> usize
-    requires { ⌜ Ready (resultsOf (now k) plan) (now out) at ⌝ }
-    ensures { λ e. ⌜ Wrote (now (out .entry)) at (framed (resultsOf (now (k .entry)) plan)) (now (out .exit)) e ⌝ }
+// A plan's results, each in its frame, all with the number of the conjunction that they come from.
+pub fn write_results(k: &[u16], plan: Plan, number: u16, out: &mut [u16], at: usize) -> usize
+    requires { ⌜ Ready number (resultsOf (now k) plan) (now out) at ⌝ }
+    ensures { λ e. ⌜ Wrote (now (out .entry)) at (inFrames number (resultsOf (now (k .entry)) plan)) (now (out .exit)) e ⌝ }
 {
     let ways = plan.ways;
     let first = plan.first;
     let second = plan.second;
     match ways {
         Ways::Drop => at,
-        Ways::One(cut) => write_framed(k, first, cut, out, at),
-        Ways::Two => write_two(k, first, second, out, at),
-        Ways::Cuts(cut, n) => write_cuts(k, first, cut, n, out, at),
+        Ways::One(cut) => write_framed(k, first, cut, number, out, at),
+        Ways::Two => write_two(k, first, second, number, out, at),
+        Ways::Cuts(cut, n) => write_cuts(k, first, cut, n, number, out, at),
     }
 }

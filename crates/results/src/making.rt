@@ -108,12 +108,19 @@ pub(crate) fn write_made(k: &[u16], r: Recipe, cut: usize, out: &mut [u16], at: 
 }
 
 // A result in its frame; its length is known once it stands.
-pub(crate) fn write_framed(k: &[u16], r: Recipe, cut: usize, out: &mut [u16], at: usize) -> usize
-    requires { ⌜ (length (made (now k) r cut) ≤ desk .question) × (at + length (inFrame (made (now k) r cut)) ≤ length (now out)) ⌝ }
-    ensures { λ e. ⌜ Wrote (now (out .entry)) at (inFrame (made (now (k .entry)) r cut)) (now (out .exit)) e ⌝ }
+pub(crate) fn write_framed(
+    k: &[u16],
+    r: Recipe,
+    cut: usize,
+    number: u16,
+    out: &mut [u16],
+    at: usize,
+) -> usize
+    requires { ⌜ (length (made (now k) r cut) ≤ desk .question) × (at + length (inFrame number (made (now k) r cut)) ≤ length (now out)) ⌝ }
+    ensures { λ e. ⌜ Wrote (now (out .entry)) at (inFrame number (made (now (k .entry)) r cut)) (now (out .exit)) e ⌝ }
 {
     let start = at + FRAME;
     let e = write_made(k, r, cut, out, start);
-    write_frame(out, at, e - start);
+    write_frame(out, at, e - start, number);
     e
 }

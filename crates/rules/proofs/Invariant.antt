@@ -13,21 +13,21 @@ use Rattle.language.specs.Trees.{Conj, Question}
 use Rattle.language.specs.Question.{Asked, asks, refuses, readQuestion}
 use Rattle.rules.specs.Reply.{Reply, nothing, results, stops}
 use Rattle.rules.specs.Step.{step}
-use Rattle.rules.specs.Run.{anyLong, waitingSize, linesFit, Outcome, finished, refused, lined, turn, runFrom, run}
+use Rattle.rules.specs.Run.{Numbered, EachLine, allOf, numbered, anyLong, waitingSize, linesFit, Outcome, finished, refused, lined, turn, runFrom, run}
 use Rattle.rules.specs.Answer.{answered, unread, ran, solvingOf, solving}
 use Rattle.rules.specs.Each.{Each}
-use Rattle.rules.proofs.Each.{each-++}
+use Rattle.rules.proofs.Each.{each-++, each-map}
 
 -- `I ls w`: lines ls are there, and w waits
-module _ (I : List Conj → List Conj → Type 0) where
+module _ (I : List Numbered → List Numbered → Type 0) where
   -- it holds when the run ends
   abbrev pub Ended : Outcome → Type 0
   Ended (finished ls n) = I ls []
   Ended (refused r) = Unit {0}
 
   module _
-      (stepped : (ls : List Conj) (k : Conj) (w ks : List Conj) → I ls (k ∷ w) → step k ≡ results ks → I ls (ks ++ w))
-      (rests : (ls : List Conj) (k : Conj) (w : List Conj) → I ls (k ∷ w) → step k ≡ nothing → I (ls ++ (k ∷ [])) w)
+      (stepped : (ls : List Numbered) (k : Numbered) (w : List Numbered) (ks : List Conj) → I ls (k ∷ w) → step (k .literals) ≡ results ks → I ls (allOf (k .number) ks ++ w))
+      (rests : (ls : List Numbered) (k : Numbered) (w : List Numbered) → I ls (k ∷ w) → step (k .literals) ≡ nothing → I (ls ++ (k ∷ [])) w)
     where
       -- a refusal, or the run goes on
       halts : (b : Bool) (r : Refusal) (o : Outcome) → Ended o → Ended (elim b [ true ↦ refused r | false ↦ o ])
@@ -38,56 +38,60 @@ module _ (I : List Conj → List Conj → Type 0) where
       goes true r o p = p
       goes false r o p = tt
 
-      turn-ends : (L : Limits) (go : List Conj → List Conj → List Conj → Outcome)
-          → ((ls ks w : List Conj) → I ls w → Ended (go ls ks w)) → (n : ℕ) (ls w : List Conj) → I ls w → Ended (turn L go n ls w)
+      turn-ends : (L : Limits) (go : List Numbered → List Conj → List Numbered → Outcome)
+          → ((ls : List Numbered) (ks : List Conj) (w : List Numbered) → I ls w → Ended (go ls ks w)) → (n : ℕ) (ls w : List Numbered) → I ls w → Ended (turn L go n ls w)
       turn-ends L go on n ls [] p = p
-      turn-ends L go on n ls (k ∷ w) p = taken (step k) refl (λ q. goes (linesFit L (ls ++ (k ∷ []))) LineRoom _ (turn-ends L go on n (ls ++ (k ∷ [])) w q))
+      turn-ends L go on n ls (k ∷ w) p = taken (step (k .literals)) refl (λ q. goes (linesFit L (ls ++ (k ∷ []))) LineRoom _ (turn-ends L go on n (ls ++ (k ∷ [])) w q))
         where
-          taken : (m : Reply (List Conj)) → step k ≡ m → (I (ls ++ (k ∷ [])) w → Ended (lined L (ls ++ (k ∷ [])) (λ ms. turn L go n ms w)))
-              → Ended (elim m [ results ks ↦ go ls ks (ks ++ w) | nothing ↦ lined L (ls ++ (k ∷ [])) (λ ms. turn L go n ms w) | stops r ↦ refused r ])
+          taken : (m : Reply (List Conj)) → step (k .literals) ≡ m → (I (ls ++ (k ∷ [])) w → Ended (lined L (ls ++ (k ∷ [])) (λ ms. turn L go n ms w)))
+              → Ended (elim m [ results ks ↦ go ls ks (allOf (k .number) ks ++ w) | nothing ↦ lined L (ls ++ (k ∷ [])) (λ ms. turn L go n ms w) | stops r ↦ refused r ])
           taken nothing e line = line (rests ls k w p e)
-          taken (results ks) e line = on ls ks (ks ++ w) (stepped ls k w ks p e)
+          taken (results ks) e line = on ls ks (allOf (k .number) ks ++ w) (stepped ls k w ks p e)
           taken (stops r) e line = tt
 
-      from-ends : (L : Limits) (d n : ℕ) (ls w : List Conj) → I ls w → Ended (runFrom L d n ls w)
+      from-ends : (L : Limits) (d n : ℕ) (ls w : List Numbered) → I ls w → Ended (runFrom L d n ls w)
       unfolding runFrom
       from-ends L zero n ls w p = turn-ends L (λ _ _ _. refused StepLimit) (λ _ _ _ _. tt) n ls w p
       from-ends L (suc d) n ls w p =
           turn-ends L _ (λ ms ks v q. halts (anyLong L ks) LongResult _ (halts (ltb (L .room) (waitingSize v)) LongWaiting _ (from-ends L d (suc n) ms v q))) n ls w p
 
       -- What a step and a new line keep holds of the lines of a finished run.
-      pub along : (L : Limits) (w ls : List Conj) (n : ℕ) → run L w ≡ finished ls n → I [] w → I ls []
+      pub along : (L : Limits) (w : List Conj) (ls : List Numbered) (n : ℕ) → run L w ≡ finished ls n → I [] (numbered 0 w) → I ls []
       unfolding run
-      along L w ls n e p = rw e at (from-ends L (L .steps) 0 [] w p)
+      along L w ls n e p = rw e at (from-ends L (L .steps) 0 [] (numbered 0 w) p)
+
+pub each-numbered : (P : Conj → Type 0) (n : ℕ) (ks : List Conj) → Each P ks → EachLine P (numbered n ks)
+each-numbered P n [] p = tt
+each-numbered P n (k ∷ ks) p = (p .0, each-numbered P (suc n) ks (p .1))
 
 -- If P is kept by a step, and every waiting conjunction satisfies it, then every line does.
 pub lines-keep : (P : Conj → Type 0) → ((k : Conj) (ks : List Conj) → P k → step k ≡ results ks → Each P ks)
-    → (L : Limits) (w ls : List Conj) (n : ℕ) → run L w ≡ finished ls n → Each P w → Each P ls
+    → (L : Limits) (w : List Conj) (ls : List Numbered) (n : ℕ) → run L w ≡ finished ls n → Each P w → EachLine P ls
 lines-keep P kept L w ls n e p =
-    along (λ ms v. Each P ms × Each P v)
-    (λ ms k v ks q d. (q .0, each-++ P ks v (kept k ks (q .1 .0) d) (q .1 .1)))
-    (λ ms k v q d. (each-++ P ms (k ∷ []) (q .0) (q .1 .0, tt), q .1 .1))
-    L w ls n e (tt, p) .0
+    along (λ ms v. EachLine P ms × EachLine P v)
+    (λ ms k v ks q d. (q .0, each-++ _ (allOf (k .number) ks) v (each-map P _ _ (λ j r. r) ks (kept (k .literals) ks (q .1 .0) d)) (q .1 .1)))
+    (λ ms k v q d. (each-++ _ ms (k ∷ []) (q .0) (q .1 .0, tt), q .1 .1))
+    L w ls n e (tt, each-numbered P 0 w p) .0
 
 -- To a line of a finished run no rule applies.
-pub lines-rest : (L : Limits) (w ls : List Conj) (n : ℕ) → run L w ≡ finished ls n → Each (λ k. step k ≡ nothing) ls
+pub lines-rest : (L : Limits) (w : List Conj) (ls : List Numbered) (n : ℕ) → run L w ≡ finished ls n → EachLine (λ k. step k ≡ nothing) ls
 lines-rest L w ls n e =
-    along (λ ms v. Each (λ k. step k ≡ nothing) ms) (λ ms k v ks q d. q)
-    (λ ms k v q d. each-++ (λ k. step k ≡ nothing) ms (k ∷ []) q (d, tt)) L w ls n e tt
+    along (λ ms v. EachLine (λ k. step k ≡ nothing) ms) (λ ms k v ks q d. q)
+    (λ ms k v q d. each-++ _ ms (k ∷ []) q (d, tt)) L w ls n e tt
 
 -- ---- the question
 
-ran-finished : (o : Outcome) (ls : List Conj) (n : ℕ) → ran o ≡ answered ls n → o ≡ finished ls n
+ran-finished : (o : Outcome) (ls : List Numbered) (n : ℕ) → ran o ≡ answered ls n → o ≡ finished ls n
 ran-finished (finished ms m) ls n e = cc
 ran-finished (refused r) ls n e = let z : _≡_ {A = ℕ} 0 1 = cc in absurd (omega arith)
 
-of-asked : (L : Limits) (a : Asked) (ls : List Conj) (n : ℕ) → solvingOf L a ≡ answered ls n
+of-asked : (L : Limits) (a : Asked) (ls : List Numbered) (n : ℕ) → solvingOf L a ≡ answered ls n
     → (q : Question) × (a ≡ asks q) × (run L (q .alternatives) ≡ finished ls n)
 of-asked L (asks q) ls n e = (q, refl, ran-finished (run L (q .alternatives)) ls n e)
 of-asked L (refuses r) ls n e = let z : _≡_ {A = ℕ} 0 1 = cc in absurd (omega arith)
 
 -- an answer is of a question that was read, and of its run
-pub answered-run : (L : Limits) (work answer : ℕ) (ws : List ℕ) (ls : List Conj) (n : ℕ) → solving L work answer ws ≡ answered ls n
+pub answered-run : (L : Limits) (work answer : ℕ) (ws : List ℕ) (ls : List Numbered) (n : ℕ) → solving L work answer ws ≡ answered ls n
     → (q : Question) × (readQuestion L ws ≡ asks q) × (run L (q .alternatives) ≡ finished ls n)
 unfolding solving
 answered-run L work answer ws ls n e = long (ltb work (L .room)) (ltb answer (L .room)) e

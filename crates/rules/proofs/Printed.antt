@@ -5,13 +5,15 @@ use mathlib.Core.List.{List, [], _∷_, _++_}
 use lib.ListN.{replicate}
 use Rattle.language.specs.declared.Refusal.the-variants.{QuestionLength, NotLiterals, Undeclared}
 use Rattle.language.specs.Limits.{Limits, desk, firstDesk}
+use Rattle.language.specs.Numbers.{numberOf}
 use Rattle.language.specs.Kinds.{kindOf, within}
 use Rattle.language.specs.Reading.{reading, readHedge, readExpr, readLiteral, readConj}
 use Rattle.language.specs.Question.{laidOut, parts, lengthFits, countsFit, Asked, asks, refuses, readQuestion}
 use Rattle.rules.specs.Rules.{check, _>>=_}
 use Rattle.rules.specs.Step.{search, step}
 use Rattle.rules.specs.Solved.{solved}
-use Rattle.rules.specs.Run.{runFrom, run}
+use Rattle.rules.specs.Run.{Outcome, finished, refused, runFrom, run}
+use Rattle.rules.specs.Table as paper
 use Rattle.rules.specs.Answer.{Solving, answered, unread, given-up, answerWords, solving}
 
 -- the steps and the answer's words, where there is an answer
@@ -24,23 +26,23 @@ inWords L (answered ls n) = written n (answerWords L ls)
 inWords L (unread r) = nothing
 inWords L (given-up r) = nothing
 
--- P4 whole: its words, and those of its answer, n zeros at their end
+-- P4 whole: its words, and those of its answer, each line with its mark and its number, n zeros at their end
 abbrev pub P4 : List ℕ
 P4 = 4 ∷ 0 ∷ 2 ∷ 0 ∷ 1 ∷ 7 ∷ 16 ∷ 5000 ∷ 2000 ∷ 2001 ∷ 0 ∷ 3000 ∷ 0 ∷ 3001 ∷ 0 ∷ 0 ∷ []
 
 abbrev pub P4-answer : ℕ → Written
 P4-answer n = written 1
-    ((3 ∷ 0 ∷ 515 ∷ 528 ∷ 541 ∷ 554 ∷ replicate 509 0)
-    ++ ((1 ∷ 5000 ∷ 2000 ∷ 0 ∷ 0 ∷ 5000 ∷ 2001 ∷ 0 ∷ 3000 ∷ 0 ∷ 3001 ∷ 0 ∷ 0 ∷ [])
-    ++ ((1 ∷ 5000 ∷ 2000 ∷ 0 ∷ 3000 ∷ 0 ∷ 0 ∷ 5000 ∷ 2001 ∷ 0 ∷ 3001 ∷ 0 ∷ 0 ∷ [])
-    ++ ((1 ∷ 5000 ∷ 2000 ∷ 0 ∷ 3000 ∷ 0 ∷ 3001 ∷ 0 ∷ 0 ∷ 5000 ∷ 2001 ∷ 0 ∷ 0 ∷ []) ++ replicate n 0))))
+    ((3 ∷ 0 ∷ 515 ∷ 529 ∷ 543 ∷ 557 ∷ replicate 509 0)
+    ++ ((1 ∷ 0 ∷ 5000 ∷ 2000 ∷ 0 ∷ 0 ∷ 5000 ∷ 2001 ∷ 0 ∷ 3000 ∷ 0 ∷ 3001 ∷ 0 ∷ 0 ∷ [])
+    ++ ((1 ∷ 0 ∷ 5000 ∷ 2000 ∷ 0 ∷ 3000 ∷ 0 ∷ 0 ∷ 5000 ∷ 2001 ∷ 0 ∷ 3001 ∷ 0 ∷ 0 ∷ [])
+    ++ ((1 ∷ 0 ∷ 5000 ∷ 2000 ∷ 0 ∷ 3000 ∷ 0 ∷ 3001 ∷ 0 ∷ 0 ∷ 5000 ∷ 2001 ∷ 0 ∷ 0 ∷ []) ++ replicate n 0))))
 
 -- in slices as long as the room, for the desk of today and for the one of which the paper prints it
-pub P4-whole : inWords desk (solving desk (desk .room) (desk .room) P4) ≡ P4-answer 15830
+pub P4-whole : inWords desk (solving desk (desk .room) (desk .room) P4) ≡ P4-answer 15827
 unfolding solving answerWords readQuestion lengthFits countsFit laidOut parts reading readHedge readExpr readLiteral readConj kindOf within _>>=_ check search step solved runFrom run
 P4-whole = refl
 
-pub P4-first : inWords firstDesk (solving firstDesk (firstDesk .room) (firstDesk .room) P4) ≡ P4-answer 7638
+pub P4-first : inWords firstDesk (solving firstDesk (firstDesk .room) (firstDesk .room) P4) ≡ P4-answer 7635
 unfolding solving answerWords readQuestion lengthFits countsFit laidOut parts reading readHedge readExpr readLiteral readConj kindOf within _>>=_ check search step solved runFrom run
 P4-first = refl
 
@@ -87,3 +89,26 @@ pub limits-printed :
     × (refusalOf (readQuestion desk (withSymbol 32 3032)) ≡ refuses Undeclared)
 unfolding readQuestion lengthFits countsFit laidOut parts reading readHedge readExpr readLiteral readConj kindOf within
 limits-printed = (refl, refl, refl, refl, refl, refl)
+
+-- ---- 7 to 10 at their borders
+
+-- conjunctions of so many words, so much room, so many steps, three lines, and else the first desk's limits
+abbrev pub narrow : ℕ → ℕ → ℕ → Limits
+narrow longest room steps =
+    record { question = longest; room = room; literal = firstDesk .literal; lines = 3; steps = steps; filling = firstDesk .filling; each = firstDesk .each; alternatives = firstDesk .alternatives; apart = firstDesk .apart }
+
+abbrev pub endOf : Outcome → ℕ
+endOf (finished ls n) = 0
+endOf (refused r) = numberOf r
+
+-- P4's step leaves three conjunctions of 12 words. 7 counts these alone; waiting, each costs "its length plus two", 42 together; as lines, with
+-- a mark and a number, each is 14 words, which stand behind the first 6.
+pub borders :
+    (endOf (run (narrow 12 48 1) (paper.P4 .question)) ≡ 0)
+    × (endOf (run (narrow 11 48 1) (paper.P4 .question)) ≡ 7)
+    × (endOf (run (narrow 12 41 1) (paper.P4 .question)) ≡ 8)
+    × (endOf (run (narrow 12 42 1) (paper.P4 .question)) ≡ 9)
+    × (endOf (run (narrow 12 47 1) (paper.P4 .question)) ≡ 9)
+    × (endOf (run (narrow 11 41 0) (paper.P4 .question)) ≡ 10)
+unfolding _>>=_ check search step runFrom run
+borders = (refl, refl, refl, refl, refl, refl)

@@ -2,14 +2,14 @@
 use mathlib.Core.Path.{_≡_, refl}
 use mathlib.Core.Bool.{true, false}
 use mathlib.Core.List.{[], _∷_, map}
-use Rattle.language.specs.Trees.{eqn, mem}
+use Rattle.language.specs.Trees.{ε, eqn, mem, _⧺_}
 use Rattle.rules.specs.Reply.{results}
 use Rattle.rules.specs.Rules.{_>>=_, check}
 use Rattle.rules.specs.Places.{atR1, atFold, atF3, atD0, atE1}
 use Rattle.rules.specs.Step.{search, step}
 use Rattle.rules.specs.Solved.{solved}
 use Rattle.rules.specs.Run.{runFrom, run}
-use Rattle.rules.specs.Table.{Case, solve, table, a, b, f, g, x, aᴱ, bᴱ}
+use Rattle.rules.specs.Table.{report, Case, solve, table, a, b, f, g, x, p, q, aᴱ, bᴱ}
 
 pub table-holds : map (λ (c : Case). solve (c .question)) table ≡ map (λ (c : Case). c .answer) table
 unfolding _>>=_ check search step solved runFrom run solve
@@ -35,3 +35,13 @@ pub folds-found :
     × (search (eqn (f x) (g x) ∷ eqn (g x) (f x) ∷ []) ≡ results (record { rule = atF3; literal = 0; swapped = false }, []))
 unfolding _>>=_ check search
 folds-found = (refl, refl, refl, refl, refl)
+
+-- "each line shows it (from 0)": the number of the alternative that it descends from, and one without lines is counted
+pub numbers-shown :
+    solve ((eqn x a ∷ []) ∷ (eqn a b ∷ []) ∷ (eqn (p ⧺ q) a ∷ []) ∷ [])
+    ≡ report (
+    record { isSolved = true; number = 0; literals = eqn x a ∷ [] }
+    ∷ record { isSolved = true; number = 2; literals = eqn p ε ∷ eqn q a ∷ [] }
+    ∷ record { isSolved = true; number = 2; literals = eqn p a ∷ eqn q ε ∷ [] } ∷ []) 2
+unfolding _>>=_ check search step solved runFrom run solve
+numbers-shown = refl

@@ -13,25 +13,26 @@ use Rattle.language.specs.Writing.{conjWords}
 use Rattle.language.specs.Question.{Asked, asks, refuses, readQuestion}
 use Rattle.meaning.specs.Values.{offsetsOf, joined}
 use Rattle.rules.specs.Solved.{solved}
-use Rattle.rules.specs.Run.{linesAt, Outcome, finished, refused, run}
+use Rattle.rules.specs.Run.{Numbered, linesAt, Outcome, finished, refused, run}
 
 -- "a mark (1 solved, 2 open)"
 abbrev pub markOf : Conj → ℕ
 markOf k = pick (solved k) 1 2
 
-abbrev pub lineWords : Conj → List ℕ
-lineWords k = markOf k ∷ conjWords k
+-- and "in a word after the mark" the number of the alternative that it descends from
+abbrev pub lineWords : Numbered → List ℕ
+lineWords k = markOf (k .literals) ∷ k .number ∷ conjWords (k .literals)
 
-abbrev pub countOpen : List Conj → ℕ
+abbrev pub countOpen : List Numbered → ℕ
 countOpen [] = 0
-countOpen (k ∷ ks) = pick (solved k) (countOpen ks) (suc (countOpen ks))
+countOpen (k ∷ ks) = pick (solved (k .literals)) (countOpen ks) (suc (countOpen ks))
 
 -- zeros up to n words
 abbrev pub padded : ℕ → List ℕ → List ℕ
 padded n ws = ws ++ replicate (n - length ws) 0
 
 -- "Word 0: lines; word 1: open lines; words 2..514: the offset of each line and the end of the last, then zeros; from 515 the lines ..; then zeros"
-unfoldable pub answerWords : Limits → List Conj → List ℕ
+unfoldable pub answerWords : Limits → List Numbered → List ℕ
 answerWords L ls =
     let ws = map lineWords ls in
     padded (L .room) (padded (linesAt L) (length ls ∷ countOpen ls ∷ offsetsOf (linesAt L) ws) ++ joined ws)
@@ -49,13 +50,13 @@ overwritten L ws old = ws ++ drop (L .room) old
 pub data Verdict : Type 0 where
   noLine allSolved someOpen : Verdict
 
-abbrev pub verdictOf : List Conj → Verdict
+abbrev pub verdictOf : List Numbered → Verdict
 verdictOf [] = noLine
 verdictOf (k ∷ ks) = pick (ltb 0 (countOpen (k ∷ ks))) someOpen allSolved
 
 -- the lines and the steps of an answered question; a refusal before the run, which changes nothing; a refusal of the run, which leaves zeros
 pub data Solving : Type 0 where
-  answered : List Conj → ℕ → Solving
+  answered : List Numbered → ℕ → Solving
   unread : Refusal → Solving
   given-up : Refusal → Solving
 

@@ -1,4 +1,4 @@
--- The run on paper: the table of cases P1 to P12, each a question, its lines with their marks, and its steps.
+-- The run on paper: the table of cases P1 to P12, each a question, its lines with their marks and numbers, and its steps.
 use Prim.Native.Nat.{ℕ}
 use mathlib.Core.Bool.{Bool, true, false}
 use mathlib.Core.List.{List, [], _∷_, map}
@@ -6,19 +6,20 @@ use Rattle.language.specs.declared.Refusal.{Refusal}
 use Rattle.language.specs.Limits.{desk}
 use Rattle.language.specs.Trees.{Functor, symbol, fvar, Hedge, ε, tvar, hvar, node, Expr, eps, cat, star, over, Literal, eqn, mem, Conj, _⧺_}
 use Rattle.rules.specs.Solved.{solved}
-use Rattle.rules.specs.Run.{Outcome, finished, refused, run}
+use Rattle.rules.specs.Run.{Numbered, Outcome, finished, refused, run}
 
--- a line and whether it is solved
+-- a line, whether it is solved, and the number of its alternative
 pub record Line : Type 0 where
   pub isSolved : Bool
+  pub number : ℕ
   pub literals : Conj
 
 pub data Report : Type 0 where
   report : List Line → ℕ → Report
   noReport : Refusal → Report
 
-abbrev pub marked : Conj → Line
-marked k = record { isSolved = solved k; literals = k }
+abbrev pub marked : Numbered → Line
+marked k = record { isSolved = solved (k .literals); number = k .number; literals = k .literals }
 
 abbrev pub reported : Outcome → Report
 reported (finished ls n) = report (map marked ls) n
@@ -69,15 +70,15 @@ pub record Case : Type 0 where
   pub question : List Conj
   pub answer : Report
 
--- a question of one conjunction
+-- a question of one conjunction, whose number is 0
 abbrev pub one : Conj → List Line → ℕ → Case
 one k ls n = record { question = k ∷ []; answer = report ls n }
 
 abbrev pub settled : Conj → Line
-settled k = record { isSolved = true; literals = k }
+settled k = record { isSolved = true; number = 0; literals = k }
 
 abbrev pub open-line : Conj → Line
-open-line k = record { isSolved = false; literals = k }
+open-line k = record { isSolved = false; number = 0; literals = k }
 
 abbrev pub P1 : Case
 P1 = record { question = []; answer = report [] 0 }

@@ -4,7 +4,7 @@ use native.Mathlib.Omega.{arith}
 use mathlib.Core.Path.{_≡_, refl, sym, ap, _∙_, subst}
 use mathlib.Core.Bool.{Bool}
 use mathlib.Core.List.{List, _∷_, map}
-use lib.ListN.{length, getD, take, drop, replicate, length-replicate}
+use lib.ListN.{length, take, drop, replicate, length-replicate}
 use lib.Seq.{sets, slice, sets-eq, take-at}
 use Rattle.language.specs.Limits.{desk}
 use Rattle.language.specs.declared.Refusal.the-variants.{LongResult, LongWaiting, StepLimit}
@@ -13,6 +13,8 @@ use Rattle.language.specs.Writing.{conjWords}
 use Rattle.rules.specs.Reply.{nothing, results}
 use Rattle.rules.specs.Step.{step}
 use Rattle.rules.specs.Places.{noRule}
+use Rattle.rules.specs.Run.{Numbered}
+use Rattle.frames.specs.Frames.{frame, framedLength}
 use Rattle.steps.specs.Ranking.{Found, nowhere, somewhere, sideResults}
 use Rattle.steps.specs.Asking.{RuleAt}
 use Rattle.steps.specs.Seeking.{bestOf}
@@ -29,25 +31,26 @@ use Rattle.steps.specs.Taking.{Took, long, room, done}
 use Rattle.solver.specs.Running.{Running, Turns}
 use Rattle.solver.proofs.Going.{first-size, first-words, no-more-steps, step-long, step-room, step-on}
 
-module _ (oldWork oldAnswer : List ℕ) (ls : List Conj) (c : Conj) (w : List Conj) (s : State) (work answer : List ℕ)
-    (p : Running oldWork oldAnswer ls (c ∷ w) s work answer) (k : List ℕ) (ek : k ≡ conjWords c) (next : ℕ) (en : next ≡ s .at + 1 + length k)
+module _ (oldWork oldAnswer : List ℕ) (ls : List Numbered) (c : Numbered) (w : List Numbered) (s : State) (work answer : List ℕ)
+    (p : Running oldWork oldAnswer ls (c ∷ w) s work answer) (k : List ℕ) (ek : k ≡ conjWords (c .literals)) (number : ℕ) (eu : number ≡ c .number) (next : ℕ) (en : next ≡ s .at + frame + length k)
     (n at : ℕ) (swap : Bool) (h : n < noRule) where
-  pub limit-met : Found c n at swap → desk .steps ≤ s .steps → Turns oldWork oldAnswer ls (c ∷ w) s (Stop StepLimit) work answer
+  pub limit-met : Found (c .literals) n at swap → desk .steps ≤ s .steps → Turns oldWork oldAnswer ls (c ∷ w) s (Stop StepLimit) work answer
   limit-met (nowhere e f) g = absurd (omega arith)
-  limit-met (somewhere before l behind ks e q m a d) g = no-more-steps oldWork oldAnswer ls c w s work answer p k ek next en ks (searched c _ d) g
+  limit-met (somewhere before l behind ks e q m a d) g = no-more-steps oldWork oldAnswer ls c w s work answer p k ek next en ks (searched (c .literals) _ d) g
 
   module _ (g : s .steps < desk .steps) (r : Stepped) (new : List ℕ)
       (f : (before : Conj) (l : Literal) (behind : Conj) (ks : List Conj) → LiteralAt k at before l behind → sideResults swap n before l behind ≡ results ks
-      → Took (map conjWords ks) work next r new) where
+      → Took number (map conjWords ks) work next r new) where
     -- what is shown from what was found and taken
-    both : (Q : Type 0) → ((ks : List Conj) → step c ≡ results ks → Took (map conjWords ks) work next r new → Q) → Found c n at swap → Q
+    both : (Q : Type 0) → ((ks : List Conj) → step (c .literals) ≡ results ks → Took (c .number) (map conjWords ks) work next r new → Q) → Found (c .literals) n at swap → Q
     both Q u (nowhere e d) = absurd (omega arith)
-    both Q u (somewhere before l behind ks e q m a d) = u ks (searched c _ d) (f before l behind ks (stands-here k c (p .fine .0) ek at before l behind e q) a)
+    both Q u (somewhere before l behind ks e q m a d) = u ks (searched (c .literals) _ d)
+        (subst (λ m. Took m (map conjWords ks) work next r new) eu (f before l behind ks (stands-here k (c .literals) (p .fine .0) ek at before l behind e q) a))
 
-    pub took-too-long : r ≡ Long → Found c n at swap → Turns oldWork oldAnswer ls (c ∷ w) s (Stop LongResult) new answer
+    pub took-too-long : r ≡ Long → Found (c .literals) n at swap → Turns oldWork oldAnswer ls (c ∷ w) s (Stop LongResult) new answer
     took-too-long er = both _ go
       where
-        go : (ks : List Conj) → step c ≡ results ks → Took (map conjWords ks) work next r new
+        go : (ks : List Conj) → step (c .literals) ≡ results ks → Took (c .number) (map conjWords ks) work next r new
             → Turns oldWork oldAnswer ls (c ∷ w) s (Stop LongResult) new answer
         go ks d (long e o y) =
             subst (λ x. Turns oldWork oldAnswer ls (c ∷ w) s (Stop LongResult) x answer) (sym y)
@@ -55,10 +58,10 @@ module _ (oldWork oldAnswer : List ℕ) (ls : List Conj) (c : Conj) (w : List Co
         go ks d (room m e o i y) = absurd (let z : _≡_ {A = ℕ} 0 1 = cc in omega arith)
         go ks d (done m to e o i y) = absurd (let z : _≡_ {A = ℕ} 0 1 = cc in omega arith)
 
-    pub took-no-room : r ≡ Room → Found c n at swap → Turns oldWork oldAnswer ls (c ∷ w) s (Stop LongWaiting) new answer
+    pub took-no-room : r ≡ Room → Found (c .literals) n at swap → Turns oldWork oldAnswer ls (c ∷ w) s (Stop LongWaiting) new answer
     took-no-room er = both _ go
       where
-        go : (ks : List Conj) → step c ≡ results ks → Took (map conjWords ks) work next r new
+        go : (ks : List Conj) → step (c .literals) ≡ results ks → Took (c .number) (map conjWords ks) work next r new
             → Turns oldWork oldAnswer ls (c ∷ w) s (Stop LongWaiting) new answer
         go ks d (long e o y) = absurd (let z : _≡_ {A = ℕ} 0 1 = cc in omega arith)
         go ks d (room m e o i y) =
@@ -66,10 +69,10 @@ module _ (oldWork oldAnswer : List ℕ) (ls : List Conj) (c : Conj) (w : List Co
             (step-room oldWork oldAnswer ls c w s work answer p k ek next en _ d g _ refl m o i)
         go ks d (done m to e o i y) = absurd (let z : _≡_ {A = ℕ} 0 1 = cc in omega arith)
 
-    pub took-step : (to : ℕ) → r ≡ Done to → Found c n at swap → Turns oldWork oldAnswer ls (c ∷ w) s (On (record { at = to; steps = s .steps + 1; tally = s .tally })) new answer
+    pub took-step : (to : ℕ) → r ≡ Done to → Found (c .literals) n at swap → Turns oldWork oldAnswer ls (c ∷ w) s (On (record { at = to; steps = s .steps + 1; tally = s .tally })) new answer
     took-step to er = both _ go
       where
-        go : (ks : List Conj) → step c ≡ results ks → Took (map conjWords ks) work next r new
+        go : (ks : List Conj) → step (c .literals) ≡ results ks → Took (c .number) (map conjWords ks) work next r new
             → Turns oldWork oldAnswer ls (c ∷ w) s (On (record { at = to; steps = s .steps + 1; tally = s .tally })) new answer
         go ks d (long e o y) = absurd (let z : _≡_ {A = ℕ} 0 1 = cc in omega arith)
         go ks d (room m e o i y) = absurd (let z : _≡_ {A = ℕ} 0 1 = cc in omega arith)
@@ -103,11 +106,11 @@ taken-out : (z a work b : List ℕ) (from to n : ℕ) → a ≡ sets z 0 (slice 
 taken-out z a work b from to n e d l h =
     ap (take n) (e ∙ ap (sets z 0) d ∙ sets-eq b z 0 (omega arith)) ∙ take-at b (drop (0 + length b) z) n l
 
-pub first-taken : (oldWork oldAnswer : List ℕ) (ls : List Conj) (c : Conj) (w : List Conj) (s : State) (work answer : List ℕ)
-    → Running oldWork oldAnswer ls (c ∷ w) s work answer → (n : ℕ) → n ≡ getD work (s .at) 0 → n ≤ desk .question
-    → (a : List ℕ) → a ≡ sets (replicate (desk .question) 0) 0 (slice (s .at + 1) (s .at + 1 + n) work) → take (n - 0) a ≡ conjWords c
+pub first-taken : (oldWork oldAnswer : List ℕ) (ls : List Numbered) (c : Numbered) (w : List Numbered) (s : State) (work answer : List ℕ)
+    → Running oldWork oldAnswer ls (c ∷ w) s work answer → (n : ℕ) → n ≡ framedLength work (s .at) → n ≤ desk .question
+    → (a : List ℕ) → a ≡ sets (replicate (desk .question) 0) 0 (slice (s .at + frame) (s .at + frame + n) work) → take (n - 0) a ≡ conjWords (c .literals)
 first-taken oldWork oldAnswer ls c w s work answer p n en h a ea =
-    let e : n ≡ length (conjWords c) = en ∙ first-size oldWork oldAnswer ls c w s work answer p in
-    let b : slice (s .at + 1) (s .at + 1 + n) work ≡ conjWords c = ap (λ m. slice (s .at + 1) (s .at + 1 + m) work) e ∙ first-words oldWork oldAnswer ls c w s work answer p in
+    let e : n ≡ length (conjWords (c .literals)) = en ∙ first-size oldWork oldAnswer ls c w s work answer p in
+    let b : slice (s .at + frame) (s .at + frame + n) work ≡ conjWords (c .literals) = ap (λ m. slice (s .at + frame) (s .at + frame + m) work) e ∙ first-words oldWork oldAnswer ls c w s work answer p in
     ap (λ m. take m a) (let z : n - 0 ≡ n = omega arith in z)
-    ∙ taken-out (replicate (desk .question) 0) a work (conjWords c) (s .at + 1) (s .at + 1 + n) n ea b (sym e) (let l = length-replicate {A = ℕ} (desk .question) 0 in omega arith)
+    ∙ taken-out (replicate (desk .question) 0) a work (conjWords (c .literals)) (s .at + frame) (s .at + frame + n) n ea b (sym e) (let l = length-replicate {A = ℕ} (desk .question) 0 in omega arith)

@@ -1,7 +1,7 @@
 -- A question that was read: its parts are the words of its conjunctions, each fine and short, and the run begins with them.
 use Prim.Native.Nat.{ℕ, suc, _+_, _-_, _≤_}
 use native.Mathlib.Omega.{arith}
-use mathlib.Core.Path.{_≡_, refl, sym, subst}
+use mathlib.Core.Path.{_≡_, refl, sym, ap, _∙_, subst}
 use mathlib.Core.Bool.{true}
 use mathlib.Core.List.{List, [], _∷_, map}
 use lib.Dec.{leb}
@@ -15,16 +15,18 @@ use Rattle.language.specs.Question.{offsets, partsFrom, parts, laidOut, lengthF
 use Rattle.language.proofs.Bools.{both-true}
 use Rattle.language.proofs.Alternatives.{fineAll, read-all}
 use Rattle.language.proofs.Asking.{Passed, passed}
-use Rattle.waiting.specs.Waiting.{Laid}
+use Rattle.waiting.specs.Waiting.{inOrder, Laid}
 use Rattle.waiting.proofs.Blocks.{laid-wait}
 use Rattle.answers.specs.declared.Tally.{Tally}
 use Rattle.answers.specs.Lined.{Lined}
 use Rattle.reader.proofs.Answers.{question-asked}
 use Rattle.reader.specs.Checking.{checked}
 use Rattle.outcomes.specs.declared.Checked.the-variants.{Fine}
-use Rattle.rules.specs.Run.{size, run}
+use Rattle.rules.specs.Run.{numbered, size, run}
 use Rattle.rules.specs.Each.{Each}
+use Rattle.rules.proofs.Invariant.{each-numbered}
 use Rattle.solver.specs.Running.{Running, leftOf, conjunctionsOf}
+use Rattle.solver.proofs.Lengths.{blocks-order}
 
 -- no part is longer than the whole
 short-parts : (n from : ℕ) (os ws : List ℕ) → length ws ≤ n → Each (λ b. length b ≤ n) (partsFrom from os ws)
@@ -70,21 +72,21 @@ module _ (ws : List ℕ) (e : Fine ≡ checked (readQuestion desk ws)) where
 
   -- the run begins
   pub begins : (oldWork oldAnswer work answer : List ℕ) (at : ℕ) (t : Tally) → desk .room ≤ length oldWork → desk .room ≤ length oldAnswer → length answer ≡ length oldAnswer
-      → Laid oldWork at (parts 5 (getD ws 4 0) ws) work → Lined oldAnswer [] t answer
-      → Running oldWork oldAnswer [] asks-for (record { at = at; steps = 0; tally = t }) work answer
+      → Laid oldWork at (inOrder 0 (parts 5 (getD ws 4 0) ws)) work → Lined oldAnswer [] t answer
+      → Running oldWork oldAnswer [] (numbered 0 asks-for) (record { at = at; steps = 0; tally = t }) work answer
   begins oldWork oldAnswer work answer at t room space kept w l =
       let r = asked-read in
       record {
-        waiting = laid-wait oldWork at _ work room (subst (λ bs. Laid oldWork at bs work) (r .1) w);
+        waiting = laid-wait oldWork at _ work room (subst (λ bs. Laid oldWork at bs work) (ap (inOrder 0) (r .1) ∙ blocks-order 0 asks-for) w);
         lined = l;
-        fine = each-fine asks-for (r .0);
-        short = short-conjunctions asks-for (subst (Each (λ b. length b ≤ desk .question)) (r .1) asked-short);
+        fine = each-numbered (fineConj desk) 0 asks-for (each-fine asks-for (r .0));
+        short = each-numbered (λ k. size k ≤ desk .question) 0 asks-for (short-conjunctions asks-for (subst (Each (λ b. length b ≤ desk .question)) (r .1) asked-short));
         made = omega arith;
         room = room;
         kept = kept;
         space = space;
       }
 
-  pub begin-left : (at : ℕ) (t : Tally) → leftOf (record { at = at; steps = 0; tally = t }) [] asks-for ≡ run desk asks-for
+  pub begin-left : (at : ℕ) (t : Tally) → leftOf (record { at = at; steps = 0; tally = t }) [] (numbered 0 asks-for) ≡ run desk asks-for
   unfolding leftOf run
   begin-left at t = refl

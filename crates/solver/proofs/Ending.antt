@@ -11,9 +11,8 @@ use Rattle.language.specs.declared.Refusal.{Refusal}
 use Rattle.language.specs.declared.Refusal.the-variants.{ShortSlice}
 use Rattle.language.specs.Limits.{desk}
 use Rattle.language.specs.Kinds.{pick}
-use Rattle.language.specs.Trees.{Conj}
 use Rattle.language.specs.Question.{readQuestion}
-use Rattle.rules.specs.Run.{Outcome, run}
+use Rattle.rules.specs.Run.{Numbered, Outcome, run}
 use Rattle.rules.specs.Answer.{countOpen, zeros, verdictOf, answered, unread, ran, solvingOf, solving}
 use Rattle.rules.specs.Answer as rules
 use Rattle.answers.specs.declared.Tally.{Tally}
@@ -34,7 +33,7 @@ picked : (b : Bool) → pick b outcome.the-variants.SomeOpen outcome.the-variant
 picked true = refl
 picked false = refl
 
-counted : (ls : List Conj) → verdictFor (length ls) (countOpen ls) ≡ verdict (verdictOf ls)
+counted : (ls : List Numbered) → verdictFor (length ls) (countOpen ls) ≡ verdict (verdictOf ls)
 counted [] = refl
 counted (k ∷ ls) =
     ap (λ b. pick b outcome.the-variants.NoLine (pick (ltb 0 (countOpen (k ∷ ls))) outcome.the-variants.SomeOpen outcome.the-variants.AllSolved))

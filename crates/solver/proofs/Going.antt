@@ -5,7 +5,7 @@ use native.Mathlib.Decide.{decLe}
 use mathlib.Core.Path.{_≡_, refl, sym, ap, _∙_, subst}
 use mathlib.Core.Bool.{false}
 use mathlib.Core.List.{List, [], _∷_, _++_, map, map-append}
-use lib.ListN.{length, drop, getD}
+use lib.ListN.{length, drop}
 use lib.Seq.{slice, sets, drop-drop, drop-at}
 use borrow.Author.Tests.{lt-ltb, le-ltb}
 use Rattle.language.specs.declared.Refusal.{Refusal}
@@ -16,48 +16,51 @@ use Rattle.language.specs.Writing.{conjWords}
 use Rattle.language.specs.Fine.{fineConj}
 use Rattle.rules.specs.Reply.{nothing, results}
 use Rattle.rules.specs.Step.{step}
-use Rattle.rules.specs.Run.{waitingSize, linesFit, refused, runFrom}
+use Rattle.rules.specs.Run.{Numbered, allOf, size, waitingSize, linesFit, refused, runFrom}
 use Rattle.rules.specs.Answer.{answerWords}
 use Rattle.rules.proofs.Each.{each-++}
-use Rattle.frames.specs.Frames.{framed}
+use Rattle.frames.specs.Frames.{frame, Block, framed, allWith, inFrames, framedLength, framedNumber}
 use Rattle.plans.specs.Sizes.{sized}
 use Rattle.plans.specs.declared.Size.the-variants.{Fits, Over}
-use Rattle.results.proofs.Sizing.{sized-fits, fits-exact, fits-past, over-anyLong, fits-anyLong, words-waiting}
+use Rattle.results.proofs.Sizing.{sized-fits, fits-exact, fits-past, over-anyLong, fits-anyLong}
 use Rattle.rules.proofs.FineSteps.{step-fine}
 use Rattle.waiting.specs.Waiting.{Waiting}
-use Rattle.waiting.proofs.Blocks.{laid, first-length, first-block, first-room, rest-wait}
+use Rattle.waiting.proofs.Blocks.{laid, first-length, first-number, first-block, first-room, rest-wait}
 use Rattle.answers.specs.declared.Tally.{Tally}
-use Rattle.answers.specs.Lined.{Lined}
+use Rattle.answers.specs.Lined.{lineHead, Lined}
 use Rattle.answers.proofs.Rows.{count-more, lines-size-more, open-most, length-answer}
 use Rattle.solver.specs.declared.State.{State}
 use Rattle.solver.specs.declared.Turned.the-variants.{On, Stop}
 use Rattle.steps.specs.Taking.{room}
-use Rattle.solver.specs.Running.{Running, leftOf, Kept, Turns, on, stop}
+use Rattle.solver.specs.Running.{blockOf, Running, leftOf, Kept, Turns, on, stop}
 use Rattle.solver.proofs.Turns.{run-line, run-full, run-limit, run-long, run-room, run-step}
-use Rattle.solver.proofs.Lengths.{waiting-append, short-words, lines-fit, lines-many, lines-past}
+use Rattle.solver.proofs.Lengths.{waiting-append, words-waiting, blocks-all, each-of, short-words, lines-fit, lines-many, lines-past}
 
 -- ---- the words past the room
 
-pub waiting-kept : (old : List ℕ) (at : ℕ) (bs : List (List ℕ)) (new : List ℕ) → Waiting old at bs new → Kept old new
+pub waiting-kept : (old : List ℕ) (at : ℕ) (bs : List Block) (new : List ℕ) → Waiting old at bs new → Kept old new
 waiting-kept old at bs new p =
     ap (λ n. drop n new) (let z = p .place in let y : desk .room ≡ at + length (framed bs) = omega arith in y)
     ∙ sym (drop-drop (length (framed bs)) at new) ∙ ap (drop (length (framed bs))) (p .words) ∙ drop-at (framed bs) (drop (desk .room) old) (length (framed bs)) refl
 
-pub lined-kept : (old : List ℕ) (ls : List Conj) (t : Tally) (new : List ℕ) → Lined old ls t new → Kept old new
+pub lined-kept : (old : List ℕ) (ls : List Numbered) (t : Tally) (new : List ℕ) → Lined old ls t new → Kept old new
 lined-kept old ls t new p = ap (drop (desk .room)) (p .words) ∙ drop-at (answerWords desk ls) (drop (desk .room) old) (desk .room) (length-answer ls (p .few) (p .room))
 
-module _ (oldWork oldAnswer : List ℕ) (ls : List Conj) (c : Conj) (w : List Conj) (s : State) (work answer : List ℕ)
+module _ (oldWork oldAnswer : List ℕ) (ls : List Numbered) (c : Numbered) (w : List Numbered) (s : State) (work answer : List ℕ)
     (p : Running oldWork oldAnswer ls (c ∷ w) s work answer) where
   -- ---- what stands first
 
-  pub first-size : getD work (s .at) 0 ≡ length (conjWords c)
-  first-size = first-length oldWork (s .at) (conjWords c) (map conjWords w) work (p .waiting)
+  pub first-size : framedLength work (s .at) ≡ length (conjWords (c .literals))
+  first-size = first-length oldWork (s .at) (blockOf c) (map blockOf w) work (p .waiting)
 
-  pub first-words : slice (s .at + 1) (s .at + 1 + length (conjWords c)) work ≡ conjWords c
-  first-words = first-block oldWork (s .at) (conjWords c) (map conjWords w) work (p .waiting)
+  pub first-of : framedNumber work (s .at) ≡ c .number
+  first-of = first-number oldWork (s .at) (blockOf c) (map blockOf w) work (p .waiting)
 
-  pub first-fits : s .at + 1 + length (conjWords c) ≤ desk .room
-  first-fits = let z = first-room oldWork (s .at) (conjWords c) (map conjWords w) work (p .waiting) in omega arith
+  pub first-words : slice (s .at + frame) (s .at + frame + length (conjWords (c .literals))) work ≡ conjWords (c .literals)
+  first-words = first-block oldWork (s .at) (blockOf c) (map blockOf w) work (p .waiting)
+
+  pub first-fits : s .at + frame + length (conjWords (c .literals)) ≤ desk .room
+  first-fits = let z = first-room oldWork (s .at) (blockOf c) (map blockOf w) work (p .waiting) in omega arith
 
   pub open-fits : s .tally .«open» ≤ s .tally .lines
   open-fits = let a = p .lined .«open» in let b = p .lined .lines in let d = open-most ls in omega arith
@@ -74,15 +77,15 @@ module _ (oldWork oldAnswer : List ℕ) (ls : List Conj) (c : Conj) (w : List Co
   stops : (e : Refusal) → refused e ≡ leftOf s ls (c ∷ w) → Turns oldWork oldAnswer ls (c ∷ w) s (Stop e) work answer
   stops e d = stop e refl d (waiting-kept oldWork (s .at) _ work (p .waiting)) (lined-kept oldAnswer ls (s .tally) answer (p .lined))
 
-  module _ (k : List ℕ) (ek : k ≡ conjWords c) (next : ℕ) (en : next ≡ s .at + 1 + length k) where
-    rests : Waiting oldWork next (map conjWords w) work
+  module _ (k : List ℕ) (ek : k ≡ conjWords (c .literals)) (next : ℕ) (en : next ≡ s .at + frame + length k) where
+    rests : Waiting oldWork next (map blockOf w) work
     rests =
-        subst (λ n. Waiting oldWork n (map conjWords w) work) (ap (λ l. s .at + 1 + length l) (sym ek) ∙ sym en)
-        (rest-wait oldWork (s .at) (conjWords c) (map conjWords w) work (p .waiting))
+        subst (λ n. Waiting oldWork n (map blockOf w) work) (ap (λ l. s .at + frame + length l) (sym ek) ∙ sym en)
+        (rest-wait oldWork (s .at) (blockOf c) (map blockOf w) work (p .waiting))
 
     -- ---- no rule applies
 
-    module _ (e : step c ≡ nothing) where
+    module _ (e : step (c .literals) ≡ nothing) where
       full : linesFit desk (ls ++ (c ∷ [])) ≡ false → refused LineRoom ≡ leftOf s ls (c ∷ w)
       unfolding leftOf
       full f = sym (run-full desk (s .steps) ls c w (desk .steps - s .steps) e f)
@@ -90,7 +93,7 @@ module _ (oldWork oldAnswer : List ℕ) (ls : List Conj) (c : Conj) (w : List Co
       pub many-lines : desk .lines ≤ s .tally .lines → Turns oldWork oldAnswer ls (c ∷ w) s (Stop LineRoom) work answer
       many-lines h = stops LineRoom (full (lines-many (ls ++ (c ∷ [])) (let a = p .lined .lines in let b = count-more ls c in omega arith)))
 
-      pub long-line : s .tally .lines < desk .lines → desk .room < s .tally .end + 1 + length k → Turns oldWork oldAnswer ls (c ∷ w) s (Stop LineRoom) work answer
+      pub long-line : s .tally .lines < desk .lines → desk .room < s .tally .end + lineHead + length k → Turns oldWork oldAnswer ls (c ∷ w) s (Stop LineRoom) work answer
       long-line h g =
           let a = p .lined .lines in
           let b = p .lined .end in
@@ -119,7 +122,7 @@ module _ (oldWork oldAnswer : List ℕ) (ls : List Conj) (c : Conj) (w : List Co
 
     -- ---- a rule applies
 
-    module _ (ks : List Conj) (e : step c ≡ results ks) where
+    module _ (ks : List Conj) (e : step (c .literals) ≡ results ks) where
       pub no-more-steps : desk .steps ≤ s .steps → Turns oldWork oldAnswer ls (c ∷ w) s (Stop StepLimit) work answer
       unfolding leftOf
       no-more-steps h =
@@ -136,28 +139,28 @@ module _ (oldWork oldAnswer : List ℕ) (ls : List Conj) (c : Conj) (w : List Co
           step-long o = stops LongResult (sym (one-more ∙ run-long desk (s .steps) ls c w ks e (desk .steps - (s .steps + 1)) (over-anyLong ks ws ew o)))
 
           module _ (n : ℕ) (f : sized ws ≡ Fits n) where
-            together : waitingSize (ks ++ w) + next ≡ length (framed ws) + desk .room
+            together : waitingSize (allOf (c .number) ks ++ w) + next ≡ length (inFrames (c .number) ws) + desk .room
             together =
-                let a = waiting-append ks w in
-                let b = words-waiting ks ∙ ap (λ l. length (framed l)) (sym ew) in
+                let a = waiting-append (allOf (c .number) ks) w in
+                let b = words-waiting (allOf (c .number) ks) ∙ ap (λ l. length (framed l)) (sym (blocks-all (c .number) ks)) ∙ ap (λ l. length (inFrames (c .number) l)) (sym ew) in
                 let d = words-waiting w in
                 let q = rests .place in
                 omega arith
 
-            past : next < n → desk .room < waitingSize (ks ++ w)
+            past : next < n → desk .room < waitingSize (allOf (c .number) ks ++ w)
             past g = elim (decLe n (desk .room)) [
-              | yes m ↦ (let x = fits-exact ws n f m in let t = together in omega arith)
-              | no m ↦ (let x = fits-past ws n f (omega arith) in let t = together in let q = rests .place in omega arith)
+              | yes m ↦ (let x = fits-exact (c .number) ws n f m in let t = together in omega arith)
+              | no m ↦ (let x = fits-past (c .number) ws n f (omega arith) in let t = together in let q = rests .place in omega arith)
             ]
 
             pub step-room : next < n → Turns oldWork oldAnswer ls (c ∷ w) s (Stop LongWaiting) work answer
             step-room g =
                 stops LongWaiting
-                (sym (one-more ∙ run-room desk (s .steps) ls c w ks e (desk .steps - (s .steps + 1)) (fits-anyLong ks ws ew n f) (lt-ltb (desk .room) (waitingSize (ks ++ w)) (past g))))
+                (sym (one-more ∙ run-room desk (s .steps) ls c w ks e (desk .steps - (s .steps + 1)) (fits-anyLong ks ws ew n f) (lt-ltb (desk .room) (waitingSize (allOf (c .number) ks ++ w)) (past g))))
 
-            module _ (at : ℕ) (new : List ℕ) (g : at + n ≡ next) (d : new ≡ sets work at (framed ws)) where
-              within : length (framed ws) ≡ n
-              within = let q = rests .place in fits-exact ws n f (omega arith)
+            module _ (at : ℕ) (new : List ℕ) (g : at + n ≡ next) (d : new ≡ sets work at (inFrames (c .number) ws)) where
+              within : length (inFrames (c .number) ws) ≡ n
+              within = let q = rests .place in fits-exact (c .number) ws n f (omega arith)
 
               pub step-on : Turns oldWork oldAnswer ls (c ∷ w) s (On (record { at = at; steps = s .steps + 1; tally = s .tally })) new answer
               unfolding leftOf
@@ -165,19 +168,20 @@ module _ (oldWork oldAnswer : List ℕ) (ls : List Conj) (c : Conj) (w : List Co
                   let x = within in
                   let q = rests .place in
                   let t = together in
-                  on (record { at = at; steps = s .steps + 1; tally = s .tally }) ls (ks ++ w) refl
+                  on (record { at = at; steps = s .steps + 1; tally = s .tally }) ls (allOf (c .number) ks ++ w) refl
                   (record {
                     waiting =
-                        subst (λ bs. Waiting oldWork at bs new) (ap (λ l. l ++ map conjWords w) ew ∙ sym (map-append conjWords ks w))
-                        (laid oldWork next (map conjWords w) work rests (p .room) ws at new (omega arith) d);
+                        subst (λ bs. Waiting oldWork at bs new)
+                        (ap (λ l. allWith (c .number) l ++ map blockOf w) ew ∙ ap (λ l. l ++ map blockOf w) (blocks-all (c .number) ks) ∙ sym (map-append blockOf (allOf (c .number) ks) w))
+                        (laid oldWork next (map blockOf w) work rests (p .room) (allWith (c .number) ws) at new (omega arith) d);
                     lined = p .lined;
-                    fine = each-++ (fineConj desk) ks w (step-fine desk c ks (p .fine .0) e) (p .fine .1);
-                    short = each-++ _ ks w (short-words ks (rw ew at (sized-fits ws n f .short))) (p .short .1);
+                    fine = each-++ _ (allOf (c .number) ks) w (each-of (fineConj desk) (c .number) ks (step-fine desk (c .literals) ks (p .fine .0) e)) (p .fine .1);
+                    short = each-++ _ (allOf (c .number) ks) w (each-of (λ k. size k ≤ desk .question) (c .number) ks (short-words ks (rw ew at (sized-fits ws n f .short)))) (p .short .1);
                     made = omega arith;
                     room = p .room;
                     kept = p .kept;
                     space = p .space;
                   })
-                  (ap (λ m. runFrom desk (desk .steps - (s .steps + 1)) m ls (ks ++ w)) (let z : s .steps + 1 ≡ suc (s .steps) = omega arith in z)
-                  ∙ sym (one-more ∙ run-step desk (s .steps) ls c w ks e (desk .steps - (s .steps + 1)) (fits-anyLong ks ws ew n f) (le-ltb (desk .room) (waitingSize (ks ++ w)) (omega arith))))
+                  (ap (λ m. runFrom desk (desk .steps - (s .steps + 1)) m ls (allOf (c .number) ks ++ w)) (let z : s .steps + 1 ≡ suc (s .steps) = omega arith in z)
+                  ∙ sym (one-more ∙ run-step desk (s .steps) ls c w ks e (desk .steps - (s .steps + 1)) (fits-anyLong ks ws ew n f) (le-ltb (desk .room) (waitingSize (allOf (c .number) ks ++ w)) (omega arith))))
                   (omega arith)

@@ -3,11 +3,11 @@ use Prim.Native.Nat.{ℕ, _+_, _-_, _<_, _≤_}
 use native.Mathlib.Omega.{arith}
 use mathlib.Core.Path.{_≡_, refl, sym, ap, _∙_, subst}
 use mathlib.Core.List.{List, [], _∷_}
-use lib.ListN.{length, getD}
+use lib.ListN.{length}
 use Rattle.language.specs.declared.Refusal.{Refusal}
 use Rattle.language.specs.Limits.{desk}
-use Rattle.language.specs.Trees.{Conj}
-use Rattle.rules.specs.Run.{Outcome, refused}
+use Rattle.rules.specs.Run.{Numbered, Outcome, refused}
+use Rattle.frames.specs.Frames.{frame, framedLength}
 use Rattle.solver.specs.declared.State.{State}
 use Rattle.solver.specs.declared.Turned.{Turned}
 use Rattle.solver.specs.declared.Turned.the-variants.{On, Stop}
@@ -19,24 +19,24 @@ use Rattle.solver.proofs.Going.{waiting-kept, first-size, first-fits, o
 
 -- a run whose end is o
 pub record Gone (oldWork oldAnswer : List ℕ) (o : Outcome) (s : State) (work answer : List ℕ) : Type 0 where
-  pub lines : List Conj
-  pub waits : List Conj
+  pub lines : List Numbered
+  pub waits : List Numbered
   pub running : Running oldWork oldAnswer lines waits s work answer
   pub same : leftOf s lines waits ≡ o
 
 -- what a turn asks
 abbrev pub Ready : State → List ℕ → List ℕ → Type 0
 Ready s work answer =
-    ((s .at + 1 + getD work (s .at) 0 ≤ desk .room) × (getD work (s .at) 0 ≤ desk .question) × (desk .room ≤ length work) × (s .tally .«open» ≤ s .tally .lines) × (s .tally .end ≤ desk .room) × (desk .room ≤ length answer))
+    ((s .at + frame + framedLength work (s .at) ≤ desk .room) × (framedLength work (s .at) ≤ desk .question) × (desk .room ≤ length work) × (s .tally .«open» ≤ s .tally .lines) × (s .tally .end ≤ desk .room) × (desk .room ≤ length answer))
     × Awaits s work answer
 
 module _ (oldWork oldAnswer : List ℕ) (o : Outcome) (s : State) (work answer : List ℕ) (g : Gone oldWork oldAnswer o s work answer) where
   -- one waits first
   first-of : (Q : Type 0) → s .at < desk .room
-      → ((ls : List Conj) (c : Conj) (w : List Conj) → Running oldWork oldAnswer ls (c ∷ w) s work answer → leftOf s ls (c ∷ w) ≡ o → Q) → Q
+      → ((ls : List Numbered) (c : Numbered) (w : List Numbered) → Running oldWork oldAnswer ls (c ∷ w) s work answer → leftOf s ls (c ∷ w) ≡ o → Q) → Q
   first-of Q h f = go (g .waits) (g .running) (g .same)
     where
-      go : (w : List Conj) → Running oldWork oldAnswer (g .lines) w s work answer → leftOf s (g .lines) w ≡ o → Q
+      go : (w : List Numbered) → Running oldWork oldAnswer (g .lines) w s work answer → leftOf s (g .lines) w ≡ o → Q
       go [] p e = absurd (let z = p .waiting .place in omega arith)
       go (c ∷ w) p e = f (g .lines) c w p e
 
@@ -60,7 +60,7 @@ module _ (oldWork oldAnswer : List ℕ) (o : Outcome) (s : State) (work answer :
   unfolding leftOf
   run-over h = go (g .waits) (g .running) (g .same)
     where
-      go : (w : List Conj) → Running oldWork oldAnswer (g .lines) w s work answer → leftOf s (g .lines) w ≡ o
+      go : (w : List Numbered) → Running oldWork oldAnswer (g .lines) w s work answer → leftOf s (g .lines) w ≡ o
           → Ends o oldWork oldAnswer (Done (s .steps) (s .tally)) work answer
       go [] p e =
           ended (s .steps) (s .tally) (g .lines) refl (sym e ∙ run-ends desk (desk .steps - s .steps) (s .steps) (g .lines)) (p .lined)
@@ -68,13 +68,13 @@ module _ (oldWork oldAnswer : List ℕ) (o : Outcome) (s : State) (work answer :
       go (c ∷ w) p e = absurd (let z = p .waiting .place in omega arith)
 
   module _ (h : s .at < desk .room) (r : Turned) (work′ answer′ : List ℕ)
-      (f : (oldWork oldAnswer : List ℕ) (ls : List Conj) (c : Conj) (w : List Conj) → Running oldWork oldAnswer ls (c ∷ w) s work answer
+      (f : (oldWork oldAnswer : List ℕ) (ls : List Numbered) (c : Numbered) (w : List Numbered) → Running oldWork oldAnswer ls (c ∷ w) s work answer
       → Turns oldWork oldAnswer ls (c ∷ w) s r work′ answer′) where
     module _ (t : State) (er : r ≡ On t) where
       moved : (Gone oldWork oldAnswer o t work′ answer′) × (measure t < measure s)
       moved = first-of _ h λ ls c w p e. go ls c w e (f oldWork oldAnswer ls c w p)
         where
-          go : (ls : List Conj) (c : Conj) (w : List Conj) → leftOf s ls (c ∷ w) ≡ o → Turns oldWork oldAnswer ls (c ∷ w) s r work′ answer′
+          go : (ls : List Numbered) (c : Numbered) (w : List Numbered) → leftOf s ls (c ∷ w) ≡ o → Turns oldWork oldAnswer ls (c ∷ w) s r work′ answer′
               → (Gone oldWork oldAnswer o t work′ answer′) × (measure t < measure s)
           go ls c w e (on u ms v d q same less) =
               let z : u ≡ t = cc in
@@ -90,7 +90,7 @@ module _ (oldWork oldAnswer : List ℕ) (o : Outcome) (s : State) (work answer :
     pub gone-stop : (x : Refusal) → r ≡ Stop x → Ends o oldWork oldAnswer (Stopped x) work′ answer′
     gone-stop x er = first-of _ h λ ls c w p e. go ls c w e (f oldWork oldAnswer ls c w p)
       where
-        go : (ls : List Conj) (c : Conj) (w : List Conj) → leftOf s ls (c ∷ w) ≡ o → Turns oldWork oldAnswer ls (c ∷ w) s r work′ answer′
+        go : (ls : List Numbered) (c : Numbered) (w : List Numbered) → leftOf s ls (c ∷ w) ≡ o → Turns oldWork oldAnswer ls (c ∷ w) s r work′ answer′
             → Ends o oldWork oldAnswer (Stopped x) work′ answer′
         go ls c w e (on u ms v d q same less) = absurd (let z : _≡_ {A = ℕ} 0 1 = cc in omega arith)
         go ls c w e (stop y d z k l) = let i : y ≡ x = cc in given-up x refl (sym e ∙ sym z ∙ ap refused i) k l

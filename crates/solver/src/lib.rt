@@ -2,15 +2,15 @@
 ghost use Prim.Native.Nat.{ℕ, _+_, _≤_, _<_};
 ghost use mathlib.Core.Path.{_≡_};
 ghost use mathlib.Core.List.{List, _∷_};
-ghost use lib.ListN.{length, getD};
+ghost use lib.ListN.{length};
 ghost use Rattle.language.specs.Limits.{desk};
-ghost use Rattle.language.specs.Trees.{Conj};
 ghost use Rattle.language.specs.Writing.{conjWords};
 ghost use Rattle.language.specs.Question.{readQuestion};
 ghost use Rattle.rules.specs.Reply.{nothing};
 ghost use Rattle.rules.specs.Step.{step};
-ghost use Rattle.rules.specs.Run.{run as runs};
+ghost use Rattle.rules.specs.Run.{Numbered, run as runs};
 ghost use Rattle.rules.specs.Answer.{solvingOf, solving};
+ghost use Rattle.frames.specs.Frames.{frame, framedLength};
 ghost use Rattle.views.specs.Standing.{Conjunction};
 ghost use Rattle.steps.specs.Ranking.{Found};
 ghost use Rattle.steps.specs.Asking.{RuleAt};
@@ -20,11 +20,13 @@ ghost use Rattle.outcomes.specs.Numbers.{solvedNumbers};
 ghost use Rattle.rules.specs.Places.{noRule};
 ghost use Rattle.solver.specs.Running.{Running, leftOf, Turns, Begun, Awaits, Ends, conjunctionsOf};
 ghost use Rattle.solver.specs.Leaves.{leaves, toldLeaves, refusedBy, verdictFor};
+use answers::LINE_HEAD;
 use answers::Tally;
 use answers::add_line;
 use answers::begin;
 use frames::FRAME;
 use frames::read_frame;
+use frames::read_number;
 use language::Refusal;
 use language::limits::LINES;
 use language::limits::QUESTION;
@@ -63,21 +65,21 @@ pub enum Ran {
     Stopped(Refusal),
 }
 
-// No rule applies to k: it becomes the next line, and `next` is where those that wait then begin.
-fn line(k: &[u16], next: usize, answer: &mut [u16], s: State) -> Turned
+// No rule applies to k, which is of that alternative: it becomes the next line, and `next` is where those that wait then begin.
+fn line(k: &[u16], number: u16, next: usize, answer: &mut [u16], s: State) -> Turned
     requires { ⌜ (length (now k) ≤ desk .question) × (s .tally .«open» ≤ s .tally .lines) × (s .tally .end ≤ desk .room) × (desk .room ≤ length (now answer)) ⌝ }
     requires { ⌜ Conjunction (now k) ⌝ }
-    ensures { λ r. ⌜ ((oldWork oldAnswer : List ℕ) (ls : List Conj) (c : Conj) (w : List Conj) (work : List ℕ) → Running oldWork oldAnswer ls (c ∷ w) s work (now (answer .entry)) → now (k .entry) ≡ conjWords c → next ≡ s .at + 1 + length (now (k .entry)) → step c ≡ nothing → Turns oldWork oldAnswer ls (c ∷ w) s r work (now (answer .exit))) ⌝ }
+    ensures { λ r. ⌜ ((oldWork oldAnswer : List ℕ) (ls : List Numbered) (c : Numbered) (w : List Numbered) (work : List ℕ) → Running oldWork oldAnswer ls (c ∷ w) s work (now (answer .entry)) → now (k .entry) ≡ conjWords (c .literals) → number ≡ c .number → next ≡ s .at + frame + length (now (k .entry)) → step (c .literals) ≡ nothing → Turns oldWork oldAnswer ls (c ∷ w) s r work (now (answer .exit))) ⌝ }
 {
     let t = s.tally;
     if LINES <= t.lines {
         return Turned::Stop(Refusal::LineRoom);
     }
-    if ROOM < t.end + 1 + k.len() {
+    if ROOM < t.end + LINE_HEAD + k.len() {
         return Turned::Stop(Refusal::LineRoom);
     }
     let solved = is_solved(k);
-    let u = add_line(k, solved, t, answer);
+    let u = add_line(k, number, solved, t, answer);
     Turned::On(State {
         at: next,
         steps: s.steps,
@@ -86,16 +88,16 @@ fn line(k: &[u16], next: usize, answer: &mut [u16], s: State) -> Turned
 }
 
 // A rule applies to k: the step is made in its place, unless a number stands against it.
-fn advance(k: &[u16], b: Best, work: &mut [u16], next: usize, s: State) -> Turned
+fn advance(k: &[u16], b: Best, number: u16, work: &mut [u16], next: usize, s: State) -> Turned
     requires { ⌜ (length (now k) ≤ desk .question) × (b .at < length (now k)) × (next ≤ length (now work)) × (next ≤ desk .room) ⌝ }
     requires { ⌜ RuleAt (now k) b ⌝ }
-    ensures { λ r. ⌜ ((oldWork oldAnswer : List ℕ) (ls : List Conj) (c : Conj) (w : List Conj) (answer : List ℕ) → Running oldWork oldAnswer ls (c ∷ w) s (now (work .entry)) answer → now (k .entry) ≡ conjWords c → next ≡ s .at + 1 + length (now (k .entry)) → b .rank < noRule → Found c (b .rank) (b .at) (b .swap) → Turns oldWork oldAnswer ls (c ∷ w) s r (now (work .exit)) answer) ⌝ }
+    ensures { λ r. ⌜ ((oldWork oldAnswer : List ℕ) (ls : List Numbered) (c : Numbered) (w : List Numbered) (answer : List ℕ) → Running oldWork oldAnswer ls (c ∷ w) s (now (work .entry)) answer → now (k .entry) ≡ conjWords (c .literals) → number ≡ c .number → next ≡ s .at + frame + length (now (k .entry)) → b .rank < noRule → Found (c .literals) (b .rank) (b .at) (b .swap) → Turns oldWork oldAnswer ls (c ∷ w) s r (now (work .exit)) answer) ⌝ }
 {
     if STEPS <= s.steps {
         return Turned::Stop(Refusal::StepLimit);
     }
     let tally = s.tally;
-    match take_step(k, b, work, next) {
+    match take_step(k, b, number, work, next) {
         Stepped::Long => Turned::Stop(Refusal::LongResult),
         Stepped::Room => Turned::Stop(Refusal::LongWaiting),
         Stepped::Done(at) => Turned::On(State {
@@ -106,38 +108,46 @@ fn advance(k: &[u16], b: Best, work: &mut [u16], next: usize, s: State) -> Turne
     }
 }
 
-// One turn, the first waiting conjunction being k.
-fn turn_with(k: &[u16], next: usize, work: &mut [u16], answer: &mut [u16], s: State) -> Turned
+// One turn, the first waiting conjunction being k, of that alternative.
+fn turn_with(
+    k: &[u16],
+    number: u16,
+    next: usize,
+    work: &mut [u16],
+    answer: &mut [u16],
+    s: State,
+) -> Turned
     requires { ⌜ (length (now k) ≤ desk .question) × (next ≤ desk .room) × (desk .room ≤ length (now work)) × (s .tally .«open» ≤ s .tally .lines) × (s .tally .end ≤ desk .room) × (desk .room ≤ length (now answer)) ⌝ }
     requires { ⌜ Conjunction (now k) ⌝ }
-    ensures { λ r. ⌜ ((oldWork oldAnswer : List ℕ) (ls : List Conj) (c : Conj) (w : List Conj) → Running oldWork oldAnswer ls (c ∷ w) s (now (work .entry)) (now (answer .entry)) → now (k .entry) ≡ conjWords c → next ≡ s .at + 1 + length (now (k .entry)) → Turns oldWork oldAnswer ls (c ∷ w) s r (now (work .exit)) (now (answer .exit))) ⌝ }
+    ensures { λ r. ⌜ ((oldWork oldAnswer : List ℕ) (ls : List Numbered) (c : Numbered) (w : List Numbered) → Running oldWork oldAnswer ls (c ∷ w) s (now (work .entry)) (now (answer .entry)) → now (k .entry) ≡ conjWords (c .literals) → number ≡ c .number → next ≡ s .at + frame + length (now (k .entry)) → Turns oldWork oldAnswer ls (c ∷ w) s r (now (work .exit)) (now (answer .exit))) ⌝ }
 {
     let b = find(k);
     if NO_RULE <= b.rank {
-        return line(k, next, answer, s);
+        return line(k, number, next, answer, s);
     }
-    advance(k, b, work, next, s)
+    advance(k, b, number, work, next, s)
 }
 
 // One turn: the first waiting conjunction is taken out, so that results can be written over its place.
 fn turn(work: &mut [u16], answer: &mut [u16], s: State) -> Turned
-    requires { ⌜ (s .at + 1 + getD (now work) (s .at) 0 ≤ desk .room) × (getD (now work) (s .at) 0 ≤ desk .question) × (desk .room ≤ length (now work)) × (s .tally .«open» ≤ s .tally .lines) × (s .tally .end ≤ desk .room) × (desk .room ≤ length (now answer)) ⌝ }
+    requires { ⌜ (s .at + frame + framedLength (now work) (s .at) ≤ desk .room) × (framedLength (now work) (s .at) ≤ desk .question) × (desk .room ≤ length (now work)) × (s .tally .«open» ≤ s .tally .lines) × (s .tally .end ≤ desk .room) × (desk .room ≤ length (now answer)) ⌝ }
     requires { ⌜ Awaits s (now work) (now answer) ⌝ }
-    ensures { λ r. ⌜ ((oldWork oldAnswer : List ℕ) (ls : List Conj) (c : Conj) (w : List Conj) → Running oldWork oldAnswer ls (c ∷ w) s (now (work .entry)) (now (answer .entry)) → Turns oldWork oldAnswer ls (c ∷ w) s r (now (work .exit)) (now (answer .exit))) ⌝ }
+    ensures { λ r. ⌜ ((oldWork oldAnswer : List ℕ) (ls : List Numbered) (c : Numbered) (w : List Numbered) → Running oldWork oldAnswer ls (c ∷ w) s (now (work .entry)) (now (answer .entry)) → Turns oldWork oldAnswer ls (c ∷ w) s r (now (work .exit)) (now (answer .exit))) ⌝ }
 {
     let at = s.at;
     let n = read_frame(work, at);
+    let number = read_number(work, at);
     let start = at + FRAME;
     let next = start + n;
     let mut k = [0; QUESTION];
     copy(work, start, next, &mut k, 0);
-    turn_with(&k[0..n], next, work, answer, s)
+    turn_with(&k[0..n], number, next, work, answer, s)
 }
 
 // Turn after turn, until nothing waits.
 fn go_on(work: &mut [u16], answer: &mut [u16], begin: State) -> Ran
     requires { ⌜ Begun begin (now work) (now answer) ⌝ }
-    ensures { λ r. ⌜ ((oldWork oldAnswer : List ℕ) (ls w : List Conj) → Running oldWork oldAnswer ls w begin (now (work .entry)) (now (answer .entry)) → Ends (leftOf begin ls w) oldWork oldAnswer r (now (work .exit)) (now (answer .exit))) ⌝ }
+    ensures { λ r. ⌜ ((oldWork oldAnswer : List ℕ) (ls w : List Numbered) → Running oldWork oldAnswer ls w begin (now (work .entry)) (now (answer .entry)) → Ends (leftOf begin ls w) oldWork oldAnswer r (now (work .exit)) (now (answer .exit))) ⌝ }
 {
     let mut s = begin;
     while s.at < ROOM {

@@ -5,7 +5,7 @@ use mathlib.Core.Path.{_≡_, sym, ap, _∙_}
 use mathlib.Core.List.{List}
 use lib.Seq.{sets}
 use Rattle.language.proofs.Determined.{Determined}
-use Rattle.frames.specs.Frames.{framed}
+use Rattle.frames.specs.Frames.{inFrames}
 use Rattle.plans.specs.declared.Size.{Size}
 use Rattle.plans.specs.declared.Size.the-variants.{Fits, Over}
 use Rattle.steps.specs.declared.Stepped.{Stepped}
@@ -23,24 +23,24 @@ one-size s n m e d = cc
 over-fits : (s : Size) (n : ℕ) → s ≡ Over → s ≡ Fits n → ⊥
 over-fits s n e d = let z : _≡_ {A = ℕ} 0 1 = cc in omega arith
 
-took-one : (ws : List (List ℕ)) (old : List ℕ) (next : ℕ) (r u : Stepped) (new now : List ℕ) → Took ws old next r new → Took ws old next u now → (r ≡ u) × (new ≡ now)
-took-one ws old next r u new now (long e s d) (long f t g) = (e ∙ sym f, d ∙ sym g)
-took-one ws old next r u new now (long e s d) (room m f t h g) = absurd (over-fits _ m s t)
-took-one ws old next r u new now (long e s d) (done m at f t h g) = absurd (over-fits _ m s t)
-took-one ws old next r u new now (room n e s i d) (long f t g) = absurd (over-fits _ n t s)
-took-one ws old next r u new now (room n e s i d) (room m f t h g) = (e ∙ sym f, d ∙ sym g)
-took-one ws old next r u new now (room n e s i d) (done m at f t h g) = absurd (let z = one-size _ n m s t in omega arith)
-took-one ws old next r u new now (done n at e s i d) (long f t g) = absurd (over-fits _ n t s)
-took-one ws old next r u new now (done n at e s i d) (room m f t h g) = absurd (let z = one-size _ n m s t in omega arith)
-took-one ws old next r u new now (done n at e s i d) (done m bt f t h g) =
+took-one : (number : ℕ) (ws : List (List ℕ)) (old : List ℕ) (next : ℕ) (r u : Stepped) (new now : List ℕ) → Took number ws old next r new → Took number ws old next u now → (r ≡ u) × (new ≡ now)
+took-one number ws old next r u new now (long e s d) (long f t g) = (e ∙ sym f, d ∙ sym g)
+took-one number ws old next r u new now (long e s d) (room m f t h g) = absurd (over-fits _ m s t)
+took-one number ws old next r u new now (long e s d) (done m at f t h g) = absurd (over-fits _ m s t)
+took-one number ws old next r u new now (room n e s i d) (long f t g) = absurd (over-fits _ n t s)
+took-one number ws old next r u new now (room n e s i d) (room m f t h g) = (e ∙ sym f, d ∙ sym g)
+took-one number ws old next r u new now (room n e s i d) (done m at f t h g) = absurd (let z = one-size _ n m s t in omega arith)
+took-one number ws old next r u new now (done n at e s i d) (long f t g) = absurd (over-fits _ n t s)
+took-one number ws old next r u new now (done n at e s i d) (room m f t h g) = absurd (let z = one-size _ n m s t in omega arith)
+took-one number ws old next r u new now (done n at e s i d) (done m bt f t h g) =
     let y = one-size _ n m s t in
     let z : at ≡ bt = omega arith in
-    (e ∙ ap Done z ∙ sym f, d ∙ ap (λ x. sets old x (framed ws)) z ∙ sym g)
+    (e ∙ ap Done z ∙ sym f, d ∙ ap (λ x. sets old x (inFrames number ws)) z ∙ sym g)
 
 take_step-determined : Determined take_step.ended take_step.Reads.Pre take_step.Reads.Post
 take_step-determined κs a p o q e d =
     let m = p .1 in
     let z =
-    took-one _ _ _ _ _ _ _ (e (m .before) (m .l) (m .behind) (m .made) (m .stands) (m .applies)) (d (m .before) (m .l) (m .behind) (m .made) (m .stands) (m .applies))
+    took-one _ _ _ _ _ _ _ _ (e (m .before) (m .l) (m .behind) (m .made) (m .stands) (m .applies)) (d (m .before) (m .l) (m .behind) (m .made) (m .stands) (m .applies))
     in
-    ap (λ r. (r, o .1)) (z .0) ∙ ap (λ s. (q .0, (tt, (tt, (s, (tt, tt)))))) (z .1)
+    ap (λ r. (r, o .1)) (z .0) ∙ ap (λ s. (q .0, (tt, (tt, (tt, (s, (tt, tt))))))) (z .1)

@@ -12,17 +12,17 @@ use Rattle.plans.specs.Sizes.{sized, sizeValue}
 use Rattle.steps.specs.declared.Stepped.{Stepped}
 use Rattle.steps.specs.Taking.{steppedNumber, steppedValue, stepNumber, Took, long, room, done}
 
-pub took-number : (ws : List (List ℕ)) (old : List ℕ) (next : ℕ) (r : Stepped) (new : List ℕ) → Took ws old next r new → steppedNumber r ≡ stepNumber next (sized ws)
-took-number ws old next r new (long e s d) = ap steppedNumber e ∙ sym (ap (stepNumber next) s)
-took-number ws old next r new (room n e s h d) = ap steppedNumber e ∙ sym (ap (λ b. pick b (numberOf LongWaiting) 0) (lt-ltb next n h)) ∙ sym (ap (stepNumber next) s)
-took-number ws old next r new (done n at e s i d) =
+pub took-number : (number : ℕ) (ws : List (List ℕ)) (old : List ℕ) (next : ℕ) (r : Stepped) (new : List ℕ) → Took number ws old next r new → steppedNumber r ≡ stepNumber next (sized ws)
+took-number number ws old next r new (long e s d) = ap steppedNumber e ∙ sym (ap (stepNumber next) s)
+took-number number ws old next r new (room n e s h d) = ap steppedNumber e ∙ sym (ap (λ b. pick b (numberOf LongWaiting) 0) (lt-ltb next n h)) ∙ sym (ap (stepNumber next) s)
+took-number number ws old next r new (done n at e s i d) =
     ap steppedNumber e ∙ sym (ap (λ b. pick b (numberOf LongWaiting) 0) (le-ltb next n (omega arith))) ∙ sym (ap (stepNumber next) s)
 
 -- of a step that is made
-pub took-value : (ws : List (List ℕ)) (old : List ℕ) (next : ℕ) (r : Stepped) (new : List ℕ) → Took ws old next r new → steppedNumber r ≡ 0 → steppedValue r + sizeValue (sized ws) ≡ next
-took-value ws old next r new (long e s d) z = absurd (let y = sym (ap steppedNumber e) ∙ z in omega arith)
-took-value ws old next r new (room n e s h d) z = absurd (let y = sym (ap steppedNumber e) ∙ z in omega arith)
-took-value ws old next r new (done n at e s i d) z =
+pub took-value : (number : ℕ) (ws : List (List ℕ)) (old : List ℕ) (next : ℕ) (r : Stepped) (new : List ℕ) → Took number ws old next r new → steppedNumber r ≡ 0 → steppedValue r + sizeValue (sized ws) ≡ next
+took-value number ws old next r new (long e s d) z = absurd (let y = sym (ap steppedNumber e) ∙ z in omega arith)
+took-value number ws old next r new (room n e s h d) z = absurd (let y = sym (ap steppedNumber e) ∙ z in omega arith)
+took-value number ws old next r new (done n at e s i d) z =
     let a : steppedValue r ≡ at = ap steppedValue e in
     let b : sizeValue (sized ws) ≡ n = ap sizeValue s in
     omega arith

@@ -17,7 +17,7 @@ use Rattle.rules.specs.Places.{atM2}
 use Rattle.rules.proofs.Answers.{where-some, Where, Answers, look, test, answers}
 use Rattle.views.specs.Looks.{head, tail}
 use Rattle.rules.specs.Ranks.{eqnAnswer, memAnswer}
-use Rattle.frames.specs.Frames.{framed}
+use Rattle.frames.specs.Frames.{inFrames}
 use Rattle.plans.specs.Sizes.{sized, placedWords, monomialWords, Ready}
 use Rattle.plans.specs.declared.Size.{Size}
 use Rattle.plans.specs.declared.Size.the-variants.{Fits, Over}
@@ -29,19 +29,19 @@ use Rattle.steps.specs.Taking.{Took, long, room, done}
 use Rattle.steps.specs.declared.Stepped.{Stepped}
 use Rattle.steps.specs.declared.Stepped.the-variants.{Long, Room, Done}
 
-module _ (ws : List (List ℕ)) (old : List ℕ) (next : ℕ) (s : Size) (es : s ≡ sized ws) where
-  pub took-long : s ≡ Over → Took ws old next Long old
+module _ (number : ℕ) (ws : List (List ℕ)) (old : List ℕ) (next : ℕ) (s : Size) (es : s ≡ sized ws) where
+  pub took-long : s ≡ Over → Took number ws old next Long old
   took-long e = long refl (sym es ∙ e) refl
 
   module _ (n : ℕ) (e : s ≡ Fits n) where
-    pub took-room : next < n → Took ws old next Room old
+    pub took-room : next < n → Took number ws old next Room old
     took-room h = room n refl (sym es ∙ e) h refl
 
     module _ (h : n ≤ next) where
-      pub took-ready : next ≤ desk .room → next ≤ length old → Ready ws old (next - n)
-      took-ready small fits = fits-ready ws n (sym es ∙ e) (omega arith) old (next - n) (omega arith)
+      pub took-ready : next ≤ desk .room → next ≤ length old → Ready number ws old (next - n)
+      took-ready small fits = fits-ready number ws n (sym es ∙ e) (omega arith) old (next - n) (omega arith)
 
-      pub took-done : (new : List ℕ) (end : ℕ) → Wrote old (next - n) (framed ws) new end → Took ws old next (Done (next - n)) new
+      pub took-done : (new : List ℕ) (end : ℕ) → Wrote old (next - n) (inFrames number ws) new end → Took number ws old next (Done (next - n)) new
       took-done new end w = done n (next - n) refl (sym es ∙ e) (omega arith) (w .list)
 
 -- ---- M2
@@ -62,16 +62,16 @@ no-equation true K l r = refl
 no-equation false K l r = refl
 
 -- where the rule is M2, the literal is a membership
-pub took-monomials : (k old new : List ℕ) (next at n : ℕ) (swap : Bool) (r : Stepped) → n ≡ atM2
-    → ((before : Conj) (h : Hedge) (R : Expr) (behind : Conj) → LiteralAt k at before (mem h R) behind → Took (monomialWords before h R behind) old next r new)
+pub took-monomials : (number : ℕ) (k old new : List ℕ) (next at n : ℕ) (swap : Bool) (r : Stepped) → n ≡ atM2
+    → ((before : Conj) (h : Hedge) (R : Expr) (behind : Conj) → LiteralAt k at before (mem h R) behind → Took number (monomialWords before h R behind) old next r new)
     → (before : Conj) (l : Literal) (behind : Conj) (bs : List Branch) → LiteralAt k at before l behind → sideAnswer swap n (before ++ behind) l ≡ some bs
-    → Took (placedWords before behind bs) old next r new
+    → Took number (placedWords before behind bs) old next r new
 unfolding memAnswer monomialWords
-took-monomials k old new next at n swap r e f before (eqn l s) behind bs p a =
+took-monomials number k old new next at n swap r e f before (eqn l s) behind bs p a =
     absurd (let d = sym (no-equation swap (before ++ behind) l s) ∙ ap (λ n. sideAnswer swap n (before ++ behind) (eqn l s)) (sym e) ∙ a in let z : _≡_ {A = ℕ} 0 1 = cc in omega arith)
-took-monomials k old new next at n swap r e f before (mem h R) behind bs p a =
+took-monomials number k old new next at n swap r e f before (mem h R) behind bs p a =
     let d = where-some (λ bs. bs ≡ map (monomialResult (head h) (tail h)) (linear R)) (M2 (before ++ behind) h R) bs (monomials (before ++ behind) h R .given) (ap (λ n. memAnswer n (before ++ behind) h R) (sym e) ∙ a) in
-    subst (λ bs. Took (placedWords before behind bs) old next r new) (sym d) (f before h R behind p)
+    subst (λ bs. Took number (placedWords before behind bs) old next r new) (sym d) (f before h R behind p)
 
 -- ---- every rule of one literal
 
@@ -80,5 +80,5 @@ unfolding placedWords
 placed-words before behind [] = refl
 placed-words before behind (b ∷ bs) = ap (λ l. conjWords (place before behind b) ∷ l) (placed-words before behind bs)
 
-pub took-as : {ws vs : List (List ℕ)} {old : List ℕ} {next : ℕ} {r : Stepped} {new : List ℕ} → ws ≡ vs → Took ws old next r new → Took vs old next r new
-took-as {old = old} {next} {r} {new} e t = subst (λ ws. Took ws old next r new) e t
+pub took-as : {number : ℕ} {ws vs : List (List ℕ)} {old : List ℕ} {next : ℕ} {r : Stepped} {new : List ℕ} → ws ≡ vs → Took number ws old next r new → Took number vs old next r new
+took-as {number} {old = old} {next} {r} {new} e t = subst (λ ws. Took number ws old next r new) e t

@@ -219,9 +219,9 @@ fn plan_fold(k: &[u16], at: usize) -> Plan
 }
 
 // The results of a plan, right before `next`.
-fn step_planned(k: &[u16], plan: Plan, out: &mut [u16], next: usize) -> Stepped
+fn step_planned(k: &[u16], plan: Plan, number: u16, out: &mut [u16], next: usize) -> Stepped
     requires { ⌜ (length (now k) ≤ desk .question) × (next ≤ length (now out)) × (next ≤ desk .room) ⌝ }
-    ensures { λ r. ⌜ Took (resultsOf (now (k .entry)) plan) (now (out .entry)) next r (now (out .exit)) ⌝ }
+    ensures { λ r. ⌜ Took number (resultsOf (now (k .entry)) plan) (now (out .entry)) next r (now (out .exit)) ⌝ }
 {
     match size_results(k, plan) {
         Size::Over => Stepped::Long,
@@ -230,17 +230,17 @@ fn step_planned(k: &[u16], plan: Plan, out: &mut [u16], next: usize) -> Stepped
                 return Stepped::Room;
             }
             let at = next - n;
-            write_results(k, plan, out, at);
+            write_results(k, plan, number, out, at);
             Stepped::Done(at)
         }
     }
 }
 
 // The results of M2 at the membership at a place, right before `next`.
-fn step_monomials(k: &[u16], literal: usize, out: &mut [u16], next: usize) -> Stepped
+fn step_monomials(k: &[u16], literal: usize, number: u16, out: &mut [u16], next: usize) -> Stepped
     requires { ⌜ (length (now k) ≤ desk .question) × (literal < length (now k)) × (next ≤ length (now out)) × (next ≤ desk .room) ⌝ }
     requires { ⌜ SomeMembership (now k) literal ⌝ }
-    ensures { λ r. ⌜ ((before : Conj) (h : Hedge) (R : Expr) (behind : Conj) → LiteralAt (now (k .entry)) literal before (mem h R) behind → Took (monomialWords before h R behind) (now (out .entry)) next r (now (out .exit))) ⌝ }
+    ensures { λ r. ⌜ ((before : Conj) (h : Hedge) (R : Expr) (behind : Conj) → LiteralAt (now (k .entry)) literal before (mem h R) behind → Took number (monomialWords before h R behind) (now (out .entry)) next r (now (out .exit))) ⌝ }
 {
     let s = show_membership(k, literal);
     match size_monomials(k, s) {
@@ -250,23 +250,24 @@ fn step_monomials(k: &[u16], literal: usize, out: &mut [u16], next: usize) -> St
                 return Stepped::Room;
             }
             let at = next - n;
-            write_monomials(k, s, out, at);
+            write_monomials(k, s, number, out, at);
             Stepped::Done(at)
         }
     }
 }
 
-// A step of the conjunction k: the results of the rule of that rank at that literal, right before `next`.
-pub fn take_step(k: &[u16], b: Best, out: &mut [u16], next: usize) -> Stepped
+// A step of the conjunction k, which has that number: the results of the rule of that rank at that literal, right before `next`, and of the same
+// number.
+pub fn take_step(k: &[u16], b: Best, number: u16, out: &mut [u16], next: usize) -> Stepped
     requires { ⌜ (length (now k) ≤ desk .question) × (b .at < length (now k)) × (next ≤ length (now out)) × (next ≤ desk .room) ⌝ }
     requires { ⌜ RuleAt (now k) b ⌝ }
-    ensures { λ r. ⌜ ((before : Conj) (l : Literal) (behind : Conj) (ks : List Conj) → LiteralAt (now (k .entry)) (b .at) before l behind → sideResults (b .swap) (b .rank) before l behind ≡ results ks → Took (map conjWords ks) (now (out .entry)) next r (now (out .exit))) ⌝ }
+    ensures { λ r. ⌜ ((before : Conj) (l : Literal) (behind : Conj) (ks : List Conj) → LiteralAt (now (k .entry)) (b .at) before l behind → sideResults (b .swap) (b .rank) before l behind ≡ results ks → Took number (map conjWords ks) (now (out .entry)) next r (now (out .exit))) ⌝ }
 {
     if b.rank == AT_M2 {
-        return step_monomials(k, b.at, out, next);
+        return step_monomials(k, b.at, number, out, next);
     }
     if b.rank == AT_FOLD {
-        return step_planned(k, plan_fold(k, b.at), out, next);
+        return step_planned(k, plan_fold(k, b.at), number, out, next);
     }
-    step_planned(k, plan_at(k, b), out, next)
+    step_planned(k, plan_at(k, b), number, out, next)
 }

@@ -8,7 +8,8 @@ use lib.ListN.{length, take, drop, getD, set, length-append}
 use lib.Seq.{sets, sets-eq, length-sets, slice, drop-at, take-at, drop-drop, getD-drop, length-take-le}
 use Rattle.language.specs.Limits.{desk}
 use Rattle.language.proofs.Offsets.{slice-between}
-use Rattle.frames.specs.Frames.{framed}
+use Rattle.frames.specs.Frames.{frame, Block, framed, framedLength, framedNumber}
+use Rattle.frames.proofs.Framing.{framed-append}
 use Rattle.slices.proofs.Still.{set-sets}
 use Rattle.waiting.specs.Waiting.{Laid, Waiting}
 
@@ -24,16 +25,12 @@ sets-before l r at [] ws e = ap (λ n. sets l n ws) (let z : at ≡ r = omega ar
 sets-before l r at (v ∷ vs) ws e =
     ap (λ m. sets m (suc r) vs) (set-sets l r v at ws (omega arith)) ∙ sets-before (set l r v) (suc r) at vs ws (omega arith)
 
-pub framed-append : (xs ys : List (List ℕ)) → framed (xs ++ ys) ≡ framed xs ++ framed ys
-framed-append [] ys = refl
-framed-append (x ∷ xs) ys = ap (λ l. length x ∷ (x ++ l)) (framed-append xs ys) ∙ ap (λ l. length x ∷ l) (sym (append-assoc x (framed xs) (framed ys)))
-
 -- ---- blocks laid out
 
-pub laid-size : {old : List ℕ} {at : ℕ} {bs : List (List ℕ)} {new : List ℕ} → Laid old at bs new → length new ≡ length old
+pub laid-size : {old : List ℕ} {at : ℕ} {bs : List Block} {new : List ℕ} → Laid old at bs new → length new ≡ length old
 laid-size {old} {at} {bs} p = ap length (p .words) ∙ length-sets old at (framed bs)
 
-pub laid-before : (old : List ℕ) (at : ℕ) (bs : List (List ℕ)) (w : List ℕ) → Laid old at bs w → (xs : List (List ℕ)) (r : ℕ) (new : List ℕ)
+pub laid-before : (old : List ℕ) (at : ℕ) (bs : List Block) (w : List ℕ) → Laid old at bs w → (xs : List Block) (r : ℕ) (new : List ℕ)
     → r + length (framed xs) ≡ at → new ≡ sets w r (framed xs) → Laid old r (xs ++ bs) new
 laid-before old at bs w p xs r new e d =
     let q = p .place in
@@ -47,7 +44,7 @@ laid-before old at bs w p xs r new e d =
 
 module _ (old : List ℕ) (at : ℕ) where
   -- words that are blocks, stored right before those that wait
-  pub laid : (bs : List (List ℕ)) (w : List ℕ) → Waiting old at bs w → desk .room ≤ length old → (xs : List (List ℕ)) (r : ℕ) (new : List ℕ)
+  pub laid : (bs : List Block) (w : List ℕ) → Waiting old at bs w → desk .room ≤ length old → (xs : List Block) (r : ℕ) (new : List ℕ)
       → r + length (framed xs) ≡ at → new ≡ sets w r (framed xs) → Waiting old r (xs ++ bs) new
   laid bs w p room xs r new e d =
       let q = p .place in
@@ -62,7 +59,7 @@ module _ (old : List ℕ) (at : ℕ) where
         size = ap length d ∙ length-sets w r (framed xs) ∙ z;
       }
 
-  pub laid-wait : (bs : List (List ℕ)) (new : List ℕ) → desk .room ≤ length old → Laid old at bs new → Waiting old at bs new
+  pub laid-wait : (bs : List Block) (new : List ℕ) → desk .room ≤ length old → Laid old at bs new → Waiting old at bs new
   laid-wait bs new room p = record {
     place = p .place;
     words =
@@ -73,25 +70,28 @@ module _ (old : List ℕ) (at : ℕ) where
 
   -- ---- the first block
 
-  module _ (b : List ℕ) (bs : List (List ℕ)) (w : List ℕ) (p : Waiting old at (b ∷ bs) w) where
-    pub first-length : getD w at 0 ≡ length b
+  module _ (b : Block) (bs : List Block) (w : List ℕ) (p : Waiting old at (b ∷ bs) w) where
+    pub first-length : framedLength w at ≡ length (b .words)
     first-length = ap (λ j. getD w j 0) (sym (add-zero at)) ∙ sym (getD-drop at w 0 0) ∙ ap (λ l. getD l 0 0) (p .words)
 
-    after-first : drop (at + 1) w ≡ b ++ (framed bs ++ drop (desk .room) old)
-    after-first = sym (drop-drop 1 at w) ∙ ap (drop 1) (p .words) ∙ append-assoc b (framed bs) (drop (desk .room) old)
+    pub first-number : framedNumber w at ≡ b .number
+    first-number = sym (getD-drop at w 1 0) ∙ ap (λ l. getD l 1 0) (p .words)
 
-    pub first-block : slice (at + 1) (at + 1 + length b) w ≡ b
+    after-first : drop (at + frame) w ≡ b .words ++ (framed bs ++ drop (desk .room) old)
+    after-first = sym (drop-drop frame at w) ∙ ap (drop frame) (p .words) ∙ append-assoc (b .words) (framed bs) (drop (desk .room) old)
+
+    pub first-block : slice (at + frame) (at + frame + length (b .words)) w ≡ b .words
     first-block =
-        slice-between (at + 1) (at + 1 + length b) w
-        ∙ ap (λ n. take n (drop (at + 1) w)) (let z : at + 1 + length b - (at + 1) ≡ length b = omega arith in z)
-        ∙ ap (take (length b)) after-first ∙ take-at b (framed bs ++ drop (desk .room) old) (length b) refl
+        slice-between (at + frame) (at + frame + length (b .words)) w
+        ∙ ap (λ n. take n (drop (at + frame) w)) (let z : at + frame + length (b .words) - (at + frame) ≡ length (b .words) = omega arith in z)
+        ∙ ap (take (length (b .words))) after-first ∙ take-at (b .words) (framed bs ++ drop (desk .room) old) (length (b .words)) refl
 
-    pub first-room : at + 1 + length b + length (framed bs) ≡ desk .room
-    first-room = let q = p .place in let f = length-append b (framed bs) in omega arith
+    pub first-room : at + frame + length (b .words) + length (framed bs) ≡ desk .room
+    first-room = let q = p .place in let f = length-append (b .words) (framed bs) in omega arith
 
-    pub rest-wait : Waiting old (at + 1 + length b) bs w
+    pub rest-wait : Waiting old (at + frame + length (b .words)) bs w
     rest-wait = record {
       place = first-room;
-      words = sym (drop-drop (length b) (at + 1) w) ∙ ap (drop (length b)) after-first ∙ drop-at b (framed bs ++ drop (desk .room) old) (length b) refl;
+      words = sym (drop-drop (length (b .words)) (at + frame) w) ∙ ap (drop (length (b .words))) after-first ∙ drop-at (b .words) (framed bs ++ drop (desk .room) old) (length (b .words)) refl;
       size = p .size;
     }

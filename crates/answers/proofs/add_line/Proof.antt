@@ -15,7 +15,7 @@ returns : tie.Need-returns
 returns c =
     let c₁ = c .before .before in let c₂ = c₁ .before .before .before .before in let c₃ = c₂ .before .before .before .before in
     let c₄ = c₃ .before .before .before .before in let c₅ = c₄ .before .before in let c₆ = c₅ .before .before .before .before in
-    line-stored (c₆ .args .t) (c₆ .args .answer .now) (c₆ .args .k .now) (c₆ .args .solved) _ _ _ _ _
+    line-stored (c₆ .args .t) (c₆ .args .answer .now) (c₆ .args .k .now) (c₆ .args .number) (c₆ .args .solved) _ _ _ _ _
     (c₄ .write-line .ensures) (c₃ .store .ensures) (c₂ .store2 .ensures) (c₁ .store3 .ensures) (c₅ .opened .ensures .0)
 
 pub add-line-spec : {M : Type 1} → statement M

@@ -12,7 +12,7 @@ write-framed-requires c κs =
     let c₁ = c .before .before in let c₂ = c₁ .before .before .before .before .before .before in
     let a = c₂ .args in
     let r = ready-by _ (a .plan) _ (c₁ .ways .given .1) (c₂ .pre) in
-    (r .short .0, fits-as (framed-one (made (a .k .now) (a .plan .first) (c₁ .ways .given .0 .0))) _ _ (r .room))
+    (r .short .0, fits-as (framed-one (a .number) (made (a .k .now) (a .plan .first) (c₁ .ways .given .0 .0))) _ _ (r .room))
 
 write-two-requires : tie.Need-write-two-requires
 write-two-requires c κs = ready-by _ (c .before .before .before .before .before .before .before .args .plan) Two (search needs) (c .before .before .before .before .before .before .before .pre)
@@ -23,19 +23,19 @@ write-cuts-requires c κs =
     ready-by _ (c₂ .args .plan) _ (c₁ .ways2 .given .1) (c₂ .pre)
 
 returns : tie.Need-returns
-returns c = wrote-by _ (c .before .before .before .before .before .before .args .plan) Drop (search needs) (wrote-none _ _)
+returns c = let a = c .before .before .before .before .before .before .args in wrote-by _ (a .plan) Drop (search needs) (a .number) (wrote-none _ _)
 
 returns-2 : tie.Need-returns-2
 returns-2 c =
     let c₁ = c .before .before in let c₂ = c₁ .before .before .before in let c₃ = c₂ .before .before .before .before .before .before in
     let a = c₃ .args in
-    wrote-by _ (a .plan) _ (c₂ .ways .given .1) (wrote-as (framed-one (made (a .k .now) (a .plan .first) (c₂ .ways .given .0 .0))) (c₁ .write-framed .ensures))
+    wrote-by _ (a .plan) _ (c₂ .ways .given .1) (a .number) (wrote-as (framed-one (a .number) (made (a .k .now) (a .plan .first) (c₂ .ways .given .0 .0))) (c₁ .write-framed .ensures))
 
 returns-3 : tie.Need-returns-3
-returns-3 c = wrote-by _ (c .before .before .before .before .before .before .before .before .before .before .args .plan) Two (search needs) (c .before .before .write-two .ensures)
+returns-3 c = let a = c .before .before .before .before .before .before .before .before .before .before .args in wrote-by _ (a .plan) Two (search needs) (a .number) (c .before .before .write-two .ensures)
 
 returns-4 : tie.Need-returns-4
-returns-4 c = wrote-by _ (c .before .before .before .before .before .before .before .before .before .before .before .args .plan) _ (c .before .before .before .before .before .ways2 .given .1) (c .before .before .write-cuts .ensures)
+returns-4 c = let a = c .before .before .before .before .before .before .before .before .before .before .before .args in wrote-by _ (a .plan) _ (c .before .before .before .before .before .ways2 .given .1) (a .number) (c .before .before .write-cuts .ensures)
 
 pub write-results-spec : {M : Type 1} → statement M
 write-results-spec =

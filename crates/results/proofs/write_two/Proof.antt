@@ -12,7 +12,7 @@ write-framed-requires : tie.Need-write-framed-requires
 write-framed-requires c κs = let a = c .before .before .before .args in
     let v = made (a .k .now) (a .a) 0 in
     let w = made (a .k .now) (a .b) 0 in
-    (c .before .before .before .pre .short .0, still-fits (still-all (a .out .now) _ _ (c .before .before .before .pre .room)) (framed-split v (w ∷ [])))
+    (c .before .before .before .pre .short .0, still-fits (still-all (a .out .now) _ _ (c .before .before .before .pre .room)) (framed-split (a .number) v (w ∷ [])))
 
 write-framed-requires-2 : tie.Need-write-framed-requires-2
 write-framed-requires-2 c κs =
@@ -20,7 +20,7 @@ write-framed-requires-2 c κs =
     let a = c₂ .args in
     let v = made (a .k .now) (a .a) 0 in
     let w = made (a .k .now) (a .b) 0 in
-    (c₂ .pre .short .1 .0, still-fits (still-run (still-all (a .out .now) _ _ (c₂ .pre .room)) (framed-split v (w ∷ [])) (c₁ .write-framed .ensures)) (framed-split w []))
+    (c₂ .pre .short .1 .0, still-fits (still-run (still-all (a .out .now) _ _ (c₂ .pre .room)) (framed-split (a .number) v (w ∷ [])) (c₁ .write-framed .ensures)) (framed-split (a .number) w []))
 
 returns : tie.Need-returns
 returns c =
@@ -28,7 +28,7 @@ returns c =
     let a = c₃ .args in
     let v = made (a .k .now) (a .a) 0 in
     let w = made (a .k .now) (a .b) 0 in
-    still-none (still-run (still-run (still-all (a .out .now) _ _ (c₃ .pre .room)) (framed-split v (w ∷ [])) (c₂ .write-framed .ensures)) (framed-split w []) (c₁ .write-framed2 .ensures)) refl
+    still-none (still-run (still-run (still-all (a .out .now) _ _ (c₃ .pre .room)) (framed-split (a .number) v (w ∷ [])) (c₂ .write-framed .ensures)) (framed-split (a .number) w []) (c₁ .write-framed2 .ensures)) refl
 
 pub write-two-spec : {M : Type 1} → statement M
 write-two-spec = tie.close (tie.spec write-framed-requires write-framed-requires-2 (λ c. search needs) returns)

@@ -4,7 +4,7 @@ use mathlib.Core.List.{List}
 use Prim.Native.Nat.{ℕ}
 use lib.ListN.{length}
 use borrow.Author.Needs.{needs}
-use Rattle.language.specs.Trees.{Conj}
+use Rattle.rules.specs.Run.{Numbered}
 use Rattle.solver.specs.Running.{Running, leftOf, measure}
 use Rattle.solver.proofs.Gone.{Gone, turn-ready, run-over, gone-on, gone-less, gone-stop}
 use Rattle.solver.proofs.go_on.Statement.{statement}
@@ -13,7 +13,7 @@ use Rattle.solver.proofs.go_on.Tie as tie
 abbrev Inv-loop : tie.InvT-loop
 Inv-loop work₀ answer₀ s₀ work answer s =
     (length work ≡ length work₀) × (length answer ≡ length answer₀)
-    × ((oldWork oldAnswer : List ℕ) (ls w : List Conj) → Running oldWork oldAnswer ls w s₀ work₀ answer₀ → Gone oldWork oldAnswer (leftOf s₀ ls w) s work answer)
+    × ((oldWork oldAnswer : List ℕ) (ls w : List Numbered) → Running oldWork oldAnswer ls w s₀ work₀ answer₀ → Gone oldWork oldAnswer (leftOf s₀ ls w) s work answer)
 
 abbrev μ-loop : tie.MeasureT-loop
 μ-loop work₀ answer₀ s₀ work answer s = measure s

@@ -7,17 +7,17 @@ use Rattle.solver.proofs.line.Statement.{statement}
 use Rattle.solver.proofs.line.Tie as tie
 
 returns : tie.Need-returns
-returns c = λ oldWork oldAnswer ls x w work p ek en e. many-lines oldWork oldAnswer ls x w (c .before .before .before .before .before .args .s) work _ p _ ek _ en e (c .if1 .taken)
+returns c = λ oldWork oldAnswer ls x w work p ek eu en e. many-lines oldWork oldAnswer ls x w (c .before .before .before .before .before .args .s) work _ p _ ek _ en e (c .if1 .taken)
 
 returns-2 : tie.Need-returns-2
-returns-2 c = λ oldWork oldAnswer ls x w work p ek en e. long-line oldWork oldAnswer ls x w (c .before .before .before .before .before .before .before .args .s) work _ p _ ek _ en e (c .before .before .if1 .left) (c .if2 .taken)
+returns-2 c = λ oldWork oldAnswer ls x w work p ek eu en e. long-line oldWork oldAnswer ls x w (c .before .before .before .before .before .before .before .args .s) work _ p _ ek _ en e (c .before .before .if1 .left) (c .if2 .taken)
 
 returns-3 : tie.Need-returns-3
 returns-3 c =
     let c₁ = c .before .before in let c₂ = c₁ .before .before in let c₃ = c₂ .before .before .before .before .before .before .before .before in
-    λ oldWork oldAnswer ls x w work p ek en e.
-    next-line oldWork oldAnswer ls x w (c₃ .args .s) work _ p _ ek _ en e _ _ (c₁ .add-line .kept .1 .1 .1 .0)
-    (line-added oldAnswer ls x _ _ _ _ ek (c₂ .is-solved .ensures x (p .fine .0) ek) (p .lined) _ _ (omega arith) (omega arith) (c₁ .add-line .ensures .0) (c₁ .add-line .ensures .1))
+    λ oldWork oldAnswer ls x w work p ek eu en e.
+    next-line oldWork oldAnswer ls x w (c₃ .args .s) work _ p _ ek _ en e _ _ (c₁ .add-line .kept .1 .1 .1 .1 .0)
+    (line-added oldAnswer ls x _ _ _ _ _ ek eu (c₂ .is-solved .ensures (x .literals) (p .fine .0) ek) (p .lined) _ _ (omega arith) (omega arith) (c₁ .add-line .ensures .0) (c₁ .add-line .ensures .1))
 
 pub line-spec : {M : Type 1} → statement M
 line-spec =

@@ -3,6 +3,7 @@ use mathlib.Core.List.{[]}
 use borrow.Author.Needs.{needs}
 use Rattle.language.specs.Limits.{desk}
 use Rattle.language.specs.Question.{readQuestion}
+use Rattle.rules.specs.Run.{numbered}
 use Rattle.solver.specs.Running.{conjunctionsOf}
 use Rattle.solver.proofs.Gone.{ends-as}
 use Rattle.solver.proofs.Asked.{asked-fits, asked-laid, begins, begin-left}
@@ -21,7 +22,7 @@ go-on-requires c κs =
       oldWork = c₃ .args .work .now;
       oldAnswer = c₃ .args .answer .now;
       lines = [];
-      waits = conjunctionsOf (readQuestion desk q);
+      waits = numbered 0 (conjunctionsOf (readQuestion desk q));
       running = begins q (p .0) (c₃ .args .work .now) (c₃ .args .answer .now) _ _ _ _ (p .1) (p .2) (c₁ .begin .kept .0) (c₂ .lay-out .ensures) (c₁ .begin .ensures);
     }
 
@@ -32,7 +33,7 @@ returns c =
     let p = c₄ .pre in
     let q = c₄ .args .question .now in
     ends-as (begin-left q (p .0) _ _)
-    (c₁ .go-on .ensures (c₄ .args .work .now) (c₄ .args .answer .now) [] (conjunctionsOf (readQuestion desk q))
+    (c₁ .go-on .ensures (c₄ .args .work .now) (c₄ .args .answer .now) [] (numbered 0 (conjunctionsOf (readQuestion desk q)))
     (begins q (p .0) (c₄ .args .work .now) (c₄ .args .answer .now) _ _ _ _ (p .1) (p .2) (c₂ .begin .kept .0) (c₃ .lay-out .ensures) (c₂ .begin .ensures)))
 
 pub run-spec : {M : Type 1} → statement M

@@ -9,7 +9,7 @@ use Rattle.solver.proofs.turn_with.Tie as tie
 returns : tie.Need-returns
 returns c =
     let c₁ = c .before .before in let c₂ = c₁ .before .before in let c₃ = c₂ .before .before in let c₄ = c₃ .before .before .before .before in
-    λ oldWork oldAnswer ls x w p ek en. c₁ .line .ensures oldWork oldAnswer ls x w (c₄ .args .work .now) p ek en (none-found x _ _ _ (best-found x _ (c₃ .find .ensures .1 x (p .fine .0) ek)) (c₂ .if1 .taken))
+    λ oldWork oldAnswer ls x w p ek eu en. c₁ .line .ensures oldWork oldAnswer ls x w (c₄ .args .work .now) p ek eu en (none-found (x .literals) _ _ _ (best-found (x .literals) _ (c₃ .find .ensures .1 (x .literals) (p .fine .0) ek)) (c₂ .if1 .taken))
 
 advance-requires : tie.Need-advance-requires
 advance-requires c κs =
@@ -21,7 +21,7 @@ advance-requires c κs =
 returns-2 : tie.Need-returns-2
 returns-2 c =
     let c₁ = c .before .before in let c₂ = c₁ .before .before in let c₃ = c₂ .before .before in let c₄ = c₃ .before .before .before .before in
-    λ oldWork oldAnswer ls x w p ek en. c₁ .advance .ensures oldWork oldAnswer ls x w (c₄ .args .answer .now) p ek en (c₂ .if1 .left) (best-found x _ (c₃ .find .ensures .1 x (p .fine .0) ek))
+    λ oldWork oldAnswer ls x w p ek eu en. c₁ .advance .ensures oldWork oldAnswer ls x w (c₄ .args .answer .now) p ek eu en (c₂ .if1 .left) (best-found (x .literals) _ (c₃ .find .ensures .1 (x .literals) (p .fine .0) ek))
 
 pub turn-with-spec : {M : Type 1} → statement M
 turn-with-spec =

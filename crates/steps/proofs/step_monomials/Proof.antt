@@ -21,7 +21,7 @@ write-monomials-requires c κs =
       record {
         membership = m;
         ready =
-            took-ready (monomialWords (m .before) (m .h) (m .R) (m .behind)) (c₅ .args .out .now) (c₅ .args .next) _
+            took-ready _ (monomialWords (m .before) (m .h) (m .R) (m .behind)) (c₅ .args .out .now) (c₅ .args .next) _
             (c₃ .size-monomials .ensures .each (m .before) (m .h) (m .R) (m .behind) (m .shows)) _ (c₂ .n .given .1) (c₁ .if1 .left) (d .3) (d .2);
       },
     )
@@ -29,12 +29,12 @@ write-monomials-requires c κs =
 returns : tie.Need-returns
 returns c = λ before h R behind p.
     let s = c .before .before .before .before .before .show-membership .ensures .0 before h R behind p in
-    took-room (monomialWords before h R behind) _ _ _ (c .before .before .before .before .size-monomials .ensures .each before h R behind s) _ (c .before .before .n .given .1) (c .if1 .taken)
+    took-room _ (monomialWords before h R behind) _ _ _ (c .before .before .before .before .size-monomials .ensures .each before h R behind s) _ (c .before .before .n .given .1) (c .if1 .taken)
 
 returns-2 : tie.Need-returns-2
 returns-2 c = λ before h R behind p.
     let s = c .before .before .before .show-membership .ensures .0 before h R behind p in
-    took-long (monomialWords before h R behind) _ _ _ (c .before .before .size-monomials .ensures .each before h R behind s) (c .enum-told .given .1)
+    took-long _ (monomialWords before h R behind) _ _ _ (c .before .before .size-monomials .ensures .each before h R behind s) (c .enum-told .given .1)
 
 returns-3 : tie.Need-returns-3
 returns-3 c =
@@ -44,8 +44,8 @@ returns-3 c =
     let s = c₅ .show-membership .ensures .0 before h R behind p in
     let d = c₆ .pre .0 in
     let e = c₄ .size-monomials .ensures .each before h R behind s in
-    took-done (monomialWords before h R behind) (c₆ .args .out .now) (c₆ .args .next) _ e _ (c₃ .n .given .1) (c₂ .if1 .left) _ _
-    (c₁ .write-monomials .ensures .each before h R behind s (took-ready (monomialWords before h R behind) (c₆ .args .out .now) (c₆ .args .next) _ e _ (c₃ .n .given .1) (c₂ .if1 .left) (d .3) (d .2)))
+    took-done _ (monomialWords before h R behind) (c₆ .args .out .now) (c₆ .args .next) _ e _ (c₃ .n .given .1) (c₂ .if1 .left) _ _
+    (c₁ .write-monomials .ensures .each before h R behind s (took-ready _ (monomialWords before h R behind) (c₆ .args .out .now) (c₆ .args .next) _ e _ (c₃ .n .given .1) (c₂ .if1 .left) (d .3) (d .2)))
 
 pub step-monomials-spec : {M : Type 1} → statement M
 step-monomials-spec =

@@ -23,7 +23,7 @@ returns c =
     let h = c₂ .if1 .taken in
     let r = results-answer (b .swap) (b .rank) before l behind ks (λ e. omega arith) a in
     took-as (answered-words r)
-    (took-monomials (c₃ .args .k .now) _ _ (c₃ .args .next) (b .at) (b .rank) (b .swap) _ h (c₁ .step-monomials .ensures) before l behind (r .branches) p (r .answer))
+    (took-monomials (c₃ .args .number) (c₃ .args .k .now) _ _ (c₃ .args .next) (b .at) (b .rank) (b .swap) _ h (c₁ .step-monomials .ensures) before l behind (r .branches) p (r .answer))
 
 plan-fold-requires : tie.Need-plan-fold-requires
 plan-fold-requires c κs =

@@ -1,5 +1,5 @@
 -- The last conjunctions wait, from the i-th on, and the words before them still fit.
-use Prim.Native.Nat.{_+_, _-_, _≤_}
+use Prim.Native.Nat.{_+_, _-_, _*_, _≤_}
 use native.Mathlib.Omega.{arith}
 use mathlib.Core.Path.{_≡_, ap, subst}
 use lib.ListN.{length, drop, getD}
@@ -7,7 +7,8 @@ use borrow.Author.Needs.{needs}
 use Rattle.language.specs.Limits.{desk}
 use Rattle.language.specs.Question.{parts}
 use Rattle.language.proofs.Offsets.{laid-length}
-use Rattle.waiting.specs.Waiting.{Laid}
+use Rattle.frames.specs.Frames.{frame}
+use Rattle.waiting.specs.Waiting.{inOrder, Laid}
 use Rattle.waiting.proofs.Blocks.{laid-size}
 use Rattle.waiting.proofs.Pushing.{part-before, laid-none, laid-more}
 use Rattle.waiting.proofs.lay_out.Statement.{statement}
@@ -15,7 +16,7 @@ use Rattle.waiting.proofs.lay_out.Tie as tie
 
 abbrev Inv-loop : tie.InvT-loop
 Inv-loop question work₀ i₀ at₀ work i at =
-    (i ≤ getD question 4 0) × (getD question 4 0 + 6 ≤ length question) × (desk .room ≤ at + (length question - getD question (i + 5) 0) + (getD question 4 0 - i)) × Laid work₀ at (drop i (parts 5 (getD question 4 0) question)) work
+    (i ≤ getD question 4 0) × (getD question 4 0 + 6 ≤ length question) × (desk .room ≤ at + (length question - getD question (i + 5) 0) + frame * (getD question 4 0 - i)) × Laid work₀ at (inOrder i (drop i (parts 5 (getD question 4 0) question))) work
 
 abbrev μ-loop : tie.MeasureT-loop
 μ-loop question work₀ i₀ at₀ work i at = i
@@ -66,11 +67,11 @@ returns : tie.Need-returns Inv-loop μ-loop
 returns c =
     let l = c .before .loop in
     let q = c .before .before .before .before .before .before .args .question .now in
-    subst (λ n. Laid (c .before .before .before .before .before .before .args .work .now) (l .at) (drop n (parts 5 (getD q 4 0) q)) (l .work)) (let z : l .i ≡ 0 = omega arith in z) (l .inv .3)
+    subst (λ n. Laid (c .before .before .before .before .before .before .args .work .now) (l .at) (inOrder n (drop n (parts 5 (getD q 4 0) q))) (l .work)) (let z : l .i ≡ 0 = omega arith in z) (l .inv .3)
 
 pub lay-out-spec : {M : Type 1} → statement M
 lay-out-spec =
     tie.close (tie.spec
     Inv-loop μ-loop shared-slice-read-wide (λ c κs. search needs) loop-holds (λ c. search needs) (λ c. search needs) (λ c. search needs)
-    (λ c. search needs) (λ c κs. search needs) (λ c. search needs) (λ c. search needs) (λ c. search needs) (λ c κs. search needs) push-requires
+    (λ c. search needs) (λ c κs. search needs) (λ c. search needs) (λ c. search needs) (λ c. search needs) (λ c κs. search needs) (λ c. search needs) push-requires
     (λ c. search needs) loop-again (λ c. laid-size (c .before .loop .inv .3)) returns)

@@ -8,7 +8,7 @@ use Rattle.results.proofs.making.write_framed.Tie as tie
 returns : tie.Need-returns
 returns c =
     let c₁ = c .before .before in let c₂ = c₁ .before .before .before .before in
-    wrote-framed (c₂ .write-made .ensures) (let e = c₂ .write-made .ensures .end in omega arith) (c₁ .write-frame .ensures)
+    wrote-framed _ (c₂ .write-made .ensures) (let e = c₂ .write-made .ensures .end in omega arith) (c₁ .write-frame .ensures)
 
 pub write-framed-spec : {M : Type 1} → statement M
 write-framed-spec =

@@ -1,5 +1,6 @@
 // The lines of an answer, and the values of a filling.
 ghost use Prim.Native.Nat.{_<_};
+use answers::LINE_HEAD;
 use language::wide;
 use notation::hedge;
 use notation::literals;
@@ -8,7 +9,7 @@ use print::number;
 use print::say;
 use words::word;
 
-// Line i of an answer: its number and its mark, then its literals.
+// Line i of an answer: its place among the lines, its mark and the number of its alternative, then its literals.
 fn line(answer: &[u16], i: usize)
     requires { ⌜ i < 65536 ⌝ }
 {
@@ -17,14 +18,18 @@ fn line(answer: &[u16], i: usize)
     say(b"line ");
     number(i as u64);
     if word(answer, from) == 1 {
-        say(b", settled\n");
+        say(b", settled");
     } else {
-        say(b", open\n");
+        say(b", open");
     }
-    if from + 1 >= to {
+    say(b", of alternative ");
+    number(word(answer, from + 1) as u64);
+    say(b"\n");
+    let start = from + LINE_HEAD;
+    if start >= to {
         say(b"  every report meets it\n");
     }
-    literals(answer, from + 1, to);
+    literals(answer, start, to);
 }
 
 // Every line of an answer.
