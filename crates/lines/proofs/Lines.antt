@@ -3,10 +3,11 @@
 use Prim.Native.Nat.{ℕ, _<_, _≤_}
 use mathlib.Core.Path.{_≡_}
 use mathlib.Core.Logic.{inl, inr, _↔_}
-use mathlib.Core.Bool.{true, false, _||_}
+use mathlib.Core.Bool.{Bool, true, false, _||_}
 use mathlib.Core.List.{List}
 use mathlib.Core.Option.{some}
 use lib.ListN.{length}
+use Rattle.language.specs.declared.Sym.{Sym}
 use Rattle.language.specs.Limits.{Limits}
 use Rattle.language.specs.Trees.{Expr, _⧺_, holds, Conj, Counts, Question}
 use Rattle.language.specs.Question.{asks, countsOf, alternativesOf, countsFit, declaredC, readQuestion}
@@ -19,7 +20,7 @@ use Rattle.rules.specs.Step.{step}
 use Rattle.rules.specs.Solved.{solved}
 use Rattle.rules.specs.Run.{Numbered, EachLine, finished, run}
 use Rattle.rules.specs.Answer.{countOpen, answered, solving}
-use Rattle.rules.specs.Example.{example}
+use Rattle.rules.specs.Example.{defaultSymbol, example}
 use Rattle.rules.specs.Table.{a, b, f, p, P9}
 use Rattle.rules.specs.Calls.{lineAt, shows, showing}
 use Rattle.rules.specs.Each.{Each}
@@ -34,7 +35,7 @@ use Rattle.rules.proofs.Sample.{sample-member}
 use Rattle.lines.proofs.Example.{example-meets}
 use Rattle.lines.proofs.ReadBack.{symbols-fit, filling-back}
 use Rattle.lines.proofs.Agreement.{filling-agrees, agree-meets}
-use Rattle.lines.proofs.DeclaredExample.{example-declared}
+use Rattle.lines.proofs.DeclaredExample.{default-symbol-declared, example-declared}
 use Rattle.lines.proofs.MatchingRun.{each-rule-stays, step-matching, run-solved, none-open}
 use Rattle.lines.proofs.Unopened.{matching-solved}
 use Rattle.lines.proofs.Shown.{each-line, meets-lines, shown-is, words-meet, read-counts}
@@ -45,16 +46,16 @@ use Rattle.lines.proofs.Shown.{each-line, meets-lines, shown-is, words-
 pub sample-is-member : (R : Expr) → Member R (sample R)
 sample-is-member = sample-member
 
--- "Example of a solved line": it meets the line, where no rule applies to it.
-pub example-meets-line : (k : Conj) → solved k ≡ true → step k ≡ nothing → MeetsAll (example k) k
+-- "Example of a solved line": it meets the line, where no rule applies to it, whatever symbol free blanks take.
+pub example-meets-line : (any : Sym) (k : Conj) → solved k ≡ true → step k ≡ nothing → MeetsAll (example any k) k
 example-meets-line = example-meets
 
 -- so the example of a solved line of a finished run meets the line, and one of the conjunctions that the run began with
-pub example-meets-run : (L : Limits) (w : List Conj) (ls : List Numbered) (n : ℕ) → run L w ≡ finished ls n
-    → (i : ℕ) (k : Numbered) → lineAt i ls ≡ some k → solved (k .literals) ≡ true → MeetsAll (example (k .literals)) (k .literals) × MeetsOne (example (k .literals)) w
-example-meets-run L w ls n e i k there is-solved =
-    let m = example-meets (k .literals) is-solved (each-line (λ j. step j ≡ nothing) i ls k there (lines-rest L w ls n e)) in
-    (m, run-same L w ls n e (example (k .literals)) .1 (meets-lines (example (k .literals)) i ls k there m))
+pub example-meets-run : (any : Sym) (L : Limits) (w : List Conj) (ls : List Numbered) (n : ℕ) → run L w ≡ finished ls n
+    → (i : ℕ) (k : Numbered) → lineAt i ls ≡ some k → solved (k .literals) ≡ true → MeetsAll (example any (k .literals)) (k .literals) × MeetsOne (example any (k .literals)) w
+example-meets-run any L w ls n e i k there is-solved =
+    let m = example-meets any (k .literals) is-solved (each-line (λ j. step j ≡ nothing) i ls k there (lines-rest L w ls n e)) in
+    (m, run-same L w ls n e (example any (k .literals)) .1 (meets-lines (example any (k .literals)) i ls k there m))
 
 -- ---- its words
 
@@ -72,42 +73,50 @@ filling-agree = filling-agrees
 pub filling-same : (n : Counts) (ρ : Filling) (k : Conj) → declaredC n k ≡ true → MeetsAll (filling n (valuesIn n ρ)) k ↔ MeetsAll ρ k
 filling-same n ρ k d = agree-meets n (filling n (valuesIn n ρ)) ρ (filling-agrees n ρ) k (true-test (declaredC n k) d)
 
--- "Others unsolved take symbol 0": the example of a declared line has declared symbols only.
-pub example-all-declared : (n : Counts) (k : Conj) → 0 < n .symbols → declaredC n k ≡ true → DeclaredFilling n (example k)
-example-all-declared n k s d = example-declared n s k (true-test (declaredC n k) d)
+-- "The default becomes the last declared symbol .. a flag on the call gives old training sheets symbol 0": under either setting the example of a
+-- declared line has declared symbols only.
+pub example-all-declared : (old : Bool) (n : Counts) (k : Conj) → 0 < n .symbols → declaredC n k ≡ true → DeclaredFilling n (example (defaultSymbol old n) k)
+example-all-declared old n k s d = example-declared n s (defaultSymbol old n) (default-symbol-declared n s old) k (true-test (declaredC n k) d)
 
--- "It is written as a filling": its words, where they are not too many, are read back, and what is read meets the line.
-pub example-written : (L : Limits) (n : Counts) (c : ℕ) (k : Conj) → countsFit L n c ≡ true → declaredC n k ≡ true → solved k ≡ true → step k ≡ nothing
-    → length (fillingWords n (example k)) ≤ L .filling
-    → (ρ : Filling) × (readFilling L n (fillingWords n (example k)) ≡ gives ρ) × Agree n ρ (example k) × MeetsAll ρ k
-example-written L n c k e d is-solved quiet s = (
-  filling n (valuesIn n (example k)),
-  filling-read L n c (example k) e (example-all-declared n k (symbols-fit L n c e .0) d) s,
-  filling-agrees n (example k),
-  filling-same n (example k) k d .1 (example-meets k is-solved quiet),
-)
+-- "The example must meet its line under either setting": it meets the line, its symbols are declared, and its words, where they are not too many,
+-- are read back, and what is read meets the line.
+pub example-either-setting : (L : Limits) (old : Bool) (n : Counts) (c : ℕ) (k : Conj) → countsFit L n c ≡ true → declaredC n k ≡ true → solved k ≡ true
+    → step k ≡ nothing → MeetsAll (example (defaultSymbol old n) k) k × DeclaredFilling n (example (defaultSymbol old n) k)
+    × (length (fillingWords n (example (defaultSymbol old n) k)) ≤ L .filling
+    → (ρ : Filling) × (readFilling L n (fillingWords n (example (defaultSymbol old n) k)) ≡ gives ρ) × Agree n ρ (example (defaultSymbol old n) k) × MeetsAll ρ k)
+example-either-setting L old n c k e d is-solved quiet =
+    let ρ = example (defaultSymbol old n) k in
+    let m = example-meets (defaultSymbol old n) k is-solved quiet in
+    let declared = example-all-declared old n k (symbols-fit L n c e .0) d in
+    (m, declared, λ s. (filling n (valuesIn n ρ), filling-read L n c ρ e declared s, filling-agrees n ρ, filling-same n ρ k d .1 m))
+
+-- "It is written as a filling": the last of these by itself.
+pub example-written : (L : Limits) (old : Bool) (n : Counts) (c : ℕ) (k : Conj) → countsFit L n c ≡ true → declaredC n k ≡ true → solved k ≡ true → step k ≡ nothing
+    → length (fillingWords n (example (defaultSymbol old n) k)) ≤ L .filling
+    → (ρ : Filling) × (readFilling L n (fillingWords n (example (defaultSymbol old n) k)) ≡ gives ρ) × Agree n ρ (example (defaultSymbol old n) k) × MeetsAll ρ k
+example-written L old n c k e d is-solved quiet s = example-either-setting L old n c k e d is-solved quiet .2 s
 
 -- So the example of a solved line of a finished run, written and read back, meets one of the declared conjunctions that the run began with.
-pub example-written-run : (L : Limits) (n : Counts) (c : ℕ) (w : List Conj) (ls : List Numbered) (steps : ℕ) → countsFit L n c ≡ true → Each (λ k. declaredC n k ≡ true) w
+pub example-written-run : (L : Limits) (old : Bool) (n : Counts) (c : ℕ) (w : List Conj) (ls : List Numbered) (steps : ℕ) → countsFit L n c ≡ true → Each (λ k. declaredC n k ≡ true) w
     → run L w ≡ finished ls steps → (i : ℕ) (k : Numbered) → lineAt i ls ≡ some k → solved (k .literals) ≡ true
-    → length (fillingWords n (example (k .literals))) ≤ L .filling → WordsMeet L n (fillingWords n (example (k .literals))) w
-example-written-run L n c w ls steps e d ran i k there is-solved s =
+    → length (fillingWords n (example (defaultSymbol old n) (k .literals))) ≤ L .filling → WordsMeet L n (fillingWords n (example (defaultSymbol old n) (k .literals))) w
+example-written-run L old n c w ls steps e d ran i k there is-solved s =
     let declared = each-line (λ j. declaredC n j ≡ true) i ls k there (lines-declared n L w ls steps ran d) in
     let quiet = each-line (λ j. step j ≡ nothing) i ls k there (lines-rest L w ls steps ran) in
-    let (ρ, back, _, m) = example-written L n c (k .literals) e declared is-solved quiet s in
+    let (ρ, back, _, m) = example-written L old n c (k .literals) e declared is-solved quiet s in
     (ρ, back, run-same L w ls steps ran ρ .1 (meets-lines ρ i ls k there m))
 
 -- "the example solves anew": the words that the example call shows are a filling of the question that was asked, and it meets the question.
-pub shown-meets : (L : Limits) (work answer room line : ℕ) (ws fs : List ℕ) → showing L work answer room line ws ≡ shows fs
+pub shown-meets : (L : Limits) (old : Bool) (work answer room line : ℕ) (ws fs : List ℕ) → showing L old work answer room line ws ≡ shows fs
     → (q : Question) × (readQuestion L ws ≡ asks q) × WordsMeet L (q .counts) fs (q .alternatives)
-shown-meets L work answer room line ws fs e =
-    let s = shown-is L work answer room line ws fs e in
+shown-meets L old work answer room line ws fs e =
+    let s = shown-is L old work answer room line ws fs e in
     let (q, asked, ran) = answered-run L work answer ws (s .lines) (s .steps) (s .was-answered) in
     let (counts, declared) = read-declared L ws q asked in (
       q,
       asked,
-      words-meet L (q .counts) (countsOf ws) fs (s .literals) (q .alternatives) counts (s .written) (s .fits)
-          (example-written-run L (q .counts) (alternativesOf ws) (q .alternatives) (s .lines) (s .steps) (rw counts (read-counts L ws q asked)) declared ran
+      words-meet L old (q .counts) (countsOf ws) fs (s .literals) (q .alternatives) counts (s .written) (s .fits)
+          (example-written-run L old (q .counts) (alternativesOf ws) (q .alternatives) (s .lines) (s .steps) (rw counts (read-counts L ws q asked)) declared ran
           line (record { number = s .number; literals = s .literals }) (s .there) (s .is-solved)),
     )
 

@@ -18,7 +18,7 @@ use Rattle.meaning.specs.Values.{fillingWords}
 use Rattle.rules.specs.Solved.{solved}
 use Rattle.rules.specs.Run.{Numbered, EachLine, unnumbered}
 use Rattle.rules.specs.Answer.{Solving, answered, unread, given-up, solving}
-use Rattle.rules.specs.Example.{example}
+use Rattle.rules.specs.Example.{defaultSymbol, example}
 use Rattle.rules.specs.Calls.{lineAt, Showing, shows, denied, fitted, shown, showingOf, showing}
 use Rattle.rules.proofs.Tests.{test-true}
 use Rattle.exact.proofs.Declared.{Asks, passes, reads}
@@ -40,7 +40,7 @@ meets-lines ρ (ℕ.suc i) (l ∷ ls) k e m = inr (meets-lines ρ i ls k e m)
 -- ---- an example that is shown
 
 -- the words fs are those of the example of this line of an answered question, and fit
-pub record Shows (L : Limits) (n : Counts) (room line : ℕ) (s : Solving) (fs : List ℕ) : Type 0 where
+pub record Shows (L : Limits) (old : Bool) (n : Counts) (room line : ℕ) (s : Solving) (fs : List ℕ) : Type 0 where
   pub lines : List Numbered
   pub steps : ℕ
   pub number : ℕ
@@ -48,11 +48,11 @@ pub record Shows (L : Limits) (n : Counts) (room line : ℕ) (s : Solving) (fs :
   pub was-answered : s ≡ answered lines steps
   pub there : lineAt line lines ≡ some (record { number = number; literals = literals })
   pub is-solved : solved literals ≡ true
-  pub written : fs ≡ fillingWords n (example literals)
+  pub written : fs ≡ fillingWords n (example (defaultSymbol old n) literals)
   pub fits : length fs ≤ L .filling
   pub fits-room : length fs ≤ room
 
-module _ (L : Limits) (n : Counts) (room line : ℕ) (fs : List ℕ) where
+module _ (L : Limits) (old : Bool) (n : Counts) (room line : ℕ) (fs : List ℕ) where
   -- the words fit
   fit : (a b : Bool) (ws : List ℕ) → elim (a || b) [ true ↦ denied LongExample | false ↦ shows ws ] ≡ shows fs → (a ≡ false) × (b ≡ false) × (ws ≡ fs)
   fit true b ws e = absurd (let z : _≡_ {A = ℕ} 0 1 = cc in omega arith)
@@ -64,11 +64,11 @@ module _ (L : Limits) (n : Counts) (room line : ℕ) (fs : List ℕ) where
   open-denied true o e = (refl, e)
   open-denied false o e = absurd (let z : _≡_ {A = ℕ} 0 1 = cc in omega arith)
 
-  of-line : (ls : List Numbered) (m : ℕ) (l : Option Numbered) → lineAt line ls ≡ l → shown L n room l ≡ shows fs → Shows L n room line (answered ls m) fs
+  of-line : (ls : List Numbered) (m : ℕ) (l : Option Numbered) → lineAt line ls ≡ l → shown L old n room l ≡ shows fs → Shows L old n room line (answered ls m) fs
   of-line ls m none d e = absurd (let z : _≡_ {A = ℕ} 0 1 = cc in omega arith)
   of-line ls m (some k) d e =
-      let (s, f) = open-denied (solved (k .literals)) (fitted L room (fillingWords n (example (k .literals)))) e in
-      let (a, b, w) = fit (ltb (L .filling) (length (fillingWords n (example (k .literals))))) (ltb room (length (fillingWords n (example (k .literals))))) (fillingWords n (example (k .literals))) f in
+      let (s, f) = open-denied (solved (k .literals)) (fitted L room (fillingWords n (example (defaultSymbol old n) (k .literals)))) e in
+      let (a, b, w) = fit (ltb (L .filling) (length (fillingWords n (example (defaultSymbol old n) (k .literals))))) (ltb room (length (fillingWords n (example (defaultSymbol old n) (k .literals))))) (fillingWords n (example (defaultSymbol old n) (k .literals))) f in
       record {
         lines = ls;
         steps = m;
@@ -78,24 +78,26 @@ module _ (L : Limits) (n : Counts) (room line : ℕ) (fs : List ℕ) where
         there = d;
         is-solved = s;
         written = cc;
-        fits = rw w at (ltb-false (L .filling) (length (fillingWords n (example (k .literals)))) a);
-        fits-room = rw w at (ltb-false room (length (fillingWords n (example (k .literals)))) b);
+        fits = rw w at (ltb-false (L .filling) (length (fillingWords n (example (defaultSymbol old n) (k .literals)))) a);
+        fits-room = rw w at (ltb-false room (length (fillingWords n (example (defaultSymbol old n) (k .literals)))) b);
       }
 
-  of-solving : (s : Solving) → showingOf L n room line s ≡ shows fs → Shows L n room line s fs
+  of-solving : (s : Solving) → showingOf L old n room line s ≡ shows fs → Shows L old n room line s fs
   of-solving (answered ls m) e = of-line ls m (lineAt line ls) refl e
   of-solving (unread r) e = absurd (let z : _≡_ {A = ℕ} 0 1 = cc in omega arith)
   of-solving (given-up r) e = absurd (let z : _≡_ {A = ℕ} 0 1 = cc in omega arith)
 
-pub shown-is : (L : Limits) (work answer room line : ℕ) (ws fs : List ℕ) → showing L work answer room line ws ≡ shows fs
-    → Shows L (countsOf ws) room line (solving L work answer ws) fs
+pub shown-is : (L : Limits) (old : Bool) (work answer room line : ℕ) (ws fs : List ℕ) → showing L old work answer room line ws ≡ shows fs
+    → Shows L old (countsOf ws) room line (solving L work answer ws) fs
 unfolding showing
-shown-is L work answer room line ws fs e = of-solving L (countsOf ws) room line fs (solving L work answer ws) e
+shown-is L old work answer room line ws fs e = of-solving L old (countsOf ws) room line fs (solving L work answer ws) e
 
 -- the words shown are those of the example by the question's own counts
-pub words-meet : (L : Limits) (n m : Counts) (fs : List ℕ) (k : Conj) (w : List Conj) → n ≡ m → fs ≡ fillingWords m (example k) → length fs ≤ L .filling
-    → (length (fillingWords n (example k)) ≤ L .filling → WordsMeet L n (fillingWords n (example k)) w) → WordsMeet L n fs w
-words-meet L n m fs k w c e s h = rw (e, ← c) (h (rw (e, ← c) at s))
+pub words-meet : (L : Limits) (old : Bool) (n m : Counts) (fs : List ℕ) (k : Conj) (w : List Conj) → n ≡ m
+    → fs ≡ fillingWords m (example (defaultSymbol old m) k) → length fs ≤ L .filling
+    → (length (fillingWords n (example (defaultSymbol old n) k)) ≤ L .filling → WordsMeet L n (fillingWords n (example (defaultSymbol old n) k)) w)
+    → WordsMeet L n fs w
+words-meet L old n m fs k w c e s h = rw (e, ← c) (h (rw (e, ← c) at s))
 
 -- ---- the counts of a question that is read
 

@@ -1,6 +1,7 @@
--- What the paper prints in words: P4 whole, and the limits under its table.
+-- What the paper prints in words: P4 whole, the limits under its table, the borders of a run, and the default of an example.
 use Prim.Native.Nat.{ℕ, _-_}
 use mathlib.Core.Path.{_≡_, refl}
+use mathlib.Core.Bool.{true, false}
 use mathlib.Core.List.{List, [], _∷_, _++_}
 use lib.ListN.{replicate}
 use Rattle.language.specs.declared.Refusal.the-variants.{QuestionLength, NotLiterals, Undeclared}
@@ -9,12 +10,15 @@ use Rattle.language.specs.Numbers.{numberOf}
 use Rattle.language.specs.Kinds.{kindOf, within}
 use Rattle.language.specs.Reading.{reading, readHedge, readExpr, readLiteral, readConj}
 use Rattle.language.specs.Question.{laidOut, parts, lengthFits, countsFit, Asked, asks, refuses, readQuestion}
-use Rattle.rules.specs.Rules.{check, _>>=_}
+use Rattle.meaning.specs.Values.{fillingWords}
+use Rattle.rules.specs.Rules.{_>>=_, check}
 use Rattle.rules.specs.Step.{search, step}
 use Rattle.rules.specs.Solved.{solved}
 use Rattle.rules.specs.Run.{Outcome, finished, refused, runFrom, run}
 use Rattle.rules.specs.Table as paper
 use Rattle.rules.specs.Answer.{Solving, answered, unread, given-up, answerWords, solving}
+use Rattle.rules.specs.Example.{example}
+use Rattle.rules.specs.Calls.{Showing, shows, showing}
 
 -- the steps and the answer's words, where there is an answer
 pub data Written : Type 0 where
@@ -112,3 +116,20 @@ pub borders :
     × (endOf (run (narrow 11 41 0) (paper.P4 .question)) ≡ 10)
 unfolding _>>=_ check search step runFrom run
 borders = (refl, refl, refl, refl, refl, refl)
+
+-- ---- the default
+
+-- one empty conjunction, so many symbols, one blank of each kind: the term and the name take the last symbol, or symbol 0 for old sheets
+abbrev pub blanks : ℕ → List ℕ
+blanks symbols = symbols ∷ 1 ∷ 1 ∷ 1 ∷ 1 ∷ 7 ∷ 7 ∷ []
+
+abbrev pub filled : ℕ → Showing
+filled w = shows (3 ∷ 5 ∷ 8 ∷ 9 ∷ 12 ∷ w ∷ 0 ∷ 0 ∷ 0 ∷ w ∷ 0 ∷ 0 ∷ [])
+
+pub defaults-printed :
+    (showing desk false (desk .room) (desk .room) 12 0 (blanks 4) ≡ filled 3003)
+    × (showing desk true (desk .room) (desk .room) 12 0 (blanks 4) ≡ filled 3000)
+    × (showing desk false (desk .room) (desk .room) 12 0 (blanks 1) ≡ filled 3000)
+    × (showing desk false (desk .room) (desk .room) 12 0 (blanks 128) ≡ filled 3127)
+unfolding showing solving readQuestion lengthFits countsFit laidOut parts reading readHedge readExpr readLiteral readConj kindOf within _>>=_ check search step solved runFrom run example fillingWords
+defaults-printed = (refl, refl, refl, refl)
