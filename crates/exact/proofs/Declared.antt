@@ -7,7 +7,7 @@ use mathlib.Core.List.{List, [], _∷_}
 use lib.Dec.{T}
 use Rattle.language.specs.Limits.{Limits}
 use Rattle.language.specs.declared.Refusal.{Refusal}
-use Rattle.language.specs.declared.Refusal.the-variants.{QuestionLength, CountRange, BadOffset, NotLiterals, Undeclared}
+use Rattle.language.specs.declared.Refusal.the-variants.{QuestionLength, CountRange, BadOffset}
 use Rattle.language.specs.Trees.{Functor, symbol, fvar, Hedge, ε, tvar, hvar, node, Expr, eps, cat, alt, star, over, Literal, eqn, mem, Conj, Counts, Question, tv, hv, fv}
 use Rattle.language.specs.Reading.{Got, got, stop}
 use Rattle.language.specs.Question.{countsOf, alternativesOf, lengthFits, countsFit, laidOut, parts, readAll, declaredS, declaredT, declaredH, declaredX, declaredF, declared, declaredE, declaredL, declaredC, declaredQ, Asked, asks, refuses, readQuestion}
@@ -88,16 +88,16 @@ module _ (P : Question → Type 0) where
   -- P of a question that is asked
   abbrev pub Asks : Asked → Type 0
   Asks (asks q) = P q
-  Asks (refuses r at) = Unit {0}
+  Asks (refuses r) = Unit {0}
 
   -- a refusal, or on
-  pub passes : (b : Bool) (r : Refusal) (at : ℕ) (a : Asked) → (T b → Asks a) → Asks (elim b [ false ↦ refuses r at | true ↦ a ])
-  passes true r at a p = p tt
-  passes false r at a p = tt
+  pub passes : (b : Bool) (r : Refusal) (a : Asked) → (T b → Asks a) → Asks (elim b [ false ↦ refuses r | true ↦ a ])
+  passes true r a p = p tt
+  passes false r a p = tt
 
-  pub reads : (m : Got (List Conj)) (r : Refusal) (at : ℕ → ℕ) (a : List Conj → Asked) → ((ks : List Conj) → Asks (a ks)) → Asks (elim m [ stop n ↦ refuses r (at n) | got ks n ↦ a ks ])
-  reads (stop n) r at a p = tt
-  reads (got ks n) r at a p = p ks
+  pub reads : (m : Got (List Conj)) (r : ℕ → Refusal) (a : List Conj → Asked) → ((ks : List Conj) → Asks (a ks)) → Asks (elim m [ stop n ↦ refuses (r n) | got ks n ↦ a ks ])
+  reads (stop n) r a p = tt
+  reads (got ks n) r a p = p ks
 
 -- The alternatives of a question that is read are declared by its own counts, which are its first words.
 abbrev Right : List ℕ → Question → Type 0
@@ -106,11 +106,11 @@ Right ws q = (q .counts ≡ countsOf ws) × Each (DeclaredC (q .counts)) (q .alt
 asked-right : (L : Limits) (ws : List ℕ) → Asks (Right ws) (readQuestion L ws)
 unfolding readQuestion
 asked-right L ws =
-    passes (Right ws) (lengthFits L ws) QuestionLength _ _ λ _.
-    passes (Right ws) (countsFit L (countsOf ws) (alternativesOf ws)) CountRange _ _ λ _.
-    passes (Right ws) (laidOut 5 (alternativesOf ws) ws) BadOffset _ _ λ _.
-    reads (Right ws) (readAll L (parts 5 (alternativesOf ws) ws)) NotLiterals _ _ λ ks.
-    passes (Right ws) (declaredQ (countsOf ws) ks) Undeclared _ _ λ t. (refl, each-declared (countsOf ws) ks t)
+    passes (Right ws) (lengthFits L ws) QuestionLength _ λ _.
+    passes (Right ws) (countsFit L (countsOf ws) (alternativesOf ws)) CountRange _ λ _.
+    passes (Right ws) (laidOut 5 (alternativesOf ws) ws) BadOffset _ λ _.
+    reads (Right ws) (readAll L (parts 5 (alternativesOf ws) ws)) _ _ λ ks.
+    passes (Right ws) (declaredQ (countsOf ws) ks) _ _ λ t. (refl, each-declared (countsOf ws) ks t)
 
 pub read-declared : (L : Limits) (ws : List ℕ) (q : Question) → readQuestion L ws ≡ asks q
     → (q .counts ≡ countsOf ws) × Each (DeclaredC (q .counts)) (q .alternatives)

@@ -10,10 +10,10 @@ use lib.Seq.{take-take, getD-drop}
 use lib.Dec.{ltb}
 use borrow.Author.Tests.{ltb-true, ltb-false}
 use Rattle.language.specs.declared.Refusal.{Refusal}
-use Rattle.language.specs.declared.Refusal.the-variants.{QuestionLength, CountRange, BadOffset, NotLiterals, Undeclared}
+use Rattle.language.specs.declared.Refusal.the-variants.{QuestionLength, CountRange, BadOffset}
 use Rattle.language.specs.Limits.{Limits}
 use Rattle.language.specs.Kinds.{pick}
-use Rattle.language.specs.Numbers.{numberOf}
+use Rattle.language.specs.Numbers.{numberOf, placeOf}
 use Rattle.language.specs.Trees.{Conj, Counts}
 use Rattle.language.specs.Reading.{Got, got, stop, readConj}
 use Rattle.language.specs.Question.{laidOut, parts, countsOf, alternativesOf, lengthFits, countsFit, declaredQ, withConj, readAll, bodyAt, refuses, readQuestion}
@@ -161,50 +161,42 @@ module _ (L : Limits) (ws : List ℕ) (laid : laidOut 5 (alternativesOf ws) ws �
 
 -- ---- every refusal
 
--- two refusals that have different numbers
-apart : {A : Type 0} (r s t : Refusal) → r ≡ s → r ≡ t → (numberOf s ≡ numberOf t → ⊥) → A
-apart r s t e f n = absurd (n (ap numberOf (sym e ∙ f)))
-
 module _ (L : Limits) (ws : List ℕ) where
-  -- those that have no place
-  no-place : (r s : Refusal) (at : ℕ) → refuses s 0 ≡ refuses r at → (numberOf s ≡ 5 → ⊥) → (numberOf s ≡ 6 → ⊥) → RightPlace L ws r at
-  no-place r s at e n m =
-      let p : r ≡ s = cc in
-      let q : at ≡ 0 = cc in
-      record { five = λ f. apart r s NotLiterals p f n; six = λ f. apart r s Undeclared p f m; others = λ _ _. q }
-
   -- The place of a refusal is the right one.
-  pub place-right : (r : Refusal) (at : ℕ) → readQuestion L ws ≡ refuses r at → RightPlace L ws r at
-  place-right r at e = on-length (lengthFits L ws) refl
+  pub place-right : (r : Refusal) → readQuestion L ws ≡ refuses r → RightPlace L ws r
+  place-right r e = on-length (lengthFits L ws) refl
     where
+      -- it is this one
+      is : (s : Refusal) → readQuestion L ws ≡ refuses s → RightPlace L ws s → RightPlace L ws r
+      is s f h = subst (RightPlace L ws) (let z : s ≡ r = cc in z) h
+
+      -- one that has no place
+      none : (s : Refusal) → readQuestion L ws ≡ refuses s → placeOf s ≡ 0 → ¬ (numberOf s ≡ 5) → ¬ (numberOf s ≡ 6) → RightPlace L ws r
+      none s f p n m = is s f (record { five = λ z. absurd (n z); six = λ z. absurd (m z); others = λ _ _. p })
+
       on-declared : (l : lengthFits L ws ≡ true) (c : countsFit L (countsOf ws) (alternativesOf ws) ≡ true) (o : laidOut 5 (alternativesOf ws) ws ≡ true) (ks : List Conj) (m : ℕ)
-          → readAll L (parts 5 (alternativesOf ws) ws) ≡ got ks m → (b : Bool) → declaredQ (countsOf ws) ks ≡ b → RightPlace L ws r at
+          → readAll L (parts 5 (alternativesOf ws) ws) ≡ got ks m → (b : Bool) → declaredQ (countsOf ws) ks ≡ b → RightPlace L ws r
       on-declared l c o ks m g false d =
-          let f = not-declared L ws l c o ks m g d in
-          let p : r ≡ Undeclared = cc in
-          let q : at ≡ bodyAt ws + undeclaredAt L (countsOf ws) (drop (bodyAt ws) ws) = cc in
-          record { five = λ z. apart r Undeclared NotLiterals p z (λ y. omega arith); six = λ _. undeclared L ws o ks m at g d q; others = λ _ z. absurd (z p) }
+          is _ (not-declared L ws l c o ks m g d)
+          (record { five = λ z. absurd (omega arith); six = λ _. undeclared L ws o ks m _ g d refl; others = λ _ z. absurd (z refl) })
       on-declared l c o ks m g true d = let f = asked L ws l c o ks m g d in absurd (let z : _≡_ {A = ℕ} 0 1 = cc in omega arith)
 
       on-read : (l : lengthFits L ws ≡ true) (c : countsFit L (countsOf ws) (alternativesOf ws) ≡ true) (o : laidOut 5 (alternativesOf ws) ws ≡ true)
-          → (g : Got (List Conj)) → readAll L (parts 5 (alternativesOf ws) ws) ≡ g → RightPlace L ws r at
+          → (g : Got (List Conj)) → readAll L (parts 5 (alternativesOf ws) ws) ≡ g → RightPlace L ws r
       on-read l c o (stop m) g =
-          let f = bad-literals L ws l c o m g in
-          let p : r ≡ NotLiterals = cc in
-          let q : at ≡ bodyAt ws + m = cc in
-          record { five = λ _. broken L ws o m at g q; six = λ z. apart r NotLiterals Undeclared p z (λ y. omega arith); others = λ z _. absurd (z p) }
+          is _ (bad-literals L ws l c o m g) (record { five = λ _. broken L ws o m _ g refl; six = λ z. absurd (omega arith); others = λ z _. absurd (z refl) })
       on-read l c o (got ks m) g = on-declared l c o ks m g (declaredQ (countsOf ws) ks) refl
 
-      on-laid : (l : lengthFits L ws ≡ true) (c : countsFit L (countsOf ws) (alternativesOf ws) ≡ true) (b : Bool) → laidOut 5 (alternativesOf ws) ws ≡ b → RightPlace L ws r at
-      on-laid l c false o = no-place r BadOffset at (sym (bad-offset L ws l c o) ∙ e) (λ y. omega arith) (λ y. omega arith)
+      on-laid : (l : lengthFits L ws ≡ true) (c : countsFit L (countsOf ws) (alternativesOf ws) ≡ true) (b : Bool) → laidOut 5 (alternativesOf ws) ws ≡ b → RightPlace L ws r
+      on-laid l c false o = none BadOffset (bad-offset L ws l c o) refl (λ z. omega arith) (λ z. omega arith)
       on-laid l c true o = on-read l c o (readAll L (parts 5 (alternativesOf ws) ws)) refl
 
-      on-counts : (l : lengthFits L ws ≡ true) (b : Bool) → countsFit L (countsOf ws) (alternativesOf ws) ≡ b → RightPlace L ws r at
-      on-counts l false c = no-place r CountRange at (sym (bad-counts L ws l c) ∙ e) (λ y. omega arith) (λ y. omega arith)
+      on-counts : (l : lengthFits L ws ≡ true) (b : Bool) → countsFit L (countsOf ws) (alternativesOf ws) ≡ b → RightPlace L ws r
+      on-counts l false c = none CountRange (bad-counts L ws l c) refl (λ z. omega arith) (λ z. omega arith)
       on-counts l true c = on-laid l c (laidOut 5 (alternativesOf ws) ws) refl
 
-      on-length : (b : Bool) → lengthFits L ws ≡ b → RightPlace L ws r at
-      on-length false l = no-place r QuestionLength at (sym (bad-length L ws l) ∙ e) (λ y. omega arith) (λ y. omega arith)
+      on-length : (b : Bool) → lengthFits L ws ≡ b → RightPlace L ws r
+      on-length false l = none QuestionLength (bad-length L ws l) refl (λ z. omega arith) (λ z. omega arith)
       on-length true l = on-counts l (countsFit L (countsOf ws) (alternativesOf ws)) refl
 
 -- ---- there is no other such place

@@ -110,11 +110,11 @@ read-alike L M ws q e l c =
 
 -- "an old desk refuses a question past its limits with 2 or 3 and never misreads it"
 pub read-or-refused : (L M : Limits) (ws : List ℕ) (q : Question) → readQuestion M ws ≡ asks q
-    → (readQuestion L ws ≡ asks q) ⊎ ((readQuestion L ws ≡ refuses QuestionLength 0) ⊎ (readQuestion L ws ≡ refuses CountRange 0))
+    → (readQuestion L ws ≡ asks q) ⊎ ((readQuestion L ws ≡ refuses QuestionLength) ⊎ (readQuestion L ws ≡ refuses CountRange))
 read-or-refused L M ws q e = on (lengthFits L ws) (countsFit L (countsOf ws) (alternativesOf ws)) refl refl
   where
     on : (a b : Bool) → lengthFits L ws ≡ a → countsFit L (countsOf ws) (alternativesOf ws) ≡ b
-        → (readQuestion L ws ≡ asks q) ⊎ ((readQuestion L ws ≡ refuses QuestionLength 0) ⊎ (readQuestion L ws ≡ refuses CountRange 0))
+        → (readQuestion L ws ≡ asks q) ⊎ ((readQuestion L ws ≡ refuses QuestionLength) ⊎ (readQuestion L ws ≡ refuses CountRange))
     on true true l c = inl (read-alike L M ws q e l c)
     on true false l c = inr (inr (bad-counts L ws l c))
     on false b l c = inr (inl (bad-length L ws l))
@@ -155,5 +155,5 @@ stored-read = read-wider firstDesk desk first-within
 
 -- "an old desk refuses a question past its limits with 2 or 3 and never misreads it"
 pub never-misread : (ws : List ℕ) (q : Question) → readQuestion desk ws ≡ asks q
-    → (readQuestion firstDesk ws ≡ asks q) ⊎ ((readQuestion firstDesk ws ≡ refuses QuestionLength 0) ⊎ (readQuestion firstDesk ws ≡ refuses CountRange 0))
+    → (readQuestion firstDesk ws ≡ asks q) ⊎ ((readQuestion firstDesk ws ≡ refuses QuestionLength) ⊎ (readQuestion firstDesk ws ≡ refuses CountRange))
 never-misread = read-or-refused firstDesk desk

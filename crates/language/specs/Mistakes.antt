@@ -5,8 +5,8 @@ use mathlib.Core.Bool.{true, false}
 use mathlib.Core.List.{List, _++_}
 use lib.ListN.{length, getD}
 use Rattle.language.specs.declared.Refusal.{Refusal}
-use Rattle.language.specs.declared.Refusal.the-variants.{NotLiterals, Undeclared}
 use Rattle.language.specs.Limits.{Limits}
+use Rattle.language.specs.Numbers.{numberOf, placeOf}
 use Rattle.language.specs.Trees.{Conj}
 use Rattle.language.specs.Writing.{conjWords}
 use Rattle.language.specs.Fine.{fineConj}
@@ -53,7 +53,7 @@ pub record UndeclaredIn (L : Limits) (ws : List ℕ) (at : ℕ) : Type 0 where
   pub here : declaredWord L (countsOf ws) (getD ws at 0) ≡ false
 
 -- "for all other outcomes it is 0"
-pub record RightPlace (L : Limits) (ws : List ℕ) (r : Refusal) (at : ℕ) : Type 0 where
-  pub five : r ≡ NotLiterals → BrokenAt L ws at
-  pub six : r ≡ Undeclared → UndeclaredIn L ws at
-  pub others : ¬ (r ≡ NotLiterals) → ¬ (r ≡ Undeclared) → at ≡ 0
+pub record RightPlace (L : Limits) (ws : List ℕ) (r : Refusal) : Type 0 where
+  pub five : numberOf r ≡ 5 → BrokenAt L ws (placeOf r)
+  pub six : numberOf r ≡ 6 → UndeclaredIn L ws (placeOf r)
+  pub others : ¬ (numberOf r ≡ 5) → ¬ (numberOf r ≡ 6) → placeOf r ≡ 0

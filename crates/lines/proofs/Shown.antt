@@ -9,7 +9,7 @@ use native.Mathlib.Omega.{arith}
 use borrow.Author.Tests.{ltb-false}
 use lib.Dec.{ltb}
 use lib.ListN.{length}
-use Rattle.language.specs.declared.Refusal.the-variants.{QuestionLength, CountRange, BadOffset, NotLiterals, Undeclared, LongExample, OpenLine}
+use Rattle.language.specs.declared.Refusal.the-variants.{QuestionLength, CountRange, BadOffset, LongExample, OpenLine}
 use Rattle.language.specs.Limits.{Limits}
 use Rattle.language.specs.Trees.{Conj, Counts, Question}
 use Rattle.language.specs.Question.{countsOf, alternativesOf, lengthFits, countsFit, laidOut, parts, readAll, declaredQ, asks, readQuestion}
@@ -54,13 +54,13 @@ pub record Shows (L : Limits) (old : Bool) (n : Counts) (room line : ℕ) (s : S
 
 module _ (L : Limits) (old : Bool) (n : Counts) (room line : ℕ) (fs : List ℕ) where
   -- the words fit
-  fit : (a b : Bool) (ws : List ℕ) → elim (a || b) [ true ↦ denied LongExample 0 | false ↦ shows ws ] ≡ shows fs → (a ≡ false) × (b ≡ false) × (ws ≡ fs)
+  fit : (a b : Bool) (ws : List ℕ) → elim (a || b) [ true ↦ denied LongExample | false ↦ shows ws ] ≡ shows fs → (a ≡ false) × (b ≡ false) × (ws ≡ fs)
   fit true b ws e = absurd (let z : _≡_ {A = ℕ} 0 1 = cc in omega arith)
   fit false true ws e = absurd (let z : _≡_ {A = ℕ} 0 1 = cc in omega arith)
   fit false false ws e = (refl, refl, cc)
 
   -- the line is solved
-  open-denied : (b : Bool) (o : Showing) → elim b [ true ↦ o | false ↦ denied OpenLine 0 ] ≡ shows fs → (b ≡ true) × (o ≡ shows fs)
+  open-denied : (b : Bool) (o : Showing) → elim b [ true ↦ o | false ↦ denied OpenLine ] ≡ shows fs → (b ≡ true) × (o ≡ shows fs)
   open-denied true o e = (refl, e)
   open-denied false o e = absurd (let z : _≡_ {A = ℕ} 0 1 = cc in omega arith)
 
@@ -84,7 +84,7 @@ module _ (L : Limits) (old : Bool) (n : Counts) (room line : ℕ) (fs : List ℕ
 
   of-solving : (s : Solving) → showingOf L old n room line s ≡ shows fs → Shows L old n room line s fs
   of-solving (answered ls m) e = of-line ls m (lineAt line ls) refl e
-  of-solving (unread r at) e = absurd (let z : _≡_ {A = ℕ} 0 1 = cc in omega arith)
+  of-solving (unread r) e = absurd (let z : _≡_ {A = ℕ} 0 1 = cc in omega arith)
   of-solving (given-up r) e = absurd (let z : _≡_ {A = ℕ} 0 1 = cc in omega arith)
 
 pub shown-is : (L : Limits) (old : Bool) (work answer room line : ℕ) (ws fs : List ℕ) → showing L old work answer room line ws ≡ shows fs
@@ -105,11 +105,11 @@ asked-counts : (L : Limits) (ws : List ℕ) → Asks (λ q. countsFit L (countsO
 unfolding readQuestion
 asked-counts L ws =
     let Fit : Question → Type 0 = λ q. countsFit L (countsOf ws) (alternativesOf ws) ≡ true in
-    passes Fit (lengthFits L ws) QuestionLength _ _ λ _.
-    passes Fit (countsFit L (countsOf ws) (alternativesOf ws)) CountRange _ _ λ t.
-    passes Fit (laidOut 5 (alternativesOf ws) ws) BadOffset _ _ λ _.
-    reads Fit (readAll L (parts 5 (alternativesOf ws) ws)) NotLiterals _ _ λ ks.
-    passes Fit (declaredQ (countsOf ws) ks) Undeclared _ _ λ _. test-true (countsFit L (countsOf ws) (alternativesOf ws)) .0 t
+    passes Fit (lengthFits L ws) QuestionLength _ λ _.
+    passes Fit (countsFit L (countsOf ws) (alternativesOf ws)) CountRange _ λ t.
+    passes Fit (laidOut 5 (alternativesOf ws) ws) BadOffset _ λ _.
+    reads Fit (readAll L (parts 5 (alternativesOf ws) ws)) _ _ λ ks.
+    passes Fit (declaredQ (countsOf ws) ks) _ _ λ _. test-true (countsFit L (countsOf ws) (alternativesOf ws)) .0 t
 
 pub read-counts : (L : Limits) (ws : List ℕ) (q : Question) → readQuestion L ws ≡ asks q → countsFit L (countsOf ws) (alternativesOf ws) ≡ true
 read-counts L ws q e = rw e at (asked-counts L ws)

@@ -88,7 +88,7 @@ ran-finished (refused r) ls n e = let z : _≡_ {A = ℕ} 0 1 = cc in absurd (om
 of-asked : (L : Limits) (a : Asked) (ls : List Numbered) (n : ℕ) → solvingOf L a ≡ answered ls n
     → (q : Question) × (a ≡ asks q) × (run L (q .alternatives) ≡ finished ls n)
 of-asked L (asks q) ls n e = (q, refl, ran-finished (run L (q .alternatives)) ls n e)
-of-asked L (refuses r at) ls n e = let z : _≡_ {A = ℕ} 0 1 = cc in absurd (omega arith)
+of-asked L (refuses r) ls n e = let z : _≡_ {A = ℕ} 0 1 = cc in absurd (omega arith)
 
 -- an answer is of a question that was read, and of its run
 pub answered-run : (L : Limits) (work answer : ℕ) (ws : List ℕ) (ls : List Numbered) (n : ℕ) → solving L work answer ws ≡ answered ls n
@@ -97,7 +97,7 @@ unfolding solving
 answered-run L work answer ws ls n e = long (ltb work (L .room)) (ltb answer (L .room)) e
   where
     long : (a b : Bool)
-        → elim a [ true ↦ unread ShortSlice 0 | false ↦ elim b [ true ↦ unread ShortSlice 0 | false ↦ solvingOf L (readQuestion L ws) ] ] ≡ answered ls n
+        → elim a [ true ↦ unread ShortSlice | false ↦ elim b [ true ↦ unread ShortSlice | false ↦ solvingOf L (readQuestion L ws) ] ] ≡ answered ls n
         → (q : Question) × (readQuestion L ws ≡ asks q) × (run L (q .alternatives) ≡ finished ls n)
     long true b e = let z : _≡_ {A = ℕ} 0 1 = cc in absurd (omega arith)
     long false true e = let z : _≡_ {A = ℕ} 0 1 = cc in absurd (omega arith)

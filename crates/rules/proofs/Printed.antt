@@ -28,7 +28,7 @@ pub data Written : Type 0 where
 
 abbrev pub inWords : Limits → Solving → Written
 inWords L (answered ls n) = written n (answerWords L ls)
-inWords L (unread r at) = nothing
+inWords L (unread r) = nothing
 inWords L (given-up r) = nothing
 
 -- P4 whole: its words, and those of its answer, each line with its mark and its number, n zeros at their end
@@ -59,7 +59,7 @@ long n = 5000 ∷ (replicate n 2000 ++ (0 ∷ 0 ∷ []))
 
 abbrev pub refusalOf : Asked → Asked
 refusalOf (asks q) = asks (record { counts = q .counts; alternatives = [] })
-refusalOf (refuses r at) = refuses r at
+refusalOf (refuses r) = refuses r
 
 abbrev pub header : ℕ → ℕ → ℕ → List ℕ
 header symbols hedges end = symbols ∷ 0 ∷ hedges ∷ 0 ∷ 1 ∷ 7 ∷ end ∷ []
@@ -77,21 +77,21 @@ withSymbol symbols w = header symbols 0 12 ++ (5000 ∷ w ∷ 0 ∷ 0 ∷ 0 ∷ 
 -- "1,024 question words pass, 1,025 give 2; symbol 3031 passes with 32 declared, gives 6 with 31; 3032 gives 5."
 pub first-limits-printed :
     (refusalOf (readQuestion firstDesk (ofLength 1024)) ≡ fine 1 1)
-    × (refusalOf (readQuestion firstDesk (ofLength 1025)) ≡ refuses QuestionLength 0)
+    × (refusalOf (readQuestion firstDesk (ofLength 1025)) ≡ refuses QuestionLength)
     × (refusalOf (readQuestion firstDesk (withSymbol 32 3031)) ≡ fine 32 0)
-    × (refusalOf (readQuestion firstDesk (withSymbol 31 3031)) ≡ refuses Undeclared 8)
-    × (refusalOf (readQuestion firstDesk (withSymbol 32 3032)) ≡ refuses NotLiterals 8)
+    × (refusalOf (readQuestion firstDesk (withSymbol 31 3031)) ≡ refuses (Undeclared 8))
+    × (refusalOf (readQuestion firstDesk (withSymbol 32 3032)) ≡ refuses (NotLiterals 8))
 unfolding readQuestion lengthFits countsFit laidOut parts reading readHedge readExpr readLiteral readConj kindOf within declaredWord undeclaredAt
 first-limits-printed = (refl, refl, refl, refl, refl)
 
 -- the same with the numbers of "Bigger sheets"; what was 5 because no count reached it is 6 now
 pub limits-printed :
     (refusalOf (readQuestion desk (ofLength 4096)) ≡ fine 1 1)
-    × (refusalOf (readQuestion desk (ofLength 4097)) ≡ refuses QuestionLength 0)
+    × (refusalOf (readQuestion desk (ofLength 4097)) ≡ refuses QuestionLength)
     × (refusalOf (readQuestion desk (withSymbol 128 3127)) ≡ fine 128 0)
-    × (refusalOf (readQuestion desk (withSymbol 127 3127)) ≡ refuses Undeclared 8)
-    × (refusalOf (readQuestion desk (withSymbol 128 3128)) ≡ refuses NotLiterals 8)
-    × (refusalOf (readQuestion desk (withSymbol 32 3032)) ≡ refuses Undeclared 8)
+    × (refusalOf (readQuestion desk (withSymbol 127 3127)) ≡ refuses (Undeclared 8))
+    × (refusalOf (readQuestion desk (withSymbol 128 3128)) ≡ refuses (NotLiterals 8))
+    × (refusalOf (readQuestion desk (withSymbol 32 3032)) ≡ refuses (Undeclared 8))
 unfolding readQuestion lengthFits countsFit laidOut parts reading readHedge readExpr readLiteral readConj kindOf within declaredWord undeclaredAt
 limits-printed = (refl, refl, refl, refl, refl, refl)
 
@@ -107,12 +107,12 @@ twoAlternatives middle end ws = 1 ∷ 0 ∷ 0 ∷ 0 ∷ 2 ∷ 8 ∷ middle ∷ e
 -- "for 5 the first word that cannot continue a literal": a word that stands in no hedge, one before any literal, an alternative that breaks off inside
 -- its second side, and the same with another behind it; "for 6 the first undeclared number"; and 5 though one stands earlier.
 pub mistakes-printed :
-    (readQuestion desk (oneAlternative 12 (5000 ∷ 3000 ∷ 0 ∷ 7000 ∷ 0 ∷ [])) ≡ refuses NotLiterals 10)
-    × (readQuestion desk (oneAlternative 11 (5000 ∷ 0 ∷ 0 ∷ 3000 ∷ [])) ≡ refuses NotLiterals 10)
-    × (readQuestion desk (oneAlternative 12 (5000 ∷ 3000 ∷ 0 ∷ 0 ∷ 3000 ∷ [])) ≡ refuses NotLiterals 12)
-    × (readQuestion desk (twoAlternatives 10 13 (5000 ∷ 0 ∷ 5000 ∷ 0 ∷ 0 ∷ [])) ≡ refuses NotLiterals 10)
-    × (readQuestion desk (oneAlternative 14 (5000 ∷ 3001 ∷ 0 ∷ 0 ∷ 3002 ∷ 0 ∷ 0 ∷ [])) ≡ refuses Undeclared 8)
-    × (readQuestion desk (oneAlternative 13 (5000 ∷ 3001 ∷ 0 ∷ 0 ∷ 7000 ∷ 0 ∷ [])) ≡ refuses NotLiterals 11)
+    (readQuestion desk (oneAlternative 12 (5000 ∷ 3000 ∷ 0 ∷ 7000 ∷ 0 ∷ [])) ≡ refuses (NotLiterals 10))
+    × (readQuestion desk (oneAlternative 11 (5000 ∷ 0 ∷ 0 ∷ 3000 ∷ [])) ≡ refuses (NotLiterals 10))
+    × (readQuestion desk (oneAlternative 12 (5000 ∷ 3000 ∷ 0 ∷ 0 ∷ 3000 ∷ [])) ≡ refuses (NotLiterals 12))
+    × (readQuestion desk (twoAlternatives 10 13 (5000 ∷ 0 ∷ 5000 ∷ 0 ∷ 0 ∷ [])) ≡ refuses (NotLiterals 10))
+    × (readQuestion desk (oneAlternative 14 (5000 ∷ 3001 ∷ 0 ∷ 0 ∷ 3002 ∷ 0 ∷ 0 ∷ [])) ≡ refuses (Undeclared 8))
+    × (readQuestion desk (oneAlternative 13 (5000 ∷ 3001 ∷ 0 ∷ 0 ∷ 7000 ∷ 0 ∷ [])) ≡ refuses (NotLiterals 11))
 unfolding readQuestion lengthFits countsFit laidOut parts reading readHedge readExpr readLiteral readConj kindOf within declaredWord undeclaredAt
 mistakes-printed = (refl, refl, refl, refl, refl, refl)
 

@@ -7,6 +7,7 @@ use lib.ListN.{length, drop, replicate}
 use Rattle.language.specs.declared.Refusal.{Refusal}
 use Rattle.language.specs.declared.Refusal.the-variants.{ShortSlice}
 use Rattle.language.specs.Limits.{Limits}
+use Rattle.language.specs.Numbers.{placeOf}
 use Rattle.language.specs.Kinds.{pick}
 use Rattle.language.specs.Trees.{Conj, Question}
 use Rattle.language.specs.Writing.{conjWords}
@@ -54,18 +55,17 @@ abbrev pub verdictOf : List Numbered → Verdict
 verdictOf [] = noLine
 verdictOf (k ∷ ks) = pick (ltb 0 (countOpen (k ∷ ks))) someOpen allSolved
 
--- the lines and the steps of an answered question; a refusal before the run, which changes nothing, and the place of the mistake; a refusal of
--- the run, which leaves zeros
+-- the lines and the steps of an answered question; a refusal before the run, which changes nothing; a refusal of the run, which leaves zeros
 pub data Solving : Type 0 where
   answered : List Numbered → ℕ → Solving
-  unread : Refusal → ℕ → Solving
+  unread : Refusal → Solving
   given-up : Refusal → Solving
 
--- "Solving .. hand[s] that place on; for all other outcomes it is 0"
+-- "Solving .. hand[s] that place on"
 abbrev pub solvingPlace : Solving → ℕ
 solvingPlace (answered ls n) = 0
-solvingPlace (unread r at) = at
-solvingPlace (given-up r) = 0
+solvingPlace (unread r) = placeOf r
+solvingPlace (given-up r) = placeOf r
 
 abbrev pub ran : Outcome → Solving
 ran (finished ls n) = answered ls n
@@ -73,13 +73,13 @@ ran (refused r) = given-up r
 
 abbrev pub solvingOf : Limits → Asked → Solving
 solvingOf L (asks q) = ran (run L (q .alternatives))
-solvingOf L (refuses r at) = unread r at
+solvingOf L (refuses r) = unread r
 
 -- for a work and an answer slice of so many words: 1 before 2 to 10
 unfoldable pub solving : Limits → ℕ → ℕ → List ℕ → Solving
 solving L work answer ws =
     elim (ltb work (L .room)) [
-      | true ↦ unread ShortSlice 0
+      | true ↦ unread ShortSlice
       | false ↦
-          elim (ltb answer (L .room)) [ true ↦ unread ShortSlice 0 | false ↦ solvingOf L (readQuestion L ws) ]
+          elim (ltb answer (L .room)) [ true ↦ unread ShortSlice | false ↦ solvingOf L (readQuestion L ws) ]
     ]
