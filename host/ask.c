@@ -47,7 +47,7 @@ static void print_words(const uint8_t *bytes, size_t from, size_t to)
 static void print_example(const uint8_t *question, size_t question_len, uint32_t line)
 {
     uint8_t room[DESK_FILLING_BYTES];
-    uint32_t shown = desk_example(question, question_len, line, room, sizeof room);
+    uint32_t shown = desk_example(question, question_len, line, 0, room, sizeof room);
     if (shown < DESK_SHOWN) {
         printf("  no example, number %u\n", shown);
         return;

@@ -75,9 +75,13 @@ uint32_t desk_try(const uint8_t *question, size_t question_len,
  * the start of the room, and gives DESK_SHOWN plus its length in words; or why
  * not: 2 to 10, 14, 15, 16, in this order. After a refusal the room is
  * unchanged; bytes behind the filling are never touched. A room of
- * DESK_FILLING_BYTES is never too short for an example that the desk shows. */
+ * DESK_FILLING_BYTES is never too short for an example that the desk shows.
+ *
+ * A blank for a part or a name that may be anything takes the last declared
+ * symbol where old_sheets is 0, and symbol 0 where it is any other number, as
+ * on old training sheets. The example meets its line either way. */
 uint32_t desk_example(const uint8_t *question, size_t question_len, uint32_t line,
-                      uint8_t *room, size_t room_len);
+                      uint32_t old_sheets, uint8_t *room, size_t room_len);
 
 #ifdef __cplusplus
 }

@@ -117,11 +117,11 @@ fn shown<'a>(s: Shown, question: &'a [u16], room: &'a [u16]) -> u8 {
     }
 }
 
-fn show(question: &[u16], line: usize) -> u8 {
+fn show(question: &[u16], line: usize, old: bool) -> u8 {
     let mut work = [0u16; ROOM];
     let mut answer = [0u16; ROOM];
     let mut room = [0u16; FILLING];
-    let s = example::example(question, line, &mut work, &mut answer, &mut room);
+    let s = example::example(question, line, old, &mut work, &mut answer, &mut room);
     shown(s, question, &room)
 }
 
@@ -129,8 +129,8 @@ fn place(n: u16) -> usize {
     n as usize
 }
 
-// The example of the line that argument `i` names.
-fn show_line(question: &[u16], i: usize) -> u8 {
+// The example of the line that argument `i` names, for old training sheets or not.
+fn show_line(question: &[u16], i: usize, old: bool) -> u8 {
     let mut text = io::buffer();
     let n = os::arg(i, &mut text);
     let mut line = [0u16; 1];
@@ -138,13 +138,14 @@ fn show_line(question: &[u16], i: usize) -> u8 {
     if t.line != 0 {
         return wrong_use(b"a line is named by a number, and the first is 0");
     }
-    show(question, place(line[0]))
+    show(question, place(line[0]), old)
 }
 
 enum Command {
     Solve,
     Try,
     Example,
+    OldExample,
 }
 
 // Does what is asked with a question; argument `i` says more.
@@ -152,13 +153,14 @@ fn ask(command: Command, question: &[u16], i: usize) -> u8 {
     match command {
         Command::Solve => solve(question),
         Command::Try => try_file(question, i),
-        Command::Example => show_line(question, i),
+        Command::Example => show_line(question, i, false),
+        Command::OldExample => show_line(question, i, true),
     }
 }
 
 // Does what is asked with the question of the file that argument `i` names.
 fn with_question(command: Command, i: usize) -> u8
-    requires { ⌜ i < 10 ⌝ }
+    requires { ⌜ i < 11 ⌝ }
 {
     let mut words = [0u16; 2 * QUESTION];
     let t = load(i, &mut words);
@@ -188,13 +190,23 @@ fn try_command(i: usize) -> u8
     wrong_use(b"try takes a file with a question and a file with a filling")
 }
 
+// An example takes the file that argument `i` names and the line behind it.
+fn example_of(command: Command, i: usize) -> u8
+    requires { ⌜ i < 11 ⌝ }
+{
+    if is_last(i + 1) {
+        return with_question(command, i);
+    }
+    wrong_use(b"example takes a file and the number of a line")
+}
+
 fn example_command(i: usize) -> u8
     requires { ⌜ i < 9 ⌝ }
 {
-    if is_last(i + 2) {
-        return with_question(Command::Example, i + 1);
+    if is(i + 1, b"--old-sheets") {
+        return example_of(Command::OldExample, i + 2);
     }
-    wrong_use(b"example takes a file and the number of a line")
+    example_of(Command::Example, i + 1)
 }
 
 // What asks for no question.

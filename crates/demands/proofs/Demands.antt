@@ -86,20 +86,20 @@ one-answer = between.one-answer
 
 -- A length comes back only for a settled line, and then the room's words are read back as a filling that meets that very line;
 pub shows-only-so : (c : Example) (m : ℕ) → c .returned ≡ Shows m
-    → (p : Promised (c .question) (c .answerLeft)) × (k : Line) × (nthLine (c .line) (p .lines) ≡ some k) × (k .mark ≡ 1) × RoomShows (p .asked .counts) k m (c .room) (c .roomLeft)
+    → (p : Promised (c .question) (c .answerLeft)) × (k : Line) × (nthLine (c .line) (p .lines) ≡ some k) × (k .mark ≡ 1) × RoomShows (c .oldSheets) (p .asked .counts) k m (c .room) (c .roomLeft)
 shows-only-so = showing.shows-so
 
 -- and 16 only where the line's example is longer than the room lent or than a filling may be.
 pub long-only-so : (c : Example) → c .returned ≡ Denied LongExample
     → (p : Promised (c .question) (c .answerLeft)) × (k : Line) × (nthLine (c .line) (p .lines) ≡ some k) × (k .mark ≡ 1)
-    × ((desk .filling < length (exampleWords (p .asked .counts) k)) ⊎ (length (c .room) < length (exampleWords (p .asked .counts) k)))
+    × ((desk .filling < length (exampleWords (c .oldSheets) (p .asked .counts) k)) ⊎ (length (c .room) < length (exampleWords (c .oldSheets) (p .asked .counts) k)))
 long-only-so = showing.long-so
 
 -- After solve has answered, the lines that it left decide what the example tells of the same question, in slices that are long enough: a settled
 -- line is shown, or its example is too long (16).
 pub example-follows : (s : Solve) → outcomeNumber (s .returned .outcome) ≡ 0 → (c : Example) → s .question ≡ c .question
     → desk .room ≤ length (c .work) → desk .room ≤ length (c .answer) → (p : Promised (s .question) (s .answerLeft))
-    → Told (p .asked .counts) (c .room) (nthLine (c .line) (p .lines)) (c .returned) (c .roomLeft)
+    → Told (c .oldSheets) (p .asked .counts) (c .room) (nthLine (c .line) (p .lines)) (c .returned) (c .roomLeft)
 example-follows = showing.follows
 
 -- ---- demand 3, of a filling that is tried
@@ -137,5 +137,5 @@ desk-example-tells = hosting.example-tells
 
 -- and the lines in the bytes that desk_solve left decide what desk_example tells: 14, 15, 16, or 100 and a length, with a filling in the room that meets that very line.
 pub desk-example-follows : (s : DeskSolve) → s .number ≡ 0 → (c : DeskExample) → s .question ≡ c .question → (p : Promised (wordsIn (s .question)) (wordsOf (s .answerLeft)))
-    → BytesTold (p .asked .counts) (nthLine (c .line) (p .lines)) (c .room) (c .number) (c .roomLeft)
+    → BytesTold (asksOld (c .old)) (p .asked .counts) (nthLine (c .line) (p .lines)) (c .room) (c .number) (c .roomLeft)
 desk-example-follows = hosting.example-follows

@@ -24,6 +24,7 @@ use Rattle.example.specs.Shown.{resultOf, roomOf}
 use Rattle.example.specs.Answers.{Answer}
 use Rattle.word_bytes.specs.Bytes.{wordsOf, bytesOf, wordsIn}
 use Rattle.host.specs.Host as host
+use Rattle.host.specs.Numbers.{asksOld}
 use Rattle.host.proofs.Refusals.{each-number, InRange, in-range}
 use Rattle.word_bytes.proofs.Pairs.{length-wordsOf}
 use Rattle.demands.specs.Answers.{numberedOf, nthLine}
@@ -130,7 +131,7 @@ module _ (c : DeskExample) where
   record ToldFrom (ls : List Numbered) (n : ℕ) : Type 0 where
     answer : List ℕ
     from : From asked-for answer ls n
-    tells : BytesTold (from .promised .asked .counts) (nthLine (c .line) (from .promised .lines)) (c .room) (c .number) (c .roomLeft)
+    tells : BytesTold (asksOld (c .old)) (from .promised .asked .counts) (nthLine (c .line) (from .promised .lines)) (c .room) (c .number) (c .roomLeft)
 
   told-from : (ls : List Numbered) (n : ℕ) → solving desk (desk .room) (desk .room) asked-for ≡ answered ls n → ToldFrom ls n
   unfolding host.showingBytes showing
@@ -138,10 +139,10 @@ module _ (c : DeskExample) where
       let q = asked-for in
       let f = promise (desk .room) (desk .room) q ls n d _ (stands (desk .room) (desk .room) q [] ls n d) in
       let counts = read-declared desk q (f .promised .asked) (f .promised .question-read) .0 in
-      let t = tell (desk .room) (desk .room) q ls n d (c .line) (wordsOf (c .room)) in
-      let sh : Showing = shown desk (countsOf q) (length (c .room) / 2) (lineAt (c .line) ls) in
-      let is-sh : showingOf desk (countsOf q) (length (c .room) / 2) (c .line) (solving desk (desk .room) (desk .room) q) ≡ sh = ap (showingOf desk (countsOf q) (length (c .room) / 2) (c .line)) d in
-      let u : Told (countsOf q) (wordsOf (c .room)) (nthLine (c .line) (map asLine ls)) (resultOf sh) (roomOf sh (wordsOf (c .room))) = rw length-wordsOf at t in
+      let t = tell (desk .room) (desk .room) q ls n d (asksOld (c .old)) (c .line) (wordsOf (c .room)) in
+      let sh : Showing = shown desk (asksOld (c .old)) (countsOf q) (length (c .room) / 2) (lineAt (c .line) ls) in
+      let is-sh : showingOf desk (asksOld (c .old)) (countsOf q) (length (c .room) / 2) (c .line) (solving desk (desk .room) (desk .room) q) ≡ sh = ap (showingOf desk (asksOld (c .old)) (countsOf q) (length (c .room) / 2) (c .line)) d in
+      let u : Told (asksOld (c .old)) (countsOf q) (wordsOf (c .room)) (nthLine (c .line) (map asLine ls)) (resultOf sh) (roomOf sh (wordsOf (c .room))) = rw length-wordsOf at t in
       record {
         answer = _;
         from = f;
@@ -157,8 +158,8 @@ module _ (c : DeskExample) where
   example-tells = by (solving desk (desk .room) (desk .room) asked-for) refl (c .said .0) (c .said .1) (solve-judged (desk .room) (desk .room) asked-for)
     where
       by : (v : Solving) → solving desk (desk .room) (desk .room) asked-for ≡ v
-          → c .number ≡ host.showNumber (showingOf desk (countsOf asked-for) (length (c .room) / 2) (c .line) v)
-          → c .roomLeft ≡ host.showLeaves (showingOf desk (countsOf asked-for) (length (c .room) / 2) (c .line) v) (c .room)
+          → c .number ≡ host.showNumber (showingOf desk (asksOld (c .old)) (countsOf asked-for) (length (c .room) / 2) (c .line) v)
+          → c .roomLeft ≡ host.showLeaves (showingOf desk (asksOld (c .old)) (countsOf asked-for) (length (c .room) / 2) (c .line) v) (c .room)
           → SolveJudged (desk .room) (desk .room) asked-for v → DeskExampleTells c
       by (answered ls n) d e f j = let t = told-from ls n d in tells.told (t .answer) (t .from .promised) (t .tells)
       by (unread r) d e f j =
@@ -169,7 +170,7 @@ module _ (c : DeskExample) where
           tells.DeskExampleTells.refuses r e (b .1) j f
 
 pub example-follows : (s : DeskSolve) (z : s .number ≡ 0) (c : DeskExample) → s .question ≡ c .question → (p : Promised (wordsIn (s .question)) (wordsOf (s .answerLeft)))
-    → BytesTold (p .asked .counts) (nthLine (c .line) (p .lines)) (c .room) (c .number) (c .roomLeft)
+    → BytesTold (asksOld (c .old)) (p .asked .counts) (nthLine (c .line) (p .lines)) (c .room) (c .number) (c .roomLeft)
 example-follows s z c same p =
     let v = solves s z in
     let d : solving desk (desk .room) (desk .room) (asked-for c) ≡ answered (v .ls) (v .n) =

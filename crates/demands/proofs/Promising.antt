@@ -22,7 +22,7 @@ use Rattle.rules.specs.Step.{step}
 use Rattle.rules.specs.Solved.{solved}
 use Rattle.rules.specs.Run.{Numbered, EachLine}
 use Rattle.rules.specs.Answer.{markOf, answered, solving}
-use Rattle.rules.specs.Example.{example}
+use Rattle.rules.specs.Example.{defaultSymbol, example}
 use Rattle.rules.specs.Calls.{lineAt, Showing, shows, denied, fitted, shown}
 use Rattle.rules.specs.Each.{Each}
 use Rattle.rules.proofs.Each.{each-map}
@@ -86,7 +86,7 @@ module _ (work answer : ℕ) (question : List ℕ) (ls : List Numbered) (n : ℕ
           exact = record {
             same = λ ρ. Iff·trans (run-same desk (q .alternatives) ls n ran ρ) (meets-back ρ ls);
             numbered = λ ρ m. Iff·trans (run-numbered desk (q .alternatives) ls n ran ρ m) (numbers-back ρ m ls);
-            met = each-line-of (λ l. l .mark ≡ 1 → (ρ : Filling) × MeetsLine ρ l) Quiet (λ k quiet m. (example (k .literals), example-meets-line (k .literals) (settled-mark (k .literals) m) quiet)) ls
+            met = each-line-of (λ l. l .mark ≡ 1 → (ρ : Filling) × MeetsLine ρ l) Quiet (λ k quiet m. (example (defaultSymbol false (q .counts)) (k .literals), example-meets-line (defaultSymbol false (q .counts)) (k .literals) (settled-mark (k .literals) m) quiet)) ls
                 (lines-rest desk (q .alternatives) ls n ran);
             matched = λ m. each-line-of (λ l. l .mark ≡ 1) (λ k. solved k ≡ true) (λ k s. mark-settled (k .literals) s) ls (matching-lines-solved desk (q .alternatives) ls n ran m);
           };
@@ -97,23 +97,23 @@ module _ (work answer : ℕ) (question : List ℕ) (ls : List Numbered) (n : ℕ
 
   -- ---- the example of line i
 
-  module _ (i : ℕ) (room : List ℕ) where
+  module _ (oldSheets : Bool) (i : ℕ) (room : List ℕ) where
     abbrev Tells : Showing → Option Line → Type 0
-    Tells s l = Told (countsOf question) room l (resultOf s) (roomOf s room)
+    Tells s l = Told oldSheets (countsOf question) room l (resultOf s) (roomOf s room)
 
     fits : (k : Numbered) → lineAt i ls ≡ some k → solved (k .literals) ≡ true → (a b : Bool)
-        → ltb (desk .filling) (length (fillingWords (countsOf question) (example (k .literals)))) ≡ a → ltb (length room) (length (fillingWords (countsOf question) (example (k .literals)))) ≡ b
-        → Tells (elim (a || b) [ true ↦ denied LongExample | false ↦ shows (fillingWords (countsOf question) (example (k .literals))) ]) (some (asLine k))
+        → ltb (desk .filling) (length (fillingWords (countsOf question) (example (defaultSymbol oldSheets (countsOf question)) (k .literals)))) ≡ a → ltb (length room) (length (fillingWords (countsOf question) (example (defaultSymbol oldSheets (countsOf question)) (k .literals)))) ≡ b
+        → Tells (elim (a || b) [ true ↦ denied LongExample | false ↦ shows (fillingWords (countsOf question) (example (defaultSymbol oldSheets (countsOf question)) (k .literals))) ]) (some (asLine k))
     fits k there s true b x y = too-long (asLine k) refl (mark-settled (k .literals) s) (inl (ltb-true (desk .filling) _ x)) refl refl
     fits k there s false true x y = too-long (asLine k) refl (mark-settled (k .literals) s) (inr (ltb-true (length room) _ y)) refl refl
     fits k there s false false x y =
-        let ws = fillingWords (countsOf question) (example (k .literals)) in
+        let ws = fillingWords (countsOf question) (example (defaultSymbol oldSheets (countsOf question)) (k .literals)) in
         let (q, asked, ran) = answered-run desk work answer question ls n e in
         let (counts, declared) = read-declared desk question q asked in
         let dec = each-line (λ j. declaredC (q .counts) j ≡ true) i ls k there (lines-declared (q .counts) desk (q .alternatives) ls n ran declared) in
         let quiet = each-line Quiet i ls k there (lines-rest desk (q .alternatives) ls n ran) in
         let short : length ws ≤ desk .filling = ltb-false (desk .filling) (length ws) x in
-        let (ρ, back, agree, m) = example-written desk (countsOf question) (alternativesOf question) (k .literals) (read-counts desk question q asked) (rw counts at dec) s quiet short in
+        let (ρ, back, agree, m) = example-written desk oldSheets (countsOf question) (alternativesOf question) (k .literals) (read-counts desk question q asked) (rw counts at dec) s quiet short in
         let front = take-append-seam ws (drop (length ws) room) in
         is-shown (asLine k) (length ws) refl (mark-settled (k .literals) s) refl short (ltb-false (length room) (length ws) y) refl
         (record {
@@ -126,13 +126,13 @@ module _ (work answer : ℕ) (question : List ℕ) (ls : List Numbered) (n : ℕ
         })
 
     settled : (k : Numbered) → lineAt i ls ≡ some k → (b : Bool) → solved (k .literals) ≡ b
-        → Tells (elim b [ true ↦ fitted desk (length room) (fillingWords (countsOf question) (example (k .literals))) | false ↦ denied OpenLine ]) (some (asLine k))
+        → Tells (elim b [ true ↦ fitted desk (length room) (fillingWords (countsOf question) (example (defaultSymbol oldSheets (countsOf question)) (k .literals))) | false ↦ denied OpenLine ]) (some (asLine k))
     settled k there true s = fits k there s _ _ refl refl
     settled k there false s = is-open (asLine k) refl (mark-open (k .literals) s) refl refl
 
-    at-line : (o : Option Numbered) → lineAt i ls ≡ o → Tells (shown desk (countsOf question) (length room) o) (asLineOf o)
+    at-line : (o : Option Numbered) → lineAt i ls ≡ o → Tells (shown desk oldSheets (countsOf question) (length room) o) (asLineOf o)
     at-line none there = missing refl refl refl
     at-line (some k) there = settled k there (solved (k .literals)) refl
 
-    pub tell : Tells (shown desk (countsOf question) (length room) (lineAt i ls)) (nthLine i (map asLine ls))
-    tell = subst (Tells (shown desk (countsOf question) (length room) (lineAt i ls))) (sym (nth-line i ls)) (at-line (lineAt i ls) refl)
+    pub tell : Tells (shown desk oldSheets (countsOf question) (length room) (lineAt i ls)) (nthLine i (map asLine ls))
+    tell = subst (Tells (shown desk oldSheets (countsOf question) (length room) (lineAt i ls))) (sym (nth-line i ls)) (at-line (lineAt i ls) refl)

@@ -24,5 +24,5 @@ solve-said c = leaves-told (c .returned, c .workLeft, c .answerLeft) (solving de
 pub try-said : (t : Try) → Outcome (trying desk (length (t .work)) (t .question) (t .filling)) (t .returned) (t .work) (t .workLeft)
 try-said t = outcome-told (trying desk (length (t .work)) (t .question) (t .filling)) (t .returned) (t .work) (t .workLeft) (t .said)
 
-pub example-said : (c : Example) → _≡_ {A = Shown × List ℕ × List ℕ × List ℕ} (c .returned, c .workLeft, c .answerLeft, c .roomLeft) (exhibits (c .line) (c .question) (c .work) (c .answer) (c .room))
-example-said c = exhibits-told (c .returned, c .workLeft, c .answerLeft, c .roomLeft) (c .line) (c .question) (c .work) (c .answer) (c .room) (c .said)
+pub example-said : (c : Example) → _≡_ {A = Shown × List ℕ × List ℕ × List ℕ} (c .returned, c .workLeft, c .answerLeft, c .roomLeft) (exhibits (c .line) (c .oldSheets) (c .question) (c .work) (c .answer) (c .room))
+example-said c = exhibits-told (c .returned, c .workLeft, c .answerLeft, c .roomLeft) (c .line) (c .oldSheets) (c .question) (c .work) (c .answer) (c .room) (c .said)

@@ -16,7 +16,7 @@ use Rattle.language.specs.Trees.{Counts}
 use Rattle.language.specs.Question.{countsOf}
 use Rattle.meaning.specs.Values.{fillingWords}
 use Rattle.rules.specs.Solved.{solved}
-use Rattle.rules.specs.Example.{example}
+use Rattle.rules.specs.Example.{defaultSymbol, example}
 use Rattle.rules.specs.Run.{Numbered}
 use Rattle.rules.specs.Answer.{Solving, answered, unread, given-up, solving, answerWords, zeros, overwritten}
 use Rattle.rules.specs.Calls.{lineAt, shows, denied, fitted, shown, showingOf, showing}
@@ -50,16 +50,16 @@ abbrev Left : Type 0
 Left = Shown × List ℕ × List ℕ × List ℕ
 
 -- where there is an answer, a refusal has a number from 14 on
-late-number : (n : Counts) (room : ℕ) (e : Refusal) (o : Option Numbered) → resultOf (shown desk n room o) ≡ Denied e → 14 ≤ numberOf e
-late-number n room e none d = let z : NoSuchLine ≡ e = cc in let y = ap numberOf z in omega arith
-late-number n room e (some k) d = go (solved (k .literals)) d
+late-number : (oldSheets : Bool) (n : Counts) (room : ℕ) (e : Refusal) (o : Option Numbered) → resultOf (shown desk oldSheets n room o) ≡ Denied e → 14 ≤ numberOf e
+late-number oldSheets n room e none d = let z : NoSuchLine ≡ e = cc in let y = ap numberOf z in omega arith
+late-number oldSheets n room e (some k) d = go (solved (k .literals)) d
   where
     at-room : (ws : List ℕ) (b : Bool) → resultOf (elim b [ true ↦ denied LongExample | false ↦ shows ws ]) ≡ Denied e → 14 ≤ numberOf e
     at-room ws true d = let z : LongExample ≡ e = cc in let y = ap numberOf z in omega arith
     at-room ws false d = absurd (let z : _≡_ {A = ℕ} 0 1 = cc in omega arith)
 
-    go : (b : Bool) → resultOf (elim b [ true ↦ fitted desk room (fillingWords n (example (k .literals))) | false ↦ denied OpenLine ]) ≡ Denied e → 14 ≤ numberOf e
-    go true d = at-room (fillingWords n (example (k .literals))) (ltb (desk .filling) (length (fillingWords n (example (k .literals)))) || ltb room (length (fillingWords n (example (k .literals))))) d
+    go : (b : Bool) → resultOf (elim b [ true ↦ fitted desk room (fillingWords n (example (defaultSymbol oldSheets n) (k .literals))) | false ↦ denied OpenLine ]) ≡ Denied e → 14 ≤ numberOf e
+    go true d = at-room (fillingWords n (example (defaultSymbol oldSheets n) (k .literals))) (ltb (desk .filling) (length (fillingWords n (example (defaultSymbol oldSheets n) (k .literals)))) || ltb room (length (fillingWords n (example (defaultSymbol oldSheets n) (k .literals))))) d
     go false d = let z : OpenLine ≡ e = cc in let y = ap numberOf z in omega arith
 
 module _ (c : Example) where
@@ -71,7 +71,7 @@ module _ (c : Example) where
 
   abbrev left : Solving → Left
   left v =
-      let s = showingOf desk (countsOf (c .question)) (length (c .room)) (c .line) v in
+      let s = showingOf desk (c .oldSheets) (countsOf (c .question)) (length (c .room)) (c .line) v in
       let l = leaves v (c .work) (c .answer) in
       (resultOf s, l .1, l .2, roomOf s (c .room))
 
@@ -82,7 +82,7 @@ module _ (c : Example) where
   -- an answer, and what is told of the line
   record TellsFrom (ls : List Numbered) (n : ℕ) : Type 0 where
     from : From (c .question) (c .answerLeft) ls n
-    tells : Told (from .promised .asked .counts) (c .room) (nthLine (c .line) (from .promised .lines)) (c .returned) (c .roomLeft)
+    tells : Told (c .oldSheets) (from .promised .asked .counts) (c .room) (nthLine (c .line) (from .promised .lines)) (c .returned) (c .roomLeft)
 
   tells-from : (ls : List Numbered) (n : ℕ) → comes ≡ answered ls n → came ≡ left (answered ls n) → TellsFrom ls n
   tells-from ls n d e =
@@ -91,13 +91,13 @@ module _ (c : Example) where
       let p = f .promised in
       let counts = read-declared desk (c .question) (p .asked) (p .question-read) .0 in
       let l = nthLine (c .line) (map asLine ls) in
-      let t = tell (length (c .work)) (length (c .answer)) (c .question) ls n d (c .line) (c .room) in
+      let t = tell (length (c .work)) (length (c .answer)) (c .question) ls n d (c .oldSheets) (c .line) (c .room) in
       record {
         from = f;
         tells =
             rw (f .lines, counts)
-            (subst (λ r. Told (countsOf (c .question)) (c .room) l r (c .roomLeft)) (sym (ap (λ (x : Left). x .0) e))
-            (subst (Told (countsOf (c .question)) (c .room) l (resultOf (shown desk (countsOf (c .question)) (length (c .room)) (lineAt (c .line) ls))))
+            (subst (λ r. Told (c .oldSheets) (countsOf (c .question)) (c .room) l r (c .roomLeft)) (sym (ap (λ (x : Left). x .0) e))
+            (subst (Told (c .oldSheets) (countsOf (c .question)) (c .room) l (resultOf (shown desk (c .oldSheets) (countsOf (c .question)) (length (c .room)) (lineAt (c .line) ls))))
             (sym (ap (λ (x : Left). x .3) e)) t));
       }
 
@@ -130,7 +130,7 @@ module _ (c : Example) where
       by : (v : Solving) → came ≡ left v → SolveJudged (length (c .work)) (length (c .answer)) (c .question) v
           → (c .returned ≡ Denied e) ↔ First (SolveFault (length (c .work)) (length (c .answer)) (c .question)) e
       by (answered ls n) f j = (
-        λ d. absurd (let p = late-number (countsOf (c .question)) (length (c .room)) e (lineAt (c .line) ls) (sym (ap (λ (x : Left). x .0) f) ∙ d) in omega arith),
+        λ d. absurd (let p = late-number (c .oldSheets) (countsOf (c .question)) (length (c .room)) e (lineAt (c .line) ls) (sym (ap (λ (x : Left). x .0) f) ∙ d) in omega arith),
         λ g. absurd (j e (g .here)),
       )
       by (unread r) f j = let is = ap (λ (x : Left). x .0) f in (λ d. rw (← same is d) j, λ g. is ∙ ap Denied (first-one (SolveFault (length (c .work)) (length (c .answer)) (c .question)) r e j g))
@@ -138,14 +138,14 @@ module _ (c : Example) where
 
   -- a length comes back only with a filling of so many words that meets the line asked for,
   pub shows-so : (m : ℕ) → c .returned ≡ Shows m
-      → (p : Promised (c .question) (c .answerLeft)) × (k : Line) × (nthLine (c .line) (p .lines) ≡ some k) × (k .mark ≡ 1) × RoomShows (p .asked .counts) k m (c .room) (c .roomLeft)
+      → (p : Promised (c .question) (c .answerLeft)) × (k : Line) × (nthLine (c .line) (p .lines) ≡ some k) × (k .mark ≡ 1) × RoomShows (c .oldSheets) (p .asked .counts) k m (c .room) (c .roomLeft)
   shows-so m e = by tells
     where
       no : {A : Type 0} {r : Refusal} → c .returned ≡ Denied r → A
       no d = absurd (let z : _≡_ {A = ℕ} 0 1 = cc in omega arith)
 
       by : ExampleTells c
-          → (p : Promised (c .question) (c .answerLeft)) × (k : Line) × (nthLine (c .line) (p .lines) ≡ some k) × (k .mark ≡ 1) × RoomShows (p .asked .counts) k m (c .room) (c .roomLeft)
+          → (p : Promised (c .question) (c .answerLeft)) × (k : Line) × (nthLine (c .line) (p .lines) ≡ some k) × (k .mark ≡ 1) × RoomShows (c .oldSheets) (p .asked .counts) k m (c .room) (c .roomLeft)
       by (refuses r d _ _ _ _) = no d
       by (told p (missing _ d _) _ _) = no d
       by (told p (is-open _ _ _ d _) _ _) = no d
@@ -155,12 +155,12 @@ module _ (c : Example) where
   -- and 16 only where the line is settled and its example is longer than the room lent or than a filling may be
   pub long-so : c .returned ≡ Denied LongExample
       → (p : Promised (c .question) (c .answerLeft)) × (k : Line) × (nthLine (c .line) (p .lines) ≡ some k) × (k .mark ≡ 1)
-      × ((desk .filling < length (exampleWords (p .asked .counts) k)) ⊎ (length (c .room) < length (exampleWords (p .asked .counts) k)))
+      × ((desk .filling < length (exampleWords (c .oldSheets) (p .asked .counts) k)) ⊎ (length (c .room) < length (exampleWords (c .oldSheets) (p .asked .counts) k)))
   long-so e = by tells
     where
       by : ExampleTells c
           → (p : Promised (c .question) (c .answerLeft)) × (k : Line) × (nthLine (c .line) (p .lines) ≡ some k) × (k .mark ≡ 1)
-          × ((desk .filling < length (exampleWords (p .asked .counts) k)) ⊎ (length (c .room) < length (exampleWords (p .asked .counts) k)))
+          × ((desk .filling < length (exampleWords (c .oldSheets) (p .asked .counts) k)) ⊎ (length (c .room) < length (exampleWords (c .oldSheets) (p .asked .counts) k)))
       by (refuses r d b _ _ _) = absurd (let z : r ≡ LongExample = cc in let y = ap numberOf z in omega arith)
       by (told p (missing _ d _) _ _) = absurd (let z : _≡_ {A = ℕ} 0 1 = cc in omega arith)
       by (told p (is-open _ _ _ d _) _ _) = absurd (let z : _≡_ {A = ℕ} 0 1 = cc in omega arith)
@@ -170,7 +170,7 @@ module _ (c : Example) where
 -- the lines that solve left decide what the example tells
 pub follows : (s : Solve) (z : outcomeNumber (s .returned .outcome) ≡ 0) (c : Example) → s .question ≡ c .question
     → desk .room ≤ length (c .work) → desk .room ≤ length (c .answer) → (p : Promised (s .question) (s .answerLeft))
-    → Told (p .asked .counts) (c .room) (nthLine (c .line) (p .lines)) (c .returned) (c .roomLeft)
+    → Told (c .oldSheets) (p .asked .counts) (c .room) (nthLine (c .line) (p .lines)) (c .returned) (c .roomLeft)
 follows s z c same x y p =
     let v = solves s z in
     let d : comes c ≡ answered (v .ls) (v .n) =

@@ -1,4 +1,4 @@
--- Calls on bytes that came back: desk_solve(question, answer), desk_try(question, filling), desk_example(question, line, room).
+-- Calls on bytes that came back: desk_solve(question, answer), desk_try(question, filling), desk_example(question, line, old, room).
 use Prim.Native.Nat.{ℕ}
 use mathlib.Core.Path.{_≡_}
 use mathlib.Core.List.{List}
@@ -39,17 +39,19 @@ try-allowed c = record { question = c .arguments .0 .now; filling = c .arguments
 pub record DeskExample : Type 0 where
   pub question : List ℕ
   pub line : ℕ
+  pub old : ℕ
   pub room : List ℕ
   pub number : ℕ
   pub roomLeft : List ℕ
-  pub said : (number ≡ showNumber (showingBytes desk (length room) line question)) × (roomLeft ≡ showLeaves (showingBytes desk (length room) line question) room)
+  pub said : (number ≡ showNumber (showingBytes desk (length room) line old question)) × (roomLeft ≡ showLeaves (showingBytes desk (length room) line old question) room)
 
 abbrev pub example-allowed : Call desk-example.ended desk-example.Reads.Pre desk-example.Reads.Post → DeskExample
 example-allowed c = record {
   question = c .arguments .0 .now;
   line = c .arguments .1 .0;
-  room = c .arguments .1 .1 .0 .now;
+  old = c .arguments .1 .1 .0;
+  room = c .arguments .1 .1 .1 .0 .now;
   number = c .outcome .0;
-  roomLeft = c .outcome .1 .1 .1 .0;
+  roomLeft = c .outcome .1 .1 .1 .1 .0;
   said = c .said;
 }

@@ -2,6 +2,7 @@
 use Prim.Native.Nat.{ℕ, _+_, _*_, _/_, _≤_}
 use mathlib.Core.Path.{_≡_}
 use mathlib.Core.Logic.{_⊎_}
+use mathlib.Core.Bool.{Bool}
 use mathlib.Core.List.{List, _++_}
 use mathlib.Core.Option.{Option}
 use lib.ListN.{length, drop}
@@ -15,6 +16,7 @@ use Rattle.rules.specs.Answer.{answerWords, zeros}
 use Rattle.outcomes.specs.declared.Shown.{Shown}
 use Rattle.outcomes.specs.declared.Shown.the-variants.{Shows, Denied}
 use Rattle.word_bytes.specs.Bytes.{wordsOf, bytesOf, wordsIn}
+use Rattle.host.specs.Numbers.{asksOld}
 use Rattle.demands.specs.Columns.{Column, unchanged, zeroed, as-solved, column}
 use Rattle.demands.specs.HostCalls.{DeskSolve, DeskTry, DeskExample}
 use Rattle.demands.specs.Answers.{Line, numberedOf, MeetsLines, nthLine}
@@ -51,14 +53,14 @@ hostNumber (Shows m) = 100 + m
 hostNumber (Denied r) = numberOf r
 
 -- what desk_example tells, by the line that is read off an answer's bytes
-pub record BytesTold (n : Counts) (l : Option Line) (old : List ℕ) (number : ℕ) (new : List ℕ) : Type 0 where
+pub record BytesTold (oldSheets : Bool) (n : Counts) (l : Option Line) (old : List ℕ) (number : ℕ) (new : List ℕ) : Type 0 where
   pub result : Shown
   pub is : number ≡ hostNumber result
-  pub tells : Told n (wordsOf old) l result (wordsOf new)
+  pub tells : Told oldSheets n (wordsOf old) l result (wordsOf new)
 
 -- The refusals of solving leave the room alone; and else there is an answer to the question, whose line of that number decides.
 pub data DeskExampleTells (c : DeskExample) : Type 0 where
   refuses : (e : Refusal) → c .number ≡ numberOf e → numberOf e ≤ 10 → First (SolveFault (desk .room) (desk .room) (wordsIn (c .question))) e
       → c .roomLeft ≡ c .room → DeskExampleTells c
-  told : (answer : List ℕ) (p : Promised (wordsIn (c .question)) answer) → BytesTold (p .asked .counts) (nthLine (c .line) (p .lines)) (c .room) (c .number) (c .roomLeft)
+  told : (answer : List ℕ) (p : Promised (wordsIn (c .question)) answer) → BytesTold (asksOld (c .old)) (p .asked .counts) (nthLine (c .line) (p .lines)) (c .room) (c .number) (c .roomLeft)
       → DeskExampleTells c

@@ -2,6 +2,7 @@
 use Prim.Native.Nat.{ℕ, _≤_, _<_}
 use mathlib.Core.Path.{_≡_}
 use mathlib.Core.Logic.{_⊎_, _↔_}
+use mathlib.Core.Bool.{Bool}
 use mathlib.Core.List.{List}
 use mathlib.Core.Option.{Option, none, some}
 use lib.ListN.{length, take, drop}
@@ -13,7 +14,7 @@ use Rattle.meaning.specs.Meaning.{Filling, MeetsQuestion}
 use Rattle.meaning.specs.Values.{gives, readFilling, fillingWords}
 use Rattle.rules.specs.Run.{finished, run}
 use Rattle.rules.specs.Answer.{markOf}
-use Rattle.rules.specs.Example.{example}
+use Rattle.rules.specs.Example.{defaultSymbol, example}
 use Rattle.rules.specs.Each.{Each}
 use Rattle.exact.specs.Numbers.{MeetsAt}
 use Rattle.lines.specs.Matching.{Matching}
@@ -58,25 +59,29 @@ pub record Answered (question answer : List ℕ) (r : Solved) : Type 0 where
 
 -- ---- the example of a line
 
+-- the example of a line, for old training sheets or not: free blanks take symbol 0, or the last declared one
+abbrev pub exampleOf : Bool → Counts → Line → Filling
+exampleOf oldSheets n l = example (defaultSymbol oldSheets n) (l .literals)
+
 -- its words
-abbrev pub exampleWords : Counts → Line → List ℕ
-exampleWords n l = fillingWords n (example (l .literals))
+abbrev pub exampleWords : Bool → Counts → Line → List ℕ
+exampleWords oldSheets n l = fillingWords n (exampleOf oldSheets n l)
 
 -- the room's first m words are read as a filling that meets the line, and the rest is as it was
-pub record RoomShows (n : Counts) (l : Line) (m : ℕ) (old new : List ℕ) : Type 0 where
+pub record RoomShows (oldSheets : Bool) (n : Counts) (l : Line) (m : ℕ) (old new : List ℕ) : Type 0 where
   pub filling : Filling
-  pub words : take m new ≡ exampleWords n l
+  pub words : take m new ≡ exampleWords oldSheets n l
   pub read : readFilling desk n (take m new) ≡ gives filling
-  pub agrees : Agree n filling (example (l .literals))
+  pub agrees : Agree n filling (exampleOf oldSheets n l)
   pub meets : MeetsLine filling l
   pub rest : drop m new ≡ drop m old
 
 -- What asking for the example of a line comes to, by the line that is read off the answer; the room before and after. There is no such line: 14.
 -- It is open: 15. Its example is longer than the room or than a filling may be: 16. And else the room shows it.
-pub data Told (n : Counts) (old : List ℕ) (l : Option Line) (r : Shown) (new : List ℕ) : Type 0 where
-  missing : l ≡ none → r ≡ Denied NoSuchLine → new ≡ old → Told n old l r new
-  is-open : (k : Line) → l ≡ some k → k .mark ≡ 2 → r ≡ Denied OpenLine → new ≡ old → Told n old l r new
-  too-long : (k : Line) → l ≡ some k → k .mark ≡ 1 → (desk .filling < length (exampleWords n k)) ⊎ (length old < length (exampleWords n k))
-      → r ≡ Denied LongExample → new ≡ old → Told n old l r new
-  shown : (k : Line) (m : ℕ) → l ≡ some k → k .mark ≡ 1 → m ≡ length (exampleWords n k) → m ≤ desk .filling → m ≤ length old
-      → r ≡ Shows m → RoomShows n k m old new → Told n old l r new
+pub data Told (oldSheets : Bool) (n : Counts) (old : List ℕ) (l : Option Line) (r : Shown) (new : List ℕ) : Type 0 where
+  missing : l ≡ none → r ≡ Denied NoSuchLine → new ≡ old → Told oldSheets n old l r new
+  is-open : (k : Line) → l ≡ some k → k .mark ≡ 2 → r ≡ Denied OpenLine → new ≡ old → Told oldSheets n old l r new
+  too-long : (k : Line) → l ≡ some k → k .mark ≡ 1 → (desk .filling < length (exampleWords oldSheets n k)) ⊎ (length old < length (exampleWords oldSheets n k))
+      → r ≡ Denied LongExample → new ≡ old → Told oldSheets n old l r new
+  shown : (k : Line) (m : ℕ) → l ≡ some k → k .mark ≡ 1 → m ≡ length (exampleWords oldSheets n k) → m ≤ desk .filling → m ≤ length old
+      → r ≡ Shows m → RoomShows oldSheets n k m old new → Told oldSheets n old l r new

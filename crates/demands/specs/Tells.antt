@@ -51,7 +51,7 @@ pub data ExampleTells (c : Example) : Type 0 where
   refuses : (e : Refusal) → c .returned ≡ Denied e → (1 ≤ numberOf e) × (numberOf e ≤ 10)
       → c .workLeft ≡ leftIn (column e) (overwritten desk (zeros desk) (c .work)) (c .work) → c .answerLeft ≡ leftIn (column e) (overwritten desk (zeros desk) (c .answer)) (c .answer)
       → c .roomLeft ≡ c .room → ExampleTells c
-  told : (p : Promised (c .question) (c .answerLeft)) → Told (p .asked .counts) (c .room) (nthLine (c .line) (p .lines)) (c .returned) (c .roomLeft)
+  told : (p : Promised (c .question) (c .answerLeft)) → Told (c .oldSheets) (p .asked .counts) (c .room) (nthLine (c .line) (p .lines)) (c .returned) (c .roomLeft)
       → c .workLeft ≡ overwritten desk (zeros desk) (c .work) → c .answerLeft ≡ overwritten desk (answerWords desk (numberedOf (p .lines))) (c .answer) → ExampleTells c
 
 -- yes and no are what the lines say of the filling that these words are

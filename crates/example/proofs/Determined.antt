@@ -13,5 +13,5 @@ Told = (ℕ × ℕ) × List ℕ × List ℕ × List ℕ
 -- what comes back, and what the two slices and the room then hold
 example-determined : Determined example.ended example.Reads.Pre example.Reads.Post
 example-determined κs a p o q e d =
-    let f : _≡_ {A = Told} (shownNumbers (o .0), o .1 .1 .1 .0, o .1 .1 .1 .1 .0, o .1 .1 .1 .1 .1 .0) (shownNumbers (q .0), q .1 .1 .1 .0, q .1 .1 .1 .1 .0, q .1 .1 .1 .1 .1 .0) = e ∙ sym d in
-    ap (λ z. (z, o .1)) (shown-apart (o .0) (q .0) (ap (λ (t : Told). t .0) f)) ∙ ap (λ (t : Told). (q .0, (tt, (tt, (t .1, (t .2, (t .3, tt))))))) f
+    let f : _≡_ {A = Told} (shownNumbers (o .0), o .1 .1 .1 .1 .0, o .1 .1 .1 .1 .1 .0, o .1 .1 .1 .1 .1 .1 .0) (shownNumbers (q .0), q .1 .1 .1 .1 .0, q .1 .1 .1 .1 .1 .0, q .1 .1 .1 .1 .1 .1 .0) = e ∙ sym d in
+    ap (λ z. (z, o .1)) (shown-apart (o .0) (q .0) (ap (λ (t : Told). t .0) f)) ∙ ap (λ (t : Told). (q .0, (tt, (tt, (tt, (t .1, (t .2, (t .3, tt)))))))) f

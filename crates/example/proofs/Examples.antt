@@ -7,6 +7,7 @@ use mathlib.Core.Option.{Option, none, some}
 use lib.Dec.{T}
 use Rattle.language.specs.declared.TermVar.{TermVar}
 use Rattle.language.specs.declared.FunVar.{FunVar}
+use Rattle.language.specs.declared.Sym.{Sym}
 use Rattle.language.specs.Trees.{symbol, fvar, Hedge, ε, tvar, hvar, node, Literal, eqn, mem, Conj, Counts, Var, tv, hv, fv, eqV, holds, inLiteral, inConj}
 use Rattle.meaning.specs.Complete.{Complete, nil, tree, completeWords}
 use Rattle.meaning.specs.Meaning.{fill}
@@ -60,31 +61,31 @@ bound-formed v before (l ∷ behind) =
 
 -- ---- and so has its value
 
-module _ (c : Conj) where
+module _ (any : Sym) (c : Conj) where
   abbrev One : Complete → Type 0
   One g = g ≡ tree (rootOf g) (childrenOf g) nil
 
   abbrev Bare : Complete → Type 0
   Bare g = g ≡ tree (rootOf g) nil nil
 
-  term-one : (h : Hedge) → T (isTerm h) → One (fill (of (unsolved c)) h)
+  term-one : (h : Hedge) → T (isTerm h) → One (fill (of (unsolved any c)) h)
   term-one ε e = absurd e
   term-one (tvar x r) e = rw (empty-is r e) refl
   term-one (hvar p r) e = absurd e
   term-one (node F d r) e = rw (empty-is r e) refl
 
-  functor-bare : (h : Hedge) → T (isFunctor h) → Bare (fill (of (unsolved c)) h)
+  functor-bare : (h : Hedge) → T (isFunctor h) → Bare (fill (of (unsolved any c)) h)
   functor-bare ε e = absurd e
   functor-bare (tvar x r) e = absurd e
   functor-bare (hvar p r) e = absurd e
   functor-bare (node F d r) e = let (a, b) = and-parts (empty d) (empty r) e in rw (empty-is d a, empty-is r b) refl
 
   module _ (t : Settled c) where
-    followed-one : (x : TermVar) (m : Option Hedge) → Where (Formed (tv x)) m → One (followed c (tv x) m)
-    followed-one x none f = single c t x
+    followed-one : (x : TermVar) (m : Option Hedge) → Where (Formed (tv x)) m → One (followed any c (tv x) m)
+    followed-one x none f = single any c t x
     followed-one x (some h) f = term-one h f
 
-    followed-bare : (X : FunVar) (m : Option Hedge) → Where (Formed (fv X)) m → Bare (followed c (fv X) m)
+    followed-bare : (X : FunVar) (m : Option Hedge) → Where (Formed (fv X)) m → Bare (followed any c (fv X) m)
     followed-bare X none f = rw (t .names X) refl
     followed-bare X (some h) f = functor-bare h f
 
@@ -98,18 +99,18 @@ module _ (c : Conj) where
     three x y z {u} {v} {w} d e f =
         map-append completeWords x (y ++ z) ∙ ap (λ l. l ++ map completeWords (y ++ z)) d ∙ ap (λ l. u ++ l) (map-append completeWords y z ∙ ap (λ l. l ++ map completeWords z) e ∙ ap (λ l. v ++ l) f)
 
-    pub values-example : (n : Counts) → map completeWords (valuesIn n (example c)) ≡ valuesOf c n
+    pub values-example : (n : Counts) → map completeWords (valuesIn n (example any c)) ≡ valuesOf any c n
     unfolding example valuesOf valuesBy valueWords
     values-example n =
-        three (map (λ x. tree (example c .root (record { 0 = x })) (example c .children (record { 0 = x })) nil) (numbers 0 (n .terms)))
-        (map (λ p. example c .run (record { 0 = p })) (numbers 0 (n .hedges)))
-        (map (λ X. tree (example c .name (record { 0 = X })) nil nil) (numbers 0 (n .functions)))
-        (map-same (λ x. tree (example c .root (record { 0 = x })) (example c .children (record { 0 = x })) nil) (λ x. valueWords c (tv (record { 0 = x })))
+        three (map (λ x. tree (example any c .root (record { 0 = x })) (example any c .children (record { 0 = x })) nil) (numbers 0 (n .terms)))
+        (map (λ p. example any c .run (record { 0 = p })) (numbers 0 (n .hedges)))
+        (map (λ X. tree (example any c .name (record { 0 = X })) nil nil) (numbers 0 (n .functions)))
+        (map-same (λ x. tree (example any c .root (record { 0 = x })) (example any c .children (record { 0 = x })) nil) (λ x. valueWords any c (tv (record { 0 = x })))
         (λ x. ap completeWords (sym (followed-one (record { 0 = x }) (bound (tv (record { 0 = x })) [] c) (bound-formed (tv (record { 0 = x })) [] c)))) (numbers 0 (n .terms)))
-        (map-same (λ p. example c .run (record { 0 = p })) (λ p. valueWords c (hv (record { 0 = p }))) (λ p. refl) (numbers 0 (n .hedges)))
-        (map-same (λ X. tree (example c .name (record { 0 = X })) nil nil) (λ X. valueWords c (fv (record { 0 = X })))
+        (map-same (λ p. example any c .run (record { 0 = p })) (λ p. valueWords any c (hv (record { 0 = p }))) (λ p. refl) (numbers 0 (n .hedges)))
+        (map-same (λ X. tree (example any c .name (record { 0 = X })) nil nil) (λ X. valueWords any c (fv (record { 0 = X })))
         (λ X. ap completeWords (sym (followed-bare (record { 0 = X }) (bound (fv (record { 0 = X })) [] c) (bound-formed (fv (record { 0 = X })) [] c)))) (numbers 0 (n .functions)))
 
-    pub filling-words : (n : Counts) → fillingWords n (example c) ≡ tableOf c n ++ joined (valuesOf c n)
+    pub filling-words : (n : Counts) → fillingWords n (example any c) ≡ tableOf any c n ++ joined (valuesOf any c n)
     unfolding fillingWords tableOf
     filling-words n = ap (λ vs. variables n ∷ (offsetsOf (variables n + 2) vs ++ joined vs)) (values-example n)

@@ -1,6 +1,7 @@
 -- An example is what `showing` says: after a refusal nothing is shown, and else the line of the answer is.
 use Prim.Native.Nat.{ℕ}
 use mathlib.Core.Path.{_≡_, refl, sym, ap, _∙_}
+use mathlib.Core.Bool.{Bool}
 use mathlib.Core.List.{List, [], _∷_}
 use native.Mathlib.Omega.{arith}
 use types.Run.{OneOf, miss}
@@ -46,15 +47,15 @@ same-refusal e = cc
 abbrev Left : Type 0
 Left = Solved × List ℕ × List ℕ
 
-module _ (question work answer room : List ℕ) (line : ℕ) where
+module _ (question work answer room : List ℕ) (line : ℕ) (oldSheets : Bool) where
   -- what comes to be, by what solving comes to
   exhibited : Solving → Shown × List ℕ × List ℕ × List ℕ
   exhibited v =
-      let s = showingOf desk (countsOf question) (length room) line v in
+      let s = showingOf desk oldSheets (countsOf question) (length room) line v in
       let l = leaves v work answer in
       (resultOf s, l .1, l .2, roomOf s room)
 
-  exhibits-is : exhibits line question work answer room ≡ exhibited (solving desk (length work) (length answer) question)
+  exhibits-is : exhibits line oldSheets question work answer room ≡ exhibited (solving desk (length work) (length answer) question)
   unfolding exhibits exhibited showing
   exhibits-is = refl
 
@@ -76,10 +77,10 @@ module _ (question work answer : List ℕ) (s : Solved) {w a : List ℕ} (solved
   left : _≡_ {A = Left} (s, w, a) (leaves (solving desk (length work) (length answer) question) work answer)
   left = leaves-told (s, w, a) (solving desk (length work) (length answer) question) work answer solved
 
-  pub shown-refused : (room : List ℕ) (line : ℕ) {r : Refusal} → s .outcome ≡ Refused r → (shownNumbers (Denied r), w, a, room) ≡ toldExhibits line question work answer room
-  shown-refused room line {r} d =
-      told-exhibits (Denied r, w, a, room) line question work answer room
-      (refused-by question work answer room line (solving desk (length work) (length answer) question) (s, w, a) r left d ∙ sym (exhibits-is question work answer room line))
+  pub shown-refused : (room : List ℕ) (line : ℕ) (oldSheets : Bool) {r : Refusal} → s .outcome ≡ Refused r → (shownNumbers (Denied r), w, a, room) ≡ toldExhibits line oldSheets question work answer room
+  shown-refused room line oldSheets {r} d =
+      told-exhibits (Denied r, w, a, room) line oldSheets question work answer room
+      (refused-by question work answer room line oldSheets (solving desk (length work) (length answer) question) (s, w, a) r left d ∙ sym (exhibits-is question work answer room line oldSheets))
 
   answers : ((r : Refusal) → s .outcome ≡ Refused r → ⊥) → Answers question (length work) (length answer) a
   unfolding Answers
@@ -99,13 +100,13 @@ module _ (question work answer : List ℕ) (s : Solved) {w a : List ℕ} (solved
         let (ls, n, d, g) = answers (not-refused (s .outcome) m) in
         (lines-end (length work) (length answer) question ls n d .ranged, record { ls = ls; is = g })
 
-    pub shown-answer : (room : List ℕ) (line : ℕ) {new : List ℕ} {r : Shown} → AnswerShown question line a room new r → (shownNumbers r, w, a, new) ≡ toldExhibits line question work answer room
+    pub shown-answer : (room : List ℕ) (line : ℕ) (oldSheets : Bool) {new : List ℕ} {r : Shown} → AnswerShown question line oldSheets a room new r → (shownNumbers r, w, a, new) ≡ toldExhibits line oldSheets question work answer room
     unfolding Answers exhibited
-    shown-answer room line {new} {r} h =
+    shown-answer room line oldSheets {new} {r} h =
         let (ls, n, d, g) = answers (not-refused (s .outcome) m) in
         let x = h .result ls g in
         let y = h .room ls g in
-        told-exhibits (r, w, a, new) line question work answer room
-        (ap (λ z. (z, w, a, new)) x ∙ ap (λ z. (resultOf (shown desk (countsOf question) (length room) (lineAt line ls)), w, a, z)) y
-        ∙ ap (λ (z : Left). (resultOf (shown desk (countsOf question) (length room) (lineAt line ls)), z .1, z .2, roomOf (shown desk (countsOf question) (length room) (lineAt line ls)) room)) (left ∙ ap (λ v. leaves v work answer) d)
-        ∙ ap (exhibited question work answer room line) (sym d) ∙ sym (exhibits-is question work answer room line))
+        told-exhibits (r, w, a, new) line oldSheets question work answer room
+        (ap (λ z. (z, w, a, new)) x ∙ ap (λ z. (resultOf (shown desk oldSheets (countsOf question) (length room) (lineAt line ls)), w, a, z)) y
+        ∙ ap (λ (z : Left). (resultOf (shown desk oldSheets (countsOf question) (length room) (lineAt line ls)), z .1, z .2, roomOf (shown desk oldSheets (countsOf question) (length room) (lineAt line ls)) room)) (left ∙ ap (λ v. leaves v work answer) d)
+        ∙ ap (exhibited question work answer room line oldSheets) (sym d) ∙ sym (exhibits-is question work answer room line oldSheets))

@@ -110,7 +110,7 @@ lines-end work answer question ls n e =
     let f = both-true (leb (length ls) (desk .lines)) (leb (linesAt desk + linesSize ls) (desk .room)) (lines-fit (q .alternatives) ls n ran) in
     let l = r .long in
     record {
-      ranged = record { header = omega arith; terms = r .terms; hedges = r .hedges; functions = r .functions };
+      ranged = record { header = omega arith; named = r .symbol; symbols = r .symbols; terms = r .terms; hedges = r .hedges; functions = r .functions };
       few = leb-true _ _ (f .0);
       size = leb-true _ _ (f .1);
       lines = each-good (countsOf question) (r .symbols) (r .terms) (r .hedges) (r .functions) ls (answer-declared desk work answer question ls n e) (lines-settled desk (q .alternatives) ls n ran);

@@ -3,6 +3,7 @@ pub mod Tables
 pub mod Examples
 pub mod Writing
 pub mod Lines
+pub mod Defaults
 pub mod Reading
 pub mod Settling
 pub mod Finished

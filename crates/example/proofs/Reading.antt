@@ -7,6 +7,7 @@ use native.Mathlib.Omega.{arith}
 use lib.ListN.{length, getD, take, drop}
 use lib.Seq.{take-append-seam}
 use Rattle.language.specs.declared.Refusal.the-variants.{NoSuchLine, OpenLine}
+use Rattle.language.specs.declared.Sym.{Sym}
 use Rattle.language.specs.Kinds.{pick}
 use Rattle.language.specs.Limits.{desk}
 use Rattle.language.specs.Trees.{Conj, Counts}
@@ -16,7 +17,7 @@ use Rattle.meaning.specs.Values.{fillingWords}
 use Rattle.rules.specs.Solved.{solved}
 use Rattle.rules.specs.Run.{Numbered}
 use Rattle.rules.specs.Answer.{markOf, lineWords}
-use Rattle.rules.specs.Example.{example}
+use Rattle.rules.specs.Example.{defaultSymbol, example}
 use Rattle.rules.specs.Calls.{Showing, denied, fitted, shown}
 use Rattle.answers.specs.Lined.{lineHead}
 use Rattle.values.specs.Lines.{Line}
@@ -31,12 +32,15 @@ use Rattle.example.proofs.Lines.{no-line, Place, whole, count-is, place
 
 -- ---- with the variables that the question declares
 
-pub words-shown : {question k old new : List ℕ} {terms hedges functions : ℕ} {r : Shown} → terms ≡ getD question 1 0 → hedges ≡ getD question 2 0 → functions ≡ getD question 3 0
-    → LineShown k terms hedges functions old new r → WordsShown question k old new r
-words-shown {question} d e f s = record {
-  result = λ c l t. s .result c (countsOf question) l t (record { terms = sym d; hedges = sym e; functions = sym f });
-  room = λ c l t. s .room c (countsOf question) l t (record { terms = sym d; hedges = sym e; functions = sym f });
+pub words-shown : {question k old new : List ℕ} {oldSheets : Bool} {terms hedges functions : ℕ} {any : Sym} {r : Shown} → terms ≡ getD question 1 0 → hedges ≡ getD question 2 0 → functions ≡ getD question 3 0
+    → any ≡ defaultSymbol oldSheets (countsOf question) → LineShown k terms hedges functions any old new r → WordsShown question oldSheets k old new r
+words-shown {question} {old = old} d e f g s = record {
+  result = λ c l t. s .result c (countsOf question) l t (record { terms = sym d; hedges = sym e; functions = sym f }) ∙ ap (λ z. resultOf (filled z c)) g;
+  room = λ c l t. s .room c (countsOf question) l t (record { terms = sym d; hedges = sym e; functions = sym f }) ∙ ap (λ z. roomOf (filled z c) old) g;
 }
+  where
+    filled : Sym → Conj → Showing
+    filled any c = fitted desk (length old) (fillingWords (countsOf question) (example any c))
 
 -- ---- by its mark
 
@@ -49,8 +53,8 @@ by-other true n = absurd (n refl)
 by-other false n = refl
 
 -- what is shown of a line, by whether it is solved
-abbrev by-solved : Counts → ℕ → Conj → Bool → Showing
-by-solved n room c b = elim b [ true ↦ fitted desk room (fillingWords n (example c)) | false ↦ denied OpenLine ]
+abbrev by-solved : Bool → Counts → ℕ → Conj → Bool → Showing
+by-solved oldSheets n room c b = elim b [ true ↦ fitted desk room (fillingWords n (example (defaultSymbol oldSheets n) c)) | false ↦ denied OpenLine ]
 
 mark-is : (answer : List ℕ) (from mark : ℕ) → mark ≡ getD answer from 0 → (c : Numbered) (beyond : List ℕ) → drop from answer ≡ lineWords c ++ beyond → mark ≡ pick (solved (c .literals)) 1 2
 mark-is answer from mark m c beyond e = m ∙ word-of answer from (lineWords c ++ beyond) e
@@ -75,24 +79,24 @@ part-settled {answer} {from} {to} {mark} m z l = record {
   settled = l .good .settled (is-solved answer from mark m z (l .c) (l .beyond) (l .here));
 }
 
-module _ {question answer old : List ℕ} {from to mark : ℕ} (m : mark ≡ getD answer from 0) where
-  pub part-open : (mark ≡ 1 → ⊥) → PartShown question answer from to old old (Denied OpenLine)
+module _ {question : List ℕ} {oldSheets : Bool} {answer old : List ℕ} {from to mark : ℕ} (m : mark ≡ getD answer from 0) where
+  pub part-open : (mark ≡ 1 → ⊥) → PartShown question oldSheets answer from to old old (Denied OpenLine)
   part-open n = record {
-    result = λ c beyond e d g. ap (λ b. resultOf (by-solved (countsOf question) (length old) (c .literals) b)) (sym (is-open c beyond e));
-    room = λ c beyond e d g. ap (λ b. roomOf (by-solved (countsOf question) (length old) (c .literals) b) old) (sym (is-open c beyond e));
+    result = λ c beyond e d g. ap (λ b. resultOf (by-solved oldSheets (countsOf question) (length old) (c .literals) b)) (sym (is-open c beyond e));
+    room = λ c beyond e d g. ap (λ b. roomOf (by-solved oldSheets (countsOf question) (length old) (c .literals) b) old) (sym (is-open c beyond e));
   }
     where
       is-open : (c : Numbered) (beyond : List ℕ) → drop from answer ≡ lineWords c ++ beyond → solved (c .literals) ≡ false
       is-open c beyond e = by-other (solved (c .literals)) (λ z. n (mark-is answer from mark m c beyond e ∙ z))
 
-  pub part-shown : {new : List ℕ} {r : Shown} → mark ≡ 1 → WordsShown question (take (to - (from + lineHead)) (drop (from + lineHead) answer)) old new r → PartShown question answer from to old new r
+  pub part-shown : {new : List ℕ} {r : Shown} → mark ≡ 1 → WordsShown question oldSheets (take (to - (from + lineHead)) (drop (from + lineHead) answer)) old new r → PartShown question oldSheets answer from to old new r
   part-shown z s = record {
     result = λ c beyond e d g.
         let y = is-solved answer from mark m z c beyond e in
-        s .result (c .literals) (line-of answer from to c beyond e d g) (g .settled y) ∙ ap (λ b. resultOf (by-solved (countsOf question) (length old) (c .literals) b)) (sym y);
+        s .result (c .literals) (line-of answer from to c beyond e d g) (g .settled y) ∙ ap (λ b. resultOf (by-solved oldSheets (countsOf question) (length old) (c .literals) b)) (sym y);
     room = λ c beyond e d g.
         let y = is-solved answer from mark m z c beyond e in
-        s .room (c .literals) (line-of answer from to c beyond e d g) (g .settled y) ∙ ap (λ b. roomOf (by-solved (countsOf question) (length old) (c .literals) b) old) (sym y);
+        s .room (c .literals) (line-of answer from to c beyond e d g) (g .settled y) ∙ ap (λ b. roomOf (by-solved oldSheets (countsOf question) (length old) (c .literals) b) old) (sym y);
   }
 
 -- ---- by its number
@@ -101,10 +105,10 @@ module _ {answer : List ℕ} {lines w : ℕ} (d : w ≡ getD answer 0 0) (e : li
   count : (ls : List Numbered) → Answer answer ls → lines ≡ length ls
   count ls a = e ∙ d ∙ count-is a
 
-  pub line-missing : {question old : List ℕ} {line : ℕ} → lines ≤ line → AnswerShown question line answer old old (Denied NoSuchLine)
-  line-missing {question} {old} {line} p = record {
-    result = λ ls a. let n = count ls a in ap (λ m. resultOf (shown desk (countsOf question) (length old) m)) (sym (no-line ls line (omega arith)));
-    room = λ ls a. let n = count ls a in ap (λ m. roomOf (shown desk (countsOf question) (length old) m) old) (sym (no-line ls line (omega arith)));
+  pub line-missing : {question : List ℕ} {oldSheets : Bool} {old : List ℕ} {line : ℕ} → lines ≤ line → AnswerShown question line oldSheets answer old old (Denied NoSuchLine)
+  line-missing {question} {oldSheets} {old} {line} p = record {
+    result = λ ls a. let n = count ls a in ap (λ m. resultOf (shown desk oldSheets (countsOf question) (length old) m)) (sym (no-line ls line (omega arith)));
+    room = λ ls a. let n = count ls a in ap (λ m. roomOf (shown desk oldSheets (countsOf question) (length old) m) old) (sym (no-line ls line (omega arith)));
   }
 
   module _ {line from to u v : ℕ} (f : u ≡ getD answer (line + 2) 0) (g : from ≡ u) (h : v ≡ getD answer (line + 3) 0) (i : to ≡ v) (p : line < lines) where
@@ -122,16 +126,16 @@ module _ {answer : List ℕ} {lines w : ℕ} (d : w ≡ getD answer 0 0) (e : li
         let t = i ∙ h ∙ q .next in
         (omega arith, omega arith, omega arith, record { c = q .l; beyond = q .beyond; here = ap (λ j. drop j answer) d ∙ q .here; end = omega arith; good = q .good })
 
-    pub line-shown : {question old new : List ℕ} {r : Shown} → PartShown question answer from to old new r → AnswerShown question line answer old new r
-    line-shown {question} {old} s = record {
+    pub line-shown : {question : List ℕ} {oldSheets : Bool} {old new : List ℕ} {r : Shown} → PartShown question oldSheets answer from to old new r → AnswerShown question line oldSheets answer old new r
+    line-shown {question} {oldSheets} {old} s = record {
       result = λ ls a.
           let q = place ls a in
           let x = g ∙ f ∙ q .offset in
           let y = i ∙ h ∙ q .next in
-          s .result (q .l) (q .beyond) (ap (λ j. drop j answer) x ∙ q .here) (omega arith) (q .good) ∙ ap (λ m. resultOf (shown desk (countsOf question) (length old) m)) (sym (q .is));
+          s .result (q .l) (q .beyond) (ap (λ j. drop j answer) x ∙ q .here) (omega arith) (q .good) ∙ ap (λ m. resultOf (shown desk oldSheets (countsOf question) (length old) m)) (sym (q .is));
       room = λ ls a.
           let q = place ls a in
           let x = g ∙ f ∙ q .offset in
           let y = i ∙ h ∙ q .next in
-          s .room (q .l) (q .beyond) (ap (λ j. drop j answer) x ∙ q .here) (omega arith) (q .good) ∙ ap (λ m. roomOf (shown desk (countsOf question) (length old) m) old) (sym (q .is));
+          s .room (q .l) (q .beyond) (ap (λ j. drop j answer) x ∙ q .here) (omega arith) (q .good) ∙ ap (λ m. roomOf (shown desk oldSheets (countsOf question) (length old) m) old) (sym (q .is));
     }

@@ -5,6 +5,7 @@ use mathlib.Core.List.{List, [], _∷_, _++_, append-assoc}
 use native.Mathlib.Omega.{arith}
 use lib.ListN.{length, length-append, length-map}
 use Rattle.meaning.specs.Values.{offsetsOf, joined, numbers}
+use Rattle.language.specs.declared.Sym.{Sym}
 use Rattle.language.specs.Trees.{Conj, Var}
 use Rattle.example.specs.Rows.{valuesBy, starts}
 
@@ -34,6 +35,6 @@ length-numbers : (from n : ℕ) → length (numbers from n) ≡ n
 length-numbers from zero = refl
 length-numbers from (suc n) = ap suc (length-numbers (suc from) n)
 
-pub length-values : (c : Conj) (make : ℕ → Var) (n : ℕ) → length (valuesBy c make 0 n) ≡ n
+pub length-values : (any : Sym) (c : Conj) (make : ℕ → Var) (n : ℕ) → length (valuesBy any c make 0 n) ≡ n
 unfolding valuesBy
-length-values c make n = length-map (numbers 0 n) _ ∙ length-numbers 0 n
+length-values any c make n = length-map (numbers 0 n) _ ∙ length-numbers 0 n

@@ -1,10 +1,12 @@
 // The example of a line, written as a filling: a table of offsets, and the values of the variables.
 mod sorts;
 
-ghost use Prim.Native.Nat.{_+_, _≤_};
+ghost use Prim.Native.Nat.{_+_, _<_, _≤_};
 ghost use lib.ListN.{length};
 ghost use mathlib.Core.Path.{_≡_};
 ghost use Rattle.language.specs.Limits.{desk};
+ghost use Rattle.language.specs.Trees.{Counts};
+ghost use Rattle.rules.specs.Example.{defaultSymbol};
 ghost use Rattle.outcomes.specs.Numbers.{shownNumbers};
 ghost use Rattle.answers.specs.Lined.{lineHead};
 ghost use Rattle.values.specs.Values.{SettledLine};
@@ -13,6 +15,7 @@ ghost use Rattle.example.specs.Answers.{Ranged, Answered, LineIn, WordsS
 ghost use Rattle.example.specs.Fillings.{FillingLength, TableWritten, ValuesWritten, LineShown};
 use answers::LINE_HEAD;
 use language::Refusal;
+use language::Sym;
 use language::limits::FILLING;
 use language::wide;
 use outcomes::Outcome;
@@ -56,21 +59,29 @@ fn write_all(
     terms: usize,
     hedges: usize,
     functions: usize,
+    any: Sym,
     room: &mut [u16],
     at: usize,
 ) -> usize
-    requires { ⌜ (terms ≤ desk .each) × (hedges ≤ desk .each) × (functions ≤ desk .each) × SettledLine (now k) ⌝ }
-    ensures { λ e. ⌜ ValuesWritten (now (k .entry)) terms hedges functions (now (room .entry)) at (now (room .exit)) e ⌝ }
+    requires { ⌜ (terms ≤ desk .each) × (hedges ≤ desk .each) × (functions ≤ desk .each) × SettledLine (now k) × (any .0 < desk .each) ⌝ }
+    ensures { λ e. ⌜ ValuesWritten (now (k .entry)) terms hedges functions any (now (room .entry)) at (now (room .exit)) e ⌝ }
 {
-    let s = write_values(k, Sort::Terms, terms, room, at);
-    let t = write_values(k, Sort::Runs, hedges, room, s);
-    write_values(k, Sort::Functions, functions, room, t)
+    let s = write_values(k, Sort::Terms, terms, any, room, at);
+    let t = write_values(k, Sort::Runs, hedges, any, room, s);
+    write_values(k, Sort::Functions, functions, any, room, t)
 }
 
-// The example of a line, where it has room.
-fn fill_line(k: &[u16], terms: usize, hedges: usize, functions: usize, room: &mut [u16]) -> Shown
-    requires { ⌜ (length (now k) ≤ 65536) × (terms ≤ desk .each) × (hedges ≤ desk .each) × (functions ≤ desk .each) × SettledLine (now k) ⌝ }
-    ensures { λ r. ⌜ LineShown (now (k .entry)) terms hedges functions (now (room .entry)) (now (room .exit)) r ⌝ }
+// The example of a line, where it has room. Free blanks take the symbol `any`.
+fn fill_line(
+    k: &[u16],
+    terms: usize,
+    hedges: usize,
+    functions: usize,
+    any: Sym,
+    room: &mut [u16],
+) -> Shown
+    requires { ⌜ (length (now k) ≤ 65536) × (terms ≤ desk .each) × (hedges ≤ desk .each) × (functions ≤ desk .each) × SettledLine (now k) × (any .0 < desk .each) ⌝ }
+    ensures { λ r. ⌜ LineShown (now (k .entry)) terms hedges functions any (now (room .entry)) (now (room .exit)) r ⌝ }
 {
     let n = filling_len(k, terms, hedges, functions);
     if FILLING < n {
@@ -80,37 +91,54 @@ fn fill_line(k: &[u16], terms: usize, hedges: usize, functions: usize, room: &mu
         return Shown::Denied(Refusal::LongExample);
     }
     let e = write_table(k, terms, hedges, functions, room);
-    write_all(k, terms, hedges, functions, room, e);
+    write_all(k, terms, hedges, functions, any, room, e);
     Shown::Shows(n)
 }
 
-// The example of the line that these words are, with the variables that a question declares.
-fn show_words(question: &[u16], k: &[u16], room: &mut [u16]) -> Shown
+// The symbol that free blanks take: the last declared one, and for old training sheets the first.
+fn default_symbol(symbols: u16, old: bool) -> Sym
+    requires { ⌜ 0 < symbols ⌝ }
+    ensures { λ r. ⌜ (r .0 < symbols) × ((n : Counts) → n .symbols ≡ symbols → r ≡ defaultSymbol old n) ⌝ }
+{
+    let last = symbols - 1;
+    if old { Sym(0) } else { Sym(last) }
+}
+
+// The example of the line that these words are, with the symbols and the variables that a question declares.
+fn show_words(question: &[u16], old: bool, k: &[u16], room: &mut [u16]) -> Shown
     requires { ⌜ Ranged (now question) × (length (now k) ≤ 65536) × SettledLine (now k) ⌝ }
-    ensures { λ r. ⌜ WordsShown (now (question .entry)) (now (k .entry)) (now (room .entry)) (now (room .exit)) r ⌝ }
+    ensures { λ r. ⌜ WordsShown (now (question .entry)) old (now (k .entry)) (now (room .entry)) (now (room .exit)) r ⌝ }
 {
     let terms = wide(question[1]);
     let hedges = wide(question[2]);
     let functions = wide(question[3]);
-    fill_line(k, terms, hedges, functions, room)
+    let any = default_symbol(question[0], old);
+    fill_line(k, terms, hedges, functions, any, room)
 }
 
 // The example of the line that stands in a part of an answer, its mark first and then its number.
-fn show_part(question: &[u16], answer: &[u16], from: usize, to: usize, room: &mut [u16]) -> Shown
+fn show_part(
+    question: &[u16],
+    old: bool,
+    answer: &[u16],
+    from: usize,
+    to: usize,
+    room: &mut [u16],
+) -> Shown
     requires { ⌜ Ranged (now question) × (from + lineHead ≤ to) × (to ≤ length (now answer)) × (to ≤ 65536) × LineIn (now answer) from to ⌝ }
-    ensures { λ r. ⌜ PartShown (now (question .entry)) (now (answer .entry)) from to (now (room .entry)) (now (room .exit)) r ⌝ }
+    ensures { λ r. ⌜ PartShown (now (question .entry)) old (now (answer .entry)) from to (now (room .entry)) (now (room .exit)) r ⌝ }
 {
     let mark = word(answer, from);
     if mark != 1 {
         return Shown::Denied(Refusal::OpenLine);
     }
-    show_words(question, &answer[from + LINE_HEAD..to], room)
+    show_words(question, old, &answer[from + LINE_HEAD..to], room)
 }
 
 // The example of a line of an answer, read where it stands.
-fn show_line(question: &[u16], line: usize, answer: &[u16], room: &mut [u16]) -> Shown
+fn show_line(question: &[u16], line: usize, old: bool, answer: &[u16], room: &mut [u16]) -> Shown
     requires { ⌜ Ranged (now question) × Answered (now answer) ⌝ }
-    ensures { λ r. ⌜ AnswerShown (now (question .entry)) line (now (answer .entry)) (now (room .entry)) (now (room .exit)) r ⌝ }
+    ensures { λ r. ⌜ AnswerShown (now (question .entry)) line old (now (answer .entry)) (now (room .entry)) (now (room .exit)) r ⌝ }
 {
     let lines = wide(word(answer, 0));
     if lines <= line {
@@ -118,23 +146,25 @@ fn show_line(question: &[u16], line: usize, answer: &[u16], room: &mut [u16]) ->
     }
     let from = wide(word(answer, line + 2));
     let to = wide(word(answer, line + 3));
-    show_part(question, answer, from, to, room)
+    show_part(question, old, answer, from, to, room)
 }
 
-// The example of a line of a question, which is solved anew.
+// The example of a line of a question, which is solved anew. `old` is for old training sheets: free blanks then take symbol 0, and else the last
+// declared one.
 pub fn example(
     question: &[u16],
     line: usize,
+    old: bool,
     work: &mut [u16],
     answer: &mut [u16],
     room: &mut [u16],
 ) -> Shown
-    ensures { λ r. ⌜ (shownNumbers r, now (work .exit), now (answer .exit), now (room .exit)) ≡ toldExhibits line (now (question .entry)) (now (work .entry)) (now (answer .entry)) (now (room .entry)) ⌝ }
+    ensures { λ r. ⌜ (shownNumbers r, now (work .exit), now (answer .exit), now (room .exit)) ≡ toldExhibits line old (now (question .entry)) (now (work .entry)) (now (answer .entry)) (now (room .entry)) ⌝ }
 {
     let s = solve(question, work, answer);
     let outcome = s.outcome;
     if let Outcome::Refused(e) = outcome {
         return Shown::Denied(e);
     }
-    show_line(question, line, answer, room)
+    show_line(question, line, old, answer, room)
 }

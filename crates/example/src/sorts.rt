@@ -7,6 +7,7 @@ ghost use Rattle.values.specs.Values.{SettledLine};
 ghost use Rattle.example.specs.Rows.{numberedOf, KindLength, KindStarts, KindWritten};
 use language::FunVar;
 use language::HedgeVar;
+use language::Sym;
 use language::TermVar;
 use samples::put;
 use values::Variable;
@@ -84,15 +85,22 @@ pub(crate) fn write_starts(
     Row { to: e, next }
 }
 
-// Writes them in a row.
-pub(crate) fn write_values(k: &[u16], of: Sort, count: usize, out: &mut [u16], at: usize) -> usize
-    requires { ⌜ (count ≤ desk .each) × SettledLine (now k) ⌝ }
-    ensures { λ e. ⌜ KindWritten (now (k .entry)) of count (now (out .entry)) at (now (out .exit)) e ⌝ }
+// Writes them in a row; free blanks take the symbol `any`.
+pub(crate) fn write_values(
+    k: &[u16],
+    of: Sort,
+    count: usize,
+    any: Sym,
+    out: &mut [u16],
+    at: usize,
+) -> usize
+    requires { ⌜ (count ≤ desk .each) × SettledLine (now k) × (any .0 < desk .each) ⌝ }
+    ensures { λ e. ⌜ KindWritten (now (k .entry)) of count any (now (out .entry)) at (now (out .exit)) e ⌝ }
 {
     let mut j: usize = 0;
     let mut e = at;
     while j < count {
-        e = write_value(k, numbered(of, j), out, e);
+        e = write_value(k, numbered(of, j), any, out, e);
         j += 1;
     }
     e

@@ -27,4 +27,4 @@ desk_try-determined : Determined desk-try.ended desk-try.Reads.Pre desk-try.Read
 desk_try-determined κs a p o q e d = ap (λ n. (n, o .1)) (one-number _ _ _ e d)
 
 desk_example-determined : Determined desk-example.ended desk-example.Reads.Pre desk-example.Reads.Post
-desk_example-determined κs a p o q e d = ap (λ n. (n, o .1)) (e .0 ∙ sym (d .0)) ∙ ap (λ (bytes : List ℕ). (q .0, (tt, (tt, (bytes, tt))))) (e .1 ∙ sym (d .1))
+desk_example-determined κs a p o q e d = ap (λ n. (n, o .1)) (e .0 ∙ sym (d .0)) ∙ ap (λ (bytes : List ℕ). (q .0, (tt, (tt, (tt, (bytes, tt)))))) (e .1 ∙ sym (d .1))

@@ -16,7 +16,7 @@ use Rattle.language.specs.Question.{Asked, asks, refuses, readQuestion, lengthF
 use Rattle.meaning.specs.Values.{Given, readFilling, variables, fillingWords}
 use Rattle.meaning.specs.Values as values
 use Rattle.rules.specs.Solved.{solved}
-use Rattle.rules.specs.Example.{example}
+use Rattle.rules.specs.Example.{defaultSymbol, example}
 use Rattle.rules.specs.Run.{Numbered}
 use Rattle.rules.specs.Answer.{Solving, answered, unread, given-up, solvingOf, solving}
 use Rattle.rules.specs.Calls.{Trying, tryingWith, tryingOf, trying, Showing, shows, denied, lineAt, fitted, shown, showingOf, showing}
@@ -114,23 +114,23 @@ fitted-used room ws = go (leb room (desk .filling)) refl where
   go true e = refl
   go false e = wide (ltb (desk .filling) (length ws)) refl (leb-false _ _ e)
 
-shown-used : (n : Counts) (room : ℕ) (o : Option Numbered) → shown desk n (used (desk .filling) room) o ≡ shown desk n room o
-shown-used n room none = refl
-shown-used n room (some k) =
-    ap (λ (s : Showing). elim (solved (k .literals)) [ true ↦ s | false ↦ denied OpenLine ]) (fitted-used room (fillingWords n (example (k .literals))))
+shown-used : (old : Bool) (n : Counts) (room : ℕ) (o : Option Numbered) → shown desk old n (used (desk .filling) room) o ≡ shown desk old n room o
+shown-used old n room none = refl
+shown-used old n room (some k) =
+    ap (λ (s : Showing). elim (solved (k .literals)) [ true ↦ s | false ↦ denied OpenLine ]) (fitted-used room (fillingWords n (example (defaultSymbol old n) (k .literals))))
 
-showing-used : (n : Counts) (room line : ℕ) (s : Solving) → showingOf desk n (used (desk .filling) room) line s ≡ showingOf desk n room line s
-showing-used n room line (answered ls steps) = shown-used n room (lineAt line ls)
-showing-used n room line (unread r) = refl
-showing-used n room line (given-up r) = refl
+showing-used : (old : Bool) (n : Counts) (room line : ℕ) (s : Solving) → showingOf desk old n (used (desk .filling) room) line s ≡ showingOf desk old n room line s
+showing-used old n room line (answered ls steps) = shown-used old n room (lineAt line ls)
+showing-used old n room line (unread r) = refl
+showing-used old n room line (given-up r) = refl
 
-refused-showing : (room line : ℕ) (ws : List ℕ) → readQuestion desk ws ≡ refuses QuestionLength → showing desk (desk .room) (desk .room) room line ws ≡ denied QuestionLength
+refused-showing : (old : Bool) (room line : ℕ) (ws : List ℕ) → readQuestion desk ws ≡ refuses QuestionLength → showing desk old (desk .room) (desk .room) room line ws ≡ denied QuestionLength
 unfolding showing solving
-refused-showing room line ws e = ap (λ (a : Asked). showingOf desk (countsOf ws) room line (solvingOf desk a)) e
+refused-showing old room line ws e = ap (λ (a : Asked). showingOf desk old (countsOf ws) room line (solvingOf desk a)) e
 
-pub fitting-showing : (room line : ℕ) (ws : List ℕ) → showing desk (desk .room) (desk .room) (used (desk .filling) room) line (fitting (desk .question) ws) ≡ showing desk (desk .room) (desk .room) room line ws
+pub fitting-showing : (old : Bool) (room line : ℕ) (ws : List ℕ) → showing desk old (desk .room) (desk .room) (used (desk .filling) room) line (fitting (desk .question) ws) ≡ showing desk old (desk .room) (desk .room) room line ws
 unfolding fitting showing
-fitting-showing room line ws = go (leb (length ws) (desk .question)) refl where
-  go : (b : Bool) → leb (length ws) (desk .question) ≡ b → showing desk (desk .room) (desk .room) (used (desk .filling) room) line (pick b ws []) ≡ showing desk (desk .room) (desk .room) room line ws
-  go true e = showing-used (countsOf ws) room line (solving desk (desk .room) (desk .room) ws)
-  go false e = refused-showing _ line [] no-question ∙ sym (refused-showing room line ws (long-question ws (leb-false _ _ e)))
+fitting-showing old room line ws = go (leb (length ws) (desk .question)) refl where
+  go : (b : Bool) → leb (length ws) (desk .question) ≡ b → showing desk old (desk .room) (desk .room) (used (desk .filling) room) line (pick b ws []) ≡ showing desk old (desk .room) (desk .room) room line ws
+  go true e = showing-used old (countsOf ws) room line (solving desk (desk .room) (desk .room) ws)
+  go false e = refused-showing old _ line [] no-question ∙ sym (refused-showing old room line ws (long-question ws (leb-false _ _ e)))

@@ -15,14 +15,14 @@ use Rattle.language.specs.Trees.{Counts}
 use Rattle.language.specs.Question.{countsOf}
 use Rattle.meaning.specs.Values.{fillingWords}
 use Rattle.rules.specs.Solved.{solved}
-use Rattle.rules.specs.Example.{example}
+use Rattle.rules.specs.Example.{defaultSymbol, example}
 use Rattle.rules.specs.Run.{Numbered}
 use Rattle.rules.specs.Answer.{Solving, answered, unread, given-up, solving}
 use Rattle.rules.specs.Calls.{Showing, shows, denied, lineAt, fitted, shown, showingOf, showing}
 use Rattle.example.specs.Shown.{numbersOf, roomOf}
 use Rattle.example.specs.Exhibits.{toldExhibits}
 use Rattle.word_bytes.specs.Bytes.{bytesOf, wordsIn, fitting}
-use Rattle.host.specs.Numbers.{used, toldBy}
+use Rattle.host.specs.Numbers.{used, asksOld, toldBy}
 use Rattle.host.specs.Host.{showingBytes, showNumber, showLeaves}
 use Rattle.word_bytes.proofs.Pairs.{written}
 use Rattle.host.proofs.Numbering.{used-all, told-value, told-number}
@@ -45,18 +45,18 @@ fits-line : (b : Bool) (room : ℕ) (s : Showing) → Fits room s → Fits room 
 fits-line true room s h = h
 fits-line false room s h = tt
 
-fits-shown : (n : Counts) (room : ℕ) (o : Option Numbered) → Fits room (shown desk n room o)
-fits-shown n room none = tt
-fits-shown n room (some k) = fits-line (solved (k .literals)) room _ (fits-fitted room (fillingWords n (example (k .literals))))
+fits-shown : (old : Bool) (n : Counts) (room : ℕ) (o : Option Numbered) → Fits room (shown desk old n room o)
+fits-shown old n room none = tt
+fits-shown old n room (some k) = fits-line (solved (k .literals)) room _ (fits-fitted room (fillingWords n (example (defaultSymbol old n) (k .literals))))
 
-fits-solved : (n : Counts) (room line : ℕ) (s : Solving) → Fits room (showingOf desk n room line s)
-fits-solved n room line (answered ls steps) = fits-shown n room (lineAt line ls)
-fits-solved n room line (unread r) = tt
-fits-solved n room line (given-up r) = tt
+fits-solved : (old : Bool) (n : Counts) (room line : ℕ) (s : Solving) → Fits room (showingOf desk old n room line s)
+fits-solved old n room line (answered ls steps) = fits-shown old n room (lineAt line ls)
+fits-solved old n room line (unread r) = tt
+fits-solved old n room line (given-up r) = tt
 
-pub fits : (work answer room line : ℕ) (ws : List ℕ) → Fits room (showing desk work answer room line ws)
+pub fits : (old : Bool) (work answer room line : ℕ) (ws : List ℕ) → Fits room (showing desk old work answer room line ws)
 unfolding showing
-fits work answer room line ws = fits-solved (countsOf ws) room line (solving desk work answer ws)
+fits old work answer room line ws = fits-solved old (countsOf ws) room line (solving desk work answer ws)
 
 -- ---- the number
 
@@ -90,13 +90,13 @@ writes (denied x) own own′ bytes bytes′ h room eo eb = eb ∙ none-written o
 
 -- ---- the return
 
-module _ (q w o own w′ o′ own′ : List ℕ) (line : ℕ) (r : ℕ × ℕ)
+module _ (q w o own w′ o′ own′ : List ℕ) (line : ℕ) (old : Bool) (r : ℕ × ℕ)
     (work : length w ≡ desk .room) (answer : length o ≡ desk .room)
-    (e : (r, w′, o′, own′) ≡ toldExhibits line q w o own) where
+    (e : (r, w′, o′, own′) ≡ toldExhibits line old q w o own) where
   abbrev comes : Showing
-  comes = showing desk (desk .room) (desk .room) (length own) line q
+  comes = showing desk old (desk .room) (desk .room) (length own) line q
 
-  same : showing desk (length w) (length o) (length own) line q ≡ comes
+  same : showing desk old (length w) (length o) (length own) line q ≡ comes
   same = rw (work, answer)
 
   result : r ≡ numbersOf comes
@@ -109,19 +109,19 @@ module _ (q w o own w′ o′ own′ : List ℕ) (line : ℕ) (r : ℕ × ℕ)
 
   pub example-within : (n : ℕ) → n ≡ r .1 → n ≤ length own
   example-within n f =
-      let h : numbersOf comes .1 ≤ length own = within comes (length own) (fits (desk .room) (desk .room) (length own) line q) in
+      let h : numbersOf comes .1 ≤ length own = within comes (length own) (fits old (desk .room) (desk .room) (length own) line q) in
       let g : n ≡ numbersOf comes .1 = f ∙ ap (λ (n : ℕ × ℕ). n .1) result in
       omega arith
 
   pub shown-line : (k n : ℕ) (bytes bytes′ : List ℕ) → k ≡ shownTold r → n ≡ r .1 → 2 * length own ≤ length bytes
       → bytes′ ≡ sets bytes 0 (bytesOf (take n own′)) → (k ≡ showNumber comes) × (bytes′ ≡ showLeaves comes bytes)
   shown-line k n bytes bytes′ number f room eb = (
-    told comes (length own) k r (fits (desk .room) (desk .room) (length own) line q) result number,
-    writes comes own own′ bytes bytes′ (fits (desk .room) (desk .room) (length own) line q) room room-left (eb ∙ ap (λ (m : ℕ). sets bytes 0 (bytesOf (take m own′))) (f ∙ ap (λ (n : ℕ × ℕ). n .1) result)),
+    told comes (length own) k r (fits old (desk .room) (desk .room) (length own) line q) result number,
+    writes comes own own′ bytes bytes′ (fits old (desk .room) (desk .room) (length own) line q) room room-left (eb ∙ ap (λ (m : ℕ). sets bytes 0 (bytesOf (take m own′))) (f ∙ ap (λ (n : ℕ × ℕ). n .1) result)),
   )
 
 -- the words lent come to what the bytes come to
-pub bytes-show : (q ws bytes : List ℕ) (line room : ℕ) → ws ≡ fitting (desk .question) (wordsIn q) → room ≡ used (desk .filling) (length bytes / 2)
-    → showing desk (desk .room) (desk .room) room line ws ≡ showingBytes desk (length bytes) line q
+pub bytes-show : (q ws bytes : List ℕ) (line old room : ℕ) → ws ≡ fitting (desk .question) (wordsIn q) → room ≡ used (desk .filling) (length bytes / 2)
+    → showing desk (asksOld old) (desk .room) (desk .room) room line ws ≡ showingBytes desk (length bytes) line old q
 unfolding showingBytes
-bytes-show q ws bytes line room ew er = rw (ew, er) (fitting-showing (length bytes / 2) line (wordsIn q))
+bytes-show q ws bytes line old room ew er = rw (ew, er) (fitting-showing (asksOld old) (length bytes / 2) line (wordsIn q))

@@ -11,6 +11,7 @@ use Rattle.rules.specs.Answer.{Solving, answered, unread, given-up, solving, an
 use Rattle.rules.specs.Calls.{Trying, trying, Showing, shows, denied, showing}
 use Rattle.rules.specs.Calls as calls
 use Rattle.word_bytes.specs.Bytes.{wordsIn, bytesOf}
+use Rattle.host.specs.Numbers.{asksOld}
 
 -- ---- desk_solve
 
@@ -44,9 +45,10 @@ TryNumber (calls.given-up r) n = n ≡ numberOf r
 
 -- ---- desk_example
 
--- A room of so many bytes, a line's number, and a question's bytes. The work and the answer slice are the desk's own.
-unfoldable pub showingBytes : Limits → ℕ → ℕ → List ℕ → Showing
-showingBytes L room line q = showing L (L .room) (L .room) (room / 2) line (wordsIn q)
+-- A room of so many bytes, a line's number, the flag for old training sheets, and a question's bytes. The work and the answer slice are the desk's
+-- own.
+unfoldable pub showingBytes : Limits → ℕ → ℕ → ℕ → List ℕ → Showing
+showingBytes L room line old q = showing L (asksOld old) (L .room) (L .room) (room / 2) line (wordsIn q)
 
 -- 100 and the filling's length in words, and below stand the refusals
 unfoldable pub showNumber : Showing → ℕ

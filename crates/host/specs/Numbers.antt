@@ -1,5 +1,6 @@
 -- The numbers that the host gets, from the number and the value of what comes back from the calls on words.
 use Prim.Native.Nat.{ℕ, _+_}
+use mathlib.Core.Bool.{Bool, not}
 use lib.Dec.{eqb, leb}
 use Rattle.language.specs.Limits.{desk}
 use Rattle.language.specs.Kinds.{pick}
@@ -9,6 +10,10 @@ use Rattle.outcomes.specs.Numbers.{outcomeNumber}
 -- of so many words lent, as many as are ever used
 unfoldable pub used : ℕ → ℕ → ℕ
 used most lent = pick (leb lent most) lent most
+
+-- a number that is not 0 asks for old training sheets
+abbrev pub asksOld : ℕ → Bool
+asksOld n = not (eqb n 0)
 
 -- the refusal's number, or 0
 abbrev pub solvedNumber : Solved → ℕ

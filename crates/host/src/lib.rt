@@ -104,29 +104,30 @@ pub extern "C" fn desk_try(question: &[u8], filling: &[u8]) -> u32
 }
 
 // The example in the desk's own room, and then in the bytes lent.
-fn show(question: &[u16], line: usize, own: &mut [u16], room: &mut [u8]) -> u32
+fn show(question: &[u16], line: usize, old: bool, own: &mut [u16], room: &mut [u8]) -> u32
     requires { ⌜ (length (now own) ≤ desk .filling) × (2 * length (now own) ≤ length (now room)) ⌝ }
-    ensures { λ r. ⌜ r ≡ showNumber (showing desk (desk .room) (desk .room) (length (now (own .entry))) line (now (question .entry))) ⌝ }
-    ensures { λ _. ⌜ now (room .exit) ≡ showLeaves (showing desk (desk .room) (desk .room) (length (now (own .entry))) line (now (question .entry))) (now (room .entry)) ⌝ }
+    ensures { λ r. ⌜ r ≡ showNumber (showing desk old (desk .room) (desk .room) (length (now (own .entry))) line (now (question .entry))) ⌝ }
+    ensures { λ _. ⌜ now (room .exit) ≡ showLeaves (showing desk old (desk .room) (desk .room) (length (now (own .entry))) line (now (question .entry))) (now (room .entry)) ⌝ }
 {
     let mut work = [0u16; ROOM];
     let mut answer = [0u16; ROOM];
-    let s = example::example(question, line, &mut work, &mut answer, own);
+    let s = example::example(question, line, old, &mut work, &mut answer, own);
     let n = shown_length(s);
     // of a refusal that is 0, and nothing is written
     write_words(&own[..n], room);
     told(shown_number(s), n)
 }
 
-// Shows the example of a settled line: 100 and its length in words, or the refusal's number.
+// Shows the example of a settled line: 100 and its length in words, or the refusal's number. Free blanks take the last declared symbol where `old`
+// is 0, and else symbol 0.
 #[no_mangle]
-pub extern "C" fn desk_example(question: &[u8], line: u32, room: &mut [u8]) -> u32
-    ensures { λ r. ⌜ r ≡ showNumber (showingBytes desk (length (now (room .entry))) line (now (question .entry))) ⌝ }
-    ensures { λ _. ⌜ now (room .exit) ≡ showLeaves (showingBytes desk (length (now (room .entry))) line (now (question .entry))) (now (room .entry)) ⌝ }
+pub extern "C" fn desk_example(question: &[u8], line: u32, old: u32, room: &mut [u8]) -> u32
+    ensures { λ r. ⌜ r ≡ showNumber (showingBytes desk (length (now (room .entry))) line old (now (question .entry))) ⌝ }
+    ensures { λ _. ⌜ now (room .exit) ≡ showLeaves (showingBytes desk (length (now (room .entry))) line old (now (question .entry))) (now (room .entry)) ⌝ }
 {
     let mut words = [0u16; QUESTION];
     let mut own = [0u16; FILLING];
     let n = take_words(question, &mut words);
     let m = most(room.len() / 2);
-    show(&words[..n], line as usize, &mut own[..m], room)
+    show(&words[..n], line as usize, old != 0, &mut own[..m], room)
 }

@@ -7,6 +7,7 @@ use native.Mathlib.Omega.{arith}
 use lib.ListN.{length, length-append}
 use lib.Seq.{slice}
 use Rattle.language.specs.declared.TermVar.{TermVar}
+use Rattle.language.specs.declared.Sym.{Sym}
 use Rattle.language.specs.Trees.{Hedge, Expr, Conj, Var, tv}
 use Rattle.language.specs.Writing.{hedgeWords}
 use Rattle.meaning.specs.Complete.{nil, tree, completeWords}
@@ -28,12 +29,12 @@ use Rattle.values.specs.Values.{Settled, valueWords, UnsolvedLength, Par
 use Rattle.values.proofs.Spelling.{hedge-words, filled-words}
 
 -- a term variable's unsolved value is one term
-single-sample : (c : Conj) (x : TermVar) (m : Option Expr) → Settled c → expressionOf (tv x) c ≡ m → sampled (tv x) m ≡ tree (rootOf (sampled (tv x) m)) (childrenOf (sampled (tv x) m)) nil
-single-sample c x none t e = refl
-single-sample c x (some R) t e = let (f, S, d) = t .terms x R e in rw d refl
+single-sample : (any : Sym) (c : Conj) (x : TermVar) (m : Option Expr) → Settled c → expressionOf (tv x) c ≡ m → sampled any (tv x) m ≡ tree (rootOf (sampled any (tv x) m)) (childrenOf (sampled any (tv x) m)) nil
+single-sample any c x none t e = refl
+single-sample any c x (some R) t e = let (f, S, d) = t .terms x R e in rw d refl
 
-pub single : (c : Conj) → Settled c → (x : TermVar) → unsolved c (tv x) ≡ tree (rootOf (unsolved c (tv x))) (childrenOf (unsolved c (tv x))) nil
-single c t x = single-sample c x (expressionOf (tv x) c) t refl
+pub single : (any : Sym) (c : Conj) → Settled c → (x : TermVar) → unsolved any c (tv x) ≡ tree (rootOf (unsolved any c (tv x))) (childrenOf (unsolved any c (tv x))) nil
+single any c t x = single-sample any c x (expressionOf (tv x) c) t refl
 
 -- what is told of what a variable is bound to
 abbrev pub Bounds : List ℕ → Variable → Bound → Type 0
@@ -66,34 +67,34 @@ module _ {k : List ℕ} {x : Variable} {b : Bound} (t : Bounds k x b) where
     part-words : HedgeWords (slice from until k)
     part-words = rw part-is (hedge-words (there (t c v s w) z .h) (there (t c v s w) z .stands .fine))
 
-    bound-words : valueWords c v ≡ spelled (becomes (unsolved c)) (slice from until k)
+    bound-words : (any : Sym) → valueWords any c v ≡ spelled (becomes (unsolved any c)) (slice from until k)
     unfolding valueWords
-    bound-words =
+    bound-words any =
         let a = there (t c v s w) z in
-        ap (λ m. completeWords (followed c v m)) (a .is) ∙ filled-words (unsolved c) (single c q) (a .h) (a .stands .fine) ∙ ap (spelled (becomes (unsolved c))) (sym part-is)
+        ap (λ m. completeWords (followed any c v m)) (a .is) ∙ filled-words (unsolved any c) (single any c q) (a .h) (a .stands .fine) ∙ ap (spelled (becomes (unsolved any c))) (sym part-is)
 
-  free-words : b ≡ Free → (c : Conj) (v : Var) → Line k c → Named v x → valueWords c v ≡ body (unsolved c v) ++ (0 ∷ [])
+  free-words : b ≡ Free → (any : Sym) (c : Conj) (v : Var) → Line k c → Named v x → valueWords any c v ≡ body (unsolved any c v) ++ (0 ∷ [])
   unfolding valueWords
-  free-words z c v s w = ap (λ m. completeWords (followed c v m)) (not-there (t c v s w) z) ∙ words-body (unsolved c v)
+  free-words z any c v s w = ap (λ m. completeWords (followed any c v m)) (not-there (t c v s w) z) ∙ words-body (unsolved any c v)
 
   pub bound-length : {from until n : ℕ} → b ≡ To from until → PartLength k from until n → ValueLength k x n
   bound-length z p = record {
     few = p .few;
-    each = λ c v s q w. p .each c s (part-words z c v s q w) ∙ ap length (sym (bound-words z c v s q w));
+    each = λ any c v s q w. p .each any c s (part-words z c v s q w) ∙ ap length (sym (bound-words z c v s q w any));
   }
 
   pub free-length : {n : ℕ} → b ≡ Free → length k ≤ 65536 → UnsolvedLength k x n → ValueLength k x (n + 1)
   free-length z l u = record {
     few = let f = u .few in omega arith;
-    each = λ c v s q w. let a = u .each c v s w in let e = ap length (free-words z c v s w) ∙ length-append (body (unsolved c v)) (0 ∷ []) in omega arith;
+    each = λ any c v s q w. let a = u .each any c v s w in let e = ap length (free-words z any c v s w) ∙ length-append (body (unsolved any c v)) (0 ∷ []) in omega arith;
   }
 
-  module _ {old new : List ℕ} {at e : ℕ} where
+  module _ (any : Sym) {old new : List ℕ} {at e : ℕ} where
     pub bound-laid : {from until : ℕ} → b ≡ To from until
-        → ((c : Conj) → Line k c → Settled c → HedgeWords (slice from until k) → Laid old at (spelled (becomes (unsolved c)) (slice from until k)) new e)
-        → (c : Conj) (v : Var) → Line k c → Settled c → Named v x → Laid old at (valueWords c v) new e
-    bound-laid z f c v s q w = laid-as (sym (bound-words z c v s q w)) (f c s q (part-words z c v s q w))
+        → ((c : Conj) → Line k c → Settled c → HedgeWords (slice from until k) → Laid old at (spelled (becomes (unsolved any c)) (slice from until k)) new e)
+        → (c : Conj) (v : Var) → Line k c → Settled c → Named v x → Laid old at (valueWords any c v) new e
+    bound-laid z f c v s q w = laid-as (sym (bound-words z c v s q w any)) (f c s q (part-words z c v s q w))
 
-    pub free-laid : {mid : List ℕ} {m : ℕ} → b ≡ Free → ((c : Conj) (v : Var) → Line k c → Named v x → Laid old at (body (unsolved c v)) mid m) → Laid mid m (0 ∷ []) new e
-        → (c : Conj) (v : Var) → Line k c → Settled c → Named v x → Laid old at (valueWords c v) new e
-    free-laid z f l c v s q w = laid-as (sym (free-words z c v s w)) (laid-row (body (unsolved c v)) (0 ∷ []) (f c v s w) l)
+    pub free-laid : {mid : List ℕ} {m : ℕ} → b ≡ Free → ((c : Conj) (v : Var) → Line k c → Named v x → Laid old at (body (unsolved any c v)) mid m) → Laid mid m (0 ∷ []) new e
+        → (c : Conj) (v : Var) → Line k c → Settled c → Named v x → Laid old at (valueWords any c v) new e
+    free-laid z f l c v s q w = laid-as (sym (free-words z any c v s w)) (laid-row (body (unsolved any c v)) (0 ∷ []) (f c v s w) l)

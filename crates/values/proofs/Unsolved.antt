@@ -6,8 +6,9 @@ use mathlib.Core.List.{List, [], _∷_}
 use mathlib.Core.Option.{none}
 use native.Mathlib.Omega.{arith}
 use lib.ListN.{length}
+use Rattle.language.specs.declared.Sym.{Sym}
 use Rattle.language.specs.Trees.{Conj, Var, tv, hv, fv}
-use Rattle.rules.specs.Example.{defaultSymbol, default, expressionOf, sampled, unsolved}
+use Rattle.rules.specs.Example.{default, expressionOf, sampled, unsolved}
 use Rattle.rules.specs.Expressions.{sample}
 use Rattle.samples.specs.Bodies.{body}
 use Rattle.samples.specs.Laid.{Laid}
@@ -25,10 +26,10 @@ use Rattle.values.specs.Values.{UnsolvedLength}
 
 -- ---- the default
 
-default-size : (b : Bool) (v : Var) → b ≡ runs v → (b ≡ true → 0 ≡ length (body (default v))) × (b ≡ false → 2 ≡ length (body (default v)))
-default-size b (tv x) e = (λ t. absurd (let z : _≡_ {A = Bool} true false = sym t ∙ e in let y : _≡_ {A = ℕ} 0 1 = cc in omega arith), λ _. refl)
-default-size b (hv p) e = (λ _. refl, λ t. absurd (let z : _≡_ {A = Bool} true false = sym e ∙ t in let y : _≡_ {A = ℕ} 0 1 = cc in omega arith))
-default-size b (fv X) e = (λ t. absurd (let z : _≡_ {A = Bool} true false = sym t ∙ e in let y : _≡_ {A = ℕ} 0 1 = cc in omega arith), λ _. refl)
+default-size : (any : Sym) (b : Bool) (v : Var) → b ≡ runs v → (b ≡ true → 0 ≡ length (body (default any v))) × (b ≡ false → 2 ≡ length (body (default any v)))
+default-size any b (tv x) e = (λ t. absurd (let z : _≡_ {A = Bool} true false = sym t ∙ e in let y : _≡_ {A = ℕ} 0 1 = cc in omega arith), λ _. refl)
+default-size any b (hv p) e = (λ _. refl, λ t. absurd (let z : _≡_ {A = Bool} true false = sym e ∙ t in let y : _≡_ {A = ℕ} 0 1 = cc in omega arith))
+default-size any b (fv X) e = (λ t. absurd (let z : _≡_ {A = Bool} true false = sym t ∙ e in let y : _≡_ {A = ℕ} 0 1 = cc in omega arith), λ _. refl)
 
 -- what is told of a variable
 abbrev pub Runs : Variable → Bool → Type 0
@@ -38,25 +39,25 @@ pub runs-named : {x : Variable} {b : Bool} → b ≡ runs (varOf x) → Runs x b
 runs-named e v w = e ∙ ap runs (w .is)
 
 module _ {x : Variable} {b : Bool} (r : Runs x b) where
-  pub default-none : b ≡ true → (v : Var) → Named v x → 0 ≡ length (body (default v))
-  default-none t v w = default-size b v (r v w) .0 t
+  pub default-none : b ≡ true → (any : Sym) (v : Var) → Named v x → 0 ≡ length (body (default any v))
+  default-none t any v w = default-size any b v (r v w) .0 t
 
-  pub default-two : b ≡ false → (v : Var) → Named v x → 2 ≡ length (body (default v))
-  default-two t v w = default-size b v (r v w) .1 t
+  pub default-two : b ≡ false → (any : Sym) (v : Var) → Named v x → 2 ≡ length (body (default any v))
+  default-two t any v w = default-size any b v (r v w) .1 t
 
-  pub default-empty : {old : List ℕ} {at : ℕ} → b ≡ true → (v : Var) → Named v x → Laid old at (body (default v)) old at
-  default-empty {old} {at} t v w = laid-as (sym (nothing v (sym (r v w) ∙ t))) laid-none
+  pub default-empty : (any : Sym) {old : List ℕ} {at : ℕ} → b ≡ true → (v : Var) → Named v x → Laid old at (body (default any v)) old at
+  default-empty any {old} {at} t v w = laid-as (sym (nothing v (sym (r v w) ∙ t))) laid-none
     where
-      nothing : (v : Var) → runs v ≡ true → body (default v) ≡ []
+      nothing : (v : Var) → runs v ≡ true → body (default any v) ≡ []
       nothing (tv x) e = absurd (let y : _≡_ {A = ℕ} 0 1 = cc in omega arith)
       nothing (hv p) e = refl
       nothing (fv X) e = absurd (let y : _≡_ {A = ℕ} 0 1 = cc in omega arith)
 
-  pub default-laid : {old mid new : List ℕ} {at m e d : ℕ} → b ≡ false → d ≡ 3000 + defaultSymbol .0 → Laid old at (d ∷ []) mid m → Laid mid m (0 ∷ []) new e
-      → (v : Var) → Named v x → Laid old at (body (default v)) new e
-  default-laid {d = d} t z p q v w = laid-as (ap (λ y. y ∷ 0 ∷ []) z ∙ sym (two v (sym (r v w) ∙ t))) (laid-row (d ∷ []) (0 ∷ []) p q)
+  pub default-laid : (any : Sym) {old mid new : List ℕ} {at m e d : ℕ} → b ≡ false → d ≡ 3000 + any .0 → Laid old at (d ∷ []) mid m → Laid mid m (0 ∷ []) new e
+      → (v : Var) → Named v x → Laid old at (body (default any v)) new e
+  default-laid any {d = d} t z p q v w = laid-as (ap (λ y. y ∷ 0 ∷ []) z ∙ sym (two v (sym (r v w) ∙ t))) (laid-row (d ∷ []) (0 ∷ []) p q)
     where
-      two : (v : Var) → runs v ≡ false → body (default v) ≡ (3000 + defaultSymbol .0) ∷ 0 ∷ []
+      two : (v : Var) → runs v ≡ false → body (default any v) ≡ (3000 + any .0) ∷ 0 ∷ []
       two (tv x) e = refl
       two (hv p) e = absurd (let y : _≡_ {A = ℕ} 0 1 = cc in omega arith)
       two (fv X) e = refl
@@ -77,27 +78,27 @@ not-found (unexpressed f) d = f
 
 module _ {k : List ℕ} {x : Variable} {p : Place} (t : Expresses k x p) where
   module _ {e : ℕ} (d : p ≡ At e) where
-    as-sample : (c : Conj) (v : Var) (s : Line k c) (w : Named v x) → unsolved c v ≡ sample (found-at (t c v s w) d .R)
-    as-sample c v s w = ap (sampled v) (found-at (t c v s w) d .is)
+    as-sample : (any : Sym) (c : Conj) (v : Var) (s : Line k c) (w : Named v x) → unsolved any c v ≡ sample (found-at (t c v s w) d .R)
+    as-sample any c v s w = ap (sampled any v) (found-at (t c v s w) d .is)
 
     pub sample-length : {m : Sample} → Measured k e m → UnsolvedLength k x (m .words)
     sample-length {m} a = record {
       few = let f = a .few in omega arith;
-      each = λ c v s w. let f = found-at (t c v s w) d in a .words ∙ ap length (body-here (f .here)) ∙ ap (λ g. length (body g)) (sym (as-sample c v s w));
+      each = λ any c v s w. let f = found-at (t c v s w) d in a .words ∙ ap length (body-here (f .here)) ∙ ap (λ g. length (body g)) (sym (as-sample any c v s w));
     }
 
-    pub sample-laid : {old new : List ℕ} {at : ℕ} {m : Wrote} → Written k e old at new m → (c : Conj) (v : Var) → Line k c → Named v x → Laid old at (body (unsolved c v)) new (m .to)
-    sample-laid a c v s w = let f = found-at (t c v s w) d in laid-as (body-here (f .here) ∙ ap body (sym (as-sample c v s w))) (a .laid)
+    pub sample-laid : (any : Sym) {old new : List ℕ} {at : ℕ} {m : Wrote} → Written k e old at new m → (c : Conj) (v : Var) → Line k c → Named v x → Laid old at (body (unsolved any c v)) new (m .to)
+    sample-laid any a c v s w = let f = found-at (t c v s w) d in laid-as (body-here (f .here) ∙ ap body (sym (as-sample any c v s w))) (a .laid)
 
   module _ (d : p ≡ Nowhere) where
-    as-default : (c : Conj) (v : Var) → Line k c → Named v x → unsolved c v ≡ default v
-    as-default c v s w = ap (sampled v) (not-found (t c v s w) d)
+    as-default : (any : Sym) (c : Conj) (v : Var) → Line k c → Named v x → unsolved any c v ≡ default any v
+    as-default any c v s w = ap (sampled any v) (not-found (t c v s w) d)
 
-    pub default-length : {n : ℕ} → (n ≤ 2) × ((v : Var) → Named v x → n ≡ length (body (default v))) → UnsolvedLength k x n
+    pub default-length : {n : ℕ} → (n ≤ 2) × ((any : Sym) (v : Var) → Named v x → n ≡ length (body (default any v))) → UnsolvedLength k x n
     default-length f = record {
       few = let i = f .0 in omega arith;
-      each = λ c v s w. f .1 v w ∙ ap (λ g. length (body g)) (sym (as-default c v s w));
+      each = λ any c v s w. f .1 any v w ∙ ap (λ g. length (body g)) (sym (as-default any c v s w));
     }
 
-    pub default-written : {old new : List ℕ} {at e : ℕ} → ((v : Var) → Named v x → Laid old at (body (default v)) new e) → (c : Conj) (v : Var) → Line k c → Named v x → Laid old at (body (unsolved c v)) new e
-    default-written f c v s w = laid-as (ap body (sym (as-default c v s w))) (f v w)
+    pub default-written : (any : Sym) {old new : List ℕ} {at e : ℕ} → ((v : Var) → Named v x → Laid old at (body (default any v)) new e) → (c : Conj) (v : Var) → Line k c → Named v x → Laid old at (body (unsolved any c v)) new e
+    default-written any f c v s w = laid-as (ap body (sym (as-default any c v s w))) (f v w)

@@ -27,26 +27,28 @@ pub record SettledLine (k : List ℕ) : Type 0 where
   pub line : Line k c
   pub settled : Settled c
 
--- the words of v's value
-unfoldable pub valueWords : Conj → Var → List ℕ
-valueWords c v = completeWords (followed c v (bound v [] c))
+-- the words of v's value, where free blanks take the symbol `any`
+unfoldable pub valueWords : Sym → Conj → Var → List ℕ
+valueWords any c v = completeWords (followed any c v (bound v [] c))
+
+-- Lengths are the same whatever that symbol is.
 
 -- n is the number of words of the value that v takes unsolved, without the 0
 pub record UnsolvedLength (k : List ℕ) (x : Variable) (n : ℕ) : Type 0 where
   pub few : n ≤ 2 * length k + 2
-  pub each : (c : Conj) (v : Var) → Line k c → Named v x → n ≡ length (body (unsolved c v))
+  pub each : (any : Sym) (c : Conj) (v : Var) → Line k c → Named v x → n ≡ length (body (unsolved any c v))
 
 -- n is the number of words that x becomes
 pub record WordLength (k : List ℕ) (x n : ℕ) : Type 0 where
   pub few : n ≤ 2 * length k + 2
-  pub each : (c : Conj) → Line k c → HedgeWord x → n ≡ length (becomes (unsolved c) x)
+  pub each : (any : Sym) (c : Conj) → Line k c → HedgeWord x → n ≡ length (becomes (unsolved any c) x)
 
 -- n is the number of words that a part becomes
 pub record PartLength (k : List ℕ) (from to n : ℕ) : Type 0 where
   pub few : n ≤ 10000000000
-  pub each : (c : Conj) → Line k c → HedgeWords (slice from to k) → n ≡ length (spelled (becomes (unsolved c)) (slice from to k))
+  pub each : (any : Sym) (c : Conj) → Line k c → HedgeWords (slice from to k) → n ≡ length (spelled (becomes (unsolved any c)) (slice from to k))
 
 -- n is the number of words of a variable's value
 pub record ValueLength (k : List ℕ) (x : Variable) (n : ℕ) : Type 0 where
   pub few : n ≤ 10000000000
-  pub each : (c : Conj) (v : Var) → Line k c → Settled c → Named v x → n ≡ length (valueWords c v)
+  pub each : (any : Sym) (c : Conj) (v : Var) → Line k c → Settled c → Named v x → n ≡ length (valueWords any c v)

@@ -2,12 +2,14 @@
 // from it; any other has the sample of its expression, or a default.
 mod bindings;
 
-ghost use Prim.Native.Nat.{_+_, _≤_};
+ghost use Prim.Native.Nat.{_+_, _<_, _≤_};
 ghost use mathlib.Core.Path.{_≡_};
 ghost use lib.ListN.{length};
 ghost use lib.Seq.{slice};
+ghost use Rattle.language.specs.declared.Sym.{Sym};
+ghost use Rattle.language.specs.Limits.{desk};
 ghost use Rattle.language.specs.Trees.{Conj, Var};
-ghost use Rattle.rules.specs.Example.{defaultSymbol, default, unsolved};
+ghost use Rattle.rules.specs.Example.{default, unsolved};
 ghost use Rattle.samples.specs.Bodies.{body};
 ghost use Rattle.samples.specs.Laid.{Laid};
 ghost use Rattle.values.specs.Lines.{varOf, Named, Line};
@@ -20,6 +22,7 @@ use bindings::expression_of;
 use language::FunVar;
 use language::HedgeVar;
 use language::Kind;
+use language::Sym;
 use language::TermVar;
 use language::classify;
 use samples::measure;
@@ -35,11 +38,12 @@ pub enum Variable {
 
 // ---- a variable that no equation solves
 
-// The word of the symbol that a variable takes for want of another.
-fn default_word() -> u16
-    ensures { λ r. ⌜ r ≡ 3000 + defaultSymbol .0 ⌝ }
+// The word of a symbol.
+fn symbol_word(f: Sym) -> u16
+    requires { ⌜ f .0 < desk .each ⌝ }
+    ensures { λ r. ⌜ r ≡ 3000 + f .0 ⌝ }
 {
-    3000
+    3000 + f.0
 }
 
 fn is_run(x: Variable) -> bool
@@ -53,18 +57,20 @@ fn is_run(x: Variable) -> bool
 }
 
 fn default_len(x: Variable) -> usize
-    ensures { λ r. ⌜ (r ≤ 2) × ((v : Var) → Named v x → r ≡ length (body (default v))) ⌝ }
+    ensures { λ r. ⌜ (r ≤ 2) × ((any : Sym) (v : Var) → Named v x → r ≡ length (body (default any v))) ⌝ }
 {
     if is_run(x) { 0 } else { 2 }
 }
 
-fn write_default(x: Variable, out: &mut [u16], at: usize) -> usize
-    ensures { λ e. ⌜ ((v : Var) → Named v x → Laid (now (out .entry)) at (body (default v)) (now (out .exit)) e) ⌝ }
+// A blank that nothing asks anything of takes the symbol `any`, a run of parts none.
+fn write_default(x: Variable, any: Sym, out: &mut [u16], at: usize) -> usize
+    requires { ⌜ any .0 < desk .each ⌝ }
+    ensures { λ e. ⌜ ((v : Var) → Named v x → Laid (now (out .entry)) at (body (default any v)) (now (out .exit)) e) ⌝ }
 {
     if is_run(x) {
         return at;
     }
-    let d = default_word();
+    let d = symbol_word(any);
     let e = put(out, at, d);
     put(out, e, 0)
 }
@@ -82,8 +88,9 @@ fn unsolved_len(k: &[u16], x: Variable) -> usize
     }
 }
 
-fn write_unsolved(k: &[u16], x: Variable, out: &mut [u16], at: usize) -> usize
-    ensures { λ e. ⌜ ((c : Conj) (v : Var) → Line (now (k .entry)) c → Named v x → Laid (now (out .entry)) at (body (unsolved c v)) (now (out .exit)) e) ⌝ }
+fn write_unsolved(k: &[u16], x: Variable, any: Sym, out: &mut [u16], at: usize) -> usize
+    requires { ⌜ any .0 < desk .each ⌝ }
+    ensures { λ e. ⌜ ((c : Conj) (v : Var) → Line (now (k .entry)) c → Named v x → Laid (now (out .entry)) at (body (unsolved any c v)) (now (out .exit)) e) ⌝ }
 {
     let p = expression_of(k, x);
     match p {
@@ -91,7 +98,7 @@ fn write_unsolved(k: &[u16], x: Variable, out: &mut [u16], at: usize) -> usize
             let w = write_sample(k, e, out, at);
             w.to
         }
-        Place::Nowhere => write_default(x, out, at),
+        Place::Nowhere => write_default(x, any, out, at),
     }
 }
 
@@ -108,14 +115,15 @@ fn word_len(k: &[u16], x: u16) -> usize
     }
 }
 
-fn write_word(k: &[u16], x: u16, out: &mut [u16], at: usize) -> usize
-    ensures { λ e. ⌜ ((c : Conj) → Line (now (k .entry)) c → Settled c → HedgeWord x → Laid (now (out .entry)) at (becomes (unsolved c) x) (now (out .exit)) e) ⌝ }
+fn write_word(k: &[u16], x: u16, any: Sym, out: &mut [u16], at: usize) -> usize
+    requires { ⌜ any .0 < desk .each ⌝ }
+    ensures { λ e. ⌜ ((c : Conj) → Line (now (k .entry)) c → Settled c → HedgeWord x → Laid (now (out .entry)) at (becomes (unsolved any c) x) (now (out .exit)) e) ⌝ }
 {
     match classify(x) {
-        Kind::Term(y) => write_unsolved(k, Variable::Term(y), out, at),
-        Kind::Run(p) => write_unsolved(k, Variable::Run(p), out, at),
+        Kind::Term(y) => write_unsolved(k, Variable::Term(y), any, out, at),
+        Kind::Run(p) => write_unsolved(k, Variable::Run(p), any, out, at),
         Kind::Function(_) => {
-            let d = default_word();
+            let d = symbol_word(any);
             put(out, at, d)
         }
         _ => put(out, at, x),
@@ -139,8 +147,9 @@ fn part_len(k: &[u16], from: usize, to: usize) -> usize
     n
 }
 
-fn write_part(k: &[u16], from: usize, to: usize, out: &mut [u16], at: usize) -> usize
-    ensures { λ e. ⌜ ((c : Conj) → Line (now (k .entry)) c → Settled c → HedgeWords (slice from to (now (k .entry))) → Laid (now (out .entry)) at (spelled (becomes (unsolved c)) (slice from to (now (k .entry)))) (now (out .exit)) e) ⌝ }
+fn write_part(k: &[u16], from: usize, to: usize, any: Sym, out: &mut [u16], at: usize) -> usize
+    requires { ⌜ any .0 < desk .each ⌝ }
+    ensures { λ e. ⌜ ((c : Conj) → Line (now (k .entry)) c → Settled c → HedgeWords (slice from to (now (k .entry))) → Laid (now (out .entry)) at (spelled (becomes (unsolved any c)) (slice from to (now (k .entry)))) (now (out .exit)) e) ⌝ }
 {
     let mut i = from;
     let mut e = at;
@@ -148,7 +157,7 @@ fn write_part(k: &[u16], from: usize, to: usize, out: &mut [u16], at: usize) -> 
         if k.len() <= i {
             return e;
         }
-        e = write_word(k, k[i], out, e);
+        e = write_word(k, k[i], any, out, e);
         i += 1;
     }
     e
@@ -168,16 +177,16 @@ pub fn value_len(k: &[u16], x: Variable) -> usize
     }
 }
 
-// Writes the value of a variable, where there is room for it.
-pub fn write_value(k: &[u16], x: Variable, out: &mut [u16], at: usize) -> usize
-    requires { ⌜ SettledLine (now k) × Named (varOf x) x ⌝ }
-    ensures { λ e. ⌜ ((c : Conj) (v : Var) → Line (now (k .entry)) c → Settled c → Named v x → Laid (now (out .entry)) at (valueWords c v) (now (out .exit)) e) ⌝ }
+// Writes the value of a variable, where there is room for it. Free blanks take the symbol `any`.
+pub fn write_value(k: &[u16], x: Variable, any: Sym, out: &mut [u16], at: usize) -> usize
+    requires { ⌜ SettledLine (now k) × Named (varOf x) x × (any .0 < desk .each) ⌝ }
+    ensures { λ e. ⌜ ((c : Conj) (v : Var) → Line (now (k .entry)) c → Settled c → Named v x → Laid (now (out .entry)) at (valueWords any c v) (now (out .exit)) e) ⌝ }
 {
     let b = bound_to(k, x);
     match b {
-        Bound::To(from, to) => write_part(k, from, to, out, at),
+        Bound::To(from, to) => write_part(k, from, to, any, out, at),
         Bound::Free => {
-            let e = write_unsolved(k, x, out, at);
+            let e = write_unsolved(k, x, any, out, at);
             put(out, e, 0)
         }
     }

@@ -11,6 +11,9 @@ pub fn help() {
     say(b"desk solve FILE            the lines of a question\n");
     say(b"desk try FILE FILLING      whether a filling meets a question\n");
     say(b"desk example FILE LINE     a filling that meets a settled line; the first line is 0\n");
+    say(b"desk example --old-sheets FILE LINE\n");
+    say(b"                           the same; blanks that may be anything are then a0, and\n");
+    say(b"                           else the last symbol\n");
     say(b"\n");
     say(b"A file holds words in decimal; # begins a remark, and - is standard input.\n");
     say(b"The folder examples has some questions.\n");

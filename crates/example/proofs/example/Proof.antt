@@ -13,7 +13,7 @@ example-spec =
     let c₁ = c .before in let c₂ = c₁ .before .before .before .before .before .before in
     let c₃ = c₂ .before .before .before .before .before .before .before in
     let a = c₃ .args in
-    shown-refused (a .question .now) (a .work .now) (a .answer .now) (c₂ .solve .result) (c₂ .solve .ensures) (a .room .now) (a .line) (c₁ .outcome .given .1))
+    shown-refused (a .question .now) (a .work .now) (a .answer .now) (c₂ .solve .result) (c₂ .solve .ensures) (a .room .now) (a .line) (a .old) (c₁ .outcome .given .1))
     -- show-line-requires
     (λ c κs.
     let c₁ = c .before .before in let c₂ = c₁ .before .before .before .before .before in
@@ -25,4 +25,4 @@ example-spec =
     let c₁ = c .before .before in let c₂ = c₁ .before .before .before in let c₃ = c₂ .before .before .before .before .before in
     let c₄ = c₃ .before .before .before .before .before .before .before in
     let a = c₄ .args in
-    shown-answer (a .question .now) (a .work .now) (a .answer .now) (c₃ .solve .result) (c₃ .solve .ensures) (c₂ .match .keys2) (a .room .now) (a .line) (c₁ .show-line .ensures)))
+    shown-answer (a .question .now) (a .work .now) (a .answer .now) (c₃ .solve .result) (c₃ .solve .ensures) (c₂ .match .keys2) (a .room .now) (a .line) (a .old) (c₁ .show-line .ensures)))

@@ -26,7 +26,7 @@ returns c =
     let c₄ = c₃ .before .before .before .before in
     let a = c₄ .args in
     let n : length (take (c₂ .most .result) clear) ≡ c₂ .most .result = length-take-le _ clear (omega arith) in
-    let e = bytes-show (a .question .now) _ (a .room .now) (a .line) _ (c₃ .take-words .ensures .1 .0) (n ∙ c₂ .most .ensures .0) in
+    let e = bytes-show (a .question .now) _ (a .room .now) (a .line) (a .old) _ (c₃ .take-words .ensures .1 .0) (n ∙ c₂ .most .ensures .0) in
     (c₁ .show .ensures .0 ∙ ap showNumber e, c₁ .show .ensures .1 ∙ ap (λ (s : Showing). showLeaves s (a .room .now)) e)
 
 pub desk-example-spec : {M : Type 1} → statement M

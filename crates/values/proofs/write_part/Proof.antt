@@ -9,10 +9,10 @@ use Rattle.values.proofs.write_part.Statement.{statement}
 use Rattle.values.proofs.write_part.Tie as tie
 
 abbrev Inv-loop : tie.InvT-loop
-Inv-loop k from to out₀ at i₀ e₀ out i e = (length out ≡ length out₀) × Writing k from to out₀ at i out e
+Inv-loop k from to any out₀ at i₀ e₀ out i e = (length out ≡ length out₀) × Writing any k from to out₀ at i out e
 
 abbrev μ-loop : tie.MeasureT-loop
-μ-loop k from to out₀ at i₀ e₀ out i e = to - i
+μ-loop k from to any out₀ at i₀ e₀ out i e = to - i
 
 pub write-part-spec : {M : Type 1} → statement M
 write-part-spec =

@@ -10,4 +10,4 @@ write-unsolved-spec =
     (λ c κs. search needs) (λ c. search needs) (λ c κs. search needs) (λ c. search needs) (λ c κs. search needs) (λ c. search needs)
     (λ c d v s w. let t = c .before .before .before .before .before .before .before .expression-of .ensures in let a = c .before .before .write-sample .ensures in search (sample-laid))
     (λ c. search needs)
-    (λ c. default-written (c .before .before .before .before .before .before .expression-of .ensures) (c .before .before .before .before .enum-told .given .1) (c .before .before .write-default .ensures)))
+    (λ c. default-written (c .before .before .before .before .before .before .expression-of .ensures) (c .before .before .before .before .enum-told .given .1) _ (c .before .before .write-default .ensures)))

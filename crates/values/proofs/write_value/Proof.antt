@@ -14,4 +14,4 @@ write-value-spec =
     -- returns-2
     (λ c.
     let c₁ = c .before .before in let c₂ = c₁ .before .before .before .before in let c₃ = c₂ .before .before in let c₄ = c₃ .before .before in
-    free-laid (c₄ .bound-to .ensures) (c₃ .enum-told .given .1) (c₂ .write-unsolved .ensures) (c₁ .put .ensures)))
+    free-laid (c₄ .bound-to .ensures) _ (c₃ .enum-told .given .1) (c₂ .write-unsolved .ensures) (c₁ .put .ensures)))

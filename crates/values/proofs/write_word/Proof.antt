@@ -9,13 +9,13 @@ write-word-spec =
     tie.close (tie.spec
     (λ c κs. search needs) (λ c. search needs) (λ c κs. search needs) (λ c. search needs) (λ c κs. search needs) (λ c. search needs)
     (λ c κs. search needs) (λ c κs. search needs) (λ c κs. search needs) (λ c. search needs)
-    (λ c. wrote-term _ (c .before .before .before .before .before .before .before .classify .ensures) _ (c .before .before .before .before .before .y .given .1) (c .before .before .write-unsolved .ensures))
+    (λ c. wrote-term _ _ (c .before .before .before .before .before .before .before .classify .ensures) _ (c .before .before .before .before .before .y .given .1) (c .before .before .write-unsolved .ensures))
     (λ c. search needs)
-    (λ c. wrote-run _ (c .before .before .before .before .before .before .before .classify .ensures) _ (c .before .before .before .before .before .p .given .1) (c .before .before .write-unsolved2 .ensures))
+    (λ c. wrote-run _ _ (c .before .before .before .before .before .before .before .classify .ensures) _ (c .before .before .before .before .before .p .given .1) (c .before .before .write-unsolved2 .ensures))
     (λ c. search needs)
     -- returns-3
     (λ c.
     let c₁ = c .before .before in let c₂ = c₁ .before .before in let c₃ = c₂ .before in let c₄ = c₃ .before .before in
-    wrote-blank _ (c₄ .classify .ensures) _ (c₃ .enum-told .given .1) (c₂ .default-word .ensures) (c₁ .put .ensures))
+    wrote-blank _ _ (c₄ .classify .ensures) _ (c₃ .enum-told .given .1) (c₂ .symbol-word .ensures) (c₁ .put .ensures))
     (λ c. search needs)
-    (λ c. wrote-other _ (c .before .before .before .before .before .classify .ensures) (c .before .before .before .before .match .keys4) (c .before .before .put2 .ensures)))
+    (λ c. wrote-other _ _ (c .before .before .before .before .before .classify .ensures) (c .before .before .before .before .match .keys4) (c .before .before .put2 .ensures)))

@@ -9,10 +9,10 @@ use Rattle.example.proofs.sorts.write_values.Statement.{statement}
 use Rattle.example.proofs.sorts.write_values.Tie as tie
 
 abbrev Inv-loop : tie.InvT-loop
-Inv-loop k of count out₀ at j₀ e₀ out j e = (length out ≡ length out₀) × Written k of count out₀ at j out e
+Inv-loop k of count any out₀ at j₀ e₀ out j e = (length out ≡ length out₀) × Written k of count any out₀ at j out e
 
 abbrev μ-loop : tie.MeasureT-loop
-μ-loop k of count out₀ at j₀ e₀ out j e = count - j
+μ-loop k of count any out₀ at j₀ e₀ out j e = count - j
 
 pub write-values-spec : {M : Type 1} → statement M
 write-values-spec =
@@ -21,7 +21,7 @@ write-values-spec =
     -- write-value-requires
     (λ c κs.
     let c₁ = c .before in let c₂ = c₁ .before in let c₃ = c₂ .before .before .before .before in
-    let p = c₃ .pre in (p .1, named-numbered (c₃ .args .of) (c₂ .loop-test .taken) (p .0) (c₁ .numbered .ensures)))
+    let p = c₃ .pre in (p .1, named-numbered (c₃ .args .of) (c₂ .loop-test .taken) (p .0) (c₁ .numbered .ensures), p .2))
     (λ c. omega arith) (λ c. omega arith)
     -- loop-again
     (λ c.
