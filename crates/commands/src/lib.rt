@@ -140,9 +140,7 @@ fn show_line(question: &[u16], i: usize, old: bool) -> End {
     let mut line = [0u16; 1];
     let t = parse(&text[..n], &mut line);
     if t.line != 0 {
-        return End::Said(wrong_use(
-            b"a line is named by a number, and the first is 0",
-        ));
+        return End::Said(wrong_use(b"a line is named by a number, and the first is 0"));
     }
     show(question, place(line[0]), old)
 }

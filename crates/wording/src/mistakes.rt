@@ -20,7 +20,7 @@ enum Part {
 }
 
 // Where reading stands: how many hedges are open inside a side, or how many expressions are still to come.
-struct Stand {
+struct Reading {
     part: Part,
     depth: usize,
 }
@@ -30,13 +30,13 @@ fn deeper(depth: usize) -> usize {
     if depth < QUESTION { depth + 1 } else { depth }
 }
 
-fn begin(kind: Kind) -> Stand {
+fn begin(kind: Kind) -> Reading {
     match kind {
-        Kind::Equation => Stand {
+        Kind::Equation => Reading {
             part: Part::FirstSide,
             depth: 0,
         },
-        _ => Stand {
+        _ => Reading {
             part: Part::Hedge,
             depth: 0,
         },
@@ -44,17 +44,17 @@ fn begin(kind: Kind) -> Stand {
 }
 
 // The part behind a hedge.
-fn behind(part: Part) -> Stand {
+fn behind(part: Part) -> Reading {
     match part {
-        Part::FirstSide => Stand {
+        Part::FirstSide => Reading {
             part: Part::SecondSide,
             depth: 0,
         },
-        Part::Hedge => Stand {
+        Part::Hedge => Reading {
             part: Part::Expression,
             depth: 1,
         },
-        _ => Stand {
+        _ => Reading {
             part: Part::Literals,
             depth: 0,
         },
@@ -62,49 +62,49 @@ fn behind(part: Part) -> Stand {
 }
 
 // A hedge ends: its 0 is that of a symbol's children, or of the side.
-fn close(part: Part, depth: usize) -> Stand {
+fn close(part: Part, depth: usize) -> Reading {
     if depth == 0 {
         return behind(part);
     }
-    Stand {
+    Reading {
         part,
         depth: depth - 1,
     }
 }
 
-fn in_hedge(part: Part, depth: usize, kind: Kind) -> Stand {
+fn in_hedge(part: Part, depth: usize, kind: Kind) -> Reading {
     match kind {
         Kind::End => close(part, depth),
-        Kind::Symbol(_) | Kind::Function(_) => Stand {
+        Kind::Symbol(_) | Kind::Function(_) => Reading {
             part,
             depth: deeper(depth),
         },
-        _ => Stand { part, depth },
+        _ => Reading { part, depth },
     }
 }
 
 // An expression ends; the last that was to come ends the literal.
-fn end(depth: usize) -> Stand {
+fn end(depth: usize) -> Reading {
     if depth < 2 {
-        return Stand {
+        return Reading {
             part: Part::Literals,
             depth: 0,
         };
     }
-    Stand {
+    Reading {
         part: Part::Expression,
         depth: depth - 1,
     }
 }
 
-fn in_expression(depth: usize, kind: Kind) -> Stand {
+fn in_expression(depth: usize, kind: Kind) -> Reading {
     match kind {
         Kind::Eps => end(depth),
-        Kind::Cat | Kind::Alt => Stand {
+        Kind::Cat | Kind::Alt => Reading {
             part: Part::Expression,
             depth: deeper(depth),
         },
-        _ => Stand {
+        _ => Reading {
             part: Part::Expression,
             depth,
         },
@@ -112,7 +112,7 @@ fn in_expression(depth: usize, kind: Kind) -> Stand {
 }
 
 // Where reading stands after one word more.
-fn next(s: Stand, kind: Kind) -> Stand {
+fn next(s: Reading, kind: Kind) -> Reading {
     let part = s.part;
     match part {
         Part::Literals => begin(kind),
@@ -122,8 +122,8 @@ fn next(s: Stand, kind: Kind) -> Stand {
 }
 
 // Where reading stands at a place, from where the conjunctions begin: each that ends before it is literals.
-fn stand(question: &[u16], at: usize) -> Stand {
-    let mut s = Stand {
+fn stand(question: &[u16], at: usize) -> Reading {
+    let mut s = Reading {
         part: Part::Literals,
         depth: 0,
     };
