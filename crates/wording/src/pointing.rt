@@ -1,5 +1,5 @@
 // A word of a text, shown in its line with a mark below it.
-ghost use Prim.Native.Nat.{_≤_};
+ghost use Prim.Native.Nat.{_<_, _≤_};
 ghost use lib.ListN.{length};
 use language::limits::QUESTION;
 use print::warn;
@@ -16,6 +16,14 @@ fn has_more(text: &[u8], n: usize) -> bool {
     n < t.words
 }
 
+// A place of a text, halfway between two.
+fn halfway(text: &[u8], low: usize, high: usize) -> usize
+    requires { ⌜ (low < high) × (high ≤ length (now text)) ⌝ }
+    ensures { λ r. ⌜ (low ≤ r) × (r < high) × (r ≤ length (now (text .entry))) ⌝ }
+{
+    low + (high - low) / 2
+}
+
 // Where word n of a text begins: just before the end of the shortest beginning that has it. Of a text that has no such word, before its last byte.
 fn beginning(text: &[u8], n: usize) -> usize
     ensures { λ r. ⌜ r ≤ length (now (text .entry)) ⌝ }
@@ -23,8 +31,8 @@ fn beginning(text: &[u8], n: usize) -> usize
     let mut low = 0;
     let mut high = text.len();
     while low < high {
-        let middle = low + (high - low) / 2;
-        if has_more(&text[..middle], n) {
+        let middle = halfway(text, low, high);
+        if has_more(&text[0..middle], n) {
             high = middle;
         } else {
             low = middle + 1;
@@ -69,6 +77,17 @@ fn line_start(text: &[u8], at: usize) -> usize
     0
 }
 
+// No text that the desk takes has as many bytes.
+const BYTES: usize = 65536;
+
+// The number of the line behind a byte.
+fn next_line(line: usize, b: u8) -> usize {
+    if b != b'\n' {
+        return line;
+    }
+    if line < BYTES { line + 1 } else { line }
+}
+
 // The number of the line that a place stands in, from 1.
 fn line_number(text: &[u8], at: usize) -> usize
     requires { ⌜ at ≤ length (now text) ⌝ }
@@ -76,9 +95,7 @@ fn line_number(text: &[u8], at: usize) -> usize
     let mut line = 1;
     let mut i = 0;
     while i < at {
-        if text[i] == b'\n' {
-            line += 1;
-        }
+        line = next_line(line, text[i]);
         i += 1;
     }
     line
@@ -169,7 +186,7 @@ pub(crate) fn point(text: &[u8], n: usize, past: bool) {
     let at = if past { ending(text, word) } else { word };
     let start = line_start(text, word);
     if start <= at {
-        if at < text.len() + 1 {
+        if at < BYTES {
             show_place(line_number(text, word), at - start + 1);
         }
     }
