@@ -2,12 +2,13 @@
 use Prim.Native.Nat.{ℕ, _≤_}
 use mathlib.Core.Path.{_≡_, refl, sym, ap, _∙_}
 use mathlib.Core.Bool.{Bool, true, false}
-use mathlib.Core.List.{List}
+use mathlib.Core.List.{List, []}
 use native.Mathlib.Omega.{arith}
-use lib.Dec.{eqb}
+use lib.Dec.{leb, eqb}
 use lib.ListN.{length}
-use borrow.Author.Tests.{eqb-true, eqb-false}
+use borrow.Author.Tests.{leb-true, eqb-true, eqb-false}
 use Rattle.language.specs.declared.Refusal.{Refusal}
+use Rattle.language.specs.Kinds.{pick}
 use Rattle.language.specs.Limits.{Limits, desk}
 use Rattle.language.specs.Numbers.{numberOf, placeOf}
 use Rattle.language.specs.Question.{refuses, askedPlace, readQuestion}
@@ -31,6 +32,14 @@ inside L ws r p = on (eqb (numberOf r) 5) refl (eqb (numberOf r) 6) refl
     on false e true f = let h = p .six (eqb-true _ _ f) in omega (arith, h .high)
     on false e false f = let z = p .others (eqb-false _ _ e) (eqb-false _ _ f) in omega arith
 
+fitting-short : (n : ℕ) (ws : List ℕ) → length (fitting n ws) ≤ n
+unfolding fitting
+fitting-short n ws = on (leb (length ws) n) refl
+  where
+    on : (b : Bool) → leb (length ws) n ≡ b → length (pick b ws []) ≤ n
+    on true e = leb-true (length ws) n e
+    on false e = omega arith
+
 module _ (q ws : List ℕ) (lent : ws ≡ fitting (desk .question) (wordsIn q)) (c : Checked) (read : checkedNumbers c ≡ askedNumbers (readQuestion desk ws)) where
   same : readQuestion desk ws ≡ readQuestion desk (wordsIn q)
   same = ap (readQuestion desk) lent ∙ fitting-question (wordsIn q)
@@ -47,5 +56,5 @@ module _ (q ws : List ℕ) (lent : ws ≡ fitting (desk .question) (wordsIn q)) 
     unfolding placeBytes
     its-place = sym (ap askedPlace (sym same ∙ refused))
 
-    pub place-inside : placeOf r ≤ length ws
-    place-inside = inside desk ws r (place-right desk ws r refused)
+    pub place-short : placeOf r ≤ desk .question
+    place-short = omega (arith, inside desk ws r (place-right desk ws r refused), ap length lent, fitting-short (desk .question) (wordsIn q))
