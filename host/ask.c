@@ -77,7 +77,11 @@ int main(int argc, char **argv)
 
     uint32_t refusal = desk_solve(question, length, answer, sizeof answer);
     if (refusal != 0) {
-        printf("refused, number %u\n", refusal);
+        uint32_t place = desk_place(question, length);
+        printf("refused, number %u", refusal);
+        if (place != 0)
+            printf(", at word %u", place);
+        printf("\n");
         return EXIT_SUCCESS;
     }
     uint16_t lines = word(answer, 0);

@@ -26,8 +26,8 @@ enum desk_refusal {
     DESK_QUESTION_LENGTH = 2,  /* question: an odd count of bytes, under 6 or over 4,096 words */
     DESK_COUNT_RANGE = 3,      /* question: a count out of range */
     DESK_BAD_OFFSET = 4,       /* question: an offset missing or out of place */
-    DESK_NOT_LITERALS = 5,     /* question: a conjunction is not exactly literals */
-    DESK_UNDECLARED = 6,       /* question: a number that is not declared */
+    DESK_NOT_LITERALS = 5,     /* question: a conjunction is not exactly literals; desk_place says where */
+    DESK_UNDECLARED = 6,       /* question: a number that is not declared; desk_place says where */
     DESK_LONG_RESULT = 7,      /* run: a step's result passes 4,096 words */
     DESK_LONG_WAITING = 8,     /* run: the waiting conjunctions, two words more each, pass 16,384 */
     DESK_LINE_ROOM = 9,        /* run: a 513th line, or a line past the answer's end */
@@ -57,6 +57,13 @@ enum desk_refusal {
  * DESK_ANSWER_BYTES bytes are zeros. Later bytes are never touched. */
 uint32_t desk_solve(const uint8_t *question, size_t question_len,
                     uint8_t *answer, size_t answer_len);
+
+/* Where the mistake is for which a question is refused, as a word of the question,
+ * the first being 0. For 5 it is the first word that cannot continue a literal,
+ * or, where a conjunction breaks off, its end; for 6 the first number that is not
+ * declared. For a question that is refused with any other number, or with none,
+ * it is 0. This call itself refuses nothing. */
+uint32_t desk_place(const uint8_t *question, size_t question_len);
 
 /* What desk_try gives where it does not refuse. */
 #define DESK_NO 100

@@ -1,9 +1,9 @@
 // Words from a file, or from standard input where its name is -.
 ghost use Prim.Native.Nat.{_≤_};
+ghost use mathlib.Core.Path.{_≡_};
 ghost use lib.ListN.{length};
 use print::warn;
 use print::warn_number;
-use prompt::Text;
 use prompt::parse;
 
 fn is_dash(path: &[u8]) -> bool {
@@ -50,9 +50,33 @@ fn complain(path: &[u8], line: usize, column: usize) {
     );
 }
 
-// The words of the file that argument `i` names. Where it cannot be read that is said, and `line` is not 0.
-pub(crate) fn load(i: usize, words: &mut [u16]) -> Text
-    ensures { λ r. ⌜ r .words ≤ length (now (words .exit)) ⌝ }
+// Says which file argument `i` names.
+pub(crate) fn name_of(i: usize) {
+    let mut path = io::buffer();
+    let n = os::arg(i, &mut path);
+    name(&path[..n]);
+}
+
+// Whether a file was read, and how many bytes and words it has.
+pub(crate) struct Loaded {
+    pub fine: bool,
+    pub bytes: usize,
+    pub words: usize,
+}
+
+fn not_loaded() -> Loaded
+    ensures { λ r. ⌜ (r .bytes ≡ 0) × (r .words ≡ 0) ⌝ }
+{
+    Loaded {
+        fine: false,
+        bytes: 0,
+        words: 0,
+    }
+}
+
+// The bytes of the file that argument `i` names, at the start of `buf`, and their words. Where it cannot be read that is said.
+pub(crate) fn load(i: usize, buf: &mut [u8], words: &mut [u16]) -> Loaded
+    ensures { λ r. ⌜ (r .bytes ≤ length (now (buf .exit))) × (r .words ≤ length (now (words .exit))) ⌝ }
 {
     let mut path = io::buffer();
     let n = os::arg(i, &mut path);
@@ -60,27 +84,23 @@ pub(crate) fn load(i: usize, words: &mut [u16]) -> Text
     if !readable(fd) {
         warn(b"desk: ");
         os::fail(&path[..n]);
-        return Text {
-            words: 0,
-            line: 1,
-            column: 0,
-        };
+        return not_loaded();
     }
-    let mut buf = io::large_buffer();
-    let got = io::read_full(fd, &mut buf);
+    let got = io::read_full(fd, buf);
     libc::close(fd);
     if got == 65536 {
         name(&path[..n]);
         warn(b": more than 65,535 bytes\n");
-        return Text {
-            words: 0,
-            line: 1,
-            column: 0,
-        };
+        return not_loaded();
     }
     let text = parse(&buf[..got], words);
     if text.line != 0 {
         complain(&path[..n], text.line, text.column);
+        return not_loaded();
     }
-    text
+    Loaded {
+        fine: true,
+        bytes: got,
+        words: text.words,
+    }
 }

@@ -9,6 +9,7 @@ use arguments::is_last;
 use arguments::warn_of;
 use arguments::wrong_use;
 use files::load;
+use files::name_of;
 use language::Refusal;
 use language::limits::FILLING;
 use language::limits::QUESTION;
@@ -27,29 +28,31 @@ use wording::answer::answered;
 use wording::answer::filling;
 use wording::help::help;
 use wording::help::version;
+use wording::mistakes::mistake;
 use wording::refusals::refusal;
 
 fn wide(n: u16) -> u64 {
     n as u64
 }
 
-fn refuse(r: Refusal) -> u8 {
-    refusal(wide(language::number(r)));
-    FAILED
+// How a command ends: with a status, all being said, or with a refusal that is still to be said.
+enum End {
+    Said(u8),
+    Refused(Refusal),
 }
 
 // Says what solving came to.
-fn solved(s: Solved, answer: &[u16]) -> u8 {
+fn solved(s: Solved, answer: &[u16]) -> End {
     let outcome = s.outcome;
     match outcome {
-        Outcome::Refused(r) => refuse(r),
+        Outcome::Refused(r) => End::Refused(r),
         Outcome::NoLine => {
             answered(b"none: nothing meets the question\n", s, answer);
-            NOTHING
+            End::Said(NOTHING)
         }
         Outcome::AllSolved => {
             answered(b"settled: every line can be met\n", s, answer);
-            FOUND
+            End::Said(FOUND)
         }
         Outcome::SomeOpen => {
             answered(
@@ -57,43 +60,44 @@ fn solved(s: Solved, answer: &[u16]) -> u8 {
                 s,
                 answer,
             );
-            FOUND
+            End::Said(FOUND)
         }
     }
 }
 
-fn solve(question: &[u16]) -> u8 {
+fn solve(question: &[u16]) -> End {
     let mut work = [0u16; ROOM];
     let mut answer = [0u16; ROOM];
     let s = solver::solve(question, &mut work, &mut answer);
     solved(s, &answer)
 }
 
-fn tell(t: Tried) -> u8 {
+fn tell(t: Tried) -> End {
     match t {
         Tried::Yes => {
             say(b"yes: the filling meets the question\n");
-            FOUND
+            End::Said(FOUND)
         }
         Tried::No => {
             say(b"no: the filling does not meet the question\n");
-            NOTHING
+            End::Said(NOTHING)
         }
-        Tried::Refused(r) => refuse(r),
+        Tried::Refused(r) => End::Refused(r),
     }
 }
 
-fn attempt<'a>(question: &'a [u16], values: &'a [u16]) -> u8 {
+fn attempt<'a>(question: &'a [u16], values: &'a [u16]) -> End {
     let mut work = [0u16; ROOM];
     tell(trying::try_filling(question, values, &mut work))
 }
 
 // Whether the filling that argument `i` names meets the question.
-fn try_file(question: &[u16], i: usize) -> u8 {
+fn try_file(question: &[u16], i: usize) -> End {
+    let mut buf = io::large_buffer();
     let mut values = [0u16; 2 * FILLING];
-    let t = load(i, &mut values);
-    if t.line != 0 {
-        return FAILED;
+    let t = load(i, &mut buf, &mut values);
+    if !t.fine {
+        return End::Said(FAILED);
     }
     let n = t.words;
     attempt(question, &values[0..n])
@@ -107,17 +111,17 @@ fn show_words(question: &[u16], room: &[u16], n: usize) {
 }
 
 // Says what an example came to.
-fn shown<'a>(s: Shown, question: &'a [u16], room: &'a [u16]) -> u8 {
+fn shown<'a>(s: Shown, question: &'a [u16], room: &'a [u16]) -> End {
     match s {
         Shown::Shows(n) => {
             show_words(question, room, n);
-            FOUND
+            End::Said(FOUND)
         }
-        Shown::Denied(r) => refuse(r),
+        Shown::Denied(r) => End::Refused(r),
     }
 }
 
-fn show(question: &[u16], line: usize, old: bool) -> u8 {
+fn show(question: &[u16], line: usize, old: bool) -> End {
     let mut work = [0u16; ROOM];
     let mut answer = [0u16; ROOM];
     let mut room = [0u16; FILLING];
@@ -130,13 +134,13 @@ fn place(n: u16) -> usize {
 }
 
 // The example of the line that argument `i` names, for old training sheets or not.
-fn show_line(question: &[u16], i: usize, old: bool) -> u8 {
+fn show_line(question: &[u16], i: usize, old: bool) -> End {
     let mut text = io::buffer();
     let n = os::arg(i, &mut text);
     let mut line = [0u16; 1];
     let t = parse(&text[..n], &mut line);
     if t.line != 0 {
-        return wrong_use(b"a line is named by a number, and the first is 0");
+        return End::Said(wrong_use(b"a line is named by a number, and the first is 0"));
     }
     show(question, place(line[0]), old)
 }
@@ -149,7 +153,7 @@ enum Command {
 }
 
 // Does what is asked with a question; argument `i` says more.
-fn ask(command: Command, question: &[u16], i: usize) -> u8 {
+fn ask(command: Command, question: &[u16], i: usize) -> End {
     match command {
         Command::Solve => solve(question),
         Command::Try => try_file(question, i),
@@ -158,17 +162,37 @@ fn ask(command: Command, question: &[u16], i: usize) -> u8 {
     }
 }
 
+// Says why a question is refused, and shows the word that is to blame, if one is. Its text is that of the file that argument `i` names.
+fn refuse<'a>(r: Refusal, question: &'a [u16], text: &'a [u8], i: usize) -> u8 {
+    refusal(wide(language::number(r)));
+    if language::place(r) != 0 {
+        name_of(i);
+        mistake(r, question, text);
+    }
+    FAILED
+}
+
+fn ended<'a>(end: End, question: &'a [u16], text: &'a [u8], i: usize) -> u8 {
+    match end {
+        End::Said(status) => status,
+        End::Refused(r) => refuse(r, question, text, i),
+    }
+}
+
 // Does what is asked with the question of the file that argument `i` names.
 fn with_question(command: Command, i: usize) -> u8
     requires { ⌜ i < 11 ⌝ }
 {
+    let mut buf = io::large_buffer();
     let mut words = [0u16; 2 * QUESTION];
-    let t = load(i, &mut words);
-    if t.line != 0 {
+    let t = load(i, &mut buf, &mut words);
+    if !t.fine {
         return FAILED;
     }
     let n = t.words;
-    ask(command, &words[0..n], i + 1)
+    let m = t.bytes;
+    let end = ask(command, &words[0..n], i + 1);
+    ended(end, &words[0..n], &buf[0..m], i)
 }
 
 // The command that argument `i` names takes the file behind it, and to solve a question nothing more.

@@ -9,6 +9,7 @@ use lib.ListN.{length, take}
 use Rattle.language.specs.declared.Refusal.{Refusal}
 use Rattle.language.specs.declared.Refusal.the-variants.{LongLiteral, LongExample}
 use Rattle.language.specs.Limits.{desk}
+use Rattle.language.specs.Mistakes.{RightPlace}
 use Rattle.language.specs.Numbers.{numberOf}
 use Rattle.language.specs.Trees.{Question}
 use Rattle.language.specs.Question.{asks, readQuestion}
@@ -24,18 +25,19 @@ use Rattle.host.specs.Numbers.{asksOld}
 use Rattle.demands.specs.Solves.{Solve}
 use Rattle.demands.specs.Tries.{Try}
 use Rattle.demands.specs.Examples.{Example}
-use Rattle.demands.specs.HostCalls.{DeskSolve, DeskTry, DeskExample}
+use Rattle.demands.specs.HostCalls.{DeskSolve, DeskTry, DeskExample, DeskPlace}
 use Rattle.demands.specs.Answers.{Line, nthLine}
 use Rattle.demands.specs.Promises.{Promised, Answered, exampleWords, RoomShows, Told}
 use Rattle.demands.specs.Table.{SolveFault, TryFault, First}
 use Rattle.demands.specs.Tells.{SolveTells, TryTells, ExampleTells, TryAgrees}
-use Rattle.demands.specs.HostTells.{DeskSolveTells, DeskTryTells, DeskTryAgrees, BytesTold, DeskExampleTells}
+use Rattle.demands.specs.HostTells.{DeskSolveTells, DeskTryTells, DeskTryAgrees, BytesTold, DeskExampleTells, DeskPlaceTells}
 use Rattle.demands.proofs.Between as between
 use Rattle.demands.proofs.Solving as solving
 use Rattle.demands.proofs.Showing as showing
 use Rattle.demands.proofs.Trying as trying
 use Rattle.demands.proofs.Given as given
 use Rattle.demands.proofs.Hosting as hosting
+use Rattle.demands.proofs.Places as places
 
 -- ---- demand 1: it refuses a bad question itself, and what it leaves is fixed
 
@@ -62,6 +64,17 @@ example-tells = showing.tells
 pub example-given : (c : Example) (e : Refusal) → numberOf e ≤ 10
     → (c .returned ≡ Denied e) ↔ First (SolveFault (length (c .work)) (length (c .answer)) (c .question)) e
 example-given = showing.example-given
+
+-- The place that comes back with 5 and 6 is that of the mistake: for 5 the first word that cannot continue a literal, or the conjunction's end, and
+-- for 6 the first undeclared number. With every other number it is 0.
+pub solve-place : (c : Solve) (e : Refusal) → c .returned .outcome ≡ Refused e → RightPlace desk (c .question) e
+solve-place = places.solve-right
+
+pub try-place : (t : Try) (e : Refusal) → t .returned ≡ tried.Refused e → RightPlace desk (t .question) e
+try-place = places.try-right
+
+pub example-place : (c : Example) (e : Refusal) → c .returned ≡ Denied e → RightPlace desk (c .question) e
+example-place = places.example-right
 
 -- ---- demand 2 and demand 3, of an answer
 
@@ -140,3 +153,7 @@ desk-example-tells = hosting.example-tells
 pub desk-example-follows : (s : DeskSolve) → s .number ≡ 0 → (c : DeskExample) → s .question ≡ c .question → (p : Promised (wordsIn (s .question)) (wordsOf (s .answerLeft)))
     → BytesTold (asksOld (c .old)) (p .asked .counts) (nthLine (c .line) (p .lines)) (c .room) (c .number) (c .roomLeft)
 desk-example-follows = hosting.example-follows
+
+-- desk_place gives the place of the question's first fault, by the table's order, and 0 where it has none.
+pub desk-place-tells : (c : DeskPlace) → DeskPlaceTells c
+desk-place-tells = places.place-tells

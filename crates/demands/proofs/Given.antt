@@ -35,12 +35,12 @@ use Rattle.demands.specs.Tells.{TryTells}
 use Rattle.demands.proofs.Said.{solve-said, try-said}
 use Rattle.demands.proofs.Numbers.{first-one}
 use Rattle.demands.proofs.Columns.{early-column}
-use Rattle.demands.proofs.Faults.{Judged, question-judged}
-use Rattle.demands.proofs.Judging.{SolveJudged, solve-judged, Given-as, given-as, TryJudged, try-judged}
+use Rattle.demands.proofs.Faults.{Judged, question-judged, placeFor}
+use Rattle.demands.proofs.Judging.{SolveJudged, solve-judged, solve-place, Given-as, given-as, TryJudged, try-judged, try-place}
 
 -- ---- solving
 
-no-verdict : {A : Type 0} (v : Verdict) (r : Refusal) → verdict v ≡ Refused r → A
+pub no-verdict : {A : Type 0} (v : Verdict) (r : Refusal) → verdict v ≡ Refused r → A
 no-verdict noLine r d = absurd (let z : _≡_ {A = ℕ} 0 1 = cc in omega arith)
 no-verdict allSolved r d = absurd (let z : _≡_ {A = ℕ} 0 1 = cc in omega arith)
 no-verdict someOpen r d = absurd (let z : _≡_ {A = ℕ} 0 1 = cc in omega arith)
@@ -65,8 +65,8 @@ module _ (c : Solve) (e : Refusal) where
       by : (v : Solving) → _≡_ {A = Left} (c .returned, c .workLeft, c .answerLeft) (leaves v (c .work) (c .answer)) → SolveJudged (length (c .work)) (length (c .answer)) (c .question) v
           → (c .returned .outcome ≡ Refused e) ↔ First Fault e
       by (answered ls n) f j = (λ d. no-verdict (verdictOf ls) e (sym (outcome-is (answered ls n) f) ∙ d), λ g. absurd (j e (g .here)))
-      by (unread r) f j = (λ d. rw (← refused-one (outcome-is (unread r) f) d) j, λ g. outcome-is (unread r) f ∙ ap Refused (first-one Fault r e j g))
-      by (given-up r) f j = (λ d. rw (← refused-one (outcome-is (given-up r) f) d) j, λ g. outcome-is (given-up r) f ∙ ap Refused (first-one Fault r e j g))
+      by (unread r) f j = (λ d. rw (← refused-one (outcome-is (unread r) f) d) j, λ g. outcome-is (unread r) f ∙ ap Refused (first-one Fault (placeFor (c .question)) (solve-place (length (c .work)) (length (c .answer)) (c .question)) r e j g))
+      by (given-up r) f j = (λ d. rw (← refused-one (outcome-is (given-up r) f) d) j, λ g. outcome-is (given-up r) f ∙ ap Refused (first-one Fault (placeFor (c .question)) (solve-place (length (c .work)) (length (c .answer)) (c .question)) r e j g))
 
 -- ---- trying
 
@@ -77,7 +77,7 @@ module _ (t : Try) (e : Refusal) where
   tried-one : {r : Refusal} {o : Tried} → o ≡ tried.Refused r → o ≡ tried.Refused e → r ≡ e
   tried-one p q = cc
 
-  not-tried : {A P : Type 0} {o : Tried} → Answers P o → o ≡ tried.Refused e → A
+  pub not-tried : {A P : Type 0} {o : Tried} → Answers P o → o ≡ tried.Refused e → A
   not-tried (inl a) d = absurd (let b = a .0 in let z : _≡_ {A = ℕ} 0 1 = cc in omega arith)
   not-tried (inr a) d = absurd (let b = a .0 in let z : _≡_ {A = ℕ} 0 1 = cc in omega arith)
 
@@ -86,8 +86,8 @@ module _ (t : Try) (e : Refusal) where
     where
       by : (v : Trying) → Tries v (t .returned) (t .work) (t .workLeft) → TryJudged (length (t .work)) (t .question) (t .filling) v → (t .returned ≡ tried.Refused e) ↔ First Faults e
       by (decides q ρ) o j = (λ d. not-tried (o .0) d, λ g. absurd (j e (g .here)))
-      by (calls.unread r) o j = (λ d. rw (← tried-one (o .0) d) j, λ g. o .0 ∙ ap tried.Refused (first-one Faults r e j g))
-      by (calls.given-up r) o j = (λ d. rw (← tried-one (o .0) d) j, λ g. o .0 ∙ ap tried.Refused (first-one Faults r e j g))
+      by (calls.unread r) o j = (λ d. rw (← tried-one (o .0) d) j, λ g. o .0 ∙ ap tried.Refused (first-one Faults (placeFor (t .question)) (try-place (length (t .work)) (t .question) (t .filling)) r e j g))
+      by (calls.given-up r) o j = (λ d. rw (← tried-one (o .0) d) j, λ g. o .0 ∙ ap tried.Refused (first-one Faults (placeFor (t .question)) (try-place (length (t .work)) (t .question) (t .filling)) r e j g))
 
 -- ---- which numbers trying gives, and what it leaves
 
@@ -95,8 +95,8 @@ question-number : (ws : List ℕ) (e : Refusal) → QuestionFault ws e → numbe
 question-number ws e (bad-length i _) = let z = ap numberOf i in omega arith
 question-number ws e (bad-count i _) = let z = ap numberOf i in omega arith
 question-number ws e (bad-offset i _) = let z = ap numberOf i in omega arith
-question-number ws e (not-literals i _) = let z = ap numberOf i in omega arith
-question-number ws e (undeclared i _ _ _) = let z = ap numberOf i in omega arith
+question-number ws e (not-literals n i _) = let z = ap numberOf i in omega arith
+question-number ws e (undeclared i _ _ _ _) = let z = ap numberOf i in omega arith
 
 -- 1 to 6, 11 and 12 change nothing; 13 leaves zeros
 abbrev Trying-as : Trying → Type 0

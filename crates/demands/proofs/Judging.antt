@@ -1,6 +1,6 @@
 -- Solving and trying refuse exactly for their first fault.
 use Prim.Native.Nat.{ℕ, _<_}
-use mathlib.Core.Path.{_≡_, refl, ap}
+use mathlib.Core.Path.{_≡_, refl, sym, ap, _∙_}
 use mathlib.Core.Logic.{_⊎_, inl, inr}
 use mathlib.Core.Bool.{Bool, true, false, _&&_}
 use mathlib.Core.List.{List}
@@ -12,7 +12,7 @@ use lib.ListN.{length, getD}
 use Rattle.language.specs.declared.Refusal.{Refusal}
 use Rattle.language.specs.declared.Refusal.the-variants.{ShortSlice, FillingLayout, FillingValue, LongLiteral}
 use Rattle.language.specs.Limits.{desk}
-use Rattle.language.specs.Numbers.{numberOf}
+use Rattle.language.specs.Numbers.{numberOf, placeOf}
 use Rattle.language.specs.Trees.{Counts, Question}
 use Rattle.language.specs.Question.{Asked, asks, refuses, readQuestion, laidOut, parts}
 use Rattle.language.proofs.Bools.{both-true}
@@ -25,10 +25,11 @@ use Rattle.rules.specs.Answer.{Solving, answered, unread, given-up, ran, solvin
 use Rattle.rules.specs.Calls.{Trying, decides, tooLong, tryingWith, tryingOf, trying}
 use Rattle.rules.specs.Calls as calls
 use Rattle.host.proofs.Refusals.{each-number}
+use Rattle.demands.specs.Runs.{Stops, long-result, long-waiting, no-line-fits, no-step-left}
 use Rattle.demands.specs.Table.{QuestionFault, SolveFault, LayoutOff, TryFault, First}
 use Rattle.demands.specs.Table as table
 use Rattle.demands.proofs.Runs.{stopped-run, refused-stops}
-use Rattle.demands.proofs.Faults.{either-false, Judged, question-judged}
+use Rattle.demands.proofs.Faults.{either-false, Judged, question-judged, placeFor, fault-place}
 
 one-question : {a : Asked} {q r : Question} → a ≡ asks q → a ≡ asks r → q ≡ r
 one-question d e = cc
@@ -51,6 +52,17 @@ module _ (work answer : ℕ) (ws : List ℕ) where
   SolveJudged (answered ls n) = (e : Refusal) → Fault e → ⊥
   SolveJudged (unread r) = First Fault r
   SolveJudged (given-up r) = First Fault r
+
+  pub solve-place : (d : Refusal) → Fault d → placeOf d ≡ placeFor ws (numberOf d)
+  solve-place d (table.short-slice e _) = ap placeOf e ∙ sym (ap (λ r. placeFor ws (numberOf r)) e)
+  solve-place d (table.in-question f) = fault-place ws d f
+  solve-place d (table.in-run q read s) = on s
+    where
+      on : Stops desk (q .alternatives) d → placeOf d ≡ placeFor ws (numberOf d)
+      on (long-result e _ _ _ _ _ _) = ap placeOf e ∙ sym (ap (λ r. placeFor ws (numberOf r)) e)
+      on (long-waiting e _ _ _ _ _ _ _) = ap placeOf e ∙ sym (ap (λ r. placeFor ws (numberOf r)) e)
+      on (no-line-fits e _ _ _ _ _) = ap placeOf e ∙ sym (ap (λ r. placeFor ws (numberOf r)) e)
+      on (no-step-left e _ _ _ _ _) = ap placeOf e ∙ sym (ap (λ r. placeFor ws (numberOf r)) e)
 
   short-first : (work < desk .room) ⊎ (answer < desk .room) → First Fault ShortSlice
   short-first o = record { here = table.short-slice refl o; none-before = λ d p f. nothing-before-1 d ShortSlice refl p }
@@ -161,6 +173,13 @@ module _ (work : ℕ) (ws fs : List ℕ) where
   TryJudged (decides q ρ) = (e : Refusal) → TryFaults e → ⊥
   TryJudged (calls.unread r) = First TryFaults r
   TryJudged (calls.given-up r) = First TryFaults r
+
+  pub try-place : (d : Refusal) → TryFaults d → placeOf d ≡ placeFor ws (numberOf d)
+  try-place d (table.short-slice e _) = ap placeOf e ∙ sym (ap (λ r. placeFor ws (numberOf r)) e)
+  try-place d (table.in-question f) = fault-place ws d f
+  try-place d (table.bad-layout e _ _ _) = ap placeOf e ∙ sym (ap (λ r. placeFor ws (numberOf r)) e)
+  try-place d (table.bad-value e _ _ _) = ap placeOf e ∙ sym (ap (λ r. placeFor ws (numberOf r)) e)
+  try-place d (table.long-literal e _ _ _ _ _) = ap placeOf e ∙ sym (ap (λ r. placeFor ws (numberOf r)) e)
 
   module _ (long : work < desk .room → ⊥) where
     module _ (q : Question) (asked : readQuestion desk ws ≡ asks q) (clear : (d : Refusal) → QuestionFault ws d → ⊥) where

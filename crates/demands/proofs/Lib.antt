@@ -12,4 +12,5 @@ pub mod Solving
 pub mod Showing
 pub mod Trying
 pub mod Hosting
+pub mod Places
 pub mod Demands

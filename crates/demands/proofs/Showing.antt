@@ -42,15 +42,16 @@ use Rattle.demands.proofs.Promising.{From, promise, tell}
 use Rattle.demands.proofs.Between.{stands, one-answer, long-enough}
 use Rattle.demands.proofs.Columns.{early-column, late-column}
 use Rattle.demands.proofs.Numbers.{first-one}
-use Rattle.demands.proofs.Judging.{SolveJudged, solve-judged}
+use Rattle.demands.proofs.Faults.{placeFor}
+use Rattle.demands.proofs.Judging.{SolveJudged, solve-judged, solve-place}
 use Rattle.demands.proofs.Solving.{solves}
 
 -- what comes back, the two slices and the room
-abbrev Left : Type 0
+abbrev pub Left : Type 0
 Left = Shown × List ℕ × List ℕ × List ℕ
 
 -- where there is an answer, a refusal has a number from 14 on
-late-number : (oldSheets : Bool) (n : Counts) (room : ℕ) (e : Refusal) (o : Option Numbered) → resultOf (shown desk oldSheets n room o) ≡ Denied e → 14 ≤ numberOf e
+pub late-number : (oldSheets : Bool) (n : Counts) (room : ℕ) (e : Refusal) (o : Option Numbered) → resultOf (shown desk oldSheets n room o) ≡ Denied e → 14 ≤ numberOf e
 late-number oldSheets n room e none d = let z : NoSuchLine ≡ e = cc in let y = ap numberOf z in omega arith
 late-number oldSheets n room e (some k) d = go (solved (k .literals)) d
   where
@@ -63,19 +64,19 @@ late-number oldSheets n room e (some k) d = go (solved (k .literals)) d
     go false d = let z : OpenLine ≡ e = cc in let y = ap numberOf z in omega arith
 
 module _ (c : Example) where
-  abbrev came : Left
+  abbrev pub came : Left
   came = (c .returned, c .workLeft, c .answerLeft, c .roomLeft)
 
-  abbrev comes : Solving
+  abbrev pub comes : Solving
   comes = solving desk (length (c .work)) (length (c .answer)) (c .question)
 
-  abbrev left : Solving → Left
+  abbrev pub left : Solving → Left
   left v =
       let s = showingOf desk (c .oldSheets) (countsOf (c .question)) (length (c .room)) (c .line) v in
       let l = leaves v (c .work) (c .answer) in
       (resultOf s, l .1, l .2, roomOf s (c .room))
 
-  says : came ≡ left comes
+  pub says : came ≡ left comes
   unfolding exhibits showing
   says = example-said c
 
@@ -133,8 +134,8 @@ module _ (c : Example) where
         λ d. absurd (let p = late-number (c .oldSheets) (countsOf (c .question)) (length (c .room)) e (lineAt (c .line) ls) (sym (ap (λ (x : Left). x .0) f) ∙ d) in omega arith),
         λ g. absurd (j e (g .here)),
       )
-      by (unread r) f j = let is = ap (λ (x : Left). x .0) f in (λ d. rw (← same is d) j, λ g. is ∙ ap Denied (first-one (SolveFault (length (c .work)) (length (c .answer)) (c .question)) r e j g))
-      by (given-up r) f j = let is = ap (λ (x : Left). x .0) f in (λ d. rw (← same is d) j, λ g. is ∙ ap Denied (first-one (SolveFault (length (c .work)) (length (c .answer)) (c .question)) r e j g))
+      by (unread r) f j = let is = ap (λ (x : Left). x .0) f in (λ d. rw (← same is d) j, λ g. is ∙ ap Denied (first-one (SolveFault (length (c .work)) (length (c .answer)) (c .question)) (placeFor (c .question)) (solve-place (length (c .work)) (length (c .answer)) (c .question)) r e j g))
+      by (given-up r) f j = let is = ap (λ (x : Left). x .0) f in (λ d. rw (← same is d) j, λ g. is ∙ ap Denied (first-one (SolveFault (length (c .work)) (length (c .answer)) (c .question)) (placeFor (c .question)) (solve-place (length (c .work)) (length (c .answer)) (c .question)) r e j g))
 
   -- a length comes back only with a filling of so many words that meets the line asked for,
   pub shows-so : (m : ℕ) → c .returned ≡ Shows m

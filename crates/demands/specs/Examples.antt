@@ -21,7 +21,7 @@ pub record Example : Type 0 where
   pub workLeft : List ℕ
   pub answerLeft : List ℕ
   pub roomLeft : List ℕ
-  pub said : _≡_ {A = (ℕ × ℕ) × List ℕ × List ℕ × List ℕ} (shownNumbers returned, workLeft, answerLeft, roomLeft) (toldExhibits line oldSheets question work answer room)
+  pub said : _≡_ {A = (ℕ × ℕ × ℕ) × List ℕ × List ℕ × List ℕ} (shownNumbers returned, workLeft, answerLeft, roomLeft) (toldExhibits line oldSheets question work answer room)
 
 -- any outcome that the contract itself allows is one
 abbrev pub allowed : Call example.ended example.Reads.Pre example.Reads.Post → Example

@@ -1,13 +1,14 @@
--- Calls on bytes that came back: desk_solve(question, answer), desk_try(question, filling), desk_example(question, line, old, room).
+-- Calls on bytes that came back: desk_place(question), desk_solve(question, answer), desk_try(question, filling), desk_example(question, line, old, room).
 use Prim.Native.Nat.{ℕ}
 use mathlib.Core.Path.{_≡_}
 use mathlib.Core.List.{List}
 use lib.ListN.{length}
 use Rattle.language.specs.Limits.{desk}
-use Rattle.host.specs.Host.{solvingBytes, solveNumber, solveLeaves, tryingBytes, TryNumber, showingBytes, showNumber, showLeaves}
+use Rattle.host.specs.Host.{solvingBytes, solveNumber, solveLeaves, tryingBytes, TryNumber, showingBytes, showNumber, showLeaves, placeBytes}
 use Rattle.host.proofs.desk_solve as desk-solve
 use Rattle.host.proofs.desk_try as desk-try
 use Rattle.host.proofs.desk_example as desk-example
+use Rattle.host.proofs.desk_place as desk-place
 use Rattle.demands.specs.Calls.{Call}
 
 -- ---- desk_solve
@@ -55,3 +56,13 @@ example-allowed c = record {
   roomLeft = c .outcome .1 .1 .1 .1 .0;
   said = c .said;
 }
+
+-- ---- desk_place
+
+pub record DeskPlace : Type 0 where
+  pub question : List ℕ
+  pub number : ℕ
+  pub said : number ≡ placeBytes desk question
+
+abbrev pub place-allowed : Call desk-place.ended desk-place.Reads.Pre desk-place.Reads.Post → DeskPlace
+place-allowed c = record { question = c .arguments .0 .now; number = c .outcome .0; said = c .said }

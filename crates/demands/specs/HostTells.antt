@@ -8,7 +8,8 @@ use mathlib.Core.Option.{Option}
 use lib.ListN.{length, drop}
 use Rattle.language.specs.declared.Refusal.{Refusal}
 use Rattle.language.specs.Limits.{desk}
-use Rattle.language.specs.Numbers.{numberOf}
+use Rattle.language.specs.Mistakes.{RightPlace}
+use Rattle.language.specs.Numbers.{numberOf, placeOf}
 use Rattle.language.specs.Trees.{Counts}
 use Rattle.meaning.specs.Meaning.{Filling}
 use Rattle.meaning.specs.Values.{gives, readFilling}
@@ -18,10 +19,10 @@ use Rattle.outcomes.specs.declared.Shown.the-variants.{Shows, Denied}
 use Rattle.word_bytes.specs.Bytes.{wordsOf, bytesOf, wordsIn}
 use Rattle.host.specs.Numbers.{asksOld}
 use Rattle.demands.specs.Columns.{Column, unchanged, zeroed, as-solved, column}
-use Rattle.demands.specs.HostCalls.{DeskSolve, DeskTry, DeskExample}
+use Rattle.demands.specs.HostCalls.{DeskSolve, DeskTry, DeskExample, DeskPlace}
 use Rattle.demands.specs.Answers.{Line, numberedOf, MeetsLines, nthLine}
 use Rattle.demands.specs.Promises.{Promised, Told}
-use Rattle.demands.specs.Table.{SolveFault, TryFault, First}
+use Rattle.demands.specs.Table.{QuestionFault, SolveFault, TryFault, First}
 
 -- the same column, in bytes
 abbrev pub leftInBytes : Column → List ℕ → List ℕ → List ℕ
@@ -64,3 +65,8 @@ pub data DeskExampleTells (c : DeskExample) : Type 0 where
       → c .roomLeft ≡ c .room → DeskExampleTells c
   told : (answer : List ℕ) (p : Promised (wordsIn (c .question)) answer) → BytesTold (asksOld (c .old)) (p .asked .counts) (nthLine (c .line) (p .lines)) (c .room) (c .number) (c .roomLeft)
       → DeskExampleTells c
+
+-- Where the question has a fault, the place of the first; and where it has none, 0.
+pub data DeskPlaceTells (c : DeskPlace) : Type 0 where
+  faulty : (e : Refusal) → First (QuestionFault (wordsIn (c .question))) e → RightPlace desk (wordsIn (c .question)) e → c .number ≡ placeOf e → DeskPlaceTells c
+  faultless : ((e : Refusal) → QuestionFault (wordsIn (c .question)) e → ⊥) → c .number ≡ 0 → DeskPlaceTells c

@@ -1,17 +1,19 @@
 -- The table of numbers: "given exactly when". Each condition by itself, and the first of them.
-use Prim.Native.Nat.{ℕ, _<_}
+use Prim.Native.Nat.{ℕ, _+_, _<_}
 use mathlib.Core.Path.{_≡_}
 use mathlib.Core.Logic.{_⊎_}
 use mathlib.Core.Bool.{true, false}
 use mathlib.Core.List.{List}
-use mathlib.Core.Option.{none, some}
-use lib.ListN.{length, getD}
+use mathlib.Core.Option.{none}
+use lib.ListN.{length, drop, getD}
 use Rattle.language.specs.declared.Refusal.{Refusal}
 use Rattle.language.specs.declared.Refusal.the-variants.{ShortSlice, QuestionLength, CountRange, BadOffset, NotLiterals, Undeclared, FillingLayout, FillingValue, LongLiteral}
 use Rattle.language.specs.Limits.{desk}
 use Rattle.language.specs.Numbers.{numberOf}
 use Rattle.language.specs.Trees.{Conj, Counts, Question}
-use Rattle.language.specs.Question.{asks, readQuestion, countsOf, alternativesOf, laidOut, parts, readAll, declaredQ}
+use Rattle.language.specs.Reading.{got, stop}
+use Rattle.language.specs.Question.{asks, readQuestion, countsOf, alternativesOf, bodyAt, laidOut, parts, readAll, declaredQ}
+use Rattle.language.specs.Undeclared.{undeclaredAt}
 use Rattle.meaning.specs.Meaning.{Filling}
 use Rattle.meaning.specs.Values.{gives, readFilling, variables, forms, valuesOf}
 use Rattle.rules.specs.Calls.{tooLong}
@@ -31,10 +33,11 @@ pub data QuestionFault (ws : List ℕ) (e : Refusal) : Type 0 where
   bad-count : e ≡ CountRange → OutOfRange (countsOf ws) (alternativesOf ws) → QuestionFault ws e
   -- "an offset missing or not as above"
   bad-offset : e ≡ BadOffset → laidOut 5 (alternativesOf ws) ws ≡ false → QuestionFault ws e
-  -- "a conjunction is not exactly literals"
-  not-literals : e ≡ NotLiterals → readAll desk (parts 5 (alternativesOf ws) ws) ≡ none → QuestionFault ws e
-  -- "an undeclared number"
-  undeclared : e ≡ Undeclared → (ks : List Conj) → readAll desk (parts 5 (alternativesOf ws) ws) ≡ some ks → declaredQ (countsOf ws) ks ≡ false → QuestionFault ws e
+  -- "a conjunction is not exactly literals": reading them stops, after so many words
+  not-literals : (n : ℕ) → e ≡ NotLiterals (bodyAt ws + n) → readAll desk (parts 5 (alternativesOf ws) ws) ≡ stop n → QuestionFault ws e
+  -- "an undeclared number", of which the first counts
+  undeclared : e ≡ Undeclared (bodyAt ws + undeclaredAt desk (countsOf ws) (drop (bodyAt ws) ws)) → (ks : List Conj) (n : ℕ)
+      → readAll desk (parts 5 (alternativesOf ws) ws) ≡ got ks n → declaredQ (countsOf ws) ks ≡ false → QuestionFault ws e
 
 -- ---- solving: 1 to 10
 

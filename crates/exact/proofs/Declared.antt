@@ -4,12 +4,12 @@ use mathlib.Core.Path.{_≡_, refl}
 use mathlib.Core.Logic.{_↔_}
 use mathlib.Core.Bool.{Bool, true, false, _&&_}
 use mathlib.Core.List.{List, [], _∷_}
-use mathlib.Core.Option.{Option, none, some}
 use lib.Dec.{T}
 use Rattle.language.specs.Limits.{Limits}
 use Rattle.language.specs.declared.Refusal.{Refusal}
-use Rattle.language.specs.declared.Refusal.the-variants.{QuestionLength, CountRange, BadOffset, NotLiterals, Undeclared}
+use Rattle.language.specs.declared.Refusal.the-variants.{QuestionLength, CountRange, BadOffset}
 use Rattle.language.specs.Trees.{Functor, symbol, fvar, Hedge, ε, tvar, hvar, node, Expr, eps, cat, alt, star, over, Literal, eqn, mem, Conj, Counts, Question, tv, hv, fv}
+use Rattle.language.specs.Reading.{Got, got, stop}
 use Rattle.language.specs.Question.{countsOf, alternativesOf, lengthFits, countsFit, laidOut, parts, readAll, declaredS, declaredT, declaredH, declaredX, declaredF, declared, declaredE, declaredL, declaredC, declaredQ, Asked, asks, refuses, readQuestion}
 use Rattle.rules.specs.Run.{Numbered, EachLine, finished, run}
 use Rattle.rules.specs.Each.{Each}
@@ -95,9 +95,9 @@ module _ (P : Question → Type 0) where
   passes true r a p = p tt
   passes false r a p = tt
 
-  pub reads : (m : Option (List Conj)) (r : Refusal) (a : List Conj → Asked) → ((ks : List Conj) → Asks (a ks)) → Asks (elim m [ none ↦ refuses r | some ks ↦ a ks ])
-  reads none r a p = tt
-  reads (some ks) r a p = p ks
+  pub reads : (m : Got (List Conj)) (r : ℕ → Refusal) (a : List Conj → Asked) → ((ks : List Conj) → Asks (a ks)) → Asks (elim m [ stop n ↦ refuses (r n) | got ks n ↦ a ks ])
+  reads (stop n) r a p = tt
+  reads (got ks n) r a p = p ks
 
 -- The alternatives of a question that is read are declared by its own counts, which are its first words.
 abbrev Right : List ℕ → Question → Type 0
@@ -109,8 +109,8 @@ asked-right L ws =
     passes (Right ws) (lengthFits L ws) QuestionLength _ λ _.
     passes (Right ws) (countsFit L (countsOf ws) (alternativesOf ws)) CountRange _ λ _.
     passes (Right ws) (laidOut 5 (alternativesOf ws) ws) BadOffset _ λ _.
-    reads (Right ws) (readAll L (parts 5 (alternativesOf ws) ws)) NotLiterals _ λ ks.
-    passes (Right ws) (declaredQ (countsOf ws) ks) Undeclared _ λ t. (refl, each-declared (countsOf ws) ks t)
+    reads (Right ws) (readAll L (parts 5 (alternativesOf ws) ws)) _ _ λ ks.
+    passes (Right ws) (declaredQ (countsOf ws) ks) _ _ λ t. (refl, each-declared (countsOf ws) ks t)
 
 pub read-declared : (L : Limits) (ws : List ℕ) (q : Question) → readQuestion L ws ≡ asks q
     → (q .counts ≡ countsOf ws) × Each (DeclaredC (q .counts)) (q .alternatives)

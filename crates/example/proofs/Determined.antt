@@ -8,7 +8,7 @@ use Rattle.outcomes.proofs.Apart.{shown-apart}
 use Rattle.example.proofs.example as example
 
 abbrev Told : Type 0
-Told = (ℕ × ℕ) × List ℕ × List ℕ × List ℕ
+Told = (ℕ × ℕ × ℕ) × List ℕ × List ℕ × List ℕ
 
 -- what comes back, and what the two slices and the room then hold
 example-determined : Determined example.ended example.Reads.Pre example.Reads.Post

@@ -16,7 +16,7 @@ abbrev Left : Type 0
 Left = Shown × List ℕ × List ℕ × List ℕ
 
 abbrev Told : Type 0
-Told = (ℕ × ℕ) × List ℕ × List ℕ × List ℕ
+Told = (ℕ × ℕ × ℕ) × List ℕ × List ℕ × List ℕ
 
 abbrev told : Left → Told
 told t = (shownNumbers (t .0), t .1, t .2, t .3)

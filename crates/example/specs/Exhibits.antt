@@ -12,7 +12,7 @@ use Rattle.example.specs.Shown.{numbersOf, resultOf, roomOf}
 
 -- for the line of that number, for old training sheets or not: the numbers that come back, and the work slice, the answer slice and the room,
 -- which held these words
-unfoldable pub toldExhibits : ℕ → Bool → List ℕ → List ℕ → List ℕ → List ℕ → (ℕ × ℕ) × List ℕ × List ℕ × List ℕ
+unfoldable pub toldExhibits : ℕ → Bool → List ℕ → List ℕ → List ℕ → List ℕ → (ℕ × ℕ × ℕ) × List ℕ × List ℕ × List ℕ
 toldExhibits line oldSheets question work answer room =
     let s = showing desk oldSheets (length work) (length answer) (length room) line question in
     let l = leaves (solving desk (length work) (length answer) question) work answer in

@@ -9,6 +9,7 @@ use Rattle.host.specs.Host.{TryNumber}
 use Rattle.host.proofs.desk_solve as desk-solve
 use Rattle.host.proofs.desk_try as desk-try
 use Rattle.host.proofs.desk_example as desk-example
+use Rattle.host.proofs.desk_place as desk-place
 
 desk_solve-determined : Determined desk-solve.ended desk-solve.Reads.Pre desk-solve.Reads.Post
 desk_solve-determined κs a p o q e d = ap (λ n. (n, o .1)) (e .0 ∙ sym (d .0)) ∙ ap (λ (bytes : List ℕ). (q .0, (tt, (bytes, tt)))) (e .1 ∙ sym (d .1))
@@ -28,3 +29,6 @@ desk_try-determined κs a p o q e d = ap (λ n. (n, o .1)) (one-number _ _ _ e d
 
 desk_example-determined : Determined desk-example.ended desk-example.Reads.Pre desk-example.Reads.Post
 desk_example-determined κs a p o q e d = ap (λ n. (n, o .1)) (e .0 ∙ sym (d .0)) ∙ ap (λ (bytes : List ℕ). (q .0, (tt, (tt, (tt, (bytes, tt)))))) (e .1 ∙ sym (d .1))
+
+desk_place-determined : Determined desk-place.ended desk-place.Reads.Pre desk-place.Reads.Post
+desk_place-determined κs a p o q e d = ap (λ n. (n, o .1)) (e ∙ sym d)

@@ -60,17 +60,17 @@ fits old work answer room line ws = fits-solved old (countsOf ws) room line (sol
 
 -- ---- the number
 
-abbrev shownTold : ℕ × ℕ → ℕ
-shownTold n = toldBy (n .0) (n .1)
+abbrev shownTold : ℕ × ℕ × ℕ → ℕ
+shownTold n = toldBy (n .0) (n .2)
 
-told : (s : Showing) (room k : ℕ) (r : ℕ × ℕ) → Fits room s → r ≡ numbersOf s → k ≡ shownTold r → k ≡ showNumber s
+told : (s : Showing) (room k : ℕ) (r : ℕ × ℕ × ℕ) → Fits room s → r ≡ numbersOf s → k ≡ shownTold r → k ≡ showNumber s
 unfolding showNumber
 told (shows ws) room k r h e f = f ∙ ap shownTold e ∙ told-value 0 (length ws) refl ∙ ap (λ (n : ℕ). 100 + n) (used-all (desk .filling) (length ws) (h .0))
 told (denied x) room k r h e f = f ∙ ap shownTold e ∙ told-number x 0
 
 -- ---- the room
 
-within : (s : Showing) (room : ℕ) → Fits room s → numbersOf s .1 ≤ room
+within : (s : Showing) (room : ℕ) → Fits room s → numbersOf s .2 ≤ room
 within (shows ws) room h = h .1
 within (denied x) room h = omega arith
 
@@ -80,7 +80,7 @@ none-written own bytes = refl
 
 -- a refusal has no words to write
 writes : (s : Showing) (own own′ bytes bytes′ : List ℕ) → Fits (length own) s → 2 * length own ≤ length bytes → own′ ≡ roomOf s own
-    → bytes′ ≡ sets bytes 0 (bytesOf (take (numbersOf s .1) own′)) → bytes′ ≡ showLeaves s bytes
+    → bytes′ ≡ sets bytes 0 (bytesOf (take (numbersOf s .2) own′)) → bytes′ ≡ showLeaves s bytes
 unfolding showLeaves
 writes (shows ws) own own′ bytes bytes′ h room eo eb =
     let t : take (length ws) own′ ≡ ws = ap (take (length ws)) eo ∙ take-at ws (drop (length ws) own) (length ws) refl in
@@ -90,7 +90,7 @@ writes (denied x) own own′ bytes bytes′ h room eo eb = eb ∙ none-written o
 
 -- ---- the return
 
-module _ (q w o own w′ o′ own′ : List ℕ) (line : ℕ) (old : Bool) (r : ℕ × ℕ)
+module _ (q w o own w′ o′ own′ : List ℕ) (line : ℕ) (old : Bool) (r : ℕ × ℕ × ℕ)
     (work : length w ≡ desk .room) (answer : length o ≡ desk .room)
     (e : (r, w′, o′, own′) ≡ toldExhibits line old q w o own) where
   abbrev comes : Showing
@@ -101,23 +101,23 @@ module _ (q w o own w′ o′ own′ : List ℕ) (line : ℕ) (old : Bool) (r : 
 
   result : r ≡ numbersOf comes
   unfolding toldExhibits
-  result = ap (λ (t : (ℕ × ℕ) × List ℕ × List ℕ × List ℕ). t .0) e ∙ ap numbersOf same
+  result = ap (λ (t : (ℕ × ℕ × ℕ) × List ℕ × List ℕ × List ℕ). t .0) e ∙ ap numbersOf same
 
   room-left : own′ ≡ roomOf comes own
   unfolding toldExhibits
-  room-left = ap (λ (t : (ℕ × ℕ) × List ℕ × List ℕ × List ℕ). t .3) e ∙ ap (λ (s : Showing). roomOf s own) same
+  room-left = ap (λ (t : (ℕ × ℕ × ℕ) × List ℕ × List ℕ × List ℕ). t .3) e ∙ ap (λ (s : Showing). roomOf s own) same
 
-  pub example-within : (n : ℕ) → n ≡ r .1 → n ≤ length own
+  pub example-within : (n : ℕ) → n ≡ r .2 → n ≤ length own
   example-within n f =
-      let h : numbersOf comes .1 ≤ length own = within comes (length own) (fits old (desk .room) (desk .room) (length own) line q) in
-      let g : n ≡ numbersOf comes .1 = f ∙ ap (λ (n : ℕ × ℕ). n .1) result in
+      let h : numbersOf comes .2 ≤ length own = within comes (length own) (fits old (desk .room) (desk .room) (length own) line q) in
+      let g : n ≡ numbersOf comes .2 = f ∙ ap (λ (n : ℕ × ℕ × ℕ). n .2) result in
       omega arith
 
-  pub shown-line : (k n : ℕ) (bytes bytes′ : List ℕ) → k ≡ shownTold r → n ≡ r .1 → 2 * length own ≤ length bytes
+  pub shown-line : (k n : ℕ) (bytes bytes′ : List ℕ) → k ≡ shownTold r → n ≡ r .2 → 2 * length own ≤ length bytes
       → bytes′ ≡ sets bytes 0 (bytesOf (take n own′)) → (k ≡ showNumber comes) × (bytes′ ≡ showLeaves comes bytes)
   shown-line k n bytes bytes′ number f room eb = (
     told comes (length own) k r (fits old (desk .room) (desk .room) (length own) line q) result number,
-    writes comes own own′ bytes bytes′ (fits old (desk .room) (desk .room) (length own) line q) room room-left (eb ∙ ap (λ (m : ℕ). sets bytes 0 (bytesOf (take m own′))) (f ∙ ap (λ (n : ℕ × ℕ). n .1) result)),
+    writes comes own own′ bytes bytes′ (fits old (desk .room) (desk .room) (length own) line q) room room-left (eb ∙ ap (λ (m : ℕ). sets bytes 0 (bytesOf (take m own′))) (f ∙ ap (λ (n : ℕ × ℕ × ℕ). n .2) result)),
   )
 
 -- the words lent come to what the bytes come to

@@ -16,8 +16,8 @@ use Rattle.host.specs.Host.{tryingBytes, TryNumber}
 use Rattle.host.proofs.Fitting.{fitting-trying}
 use Rattle.host.proofs.Numbering.{told-number}
 
-abbrev triedTold : ℕ × ℕ → ℕ
-triedTold n = toldBy (n .0) (n .1)
+abbrev triedTold : ℕ × ℕ × ℕ → ℕ
+triedTold n = toldBy (n .0) (n .2)
 
 tell : (t : Trying) (r : Tried) (k : ℕ) (w w′ : List ℕ) → ToldOutcome t r w w′ → k ≡ triedTold (triedNumbers r) → TryNumber t k
 unfolding TryNumber toldBy used

@@ -6,6 +6,7 @@ use mathlib.Core.List.{List, _++_}
 use lib.ListN.{length, drop}
 use Rattle.language.specs.Limits.{Limits}
 use Rattle.language.specs.Numbers.{numberOf}
+use Rattle.language.specs.Question.{askedPlace, readQuestion}
 use Rattle.meaning.specs.Meaning.{MeetsQuestion}
 use Rattle.rules.specs.Answer.{Solving, answered, unread, given-up, solving, answerWords, zeros}
 use Rattle.rules.specs.Calls.{Trying, trying, Showing, shows, denied, showing}
@@ -59,3 +60,9 @@ showNumber (denied r) = numberOf r
 unfoldable pub showLeaves : Showing → List ℕ → List ℕ
 showLeaves (shows ws) bytes = bytesOf ws ++ drop (2 * length ws) bytes
 showLeaves (denied r) bytes = bytes
+
+-- ---- desk_place
+
+-- "for 5 the first word that cannot continue a literal .., for 6 the first undeclared number .. for all other outcomes it is 0"
+unfoldable pub placeBytes : Limits → List ℕ → ℕ
+placeBytes L q = askedPlace (readQuestion L (wordsIn q))

@@ -4,13 +4,15 @@ ghost use Prim.Native.Nat.{_+_, _*_, _≤_};
 ghost use mathlib.Core.Path.{_≡_};
 ghost use lib.ListN.{length};
 ghost use Rattle.language.specs.Limits.{desk};
-ghost use Rattle.host.specs.Host.{solvingBytes, solveNumber, solveLeaves, tryingBytes, TryNumber, showingBytes, showNumber, showLeaves};
+ghost use Rattle.host.specs.Host.{solvingBytes, solveNumber, solveLeaves, tryingBytes, TryNumber, showingBytes, showNumber, showLeaves, placeBytes};
 ghost use Rattle.rules.specs.Calls.{showing};
 ghost use Rattle.host.specs.Numbers.{used, solvedNumber, toldBy};
 use language::limits::ANSWER_BYTES;
 use language::limits::FILLING;
 use language::limits::QUESTION;
 use language::limits::ROOM;
+use language::place;
+use outcomes::Checked;
 use outcomes::Solved;
 use outcomes::outcome_number;
 use outcomes::shown_length;
@@ -130,4 +132,17 @@ pub extern "C" fn desk_example(question: &[u8], line: u32, old: u32, room: &mut 
     let n = take_words(question, &mut words);
     let m = most(room.len() / 2);
     show(&words[..n], line as usize, old != 0, &mut own[..m], room)
+}
+
+// Where the mistake is for which a question is refused: its place among the question's words, for 5 and 6, and else 0.
+#[no_mangle]
+pub extern "C" fn desk_place(question: &[u8]) -> u32
+    ensures { λ r. ⌜ r ≡ placeBytes desk (now (question .entry)) ⌝ }
+{
+    let mut words = [0u16; QUESTION];
+    let n = take_words(question, &mut words);
+    match reader::read_question(&words[..n]) {
+        Checked::Fine => 0,
+        Checked::Refused(r) => place(r) as u32,
+    }
 }

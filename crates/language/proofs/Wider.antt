@@ -3,10 +3,9 @@ use mathlib.Core.Path.{_≡_, refl, sym, ap, _∙_}
 use mathlib.Core.Logic.{_⊎_, inl, inr}
 use mathlib.Core.Bool.{Bool, true, false}
 use mathlib.Core.List.{List, [], _∷_, map}
-use mathlib.Core.Option.{some}
 use Prim.Native.Nat.{ℕ, _<_, _≤_}
 use native.Mathlib.Omega.{arith}
-use lib.ListN.{length}
+use lib.ListN.{length, length-append}
 use lib.Dec.{leb, ltb}
 use borrow.Author.Tests.{leb-true, ltb-true, le-leb}
 use Rattle.language.specs.declared.Refusal.the-variants.{QuestionLength, CountRange}
@@ -19,7 +18,7 @@ use Rattle.language.specs.Question.{parts, countsOf, alternativesOf, len
 use Rattle.language.proofs.Bools.{both-true}
 use Rattle.language.proofs.Laws.{conjunctions-read}
 use Rattle.language.proofs.Questions.{bad-length, bad-counts, asked}
-use Rattle.language.proofs.Alternatives.{fineAll, read-all}
+use Rattle.language.proofs.Alternatives.{fineAll, allWords, read-all}
 use Rattle.language.proofs.Asking.{Passed, passed}
 
 -- ---- what is declared by counts within the limits has words under these limits
@@ -91,9 +90,10 @@ module _ (L : Limits) (n : Counts) (c : ℕ) (w : CountsWithin L n c) where
   fine-all (k ∷ ks) d = let (p, q) = both-true (declaredC n k) (declaredQ n ks) d in (fine-conj k p, fine-all ks q)
 
 -- what was written is read back
-all-back : (L : Limits) (ks : List Conj) → fineAll L ks → readAll L (map conjWords ks) ≡ some ks
+all-back : (L : Limits) (ks : List Conj) → fineAll L ks → readAll L (map conjWords ks) ≡ got ks (length (allWords (map conjWords ks)))
 all-back L [] f = refl
-all-back L (k ∷ ks) f = rw (conjunctions-read L .read-back k (f .0), all-back L ks (f .1))
+all-back L (k ∷ ks) f =
+    rw (conjunctions-read L .read-back k (f .0), all-back L ks (f .1)) (ap (got (k ∷ ks)) (sym (length-append (conjWords k) (allWords (map conjWords ks)))))
 
 -- ---- two desks
 
@@ -104,8 +104,9 @@ read-alike L M ws q e l c =
     let p = passed M ws q e in
     let ps = parts 5 (alternativesOf ws) ws in
     let fine = fine-all L (countsOf ws) (alternativesOf ws) (counts-within L (countsOf ws) (alternativesOf ws) c) (q .alternatives) (p .declared) in
-    let back : readAll L ps ≡ some (q .alternatives) = ap (readAll L) (read-all M ps (q .alternatives) (p .read) .1) ∙ all-back L (q .alternatives) fine in
-    asked L ws l c (p .laid-out) (q .alternatives) back (p .declared) ∙ ap (λ (n : Counts). asks (record { counts = n; alternatives = q .alternatives })) (sym (p .counts))
+    let words = length (allWords (map conjWords (q .alternatives))) in
+    let back : readAll L ps ≡ got (q .alternatives) words = ap (readAll L) (read-all M ps (q .alternatives) (p .words) (p .read) .1) ∙ all-back L (q .alternatives) fine in
+    asked L ws l c (p .laid-out) (q .alternatives) words back (p .declared) ∙ ap (λ (n : Counts). asks (record { counts = n; alternatives = q .alternatives })) (sym (p .counts))
 
 -- "an old desk refuses a question past its limits with 2 or 3 and never misreads it"
 pub read-or-refused : (L M : Limits) (ws : List ℕ) (q : Question) → readQuestion M ws ≡ asks q

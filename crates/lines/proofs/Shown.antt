@@ -9,7 +9,7 @@ use native.Mathlib.Omega.{arith}
 use borrow.Author.Tests.{ltb-false}
 use lib.Dec.{ltb}
 use lib.ListN.{length}
-use Rattle.language.specs.declared.Refusal.the-variants.{QuestionLength, CountRange, BadOffset, NotLiterals, Undeclared, LongExample, OpenLine}
+use Rattle.language.specs.declared.Refusal.the-variants.{QuestionLength, CountRange, BadOffset, LongExample, OpenLine}
 use Rattle.language.specs.Limits.{Limits}
 use Rattle.language.specs.Trees.{Conj, Counts, Question}
 use Rattle.language.specs.Question.{countsOf, alternativesOf, lengthFits, countsFit, laidOut, parts, readAll, declaredQ, asks, readQuestion}
@@ -108,8 +108,8 @@ asked-counts L ws =
     passes Fit (lengthFits L ws) QuestionLength _ λ _.
     passes Fit (countsFit L (countsOf ws) (alternativesOf ws)) CountRange _ λ t.
     passes Fit (laidOut 5 (alternativesOf ws) ws) BadOffset _ λ _.
-    reads Fit (readAll L (parts 5 (alternativesOf ws) ws)) NotLiterals _ λ ks.
-    passes Fit (declaredQ (countsOf ws) ks) Undeclared _ λ _. test-true (countsFit L (countsOf ws) (alternativesOf ws)) .0 t
+    reads Fit (readAll L (parts 5 (alternativesOf ws) ws)) _ _ λ ks.
+    passes Fit (declaredQ (countsOf ws) ks) _ _ λ _. test-true (countsFit L (countsOf ws) (alternativesOf ws)) .0 t
 
 pub read-counts : (L : Limits) (ws : List ℕ) (q : Question) → readQuestion L ws ≡ asks q → countsFit L (countsOf ws) (alternativesOf ws) ≡ true
 read-counts L ws q e = rw e at (asked-counts L ws)

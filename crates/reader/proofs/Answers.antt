@@ -9,13 +9,13 @@ use Rattle.language.specs.Trees.{Question}
 use Rattle.language.specs.Question.{Asked, asks, refuses, readQuestion}
 use Rattle.outcomes.specs.declared.Checked.{Checked}
 use Rattle.outcomes.specs.declared.Checked.the-variants.{Fine, Refused}
-use Rattle.outcomes.specs.Numbers.{checkedNumber}
+use Rattle.outcomes.specs.Numbers.{checkedNumbers}
 use Rattle.outcomes.proofs.Apart.{checked-apart}
-use Rattle.reader.specs.Checking.{checked, askedNumber}
+use Rattle.reader.specs.Checking.{checked, askedNumbers}
 
--- the number tells what came of reading
-pub as-checked : (c : Checked) (a : Asked) → checkedNumber c ≡ askedNumber a → c ≡ checked a
-unfolding checked askedNumber
+-- the numbers tell what came of reading
+pub as-checked : (c : Checked) (a : Asked) → checkedNumbers c ≡ askedNumbers a → c ≡ checked a
+unfolding checked askedNumbers
 as-checked c (asks q) e = checked-apart c Fine e
 as-checked c (refuses r) e = checked-apart c (Refused r) e
 

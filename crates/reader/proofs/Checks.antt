@@ -2,7 +2,6 @@
 use mathlib.Core.Path.{_≡_, refl, sym, ap, _∙_}
 use mathlib.Core.Bool.{Bool, true, false, _&&_}
 use mathlib.Core.List.{List, [], _∷_}
-use mathlib.Core.Option.{Option, none, some}
 use Prim.Native.Nat.{ℕ, suc, _+_, _<_, _≤_}
 use native.Mathlib.Omega.{arith}
 use lib.ListN.{length, drop, getD, drop-of-length-le}
@@ -14,49 +13,56 @@ use Rattle.language.specs.Kinds.{pick, kindOf}
 use Rattle.language.specs.Trees.{Conj, Counts}
 use Rattle.language.specs.Reading.{Got, got, stop, readConj}
 use Rattle.language.specs.Question.{withConj, readAll, countsFit}
-use Rattle.language.specs.Undeclared.{declaredKind, declaredWord, declaredWords}
+use Rattle.language.specs.Between.{between}
+use Rattle.language.specs.Undeclared.{declaredKind, declaredWord, declaredWords, undeclaredAt}
 use Rattle.language.proofs.Arms.{Among, each-kind}
-use Rattle.language.proofs.Walks.{passes}
+use Rattle.language.proofs.Laws.{conjunctions-read}
+use Rattle.language.proofs.Offsets.{length-between}
+use Rattle.trees.specs.declared.Read.{Read}
 use Rattle.trees.specs.declared.Read.the-variants.{Next, Stop}
 use Rattle.reader.specs.declared.Scan.the-variants.{Declared, Undeclared}
 use Rattle.reader.specs.declared.Header.{Header}
 use Rattle.trees.specs.Places.{placed}
-use Rattle.reader.specs.Checking.{readable, countsIn, firstUndeclared}
-use Rattle.trees.proofs.Placing.{here}
+use Rattle.reader.specs.Checking.{countsIn, firstUndeclared}
+use Rattle.trees.proofs.Placing.{placed-after, here}
 
 -- ---- conjunctions
 
--- whether a part is exactly literals
-abbrev isConj : Got Conj → Bool
-isConj (got k n) = true
-isConj (stop n) = false
+-- what is still to be read, of the parts from the one that begins at `from`
+abbrev pub toRead : ℕ → ℕ → List (List ℕ) → Read
+toRead i from ps = placed from (readAll desk ps)
 
-abbrev pub literals : ℕ → List ℕ → Bool
-literals i ws = isConj (readConj desk ws)
+module _ (i from to : ℕ) (ws : List ℕ) (part : (from ≤ to) × (to ≤ length ws)) where
+  -- a part is read, and ends where the next begins
+  pub part-read : (r : ℕ) → placed 0 (readConj desk (between from to ws)) ≡ Next r → (ps : List (List ℕ)) → toRead i from (between from to ws ∷ ps) ≡ toRead (suc i) to ps
+  part-read r e ps = on (readConj desk (between from to ws)) refl e
+    where
+      on : (g : Got Conj) → readConj desk (between from to ws) ≡ g → placed 0 g ≡ Next r → placed from (withConj g (readAll desk ps)) ≡ placed to (readAll desk ps)
+      on (got k m) i e =
+          let f = conjunctions-read desk .found (between from to ws) k m i in
+          placed-after from m (λ (ks : List Conj). k ∷ ks) (readAll desk ps)
+          ∙ ap (λ at. placed at (readAll desk ps)) (let z : from + m ≡ to = omega (arith, f .1, length-between from to ws (part .1)) in z)
+      on (stop m) i e = absurd (let z : _≡_ {A = ℕ} 0 1 = unfold placed in cc in omega arith)
 
-pub readable-passes : (i : ℕ) (ps : List (List ℕ)) → passes literals i ps ≡ readable (readAll desk ps)
-unfolding readable passes
-readable-passes i [] = refl
-readable-passes i (p ∷ ps) = ap (λ b. isConj (readConj desk p) && b) (readable-passes (suc i) ps) ∙ on (readConj desk p) (readAll desk ps)
-  where
-    on : (g : Got Conj) (ks : Option (List Conj)) → (isConj g && readable ks) ≡ readable (withConj g ks)
-    on (got k n) none = refl
-    on (got k n) (some ks) = refl
-    on (stop n) ks = refl
+  module _ (more : ℕ) (e : placed 0 (readConj desk (between from to ws)) ≡ Stop more) where
+    stops : readConj desk (between from to ws) ≡ stop more
+    stops = on (readConj desk (between from to ws)) e
+      where
+        on : (g : Got Conj) → placed 0 g ≡ Stop more → g ≡ stop more
+        on (got k m) e = absurd (let z : _≡_ {A = ℕ} 0 1 = unfold placed in cc in omega arith)
+        on (stop m) e = ap stop (let z : 0 + m ≡ more = unfold placed in cc in omega arith)
 
-pub reads-next : (ws : List ℕ) (r : ℕ) → placed 0 (readConj desk ws) ≡ Next r → isConj (readConj desk ws) ≡ true
-reads-next ws r i = on (readConj desk ws) i
-  where
-    on : (g : Got Conj) → placed 0 g ≡ Next r → isConj g ≡ true
-    on (got k n) i = refl
-    on (stop n) i = absurd (let z : _≡_ {A = ℕ} 0 1 = unfold placed in cc in omega arith)
+    -- it stops within the part
+    pub part-within : from + more ≤ to
+    part-within = omega (arith, conjunctions-read desk .goes-on (between from to ws) more stops .0, length-between from to ws (part .1))
 
-pub reads-stop : (ws : List ℕ) (r : ℕ) → placed 0 (readConj desk ws) ≡ Stop r → isConj (readConj desk ws) ≡ false
-reads-stop ws r i = on (readConj desk ws) i
-  where
-    on : (g : Got Conj) → placed 0 g ≡ Stop r → isConj g ≡ false
-    on (got k n) i = absurd (let z : _≡_ {A = ℕ} 0 1 = unfold placed in cc in omega arith)
-    on (stop n) i = refl
+    pub part-stops : (ps : List (List ℕ)) → toRead i from (between from to ws ∷ ps) ≡ Stop (from + more)
+    unfolding placed
+    part-stops ps = ap (λ g. placed from (withConj g (readAll desk ps))) stops
+
+pub none-left : (from : ℕ) → Next from ≡ placed from (readAll desk [])
+unfolding placed
+none-left from = ap Next (omega arith)
 
 -- ---- declared words
 
@@ -95,14 +101,17 @@ module _ (n : Counts) where
       on true h e = h e
       on false h e = absurd (let z : _≡_ {A = ℕ} 0 1 = cc in omega arith)
 
-  pub scan-finds : (at : ℕ) (ws : List ℕ) (p : ℕ) → firstUndeclared desk n at ws ≡ Undeclared p → declaredWords desk n ws ≡ false
-  unfolding firstUndeclared declaredWords
+  -- and what it finds is the first
+  pub scan-finds : (at : ℕ) (ws : List ℕ) (p : ℕ) → firstUndeclared desk n at ws ≡ Undeclared p → (declaredWords desk n ws ≡ false) × (p ≡ at + undeclaredAt desk n ws)
+  unfolding firstUndeclared declaredWords undeclaredAt
   scan-finds at [] p e = absurd (let z : _≡_ {A = ℕ} 0 1 = cc in omega arith)
   scan-finds at (w ∷ ws) p e = on (declaredWord desk n w) (scan-finds (at + 1) ws p) e
     where
-      on : (b : Bool) → (firstUndeclared desk n (at + 1) ws ≡ Undeclared p → declaredWords desk n ws ≡ false) → pick b (firstUndeclared desk n (at + 1) ws) (Undeclared at) ≡ Undeclared p → (b && declaredWords desk n ws) ≡ false
-      on true h e = h e
-      on false h e = refl
+      on : (b : Bool) → (firstUndeclared desk n (at + 1) ws ≡ Undeclared p → (declaredWords desk n ws ≡ false) × (p ≡ at + 1 + undeclaredAt desk n ws))
+          → pick b (firstUndeclared desk n (at + 1) ws) (Undeclared at) ≡ Undeclared p
+          → ((b && declaredWords desk n ws) ≡ false) × (p ≡ at + pick b (suc (undeclaredAt desk n ws)) 0)
+      on true h e = let (d, q) = h e in (d, omega arith)
+      on false h e = (refl, let z : at ≡ p = cc in omega arith)
 
 -- ---- ranges of counts
 

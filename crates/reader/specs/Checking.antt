@@ -1,25 +1,18 @@
 -- What the checks of a question answer, in terms of the definition of a question.
 use Prim.Native.Nat.{ℕ, _+_}
-use mathlib.Core.Bool.{Bool, true, false}
 use mathlib.Core.List.{List, [], _∷_}
-use mathlib.Core.Option.{Option, none, some}
 use lib.ListN.{getD}
 use Rattle.language.specs.Limits.{Limits}
 use Rattle.language.specs.Kinds.{pick}
 use Rattle.language.specs.Numbers.{numberOf}
-use Rattle.language.specs.Trees.{Conj, Counts}
-use Rattle.language.specs.Question.{Asked, asks, refuses}
+use Rattle.language.specs.Trees.{Counts}
+use Rattle.language.specs.Question.{Asked, asks, refuses, askedPlace}
 use Rattle.language.specs.Undeclared.{declaredWord}
 use Rattle.reader.specs.declared.Header.{Header}
 use Rattle.reader.specs.declared.Scan.{Scan}
 use Rattle.reader.specs.declared.Scan.the-variants.{Declared, Undeclared}
 use Rattle.outcomes.specs.declared.Checked.{Checked}
 use Rattle.outcomes.specs.declared.Checked.the-variants.{Fine, Refused}
-
--- each part was a conjunction
-unfoldable pub readable : Option (List Conj) → Bool
-readable none = false
-readable (some ks) = true
 
 -- the first five words
 abbrev pub headerOf : List ℕ → Header
@@ -38,7 +31,10 @@ unfoldable pub checked : Asked → Checked
 checked (asks q) = Fine
 checked (refuses r) = Refused r
 
--- the same in numbers: the number of the table, 0 for a question that is not refused
-unfoldable pub askedNumber : Asked → ℕ
+-- the same in numbers: the number of the table, 0 for a question that is not refused, and the place of the mistake
+abbrev pub askedNumber : Asked → ℕ
 askedNumber (asks q) = 0
 askedNumber (refuses r) = numberOf r
+
+unfoldable pub askedNumbers : Asked → ℕ × ℕ
+askedNumbers a = (askedNumber a, askedPlace a)

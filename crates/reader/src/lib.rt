@@ -11,16 +11,16 @@ use trees::Read;
 use trees::read_literal;
 ghost use mathlib.Core.Path.{_≡_};
 ghost use mathlib.Core.Bool.{true};
-ghost use Prim.Native.Nat.{_≤_};
+ghost use Prim.Native.Nat.{_+_, _≤_};
 ghost use lib.ListN.{length, drop};
 ghost use Rattle.language.specs.Limits.{desk};
 ghost use Rattle.language.specs.Reading.{readConj};
 ghost use Rattle.language.specs.Question.{rising, laidOut, parts, readAll, countsFit, readQuestion};
 ghost use Rattle.language.specs.Undeclared.{declaredWord};
 ghost use Rattle.language.specs.Between.{between};
-ghost use Rattle.outcomes.specs.Numbers.{checkedNumber};
+ghost use Rattle.outcomes.specs.Numbers.{checkedNumbers};
 ghost use Rattle.trees.specs.Places.{placed};
-ghost use Rattle.reader.specs.Checking.{readable, headerOf, countsIn, firstUndeclared, askedNumber};
+ghost use Rattle.reader.specs.Checking.{headerOf, countsIn, firstUndeclared, askedNumbers};
 
 // A conjunction: literals, to the last word.
 fn read_conj(w: &[u16]) -> Read
@@ -69,10 +69,11 @@ pub fn laid_out(w: &[u16], head: u16, n: u16) -> bool
     rises(w, at + 1, first, first)
 }
 
-// Whether each part of a question with `n` conjunctions is exactly literals.
-fn all_literals(w: &[u16], n: u16) -> bool
+// The parts of a question with `n` conjunctions, each of which is to be exactly literals: the end of the last, or the place of the first word that
+// cannot go on.
+fn read_all(w: &[u16], n: u16) -> Read
     requires { ⌜ laidOut 5 n (now w) ≡ true ⌝ }
-    ensures { λ r. ⌜ r ≡ readable (readAll desk (parts 5 n (now (w .entry)))) ⌝ }
+    ensures { λ r. ⌜ r ≡ placed (6 + n) (readAll desk (parts 5 n (now (w .entry)))) ⌝ }
 {
     let stop = wide(n) + 6;
     let mut from = stop;
@@ -84,10 +85,10 @@ fn all_literals(w: &[u16], n: u16) -> bool
                 from = to;
                 i += 1;
             }
-            Read::Stop(_) => return false,
+            Read::Stop(more) => return Read::Stop(from + more),
         }
     }
-    true
+    Read::Next(from)
 }
 
 // The first five words of a question: how many of each are declared, and how many conjunctions follow.
@@ -166,9 +167,9 @@ fn find_undeclared(h: Header, w: &[u16], from: usize) -> Scan
     Scan::Declared
 }
 
-// Whether a question can be worked on, or which of 2 to 6 is given: in their order, each over the whole question.
+// Whether a question can be worked on, or which of 2 to 6 is given, and at which place: in their order, each over the whole question.
 pub fn read_question(question: &[u16]) -> Checked
-    ensures { λ r. ⌜ checkedNumber r ≡ askedNumber (readQuestion desk (now (question .entry))) ⌝ }
+    ensures { λ r. ⌜ checkedNumbers r ≡ askedNumbers (readQuestion desk (now (question .entry))) ⌝ }
 {
     if question.len() < 6 {
         return Checked::Refused(Refusal::QuestionLength);
@@ -184,11 +185,11 @@ pub fn read_question(question: &[u16]) -> Checked
     if !laid_out(question, 5, n) {
         return Checked::Refused(Refusal::BadOffset);
     }
-    if !all_literals(question, n) {
-        return Checked::Refused(Refusal::NotLiterals);
-    }
-    match find_undeclared(h, question, wide(n) + 6) {
-        Scan::Undeclared(_) => Checked::Refused(Refusal::Undeclared),
-        Scan::Declared => Checked::Fine,
+    match read_all(question, n) {
+        Read::Stop(at) => Checked::Refused(Refusal::NotLiterals(at)),
+        Read::Next(_) => match find_undeclared(h, question, wide(n) + 6) {
+            Scan::Undeclared(at) => Checked::Refused(Refusal::Undeclared(at)),
+            Scan::Declared => Checked::Fine,
+        },
     }
 }

@@ -1,4 +1,4 @@
--- What the paper prints in words: P4 whole, the limits under its table, the borders of a run, and the default of an example.
+-- What the paper prints in words: P4 whole, the limits under its table, places of mistakes, the borders of a run, and the default of an example.
 use Prim.Native.Nat.{ℕ, _-_}
 use mathlib.Core.Path.{_≡_, refl}
 use mathlib.Core.Bool.{true, false}
@@ -9,6 +9,7 @@ use Rattle.language.specs.Limits.{Limits, desk, firstDesk}
 use Rattle.language.specs.Numbers.{numberOf}
 use Rattle.language.specs.Kinds.{kindOf, within}
 use Rattle.language.specs.Reading.{reading, readHedge, readExpr, readLiteral, readConj}
+use Rattle.language.specs.Undeclared.{declaredWord, undeclaredAt}
 use Rattle.language.specs.Question.{laidOut, parts, lengthFits, countsFit, Asked, asks, refuses, readQuestion}
 use Rattle.meaning.specs.Values.{fillingWords}
 use Rattle.rules.specs.Rules.{_>>=_, check}
@@ -78,9 +79,9 @@ pub first-limits-printed :
     (refusalOf (readQuestion firstDesk (ofLength 1024)) ≡ fine 1 1)
     × (refusalOf (readQuestion firstDesk (ofLength 1025)) ≡ refuses QuestionLength)
     × (refusalOf (readQuestion firstDesk (withSymbol 32 3031)) ≡ fine 32 0)
-    × (refusalOf (readQuestion firstDesk (withSymbol 31 3031)) ≡ refuses Undeclared)
-    × (refusalOf (readQuestion firstDesk (withSymbol 32 3032)) ≡ refuses NotLiterals)
-unfolding readQuestion lengthFits countsFit laidOut parts reading readHedge readExpr readLiteral readConj kindOf within
+    × (refusalOf (readQuestion firstDesk (withSymbol 31 3031)) ≡ refuses (Undeclared 8))
+    × (refusalOf (readQuestion firstDesk (withSymbol 32 3032)) ≡ refuses (NotLiterals 8))
+unfolding readQuestion lengthFits countsFit laidOut parts reading readHedge readExpr readLiteral readConj kindOf within declaredWord undeclaredAt
 first-limits-printed = (refl, refl, refl, refl, refl)
 
 -- the same with the numbers of "Bigger sheets"; what was 5 because no count reached it is 6 now
@@ -88,11 +89,32 @@ pub limits-printed :
     (refusalOf (readQuestion desk (ofLength 4096)) ≡ fine 1 1)
     × (refusalOf (readQuestion desk (ofLength 4097)) ≡ refuses QuestionLength)
     × (refusalOf (readQuestion desk (withSymbol 128 3127)) ≡ fine 128 0)
-    × (refusalOf (readQuestion desk (withSymbol 127 3127)) ≡ refuses Undeclared)
-    × (refusalOf (readQuestion desk (withSymbol 128 3128)) ≡ refuses NotLiterals)
-    × (refusalOf (readQuestion desk (withSymbol 32 3032)) ≡ refuses Undeclared)
-unfolding readQuestion lengthFits countsFit laidOut parts reading readHedge readExpr readLiteral readConj kindOf within
+    × (refusalOf (readQuestion desk (withSymbol 127 3127)) ≡ refuses (Undeclared 8))
+    × (refusalOf (readQuestion desk (withSymbol 128 3128)) ≡ refuses (NotLiterals 8))
+    × (refusalOf (readQuestion desk (withSymbol 32 3032)) ≡ refuses (Undeclared 8))
+unfolding readQuestion lengthFits countsFit laidOut parts reading readHedge readExpr readLiteral readConj kindOf within declaredWord undeclaredAt
 limits-printed = (refl, refl, refl, refl, refl, refl)
+
+-- ---- the place of the mistake
+
+-- one alternative, or two, with one symbol declared
+abbrev pub oneAlternative : ℕ → List ℕ → List ℕ
+oneAlternative end ws = 1 ∷ 0 ∷ 0 ∷ 0 ∷ 1 ∷ 7 ∷ end ∷ ws
+
+abbrev pub twoAlternatives : ℕ → ℕ → List ℕ → List ℕ
+twoAlternatives middle end ws = 1 ∷ 0 ∷ 0 ∷ 0 ∷ 2 ∷ 8 ∷ middle ∷ end ∷ ws
+
+-- "for 5 the first word that cannot continue a literal": a word that stands in no hedge, one before any literal, an alternative that breaks off inside
+-- its second side, and the same with another behind it; "for 6 the first undeclared number"; and 5 though one stands earlier.
+pub mistakes-printed :
+    (readQuestion desk (oneAlternative 12 (5000 ∷ 3000 ∷ 0 ∷ 7000 ∷ 0 ∷ [])) ≡ refuses (NotLiterals 10))
+    × (readQuestion desk (oneAlternative 11 (5000 ∷ 0 ∷ 0 ∷ 3000 ∷ [])) ≡ refuses (NotLiterals 10))
+    × (readQuestion desk (oneAlternative 12 (5000 ∷ 3000 ∷ 0 ∷ 0 ∷ 3000 ∷ [])) ≡ refuses (NotLiterals 12))
+    × (readQuestion desk (twoAlternatives 10 13 (5000 ∷ 0 ∷ 5000 ∷ 0 ∷ 0 ∷ [])) ≡ refuses (NotLiterals 10))
+    × (readQuestion desk (oneAlternative 14 (5000 ∷ 3001 ∷ 0 ∷ 0 ∷ 3002 ∷ 0 ∷ 0 ∷ [])) ≡ refuses (Undeclared 8))
+    × (readQuestion desk (oneAlternative 13 (5000 ∷ 3001 ∷ 0 ∷ 0 ∷ 7000 ∷ 0 ∷ [])) ≡ refuses (NotLiterals 11))
+unfolding readQuestion lengthFits countsFit laidOut parts reading readHedge readExpr readLiteral readConj kindOf within declaredWord undeclaredAt
+mistakes-printed = (refl, refl, refl, refl, refl, refl)
 
 -- ---- 7 to 10 at their borders
 

@@ -1,13 +1,17 @@
--- With which refusals of its own a step can stop: those of the rules of two literals, of which the fold has none.
-use Prim.Native.Nat.{ℕ, suc}
+-- With which refusals of its own a step can stop: those of the rules of two literals, of which the fold has none. And with which a run can: 7 to 10.
+use Prim.Native.Nat.{ℕ, zero, suc}
 use mathlib.Core.Bool.{Bool, true, false}
 use mathlib.Core.List.{List, [], _∷_, _++_, map}
 use mathlib.Core.Option.{Option, none, some}
+use lib.Dec.{ltb}
 use Rattle.language.specs.declared.Refusal.{Refusal}
+use Rattle.language.specs.declared.Refusal.the-variants.{LongResult, LongWaiting, LineRoom, StepLimit}
+use Rattle.language.specs.Limits.{Limits}
 use Rattle.language.specs.Trees.{Literal, eqn, mem, Conj}
 use Rattle.rules.specs.Reply.{Reply, nothing, results, stops}
 use Rattle.rules.specs.Rules.{Answer, Rule, onEqn, onMem, onPair, strike, folded, Fold, rules}
 use Rattle.rules.specs.Step.{orNext, each, placed, resultsAt, found, earliest, first, search, step}
+use Rattle.rules.specs.Run.{Numbered, allOf, numbered, Outcome, finished, refused, turn, anyLong, waitingSize, linesFit, runFrom, run}
 
 module _ (P : Refusal → Type 0) where
   -- P of the refusal, where there is one
@@ -81,3 +85,46 @@ module _ (P : Refusal → Type 0) where
 -- No rule of the list has a refusal of its own.
 pub step-never-stops : (k : Conj) → StopsBy (λ _. ⊥) (step k)
 step-never-stops k = step-stops-by (λ _. ⊥) (Fold-stops (λ _. ⊥), tt) k
+
+-- ---- the run
+
+module _ (P : Refusal → Type 0) where
+  -- P of the refusal of a run, where there is one
+  abbrev pub RunStopsBy : Outcome → Type 0
+  RunStopsBy (finished ls n) = Unit {0}
+  RunStopsBy (refused r) = P r
+
+  module _ (seven : P LongResult) (eight : P LongWaiting) (nine : P LineRoom) (ten : P StepLimit) where
+    by-lined : (b : Bool) (x : Outcome) → RunStopsBy x → RunStopsBy (elim b [ true ↦ x | false ↦ refused LineRoom ])
+    by-lined true x h = h
+    by-lined false x h = nine
+
+    by-turned : (m : Reply (List Conj)) → StopsBy (λ _. ⊥) m → (go : List Conj → Outcome) (x : Outcome) → ((ks : List Conj) → RunStopsBy (go ks)) → RunStopsBy x
+        → RunStopsBy (elim m [ results ks ↦ go ks | nothing ↦ x | stops r ↦ refused r ])
+    by-turned (results ks) s go x h e = h ks
+    by-turned nothing s go x h e = e
+    by-turned (stops r) s go x h e = absurd s
+
+    by-turn : (L : Limits) (go : List Numbered → List Conj → List Numbered → Outcome)
+        → ((ls : List Numbered) (ks : List Conj) (w : List Numbered) → RunStopsBy (go ls ks w)) → (n : ℕ) (ls w : List Numbered) → RunStopsBy (turn L go n ls w)
+    by-turn L go h n ls [] = tt
+    by-turn L go h n ls (k ∷ w) =
+        by-turned (step (k .literals)) (step-never-stops (k .literals)) (λ ks. go ls ks (allOf (k .number) ks ++ w)) _ (λ ks. h ls ks (allOf (k .number) ks ++ w))
+        (by-lined (linesFit L (ls ++ (k ∷ []))) _ (by-turn L go h n (ls ++ (k ∷ [])) w))
+
+    by-tested : (b : Bool) (r : Refusal) (x : Outcome) → P r → RunStopsBy x → RunStopsBy (elim b [ true ↦ refused r | false ↦ x ])
+    by-tested true r x h e = h
+    by-tested false r x h e = e
+
+    by-steps : (L : Limits) (d n : ℕ) (ls w : List Numbered) → RunStopsBy (runFrom L d n ls w)
+    unfolding runFrom
+    by-steps L zero n ls w = by-turn L _ (λ ms ks v. ten) n ls w
+    by-steps L (suc d) n ls w =
+        by-turn L _
+        (λ ms ks v. by-tested (anyLong L ks) LongResult _ seven (by-tested (ltb (L .room) (waitingSize v)) LongWaiting _ eight (by-steps L d (suc n) ms v)))
+        n ls w
+
+    -- What holds of 7 to 10 holds of the refusal of a run.
+    pub run-stops-by : (L : Limits) (w : List Conj) → RunStopsBy (run L w)
+    unfolding run
+    run-stops-by L w = by-steps L (L .steps) 0 [] (numbered 0 w)

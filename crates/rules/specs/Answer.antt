@@ -7,6 +7,7 @@ use lib.ListN.{length, drop, replicate}
 use Rattle.language.specs.declared.Refusal.{Refusal}
 use Rattle.language.specs.declared.Refusal.the-variants.{ShortSlice}
 use Rattle.language.specs.Limits.{Limits}
+use Rattle.language.specs.Numbers.{placeOf}
 use Rattle.language.specs.Kinds.{pick}
 use Rattle.language.specs.Trees.{Conj, Question}
 use Rattle.language.specs.Writing.{conjWords}
@@ -59,6 +60,12 @@ pub data Solving : Type 0 where
   answered : List Numbered → ℕ → Solving
   unread : Refusal → Solving
   given-up : Refusal → Solving
+
+-- "Solving .. hand[s] that place on"
+abbrev pub solvingPlace : Solving → ℕ
+solvingPlace (answered ls n) = 0
+solvingPlace (unread r) = placeOf r
+solvingPlace (given-up r) = placeOf r
 
 abbrev pub ran : Outcome → Solving
 ran (finished ls n) = answered ls n

@@ -62,7 +62,7 @@ module _ (ws : List ℕ) (e : Fine ≡ checked (readQuestion desk ws)) where
   asked-read : fineAll desk asks-for × (parts 5 (getD ws 4 0) ws ≡ map conjWords asks-for)
   asked-read =
       subst (λ a. fineAll desk (conjunctionsOf a) × (parts 5 (getD ws 4 0) ws ≡ map conjWords (conjunctionsOf a))) (sym (asked .1))
-      (read-all desk (parts 5 (getD ws 4 0) ws) (asked .0 .alternatives) (checks .read))
+      (read-all desk (parts 5 (getD ws 4 0) ws) (asked .0 .alternatives) (checks .words) (checks .read))
 
   asked-short : Each (λ b. length b ≤ desk .question) (parts 5 (getD ws 4 0) ws)
   unfolding parts

@@ -19,7 +19,7 @@ abbrev told : Left → Told
 told t = (solvedNumbers (t .0), t .1, t .2)
 
 verdict-told : (v : Verdict) (lines opened steps : ℕ)
-    → record { number = 0; value = verdictValue v; lines = lines; opened = opened; steps = steps } ≡ solvedNumbers (record { outcome = verdict v; lines = lines; «open» = opened; steps = steps })
+    → record { number = 0; place = 0; value = verdictValue v; lines = lines; opened = opened; steps = steps } ≡ solvedNumbers (record { outcome = verdict v; lines = lines; «open» = opened; steps = steps })
 verdict-told noLine lines opened steps = refl
 verdict-told allSolved lines opened steps = refl
 verdict-told someOpen lines opened steps = refl

@@ -6,7 +6,7 @@ use lib.ListN.{length}
 use Rattle.language.specs.Kinds.{pick}
 use Rattle.language.specs.declared.Refusal.{Refusal}
 use Rattle.language.specs.Limits.{desk}
-use Rattle.language.specs.Numbers.{numberOf}
+use Rattle.language.specs.Numbers.{numberOf, placeOf}
 use Rattle.rules.specs.Answer.{countOpen, answerWords, zeros, overwritten, Verdict, noLine, allSolved, someOpen, verdictOf, Solving, answered, unread, given-up}
 use Rattle.outcomes.specs.declared.Outcome.{Outcome}
 use Rattle.outcomes.specs.declared.Outcome.the-variants.{Refused, NoLine, AllSolved, SomeOpen}
@@ -23,12 +23,12 @@ verdictValue someOpen = 2
 
 -- "a refusal reports 0 for all three"
 abbrev pub refusedNumbers : Refusal → SolveNumbers
-refusedNumbers r = record { number = numberOf r; value = 0; lines = 0; opened = 0; steps = 0 }
+refusedNumbers r = record { number = numberOf r; place = placeOf r; value = 0; lines = 0; opened = 0; steps = 0 }
 
 -- the numbers that come back, and the work and the answer slice, which held `work` and `answer`
 abbrev pub toldLeaves : Solving → List ℕ → List ℕ → SolveNumbers × List ℕ × List ℕ
 toldLeaves (answered ls n) work answer =
-    (record { number = 0; value = verdictValue (verdictOf ls); lines = length ls; opened = countOpen ls; steps = n }, overwritten desk (zeros desk) work, overwritten desk (answerWords desk ls) answer)
+    (record { number = 0; place = 0; value = verdictValue (verdictOf ls); lines = length ls; opened = countOpen ls; steps = n }, overwritten desk (zeros desk) work, overwritten desk (answerWords desk ls) answer)
 toldLeaves (unread r) work answer = (refusedNumbers r, work, answer)
 toldLeaves (given-up r) work answer = (refusedNumbers r, overwritten desk (zeros desk) work, overwritten desk (zeros desk) answer)
 

@@ -5,7 +5,7 @@ use mathlib.Core.Path.{_≡_}
 use mathlib.Core.Logic.{_⊎_}
 use mathlib.Core.List.{List}
 use Rattle.language.specs.Limits.{desk}
-use Rattle.language.specs.Numbers.{numberOf}
+use Rattle.language.specs.Numbers.{numberOf, placeOf}
 use Rattle.language.specs.Trees.{Question}
 use Rattle.language.specs.Question.{asks, readQuestion}
 use Rattle.meaning.specs.Meaning.{Filling, MeetsQuestion}
@@ -19,16 +19,16 @@ use Rattle.outcomes.specs.declared.Tried.{Tried}
 use Rattle.outcomes.specs.declared.Tried.the-variants.{Yes, No, Refused}
 use Rattle.outcomes.specs.Numbers.{triedNumbers}
 
--- ---- in numbers: the number of the table, 0 for none, and the value
+-- ---- in numbers: the number of the table, 0 for none, the place of the mistake, and the value
 
 -- 1 exactly where it holds
 abbrev pub ToldAnswers : Type 0 → Tried → Type 0
-ToldAnswers P t = ((triedNumbers t ≡ (0, 1)) × P) ⊎ ((triedNumbers t ≡ (0, 0)) × (P → ⊥))
+ToldAnswers P t = ((triedNumbers t ≡ (0, 0, 1)) × P) ⊎ ((triedNumbers t ≡ (0, 0, 0)) × (P → ⊥))
 
 -- what comes back, and the work slice before and after
 abbrev pub ToldOutcome : Trying → Tried → List ℕ → List ℕ → Type 0
-ToldOutcome (unread r) t w w′ = (triedNumbers t ≡ (numberOf r, 0)) × (w′ ≡ w)
-ToldOutcome (given-up r) t w w′ = (triedNumbers t ≡ (numberOf r, 0)) × (w′ ≡ overwritten desk (zeros desk) w)
+ToldOutcome (unread r) t w w′ = (triedNumbers t ≡ (numberOf r, placeOf r, 0)) × (w′ ≡ w)
+ToldOutcome (given-up r) t w w′ = (triedNumbers t ≡ (numberOf r, placeOf r, 0)) × (w′ ≡ overwritten desk (zeros desk) w)
 ToldOutcome (decides q ρ) t w w′ = ToldAnswers (MeetsQuestion ρ q) t × (w′ ≡ overwritten desk (zeros desk) w)
 
 -- ---- the answer that has these numbers

@@ -242,7 +242,7 @@ pub fn try_filling<'a>(question: &'a [u16], filling: &'a [u16], work: &mut [u16]
         return Tried::Refused(Refusal::ShortSlice);
     }
     match reader::read_question(question) {
-        Checked::Refused(refusal) => Tried::Refused(refusal),
+        Checked::Refused(mistake) => Tried::Refused(mistake),
         Checked::Fine => {
             let h = reader::read_header(question);
             try_asked(h, question, filling, work)

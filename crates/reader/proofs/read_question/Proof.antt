@@ -7,7 +7,7 @@ use Rattle.reader.proofs.Verdicts.{too-short, too-long, counts-wrong, o
 use Rattle.reader.proofs.read_question.Statement.{statement}
 use Rattle.reader.proofs.read_question.Tie as tie
 
--- `two` to `five` are the places behind the tests of those numbers
+-- `two` to `four` are the places behind the tests of those numbers, `five` is the reading of the conjunctions
 pub read-question-spec : {M : Type 1} → statement M
 read-question-spec =
     tie.close (tie.spec
@@ -22,26 +22,29 @@ read-question-spec =
     offsets-wrong _ (two .before .if1 .left) (two .if2 .left) _ (three .before .before .read-header .ensures) (holds _ _ (three .before .counts-fit .ensures) (three .if3 .left))
     (fails _ _ (c .before .laid-out .ensures) (c .if4 .taken)))
     (λ c κs. holds _ _ (c .before .laid-out .ensures) (c .if4 .left))
+    (λ c. search needs) (λ c. search needs) (λ c κs. search needs) (λ c. search needs) (λ c κs. search needs) (λ c. search needs) (λ c. search needs)
     (λ c.
-    let four = c .before .before in
+    let five = c .before .before .before in
+    let four = five .before in
     let three = four .before .before in
     let two = three .before .before .before in
     literals-wrong _ (two .before .if1 .left) (two .if2 .left) _ (three .before .before .read-header .ensures) (holds _ _ (three .before .counts-fit .ensures) (three .if3 .left))
-    (holds _ _ (four .before .laid-out .ensures) (four .if4 .left)) (fails _ _ (c .before .all-literals .ensures) (c .if5 .taken)))
-    (λ c κs. search needs) (λ c. search needs) (λ c κs. search needs) (λ c. search needs) (λ c. search needs)
+    (holds _ _ (four .before .laid-out .ensures) (four .if4 .left)) _ (sym (five .read-all .ensures) ∙ c .before .at .given .1))
     (λ c.
-    let five = c .before .before .before .before in
-    let four = five .before .before in
+    let scan = c .before .before .before in
+    let five = scan .before .before .before .before in
+    let four = five .before in
     let three = four .before .before in
     let two = three .before .before .before in
     number-wrong _ (two .before .if1 .left) (two .if2 .left) _ (three .before .before .read-header .ensures) (holds _ _ (three .before .counts-fit .ensures) (three .if3 .left))
-    (holds _ _ (four .before .laid-out .ensures) (four .if4 .left)) (holds _ _ (five .before .all-literals .ensures) (five .if5 .left)) _ (c .before .before .before .wide .ensures) _
-    (sym (c .before .before .find-undeclared .ensures) ∙ c .enum-told .given .1))
+    (holds _ _ (four .before .laid-out .ensures) (four .if4 .left)) _ (sym (five .read-all .ensures) ∙ scan .before .before .enum-told .given .1) _ (scan .before .wide .ensures) _
+    (sym (scan .find-undeclared .ensures) ∙ c .before .at2 .given .1))
     (λ c.
-    let five = c .before .before .before .before in
-    let four = five .before .before in
+    let scan = c .before .before in
+    let five = scan .before .before .before .before in
+    let four = five .before in
     let three = four .before .before in
     let two = three .before .before .before in
     nothing-wrong _ (two .before .if1 .left) (two .if2 .left) _ (three .before .before .read-header .ensures) (holds _ _ (three .before .counts-fit .ensures) (three .if3 .left))
-    (holds _ _ (four .before .laid-out .ensures) (four .if4 .left)) (holds _ _ (five .before .all-literals .ensures) (five .if5 .left)) _ (c .before .before .before .wide .ensures)
-    (sym (c .before .before .find-undeclared .ensures) ∙ c .enum-told2 .given .1)))
+    (holds _ _ (four .before .laid-out .ensures) (four .if4 .left)) _ (sym (five .read-all .ensures) ∙ scan .before .before .enum-told .given .1) _ (scan .before .wide .ensures)
+    (sym (scan .find-undeclared .ensures) ∙ c .enum-told2 .given .1)))

@@ -22,7 +22,7 @@ try-asked-requires c κs =
     (question-asked (a .question .now) (a .filling .now) (a .work .now) (omega arith) (as-checked (c₃ .read-question .result) _ (c₃ .read-question .ensures)) (c₂ .enum-told .given .1) (c₁ .read-header .ensures), search needs)
 
 returns-2 : tie.Need-returns-2
-returns-2 c = refused-question _ _ (c .before .before .before .before .before .before .before .before .args .work .now) (omega arith) (as-checked (c .before .before .before .read-question .result) _ (c .before .before .before .read-question .ensures)) (c .before .refusal .given .1)
+returns-2 c = refused-question _ _ (c .before .before .before .before .before .before .before .before .args .work .now) (omega arith) (as-checked (c .before .before .before .read-question .result) _ (c .before .before .before .read-question .ensures)) (c .before .mistake .given .1)
 
 returns-3 : tie.Need-returns-3
 returns-3 c =

@@ -41,6 +41,11 @@ pub fn worked(tally: &mut Tally, folder: &Path) {
             None => left(whole, &[]),
         };
         tally.expect(&case.name, &request, expected, &expected_left);
+        // The place of the mistake, from the request on that asks for it.
+        if let Some(place) = case.field('W') {
+            let request = Request::Place { question: bytes(&case.words('Q')) };
+            tally.expect(&case.name, &request, place[0], &[]);
+        }
     }
     for case in records(folder, "try.txt") {
         let (question, filling) = (bytes(&case.words('Q')), bytes(&case.words('F')));
