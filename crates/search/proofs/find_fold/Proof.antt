@@ -3,9 +3,9 @@ use native.Mathlib.Omega.{arith}
 use mathlib.Core.Path.{ap}
 use lib.ListN.{length}
 use borrow.Author.Needs.{needs}
-use Rattle.steps.proofs.Finding.{fold-there, fold-absent}
-use Rattle.steps.proofs.find_fold.Statement.{statement}
-use Rattle.steps.proofs.find_fold.Tie as tie
+use Rattle.search.proofs.Finding.{fold-there, fold-absent}
+use Rattle.search.proofs.find_fold.Statement.{statement}
+use Rattle.search.proofs.find_fold.Tie as tie
 
 returns : tie.Need-returns
 returns c = (λ h. c .if1 .taken, λ x f e. fold-there x _ (c .before .first-twice .ensures x f e) (let z = ap length e in let h = c .if1 .taken in omega arith))

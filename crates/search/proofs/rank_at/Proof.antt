@@ -6,11 +6,11 @@ use borrow.Author.Needs.{needs}
 use Rattle.language.specs.Writing.{conjWords}
 use Rattle.views.proofs.Sides.{shows-finish}
 use Rattle.views.proofs.LiteralWalks.{at-equation, at-membership}
-use Rattle.steps.specs.Seeking.{best, bestAt}
-use Rattle.steps.proofs.Finding.{best-swapped, best-written, best-member}
-use Rattle.steps.proofs.Asked.{equation-at, membership-at, turned-at}
-use Rattle.steps.proofs.rank_at.Statement.{statement}
-use Rattle.steps.proofs.rank_at.Tie as tie
+use Rattle.search.specs.Seeking.{best, bestAt}
+use Rattle.search.proofs.Finding.{best-swapped, best-written, best-member}
+use Rattle.search.proofs.Seen.{equation-at, membership-at, turned-at}
+use Rattle.search.proofs.rank_at.Statement.{statement}
+use Rattle.search.proofs.rank_at.Tie as tie
 
 rank-equation-requires : tie.Need-rank-equation-requires
 rank-equation-requires c κs =

@@ -14,10 +14,8 @@ use Rattle.rules.specs.Places.{atFold}
 use Rattle.rules.specs.Ranks.{eqnAnswer, memAnswer}
 use Rattle.folding.specs.Twice.{Once}
 use Rattle.folding.proofs.Folds.{fold-nowhere}
-use Rattle.steps.specs.declared.Best.{Best}
-use Rattle.steps.specs.Ranking.{sideAnswer, pairAt, pairAnswer, sideResults}
-use Rattle.steps.specs.Asking.{RuleAt, AnswerAt, FoldHere}
-use Rattle.steps.proofs.First.{PairsIdle}
+use Rattle.search.specs.Ranking.{sideAnswer, pairAt, pairAnswer, sideResults}
+use Rattle.search.proofs.First.{PairsIdle}
 
 -- ---- the fold is the one rule of two literals
 
@@ -120,15 +118,3 @@ results-fold swap n before l behind ks d e =
     go nothing a e = absurd (let z : _≡_ {A = ℕ} 0 1 = cc in omega arith)
     go (results js) a e = record { folds = js; applies = a; made = sym (same e) }
     go (stops r) a e = absurd (let z : _≡_ {A = ℕ} 0 1 = cc in omega arith)
-
--- ---- what a step is asked to have
-
-pub answer-at : (k : List ℕ) (b : Best) → RuleAt k b → (b .rank ≡ atFold → ⊥) → AnswerAt k b
-answer-at k b m z =
-    let r = results-answer (b .swap) (b .rank) (m .before) (m .l) (m .behind) (m .made) z (m .applies) in
-    record { before = m .before; l = m .l; behind = m .behind; branches = r .branches; stands = m .stands; answer = r .answer }
-
-pub fold-at : (k : List ℕ) (b : Best) → RuleAt k b → b .rank ≡ atFold → FoldHere k (b .at)
-fold-at k b m e =
-    let r = results-fold (b .swap) (b .rank) (m .before) (m .l) (m .behind) (m .made) e (m .applies) in
-    record { before = m .before; l = m .l; behind = m .behind; made = r .folds; stands = m .stands; applies = r .applies }

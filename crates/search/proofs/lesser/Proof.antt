@@ -2,8 +2,8 @@
 use mathlib.Core.Path.{sym, ap}
 use borrow.Author.Tests.{lt-ltb, le-ltb}
 use Rattle.language.specs.Kinds.{pick}
-use Rattle.steps.proofs.lesser.Statement.{statement}
-use Rattle.steps.proofs.lesser.Tie as tie
+use Rattle.search.proofs.lesser.Statement.{statement}
+use Rattle.search.proofs.lesser.Tie as tie
 
 returns : tie.Need-returns
 returns c = ap (λ t. pick t (c .before .before .before .args .b) (c .before .before .before .args .a)) (sym (lt-ltb _ _ (c .if1 .taken)))

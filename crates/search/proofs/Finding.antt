@@ -13,15 +13,15 @@ use Rattle.language.specs.Writing.{literalWords, conjWords}
 use Rattle.rules.specs.Places.{atFold, noRule}
 use Rattle.views.specs.Standing.{LiteralAt}
 use Rattle.rules.specs.Ranks.{eqnRank, memRank}
-use Rattle.steps.specs.Ranking.{Ranked, Sought, Found}
-use Rattle.steps.proofs.Ranks.{rank-written, rank-swapped, rank-member}
+use Rattle.search.specs.Ranking.{Ranked, Sought, Found}
+use Rattle.search.proofs.Ranks.{rank-written, rank-swapped, rank-member}
 use Rattle.views.proofs.LiteralWalks.{literal-some}
 use Rattle.folding.specs.Twice.{firstTwice}
 use Rattle.folding.proofs.Folds.{found-none, found-at}
-use Rattle.steps.proofs.Applied.{idle-low, idle-once}
-use Rattle.steps.proofs.Pass.{start, below, keep, better, finish, finish-fold}
-use Rattle.steps.specs.declared.Best.{Best}
-use Rattle.steps.specs.Seeking.{best, lesserOf, bestAt, bestFrom, bestAlone, bestFold, bestOf}
+use Rattle.search.proofs.Applied.{idle-low, idle-once}
+use Rattle.search.proofs.Pass.{start, below, keep, better, finish, finish-fold}
+use Rattle.search.specs.declared.Best.{Best}
+use Rattle.search.specs.Seeking.{best, lesserOf, bestAt, bestFrom, bestAlone, bestFold, bestOf}
 
 -- ---- one literal
 

@@ -1,8 +1,8 @@
 -- The pass, and the fold where no rule before it applies.
 use borrow.Author.Needs.{needs}
-use Rattle.steps.proofs.Finding.{alone-best, both-best, placed-on}
-use Rattle.steps.proofs.find.Statement.{statement}
-use Rattle.steps.proofs.find.Tie as tie
+use Rattle.search.proofs.Finding.{alone-best, both-best, placed-on}
+use Rattle.search.proofs.find.Statement.{statement}
+use Rattle.search.proofs.find.Tie as tie
 
 returns : tie.Need-returns
 returns c = (c .before .before .find-alone .ensures .0, λ x f e. alone-best x (c .before .before .find-alone .result) (c .before .before .find-alone .ensures .1 x f e) (c .if1 .taken))

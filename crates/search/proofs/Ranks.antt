@@ -13,7 +13,7 @@ use Rattle.rules.specs.Rules.{Answer, Rule, onEqn, onMem, onPair, rules}
 use Rattle.rules.specs.Solved.{isSome}
 use Rattle.rules.specs.Step.{orNext, placed}
 use Rattle.rules.specs.Ranks.{atEqn, atMem, firstOf, answerAt, eqnRank, memRank, eqnAnswer, memAnswer}
-use Rattle.steps.specs.Ranking.{Tried, sided, tried, applies, firstReply, replyAt, litRank, Ranked}
+use Rattle.search.specs.Ranking.{Tried, sided, tried, applies, firstReply, replyAt, litRank, Ranked}
 
 -- what stands at a place, of one here and those after it
 abbrev at-place : ℕ → Tried → (ℕ → Tried) → Tried

@@ -14,10 +14,10 @@ use Rattle.rules.specs.Rules.{Branch, Answer, folded, rules}
 use Rattle.rules.specs.Step.{orNext, each, place, placed, Spot, first, search, step}
 use Rattle.rules.specs.Places.{atR2, atFold, noRule}
 use Rattle.folding.proofs.Folds.{strike-some, FoldAt, foldOf, fold-found}
-use Rattle.steps.specs.Ranking.{Tried, sided, tried, applies, replyAt, litRank, sideAnswer, Ranked, Each, NotBelow, Above, Sought, unmet, least, Found, nowhere, somewhere}
-use Rattle.steps.proofs.Ranks.{rank-applies}
-use Rattle.steps.proofs.First.{each-map, each-append, PairsIdle, skip, found-first}
-use Rattle.steps.proofs.Applied.{idle-low, answer-results, fold-results}
+use Rattle.search.specs.Ranking.{Tried, sided, tried, applies, replyAt, litRank, sideAnswer, Ranked, Each, NotBelow, Above, Sought, unmet, least, Found, nowhere, somewhere}
+use Rattle.search.proofs.Ranks.{rank-applies}
+use Rattle.search.proofs.First.{each-map, each-append, PairsIdle, skip, found-first}
+use Rattle.search.proofs.Applied.{idle-low, answer-results, fold-results}
 
 pub start : (c : Conj) (at : ℕ) (swap : Bool) → Sought [] c noRule at swap
 start c at swap = unmet refl tt

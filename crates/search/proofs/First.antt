@@ -12,7 +12,7 @@ use Rattle.rules.specs.Reply.{Reply, nothing, results, stops}
 use Rattle.rules.specs.Rules.{Rule, onEqn, onMem, onPair}
 use Rattle.rules.specs.Step.{orNext, each, resultsAt, Spot, found, earliest, first}
 use Rattle.rules.specs.Step as step
-use Rattle.steps.specs.Ranking.{Tried, sided, sides, tried, applies, firstReply, replyAt, Each}
+use Rattle.search.specs.Ranking.{Tried, sided, sides, tried, applies, firstReply, replyAt, Each}
 
 -- ---- each literal of a part
 

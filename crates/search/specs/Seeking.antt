@@ -10,7 +10,7 @@ use Rattle.language.specs.Writing.{conjWords}
 use Rattle.rules.specs.Places.{atFold, noRule}
 use Rattle.rules.specs.Ranks.{eqnRank, memRank}
 use Rattle.folding.specs.Twice.{firstTwice}
-use Rattle.steps.specs.declared.Best.{Best}
+use Rattle.search.specs.declared.Best.{Best}
 
 abbrev pub best : ℕ → ℕ → Bool → Best
 best rank at swap = record { rank = rank; at = at; swap = swap }

@@ -11,12 +11,12 @@ use Rattle.language.specs.Writing.{conjWords}
 use Rattle.language.specs.Fine.{fineConj}
 use Rattle.rules.specs.Places.{noRule}
 use Rattle.views.specs.Standing.{SomeLiteral}
-use Rattle.steps.specs.declared.Best.{Best}
-use Rattle.steps.specs.Seeking.{lesserOf, bestFrom, bestAlone}
+use Rattle.search.specs.declared.Best.{Best}
+use Rattle.search.specs.Seeking.{lesserOf, bestFrom, bestAlone}
 use Rattle.views.proofs.LiteralWalks.{Walked, walk-starts, walk-here, walk-to, walk-ends}
-use Rattle.steps.proofs.Finding.{placed-on, passed-to}
-use Rattle.steps.proofs.find_alone.Statement.{statement}
-use Rattle.steps.proofs.find_alone.Tie as tie
+use Rattle.search.proofs.Finding.{placed-on, passed-to}
+use Rattle.search.proofs.find_alone.Statement.{statement}
+use Rattle.search.proofs.find_alone.Tie as tie
 
 abbrev Known : Best → Conj → Conj → Conj → Type 0
 Known b c done rest = bestFrom b done rest ≡ bestAlone c
