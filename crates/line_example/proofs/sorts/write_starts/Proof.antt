@@ -4,9 +4,9 @@ use mathlib.Core.Path.{_≡_, refl}
 use borrow.Author.Needs.{needs}
 use native.Mathlib.Omega.{arith}
 use lib.ListN.{length}
-use Rattle.example.proofs.Rows.{named-numbered, Started, started-start, started-next, started-done}
-use Rattle.example.proofs.sorts.write_starts.Statement.{statement}
-use Rattle.example.proofs.sorts.write_starts.Tie as tie
+use Rattle.line_example.proofs.Rows.{named-numbered, Started, started-start, started-next, started-done}
+use Rattle.line_example.proofs.sorts.write_starts.Statement.{statement}
+use Rattle.line_example.proofs.sorts.write_starts.Tie as tie
 
 abbrev Inv-loop : tie.InvT-loop
 Inv-loop k of count out₀ at offset j₀ e₀ next₀ out j e next = (length out ≡ length out₀) × Started k of count out₀ at offset j out e next

@@ -2,9 +2,9 @@
 use Prim.Native.Nat.{_-_}
 use borrow.Author.Needs.{needs}
 use native.Mathlib.Omega.{arith}
-use Rattle.example.proofs.Rows.{named-numbered, Summed, summed-start, summed-next, summed-done}
-use Rattle.example.proofs.sorts.values_len.Statement.{statement}
-use Rattle.example.proofs.sorts.values_len.Tie as tie
+use Rattle.line_example.proofs.Rows.{named-numbered, Summed, summed-start, summed-next, summed-done}
+use Rattle.line_example.proofs.sorts.values_len.Statement.{statement}
+use Rattle.line_example.proofs.sorts.values_len.Tie as tie
 
 abbrev Inv-loop : tie.InvT-loop
 Inv-loop k of count j₀ n₀ j n = Summed k of count j n

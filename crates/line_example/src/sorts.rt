@@ -4,7 +4,7 @@ ghost use mathlib.Core.Path.{_≡_};
 ghost use lib.ListN.{length};
 ghost use Rattle.language.specs.Limits.{desk};
 ghost use Rattle.values.specs.Values.{SettledLine};
-ghost use Rattle.example.specs.Rows.{numberedOf, KindLength, KindStarts, KindWritten};
+ghost use Rattle.line_example.specs.Rows.{numberedOf, KindLength, KindStarts, KindWritten};
 use language::FunVar;
 use language::HedgeVar;
 use language::Sym;

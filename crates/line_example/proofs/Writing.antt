@@ -19,14 +19,14 @@ use Rattle.samples.specs.Laid.{Laid}
 use Rattle.samples.proofs.Laid.{laid-row, laid-as}
 use Rattle.values.specs.Lines.{Line}
 use Rattle.values.specs.Values.{Settled}
-use Rattle.example.specs.Rows.{Makes, valuesBy, starts, KindLength, KindStarts, KindWritten}
-use Rattle.example.specs.declared.sorts.Sort.the-variants.{Terms, Runs, Functions}
-use Rattle.example.specs.declared.sorts.Row.{Row}
+use Rattle.line_example.specs.Rows.{Makes, valuesBy, starts, KindLength, KindStarts, KindWritten}
+use Rattle.line_example.specs.declared.sorts.Sort.the-variants.{Terms, Runs, Functions}
+use Rattle.line_example.specs.declared.sorts.Row.{Row}
 use Rattle.outcomes.specs.declared.Shown.the-variants.{Shows, Denied}
-use Rattle.example.specs.Shown.{resultOf, roomOf}
-use Rattle.example.specs.Fillings.{valuesOf, tableOf, Counted, FillingLength, TableWritten, ValuesWritten, LineShown}
-use Rattle.example.proofs.Tables.{joined-row, starts-row, offsets-starts, length-offsets, length-values}
-use Rattle.example.proofs.Examples.{filling-words}
+use Rattle.line_example.specs.Shown.{resultOf, roomOf}
+use Rattle.line_example.specs.Fillings.{valuesOf, tableOf, Counted, FillingLength, TableWritten, ValuesWritten, LineShown}
+use Rattle.line_example.proofs.Tables.{joined-row, starts-row, offsets-starts, length-offsets, length-values}
+use Rattle.line_example.proofs.Examples.{filling-words}
 
 -- ---- the three kinds
 

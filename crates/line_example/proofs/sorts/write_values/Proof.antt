@@ -4,9 +4,9 @@ use mathlib.Core.Path.{_≡_, refl}
 use borrow.Author.Needs.{needs}
 use native.Mathlib.Omega.{arith}
 use lib.ListN.{length}
-use Rattle.example.proofs.Rows.{named-numbered, Written, written-start, written-next, written-done}
-use Rattle.example.proofs.sorts.write_values.Statement.{statement}
-use Rattle.example.proofs.sorts.write_values.Tie as tie
+use Rattle.line_example.proofs.Rows.{named-numbered, Written, written-start, written-next, written-done}
+use Rattle.line_example.proofs.sorts.write_values.Statement.{statement}
+use Rattle.line_example.proofs.sorts.write_values.Tie as tie
 
 abbrev Inv-loop : tie.InvT-loop
 Inv-loop k of count any out₀ at j₀ e₀ out j e = (length out ≡ length out₀) × Written k of count any out₀ at j out e

@@ -1,8 +1,8 @@
 -- A filling has its table's words and those of its values.
 use borrow.Author.Needs.{needs}
-use Rattle.example.proofs.Writing.{filling-length}
-use Rattle.example.proofs.filling_len.Statement.{statement}
-use Rattle.example.proofs.filling_len.Tie as tie
+use Rattle.line_example.proofs.Writing.{filling-length}
+use Rattle.line_example.proofs.filling_len.Statement.{statement}
+use Rattle.line_example.proofs.filling_len.Tie as tie
 
 pub filling-len-spec : {M : Type 1} → statement M
 filling-len-spec =

@@ -2,9 +2,9 @@
 use mathlib.Core.Path.{sym, ap, _∙_}
 use borrow.Author.Needs.{needs}
 use Rattle.values.specs.declared.Variable.the-variants.{Term, Run, Function}
-use Rattle.example.specs.Rows.{numberedOf}
-use Rattle.example.proofs.sorts.numbered.Statement.{statement}
-use Rattle.example.proofs.sorts.numbered.Tie as tie
+use Rattle.line_example.specs.Rows.{numberedOf}
+use Rattle.line_example.proofs.sorts.numbered.Statement.{statement}
+use Rattle.line_example.proofs.sorts.numbered.Tie as tie
 
 pub numbered-spec : {M : Type 1} → statement M
 numbered-spec =

@@ -12,9 +12,9 @@ use Rattle.rules.specs.Calls.{fitted}
 use Rattle.samples.specs.Laid.{Laid}
 use Rattle.values.specs.Lines.{Line}
 use Rattle.values.specs.Values.{Settled}
-use Rattle.example.specs.Rows.{valuesBy}
+use Rattle.line_example.specs.Rows.{valuesBy}
 use Rattle.outcomes.specs.declared.Shown.{Shown}
-use Rattle.example.specs.Shown.{resultOf, roomOf}
+use Rattle.line_example.specs.Shown.{resultOf, roomOf}
 
 -- the values of the term, hedge and function variables, where free blanks take the symbol `any`
 unfoldable pub valuesOf : Sym → Conj → Counts → List (List ℕ)

@@ -9,13 +9,13 @@ use Rattle.language.specs.Limits.{desk}
 use Rattle.language.specs.Trees.{Conj, Var}
 use Rattle.meaning.specs.Values.{joined, numbers}
 use Rattle.values.specs.declared.Variable.{Variable}
-use Rattle.example.specs.declared.sorts.Sort.{Sort}
-use Rattle.example.specs.declared.sorts.Sort.the-variants.{Terms, Runs, Functions}
+use Rattle.line_example.specs.declared.sorts.Sort.{Sort}
+use Rattle.line_example.specs.declared.sorts.Sort.the-variants.{Terms, Runs, Functions}
 use Rattle.samples.specs.Laid.{Laid}
 use Rattle.samples.proofs.Laid.{laid-none, laid-row, laid-as}
 use Rattle.values.specs.Lines.{varOf, Named, Line}
 use Rattle.values.specs.Values.{Settled, valueWords, ValueLength}
-use Rattle.example.specs.Rows.{numberedOf, Makes, valuesBy, starts, KindLength, KindStarts, KindWritten}
+use Rattle.line_example.specs.Rows.{numberedOf, Makes, valuesBy, starts, KindLength, KindStarts, KindWritten}
 
 -- ---- the j-th variable
 

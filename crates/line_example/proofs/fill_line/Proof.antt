@@ -1,8 +1,8 @@
 -- The length decides before anything is written; then the table and the values fill the front of the room.
 use borrow.Author.Needs.{needs}
-use Rattle.example.proofs.Writing.{shown-long, shown-full, shown-all}
-use Rattle.example.proofs.fill_line.Statement.{statement}
-use Rattle.example.proofs.fill_line.Tie as tie
+use Rattle.line_example.proofs.Writing.{shown-long, shown-full, shown-all}
+use Rattle.line_example.proofs.fill_line.Statement.{statement}
+use Rattle.line_example.proofs.fill_line.Tie as tie
 
 pub fill-line-spec : {M : Type 1} → statement M
 fill-line-spec =

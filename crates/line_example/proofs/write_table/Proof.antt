@@ -1,8 +1,8 @@
 -- The table is the number of variables, where the values of each kind begin, and where the last ends.
 use borrow.Author.Needs.{needs}
-use Rattle.example.proofs.Writing.{table-written}
-use Rattle.example.proofs.write_table.Statement.{statement}
-use Rattle.example.proofs.write_table.Tie as tie
+use Rattle.line_example.proofs.Writing.{table-written}
+use Rattle.line_example.proofs.write_table.Statement.{statement}
+use Rattle.line_example.proofs.write_table.Tie as tie
 
 pub write-table-spec : {M : Type 1} → statement M
 write-table-spec =

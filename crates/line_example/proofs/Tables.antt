@@ -7,7 +7,7 @@ use lib.ListN.{length, length-append, length-map}
 use Rattle.meaning.specs.Values.{offsetsOf, joined, numbers}
 use Rattle.language.specs.declared.Sym.{Sym}
 use Rattle.language.specs.Trees.{Conj, Var}
-use Rattle.example.specs.Rows.{valuesBy, starts}
+use Rattle.line_example.specs.Rows.{valuesBy, starts}
 
 pub joined-row : (a b : List (List ℕ)) → joined (a ++ b) ≡ joined a ++ joined b
 joined-row [] b = refl

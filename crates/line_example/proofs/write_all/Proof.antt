@@ -1,8 +1,8 @@
 -- The values of each kind in order.
 use borrow.Author.Needs.{needs}
-use Rattle.example.proofs.Writing.{values-written}
-use Rattle.example.proofs.write_all.Statement.{statement}
-use Rattle.example.proofs.write_all.Tie as tie
+use Rattle.line_example.proofs.Writing.{values-written}
+use Rattle.line_example.proofs.write_all.Statement.{statement}
+use Rattle.line_example.proofs.write_all.Tie as tie
 
 pub write-all-spec : {M : Type 1} → statement M
 write-all-spec =

@@ -21,9 +21,9 @@ use Rattle.rules.proofs.Answers.{orElse-is, Where}
 use Rattle.rules.proofs.Looks.{empty-is}
 use Rattle.lines.proofs.Tests.{given-is}
 use Rattle.values.specs.Values.{Settled, valueWords}
-use Rattle.example.specs.Rows.{valuesBy}
+use Rattle.line_example.specs.Rows.{valuesBy}
 use Rattle.values.proofs.Following.{single}
-use Rattle.example.specs.Fillings.{valuesOf, tableOf}
+use Rattle.line_example.specs.Fillings.{valuesOf, tableOf}
 
 -- ---- what a variable is bound to has the form that the variable takes
 

@@ -11,9 +11,9 @@ use Rattle.samples.specs.Laid.{Laid}
 use Rattle.values.specs.Lines.{Named, Line}
 use Rattle.values.specs.declared.Variable.{Variable}
 use Rattle.values.specs.declared.Variable.the-variants.{Term, Run, Function}
-use Rattle.example.specs.declared.sorts.Sort.{Sort}
-use Rattle.example.specs.declared.sorts.Sort.the-variants.{Terms, Runs, Functions}
-use Rattle.example.specs.declared.sorts.Row.{Row}
+use Rattle.line_example.specs.declared.sorts.Sort.{Sort}
+use Rattle.line_example.specs.declared.sorts.Sort.the-variants.{Terms, Runs, Functions}
+use Rattle.line_example.specs.declared.sorts.Row.{Row}
 use Rattle.values.specs.Values.{Settled, valueWords}
 
 -- the variable of a kind with a number
