@@ -19,7 +19,7 @@ clear = replicate (desk .filling) 0
 
 -- as many of its words as the room has; by the law, since computing the length would walk the whole list
 within : (m : ℕ) → m ≤ desk .filling → length (take m clear) ≡ m
-within m h = length-take-le m clear (subst (λ n. m ≤ n) (sym (length-replicate (desk .filling) 0)) h)
+within m h = length-take-le m clear (subst (λ n. m ≤ n) (sym (length-replicate {A = ℕ} (desk .filling) 0)) h)
 
 show-requires : tie.Need-show-requires
 show-requires c κs = let n : length (take (c .before .before .before .most .result) clear) ≡ c .before .before .before .most .result = within _ (omega arith) in (omega arith, omega arith)

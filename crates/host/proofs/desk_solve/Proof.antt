@@ -17,7 +17,7 @@ clear = replicate (desk .room) 0
 
 -- by the law: computing it would walk the whole list
 long : length clear ≡ desk .room
-long = length-replicate (desk .room) 0
+long = length-replicate {A = ℕ} (desk .room) 0
 
 returns-2 : tie.Need-returns-2
 returns-2 c =

@@ -18,7 +18,7 @@ clear = replicate (desk .room) 0
 
 -- by the law: computing it would walk the whole list
 long : length clear ≡ desk .room
-long = length-replicate (desk .room) 0
+long = length-replicate {A = ℕ} (desk .room) 0
 
 slice-reshare-prefix-write-words : tie.Need-slice-reshare-prefix-write-words
 slice-reshare-prefix-write-words c =
