@@ -9,7 +9,7 @@ use Rattle.language.specs.Trees.{Expr, eps, cat, alt, star, over}
 use Rattle.language.specs.Writing.{exprWords}
 use Rattle.rules.specs.Looks.{isEps}
 use Rattle.rules.specs.Expressions.{nullable, Monomial, joined, linear, _⊙_}
-use Rattle.linear_form.specs.Loose.{Loose, met, joins, opening, restWords}
+use Rattle.monomials.specs.Loose.{Loose, met, joins, opening, restWords}
 
 -- a rest r of n parts, whose words in a row are ws
 pub data Rest (r : Expr) (n : ℕ) (ws : List ℕ) : Type 0 where
