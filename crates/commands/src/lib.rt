@@ -164,8 +164,8 @@ fn ask(command: Command, question: &[u16], i: usize) -> End {
 
 // Says why a question is refused, and shows the word that is to blame, if one is. Its text is that of the file that argument `i` names.
 fn refuse<'a>(r: Refusal, question: &'a [u16], text: &'a [u8], i: usize) -> u8 {
-    refusal(wide(language::number(r)));
-    if language::place(r) != 0 {
+    refusal(wide(refusals::number(r)));
+    if refusals::place(r) != 0 {
         name_of(i);
         mistake(r, question, text);
     }

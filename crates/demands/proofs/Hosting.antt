@@ -20,7 +20,7 @@ use Rattle.meaning.specs.Meaning.{Filling, MeetsQuestion}
 use Rattle.meaning.specs.Values.{Given, gives, readFilling}
 use Rattle.meaning.specs.Values as values
 use Rattle.exact.proofs.Declared.{read-declared}
-use Rattle.example.specs.Shown.{resultOf, roomOf}
+use Rattle.line_example.specs.Shown.{resultOf, roomOf}
 use Rattle.example.specs.Answers.{Answer}
 use Rattle.word_bytes.specs.Bytes.{wordsOf, bytesOf, wordsIn}
 use Rattle.host.specs.Host as host

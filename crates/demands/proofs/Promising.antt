@@ -32,7 +32,7 @@ use Rattle.rules.proofs.Invariant.{lines-rest}
 use Rattle.exact.proofs.Declared.{lines-declared, read-declared}
 use Rattle.lines.proofs.Lines.{example-meets-line, example-written, matching-lines-solved}
 use Rattle.lines.proofs.Shown.{each-line, read-counts}
-use Rattle.example.specs.Shown.{resultOf, roomOf}
+use Rattle.line_example.specs.Shown.{resultOf, roomOf}
 use Rattle.example.specs.Answers.{Answer}
 use Rattle.demands.specs.Answers.{Line, MeetsLine, nthLine}
 use Rattle.demands.specs.Promises.{Promised, Told, missing, is-open, too-long, shown as is-shown}

@@ -25,8 +25,8 @@ use Rattle.values.specs.Values.{SettledLine}
 use Rattle.words.proofs.Parts.{drop-of, word-of}
 use Rattle.outcomes.specs.declared.Shown.{Shown}
 use Rattle.outcomes.specs.declared.Shown.the-variants.{Denied}
-use Rattle.example.specs.Shown.{resultOf, roomOf}
-use Rattle.example.specs.Fillings.{LineShown}
+use Rattle.line_example.specs.Shown.{resultOf, roomOf}
+use Rattle.line_example.specs.Fillings.{LineShown}
 use Rattle.example.specs.Answers.{Good, Answer, Answered, LineIn, WordsShown, PartShown, AnswerShown}
 use Rattle.example.proofs.Lines.{no-line, Place, whole, count-is, place-of}
 

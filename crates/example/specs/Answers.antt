@@ -20,7 +20,7 @@ use Rattle.rules.specs.Calls.{fitted, shown, lineAt}
 use Rattle.answers.specs.Lined.{lineHead}
 use Rattle.values.specs.Values.{Settled}
 use Rattle.outcomes.specs.declared.Shown.{Shown}
-use Rattle.example.specs.Shown.{resultOf, roomOf}
+use Rattle.line_example.specs.Shown.{resultOf, roomOf}
 
 pub record Good (l : Conj) : Type 0 where
   pub fine : fineConj desk l

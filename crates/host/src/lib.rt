@@ -11,7 +11,6 @@ use language::limits::ANSWER_BYTES;
 use language::limits::FILLING;
 use language::limits::QUESTION;
 use language::limits::ROOM;
-use language::place;
 use outcomes::Checked;
 use outcomes::Solved;
 use outcomes::outcome_number;
@@ -19,6 +18,7 @@ use outcomes::shown_length;
 use outcomes::shown_number;
 use outcomes::tried_number;
 use outcomes::tried_value;
+use refusals::place;
 use word_bytes::take_words;
 use word_bytes::write_words;
 

@@ -15,13 +15,13 @@ use Rattle.rules.specs.Step.{step}
 use Rattle.rules.specs.Places.{noRule}
 use Rattle.rules.specs.Run.{Numbered}
 use Rattle.frames.specs.Frames.{frame, framedLength}
-use Rattle.steps.specs.Ranking.{Found, nowhere, somewhere, sideResults}
+use Rattle.search.specs.Ranking.{Found, nowhere, somewhere, sideResults}
 use Rattle.steps.specs.Asking.{RuleAt}
-use Rattle.steps.specs.Seeking.{bestOf}
-use Rattle.steps.specs.declared.Best.{Best}
-use Rattle.steps.proofs.Finding.{best-found}
+use Rattle.search.specs.Seeking.{bestOf}
+use Rattle.search.specs.declared.Best.{Best}
+use Rattle.search.proofs.Finding.{best-found}
 use Rattle.views.proofs.LiteralWalks.{stands-here}
-use Rattle.steps.proofs.Pass.{searched}
+use Rattle.search.proofs.Pass.{searched}
 use Rattle.views.specs.Standing.{LiteralAt, Conjunction}
 use Rattle.solver.specs.declared.State.{State}
 use Rattle.solver.specs.declared.Turned.the-variants.{On, Stop}

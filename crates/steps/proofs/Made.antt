@@ -22,7 +22,7 @@ use Rattle.plans.specs.Slots.{nothing, fewRecipe, single}
 use Rattle.folding.specs.Twice.{untilSame}
 use Rattle.folding.proofs.Folds.{fold-some, fold-places, fold-words}
 use Rattle.steps.specs.Asking.{FoldHere}
-use Rattle.steps.proofs.Applied.{Answered, Folded}
+use Rattle.search.proofs.Applied.{Answered, Folded}
 use Rattle.steps.proofs.Taken.{placed-words}
 
 pub answered-words : {swap : Bool} {n : ℕ} {before : Conj} {l : Literal} {behind : Conj} {ks : List Conj} (r : Answered swap n before l behind ks)

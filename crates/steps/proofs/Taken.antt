@@ -24,7 +24,7 @@ use Rattle.plans.specs.declared.Size.the-variants.{Fits, Over}
 use Rattle.slices.specs.Written.{Wrote}
 use Rattle.results.proofs.Sizing.{fits-ready}
 use Rattle.views.specs.Standing.{LiteralAt}
-use Rattle.steps.specs.Ranking.{sideAnswer}
+use Rattle.search.specs.Ranking.{sideAnswer}
 use Rattle.steps.specs.Taking.{Took, long, room, done}
 use Rattle.steps.specs.declared.Stepped.{Stepped}
 use Rattle.steps.specs.declared.Stepped.the-variants.{Long, Room, Done}

@@ -7,8 +7,8 @@ use Rattle.language.specs.Trees.{Hedge, Expr, Literal, mem, Conj}
 use Rattle.rules.specs.Reply.{results}
 use Rattle.rules.specs.Rules.{Branch, Fold}
 use Rattle.views.specs.Standing.{LiteralAt}
-use Rattle.steps.specs.declared.Best.{Best}
-use Rattle.steps.specs.Ranking.{sideAnswer, sideResults}
+use Rattle.search.specs.declared.Best.{Best}
+use Rattle.search.specs.Ranking.{sideAnswer, sideResults}
 
 -- a literal stands at the place of b, and the rule of its rank applies there from its side
 pub record RuleAt (k : List ℕ) (b : Best) : Type 0 where

@@ -1,7 +1,7 @@
 -- A line where nothing is found, else a step.
 use native.Mathlib.Omega.{arith}
 use borrow.Author.Needs.{needs}
-use Rattle.steps.proofs.Finding.{best-found}
+use Rattle.search.proofs.Finding.{best-found}
 use Rattle.solver.proofs.Advancing.{none-found, rule-found}
 use Rattle.solver.proofs.turn_with.Statement.{statement}
 use Rattle.solver.proofs.turn_with.Tie as tie

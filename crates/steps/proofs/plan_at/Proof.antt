@@ -1,7 +1,7 @@
 -- The plan of the side that the rank was found from, or of the membership.
 use mathlib.Core.List.{_++_}
 use borrow.Author.Needs.{needs}
-use Rattle.steps.specs.Ranking.{sideAnswer}
+use Rattle.search.specs.Ranking.{sideAnswer}
 use Rattle.views.proofs.LiteralWalks.{at-equation, at-membership}
 use Rattle.plans.specs.Planned.{Planned}
 use Rattle.steps.proofs.Asked.{applies-swapped, applies-written, applies-member}

@@ -3,8 +3,8 @@ use native.Mathlib.Omega.{arith}
 use mathlib.Core.Path.{_∙_}
 use borrow.Author.Needs.{needs}
 use Rattle.steps.proofs.Taken.{took-monomials, took-as}
-use Rattle.steps.proofs.Asked.{monomials-at}
-use Rattle.steps.proofs.Applied.{results-answer, results-fold, answer-at, fold-at}
+use Rattle.steps.proofs.Asked.{monomials-at, answer-at, fold-at}
+use Rattle.search.proofs.Applied.{results-answer, results-fold}
 use Rattle.steps.proofs.Made.{answered-words, folded-words}
 use Rattle.steps.proofs.take_step.Statement.{statement}
 use Rattle.steps.proofs.take_step.Tie as tie
