@@ -5,8 +5,9 @@ use mathlib.Core.Path.{_≡_, refl, ap, _∙_}
 use mathlib.Core.List.{List, [], _∷_, _++_, append-assoc}
 use lib.ListN.{length, drop, length-drop, length-append}
 use lib.Seq.{slice}
-use Rattle.language.specs.Trees.{Functor, Hedge, ε, tvar, hvar, node}
+use Rattle.language.specs.Trees.{Functor, Hedge, ε, node}
 use Rattle.language.specs.Writing.{functorWord, hedgeWords}
+use Rattle.language.proofs.Sizes.{hedge-some}
 use Rattle.words.proofs.Parts.{part-of, drop-of}
 use Rattle.views.specs.declared.Side.{Side}
 use Rattle.views.specs.Looks.{bodyWords}
@@ -38,15 +39,9 @@ module _ {k : List ℕ} {s : Side} {h : Hedge} (f : Functor) (c : Hedge) (v : Si
 
 -- ---- the next place after the first word of a side
 
-words-some : (h : Hedge) → 0 < length (hedgeWords h)
-words-some ε = omega arith
-words-some (tvar x r) = omega arith
-words-some (hvar p r) = omega arith
-words-some (node f c r) = omega arith
-
 -- a side stands within the words
 side-below : {k : List ℕ} {s : Side} {h : Hedge} → Sided k s h → s .from < length k
-side-below {k} {s} {h} v = omega (arith, ap length (v .here), length-drop (s .from) k, length-append (hedgeWords h) (v .beyond), words-some h)
+side-below {k} {s} {h} v = omega (arith, ap length (v .here), length-drop (s .from) k, length-append (hedgeWords h) (v .beyond), hedge-some h)
 
 pub side-forth : {k : List ℕ} {s : Side} {h : Hedge} → Sided k s h → forthIn (length k) (s .from) ≡ s .from + 1
 side-forth {k} {s} v = forth-within (length k) (s .from) (side-below v)
