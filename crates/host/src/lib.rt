@@ -7,6 +7,7 @@ ghost use Rattle.language.specs.Limits.{desk};
 ghost use Rattle.host.specs.Host.{solvingBytes, solveNumber, solveLeaves, tryingBytes, TryNumber, showingBytes, showNumber, showLeaves, placeBytes};
 ghost use Rattle.rules.specs.Calls.{showing};
 ghost use Rattle.host.specs.Numbers.{used, solvedNumber, toldBy};
+use bools::truth;
 use language::limits::ANSWER_BYTES;
 use language::limits::FILLING;
 use language::limits::QUESTION;
@@ -131,7 +132,7 @@ pub extern "C" fn desk_example(question: &[u8], line: u32, old: u32, room: &mut 
     let mut own = [0u16; FILLING];
     let n = take_words(question, &mut words);
     let m = most(room.len() / 2);
-    show(&words[..n], line as usize, old != 0, &mut own[..m], room)
+    show(&words[..n], line as usize, truth(old), &mut own[..m], room)
 }
 
 // Where the mistake is for which a question is refused: its place among the question's words, for 5 and 6, and else 0.

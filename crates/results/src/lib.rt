@@ -21,7 +21,7 @@ use plans::Recipe;
 use plans::Size;
 use plans::Ways;
 use plans::grow;
-use words::element_end;
+use spans::element_end;
 
 // n words and those of one result.
 fn size_one(k: &[u16], r: Recipe, cut: usize, n: usize) -> Size

@@ -4,9 +4,9 @@ use mathlib.Core.List.{[], _∷_}
 use borrow.Author.Needs.{needs}
 use Rattle.language.specs.declared.Kind.{Kind}
 use Rattle.language.proofs.Arms.{Among, each-kind}
 use Rattle.words.specs.Spans.{opensBy, opens}
-use Rattle.words.proofs.opened.Statement.{statement}
-use Rattle.words.proofs.opened.Tie as tie
+use Rattle.spans.proofs.opened.Statement.{statement}
+use Rattle.spans.proofs.opened.Tie as tie
 
 is : {k j i : Kind} → k ≡ j → k ≡ i → opensBy i ≡ opensBy j
 is e g = ap opensBy (sym g ∙ e)

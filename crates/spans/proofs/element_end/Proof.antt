@@ -4,11 +4,11 @@ use Prim.Native.Nat.{_+_, _-_}
 use lib.ListN.{drop}
 use native.Mathlib.Omega.{arith}
 use borrow.Author.Needs.{needs}
 use Rattle.words.specs.Spans.{opens, span}
 use Rattle.words.proofs.Parts.{below-of-word}
 use Rattle.words.proofs.Spans.{opens-le, opens-pos, element-stop, element-on}
-use Rattle.words.proofs.element_end.Statement.{statement}
-use Rattle.words.proofs.element_end.Tie as tie
+use Rattle.spans.proofs.element_end.Statement.{statement}
+use Rattle.spans.proofs.element_end.Tie as tie
 
 returns : tie.Need-returns
 returns c = element-stop (c .before .before .before .args .k .now) (c .before .before .before .args .i) (sym (c .before .word .ensures) ∙ c .if1 .taken)

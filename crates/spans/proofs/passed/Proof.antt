@@ -4,10 +4,10 @@ use Prim.Native.Nat.{_+_, _-_, _≤_}
 use lib.ListN.{length, drop, getD}
 use borrow.Author.Needs.{needs}
 use native.Mathlib.Omega.{arith}
 use Rattle.words.specs.Spans.{span}
 use Rattle.words.proofs.Spans.{opens-le, span-past, span-none, span-step}
-use Rattle.words.proofs.passed.Statement.{statement}
-use Rattle.words.proofs.passed.Tie as tie
+use Rattle.spans.proofs.passed.Statement.{statement}
+use Rattle.spans.proofs.passed.Tie as tie
 
 abbrev Inv-loop : tie.InvT-loop
 Inv-loop k at hedges i₀ need₀ i need = (at ≤ i) × (need + at ≤ i + 2) × (i + span need (drop i k) ≡ at + span hedges (drop at k))
