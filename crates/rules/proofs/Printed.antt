@@ -121,7 +121,7 @@ mistakes-printed = (refl, refl, refl, refl, refl, refl)
 -- conjunctions of so many words, so much room, so many steps, and three lines
 abbrev pub narrow : ℕ → ℕ → ℕ → Limits
 narrow longest room steps =
-    record { question = longest; room = room; literal = 8192; lines = 3; steps = steps; filling = 4096; each = 32; alternatives = 16; apart = first-apart }
+    record { question = longest; room = room; literal = 8192; lines = 3; steps = steps; filling = 4096; each = 32; alternatives = 16; sheets = 64; apart = first-apart }
 
 abbrev pub endOf : Outcome → ℕ
 endOf (finished ls n) = 0

@@ -1,0 +1,5 @@
+pub mod Headers
+pub mod Cuts
+pub mod Ends
+pub mod Rooms
+pub mod Days
