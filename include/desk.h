@@ -8,7 +8,7 @@
  * lent to one call must not overlap. A slice of length 0 may have any pointer.
  * Calls from several threads at once are independent of each other.
  *
- * A call needs some stack, up to about half a megabyte: docs/BENCH.md has the figures.
+ * A call needs some stack, up to about 1.7 megabytes: docs/BENCH.md has the figures.
  */
 #ifndef DESK_H
 #define DESK_H

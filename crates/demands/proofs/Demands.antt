@@ -21,6 +21,7 @@ use Rattle.outcomes.specs.Numbers.{outcomeNumber}
 use Rattle.outcomes.specs.declared.Tried.the-variants as tried
 use Rattle.outcomes.specs.declared.Shown.the-variants.{Shows, Denied}
 use Rattle.word_bytes.specs.Bytes.{wordsOf, wordsIn}
+use Rattle.host.specs.Numbers.{asksOld}
 use Rattle.demands.specs.Solves.{Solve}
 use Rattle.demands.specs.Tries.{Try}
 use Rattle.demands.specs.Examples.{Example}

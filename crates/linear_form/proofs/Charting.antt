@@ -22,6 +22,10 @@ reach-le (suc n) (x ∷ ws) = let h = reach-le (n + asks x) ws in omega arith
 past-of : {k : List ℕ} {at e : ℕ} → e ≡ at + reach 1 (drop at k) → Past k at e
 past-of {k} {at} {e} d = past-by (omega arith) (λ h. let l = reach-le 1 (drop at k) in let z = length-drop at k in omega arith) d
 
+-- so that it is a place of the words, and one word holds it
+pub end-within : (k : List ℕ) {at e : ℕ} → at < length k → e ≡ at + reach 1 (drop at k) → e ≤ length k
+end-within k {at} h d = let l = reach-le 1 (drop at k) in let z = length-drop at k in omega arith
+
 pub past-end-of : {k : List ℕ} {at : ℕ} → length k ≤ at → Past k at at
 past-end-of {k} {at} h = past-of (let z = reach-past 1 k at h in omega arith)
 

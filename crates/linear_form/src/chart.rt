@@ -4,20 +4,23 @@ ghost use Prim.Native.Nat.{_≤_, _<_, _+_};
 ghost use lib.ListN.{length, drop};
 ghost use Rattle.expressions.specs.Passing.{reach};
 ghost use Rattle.linear_form.specs.Charted.{ChartedFrom, Past};
+ghost use Rattle.language.specs.Limits.{desk};
+use language::wide;
+use slices::store;
 
 // The place after the expression at a place, read from the chart.
-pub(crate) fn expression_end(k: &[u16], ends: &[usize], at: usize) -> usize
+pub(crate) fn expression_end(k: &[u16], ends: &[u16], at: usize) -> usize
     requires { ⌜ ChartedFrom at (now k) (now ends) ⌝ }
     ensures { λ e. ⌜ Past (now (k .entry)) at e ⌝ }
 {
     if k.len() <= at {
         return at;
     }
-    ends[at]
+    wide(ends[at])
 }
 
 // The same for a place whose followers are charted.
-fn end_by_parts(k: &[u16], ends: &[usize], at: usize) -> usize
+fn end_by_parts(k: &[u16], ends: &[u16], at: usize) -> usize
     requires { ⌜ (at < length (now k)) × ChartedFrom (at + 1) (now k) (now ends) ⌝ }
     ensures { λ e. ⌜ e ≡ at + reach 1 (drop at (now (k .entry))) ⌝ }
 {
@@ -36,14 +39,14 @@ fn end_by_parts(k: &[u16], ends: &[usize], at: usize) -> usize
 }
 
 // The chart of all places.
-pub(crate) fn chart(k: &[u16], ends: &mut [usize])
-    requires { ⌜ length (now k) ≤ length (now ends) ⌝ }
+pub(crate) fn chart(k: &[u16], ends: &mut [u16])
+    requires { ⌜ (length (now k) ≤ desk .question) × (length (now k) ≤ length (now ends)) ⌝ }
     ensures { λ _. ⌜ ChartedFrom 0 (now (k .entry)) (now (ends .exit)) ⌝ }
 {
     let mut i = k.len();
     while 0 < i {
         i -= 1;
         let e = end_by_parts(k, ends, i);
-        ends[i] = e;
+        store(ends, i, e);
     }
 }

@@ -78,7 +78,7 @@ fn enclose(k: &[u16], from: usize, until: usize, o: Outside, rest: &mut [u16]) -
 // What the first part gets from outside: of a star the star too, of a concatenation the second part, of a choice nothing more.
 fn hand_down(
     k: &[u16],
-    ends: &[usize],
+    ends: &[u16],
     at: usize,
     mid: usize,
     o: Outside,
@@ -119,7 +119,7 @@ fn join(x: u16, a: bool, b: bool) -> bool
 }
 
 // Passes the expression at a place, and counts the results of its monomials as it meets them, each of which keeps so many words.
-fn tally(k: &[u16], ends: &[usize], kept: usize, at: usize, o: Outside, size: Size) -> Counted
+fn tally(k: &[u16], ends: &[u16], kept: usize, at: usize, o: Outside, size: Size) -> Counted
     requires { ⌜ (length (now k) ≤ desk .question) × ChartedFrom 0 (now k) (now ends) × (kept ≤ 4 * desk .question + 3) × (o .parts ≤ at) × (o .words ≤ desk .question * at) ⌝ }
     ensures { λ r. ⌜ Tallies (now (k .entry)) kept at o size r ⌝ }
 {
@@ -168,7 +168,7 @@ fn tally(k: &[u16], ends: &[usize], kept: usize, at: usize, o: Outside, size: Si
 // Passes the expression at a place, and writes the results of its monomials as it meets them.
 fn walk(
     k: &[u16],
-    ends: &[usize],
+    ends: &[u16],
     s: Kept,
     at: usize,
     o: Outside,
@@ -226,7 +226,7 @@ pub fn size_monomials(k: &[u16], s: Shape) -> Size
     ensures { λ n. ⌜ Sized (now (k .entry)) s n ⌝ }
 {
     let t = keeping(s, 0);
-    let mut ends: [usize; QUESTION] = [0; QUESTION];
+    let mut ends = [0; QUESTION];
     chart(k, &mut ends);
     let kept = kept_len(k, t);
     let o = Outside { parts: 0, words: 0 };
@@ -241,7 +241,7 @@ pub fn write_monomials(k: &[u16], s: Shape, number: u16, out: &mut [u16], at: us
     ensures { λ e. ⌜ Written (now (k .entry)) s number (now (out .entry)) at (now (out .exit)) e ⌝ }
 {
     let t = keeping(s, number);
-    let mut ends: [usize; QUESTION] = [0; QUESTION];
+    let mut ends = [0; QUESTION];
     chart(k, &mut ends);
     let mut rest = [0; QUESTION];
     let o = Outside { parts: 0, words: 0 };

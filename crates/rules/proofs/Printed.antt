@@ -5,7 +5,7 @@ use mathlib.Core.Bool.{true, false}
 use mathlib.Core.List.{List, [], _∷_, _++_}
 use lib.ListN.{replicate}
 use Rattle.language.specs.declared.Refusal.the-variants.{QuestionLength, NotLiterals, Undeclared}
-use Rattle.language.specs.Limits.{Limits, first-apart, desk, firstDesk}
+use Rattle.language.specs.Limits.{Limits, desk, firstDesk}
 use Rattle.language.specs.Numbers.{numberOf}
 use Rattle.language.specs.Kinds.{kindOf, within}
 use Rattle.language.specs.Reading.{reading, readHedge, readExpr, readLiteral, readConj}
@@ -118,10 +118,10 @@ mistakes-printed = (refl, refl, refl, refl, refl, refl)
 
 -- ---- 7 to 10 at their borders
 
--- conjunctions of so many words, so much room, so many steps, and three lines
+-- conjunctions of so many words, so much room, so many steps, three lines, and else the first desk's limits
 abbrev pub narrow : ℕ → ℕ → ℕ → Limits
 narrow longest room steps =
-    record { question = longest; room = room; literal = 8192; lines = 3; steps = steps; filling = 4096; each = 32; alternatives = 16; sheets = 64; apart = first-apart }
+    record { question = longest; room = room; literal = firstDesk .literal; lines = 3; steps = steps; filling = firstDesk .filling; each = firstDesk .each; alternatives = firstDesk .alternatives; sheets = firstDesk .sheets; apart = firstDesk .apart }
 
 abbrev pub endOf : Outcome → ℕ
 endOf (finished ls n) = 0

@@ -44,7 +44,7 @@ fn of_run(n: u64) {
             b"Ask a smaller question.",
         ),
         8 => explain(
-            b"the waiting conjunctions are longer than 16,384 words together",
+            b"the waiting conjunctions take more than 16,384 words together",
             b"Ask about one alternative at a time, or add what is known.",
         ),
         9 => explain(

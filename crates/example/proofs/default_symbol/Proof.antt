@@ -8,5 +8,5 @@ use Rattle.example.proofs.default_symbol.Tie as tie
 pub default-symbol-spec : {M : Type 1} → statement M
 default-symbol-spec =
     tie.close (tie.spec
-    (λ c. search needs) (λ c. (c .before .pre, λ n e. first-symbol (c .if1 .taken) n))
+    (λ c. search needs) (λ c. (omega arith, λ n e. first-symbol (c .if1 .taken) n))
     (λ c. (omega arith, λ n e. last-symbol (c .if1 .left) n e)))

@@ -203,6 +203,7 @@ fn main() {
                     write(Request::Solve { question, answer: 2 * proved::desk().limits.answer })
                 }
                 "try" => write(Request::Try { question, filling: bytes(&deep_filling()) }),
+                "place" => write(Request::Place { question }),
                 _ => write(Request::Example { question, line: 0, old_sheets: 0, room: 8192 }),
             }
         }

@@ -1,11 +1,11 @@
 -- The loop's invariant: the places from i on are charted.
 use borrow.Author.Needs.{needs}
 use native.Mathlib.Omega.{arith}
-use mathlib.Core.Path.{_≡_, refl}
+use mathlib.Core.Path.{_≡_, refl, ap}
 use Prim.Native.Nat.{_-_, _≤_}
 use lib.ListN.{length, length-set}
 use Rattle.linear_form.specs.Charted.{ChartedFrom}
-use Rattle.linear_form.proofs.Charting.{chart-none, chart-more, chart-from}
+use Rattle.linear_form.proofs.Charting.{end-within, chart-none, chart-more, chart-from}
 use Rattle.linear_form.proofs.chart.chart.Statement.{statement}
 use Rattle.linear_form.proofs.chart.chart.Tie as tie
 
@@ -18,19 +18,21 @@ abbrev μ-loop : tie.MeasureT-loop
 end-by-parts-requires : tie.Need-end-by-parts-requires Inv-loop μ-loop
 end-by-parts-requires c κs = let h = c .before .before .loop .inv .0 in (omega arith, chart-from (omega arith) (c .before .before .loop .inv .1))
 
-slice-write-ends : tie.Need-slice-write-ends Inv-loop μ-loop
-slice-write-ends c = let h = c .before .before .before .loop .inv .0 in let r = c .before .before .before .loop .inv .1 .room in omega arith
+store-requires : tie.Need-store-requires Inv-loop μ-loop
+store-requires c κs = let h = c .before .before .before .before .loop .inv .0 in let r = c .before .before .before .before .loop .inv .1 .room in let e = end-within (c .before .before .before .before .before .before .before .args .k .now) (omega arith) (c .before .end-by-parts .ensures) in let p = c .before .before .before .before .before .before .before .pre .0 in (omega arith, omega arith)
 
 loop-again : tie.Need-loop-again Inv-loop μ-loop
 loop-again c =
-    let c₁ = c .before .before .before in
+    let c₁ = c .before .before .before .before .before .before .before in
     let h = c₁ .loop .inv .0 in
-    let l = length-set (c₁ .loop .ends) (c₁ .loop .i - 1) (c .end-by-parts .result) in
+    let l = length-set (c₁ .loop .ends) (c₁ .loop .i - 1) (c .before .before .before .before .end-by-parts .result) in
     let m = c₁ .loop .inv .2 in
-    (omega arith, chart-more (omega arith) (c .end-by-parts .ensures) (chart-from (omega arith) (c₁ .loop .inv .1)), omega arith)
+    let w = c .before .before .store .ensures in
+    let n = ap length w in
+    (omega arith, rw (← w) at (chart-more (omega arith) (c .before .before .before .before .end-by-parts .ensures) (chart-from (omega arith) (c₁ .loop .inv .1))), omega arith)
 
 pub chart-spec : {M : Type 1} → statement M
 chart-spec =
     tie.close (tie.spec
-    Inv-loop μ-loop (λ c. (omega arith, chart-none (c .before .before .pre), refl)) (λ c. search needs) end-by-parts-requires (λ c. search needs)
-    slice-write-ends (λ c. search needs) loop-again (λ c. c .before .loop .inv .2) (λ c. chart-from (omega arith) (c .before .loop .inv .1)))
+    Inv-loop μ-loop (λ c. (omega arith, chart-none (c .before .before .pre .1), refl)) (λ c. search needs) end-by-parts-requires store-requires
+    (λ c. search needs) loop-again (λ c. c .before .loop .inv .2) (λ c. chart-from (omega arith) (c .before .loop .inv .1)))

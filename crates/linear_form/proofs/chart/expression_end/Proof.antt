@@ -7,5 +7,5 @@ use Rattle.linear_form.proofs.chart.expression_end.Tie as tie
 pub expression-end-spec : {M : Type 1} → statement M
 expression-end-spec =
     tie.close (tie.spec
-    (λ c. search (past-end-of)) (λ c. search needs) (λ c. let r = c .before .before .pre .room in omega arith)
-    (λ c. past-charted (c .before .before .pre) (c .before .if1 .left)))
+    (λ c. search (past-end-of)) (λ c. search needs) (λ c. let r = c .before .before .before .before .pre .room in omega arith) (λ c. search needs)
+    (λ c. rw (← c .wide .ensures) at (past-charted (c .before .before .before .before .before .pre) (c .before .before .if1 .left))))

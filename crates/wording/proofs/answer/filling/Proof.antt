@@ -1,8 +1,8 @@
--- `wording::answers::filling` is safe and ends.
+-- `wording::answer::filling` is safe and ends.
 use Prim.Native.Nat.{_≤_, _<_, _-_}
 use borrow.Author.Needs.{needs}
-use Rattle.wording.proofs.answers.filling.Statement.{statement}
-use Rattle.wording.proofs.answers.filling.Tie as tie
+use Rattle.wording.proofs.answer.filling.Statement.{statement}
+use Rattle.wording.proofs.answer.filling.Tie as tie
 
 abbrev Inv-loop : tie.InvT-loop
 Inv-loop question ws n i₀ t5 t6 t7 i = (i ≤ n) × (n < 65536)

@@ -1,8 +1,8 @@
--- `wording::answers::lines` is safe and ends.
+-- `wording::answer::lines` is safe and ends.
 use Prim.Native.Nat.{_≤_, _<_, _-_}
 use borrow.Author.Needs.{needs}
-use Rattle.wording.proofs.answers.lines.Statement.{statement}
-use Rattle.wording.proofs.answers.lines.Tie as tie
+use Rattle.wording.proofs.answer.lines.Statement.{statement}
+use Rattle.wording.proofs.answer.lines.Tie as tie
 
 abbrev Inv-loop : tie.InvT-loop
 Inv-loop answer n i₀ i = (i ≤ n) × (n < 65536)

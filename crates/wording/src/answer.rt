@@ -1,5 +1,6 @@
 // The lines of an answer, and the values of a filling.
 ghost use Prim.Native.Nat.{_<_};
+use answers::LINE_HEAD;
 use language::wide;
 use notation::hedge;
 use notation::literals;
@@ -7,9 +8,6 @@ use outcomes::Solved;
 use print::number;
 use print::say;
 use words::word;
-
-// How many words of a line stand before its literals: its mark and its number.
-const LINE_HEAD: usize = 2;
 
 // Line i of an answer: its place among the lines, its mark and the number of its alternative, then its literals.
 fn line(answer: &[u16], i: usize)
@@ -25,7 +23,7 @@ fn line(answer: &[u16], i: usize)
         say(b", open");
     }
     say(b", of alternative ");
-    decimal(word(answer, from + 1), 0);
+    number(word(answer, from + 1) as u64);
     say(b"\n");
     let start = from + LINE_HEAD;
     if start >= to {

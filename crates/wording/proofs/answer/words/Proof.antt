@@ -1,9 +1,9 @@
--- `wording::answers::words` is safe and ends.
+-- `wording::answer::words` is safe and ends.
 use Prim.Native.Nat.{_≤_, _-_}
 use lib.ListN.{length}
 use borrow.Author.Needs.{needs}
-use Rattle.wording.proofs.answers.words.Statement.{statement}
-use Rattle.wording.proofs.answers.words.Tie as tie
+use Rattle.wording.proofs.answer.words.Statement.{statement}
+use Rattle.wording.proofs.answer.words.Tie as tie
 
 abbrev Inv-loop : tie.InvT-loop
 Inv-loop ws i₀ t3 i = i ≤ length ws
