@@ -9,12 +9,11 @@ use borrow.Author.Tests.{lt-ltb, le-ltb}
 use Rattle.language.specs.declared.Refusal.{Refusal}
 use Rattle.language.specs.declared.Refusal.the-variants.{ShortSlice, SheetLayout, LongAnswers}
 use Rattle.language.specs.Limits.{desk}
-use Rattle.language.specs.Numbers.{numberOf, placeOf}
 use Rattle.rules.specs.Answer.{zeros, overwritten}
 use Rattle.word_bytes.specs.Bytes.{bytesOf}
 use Rattle.sheets.specs.Layout.{sheetLaid, sheetParts, sheetWords}
 use Rattle.sheets.specs.Day.{Day, answers, unread, given-up, fitted, answersOf, day}
-use Rattle.day.specs.Leaves.{dayNumbers, wordBytes, roomLeaves, sliceLeaves}
+use Rattle.day.specs.Leaves.{wordBytes, roomLeaves, sliceLeaves}
 use Rattle.day.specs.Written.{Ended, Kept}
 
 refused-if : (b : Bool) (r : Refusal) (x : Day) → b ≡ true → elim b [ true ↦ unread r | false ↦ x ] ≡ unread r

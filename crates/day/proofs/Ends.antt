@@ -1,23 +1,22 @@
 -- What solving leaves in the answer slice, read up to the end of its last line.
 use Prim.Native.Nat.{ℕ, suc, _+_, _-_, _<_, _≤_}
 use mathlib.Core.Path.{_≡_, refl, sym, ap, subst, _∙_}
-use mathlib.Core.Bool.{Bool, true, false, _&&_}
+use mathlib.Core.Bool.{Bool, true, false}
 use mathlib.Core.List.{List, [], _∷_, _++_, map, append-assoc}
 use native.Mathlib.Omega.{arith}
-use lib.Dec.{leb, ltb, eqb}
+use lib.Dec.{leb, eqb}
 use lib.ListN.{length, take, drop, getD, replicate, length-append, length-replicate, length-map, length-drop, List·getD-append}
 use lib.Seq.{take-at, drop-at}
-use borrow.Author.Tests.{leb-true, leb-false, lt-leb}
+use borrow.Author.Tests.{leb-true}
 use Rattle.language.specs.declared.Refusal.{Refusal}
 use Rattle.language.specs.declared.Refusal.the-variants.{ShortSlice, QuestionLength, CountRange, BadOffset, NotLiterals, Undeclared, LongResult, LongWaiting, LineRoom, StepLimit, FillingLayout, FillingValue, LongLiteral, NoSuchLine, OpenLine, LongExample, SheetLayout, LongAnswers}
 use Rattle.language.specs.Kinds.{pick}
 use Rattle.language.specs.Limits.{desk}
 use Rattle.language.specs.Numbers.{numberOf}
-use Rattle.language.specs.Question.{Asked, asks, refuses, readQuestion, lengthFits}
 use Rattle.language.proofs.Bools.{both-true}
 use Rattle.meaning.specs.Values.{offsetsOf, joined}
 use Rattle.rules.specs.Run.{Numbered, linesAt, linesSize}
-use Rattle.rules.specs.Answer.{Solving, answered, unread, given-up, solvingOf, solving, lineWords, countOpen, padded, answerBody, answerWords, zeros, overwritten}
+use Rattle.rules.specs.Answer.{Solving, answered, unread, given-up, solving, lineWords, countOpen, padded, answerBody, answerWords, zeros, overwritten}
 use Rattle.rules.proofs.Invariant.{answered-run}
 use Rattle.exact.proofs.Wider.{lines-fit}
 use Rattle.answers.proofs.Rows.{header, length-header, length-lines, length-answer}
@@ -26,6 +25,7 @@ use Rattle.solver.specs.Leaves.{toldLeaves}
 use Rattle.word_bytes.specs.Bytes.{fitting}
 use Rattle.sheets.specs.Day.{answerPart}
 use Rattle.day.specs.Written.{Kept}
+use Rattle.day.proofs.Fitting.{fitting-solving}
 
 -- ---- an answer's words up to the end of its last line
 
@@ -62,42 +62,9 @@ module _ (ls : List Numbered) (few : length ls ≤ desk .lines) where
   long-enough : (rest : List ℕ) → length ls + 2 < length (answerBody desk ls ++ rest)
   long-enough rest = let a = length-append (answerBody desk ls) rest in let b = length-body in omega arith
 
--- ---- what does not fit is refused for its length, and so is nothing at all
-
-and-false : (b : Bool) → (b && false) ≡ false
-and-false true = refl
-and-false false = refl
-
-long-question : (ws : List ℕ) → desk .question < length ws → readQuestion desk [] ≡ readQuestion desk ws
-unfolding readQuestion lengthFits
-long-question ws h =
-    let f : lengthFits desk ws ≡ false = ap (λ (b : Bool). leb 6 (length ws) && b) (lt-leb _ _ h) ∙ and-false (leb 6 (length ws)) in
-    sym (at-first (lengthFits desk ws) _ f)
-  where
-    at-first : (b : Bool) (x : Asked) → b ≡ false → elim b [ false ↦ refuses QuestionLength | true ↦ x ] ≡ refuses QuestionLength
-    at-first b x e = ap (λ (t : Bool). elim t [ false ↦ refuses QuestionLength | true ↦ x ]) e
-
-fitting-question : (ws : List ℕ) → readQuestion desk (fitting (desk .question) ws) ≡ readQuestion desk ws
-unfolding fitting
-fitting-question ws = go (leb (length ws) (desk .question)) refl where
-  go : (b : Bool) → leb (length ws) (desk .question) ≡ b → readQuestion desk (pick b ws []) ≡ readQuestion desk ws
-  go true e = refl
-  go false e = long-question ws (leb-false _ _ e)
-
-pub fitting-solving : (work answer : ℕ) (ws : List ℕ) → solving desk work answer (fitting (desk .question) ws) ≡ solving desk work answer ws
-unfolding solving
-fitting-solving work answer ws =
-    ap
-    (λ (a : Asked).
-    elim (ltb work (desk .room)) [
-      | true ↦ unread ShortSlice
-      | false ↦ elim (ltb answer (desk .room)) [ true ↦ unread ShortSlice | false ↦ solvingOf desk a ]
-    ])
-    (fitting-question ws)
-
 -- ---- no refusal has the number 0
 
-some-number : (r : Refusal) → eqb (numberOf r) 0 ≡ false
+pub some-number : (r : Refusal) → eqb (numberOf r) 0 ≡ false
 some-number ShortSlice = refl
 some-number QuestionLength = refl
 some-number CountRange = refl
@@ -145,7 +112,7 @@ refused-told s r answer e h = record {
       (omega arith, omega arith, ap (λ n. numberOf r ∷ take n answer) z ∙ sym e);
 }
 
-answered-told : (ls : List Numbered) (n : ℕ) (rest answer : List ℕ) → length ls ≤ desk .lines → linesAt desk + linesSize ls ≤ desk .room → answer ≡ answerWords desk ls ++ rest → Told (answered ls n) 0 (length ls) answer
+pub answered-told : (ls : List Numbered) (n : ℕ) (rest answer : List ℕ) → length ls ≤ desk .lines → linesAt desk + linesSize ls ≤ desk .room → answer ≡ answerWords desk ls ++ rest → Told (answered ls n) 0 (length ls) answer
 unfolding answerWords
 answered-told ls n rest answer few size e =
     let zs : List ℕ = replicate (desk .room - length (answerBody desk ls)) 0 in
@@ -157,6 +124,12 @@ answered-told ls n rest answer few size e =
           let k : length answer ≡ length (answerBody desk ls) + length (zs ++ rest) = ap length f ∙ length-append (answerBody desk ls) (zs ++ rest) in
           (omega (arith, length-body ls few, length-lines ls), omega arith, ap (λ w. 0 ∷ take len w) f ∙ ap (λ w. 0 ∷ w) (take-at (answerBody desk ls) (zs ++ rest) len (sym z)));
     }
+
+pub answered-fits : (work answer : ℕ) (q : List ℕ) (ls : List Numbered) (n : ℕ) → solving desk work answer q ≡ answered ls n → (length ls ≤ desk .lines) × (linesAt desk + linesSize ls ≤ desk .room)
+answered-fits work answer q ls n e =
+    let (x, asked, ran) = answered-run desk work answer q ls n e in
+    let f = both-true (leb (length ls) (desk .lines)) (leb (linesAt desk + linesSize ls) (desk .room)) (lines-fit desk refl (x .alternatives) ls n ran) in
+    (leb-true _ _ (f .0), leb-true _ _ (f .1))
 
 abbrev Back : Type 0
 Back = SolveNumbers × List ℕ × List ℕ
@@ -190,13 +163,7 @@ module _ (w a : List ℕ) (hw : desk .room ≤ length w) (ha : desk .room ≤ le
       → (r, w′, a′) ≡ toldLeaves (solving desk (length w) (length a) v) w a → Off (solving desk (length w) (length a) q) r w a w′ a′
   solved-off q v d r w′ a′ e =
       let same : solving desk (length w) (length a) v ≡ solving desk (length w) (length a) q = ap (solving desk (length w) (length a)) d ∙ fitting-solving (length w) (length a) q in
-      read-off (solving desk (length w) (length a) q) r w′ a′ fits (e ∙ ap (λ (s : Solving). toldLeaves s w a) same)
-    where
-      fits : (ls : List Numbered) (n : ℕ) → solving desk (length w) (length a) q ≡ answered ls n → (length ls ≤ desk .lines) × (linesAt desk + linesSize ls ≤ desk .room)
-      fits ls n e =
-          let (x, asked, ran) = answered-run desk (length w) (length a) q ls n e in
-          let f = both-true (leb (length ls) (desk .lines)) (leb (linesAt desk + linesSize ls) (desk .room)) (lines-fit desk refl (x .alternatives) ls n ran) in
-          (leb-true _ _ (f .0), leb-true _ _ (f .1))
+      read-off (solving desk (length w) (length a) q) r w′ a′ (answered-fits (length w) (length a) q) (e ∙ ap (λ (s : Solving). toldLeaves s w a) same)
 
 module _ {s : Solving} {r : SolveNumbers} {w a w′ a′ : List ℕ} (o : Off s r w a w′ a′) where
   pub part-told : (number len : ℕ) → number ≡ r .number → len ≡ pick (eqb number 0) (getD a′ (r .lines + 2) 0) 0 → (len ≤ desk .room) × (len ≤ length a′) × (number ∷ take len a′ ≡ answerPart desk s)

@@ -1,3 +1,4 @@
+pub mod Fitting
 pub mod Headers
 pub mod Cuts
 pub mod Ends

@@ -139,9 +139,9 @@ module _ (n : ℕ) (ps : List (List ℕ)) (size : length ps ≡ n) (old : List �
   pub placed-none : 2 * partsAt n ≤ length old → (new : List ℕ) → new ≡ sets (sets old 0 (bytesOf (n ∷ []))) 2 (bytesOf (doubled (partsAt n ∷ []))) → Placed n ps old 0 (partsAt n) new
   placed-none h new e = record { end = omega arith; low = omega arith; fits = h; list = begun n old new e }
 
-  module _ (i at : ℕ) (room : List ℕ) (h : Placed n ps old i at room) (below : i < n) (p : List ℕ) (is : p ≡ getD ps i p) (short : length p ≤ most) where
+  module _ (i at : ℕ) (room : List ℕ) (h : Placed n ps old i at room) (below : i < n) (p : List ℕ) (is : p ≡ getD ps i []) (short : length p ≤ most) where
     more-taken : take (i + 1) ps ≡ take i ps ++ (p ∷ [])
-    more-taken = ap (λ j. take j ps) (let z : i + 1 ≡ suc i = omega arith in z) ∙ take-suc ps i p (omega arith) ∙ ap (λ q. take i ps ++ (q ∷ [])) (sym is)
+    more-taken = ap (λ j. take j ps) (let z : i + 1 ≡ suc i = omega arith in z) ∙ take-suc ps i [] (omega arith) ∙ ap (λ q. take i ps ++ (q ∷ [])) (sym is)
 
     more-joined : length (joined (take (i + 1) ps)) ≡ length (joined (take i ps)) + length p
     more-joined = ap (λ l. length (joined l)) more-taken ∙ ap length (joined-more (take i ps) p) ∙ length-append (joined (take i ps)) p
@@ -209,8 +209,8 @@ answers-count work answer ws =
     length-map (sheetParts ws) (λ (q : List ℕ). answerPart desk (solving desk work answer q)) ∙ parts-count (partsAt (countOf ws)) (drop 1 (sheetOffsets (countOf ws) ws)) (drop (partsAt (countOf ws)) ws)
     ∙ length-undoubled (countOf ws) (drop 2 (drop 1 ws))
 
-pub answer-at : (work answer : ℕ) (qs : List (List ℕ)) (i : ℕ) → i < length qs → (p : List ℕ) → p ≡ answerPart desk (solving desk work answer (getD qs i [])) → p ≡ getD (answersOf desk work answer qs) i p
+pub answer-at : (work answer : ℕ) (qs : List (List ℕ)) (i : ℕ) → i < length qs → answerPart desk (solving desk work answer (getD qs i [])) ≡ getD (answersOf desk work answer qs) i []
 unfolding answersOf
-answer-at work answer [] i h p e = absurd (omega arith)
-answer-at work answer (q ∷ qs) ℕ.zero h p e = e
-answer-at work answer (q ∷ qs) (suc i) h p e = answer-at work answer qs i (omega arith) p e
+answer-at work answer [] i h = absurd (omega arith)
+answer-at work answer (q ∷ qs) ℕ.zero h = refl
+answer-at work answer (q ∷ qs) (suc i) h = answer-at work answer qs i (omega arith)

@@ -3,16 +3,20 @@ use Prim.Native.Nat.{ℕ, _*_, _/_}
 use mathlib.Core.List.{List, _++_}
 use lib.ListN.{length, drop, replicate}
 use Rattle.language.specs.Limits.{desk}
-use Rattle.language.specs.Numbers.{numberOf, placeOf}
+use Rattle.language.specs.Numbers.{numberOf}
 use Rattle.rules.specs.Answer.{zeros, overwritten}
 use Rattle.word_bytes.specs.Bytes.{bytesOf}
 use Rattle.sheets.specs.Day.{Day, answers, unread, given-up}
 
--- the number that comes back, and its place
+-- the number that comes back
+abbrev pub dayNumber : Day → ℕ
+dayNumber (answers ws) = 0
+dayNumber (unread r) = numberOf r
+dayNumber (given-up r) = numberOf r
+
+-- and its place, which is 0
 abbrev pub dayNumbers : Day → ℕ × ℕ
-dayNumbers (answers ws) = (0, 0)
-dayNumbers (unread r) = (numberOf r, placeOf r)
-dayNumbers (given-up r) = (numberOf r, placeOf r)
+dayNumbers d = (dayNumber d, 0)
 
 -- the bytes of a room's words; an odd last byte is none of them
 abbrev pub wordBytes : List ℕ → ℕ
