@@ -1,22 +1,22 @@
 -- The questions of a sheet: the i-th stands between two offsets, and its bytes hold its words.
 use Prim.Native.Nat.{ℕ, zero, suc, _+_, _-_, _*_, _/_, _%_, _<_, _≤_}
-use mathlib.Core.Path.{_≡_, refl, sym, ap, ap₂, _∙_}
-use mathlib.Core.Bool.{true, false, _&&_}
+use mathlib.Core.Path.{_≡_, refl, sym, ap, ap₂, subst, _∙_}
+use mathlib.Core.Bool.{Bool, true, false}
 use mathlib.Core.List.{List, [], _∷_}
 use native.Mathlib.Omega.{arith}
 use lib.Dec.{leb, eqb}
 use lib.ListN.{length, take, drop, getD, length-drop}
-use lib.Seq.{slice, length-slice}
-use borrow.Author.Tests.{leb-true}
+use lib.Seq.{length-take-le}
+use borrow.Author.Tests.{leb-true, eqb-true, eq-eqb}
 use Rattle.language.specs.Limits.{desk}
 use Rattle.language.specs.Question.{rising, partsFrom}
 use Rattle.language.specs.Between.{between}
 use Rattle.language.proofs.Bools.{both-true}
-use Rattle.language.proofs.Offsets.{rising-le, behind, slice-between}
+use Rattle.language.proofs.Offsets.{rising-le, behind}
 use Rattle.word_bytes.specs.Bytes.{wordsOf, wordsIn}
 use Rattle.word_bytes.proofs.Pairs.{length-wordsOf, words-from, words-up-to, even-holds}
 use Rattle.sheets.specs.Layout.{undoubled, partsAt, countOf, sheetOffsets, tableLaid, sheetLaid, sheetParts}
-use Rattle.day.proofs.Headers.{offsetAt, offsets-cons, table-begins, table-rises, laid-table}
+use Rattle.day.proofs.Headers.{offsetAt, offsets-cons, table-long, table-begins, table-rises, laid-few, laid-table, no, odd-sheet}
 
 -- a part stands between two offsets
 pub record Cut (ws : List ℕ) (from to : ℕ) (part : List ℕ) : Type 0 where
@@ -67,8 +67,36 @@ module _ (ws : List ℕ) (l : sheetLaid desk ws ≡ true) where
 
 -- ---- in bytes
 
-pub words-between : (bs : List ℕ) (from to : ℕ) → from ≤ to → 2 * to ≤ length bs → wordsIn (slice (2 * from) (2 * to) bs) ≡ between from to (wordsOf bs)
+words-between : (bs : List ℕ) (from to : ℕ) → from ≤ to → 2 * to ≤ length bs → wordsIn (take (2 * to - 2 * from) (drop (2 * from) bs)) ≡ between from to (wordsOf bs)
 words-between bs from to p q =
-    let n : length (slice (2 * from) (2 * to) bs) ≡ 2 * to - 2 * from = length-slice (2 * from) (2 * to) bs q in
-    even-holds (slice (2 * from) (2 * to) bs) (omega arith)
-    ∙ words-from (take (2 * to) bs) from ∙ ap (drop from) (words-up-to bs to) ∙ slice-between from to (wordsOf bs)
+    let k : 2 * to - 2 * from ≡ 2 * (to - from) = omega arith in
+    let n = length-take-le (2 * (to - from)) (drop (2 * from) bs) (omega (arith, length-drop (2 * from) bs)) in
+    ap (λ m. wordsIn (take m (drop (2 * from) bs))) k ∙ even-holds (take (2 * (to - from)) (drop (2 * from) bs)) (omega arith)
+    ∙ words-up-to (drop (2 * from) bs) (to - from) ∙ ap (take (to - from)) (words-from bs from)
+
+-- the bytes of a sheet that is one, and the bytes of its questions
+module _ (bs : List ℕ) (l : sheetLaid desk (wordsIn bs) ≡ true) where
+  pub held : wordsIn bs ≡ wordsOf bs
+  held = go (eqb (length bs % 2) 0) refl where
+    go : (b : Bool) → eqb (length bs % 2) 0 ≡ b → wordsIn bs ≡ wordsOf bs
+    go true e = even-holds bs (eqb-true _ _ e)
+    go false e = absurd (no (odd-sheet bs (λ z. no (sym e ∙ eq-eqb _ _ z)) ∙ l))
+
+  pub table-inside : 2 * partsAt (countOf (wordsIn bs)) ≤ length bs
+  table-inside = let t = table-long (wordsIn bs) (countOf (wordsIn bs)) (laid-table (wordsIn bs) l) in omega (arith, ap length held, length-wordsOf bs)
+
+  pub few-questions : countOf (wordsIn bs) ≤ desk .sheets
+  few-questions = laid-few (wordsIn bs) l
+
+  module _ (i : ℕ) (p : i < countOf (wordsIn bs)) (from to : ℕ) (e : from ≡ offsetAt (wordsOf bs) i) (d : to ≡ offsetAt (wordsOf bs) (i + 1)) where
+    at-offsets : Cut (wordsOf bs) (offsetAt (wordsOf bs) i) (offsetAt (wordsOf bs) (i + 1)) (getD (sheetParts (wordsIn bs)) i [])
+    at-offsets = subst (λ (ws : List ℕ). Cut ws (offsetAt ws i) (offsetAt ws (i + 1)) (getD (sheetParts (wordsIn bs)) i [])) held (cut (wordsIn bs) l i p)
+
+    pub cut-low : from ≤ to
+    cut-low = omega (arith, at-offsets .low)
+
+    pub cut-high : 2 * to ≤ length bs
+    cut-high = omega (arith, at-offsets .high, length-wordsOf bs)
+
+    pub cut-words : wordsIn (take (2 * to - 2 * from) (drop (2 * from) bs)) ≡ getD (sheetParts (wordsIn bs)) i []
+    cut-words = words-between bs from to cut-low cut-high ∙ ap₂ (λ (a b : ℕ). between a b (wordsOf bs)) e d ∙ sym (at-offsets .is)

@@ -7,7 +7,7 @@ use native.Mathlib.Omega.{arith}
 use lib.Dec.{leb, eqb}
 use lib.ListN.{length, take, drop, getD, replicate, length-append, length-replicate, length-map, length-drop, List·getD-append}
 use lib.Seq.{take-at, drop-at}
-use borrow.Author.Tests.{leb-true}
+use borrow.Author.Tests.{leb-true, eq-eqb, ne-eqb}
 use Rattle.language.specs.declared.Refusal.{Refusal}
 use Rattle.language.specs.declared.Refusal.the-variants.{ShortSlice, QuestionLength, CountRange, BadOffset, NotLiterals, Undeclared, LongResult, LongWaiting, LineRoom, StepLimit, FillingLayout, FillingValue, LongLiteral, NoSuchLine, OpenLine, LongExample, SheetLayout, LongAnswers}
 use Rattle.language.specs.Kinds.{pick}
@@ -84,7 +84,18 @@ some-number LongExample = refl
 some-number SheetLayout = refl
 some-number LongAnswers = refl
 
+-- ---- where an answer ends
+
+pub end-answered : (number at r : ℕ) → number ≡ 0 → r ≡ at → r ≡ pick (eqb number 0) at 0
+end-answered number at r e d = d ∙ sym (ap (λ b. pick b at 0) (eq-eqb number 0 e))
+
+pub end-refused : (number at : ℕ) → (number ≡ 0 → ⊥) → 0 ≡ pick (eqb number 0) at 0
+end-refused number at h = sym (ap (λ b. pick b at 0) (ne-eqb number 0 h))
+
 -- ---- the part of an answer
+
+pub part-of : (work answer : ℕ) (q r p : List ℕ) → q ≡ r → p ≡ answerPart desk (solving desk work answer q) → p ≡ answerPart desk (solving desk work answer r)
+part-of work answer q r p e d = d ∙ ap (λ z. answerPart desk (solving desk work answer z)) e
 
 -- in the answer slice stands what the part of s consists of, where the number and the count of lines have come back
 pub record Told (s : Solving) (number lines : ℕ) (answer : List ℕ) : Type 0 where
@@ -93,6 +104,9 @@ pub record Told (s : Solving) (number lines : ℕ) (answer : List ℕ) : Type 0 
 
 pub kept-same : (old : List ℕ) → Kept old old
 kept-same old = record { long = refl; past = refl }
+
+pub kept-on : (old mid new : List ℕ) → Kept old mid → Kept mid new → Kept old new
+kept-on old mid new h k = record { long = k .long ∙ h .long; past = k .past ∙ h .past }
 
 pub kept-over : (ws old : List ℕ) → length ws ≡ desk .room → desk .room ≤ length old → Kept old (overwritten desk ws old)
 kept-over ws old e h = record {

@@ -8,6 +8,7 @@ use lib.Dec.{leb, eqb}
 use lib.ListN.{length, drop, getD}
 use lib.Seq.{getD-drop, drop-drop}
 use borrow.Author.Tests.{le-leb, lt-leb, eq-eqb, ne-eqb, leb-true, eqb-true}
+use Rattle.language.specs.Kinds.{pick}
 use Rattle.language.specs.Limits.{desk}
 use Rattle.language.specs.Question.{rising, rises}
 use Rattle.language.proofs.Bools.{both-true}
@@ -34,8 +35,11 @@ module _ (ws : List ℕ) where
   abbrev pub rest : ℕ → ℕ → List ℕ
   rest n i = undoubled (n - i) (drop (2 * (i + 1) + 1) ws)
 
-  pub rest-all : (n : ℕ) → rest n 0 ≡ undoubled n (drop 3 ws)
+  rest-all : (n : ℕ) → rest n 0 ≡ undoubled n (drop 3 ws)
   rest-all n = ap (λ m. undoubled m (drop 3 ws)) (let z : n - 0 ≡ n = omega arith in z)
+
+  pub rest-first : (n from end : ℕ) → rising from (rest n 0) end ≡ rising from (undoubled n (drop 3 ws)) end
+  rest-first n from end = ap (λ os. rising from os end) (rest-all n)
 
   rest-cons : (n i : ℕ) → i < n → rest n i ≡ offsetAt (i + 1) ∷ rest n (i + 1)
   rest-cons n i p = ap (λ m. undoubled m (drop (2 * (i + 1) + 1) ws)) (let z : n - i ≡ suc (n - (i + 1)) = omega arith in z) ∙ offsets-cons (n - (i + 1)) (i + 1)
@@ -109,6 +113,9 @@ module _ (ws : List ℕ) where
   pub laid-table : sheetLaid desk ws ≡ true → tableLaid (countOf ws) ws ≡ true
   unfolding sheetLaid
   laid-table t = both-true (leb (countOf ws) (desk .sheets)) (tableLaid (countOf ws) ws) t .1
+
+pub no : false ≡ true → ⊥
+no z = let y : _≡_ {A = ℕ} 0 1 = ap (λ (b : Bool). pick b 1 0) z in absurd (omega arith)
 
 nothing-laid : sheetLaid desk [] ≡ false
 unfolding sheetLaid tableLaid

@@ -8,7 +8,6 @@ use lib.Dec.{leb}
 use lib.ListN.{length, take, drop, getD, set, length-append, length-map, List·getD-map}
 use lib.Seq.{sets, length-sets, take-suc, take-all, take-nil, drop-set-lt, length-take-le}
 use borrow.Author.Tests.{le-leb, lt-leb}
-use Rattle.language.specs.Kinds.{pick}
 use Rattle.language.specs.Limits.{desk}
 use Rattle.language.specs.Question.{partsFrom}
 use Rattle.language.proofs.Stores.{sets-append}
@@ -25,6 +24,7 @@ use Rattle.sheets.specs.Day.{answerPart, answersOf}
 use Rattle.sheets.proofs.RoundTrip.{length-doubled, length-sheet}
 use Rattle.day.specs.Leaves.{wordBytes}
 use Rattle.day.specs.Written.{written, most, Placed, Ended}
+use Rattle.day.proofs.Headers.{no}
 use Rattle.day.proofs.Cuts.{length-undoubled}
 
 -- ---- runs of words
@@ -44,6 +44,16 @@ sets-before : (l : List ℕ) (i : ℕ) (us : List ℕ) (j : ℕ) (ws : List ℕ)
 sets-before l i [] j ws h = refl
 sets-before l i (u ∷ us) j ws h = ap (λ m. sets m (suc i) us) (set-sets l i u j ws (omega arith)) ∙ sets-before (set l i u) (suc i) us j ws (omega arith)
 
+set-twice : (l : List ℕ) (i x : ℕ) → set (set l i x) i x ≡ set l i x
+set-twice [] i x = refl
+set-twice (y ∷ l) ℕ.zero x = refl
+set-twice (y ∷ l) (suc i) x = ap (λ m. y ∷ m) (set-twice l i x)
+
+sets-twice : (l : List ℕ) (i : ℕ) (us : List ℕ) → sets (sets l i us) i us ≡ sets l i us
+sets-twice l i [] = refl
+sets-twice l i (u ∷ us) =
+    ap (λ m. sets m (suc i) us) (set-sets (set l i u) i u (suc i) us (omega arith) ∙ ap (λ m. sets m (suc i) us) (set-twice l i u)) ∙ sets-twice (set l i u) (suc i) us
+
 drop-sets : (k : ℕ) (l : List ℕ) (i : ℕ) (us : List ℕ) → i + length us ≤ k → drop k (sets l i us) ≡ drop k l
 drop-sets k l i [] h = refl
 drop-sets k l i (u ∷ us) h = drop-sets k (set l i u) (suc i) us (omega arith) ∙ drop-set-lt k l i u (omega arith)
@@ -57,10 +67,6 @@ word-then old mid new at w ws e f =
     f ∙ ap (λ l. sets l (2 * (at + 1)) (bytesOf ws)) e
     ∙ ap (λ m. sets (sets old (2 * at) (bytesOf (w ∷ []))) m (bytesOf ws)) (let z : 2 * (at + 1) ≡ 2 * at + length (bytesOf (w ∷ [])) = omega (arith, length-bytesOf (w ∷ [])) in z)
     ∙ sym (sets-append (bytesOf (w ∷ [])) (bytesOf ws) old (2 * at)) ∙ ap (sets old (2 * at)) (sym (bytes-append (w ∷ []) ws))
-
-pub begun-with : (old mid new : List ℕ) (n m : ℕ) → m ≡ n → mid ≡ sets old 0 (bytesOf (n ∷ [])) → new ≡ sets mid 2 (bytesOf (doubled ((2 * m + 3) ∷ [])))
-    → new ≡ sets (sets old 0 (bytesOf (n ∷ []))) 2 (bytesOf (doubled (partsAt n ∷ [])))
-begun-with old mid new n m e f g = g ∙ ap (λ l. sets l 2 (bytesOf (doubled ((2 * m + 3) ∷ [])))) f ∙ ap (λ k. sets (sets old 0 (bytesOf (n ∷ []))) 2 (bytesOf (doubled ((2 * k + 3) ∷ [])))) e
 
 pub placed-with : (old mid new : List ℕ) (i at w : ℕ) (ws : List ℕ) → mid ≡ sets old (2 * at) (bytesOf (w ∷ ws)) → new ≡ sets mid (2 * (2 * (i + 1) + 1)) (bytesOf (doubled ((at + 1 + length ws) ∷ [])))
     → new ≡ sets (sets old (2 * at) (bytesOf (w ∷ ws))) (2 * (2 * (i + 1) + 1)) (bytesOf (doubled ((at + length (w ∷ ws)) ∷ [])))
@@ -77,9 +83,15 @@ module _ (n : ℕ) (old : List ℕ) where
   length-head : (ps : List (List ℕ)) → length (bytesOf (head ps)) ≡ 4 * length ps + 6
   length-head ps = omega (arith, length-bytesOf (head ps), length-doubled (offsetsOf (partsAt n) ps), length-offsets (partsAt n) ps)
 
-  pub begun : (new : List ℕ) → new ≡ sets (sets old 0 (bytesOf (n ∷ []))) 2 (bytesOf (doubled (partsAt n ∷ []))) → new ≡ written n old []
+  pub begun : (mid new : List ℕ) (m : ℕ) → m ≡ n → mid ≡ sets old 0 (bytesOf (n ∷ [])) → new ≡ sets mid 2 (bytesOf (doubled ((2 * m + 3) ∷ []))) → new ≡ written n old []
   unfolding written bytesOf doubled
-  begun new e = e
+  begun mid new m e f g =
+      g ∙ ap (λ l. sets l 2 (bytesOf (doubled ((2 * m + 3) ∷ [])))) f ∙ ap (λ k. sets (sets old 0 (bytesOf (n ∷ []))) 2 (bytesOf (doubled ((2 * k + 3) ∷ [])))) e
+
+  -- it may be begun again
+  pub begun-again : written n (written n old []) [] ≡ written n old []
+  unfolding written bytesOf
+  begun-again = sets-twice old 0 (bytesOf (head []))
 
   pub one-more : (ps : List (List ℕ)) (p new : List ℕ) (i at next : ℕ) → length ps ≡ i → i < n → at ≡ partsAt n + length (joined ps) → next ≡ at + length p
       → new ≡ sets (sets (written n old ps) (2 * at) (bytesOf p)) (2 * (2 * (i + 1) + 1)) (bytesOf (doubled (next ∷ []))) → new ≡ written n old (ps ++ (p ∷ []))
@@ -127,17 +139,17 @@ module _ (n : ℕ) (old : List ℕ) where
 
 -- ---- turn by turn
 
-no : false ≡ true → ⊥
-no z = let y : _≡_ {A = ℕ} 0 1 = ap (λ (b : Bool). pick b 1 0) z in absurd (omega arith)
-
 joined-up : (i : ℕ) (ps : List (List ℕ)) → length (joined (take i ps)) ≤ length (joined ps)
 joined-up ℕ.zero ps = omega arith
 joined-up (suc i) [] = omega arith
 joined-up (suc i) (p ∷ ps) = omega (arith, length-append p (joined (take i ps)), length-append p (joined ps), joined-up i ps)
 
 module _ (n : ℕ) (ps : List (List ℕ)) (size : length ps ≡ n) (old : List ℕ) where
-  pub placed-none : 2 * partsAt n ≤ length old → (new : List ℕ) → new ≡ sets (sets old 0 (bytesOf (n ∷ []))) 2 (bytesOf (doubled (partsAt n ∷ []))) → Placed n ps old 0 (partsAt n) new
-  placed-none h new e = record { end = omega arith; low = omega arith; fits = h; list = begun n old new e }
+  pub placed-none : 2 * partsAt n ≤ length old → old ≡ written n old [] → (at : ℕ) → at ≡ partsAt n → Placed n ps old 0 at old
+  placed-none h e at d = record { end = omega arith; low = omega arith; fits = omega arith; list = e }
+
+  pub placed-long : (i at : ℕ) (new : List ℕ) → Placed n ps old i at new → length new ≡ length old
+  placed-long i at new h = ap length (h .list) ∙ length-written n old (take i ps)
 
   module _ (i at : ℕ) (room : List ℕ) (h : Placed n ps old i at room) (below : i < n) (p : List ℕ) (is : p ≡ getD ps i []) (short : length p ≤ most) where
     more-taken : take (i + 1) ps ≡ take i ps ++ (p ∷ [])
@@ -197,20 +209,39 @@ module _ (n : ℕ) (ps : List (List ℕ)) (size : length ps ≡ n) (old : List �
         last = ap (drop (wordBytes old)) list ∙ past-written n old ps (wordBytes old) (omega arith) (omega arith);
       }
 
+  -- from a room that was begun
+  pub ended-begun : 2 * partsAt n ≤ length old → (mid new : List ℕ) (r : Bool) → mid ≡ written n old [] → Ended ps mid r new → Ended ps old r new
+  ended-begun h mid new r e d =
+      let size-mid : length mid ≡ length old = ap length e ∙ length-written n old [] in
+      let past : (k : ℕ) → 2 * partsAt n ≤ k → drop k mid ≡ drop k old = λ k g. ap (drop k) e ∙ past-written n old [] k (omega arith) (omega arith) in
+      let s = length-sheet ps in
+      let bytes : wordBytes mid ≡ wordBytes old = ap (λ m. 2 * (m / 2)) size-mid in
+      record {
+        fits = d .fits ∙ ap (λ m. leb (length (sheetWords ps)) (m / 2)) size-mid;
+        long = d .long ∙ size-mid;
+        whole = λ z. d .whole z ∙ ap (λ l. bytesOf (sheetWords ps) ++ l) (past (2 * length (sheetWords ps)) (omega arith));
+        last = ap (λ m. drop m new) (sym bytes) ∙ d .last ∙ ap (λ m. drop m mid) bytes ∙ past (wordBytes old) (omega arith);
+      }
+
 -- ---- as many answers as questions
 
 parts-count : (from : ℕ) (os ws : List ℕ) → length (partsFrom from os ws) ≡ length os
 parts-count from [] ws = refl
 parts-count from (to ∷ os) ws = ap suc (parts-count to os (drop (to - from) ws))
 
-pub answers-count : (work answer : ℕ) (ws : List ℕ) → length (answersOf desk work answer (sheetParts ws)) ≡ countOf ws
-unfolding answersOf sheetParts sheetOffsets undoubled
-answers-count work answer ws =
-    length-map (sheetParts ws) (λ (q : List ℕ). answerPart desk (solving desk work answer q)) ∙ parts-count (partsAt (countOf ws)) (drop 1 (sheetOffsets (countOf ws) ws)) (drop (partsAt (countOf ws)) ws)
-    ∙ length-undoubled (countOf ws) (drop 2 (drop 1 ws))
+questions-count : (ws : List ℕ) → length (sheetParts ws) ≡ countOf ws
+unfolding sheetParts sheetOffsets undoubled
+questions-count ws = parts-count (partsAt (countOf ws)) (drop 1 (sheetOffsets (countOf ws) ws)) (drop (partsAt (countOf ws)) ws) ∙ length-undoubled (countOf ws) (drop 2 (drop 1 ws))
 
-pub answer-at : (work answer : ℕ) (qs : List (List ℕ)) (i : ℕ) → i < length qs → answerPart desk (solving desk work answer (getD qs i [])) ≡ getD (answersOf desk work answer qs) i []
+pub answers-count : (work answer : ℕ) (ws : List ℕ) → length (answersOf desk work answer (sheetParts ws)) ≡ countOf ws
+unfolding answersOf
+answers-count work answer ws = length-map (sheetParts ws) (λ (q : List ℕ). answerPart desk (solving desk work answer q)) ∙ questions-count ws
+
+answer-at : (work answer : ℕ) (qs : List (List ℕ)) (i : ℕ) → i < length qs → answerPart desk (solving desk work answer (getD qs i [])) ≡ getD (answersOf desk work answer qs) i []
 unfolding answersOf
 answer-at work answer [] i h = absurd (omega arith)
 answer-at work answer (q ∷ qs) ℕ.zero h = refl
 answer-at work answer (q ∷ qs) (suc i) h = answer-at work answer qs i (omega arith)
+
+pub answer-of : (work answer : ℕ) (ws : List ℕ) (i : ℕ) → i < countOf ws → answerPart desk (solving desk work answer (getD (sheetParts ws) i [])) ≡ getD (answersOf desk work answer (sheetParts ws)) i []
+answer-of work answer ws i h = answer-at work answer (sheetParts ws) i (omega (arith, questions-count ws))

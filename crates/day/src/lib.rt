@@ -14,7 +14,7 @@ ghost use Rattle.word_bytes.specs.Bytes.{wordsIn, wordsOf, bytesOf};
 ghost use Rattle.sheets.specs.Layout.{doubled, undoubled, partsAt, countOf, tableLaid, sheetLaid, sheetParts, sheetWords};
 ghost use Rattle.sheets.specs.Day.{answerPart, answersOf, day};
 ghost use Rattle.day.specs.Leaves.{dayNumbers, wordBytes, roomLeaves, sliceLeaves};
-ghost use Rattle.day.specs.Written.{Ended, Kept};
+ghost use Rattle.day.specs.Written.{written, Ended, Kept};
 ghost use Rattle.language.specs.Question.{rising};
 use language::Refusal;
 use language::limits::QUESTION;
@@ -182,7 +182,7 @@ fn clear_room(room: &mut [u8])
 // The number of answers, and where the first begins.
 fn begin(room: &mut [u8], n: u16)
     requires { ⌜ 2 * partsAt n ≤ length (now room) ⌝ }
-    ensures { λ _. ⌜ now (room .exit) ≡ sets (sets (now (room .entry)) 0 (bytesOf (n ∷ []))) 2 (bytesOf (doubled (partsAt n ∷ []))) ⌝ }
+    ensures { λ _. ⌜ now (room .exit) ≡ written n (now (room .entry)) [] ⌝ }
 {
     put_word(room, 0, n);
     put_offset(room, 0, 2 * wide(n) + 3);
@@ -197,7 +197,7 @@ fn place(room: &mut [u8], i: usize, at: usize, number: u16, words: &[u16])
     put_offset(room, i + 1, at + 1 + words.len());
 }
 
-// Question by question; whether the answers fit.
+// Question by question, in a room that is begun; whether the answers fit.
 fn answer_all(
     sheet: &[u8],
     count: u16,
@@ -205,10 +205,9 @@ fn answer_all(
     answer: &mut [u16],
     room: &mut [u8],
 ) -> bool
-    requires { ⌜ (sheetLaid desk (wordsIn (now sheet)) ≡ true) × (count ≡ countOf (wordsIn (now sheet))) × (desk .room ≤ length (now work)) × (desk .room ≤ length (now answer)) × (2 * partsAt count ≤ length (now room)) ⌝ }
+    requires { ⌜ (sheetLaid desk (wordsIn (now sheet)) ≡ true) × (count ≡ countOf (wordsIn (now sheet))) × (desk .room ≤ length (now work)) × (desk .room ≤ length (now answer)) × (2 * partsAt count ≤ length (now room)) × (now room ≡ written count (now room) []) ⌝ }
     ensures { λ r. ⌜ Ended (answersOf desk (length (now (work .entry))) (length (now (answer .entry))) (sheetParts (wordsIn (now (sheet .entry))))) (now (room .entry)) r (now (room .exit)) × Kept (now (work .entry)) (now (work .exit)) × Kept (now (answer .entry)) (now (answer .exit)) ⌝ }
 {
-    begin(room, count);
     let n = wide(count);
     let mut at = 2 * n + 3;
     let mut i = 0;
@@ -235,14 +234,14 @@ fn answer_day(sheet: &[u8], work: &mut [u16], answer: &mut [u16], room: &mut [u8
     if room.len() / 2 < 2 * wide(n) + 3 {
         return false;
     }
+    begin(room, n);
     answer_all(sheet, n, work, answer, room)
 }
 
 // Answers a day's sheet: what comes back, and what the room and the two lent slices then hold, is what `day` says of them.
 pub fn solve_day(sheet: &[u8], work: &mut [u16], answer: &mut [u16], room: &mut [u8]) -> Checked
     ensures { λ r. ⌜ checkedNumbers r ≡ dayNumbers (day desk (length (now (work .entry))) (length (now (answer .entry))) (length (now (room .entry)) / 2) (wordsIn (now (sheet .entry)))) ⌝ }
-    ensures { λ _. ⌜ now (room .exit) ≡ roomLeaves (day desk (length (now (work .entry))) (length (now (answer .entry))) (length (now (room .entry)) / 2) (wordsIn (now (sheet .entry)))) (now (room .entry)) ⌝ }
-    ensures { λ _. ⌜ (now (work .exit) ≡ sliceLeaves (day desk (length (now (work .entry))) (length (now (answer .entry))) (length (now (room .entry)) / 2) (wordsIn (now (sheet .entry)))) (now (work .entry))) × (now (answer .exit) ≡ sliceLeaves (day desk (length (now (work .entry))) (length (now (answer .entry))) (length (now (room .entry)) / 2) (wordsIn (now (sheet .entry)))) (now (answer .entry))) ⌝ }
+    ensures { λ _. ⌜ (now (room .exit) ≡ roomLeaves (day desk (length (now (work .entry))) (length (now (answer .entry))) (length (now (room .entry)) / 2) (wordsIn (now (sheet .entry)))) (now (room .entry))) × (now (work .exit) ≡ sliceLeaves (day desk (length (now (work .entry))) (length (now (answer .entry))) (length (now (room .entry)) / 2) (wordsIn (now (sheet .entry)))) (now (work .entry))) × (now (answer .exit) ≡ sliceLeaves (day desk (length (now (work .entry))) (length (now (answer .entry))) (length (now (room .entry)) / 2) (wordsIn (now (sheet .entry)))) (now (answer .entry))) ⌝ }
 {
     if work.len() < ROOM {
         return Checked::Refused(Refusal::ShortSlice);

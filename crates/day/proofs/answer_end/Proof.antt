@@ -1,9 +1,6 @@
 -- `day::answer_end` meets its contract: the last offset, or nothing.
-use mathlib.Core.Path.{_≡_, sym, ap, _∙_}
-use native.Mathlib.Omega.{arith}
-use borrow.Author.Tests.{eq-eqb, ne-eqb}
-use Rattle.language.specs.Kinds.{pick}
 use borrow.Author.Needs.{needs}
+use Rattle.day.proofs.Ends.{end-answered, end-refused}
 use Rattle.day.proofs.answer_end.Statement.{statement}
 use Rattle.day.proofs.answer_end.Tie as tie
 
@@ -11,5 +8,4 @@ pub answer-end-spec : {M : Type 1} → statement M
 answer-end-spec =
     tie.close (tie.spec
     (λ c. search needs) (λ c. search needs) (λ c. search needs) (λ c κs. search needs)
-    (λ c. @wide .ensures ∙ sym (ap (λ b. pick b _ 0) (eq-eqb _ _ (@if1 .taken))))
-    (λ c. sym (ap (λ b. pick b _ 0) (ne-eqb _ _ (@if1 .left)))))
+    (λ c. end-answered _ _ _ (c .before .before .if1 .taken) (c .wide .ensures)) (λ c. end-refused _ _ (c .if1 .left)))

@@ -8,6 +8,6 @@ use Rattle.day.proofs.laid.Tie as tie
 pub laid-spec : {M : Type 1} → statement M
 laid-spec =
     tie.close (tie.spec
-    (λ c. odd-sheet _ (@if1 .taken)) (λ c. short-sheet _ (@if1 .left) (@if2 .taken)) (λ c κs. search needs) (λ c κs. search needs)
-    (λ c. many-sheet _ (@if1 .left) _ (@wide .ensures ∙ @word-at .ensures) (@if3 .taken)) (λ c κs. search needs)
-    (λ c. few-sheet _ (@if1 .left) _ (@wide .ensures ∙ @word-at .ensures) (@if3 .left) _ (@table .ensures)))
+    (λ c. odd-sheet _ (c .if1 .taken)) (λ c. short-sheet _ (c .before .if1 .left) (c .if2 .taken)) (λ c κs. search needs) (λ c κs. search needs)
+    (λ c. many-sheet _ (c .before .before .before .before .if1 .left) _ (c .before .wide .ensures ∙ c .before .before .word-at .ensures) (c .if3 .taken)) (λ c κs. search needs)
+    (λ c. few-sheet _ (c .before .before .before .before .before .if1 .left) _ (c .before .before .wide .ensures ∙ c .before .before .before .word-at .ensures) (c .before .if3 .left) _ (c .table .ensures)))

@@ -7,4 +7,4 @@ use Rattle.day.proofs.place.Tie as tie
 pub place-spec : {M : Type 1} → statement M
 place-spec =
     tie.close (tie.spec
-    (λ c κs. search needs) (λ c. search needs) (λ c. search needs) (λ c. search needs) (λ c κs. search needs) (λ c. search needs) (λ c. placed-with _ _ _ _ _ _ _ (@put-part .ensures) (@put-offset .ensures)))
+    (λ c κs. search needs) (λ c. search needs) (λ c. search needs) (λ c. search needs) (λ c κs. search needs) (λ c. search needs) (λ c. placed-with _ _ _ _ _ _ _ (c .before .before .before .before .before .before .put-part .ensures) (c .before .before .put-offset .ensures)))

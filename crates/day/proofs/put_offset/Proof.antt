@@ -11,4 +11,4 @@ put-offset-spec =
     (λ c κs. search needs) (λ c. search needs) returns)
   where
     returns : tie.Need-returns
-    returns c = two-words _ _ _ _ (@write-words-at .ensures)
+    returns c = two-words _ _ _ _ (c .before .before .write-words-at .ensures)

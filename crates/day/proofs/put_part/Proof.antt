@@ -8,4 +8,4 @@ pub put-part-spec : {M : Type 1} → statement M
 put-part-spec =
     tie.close (tie.spec
     (λ c κs. search needs) (λ c. search needs) (λ c κs. search needs) (λ c. search needs)
-    (λ c. word-then _ _ _ _ _ _ (@put-word .ensures) (@write-words-at .ensures)))
+    (λ c. word-then _ _ _ _ _ _ (c .before .before .before .before .before .before .put-word .ensures) (c .before .before .write-words-at .ensures)))

@@ -8,5 +8,5 @@ use Rattle.day.proofs.solve_one.Tie as tie
 pub solve-one-spec : {M : Type 1} → statement M
 solve-one-spec =
     tie.close (tie.spec
-    (λ c. search needs) (λ c κs. search needs) (λ c. search needs) (λ c. search needs) (λ c κs. search needs) (λ c κs. search needs) (λ c κs. (solved-off (@args .work .now) (@args .answer .now) (omega arith) (omega arith) _ _ (@take-words .ensures .1 .0) _ _ _ (@solve .ensures)) .told .inside) (λ c. search needs) (λ c. search needs)
-    (λ c. let o = solved-off (@args .work .now) (@args .answer .now) (omega arith) (omega arith) _ _ (@take-words .ensures .1 .0) _ _ _ (@solve .ensures) in (part-told o _ _ (@outcome-number .ensures) (@answer-end .ensures), (o .work, o .answer))))
+    (λ c. search needs) (λ c κs. search needs) (λ c. search needs) (λ c. search needs) (λ c κs. search needs) (λ c κs. search needs) (λ c κs. (solved-off (c .before .before .before .before .before .before .before .before .before .before .before .before .before .before .before .before .args .work .now) (c .before .before .before .before .before .before .before .before .before .before .before .before .before .before .before .before .args .answer .now) (omega arith) (omega arith) _ _ (c .before .before .before .before .before .before .before .before .before .before .before .take-words .ensures .1 .0) _ _ _ (c .before .before .before .before .before .before .solve .ensures)) .told .inside) (λ c. search needs) (λ c. search needs)
+    (λ c. let o = solved-off (c .before .before .before .before .before .before .before .before .before .before .before .before .before .before .before .before .before .args .work .now) (c .before .before .before .before .before .before .before .before .before .before .before .before .before .before .before .before .before .args .answer .now) (omega arith) (omega arith) _ _ (c .before .before .before .before .before .before .before .before .before .before .before .before .take-words .ensures .1 .0) _ _ _ (c .before .before .before .before .before .before .before .solve .ensures) in (part-told o _ _ (c .before .before .outcome-number .ensures) (c .answer-end .ensures), (o .work, o .answer))))
