@@ -4,36 +4,18 @@ use mathlib.Core.Path.{_≡_, refl, sym, ap, ap₂, subst, _∙_}
 use mathlib.Core.Bool.{Bool, true, false}
 use mathlib.Core.List.{List, [], _∷_}
 use native.Mathlib.Omega.{arith}
-use lib.Dec.{leb, eqb}
+use lib.Dec.{eqb}
 use lib.ListN.{length, take, drop, getD, length-drop}
 use lib.Seq.{length-take-le}
-use borrow.Author.Tests.{leb-true, eqb-true, eq-eqb}
+use borrow.Author.Tests.{eqb-true, eq-eqb}
 use Rattle.language.specs.Limits.{desk}
-use Rattle.language.specs.Question.{rising, partsFrom}
+use Rattle.language.specs.Question.{partsFrom}
 use Rattle.language.specs.Between.{between}
-use Rattle.language.proofs.Bools.{both-true}
-use Rattle.language.proofs.Offsets.{rising-le, behind}
+use Rattle.language.proofs.Offsets.{Part, part-is, part-from}
 use Rattle.word_bytes.specs.Bytes.{wordsOf, wordsIn}
 use Rattle.word_bytes.proofs.Pairs.{length-wordsOf, words-from, words-up-to, even-holds}
 use Rattle.sheets.specs.Layout.{undoubled, partsAt, countOf, sheetOffsets, tableLaid, sheetLaid, sheetParts}
 use Rattle.day.proofs.Headers.{offsetAt, offsets-cons, table-long, table-begins, table-rises, laid-few, laid-table, no, odd-sheet}
-
--- a part stands between two offsets
-pub record Cut (ws : List ℕ) (from to : ℕ) (part : List ℕ) : Type 0 where
-  pub is : part ≡ between from to ws
-  pub low : from ≤ to
-  pub high : to ≤ length ws
-
-cut-from : (from : ℕ) (os ws : List ℕ) (i : ℕ) → rising from os (length ws) ≡ true → i < length os
-    → Cut ws (getD (from ∷ os) i 0) (getD os i 0) (getD (partsFrom from os (drop from ws)) i [])
-cut-from from [] ws i e p = absurd (omega arith)
-cut-from from (to ∷ os) ws zero e p =
-    let b = both-true (leb from to) (rising to os (length ws)) e in
-    record { is = refl; low = leb-true from to (b .0); high = rising-le to os (length ws) (b .1) }
-cut-from from (to ∷ os) ws (suc i) e p =
-    let b = both-true (leb from to) (rising to os (length ws)) e in
-    let r = cut-from to os ws i (b .1) (omega arith) in
-    record { is = ap (λ vs. getD (partsFrom to os vs) i []) (behind from to ws (leb-true from to (b .0))) ∙ r .is; low = r .low; high = r .high }
 
 pub length-undoubled : (n : ℕ) (ws : List ℕ) → length (undoubled n ws) ≡ n
 unfolding undoubled
@@ -59,11 +41,11 @@ module _ (ws : List ℕ) (l : sheetLaid desk ws ≡ true) where
   offset-is : (i : ℕ) → i ≤ countOf ws → getD (offsetAt ws 0 ∷ undoubled (countOf ws) (drop 3 ws)) i 0 ≡ offsetAt ws i
   offset-is i p = ap (λ os. getD os i 0) (sym (offsets-cons ws (countOf ws) 0)) ∙ nth ws (suc (countOf ws)) 0 i (omega arith) ∙ ap (offsetAt ws) (let z : 0 + i ≡ i = omega arith in z)
 
-  pub cut : (i : ℕ) → i < countOf ws → Cut ws (offsetAt ws i) (offsetAt ws (i + 1)) (getD (sheetParts ws) i [])
+  cut : (i : ℕ) → i < countOf ws → Part ws i (offsetAt ws i) (offsetAt ws (i + 1)) (sheetParts ws)
   cut i p =
       let to : getD (undoubled (countOf ws) (drop 3 ws)) i 0 ≡ offsetAt ws (i + 1) = nth ws (countOf ws) 1 i p ∙ ap (offsetAt ws) (let z : 1 + i ≡ i + 1 = omega arith in z) in
       let from = offset-is i (omega arith) in
-      rw (parts-are, ← from, ← to) (cut-from (offsetAt ws 0) (undoubled (countOf ws) (drop 3 ws)) ws i (table-rises ws (countOf ws) (laid-table ws l)) (omega (arith, length-undoubled (countOf ws) (drop 3 ws))))
+      rw (parts-are, ← from, ← to) (part-from (offsetAt ws 0) (undoubled (countOf ws) (drop 3 ws)) ws i (table-rises ws (countOf ws) (laid-table ws l)) (omega (arith, length-undoubled (countOf ws) (drop 3 ws))))
 
 -- ---- in bytes
 
@@ -89,8 +71,8 @@ module _ (bs : List ℕ) (l : sheetLaid desk (wordsIn bs) ≡ true) where
   few-questions = laid-few (wordsIn bs) l
 
   module _ (i : ℕ) (p : i < countOf (wordsIn bs)) (from to : ℕ) (e : from ≡ offsetAt (wordsOf bs) i) (d : to ≡ offsetAt (wordsOf bs) (i + 1)) where
-    at-offsets : Cut (wordsOf bs) (offsetAt (wordsOf bs) i) (offsetAt (wordsOf bs) (i + 1)) (getD (sheetParts (wordsIn bs)) i [])
-    at-offsets = subst (λ (ws : List ℕ). Cut ws (offsetAt ws i) (offsetAt ws (i + 1)) (getD (sheetParts (wordsIn bs)) i [])) held (cut (wordsIn bs) l i p)
+    at-offsets : Part (wordsOf bs) i (offsetAt (wordsOf bs) i) (offsetAt (wordsOf bs) (i + 1)) (sheetParts (wordsIn bs))
+    at-offsets = subst (λ (ws : List ℕ). Part ws i (offsetAt ws i) (offsetAt ws (i + 1)) (sheetParts (wordsIn bs))) held (cut (wordsIn bs) l i p)
 
     pub cut-low : from ≤ to
     cut-low = omega (arith, at-offsets .low)
@@ -99,4 +81,4 @@ module _ (bs : List ℕ) (l : sheetLaid desk (wordsIn bs) ≡ true) where
     cut-high = omega (arith, at-offsets .high, length-wordsOf bs)
 
     pub cut-words : wordsIn (take (2 * to - 2 * from) (drop (2 * from) bs)) ≡ getD (sheetParts (wordsIn bs)) i []
-    cut-words = words-between bs from to cut-low cut-high ∙ ap₂ (λ (a b : ℕ). between a b (wordsOf bs)) e d ∙ sym (at-offsets .is)
+    cut-words = words-between bs from to cut-low cut-high ∙ ap₂ (λ (a b : ℕ). between a b (wordsOf bs)) e d ∙ sym (part-is at-offsets)

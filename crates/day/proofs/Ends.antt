@@ -9,11 +9,11 @@ use lib.ListN.{length, take, drop, getD, replicate, length-append, length-replic
 use lib.Seq.{take-at, drop-at}
 use borrow.Author.Tests.{leb-true, eq-eqb, ne-eqb}
 use Rattle.language.specs.declared.Refusal.{Refusal}
-use Rattle.language.specs.declared.Refusal.the-variants.{ShortSlice, QuestionLength, CountRange, BadOffset, NotLiterals, Undeclared, LongResult, LongWaiting, LineRoom, StepLimit, FillingLayout, FillingValue, LongLiteral, NoSuchLine, OpenLine, LongExample, SheetLayout, LongAnswers}
 use Rattle.language.specs.Kinds.{pick}
 use Rattle.language.specs.Limits.{desk}
 use Rattle.language.specs.Numbers.{numberOf}
 use Rattle.language.proofs.Bools.{both-true}
+use Rattle.language.proofs.Numbering.{each-number}
 use Rattle.meaning.specs.Values.{offsetsOf, joined}
 use Rattle.rules.specs.Run.{Numbered, linesAt, linesSize}
 use Rattle.rules.specs.Answer.{Solving, answered, unread, given-up, solving, lineWords, countOpen, padded, answerBody, answerWords, zeros, overwritten}
@@ -65,24 +65,7 @@ module _ (ls : List Numbered) (few : length ls ≤ desk .lines) where
 -- ---- no refusal has the number 0
 
 pub some-number : (r : Refusal) → eqb (numberOf r) 0 ≡ false
-some-number ShortSlice = refl
-some-number QuestionLength = refl
-some-number CountRange = refl
-some-number BadOffset = refl
-some-number (NotLiterals at) = refl
-some-number (Undeclared at) = refl
-some-number LongResult = refl
-some-number LongWaiting = refl
-some-number LineRoom = refl
-some-number StepLimit = refl
-some-number FillingLayout = refl
-some-number FillingValue = refl
-some-number LongLiteral = refl
-some-number NoSuchLine = refl
-some-number OpenLine = refl
-some-number LongExample = refl
-some-number SheetLayout = refl
-some-number LongAnswers = refl
+some-number r = ne-eqb (numberOf r) 0 (λ z. absurd (let b = each-number r in omega arith))
 
 -- ---- where an answer ends
 

@@ -9,7 +9,7 @@ use lib.ListN.{length, take, drop, getD, set, length-append, length-map, List·g
 use lib.Seq.{sets, length-sets, take-suc, take-all, take-nil, drop-set-lt, length-take-le}
 use borrow.Author.Tests.{le-leb, lt-leb}
 use Rattle.language.specs.Limits.{desk}
-use Rattle.language.specs.Question.{partsFrom}
+use Rattle.language.proofs.Offsets.{parts-length}
 use Rattle.language.proofs.Stores.{sets-append}
 use Rattle.meaning.specs.Values.{offsetsOf, joined}
 use Rattle.rules.specs.Answer.{solving}
@@ -225,13 +225,9 @@ module _ (n : ℕ) (ps : List (List ℕ)) (size : length ps ≡ n) (old : List �
 
 -- ---- as many answers as questions
 
-parts-count : (from : ℕ) (os ws : List ℕ) → length (partsFrom from os ws) ≡ length os
-parts-count from [] ws = refl
-parts-count from (to ∷ os) ws = ap suc (parts-count to os (drop (to - from) ws))
-
 questions-count : (ws : List ℕ) → length (sheetParts ws) ≡ countOf ws
 unfolding sheetParts sheetOffsets undoubled
-questions-count ws = parts-count (partsAt (countOf ws)) (drop 1 (sheetOffsets (countOf ws) ws)) (drop (partsAt (countOf ws)) ws) ∙ length-undoubled (countOf ws) (drop 2 (drop 1 ws))
+questions-count ws = parts-length (partsAt (countOf ws)) (drop 1 (sheetOffsets (countOf ws) ws)) (drop (partsAt (countOf ws)) ws) ∙ length-undoubled (countOf ws) (drop 2 (drop 1 ws))
 
 pub answers-count : (work answer : ℕ) (ws : List ℕ) → length (answersOf desk work answer (sheetParts ws)) ≡ countOf ws
 unfolding answersOf

@@ -156,7 +156,7 @@ pub extern "C" fn desk_day(sheet: &[u8], room: &mut [u8]) -> u32
     ensures { λ r. ⌜ r ≡ dayNumber (dayBytes desk (length (now (room .entry))) (now (sheet .entry))) ⌝ }
     ensures { λ _. ⌜ now (room .exit) ≡ roomLeaves (dayBytes desk (length (now (room .entry))) (now (sheet .entry))) (now (room .entry)) ⌝ }
 {
-    let mut work = [0u16; ROOM];
-    let mut answer = [0u16; ROOM];
-    wide(verdict_number(solve_day(sheet, &mut work, &mut answer, room)))
+    let mut own_work = [0u16; ROOM];
+    let mut own_answer = [0u16; ROOM];
+    wide(verdict_number(solve_day(sheet, &mut own_work, &mut own_answer, room)))
 }

@@ -7,6 +7,7 @@ use native.Mathlib.Omega.{arith}
 use lib.Dec.{T, leb, le→leb}
 use lib.ListN.{length, drop, length-append}
 use lib.Seq.{drop-at}
+use lib.Ieee.Bits.{is-true}
 use Rattle.language.specs.Limits.{Limits}
 use Rattle.language.specs.Question.{rises, partsFrom}
 use Rattle.meaning.specs.Values.{offsetsOf, joined}
@@ -71,15 +72,18 @@ module _ (ps : List (List ℕ)) where
   count-back : countOf (sheetWords ps) ≡ length ps
   count-back = ap countOf alone ∙ count-on []
 
-  pub laid-back : (L : Limits) → length ps ≤ L .sheets → T (sheetLaid L (sheetWords ps))
+  laid-test : (L : Limits) → length ps ≤ L .sheets → T (sheetLaid L (sheetWords ps))
   unfolding sheetLaid tableLaid
-  laid-back L few =
+  laid-test L few =
       let end = partsAt (length ps) + length (joined ps) in
       let risen = rises (partsAt (length ps)) (offsetsOf (partsAt (length ps)) ps) (partsAt (length ps) + length (joined ps)) in
       rw (count-back, offsets-back, length-sheet)
       (and-both (leb (length ps) (L .sheets)) (leb (partsAt (length ps)) end && risen) (le→leb _ _ few)
       (and-both (leb (partsAt (length ps)) end) risen (le→leb (partsAt (length ps)) end (omega arith))
       (rises-offsets (partsAt (length ps)) (partsAt (length ps)) end ps refl refl)))
+
+  pub laid-back : (L : Limits) → length ps ≤ L .sheets → sheetLaid L (sheetWords ps) ≡ true
+  laid-back L few = is-true (sheetLaid L (sheetWords ps)) (laid-test L few)
 
   pub parts-back : sheetParts (sheetWords ps) ≡ ps
   parts-back = ap sheetParts alone ∙ parts-on []

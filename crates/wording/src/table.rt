@@ -27,13 +27,13 @@ fn digits(n: usize) -> usize {
     if n < 10 {
         return 1;
     }
-    if n < 100 {
+    if n / 10 < 10 {
         return 2;
     }
-    if n < 1000 {
+    if n / 100 < 10 {
         return 3;
     }
-    if n < 10000 {
+    if n / 1000 < 10 {
         return 4;
     }
     5
