@@ -5,3 +5,4 @@ pub mod help;
 pub mod mistakes;
 mod pointing;
 pub mod refusals;
+pub mod table;
