@@ -1,5 +1,4 @@
 // A day's questions, file by file: a table with a row for each, and on a terminal how far that is.
-ghost use Prim.Native.Nat.{_<_};
 use crate::arguments::length_of;
 use crate::arguments::say_of;
 use crate::arguments::warn_of;
@@ -32,71 +31,87 @@ fn widest(i: usize) -> usize {
     most
 }
 
-// How far it is, in a line that the next one takes the place of, where a person looks on.
-fn progress(i: usize, first: usize) {
-    if libc::isatty(STDERR_FILENO) != 1 {
-        return;
+// What is the same for a row and what is printed while it is made: which argument names the file, and which question of how many it is.
+struct Row {
+    file: usize,
+    width: usize,
+    number: usize,
+    count: usize,
+}
+
+fn watched() -> bool {
+    libc::isatty(STDERR_FILENO) == 1
+}
+
+// How far it is, in a line of its own where a person looks on, and its end.
+fn progress(r: Row) {
+    if watched() {
+        warn(b"\rsolving question ");
+        warn_number(r.number as u64);
+        warn(b" of ");
+        warn_number(r.count as u64);
+        warn(b": ");
+        warn_of(r.file);
     }
-    warn(b"\r\x1b[Ksolving question ");
-    if i >= first {
-        warn_number((i - first) as u64 + 1);
-    }
-    warn(b" of ");
-    let n = os::arg_count();
-    if n >= first {
-        warn_number((n - first) as u64);
-    }
-    warn(b": ");
-    warn_of(i);
 }
 
 fn no_progress() {
-    if libc::isatty(STDERR_FILENO) == 1 {
+    if watched() {
         warn(b"\r\x1b[K");
     }
 }
 
-// The row of a question, behind its name, and whether it is answered.
-fn solve_row(question: &[u16], i: usize, width: usize) -> bool {
+// The file's name, at the left of its column.
+fn name(r: Row) {
+    say_of(r.file);
+    beside(length_of(r.file), r.width);
+}
+
+// The row of a question, and whether it is answered.
+fn solve_row(question: &[u16], r: Row) -> bool {
     let mut work = [0u16; ROOM];
     let mut answer = [0u16; ROOM];
+    progress(r);
     let s = solver::solve(question, &mut work, &mut answer);
     no_progress();
-    say_of(i);
-    beside(length_of(i), width);
+    name(r);
     outcome_row(s);
     let outcome = s.outcome;
     outcome_number(outcome) == 0
 }
 
-// The row of the file that argument `i` names, and whether its question is answered.
-fn row(i: usize, width: usize) -> bool {
+// The row of a file, and whether its question is answered.
+fn row(r: Row) -> bool {
     let mut buf = io::large_buffer();
     let mut words = [0u16; 2 * QUESTION];
-    let t = load(i, &mut buf, &mut words);
+    let t = load(r.file, &mut buf, &mut words);
     if !t.fine {
-        say_of(i);
-        beside(length_of(i), width);
+        name(r);
         unread_row();
         return false;
     }
     let n = t.words;
-    solve_row(&words[0..n], i, width)
+    solve_row(&words[0..n], r)
 }
 
-// The table of the files that the arguments from `i` on name.
-pub(crate) fn table(i: usize) -> u8 {
-    let width = widest(i);
+// The table of the files that the arguments from `first` on name.
+pub(crate) fn table(first: usize) -> u8 {
+    let width = widest(first);
     heading(width);
     let n = os::arg_count();
     let mut status = FOUND;
-    let mut j = i;
-    while j < n {
-        progress(j, i);
-        if !row(j, width) {
+    let mut i = first;
+    while i < n {
+        let r = Row {
+            file: i,
+            width,
+            number: i - first + 1,
+            count: n - first,
+        };
+        if !row(r) {
             status = FAILED;
         }
-        j += 1;
+        i += 1;
     }
     status
 }

@@ -1,5 +1,4 @@
 // The table of a day: a row for each question, its outcome, its lines, its open lines and its steps, or why it is refused.
-ghost use Prim.Native.Nat.{_≤_};
 use language::Refusal;
 use outcomes::Outcome;
 use outcomes::Solved;
