@@ -30,7 +30,7 @@ use wording::answer::filling;
 use wording::help::help;
 use wording::help::version;
 use wording::mistakes::mistake;
-use wording::refusals::refusal;
+use wording::reasons::refusal;
 
 fn wide(n: u16) -> u64 {
     n as u64
