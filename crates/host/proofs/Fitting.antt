@@ -18,7 +18,7 @@ use Rattle.meaning.specs.Values as values
 use Rattle.rules.specs.Solved.{solved}
 use Rattle.rules.specs.Example.{defaultSymbol, example}
 use Rattle.rules.specs.Run.{Numbered}
-use Rattle.rules.specs.Answer.{Solving, answered, unread, given-up, solving}
+use Rattle.rules.specs.Answer.{Solving, answered, unread, given-up, solvingOf, solving}
 use Rattle.rules.specs.Calls.{Trying, tryingWith, tryingOf, trying, Showing, shows, denied, lineAt, fitted, shown, showingOf, showing}
 use Rattle.rules.specs.Calls as calls
 use Rattle.word_bytes.specs.Bytes.{fitting}

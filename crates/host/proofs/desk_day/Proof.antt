@@ -14,4 +14,9 @@ abbrev clear : List ℕ
 clear = replicate (desk .room) 0
 
 returns : tie.Need-returns
-returns c = told-day _ _ clear clear refl refl _ _ _ (@solve-day .ensures .0) (@wide .ensures ∙ @verdict-number .ensures) (@solve-day .ensures .1 .0)
+returns c = let a = c .before .before .before .before .before .before .before .before .before .before .before .before .args in told-day (a .sheet .now) (a .room .now) clear clear refl refl _ _ _ (c .before .before .before .before .before .before .solve-day .ensures .0) (c .wide .ensures ∙ c .before .verdict-number .ensures) (c .before .before .before .before .before .before .solve-day .ensures .1 .0)
+
+pub desk-day-spec : {M : Type 1} → statement M
+desk-day-spec =
+    tie.close (tie.spec
+    (λ c. search needs) (λ c. search needs) (λ c κs. search needs) (λ c κs. search needs) (λ c κs. search needs) (λ c. search needs) returns)
