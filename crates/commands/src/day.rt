@@ -31,8 +31,8 @@ fn widest(i: usize) -> usize {
     most
 }
 
-// What is the same for a row and what is printed while it is made: which argument names the file, and which question of how many it is.
-struct Row {
+// Which argument names the file, how wide the column of files is, and which question of how many it is.
+struct Place {
     file: usize,
     width: usize,
     number: usize,
@@ -44,7 +44,7 @@ fn watched() -> bool {
 }
 
 // How far it is, in a line of its own where a person looks on, and its end.
-fn progress(r: Row) {
+fn progress(r: Place) {
     if watched() {
         warn(b"\rsolving question ");
         warn_number(r.number as u64);
@@ -62,13 +62,13 @@ fn no_progress() {
 }
 
 // The file's name, at the left of its column.
-fn name(r: Row) {
+fn name(r: Place) {
     say_of(r.file);
     beside(length_of(r.file), r.width);
 }
 
 // The row of a question, and whether it is answered.
-fn solve_row(question: &[u16], r: Row) -> bool {
+fn solve_row(question: &[u16], r: Place) -> bool {
     let mut work = [0u16; ROOM];
     let mut answer = [0u16; ROOM];
     progress(r);
@@ -81,7 +81,7 @@ fn solve_row(question: &[u16], r: Row) -> bool {
 }
 
 // The row of a file, and whether its question is answered.
-fn row(r: Row) -> bool {
+fn row(r: Place) -> bool {
     let mut buf = io::large_buffer();
     let mut words = [0u16; 2 * QUESTION];
     let t = load(r.file, &mut buf, &mut words);
@@ -102,7 +102,7 @@ pub(crate) fn table(first: usize) -> u8 {
     let mut status = FOUND;
     let mut i = first;
     while i < n {
-        let r = Row {
+        let r = Place {
             file: i,
             width,
             number: i - first + 1,

@@ -30,7 +30,6 @@ nth ws (suc n) j (suc i) p =
     ap (λ os. getD os (suc i) 0) (offsets-cons ws n j) ∙ nth ws n (j + 1) i (omega arith) ∙ ap (offsetAt ws) (let z : j + 1 + i ≡ j + suc i = omega arith in z)
 
 module _ (ws : List ℕ) (l : sheetLaid desk ws ≡ true) where
-
   parts-are : sheetParts ws ≡ partsFrom (offsetAt ws 0) (undoubled (countOf ws) (drop 3 ws)) (drop (offsetAt ws 0) ws)
   unfolding sheetParts sheetOffsets
   parts-are =

@@ -105,13 +105,13 @@ module _ (n : ℕ) (old : List ℕ) where
       let lh = length-head ps in
       let lj = length-bytesOf (joined ps) in
       let body : sets (sets x (2 * partsAt n) (bytesOf (joined ps))) (2 * at) (bytesOf p) ≡ sets x (2 * partsAt n) y =
-            ap (λ m. sets (sets x (2 * partsAt n) (bytesOf (joined ps))) m (bytesOf p)) (let z : 2 * at ≡ 2 * partsAt n + length (bytesOf (joined ps)) = omega arith in z)
-            ∙ sym (sets-append (bytesOf (joined ps)) (bytesOf p) x (2 * partsAt n))
-            ∙ ap (sets x (2 * partsAt n)) (sym (bytes-append (joined ps) p) ∙ ap bytesOf (sym (joined-more ps p))) in
+      ap (λ m. sets (sets x (2 * partsAt n) (bytesOf (joined ps))) m (bytesOf p)) (let z : 2 * at ≡ 2 * partsAt n + length (bytesOf (joined ps)) = omega arith in z)
+      ∙ sym (sets-append (bytesOf (joined ps)) (bytesOf p) x (2 * partsAt n))
+      ∙ ap (sets x (2 * partsAt n)) (sym (bytes-append (joined ps) p) ∙ ap bytesOf (sym (joined-more ps p))) in
       let place : 2 * (2 * (i + 1) + 1) ≡ 0 + length (bytesOf (head ps)) = omega arith in
       let more : bytesOf (head ps) ++ o ≡ bytesOf (head (ps ++ (p ∷ []))) =
-            sym (bytes-append (head ps) (doubled (next ∷ [])))
-            ∙ ap (λ l. bytesOf (n ∷ l)) (sym (doubled-append (offsetsOf (partsAt n) ps) (next ∷ [])) ∙ ap doubled (ap (λ m. offsetsOf (partsAt n) ps ++ (m ∷ [])) (let z : next ≡ partsAt n + length (joined ps) + length p = omega arith in z) ∙ sym (offsets-more (partsAt n) ps p))) in
+      sym (bytes-append (head ps) (doubled (next ∷ [])))
+      ∙ ap (λ l. bytesOf (n ∷ l)) (sym (doubled-append (offsetsOf (partsAt n) ps) (next ∷ [])) ∙ ap doubled (ap (λ m. offsetsOf (partsAt n) ps ++ (m ∷ [])) (let z : next ≡ partsAt n + length (joined ps) + length p = omega arith in z) ∙ sym (offsets-more (partsAt n) ps p))) in
       f ∙ ap (λ l. sets l (2 * (2 * (i + 1) + 1)) o) body
       ∙ sets-before x (2 * (2 * (i + 1) + 1)) o (2 * partsAt n) y (omega arith)
       ∙ ap (λ l. sets l (2 * partsAt n) y) (ap (λ m. sets x m o) place ∙ sym (sets-append (bytesOf (head ps)) o old 0) ∙ ap (sets old 0) more)

@@ -76,9 +76,11 @@ returns c =
     let p = c .before .before .before .before .before .before .before .before .before .before .before .before .before .before .before .pre in
     let l = c .before .before .before .before .before .before .before .before .before .loop in
     let e = l .inv .0 in
-    let s = c .before .before .before .before .before .solve-part .ensures in
-    (no-room _ _ (p .1) _ _ _ _ _ _ (l .inv .2) (omega arith) _ _ (l .inv .3 .long) (l .inv .4 .long) _ _ _ (s .0 .0) (s .0 .1) (s .0 .2) _ (omega arith) (c .if1 .taken),
-    kept-on _ _ _ (l .inv .3) (s .1 .0), kept-on _ _ _ (l .inv .4) (s .1 .1))
+    let s = c .before .before .before .before .before .solve-part .ensures in (
+      no-room _ _ (p .1) _ _ _ _ _ _ (l .inv .2) (omega arith) _ _ (l .inv .3 .long) (l .inv .4 .long) _ _ _ (s .0 .0) (s .0 .1) (s .0 .2) _ (omega arith) (c .if1 .taken),
+      kept-on _ _ _ (l .inv .3) (s .1 .0),
+      kept-on _ _ _ (l .inv .4) (s .1 .1),
+    )
 
 slice-reshare-prefix-place : tie.Need-slice-reshare-prefix-place Inv-loop μ-loop
 slice-reshare-prefix-place c = c .before .before .before .before .before .before .solve-part .ensures .0 .1
@@ -101,10 +103,13 @@ loop-again c =
     let p = c .before .before .before .before .before .before .before .before .before .before .before .before .before .before .before .before .before .before .before .before .pre in
     let l = c .before .before .before .before .before .before .before .before .before .before .before .before .before .before .loop in
     let e = l .inv .0 in
-    let s = c .before .before .before .before .before .before .before .before .before .before .solve-part .ensures in
-    (e, omega arith,
-    one-more _ _ (p .1) _ _ _ _ _ _ (l .inv .2) (omega arith) _ _ (l .inv .3 .long) (l .inv .4 .long) _ _ _ (s .0 .0) (s .0 .1) (s .0 .2) _ (omega arith) (c .before .before .before .before .before .if1 .left) _ (c .before .before .place .ensures),
-    kept-on _ _ _ (l .inv .3) (s .1 .0), kept-on _ _ _ (l .inv .4) (s .1 .1))
+    let s = c .before .before .before .before .before .before .before .before .before .before .solve-part .ensures in (
+      e,
+      omega arith,
+      one-more _ _ (p .1) _ _ _ _ _ _ (l .inv .2) (omega arith) _ _ (l .inv .3 .long) (l .inv .4 .long) _ _ _ (s .0 .0) (s .0 .1) (s .0 .2) _ (omega arith) (c .before .before .before .before .before .if1 .left) _ (c .before .before .place .ensures),
+      kept-on _ _ _ (l .inv .3) (s .1 .0),
+      kept-on _ _ _ (l .inv .4) (s .1 .1),
+    )
 
 same-length-4 : tie.Need-same-length-4 Inv-loop μ-loop
 same-length-4 c = c .before .loop .inv .3 .long
