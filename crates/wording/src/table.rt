@@ -47,7 +47,7 @@ fn count(n: usize, width: usize) {
 pub fn heading(width: usize) {
     say(b"file");
     beside(4, width);
-    say(b"outcome   lines   open  steps\n");
+    say(b"outcome  lines   open  steps\n");
 }
 
 fn answered_row(verdict: &[u8], s: Solved) {
@@ -60,7 +60,7 @@ fn answered_row(verdict: &[u8], s: Solved) {
 
 // Why a question is refused: the number, and the place of the mistake where there is one.
 fn refused_row(r: Refusal) {
-    say(b"refused   number ");
+    say(b"refused  number ");
     number(refusals::number(r) as u64);
     let at = refusals::place(r);
     if at != 0 {
