@@ -1,5 +1,6 @@
-// The commands of the desk at its prompt: a question solved, a filling tried, an example shown.
+// The commands of the desk at its prompt: a question solved, a filling tried, an example shown, many questions in a table.
 mod arguments;
+mod day;
 mod files;
 mod status;
 
@@ -29,7 +30,7 @@ use wording::answer::filling;
 use wording::help::help;
 use wording::help::version;
 use wording::mistakes::mistake;
-use wording::refusals::refusal;
+use wording::reasons::refusal;
 
 fn wide(n: u16) -> u64 {
     n as u64
@@ -233,6 +234,15 @@ fn example_command(i: usize) -> u8
     example_of(Command::Example, i + 1)
 }
 
+fn day_command(i: usize) -> u8
+    requires { ⌜ i < 9 ⌝ }
+{
+    if os::arg_count() <= i + 1 {
+        return wrong_use(b"day takes files, with a question in each");
+    }
+    day::table(i + 1)
+}
+
 // What asks for no question.
 fn other_command(i: usize) -> u8 {
     if is(i, b"--help") {
@@ -249,7 +259,7 @@ fn other_command(i: usize) -> u8 {
     warn(b"desk: no command ");
     warn_of(i);
     warn(b"\n");
-    wrong_use(b"the commands are solve, try and example")
+    wrong_use(b"the commands are solve, try, example and day")
 }
 
 // Does what argument `i` and those behind it ask for.
@@ -264,6 +274,9 @@ fn run(i: usize) -> u8
     }
     if is(i, b"example") {
         return example_command(i);
+    }
+    if is(i, b"day") {
+        return day_command(i);
     }
     other_command(i)
 }

@@ -19,7 +19,7 @@ use Rattle.rules.specs.Each.{Each}
 use Rattle.solver.specs.Leaves.{leaves}
 use Rattle.example.specs.Answers.{Answer}
 use Rattle.example.proofs.Finished.{lines-end}
-use Rattle.host.proofs.Refusals.{each-number}
+use Rattle.language.proofs.Numbering.{each-number}
 use Rattle.demands.specs.Answers.{Line, numberedOf}
 use Rattle.demands.specs.Promises.{Promised}
 use Rattle.demands.proofs.Reading.{asLine}

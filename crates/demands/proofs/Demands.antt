@@ -25,12 +25,13 @@ use Rattle.host.specs.Numbers.{asksOld}
 use Rattle.demands.specs.Solves.{Solve}
 use Rattle.demands.specs.Tries.{Try}
 use Rattle.demands.specs.Examples.{Example}
-use Rattle.demands.specs.HostCalls.{DeskSolve, DeskTry, DeskExample, DeskPlace}
+use Rattle.demands.specs.HostCalls.{DeskSolve, DeskTry, DeskExample, DeskPlace, DeskDay}
 use Rattle.demands.specs.Answers.{Line, nthLine}
 use Rattle.demands.specs.Promises.{Promised, Answered, exampleWords, RoomShows, Told}
 use Rattle.demands.specs.Table.{SolveFault, TryFault, First}
 use Rattle.demands.specs.Tells.{SolveTells, TryTells, ExampleTells, TryAgrees}
 use Rattle.demands.specs.HostTells.{DeskSolveTells, DeskTryTells, DeskTryAgrees, BytesTold, DeskExampleTells, DeskPlaceTells}
+use Rattle.demands.specs.DayTells.{AnswersIn, DeskDayTells}
 use Rattle.demands.proofs.Between as between
 use Rattle.demands.proofs.Solving as solving
 use Rattle.demands.proofs.Showing as showing
@@ -38,6 +39,7 @@ use Rattle.demands.proofs.Trying as trying
 use Rattle.demands.proofs.Given as given
 use Rattle.demands.proofs.Hosting as hosting
 use Rattle.demands.proofs.Places as places
+use Rattle.demands.proofs.Days as days
 
 -- ---- demand 1: it refuses a bad question itself, and what it leaves is fixed
 
@@ -157,3 +159,14 @@ desk-example-follows = hosting.example-follows
 -- desk_place gives the place of the question's first fault, by the table's order, and 0 where it has none.
 pub desk-place-tells : (c : DeskPlace) → DeskPlaceTells c
 desk-place-tells = places.place-tells
+
+-- ---- a day's sheets in one call
+
+-- desk_day gives 22 exactly for a sheet whose header is none, and changes nothing then; 23 where the answers do not fit, and leaves zeros; and else 0.
+pub desk-day-tells : (c : DeskDay) → DeskDayTells c
+desk-day-tells = days.day-tells
+
+-- Where it is 0, the answers stand in the room in the layout of the sheet, as many as there are questions, and each is what any call of desk_solve
+-- gives for that question by itself.
+pub desk-day-answers : (c : DeskDay) → c .number ≡ 0 → AnswersIn c
+desk-day-answers = days.day-answers

@@ -24,7 +24,7 @@ use Rattle.rules.specs.Run.{Outcome, finished, refused, run}
 use Rattle.rules.specs.Answer.{Solving, answered, unread, given-up, ran, solvingOf, solving}
 use Rattle.rules.specs.Calls.{Trying, decides, tooLong, tryingWith, tryingOf, trying}
 use Rattle.rules.specs.Calls as calls
-use Rattle.host.proofs.Refusals.{each-number}
+use Rattle.language.proofs.Numbering.{each-number}
 use Rattle.demands.specs.Runs.{Stops, long-result, long-waiting, no-line-fits, no-step-left}
 use Rattle.demands.specs.Table.{QuestionFault, SolveFault, LayoutOff, TryFault, First}
 use Rattle.demands.specs.Table as table

@@ -13,4 +13,5 @@ pub mod Showing
 pub mod Trying
 pub mod Hosting
 pub mod Places
+pub mod Days
 pub mod Demands

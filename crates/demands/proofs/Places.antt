@@ -8,7 +8,7 @@ use native.Mathlib.Omega.{arith}
 use lib.Dec.{ltb}
 use lib.ListN.{length}
 use Rattle.language.specs.declared.Refusal.{Refusal}
-use Rattle.language.specs.declared.Refusal.the-variants.{ShortSlice, QuestionLength, CountRange, BadOffset, NotLiterals, Undeclared, LongResult, LongWaiting, LineRoom, StepLimit, FillingLayout, FillingValue, LongLiteral, NoSuchLine, OpenLine, LongExample}
+use Rattle.language.specs.declared.Refusal.the-variants.{ShortSlice, QuestionLength, CountRange, BadOffset, NotLiterals, Undeclared, LongResult, LongWaiting, LineRoom, StepLimit, FillingLayout, FillingValue, LongLiteral, NoSuchLine, OpenLine, LongExample, SheetLayout, LongAnswers}
 use Rattle.language.specs.Limits.{desk}
 use Rattle.language.specs.Numbers.{numberOf, placeOf}
 use Rattle.language.specs.Trees.{Question}
@@ -63,6 +63,8 @@ no-place LongLiteral p q = refl
 no-place NoSuchLine p q = refl
 no-place OpenLine p q = refl
 no-place LongExample p q = refl
+no-place SheetLayout p q = refl
+no-place LongAnswers p q = refl
 
 module _ (ws : List ℕ) where
   none-right : (r : Refusal) → ¬ (numberOf r ≡ 5) → ¬ (numberOf r ≡ 6) → RightPlace desk ws r

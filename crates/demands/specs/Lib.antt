@@ -10,3 +10,4 @@ pub mod Runs
 pub mod Table
 pub mod Tells
 pub mod HostTells
+pub mod DayTells

@@ -121,7 +121,7 @@ mistakes-printed = (refl, refl, refl, refl, refl, refl)
 -- conjunctions of so many words, so much room, so many steps, three lines, and else the first desk's limits
 abbrev pub narrow : ℕ → ℕ → ℕ → Limits
 narrow longest room steps =
-    record { question = longest; room = room; literal = firstDesk .literal; lines = 3; steps = steps; filling = firstDesk .filling; each = firstDesk .each; alternatives = firstDesk .alternatives; apart = firstDesk .apart }
+    record { question = longest; room = room; literal = firstDesk .literal; lines = 3; steps = steps; filling = firstDesk .filling; each = firstDesk .each; alternatives = firstDesk .alternatives; sheets = firstDesk .sheets; apart = firstDesk .apart }
 
 abbrev pub endOf : Outcome → ℕ
 endOf (finished ls n) = 0

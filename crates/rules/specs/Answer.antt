@@ -32,11 +32,15 @@ countOpen (k ∷ ks) = pick (solved (k .literals)) (countOpen ks) (suc (countOpe
 abbrev pub padded : ℕ → List ℕ → List ℕ
 padded n ws = ws ++ replicate (n - length ws) 0
 
--- "Word 0: lines; word 1: open lines; words 2..514: the offset of each line and the end of the last, then zeros; from 515 the lines ..; then zeros"
-unfoldable pub answerWords : Limits → List Numbered → List ℕ
-answerWords L ls =
+-- "Word 0: lines; word 1: open lines; words 2..514: the offset of each line and the end of the last, then zeros; from 515 the lines .."
+abbrev pub answerBody : Limits → List Numbered → List ℕ
+answerBody L ls =
     let ws = map lineWords ls in
-    padded (L .room) (padded (linesAt L) (length ls ∷ countOpen ls ∷ offsetsOf (linesAt L) ws) ++ joined ws)
+    padded (linesAt L) (length ls ∷ countOpen ls ∷ offsetsOf (linesAt L) ws) ++ joined ws
+
+-- "; then zeros"
+unfoldable pub answerWords : Limits → List Numbered → List ℕ
+answerWords L ls = padded (L .room) (answerBody L ls)
 
 unfoldable pub zeros : Limits → List ℕ
 zeros L = replicate (L .room) 0

@@ -10,6 +10,7 @@
 use std::hint::black_box;
 use std::io::{stdin, stdout, BufRead, BufReader, BufWriter, Write};
 
+use second::day::written;
 use second::gen::{case, Case, SEED};
 use second::host::{self, LENT};
 use second::proved;
@@ -197,13 +198,18 @@ fn main() {
             write(Request::Try { question: bytes(&question), filling: bytes(&filling) });
         }
         "deep" => {
-            let question = bytes(&deep(&args[2]));
+            let words = deep(&args[2]);
+            let question = bytes(&words);
             match args[1].as_str() {
                 "solve" => {
                     write(Request::Solve { question, answer: 2 * proved::desk().limits.answer })
                 }
                 "try" => write(Request::Try { question, filling: bytes(&deep_filling()) }),
                 "place" => write(Request::Place { question }),
+                "day" => {
+                    let sheet = bytes(&written(&[words.len()], words));
+                    write(Request::Day { sheet, room: 2 * proved::desk().limits.answer })
+                }
                 _ => write(Request::Example { question, line: 0, old_sheets: 0, room: 8192 }),
             }
         }
