@@ -20,7 +20,7 @@ use Rattle.trying.specs.Tasks.{Becoming, Comparable, EquationMet, Testab
 use Rattle.trying.proofs.Rooms.{keeps-sets, keeps-both, alone-written, both-written}
 
 module _ {t h : ℕ} {fs : List ℕ} where
-  module _ {hedge expr w w′ : List ℕ} {n : ℕ} (x : Written t h fs hedge w 0 w′ n) (p : length (filled t h fs hedge) ≤ desk .literal) (q : desk .room ≤ length w) where
+  module _ {hedge w w′ : List ℕ} {n : ℕ} (x : Written t h fs hedge w 0 w′ n) (p : length (filled t h fs hedge) ≤ desk .literal) (q : desk .room ≤ length w) where
     written-alone : between 0 n w′ ≡ filled t h fs hedge
     written-alone = alone-written w (filled t h fs hedge) (omega arith) w′ n (x .words) (x .place ∙ zero-add (length (filled t h fs hedge)))
 
@@ -28,13 +28,13 @@ module _ {t h : ℕ} {fs : List ℕ} where
     stands : (g : Complete) → filled t h fs hedge ≡ completeWords g → StandsC (between 0 n w′) 0 g
     stands g e = record { others = []; words = written-alone ∙ e ∙ sym (append-nil (completeWords g)) }
 
-    pub both-stand : Testable t h fs hedge expr → Both expr 0 (between 0 n w′) 0
+    pub both-stand : {expr : List ℕ} → Testable t h fs hedge expr → Both expr 0 (between 0 n w′) 0
     both-stand s = record { R = s .R; g = s .g; expression = s .expression; hedge = stands (s .g) (s .becomes) }
 
     pub hedge-fits : length (between 0 n w′) ≤ desk .literal
     hedge-fits = omega (arith, ap length written-alone)
 
-    pub membership-met : {σ : Signature} {r : Bool} → Decided σ expr 0 (between 0 n w′) 0 r → MembershipMet σ t h fs hedge expr w w′ r
+    pub membership-met : {σ : Signature} {expr : List ℕ} {r : Bool} → Decided σ expr 0 (between 0 n w′) 0 r → MembershipMet σ t h fs hedge expr w w′ r
     membership-met d = record {
       keeps = keeps-sets w 0 (filled t h fs hedge) w′ (x .words) (omega arith);
       each = λ R g s e. d .means R g s (stands g e);
