@@ -100,6 +100,9 @@ atM11 = suc atM10
 abbrev pub atM12 : ℕ
 atM12 = suc atM11
 
+abbrev pub atClash : ℕ
+atClash = suc atM12
+
 -- no rule applies: the place after the last
 abbrev pub noRule : ℕ
-noRule = suc atM12
+noRule = suc atClash

@@ -1,0 +1,12 @@
+pub mod Charting
+pub mod Marking
+pub mod Beginning
+pub mod Resuming
+pub mod Places
+pub mod Levels
+pub mod Meanings
+pub mod Peeling
+pub mod Opening
+pub mod Comparing
+pub mod Chaining
+pub mod Classing

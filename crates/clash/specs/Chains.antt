@@ -1,0 +1,40 @@
+-- The pairs met so far, in the order they were met, chained by a sum of their two numbers. Heads and links hold a place plus one; 0 ends a chain.
+use Prim.Native.Nat.{ℕ, suc, _+_, _*_, _%_, _<_, _≤_}
+use mathlib.Core.Path.{_≡_}
+use mathlib.Core.Bool.{Bool, true, false}
+use mathlib.Core.List.{List}
+use lib.ListN.{length, getD, set}
+
+-- which chain
+unfoldable pub chainOf : ℕ → ℕ → ℕ
+chainOf a b = (a * 769 + b) % 4093
+
+abbrev pub chainAt : List ℕ → List ℕ → ℕ → ℕ
+chainAt left right i = chainOf (getD left i 0) (getD right i 0)
+
+-- Every pair of a chain is below its head, and every earlier one of the same chain is below its link.
+pub record Chained (left right links heads : List ℕ) (n : ℕ) : Type 0 where
+  pub lefts : n ≤ length left
+  pub rights : n ≤ length right
+  pub linked : n ≤ length links
+  pub room : length heads ≡ 4093
+  pub head-past : (j : ℕ) → j < n → j < getD heads (chainAt left right j) 0
+  pub head-in : (h : ℕ) → getD heads h 0 ≤ n
+  pub head-chain : (h i : ℕ) → getD heads h 0 ≡ suc i → chainAt left right i ≡ h
+  pub link-past : (i j : ℕ) → i < n → j < i → chainAt left right j ≡ chainAt left right i → j < getD links i 0
+  pub link-in : (i : ℕ) → i < n → getD links i 0 ≤ i
+  pub link-chain : (i j : ℕ) → i < n → getD links i 0 ≡ suc j → chainAt left right j ≡ chainAt left right i
+
+pub record IsPair (left right : List ℕ) (a b i : ℕ) : Type 0 where
+  pub one : getD left i 0 ≡ a
+  pub other : getD right i 0 ≡ b
+
+-- whether it is
+pub record Tested (left right : List ℕ) (a b i : ℕ) (r : Bool) : Type 0 where
+  pub yes : r ≡ true → IsPair left right a b i
+  pub not : r ≡ false → IsPair left right a b i → ⊥
+
+-- the place of the pair plus one, or 0 where it is not among the first n
+pub record Found (left right : List ℕ) (n a b r : ℕ) : Type 0 where
+  pub here : (i : ℕ) → r ≡ suc i → (i < n) × IsPair left right a b i
+  pub nowhere : r ≡ 0 → (i : ℕ) → i < n → IsPair left right a b i → ⊥

@@ -1,0 +1,56 @@
+// States that mean the same expression: the first of them stands for all.
+ghost use Prim.Native.Nat.{_+_, _≤_, _<_};
+ghost use lib.ListN.{length};
+ghost use Rattle.language.specs.Limits.{desk};
+ghost use Rattle.clash.specs.Charted.{ChartedFrom};
+ghost use Rattle.clash.specs.Classes.{StateTest, Liked, Classed};
+use crate::tails::same_state;
+use words::word;
+
+// Whether a number is that of a state, the first of which is given: the states behind it are by their symbols.
+fn is_state(k: &[u16], first: usize, t: usize) -> bool
+    ensures { λ r. ⌜ StateTest (now (k .entry)) first t r ⌝ }
+{
+    if t <= first {
+        return true;
+    }
+    if word(k, (t - 1) / 2) < 7000 {
+        return true;
+    }
+    false
+}
+
+// Whether a number is that of a state that means what s means.
+fn is_like(
+    k: &[u16],
+    ends: &[usize],
+    nulls: &[bool],
+    at: usize,
+    first: usize,
+    s: usize,
+    t: usize,
+) -> bool
+    requires { ⌜ ChartedFrom 0 (now k) (now ends) (now nulls) ⌝ }
+    ensures { λ r. ⌜ Liked (now (k .entry)) at first s t r ⌝ }
+{
+    if is_state(k, first, t) {
+        return same_state(k, ends, nulls, at, s, t);
+    }
+    false
+}
+
+// The first state of the expression at a place that means the same as s.
+fn class_of(k: &[u16], ends: &[usize], nulls: &[bool], at: usize, s: usize) -> usize
+    requires { ⌜ ChartedFrom 0 (now k) (now ends) (now nulls) × (at ≤ desk .question) ⌝ }
+    ensures { λ c. ⌜ Classed (now (k .entry)) at s c ⌝ }
+{
+    let first = 2 * at;
+    let mut t = first;
+    while t < s {
+        if is_like(k, ends, nulls, at, first, s, t) {
+            return t;
+        }
+        t += 1;
+    }
+    s
+}
