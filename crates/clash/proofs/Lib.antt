@@ -10,3 +10,6 @@ pub mod Opening
 pub mod Comparing
 pub mod Chaining
 pub mod Classing
+pub mod Growing
+pub mod Collecting
+pub mod Leading

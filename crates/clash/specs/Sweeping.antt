@@ -37,14 +37,20 @@ pub record Leading (k classes left right : List ℕ) (n : ℕ) (inner rest : Lis
 abbrev pub Leads : List ℕ → List ℕ → List ℕ → List ℕ → ℕ → List Bool → List Bool → ℕ → ℕ → Bool → Type 0
 Leads k classes left right n inner rest p q r = Says (Leading k classes left right n inner rest p q) r
 
-abbrev pub SomeWith : List ℕ → List ℕ → List ℕ → List ℕ → ℕ → List Bool → List Bool → ℕ → List ℕ → ℕ → Type 0
-SomeWith k classes left right n inner rest p qs count = (j : ℕ) × (j < count) × Leading k classes left right n inner rest p (getD qs j 0)
+-- the symbol at p and one of a list
+pub record SomeWith (k classes left right : List ℕ) (n : ℕ) (inner rest : List Bool) (p : ℕ) (qs : List ℕ) (count : ℕ) : Type 0 where
+  pub place : ℕ
+  pub low : place < count
+  pub leads : Leading k classes left right n inner rest p (getD qs place 0)
 
 abbrev pub LeadsWith : List ℕ → List ℕ → List ℕ → List ℕ → ℕ → List Bool → List Bool → ℕ → List ℕ → ℕ → Bool → Type 0
 LeadsWith k classes left right n inner rest p qs count r = Says (SomeWith k classes left right n inner rest p qs count) r
 
-abbrev pub SomeOf : List ℕ → List ℕ → List ℕ → List ℕ → ℕ → List Bool → List Bool → List ℕ → ℕ → List ℕ → ℕ → Type 0
-SomeOf k classes left right n inner rest ps ones qs others = (i : ℕ) × (i < ones) × SomeWith k classes left right n inner rest (getD ps i 0) qs others
+-- one of a list and one of another
+pub record SomeOf (k classes left right : List ℕ) (n : ℕ) (inner rest : List Bool) (ps : List ℕ) (ones : ℕ) (qs : List ℕ) (others : ℕ) : Type 0 where
+  pub place : ℕ
+  pub low : place < ones
+  pub leads : SomeWith k classes left right n inner rest (getD ps place 0) qs others
 
 abbrev pub LeadsOf : List ℕ → List ℕ → List ℕ → List ℕ → ℕ → List Bool → List Bool → List ℕ → ℕ → List ℕ → ℕ → Bool → Type 0
 LeadsOf k classes left right n inner rest ps ones qs others r = Says (SomeOf k classes left right n inner rest ps ones qs others) r
@@ -90,6 +96,14 @@ pub record Swelled (k classes : List ℕ) (at : Places) (left right : List ℕ) 
   pub long : length new ≡ length old
   pub keeps : (i : ℕ) → getD old i false ≡ true → getD new i false ≡ true
   pub sound : (R S : Expr) → Stand k classes at R S → Sound at R S left right n old → Sound at R S left right n new
+
+-- the same by one step, at the pair i: r says whether it was marked
+pub record SweptAt (k classes : List ℕ) (at : Places) (left right : List ℕ) (n i : ℕ) (old new : List Bool) (r : Bool) : Type 0 where
+  pub swelled : Swelled k classes at left right n old new
+  pub fewer : r ≡ true → unmarked n new < unmarked n old
+  pub quiet : r ≡ false → new ≡ old
+  pub closed : r ≡ false → (R S : Expr) → Stand k classes at R S → (p : Pair) → Stop at R S (getD left i 0) (getD right i 0) p
+      → TwinsFlagged at R S left right n new new p → getD new i false ≡ true
 
 -- the same by one sweep from the last pair to the one at `from`: r says whether something was marked
 pub record SweptTo (from : ℕ) (k classes : List ℕ) (at : Places) (left right : List ℕ) (n : ℕ) (old new : List Bool) (r : Bool) : Type 0 where

@@ -16,23 +16,26 @@ use Rattle.clash.specs.declared.walking.Places.{Places}
 use Rattle.clash.specs.declared.walking.Step.{Step}
 use Rattle.clash.specs.States.{Means}
 use Rattle.clash.specs.Classes.{FirstState, Tabled}
-use Rattle.clash.specs.Chains.{Among, Apart, Kept, Grown, Just}
+use Rattle.clash.specs.Chains.{Kept, Just}
 
 -- ---- where two symbols lead to
 
 -- the symbols at p and q are one: the pair of what is inside them, and that of what is left after them
-abbrev pub Twin : List ℕ → List ℕ → ℕ → ℕ → ℕ → ℕ → Type 0
-Twin k classes p q a b =
-    (getD k p 0 ≡ getD k q 0)
-    × (Just (getD classes (2 * p + 2) 0) (getD classes (2 * q + 2) 0) a b ⊎ Just (getD classes (2 * p + 1) 0) (getD classes (2 * q + 1) 0) a b)
+pub record Twin (k classes : List ℕ) (p q a b : ℕ) : Type 0 where
+  pub same : getD k p 0 ≡ getD k q 0
+  pub pair : Just (getD classes (2 * p + 2) 0) (getD classes (2 * q + 2) 0) a b ⊎ Just (getD classes (2 * p + 1) 0) (getD classes (2 * q + 1) 0) a b
 
 -- of one symbol and one of a list
-abbrev pub TwinWith : List ℕ → List ℕ → ℕ → List ℕ → ℕ → ℕ → ℕ → Type 0
-TwinWith k classes p qs n a b = (j : ℕ) × (j < n) × Twin k classes p (getD qs j 0) a b
+pub record TwinWith (k classes : List ℕ) (p : ℕ) (qs : List ℕ) (n a b : ℕ) : Type 0 where
+  pub place : ℕ
+  pub low : place < n
+  pub twin : Twin k classes p (getD qs place 0) a b
 
 -- of one of the one list and one of the other
-abbrev pub TwinOf : List ℕ → List ℕ → List ℕ → ℕ → List ℕ → ℕ → ℕ → ℕ → Type 0
-TwinOf k classes ps m qs n a b = (i : ℕ) × (i < m) × TwinWith k classes (getD ps i 0) qs n a b
+pub record TwinOf (k classes ps : List ℕ) (m : ℕ) (qs : List ℕ) (n a b : ℕ) : Type 0 where
+  pub place : ℕ
+  pub low : place < m
+  pub twin : TwinWith k classes (getD ps place 0) qs n a b
 
 -- ---- two expressions
 
@@ -66,10 +69,9 @@ pub record Lists (at : Places) (R S : Expr) (left right : List ℕ) (n : ℕ) (p
   pub low : place < n
   pub stop : Stop at R S (getD left place 0) (getD right place 0) p
 
--- the first n are pairs that the walk reaches, and none is there twice
+-- the first n are pairs that the walk reaches
 pub record Walked (at : Places) (R S : Expr) (left right : List ℕ) (n : ℕ) : Type 0 where
   pub each : (i : ℕ) → i < n → (p : Pair) × Stop at R S (getD left i 0) (getD right i 0) p × Reach R S p
-  pub apart : Apart left right n
 
 -- from the pair of a and b on
 pub record Went (k classes : List ℕ) (at : Places) (a b : ℕ) (left right : List ℕ) (n : ℕ) (left′ right′ : List ℕ) (r : Step) : Type 0 where

@@ -75,7 +75,7 @@ pub(crate) fn add(
     b: u16,
 )
     requires { ⌜ Chained (now left) (now right) (now links) (now heads) n ⌝ }
-    requires { ⌜ n ≤ walkedPairs ⌝ }
+    requires { ⌜ (n ≤ walkedPairs) × Found (now left) (now right) n a b 0 ⌝ }
     ensures { λ _. ⌜ now (left .exit) ≡ set (now (left .entry)) n a ⌝ }
     ensures { λ _. ⌜ now (right .exit) ≡ set (now (right .entry)) n b ⌝ }
     ensures { λ _. ⌜ Chained (now (left .exit)) (now (right .exit)) (now (links .exit)) (now (heads .exit)) (n + 1) ⌝ }

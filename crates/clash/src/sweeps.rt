@@ -1,12 +1,13 @@
 // Which of the pairs of a walk have a hedge in both: those with the empty hedge, and those from which a symbol leads to two pairs that have one.
 ghost use Prim.Native.Nat.{ℕ, _+_, _*_, _≤_, _<_};
+ghost use mathlib.Core.Path.{_≡_};
 ghost use lib.ListN.{length};
 ghost use Rattle.language.specs.Limits.{desk, walkedPairs};
 ghost use Rattle.clash.specs.Charted.{ChartedFrom};
-ghost use Rattle.clash.specs.Chains.{Chained};
+ghost use Rattle.clash.specs.Chains.{Chained, stops};
 ghost use Rattle.clash.specs.Symbols.{Listed};
 ghost use Rattle.clash.specs.Walking.{Bounds};
-ghost use Rattle.clash.specs.Sweeping.{Known, Leads, LeadsWith, LeadsOf, LeadsFrom, Swept, Settled};
+ghost use Rattle.clash.specs.Sweeping.{Known, Leads, LeadsWith, LeadsOf, LeadsFrom, SweptAt, Swept, Settled};
 use crate::classes::STATES;
 use crate::pairs::CHAINS;
 use crate::pairs::STOPS;
@@ -14,6 +15,7 @@ use crate::pairs::find;
 use crate::symbols::symbols_after;
 use crate::walking::Places;
 use bools::and;
+use bools::or;
 use language::limits::QUESTION;
 use language::wide;
 
@@ -193,7 +195,50 @@ pub(crate) fn leads_from(
     )
 }
 
-// One sweep over the pairs, the last first: each from which a symbol leads to marked pairs is marked. Whether one was.
+// The i-th pair is marked, if a symbol leads from it to marked pairs. Whether it was not marked and is now.
+fn sweep_at(
+    k: &[u16],
+    ends: &[usize],
+    nulls: &[bool],
+    classes: &[u16; STATES],
+    at: Places,
+    left: &[u16; STOPS],
+    right: &[u16; STOPS],
+    links: &[u16; STOPS],
+    heads: &[u16; CHAINS],
+    n: usize,
+    marks: &mut [bool; STOPS],
+    i: usize,
+) -> bool
+    requires { ⌜ ChartedFrom 0 (now k) (now ends) (now nulls) × Bounds at (length (now k)) × Chained (now left) (now right) (now links) (now heads) n × (i < n) × (length (now marks) ≡ stops) ⌝ }
+    ensures { λ r. ⌜ SweptAt (now (k .entry)) (now (classes .entry)) at (now (left .entry)) (now (right .entry)) n i (now (marks .entry)) (now (marks .exit)) r ⌝ }
+{
+    if marks[i] {
+        return false;
+    }
+    let found = leads_from(
+        k,
+        ends,
+        nulls,
+        classes,
+        at,
+        left,
+        right,
+        links,
+        heads,
+        n,
+        marks,
+        marks,
+        i,
+    );
+    if found {
+        marks[i] = true;
+        return true;
+    }
+    false
+}
+
+// One sweep over the pairs, the last first. Whether one was marked.
 fn sweep(
     k: &[u16],
     ends: &[usize],
@@ -207,33 +252,28 @@ fn sweep(
     n: usize,
     marks: &mut [bool; STOPS],
 ) -> bool
-    requires { ⌜ ChartedFrom 0 (now k) (now ends) (now nulls) × Bounds at (length (now k)) × Chained (now left) (now right) (now links) (now heads) n ⌝ }
+    requires { ⌜ ChartedFrom 0 (now k) (now ends) (now nulls) × Bounds at (length (now k)) × Chained (now left) (now right) (now links) (now heads) n × (length (now marks) ≡ stops) ⌝ }
     ensures { λ r. ⌜ Swept (now (k .entry)) (now (classes .entry)) at (now (left .entry)) (now (right .entry)) n (now (marks .entry)) (now (marks .exit)) r ⌝ }
 {
     let mut changed = false;
     let mut i = n;
     while 0 < i {
         i -= 1;
-        if !marks[i] {
-            if leads_from(
-                k,
-                ends,
-                nulls,
-                classes,
-                at,
-                left,
-                right,
-                links,
-                heads,
-                n,
-                marks,
-                marks,
-                i,
-            ) {
-                marks[i] = true;
-                changed = true;
-            }
-        }
+        let new = sweep_at(
+            k,
+            ends,
+            nulls,
+            classes,
+            at,
+            left,
+            right,
+            links,
+            heads,
+            n,
+            marks,
+            i,
+        );
+        changed = or(changed, new);
     }
     changed
 }
@@ -252,7 +292,7 @@ pub(crate) fn settle(
     n: usize,
     marks: &mut [bool; STOPS],
 )
-    requires { ⌜ ChartedFrom 0 (now k) (now ends) (now nulls) × Bounds at (length (now k)) × Chained (now left) (now right) (now links) (now heads) n ⌝ }
+    requires { ⌜ ChartedFrom 0 (now k) (now ends) (now nulls) × Bounds at (length (now k)) × Chained (now left) (now right) (now links) (now heads) n × (length (now marks) ≡ stops) ⌝ }
     ensures { λ _. ⌜ Settled (now (k .entry)) (now (classes .entry)) at (now (left .entry)) (now (right .entry)) n (now (marks .entry)) (now (marks .exit)) ⌝ }
 {
     let mut more = true;

@@ -1,6 +1,8 @@
 // The symbols that can be read next in a state, as a list of their places.
 ghost use Prim.Native.Nat.{_+_, _≤_, _<_};
-ghost use lib.ListN.{length};
+ghost use mathlib.Core.Path.{_≡_};
+ghost use lib.ListN.{length, set};
+ghost use Rattle.language.specs.Kinds.{pick};
 ghost use Rattle.language.specs.Limits.{desk};
 ghost use Rattle.clash.specs.Charted.{ChartedFrom};
 ghost use Rattle.clash.specs.Symbols.{Collected, Symboled};
@@ -14,6 +16,18 @@ pub struct Symbols {
     pub null: bool,
 }
 
+// A place is listed behind n others, if it is marked. How many there are then.
+fn collect_one(mark: bool, i: usize, list: &mut [u16; QUESTION], n: usize) -> usize
+    requires { ⌜ (i < desk .question) × (n < desk .question) ⌝ }
+    ensures { λ m. ⌜ (m ≡ pick mark (n + 1) n) × (now (list .exit) ≡ pick mark (set (now (list .entry)) n i) (now (list .entry))) ⌝ }
+{
+    if mark {
+        list[n] = narrow(i);
+        return n + 1;
+    }
+    n
+}
+
 // The marked places of a part of the words, in order.
 fn collect(
     marks: &[bool; QUESTION],
@@ -21,16 +35,13 @@ fn collect(
     to: usize,
     list: &mut [u16; QUESTION],
 ) -> usize
-    requires { ⌜ (from ≤ to) × (to ≤ desk .question) ⌝ }
+    requires { ⌜ (from ≤ to) × (to ≤ desk .question) × (length (now list) ≡ desk .question) ⌝ }
     ensures { λ n. ⌜ Collected (now (marks .entry)) from to (now (list .exit)) n ⌝ }
 {
     let mut n = 0;
     let mut i = from;
     while i < to {
-        if marks[i] {
-            list[n] = narrow(i);
-            n += 1;
-        }
+        n = collect_one(marks[i], i, list, n);
         i += 1;
     }
     n
@@ -46,7 +57,7 @@ pub(crate) fn symbols_after(
     s: usize,
     list: &mut [u16; QUESTION],
 ) -> Symbols
-    requires { ⌜ ChartedFrom 0 (now k) (now ends) (now nulls) × (at ≤ end) × (end ≤ length (now k)) × (length (now k) ≤ desk .question) ⌝ }
+    requires { ⌜ ChartedFrom 0 (now k) (now ends) (now nulls) × (at ≤ end) × (end ≤ length (now k)) × (length (now k) ≤ desk .question) × (length (now list) ≡ desk .question) ⌝ }
     ensures { λ r. ⌜ Symboled (now (k .entry)) at end s (now (list .exit)) r ⌝ }
 {
     let mut marks = [false; QUESTION];
