@@ -13,3 +13,4 @@ pub mod Classing
 pub mod Growing
 pub mod Collecting
 pub mod Leading
+pub mod Listing
