@@ -14,3 +14,5 @@ pub mod Growing
 pub mod Collecting
 pub mod Leading
 pub mod Listing
+pub mod Going
+pub mod Flagging

@@ -4,7 +4,7 @@ ghost use mathlib.Core.Path.{_≡_};
 ghost use lib.ListN.{length, getD};
 ghost use Rattle.language.specs.Limits.{desk, walkedPairs};
 ghost use Rattle.clash.specs.Charted.{ChartedFrom};
-ghost use Rattle.clash.specs.Chains.{Chained, Grown};
+ghost use Rattle.clash.specs.Chains.{Chained, Grown, stops};
 ghost use Rattle.clash.specs.Symbols.{Listed};
 ghost use Rattle.clash.specs.Walking.{Twin, TwinWith, TwinOf, Bounds, Went, Gone};
 use crate::classes::STATES;
@@ -156,7 +156,7 @@ pub(crate) fn walk_on(
     heads: &mut [u16; CHAINS],
     empty: &mut [bool; STOPS],
 ) -> usize
-    requires { ⌜ ChartedFrom 0 (now k) (now ends) (now nulls) × Bounds at (length (now k)) × Chained (now left) (now right) (now links) (now heads) 1 ⌝ }
+    requires { ⌜ ChartedFrom 0 (now k) (now ends) (now nulls) × Bounds at (length (now k)) × Chained (now left) (now right) (now links) (now heads) 1 × (length (now empty) ≡ stops) ⌝ }
     ensures { λ n. ⌜ Gone (now (k .entry)) (now (classes .entry)) at (now (left .entry)) (now (right .entry)) (now (left .exit)) (now (right .exit)) (now (empty .exit)) n × Chained (now (left .exit)) (now (right .exit)) (now (links .exit)) (now (heads .exit)) n ⌝ }
 {
     let mut n = 1;
