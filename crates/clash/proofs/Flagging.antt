@@ -227,9 +227,10 @@ module _ {k classes : List ℕ} {at : Places} {left right : List ℕ} {n : ℕ} 
   pub sweeping-more : {old mid new : List Bool} {m r : Bool} → Sweeping k classes at left right n old mid m → SweptTo 0 k classes at left right n mid new r → Sweeping k classes at left right n old new r
   sweeping-more a b = record { swelled = swelled-then (a .swelled) (b .swelled); closed = b .closed }
 
-  pub sweeping-less : {mid new : List Bool} (r : Bool) → SweptTo 0 k classes at left right n mid new r → unmarked n new + pick r 1 0 < unmarked n mid + 1
-  sweeping-less true s = let x = s .fewer refl in omega arith
-  sweeping-less false s = let x = s .less in omega arith
+  pub sweeping-less : {mid new : List Bool} (m r : Bool) → m ≡ true → SweptTo 0 k classes at left right n mid new r → unmarked n new + pick r 1 0 < unmarked n mid + pick m 1 0
+  sweeping-less true true e s = let x = s .fewer refl in omega arith
+  sweeping-less true false e s = let x = s .less in omega arith
+  sweeping-less false r e s = differ (sym e)
 
   pub settled : {old new : List Bool} {m : Bool} → Sweeping k classes at left right n old new m → m ≡ false → Settled k classes at left right n old new
   settled s e = record { swelled = s .swelled; closed = s .closed e }

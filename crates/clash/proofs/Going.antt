@@ -105,8 +105,7 @@ module _ {k classes : List ℕ} {at : Places} {R S : Expr} (st : Stand k classes
         go : On p q → (a : ℕ) × (b : ℕ) × TwinOf k classes ps ones qs others a b × Stop at R S a b q
         go (m, n, t, inl e) =
             let (i, l, u) = x .whole m (t .one) in
-            let (j, h, v) = y .whole n (t .other) in
-            (
+            let (j, h, v) = y .whole n (t .other) in (
               getD classes (2 * getD ps i 0 + 2) 0,
               getD classes (2 * getD qs j 0 + 2) 0,
               record { place = i; low = l; twin = record { place = j; low = h; twin = record { same = words-one u v (t .name); pair = inl (refl, refl) } } },
@@ -114,8 +113,7 @@ module _ {k classes : List ℕ} {at : Places} {R S : Expr} (st : Stand k classes
             )
         go (m, n, t, inr e) =
             let (i, l, u) = x .whole m (t .one) in
-            let (j, h, v) = y .whole n (t .other) in
-            (
+            let (j, h, v) = y .whole n (t .other) in (
               getD classes (2 * getD ps i 0 + 1) 0,
               getD classes (2 * getD qs j 0 + 1) 0,
               record { place = i; low = l; twin = record { place = j; low = h; twin = record { same = words-one u v (t .name); pair = inr (refl, refl) } } },

@@ -16,3 +16,5 @@ pub mod Leading
 pub mod Listing
 pub mod Going
 pub mod Flagging
+pub mod Verdicts
+pub mod Determined

@@ -69,8 +69,7 @@ module _ (k : List ℕ) (at end s : ℕ) (marks : List Bool) (list : List ℕ) (
 
       sound : (i : ℕ) → i < n → List·Memᴰ (getD list i 0) places ⊎ (getD blank (getD list i 0) false ≡ true) → (m : Monomial) × List·Memᴰ m (linear X) × Takes at R (getD list i 0) m
       sound i l (inl h) =
-          let (q, y, d) = of-map (placeOf (f .level)) (f .spots) h in
-          (
+          let (q, y, d) = of-map (placeOf (f .level)) (f .spots) h in (
             monomial q,
             subst (List·Memᴰ (monomial q)) (sym (f .nexts .monomials)) (in-map monomial y),
             record { level = f .level; spot = q; spotted = subst (λ j. Spotted at R j (f .level) q) (sym d) (f .nexts .spotted q y); is = refl },

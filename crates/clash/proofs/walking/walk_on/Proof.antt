@@ -23,7 +23,7 @@ loop-holds c =
 
 returns : tie.Need-returns Inv-loop μ-loop
 returns c =
-    (gone-long (c .before .before .loop .inv .0) (c .if1 .taken), c .before .before .loop .inv .1)
+    (gone-long (c .before .before .loop .inv .0) (c .if1 .taken), c .before .before .loop .inv .1, c .before .before .loop .inv .2 ∙ c .before .before .before .before .before .before .pre .3)
 
 mul-wide : tie.Need-mul-wide Inv-loop μ-loop
 mul-wide c = search needs
@@ -67,7 +67,7 @@ loop-again c =
 
 returns-2 : tie.Need-returns-2 Inv-loop μ-loop
 returns-2 c =
-    (gone-all (c .before .loop .inv .0) (c .loop-test .left), c .before .loop .inv .1)
+    (gone-all (c .before .loop .inv .0) (c .loop-test .left), c .before .loop .inv .1, c .before .loop .inv .2 ∙ c .before .before .before .before .before .pre .3)
 
 pub walk-on-spec : {M : Type 1} → statement M
 walk-on-spec =
