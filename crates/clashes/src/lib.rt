@@ -3,18 +3,17 @@ ghost use Prim.Native.Nat.{ℕ, _+_, _≤_, _<_};
 ghost use mathlib.Core.Path.{_≡_};
 ghost use mathlib.Core.List.{List};
 ghost use lib.ListN.{length};
+ghost use lib.Seq.{slice};
 ghost use Rattle.language.specs.Limits.{desk};
 ghost use Rattle.language.specs.Trees.{Literal, Conj};
 ghost use Rattle.language.specs.Writing.{conjWords};
 ghost use Rattle.language.specs.Fine.{fineConj};
 ghost use Rattle.views.specs.Standing.{LiteralAt, SomeLiteral, Conjunction};
-ghost use Rattle.clash.specs.Judging.{Two};
-ghost use Rattle.clashes.specs.Pairs.{wordUnordered, Mentioned, loneWordOf, Tested, replyOf, firstClash};
+ghost use Rattle.clashes.specs.Pairs.{wordUnordered, wordsMention, variableIn, loneAt, loneWordOf, replyOf, firstClash, Tests, Tested, Judged};
 use clash::Verdict;
 use clash::judge;
-use language::Kind;
 use language::Signature;
-use language::classify;
+use language::Sym;
 use language::is_unordered;
 use words::next_literal;
 use words::word;
@@ -22,20 +21,23 @@ use words::word;
 // What stands before the expression of a lone variable's test: its mark, the variable and the end of the hedge.
 const BEFORE_TEST: usize = 3;
 
-// Whether a word is that of an unordered symbol.
+// Whether a word of an expression is that of an unordered symbol.
 fn unordered_word(x: u16, s: Signature) -> bool
     ensures { λ r. ⌜ r ≡ wordUnordered s x ⌝ }
 {
-    match classify(x) {
-        Kind::Symbol(f) => is_unordered(s, f),
-        _ => false,
+    if x < 3000 {
+        return false;
     }
+    if x < 7000 {
+        return is_unordered(s, Sym(x - 3000));
+    }
+    false
 }
 
 // Whether an unordered symbol stands among the words from one place to another.
 fn mentions(k: &[u16], from: usize, to: usize, s: Signature) -> bool
     requires { ⌜ to ≤ length (now k) ⌝ }
-    ensures { λ r. ⌜ Mentioned (now (k .entry)) from to s r ⌝ }
+    ensures { λ r. ⌜ r ≡ wordsMention s (slice from to (now (k .entry))) ⌝ }
 {
     let mut i = from;
     while i < to {
@@ -47,50 +49,77 @@ fn mentions(k: &[u16], from: usize, to: usize, s: Signature) -> bool
     false
 }
 
-// The word of the variable that is tested, where the literal at a place is a membership of a lone variable; else 0.
-fn lone_at(k: &[u16], at: usize) -> u16
-    ensures { λ r. ⌜ ((before : Conj) (l : Literal) (behind : Conj) → LiteralAt (now (k .entry)) at before l behind → r ≡ loneWordOf l) ⌝ }
+// A word with which a hedge begins, where it is that of a term or hedge variable; else 0.
+fn variable_in(x: u16) -> u16
+    ensures { λ r. ⌜ r ≡ variableIn x ⌝ }
 {
-    if word(k, at) != 6000 {
-        return 0;
-    }
-    if word(k, at + 2) != 0 {
-        return 0;
-    }
-    let x = word(k, at + 1);
-    match classify(x) {
-        Kind::Term(_) => x,
-        Kind::Run(_) => x,
-        _ => 0,
-    }
+    if x < 3000 { x } else { 0 }
 }
 
-// Two tests of one variable, from their expressions to their ends: where an unordered symbol is mentioned they are passed over.
+// The word of the variable that is tested, where the literal at a place is a membership of a lone variable; else 0.
+fn lone_at(k: &[u16], at: usize) -> u16
+    requires { ⌜ at < length (now k) ⌝ }
+    ensures { λ r. ⌜ r ≡ loneAt (now (k .entry)) at ⌝ }
+{
+    if word(k, at) == 6000 {
+        if word(k, at + 2) == 0 {
+            return variable_in(word(k, at + 1));
+        }
+        return 0;
+    }
+    0
+}
+
+// The literal that tests the variable x, from its place to its end, and one behind it: passed over where that tests another variable or none, or where an
+// unordered symbol is mentioned.
 fn test_pair(
     k: &[u16],
     at: usize,
     end: usize,
-    other: usize,
-    last: usize,
+    j: usize,
+    next: usize,
     x: u16,
     s: Signature,
 ) -> Verdict
-    requires { ⌜ (length (now k) ≤ desk .question) × (end ≤ length (now k)) × (last ≤ length (now k)) ⌝ }
-    requires { ⌜ Two (now k) at other ⌝ }
-    ensures { λ r. ⌜ Tested (now (k .entry)) at end other last x s r ⌝ }
+    requires { ⌜ length (now k) ≤ desk .question ⌝ }
+    requires { ⌜ Tests (now k) at end j next x ⌝ }
+    ensures { λ r. ⌜ Judged (now (k .entry)) at end j next x s r ⌝ }
 {
-    if mentions(k, at, end, s) {
-        return Verdict::Shares;
+    if lone_at(k, j) == x {
+        let one = at + BEFORE_TEST;
+        let other = j + BEFORE_TEST;
+        if mentions(k, one, end, s) {
+            return Verdict::Shares;
+        }
+        if mentions(k, other, next, s) {
+            return Verdict::Shares;
+        }
+        return judge(k, one, other, x < 2000);
     }
-    if mentions(k, other, last, s) {
-        return Verdict::Shares;
-    }
-    let term = x < 2000;
-    judge(k, at, other, term)
+    Verdict::Shares
 }
 
-// The literal at a place, with each test of the same variable behind it, until one clashes or cannot be told.
-fn test_behind(k: &[u16], at: usize, s: Signature) -> Verdict
+// The literal at a place that tests the variable x, with each behind it, until one clashes or cannot be told.
+fn test_behind(k: &[u16], at: usize, x: u16, s: Signature) -> Verdict
+    requires { ⌜ (at < length (now k)) × (length (now k) ≤ desk .question) ⌝ }
+    requires { ⌜ Tested (now k) at x ⌝ }
+    ensures { λ r. ⌜ ((before : Conj) (l : Literal) (behind : Conj) → LiteralAt (now (k .entry)) at before l behind → x ≡ loneWordOf l → r ≡ replyOf s l behind) ⌝ }
+{
+    let end = next_literal(k, at);
+    let mut j = end;
+    while j < k.len() {
+        let next = next_literal(k, j);
+        match test_pair(k, at, end, j, next, x, s) {
+            Verdict::Shares => j = next,
+            Verdict::Clashes => return Verdict::Clashes,
+            Verdict::Long => return Verdict::Long,
+        }
+    }
+    Verdict::Shares
+}
+
+// The same of any literal.
+fn test_literal(k: &[u16], at: usize, s: Signature) -> Verdict
     requires { ⌜ (at < length (now k)) × (length (now k) ≤ desk .question) ⌝ }
     requires { ⌜ SomeLiteral (now k) at ⌝ }
     ensures { λ r. ⌜ ((before : Conj) (l : Literal) (behind : Conj) → LiteralAt (now (k .entry)) at before l behind → r ≡ replyOf s l behind) ⌝ }
@@ -99,20 +128,7 @@ fn test_behind(k: &[u16], at: usize, s: Signature) -> Verdict
     if x == 0 {
         return Verdict::Shares;
     }
-    let end = next_literal(k, at);
-    let mut j = end;
-    while j < k.len() {
-        let next = next_literal(k, j);
-        if lone_at(k, j) == x {
-            match test_pair(k, at + BEFORE_TEST, end, j + BEFORE_TEST, next, x, s) {
-                Verdict::Shares => {}
-                Verdict::Clashes => return Verdict::Clashes,
-                Verdict::Long => return Verdict::Long,
-            }
-        }
-        j = next;
-    }
-    Verdict::Shares
+    test_behind(k, at, x, s)
 }
 
 // Where the clash applies: nowhere, at the literal of that place, or it cannot be told there.
@@ -130,12 +146,11 @@ pub fn first_clash(k: &[u16], s: Signature) -> Clashing
 {
     let mut i = 0;
     while i < k.len() {
-        match test_behind(k, i, s) {
-            Verdict::Shares => {}
+        match test_literal(k, i, s) {
+            Verdict::Shares => i = next_literal(k, i),
             Verdict::Clashes => return Clashing::At(i),
             Verdict::Long => return Clashing::Stopped,
         }
-        i = next_literal(k, i);
     }
     Clashing::Nowhere
 }
