@@ -3,17 +3,21 @@ ghost use Prim.Native.Nat.{ℕ, _+_, _≤_, _<_};
 ghost use mathlib.Core.Path.{_≡_};
 ghost use mathlib.Core.List.{List};
 ghost use lib.ListN.{length};
+ghost use lib.Seq.{slice};
 ghost use Rattle.language.specs.Limits.{desk};
+ghost use Rattle.language.specs.Kinds.{kindOf};
 ghost use Rattle.language.specs.Trees.{Literal, Conj};
 ghost use Rattle.language.specs.Writing.{conjWords};
 ghost use Rattle.language.specs.Fine.{fineConj};
 ghost use Rattle.views.specs.Standing.{LiteralAt, SomeLiteral, Conjunction};
 ghost use Rattle.clash.specs.Judging.{Two};
-ghost use Rattle.clashes.specs.Pairs.{wordUnordered, Mentioned, loneWordOf, Tested, replyOf, firstClash};
+ghost use Rattle.clashes.specs.Pairs.{kindUnordered, someUnordered, loneOf, loneKind, isTerm, sameLone, Tested, replyOf, firstClash};
 use clash::Verdict;
 use clash::judge;
+use language::HedgeVar;
 use language::Kind;
 use language::Signature;
+use language::TermVar;
 use language::classify;
 use language::is_unordered;
 use words::next_literal;
@@ -24,7 +28,7 @@ const BEFORE_TEST: usize = 3;
 
 // Whether a word is that of an unordered symbol.
 fn unordered_word(x: u16, s: Signature) -> bool
-    ensures { λ r. ⌜ r ≡ wordUnordered s x ⌝ }
+    ensures { λ r. ⌜ r ≡ kindUnordered s (kindOf desk x) ⌝ }
 {
     match classify(x) {
         Kind::Symbol(f) => is_unordered(s, f),
@@ -35,7 +39,7 @@ fn unordered_word(x: u16, s: Signature) -> bool
 // Whether an unordered symbol stands among the words from one place to another.
 fn mentions(k: &[u16], from: usize, to: usize, s: Signature) -> bool
     requires { ⌜ to ≤ length (now k) ⌝ }
-    ensures { λ r. ⌜ Mentioned (now (k .entry)) from to s r ⌝ }
+    ensures { λ r. ⌜ r ≡ someUnordered s (slice from to (now (k .entry))) ⌝ }
 {
     let mut i = from;
     while i < to {
@@ -47,21 +51,62 @@ fn mentions(k: &[u16], from: usize, to: usize, s: Signature) -> bool
     false
 }
 
-// The word of the variable that is tested, where the literal at a place is a membership of a lone variable; else 0.
-fn lone_at(k: &[u16], at: usize) -> u16
-    ensures { λ r. ⌜ ((before : Conj) (l : Literal) (behind : Conj) → LiteralAt (now (k .entry)) at before l behind → r ≡ loneWordOf l) ⌝ }
+// The variable that is tested, where it stands alone.
+enum Lone {
+    Nothing,
+    Term(TermVar),
+    Run(HedgeVar),
+}
+
+fn lone_word(x: u16) -> Lone
+    ensures { λ r. ⌜ r ≡ loneKind (kindOf desk x) ⌝ }
 {
-    if word(k, at) != 6000 {
-        return 0;
-    }
-    if word(k, at + 2) != 0 {
-        return 0;
-    }
-    let x = word(k, at + 1);
     match classify(x) {
-        Kind::Term(_) => x,
-        Kind::Run(_) => x,
-        _ => 0,
+        Kind::Term(y) => Lone::Term(y),
+        Kind::Run(p) => Lone::Run(p),
+        _ => Lone::Nothing,
+    }
+}
+
+// Of the literal at a place.
+fn lone_at(k: &[u16], at: usize) -> Lone
+    requires { ⌜ at < length (now k) ⌝ }
+    ensures { λ r. ⌜ ((before : Conj) (l : Literal) (behind : Conj) → LiteralAt (now (k .entry)) at before l behind → r ≡ loneOf l) ⌝ }
+{
+    if k[at] == 5000 {
+        return Lone::Nothing;
+    }
+    if word(k, at + 2) == 0 {
+        return lone_word(word(k, at + 1));
+    }
+    Lone::Nothing
+}
+
+fn is_term(x: Lone) -> bool
+    ensures { λ r. ⌜ r ≡ isTerm x ⌝ }
+{
+    match x {
+        Lone::Nothing => false,
+        Lone::Term(_) => true,
+        Lone::Run(_) => false,
+    }
+}
+
+fn same_lone(a: Lone, b: Lone) -> bool
+    ensures { λ r. ⌜ r ≡ sameLone a b ⌝ }
+{
+    match a {
+        Lone::Nothing => false,
+        Lone::Term(x) => match b {
+            Lone::Nothing => false,
+            Lone::Term(y) => x.0 == y.0,
+            Lone::Run(_) => false,
+        },
+        Lone::Run(p) => match b {
+            Lone::Nothing => false,
+            Lone::Term(_) => false,
+            Lone::Run(q) => p.0 == q.0,
+        },
     }
 }
 
@@ -72,12 +117,12 @@ fn test_pair(
     end: usize,
     other: usize,
     last: usize,
-    x: u16,
+    term: bool,
     s: Signature,
 ) -> Verdict
     requires { ⌜ (length (now k) ≤ desk .question) × (end ≤ length (now k)) × (last ≤ length (now k)) ⌝ }
     requires { ⌜ Two (now k) at other ⌝ }
-    ensures { λ r. ⌜ Tested (now (k .entry)) at end other last x s r ⌝ }
+    ensures { λ r. ⌜ Tested (now (k .entry)) at end other last term s r ⌝ }
 {
     if mentions(k, at, end, s) {
         return Verdict::Shares;
@@ -85,7 +130,6 @@ fn test_pair(
     if mentions(k, other, last, s) {
         return Verdict::Shares;
     }
-    let term = x < 2000;
     judge(k, at, other, term)
 }
 
@@ -96,15 +140,14 @@ fn test_behind(k: &[u16], at: usize, s: Signature) -> Verdict
     ensures { λ r. ⌜ ((before : Conj) (l : Literal) (behind : Conj) → LiteralAt (now (k .entry)) at before l behind → r ≡ replyOf s l behind) ⌝ }
 {
     let x = lone_at(k, at);
-    if x == 0 {
-        return Verdict::Shares;
-    }
+    let term = is_term(x);
     let end = next_literal(k, at);
     let mut j = end;
     while j < k.len() {
         let next = next_literal(k, j);
-        if lone_at(k, j) == x {
-            match test_pair(k, at + BEFORE_TEST, end, j + BEFORE_TEST, next, x, s) {
+        let y = lone_at(k, j);
+        if same_lone(x, y) {
+            match test_pair(k, at + BEFORE_TEST, end, j + BEFORE_TEST, next, term, s) {
                 Verdict::Shares => {}
                 Verdict::Clashes => return Verdict::Clashes,
                 Verdict::Long => return Verdict::Long,

@@ -1,0 +1,5 @@
+pub mod Unordered
+pub mod Alone
+pub mod Testing
+pub mod Behind
+pub mod Firsts
