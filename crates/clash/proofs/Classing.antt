@@ -220,3 +220,6 @@ kept-same = record { long = refl; same = λ i h. refl }
 
 pub kept-then : {to s : ℕ} {old mid new : List ℕ} → to ≤ s → KeptTo to old mid → KeptTo s mid new → KeptTo to old new
 kept-then l e d = record { long = d .long ∙ e .long; same = λ i h. d .same i (omega arith) ∙ e .same i h }
+
+pub tabled-to : {k classes : List ℕ} {at s t : ℕ} → s ≡ t → Tabled k at s classes → Tabled k at t classes
+tabled-to {k} {classes} {at} e t = subst (λ s. Tabled k at s classes) e t

@@ -1,12 +1,12 @@
 -- Marked places listed in order, and the symbols that they are.
-use Prim.Native.Nat.{ℕ, _+_, _<_, _≤_}
+use Prim.Native.Nat.{ℕ, zero, suc, _+_, _<_, _≤_}
 use mathlib.Core.Path.{_≡_, refl, sym, _∙_, ap, subst}
 use mathlib.Core.Logic.{_⊎_, inl, inr}
 use mathlib.Core.Bool.{Bool, true, false}
 use mathlib.Core.List.{List, [], _∷_, map, List·Memᴰ, List·Memᴰ·head, List·Memᴰ·tail}
 use native.Mathlib.Omega.{arith}
 use native.Mathlib.Decide.{ℕ-discrete}
-use lib.ListN.{length, getD, set, length-set}
+use lib.ListN.{length, getD, set, replicate, length-set}
 use Rattle.language.specs.Kinds.{pick}
 use lib.Seq.{getD-set-same, getD-set-other}
 use Rattle.clash.specs.Symbols.{Collected}
@@ -69,3 +69,12 @@ pub collected-step : {marks : List Bool} {from i n m : ℕ} {list new : List ℕ
     → new ≡ pick mark (set list n i) list → Collected marks from i list n → (length new ≡ length list) × Collected marks from (i + 1) new m
 collected-step {marks} {from} {i} {n} {m} {list} {new} true e l d f c = (ap length f ∙ length-set list n i, rw (d, f) (collected-more e l refl c))
 collected-step {marks} {from} {i} {n} {m} {list} {new} false e l d f c = (ap length f, rw (d, f) (collected-pass e c))
+
+pub collected-to : {marks : List Bool} {from i j n : ℕ} {list : List ℕ} → i ≡ j → Collected marks from i list n → Collected marks from j list n
+collected-to {marks} {from} {n = n} {list = list} e c = subst (λ i. Collected marks from i list n) e c
+
+-- nothing is marked at first
+pub blank : (n i : ℕ) → getD (replicate n false) i false ≡ false
+blank zero i = refl
+blank (suc n) zero = refl
+blank (suc n) (suc i) = blank n i

@@ -134,3 +134,11 @@ module _ {k classes left right left′ right′ left″ right″ ps qs : List �
 
 pub of-none : {k classes left right ps qs : List ℕ} {n c : ℕ} → Grown (TwinOf k classes ps 0 qs c) left right n left right n
 of-none = grown-none (λ a b t. let z = t .low in omega arith)
+
+pub with-to : {k classes left right left′ right′ qs : List ℕ} {n m p i j : ℕ} → i ≡ j → Grown (TwinWith k classes p qs i) left right n left′ right′ m
+    → Grown (TwinWith k classes p qs j) left right n left′ right′ m
+with-to {k} {classes} {left} {right} {left′} {right′} {qs} {n} {m} {p} e g = subst (λ i. Grown (TwinWith k classes p qs i) left right n left′ right′ m) e g
+
+pub of-to : {k classes left right left′ right′ ps qs : List ℕ} {n m c i j : ℕ} → i ≡ j → Grown (TwinOf k classes ps i qs c) left right n left′ right′ m
+    → Grown (TwinOf k classes ps j qs c) left right n left′ right′ m
+of-to {k} {classes} {left} {right} {left′} {right′} {ps} {qs} {n} {m} {c} e g = subst (λ i. Grown (TwinOf k classes ps i qs c) left right n left′ right′ m) e g

@@ -58,7 +58,6 @@ module _ {k classes left right : List ℕ} {n : ℕ} {inner rest : List Bool} {p
   pub with-here : j < count → x ≡ getD qs j 0 → Says (Leading k classes left right n inner rest p x) true → Says (SomeWith k classes left right n inner rest p qs count) true
   with-here l e s = says-yes (record { place = j; low = l; leads = subst (Leading k classes left right n inner rest p) e (s .yes refl) })
 
-
 pub not-here : {k classes left right : List ℕ} {n : ℕ} {inner rest : List Bool} {p x y : ℕ} → x ≡ y → Says (Leading k classes left right n inner rest p x) false
     → Leading k classes left right n inner rest p y → ⊥
 not-here {k} {classes} {left} {right} {n} {inner} {rest} {p} e s l = s .not refl (subst (Leading k classes left right n inner rest p) (sym e) l)
@@ -70,7 +69,6 @@ with-nowhere z = says-no (λ s. z (s .place) (s .low) (s .leads))
 module _ {k classes left right : List ℕ} {n : ℕ} {inner rest : List Bool} {ps qs : List ℕ} {i ones others x : ℕ} where
   pub of-here : i < ones → x ≡ getD ps i 0 → Says (SomeWith k classes left right n inner rest x qs others) true → Says (SomeOf k classes left right n inner rest ps ones qs others) true
   of-here l e s = says-yes (record { place = i; low = l; leads = subst (λ x. SomeWith k classes left right n inner rest x qs others) e (s .yes refl) })
-
 
 pub of-not-here : {k classes left right : List ℕ} {n : ℕ} {inner rest : List Bool} {qs : List ℕ} {others x y : ℕ} → x ≡ y → Says (SomeWith k classes left right n inner rest x qs others) false
     → SomeWith k classes left right n inner rest y qs others → ⊥

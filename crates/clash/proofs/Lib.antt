@@ -13,3 +13,8 @@ pub mod Classing
 pub mod Growing
 pub mod Collecting
 pub mod Leading
+pub mod Listing
+pub mod Going
+pub mod Flagging
+pub mod Verdicts
+pub mod Determined

@@ -120,3 +120,9 @@ Swept k classes at left right n old new r = SweptTo 0 k classes at left right n 
 pub record Settled (k classes : List ℕ) (at : Places) (left right : List ℕ) (n : ℕ) (old new : List Bool) : Type 0 where
   pub swelled : Swelled k classes at left right n old new
   pub closed : (R S : Expr) → Stand k classes at R S → ClosedFrom 0 at R S left right n new
+
+-- ---- the first pair
+
+pub record FirstShares (k classes : List ℕ) (at : Places) (left right : List ℕ) (n : ℕ) (marks empty : List Bool) (term r : Bool) : Type 0 where
+  pub by-term : term ≡ true → LeadsFrom k classes at left right n marks empty 0 r
+  pub by-hedge : term ≡ false → r ≡ getD marks 0 false

@@ -17,7 +17,9 @@ ghost use Rattle.language.specs.Limits.{desk};
 ghost use Rattle.language.specs.Trees.{Expr};
 ghost use Rattle.expressions.specs.Standing.{Here};
 ghost use Rattle.clash.specs.Charted.{ChartedFrom};
+ghost use Rattle.clash.specs.Chains.{Chained};
 ghost use Rattle.clash.specs.Walking.{Bounds, Stand};
+ghost use Rattle.clash.specs.Sweeping.{FirstShares};
 ghost use Rattle.clash.specs.Judging.{verdictOf, Two};
 use crate::chart::chart;
 use crate::chart::part_at;
@@ -41,9 +43,46 @@ pub enum Verdict {
     Long,
 }
 
+// Whether the first pair shares a hedge, or, for a term variable, a term: that is what a symbol leads to with nothing left after it in both.
+fn first_shares(
+    k: &[u16],
+    ends: &[usize],
+    nulls: &[bool],
+    classes: &[u16; STATES],
+    at: Places,
+    left: &[u16; STOPS],
+    right: &[u16; STOPS],
+    links: &[u16; STOPS],
+    heads: &[u16; CHAINS],
+    n: usize,
+    marks: &[bool; STOPS],
+    empty: &[bool; STOPS],
+    term: bool,
+) -> bool
+    requires { ⌜ ChartedFrom 0 (now k) (now ends) (now nulls) × Bounds at (length (now k)) × Chained (now left) (now right) (now links) (now heads) n × (0 < n) ⌝ }
+    ensures { λ r. ⌜ FirstShares (now (k .entry)) (now (classes .entry)) at (now (left .entry)) (now (right .entry)) n (now (marks .entry)) (now (empty .entry)) term r ⌝ }
+{
+    if term {
+        return leads_from(
+            k,
+            ends,
+            nulls,
+            classes,
+            at,
+            left,
+            right,
+            links,
+            heads,
+            n,
+            marks,
+            empty,
+            0,
+        );
+    }
+    marks[0]
+}
 
-// Of two expressions whose states are classed. For a term variable it is asked for a term, that is for what a symbol of the first pair leads to with
-// nothing left after it in both.
+// Of two expressions whose states are classed.
 fn judge_classed(
     k: &[u16],
     ends: &[usize],
@@ -64,20 +103,49 @@ fn judge_classed(
     add(&mut left, &mut right, &mut links, &mut heads, 0, one, other);
     let mut empty = [false; STOPS];
     let n = walk_on(
-        k, ends, nulls, classes, at, &mut left, &mut right, &mut links, &mut heads, &mut empty,
+        k,
+        ends,
+        nulls,
+        classes,
+        at,
+        &mut left,
+        &mut right,
+        &mut links,
+        &mut heads,
+        &mut empty,
     );
     if PAIRS < n {
         return Verdict::Long;
     }
     let mut marks = empty;
-    settle(k, ends, nulls, classes, at, &left, &right, &links, &heads, n, &mut marks);
-    let shares = if term {
-        leads_from(
-            k, ends, nulls, classes, at, &left, &right, &links, &heads, n, &marks, &empty, 0,
-        )
-    } else {
-        marks[0]
-    };
+    settle(
+        k,
+        ends,
+        nulls,
+        classes,
+        at,
+        &left,
+        &right,
+        &links,
+        &heads,
+        n,
+        &mut marks,
+    );
+    let shares = first_shares(
+        k,
+        ends,
+        nulls,
+        classes,
+        at,
+        &left,
+        &right,
+        &links,
+        &heads,
+        n,
+        &marks,
+        &empty,
+        term,
+    );
     if shares {
         return Verdict::Shares;
     }

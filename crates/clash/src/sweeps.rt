@@ -103,7 +103,19 @@ fn leads_with(
 {
     let mut j = 0;
     while j < count {
-        if leads(k, classes, left, right, links, heads, n, inner, rest, p, wide(qs[j])) {
+        if leads(
+            k,
+            classes,
+            left,
+            right,
+            links,
+            heads,
+            n,
+            inner,
+            rest,
+            p,
+            wide(qs[j]),
+        ) {
             return true;
         }
         j += 1;

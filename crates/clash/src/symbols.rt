@@ -29,12 +29,7 @@ fn collect_one(mark: bool, i: usize, list: &mut [u16; QUESTION], n: usize) -> us
 }
 
 // The marked places of a part of the words, in order.
-fn collect(
-    marks: &[bool; QUESTION],
-    from: usize,
-    to: usize,
-    list: &mut [u16; QUESTION],
-) -> usize
+fn collect(marks: &[bool; QUESTION], from: usize, to: usize, list: &mut [u16; QUESTION]) -> usize
     requires { ⌜ (from ≤ to) × (to ≤ desk .question) × (length (now list) ≡ desk .question) ⌝ }
     ensures { λ n. ⌜ Collected (now (marks .entry)) from to (now (list .exit)) n ⌝ }
 {

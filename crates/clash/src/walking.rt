@@ -4,7 +4,7 @@ ghost use mathlib.Core.Path.{_≡_};
 ghost use lib.ListN.{length, getD};
 ghost use Rattle.language.specs.Limits.{desk, walkedPairs};
 ghost use Rattle.clash.specs.Charted.{ChartedFrom};
-ghost use Rattle.clash.specs.Chains.{Chained, Grown};
+ghost use Rattle.clash.specs.Chains.{Chained, Grown, stops};
 ghost use Rattle.clash.specs.Symbols.{Listed};
 ghost use Rattle.clash.specs.Walking.{Twin, TwinWith, TwinOf, Bounds, Went, Gone};
 use crate::classes::STATES;
@@ -33,8 +33,24 @@ fn meet_twin(
     ensures { λ m. ⌜ Grown (Twin (now (k .entry)) (now (classes .entry)) p q) (now (left .entry)) (now (right .entry)) n (now (left .exit)) (now (right .exit)) m × Chained (now (left .exit)) (now (right .exit)) (now (links .exit)) (now (heads .exit)) m ⌝ }
 {
     if k[p] == k[q] {
-        let x = meet(left, right, links, heads, n, classes[2 * p + 2], classes[2 * q + 2]);
-        return meet(left, right, links, heads, x, classes[2 * p + 1], classes[2 * q + 1]);
+        let x = meet(
+            left,
+            right,
+            links,
+            heads,
+            n,
+            classes[2 * p + 2],
+            classes[2 * q + 2],
+        );
+        return meet(
+            left,
+            right,
+            links,
+            heads,
+            x,
+            classes[2 * p + 1],
+            classes[2 * q + 1],
+        );
     }
     n
 }
@@ -84,7 +100,18 @@ fn meet_all(
     let mut n = from;
     let mut i = 0;
     while i < ones {
-        n = meet_with(k, classes, wide(ps[i]), qs, others, left, right, links, heads, n);
+        n = meet_with(
+            k,
+            classes,
+            wide(ps[i]),
+            qs,
+            others,
+            left,
+            right,
+            links,
+            heads,
+            n,
+        );
         i += 1;
     }
     n
@@ -156,8 +183,8 @@ pub(crate) fn walk_on(
     heads: &mut [u16; CHAINS],
     empty: &mut [bool; STOPS],
 ) -> usize
-    requires { ⌜ ChartedFrom 0 (now k) (now ends) (now nulls) × Bounds at (length (now k)) × Chained (now left) (now right) (now links) (now heads) 1 ⌝ }
-    ensures { λ n. ⌜ Gone (now (k .entry)) (now (classes .entry)) at (now (left .entry)) (now (right .entry)) (now (left .exit)) (now (right .exit)) (now (empty .exit)) n × Chained (now (left .exit)) (now (right .exit)) (now (links .exit)) (now (heads .exit)) n ⌝ }
+    requires { ⌜ ChartedFrom 0 (now k) (now ends) (now nulls) × Bounds at (length (now k)) × Chained (now left) (now right) (now links) (now heads) 1 × (length (now empty) ≡ stops) ⌝ }
+    ensures { λ n. ⌜ Gone (now (k .entry)) (now (classes .entry)) at (now (left .entry)) (now (right .entry)) (now (left .exit)) (now (right .exit)) (now (empty .exit)) n × Chained (now (left .exit)) (now (right .exit)) (now (links .exit)) (now (heads .exit)) n × (length (now (empty .exit)) ≡ stops) ⌝ }
 {
     let mut n = 1;
     let mut i = 0;
@@ -167,7 +194,20 @@ pub(crate) fn walk_on(
         }
         let a = wide(left[i]);
         let b = wide(right[i]);
-        let r = go_on(k, ends, nulls, classes, at, a, b, left, right, links, heads, n);
+        let r = go_on(
+            k,
+            ends,
+            nulls,
+            classes,
+            at,
+            a,
+            b,
+            left,
+            right,
+            links,
+            heads,
+            n,
+        );
         empty[i] = r.null;
         n = r.count;
         i += 1;

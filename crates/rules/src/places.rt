@@ -64,6 +64,7 @@ pub const AT_M10: usize = AT_M7 + 1;
 pub const AT_M11: usize = AT_M10 + 1;
 
 pub const AT_M12: usize = AT_M11 + 1;
+
 pub const AT_CLASH: usize = AT_M12 + 1;
 
 // No rule applies: the place after the last.

@@ -7,6 +7,7 @@ use mathlib.Core.Path.{_≡_, refl, subst}
 use Prim.Native.Nat.{_+_, _*_, _-_, _≤_}
 use Rattle.clash.specs.Classes.{Tabled, KeptTo}
 use Rattle.clash.proofs.Classing.{tabled-start, kept-same, kept-then}
+use Rattle.clash.proofs.Classing.{tabled-to}
 
 abbrev Inv-loop : tie.InvT-loop
 Inv-loop k ends nulls at end classes₀ first last s₀ classes s =
@@ -41,7 +42,7 @@ loop-again c =
 
 returns : tie.Need-returns Inv-loop μ-loop
 returns c =
-    let h = c .before .loop .inv .1 in (subst (λ s. Tabled _ _ s _) (omega arith) (c .before .loop .inv .2), c .before .loop .inv .3)
+    let h = c .before .loop .inv .1 in (tabled-to (omega arith) (c .before .loop .inv .2), c .before .loop .inv .3)
 
 pub class-all-spec : {M : Type 1} → statement M
 class-all-spec =

@@ -8,6 +8,7 @@ use Prim.Native.Nat.{_+_, _-_, _≤_}
 use lib.ListN.{length}
 use Rattle.clash.specs.Symbols.{Collected}
 use Rattle.clash.proofs.Collecting.{collected-start, collected-step}
+use Rattle.clash.proofs.Collecting.{collected-to}
 
 abbrev Inv-loop : tie.InvT-loop
 Inv-loop marks from to list₀ n₀ i₀ list n i =
@@ -38,7 +39,7 @@ loop-again c =
 
 returns : tie.Need-returns Inv-loop μ-loop
 returns c =
-    let h = c .before .loop .inv .1 in subst (λ i. Collected _ _ i _ _) (omega arith) (c .before .loop .inv .3)
+    let h = c .before .loop .inv .1 in collected-to (omega arith) (c .before .loop .inv .3)
 
 pub collect-spec : {M : Type 1} → statement M
 collect-spec =

@@ -9,6 +9,7 @@ use lib.ListN.{length, getD}
 use Rattle.clash.specs.Chains.{Chained, Grown}
 use Rattle.clash.specs.Walking.{TwinWith}
 use Rattle.clash.proofs.Growing.{with-none, with-more}
+use Rattle.clash.proofs.Growing.{with-to}
 
 abbrev Inv-loop : tie.InvT-loop
 Inv-loop k classes p qs count left₀ right₀ links₀ heads₀ from n₀ j₀ left right links heads n j =
@@ -47,7 +48,7 @@ loop-again c =
 
 returns : tie.Need-returns Inv-loop μ-loop
 returns c =
-    let l = c .loop-test .left in let m = c .before .loop .inv .0 in (subst (λ j. Grown (TwinWith _ _ _ _ j) _ _ _ _ _ _) (omega arith) (c .before .loop .inv .1), c .before .loop .inv .2)
+    let l = c .loop-test .left in let m = c .before .loop .inv .0 in (with-to (omega arith) (c .before .loop .inv .1), c .before .loop .inv .2)
 
 pub meet-with-spec : {M : Type 1} → statement M
 meet-with-spec =
