@@ -3,3 +3,4 @@ pub mod Alone
 pub mod Testing
 pub mod Behind
 pub mod Firsts
+pub mod Replies

@@ -9,11 +9,13 @@ use lib.ListN.{length}
 use Rattle.language.specs.declared.Signature.{Signature}
 use Rattle.language.specs.declared.Kind.{Kind}
 use Rattle.language.specs.declared.Kind.the-variants as kind
+use Rattle.language.specs.declared.Refusal.the-variants.{LongWalk}
 use Rattle.language.specs.Limits.{desk}
 use Rattle.language.specs.Kinds.{pick, kindOf}
 use Rattle.language.specs.Trees.{Hedge, ε, tvar, hvar, node, Expr, Literal, eqn, mem, Conj, isUnordered}
 use Rattle.language.specs.Writing.{exprWords, literalWords}
 use Rattle.rules.specs.Looks.{empty}
+use Rattle.rules.specs.Reply.{Reply, nothing, results, stops}
 use Rattle.rules.specs.Clash.{mentions}
 use Rattle.expressions.specs.Standing.{Here}
 use Rattle.clash.specs.declared.Verdict.{Verdict}
@@ -117,3 +119,9 @@ replyOf σ (mem h R) behind = behindOf σ (loneIn h) R behind
 abbrev pub firstClash : Signature → ℕ → Conj → Clashing
 firstClash σ at [] = Nowhere
 firstClash σ at (l ∷ k) = elim (replyOf σ l k) [ Shares ↦ firstClash σ (at + length (literalWords l)) k | Clashes ↦ At at | Long ↦ Stopped ]
+
+-- what the rule comes to at such a literal
+abbrev pub answerOf : Verdict → Reply (List Conj)
+answerOf Shares = nothing
+answerOf Clashes = results []
+answerOf Long = stops LongWalk
