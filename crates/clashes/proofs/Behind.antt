@@ -67,7 +67,7 @@ module _ {k : List ℕ} {at : ℕ} {before behind : Conj} {j : ℕ} {done rest :
       let x = first-two h (loneIn g) e in
       let y = second-two (loneIn h) g e in
       let v : r ≡ testOf σ (isTerm (loneIn h)) R S =
-          d .each R S (conjWords behind) (conjWords rest) (test-here p x) (test-here q y) (a ∙ test-ends p x) (b ∙ test-ends q y) ∙ ap (λ u. testOf σ u R S) t in
+      d .each R S (conjWords behind) (conjWords rest) (test-here p x) (test-here q y) (a ∙ test-ends p x) (b ∙ test-ends q y) ∙ ap (λ u. testOf σ u R S) t in
       ap (λ u. pick u (thenOf (testOf σ (isTerm (loneIn h)) R S) (behindOf σ (loneIn h) R rest)) (behindOf σ (loneIn h) R rest)) e
       ∙ ap (λ u. thenOf u (behindOf σ (loneIn h) R rest)) (sym v)
 

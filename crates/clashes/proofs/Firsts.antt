@@ -1,8 +1,9 @@
 -- The first literal that clashes with a later one: none of those passed does.
 use Prim.Native.Nat.{ℕ, _+_, _<_, _≤_}
 use mathlib.Core.Path.{_≡_, refl, sym, ap, _∙_}
-use mathlib.Core.List.{List, [], _∷_}
-use lib.ListN.{length, drop}
+use mathlib.Core.List.{List, [], _∷_, _++_}
+use native.Mathlib.Omega.{arith}
+use lib.ListN.{length, drop, length-append}
 use Rattle.language.specs.declared.Signature.{Signature}
 use Rattle.language.specs.Limits.{desk}
 use Rattle.language.specs.Trees.{Literal, Conj}
@@ -11,7 +12,7 @@ use Rattle.language.specs.Fine.{fineConj}
 use Rattle.words.specs.Places.{untilLiteral}
 use Rattle.views.specs.Standing.{LiteralAt, SomeLiteral}
 use Rattle.views.proofs.Seen.{literal-next}
-use Rattle.views.proofs.LiteralWalks.{Walked, walk-starts, walk-here, walk-to, walk-ends}
+use Rattle.views.proofs.LiteralWalks.{Walked, literal-some, walk-starts, walk-here, walk-to, walk-ends}
 use Rattle.clash.specs.declared.Verdict.{Verdict}
 use Rattle.clash.specs.declared.Verdict.the-variants.{Shares, Clashes, Long}
 use Rattle.clashes.specs.declared.Clashing.{Clashing}
@@ -50,3 +51,17 @@ module _ (k : List ℕ) (c : Conj) (fine : fineConj desk c) (words : k ≡ conjW
     first-on e {j} n =
         walk-to k c fine words i (Passed σ c i) (Passed σ c j) j w lt
         λ done l rest p q. let z = n ∙ literal-next p in (z, found Shares e done l rest p q ∙ ap (λ m. firstClash σ m rest) (sym z))
+
+-- where one is found, it is within the words
+at-same : {i j : ℕ} → At i ≡ At j → i ≡ j
+at-same e = cc
+
+pub clash-within : (σ : Signature) (at : ℕ) (c : Conj) (i : ℕ) → At i ≡ firstClash σ at c → i < at + length (conjWords c)
+clash-within σ at [] i e = absurd (let z : _≡_ {A = ℕ} 0 1 = cc in omega arith)
+clash-within σ at (l ∷ k) i e = go (replyOf σ l k) e (clash-within σ (at + length (literalWords l)) k i)
+  where
+    go : (v : Verdict) → At i ≡ by σ at l k v → (At i ≡ firstClash σ (at + length (literalWords l)) k → i < at + length (literalWords l) + length (conjWords k))
+        → i < at + length (literalWords l ++ conjWords k)
+    go Shares e f = let z = f e in let y = length-append (literalWords l) (conjWords k) in omega arith
+    go Clashes e f = let z = at-same e in let y = length-append (literalWords l) (conjWords k) in let x = literal-some l in omega arith
+    go Long e f = absurd (let z : _≡_ {A = ℕ} 0 1 = cc in omega arith)

@@ -5,7 +5,9 @@ use mathlib.Core.Path.{_≡_, refl, sym, ap, _∙_}
 use mathlib.Core.Bool.{Bool, true, false, false≢true}
 use mathlib.Core.List.{List, [], _∷_, _++_, map}
 use mathlib.Core.Option.{none, some}
+use lib.Dec.{ltb}
 use lib.ListN.{length, drop}
+use borrow.Author.Tests.{ltb-true, ltb-false}
 use Rattle.language.specs.declared.Signature.{Signature}
 use Rattle.language.specs.Trees.{Literal, eqn, mem, Conj}
 use Rattle.rules.specs.Reply.{Reply, nothing, results, stops}
@@ -77,11 +79,11 @@ unfolding pairAnswer
 pair-none σ zero z y l behind = refl
 pair-none σ (suc zero) z y l behind = refl
 pair-none σ (suc (suc zero)) z y l behind = absurd (z refl)
-pair-none σ (suc (suc (suc n))) z y l behind = go (decLt n between)
+pair-none σ (suc (suc (suc n))) z y l behind = go (ltb n between) refl
   where
-    go : Dec (n < between) → pairAt (drop (suc atFold) (rules σ)) n l behind ≡ nothing
-    go (yes h) = alone-none between (drop (suc atFold) (rules σ)) refl n h l behind
-    go (no h) = past-none (drop (suc atFold) (rules σ)) n (omega arith) l behind
+    go : (t : Bool) → ltb n between ≡ t → pairAt (drop (suc atFold) (rules σ)) n l behind ≡ nothing
+    go true h = alone-none between (drop (suc atFold) (rules σ)) refl n (ltb-true n between h) l behind
+    go false h = past-none (drop (suc atFold) (rules σ)) n (let x = ltb-false n between h in omega (arith, y)) l behind
 
 pair-fold : (σ : Signature) (l : Literal) (behind : Conj) → pairAnswer σ atFold l behind ≡ Fold l behind
 unfolding pairAnswer

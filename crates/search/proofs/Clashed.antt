@@ -12,7 +12,7 @@ use Rattle.language.specs.Writing.{literalWords, conjWords}
 use Rattle.rules.specs.Places.{atClash}
 use Rattle.rules.specs.Reply.{Reply, nothing, results, stops}
 use Rattle.rules.specs.Rules.{Clash, onPair}
-use Rattle.rules.specs.Step.{orNext, each, found, earliest}
+use Rattle.rules.specs.Step.{orNext, each, Spot, found, earliest}
 use Rattle.clash.specs.declared.Verdict.{Verdict}
 use Rattle.clash.specs.declared.Verdict.the-variants.{Shares, Clashes, Long}
 use Rattle.clashes.specs.declared.Clashing.{Clashing}
@@ -30,7 +30,7 @@ pub data Seen (σ : Signature) (i at : ℕ) (done rest : Conj) (v : Clashing) : 
 
 module _ (σ : Signature) where
   -- at a literal, and else at those behind it
-  by : ℕ → Conj → Literal → Conj → Reply (List Conj) → Reply _
+  by : ℕ → Conj → Literal → Conj → Reply (List Conj) → Reply (Spot × List Conj)
   by i done l rest m =
       orNext (found atClash i false (each (map (λ (k : Conj). done ++ k)) m)) (λ _. orNext (found atClash i true nothing) (λ _. earliest atClash (onPair (Clash σ)) (suc i) (done ++ (l ∷ [])) rest))
 
@@ -49,12 +49,12 @@ module _ (σ : Signature) where
   one-before i at done l rest v e (not-told d f) = not-told d (e ∙ f)
 
   pub seen : (i at : ℕ) (done rest : Conj) → Seen σ i at done rest (firstClash σ at rest)
+  unfolding by
   seen i at done [] = none-there refl refl
   seen i at done (l ∷ rest) = go (replyOf σ l rest) refl (seen (suc i) (at + length (literalWords l)) (done ++ (l ∷ [])) rest)
     where
       go : (v : Verdict) → replyOf σ l rest ≡ v → Seen σ (suc i) (at + length (literalWords l)) (done ++ (l ∷ [])) rest (firstClash σ (at + length (literalWords l)) rest)
           → Seen σ i at done (l ∷ rest) (elim v [ Shares ↦ firstClash σ (at + length (literalWords l)) rest | Clashes ↦ At at | Long ↦ Stopped ])
-      unfolding by
       go Shares e s = one-before i at done l rest _ (at-literal i done l rest Shares e) s
       go Clashes e s =
           one-there [] l rest refl (ap At (omega arith)) (clash-replies σ l rest ∙ ap answerOf e)
