@@ -1,3 +1,6 @@
-pub mod Words
+pub mod Unordered
+pub mod Alone
 pub mod Testing
-pub mod Passing
+pub mod Behind
+pub mod Firsts
+pub mod Replies

@@ -1,108 +1,127 @@
--- The clash of each test with each later one, as verdicts; and what is read off the words for it.
-use Prim.Native.Nat.{ℕ, _+_, _-_, _<_, _≤_}
+-- What the tests of one lone variable come to, pair by pair, and the first literal at which that is a clash.
+use Prim.Native.Nat.{ℕ, _+_}
 use mathlib.Core.Path.{_≡_}
 use mathlib.Core.Bool.{Bool, true, false, _||_}
 use mathlib.Core.List.{List, [], _∷_}
-use mathlib.Core.Option.{none, some}
-use lib.Dec.{eqb, ltb}
-use lib.ListN.{length, getD}
+use mathlib.Core.Option.{Option, none, some}
+use lib.Dec.{eqb}
+use lib.ListN.{length}
 use Rattle.language.specs.declared.Signature.{Signature}
-use Rattle.language.specs.Kinds.{pick}
-use Rattle.language.specs.Trees.{Expr, Literal, eqn, mem, Conj, Var, tv, hv, fv, isUnordered}
-use Rattle.language.specs.Writing.{literalWords}
-use Rattle.rules.specs.Solved.{loneVar}
-use Rattle.rules.specs.Clash.{mentions, isLone}
-use Rattle.views.specs.Standing.{LiteralAt}
-use Rattle.views.specs.Variables.{variableWord}
+use Rattle.language.specs.declared.Kind.{Kind}
+use Rattle.language.specs.declared.Kind.the-variants as kind
+use Rattle.language.specs.declared.Refusal.the-variants.{LongWalk}
+use Rattle.language.specs.Limits.{desk}
+use Rattle.language.specs.Kinds.{pick, kindOf}
+use Rattle.language.specs.Trees.{Hedge, ε, tvar, hvar, node, Expr, Literal, eqn, mem, Conj, isUnordered}
+use Rattle.language.specs.Writing.{exprWords, literalWords}
+use Rattle.rules.specs.Looks.{empty}
+use Rattle.rules.specs.Reply.{Reply, nothing, results, stops}
+use Rattle.rules.specs.Clash.{mentions}
+use Rattle.expressions.specs.Standing.{Here}
 use Rattle.clash.specs.declared.Verdict.{Verdict}
 use Rattle.clash.specs.declared.Verdict.the-variants.{Shares, Clashes, Long}
 use Rattle.clash.specs.Judging.{verdictOf}
+use Rattle.clashes.specs.declared.Lone.{Lone}
+use Rattle.clashes.specs.declared.Lone.the-variants.{Nothing, Term, Run}
 use Rattle.clashes.specs.declared.Clashing.{Clashing}
 use Rattle.clashes.specs.declared.Clashing.the-variants.{Nowhere, At, Stopped}
 
--- ---- words
+-- ---- an unordered symbol among words
 
--- whether a word of an expression is that of an unordered symbol
-unfoldable pub wordUnordered : Signature → ℕ → Bool
-wordUnordered σ x = pick (ltb x 3000) false (pick (ltb x 7000) (isUnordered σ (record { 0 = x - 3000 })) false)
+abbrev pub kindUnordered : Signature → Kind → Bool
+kindUnordered σ kind.End = false
+kindUnordered σ (kind.Term x) = false
+kindUnordered σ (kind.Run p) = false
+kindUnordered σ (kind.Symbol f) = isUnordered σ f
+kindUnordered σ (kind.Function X) = false
+kindUnordered σ kind.Equation = false
+kindUnordered σ kind.Membership = false
+kindUnordered σ kind.Eps = false
+kindUnordered σ kind.Cat = false
+kindUnordered σ kind.Alt = false
+kindUnordered σ kind.Star = false
+kindUnordered σ kind.Other = false
 
-abbrev pub wordsMention : Signature → List ℕ → Bool
-wordsMention σ [] = false
-wordsMention σ (x ∷ ws) = wordUnordered σ x || wordsMention σ ws
+abbrev pub someUnordered : Signature → List ℕ → Bool
+someUnordered σ [] = false
+someUnordered σ (w ∷ ws) = kindUnordered σ (kindOf desk w) || someUnordered σ ws
 
--- a word with which a hedge begins, where it is that of a term or hedge variable; else 0
-unfoldable pub variableIn : ℕ → ℕ
-variableIn x = pick (ltb x 3000) x 0
+-- ---- the lone variable of a test
 
--- of the literal that begins at a place: a mark, the variable, and the end of the hedge
-unfoldable pub loneAt : List ℕ → ℕ → ℕ
-loneAt k at = pick (eqb (getD k at 0) 6000) (pick (eqb (getD k (at + 2) 0) 0) (variableIn (getD k (at + 1) 0)) 0) 0
+abbrev pub loneIn : Hedge → Lone
+loneIn ε = Nothing
+loneIn (tvar x r) = pick (empty r) (Term x) Nothing
+loneIn (hvar p r) = pick (empty r) (Run p) Nothing
+loneIn (node f c r) = Nothing
 
--- ---- literals
+abbrev pub loneOf : Literal → Lone
+loneOf (eqn l r) = Nothing
+loneOf (mem h R) = loneIn h
 
--- the word of the lone variable that a literal tests, or 0
-abbrev pub loneWordOf : Literal → ℕ
-loneWordOf (eqn l r) = 0
-loneWordOf (mem h R) = elim (loneVar h) [ none ↦ 0 | some v ↦ variableWord v ]
+-- as the kind of a word says
+abbrev pub loneKind : Kind → Lone
+loneKind kind.End = Nothing
+loneKind (kind.Term x) = Term x
+loneKind (kind.Run p) = Run p
+loneKind (kind.Symbol f) = Nothing
+loneKind (kind.Function X) = Nothing
+loneKind kind.Equation = Nothing
+loneKind kind.Membership = Nothing
+loneKind kind.Eps = Nothing
+loneKind kind.Cat = Nothing
+loneKind kind.Alt = Nothing
+loneKind kind.Star = Nothing
+loneKind kind.Other = Nothing
 
--- v in R and v in S
-abbrev pub agreed : Var → Expr → Expr → Verdict
-agreed (tv x) R S = verdictOf true R S
-agreed (hv p) R S = verdictOf false R S
-agreed (fv X) R S = Shares
+abbrev pub isTerm : Lone → Bool
+isTerm Nothing = false
+isTerm (Term x) = true
+isTerm (Run p) = false
 
-abbrev pub pairVerdict : Signature → Var → Expr → Expr → Verdict
-pairVerdict σ v R S = pick (mentions (isUnordered σ) R || mentions (isUnordered σ) S) Shares (agreed v R S)
+-- both are one variable
+abbrev pub sameLone : Lone → Lone → Bool
+sameLone Nothing b = false
+sameLone (Term x) Nothing = false
+sameLone (Term x) (Term y) = eqb (x .0) (y .0)
+sameLone (Term x) (Run q) = false
+sameLone (Run p) Nothing = false
+sameLone (Run p) (Term y) = false
+sameLone (Run p) (Run q) = eqb (p .0) (q .0)
 
--- of two literals
-abbrev pub onePair : Signature → Literal → Literal → Verdict
-onePair σ (eqn l r) m = Shares
-onePair σ (mem h R) (eqn l r) = Shares
-onePair σ (mem h R) (mem g S) = elim (loneVar h) [ none ↦ Shares | some v ↦ pick (isLone v g) (pairVerdict σ v R S) Shares ]
+-- ---- two tests
 
-abbrev pub orLater : Verdict → Verdict → Verdict
-orLater Shares w = w
-orLater Clashes w = Clashes
-orLater Long w = Long
+-- "Pairs that mention an unordered symbol are passed over"
+unfoldable pub testOf : Signature → Bool → Expr → Expr → Verdict
+testOf σ term R S = pick (mentions (isUnordered σ) R || mentions (isUnordered σ) S) Shares (verdictOf term R S)
 
--- a literal and those behind it
+-- of the expressions that stand from `at` to `end` and from `other` to `last`
+pub record Tested (k : List ℕ) (at end other last : ℕ) (term : Bool) (σ : Signature) (r : Verdict) : Type 0 where
+  pub each : (R S : Expr) (w v : List ℕ) → Here k at R w → Here k other S v → end ≡ at + length (exprWords R) → last ≡ other + length (exprWords S) → r ≡ testOf σ term R S
+
+-- ---- a test and those behind it
+
+abbrev pub thenOf : Verdict → Verdict → Verdict
+thenOf Shares b = b
+thenOf Clashes b = Clashes
+thenOf Long b = Long
+
+-- "in the order of their literals, until one clashes"
+abbrev pub behindOf : Signature → Lone → Expr → Conj → Verdict
+behindOf σ x R [] = Shares
+behindOf σ x R (eqn l r ∷ k) = behindOf σ x R k
+behindOf σ x R (mem h S ∷ k) = pick (sameLone x (loneIn h)) (thenOf (testOf σ (isTerm x) R S) (behindOf σ x R k)) (behindOf σ x R k)
+
 abbrev pub replyOf : Signature → Literal → Conj → Verdict
-replyOf σ l [] = Shares
-replyOf σ l (m ∷ k) = orLater (onePair σ l m) (replyOf σ l k)
+replyOf σ (eqn l r) behind = Shares
+replyOf σ (mem h R) behind = behindOf σ (loneIn h) R behind
 
--- the first literal of which this is not `Shares`, the first of them standing at that place
+-- the first literal that clashes with a later one, `at` being the place of the first
 abbrev pub firstClash : Signature → ℕ → Conj → Clashing
 firstClash σ at [] = Nowhere
 firstClash σ at (l ∷ k) = elim (replyOf σ l k) [ Shares ↦ firstClash σ (at + length (literalWords l)) k | Clashes ↦ At at | Long ↦ Stopped ]
 
--- ---- what the calls ask
-
--- two literals, of which the first tests that variable
-pub record Tests (k : List ℕ) (at end j next x : ℕ) : Type 0 where
-  pub before : Conj
-  pub l : Literal
-  pub behind : Conj
-  pub one : LiteralAt k at before l behind
-  pub one-end : end ≡ at + length (literalWords l)
-  pub lone : x ≡ loneWordOf l
-  pub some : x ≡ 0 → ⊥
-  pub done : Conj
-  pub m : Literal
-  pub rest : Conj
-  pub two : LiteralAt k j done m rest
-  pub two-end : next ≡ j + length (literalWords m)
-  pub apart : end ≤ j
-
--- r is what the two come to
-pub record Judged (k : List ℕ) (at end j next x : ℕ) (s : Signature) (r : Verdict) : Type 0 where
-  pub each : (before : Conj) (l : Literal) (behind done : Conj) (m : Literal) (rest : Conj) → LiteralAt k at before l behind → end ≡ at + length (literalWords l) → x ≡ loneWordOf l → (x ≡ 0 → ⊥)
-      → LiteralAt k j done m rest → next ≡ j + length (literalWords m) → r ≡ onePair s l m
-
--- a literal that tests that variable
-pub record Tested (k : List ℕ) (at x : ℕ) : Type 0 where
-  pub before : Conj
-  pub l : Literal
-  pub behind : Conj
-  pub one : LiteralAt k at before l behind
-  pub lone : x ≡ loneWordOf l
-  pub some : x ≡ 0 → ⊥
+-- what the rule comes to at such a literal
+abbrev pub answerOf : Verdict → Reply (List Conj)
+answerOf Shares = nothing
+answerOf Clashes = results []
+answerOf Long = stops LongWalk

@@ -5,15 +5,20 @@ ghost use mathlib.Core.List.{List};
 ghost use lib.ListN.{length};
 ghost use lib.Seq.{slice};
 ghost use Rattle.language.specs.Limits.{desk};
+ghost use Rattle.language.specs.Kinds.{kindOf};
 ghost use Rattle.language.specs.Trees.{Literal, Conj};
 ghost use Rattle.language.specs.Writing.{conjWords};
 ghost use Rattle.language.specs.Fine.{fineConj};
 ghost use Rattle.views.specs.Standing.{LiteralAt, SomeLiteral, Conjunction};
-ghost use Rattle.clashes.specs.Pairs.{wordUnordered, wordsMention, variableIn, loneAt, loneWordOf, replyOf, firstClash, Tests, Tested, Judged};
+ghost use Rattle.clash.specs.Judging.{Two};
+ghost use Rattle.clashes.specs.Pairs.{kindUnordered, someUnordered, loneOf, loneKind, isTerm, sameLone, Tested, replyOf, firstClash};
 use clash::Verdict;
 use clash::judge;
+use language::HedgeVar;
+use language::Kind;
 use language::Signature;
-use language::Sym;
+use language::TermVar;
+use language::classify;
 use language::is_unordered;
 use words::next_literal;
 use words::word;
@@ -21,23 +26,20 @@ use words::word;
 // What stands before the expression of a lone variable's test: its mark, the variable and the end of the hedge.
 const BEFORE_TEST: usize = 3;
 
-// Whether a word of an expression is that of an unordered symbol.
+// Whether a word is that of an unordered symbol.
 fn unordered_word(x: u16, s: Signature) -> bool
-    ensures { λ r. ⌜ r ≡ wordUnordered s x ⌝ }
+    ensures { λ r. ⌜ r ≡ kindUnordered s (kindOf desk x) ⌝ }
 {
-    if x < 3000 {
-        return false;
+    match classify(x) {
+        Kind::Symbol(f) => is_unordered(s, f),
+        _ => false,
     }
-    if x < 7000 {
-        return is_unordered(s, Sym(x - 3000));
-    }
-    false
 }
 
 // Whether an unordered symbol stands among the words from one place to another.
 fn mentions(k: &[u16], from: usize, to: usize, s: Signature) -> bool
     requires { ⌜ to ≤ length (now k) ⌝ }
-    ensures { λ r. ⌜ r ≡ wordsMention s (slice from to (now (k .entry))) ⌝ }
+    ensures { λ r. ⌜ r ≡ someUnordered s (slice from to (now (k .entry))) ⌝ }
 {
     let mut i = from;
     while i < to {
@@ -49,86 +51,111 @@ fn mentions(k: &[u16], from: usize, to: usize, s: Signature) -> bool
     false
 }
 
-// A word with which a hedge begins, where it is that of a term or hedge variable; else 0.
-fn variable_in(x: u16) -> u16
-    ensures { λ r. ⌜ r ≡ variableIn x ⌝ }
-{
-    if x < 3000 { x } else { 0 }
+// The variable that is tested, where it stands alone.
+enum Lone {
+    Nothing,
+    Term(TermVar),
+    Run(HedgeVar),
 }
 
-// The word of the variable that is tested, where the literal at a place is a membership of a lone variable; else 0.
-fn lone_at(k: &[u16], at: usize) -> u16
-    requires { ⌜ at < length (now k) ⌝ }
-    ensures { λ r. ⌜ r ≡ loneAt (now (k .entry)) at ⌝ }
+fn lone_word(x: u16) -> Lone
+    ensures { λ r. ⌜ r ≡ loneKind (kindOf desk x) ⌝ }
 {
-    if word(k, at) == 6000 {
-        if word(k, at + 2) == 0 {
-            return variable_in(word(k, at + 1));
-        }
-        return 0;
+    match classify(x) {
+        Kind::Term(y) => Lone::Term(y),
+        Kind::Run(p) => Lone::Run(p),
+        _ => Lone::Nothing,
     }
-    0
 }
 
-// The literal that tests the variable x, from its place to its end, and one behind it: passed over where that tests another variable or none, or where an
-// unordered symbol is mentioned.
+// Of the literal at a place.
+fn lone_at(k: &[u16], at: usize) -> Lone
+    requires { ⌜ at < length (now k) ⌝ }
+    ensures { λ r. ⌜ ((before : Conj) (l : Literal) (behind : Conj) → LiteralAt (now (k .entry)) at before l behind → r ≡ loneOf l) ⌝ }
+{
+    if k[at] == 5000 {
+        return Lone::Nothing;
+    }
+    if word(k, at + 2) == 0 {
+        return lone_word(word(k, at + 1));
+    }
+    Lone::Nothing
+}
+
+fn is_term(x: Lone) -> bool
+    ensures { λ r. ⌜ r ≡ isTerm x ⌝ }
+{
+    match x {
+        Lone::Nothing => false,
+        Lone::Term(_) => true,
+        Lone::Run(_) => false,
+    }
+}
+
+fn same_lone(a: Lone, b: Lone) -> bool
+    ensures { λ r. ⌜ r ≡ sameLone a b ⌝ }
+{
+    match a {
+        Lone::Nothing => false,
+        Lone::Term(x) => match b {
+            Lone::Nothing => false,
+            Lone::Term(y) => x.0 == y.0,
+            Lone::Run(_) => false,
+        },
+        Lone::Run(p) => match b {
+            Lone::Nothing => false,
+            Lone::Term(_) => false,
+            Lone::Run(q) => p.0 == q.0,
+        },
+    }
+}
+
+// Two tests of one variable, from their expressions to their ends: where an unordered symbol is mentioned they are passed over.
 fn test_pair(
     k: &[u16],
     at: usize,
     end: usize,
-    j: usize,
-    next: usize,
-    x: u16,
+    other: usize,
+    last: usize,
+    term: bool,
     s: Signature,
 ) -> Verdict
-    requires { ⌜ length (now k) ≤ desk .question ⌝ }
-    requires { ⌜ Tests (now k) at end j next x ⌝ }
-    ensures { λ r. ⌜ Judged (now (k .entry)) at end j next x s r ⌝ }
+    requires { ⌜ (length (now k) ≤ desk .question) × (end ≤ length (now k)) × (last ≤ length (now k)) ⌝ }
+    requires { ⌜ Two (now k) at other ⌝ }
+    ensures { λ r. ⌜ Tested (now (k .entry)) at end other last term s r ⌝ }
 {
-    if lone_at(k, j) == x {
-        let one = at + BEFORE_TEST;
-        let other = j + BEFORE_TEST;
-        if mentions(k, one, end, s) {
-            return Verdict::Shares;
-        }
-        if mentions(k, other, next, s) {
-            return Verdict::Shares;
-        }
-        return judge(k, one, other, x < 2000);
+    if mentions(k, at, end, s) {
+        return Verdict::Shares;
     }
-    Verdict::Shares
+    if mentions(k, other, last, s) {
+        return Verdict::Shares;
+    }
+    judge(k, at, other, term)
 }
 
-// The literal at a place that tests the variable x, with each behind it, until one clashes or cannot be told.
-fn test_behind(k: &[u16], at: usize, x: u16, s: Signature) -> Verdict
-    requires { ⌜ (at < length (now k)) × (length (now k) ≤ desk .question) ⌝ }
-    requires { ⌜ Tested (now k) at x ⌝ }
-    ensures { λ r. ⌜ ((before : Conj) (l : Literal) (behind : Conj) → LiteralAt (now (k .entry)) at before l behind → x ≡ loneWordOf l → r ≡ replyOf s l behind) ⌝ }
-{
-    let end = next_literal(k, at);
-    let mut j = end;
-    while j < k.len() {
-        let next = next_literal(k, j);
-        match test_pair(k, at, end, j, next, x, s) {
-            Verdict::Shares => j = next,
-            Verdict::Clashes => return Verdict::Clashes,
-            Verdict::Long => return Verdict::Long,
-        }
-    }
-    Verdict::Shares
-}
-
-// The same of any literal.
-fn test_literal(k: &[u16], at: usize, s: Signature) -> Verdict
+// The literal at a place, with each test of the same variable behind it, until one clashes or cannot be told.
+fn test_behind(k: &[u16], at: usize, s: Signature) -> Verdict
     requires { ⌜ (at < length (now k)) × (length (now k) ≤ desk .question) ⌝ }
     requires { ⌜ SomeLiteral (now k) at ⌝ }
     ensures { λ r. ⌜ ((before : Conj) (l : Literal) (behind : Conj) → LiteralAt (now (k .entry)) at before l behind → r ≡ replyOf s l behind) ⌝ }
 {
     let x = lone_at(k, at);
-    if x == 0 {
-        return Verdict::Shares;
+    let term = is_term(x);
+    let end = next_literal(k, at);
+    let mut j = end;
+    while j < k.len() {
+        let next = next_literal(k, j);
+        let y = lone_at(k, j);
+        if same_lone(x, y) {
+            match test_pair(k, at + BEFORE_TEST, end, j + BEFORE_TEST, next, term, s) {
+                Verdict::Shares => {}
+                Verdict::Clashes => return Verdict::Clashes,
+                Verdict::Long => return Verdict::Long,
+            }
+        }
+        j = next;
     }
-    test_behind(k, at, x, s)
+    Verdict::Shares
 }
 
 // Where the clash applies: nowhere, at the literal of that place, or it cannot be told there.
@@ -146,11 +173,12 @@ pub fn first_clash(k: &[u16], s: Signature) -> Clashing
 {
     let mut i = 0;
     while i < k.len() {
-        match test_literal(k, i, s) {
-            Verdict::Shares => i = next_literal(k, i),
+        match test_behind(k, i, s) {
+            Verdict::Shares => {}
             Verdict::Clashes => return Clashing::At(i),
             Verdict::Long => return Clashing::Stopped,
         }
+        i = next_literal(k, i);
     }
     Clashing::Nowhere
 }

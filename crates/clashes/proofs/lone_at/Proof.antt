@@ -1,55 +1,34 @@
--- By the words there.
-use native.Mathlib.Omega.{arith}
+-- `lone_at`: an equation has none; of a membership the word behind its first says whether that is all.
+use mathlib.Core.Path.{_≡_, refl, ap, _∙_}
 use borrow.Author.Needs.{needs}
+use Rattle.language.specs.Limits.{desk}
+use Rattle.language.specs.Kinds.{kindOf}
+use Rattle.views.proofs.LiteralWalks.{at-equation, at-membership}
+use Rattle.clashes.specs.declared.Lone.the-variants.{Nothing}
+use Rattle.clashes.specs.Pairs.{loneOf, loneKind}
+use Rattle.clashes.proofs.Alone.{lone-of-ends, lone-of-goes-on}
 use Rattle.clashes.proofs.lone_at.Statement.{statement}
 use Rattle.clashes.proofs.lone_at.Tie as tie
-use Prim.Native.Nat.{ℕ, _+_, _-_, _<_, _≤_}
-use mathlib.Core.Path.{_≡_, refl, sym, subst, ap, _∙_}
-use mathlib.Core.Bool.{Bool, true, false}
-use lib.Seq.{slice}
-use borrow.Author.Tests.{lt-ltb, le-ltb, eq-eqb, ne-eqb}
-use Rattle.clashes.proofs.Words.{at-lone, at-longer, at-equation}
-
-word-requires : tie.Need-word-requires
-word-requires c κs = search needs
-
-add-word : tie.Need-add-word
-add-word c = search needs
-
-word-requires-2 : tie.Need-word-requires-2
-word-requires-2 c κs = search needs
-
-add-word-2 : tie.Need-add-word-2
-add-word-2 c = search needs
-
-word-requires-3 : tie.Need-word-requires-3
-word-requires-3 c κs = search needs
-
-variable-in-requires : tie.Need-variable-in-requires
-variable-in-requires c κs = search needs
 
 returns : tie.Need-returns
 returns c =
-    c .variable-in .ensures ∙ at-lone _ _ (c .before .before .before .before .before .word .ensures) (c .before .before .before .word2 .ensures) (c .before .word3 .ensures) (c .before .before .before .before .if1 .taken) (c .before .before .if2 .taken)
+    let start = c .before .before .before in
+    at-equation (start .args .k .now) (start .args .at) (λ before l behind. Nothing ≡ loneOf l) (c .if1 .taken) (λ before l r behind p. refl)
 
 returns-2 : tie.Need-returns-2
 returns-2 c =
-    at-longer _ _ (c .before .before .before .word .ensures) (c .before .word2 .ensures) (c .before .before .if1 .taken) (c .if2 .left)
+    let c₁ = c .before in let c₂ = c₁ .before in let c₃ = c₂ .before .before in let start = c₃ .before .before .before in
+    at-membership (start .args .k .now) (start .args .at) (λ before l behind. c .lone-word .result ≡ loneOf l) (c₃ .if1 .left)
+    λ before h R behind p. c .lone-word .ensures ∙ ap (λ w. loneKind (kindOf desk w)) (c₁ .word2 .ensures) ∙ lone-of-ends p (c₂ .before .word .ensures) (c₂ .if2 .taken)
 
 returns-3 : tie.Need-returns-3
 returns-3 c =
-    at-equation _ _ (c .before .word .ensures) (c .if1 .left)
+    let c₁ = c .before in let c₂ = c₁ .before in let start = c₂ .before .before .before in
+    at-membership (start .args .k .now) (start .args .at) (λ before l behind. Nothing ≡ loneOf l) (c₂ .if1 .left)
+    λ before h R behind p. lone-of-goes-on p (c₁ .word .ensures) (c .if2 .left)
 
 pub lone-at-spec : {M : Type 1} → statement M
 lone-at-spec =
-    tie.close
-    (tie.spec
-    word-requires
-    add-word
-    word-requires-2
-    add-word-2
-    word-requires-3
-    variable-in-requires
-    returns
-    returns-2
-    returns-3)
+    tie.close (tie.spec
+    (λ c. search needs) (λ c. search needs) returns (λ c. search needs) (λ c κs. search needs) (λ c. search needs) (λ c κs. search needs) (λ c κs. search needs)
+    returns-2 returns-3)

@@ -1,66 +1,37 @@
--- The loop's invariant: what is left of the words decides.
+-- `mentions`: one stands in the part exactly if one stands in what is left of it.
+use Prim.Native.Nat.{_-_, _≤_}
 use native.Mathlib.Omega.{arith}
+use mathlib.Core.Path.{_≡_, refl, sym, _∙_}
+use lib.Seq.{slice}
 use borrow.Author.Needs.{needs}
+use Rattle.clashes.specs.Pairs.{someUnordered}
+use Rattle.clashes.proofs.Unordered.{some-none, some-here, some-next}
 use Rattle.clashes.proofs.mentions.Statement.{statement}
 use Rattle.clashes.proofs.mentions.Tie as tie
-use Prim.Native.Nat.{ℕ, _+_, _-_, _<_, _≤_}
-use mathlib.Core.Path.{_≡_, refl, sym, subst, ap, _∙_}
-use mathlib.Core.Bool.{Bool, true, false}
-use lib.Seq.{slice}
-use borrow.Author.Tests.{lt-ltb, le-ltb, eq-eqb, ne-eqb}
-use Rattle.clashes.specs.Pairs.{wordsMention}
-use Rattle.clashes.proofs.Words.{mention-none, mention-here, mention-next}
 
 abbrev Inv-loop : tie.InvT-loop
-Inv-loop k from to s i₀ i =
-    wordsMention s (slice from to k) ≡ wordsMention s (slice i to k)
+Inv-loop k from to s i₀ i = someUnordered s (slice i to k) ≡ someUnordered s (slice from to k)
 
 abbrev μ-loop : tie.MeasureT-loop
 μ-loop k from to s i₀ i = to - i
 
-loop-holds : tie.Need-loop-holds Inv-loop μ-loop
-loop-holds c =
-    refl
-
-mul-unordered-word : tie.Need-mul-unordered-word Inv-loop μ-loop
-mul-unordered-word c = search needs
-
-shared-slice-read-unordered-word : tie.Need-shared-slice-read-unordered-word Inv-loop μ-loop
-shared-slice-read-unordered-word c = search needs
-
-unordered-word-requires : tie.Need-unordered-word-requires Inv-loop μ-loop
-unordered-word-requires c κs = search needs
-
 returns : tie.Need-returns Inv-loop μ-loop
 returns c =
-    sym (c .before .before .before .before .loop .inv ∙ mention-here _ _ _ _ (c .before .before .before .loop-test .taken) (c .before .before .before .before .before .before .pre) (sym (c .before .unordered-word .ensures) ∙ c .if1 .taken))
-
-add-i : tie.Need-add-i Inv-loop μ-loop
-add-i c = search needs
-
-loop-less : tie.Need-loop-less Inv-loop μ-loop
-loop-less c = search needs
+    let c₁ = c .before in let c₂ = c₁ .before .before in let c₃ = c₂ .before in let c₄ = c₃ .before .before in
+    let p = c₄ .pre in
+    some-here (c₄ .args .s) (c₄ .args .k .now) _ _ (c₂ .loop-test .taken) (let z = c₂ .loop-test .taken in omega arith) (sym (c .if1 .taken) ∙ c₁ .unordered-word .ensures) ∙ c₃ .loop .inv
 
 loop-again : tie.Need-loop-again Inv-loop μ-loop
 loop-again c =
-    c .before .before .before .before .loop .inv ∙ mention-next _ _ _ _ (c .before .before .before .loop-test .taken) (c .before .before .before .before .before .before .pre) (sym (c .before .unordered-word .ensures) ∙ c .if1 .left)
+    let c₁ = c .before in let c₂ = c₁ .before .before in let c₃ = c₂ .before in let c₄ = c₃ .before .before in
+    let p = c₄ .pre in
+    some-next (c₄ .args .s) (c₄ .args .k .now) _ _ (c₂ .loop-test .taken) (let z = c₂ .loop-test .taken in omega arith) (sym (c .if1 .left) ∙ c₁ .unordered-word .ensures) ∙ c₃ .loop .inv
 
 returns-2 : tie.Need-returns-2 Inv-loop μ-loop
-returns-2 c =
-    sym (c .before .loop .inv ∙ mention-none _ _ _ _ (c .loop-test .left))
+returns-2 c = some-none _ _ _ _ (c .loop-test .left) ∙ c .before .loop .inv
 
 pub mentions-spec : {M : Type 1} → statement M
 mentions-spec =
-    tie.close
-    (tie.spec
-    Inv-loop
-    μ-loop
-    loop-holds
-    mul-unordered-word
-    shared-slice-read-unordered-word
-    unordered-word-requires
-    returns
-    add-i
-    loop-less
-    loop-again
-    returns-2)
+    tie.close (tie.spec
+    Inv-loop μ-loop (λ c. refl) (λ c. search needs) (λ c. search needs) (λ c κs. search needs) returns (λ c. search needs) (λ c. search needs)
+    loop-again returns-2)
