@@ -39,6 +39,7 @@
 #define LANDED_8
 #define LANDED_1
 #define LANDED_4
+#define LANDED_6
 #define LANDED_9
 
 #ifdef LANDED_10

@@ -43,22 +43,23 @@ enum End {
 }
 
 // Says what solving came to.
-fn solved(s: Solved, answer: &[u16]) -> End {
+fn solved<'a>(s: Solved, question: &'a [u16], answer: &'a [u16]) -> End {
     let outcome = s.outcome;
     match outcome {
         Outcome::Refused(r) => End::Refused(r),
         Outcome::NoLine => {
-            answered(b"none: nothing meets the question\n", s, answer);
+            answered(b"none: nothing meets the question\n", s, question, answer);
             End::Said(NOTHING)
         }
         Outcome::AllSolved => {
-            answered(b"settled: every line can be met\n", s, answer);
+            answered(b"settled: every line can be met\n", s, question, answer);
             End::Said(FOUND)
         }
         Outcome::SomeOpen => {
             answered(
                 b"still open: there may be something that meets an open line, or nothing\n",
                 s,
+                question,
                 answer,
             );
             End::Said(FOUND)
@@ -70,7 +71,7 @@ fn solve(question: &[u16]) -> End {
     let mut work = [0u16; ROOM];
     let mut answer = [0u16; ROOM];
     let s = solver::solve(question, &mut work, &mut answer);
-    solved(s, &answer)
+    solved(s, question, &answer)
 }
 
 fn tell(t: Tried) -> End {

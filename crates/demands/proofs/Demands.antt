@@ -5,7 +5,7 @@ use mathlib.Core.Path.{_≡_}
 use mathlib.Core.Logic.{_⊎_, _↔_}
 use mathlib.Core.List.{List}
 use mathlib.Core.Option.{some}
-use lib.ListN.{length, take}
+use lib.ListN.{length, take, getD}
 use Rattle.language.specs.declared.Refusal.{Refusal}
 use Rattle.language.specs.declared.Refusal.the-variants.{LongLiteral, LongExample}
 use Rattle.language.specs.Limits.{desk}
@@ -17,7 +17,7 @@ use Rattle.meaning.specs.Meaning.{Filling, MeetsQuestion}
 use Rattle.rules.specs.Each.{Each}
 use Rattle.lines.specs.Matching.{Matching}
 use Rattle.outcomes.specs.declared.Outcome.the-variants.{Refused, NoLine}
-use Rattle.outcomes.specs.Numbers.{outcomeNumber}
+use Rattle.outcomes.specs.Numbers.{SolveNumbers, outcomeNumber, solvedNumbers, shownNumbers}
 use Rattle.outcomes.specs.declared.Tried.the-variants as tried
 use Rattle.outcomes.specs.declared.Shown.the-variants.{Shows, Denied}
 use Rattle.word_bytes.specs.Bytes.{wordsOf, wordsIn}
@@ -28,9 +28,11 @@ use Rattle.demands.specs.Examples.{Example}
 use Rattle.demands.specs.HostCalls.{DeskSolve, DeskTry, DeskExample, DeskPlace, DeskDay}
 use Rattle.demands.specs.Answers.{Line, nthLine}
 use Rattle.demands.specs.Promises.{Promised, Answered, exampleWords, RoomShows, Told}
+use Rattle.demands.specs.Before.{solvedBefore, exhibitedBefore, TriedBefore}
 use Rattle.demands.specs.Table.{SolveFault, TryFault, First}
 use Rattle.demands.specs.Tells.{SolveTells, TryTells, ExampleTells, TryAgrees}
 use Rattle.demands.specs.HostTells.{DeskSolveTells, DeskTryTells, DeskTryAgrees, BytesTold, DeskExampleTells, DeskPlaceTells}
+use Rattle.demands.proofs.Before as was
 use Rattle.demands.specs.DayTells.{AnswersIn, DeskDayTells}
 use Rattle.demands.proofs.Between as between
 use Rattle.demands.proofs.Solving as solving
@@ -97,6 +99,23 @@ matching-none-open = solving.none-open
 -- Two answers to one question have the same lines, whoever gave them.
 pub one-answer : {q r : List ℕ} → q ≡ r → {a b : List ℕ} (p : Promised q a) (o : Promised r b) → (p .asked ≡ o .asked) × (p .lines ≡ o .lines)
 one-answer = between.one-answer
+
+-- ---- "Questions with u = 0 answer as before"
+
+-- A question whose first word is a number of symbols alone is solved as before there were unordered symbols: the same comes back, and the same words
+-- stand in the slices;
+pub solve-as-before : (c : Solve) → getD (c .question) 0 0 < 256
+    → _≡_ {A = SolveNumbers × List ℕ × List ℕ} (solvedNumbers (c .returned), c .workLeft, c .answerLeft) (solvedBefore (c .question) (c .work) (c .answer))
+solve-as-before = was.solve-before
+
+-- a line's example is as before;
+pub example-as-before : (c : Example) → getD (c .question) 0 0 < 256
+    → _≡_ {A = (ℕ × ℕ × ℕ) × List ℕ × List ℕ × List ℕ} (shownNumbers (c .returned), c .workLeft, c .answerLeft, c .roomLeft) (exhibitedBefore (c .line) (c .oldSheets) (c .question) (c .work) (c .answer) (c .room))
+example-as-before = was.example-before
+
+-- and yes and no are those of the meaning in which the same is equal.
+pub try-as-before : (t : Try) → getD (t .question) 0 0 < 256 → (q : Question) → readQuestion desk (t .question) ≡ asks q → TriedBefore t q
+try-as-before = was.try-before
 
 -- ---- demand 3, of an example
 

@@ -11,6 +11,7 @@ pub mod Given
 pub mod Solving
 pub mod Showing
 pub mod Trying
+pub mod Before
 pub mod Hosting
 pub mod Places
 pub mod Days

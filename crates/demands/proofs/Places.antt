@@ -11,7 +11,7 @@ use Rattle.language.specs.declared.Refusal.{Refusal}
 use Rattle.language.specs.declared.Refusal.the-variants.{ShortSlice, QuestionLength, CountRange, BadOffset, NotLiterals, Undeclared, LongResult, LongWaiting, LineRoom, StepLimit, FillingLayout, FillingValue, LongLiteral, NoSuchLine, OpenLine, LongExample, SheetLayout, LongAnswers}
 use Rattle.language.specs.Limits.{desk}
 use Rattle.language.specs.Numbers.{numberOf, placeOf}
-use Rattle.language.specs.Trees.{Question}
+use Rattle.language.specs.Trees.{signature, Question}
 use Rattle.language.specs.Question.{Asked, asks, refuses, askedPlace, readQuestion}
 use Rattle.language.specs.Mistakes.{RightPlace}
 use Rattle.language.proofs.Mistakes.{place-right}
@@ -91,9 +91,9 @@ module _ (ws : List ℕ) where
 
       on : (a : Asked) → readQuestion desk ws ≡ a → SolvesRight (solvingOf desk a)
       on (asks q) e =
-          run-right (run desk (q .alternatives))
+          run-right (run desk (signature (q .counts)) (q .alternatives))
           (run-stops-by (RightPlace desk ws) (none-right LongResult (λ e. omega arith) (λ e. omega arith)) (none-right LongWaiting (λ e. omega arith) (λ e. omega arith))
-          (none-right LineRoom (λ e. omega arith) (λ e. omega arith)) (none-right StepLimit (λ e. omega arith) (λ e. omega arith)) desk (q .alternatives))
+          (none-right LineRoom (λ e. omega arith) (λ e. omega arith)) (none-right StepLimit (λ e. omega arith) (λ e. omega arith)) desk (signature (q .counts)) (q .alternatives))
       on (refuses r) e = place-right desk ws r e
 
   -- ---- trying

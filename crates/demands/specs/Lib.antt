@@ -2,6 +2,7 @@ pub mod Calls
 pub mod Solves
 pub mod Tries
 pub mod Examples
+pub mod Before
 pub mod HostCalls
 pub mod Answers
 pub mod Promises

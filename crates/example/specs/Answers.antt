@@ -1,5 +1,5 @@
 -- An answer that stands in a slice, and what is known of its lines.
-use Prim.Native.Nat.{ℕ, _+_, _<_, _≤_}
+use Prim.Native.Nat.{ℕ, _+_, _%_, _<_, _≤_}
 use mathlib.Core.Path.{_≡_}
 use mathlib.Core.Bool.{Bool, true}
 use mathlib.Core.List.{List, _++_}
@@ -42,8 +42,8 @@ pub record Answered (answer : List ℕ) : Type 0 where
 -- some symbol, and no more symbols and variables of a kind than there may be
 pub record Ranged (question : List ℕ) : Type 0 where
   pub header : 4 ≤ length question
-  pub named : 0 < getD question 0 0
-  pub symbols : getD question 0 0 ≤ desk .each
+  pub named : 0 < getD question 0 0 % 256
+  pub symbols : getD question 0 0 % 256 ≤ desk .each
   pub terms : getD question 1 0 ≤ desk .each
   pub hedges : getD question 2 0 ≤ desk .each
   pub functions : getD question 3 0 ≤ desk .each

@@ -37,7 +37,7 @@ fn show_words(question: &[u16], old: bool, k: &[u16], room: &mut [u16]) -> Shown
     let terms = wide(question[1]);
     let hedges = wide(question[2]);
     let functions = wide(question[3]);
-    let any = default_symbol(question[0], old);
+    let any = default_symbol(question[0] % 256, old);
     fill_line(k, terms, hedges, functions, any, room)
 }
 

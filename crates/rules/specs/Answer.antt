@@ -9,7 +9,7 @@ use Rattle.language.specs.declared.Refusal.the-variants.{ShortSlice}
 use Rattle.language.specs.Limits.{Limits}
 use Rattle.language.specs.Numbers.{placeOf}
 use Rattle.language.specs.Kinds.{pick}
-use Rattle.language.specs.Trees.{Conj, Question}
+use Rattle.language.specs.Trees.{Conj, signature, Question}
 use Rattle.language.specs.Writing.{conjWords}
 use Rattle.language.specs.Question.{Asked, asks, refuses, readQuestion}
 use Rattle.meaning.specs.Values.{offsetsOf, joined}
@@ -76,7 +76,7 @@ ran (finished ls n) = answered ls n
 ran (refused r) = given-up r
 
 abbrev pub solvingOf : Limits → Asked → Solving
-solvingOf L (asks q) = ran (run L (q .alternatives))
+solvingOf L (asks q) = ran (run L (signature (q .counts)) (q .alternatives))
 solvingOf L (refuses r) = unread r
 
 -- for a work and an answer slice of so many words: 1 before 2 to 10

@@ -7,6 +7,7 @@ use mathlib.Core.List.{List, [], _∷_, _++_, append-assoc, append-nil}
 use lib.Dec.{ltb, leb}
 use lib.ListN.{length, drop, length-append, length-drop}
 use borrow.Author.Tests.{ltb-true, ltb-false, leb-true, leb-false, lt-ltb, le-ltb}
+use Rattle.language.specs.declared.Signature.{Signature}
 use Rattle.language.specs.Kinds.{pick}
 use Rattle.language.specs.Trees.{Hedge, Expr, Literal, eqn, mem, Conj}
 use Rattle.language.specs.Writing.{literalWords, conjWords}
@@ -26,49 +27,49 @@ use Rattle.search.specs.Seeking.{best, lesserOf, bestAt, bestFrom, bestA
 -- ---- one literal
 
 -- an equation by the lesser of the ranks of its two sides
-module _ (before : Conj) (l r : Hedge) (behind : Conj) (at a b : ℕ) (ep : at ≡ length (conjWords before))
-    (ea : a ≡ eqnRank (before ++ behind) l r) (eb : b ≡ eqnRank (before ++ behind) r l) where
-  by-ranks : lesserOf (best a at false) (best b at true) ≡ bestAt before (eqn l r) behind
+module _ (σ : Signature) (before : Conj) (l r : Hedge) (behind : Conj) (at a b : ℕ) (ep : at ≡ length (conjWords before))
+    (ea : a ≡ eqnRank σ (before ++ behind) l r) (eb : b ≡ eqnRank σ (before ++ behind) r l) where
+  by-ranks : lesserOf (best a at false) (best b at true) ≡ bestAt σ before (eqn l r) behind
   unfolding bestAt
   by-ranks =
       ap (λ n. lesserOf (best a n false) (best b n true)) ep ∙ ap (λ n. lesserOf (best n (length (conjWords before)) false) (best b (length (conjWords before)) true)) ea
-      ∙ ap (λ n. lesserOf (best (eqnRank (before ++ behind) l r) (length (conjWords before)) false) (best n (length (conjWords before)) true)) eb
+      ∙ ap (λ n. lesserOf (best (eqnRank σ (before ++ behind) l r) (length (conjWords before)) false) (best n (length (conjWords before)) true)) eb
 
-  pub best-swapped : b < a → best b at true ≡ bestAt before (eqn l r) behind
+  pub best-swapped : b < a → best b at true ≡ bestAt σ before (eqn l r) behind
   best-swapped h = ap (λ t. pick t (best b at true) (best a at false)) (sym (lt-ltb b a h)) ∙ by-ranks
 
-  pub best-written : a ≤ b → best a at false ≡ bestAt before (eqn l r) behind
+  pub best-written : a ≤ b → best a at false ≡ bestAt σ before (eqn l r) behind
   best-written h = ap (λ t. pick t (best b at true) (best a at false)) (sym (le-ltb b a h)) ∙ by-ranks
 
-pub best-member : (before : Conj) (h : Hedge) (R : Expr) (behind : Conj) (at a : ℕ) → at ≡ length (conjWords before) → a ≡ memRank (before ++ behind) h R
-    → best a at false ≡ bestAt before (mem h R) behind
+pub best-member : (σ : Signature) (before : Conj) (h : Hedge) (R : Expr) (behind : Conj) (at a : ℕ) → at ≡ length (conjWords before) → a ≡ memRank σ (before ++ behind) h R
+    → best a at false ≡ bestAt σ before (mem h R) behind
 unfolding bestAt
-best-member before h R behind at a ep ea = ap (λ n. best a n false) ep ∙ ap (λ n. best n (length (conjWords before)) false) ea
+best-member σ before h R behind at a ep ea = ap (λ n. best a n false) ep ∙ ap (λ n. best n (length (conjWords before)) false) ea
 
-module _ (before : Conj) (l r : Hedge) (behind : Conj) where
+module _ (σ : Signature) (before : Conj) (l r : Hedge) (behind : Conj) where
   abbrev written : Best
-  written = best (eqnRank (before ++ behind) l r) (length (conjWords before)) false
+  written = best (eqnRank σ (before ++ behind) l r) (length (conjWords before)) false
 
   abbrev other : Best
-  other = best (eqnRank (before ++ behind) r l) (length (conjWords before)) true
+  other = best (eqnRank σ (before ++ behind) r l) (length (conjWords before)) true
 
   one-place : (t : Bool) → pick t other written .at ≡ length (conjWords before)
   one-place true = refl
   one-place false = refl
 
-  lesser-ranked : (t : Bool) → ltb (other .rank) (written .rank) ≡ t → Ranked before (eqn l r) behind (pick t other written .rank) (pick t other written .swap)
-  lesser-ranked true e = rank-swapped before l r behind _ _ refl refl (ltb-true _ _ e)
-  lesser-ranked false e = rank-written before l r behind _ _ refl refl (ltb-false _ _ e)
+  lesser-ranked : (t : Bool) → ltb (other .rank) (written .rank) ≡ t → Ranked σ before (eqn l r) behind (pick t other written .rank) (pick t other written .swap)
+  lesser-ranked true e = rank-swapped σ before l r behind _ _ refl refl (ltb-true _ _ e)
+  lesser-ranked false e = rank-written σ before l r behind _ _ refl refl (ltb-false _ _ e)
 
-best-place : (before : Conj) (l : Literal) (behind : Conj) → bestAt before l behind .at ≡ length (conjWords before)
+best-place : (σ : Signature) (before : Conj) (l : Literal) (behind : Conj) → bestAt σ before l behind .at ≡ length (conjWords before)
 unfolding bestAt
-best-place before (eqn l r) behind = one-place before l r behind (ltb (eqnRank (before ++ behind) r l) (eqnRank (before ++ behind) l r))
-best-place before (mem h R) behind = refl
+best-place σ before (eqn l r) behind = one-place σ before l r behind (ltb (eqnRank σ (before ++ behind) r l) (eqnRank σ (before ++ behind) l r))
+best-place σ before (mem h R) behind = refl
 
-best-ranked : (before : Conj) (l : Literal) (behind : Conj) → Ranked before l behind (bestAt before l behind .rank) (bestAt before l behind .swap)
+best-ranked : (σ : Signature) (before : Conj) (l : Literal) (behind : Conj) → Ranked σ before l behind (bestAt σ before l behind .rank) (bestAt σ before l behind .swap)
 unfolding bestAt
-best-ranked before (eqn l r) behind = lesser-ranked before l r behind _ refl
-best-ranked before (mem h R) behind = rank-member before h R behind _ refl
+best-ranked σ before (eqn l r) behind = lesser-ranked σ before l r behind _ refl
+best-ranked σ before (mem h R) behind = rank-member σ before h R behind _ refl
 
 -- the place after it, by the words behind it
 reach : (t : Bool) (n e r at a b : ℕ) → leb n e ≡ t → n ≡ at + (a + b) → 0 < a → n - e ≡ b → (at < e → e ≤ n → r ≡ e) → (n ≤ e → r ≡ n) → r ≡ at + a
@@ -85,43 +86,43 @@ passed-to k at e r before l behind p d f g =
 
 -- ---- all literals
 
-abbrev Seeks : Conj → Conj → Best → Type 0
-Seeks done rest b = Sought done rest (b .rank) (b .at) (b .swap)
+abbrev Seeks : Signature → Conj → Conj → Best → Type 0
+Seeks σ done rest b = Sought σ done rest (b .rank) (b .at) (b .swap)
 
-pass-on : (done : Conj) (l : Literal) (rest : Conj) (a b : Best) → b .at ≡ length (conjWords done) → Ranked done l rest (b .rank) (b .swap)
-    → Seeks done (l ∷ rest) a → Seeks (done ++ (l ∷ [])) rest (lesserOf a b)
-pass-on done l rest a b p k s = go (ltb (b .rank) (a .rank)) refl
+pass-on : (σ : Signature) (done : Conj) (l : Literal) (rest : Conj) (a b : Best) → b .at ≡ length (conjWords done) → Ranked σ done l rest (b .rank) (b .swap)
+    → Seeks σ done (l ∷ rest) a → Seeks σ (done ++ (l ∷ [])) rest (lesserOf a b)
+pass-on σ done l rest a b p k s = go (ltb (b .rank) (a .rank)) refl
   where
-    go : (t : Bool) → ltb (b .rank) (a .rank) ≡ t → Seeks (done ++ (l ∷ [])) rest (pick t b a)
-    go true d = rw p (better done l rest (a .rank) (a .at) (a .swap) (b .rank) (b .swap) k (ltb-true (b .rank) (a .rank) d) s)
-    go false d = keep done l rest (a .rank) (a .at) (a .swap) (b .rank) (b .swap) k (ltb-false (b .rank) (a .rank) d) s
+    go : (t : Bool) → ltb (b .rank) (a .rank) ≡ t → Seeks σ (done ++ (l ∷ [])) rest (pick t b a)
+    go true d = rw p (better σ done l rest (a .rank) (a .at) (a .swap) (b .rank) (b .swap) k (ltb-true (b .rank) (a .rank) d) s)
+    go false d = keep σ done l rest (a .rank) (a .at) (a .swap) (b .rank) (b .swap) k (ltb-false (b .rank) (a .rank) d) s
 
-pass-all : (b : Best) (done rest : Conj) → Seeks done rest b → Seeks (done ++ rest) [] (bestFrom b done rest)
-pass-all b done [] s = subst (λ d. Seeks d [] b) (sym (append-nil done)) s
-pass-all b done (l ∷ rest) s =
-    subst (λ d. Seeks d [] (bestFrom (lesserOf b (bestAt done l rest)) (done ++ (l ∷ [])) rest)) (append-assoc done (l ∷ []) rest)
-    (pass-all (lesserOf b (bestAt done l rest)) (done ++ (l ∷ [])) rest (pass-on done l rest b (bestAt done l rest) (best-place done l rest) (best-ranked done l rest) s))
+pass-all : (σ : Signature) (b : Best) (done rest : Conj) → Seeks σ done rest b → Seeks σ (done ++ rest) [] (bestFrom σ b done rest)
+pass-all σ b done [] s = subst (λ d. Seeks σ d [] b) (sym (append-nil done)) s
+pass-all σ b done (l ∷ rest) s =
+    subst (λ d. Seeks σ d [] (bestFrom σ (lesserOf b (bestAt σ done l rest)) (done ++ (l ∷ [])) rest)) (append-assoc done (l ∷ []) rest)
+    (pass-all σ (lesserOf b (bestAt σ done l rest)) (done ++ (l ∷ [])) rest (pass-on σ done l rest b (bestAt σ done l rest) (best-place σ done l rest) (best-ranked σ done l rest) s))
 
 -- the pass, and the fold beside it
-alone-sought : (c : Conj) → Seeks c [] (bestAlone c)
+alone-sought : (σ : Signature) (c : Conj) → Seeks σ c [] (bestAlone σ c)
 unfolding bestAlone
-alone-sought c = pass-all (best noRule 0 false) [] c (start c 0 false)
+alone-sought σ c = pass-all σ (best noRule 0 false) [] c (start σ c 0 false)
 
-abbrev Finds : Conj → Best → Type 0
-Finds c b = Found c (b .rank) (b .at) (b .swap)
+abbrev Finds : Signature → Conj → Best → Type 0
+Finds σ c b = Found σ c (b .rank) (b .at) (b .swap)
 
 -- what is found: by the pass's best, whether a literal stands twice, and which of the two is less
-found-by : (c : Conj) (a : Best) → Seeks c [] a → (twice less : Bool) → ltb (firstTwice c) (length (conjWords c)) ≡ twice → ltb (pick twice atFold noRule) (a .rank) ≡ less
-    → Finds c (pick less (best (pick twice atFold noRule) (firstTwice c) false) a)
-found-by c a s true true d e =
-    finish-fold c (a .rank) (a .at) (a .swap) (let h = ltb-true atFold (a .rank) e in omega arith) s (firstTwice c) (found-at c (firstTwice c) refl (ltb-true _ _ d))
-found-by c a s true false d e = finish c (a .rank) (a .at) (a .swap) (idle-low c (a .rank) (ltb-false atFold (a .rank) e)) s
-found-by c a s false true d e = absurd (let h = ltb-true noRule (a .rank) e in let b = below c [] (a .rank) (a .at) (a .swap) s in omega arith)
-found-by c a s false false d e = finish c (a .rank) (a .at) (a .swap) (idle-once c (found-none c (firstTwice c) refl (ltb-false _ _ d)) (a .rank)) s
+found-by : (σ : Signature) (c : Conj) (a : Best) → Seeks σ c [] a → (twice less : Bool) → ltb (firstTwice c) (length (conjWords c)) ≡ twice → ltb (pick twice atFold noRule) (a .rank) ≡ less
+    → Finds σ c (pick less (best (pick twice atFold noRule) (firstTwice c) false) a)
+found-by σ c a s true true d e =
+    finish-fold σ c (a .rank) (a .at) (a .swap) (let h = ltb-true atFold (a .rank) e in omega arith) s (firstTwice c) (found-at c (firstTwice c) refl (ltb-true _ _ d))
+found-by σ c a s true false d e = finish σ c (a .rank) (a .at) (a .swap) (idle-low σ c (a .rank) (ltb-false atFold (a .rank) e)) s
+found-by σ c a s false true d e = absurd (let h = ltb-true noRule (a .rank) e in let b = below σ c [] (a .rank) (a .at) (a .swap) s in omega arith)
+found-by σ c a s false false d e = finish σ c (a .rank) (a .at) (a .swap) (idle-once σ c (found-none c (firstTwice c) refl (ltb-false _ _ d)) (a .rank)) s
 
-pub best-found : (c : Conj) (b : Best) → b ≡ bestOf c → Found c (b .rank) (b .at) (b .swap)
+pub best-found : (σ : Signature) (c : Conj) (b : Best) → b ≡ bestOf σ c → Found σ c (b .rank) (b .at) (b .swap)
 unfolding bestOf bestFold
-best-found c b e = subst (Finds c) (sym e) (found-by c (bestAlone c) (alone-sought c) (ltb (firstTwice c) (length (conjWords c))) _ refl refl)
+best-found σ c b e = subst (Finds σ c) (sym e) (found-by σ c (bestAlone σ c) (alone-sought σ c) (ltb (firstTwice c) (length (conjWords c))) _ refl refl)
 
 -- ---- the fold beside the pass
 
@@ -134,14 +135,14 @@ fold-rank c = go (ltb (firstTwice c) (length (conjWords c)))
     go false = omega arith
 
 -- where a rule before the fold applies, the fold is not looked for
-pub alone-best : (c : Conj) (a : Best) → a ≡ bestAlone c → a .rank < atFold → a ≡ bestOf c
+pub alone-best : (σ : Signature) (c : Conj) (a : Best) → a ≡ bestAlone σ c → a .rank < atFold → a ≡ bestOf σ c
 unfolding bestOf
-alone-best c a e h =
-    e ∙ ap (λ t. pick t (bestFold c) (bestAlone c)) (sym (le-ltb (bestFold c .rank) (bestAlone c .rank) (let f = fold-rank c in let d = ap (λ b. b .rank) e in omega arith)))
+alone-best σ c a e h =
+    e ∙ ap (λ t. pick t (bestFold c) (bestAlone σ c)) (sym (le-ltb (bestFold c .rank) (bestAlone σ c .rank) (let f = fold-rank c in let d = ap (λ b. b .rank) e in omega arith)))
 
-pub both-best : (c : Conj) (a f r : Best) → a ≡ bestAlone c → f ≡ bestFold c → r ≡ lesserOf a f → r ≡ bestOf c
+pub both-best : (σ : Signature) (c : Conj) (a f r : Best) → a ≡ bestAlone σ c → f ≡ bestFold c → r ≡ lesserOf a f → r ≡ bestOf σ c
 unfolding bestOf
-both-best c a f r e d g = g ∙ ap₂ lesserOf e d
+both-best σ c a f r e d g = g ∙ ap₂ lesserOf e d
 
 pub fold-there : (c : Conj) (at : ℕ) → at ≡ firstTwice c → at < length (conjWords c) → best atFold at false ≡ bestFold c
 unfolding bestFold

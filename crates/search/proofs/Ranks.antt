@@ -6,6 +6,7 @@ use mathlib.Core.Bool.{Bool, true, false}
 use mathlib.Core.List.{List, [], _∷_, _++_}
 use mathlib.Core.Option.{none, some}
 use lib.ListN.{length}
+use Rattle.language.specs.declared.Signature.{Signature}
 use Rattle.language.specs.Kinds.{pick}
 use Rattle.language.specs.Trees.{Hedge, Expr, Literal, eqn, mem, Conj}
 use Rattle.rules.specs.Reply.{nothing, results, stops}
@@ -123,37 +124,37 @@ tried-mem before h R behind (onMem rule) = or-nothing _
 tried-mem before h R behind (onPair rule) = refl
 
 -- the same rules, so the same leads
-leads-as : (at bt : Rule → Tried) → ((rule : Rule) → at rule ≡ bt rule) → (n : ℕ) (m : Tried) → Leads bt rules n m → Leads at rules n m
-leads-as at bt f n m p = let e = fun-ext f in (p .0 ∙ sym (ap (λ f. firstReply f rules) e), ap (λ f. replyAt f rules n) e ∙ p .1)
+leads-as : (σ : Signature) (at bt : Rule → Tried) → ((rule : Rule) → at rule ≡ bt rule) → (n : ℕ) (m : Tried) → Leads bt (rules σ) n m → Leads at (rules σ) n m
+leads-as σ at bt f n m p = let e = fun-ext f in (p .0 ∙ sym (ap (λ f. firstReply f (rules σ)) e), ap (λ f. replyAt f (rules σ) n) e ∙ p .1)
 
-module _ (before : Conj) (l r : Hedge) (behind : Conj) (a b : ℕ) (ea : a ≡ eqnRank (before ++ behind) l r) (eb : b ≡ eqnRank (before ++ behind) r l) where
+module _ (σ : Signature) (before : Conj) (l r : Hedge) (behind : Conj) (a b : ℕ) (ea : a ≡ eqnRank σ (before ++ behind) l r) (eb : b ≡ eqnRank σ (before ++ behind) r l) where
   abbrev written : Rule → Tried
   written = side-at false before l r behind
 
   abbrev other : Rule → Tried
   other = side-at true before r l behind
 
-  pub rank-written : a ≤ b → Ranked before (eqn l r) behind a false
+  pub rank-written : a ≤ b → Ranked σ before (eqn l r) behind a false
   unfolding litRank eqnRank eqnAnswer
   rank-written h =
-      let w = answered-leads before behind false (λ rule. atEqn rule (before ++ behind) l r) rules a ea in
-      let o = answered-leads before behind true (λ rule. atEqn rule (before ++ behind) r l) rules b eb in
-      let (rank, side) = leads-as (λ rule. tried rule before (eqn l r) behind) _ (tried-eqn before l r behind) a _
-      (first-leads written other rules a _ w (let d = o .0 in omega arith)) in
+      let w = answered-leads before behind false (λ rule. atEqn rule (before ++ behind) l r) (rules σ) a ea in
+      let o = answered-leads before behind true (λ rule. atEqn rule (before ++ behind) r l) (rules σ) b eb in
+      let (rank, side) = leads-as σ (λ rule. tried rule before (eqn l r) behind) _ (tried-eqn before l r behind) a _
+      (first-leads written other (rules σ) a _ w (let d = o .0 in omega arith)) in
       record { rank = rank; side = side }
 
-  pub rank-swapped : b < a → Ranked before (eqn l r) behind b true
+  pub rank-swapped : b < a → Ranked σ before (eqn l r) behind b true
   unfolding litRank eqnRank eqnAnswer
   rank-swapped h =
-      let w = answered-leads before behind false (λ rule. atEqn rule (before ++ behind) l r) rules a ea in
-      let o = answered-leads before behind true (λ rule. atEqn rule (before ++ behind) r l) rules b eb in
-      let (rank, side) = leads-as (λ rule. tried rule before (eqn l r) behind) _ (tried-eqn before l r behind) b _
-      (second-leads written other rules b _ o (let d = w .0 in omega arith)) in
+      let w = answered-leads before behind false (λ rule. atEqn rule (before ++ behind) l r) (rules σ) a ea in
+      let o = answered-leads before behind true (λ rule. atEqn rule (before ++ behind) r l) (rules σ) b eb in
+      let (rank, side) = leads-as σ (λ rule. tried rule before (eqn l r) behind) _ (tried-eqn before l r behind) b _
+      (second-leads written other (rules σ) b _ o (let d = w .0 in omega arith)) in
       record { rank = rank; side = side }
 
-pub rank-member : (before : Conj) (h : Hedge) (R : Expr) (behind : Conj) (a : ℕ) → a ≡ memRank (before ++ behind) h R → Ranked before (mem h R) behind a false
+pub rank-member : (σ : Signature) (before : Conj) (h : Hedge) (R : Expr) (behind : Conj) (a : ℕ) → a ≡ memRank σ (before ++ behind) h R → Ranked σ before (mem h R) behind a false
 unfolding litRank memRank memAnswer
-rank-member before h R behind a e =
-    let (rank, side) = leads-as (λ rule. tried rule before (mem h R) behind) _ (tried-mem before h R behind) a _
-    (answered-leads before behind false (λ rule. atMem rule (before ++ behind) h R) rules a e) in
+rank-member σ before h R behind a e =
+    let (rank, side) = leads-as σ (λ rule. tried rule before (mem h R) behind) _ (tried-mem before h R behind) a _
+    (answered-leads before behind false (λ rule. atMem rule (before ++ behind) h R) (rules σ) a e) in
     record { rank = rank; side = side }

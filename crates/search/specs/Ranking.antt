@@ -5,6 +5,7 @@ use mathlib.Core.Path.{_≡_}
 use mathlib.Core.Bool.{Bool, true, false}
 use mathlib.Core.List.{List, [], _∷_, _++_, map}
 use lib.ListN.{length}
+use Rattle.language.specs.declared.Signature.{Signature}
 use Rattle.language.specs.Kinds.{pick}
 use Rattle.language.specs.Trees.{Literal, eqn, mem, Conj}
 use Rattle.language.specs.Writing.{conjWords}
@@ -49,13 +50,13 @@ replyAt at [] n = nothing
 replyAt at (rule ∷ rs) n = elim n [ ℕ.zero ↦ at rule | ℕ.suc m ↦ replyAt at rs m ]
 
 -- the place of the first rule that applies at the literal between the others
-unfoldable pub litRank : Conj → Literal → Conj → ℕ
-litRank before l behind = firstReply (λ rule. tried rule before l behind) rules
+unfoldable pub litRank : Signature → Conj → Literal → Conj → ℕ
+litRank σ before l behind = firstReply (λ rule. tried rule before l behind) (rules σ)
 
 -- what the rule of a place answers, an equation being seen as it is written or swapped
-abbrev pub sideAnswer : Bool → ℕ → Conj → Literal → Answer
-sideAnswer swap n K (eqn l r) = pick swap (eqnAnswer n K r l) (eqnAnswer n K l r)
-sideAnswer swap n K (mem h R) = memAnswer n K h R
+abbrev pub sideAnswer : Signature → Bool → ℕ → Conj → Literal → Answer
+sideAnswer σ swap n K (eqn l r) = pick swap (eqnAnswer σ n K r l) (eqnAnswer σ n K l r)
+sideAnswer σ swap n K (mem h R) = memAnswer σ n K h R
 
 -- what a rule of two literals makes of a literal and those behind it
 abbrev pub atPair : Rule → Literal → Conj → Reply (List Conj)
@@ -67,18 +68,18 @@ abbrev pub pairAt : List Rule → ℕ → Literal → Conj → Reply (List Conj)
 pairAt [] n l behind = nothing
 pairAt (rule ∷ rs) n l behind = elim n [ ℕ.zero ↦ atPair rule l behind | ℕ.suc m ↦ pairAt rs m l behind ]
 
-unfoldable pub pairAnswer : ℕ → Literal → Conj → Reply (List Conj)
-pairAnswer n l behind = pairAt rules n l behind
+unfoldable pub pairAnswer : Signature → ℕ → Literal → Conj → Reply (List Conj)
+pairAnswer σ n l behind = pairAt (rules σ) n l behind
 
 -- what the rule of a place comes to at the literal between the others: a rule of one literal from its side, a rule of two with those behind it
-abbrev pub sideResults : Bool → ℕ → Conj → Literal → Conj → Reply (List Conj)
-sideResults swap n before l behind =
-    orNext (placed before behind (sideAnswer swap n (before ++ behind) l)) (λ _. each (map (λ (k : Conj). before ++ k)) (pairAnswer n l behind))
+abbrev pub sideResults : Signature → Bool → ℕ → Conj → Literal → Conj → Reply (List Conj)
+sideResults σ swap n before l behind =
+    orNext (placed before behind (sideAnswer σ swap n (before ++ behind) l)) (λ _. each (map (λ (k : Conj). before ++ k)) (pairAnswer σ n l behind))
 
 -- the rank of a literal, and from which side its rule answers
-pub record Ranked (before : Conj) (l : Literal) (behind : Conj) (n : ℕ) (swap : Bool) : Type 0 where
-  pub rank : n ≡ litRank before l behind
-  pub side : replyAt (λ rule. tried rule before l behind) rules n ≡ sided swap (placed before behind (sideAnswer swap n (before ++ behind) l))
+pub record Ranked (σ : Signature) (before : Conj) (l : Literal) (behind : Conj) (n : ℕ) (swap : Bool) : Type 0 where
+  pub rank : n ≡ litRank σ before l behind
+  pub side : replyAt (λ rule. tried rule before l behind) (rules σ) n ≡ sided swap (placed before behind (sideAnswer σ swap n (before ++ behind) l))
 
 -- ---- all literals
 
@@ -88,26 +89,26 @@ Each P before [] behind = Unit {0}
 Each P before (l ∷ mid) behind = P before l (mid ++ behind) × Each P (before ++ (l ∷ [])) mid behind
 
 -- a rank of each that is not below n, and one above n
-abbrev pub NotBelow : ℕ → Conj → Literal → Conj → Type 0
-NotBelow n before l behind = n ≤ litRank before l behind
+abbrev pub NotBelow : Signature → ℕ → Conj → Literal → Conj → Type 0
+NotBelow σ n before l behind = n ≤ litRank σ before l behind
 
-abbrev pub Above : ℕ → Conj → Literal → Conj → Type 0
-Above n before l behind = n < litRank before l behind
+abbrev pub Above : Signature → ℕ → Conj → Literal → Conj → Type 0
+Above σ n before l behind = n < litRank σ before l behind
 
 -- Among the literals `done`, before those of `rest`: none of a rank below n and none at all, or the earliest of the least rank n, at this place.
-pub data Sought (done rest : Conj) (n at : ℕ) (swap : Bool) : Type 0 where
-  unmet : n ≡ noRule → Each (NotBelow noRule) [] done rest → Sought done rest n at swap
+pub data Sought (σ : Signature) (done rest : Conj) (n at : ℕ) (swap : Bool) : Type 0 where
+  unmet : n ≡ noRule → Each (NotBelow σ noRule) [] done rest → Sought σ done rest n at swap
   least : (before : Conj) (l : Literal) (mid : Conj) → done ≡ before ++ (l ∷ mid) → at ≡ length (conjWords before)
-      → n < noRule → Ranked before l (mid ++ rest) n swap
-      → Each (Above n) [] before (l ∷ (mid ++ rest))
-      → Each (NotBelow n) (before ++ (l ∷ [])) mid rest
-      → Sought done rest n at swap
+      → n < noRule → Ranked σ before l (mid ++ rest) n swap
+      → Each (Above σ n) [] before (l ∷ (mid ++ rest))
+      → Each (NotBelow σ n) (before ++ (l ∷ [])) mid rest
+      → Sought σ done rest n at swap
 
 -- What is found in the whole conjunction: no rule applies; or the literal at this place, and the search finds the rule of rank n there, at that
 -- literal by its number, with these results.
-pub data Found (c : Conj) (n at : ℕ) (swap : Bool) : Type 0 where
-  nowhere : n ≡ noRule → search c ≡ nothing → Found c n at swap
+pub data Found (σ : Signature) (c : Conj) (n at : ℕ) (swap : Bool) : Type 0 where
+  nowhere : n ≡ noRule → search σ c ≡ nothing → Found σ c n at swap
   somewhere : (before : Conj) (l : Literal) (behind : Conj) (ks : List Conj) → c ≡ before ++ (l ∷ behind) → at ≡ length (conjWords before)
-      → n < noRule → sideResults swap n before l behind ≡ results ks
-      → search c ≡ results (record { rule = n; literal = length before; swapped = swap }, ks)
-      → Found c n at swap
+      → n < noRule → sideResults σ swap n before l behind ≡ results ks
+      → search σ c ≡ results (record { rule = n; literal = length before; swapped = swap }, ks)
+      → Found σ c n at swap

@@ -4,6 +4,7 @@ use mathlib.Core.Bool.{Bool, true, false}
 use mathlib.Core.List.{[], _∷_, _++_}
 use lib.Dec.{ltb}
 use lib.ListN.{length}
+use Rattle.language.specs.declared.Signature.{Signature}
 use Rattle.language.specs.Kinds.{pick}
 use Rattle.language.specs.Trees.{Literal, eqn, mem, Conj}
 use Rattle.language.specs.Writing.{conjWords}
@@ -20,24 +21,24 @@ abbrev pub lesserOf : Best → Best → Best
 lesserOf a b = pick (ltb (b .rank) (a .rank)) b a
 
 -- the rank of a literal between others, its place, and from which side
-unfoldable pub bestAt : Conj → Literal → Conj → Best
-bestAt before (eqn l r) behind =
-    lesserOf (best (eqnRank (before ++ behind) l r) (length (conjWords before)) false) (best (eqnRank (before ++ behind) r l) (length (conjWords before)) true)
-bestAt before (mem h R) behind = best (memRank (before ++ behind) h R) (length (conjWords before)) false
+unfoldable pub bestAt : Signature → Conj → Literal → Conj → Best
+bestAt σ before (eqn l r) behind =
+    lesserOf (best (eqnRank σ (before ++ behind) l r) (length (conjWords before)) false) (best (eqnRank σ (before ++ behind) r l) (length (conjWords before)) true)
+bestAt σ before (mem h R) behind = best (memRank σ (before ++ behind) h R) (length (conjWords before)) false
 
 -- the best so far, and then the literals after those of `before`
-abbrev pub bestFrom : Best → Conj → Conj → Best
-bestFrom b before [] = b
-bestFrom b before (l ∷ behind) = bestFrom (lesserOf b (bestAt before l behind)) (before ++ (l ∷ [])) behind
+abbrev pub bestFrom : Signature → Best → Conj → Conj → Best
+bestFrom σ b before [] = b
+bestFrom σ b before (l ∷ behind) = bestFrom σ (lesserOf b (bestAt σ before l behind)) (before ++ (l ∷ [])) behind
 
 -- the best by the rules of one literal
-unfoldable pub bestAlone : Conj → Best
-bestAlone c = bestFrom (best noRule 0 false) [] c
+unfoldable pub bestAlone : Signature → Conj → Best
+bestAlone σ c = bestFrom σ (best noRule 0 false) [] c
 
 -- the fold, at the earliest literal that stands there again
 unfoldable pub bestFold : Conj → Best
 bestFold c = best (pick (ltb (firstTwice c) (length (conjWords c))) atFold noRule) (firstTwice c) false
 
 -- of a whole conjunction; rank `noRule`, where no rule applies
-unfoldable pub bestOf : Conj → Best
-bestOf c = lesserOf (bestAlone c) (bestFold c)
+unfoldable pub bestOf : Signature → Conj → Best
+bestOf σ c = lesserOf (bestAlone σ c) (bestFold c)

@@ -11,6 +11,7 @@ ghost use Rattle.rules.specs.Places.{noRule};
 ghost use Rattle.search.specs.Seeking.{lesserOf, bestAt, bestAlone, bestFold, bestOf};
 use equations::rank_equation;
 use folding::first_twice;
+use language::Signature;
 use memberships::rank_membership;
 use rules::places::AT_FOLD;
 use rules::places::NO_RULE;
@@ -33,16 +34,16 @@ struct Passed {
 
 // The rank of the literal at a place: of an equation the lesser of its two sides, the written one where they are equal. The place after it comes
 // with it, so that its words need no other pass.
-fn rank_at(k: &[u16], at: usize) -> Passed
+fn rank_at(k: &[u16], at: usize, s: Signature) -> Passed
     requires { ⌜ at < length (now k) ⌝ }
     requires { ⌜ SomeLiteral (now k) at ⌝ }
-    ensures { λ p. ⌜ (p .best .at ≡ at) × ((before : Conj) (l : Literal) (behind : Conj) → LiteralAt (now (k .entry)) at before l behind → (p .best ≡ bestAt before l behind) × (drop (p .end) (now (k .entry)) ≡ conjWords behind)) ⌝ }
+    ensures { λ p. ⌜ (p .best .at ≡ at) × ((before : Conj) (l : Literal) (behind : Conj) → LiteralAt (now (k .entry)) at before l behind → (p .best ≡ bestAt s before l behind) × (drop (p .end) (now (k .entry)) ≡ conjWords behind)) ⌝ }
 {
     if k[at] == 5000 {
         let v = see(k, at);
         let end = v.end;
-        let written = rank_equation(k, v);
-        let other = rank_equation(k, swapped(v));
+        let written = rank_equation(k, v, s);
+        let other = rank_equation(k, swapped(v), s);
         if other < written {
             let best = Best {
                 rank: other,
@@ -58,9 +59,9 @@ fn rank_at(k: &[u16], at: usize) -> Passed
         };
         return Passed { best, end };
     }
-    let s = show_membership(k, at);
-    let end = s.end;
-    let rank = rank_membership(k, s);
+    let m = show_membership(k, at);
+    let end = m.end;
+    let rank = rank_membership(k, m, s);
     let best = Best {
         rank,
         at,
@@ -88,9 +89,9 @@ fn lesser(a: Best, b: Best) -> Best
 }
 
 // The earliest literal of the least rank, by the rules of one literal.
-fn find_alone(k: &[u16]) -> Best
+fn find_alone(k: &[u16], s: Signature) -> Best
     requires { ⌜ Conjunction (now k) ⌝ }
-    ensures { λ b. ⌜ (b .rank < noRule → b .at < length (now (k .entry))) × ((c : Conj) → fineConj desk c → now (k .entry) ≡ conjWords c → b ≡ bestAlone c) ⌝ }
+    ensures { λ b. ⌜ (b .rank < noRule → b .at < length (now (k .entry))) × ((c : Conj) → fineConj desk c → now (k .entry) ≡ conjWords c → b ≡ bestAlone s c) ⌝ }
 {
     let mut best = Best {
         rank: NO_RULE,
@@ -99,7 +100,7 @@ fn find_alone(k: &[u16]) -> Best
     };
     let mut i = 0;
     while i < k.len() {
-        let passed = rank_at(k, i);
+        let passed = rank_at(k, i, s);
         let here = passed.best;
         best = lesser(best, here);
         i = beyond(i, passed.end, k.len());
@@ -129,12 +130,12 @@ fn find_fold(k: &[u16]) -> Best
 }
 
 // The first rule that applies, at the earliest literal. The fold is looked for only where no rule before it applies.
-pub fn find(k: &[u16]) -> Best
+pub fn find(k: &[u16], s: Signature) -> Best
     requires { ⌜ length (now k) ≤ desk .question ⌝ }
     requires { ⌜ Conjunction (now k) ⌝ }
-    ensures { λ b. ⌜ (b .rank < noRule → b .at < length (now (k .entry))) × ((c : Conj) → fineConj desk c → now (k .entry) ≡ conjWords c → b ≡ bestOf c) ⌝ }
+    ensures { λ b. ⌜ (b .rank < noRule → b .at < length (now (k .entry))) × ((c : Conj) → fineConj desk c → now (k .entry) ≡ conjWords c → b ≡ bestOf s c) ⌝ }
 {
-    let alone = find_alone(k);
+    let alone = find_alone(k, s);
     if alone.rank < AT_FOLD {
         return alone;
     }

@@ -39,4 +39,4 @@ take_step-determined κs a p o q e d =
     let z =
     took-one _ _ _ _ _ _ _ _ (e (m .before) (m .l) (m .behind) (m .made) (m .stands) (m .applies)) (d (m .before) (m .l) (m .behind) (m .made) (m .stands) (m .applies))
     in
-    ap (λ r. (r, o .1)) (z .0) ∙ ap (λ s. (q .0, (tt, (tt, (tt, (s, (tt, tt))))))) (z .1)
+    ap (λ r. (r, o .1)) (z .0) ∙ ap (λ s. (q .0, (tt, (tt, (tt, (tt, (s, (tt, tt)))))))) (z .1)

@@ -18,6 +18,7 @@ ghost use Rattle.plans.specs.Planned.{Planned};
 ghost use Rattle.rules.specs.Places.{atM2};
 use equation_plans::plan_equation;
 use folding::later_equal;
+use language::Signature;
 use linear_form::size_monomials;
 use linear_form::write_monomials;
 use membership_plans::plan_membership;
@@ -44,10 +45,10 @@ pub enum Stepped {
 }
 
 // The plan of the rule of one literal of that rank at that literal; M2 has none.
-fn plan_at(k: &[u16], b: Best) -> Plan
+fn plan_at(k: &[u16], b: Best, s: Signature) -> Plan
     requires { ⌜ (b .at < length (now k)) × (b .rank ≡ atM2 → ⊥) ⌝ }
-    requires { ⌜ AnswerAt (now k) b ⌝ }
-    ensures { λ p. ⌜ ((before : Conj) (l : Literal) (behind : Conj) → LiteralAt (now (k .entry)) (b .at) before l behind → Planned (now (k .entry)) p before behind (sideAnswer (b .swap) (b .rank) (before ++ behind) l)) ⌝ }
+    requires { ⌜ AnswerAt s (now k) b ⌝ }
+    ensures { λ p. ⌜ ((before : Conj) (l : Literal) (behind : Conj) → LiteralAt (now (k .entry)) (b .at) before l behind → Planned (now (k .entry)) p before behind (sideAnswer s (b .swap) (b .rank) (before ++ behind) l)) ⌝ }
 {
     let at = b.at;
     let rank = b.rank;
@@ -55,12 +56,12 @@ fn plan_at(k: &[u16], b: Best) -> Plan
         let v = see(k, at);
         let swap = b.swap;
         if swap {
-            return plan_equation(rank, k, swapped(v));
+            return plan_equation(s, rank, k, swapped(v));
         }
-        return plan_equation(rank, k, v);
+        return plan_equation(s, rank, k, v);
     }
-    let s = show_membership(k, at);
-    plan_membership(rank, k, s)
+    let m = show_membership(k, at);
+    plan_membership(rank, k, m)
 }
 
 // The plan of the fold: all words but those of the first literal behind this one that has the same.
@@ -130,10 +131,17 @@ fn step_monomials(k: &[u16], literal: usize, number: u16, out: &mut [u16], next:
 
 // A step of the conjunction k, which has that number: the results of the rule of that rank at that literal, right before `next`, and of the same
 // number.
-pub fn take_step(k: &[u16], b: Best, number: u16, out: &mut [u16], next: usize) -> Stepped
+pub fn take_step(
+    k: &[u16],
+    b: Best,
+    s: Signature,
+    number: u16,
+    out: &mut [u16],
+    next: usize,
+) -> Stepped
     requires { ⌜ (length (now k) ≤ desk .question) × (b .at < length (now k)) × (next ≤ length (now out)) × (next ≤ desk .room) ⌝ }
-    requires { ⌜ RuleAt (now k) b ⌝ }
-    ensures { λ r. ⌜ ((before : Conj) (l : Literal) (behind : Conj) (ks : List Conj) → LiteralAt (now (k .entry)) (b .at) before l behind → sideResults (b .swap) (b .rank) before l behind ≡ results ks → Took number (map conjWords ks) (now (out .entry)) next r (now (out .exit))) ⌝ }
+    requires { ⌜ RuleAt s (now k) b ⌝ }
+    ensures { λ r. ⌜ ((before : Conj) (l : Literal) (behind : Conj) (ks : List Conj) → LiteralAt (now (k .entry)) (b .at) before l behind → sideResults s (b .swap) (b .rank) before l behind ≡ results ks → Took number (map conjWords ks) (now (out .entry)) next r (now (out .exit))) ⌝ }
 {
     if b.rank == AT_M2 {
         return step_monomials(k, b.at, number, out, next);
@@ -141,5 +149,5 @@ pub fn take_step(k: &[u16], b: Best, number: u16, out: &mut [u16], next: usize) 
     if b.rank == AT_FOLD {
         return step_planned(k, plan_fold(k, b.at), number, out, next);
     }
-    step_planned(k, plan_at(k, b), number, out, next)
+    step_planned(k, plan_at(k, b, s), number, out, next)
 }

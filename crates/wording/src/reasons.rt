@@ -19,7 +19,7 @@ fn of_question(n: u64) {
         ),
         3 => explain(
             b"a count of the question is out of range",
-            b"The first five words count symbols (1 to 128), term, hedge and function variables (0 to 128 each) and conjunctions (0 to 16).",
+            b"The first five words count symbols (1 to 128, and 256 times as many as are unordered, at most all of them), term, hedge and function variables (0 to 128 each) and conjunctions (0 to 16).",
         ),
         4 => explain(
             b"an offset of the question is missing or out of place",

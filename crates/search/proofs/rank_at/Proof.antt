@@ -32,10 +32,10 @@ returns c =
     let c₁ = c .before in let c₂ = c₁ .before in let c₃ = c₂ .before in let c₄ = c₃ .before in let c₅ = c₄ .before in
     let c₆ = c₅ .before .before .before in (
       refl,
-      at-equation (c₆ .args .k .now) (c₆ .args .at) (λ before l behind. (best (c₁ .rank-equation2 .result) (c₆ .args .at) true ≡ bestAt before l behind) × (drop (c₄ .see .result .end) (c₆ .args .k .now) ≡ conjWords behind)) (c₅ .if1 .taken)
+      at-equation (c₆ .args .k .now) (c₆ .args .at) (λ before l behind. (best (c₁ .rank-equation2 .result) (c₆ .args .at) true ≡ bestAt (c₆ .args .s) before l behind) × (drop (c₄ .see .result .end) (c₆ .args .k .now) ≡ conjWords behind)) (c₅ .if1 .taken)
           λ before l r behind p.
           let s = c₄ .see .ensures .0 before l r behind p in (
-            best-swapped before l r behind _ (c₃ .rank-equation .result) (c₁ .rank-equation2 .result) (p .place) (c₃ .rank-equation .ensures before behind l r s)
+            best-swapped (c₆ .args .s) before l r behind _ (c₃ .rank-equation .result) (c₁ .rank-equation2 .result) (p .place) (c₃ .rank-equation .ensures before behind l r s)
                 (c₁ .rank-equation2 .ensures before behind r l (c₂ .swapped .ensures .0 (c₆ .args .k .now) before behind l r s)) (c .if2 .taken),
             s .finish,
           ),
@@ -46,10 +46,10 @@ returns-2 c =
     let c₁ = c .before in let c₂ = c₁ .before in let c₃ = c₂ .before in let c₄ = c₃ .before in let c₅ = c₄ .before in
     let c₆ = c₅ .before .before .before in (
       refl,
-      at-equation (c₆ .args .k .now) (c₆ .args .at) (λ before l behind. (best (c₃ .rank-equation .result) (c₆ .args .at) false ≡ bestAt before l behind) × (drop (c₄ .see .result .end) (c₆ .args .k .now) ≡ conjWords behind)) (c₅ .if1 .taken)
+      at-equation (c₆ .args .k .now) (c₆ .args .at) (λ before l behind. (best (c₃ .rank-equation .result) (c₆ .args .at) false ≡ bestAt (c₆ .args .s) before l behind) × (drop (c₄ .see .result .end) (c₆ .args .k .now) ≡ conjWords behind)) (c₅ .if1 .taken)
           λ before l r behind p.
           let s = c₄ .see .ensures .0 before l r behind p in (
-            best-written before l r behind _ (c₃ .rank-equation .result) (c₁ .rank-equation2 .result) (p .place) (c₃ .rank-equation .ensures before behind l r s)
+            best-written (c₆ .args .s) before l r behind _ (c₃ .rank-equation .result) (c₁ .rank-equation2 .result) (p .place) (c₃ .rank-equation .ensures before behind l r s)
                 (c₁ .rank-equation2 .ensures before behind r l (c₂ .swapped .ensures .0 (c₆ .args .k .now) before behind l r s)) (c .if2 .left),
             s .finish,
           ),
@@ -59,10 +59,10 @@ returns-3 : tie.Need-returns-3
 returns-3 c =
     let c₁ = c .before in let c₂ = c₁ .before in let c₃ = c₂ .before .before .before in (
       refl,
-      at-membership (c₃ .args .k .now) (c₃ .args .at) (λ before l behind. (best (c .rank-membership .result) (c₃ .args .at) false ≡ bestAt before l behind) × (drop (c₁ .show-membership .result .end) (c₃ .args .k .now) ≡ conjWords behind)) (c₂ .if1 .left)
+      at-membership (c₃ .args .k .now) (c₃ .args .at) (λ before l behind. (best (c .rank-membership .result) (c₃ .args .at) false ≡ bestAt (c₃ .args .s) before l behind) × (drop (c₁ .show-membership .result .end) (c₃ .args .k .now) ≡ conjWords behind)) (c₂ .if1 .left)
           λ before h R behind p.
           let s = c₁ .show-membership .ensures .0 before h R behind p in
-          (best-member before h R behind _ _ (p .place) (c .rank-membership .ensures before h R behind s), shows-finish s),
+          (best-member (c₃ .args .s) before h R behind _ _ (p .place) (c .rank-membership .ensures before h R behind s), shows-finish s),
     )
 
 pub rank-at-spec : {M : Type 1} → statement M
