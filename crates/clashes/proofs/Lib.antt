@@ -4,3 +4,4 @@ pub mod Testing
 pub mod Behind
 pub mod Firsts
 pub mod Replies
+pub mod Determined
