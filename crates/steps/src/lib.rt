@@ -92,19 +92,6 @@ fn plan_fold(k: &[u16], at: usize) -> Plan
     }
 }
 
-// The plan of the clash: nothing.
-fn plan_clash() -> Plan
-    ensures { λ p. ⌜ p ≡ clashPlan ⌝ }
-{
-    let none = Piece::Copy(0, 0);
-    let first = few(none, none, none, none, none, 0, 0, 0);
-    Plan {
-        ways: Ways::Drop,
-        first,
-        second: first,
-    }
-}
-
 // The results of a plan, right before `next`.
 fn step_planned(k: &[u16], plan: Plan, number: u16, out: &mut [u16], next: usize) -> Stepped
     requires { ⌜ (length (now k) ≤ desk .question) × (next ≤ length (now out)) × (next ≤ desk .room) ⌝ }
@@ -164,7 +151,8 @@ pub fn take_step(
         return step_planned(k, plan_fold(k, b.at), number, out, next);
     }
     if b.rank == AT_CLASH {
-        return step_planned(k, plan_clash(), number, out, next);
+        // it leaves nothing
+        return Stepped::Done(next);
     }
     step_planned(k, plan_at(k, b, s), number, out, next)
 }
