@@ -47,7 +47,8 @@ enum desk_refusal {
 #define DESK_QUESTION_BYTES 8192
 #define DESK_FILLING_BYTES 8192
 
-/* Solves a question. Gives 0, or why not: 1 to 10, in this order.
+/* Solves a question. Gives 0, or why not: 1 to 10, in this order, or 21, which
+ * comes before 10.
  *
  * After 0 the first DESK_ANSWER_BYTES bytes of the answer hold it: word 0 the
  * number of lines, word 1 how many of them are open, words 2 to 514 where each
@@ -55,8 +56,8 @@ enum desk_refusal {
  * (1 settled, 2 open), the number of the alternative that it comes from, the
  * first being 0, and its literals; then zeros. No line means that nothing meets
  * the question; a filling meets alternative n exactly when it meets a line of
- * that number. After 1 to 6 the answer is unchanged; after 7 to 10 its first
- * DESK_ANSWER_BYTES bytes are zeros. Later bytes are never touched. */
+ * that number. After 1 to 6 the answer is unchanged; after 7 to 10 and 21
+ * its first DESK_ANSWER_BYTES bytes are zeros. Later bytes are never touched. */
 uint32_t desk_solve(const uint8_t *question, size_t question_len,
                     uint8_t *answer, size_t answer_len);
 
