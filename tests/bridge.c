@@ -41,6 +41,7 @@
 #define LANDED_4
 #define LANDED_6
 #define LANDED_9
+#define LANDED_7
 
 #ifdef LANDED_10
 #include "overlap.h"

@@ -9,7 +9,8 @@ use lib.ListN.{length, getD, set, length-set}
 use lib.Seq.{getD-set-same, getD-set-other}
 use native.Mathlib.Decide.{ℕ-discrete}
 use lib.Dec.{T, eqb, eqb→eq, eqb-refl}
-use Rattle.clash.specs.Chains.{chainOf, chainAt, Chained, IsPair, Tested, Found}
+use Rattle.language.specs.Limits.{walkedPairs}
+use Rattle.clash.specs.Chains.{chainOf, chainAt, Chained, IsPair, Apart, Tested, Found, stops}
 
 pub chain-lt : (a b : ℕ) → chainOf a b < 4093
 unfolding chainOf
@@ -86,28 +87,31 @@ tested-none n = record { yes = λ t. false≢true t; not = λ f s. n (s .one) }
 -- ---- as the code's facts have them
 
 module _ {left right links heads : List ℕ} {n a b h x : ℕ} where
-  pub in-left : Chained left right links heads n → Below left right n a b h x → (x ≡ 0 → ⊥) → x - 1 < length left
-  in-left C B z = let p = C .lefts in let q = B .fits in omega arith
+  pub in-room : Chained left right links heads n → Below left right n a b h x → (x ≡ 0 → ⊥) → x - 1 ≤ walkedPairs
+  in-room C B z = let p = C .few in let q = B .fits in omega arith
 
-  pub in-right : Chained left right links heads n → Below left right n a b h x → (x ≡ 0 → ⊥) → x - 1 < length right
-  in-right C B z = let p = C .rights in let q = B .fits in omega arith
-
-  pub in-links : Chained left right links heads n → Below left right n a b h x → (x ≡ 0 → ⊥) → x - 1 < length links
-  in-links C B z = let p = C .linked in let q = B .fits in omega arith
+  pub in-array : Chained left right links heads n → Below left right n a b h x → (x ≡ 0 → ⊥) → x - 1 < stops
+  in-array C B z = let p = C .few in let q = B .fits in omega arith
 
   pub step : {y : ℕ} {r : Bool} → Chained left right links heads n → Below left right n a b h x → (x ≡ 0 → ⊥) → Tested left right a b (x - 1) r → r ≡ false → y ≡ getD links (x - 1) 0
       → Below left right n a b h y
   step {y} C B z t e d = goes-on C h x y B z (t .not e) d
-
-pub in-heads : {left right links heads : List ℕ} {n h : ℕ} → Chained left right links heads n → h < 4093 → h < length heads
-in-heads C e = let p = C .room in omega arith
 
 pub hit : {left right : List ℕ} {n a b h x : ℕ} {r : Bool} → Below left right n a b h x → (x ≡ 0 → ⊥) → Tested left right a b (x - 1) r → r ≡ true → Found left right n a b x
 hit B z t e = met B z (t .yes e)
 
 -- ---- one pair more
 
-module _ {left right links heads : List ℕ} {n : ℕ} (a b : ℕ) (C : Chained left right links heads n) (x : n < length left) (y : n < length right) (z : n < length links) where
+module _ {left right links heads : List ℕ} {n : ℕ} (a b : ℕ) (C : Chained left right links heads n) (u : n ≤ walkedPairs) (f : Found left right n a b 0) where
+  x : n < length left
+  x = let e = C .lefts in omega arith
+
+  y : n < length right
+  y = let e = C .rights in omega arith
+
+  z : n < length links
+  z = let e = C .linked in omega arith
+
   abbrev left′ : List ℕ
   left′ = set left n a
 
@@ -217,13 +221,44 @@ module _ {left right links heads : List ℕ} {n : ℕ} (a b : ℕ) (C : Chained 
           let q = C .link-in i p in
           old j (omega arith) ∙ C .link-chain i j p (sym d ∙ f) ∙ sym (old i p)
 
+  left-new : getD left′ n 0 ≡ a
+  left-new = getD-set-same left n a 0 x
+
+  right-new : getD right′ n 0 ≡ b
+  right-new = getD-set-same right n b 0 y
+
+  left-old : (i : ℕ) → i < n → getD left′ i 0 ≡ getD left i 0
+  left-old i l = getD-set-other left n i a 0 (omega arith)
+
+  right-old : (i : ℕ) → i < n → getD right′ i 0 ≡ getD right i 0
+  right-old i l = getD-set-other right n i b 0 (omega arith)
+
+  apart-new : Apart left′ right′ (n + 1)
+  apart-new i j l m s = go (ℕ-discrete j n)
+    where
+      go : Dec (j ≡ n) → ⊥
+      go (yes e) =
+          let x = left-old i (omega arith) in
+          let y = right-old i (omega arith) in
+          f .nowhere refl i (omega arith) (record {
+            one = sym x ∙ sym (s .one) ∙ ap (λ j. getD left′ j 0) e ∙ left-new;
+            other = sym y ∙ sym (s .other) ∙ ap (λ j. getD right′ j 0) e ∙ right-new;
+          })
+      go (no ne) =
+          C .apart i j l (omega arith) (record {
+            one = sym (left-old j (omega arith)) ∙ s .one ∙ left-old i (omega arith);
+            other = sym (right-old j (omega arith)) ∙ s .other ∙ right-old i (omega arith);
+          })
+
   pub added : Chained left′ right′ links′ heads′ (n + 1)
   added =
       record {
-        lefts = let e = length-set left n a in omega arith;
-        rights = let e = length-set right n b in omega arith;
-        linked = let e = length-set links n (getD heads h 0) in omega arith;
+        few = omega arith;
+        lefts = length-set left n a ∙ C .lefts;
+        rights = length-set right n b ∙ C .rights;
+        linked = length-set links n (getD heads h 0) ∙ C .linked;
         room = length-set heads h (n + 1) ∙ C .room;
+        apart = apart-new;
         head-past = head-past′;
         head-in = head-in′;
         head-chain = head-chain′;
@@ -232,6 +267,6 @@ module _ {left right links heads : List ℕ} {n : ℕ} (a b : ℕ) (C : Chained 
         link-chain = link-chain′;
       }
 
-pub added-at : {left right links heads : List ℕ} {n k r : ℕ} (a b : ℕ) → Chained left right links heads n → n < length left → n < length right → n < length links
+pub added-at : {left right links heads : List ℕ} {n k r : ℕ} (a b : ℕ) → Chained left right links heads n → n ≤ walkedPairs → Found left right n a b 0
     → k ≡ chainOf a b → r ≡ n + 1 → Chained (set left n a) (set right n b) (set links n (getD heads k 0)) (set heads k r) (n + 1)
-added-at {left} {right} {links} {heads} {n} a b C x y z e d = rw (e, d) (added a b C x y z)
+added-at {left} {right} {links} {heads} {n} a b C u f e d = rw (e, d) (added a b C u f)

@@ -7,7 +7,8 @@ use mathlib.Core.List.{List}
 use native.Mathlib.Omega.{arith}
 use native.Mathlib.Decide.{decLe, ℕ-discrete}
 use lib.Dec.{T}
-use lib.ListN.{length, getD, length-append}
+use lib.ListN.{length, getD, set, length-append, length-set}
+use lib.Seq.{getD-set-same, getD-set-other}
 use Rattle.language.specs.Limits.{desk}
 use Rattle.language.specs.Trees.{Expr, eps, cat, alt, star, over}
 use Rattle.language.specs.Writing.{exprWords}
@@ -17,7 +18,7 @@ use Rattle.walk.specs.Spots.{Spot, here, inLeft, inRight, inFirst, inSecond, in
 use Rattle.clash.specs.Marks.{placeOf}
 use Rattle.clash.specs.States.{Sought, nowhere, onTop, below, through, under, sought, Spotted, Means, itself, inside, after}
 use Rattle.clash.specs.Tails.{Compared, SameState}
-use Rattle.clash.specs.Classes.{StateTest, Liked, Classed}
+use Rattle.clash.specs.Classes.{StateTest, Liked, Classed, FirstState, Tabled, KeptTo}
 use Rattle.clash.proofs.Places.{cat-left, cat-right, alt-left, alt-right, over-here, over-below, sought-right, Right}
 use Rattle.clash.proofs.Meanings.{Stands, in-cat, in-alt, in-star, in-over, spotted-place, spotted-stands}
 use Rattle.clash.proofs.Marking.{place-in}
@@ -91,7 +92,7 @@ symbol-at k at R j h l m z = go (sought at R j) refl (found k at R j h l m z)
 -- ---- states
 
 -- a state's place is not before the expression
-place-from : (at : ℕ) (R : Expr) (j l : ℕ) (p : Spot) → Spotted at R j l p → at ≤ j
+pub place-from : (at : ℕ) (R : Expr) (j l : ℕ) (p : Spot) → Spotted at R j l p → at ≤ j
 place-from at R j l p s = elim s [
   | inl (e, d) ↦ let r = subst (Right at R j) d (sought-right at R j) in let x = place-in at p .0 in let y = r .1 in omega arith
   | inr d ↦ let (x, y, z) = subst (Right at R j) d (sought-right at R j) in let u = place-in l p .0 in omega arith
@@ -126,19 +127,19 @@ state-none {k} {first} {t} {j} h e z = record { yes = λ at R w d i l m y. diffe
     no at R w d g X (inside i l p s c o) = here-not at R w g i l p s (omega arith)
     no at R w d g X (after i l p s c o) = here-not at R w g i l p s (omega arith)
 
-place-to : (at : ℕ) (R : Expr) (j l : ℕ) (p : Spot) → Spotted at R j l p → j < at + length (exprWords R)
+pub place-to : (at : ℕ) (R : Expr) (j l : ℕ) (p : Spot) → Spotted at R j l p → j < at + length (exprWords R)
 place-to at R j l p s = elim s [
   | inl (e, d) ↦ let r = subst (Right at R j) d (sought-right at R j) in let x = place-in at p .1 in let y = r .1 in let z = ap (λ A. length (exprWords A)) (r .0) in omega arith
   | inr d ↦ let (x, y, z) = subst (Right at R j) d (sought-right at R j) in let u = place-in l p .1 in omega arith
 ]
 
 -- states stand from the first on, and none is past the expression
-state-from : (at : ℕ) (R : Expr) (s : ℕ) (X : Expr) → Means at R s X → 2 * at ≤ s
+pub state-from : (at : ℕ) (R : Expr) (s : ℕ) (X : Expr) → Means at R s X → 2 * at ≤ s
 state-from at R s X (itself e i) = omega arith
 state-from at R s X (inside j l p t e i) = let x = place-from at R j l p t in omega arith
 state-from at R s X (after j l p t e i) = let x = place-from at R j l p t in omega arith
 
-state-to : (at : ℕ) (R : Expr) (s : ℕ) (X : Expr) → Means at R s X → s ≤ 2 * (at + length (exprWords R))
+pub state-to : (at : ℕ) (R : Expr) (s : ℕ) (X : Expr) → Means at R s X → s ≤ 2 * (at + length (exprWords R))
 state-to at R s X (itself e i) = omega arith
 state-to at R s X (inside j l p t e i) = let x = place-to at R j l p t in omega arith
 state-to at R s X (after j l p t e i) = let x = place-to at R j l p t in omega arith
@@ -183,7 +184,42 @@ classed-here {k} {at} {s} {t} l c v =
     record {
       means = λ R w h X m. let b = state-to at R s X m in c .yes R w h refl (v .from) (omega arith) X m refl;
       least = λ R w h X m u i n. v .each R w h X m u i n;
+      low = omega arith;
     }
 
 pub classed-self : {k : List ℕ} {at s t : ℕ} → s ≤ t → Unmet k at s t → Classed k at s s
-classed-self l v = record { means = λ R w h X m. m; least = λ R w h X m u i n. v .each R w h X m u (omega arith) n }
+classed-self l v = record { means = λ R w h X m. m; least = λ R w h X m u i n. v .each R w h X m u (omega arith) n; low = omega arith }
+
+-- ---- the table
+
+pub tabled-start : {k classes : List ℕ} {at t : ℕ} → t ≡ 2 * at → Tabled k at t classes
+tabled-start {at = at} e = record { each = λ R w h s l X m. let x = state-from at R s X m in absurd (omega arith) }
+
+tabled-more : {k old new : List ℕ} {at s : ℕ} → Tabled k at s old → ((i : ℕ) → i < s → getD new i 0 ≡ getD old i 0)
+    → ((R : Expr) (w : List ℕ) → Here k at R w → (X : Expr) → Means at R s X → FirstState at R (getD new s 0) X) → Tabled k at (s + 1) new
+tabled-more {k} {old} {new} {at} {s} t e f = record { each = λ R w h i l X m. go R w h i l X m (ℕ-discrete i s) }
+  where
+    go : (R : Expr) (w : List ℕ) → Here k at R w → (i : ℕ) → i < s + 1 → (X : Expr) → Means at R i X → Dec (i ≡ s) → FirstState at R (getD new i 0) X
+    go R w h i l X m (yes d) = subst (λ i. FirstState at R (getD new i 0) X) (sym d) (f R w h X (subst (λ i. Means at R i X) d m))
+    go R w h i l X m (no d) = subst (λ c. FirstState at R c X) (sym (e i (omega arith))) (t .each R w h i (omega arith) X m)
+
+pub tabled-state : {k classes : List ℕ} {at s c x : ℕ} → s < length classes → Classed k at s c → x ≡ c → Tabled k at s classes → Tabled k at (s + 1) (set classes s x)
+tabled-state {k} {classes} {at} {s} {c} {x} l d e t =
+    tabled-more t (λ i h. getD-set-other classes s i x 0 (omega arith))
+    (λ R w h X m. subst (λ c. FirstState at R c X) (sym (getD-set-same classes s x 0 l ∙ e)) (record { means = d .means R w h X m; least = d .least R w h X m }))
+
+pub tabled-skip : {k classes : List ℕ} {at first s : ℕ} → first ≡ 2 * at → StateTest k first s false → Tabled k at s classes → Tabled k at (s + 1) classes
+tabled-skip {at = at} e d t = tabled-more t (λ i h. refl) (λ R w h X m. differ (sym (d .only at R w e h X m)))
+
+pub kept-set : {to : ℕ} {old new : List ℕ} (s x : ℕ) → to ≤ s → KeptTo to old new → KeptTo to old (set new s x)
+kept-set {to} {old} {new} s x l e =
+    record { long = length-set new s x ∙ e .long; same = λ i h. getD-set-other new s i x 0 (omega arith) ∙ e .same i h }
+
+pub kept-same : {to : ℕ} {old : List ℕ} → KeptTo to old old
+kept-same = record { long = refl; same = λ i h. refl }
+
+pub kept-then : {to s : ℕ} {old mid new : List ℕ} → to ≤ s → KeptTo to old mid → KeptTo s mid new → KeptTo to old new
+kept-then l e d = record { long = d .long ∙ e .long; same = λ i h. d .same i (omega arith) ∙ e .same i h }
+
+pub tabled-to : {k classes : List ℕ} {at s t : ℕ} → s ≡ t → Tabled k at s classes → Tabled k at t classes
+tabled-to {k} {classes} {at} e t = subst (λ s. Tabled k at s classes) e t

@@ -10,3 +10,11 @@ pub mod Opening
 pub mod Comparing
 pub mod Chaining
 pub mod Classing
+pub mod Growing
+pub mod Collecting
+pub mod Leading
+pub mod Listing
+pub mod Going
+pub mod Flagging
+pub mod Verdicts
+pub mod Determined

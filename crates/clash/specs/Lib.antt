@@ -4,3 +4,7 @@ pub mod States
 pub mod Tails
 pub mod Chains
 pub mod Classes
+pub mod Symbols
+pub mod Walking
+pub mod Sweeping
+pub mod Judging

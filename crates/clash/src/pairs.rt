@@ -1,10 +1,18 @@
 // The pairs of states that a walk has met, in the order in which it met them. A pair is looked for only among those of its chain, by a number made of
 // its two states. Heads and links hold a place plus one; 0 ends a chain.
 ghost use mathlib.Core.Path.{_≡_};
-ghost use Prim.Native.Nat.{_+_, _<_};
-ghost use lib.ListN.{length, set};
-ghost use Rattle.clash.specs.Chains.{chainOf, Chained, Tested, Found};
+ghost use Prim.Native.Nat.{_+_, _<_, _≤_};
+ghost use lib.ListN.{set};
+ghost use Rattle.language.specs.Limits.{walkedPairs};
+ghost use Rattle.clash.specs.Chains.{chainOf, Chained, Tested, Found, Met};
+use language::limits::PAIRS;
 use language::wide;
+
+// Room for one pair more than a walk may reach: so many show that it is too long.
+pub(crate) const STOPS: usize = PAIRS + 1;
+
+// The chains of the table.
+pub(crate) const CHAINS: usize = 4093;
 
 // Which chain a pair is in.
 fn chain_of(a: u16, b: u16) -> usize
@@ -15,8 +23,8 @@ fn chain_of(a: u16, b: u16) -> usize
 }
 
 // Whether the pair stands at i.
-fn stands(left: &[u16], right: &[u16], i: usize, a: u16, b: u16) -> bool
-    requires { ⌜ (i < length (now left)) × (i < length (now right)) ⌝ }
+fn stands(left: &[u16; STOPS], right: &[u16; STOPS], i: usize, a: u16, b: u16) -> bool
+    requires { ⌜ i ≤ walkedPairs ⌝ }
     ensures { λ r. ⌜ Tested (now (left .entry)) (now (right .entry)) a b i r ⌝ }
 {
     if left[i] == a {
@@ -26,11 +34,11 @@ fn stands(left: &[u16], right: &[u16], i: usize, a: u16, b: u16) -> bool
 }
 
 // The place of a pair among the first n plus one, or 0.
-fn find(
-    left: &[u16],
-    right: &[u16],
-    links: &[u16],
-    heads: &[u16],
+pub(crate) fn find(
+    left: &[u16; STOPS],
+    right: &[u16; STOPS],
+    links: &[u16; STOPS],
+    heads: &[u16; CHAINS],
     n: usize,
     a: u16,
     b: u16,
@@ -49,7 +57,7 @@ fn find(
     0
 }
 
-fn narrow(x: usize) -> u16
+pub(crate) fn narrow(x: usize) -> u16
     requires { ⌜ x < 65536 ⌝ }
     ensures { λ r. ⌜ r ≡ x ⌝ }
 {
@@ -57,17 +65,17 @@ fn narrow(x: usize) -> u16
 }
 
 // One pair more, the n-th.
-fn add(
-    left: &mut [u16],
-    right: &mut [u16],
-    links: &mut [u16],
-    heads: &mut [u16],
+pub(crate) fn add(
+    left: &mut [u16; STOPS],
+    right: &mut [u16; STOPS],
+    links: &mut [u16; STOPS],
+    heads: &mut [u16; CHAINS],
     n: usize,
     a: u16,
     b: u16,
 )
     requires { ⌜ Chained (now left) (now right) (now links) (now heads) n ⌝ }
-    requires { ⌜ (n < length (now left)) × (n < length (now right)) × (n < length (now links)) × (n < 65535) ⌝ }
+    requires { ⌜ (n ≤ walkedPairs) × Found (now left) (now right) n a b 0 ⌝ }
     ensures { λ _. ⌜ now (left .exit) ≡ set (now (left .entry)) n a ⌝ }
     ensures { λ _. ⌜ now (right .exit) ≡ set (now (right .entry)) n b ⌝ }
     ensures { λ _. ⌜ Chained (now (left .exit)) (now (right .exit)) (now (links .exit)) (now (heads .exit)) (n + 1) ⌝ }
@@ -77,4 +85,29 @@ fn add(
     right[n] = b;
     links[n] = heads[h];
     heads[h] = narrow(n + 1);
+}
+
+// A pair is listed among the first n, behind these where it is not there yet. How many there are then; where these are too many already, nothing more is
+// listed.
+pub(crate) fn meet(
+    left: &mut [u16; STOPS],
+    right: &mut [u16; STOPS],
+    links: &mut [u16; STOPS],
+    heads: &mut [u16; CHAINS],
+    n: usize,
+    a: u16,
+    b: u16,
+) -> usize
+    requires { ⌜ Chained (now left) (now right) (now links) (now heads) n ⌝ }
+    ensures { λ m. ⌜ Met (now (left .entry)) (now (right .entry)) n a b (now (left .exit)) (now (right .exit)) m × Chained (now (left .exit)) (now (right .exit)) (now (links .exit)) (now (heads .exit)) m ⌝ }
+{
+    if PAIRS < n {
+        return n;
+    }
+    let i = find(left, right, links, heads, n, a, b);
+    if i == 0 {
+        add(left, right, links, heads, n, a, b);
+        return n + 1;
+    }
+    n
 }

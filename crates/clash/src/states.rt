@@ -40,7 +40,7 @@ pub(crate) fn level_of(k: &[u16], ends: &[usize], nulls: &[bool], at: usize, j: 
 }
 
 // Marks the symbols that can be read next in a state of the expression at a place. Whether nothing need be read.
-fn follow(
+pub(crate) fn follow(
     k: &[u16],
     ends: &[usize],
     nulls: &[bool],

@@ -106,3 +106,7 @@ atClash = suc atM12
 -- no rule applies: the place after the last
 abbrev pub noRule : ℕ
 noRule = suc atClash
+
+-- nor can it be told: a rule of two literals stops the run
+abbrev pub stopsRule : ℕ
+stopsRule = suc noRule

@@ -3,7 +3,7 @@ use Prim.Native.Nat.{ℕ, _+_, _-_, _<_, _≤_}
 use native.Mathlib.Omega.{arith}
 use borrow.Author.Needs.{needs}
 use lib.ListN.{length}
-use Rattle.clash.proofs.Chaining.{chain-lt, Below, starts, less, unmet, in-left, in-right, in-links, in-heads, step, hit}
+use Rattle.clash.proofs.Chaining.{chain-lt, Below, starts, less, unmet, in-room, in-array, step, hit}
 use Rattle.clash.proofs.pairs.find.Statement.{statement}
 use Rattle.clash.proofs.pairs.find.Tie as tie
 
@@ -21,15 +21,15 @@ find-spec =
     μ-loop
     (λ c κs. search needs)
     (λ c. search needs)
-    (λ c. search (in-heads))
+    (λ c. search needs)
     (λ c κs. search needs)
     (λ c. search (starts))
     (λ c. omega arith)
-    (λ c κs. (search (in-left), search (in-right)))
+    (λ c κs. search (in-room))
     (λ c. search (hit))
     (λ c. omega arith)
     (λ c. search needs)
-    (λ c. search (in-links))
+    (λ c. search (in-array))
     (λ c κs. search needs)
     (λ c. search (less))
     (λ c. search (step))
