@@ -1,5 +1,5 @@
 -- Laws of words as bytes: their lengths, each turn of reading and writing, and that the two undo each other.
-use Prim.Native.Nat.{ℕ, suc, _+_, _*_, _/_, _%_, _≤_, _<_}
+use Prim.Native.Nat.{ℕ, zero, suc, _+_, _*_, _/_, _%_, _≤_, _<_}
 use mathlib.Core.Path.{_≡_, refl, ap, _∙_, sym}
 use mathlib.Core.List.{List, [], _∷_, _++_}
 use native.Mathlib.Omega.{arith}
@@ -45,18 +45,29 @@ none-left (low ∷ (high ∷ bs)) h = absurd (not-suc-le-zero (le-of-suc-le-suc 
 pub all-read : (bs words : List ℕ) (i : ℕ) → i ≡ length bs / 2 → sets words i (wordsOf (drop (2 * i) bs)) ≡ words
 all-read bs words i e = rw (none-left (drop (2 * i) bs) (simp length-drop (omega arith)))
 
+-- ---- one word
+
+pub word-at : (bs : List ℕ) (i w : ℕ) → i < length bs / 2 → w ≡ wordOf (getD bs (2 * i) 0) (getD bs (2 * i + 1) 0) → w ≡ getD (wordsOf bs) i 0
+unfolding wordsOf
+word-at [] i w h e = absurd (omega arith)
+word-at (low ∷ []) i w h e = absurd (omega arith)
+word-at (low ∷ (high ∷ bs)) zero w h e = e
+word-at (low ∷ (high ∷ bs)) (suc i) w h e =
+    let f : 2 * suc i ≡ suc (suc (2 * i)) = omega arith in
+    word-at bs i w (omega arith) (e ∙ rw (f, add-one (suc (suc (2 * i))), add-one (2 * i)))
+
 -- ---- a turn of writing
 
-pub write-more : (ws bytes : List ℕ) (i a b : ℕ) → i < length ws → a ≡ getD ws i 0 % 256 → b ≡ getD ws i 0 / 256
-    → sets (set (set bytes (2 * i) a) (2 * i + 1) b) (2 * (i + 1)) (bytesOf (drop (i + 1) ws)) ≡ sets bytes (2 * i) (bytesOf (drop i ws))
+pub write-more : (ws bytes : List ℕ) (i to a b : ℕ) → i < length ws → a ≡ getD ws i 0 % 256 → b ≡ getD ws i 0 / 256
+    → sets (set (set bytes to a) (to + 1) b) (to + 2) (bytesOf (drop (i + 1) ws)) ≡ sets bytes to (bytesOf (drop i ws))
 unfolding bytesOf
-write-more ws bytes i a b h ea eb =
-    let f : 2 * (i + 1) ≡ suc (suc (2 * i)) = omega arith in
-    rw (ea, eb, f, add-one (2 * i), add-one i, drop-cons ws i 0 h)
+write-more ws bytes i to a b h ea eb =
+    let f : to + 2 ≡ suc (suc to) = omega arith in
+    rw (ea, eb, f, add-one to, add-one i, drop-cons ws i 0 h)
 
-pub all-written : (ws bytes : List ℕ) (i : ℕ) → i ≡ length ws → sets bytes (2 * i) (bytesOf (drop i ws)) ≡ bytes
+pub all-written : (ws bytes : List ℕ) (i to : ℕ) → i ≡ length ws → sets bytes to (bytesOf (drop i ws)) ≡ bytes
 unfolding bytesOf
-all-written ws bytes i e = rw (e, drop-length ws)
+all-written ws bytes i to e = rw (e, drop-length ws)
 
 -- ---- there and back
 

@@ -1,0 +1,38 @@
+-- `overlap::write_report` meets its contract: the values written, and then those still to come, are the report.
+use Prim.Native.Nat.{_≤_, _-_, _+_}
+use mathlib.Core.Path.{_≡_, refl, sym, _∙_}
+use lib.ListN.{length}
+use lib.Seq.{length-slice}
+use Rattle.language.specs.Limits.{desk}
+use Rattle.overlap.specs.Lent.{markedFrom}
+use Rattle.overlap.proofs.Reporting.{one-shows, one-fits, Writing, writing-starts, writing-inside, writing-puts, writing-on, writing-ends}
+use native.Mathlib.Omega.{arith}
+use borrow.Author.Needs.{needs}
+use Rattle.overlap.proofs.write_report.Statement.{statement}
+use Rattle.overlap.proofs.write_report.Tie as tie
+
+abbrev Inv-loop : tie.InvT-loop
+Inv-loop filling pattern terms hedges scratch₀ room₀ at i₀ to₀ scratch room i to = Writing terms hedges filling pattern room₀ at i to room × (length scratch ≡ length scratch₀)
+
+abbrev μ-loop : tie.MeasureT-loop
+μ-loop filling pattern terms hedges scratch₀ room₀ at i₀ to₀ scratch room i to = length pattern - i
+
+fill-in-requires : tie.Need-fill-in-requires Inv-loop μ-loop
+fill-in-requires c κs = let f = one-fits (c .before .before .before .before .before .before .before .before .args .terms) (c .before .before .before .before .before .before .before .before .args .hedges) (c .before .before .before .before .before .before .before .before .args .filling .now) (c .before .before .before .before .before .before .before .before .args .pattern .now) (c .before .before .before .loop .i) (omega arith) in let s = c .before .before .before .loop .inv .1 in let p = c .before .before .before .before .before .before .before .before .pre .1 .0 .0 in let q = c .before .before .before .before .before .before .before .before .pre .1 .0 .1 in (one-shows (c .before .before .before .before .before .before .before .before .args .terms) (c .before .before .before .before .before .before .before .before .args .hedges) (c .before .before .before .before .before .before .before .before .args .filling .now) (c .before .before .before .before .before .before .before .before .args .pattern .now) (c .before .before .before .loop .i) (omega arith) (c .before .before .before .before .before .before .before .before .pre .0), omega arith)
+
+part-put-words-end : tie.Need-part-put-words-end Inv-loop μ-loop
+part-put-words-end c = let s = c .before .before .before .before .before .before .before .loop .inv .1 in let p = c .before .before .before .before .before .before .before .before .before .before .before .before .pre .1 .0 .1 in let k = c .before .before .before .fill-in .kept .1 .1 .1 .1 .0 in let z = writing-inside (c .before .before .before .before .before .before .before .before .before .before .before .before .args .terms) (c .before .before .before .before .before .before .before .before .before .before .before .before .args .hedges) (c .before .before .before .before .before .before .before .before .before .before .before .before .args .filling .now) (c .before .before .before .before .before .before .before .before .before .before .before .before .args .pattern .now) (c .before .before .before .before .before .before .before .before .before .before .before .before .args .room .now) (c .before .before .before .before .before .before .before .before .before .before .before .before .args .at) (c .before .before .before .before .before .before .before .loop .i) (c .before .before .before .before .before .before .before .loop .to) (c .before .before .before .before .before .before .before .loop .room) (c .before .before .before .before .before .before .before .loop .inv .0) (omega arith) (c .before .before .before .fill-in .result) (c .before .before .before .before .before .before .before .loop .scratch) _ (c .before .before .before .before .before .before .before .before .before .before .before .before .pre .1 .0 .0) (omega arith) (c .before .before .before .fill-in .ensures) in omega arith
+
+put-words-requires : tie.Need-put-words-requires Inv-loop μ-loop
+put-words-requires c κs = let s = c .before .before .before .before .before .before .before .before .before .loop .inv .1 in let p = c .before .before .before .before .before .before .before .before .before .before .before .before .before .before .pre .1 .0 .1 in writing-puts (c .before .before .before .before .before .before .before .before .before .before .before .before .before .before .args .terms) (c .before .before .before .before .before .before .before .before .before .before .before .before .before .before .args .hedges) (c .before .before .before .before .before .before .before .before .before .before .before .before .before .before .args .filling .now) (c .before .before .before .before .before .before .before .before .before .before .before .before .before .before .args .pattern .now) (c .before .before .before .before .before .before .before .before .before .before .before .before .before .before .args .room .now) (c .before .before .before .before .before .before .before .before .before .before .before .before .before .before .args .at) (c .before .before .before .before .before .before .before .before .before .loop .i) (c .before .before .before .before .before .before .before .before .before .loop .to) (c .before .before .before .before .before .before .before .before .before .loop .room) (c .before .before .before .before .before .before .before .before .before .loop .inv .0) (omega arith) (c .before .before .before .before .before .fill-in .result) (c .before .before .before .before .before .before .before .before .before .loop .scratch) _ (c .before .before .before .before .before .before .before .before .before .before .before .before .before .before .pre .1 .0 .0) (omega arith) (c .before .before .before .before .before .fill-in .ensures) (c .before .before .before .before .before .before .before .before .before .before .before .before .before .before .pre .1 .1)
+
+loop-again : tie.Need-loop-again Inv-loop μ-loop
+loop-again c = let s = c .before .before .before .before .before .before .before .before .before .before .before .before .loop .inv .1 in let p = c .before .before .before .before .before .before .before .before .before .before .before .before .before .before .before .before .before .pre .1 .0 .1 in (writing-on (c .before .before .before .before .before .before .before .before .before .before .before .before .before .before .before .before .before .args .terms) (c .before .before .before .before .before .before .before .before .before .before .before .before .before .before .before .before .before .args .hedges) (c .before .before .before .before .before .before .before .before .before .before .before .before .before .before .before .before .before .args .filling .now) (c .before .before .before .before .before .before .before .before .before .before .before .before .before .before .before .before .before .args .pattern .now) (c .before .before .before .before .before .before .before .before .before .before .before .before .before .before .before .before .before .args .room .now) (c .before .before .before .before .before .before .before .before .before .before .before .before .before .before .before .before .before .args .at) (c .before .before .before .before .before .before .before .before .before .before .before .before .loop .i) (c .before .before .before .before .before .before .before .before .before .before .before .before .loop .to) (c .before .before .before .before .before .before .before .before .before .before .before .before .loop .room) (c .before .before .before .before .before .before .before .before .before .before .before .before .loop .inv .0) (omega arith) (c .before .before .before .before .before .before .before .before .fill-in .result) (c .before .before .before .before .before .before .before .before .before .before .before .before .loop .scratch) _ (c .before .before .before .before .before .before .before .before .before .before .before .before .before .before .before .before .before .pre .1 .0 .0) (omega arith) (c .before .before .before .before .before .before .before .before .fill-in .ensures) _ _ (c .before .before .put-words .ensures .0) (c .before .before .put-words .ensures .1), c .before .before .before .before .before .before .before .before .fill-in .kept .1 .1 .1 .1 .0 ∙ c .before .before .before .before .before .before .before .before .before .before .before .before .loop .inv .1)
+
+pub write-report-spec : {M : Type 1} → statement M
+write-report-spec =
+    tie.close (tie.spec
+    Inv-loop μ-loop (λ c. (writing-starts _ _ _ _ _ _, refl)) (λ c. search needs) (λ c. search needs) (λ c. search needs) (λ c. search needs)
+    (λ c. search needs) fill-in-requires (λ c. search needs) (λ c. search needs) part-put-words-end put-words-requires (λ c. search needs)
+    (λ c. search needs) loop-again (λ c. c .before .loop .inv .1) (λ c. c .before .loop .inv .0 .len)
+    (λ c. writing-ends _ _ _ _ _ _ _ _ _ (c .before .loop .inv .0) (omega arith)))

@@ -1,0 +1,7 @@
+pub mod Noting
+pub mod OneTerm
+pub mod Renumbering
+pub mod Asking
+pub mod Turns
+pub mod Pairing
+pub mod Determined
