@@ -6,35 +6,7 @@
 #include <stdlib.h>
 
 #include "desk.h"
-
-static uint16_t word(const uint8_t *bytes, size_t i)
-{
-    return (uint16_t)(bytes[2 * i] | bytes[2 * i + 1] << 8);
-}
-
-/* Reads decimal words and packs them, low byte first. Gives the count of bytes;
- * reading ends at the first thing that is no word, or where the bytes are full. */
-static size_t read_words(FILE *file, uint8_t *bytes, size_t most)
-{
-    size_t length = 0;
-    unsigned value;
-    int c;
-    while ((c = fgetc(file)) != EOF) {
-        if (c == '#') {
-            while (c != '\n' && c != EOF)
-                c = fgetc(file);
-            continue;
-        }
-        if (c == ' ' || c == '\t' || c == '\r' || c == '\n')
-            continue;
-        ungetc(c, file);
-        if (fscanf(file, "%u", &value) != 1 || value > 65535 || length + 2 > most)
-            break;
-        bytes[length++] = (uint8_t)(value % 256);
-        bytes[length++] = (uint8_t)(value / 256);
-    }
-    return length;
-}
+#include "words.h"
 
 static void print_words(const uint8_t *bytes, size_t from, size_t to)
 {

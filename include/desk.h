@@ -20,7 +20,7 @@
 extern "C" {
 #endif
 
-/* Why a call refuses. A refusal comes back as its number, 1 to 16. */
+/* Why a call refuses. A refusal comes back as its number, 1 to 16, 22 or 23. */
 enum desk_refusal {
     DESK_SHORT_SLICE = 1,      /* the answer has under DESK_ANSWER_BYTES bytes */
     DESK_QUESTION_LENGTH = 2,  /* question: an odd count of bytes, under 6 or over 4,096 words */
@@ -37,7 +37,9 @@ enum desk_refusal {
     DESK_LONG_LITERAL = 13,    /* filling: a literal, filled in, passes 8,192 words */
     DESK_NO_SUCH_LINE = 14,    /* example: no such line; the first is 0 */
     DESK_OPEN_LINE = 15,       /* example: the line is open */
-    DESK_LONG_EXAMPLE = 16     /* example: longer than the room lent or than 4,096 words */
+    DESK_LONG_EXAMPLE = 16,    /* example: longer than the room lent or than 4,096 words */
+    DESK_SHEET_LAYOUT = 22,    /* day: an odd count of bytes, over 64 questions, or an offset out of place */
+    DESK_LONG_ANSWERS = 23     /* day: the answers do not fit the room lent */
 };
 
 /* Bytes of an answer, of the longest question and of the longest filling. */
@@ -89,6 +91,28 @@ uint32_t desk_try(const uint8_t *question, size_t question_len,
  * on old training sheets. The example meets its line either way. */
 uint32_t desk_example(const uint8_t *question, size_t question_len, uint32_t line,
                       uint32_t old_sheets, uint8_t *room, size_t room_len);
+
+/* The most questions of a day, the words before the first of n questions or
+ * answers, and the bytes of a room that the answers of n questions always fit. */
+#define DESK_DAY_QUESTIONS 64
+#define DESK_DAY_HEADER(n) (2 * (n) + 3)
+#define DESK_DAY_BYTES(n) (2 * DESK_DAY_HEADER(n) + (n) * (DESK_ANSWER_BYTES + 2))
+
+/* Answers a day's questions. Gives 0, or why not: 22 and then 23.
+ *
+ * A sheet is the number n of its questions, n + 1 offsets of two words each, the
+ * low word first, and the questions: the first offset is DESK_DAY_HEADER(n), none
+ * is less than the one before it, the last is the number of words. Question i
+ * stands from its offset to the next.
+ *
+ * After 0 the room begins with the answers in the same layout, each a refusal
+ * number and, after 0, the answer's words as desk_solve writes them, up to the
+ * end of the last line: 515 words where there is no line. Each is what
+ * desk_solve gives for that question by itself. A question that is refused does
+ * not keep the others from an answer. Later bytes are never touched. After 22,
+ * which is given before any solving, the room is unchanged; after 23 each of its
+ * words is 0, and an odd last byte is unchanged. */
+uint32_t desk_day(const uint8_t *sheet, size_t sheet_len, uint8_t *room, size_t room_len);
 
 #ifdef __cplusplus
 }

@@ -31,11 +31,18 @@
 
 #define LENT 0xA5
 
-/* How many requests the proved desk has learnt, of ORDER in second/src/desk.rs.
- * The second desk is compared as the one that knows as many. */
-#define LANDED 6
+/* The requests that the proved desk has learnt, a line for each, in the order in
+ * which they landed. The second desk is compared as the one that knows these. */
+#define LANDED_12
+#define LANDED_3
+#define LANDED_5
+#define LANDED_8
+#define LANDED_1
+#define LANDED_4
+#define LANDED_6
+#define LANDED_9
 
-#if LANDED >= 13
+#ifdef LANDED_10
 #include "overlap.h"
 #endif
 
@@ -100,13 +107,13 @@ static void answer_request(int letter, long times)
             number = desk_try(question, question_len, filling, filling_len);
         number_out(number);
         free(filling);
-#if LANDED >= 5
+#ifdef LANDED_1
     } else if (letter == 'p') {
         for (long i = 0; i < times; i++)
             number = desk_place(question, question_len);
         number_out(number);
 #endif
-#if LANDED >= 10
+#ifdef LANDED_11
     } else if (letter == 'S') {
         size_t length = number_in(), trail_len = number_in();
         uint8_t *answer = block(length), *trail = block(trail_len);
@@ -137,7 +144,7 @@ static void answer_request(int letter, long times)
         lent_out(room, length);
         free(trail);
 #endif
-#if LANDED >= 12
+#ifdef LANDED_9
     } else if (letter == 'd') {
         size_t length = number_in();
         uint8_t *room = block(length);
@@ -146,7 +153,7 @@ static void answer_request(int letter, long times)
         number_out(number);
         lent_out(room, length);
 #endif
-#if LANDED >= 13
+#ifdef LANDED_10
     } else if (letter == 'o') {
         size_t second_len;
         uint8_t *second = bytes_in(&second_len);
@@ -159,7 +166,7 @@ static void answer_request(int letter, long times)
         lent_out(room, length);
         free(second);
 #endif
-#if LANDED >= 14
+#ifdef LANDED_2
     } else if (letter == 'r' || letter == 'w') {
         size_t length = number_in();
         uint8_t *room = block(length);
@@ -174,7 +181,7 @@ static void answer_request(int letter, long times)
         size_t length = number_in();
         uint8_t *room = block(length);
         for (long i = 0; i < times; i++)
-#if LANDED >= 4
+#ifdef LANDED_8
             number = desk_example(question, question_len, line, old_sheets, room, length);
 #else
             number = desk_example(question, question_len, line, room, length);

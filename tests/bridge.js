@@ -10,8 +10,9 @@ const fs = require("fs");
 
 const LENT = 0xa5;
 const BEHIND = 64;
-// how many requests the desk has learnt, which bridge.c says
-const landed = Number(/^#define LANDED (\d+)/m.exec(fs.readFileSync(__dirname + "/bridge.c", "utf8"))[1]);
+// whether the desk has learnt a request, which bridge.c says
+const bridge = fs.readFileSync(__dirname + "/bridge.c", "utf8");
+const landed = (request) => bridge.split("\n").includes("#define LANDED_" + request);
 const desk = new WebAssembly.Instance(new WebAssembly.Module(fs.readFileSync(process.argv[2])), {}).exports;
 
 // Bytes of standard input; fewer than asked for only at its end.
@@ -102,7 +103,7 @@ for (let letter = bytesIn(1); letter.length === 1; letter = bytesIn(1)) {
         const example = (q, qlen, t, tlen, room, length) => desk.desk_example_trail(q, qlen, t, tlen, ...flags, room, length);
         [number, bytes] = call([question, trail, lent(numberIn())], example);
     } else {
-        const flags = landed >= 4 ? [numberIn(), numberIn()] : [numberIn(), numberIn()].slice(0, 1);
+        const flags = landed(8) ? [numberIn(), numberIn()] : [numberIn(), numberIn()].slice(0, 1);
         const example = (q, qlen, room, length) => desk.desk_example(q, qlen, ...flags, room, length);
         [number, bytes] = call([question, lent(numberIn())], example);
     }

@@ -5,26 +5,21 @@ use Rattle.language.specs.declared.TermVar.{TermVar}
 use Rattle.language.specs.declared.HedgeVar.{HedgeVar}
 use Rattle.language.specs.declared.FunVar.{FunVar}
 use Rattle.language.specs.declared.Sym.{Sym}
+use Rattle.language.specs.declared.Signature.{Signature}
 use Rattle.language.specs.Trees.{Functor, symbol, fvar, Hedge, ε, tvar, hvar, node, Expr, eps, cat, alt, star, over, Conj, eqF, Var, tv, hv, fv, inConj}
 use Rattle.rules.specs.Looks.{empty, firstTerm, firstRun, lone, loneTerm, loneT, loneH, loneNode, asSymbol, asBlank, isEps, asCat, asAlt, asStar, asOver}
-use Rattle.rules.specs.Rules.{Answer, _>>=_, too}
+use Rattle.rules.specs.Rules.{Answer, _>>=_, keepsOrder, too}
 use Rattle.rules.specs.Solved.{isSome}
 use Rattle.views.specs.Looks.{nameOf, lookOf, firstKind, head, tail}
 use Rattle.plans.proofs.Ranking.{lone-on}
-use Rattle.applies.specs.Parts.{isEmpty, isTerm, isRun, isLast, isBare, single, loneVariable, loneRun, loneFunctor, variableOf, runOf, nameIn, isSymbol, symbolOf, blankOf, isBlank, sameName, isForm, symbolIn}
+use Rattle.applies.specs.Parts.{isEmpty, isTerm, isRun, isLast, isBare, single, loneVariable, loneRun, loneFunctor, variableOf, runOf, nameIn, isSymbol, symbolOf, blankOf, isBlank, sameName, keepsName, childrenOf, isForm, symbolIn}
 
--- the functor and the children of F(H), and R of g(R)
+-- the functor of F(H), and R of g(R)
 abbrev pub functorOf : Hedge → Functor
 functorOf ε = symbol (record { 0 = 0 })
 functorOf (tvar x r) = symbol (record { 0 = 0 })
 functorOf (hvar p r) = symbol (record { 0 = 0 })
 functorOf (node f c r) = f
-
-abbrev pub childrenOf : Hedge → Hedge
-childrenOf ε = ε
-childrenOf (tvar x r) = ε
-childrenOf (hvar p r) = ε
-childrenOf (node f c r) = c
 
 abbrev pub innerOf : Expr → Expr
 innerOf eps = eps
@@ -164,6 +159,10 @@ same-law (symbol f) (symbol g) = refl
 same-law (symbol f) (fvar Y) = refl
 same-law (fvar X) (symbol g) = refl
 same-law (fvar X) (fvar Y) = refl
+
+pub keeps-law : (σ : Signature) (F : Functor) → keepsOrder σ F ≡ keepsName σ (nameOf F)
+keeps-law σ (symbol f) = refl
+keeps-law σ (fvar X) = refl
 
 pub blank-law : (X : FunVar) (G : Functor) → eqF (fvar X) G ≡ isBlank X (nameOf G)
 blank-law X (symbol g) = refl

@@ -4,6 +4,7 @@ use native.Mathlib.Omega.{arith}
 use mathlib.Core.Path.{_≡_, refl, sym, ap, _∙_}
 use mathlib.Core.Bool.{Bool, true, false}
 use mathlib.Core.List.{List, [], _∷_, _++_}
+use Rattle.language.specs.declared.Signature.{Signature}
 use Rattle.language.specs.Trees.{Hedge, Expr, Conj}
 use Rattle.rules.specs.Rules.{Answer, Rule, onEqn, onMem, onPair, rules}
 use Rattle.rules.specs.Solved.{isSome}
@@ -15,13 +16,13 @@ use Rattle.applies.specs.Tests.{EqTest, Asks, InTest, AsksIn}
 
 -- ---- a place that is known: what the test of its rule says of the trees that stand there
 
-pub asks : {n : ℕ} {k : List ℕ} {v : View} {b : Bool} (m : ℕ) (test : EqTest) → ((K : Conj) (l r : Hedge) → isSome (eqnAnswer m K l r) ≡ test K l r) → n ≡ m → Asks test k v b
-    → (before behind : Conj) (l r : Hedge) → Sees k v before l r behind → b ≡ isSome (eqnAnswer n (before ++ behind) l r)
-asks m test law e d before behind l r w = d before behind l r w ∙ sym (law (before ++ behind) l r) ∙ ap (λ i. isSome (eqnAnswer i (before ++ behind) l r)) (sym e)
+pub asks : (σ : Signature) {n : ℕ} {k : List ℕ} {v : View} {b : Bool} (m : ℕ) (test : EqTest) → ((K : Conj) (l r : Hedge) → isSome (eqnAnswer σ m K l r) ≡ test K l r) → n ≡ m → Asks test k v b
+    → (before behind : Conj) (l r : Hedge) → Sees k v before l r behind → b ≡ isSome (eqnAnswer σ n (before ++ behind) l r)
+asks σ m test law e d before behind l r w = d before behind l r w ∙ sym (law (before ++ behind) l r) ∙ ap (λ i. isSome (eqnAnswer σ i (before ++ behind) l r)) (sym e)
 
-pub asks-in : {n : ℕ} {k : List ℕ} {s : Shape} {b : Bool} (m : ℕ) (test : InTest) → ((K : Conj) (h : Hedge) (R : Expr) → isSome (memAnswer m K h R) ≡ test h R) → n ≡ m → AsksIn test k s b
-    → (before : Conj) (h : Hedge) (R : Expr) (behind : Conj) → Shows k s before h R behind → b ≡ isSome (memAnswer n (before ++ behind) h R)
-asks-in m test law e d before h R behind w = d before h R behind w ∙ sym (law (before ++ behind) h R) ∙ ap (λ i. isSome (memAnswer i (before ++ behind) h R)) (sym e)
+pub asks-in : (σ : Signature) {n : ℕ} {k : List ℕ} {s : Shape} {b : Bool} (m : ℕ) (test : InTest) → ((K : Conj) (h : Hedge) (R : Expr) → isSome (memAnswer σ m K h R) ≡ test h R) → n ≡ m → AsksIn test k s b
+    → (before : Conj) (h : Hedge) (R : Expr) (behind : Conj) → Shows k s before h R behind → b ≡ isSome (memAnswer σ n (before ++ behind) h R)
+asks-in σ m test law e d before h R behind w = d before h R behind w ∙ sym (law (before ++ behind) h R) ∙ ap (λ i. isSome (memAnswer σ i (before ++ behind) h R)) (sym e)
 
 -- ---- a place that is none of the rules asked for
 
@@ -70,10 +71,10 @@ quiet-mem K h R (onEqn rule) e = refl
 quiet-mem K h R (onMem rule) e = not-true e
 quiet-mem K h R (onPair rule) e = refl
 
-pub no-equation : (K : Conj) (l r : Hedge) (n : ℕ) → Away ofEqn rules n 0 → false ≡ isSome (eqnAnswer n K l r)
+pub no-equation : (σ : Signature) (K : Conj) (l r : Hedge) (n : ℕ) → Away ofEqn (rules σ) n 0 → false ≡ isSome (eqnAnswer σ n K l r)
 unfolding eqnAnswer
-no-equation K l r n a = sym (silent ofEqn (λ rule. atEqn rule K l r) (quiet-eqn K l r) rules n 0 n (omega arith) a)
+no-equation σ K l r n a = sym (silent ofEqn (λ rule. atEqn rule K l r) (quiet-eqn K l r) (rules σ) n 0 n (omega arith) a)
 
-pub no-membership : (K : Conj) (h : Hedge) (R : Expr) (n : ℕ) → Away ofMem rules n 0 → false ≡ isSome (memAnswer n K h R)
+pub no-membership : (σ : Signature) (K : Conj) (h : Hedge) (R : Expr) (n : ℕ) → Away ofMem (rules σ) n 0 → false ≡ isSome (memAnswer σ n K h R)
 unfolding memAnswer
-no-membership K h R n a = sym (silent ofMem (λ rule. atMem rule K h R) (quiet-mem K h R) rules n 0 n (omega arith) a)
+no-membership σ K h R n a = sym (silent ofMem (λ rule. atMem rule K h R) (quiet-mem K h R) (rules σ) n 0 n (omega arith) a)

@@ -1,20 +1,21 @@
 -- What a test finds in the words is so of the trees that stand there.
 use Prim.Native.Nat.{ℕ, _+_, _<_}
 use native.Mathlib.Omega.{arith}
-use mathlib.Core.Path.{_≡_, sym, ap, _∙_, subst}
-use mathlib.Core.Bool.{Bool, _&&_, _||_}
+use mathlib.Core.Path.{_≡_, refl, sym, ap, _∙_, subst}
+use mathlib.Core.Bool.{Bool, true, false, _&&_, _||_}
 use mathlib.Core.List.{List, _++_}
 use lib.Dec.{eqb}
-use lib.ListN.{take, drop}
+use lib.ListN.{length, take, drop}
 use lib.Seq.{slice}
 use Rattle.language.specs.declared.TermVar.{TermVar}
 use Rattle.language.specs.declared.HedgeVar.{HedgeVar}
 use Rattle.language.specs.declared.FunVar.{FunVar}
 use Rattle.language.specs.declared.Sym.{Sym}
+use Rattle.language.specs.declared.Signature.{Signature}
 use Rattle.language.specs.declared.Name.{Name}
 use Rattle.language.specs.Limits.{desk}
-use Rattle.language.specs.Trees.{symbol, fvar, Hedge, ε, tvar, hvar, node, Expr, Conj, eqH, eqS, Var, tv, hv, fv, holds, inConj}
-use Rattle.language.specs.Writing.{conjWords}
+use Rattle.language.specs.Trees.{symbol, fvar, Hedge, ε, tvar, hvar, node, Expr, Conj, isUnordered, eqH, eqS, eqX, Var, tv, hv, fv, holds, inConj}
+use Rattle.language.specs.Writing.{hedgeWords, conjWords}
 use Rattle.language.specs.Fine.{fineHedge}
 use Rattle.rules.specs.Looks.{under, inside, upTo}
 use Rattle.rules.specs.Solved.{isSome}
@@ -23,7 +24,7 @@ use Rattle.views.specs.declared.Look.{Look}
 use Rattle.views.specs.declared.Side.{Side}
 use Rattle.views.specs.declared.View.{View}
 use Rattle.views.specs.declared.Shape.{Shape}
-use Rattle.views.specs.Looks.{lookOf, firstKind}
+use Rattle.views.specs.Looks.{lookOf, firstKind, tail}
 use Rattle.views.specs.Standing.{Stands}
 use Rattle.views.specs.Variables.{variableWord, fineVar}
 use Rattle.views.specs.Views.{Sided, Sees, Shows}
@@ -32,8 +33,11 @@ use Rattle.views.proofs.Sides.{side-stands, side-whole}
 use Rattle.finds.specs.declared.Found.{Found}
 use Rattle.finds.specs.declared.Spot.{Spot}
 use Rattle.finds.specs.Walks.{Ahead, Spotted}
+use Rattle.plans.specs.Slots.{forthIn}
+use Rattle.plans.proofs.Sides.{children-stand}
 use Rattle.expressions.specs.Standing.{Here}
-use Rattle.applies.specs.Parts.{variableOf, runOf, nameIn, symbolOf, blankOf, isBlank, sameName, formWord, isForm, symbolIn}
+use Rattle.applies.specs.Parts.{loneFunctor, variableOf, runOf, nameIn, isSymbol, symbolOf, blankOf, isBlank, sameName, childrenOf, formWord, isForm, symbolIn}
+use Rattle.applies.specs.Tests.{oneShuffled}
 
 -- two tests put together
 pub both : {t a b x y : Bool} → t ≡ (a && b) → a ≡ x → b ≡ y → t ≡ (x && y)
@@ -41,6 +45,33 @@ both {t} {a} {b} {x} {y} r p q = r ∙ ap (λ z. z && b) p ∙ ap (λ z. x && z)
 
 pub one : {t a b x y : Bool} → t ≡ (a || b) → a ≡ x → b ≡ y → t ≡ (x || y)
 one {t} {a} {b} {x} {y} r p q = r ∙ ap (λ z. z || b) p ∙ ap (λ z. x || z) q
+
+-- the second is asked for only where the first holds
+pub guarded : {t a b x y : Bool} → t ≡ (a && b) → a ≡ x → (x ≡ true → b ≡ y) → t ≡ (x && y)
+guarded {b = b} {x = true} r p q = r ∙ ap (λ z. z && b) p ∙ q refl
+guarded {b = b} {x = false} r p q = r ∙ ap (λ z. z && b) p
+
+-- a test among others holds where all do
+and-first : (a b : Bool) → (a && b) ≡ true → a ≡ true
+and-first true b e = refl
+and-first false b e = e
+
+and-second : (a b c : Bool) → (a && (b && c)) ≡ true → b ≡ true
+and-second true b c e = and-first b c e
+and-second false true c e = refl
+and-second false false c e = e
+
+module _ (σ : Signature) (l r : Hedge) where
+  abbrev oneSymbol : Bool
+  oneSymbol =
+      isSymbol (nameIn (lookOf l)) && (isSymbol (nameIn (lookOf r))
+      && (eqS (symbolOf (nameIn (lookOf l))) (symbolOf (nameIn (lookOf r))) && isUnordered σ (symbolOf (nameIn (lookOf l)))))
+
+  pub shuffled-left : (K : Conj) → oneShuffled σ K l r ≡ true → loneFunctor (lookOf l) ≡ true
+  shuffled-left K e = and-first (loneFunctor (lookOf l)) (loneFunctor (lookOf r) && oneSymbol) e
+
+  pub shuffled-right : (K : Conj) → oneShuffled σ K l r ≡ true → loneFunctor (lookOf r) ≡ true
+  shuffled-right K e = and-second (loneFunctor (lookOf l)) (loneFunctor (lookOf r)) oneSymbol e
 
 -- what is read off a side is so of its hedge
 pub read : {k : List ℕ} {s : Side} {h : Hedge} → Sided k s h → {A : Type 0} (f : Look → A) {x : A} → x ≡ f (s .look) → x ≡ f (lookOf h)
@@ -89,9 +120,19 @@ module _ {k : List ℕ} {s : Side} {h : Hedge} (v : Sided k s h) where
   held : (y : Var) → fineVar desk y → {x : ℕ} → x ≡ variableWord y → {b : Bool} → b ≡ member x (slice (s .from) (s .to) k) → b ≡ holds y h
   held y f e d = d ∙ ap (λ z. member z (slice (s .from) (s .to) k)) e ∙ ap (member (variableWord y)) (side-whole v) ∙ member-hedge y f h (v .fine)
 
+-- the children of a single F(H) stand behind its first word
+pub children-here : {k : List ℕ} {i j : ℕ} (h : Hedge) {beyond : List ℕ} → Stands k i h beyond → loneFunctor (lookOf h) ≡ true → j ≡ forthIn (length k) i → Stands k j (childrenOf h) (hedgeWords (tail h) ++ beyond)
+children-here ε s e d = absurd (let z : _≡_ {A = ℕ} 0 1 = cc in omega arith)
+children-here (tvar x r) s e d = absurd (let z : _≡_ {A = ℕ} 0 1 = cc in omega arith)
+children-here (hvar p r) s e d = absurd (let z : _≡_ {A = ℕ} 0 1 = cc in omega arith)
+children-here (node f c r) s e d = children-stand s d
+
 -- two numbers are the same
 pub same-runs : {p q x y : HedgeVar} → p ≡ x → q ≡ y → eqb (p .0) (q .0) ≡ eqH x y
 same-runs {p} {q} {x} {y} e d = ap (λ (z : HedgeVar). eqb (z .0) (q .0)) e ∙ ap (λ (z : HedgeVar). eqb (x .0) (z .0)) d
+
+pub same-functions : {X Y x y : FunVar} → X ≡ x → Y ≡ y → eqb (X .0) (Y .0) ≡ eqX x y
+same-functions {X} {Y} {x} {y} e d = ap (λ (z : FunVar). eqb (z .0) (Y .0)) e ∙ ap (λ (z : FunVar). eqb (x .0) (z .0)) d
 
 pub same-symbols : {f g x y : Sym} → f ≡ x → g ≡ y → eqb (f .0) (g .0) ≡ eqS x y
 same-symbols {f} {g} {x} {y} e d = ap (λ (z : Sym). eqb (z .0) (g .0)) e ∙ ap (λ (z : Sym). eqb (x .0) (z .0)) d

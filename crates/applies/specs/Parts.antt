@@ -1,6 +1,6 @@
 -- What a test reads off a look, a name and the first word of an expression. Where there is no variable, name or symbol, the first of its kind stands for it.
 use Prim.Native.Nat.{ℕ}
-use mathlib.Core.Bool.{Bool, true, false}
+use mathlib.Core.Bool.{Bool, true, false, not}
 use lib.Dec.{eqb}
 use Rattle.language.specs.declared.TermVar.{TermVar}
 use Rattle.language.specs.declared.HedgeVar.{HedgeVar}
@@ -10,7 +10,8 @@ use Rattle.language.specs.declared.Name.{Name}
 use Rattle.language.specs.declared.Name.the-variants.{Symbol, Blank}
 use Rattle.language.specs.declared.Kind.{Kind}
 use Rattle.language.specs.declared.Kind.the-variants as kind
-use Rattle.language.specs.Trees.{eqS, eqX}
+use Rattle.language.specs.declared.Signature.{Signature}
+use Rattle.language.specs.Trees.{Hedge, ε, tvar, hvar, node, isUnordered, anyUnordered, eqS, eqX}
 use Rattle.views.specs.declared.Look.{Look}
 use Rattle.views.specs.declared.Look.the-variants.{Empty, Term, Run, Node}
 
@@ -124,6 +125,20 @@ isNamed f (Blank Y) = false
 abbrev pub sameName : Name → Name → Bool
 sameName (Symbol f) b = isNamed f b
 sameName (Blank X) b = isBlank X b
+
+-- its children stay in order
+abbrev pub keepsName : Signature → Name → Bool
+keepsName σ (Symbol f) = not (isUnordered σ f)
+keepsName σ (Blank X) = not (anyUnordered σ)
+
+-- ---- a hedge
+
+-- the children of its first element
+abbrev pub childrenOf : Hedge → Hedge
+childrenOf ε = ε
+childrenOf (tvar x r) = ε
+childrenOf (hvar p r) = ε
+childrenOf (node f c r) = c
 
 -- ---- the first word of an expression
 

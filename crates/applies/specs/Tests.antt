@@ -3,16 +3,18 @@ use Prim.Native.Nat.{ℕ}
 use mathlib.Core.Path.{_≡_}
 use mathlib.Core.Bool.{Bool, not, _&&_, _||_}
 use mathlib.Core.List.{List, [], _∷_, _++_}
-use Rattle.language.specs.Trees.{Hedge, Expr, Conj, eqH, eqS, sameWords, tv, hv, fv, holds, inConj}
+use Rattle.language.specs.declared.Signature.{Signature}
+use Rattle.language.specs.Trees.{Hedge, Expr, Conj, isUnordered, anyUnordered, eqH, eqS, eqX, sameWords, tv, hv, fv, holds, inConj}
 use Rattle.rules.specs.Looks.{hasTerm, allTerms, under, inside, upTo}
+use Rattle.rules.specs.Elements.{struck}
 use Rattle.rules.specs.Expressions.{nullable}
 use Rattle.rules.specs.Solved.{isSome}
-use Rattle.rules.specs.Places.{atR1, atR2, atF1, atF2, atF3, atF4, atF5, atF6, atF7, atDel1, atDel3, atD2, atD0, atE1, atE2, atE3, atE4, atE5, atE6, atM1, atM2, atM3, atM4, atM5, atM6, atM7, atM10, atM11}
+use Rattle.rules.specs.Places.{atR1, atR2, atF1, atF2, atF3, atF4, atF5, atF6, atF7, atDel1, atDel2, atDel3, atD1, atD2, atD0, atE1, atE2, atE3, atE4, atE5, atE6, atE7, atM1, atM2, atM3, atM4, atM5, atM6, atM7, atM10, atM11, atM12}
 use Rattle.views.specs.declared.View.{View}
 use Rattle.views.specs.declared.Shape.{Shape}
 use Rattle.views.specs.Looks.{lookOf, firstKind}
 use Rattle.views.specs.Views.{Sees, Shows}
-use Rattle.applies.specs.Parts.{isEmpty, isTerm, isRun, isLast, isBare, single, loneVariable, loneRun, loneFunctor, variableOf, runOf, nameIn, isSymbol, symbolOf, blankOf, isBlank, sameName, isForm, symbolIn}
+use Rattle.applies.specs.Parts.{isEmpty, isTerm, isRun, isLast, isBare, single, loneVariable, loneRun, loneFunctor, variableOf, runOf, nameIn, isSymbol, symbolOf, blankOf, isBlank, sameName, keepsName, childrenOf, isForm, symbolIn}
 
 -- ---- equations, from the side l
 
@@ -43,14 +45,26 @@ testF4 K l r = isEmpty (lookOf l) && hasTerm r
 abbrev pub testDel1 : EqTest
 testDel1 K l r = isRun (lookOf l) && (isRun (lookOf r) && eqH (runOf (lookOf l)) (runOf (lookOf r)))
 
+-- single terms with one and the same symbol, an unordered one
+abbrev pub oneShuffled : Signature → EqTest
+oneShuffled σ K l r =
+    loneFunctor (lookOf l) && (loneFunctor (lookOf r) && (isSymbol (nameIn (lookOf l)) && (isSymbol (nameIn (lookOf r))
+    && (eqS (symbolOf (nameIn (lookOf l))) (symbolOf (nameIn (lookOf r))) && isUnordered σ (symbolOf (nameIn (lookOf l)))))))
+
+abbrev pub testDel2 : Signature → EqTest
+testDel2 σ K l r = oneShuffled σ K l r && isSome (struck (childrenOf l) (childrenOf r))
+
 abbrev pub testDel3 : EqTest
 testDel3 K l r = loneRun (lookOf l) && isSome (inside (runOf (lookOf l)) r)
+
+abbrev pub testD1 : Signature → EqTest
+testD1 σ K l r = oneShuffled σ K l r && (allTerms (childrenOf r) && not (isSome (struck (childrenOf l) (childrenOf r))))
 
 abbrev pub testD2 : EqTest
 testD2 K l r = isTerm (lookOf l) && (isTerm (lookOf r) && not (isLast (lookOf l) && isLast (lookOf r)))
 
-abbrev pub testD0 : EqTest
-testD0 K l r = loneFunctor (lookOf l) && (loneFunctor (lookOf r) && sameName (nameIn (lookOf l)) (nameIn (lookOf r)))
+abbrev pub testD0 : Signature → EqTest
+testD0 σ K l r = loneFunctor (lookOf l) && (loneFunctor (lookOf r) && (sameName (nameIn (lookOf l)) (nameIn (lookOf r)) && keepsName σ (nameIn (lookOf l))))
 
 abbrev pub testE1 : EqTest
 testE1 K l r =
@@ -82,12 +96,17 @@ testE6 K l r =
     loneFunctor (lookOf l) && (not (isSymbol (nameIn (lookOf l))) && (loneFunctor (lookOf r)
     && (not (isBare (lookOf l) && isBare (lookOf r)) && not (isBlank (blankOf (nameIn (lookOf l))) (nameIn (lookOf r))))))
 
+abbrev pub testE7 : Signature → EqTest
+testE7 σ K l r =
+    loneFunctor (lookOf l) && (not (isSymbol (nameIn (lookOf l))) && (loneFunctor (lookOf r) && (not (isSymbol (nameIn (lookOf r)))
+    && (eqX (blankOf (nameIn (lookOf l))) (blankOf (nameIn (lookOf r))) && (not (sameWords l r) && anyUnordered σ)))))
+
 -- the place of each rule of equations, and its test
-abbrev pub equationTests : List (ℕ × EqTest)
-equationTests =
+abbrev pub equationTests : Signature → List (ℕ × EqTest)
+equationTests σ =
     (atR1, testR1) ∷ (atF1, testF1) ∷ (atF2, testF2) ∷ (atF3, testF3) ∷ (atF4, testF4)
-    ∷ (atDel1, testDel1) ∷ (atDel3, testDel3) ∷ (atD2, testD2) ∷ (atD0, testD0)
-    ∷ (atE1, testE1) ∷ (atE2, testE2) ∷ (atE3, testE3) ∷ (atE4, testE4) ∷ (atE5, testE5) ∷ (atE6, testE6)
+    ∷ (atDel1, testDel1) ∷ (atDel2, testDel2 σ) ∷ (atDel3, testDel3) ∷ (atD1, testD1 σ) ∷ (atD2, testD2) ∷ (atD0, testD0 σ)
+    ∷ (atE1, testE1) ∷ (atE2, testE2) ∷ (atE3, testE3) ∷ (atE4, testE4) ∷ (atE5, testE5) ∷ (atE6, testE6) ∷ (atE7, testE7 σ)
     ∷ []
 
 -- ---- memberships
@@ -131,13 +150,19 @@ testM7 h R = isRun (lookOf h) && isForm 7002 (firstKind R)
 abbrev pub testM10 : InTest
 testM10 h R = loneFunctor (lookOf h) && (not (isSymbol (nameIn (lookOf h))) && isForm 3000 (firstKind R))
 
-abbrev pub testM11 : InTest
-testM11 h R =
-    loneFunctor (lookOf h) && (isSymbol (nameIn (lookOf h)) && (isForm 3000 (firstKind R) && eqS (symbolOf (nameIn (lookOf h))) (symbolIn (firstKind R))))
+abbrev pub testM11 : Signature → InTest
+testM11 σ h R =
+    loneFunctor (lookOf h) && (isSymbol (nameIn (lookOf h)) && (isForm 3000 (firstKind R)
+    && (eqS (symbolOf (nameIn (lookOf h))) (symbolIn (firstKind R)) && not (isUnordered σ (symbolOf (nameIn (lookOf h)))))))
+
+abbrev pub testM12 : Signature → InTest
+testM12 σ h R =
+    loneFunctor (lookOf h) && (isSymbol (nameIn (lookOf h)) && (isForm 3000 (firstKind R)
+    && (eqS (symbolOf (nameIn (lookOf h))) (symbolIn (firstKind R)) && (isUnordered σ (symbolOf (nameIn (lookOf h))) && allTerms (childrenOf h)))))
 
 -- the place of each rule of memberships, and its test
-abbrev pub membershipTests : List (ℕ × InTest)
-membershipTests =
+abbrev pub membershipTests : Signature → List (ℕ × InTest)
+membershipTests σ =
     (atR2, testR2) ∷ (atF5, testF5) ∷ (atF6, testF6) ∷ (atF7, testF7)
-    ∷ (atM1, testM1) ∷ (atM2, testM2) ∷ (atM3, testM3) ∷ (atM4, singleIn 7003) ∷ (atM5, singleIn 7001) ∷ (atM6, singleIn 7002) ∷ (atM7, testM7) ∷ (atM10, testM10) ∷ (atM11, testM11)
+    ∷ (atM1, testM1) ∷ (atM2, testM2) ∷ (atM3, testM3) ∷ (atM4, singleIn 7003) ∷ (atM5, singleIn 7001) ∷ (atM6, singleIn 7002) ∷ (atM7, testM7) ∷ (atM10, testM10) ∷ (atM11, testM11 σ) ∷ (atM12, testM12 σ)
     ∷ []

@@ -1,9 +1,17 @@
 // Whether a rule of equations applies, seen from the left side: a test for each, over what the search looks at.
-ghost use mathlib.Core.Bool.{not, _||_};
-ghost use Rattle.language.specs.Trees.{tv, hv, inConj};
+ghost use Prim.Native.Nat.{ℕ};
+ghost use mathlib.Core.Path.{_≡_};
+ghost use mathlib.Core.Bool.{true, not, _||_};
+ghost use mathlib.Core.List.{List};
+ghost use Rattle.language.specs.Trees.{Hedge, Conj, tv, hv, inConj};
+ghost use Rattle.rules.specs.Looks.{allTerms};
+ghost use Rattle.rules.specs.Elements.{struck};
+ghost use Rattle.rules.specs.Solved.{isSome};
 ghost use Rattle.views.specs.Looks.{lookOf};
-ghost use Rattle.applies.specs.Parts.{loneVariable, loneRun, variableOf, runOf};
-ghost use Rattle.applies.specs.Tests.{Asks, testR1, testF1, testF2, testF3, testF4, testDel1, testDel3, testD2, testD0, testE1, testE2, testE3, testE4, blanksIn, testE5, testE6};
+ghost use Rattle.views.specs.Standing.{Stands};
+ghost use Rattle.views.specs.Views.{Sees};
+ghost use Rattle.applies.specs.Parts.{loneVariable, loneRun, loneFunctor, variableOf, runOf, childrenOf};
+ghost use Rattle.applies.specs.Tests.{Asks, testR1, testF1, testF2, testF3, testF4, testDel1, oneShuffled, testDel2, testDel3, testD1, testD2, testD0, testE1, testE2, testE3, testE4, blanksIn, testE5, testE6, testE7};
 use crate::looks::blank_of;
 use crate::looks::is_bare;
 use crate::looks::is_blank;
@@ -12,6 +20,7 @@ use crate::looks::is_last;
 use crate::looks::is_run;
 use crate::looks::is_symbol;
 use crate::looks::is_term;
+use crate::looks::keeps_order;
 use crate::looks::lone_functor;
 use crate::looks::lone_run;
 use crate::looks::lone_variable;
@@ -28,9 +37,14 @@ use finds::has_term;
 use finds::inside;
 use finds::under;
 use finds::up_to;
+use language::Signature;
+use language::any_unordered;
 use language::function_word;
+use language::is_unordered;
 use language::run_word;
 use language::term_word;
+use plans::inner;
+use sharing::first_shared;
 use views::Side;
 use views::View;
 use words::elsewhere;
@@ -109,6 +123,52 @@ pub fn del1(k: &[u16], v: View) -> bool
     and(is_run(a), and(is_run(b), p.0 == q.0))
 }
 
+// Single terms with one and the same symbol, an unordered one.
+fn shuffled(k: &[u16], v: View, signature: Signature) -> bool
+    ensures { λ b. ⌜ Asks (oneShuffled signature) (now (k .entry)) v b ⌝ }
+{
+    let l = v.l;
+    let r = v.r;
+    let a = l.look;
+    let b = r.look;
+    let f = name_in(a);
+    let g = name_in(b);
+    let c = symbol_of(f);
+    let d = symbol_of(g);
+    let same = and(c.0 == d.0, is_unordered(signature, c));
+    let symbols = and(is_symbol(f), and(is_symbol(g), same));
+    and(lone_functor(a), and(lone_functor(b), symbols))
+}
+
+// Of single terms, the children share an element.
+fn children_shared(k: &[u16], v: View) -> bool
+    ensures { λ b. ⌜ ((before behind : Conj) (l r : Hedge) → Sees (now (k .entry)) v before l r behind → loneFunctor (lookOf l) ≡ true → loneFunctor (lookOf r) ≡ true → b ≡ isSome (struck (childrenOf l) (childrenOf r))) ⌝ }
+{
+    let l = v.l;
+    let r = v.r;
+    let c = inner(k, l.from, l.to);
+    let d = inner(k, r.from, r.to);
+    let spots = first_shared(k, c.from, d.from);
+    spots.found
+}
+
+// Of a single term, the children are terms.
+pub fn child_terms(k: &[u16], from: usize) -> bool
+    ensures { λ b. ⌜ ((h : Hedge) (beyond : List ℕ) → Stands (now (k .entry)) from h beyond → loneFunctor (lookOf h) ≡ true → b ≡ allTerms (childrenOf h)) ⌝ }
+{
+    let c = inner(k, from, from);
+    let terms = all_terms(k, c.from);
+    terms.all
+}
+
+// Del2: single terms with one unordered symbol, whose children share an element.
+pub fn del2(k: &[u16], v: View, signature: Signature) -> bool
+    ensures { λ b. ⌜ Asks (testDel2 signature) (now (k .entry)) v b ⌝ }
+{
+    let one = shuffled(k, v, signature);
+    and(one, children_shared(k, v))
+}
+
 // Del3: p against a hedge that has p behind another element.
 pub fn del3(k: &[u16], v: View) -> bool
     ensures { λ b. ⌜ Asks testDel3 (now (k .entry)) v b ⌝ }
@@ -118,6 +178,17 @@ pub fn del3(k: &[u16], v: View) -> bool
     let a = l.look;
     let spot = inside(k, r.from, run_of(a));
     and(lone_run(a), spot.found)
+}
+
+// D1: single terms with one unordered symbol, whose children share no element; on the right they are terms.
+pub fn d1(k: &[u16], v: View, signature: Signature) -> bool
+    ensures { λ b. ⌜ Asks (testD1 signature) (now (k .entry)) v b ⌝ }
+{
+    let r = v.r;
+    let one = shuffled(k, v, signature);
+    let terms = child_terms(k, r.from);
+    let shared = children_shared(k, v);
+    and(one, and(terms, !shared))
 }
 
 // D2: terms in front of both, and something behind one of them.
@@ -132,15 +203,16 @@ pub fn d2(k: &[u16], v: View) -> bool
     and(is_term(a), and(is_term(b), !ends))
 }
 
-// D0: single terms with the same functor.
-pub fn d0(k: &[u16], v: View) -> bool
-    ensures { λ b. ⌜ Asks testD0 (now (k .entry)) v b ⌝ }
+// D0: single terms with the same functor, whose children stay in order.
+pub fn d0(k: &[u16], v: View, signature: Signature) -> bool
+    ensures { λ b. ⌜ Asks (testD0 signature) (now (k .entry)) v b ⌝ }
 {
     let l = v.l;
     let r = v.r;
     let a = l.look;
     let b = r.look;
-    let same = same_name(name_in(a), name_in(b));
+    let f = name_in(a);
+    let same = and(same_name(f, name_in(b)), keeps_order(signature, f));
     and(lone_functor(a), and(lone_functor(b), same))
 }
 
@@ -265,4 +337,24 @@ pub fn e6(k: &[u16], v: View) -> bool
         lone_functor(a),
         and(!symbol, and(lone_functor(b), and(!bare, !same))),
     )
+}
+
+// E7: X(..) against X(..) with other words, where some symbol is unordered.
+pub fn e7(k: &[u16], v: View, signature: Signature) -> bool
+    ensures { λ b. ⌜ Asks (testE7 signature) (now (k .entry)) v b ⌝ }
+{
+    let l = v.l;
+    let r = v.r;
+    let a = l.look;
+    let b = r.look;
+    let f = name_in(a);
+    let g = name_in(b);
+    let left = is_symbol(f);
+    let right = is_symbol(g);
+    let x = blank_of(f);
+    let y = blank_of(g);
+    let same = r1(k, v);
+    let every = and(!same, any_unordered(signature));
+    let blanks = and(!right, and(x.0 == y.0, every));
+    and(lone_functor(a), and(!left, and(lone_functor(b), blanks)))
 }

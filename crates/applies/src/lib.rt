@@ -11,8 +11,10 @@ mod looks;
 mod membership;
 
 use equation::d0;
+use equation::d1;
 use equation::d2;
 use equation::del1;
+use equation::del2;
 use equation::del3;
 use equation::e1;
 use equation::e2;
@@ -20,11 +22,13 @@ use equation::e3;
 use equation::e4;
 use equation::e5;
 use equation::e6;
+use equation::e7;
 use equation::f1;
 use equation::f2;
 use equation::f3;
 use equation::f4;
 use equation::r1;
+use language::Signature;
 use membership::f5;
 use membership::f6;
 use membership::f7;
@@ -34,11 +38,14 @@ use membership::m3;
 use membership::m7;
 use membership::m10;
 use membership::m11;
+use membership::m12;
 use membership::r2;
 use membership::single_in;
 use rules::places::AT_D0;
+use rules::places::AT_D1;
 use rules::places::AT_D2;
 use rules::places::AT_DEL1;
+use rules::places::AT_DEL2;
 use rules::places::AT_DEL3;
 use rules::places::AT_E1;
 use rules::places::AT_E2;
@@ -46,6 +53,7 @@ use rules::places::AT_E3;
 use rules::places::AT_E4;
 use rules::places::AT_E5;
 use rules::places::AT_E6;
+use rules::places::AT_E7;
 use rules::places::AT_F1;
 use rules::places::AT_F2;
 use rules::places::AT_F3;
@@ -62,15 +70,16 @@ use rules::places::AT_M6;
 use rules::places::AT_M7;
 use rules::places::AT_M10;
 use rules::places::AT_M11;
+use rules::places::AT_M12;
 use rules::places::AT_R1;
 use rules::places::AT_R2;
 use views::Shape;
 use views::View;
 
 // The rule of that place applies to the equation, seen from its left side.
-pub fn equation_applies(rank: usize, k: &[u16], v: View) -> bool
+pub fn equation_applies(rank: usize, k: &[u16], v: View, signature: Signature) -> bool
     requires { ⌜ EquationAt (now k) v ⌝ }
-    ensures { λ b. ⌜ ((before behind : Conj) (l r : Hedge) → Sees (now (k .entry)) v before l r behind → b ≡ isSome (eqnAnswer rank (before ++ behind) l r)) ⌝ }
+    ensures { λ b. ⌜ ((before behind : Conj) (l r : Hedge) → Sees (now (k .entry)) v before l r behind → b ≡ isSome (eqnAnswer signature rank (before ++ behind) l r)) ⌝ }
 {
     match rank {
         AT_R1 => r1(k, v),
@@ -79,23 +88,26 @@ pub fn equation_applies(rank: usize, k: &[u16], v: View) -> bool
         AT_F3 => f3(k, v),
         AT_F4 => f4(k, v),
         AT_DEL1 => del1(k, v),
+        AT_DEL2 => del2(k, v, signature),
         AT_DEL3 => del3(k, v),
+        AT_D1 => d1(k, v, signature),
         AT_D2 => d2(k, v),
-        AT_D0 => d0(k, v),
+        AT_D0 => d0(k, v, signature),
         AT_E1 => e1(k, v),
         AT_E2 => e2(k, v),
         AT_E3 => e3(k, v),
         AT_E4 => e4(k, v),
         AT_E5 => e5(k, v),
         AT_E6 => e6(k, v),
+        AT_E7 => e7(k, v, signature),
         _ => false,
     }
 }
 
 // The rule of that place applies to the membership.
-pub fn membership_applies(rank: usize, k: &[u16], s: Shape) -> bool
+pub fn membership_applies(rank: usize, k: &[u16], s: Shape, signature: Signature) -> bool
     requires { ⌜ MembershipAt (now k) s ⌝ }
-    ensures { λ b. ⌜ ((before : Conj) (h : Hedge) (R : Expr) (behind : Conj) → Shows (now (k .entry)) s before h R behind → b ≡ isSome (memAnswer rank (before ++ behind) h R)) ⌝ }
+    ensures { λ b. ⌜ ((before : Conj) (h : Hedge) (R : Expr) (behind : Conj) → Shows (now (k .entry)) s before h R behind → b ≡ isSome (memAnswer signature rank (before ++ behind) h R)) ⌝ }
 {
     match rank {
         AT_R2 => r2(k, s),
@@ -110,7 +122,8 @@ pub fn membership_applies(rank: usize, k: &[u16], s: Shape) -> bool
         AT_M6 => single_in(k, s, 7002),
         AT_M7 => m7(k, s),
         AT_M10 => m10(k, s),
-        AT_M11 => m11(k, s),
+        AT_M11 => m11(k, s, signature),
+        AT_M12 => m12(k, s, signature),
         _ => false,
     }
 }

@@ -1,12 +1,15 @@
 // What a test reads off a look, a name and the first word of an expression.
 ghost use mathlib.Core.Path.{_≡_};
-ghost use Rattle.applies.specs.Parts.{isEmpty, isTerm, isRun, isLast, isBare, single as singleTerm, loneVariable, loneRun, loneFunctor, variableOf, runOf, nameIn, isSymbol, symbolOf, blankOf, isBlank, isNamed, sameName, formWord, symbolIn};
+ghost use Rattle.applies.specs.Parts.{isEmpty, isTerm, isRun, isLast, isBare, single as singleTerm, loneVariable, loneRun, loneFunctor, variableOf, runOf, nameIn, isSymbol, symbolOf, blankOf, isBlank, isNamed, sameName, keepsName, formWord, symbolIn};
 use language::FunVar;
 use language::HedgeVar;
 use language::Kind;
 use language::Name;
+use language::Signature;
 use language::Sym;
 use language::TermVar;
+use language::any_unordered;
+use language::is_unordered;
 use views::Look;
 
 // Nothing stands there.
@@ -210,6 +213,22 @@ pub fn same_name(a: Name, b: Name) -> bool
     match a {
         Name::Symbol(f) => is_named(f, b),
         Name::Blank(x) => is_blank(x, b),
+    }
+}
+
+// Its children stay in order.
+pub fn keeps_order(signature: Signature, name: Name) -> bool
+    ensures { λ r. ⌜ r ≡ keepsName signature name ⌝ }
+{
+    match name {
+        Name::Symbol(f) => {
+            let shuffled = is_unordered(signature, f);
+            !shuffled
+        }
+        Name::Blank(_) => {
+            let some = any_unordered(signature);
+            !some
+        }
     }
 }
 

@@ -1,7 +1,8 @@
 // Whether a rule of memberships applies: a test for each, over what the search looks at.
 ghost use mathlib.Core.Path.{_≡_};
 ghost use Rattle.applies.specs.Parts.{formWord, symbolIn};
-ghost use Rattle.applies.specs.Tests.{AsksIn, singleIn, testR2, testF5, testF6, testF7, testM1, testM2, testM3, testM7, testM10, testM11};
+ghost use Rattle.applies.specs.Tests.{AsksIn, singleIn, testR2, testF5, testF6, testF7, testM1, testM2, testM3, testM7, testM10, testM11, testM12};
+use crate::equation::child_terms;
 use crate::looks::form_word;
 use crate::looks::is_empty;
 use crate::looks::is_last;
@@ -16,7 +17,9 @@ use crate::looks::symbol_of;
 use bools::and;
 use expressions::pass;
 use finds::has_term;
+use language::Signature;
 use language::Sym;
+use language::is_unordered;
 use views::Shape;
 use views::Side;
 
@@ -138,15 +141,30 @@ pub fn m10(k: &[u16], s: Shape) -> bool
     and(lone_functor(a), and(!symbol, form_of(s) == 3000))
 }
 
-// M11: f(H) in f(R).
-pub fn m11(k: &[u16], s: Shape) -> bool
-    ensures { λ b. ⌜ AsksIn testM11 (now (k .entry)) s b ⌝ }
+// M11: f(H) in f(R), f ordered.
+pub fn m11(k: &[u16], s: Shape, signature: Signature) -> bool
+    ensures { λ b. ⌜ AsksIn (testM11 signature) (now (k .entry)) s b ⌝ }
 {
     let h = s.h;
     let a = h.look;
     let f = name_in(a);
     let c = symbol_of(f);
     let d = symbol_at(s);
-    let same = and(form_of(s) == 3000, c.0 == d.0);
+    let shuffled = is_unordered(signature, c);
+    let same = and(form_of(s) == 3000, and(c.0 == d.0, !shuffled));
+    and(lone_functor(a), and(is_symbol(f), same))
+}
+
+// M12: f(T) in f(R), f unordered.
+pub fn m12(k: &[u16], s: Shape, signature: Signature) -> bool
+    ensures { λ b. ⌜ AsksIn (testM12 signature) (now (k .entry)) s b ⌝ }
+{
+    let h = s.h;
+    let a = h.look;
+    let f = name_in(a);
+    let c = symbol_of(f);
+    let d = symbol_at(s);
+    let terms = and(is_unordered(signature, c), child_terms(k, h.from));
+    let same = and(form_of(s) == 3000, and(c.0 == d.0, terms));
     and(lone_functor(a), and(is_symbol(f), same))
 }

@@ -1,5 +1,6 @@
 // The words that the program is started with.
 use crate::status::FAILED;
+use print::say;
 use print::warn;
 
 // Whether two texts are the same.
@@ -38,6 +39,19 @@ pub(crate) fn warn_of(i: usize) {
     let mut text = io::buffer();
     let n = os::arg(i, &mut text);
     warn(&text[..n]);
+}
+
+// How many bytes argument `i` has.
+pub(crate) fn length_of(i: usize) -> usize {
+    let mut text = io::buffer();
+    os::arg(i, &mut text)
+}
+
+// Says argument `i`.
+pub(crate) fn say_of(i: usize) {
+    let mut text = io::buffer();
+    let n = os::arg(i, &mut text);
+    say(&text[..n]);
 }
 
 // Says how a command is used.

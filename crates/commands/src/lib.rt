@@ -1,5 +1,6 @@
-// The commands of the desk at its prompt: a question solved, a filling tried, an example shown.
+// The commands of the desk at its prompt: a question solved, a filling tried, an example shown, many questions in a table.
 mod arguments;
+mod day;
 mod files;
 mod status;
 
@@ -29,7 +30,7 @@ use wording::answer::filling;
 use wording::help::help;
 use wording::help::version;
 use wording::mistakes::mistake;
-use wording::refusals::refusal;
+use wording::reasons::refusal;
 
 fn wide(n: u16) -> u64 {
     n as u64
@@ -42,22 +43,23 @@ enum End {
 }
 
 // Says what solving came to.
-fn solved(s: Solved, answer: &[u16]) -> End {
+fn solved<'a>(s: Solved, question: &'a [u16], answer: &'a [u16]) -> End {
     let outcome = s.outcome;
     match outcome {
         Outcome::Refused(r) => End::Refused(r),
         Outcome::NoLine => {
-            answered(b"none: nothing meets the question\n", s, answer);
+            answered(b"none: nothing meets the question\n", s, question, answer);
             End::Said(NOTHING)
         }
         Outcome::AllSolved => {
-            answered(b"settled: every line can be met\n", s, answer);
+            answered(b"settled: every line can be met\n", s, question, answer);
             End::Said(FOUND)
         }
         Outcome::SomeOpen => {
             answered(
                 b"still open: there may be something that meets an open line, or nothing\n",
                 s,
+                question,
                 answer,
             );
             End::Said(FOUND)
@@ -69,7 +71,7 @@ fn solve(question: &[u16]) -> End {
     let mut work = [0u16; ROOM];
     let mut answer = [0u16; ROOM];
     let s = solver::solve(question, &mut work, &mut answer);
-    solved(s, &answer)
+    solved(s, question, &answer)
 }
 
 fn tell(t: Tried) -> End {
@@ -164,8 +166,8 @@ fn ask(command: Command, question: &[u16], i: usize) -> End {
 
 // Says why a question is refused, and shows the word that is to blame, if one is. Its text is that of the file that argument `i` names.
 fn refuse<'a>(r: Refusal, question: &'a [u16], text: &'a [u8], i: usize) -> u8 {
-    refusal(wide(language::number(r)));
-    if language::place(r) != 0 {
+    refusal(wide(refusals::number(r)));
+    if refusals::place(r) != 0 {
         name_of(i);
         mistake(r, question, text);
     }
@@ -233,6 +235,15 @@ fn example_command(i: usize) -> u8
     example_of(Command::Example, i + 1)
 }
 
+fn day_command(i: usize) -> u8
+    requires { ⌜ i < 9 ⌝ }
+{
+    if os::arg_count() <= i + 1 {
+        return wrong_use(b"day takes files, with a question in each");
+    }
+    day::table(i + 1)
+}
+
 // What asks for no question.
 fn other_command(i: usize) -> u8 {
     if is(i, b"--help") {
@@ -249,7 +260,7 @@ fn other_command(i: usize) -> u8 {
     warn(b"desk: no command ");
     warn_of(i);
     warn(b"\n");
-    wrong_use(b"the commands are solve, try and example")
+    wrong_use(b"the commands are solve, try, example and day")
 }
 
 // Does what argument `i` and those behind it ask for.
@@ -264,6 +275,9 @@ fn run(i: usize) -> u8
     }
     if is(i, b"example") {
         return example_command(i);
+    }
+    if is(i, b"day") {
+        return day_command(i);
     }
     other_command(i)
 }

@@ -11,7 +11,7 @@ use Rattle.language.specs.declared.Refusal.{Refusal}
 use Rattle.language.specs.declared.Refusal.the-variants.{ShortSlice}
 use Rattle.language.specs.Numbers.{numberOf}
 use Rattle.language.specs.Limits.{desk}
-use Rattle.language.specs.Trees.{Question}
+use Rattle.language.specs.Trees.{signature, Question}
 use Rattle.language.specs.Question.{Asked, asks, readQuestion}
 use Rattle.rules.specs.Run.{Numbered, Outcome, finished, run}
 use Rattle.rules.specs.Answer.{Solving, answered, unread, solvingOf, solving, markOf}
@@ -19,7 +19,7 @@ use Rattle.rules.specs.Each.{Each}
 use Rattle.solver.specs.Leaves.{leaves}
 use Rattle.example.specs.Answers.{Answer}
 use Rattle.example.proofs.Finished.{lines-end}
-use Rattle.host.proofs.Refusals.{each-number}
+use Rattle.language.proofs.Numbering.{each-number}
 use Rattle.demands.specs.Answers.{Line, numberedOf}
 use Rattle.demands.specs.Promises.{Promised}
 use Rattle.demands.proofs.Reading.{asLine}
@@ -38,7 +38,7 @@ stands work answer question old ls n e =
 pub one-answer : {q r : List ℕ} → q ≡ r → {a b : List ℕ} (p : Promised q a) (o : Promised r b) → (p .asked ≡ o .asked) × (p .lines ≡ o .lines)
 one-answer e p o =
     let same : p .asked ≡ o .asked = asks-one (p .question-read) (ap (readQuestion desk) e ∙ o .question-read) in
-    let ran : numberedOf (p .lines) ≡ numberedOf (o .lines) = finished-one (p .by-rules .run) (ap (λ (x : Question). run desk (x .alternatives)) same ∙ o .by-rules .run) in
+    let ran : numberedOf (p .lines) ≡ numberedOf (o .lines) = finished-one (p .by-rules .run) (ap (λ (x : Question). run desk (signature (x .counts)) (x .alternatives)) same ∙ o .by-rules .run) in
     (same, whole (p .lines) (p .by-rules .marks) ∙ ap (map asLine) ran ∙ sym (whole (o .lines) (o .by-rules .marks)))
   where
     asks-one : {x : Asked} {y z : Question} → x ≡ asks y → x ≡ asks z → y ≡ z

@@ -3,7 +3,7 @@ use Prim.Native.Nat.{_≤_}
 use mathlib.Core.Path.{_≡_, refl}
 use native.Mathlib.Omega.{arith}
 use Rattle.language.specs.declared.Refusal.{Refusal}
-use Rattle.language.specs.declared.Refusal.the-variants.{ShortSlice, QuestionLength, CountRange, BadOffset, NotLiterals, Undeclared, LongResult, LongWaiting, LineRoom, StepLimit, FillingLayout, FillingValue, LongLiteral, NoSuchLine, OpenLine, LongExample}
+use Rattle.language.specs.declared.Refusal.the-variants.{ShortSlice, QuestionLength, CountRange, BadOffset, NotLiterals, Undeclared, LongResult, LongWaiting, LineRoom, StepLimit, FillingLayout, FillingValue, LongLiteral, NoSuchLine, OpenLine, LongExample, SheetLayout, LongAnswers}
 use Rattle.language.specs.Numbers.{numberOf}
 use Rattle.demands.specs.Columns.{column, unchanged, zeroed}
 
@@ -24,6 +24,8 @@ early-column LongLiteral p = absurd (omega arith)
 early-column NoSuchLine p = absurd (omega arith)
 early-column OpenLine p = absurd (omega arith)
 early-column LongExample p = absurd (omega arith)
+early-column SheetLayout p = absurd (omega arith)
+early-column LongAnswers p = absurd (omega arith)
 
 pub late-column : (e : Refusal) → 7 ≤ numberOf e → numberOf e ≤ 10 → column e ≡ zeroed
 late-column ShortSlice p q = absurd (omega arith)
@@ -42,3 +44,5 @@ late-column LongLiteral p q = absurd (omega arith)
 late-column NoSuchLine p q = absurd (omega arith)
 late-column OpenLine p q = absurd (omega arith)
 late-column LongExample p q = absurd (omega arith)
+late-column SheetLayout p q = absurd (omega arith)
+late-column LongAnswers p q = absurd (omega arith)

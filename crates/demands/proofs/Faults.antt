@@ -52,8 +52,11 @@ module _ (n : Counts) (c : ℕ) where
   abbrev t₂ : Bool
   t₂ = leb 1 (n .symbols) && leb (n .symbols) (desk .each)
 
+  abbrev t₂₂ : Bool
+  t₂₂ = t₂ && leb (n .unordered) (n .symbols)
+
   abbrev t₃ : Bool
-  t₃ = t₂ && leb (n .terms) (desk .each)
+  t₃ = t₂₂ && leb (n .terms) (desk .each)
 
   abbrev t₄ : Bool
   t₄ = t₃ && leb (n .hedges) (desk .each)
@@ -69,21 +72,25 @@ module _ (n : Counts) (c : ℕ) where
       go₂ (inl f) = inl (over-bound 1 (n .symbols) f)
       go₂ (inr f) = inr (inl (over-bound (n .symbols) (desk .each) f))
 
-      go₃ : (t₂ ≡ false) ⊎ (leb (n .terms) (desk .each) ≡ false) → OutOfRange n c
-      go₃ (inl e) = go₂ (either-false (leb 1 (n .symbols)) (leb (n .symbols) (desk .each)) e)
-      go₃ (inr f) = inr (inr (inl (over-bound (n .terms) (desk .each) f)))
+      go₂₂ : (t₂ ≡ false) ⊎ (leb (n .unordered) (n .symbols) ≡ false) → OutOfRange n c
+      go₂₂ (inl e) = go₂ (either-false (leb 1 (n .symbols)) (leb (n .symbols) (desk .each)) e)
+      go₂₂ (inr f) = inr (inr (inl (over-bound (n .unordered) (n .symbols) f)))
+
+      go₃ : (t₂₂ ≡ false) ⊎ (leb (n .terms) (desk .each) ≡ false) → OutOfRange n c
+      go₃ (inl e) = go₂₂ (either-false t₂ (leb (n .unordered) (n .symbols)) e)
+      go₃ (inr f) = inr (inr (inr (inl (over-bound (n .terms) (desk .each) f))))
 
       go₄ : (t₃ ≡ false) ⊎ (leb (n .hedges) (desk .each) ≡ false) → OutOfRange n c
-      go₄ (inl e) = go₃ (either-false t₂ (leb (n .terms) (desk .each)) e)
-      go₄ (inr f) = inr (inr (inr (inl (over-bound (n .hedges) (desk .each) f))))
+      go₄ (inl e) = go₃ (either-false t₂₂ (leb (n .terms) (desk .each)) e)
+      go₄ (inr f) = inr (inr (inr (inr (inl (over-bound (n .hedges) (desk .each) f)))))
 
       go₅ : (t₄ ≡ false) ⊎ (leb (n .functions) (desk .each) ≡ false) → OutOfRange n c
       go₅ (inl e) = go₄ (either-false t₃ (leb (n .hedges) (desk .each)) e)
-      go₅ (inr f) = inr (inr (inr (inr (inl (over-bound (n .functions) (desk .each) f)))))
+      go₅ (inr f) = inr (inr (inr (inr (inr (inl (over-bound (n .functions) (desk .each) f))))))
 
       go₆ : (t₅ ≡ false) ⊎ (leb c (desk .alternatives) ≡ false) → OutOfRange n c
       go₆ (inl e) = go₅ (either-false t₄ (leb (n .functions) (desk .each)) e)
-      go₆ (inr f) = inr (inr (inr (inr (inr (over-bound c (desk .alternatives) f)))))
+      go₆ (inr f) = inr (inr (inr (inr (inr (inr (over-bound c (desk .alternatives) f))))))
 
   count-on : countsFit desk n c ≡ true → OutOfRange n c → ⊥
   unfolding countsFit
@@ -91,18 +98,20 @@ module _ (n : Counts) (c : ℕ) where
       let (e₅, f) = both-true t₅ (leb c (desk .alternatives)) e in
       let (e₄, x) = both-true t₄ (leb (n .functions) (desk .each)) e₅ in
       let (e₃, h) = both-true t₃ (leb (n .hedges) (desk .each)) e₄ in
-      let (e₂, t) = both-true t₂ (leb (n .terms) (desk .each)) e₃ in
+      let (e₂₂, t) = both-true t₂₂ (leb (n .terms) (desk .each)) e₃ in
+      let (e₂, u) = both-true t₂ (leb (n .unordered) (n .symbols)) e₂₂ in
       let (a, s) = both-true (leb 1 (n .symbols)) (leb (n .symbols) (desk .each)) e₂ in
-      go a s t h x f
+      go a s u t h x f
     where
-      go : leb 1 (n .symbols) ≡ true → leb (n .symbols) (desk .each) ≡ true → leb (n .terms) (desk .each) ≡ true → leb (n .hedges) (desk .each) ≡ true
+      go : leb 1 (n .symbols) ≡ true → leb (n .symbols) (desk .each) ≡ true → leb (n .unordered) (n .symbols) ≡ true → leb (n .terms) (desk .each) ≡ true → leb (n .hedges) (desk .each) ≡ true
           → leb (n .functions) (desk .each) ≡ true → leb c (desk .alternatives) ≡ true → OutOfRange n c → ⊥
-      go a s t h x f (inl l) = within-bound 1 (n .symbols) a l
-      go a s t h x f (inr (inl l)) = within-bound (n .symbols) (desk .each) s l
-      go a s t h x f (inr (inr (inl l))) = within-bound (n .terms) (desk .each) t l
-      go a s t h x f (inr (inr (inr (inl l)))) = within-bound (n .hedges) (desk .each) h l
-      go a s t h x f (inr (inr (inr (inr (inl l))))) = within-bound (n .functions) (desk .each) x l
-      go a s t h x f (inr (inr (inr (inr (inr l))))) = within-bound c (desk .alternatives) f l
+      go a s u t h x f (inl l) = within-bound 1 (n .symbols) a l
+      go a s u t h x f (inr (inl l)) = within-bound (n .symbols) (desk .each) s l
+      go a s u t h x f (inr (inr (inl l))) = within-bound (n .unordered) (n .symbols) u l
+      go a s u t h x f (inr (inr (inr (inl l)))) = within-bound (n .terms) (desk .each) t l
+      go a s u t h x f (inr (inr (inr (inr (inl l))))) = within-bound (n .hedges) (desk .each) h l
+      go a s u t h x f (inr (inr (inr (inr (inr (inl l)))))) = within-bound (n .functions) (desk .each) x l
+      go a s u t h x f (inr (inr (inr (inr (inr (inr l)))))) = within-bound c (desk .alternatives) f l
 
 -- ---- the question
 

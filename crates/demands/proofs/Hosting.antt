@@ -1,5 +1,5 @@
 -- What is shown of any call on bytes that came back.
-use Prim.Native.Nat.{ℕ, zero, suc, _+_, _*_, _/_, _%_, _≤_}
+use Prim.Native.Nat.{ℕ, _+_, _*_, _/_, _%_, _≤_}
 use mathlib.Core.Path.{_≡_, refl, sym, ap, subst, _∙_}
 use mathlib.Core.Logic.{_⊎_, inl, inr}
 use mathlib.Core.Bool.{Bool, true, false}
@@ -20,13 +20,14 @@ use Rattle.meaning.specs.Meaning.{Filling, MeetsQuestion}
 use Rattle.meaning.specs.Values.{Given, gives, readFilling}
 use Rattle.meaning.specs.Values as values
 use Rattle.exact.proofs.Declared.{read-declared}
-use Rattle.example.specs.Shown.{resultOf, roomOf}
+use Rattle.line_example.specs.Shown.{resultOf, roomOf}
 use Rattle.example.specs.Answers.{Answer}
 use Rattle.word_bytes.specs.Bytes.{wordsOf, bytesOf, wordsIn}
 use Rattle.host.specs.Host as host
 use Rattle.host.specs.Numbers.{asksOld}
-use Rattle.host.proofs.Refusals.{each-number, InRange, in-range}
-use Rattle.word_bytes.proofs.Pairs.{length-wordsOf}
+use Rattle.language.proofs.Numbering.{each-number}
+use Rattle.host.proofs.Refusals.{InRange, in-range}
+use Rattle.word_bytes.proofs.Pairs.{length-wordsOf, words-from}
 use Rattle.demands.specs.Answers.{numberedOf, nthLine}
 use Rattle.demands.specs.Promises.{Promised, Told}
 use Rattle.demands.specs.HostCalls.{DeskSolve, DeskTry, DeskExample}
@@ -40,19 +41,12 @@ use Rattle.demands.proofs.Judging.{SolveJudged, solve-judged, TryJudged
 
 -- ---- words in front of other bytes
 
-words-before : (ws bs : List ℕ) → wordsOf (bytesOf ws ++ bs) ≡ ws ++ wordsOf bs
+pub words-before : (ws bs : List ℕ) → wordsOf (bytesOf ws ++ bs) ≡ ws ++ wordsOf bs
 unfolding wordsOf bytesOf
 words-before [] bs = refl
 words-before (w ∷ ws) bs =
     let e : w % 256 + 256 * (w / 256) ≡ w = omega arith in
     ap (λ (v : ℕ). v ∷ wordsOf (bytesOf ws ++ bs)) e ∙ ap (λ (l : List ℕ). w ∷ l) (words-before ws bs)
-
-words-behind : (m : ℕ) (bs : List ℕ) → wordsOf (drop (2 * m) bs) ≡ drop m (wordsOf bs)
-unfolding wordsOf
-words-behind zero bs = refl
-words-behind (suc m) [] = ap (λ n. wordsOf (drop n [])) (let z : 2 * suc m ≡ suc (suc (2 * m)) = omega arith in z)
-words-behind (suc m) (low ∷ []) = ap (λ n. wordsOf (drop n (low ∷ []))) (let z : 2 * suc m ≡ suc (suc (2 * m)) = omega arith in z)
-words-behind (suc m) (low ∷ (high ∷ bs)) = ap (λ n. wordsOf (drop n (low ∷ (high ∷ bs)))) (let z : 2 * suc m ≡ suc (suc (2 * m)) = omega arith in z) ∙ words-behind m bs
 
 -- ---- desk_solve
 
@@ -115,7 +109,7 @@ module _ (c : DeskSolve) where
 
 room-words : (s : Showing) (old new : List ℕ) → new ≡ host.showLeaves s old → wordsOf new ≡ roomOf s (wordsOf old)
 unfolding host.showLeaves
-room-words (shows ws) old new e = ap wordsOf e ∙ words-before ws (drop (2 * length ws) old) ∙ ap (λ l. ws ++ l) (words-behind (length ws) old)
+room-words (shows ws) old new e = ap wordsOf e ∙ words-before ws (drop (2 * length ws) old) ∙ ap (λ l. ws ++ l) (words-from old (length ws))
 room-words (denied r) old new e = ap wordsOf e
 
 number-result : (s : Showing) → host.showNumber s ≡ hostNumber (resultOf s)

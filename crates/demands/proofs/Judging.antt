@@ -13,7 +13,7 @@ use Rattle.language.specs.declared.Refusal.{Refusal}
 use Rattle.language.specs.declared.Refusal.the-variants.{ShortSlice, FillingLayout, FillingValue, LongLiteral}
 use Rattle.language.specs.Limits.{desk}
 use Rattle.language.specs.Numbers.{numberOf, placeOf}
-use Rattle.language.specs.Trees.{Counts, Question}
+use Rattle.language.specs.Trees.{Counts, signature, Question}
 use Rattle.language.specs.Question.{Asked, asks, refuses, readQuestion, laidOut, parts}
 use Rattle.language.proofs.Bools.{both-true}
 use Rattle.meaning.specs.Complete.{Complete}
@@ -24,7 +24,7 @@ use Rattle.rules.specs.Run.{Outcome, finished, refused, run}
 use Rattle.rules.specs.Answer.{Solving, answered, unread, given-up, ran, solvingOf, solving}
 use Rattle.rules.specs.Calls.{Trying, decides, tooLong, tryingWith, tryingOf, trying}
 use Rattle.rules.specs.Calls as calls
-use Rattle.host.proofs.Refusals.{each-number}
+use Rattle.language.proofs.Numbering.{each-number}
 use Rattle.demands.specs.Runs.{Stops, long-result, long-waiting, no-line-fits, no-step-left}
 use Rattle.demands.specs.Table.{QuestionFault, SolveFault, LayoutOff, TryFault, First}
 use Rattle.demands.specs.Table as table
@@ -68,29 +68,29 @@ module _ (work answer : ℕ) (ws : List ℕ) where
   short-first o = record { here = table.short-slice refl o; none-before = λ d p f. nothing-before-1 d ShortSlice refl p }
 
   module _ (long : (work < desk .room) ⊎ (answer < desk .room) → ⊥) where
-    at-run : (q : Question) → readQuestion desk ws ≡ asks q → ((d : Refusal) → QuestionFault ws d → ⊥) → (o : Outcome) → run desk (q .alternatives) ≡ o → SolveJudged (ran o)
+    at-run : (q : Question) → readQuestion desk ws ≡ asks q → ((d : Refusal) → QuestionFault ws d → ⊥) → (o : Outcome) → run desk (signature (q .counts)) (q .alternatives) ≡ o → SolveJudged (ran o)
     at-run q asked clear (finished ls n) e = ended
       where
         ended : (d : Refusal) → Fault d → ⊥
         ended d (table.short-slice i o) = long o
         ended d (table.in-question f) = clear d f
         ended d (table.in-run p read s) =
-            let z = ap (λ (x : Question). run desk (x .alternatives)) (one-question asked read) in
-            let y = stopped-run desk (p .alternatives) s in
+            let z = ap (λ (x : Question). run desk (signature (x .counts)) (x .alternatives)) (one-question asked read) in
+            let y = stopped-run desk (signature (p .counts)) (p .alternatives) s in
             let x : _≡_ {A = ℕ} 0 1 = cc in omega arith
-    at-run q asked clear (refused r) e = record { here = table.in-run q asked (refused-stops desk (q .alternatives) r e); none-before = before }
+    at-run q asked clear (refused r) e = record { here = table.in-run q asked (refused-stops desk (signature (q .counts)) (q .alternatives) r e); none-before = before }
       where
         before : (d : Refusal) → numberOf d < numberOf r → Fault d → ⊥
         before d l (table.short-slice i o) = long o
         before d l (table.in-question f) = clear d f
         before d l (table.in-run p read s) =
-            let z = ap (λ (x : Question). run desk (x .alternatives)) (one-question asked read) in
-            let y = stopped-run desk (p .alternatives) s in
+            let z = ap (λ (x : Question). run desk (signature (x .counts)) (x .alternatives)) (one-question asked read) in
+            let y = stopped-run desk (signature (p .counts)) (p .alternatives) s in
             let x : r ≡ d = cc in
             let w = ap numberOf x in omega arith
 
     at-asked : (a : Asked) → readQuestion desk ws ≡ a → Judged ws a → SolveJudged (solvingOf desk a)
-    at-asked (asks q) e clear = at-run q e clear (run desk (q .alternatives)) refl
+    at-asked (asks q) e clear = at-run q e clear (run desk (signature (q .counts)) (q .alternatives)) refl
     at-asked (refuses r) e first = record { here = table.in-question (first .here); none-before = before }
       where
         before : (d : Refusal) → numberOf d < numberOf r → Fault d → ⊥

@@ -11,6 +11,8 @@ pub mod Given
 pub mod Solving
 pub mod Showing
 pub mod Trying
+pub mod Before
 pub mod Hosting
 pub mod Places
+pub mod Days
 pub mod Demands

@@ -8,10 +8,10 @@ use native.Mathlib.Omega.{arith}
 use lib.Dec.{ltb}
 use lib.ListN.{length}
 use Rattle.language.specs.declared.Refusal.{Refusal}
-use Rattle.language.specs.declared.Refusal.the-variants.{ShortSlice, QuestionLength, CountRange, BadOffset, NotLiterals, Undeclared, LongResult, LongWaiting, LineRoom, StepLimit, FillingLayout, FillingValue, LongLiteral, NoSuchLine, OpenLine, LongExample}
+use Rattle.language.specs.declared.Refusal.the-variants.{ShortSlice, QuestionLength, CountRange, BadOffset, NotLiterals, Undeclared, LongResult, LongWaiting, LineRoom, StepLimit, FillingLayout, FillingValue, LongLiteral, NoSuchLine, OpenLine, LongExample, SheetLayout, LongAnswers}
 use Rattle.language.specs.Limits.{desk}
 use Rattle.language.specs.Numbers.{numberOf, placeOf}
-use Rattle.language.specs.Trees.{Question}
+use Rattle.language.specs.Trees.{signature, Question}
 use Rattle.language.specs.Question.{Asked, asks, refuses, askedPlace, readQuestion}
 use Rattle.language.specs.Mistakes.{RightPlace}
 use Rattle.language.proofs.Mistakes.{place-right}
@@ -63,6 +63,8 @@ no-place LongLiteral p q = refl
 no-place NoSuchLine p q = refl
 no-place OpenLine p q = refl
 no-place LongExample p q = refl
+no-place SheetLayout p q = refl
+no-place LongAnswers p q = refl
 
 module _ (ws : List ℕ) where
   none-right : (r : Refusal) → ¬ (numberOf r ≡ 5) → ¬ (numberOf r ≡ 6) → RightPlace desk ws r
@@ -89,7 +91,7 @@ module _ (ws : List ℕ) where
 
       on : (a : Asked) → readQuestion desk ws ≡ a → SolvesRight (solvingOf desk a)
       on (asks q) e =
-          run-right (run desk (q .alternatives))
+          run-right (run desk (signature (q .counts)) (q .alternatives))
           (run-stops-by (RightPlace desk ws) (none-right LongResult (λ e. omega arith) (λ e. omega arith)) (none-right LongWaiting (λ e. omega arith) (λ e. omega arith))
           (none-right LineRoom (λ e. omega arith) (λ e. omega arith)) (none-right StepLimit (λ e. omega arith) (λ e. omega arith)) desk (q .alternatives))
       on (refuses r) e = place-right desk ws r e

@@ -13,9 +13,9 @@ use lib.Seq.{take-append-seam, drop-append-seam}
 use Rattle.language.specs.declared.Refusal.the-variants.{OpenLine, LongExample}
 use Rattle.language.specs.Limits.{desk}
 use Rattle.language.specs.Kinds.{pick}
-use Rattle.language.specs.Trees.{Conj}
-use Rattle.language.specs.Question.{countsOf, alternativesOf, declaredC}
-use Rattle.meaning.specs.Meaning.{Filling}
+use Rattle.language.specs.Trees.{Conj, Counts, signature, Question}
+use Rattle.language.specs.Question.{asks, readQuestion, countsFit, countsOf, alternativesOf, declaredC}
+use Rattle.meaning.specs.Meaning.{Filling, MeetsAll}
 use Rattle.meaning.specs.Values.{readFilling, fillingWords}
 use Rattle.rules.specs.Reply.{nothing}
 use Rattle.rules.specs.Step.{step}
@@ -30,17 +30,17 @@ use Rattle.rules.proofs.Invariant.{answered-run}
 use Rattle.exact.proofs.Run.{run-numbered, run-same}
 use Rattle.rules.proofs.Invariant.{lines-rest}
 use Rattle.exact.proofs.Declared.{lines-declared, read-declared}
-use Rattle.lines.proofs.Lines.{example-meets-line, example-written, matching-lines-solved}
+use Rattle.lines.proofs.Lines.{example-either-setting, example-written, matching-lines-solved}
 use Rattle.lines.proofs.Shown.{each-line, read-counts}
-use Rattle.example.specs.Shown.{resultOf, roomOf}
+use Rattle.line_example.specs.Shown.{resultOf, roomOf}
 use Rattle.example.specs.Answers.{Answer}
 use Rattle.demands.specs.Answers.{Line, MeetsLine, nthLine}
 use Rattle.demands.specs.Promises.{Promised, Told, missing, is-open, too-long, shown as is-shown}
 use Rattle.demands.proofs.Reading.{asLine, answer-back, meets-back, numbers-back, numbered-back, asLineOf, nth-line}
 
 -- no rule applies
-abbrev Quiet : Conj → Type 0
-Quiet k = step k ≡ nothing
+abbrev Quiet : Counts → Conj → Type 0
+Quiet n k = step (signature n) k ≡ nothing
 
 -- ---- marks
 
@@ -70,6 +70,17 @@ pub record From (question words : List ℕ) (ls : List Numbered) (n : ℕ) : Typ
   pub lines : promised .lines ≡ map asLine ls
   pub steps : promised .by-rules .steps ≡ n
 
+each-both : (P Q : Numbered → Type 0) (ls : List Numbered) → Each P ls → Each Q ls → Each (λ k. P k × Q k) ls
+each-both P Q [] p q = tt
+each-both P Q (k ∷ ls) p q = ((p .0, q .0), each-both P Q ls (p .1) (q .1))
+
+-- the example of a settled line of the question meets it
+met-by-example : (question : List ℕ) (q : Question) → readQuestion desk question ≡ asks q → (k : Conj) → declaredC (q .counts) k ≡ true → solved k ≡ true → Quiet (q .counts) k
+    → MeetsAll (signature (q .counts)) (example (defaultSymbol false (q .counts)) k) k
+met-by-example question q asked k d s quiet =
+    let c = read-declared desk question q asked .0 in
+    example-either-setting desk false (q .counts) (alternativesOf question) k (ap (λ n. countsFit desk n (alternativesOf question)) c ∙ read-counts desk question q asked) d s quiet .0
+
 module _ (work answer : ℕ) (question : List ℕ) (ls : List Numbered) (n : ℕ) (e : solving desk work answer question ≡ answered ls n) where
   -- ---- the answer
 
@@ -84,11 +95,12 @@ module _ (work answer : ℕ) (question : List ℕ) (ls : List Numbered) (n : ℕ
           answer-read = answer-back a;
           by-rules = record { steps = n; run = rw numbered-back ran; marks = every-line (λ l. l .mark ≡ markOf (l .literals)) (λ k. refl) ls };
           exact = record {
-            same = λ ρ. Iff·trans (run-same desk (q .alternatives) ls n ran ρ) (meets-back ρ ls);
-            numbered = λ ρ m. Iff·trans (run-numbered desk (q .alternatives) ls n ran ρ m) (numbers-back ρ m ls);
-            met = each-line-of (λ l. l .mark ≡ 1 → (ρ : Filling) × MeetsLine ρ l) Quiet (λ k quiet m. (example (defaultSymbol false (q .counts)) (k .literals), example-meets-line (defaultSymbol false (q .counts)) (k .literals) (settled-mark (k .literals) m) quiet)) ls
-                (lines-rest desk (q .alternatives) ls n ran);
-            matched = λ m. each-line-of (λ l. l .mark ≡ 1) (λ k. solved k ≡ true) (λ k s. mark-settled (k .literals) s) ls (matching-lines-solved desk (q .alternatives) ls n ran m);
+            same = λ ρ. Iff·trans (run-same (signature (q .counts)) desk (q .alternatives) ls n ran ρ) (meets-back (signature (q .counts)) ρ ls);
+            numbered = λ ρ m. Iff·trans (run-numbered (signature (q .counts)) desk (q .alternatives) ls n ran ρ m) (numbers-back (signature (q .counts)) ρ m ls);
+            met = each-line-of (λ l. l .mark ≡ 1 → (ρ : Filling) × MeetsLine (signature (q .counts)) ρ l) (λ k. Quiet (q .counts) k × (declaredC (q .counts) k ≡ true))
+                (λ k p m. (example (defaultSymbol false (q .counts)) (k .literals), met-by-example question q asked (k .literals) (p .1) (settled-mark (k .literals) m) (p .0))) ls
+                (each-both (λ (k : Numbered). Quiet (q .counts) (k .literals)) (λ (k : Numbered). declaredC (q .counts) (k .literals) ≡ true) ls (lines-rest (signature (q .counts)) desk (q .alternatives) ls n ran) (lines-declared (q .counts) desk (q .alternatives) ls n ran (read-declared desk question q asked .1)));
+            matched = λ m. each-line-of (λ l. l .mark ≡ 1) (λ k. solved k ≡ true) (λ k s. mark-settled (k .literals) s) ls (matching-lines-solved (signature (q .counts)) desk (q .alternatives) ls n ran m);
           };
         };
         lines = refl;
@@ -111,9 +123,9 @@ module _ (work answer : ℕ) (question : List ℕ) (ls : List Numbered) (n : ℕ
         let (q, asked, ran) = answered-run desk work answer question ls n e in
         let (counts, declared) = read-declared desk question q asked in
         let dec = each-line (λ j. declaredC (q .counts) j ≡ true) i ls k there (lines-declared (q .counts) desk (q .alternatives) ls n ran declared) in
-        let quiet = each-line Quiet i ls k there (lines-rest desk (q .alternatives) ls n ran) in
+        let quiet = each-line (Quiet (q .counts)) i ls k there (lines-rest (signature (q .counts)) desk (q .alternatives) ls n ran) in
         let short : length ws ≤ desk .filling = ltb-false (desk .filling) (length ws) x in
-        let (ρ, back, agree, m) = example-written desk oldSheets (countsOf question) (alternativesOf question) (k .literals) (read-counts desk question q asked) (rw counts at dec) s quiet short in
+        let (ρ, back, agree, m) = example-written desk oldSheets (countsOf question) (alternativesOf question) (k .literals) (read-counts desk question q asked) (rw counts at dec) s (rw counts at quiet) short in
         let front = take-append-seam ws (drop (length ws) room) in
         is-shown (asLine k) (length ws) refl (mark-settled (k .literals) s) refl short (ltb-false (length room) (length ws) y) refl
         (record {

@@ -10,6 +10,7 @@ use native.Mathlib.Numerals.{add-one}
 use lib.Dec.{eqb}
 use lib.ListN.{length, getD, take, drop, length-append}
 use lib.Seq.{take-append-seam}
+use Rattle.language.specs.declared.Signature.{Signature}
 use Rattle.language.specs.Limits.{desk}
 use Rattle.language.specs.Kinds.{pick}
 use Rattle.language.specs.Writing.{conjWords}
@@ -70,15 +71,15 @@ module _ {answer : List ℕ} {ls : List Numbered} (a : Answer answer ls) where
 
 -- ---- what is said of lines is what is said of the run's lines
 
-pub meets-back : (ρ : Filling) (ls : List Numbered) → MeetsOne ρ (unnumbered ls) ↔ MeetsLines ρ (map asLine ls)
-meets-back ρ [] = (λ z. z, λ z. z)
-meets-back ρ (k ∷ ls) =
-    (λ o. elim o [ inl m ↦ inl m | inr m ↦ inr (meets-back ρ ls .0 m) ], λ o. elim o [ inl m ↦ inl m | inr m ↦ inr (meets-back ρ ls .1 m) ])
+pub meets-back : (σ : Signature) (ρ : Filling) (ls : List Numbered) → MeetsOne σ ρ (unnumbered ls) ↔ MeetsLines σ ρ (map asLine ls)
+meets-back σ ρ [] = (λ z. z, λ z. z)
+meets-back σ ρ (k ∷ ls) =
+    (λ o. elim o [ inl m ↦ inl m | inr m ↦ inr (meets-back σ ρ ls .0 m) ], λ o. elim o [ inl m ↦ inl m | inr m ↦ inr (meets-back σ ρ ls .1 m) ])
 
-pub numbers-back : (ρ : Filling) (n : ℕ) (ls : List Numbered) → MeetsNumbered ρ n ls ↔ MeetsLinesOf ρ n (map asLine ls)
-numbers-back ρ n [] = (λ z. z, λ z. z)
-numbers-back ρ n (k ∷ ls) =
-    (λ o. elim o [ inl m ↦ inl m | inr m ↦ inr (numbers-back ρ n ls .0 m) ], λ o. elim o [ inl m ↦ inl m | inr m ↦ inr (numbers-back ρ n ls .1 m) ])
+pub numbers-back : (σ : Signature) (ρ : Filling) (n : ℕ) (ls : List Numbered) → MeetsNumbered σ ρ n ls ↔ MeetsLinesOf σ ρ n (map asLine ls)
+numbers-back σ ρ n [] = (λ z. z, λ z. z)
+numbers-back σ ρ n (k ∷ ls) =
+    (λ o. elim o [ inl m ↦ inl m | inr m ↦ inr (numbers-back σ ρ n ls .0 m) ], λ o. elim o [ inl m ↦ inl m | inr m ↦ inr (numbers-back σ ρ n ls .1 m) ])
 
 pub numbered-back : (ls : List Numbered) → numberedOf (map asLine ls) ≡ ls
 numbered-back [] = refl

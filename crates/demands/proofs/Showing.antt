@@ -25,7 +25,7 @@ use Rattle.outcomes.specs.Numbers.{outcomeNumber}
 use Rattle.solver.specs.Leaves.{leaves}
 use Rattle.outcomes.specs.declared.Shown.{Shown}
 use Rattle.outcomes.specs.declared.Shown.the-variants.{Shows, Denied}
-use Rattle.example.specs.Shown.{resultOf, roomOf}
+use Rattle.line_example.specs.Shown.{resultOf, roomOf}
 use Rattle.example.specs.Exhibits.{exhibits}
 use Rattle.example.specs.Answers.{Answer}
 use Rattle.host.proofs.Refusals.{InRange, in-range}

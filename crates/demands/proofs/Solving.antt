@@ -9,9 +9,10 @@ use lib.Dec.{ltb, eqb}
 use lib.ListN.{length, length-map}
 use Rattle.language.specs.declared.Refusal.{Refusal}
 use Rattle.language.specs.Numbers.{numberOf}
+use Rattle.language.specs.declared.Signature.{Signature}
 use Rattle.language.specs.Limits.{desk}
 use Rattle.language.specs.Kinds.{pick}
-use Rattle.language.specs.Trees.{Question}
+use Rattle.language.specs.Trees.{signature, Question}
 use Rattle.language.specs.Question.{asks, readQuestion}
 use Rattle.meaning.specs.Meaning.{Filling, MeetsQuestion}
 use Rattle.rules.specs.Run.{Numbered}
@@ -141,11 +142,11 @@ module _ (c : Solve) where
   none e =
       let a = solves (ap outcomeNumber e) .answered .answered in
       let p = a .promised in
-      (p .asked, p .question-read, λ ρ m. empty ρ (p .lines) (no-lines (p .lines) (sym (a .outcome) ∙ e)) (p .exact .same ρ .0 m))
+      (p .asked, p .question-read, λ ρ m. empty (signature (p .asked .counts)) ρ (p .lines) (no-lines (p .lines) (sym (a .outcome) ∙ e)) (p .exact .same ρ .0 m))
     where
-      empty : (ρ : Filling) (ls : List Line) → ls ≡ [] → MeetsLines ρ ls → ⊥
-      empty ρ [] d m = m
-      empty ρ (l ∷ ls) d m = let z : _≡_ {A = ℕ} 0 1 = cc in omega arith
+      empty : (σ : Signature) (ρ : Filling) (ls : List Line) → ls ≡ [] → MeetsLines σ ρ ls → ⊥
+      empty σ ρ [] d m = m
+      empty σ ρ (l ∷ ls) d m = let z : _≡_ {A = ℕ} 0 1 = cc in omega arith
 
   pub none-open : ((asked : Question) → readQuestion desk (c .question) ≡ asks asked → Each Matching (asked .alternatives)) → c .returned .«open» ≡ 0
   none-open m = by tells

@@ -6,6 +6,7 @@ use mathlib.Core.List.{List, [], _∷_}
 use mathlib.Core.Option.{Option, none, some}
 use lib.Dec.{eqb}
 use lib.ListN.{getD}
+use Rattle.language.specs.declared.Signature.{Signature}
 use Rattle.language.specs.Limits.{Limits}
 use Rattle.language.specs.Kinds.{pick}
 use Rattle.language.specs.Trees.{Conj}
@@ -52,20 +53,20 @@ readLines L ws i (suc n) = withLine (readLine L (lineIn ws i)) (readLines L ws (
 unfoldable pub readAnswer : Limits → List ℕ → Option (List Line)
 readAnswer L ws = readLines L ws 0 (getD ws 0 0)
 
--- ---- what is said of lines
+-- ---- what is said of lines, by the question's signature
 
-abbrev pub MeetsLine : Filling → Line → Type 0
-MeetsLine ρ l = MeetsAll ρ (l .literals)
+abbrev pub MeetsLine : Signature → Filling → Line → Type 0
+MeetsLine σ ρ l = MeetsAll σ ρ (l .literals)
 
 -- at least one of the lines
-abbrev pub MeetsLines : Filling → List Line → Type 0
-MeetsLines ρ [] = ⊥
-MeetsLines ρ (l ∷ ls) = MeetsLine ρ l ⊎ MeetsLines ρ ls
+abbrev pub MeetsLines : Signature → Filling → List Line → Type 0
+MeetsLines σ ρ [] = ⊥
+MeetsLines σ ρ (l ∷ ls) = MeetsLine σ ρ l ⊎ MeetsLines σ ρ ls
 
 -- at least one of those that are of alternative n
-abbrev pub MeetsLinesOf : Filling → ℕ → List Line → Type 0
-MeetsLinesOf ρ n [] = ⊥
-MeetsLinesOf ρ n (l ∷ ls) = ((l .number ≡ n) × MeetsLine ρ l) ⊎ MeetsLinesOf ρ n ls
+abbrev pub MeetsLinesOf : Signature → Filling → ℕ → List Line → Type 0
+MeetsLinesOf σ ρ n [] = ⊥
+MeetsLinesOf σ ρ n (l ∷ ls) = ((l .number ≡ n) × MeetsLine σ ρ l) ⊎ MeetsLinesOf σ ρ n ls
 
 -- the line at a place among them, from 0
 abbrev pub nthLine : ℕ → List Line → Option Line

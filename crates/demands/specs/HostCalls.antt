@@ -1,14 +1,17 @@
--- Calls on bytes that came back: desk_place(question), desk_solve(question, answer), desk_try(question, filling), desk_example(question, line, old, room).
+-- Calls on bytes that came back: desk_place(question), desk_solve(question, answer), desk_try(question, filling), desk_example(question, line, old, room),
+-- desk_day(sheet, room).
 use Prim.Native.Nat.{ℕ}
 use mathlib.Core.Path.{_≡_}
 use mathlib.Core.List.{List}
 use lib.ListN.{length}
 use Rattle.language.specs.Limits.{desk}
-use Rattle.host.specs.Host.{solvingBytes, solveNumber, solveLeaves, tryingBytes, TryNumber, showingBytes, showNumber, showLeaves, placeBytes}
+use Rattle.host.specs.Host.{solvingBytes, solveNumber, solveLeaves, tryingBytes, TryNumber, showingBytes, showNumber, showLeaves, placeBytes, dayBytes}
+use Rattle.day.specs.Leaves.{dayNumber, roomLeaves}
 use Rattle.host.proofs.desk_solve as desk-solve
 use Rattle.host.proofs.desk_try as desk-try
 use Rattle.host.proofs.desk_example as desk-example
 use Rattle.host.proofs.desk_place as desk-place
+use Rattle.host.proofs.desk_day as desk-day
 use Rattle.demands.specs.Calls.{Call}
 
 -- ---- desk_solve
@@ -66,3 +69,15 @@ pub record DeskPlace : Type 0 where
 
 abbrev pub place-allowed : Call desk-place.ended desk-place.Reads.Pre desk-place.Reads.Post → DeskPlace
 place-allowed c = record { question = c .arguments .0 .now; number = c .outcome .0; said = c .said }
+
+-- ---- desk_day
+
+pub record DeskDay : Type 0 where
+  pub sheet : List ℕ
+  pub room : List ℕ
+  pub number : ℕ
+  pub roomLeft : List ℕ
+  pub said : (number ≡ dayNumber (dayBytes desk (length room) sheet)) × (roomLeft ≡ roomLeaves (dayBytes desk (length room) sheet) room)
+
+abbrev pub day-allowed : Call desk-day.ended desk-day.Reads.Pre desk-day.Reads.Post → DeskDay
+day-allowed c = record { sheet = c .arguments .0 .now; room = c .arguments .1 .0 .now; number = c .outcome .0; roomLeft = c .outcome .1 .1 .0; said = c .said }

@@ -10,7 +10,7 @@ use Rattle.language.specs.declared.Refusal.{Refusal}
 use Rattle.language.specs.Limits.{desk}
 use Rattle.language.specs.Mistakes.{RightPlace}
 use Rattle.language.specs.Numbers.{numberOf, placeOf}
-use Rattle.language.specs.Trees.{Counts}
+use Rattle.language.specs.Trees.{Counts, signature}
 use Rattle.meaning.specs.Meaning.{Filling}
 use Rattle.meaning.specs.Values.{gives, readFilling}
 use Rattle.rules.specs.Answer.{answerWords, zeros}
@@ -45,8 +45,8 @@ pub data DeskTryTells (t : DeskTry) : Type 0 where
 
 -- 101 and 100 are what the lines say of the filling that these bytes are
 pub record DeskTryAgrees {question answer : List ℕ} (p : Promised question answer) (filling : List ℕ) (number : ℕ) : Type 0 where
-  pub yes : number ≡ 101 → (ρ : Filling) × (readFilling desk (p .asked .counts) (wordsIn filling) ≡ gives ρ) × MeetsLines ρ (p .lines)
-  pub no : number ≡ 100 → (ρ : Filling) × (readFilling desk (p .asked .counts) (wordsIn filling) ≡ gives ρ) × (MeetsLines ρ (p .lines) → ⊥)
+  pub yes : number ≡ 101 → (ρ : Filling) × (readFilling desk (p .asked .counts) (wordsIn filling) ≡ gives ρ) × MeetsLines (signature (p .asked .counts)) ρ (p .lines)
+  pub no : number ≡ 100 → (ρ : Filling) × (readFilling desk (p .asked .counts) (wordsIn filling) ≡ gives ρ) × (MeetsLines (signature (p .asked .counts)) ρ (p .lines) → ⊥)
 
 -- "100 and the filling's length in words, and below stand the refusals"
 abbrev pub hostNumber : Shown → ℕ

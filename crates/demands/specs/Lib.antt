@@ -2,6 +2,7 @@ pub mod Calls
 pub mod Solves
 pub mod Tries
 pub mod Examples
+pub mod Before
 pub mod HostCalls
 pub mod Answers
 pub mod Promises
@@ -10,3 +11,4 @@ pub mod Runs
 pub mod Table
 pub mod Tells
 pub mod HostTells
+pub mod DayTells

@@ -8,7 +8,7 @@ use mathlib.Core.Option.{Option, none, some}
 use lib.ListN.{length, take, drop}
 use Rattle.language.specs.declared.Refusal.the-variants.{NoSuchLine, OpenLine, LongExample}
 use Rattle.language.specs.Limits.{desk}
-use Rattle.language.specs.Trees.{Counts, Question}
+use Rattle.language.specs.Trees.{Counts, signature, Question}
 use Rattle.language.specs.Question.{asks, readQuestion}
 use Rattle.meaning.specs.Meaning.{Filling, MeetsQuestion}
 use Rattle.meaning.specs.Values.{gives, readFilling, fillingWords}
@@ -28,16 +28,16 @@ use Rattle.demands.specs.Answers.{Line, numberedOf, readAnswer, MeetsLin
 -- Demand 2: the lines are those of the published rules, in their order, with their marks and numbers, after as many steps.
 pub record ByTheRules (asked : Question) (lines : List Line) : Type 0 where
   pub steps : ℕ
-  pub run : run desk (asked .alternatives) ≡ finished (numberedOf lines) steps
+  pub run : run desk (signature (asked .counts)) (asked .alternatives) ≡ finished (numberedOf lines) steps
   pub marks : Each (λ l. l .mark ≡ markOf (l .literals)) lines
 
 -- Demand 3: any filling meets the question exactly when it meets at least one line, and alternative n exactly when it meets a line numbered n;
 -- every settled line has a filling; and if within each alternative every equation has a side without blanks and each blank of a shape test also
 -- stands in an equation, no line is open.
 pub record Exact (asked : Question) (lines : List Line) : Type 0 where
-  pub same : (ρ : Filling) → MeetsQuestion ρ asked ↔ MeetsLines ρ lines
-  pub numbered : (ρ : Filling) (n : ℕ) → MeetsAt ρ n (asked .alternatives) ↔ MeetsLinesOf ρ n lines
-  pub met : Each (λ l. l .mark ≡ 1 → (ρ : Filling) × MeetsLine ρ l) lines
+  pub same : (ρ : Filling) → MeetsQuestion ρ asked ↔ MeetsLines (signature (asked .counts)) ρ lines
+  pub numbered : (ρ : Filling) (n : ℕ) → MeetsAt (signature (asked .counts)) ρ n (asked .alternatives) ↔ MeetsLinesOf (signature (asked .counts)) ρ n lines
+  pub met : Each (λ l. l .mark ≡ 1 → (ρ : Filling) × MeetsLine (signature (asked .counts)) ρ l) lines
   pub matched : Each Matching (asked .alternatives) → Each (λ l. l .mark ≡ 1) lines
 
 -- of a question's words, and the words that solving left
@@ -73,7 +73,7 @@ pub record RoomShows (oldSheets : Bool) (n : Counts) (l : Line) (m : ℕ) (old n
   pub words : take m new ≡ exampleWords oldSheets n l
   pub read : readFilling desk n (take m new) ≡ gives filling
   pub agrees : Agree n filling (exampleOf oldSheets n l)
-  pub meets : MeetsLine filling l
+  pub meets : MeetsLine (signature n) filling l
   pub rest : drop m new ≡ drop m old
 
 -- What asking for the example of a line comes to, by the line that is read off the answer; the room before and after. There is no such line: 14.

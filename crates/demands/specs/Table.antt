@@ -10,7 +10,7 @@ use Rattle.language.specs.declared.Refusal.{Refusal}
 use Rattle.language.specs.declared.Refusal.the-variants.{ShortSlice, QuestionLength, CountRange, BadOffset, NotLiterals, Undeclared, FillingLayout, FillingValue, LongLiteral}
 use Rattle.language.specs.Limits.{desk}
 use Rattle.language.specs.Numbers.{numberOf}
-use Rattle.language.specs.Trees.{Conj, Counts, Question}
+use Rattle.language.specs.Trees.{Conj, Counts, signature, Question}
 use Rattle.language.specs.Reading.{got, stop}
 use Rattle.language.specs.Question.{asks, readQuestion, countsOf, alternativesOf, bodyAt, laidOut, parts, readAll, declaredQ}
 use Rattle.language.specs.Undeclared.{undeclaredAt}
@@ -21,10 +21,10 @@ use Rattle.demands.specs.Runs.{Stops}
 
 -- ---- a question's words
 
--- "symbols (1..32), term, hedge and function variables (0..32 each), conjunctions c (0..16)"
+-- "symbols (1..32), term, hedge and function variables (0..32 each), conjunctions c (0..16)", "u above the symbols is 3"
 abbrev pub OutOfRange : Counts → ℕ → Type 0
 OutOfRange n c =
-    (n .symbols < 1) ⊎ (desk .each < n .symbols) ⊎ (desk .each < n .terms) ⊎ (desk .each < n .hedges) ⊎ (desk .each < n .functions) ⊎ (desk .alternatives < c)
+    (n .symbols < 1) ⊎ (desk .each < n .symbols) ⊎ (n .symbols < n .unordered) ⊎ (desk .each < n .terms) ⊎ (desk .each < n .hedges) ⊎ (desk .each < n .functions) ⊎ (desk .alternatives < c)
 
 pub data QuestionFault (ws : List ℕ) (e : Refusal) : Type 0 where
   -- "question under 6 or over" 4,096 "words"
@@ -45,7 +45,7 @@ pub data SolveFault (work answer : ℕ) (ws : List ℕ) (e : Refusal) : Type 0 w
   -- "a lent work or answer slice has under" 16,384 "words"
   short-slice : e ≡ ShortSlice → (work < desk .room) ⊎ (answer < desk .room) → SolveFault work answer ws e
   in-question : QuestionFault ws e → SolveFault work answer ws e
-  in-run : (q : Question) → readQuestion desk ws ≡ asks q → Stops desk (q .alternatives) e → SolveFault work answer ws e
+  in-run : (q : Question) → readQuestion desk ws ≡ asks q → Stops desk (signature (q .counts)) (q .alternatives) e → SolveFault work answer ws e
 
 -- ---- trying a filling: 1 to 6, 11, 12, 13
 

@@ -6,6 +6,7 @@ use mathlib.Core.List.{List}
 use Rattle.language.specs.declared.Refusal.{Refusal}
 use Rattle.language.specs.Numbers.{numberOf}
 use Rattle.language.specs.Limits.{desk}
+use Rattle.language.specs.Trees.{signature}
 use Rattle.meaning.specs.Meaning.{Filling}
 use Rattle.meaning.specs.Values.{gives, readFilling}
 use Rattle.rules.specs.Answer.{answerWords, zeros, overwritten}
@@ -56,5 +57,5 @@ pub data ExampleTells (c : Example) : Type 0 where
 
 -- yes and no are what the lines say of the filling that these words are
 pub record TryAgrees {question answer : List ℕ} (p : Promised question answer) (filling : List ℕ) (r : Tried) : Type 0 where
-  pub yes : r ≡ Yes → (ρ : Filling) × (readFilling desk (p .asked .counts) filling ≡ gives ρ) × MeetsLines ρ (p .lines)
-  pub no : r ≡ No → (ρ : Filling) × (readFilling desk (p .asked .counts) filling ≡ gives ρ) × (MeetsLines ρ (p .lines) → ⊥)
+  pub yes : r ≡ Yes → (ρ : Filling) × (readFilling desk (p .asked .counts) filling ≡ gives ρ) × MeetsLines (signature (p .asked .counts)) ρ (p .lines)
+  pub no : r ≡ No → (ρ : Filling) × (readFilling desk (p .asked .counts) filling ≡ gives ρ) × (MeetsLines (signature (p .asked .counts)) ρ (p .lines) → ⊥)

@@ -20,7 +20,7 @@ use Rattle.plans.specs.declared.Recipe.{Recipe}
 use Rattle.views.specs.declared.View.{View}
 use Rattle.views.specs.Looks.{head, tail, bodyWords}
 use Rattle.views.specs.Views.{Sided, Sees}
-use Rattle.plans.specs.Results.{made, resultsOf}
+use Rattle.plans.specs.Results.{made, numbered, resultsOf}
 use Rattle.plans.specs.Sizes.{placedWords}
 use Rattle.finds.specs.declared.Terms.{Terms}
 use Rattle.finds.specs.declared.Found.{Found}
@@ -45,7 +45,7 @@ cutRecipe v = cutPlan v 0 .first
 
 module _ {k : List ℕ} {v : View} {before behind : Conj} {l r : Hedge} (w : Sees k v before l r behind) (p : HedgeVar) (h rest : Hedge) (e : l ≡ hvar p h) where
   cut-words : (i : ℕ) (c : Hedge × Hedge) → Cut k (v .r .from) (v .r .to) rest i c → made k (cutRecipe v) i ≡ conjWords (place before behind (cutResult p h rest c))
-  unfolding made
+  unfolding numbered
   cut-words i c t =
       let fine = subst (fineHedge desk) e (w .left .fine) in
       let a = acts-hedge p (c .0) (fine .0) in
@@ -112,7 +112,7 @@ spot-below {k} {h} v s p a b e i q =
     omega (arith, ap length (s .here), length-drop (v .r .from) k, length-append (hedgeWords h) (s .beyond))
 
 pub del3-plans : (k : List ℕ) (v : View) → Makes Del3 k v (λ l r. del3Plan k v (spotOf v l r))
-unfolding made
+unfolding numbered
 del3-plans k v before behind l r w = planned
     (look (loneH l) (loneH-is l) λ p q. look (inside p r) (it-found (inside p r)) λ a f.
     answers

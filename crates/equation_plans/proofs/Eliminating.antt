@@ -20,7 +20,7 @@ use Rattle.plans.specs.declared.Recipe.{Recipe}
 use Rattle.views.specs.declared.View.{View}
 use Rattle.views.specs.Looks.{head, bodyWords}
 use Rattle.views.specs.Views.{Sees}
-use Rattle.plans.specs.Results.{changed, made, resultsOf}
+use Rattle.plans.specs.Results.{changed, made, numbered, resultsOf}
 use Rattle.plans.specs.Sizes.{placedWords}
 use Rattle.views.proofs.Words.{words-append}
 use Rattle.views.proofs.Sides.{side-whole, side-head, sees-before, sees-behind}
@@ -35,7 +35,7 @@ use Rattle.equation_plans.proofs.Plain.{Makes}
 module _ {k : List ℕ} {v : View} {before behind : Conj} {l r : Hedge} (w : Sees k v before l r behind) {s : Subst} {us rs : List ℕ} (a : Acts s us rs) (until cut : ℕ)
     (eu : slice (v .l .from) until k ≡ us) (er : slice (v .r .from) cut k ≡ rs) where
   eliminate-words : made k (eliminated v until cut .first) cut ≡ conjWords (place before behind (elims (eqn l r ∷ []) [] s))
-  unfolding made
+  unfolding numbered
   eliminate-words =
       let q : Recipe = eliminated v until cut .first in
       let x = put-conj a k q cut eu er 0 (v .at) before (w .fineBefore) (sees-before w) in
@@ -102,7 +102,7 @@ e6-words : {k : List ℕ} {v : View} {before behind : Conj} {l r : Hedge} (w : S
     → slice (v .l .from) (leftInner k v .from) k ≡ (4000 + X .0) ∷ [] → slice (v .r .from) (rightInner k v .from) k ≡ functorWord F ∷ []
     → made k (e6Plan k v .first) (rightInner k v .from)
     ≡ conjWords (place before behind (elims (eqn (node (fvar X) ε ε) (node F ε ε) ∷ []) (eqn (node F c ε) (node F e ε) ∷ []) (setF X F)))
-unfolding made
+unfolding numbered
 e6-words {k} {v} {before} {behind} {l} {r} w X F c e p q a eu er =
     let n : Recipe = e6Plan k v .first in
     let cut = rightInner k v .from in

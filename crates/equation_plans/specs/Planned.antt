@@ -3,6 +3,7 @@ use Prim.Native.Nat.{ℕ}
 use mathlib.Core.Path.{_≡_}
 use mathlib.Core.List.{List, _++_}
 use mathlib.Core.Option.{some}
+use Rattle.language.specs.declared.Signature.{Signature}
 use Rattle.language.specs.Trees.{Hedge, Conj}
 use Rattle.rules.specs.Rules.{Branch, EqRule}
 use Rattle.plans.specs.declared.Plan.{Plan}
@@ -21,16 +22,16 @@ pub record Applies (rule : EqRule) (k : List ℕ) (v : View) (l r : Hedge) : Typ
   pub answer : rule (before ++ behind) l r ≡ some results
 
 -- the rule of a place in the list applies to the equation that stands where the view says
-pub record RuleApplies (n : ℕ) (k : List ℕ) (v : View) : Type 0 where
+pub record RuleApplies (σ : Signature) (n : ℕ) (k : List ℕ) (v : View) : Type 0 where
   pub l : Hedge
   pub r : Hedge
-  pub applies : Applies (eqnAnswer n) k v l r
+  pub applies : Applies (eqnAnswer σ n) k v l r
 
 -- wherever the rule applies, p is the plan that is said
 abbrev pub Is : EqRule → List ℕ → View → (Hedge → Hedge → Plan) → Plan → Type 0
 Is rule k v plan p = (l r : Hedge) → Applies rule k v l r → p ≡ plan l r
 
 -- the plan of the rule of a place in the list, at every equation that the view shows
-pub record Planning (n : ℕ) (k : List ℕ) (v : View) (p : Plan) : Type 0 where
-  pub whole : Is (eqnAnswer n) k v (equationPlan n k v) p
-  pub results : (before behind : Conj) (l r : Hedge) → Sees k v before l r behind → Planned k p before behind (eqnAnswer n (before ++ behind) l r)
+pub record Planning (σ : Signature) (n : ℕ) (k : List ℕ) (v : View) (p : Plan) : Type 0 where
+  pub whole : Is (eqnAnswer σ n) k v (equationPlan σ n k v) p
+  pub results : (before behind : Conj) (l r : Hedge) → Sees k v before l r behind → Planned k p before behind (eqnAnswer σ n (before ++ behind) l r)

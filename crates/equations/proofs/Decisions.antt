@@ -1,16 +1,20 @@
 -- The tree of decisions finds the first rule at an equation.
+use Prim.Native.Nat.{ℕ}
 use mathlib.Core.Path.{_≡_, refl, ap}
+use native.Mathlib.Omega.{arith}
 use mathlib.Core.Bool.{Bool, true, false, not, _&&_, _||_, and-true, and-false}
 use mathlib.Core.Option.{Option, none, some}
+use Rattle.language.specs.declared.Signature.{Signature}
 use Rattle.language.specs.Kinds.{pick}
-use Rattle.language.specs.Trees.{symbol, fvar, Hedge, ε, tvar, hvar, node, Conj, eqT, eqH, eqS, eqX, sameWords, tv, hv, fv, holds, inConj}
+use Rattle.language.specs.Trees.{symbol, fvar, Hedge, ε, tvar, hvar, node, Conj, isUnordered, anyUnordered, eqT, eqH, eqS, eqX, sameWords, tv, hv, fv, holds, inConj}
 use Rattle.language.specs.declared.HedgeVar.{HedgeVar}
 use Rattle.rules.specs.Looks.{empty, hasTerm, allTerms, under, onto, around, inside, upTo, lone}
+use Rattle.rules.specs.Elements.{struck}
 use Rattle.rules.specs.Rules.{_>>=_, too}
 use Rattle.rules.specs.Solved.{isSome}
-use Rattle.rules.specs.Places.{atR1, atF1, atF2, atF3, atDel1, atDel3, atD2, atD0, atE1, atE2, atE3, atE4, atE5, atE6, noRule}
+use Rattle.rules.specs.Places.{atR1, atF1, atF2, atF3, atDel1, atDel2, atDel3, atD1, atD2, atD0, atE1, atE2, atE3, atE4, atE5, atE6, atE7, noRule}
 use Rattle.rules.specs.Ranks.{eqnRank}
-use Rattle.plans.proofs.Ranking.{check-on, lone-on, bind-on, pick-suc, pick-not}
+use Rattle.plans.proofs.Ranking.{check-on, lone-on, none-on, bind-on, pick-suc, pick-not}
 use Rattle.equations.specs.Rank.{rankOf}
 
 -- what stands inside is held
@@ -85,11 +89,17 @@ runs-order fails strike same next bind rest false w true m true i k d = ap (λ x
 runs-order fails strike same next bind rest false w true m false i k d = rw (d, and-false m)
 runs-order fails strike same next bind rest false w false m h i k d = refl
 
-symbols-order : {A : Type 0} (clash part same rest : A) (e t q : Bool) → pick (e && (t && not q)) clash (pick (not (e && t)) part (pick (e && (t && q)) same rest)) ≡ pick (e && t) (pick q same clash) part
-symbols-order clash part same rest true true true = refl
-symbols-order clash part same rest true true false = refl
-symbols-order clash part same rest true false q = refl
-symbols-order clash part same rest false t q = refl
+-- an equal symbol: m where something is shared, a where there are terms alone
+symbols-order : {A : Type 0} (clash strike shuffle part same rest : A) (e t q u m a : Bool)
+    → pick (e && (t && not q)) clash (pick (e && (t && (q && (u && m)))) strike (pick (e && (t && (q && (u && (a && not m))))) shuffle (pick (not (e && t)) part (pick (e && (t && (q && not u))) same rest))))
+    ≡ pick (e && t) (pick q (pick u (pick m strike (pick a shuffle rest)) same) clash) part
+symbols-order clash strike shuffle part same rest true true true true true a = refl
+symbols-order clash strike shuffle part same rest true true true true false true = refl
+symbols-order clash strike shuffle part same rest true true true true false false = refl
+symbols-order clash strike shuffle part same rest true true true false m a = refl
+symbols-order clash strike shuffle part same rest true true false u m a = refl
+symbols-order clash strike shuffle part same rest true false q u m a = refl
+symbols-order clash strike shuffle part same rest false t q u m a = refl
 
 blank-order : {A : Type 0} (part next bind rest : A) (e t c d k : Bool)
     → pick (not (e && t)) part (pick (e && (t && (c && (d && k)))) bind (pick (e && (t && not (c && d))) next rest)) ≡ pick (e && t) (pick (c && d) (pick k bind rest) next) part
@@ -99,40 +109,62 @@ blank-order part next bind rest true true false d k = refl
 blank-order part next bind rest true false c d k = refl
 blank-order part next bind rest false t c d k = refl
 
-blanks-order : {A : Type 0} (part same next bind rest : A) (e t c d q k : Bool)
-    → pick (not (e && t)) part (pick (e && (t && q)) same (pick (e && (t && (c && (d && (not q && k))))) bind (pick (e && (t && (not (c && d) && not q))) next rest)))
-    ≡ pick (e && t) (pick q same (pick (c && d) (pick k bind rest) next)) part
-blanks-order part same next bind rest true true c d true k = refl
-blanks-order part same next bind rest true true true true false k = refl
-blanks-order part same next bind rest true true true false false k = refl
-blanks-order part same next bind rest true true false d false k = refl
-blanks-order part same next bind rest true false c d q k = refl
-blanks-order part same next bind rest false t c d q k = refl
+-- w where the children have the same words, m where what follows has; where nothing follows, that has
+blanks-order : {A : Type 0} (removed part same next bind every rest : A) (e t c d q k w m u : Bool) → Held (e && t) m
+    → pick (q && w && m) removed (pick (not (e && t)) part (pick (e && (t && (q && not u))) same (pick (e && (t && (c && (d && (not q && k))))) bind (pick (e && (t && (not (c && d) && not q))) next (pick (e && (t && (q && (not w && u)))) every rest)))))
+    ≡ pick (q && w && m) removed (pick (e && t) (pick q (pick u every same) (pick (c && d) (pick k bind rest) next)) part)
+blanks-order removed part same next bind every rest true true c d true k true true u h = refl
+blanks-order removed part same next bind every rest true true c d true k true false u h = absurd (let z : _≡_ {A = ℕ} 0 1 = cc in omega arith)
+blanks-order removed part same next bind every rest true true true true true k false m true h = refl
+blanks-order removed part same next bind every rest true true true true true k false m false h = refl
+blanks-order removed part same next bind every rest true true true false true k false m true h = refl
+blanks-order removed part same next bind every rest true true true false true k false m false h = refl
+blanks-order removed part same next bind every rest true true false d true k false m true h = refl
+blanks-order removed part same next bind every rest true true false d true k false m false h = refl
+blanks-order removed part same next bind every rest true true true true false k w m u h = refl
+blanks-order removed part same next bind every rest true true true false false k w m u h = refl
+blanks-order removed part same next bind every rest true true false d false k w m u h = refl
+blanks-order removed part same next bind every rest true false c d q k w m u h = refl
+blanks-order removed part same next bind every rest false t c d q k w m u h = refl
 
-pub rank-law : (K : Conj) (l r : Hedge) → eqnRank K l r ≡ rankOf K l r
+-- nothing is the same as nothing
+never : (b : Bool) → Held false b
+never true = refl
+never false = refl
+
+ends-same : (s t : Hedge) → Held (empty s && empty t) (sameWords s t)
+ends-same ε ε = refl
+ends-same ε (tvar y t) = refl
+ends-same ε (hvar q t) = refl
+ends-same ε (node g d t) = refl
+ends-same (tvar x s) t = never (sameWords (tvar x s) t)
+ends-same (hvar p s) t = never (sameWords (hvar p s) t)
+ends-same (node f c s) t = never (sameWords (node f c s) t)
+
+pub rank-law : (σ : Signature) (K : Conj) (l r : Hedge) → eqnRank σ K l r ≡ rankOf σ K l r
 unfolding eqnRank _>>=_
-rank-law K ε ε = simp (check-on, lone-on, bind-on, and-true, and-false, pick-suc)
-rank-law K ε (tvar y t) = simp (check-on, lone-on, bind-on, and-true, and-false, pick-suc)
-rank-law K ε (hvar q t) = simp (check-on, lone-on, bind-on, and-true, and-false, pick-suc)
-rank-law K ε (node (symbol g) d t) = simp (check-on, lone-on, bind-on, and-true, and-false, pick-suc)
-rank-law K ε (node (fvar Y) d t) = simp (check-on, lone-on, bind-on, and-true, and-false, pick-suc)
-rank-law K (tvar x s) ε = simp (check-on, lone-on, bind-on, and-true, and-false, pick-suc)
-rank-law K (tvar x s) (tvar y t) = simp (check-on, lone-on, bind-on, and-true, and-false, pick-suc) (ap (λ z. pick (eqT x y && sameWords s t) atR1 (pick (empty s && under (tv x) t) atF1 z)) (var-order atD2 atE1 noRule (empty s) (empty t) (eqT x y) (inConj (tv x) K && inConj (tv y) K)))
-rank-law K (tvar x s) (hvar q t) = simp (check-on, lone-on, bind-on, and-true, and-false, pick-suc)
-rank-law K (tvar x s) (node (symbol g) d t) = simp (check-on, lone-on, bind-on, and-true, and-false, pick-suc) (node-order atF1 atD2 atE1 noRule (empty s) (empty t) (holds (tv x) d) (under (tv x) t) (inConj (tv x) K))
-rank-law K (tvar x s) (node (fvar Y) d t) = simp (check-on, lone-on, bind-on, and-true, and-false, pick-suc) (node-order atF1 atD2 atE1 noRule (empty s) (empty t) (holds (tv x) d) (under (tv x) t) (inConj (tv x) K))
-rank-law K (hvar p s) ε = simp (check-on, lone-on, bind-on, and-true, and-false, pick-suc) (empty-order atE2 atE3 noRule (empty s) (inConj (hv p) K))
-rank-law K (hvar p s) (tvar y t) = simp (check-on, lone-on, bind-on, and-true, and-false, pick-suc) (run-order atF2 atDel3 atE2 atE3 atE4 noRule (empty s) (holds (hv p) (tvar y t)) (isSome (inside p (tvar y t))) (inConj (hv p) K) (allTerms t) (isSome (upTo p (tvar y t))) (inside-held p (tvar y t)))
-rank-law K (hvar p s) (hvar q t) = simp (check-on, lone-on, bind-on, and-true, and-false, pick-suc) (runs-order atF2 atDel3 atR1 atDel1 atE2 noRule (eqH p q) (sameWords s t) (empty s) (hasTerm t) (holds (hv p) t) (isSome (inside p (hvar q t))) (inConj (hv p) K && too hv (lone q t) K) (inside-held p (hvar q t)))
-rank-law K (hvar p s) (node (symbol g) d t) = simp (check-on, lone-on, bind-on, and-true, and-false, pick-suc) (run-order atF2 atDel3 atE2 atE3 atE4 noRule (empty s) (holds (hv p) (node (symbol g) d t)) (isSome (inside p (node (symbol g) d t))) (inConj (hv p) K) (allTerms t) (isSome (upTo p (node (symbol g) d t))) (inside-held p (node (symbol g) d t)))
-rank-law K (hvar p s) (node (fvar Y) d t) = simp (check-on, lone-on, bind-on, and-true, and-false, pick-suc) (run-order atF2 atDel3 atE2 atE3 atE4 noRule (empty s) (holds (hv p) (node (fvar Y) d t)) (isSome (inside p (node (fvar Y) d t))) (inConj (hv p) K) (allTerms t) (isSome (upTo p (node (fvar Y) d t))) (inside-held p (node (fvar Y) d t)))
-rank-law K (node (symbol f) c s) ε = simp (check-on, lone-on, bind-on, and-true, and-false, pick-suc)
-rank-law K (node (symbol f) c s) (tvar y t) = simp (check-on, lone-on, bind-on, and-true, and-false, pick-suc) (pick-not (empty s && empty t) atD2 noRule)
-rank-law K (node (symbol f) c s) (hvar q t) = simp (check-on, lone-on, bind-on, and-true, and-false, pick-suc)
-rank-law K (node (symbol f) c s) (node (symbol g) d t) = simp (check-on, lone-on, bind-on, and-true, and-false, pick-suc) (ap (λ z. pick (eqS f g && sameWords c d && sameWords s t) atR1 z) (symbols-order atF3 atD2 atD0 noRule (empty s) (empty t) (eqS f g)))
-rank-law K (node (symbol f) c s) (node (fvar Y) d t) = simp (check-on, lone-on, bind-on, and-true, and-false, pick-suc) (pick-not (empty s && empty t) atD2 noRule)
-rank-law K (node (fvar X) c s) ε = simp (check-on, lone-on, bind-on, and-true, and-false, pick-suc)
-rank-law K (node (fvar X) c s) (tvar y t) = simp (check-on, lone-on, bind-on, and-true, and-false, pick-suc) (pick-not (empty s && empty t) atD2 noRule)
-rank-law K (node (fvar X) c s) (hvar q t) = simp (check-on, lone-on, bind-on, and-true, and-false, pick-suc)
-rank-law K (node (fvar X) c s) (node (symbol g) d t) = simp (check-on, lone-on, bind-on, and-true, and-false, pick-suc) (blank-order atD2 atE6 atE5 noRule (empty s) (empty t) (empty c) (empty d) (inConj (fv X) K))
-rank-law K (node (fvar X) c s) (node (fvar Y) d t) = simp (check-on, lone-on, bind-on, and-true, and-false, pick-suc) (ap (λ z. pick (eqX X Y && sameWords c d && sameWords s t) atR1 z) (blanks-order atD2 atD0 atE6 atE5 noRule (empty s) (empty t) (empty c) (empty d) (eqX X Y) (inConj (fv X) K && inConj (fv Y) K)))
+rank-law σ K ε ε = simp (check-on, lone-on, bind-on, and-true, and-false, pick-suc)
+rank-law σ K ε (tvar y t) = simp (check-on, lone-on, bind-on, and-true, and-false, pick-suc)
+rank-law σ K ε (hvar q t) = simp (check-on, lone-on, bind-on, and-true, and-false, pick-suc)
+rank-law σ K ε (node (symbol g) d t) = simp (check-on, lone-on, bind-on, and-true, and-false, pick-suc)
+rank-law σ K ε (node (fvar Y) d t) = simp (check-on, lone-on, bind-on, and-true, and-false, pick-suc)
+rank-law σ K (tvar x s) ε = simp (check-on, lone-on, bind-on, and-true, and-false, pick-suc)
+rank-law σ K (tvar x s) (tvar y t) = simp (check-on, lone-on, bind-on, and-true, and-false, pick-suc) (ap (λ z. pick (eqT x y && sameWords s t) atR1 (pick (empty s && under (tv x) t) atF1 z)) (var-order atD2 atE1 noRule (empty s) (empty t) (eqT x y) (inConj (tv x) K && inConj (tv y) K)))
+rank-law σ K (tvar x s) (hvar q t) = simp (check-on, lone-on, bind-on, and-true, and-false, pick-suc)
+rank-law σ K (tvar x s) (node (symbol g) d t) = simp (check-on, lone-on, bind-on, and-true, and-false, pick-suc) (node-order atF1 atD2 atE1 noRule (empty s) (empty t) (holds (tv x) d) (under (tv x) t) (inConj (tv x) K))
+rank-law σ K (tvar x s) (node (fvar Y) d t) = simp (check-on, lone-on, bind-on, and-true, and-false, pick-suc) (node-order atF1 atD2 atE1 noRule (empty s) (empty t) (holds (tv x) d) (under (tv x) t) (inConj (tv x) K))
+rank-law σ K (hvar p s) ε = simp (check-on, lone-on, bind-on, and-true, and-false, pick-suc) (empty-order atE2 atE3 noRule (empty s) (inConj (hv p) K))
+rank-law σ K (hvar p s) (tvar y t) = simp (check-on, lone-on, bind-on, and-true, and-false, pick-suc) (run-order atF2 atDel3 atE2 atE3 atE4 noRule (empty s) (holds (hv p) (tvar y t)) (isSome (inside p (tvar y t))) (inConj (hv p) K) (allTerms t) (isSome (upTo p (tvar y t))) (inside-held p (tvar y t)))
+rank-law σ K (hvar p s) (hvar q t) = simp (check-on, lone-on, bind-on, and-true, and-false, pick-suc) (runs-order atF2 atDel3 atR1 atDel1 atE2 noRule (eqH p q) (sameWords s t) (empty s) (hasTerm t) (holds (hv p) t) (isSome (inside p (hvar q t))) (inConj (hv p) K && too hv (lone q t) K) (inside-held p (hvar q t)))
+rank-law σ K (hvar p s) (node (symbol g) d t) = simp (check-on, lone-on, bind-on, and-true, and-false, pick-suc) (run-order atF2 atDel3 atE2 atE3 atE4 noRule (empty s) (holds (hv p) (node (symbol g) d t)) (isSome (inside p (node (symbol g) d t))) (inConj (hv p) K) (allTerms t) (isSome (upTo p (node (symbol g) d t))) (inside-held p (node (symbol g) d t)))
+rank-law σ K (hvar p s) (node (fvar Y) d t) = simp (check-on, lone-on, bind-on, and-true, and-false, pick-suc) (run-order atF2 atDel3 atE2 atE3 atE4 noRule (empty s) (holds (hv p) (node (fvar Y) d t)) (isSome (inside p (node (fvar Y) d t))) (inConj (hv p) K) (allTerms t) (isSome (upTo p (node (fvar Y) d t))) (inside-held p (node (fvar Y) d t)))
+rank-law σ K (node (symbol f) c s) ε = simp (check-on, lone-on, bind-on, and-true, and-false, pick-suc)
+rank-law σ K (node (symbol f) c s) (tvar y t) = simp (check-on, lone-on, bind-on, and-true, and-false, pick-suc) (pick-not (empty s && empty t) atD2 noRule)
+rank-law σ K (node (symbol f) c s) (hvar q t) = simp (check-on, lone-on, bind-on, and-true, and-false, pick-suc)
+rank-law σ K (node (symbol f) c s) (node (symbol g) d t) = simp (check-on, lone-on, bind-on, none-on, and-true, and-false, pick-suc) (ap (λ z. pick (eqS f g && sameWords c d && sameWords s t) atR1 z) (symbols-order atF3 atDel2 atD1 atD2 atD0 noRule (empty s) (empty t) (eqS f g) (isUnordered σ f) (isSome (struck c d)) (allTerms d)))
+rank-law σ K (node (symbol f) c s) (node (fvar Y) d t) = simp (check-on, lone-on, bind-on, and-true, and-false, pick-suc) (pick-not (empty s && empty t) atD2 noRule)
+rank-law σ K (node (fvar X) c s) ε = simp (check-on, lone-on, bind-on, and-true, and-false, pick-suc)
+rank-law σ K (node (fvar X) c s) (tvar y t) = simp (check-on, lone-on, bind-on, and-true, and-false, pick-suc) (pick-not (empty s && empty t) atD2 noRule)
+rank-law σ K (node (fvar X) c s) (hvar q t) = simp (check-on, lone-on, bind-on, and-true, and-false, pick-suc)
+rank-law σ K (node (fvar X) c s) (node (symbol g) d t) = simp (check-on, lone-on, bind-on, and-true, and-false, pick-suc) (blank-order atD2 atE6 atE5 noRule (empty s) (empty t) (empty c) (empty d) (inConj (fv X) K))
+rank-law σ K (node (fvar X) c s) (node (fvar Y) d t) = simp (check-on, lone-on, bind-on, and-true, and-false, pick-suc) (blanks-order atR1 atD2 atD0 atE6 atE5 atE7 noRule (empty s) (empty t) (empty c) (empty d) (eqX X Y) (inConj (fv X) K && inConj (fv Y) K) (sameWords c d) (sameWords s t) (anyUnordered σ) (ends-same s t))

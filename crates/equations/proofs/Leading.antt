@@ -12,6 +12,7 @@ use Rattle.language.specs.declared.HedgeVar.{HedgeVar}
 use Rattle.language.specs.declared.Name.{Name}
 use Rattle.language.specs.Limits.{desk}
 use Rattle.language.specs.Kinds.{pick}
+use Rattle.language.specs.declared.Signature.{Signature}
 use Rattle.language.specs.Trees.{Hedge, ε, tvar, hvar, node, Conj, eqH, sameWords, hv, holds, inConj}
 use Rattle.rules.specs.Looks.{empty, hasTerm, allTerms, inside, upTo, lone, loneH}
 use Rattle.rules.specs.Rules.{too}
@@ -107,61 +108,61 @@ module _ (q : HedgeVar) (r : Hedge) where
 self : (q : HedgeVar) → eqH q q ≡ true
 self q = eq-eqb (q .0) (q .0) refl
 
-module _ (K : Conj) (q : HedgeVar) (s t : Hedge) where
+module _ (σ : Signature) (K : Conj) (q : HedgeVar) (s t : Hedge) where
   struck-words : sameWords (hvar q s) (hvar q t) ≡ sameWords s t
   struck-words = ap (λ z. z && sameWords s t) (self q)
 
-  pub struck-same : sameWords (hvar q s) (hvar q t) ≡ true → atR1 ≡ rankOf K (hvar q s) (hvar q t)
+  pub struck-same : sameWords (hvar q s) (hvar q t) ≡ true → atR1 ≡ rankOf σ K (hvar q s) (hvar q t)
   struck-same e = let d : sameWords s t ≡ true = sym struck-words ∙ e in rw (self q, d)
 
-  pub struck-fails : sameWords (hvar q s) (hvar q t) ≡ false → empty s ≡ true → hasTerm (hvar q t) ≡ true → atF2 ≡ rankOf K (hvar q s) (hvar q t)
+  pub struck-fails : sameWords (hvar q s) (hvar q t) ≡ false → empty s ≡ true → hasTerm (hvar q t) ≡ true → atF2 ≡ rankOf σ K (hvar q s) (hvar q t)
   struck-fails e a b = let d : sameWords s t ≡ false = sym struck-words ∙ e in rw (self q, d, a, b)
 
-  pub struck-lone : sameWords (hvar q s) (hvar q t) ≡ false → empty s ≡ true → hasTerm (hvar q t) ≡ false → atDel1 ≡ rankOf K (hvar q s) (hvar q t)
+  pub struck-lone : sameWords (hvar q s) (hvar q t) ≡ false → empty s ≡ true → hasTerm (hvar q t) ≡ false → atDel1 ≡ rankOf σ K (hvar q s) (hvar q t)
   struck-lone e a b = let d : sameWords s t ≡ false = sym struck-words ∙ e in rw (self q, d, a, b)
 
-  pub struck-more : sameWords (hvar q s) (hvar q t) ≡ false → empty s ≡ false → atDel1 ≡ rankOf K (hvar q s) (hvar q t)
+  pub struck-more : sameWords (hvar q s) (hvar q t) ≡ false → empty s ≡ false → atDel1 ≡ rankOf σ K (hvar q s) (hvar q t)
   struck-more e a = let d : sameWords s t ≡ false = sym struck-words ∙ e in rw (self q, d, a)
 
 pub same-run : (q w : HedgeVar) → q .0 ≡ w .0 → q ≡ w
 same-run q w i = ap (λ (m : ℕ). let v : HedgeVar = record { 0 = m } in v) i
 
-module _ (K : Conj) (q w : HedgeVar) (s t : Hedge) (i : q .0 ≡ w .0 → ⊥) where
+module _ (σ : Signature) (K : Conj) (q w : HedgeVar) (s t : Hedge) (i : q .0 ≡ w .0 → ⊥) where
   apart : eqH q w ≡ false
   apart = ne-eqb (q .0) (w .0) i
 
-  pub runs-lonely : empty s ≡ true → {n : ℕ} → n ≡ lonely K q (hvar w t) → n ≡ rankOf K (hvar q s) (hvar w t)
+  pub runs-lonely : empty s ≡ true → {n : ℕ} → n ≡ lonely K q (hvar w t) → n ≡ rankOf σ K (hvar q s) (hvar w t)
   runs-lonely a n =
       n
       ∙ sym (ap (λ b. pick b (lonely K q (hvar w t)) noRule) a)
       ∙ sym (ap (λ b. pick b (pick (sameWords s t) atR1 (pick (empty s && hasTerm t) atF2 atDel1)) (pick (empty s) (lonely K q (hvar w t)) noRule)) apart)
 
-  pub runs-open : empty s ≡ false → noRule ≡ rankOf K (hvar q s) (hvar w t)
+  pub runs-open : empty s ≡ false → noRule ≡ rankOf σ K (hvar q s) (hvar w t)
   runs-open a = rw (apart, a)
 
 -- ---- a run against a term, or against nothing
 
-module _ (K : Conj) (q : HedgeVar) (s : Hedge) where
-  pub run-lonely : (r : Hedge) → Begins r → empty s ≡ true → {n : ℕ} → n ≡ lonely K q r → n ≡ rankOf K (hvar q s) r
+module _ (σ : Signature) (K : Conj) (q : HedgeVar) (s : Hedge) where
+  pub run-lonely : (r : Hedge) → Begins r → empty s ≡ true → {n : ℕ} → n ≡ lonely K q r → n ≡ rankOf σ K (hvar q s) r
   run-lonely ε b a n = absurd b
   run-lonely (tvar x r) b a n = rw a n
   run-lonely (hvar p r) b a n = absurd b
   run-lonely (node f c r) b a n = rw a n
 
-  pub run-leading : (r : Hedge) → Begins r → empty s ≡ false → {n : ℕ} → n ≡ leading q r → n ≡ rankOf K (hvar q s) r
+  pub run-leading : (r : Hedge) → Begins r → empty s ≡ false → {n : ℕ} → n ≡ leading q r → n ≡ rankOf σ K (hvar q s) r
   run-leading ε b a n = absurd b
   run-leading (tvar x r) b a n = rw a n
   run-leading (hvar p r) b a n = absurd b
   run-leading (node f c r) b a n = rw a n
 
-  pub run-ends : (r : Hedge) → Empty ≡ lookOf r → empty s ≡ true → inConj (hv q) K ≡ true → atE2 ≡ rankOf K (hvar q s) r
-  run-ends r e a b = at-empty (λ m. atE2 ≡ rankOf K (hvar q s) m) r e (rw (a, b))
+  pub run-ends : (r : Hedge) → Empty ≡ lookOf r → empty s ≡ true → inConj (hv q) K ≡ true → atE2 ≡ rankOf σ K (hvar q s) r
+  run-ends r e a b = at-empty (λ m. atE2 ≡ rankOf σ K (hvar q s) m) r e (rw (a, b))
 
-  pub run-rests : (r : Hedge) → Empty ≡ lookOf r → empty s ≡ true → inConj (hv q) K ≡ false → noRule ≡ rankOf K (hvar q s) r
-  run-rests r e a b = at-empty (λ m. noRule ≡ rankOf K (hvar q s) m) r e (rw (a, b))
+  pub run-rests : (r : Hedge) → Empty ≡ lookOf r → empty s ≡ true → inConj (hv q) K ≡ false → noRule ≡ rankOf σ K (hvar q s) r
+  run-rests r e a b = at-empty (λ m. noRule ≡ rankOf σ K (hvar q s) m) r e (rw (a, b))
 
-  pub run-vanishes : (r : Hedge) → Empty ≡ lookOf r → empty s ≡ false → atE3 ≡ rankOf K (hvar q s) r
-  run-vanishes r e a = at-empty (λ m. atE3 ≡ rankOf K (hvar q s) m) r e (rw a)
+  pub run-vanishes : (r : Hedge) → Empty ≡ lookOf r → empty s ≡ false → atE3 ≡ rankOf σ K (hvar q s) r
+  run-vanishes r e a = at-empty (λ m. atE3 ≡ rankOf σ K (hvar q s) m) r e (rw a)
 
 pub begins-term : (r : Hedge) {w : TermVar} {b : Bool} → Term w b ≡ lookOf r → Begins r
 begins-term r e = at-term Begins r e (λ t _. tt)

@@ -7,19 +7,22 @@ use borrow.Author.Tests.{eq-eqb, ne-eqb}
 use lib.ListN.{take, drop}
 use Rattle.language.specs.declared.FunVar.{FunVar}
 use Rattle.language.specs.declared.Sym.{Sym}
+use Rattle.language.specs.declared.Signature.{Signature}
 use Rattle.language.specs.declared.Name.the-variants.{Symbol, Blank}
 use Rattle.language.specs.Limits.{desk}
 use Rattle.language.specs.Kinds.{pick}
-use Rattle.language.specs.Trees.{Functor, symbol, fvar, Hedge, Conj, eqS, eqF, fv, inConj}
+use Rattle.language.specs.Trees.{Functor, symbol, fvar, Hedge, Conj, isUnordered, anyUnordered, eqS, eqF, fv, inConj}
 use Rattle.language.specs.Fine.{fineFunctor}
-use Rattle.rules.specs.Looks.{empty}
-use Rattle.rules.specs.Places.{atF3, atD0, atE5, atE6, noRule}
+use Rattle.rules.specs.Looks.{empty, allTerms}
+use Rattle.rules.specs.Elements.{struck}
+use Rattle.rules.specs.Solved.{isSome}
+use Rattle.rules.specs.Places.{atF3, atDel2, atD1, atD0, atE5, atE6, atE7, noRule}
 use Rattle.views.specs.declared.View.{View}
 use Rattle.views.specs.Looks.{nameOf}
 use Rattle.views.specs.Views.{Sees}
 use Rattle.words.specs.Spans.{member}
 use Rattle.views.proofs.Members.{elsewhere-sees}
-use Rattle.equations.specs.Rank.{functors}
+use Rattle.equations.specs.Rank.{shuffled, functors}
 use Rattle.equations.specs.Ranked.{blanksIn}
 use Rattle.equations.proofs.Looked.{at-symbol, at-blank}
 
@@ -48,31 +51,56 @@ symbol-elsewhere K X G e d = at-symbol (λ G. true ≡ blanksIn (fvar X) G K) G 
 pub blank-too : (K : Conj) (X Y : FunVar) (G : Functor) (b : Bool) → inConj (fv X) K ≡ true → Blank Y ≡ nameOf G → fineFunctor desk G → (Y .0 < desk .each → b ≡ inConj (fv Y) K) → b ≡ blanksIn (fvar X) G K
 blank-too K X Y G b e d fine i = at-blank (λ G. fineFunctor desk G → b ≡ blanksIn (fvar X) G K) G d (λ f. rw e (i f)) fine
 
+-- ---- the children of an unordered symbol
+
+module _ (c d : Hedge) where
+  pub children-shared : isSome (struck c d) ≡ true → atDel2 ≡ shuffled c d
+  children-shared e = rw e
+
+  pub children-terms : isSome (struck c d) ≡ false → allTerms d ≡ true → atD1 ≡ shuffled c d
+  children-terms e t = rw (e, t)
+
+  pub children-rest : isSome (struck c d) ≡ false → allTerms d ≡ false → noRule ≡ shuffled c d
+  children-rest e t = rw (e, t)
+
 -- ---- the ranks
 
-module _ (K : Conj) (c d : Hedge) where
-  pub symbol-blank : (f : Sym) (G : Functor) {Y : FunVar} → Blank Y ≡ nameOf G → noRule ≡ functors K (symbol f) c G d
-  symbol-blank f G e = at-blank (λ G. noRule ≡ functors K (symbol f) c G d) G e refl
+module _ (σ : Signature) (K : Conj) (c d : Hedge) where
+  pub symbol-blank : (f : Sym) (G : Functor) {Y : FunVar} → Blank Y ≡ nameOf G → noRule ≡ functors σ K (symbol f) c G d
+  symbol-blank f G e = at-blank (λ G. noRule ≡ functors σ K (symbol f) c G d) G e refl
 
-  pub same-symbol : (f h : Sym) (G : Functor) → Symbol h ≡ nameOf G → f .0 ≡ h .0 → atD0 ≡ functors K (symbol f) c G d
-  same-symbol f h G e i = at-symbol (λ G. atD0 ≡ functors K (symbol f) c G d) G e (let z : eqS f h ≡ true = eq-eqb (f .0) (h .0) i in rw z)
+  pub same-unordered : (f h : Sym) (G : Functor) → Symbol h ≡ nameOf G → f .0 ≡ h .0 → isUnordered σ f ≡ true → {n : ℕ} → n ≡ shuffled c d → n ≡ functors σ K (symbol f) c G d
+  same-unordered f h G e i u {n} r = at-symbol (λ G. n ≡ functors σ K (symbol f) c G d) G e (let z : eqS f h ≡ true = eq-eqb (f .0) (h .0) i in rw (z, u) r)
 
-  pub symbols-clash : (f h : Sym) (G : Functor) → Symbol h ≡ nameOf G → (f .0 ≡ h .0 → ⊥) → atF3 ≡ functors K (symbol f) c G d
-  symbols-clash f h G e i = at-symbol (λ G. atF3 ≡ functors K (symbol f) c G d) G e (let z : eqS f h ≡ false = ne-eqb (f .0) (h .0) i in rw z)
+  pub same-symbol : (f h : Sym) (G : Functor) → Symbol h ≡ nameOf G → f .0 ≡ h .0 → isUnordered σ f ≡ false → atD0 ≡ functors σ K (symbol f) c G d
+  same-symbol f h G e i u = at-symbol (λ G. atD0 ≡ functors σ K (symbol f) c G d) G e (let z : eqS f h ≡ true = eq-eqb (f .0) (h .0) i in rw (z, u))
 
-  blank-rank : (X : FunVar) (G : Functor) → functors K (fvar X) c G d ≡ pick (eqF (fvar X) G) atD0 (pick (empty c && empty d) (pick (blanksIn (fvar X) G K) atE5 noRule) atE6)
+  pub symbols-clash : (f h : Sym) (G : Functor) → Symbol h ≡ nameOf G → (f .0 ≡ h .0 → ⊥) → atF3 ≡ functors σ K (symbol f) c G d
+  symbols-clash f h G e i = at-symbol (λ G. atF3 ≡ functors σ K (symbol f) c G d) G e (let z : eqS f h ≡ false = ne-eqb (f .0) (h .0) i in rw z)
+
+  -- the same function variable, and another functor
+  abbrev same : ℕ
+  same = pick (anyUnordered σ) atE7 atD0
+
+  abbrev other : Functor → FunVar → ℕ
+  other G X = pick (empty c && empty d) (pick (blanksIn (fvar X) G K) atE5 noRule) atE6
+
+  blank-rank : (X : FunVar) (G : Functor) → functors σ K (fvar X) c G d ≡ pick (eqF (fvar X) G) same (other G X)
   blank-rank X (symbol h) = ap (λ b. pick (empty c && empty d) (pick b atE5 noRule) atE6) (sym (and-true (inConj (fv X) K)))
   blank-rank X (fvar Y) = refl
 
   module _ (X : FunVar) (G : Functor) where
-    pub blank-same : eqF (fvar X) G ≡ true → atD0 ≡ functors K (fvar X) c G d
-    blank-same e = sym (blank-rank X G ∙ ap (λ b. pick b atD0 (pick (empty c && empty d) (pick (blanksIn (fvar X) G K) atE5 noRule) atE6)) e)
+    blank-by : {b : Bool} → eqF (fvar X) G ≡ b → functors σ K (fvar X) c G d ≡ pick b same (other G X)
+    blank-by e = blank-rank X G ∙ ap (λ b. pick b same (other G X)) e
 
-    other : eqF (fvar X) G ≡ false → functors K (fvar X) c G d ≡ pick (empty c && empty d) (pick (blanksIn (fvar X) G K) atE5 noRule) atE6
-    other e = blank-rank X G ∙ ap (λ b. pick b atD0 (pick (empty c && empty d) (pick (blanksIn (fvar X) G K) atE5 noRule) atE6)) e
+    pub blank-every : eqF (fvar X) G ≡ true → anyUnordered σ ≡ true → atE7 ≡ functors σ K (fvar X) c G d
+    blank-every e u = sym (blank-by e ∙ ap (λ b. pick b atE7 atD0) u)
 
-    pub blank-over : eqF (fvar X) G ≡ false → (empty c && empty d) ≡ false → atE6 ≡ functors K (fvar X) c G d
-    blank-over e b = sym (other e ∙ ap (λ b. pick b (pick (blanksIn (fvar X) G K) atE5 noRule) atE6) b)
+    pub blank-same : eqF (fvar X) G ≡ true → anyUnordered σ ≡ false → atD0 ≡ functors σ K (fvar X) c G d
+    blank-same e u = sym (blank-by e ∙ ap (λ b. pick b atE7 atD0) u)
 
-    pub blank-bare : eqF (fvar X) G ≡ false → (empty c && empty d) ≡ true → (t : Bool) → t ≡ blanksIn (fvar X) G K → pick t atE5 noRule ≡ functors K (fvar X) c G d
-    blank-bare e b t i = ap (λ t. pick t atE5 noRule) i ∙ sym (other e ∙ ap (λ b. pick b (pick (blanksIn (fvar X) G K) atE5 noRule) atE6) b)
+    pub blank-over : eqF (fvar X) G ≡ false → (empty c && empty d) ≡ false → atE6 ≡ functors σ K (fvar X) c G d
+    blank-over e b = sym (blank-by e ∙ ap (λ b. pick b (pick (blanksIn (fvar X) G K) atE5 noRule) atE6) b)
+
+    pub blank-bare : eqF (fvar X) G ≡ false → (empty c && empty d) ≡ true → (t : Bool) → t ≡ blanksIn (fvar X) G K → pick t atE5 noRule ≡ functors σ K (fvar X) c G d
+    blank-bare e b t i = ap (λ t. pick t atE5 noRule) i ∙ sym (blank-by e ∙ ap (λ b. pick b (pick (blanksIn (fvar X) G K) atE5 noRule) atE6) b)

@@ -10,6 +10,7 @@ use Rattle.language.specs.declared.TermVar.{TermVar}
 use Rattle.language.specs.declared.HedgeVar.{HedgeVar}
 use Rattle.language.specs.declared.Name.{Name}
 use Rattle.language.specs.Kinds.{pick}
+use Rattle.language.specs.declared.Signature.{Signature}
 use Rattle.language.specs.Trees.{Functor, Hedge, ε, tvar, node, Conj, eqT, sameWords, tv, inConj}
 use Rattle.rules.specs.Looks.{empty, hasTerm, under}
 use Rattle.rules.specs.Places.{atR1, atF1, atF4, atD2, atE1, noRule}
@@ -36,21 +37,21 @@ term-elsewhere {k} {v} w y b {x} e = ap (λ z. member z (take (v .at) k) || memb
 
 -- ---- the left side is empty
 
-module _ (K : Conj) (r : Hedge) where
-  pub empty-empty : Empty ≡ lookOf r → atR1 ≡ rankOf K ε r
-  empty-empty e = at-empty (λ m. atR1 ≡ rankOf K ε m) r e refl
+module _ (σ : Signature) (K : Conj) (r : Hedge) where
+  pub empty-empty : Empty ≡ lookOf r → atR1 ≡ rankOf σ K ε r
+  empty-empty e = at-empty (λ m. atR1 ≡ rankOf σ K ε m) r e refl
 
-  pub empty-term : {w : TermVar} {lone : Bool} → Term w lone ≡ lookOf r → atF4 ≡ rankOf K ε r
-  empty-term e = at-term (λ m. atF4 ≡ rankOf K ε m) r e (λ t _. refl)
+  pub empty-term : {w : TermVar} {lone : Bool} → Term w lone ≡ lookOf r → atF4 ≡ rankOf σ K ε r
+  empty-term e = at-term (λ m. atF4 ≡ rankOf σ K ε m) r e (λ t _. refl)
 
-  pub empty-node : {w : Name} {lone bare : Bool} → Node w lone bare ≡ lookOf r → atF4 ≡ rankOf K ε r
-  empty-node e = at-node (λ m. atF4 ≡ rankOf K ε m) r e (λ f c t _ _ _. refl)
+  pub empty-node : {w : Name} {lone bare : Bool} → Node w lone bare ≡ lookOf r → atF4 ≡ rankOf σ K ε r
+  empty-node e = at-node (λ m. atF4 ≡ rankOf σ K ε m) r e (λ f c t _ _ _. refl)
 
-  pub empty-run : {w : HedgeVar} {lone : Bool} → Run w lone ≡ lookOf r → hasTerm r ≡ true → atF4 ≡ rankOf K ε r
-  empty-run e = at-run (λ m. hasTerm m ≡ true → atF4 ≡ rankOf K ε m) r e (λ t _ h. rw h)
+  pub empty-run : {w : HedgeVar} {lone : Bool} → Run w lone ≡ lookOf r → hasTerm r ≡ true → atF4 ≡ rankOf σ K ε r
+  empty-run e = at-run (λ m. hasTerm m ≡ true → atF4 ≡ rankOf σ K ε m) r e (λ t _ h. rw h)
 
-  pub empty-runs : {w : HedgeVar} {lone : Bool} → Run w lone ≡ lookOf r → hasTerm r ≡ false → noRule ≡ rankOf K ε r
-  empty-runs e = at-run (λ m. hasTerm m ≡ false → noRule ≡ rankOf K ε m) r e (λ t _ h. rw h)
+  pub empty-runs : {w : HedgeVar} {lone : Bool} → Run w lone ≡ lookOf r → hasTerm r ≡ false → noRule ≡ rankOf σ K ε r
+  empty-runs e = at-run (λ m. hasTerm m ≡ false → noRule ≡ rankOf σ K ε m) r e (λ t _ h. rw h)
 
 -- ---- E1, two variables
 
@@ -67,36 +68,36 @@ module _ (K : Conj) (y w : TermVar) where
 
 -- ---- the left side begins with a variable
 
-module _ (K : Conj) (y : TermVar) (s : Hedge) where
-  pub term-empty : (r : Hedge) → Empty ≡ lookOf r → noRule ≡ rankOf K (tvar y s) r
-  term-empty r e = at-empty (λ m. noRule ≡ rankOf K (tvar y s) m) r e refl
+module _ (σ : Signature) (K : Conj) (y : TermVar) (s : Hedge) where
+  pub term-empty : (r : Hedge) → Empty ≡ lookOf r → noRule ≡ rankOf σ K (tvar y s) r
+  term-empty r e = at-empty (λ m. noRule ≡ rankOf σ K (tvar y s) m) r e refl
 
-  pub term-run : (r : Hedge) {w : HedgeVar} {lone : Bool} → Run w lone ≡ lookOf r → (empty s && under (tv y) r) ≡ true → atF1 ≡ rankOf K (tvar y s) r
-  term-run r e = at-run (λ m. (empty s && under (tv y) m) ≡ true → atF1 ≡ rankOf K (tvar y s) m) r e (λ t _ h. rw h)
+  pub term-run : (r : Hedge) {w : HedgeVar} {lone : Bool} → Run w lone ≡ lookOf r → (empty s && under (tv y) r) ≡ true → atF1 ≡ rankOf σ K (tvar y s) r
+  term-run r e = at-run (λ m. (empty s && under (tv y) m) ≡ true → atF1 ≡ rankOf σ K (tvar y s) m) r e (λ t _ h. rw h)
 
-  pub term-runs : (r : Hedge) {w : HedgeVar} {lone : Bool} → Run w lone ≡ lookOf r → (empty s && under (tv y) r) ≡ false → noRule ≡ rankOf K (tvar y s) r
-  term-runs r e = at-run (λ m. (empty s && under (tv y) m) ≡ false → noRule ≡ rankOf K (tvar y s) m) r e (λ t _ h. rw h)
+  pub term-runs : (r : Hedge) {w : HedgeVar} {lone : Bool} → Run w lone ≡ lookOf r → (empty s && under (tv y) r) ≡ false → noRule ≡ rankOf σ K (tvar y s) r
+  term-runs r e = at-run (λ m. (empty s && under (tv y) m) ≡ false → noRule ≡ rankOf σ K (tvar y s) m) r e (λ t _ h. rw h)
 
   module _ (w : TermVar) (t : Hedge) where
-    pub terms-same : sameWords (tvar y s) (tvar w t) ≡ true → atR1 ≡ rankOf K (tvar y s) (tvar w t)
+    pub terms-same : sameWords (tvar y s) (tvar w t) ≡ true → atR1 ≡ rankOf σ K (tvar y s) (tvar w t)
     terms-same e = rw e
 
-    pub terms-hidden : sameWords (tvar y s) (tvar w t) ≡ false → (empty s && under (tv y) (tvar w t)) ≡ true → atF1 ≡ rankOf K (tvar y s) (tvar w t)
+    pub terms-hidden : sameWords (tvar y s) (tvar w t) ≡ false → (empty s && under (tv y) (tvar w t)) ≡ true → atF1 ≡ rankOf σ K (tvar y s) (tvar w t)
     terms-hidden e h = rw (e, h)
 
-    pub terms-longer : sameWords (tvar y s) (tvar w t) ≡ false → (empty s && under (tv y) (tvar w t)) ≡ false → (empty s && empty t) ≡ false → atD2 ≡ rankOf K (tvar y s) (tvar w t)
+    pub terms-longer : sameWords (tvar y s) (tvar w t) ≡ false → (empty s && under (tv y) (tvar w t)) ≡ false → (empty s && empty t) ≡ false → atD2 ≡ rankOf σ K (tvar y s) (tvar w t)
     terms-longer e h z = rw (e, h, z)
 
     pub terms-single : sameWords (tvar y s) (tvar w t) ≡ false → (empty s && under (tv y) (tvar w t)) ≡ false → (empty s && empty t) ≡ true
-        → {n : ℕ} → n ≡ variablesRank K y w → n ≡ rankOf K (tvar y s) (tvar w t)
+        → {n : ℕ} → n ≡ variablesRank K y w → n ≡ rankOf σ K (tvar y s) (tvar w t)
     terms-single e h z n = rw (e, h, z) n
 
   module _ (g : Functor) (d t : Hedge) where
-    pub node-hidden : (empty s && under (tv y) (node g d t)) ≡ true → atF1 ≡ rankOf K (tvar y s) (node g d t)
+    pub node-hidden : (empty s && under (tv y) (node g d t)) ≡ true → atF1 ≡ rankOf σ K (tvar y s) (node g d t)
     node-hidden h = rw h
 
-    pub node-longer : (empty s && under (tv y) (node g d t)) ≡ false → (empty s && empty t) ≡ false → atD2 ≡ rankOf K (tvar y s) (node g d t)
+    pub node-longer : (empty s && under (tv y) (node g d t)) ≡ false → (empty s && empty t) ≡ false → atD2 ≡ rankOf σ K (tvar y s) (node g d t)
     node-longer h z = rw (h, z)
 
-    pub node-single : (empty s && under (tv y) (node g d t)) ≡ false → (empty s && empty t) ≡ true → {b : Bool} → b ≡ inConj (tv y) K → pick b atE1 noRule ≡ rankOf K (tvar y s) (node g d t)
+    pub node-single : (empty s && under (tv y) (node g d t)) ≡ false → (empty s && empty t) ≡ true → {b : Bool} → b ≡ inConj (tv y) K → pick b atE1 noRule ≡ rankOf σ K (tvar y s) (node g d t)
     node-single h z e = rw (h, z, e)

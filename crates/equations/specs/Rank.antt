@@ -3,23 +3,31 @@
 use Prim.Native.Nat.{ℕ}
 use mathlib.Core.Bool.{not, _&&_, _||_}
 use Rattle.language.specs.declared.HedgeVar.{HedgeVar}
+use Rattle.language.specs.declared.Signature.{Signature}
 use Rattle.language.specs.Kinds.{pick}
-use Rattle.language.specs.Trees.{Functor, symbol, fvar, Hedge, ε, tvar, hvar, node, Conj, eqT, eqH, eqS, eqX, eqF, sameWords, tv, hv, fv, holds, inConj}
+use Rattle.language.specs.Trees.{Functor, symbol, fvar, Hedge, ε, tvar, hvar, node, Conj, isUnordered, anyUnordered, eqT, eqH, eqS, eqX, eqF, sameWords, tv, hv, fv, holds, inConj}
 use Rattle.rules.specs.Looks.{empty, hasTerm, allTerms, under, inside, upTo, loneH}
+use Rattle.rules.specs.Elements.{struck}
 use Rattle.rules.specs.Rules.{too}
 use Rattle.rules.specs.Solved.{isSome}
-use Rattle.rules.specs.Places.{atR1, atF1, atF2, atF3, atF4, atDel1, atDel3, atD2, atD0, atE1, atE2, atE3, atE4, atE5, atE6, noRule}
+use Rattle.rules.specs.Places.{atR1, atF1, atF2, atF3, atF4, atDel1, atDel2, atDel3, atD1, atD2, atD0, atE1, atE2, atE3, atE4, atE5, atE6, atE7, noRule}
 
 -- terms in front of s and t: D2 where something follows one of them, and else `single`
 abbrev pub terms : Hedge → Hedge → ℕ → ℕ
 terms s t single = pick (empty s && empty t) single atD2
 
--- single terms f(c) and g(d): F3, D0, E5, E6
-abbrev pub functors : Conj → Functor → Hedge → Functor → Hedge → ℕ
-functors K (symbol f) c (symbol g) d = pick (eqS f g) atD0 atF3
-functors K (symbol f) c (fvar Y) d = noRule
-functors K (fvar X) c (symbol g) d = pick (empty c && empty d) (pick (inConj (fv X) K) atE5 noRule) atE6
-functors K (fvar X) c (fvar Y) d = pick (eqX X Y) atD0 (pick (empty c && empty d) (pick (inConj (fv X) K && inConj (fv Y) K) atE5 noRule) atE6)
+-- the children c and d of one unordered symbol: Del2, D1
+abbrev pub shuffled : Hedge → Hedge → ℕ
+shuffled c d = pick (isSome (struck c d)) atDel2 (pick (allTerms d) atD1 noRule)
+
+-- single terms f(c) and g(d) with other words: F3, Del2, D1, D0, E5, E6, E7
+abbrev pub functors : Signature → Conj → Functor → Hedge → Functor → Hedge → ℕ
+functors σ K (symbol f) c (symbol g) d = pick (eqS f g) (pick (isUnordered σ f) (shuffled c d) atD0) atF3
+functors σ K (symbol f) c (fvar Y) d = noRule
+functors σ K (fvar X) c (symbol g) d = pick (empty c && empty d) (pick (inConj (fv X) K) atE5 noRule) atE6
+functors σ K (fvar X) c (fvar Y) d =
+    pick (eqX X Y) (pick (anyUnordered σ) atE7 atD0)
+    (pick (empty c && empty d) (pick (inConj (fv X) K && inConj (fv Y) K) atE5 noRule) atE6)
 
 -- a lone p against r, which does not begin with p: F2, Del3, E2
 abbrev pub lonely : Conj → HedgeVar → Hedge → ℕ
@@ -29,30 +37,30 @@ lonely K p r = pick (holds (hv p) r) (pick (hasTerm r) atF2 (pick (isSome (insid
 abbrev pub leading : HedgeVar → Hedge → ℕ
 leading p r = pick (allTerms r && not (holds (hv p) r)) atE3 (pick (isSome (upTo p r)) atE4 noRule)
 
-abbrev pub rankOf : Conj → Hedge → Hedge → ℕ
-rankOf K ε ε = atR1
-rankOf K ε (tvar y t) = atF4
-rankOf K ε (hvar q t) = pick (hasTerm t) atF4 noRule
-rankOf K ε (node g d t) = atF4
-rankOf K (tvar x s) ε = noRule
-rankOf K (tvar x s) (tvar y t) =
+abbrev pub rankOf : Signature → Conj → Hedge → Hedge → ℕ
+rankOf σ K ε ε = atR1
+rankOf σ K ε (tvar y t) = atF4
+rankOf σ K ε (hvar q t) = pick (hasTerm t) atF4 noRule
+rankOf σ K ε (node g d t) = atF4
+rankOf σ K (tvar x s) ε = noRule
+rankOf σ K (tvar x s) (tvar y t) =
     pick (eqT x y && sameWords s t) atR1
     (pick (empty s && under (tv x) t) atF1
     (terms s t (pick (not (eqT x y) && (inConj (tv x) K && inConj (tv y) K)) atE1 noRule)))
-rankOf K (tvar x s) (hvar q t) = pick (empty s && under (tv x) t) atF1 noRule
-rankOf K (tvar x s) (node g d t) =
+rankOf σ K (tvar x s) (hvar q t) = pick (empty s && under (tv x) t) atF1 noRule
+rankOf σ K (tvar x s) (node g d t) =
     pick (empty s && (holds (tv x) d || under (tv x) t)) atF1
     (terms s t (pick (inConj (tv x) K) atE1 noRule))
-rankOf K (hvar p s) ε = pick (empty s) (pick (inConj (hv p) K) atE2 noRule) atE3
-rankOf K (hvar p s) (tvar y t) = pick (empty s) (lonely K p (tvar y t)) (leading p (tvar y t))
-rankOf K (hvar p s) (hvar q t) =
+rankOf σ K (hvar p s) ε = pick (empty s) (pick (inConj (hv p) K) atE2 noRule) atE3
+rankOf σ K (hvar p s) (tvar y t) = pick (empty s) (lonely K p (tvar y t)) (leading p (tvar y t))
+rankOf σ K (hvar p s) (hvar q t) =
     pick (eqH p q)
     (pick (sameWords s t) atR1 (pick (empty s && hasTerm t) atF2 atDel1))
     (pick (empty s) (lonely K p (hvar q t)) noRule)
-rankOf K (hvar p s) (node g d t) = pick (empty s) (lonely K p (node g d t)) (leading p (node g d t))
-rankOf K (node f c s) ε = noRule
-rankOf K (node f c s) (tvar y t) = terms s t noRule
-rankOf K (node f c s) (hvar q t) = noRule
-rankOf K (node f c s) (node g d t) =
+rankOf σ K (hvar p s) (node g d t) = pick (empty s) (lonely K p (node g d t)) (leading p (node g d t))
+rankOf σ K (node f c s) ε = noRule
+rankOf σ K (node f c s) (tvar y t) = terms s t noRule
+rankOf σ K (node f c s) (hvar q t) = noRule
+rankOf σ K (node f c s) (node g d t) =
     pick (eqF f g && sameWords c d && sameWords s t) atR1
-    (terms s t (functors K f c g d))
+    (terms s t (functors σ K f c g d))

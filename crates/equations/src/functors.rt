@@ -9,20 +9,29 @@ ghost use Rattle.language.specs.Trees.{Functor, symbol, fvar, Hedge, node, Conj
 ghost use Rattle.rules.specs.Looks.{empty};
 ghost use Rattle.views.specs.Looks.{nameOf};
 ghost use Rattle.views.specs.Views.{Sees};
-ghost use Rattle.equations.specs.Rank.{functors};
-ghost use Rattle.equations.specs.Ranked.{Ranks, blanksIn};
+ghost use Rattle.equations.specs.Rank.{shuffled, functors};
+ghost use Rattle.equations.specs.Ranked.{RanksBy, blanksIn};
 use bools::and;
+use finds::all_terms;
 use language::FunVar;
 use language::Name;
+use language::Signature;
 use language::Sym;
+use language::any_unordered;
 use language::function_word;
+use language::is_unordered;
+use plans::inner;
 use rules::places::AT_D0;
+use rules::places::AT_D1;
 use rules::places::AT_D2;
+use rules::places::AT_DEL2;
 use rules::places::AT_E5;
 use rules::places::AT_E6;
+use rules::places::AT_E7;
 use rules::places::AT_F3;
 use rules::places::AT_R1;
 use rules::places::NO_RULE;
+use sharing::first_shared;
 use views::Look;
 use views::Side;
 use views::View;
@@ -42,13 +51,35 @@ fn both_elsewhere(k: &[u16], v: View, f: FunVar, g: Name) -> bool
     }
 }
 
-// Single terms with the symbol f and the functor g: F3, D0.
-fn rank_symbol(f: Sym, g: Name) -> usize
-    ensures { λ n. ⌜ ((K : Conj) (c d : Hedge) (G : Functor) → g ≡ nameOf G → n ≡ functors K (symbol f) c G d) ⌝ }
+// Single terms with one unordered symbol: Del2, D1.
+fn rank_shuffled(k: &[u16], v: View) -> usize
+    ensures { λ n. ⌜ ((before behind : Conj) (F G : Functor) (c s d t : Hedge) → Sees (now (k .entry)) v before (node F c s) (node G d t) behind → n ≡ shuffled c d) ⌝ }
+{
+    let l = v.l;
+    let r = v.r;
+    let c = inner(k, l.from, l.to);
+    let d = inner(k, r.from, r.to);
+    let shared = first_shared(k, c.from, d.from);
+    if shared.found {
+        return AT_DEL2;
+    }
+    let terms = all_terms(k, d.from);
+    if terms.all {
+        return AT_D1;
+    }
+    NO_RULE
+}
+
+// Single terms with the symbol f and the functor g: F3, Del2, D1, D0.
+fn rank_symbol(k: &[u16], v: View, signature: Signature, f: Sym, g: Name) -> usize
+    ensures { λ n. ⌜ ((before behind : Conj) (G : Functor) (c y d t : Hedge) → Sees (now (k .entry)) v before (node (symbol f) c y) (node G d t) behind → g ≡ nameOf G → n ≡ functors signature (before ++ behind) (symbol f) c G d) ⌝ }
 {
     match g {
         Name::Symbol(h) => {
             if f.0 == h.0 {
+                if is_unordered(signature, f) {
+                    return rank_shuffled(k, v);
+                }
                 return AT_D0;
             }
             AT_F3
@@ -67,11 +98,14 @@ fn same_blank(f: FunVar, g: Name) -> bool
     }
 }
 
-// Single terms with the function variable f and the functor g: D0, E5, E6.
-fn rank_blank(k: &[u16], v: View, f: FunVar, bare: bool, g: Name) -> usize
-    ensures { λ n. ⌜ ((before behind : Conj) (l r : Hedge) (G : Functor) (c d : Hedge) → Sees (now (k .entry)) v before l r behind → f .0 < desk .each → g ≡ nameOf G → fineFunctor desk G → bare ≡ (empty c && empty d) → n ≡ functors (before ++ behind) (fvar f) c G d) ⌝ }
+// Single terms with the function variable f and the functor g: D0, E5, E6, E7.
+fn rank_blank(k: &[u16], v: View, signature: Signature, f: FunVar, bare: bool, g: Name) -> usize
+    ensures { λ n. ⌜ ((before behind : Conj) (l r : Hedge) (G : Functor) (c d : Hedge) → Sees (now (k .entry)) v before l r behind → f .0 < desk .each → g ≡ nameOf G → fineFunctor desk G → bare ≡ (empty c && empty d) → n ≡ functors signature (before ++ behind) (fvar f) c G d) ⌝ }
 {
     if same_blank(f, g) {
+        if any_unordered(signature) {
+            return AT_E7;
+        }
         return AT_D0;
     }
     if !bare {
@@ -83,13 +117,13 @@ fn rank_blank(k: &[u16], v: View, f: FunVar, bare: bool, g: Name) -> usize
     NO_RULE
 }
 
-// Single terms with the functors f and g: F3, D0, E5, E6.
-fn rank_functors(k: &[u16], v: View, f: Name, bare: bool, g: Name) -> usize
-    ensures { λ n. ⌜ ((before behind : Conj) (l r : Hedge) (F G : Functor) (c d : Hedge) → Sees (now (k .entry)) v before l r behind → f ≡ nameOf F → fineFunctor desk F → g ≡ nameOf G → fineFunctor desk G → bare ≡ (empty c && empty d) → n ≡ functors (before ++ behind) F c G d) ⌝ }
+// Single terms with the functors f and g: F3, Del2, D1, D0, E5, E6, E7.
+fn rank_functors(k: &[u16], v: View, signature: Signature, f: Name, bare: bool, g: Name) -> usize
+    ensures { λ n. ⌜ ((before behind : Conj) (F G : Functor) (c y d t : Hedge) → Sees (now (k .entry)) v before (node F c y) (node G d t) behind → f ≡ nameOf F → g ≡ nameOf G → bare ≡ (empty c && empty d) → n ≡ functors signature (before ++ behind) F c G d) ⌝ }
 {
     match f {
-        Name::Symbol(a) => rank_symbol(a, g),
-        Name::Blank(x) => rank_blank(k, v, x, bare, g),
+        Name::Symbol(a) => rank_symbol(k, v, signature, a, g),
+        Name::Blank(x) => rank_blank(k, v, signature, x, bare, g),
     }
 }
 
@@ -97,6 +131,7 @@ fn rank_functors(k: &[u16], v: View, f: Name, bare: bool, g: Name) -> usize
 fn rank_nodes(
     k: &[u16],
     v: View,
+    signature: Signature,
     f: Name,
     lone: bool,
     bare: bool,
@@ -104,7 +139,7 @@ fn rank_nodes(
     more: bool,
     plain: bool,
 ) -> usize
-    ensures { λ n. ⌜ ((F G : Functor) (c s d t : Hedge) → f ≡ nameOf F → lone ≡ empty s → bare ≡ empty c → g ≡ nameOf G → more ≡ empty t → plain ≡ empty d → Ranks (now (k .entry)) v (node F c s) (node G d t) n) ⌝ }
+    ensures { λ n. ⌜ ((F G : Functor) (c y d t : Hedge) → f ≡ nameOf F → lone ≡ empty y → bare ≡ empty c → g ≡ nameOf G → more ≡ empty t → plain ≡ empty d → RanksBy signature (now (k .entry)) v (node F c y) (node G d t) n) ⌝ }
 {
     let l = v.l;
     let r = v.r;
@@ -113,14 +148,14 @@ fn rank_nodes(
     }
     if and(lone, more) {
         let both = and(bare, plain);
-        return rank_functors(k, v, f, both, g);
+        return rank_functors(k, v, signature, f, both, g);
     }
     AT_D2
 }
 
 // The left side begins with a functor.
-pub fn rank_node(k: &[u16], v: View, f: Name, lone: bool, bare: bool) -> usize
-    ensures { λ n. ⌜ ((F : Functor) (c s r : Hedge) → f ≡ nameOf F → lone ≡ empty s → bare ≡ empty c → Ranks (now (k .entry)) v (node F c s) r n) ⌝ }
+pub fn rank_node(k: &[u16], v: View, signature: Signature, f: Name, lone: bool, bare: bool) -> usize
+    ensures { λ n. ⌜ ((F : Functor) (c y r : Hedge) → f ≡ nameOf F → lone ≡ empty y → bare ≡ empty c → RanksBy signature (now (k .entry)) v (node F c y) r n) ⌝ }
 {
     let r = v.r;
     let look = r.look;
@@ -133,6 +168,6 @@ pub fn rank_node(k: &[u16], v: View, f: Name, lone: bool, bare: bool) -> usize
             }
             AT_D2
         }
-        Look::Node(g, more, plain) => rank_nodes(k, v, f, lone, bare, g, more, plain),
+        Look::Node(g, more, plain) => rank_nodes(k, v, signature, f, lone, bare, g, more, plain),
     }
 }

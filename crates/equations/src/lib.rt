@@ -10,6 +10,7 @@ mod runs;
 mod terms;
 
 use functors::rank_node;
+use language::Signature;
 use runs::rank_run;
 use terms::rank_empty;
 use terms::rank_term;
@@ -18,9 +19,9 @@ use views::Side;
 use views::View;
 
 // The place of the first rule in the list, or NO_RULE where none applies.
-pub fn rank_equation(k: &[u16], v: View) -> usize
+pub fn rank_equation(k: &[u16], v: View, signature: Signature) -> usize
     requires { ⌜ EquationAt (now k) v ⌝ }
-    ensures { λ n. ⌜ ((before behind : Conj) (l r : Hedge) → Sees (now (k .entry)) v before l r behind → n ≡ eqnRank (before ++ behind) l r) ⌝ }
+    ensures { λ n. ⌜ ((before behind : Conj) (l r : Hedge) → Sees (now (k .entry)) v before l r behind → n ≡ eqnRank signature (before ++ behind) l r) ⌝ }
 {
     let l = v.l;
     let look = l.look;
@@ -28,6 +29,6 @@ pub fn rank_equation(k: &[u16], v: View) -> usize
         Look::Empty => rank_empty(k, v),
         Look::Term(x, lone) => rank_term(k, v, x, lone),
         Look::Run(p, lone) => rank_run(k, v, p, lone),
-        Look::Node(f, lone, bare) => rank_node(k, v, f, lone, bare),
+        Look::Node(f, lone, bare) => rank_node(k, v, signature, f, lone, bare),
     }
 }

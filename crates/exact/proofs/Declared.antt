@@ -4,11 +4,11 @@ use mathlib.Core.Path.{_≡_, refl}
 use mathlib.Core.Logic.{_↔_}
 use mathlib.Core.Bool.{Bool, true, false, _&&_}
 use mathlib.Core.List.{List, [], _∷_}
-use lib.Dec.{T}
+use lib.Dec.{T, lt→ltb}
 use Rattle.language.specs.Limits.{Limits}
 use Rattle.language.specs.declared.Refusal.{Refusal}
 use Rattle.language.specs.declared.Refusal.the-variants.{QuestionLength, CountRange, BadOffset}
-use Rattle.language.specs.Trees.{Functor, symbol, fvar, Hedge, ε, tvar, hvar, node, Expr, eps, cat, alt, star, over, Literal, eqn, mem, Conj, Counts, Question, tv, hv, fv}
+use Rattle.language.specs.Trees.{Functor, symbol, fvar, Hedge, ε, tvar, hvar, node, Expr, eps, cat, alt, star, over, Literal, eqn, mem, Conj, Counts, signature, Question, tv, hv, fv}
 use Rattle.language.specs.Reading.{Got, got, stop}
 use Rattle.language.specs.Question.{countsOf, alternativesOf, lengthFits, countsFit, laidOut, parts, readAll, declaredS, declaredT, declaredH, declaredX, declaredF, declared, declaredE, declaredL, declaredC, declaredQ, Asked, asks, refuses, readQuestion}
 use Rattle.rules.specs.Run.{Numbered, EachLine, finished, run}
@@ -71,10 +71,10 @@ module _ (n : Counts) where
 
   -- ---- along the run
 
-  pub lines-declared : (L : Limits) (w : List Conj) (ls : List Numbered) (s : ℕ) → run L w ≡ finished ls s → Each DeclaredC w → EachLine DeclaredC ls
+  pub lines-declared : (L : Limits) (w : List Conj) (ls : List Numbered) (s : ℕ) → run L (signature n) w ≡ finished ls s → Each DeclaredC w → EachLine DeclaredC ls
   lines-declared L w ls s e p =
       each-imp _ _ (λ (k : Numbered) m. from-made (k .literals) m) ls
-      (lines-keep (MadeC Declared) (λ k ks m d. step-made Declared k ks d m) L w ls s e (each-imp DeclaredC (MadeC Declared) to-made w p))
+      (lines-keep (signature n) (MadeC Declared) (λ k ks m d. step-made (signature n) Declared (λ _ f i. lt→ltb (f .0) (n .symbols) i) k ks d m) L w ls s e (each-imp DeclaredC (MadeC Declared) to-made w p))
 
   pub each-declared : (ks : List Conj) → T (declaredQ n ks) → Each DeclaredC ks
   each-declared [] t = tt

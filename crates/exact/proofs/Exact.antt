@@ -7,7 +7,8 @@ use mathlib.Core.Bool.{Bool, true, false}
 use mathlib.Core.List.{List, [], _∷_, _++_, map, List·Memᴰ}
 use Rattle.language.specs.declared.Sym.{Sym}
 use Rattle.language.specs.Limits.{Limits}
-use Rattle.language.specs.Trees.{Expr, Literal, Conj, Counts, Question}
+use Rattle.language.specs.declared.Signature.{Signature}
+use Rattle.language.specs.Trees.{Expr, Literal, Conj, Counts, signature, Question}
 use Rattle.language.specs.Question.{asks, declaredC, countsOf, readQuestion}
 use Rattle.meaning.specs.Complete.{Complete, nil, tree}
 use Rattle.meaning.specs.Meaning.{Filling, Member, MeetsAll, MeetsOne, MeetsQuestion}
@@ -31,73 +32,74 @@ use Rattle.exact.specs.Made.{Name, MadeC}
 use Rattle.exact.proofs.Expressions.{nullable-exact, linear-exact}
 use Rattle.exact.proofs.Places.{each-rule-exact}
 use Rattle.exact.proofs.Run.{step-same, run-numbered, whatever-number, run-same}
-use Rattle.exact.proofs.MadeByRules.{step-made}
+use Rattle.exact.proofs.MadeByRules.{Known, step-made}
 use Rattle.exact.proofs.Declared.{lines-declared, read-declared}
 
 -- ---- expressions
 
 -- "ε in R, where ε is in the language": the emptiness test says so exactly where ε is a member.
-pub emptiness : (R : Expr) → (nullable R ≡ true) ↔ Member R nil
-emptiness R = Iff·trans (Iff·symm (test-true (nullable R))) (nullable-exact R)
+pub emptiness : (σ : Signature) (R : Expr) → (nullable R ≡ true) ↔ Member σ R nil
+emptiness σ R = Iff·trans (Iff·symm (test-true (nullable R))) (nullable-exact σ R)
 
 -- "M2 uses its linear form": a hedge that begins with the term f over c, and then h, is a member exactly where some monomial takes it.
-pub linear-form : (R : Expr) (f : Sym) (c h : Complete) → Member R (tree f c h) ↔ Some (Takes f c h) (linear R)
+pub linear-form : (σ : Signature) (R : Expr) (f : Sym) (c h : Complete) → Member σ R (tree f c h) ↔ Some (Takes σ f c h) (linear R)
 linear-form = linear-exact
 
 -- ---- rules and steps
 
 -- "the first rule below that applies to any literal, .. the earliest literal, .. the written side first, then swapped": but wherever any
 -- rule applies, first or not, earliest or not, swapped or not, a filling meets the conjunction exactly when it meets one of the results.
-pub rule-exact : (rule : Rule) → List·Memᴰ rule rules → (swap : Bool) (before : Conj) (l : Literal) (behind : Conj) (ks : List Conj)
-    → resultsAt swap rule before l behind ≡ results ks → (ρ : Filling) → MeetsAll ρ (before ++ (l ∷ behind)) ↔ MeetsOne ρ ks
-rule-exact rule i = each-in (AtSides SameFillings) each-rule-exact i
+pub rule-exact : (σ : Signature) (rule : Rule) → List·Memᴰ rule (rules σ) → (swap : Bool) (before : Conj) (l : Literal) (behind : Conj) (ks : List Conj)
+    → resultsAt swap rule before l behind ≡ results ks → (ρ : Filling) → MeetsAll σ ρ (before ++ (l ∷ behind)) ↔ MeetsOne σ ρ ks
+rule-exact σ rule i = each-in (AtSides (SameFillings σ)) (each-rule-exact σ) i
 
 -- the same of the whole table of rules at once
-pub rules-exact : Each (AtSides SameFillings) rules
+pub rules-exact : (σ : Signature) → Each (AtSides (SameFillings σ)) (rules σ)
 rules-exact = each-rule-exact
 
 -- So a step at whatever place is named, first or not: a filling meets the conjunction exactly when it meets one of the results;
-pub named-step-exact : (s : Spot) (k : Conj) (ks : List Conj) → stepAt s k ≡ results ks → (ρ : Filling) → MeetsAll ρ k ↔ MeetsOne ρ ks
-named-step-exact = named-at-sides SameFillings each-rule-exact
+pub named-step-exact : (σ : Signature) (s : Spot) (k : Conj) (ks : List Conj) → stepAt σ s k ≡ results ks → (ρ : Filling) → MeetsAll σ ρ k ↔ MeetsOne σ ρ ks
+named-step-exact σ = named-at-sides (SameFillings σ) σ (each-rule-exact σ)
 
 -- and the place that the search names is one at which the step is as it was found.
-pub found-is-named : (k : Conj) (s : Spot) (ks : List Conj) → search k ≡ results (s, ks) → stepAt s k ≡ results ks
+pub found-is-named : (σ : Signature) (k : Conj) (s : Spot) (ks : List Conj) → search σ k ≡ results (s, ks) → stepAt σ s k ≡ results ks
 found-is-named = search-named
 
 -- "That is one step": a filling meets the conjunction exactly when it meets one of the step's results.
-pub step-exact : (k : Conj) (ks : List Conj) → step k ≡ results ks → (ρ : Filling) → MeetsAll ρ k ↔ MeetsOne ρ ks
+pub step-exact : (σ : Signature) (k : Conj) (ks : List Conj) → step σ k ≡ results ks → (ρ : Filling) → MeetsAll σ ρ k ↔ MeetsOne σ ρ ks
 step-exact = step-same
 
 -- ---- the run with its limits, whatever they are
 
 -- "Each waiting conjunction carries the number of the alternative it descends from": a filling meets the alternative of a number exactly when it
 -- meets a line of that number.
-pub run-by-number : (L : Limits) (w : List Conj) (ls : List Numbered) (s : ℕ) → run L w ≡ finished ls s
-    → (ρ : Filling) (n : ℕ) → MeetsAt ρ n w ↔ MeetsNumbered ρ n ls
+pub run-by-number : (σ : Signature) (L : Limits) (w : List Conj) (ls : List Numbered) (s : ℕ) → run L σ w ≡ finished ls s
+    → (ρ : Filling) (n : ℕ) → MeetsAt σ ρ n w ↔ MeetsNumbered σ ρ n ls
 run-by-number = run-numbered
 
 -- "Results stand in the place of the conjunction, in order": a filling meets a waiting conjunction exactly when it meets a line.
-pub run-exact : (L : Limits) (w : List Conj) (ls : List Numbered) (n : ℕ) → run L w ≡ finished ls n → (ρ : Filling) → MeetsOne ρ w ↔ MeetsOne ρ (unnumbered ls)
+pub run-exact : (σ : Signature) (L : Limits) (w : List Conj) (ls : List Numbered) (n : ℕ) → run L σ w ≡ finished ls n
+    → (ρ : Filling) → MeetsOne σ ρ w ↔ MeetsOne σ ρ (unnumbered ls)
 run-exact = run-same
 
 -- "If no rule applies, the conjunction becomes the next line": no rule applies to a line.
-pub lines-settled : (L : Limits) (w : List Conj) (ls : List Numbered) (n : ℕ) → run L w ≡ finished ls n → EachLine (λ k. step k ≡ nothing) ls
+pub lines-settled : (σ : Signature) (L : Limits) (w : List Conj) (ls : List Numbered) (n : ℕ) → run L σ w ≡ finished ls n → EachLine (λ k. step σ k ≡ nothing) ls
 lines-settled = lines-rest
 
 -- the same in full: no rule of the list applies at any literal of a line
-pub lines-idle : (L : Limits) (w : List Conj) (ls : List Numbered) (n : ℕ) → run L w ≡ finished ls n → EachLine (λ k. Each (Idle k) rules) ls
-lines-idle L w ls n e = each-imp _ _ (λ (k : Numbered) q. step-none (k .literals) q) ls (lines-rest L w ls n e)
+pub lines-idle : (σ : Signature) (L : Limits) (w : List Conj) (ls : List Numbered) (n : ℕ) → run L σ w ≡ finished ls n → EachLine (λ k. Each (Idle k) (rules σ)) ls
+lines-idle σ L w ls n e = each-imp _ _ (λ (k : Numbered) q. step-none σ (k .literals) q) ls (lines-rest σ L w ls n e)
 
 -- "The same test twice": no two literals of a line have the same words.
-pub lines-apart : (L : Limits) (w : List Conj) (ls : List Numbered) (n : ℕ) → run L w ≡ finished ls n → EachLine Apart ls
-lines-apart L w ls n e =
-    each-imp (λ (k : Numbered). Each (Idle (k .literals)) rules) (λ (k : Numbered). Apart (k .literals))
+pub lines-apart : (σ : Signature) (L : Limits) (w : List Conj) (ls : List Numbered) (n : ℕ) → run L σ w ≡ finished ls n → EachLine Apart ls
+lines-apart σ L w ls n e =
+    each-imp (λ (k : Numbered). Each (Idle (k .literals)) (rules σ)) (λ (k : Numbered). Apart (k .literals))
     (λ k q before l behind d. fold-none l behind (each-nothing (map (λ (c : Conj). before ++ c)) (Fold l behind) (q .1 .1 .0 false before l behind d))) ls
-    (lines-idle L w ls n e)
+    (lines-idle σ L w ls n e)
 
 -- "Waiting conjunctions stand in order": what every step keeps and every waiting conjunction has, every line has.
-pub lines-inherit : (P : Conj → Type 0) → ((k : Conj) (ks : List Conj) → P k → step k ≡ results ks → Each P ks)
-    → (L : Limits) (w : List Conj) (ls : List Numbered) (n : ℕ) → run L w ≡ finished ls n → Each P w → EachLine P ls
+pub lines-inherit : (σ : Signature) (P : Conj → Type 0) → ((k : Conj) (ks : List Conj) → P k → step σ k ≡ results ks → Each P ks)
+    → (L : Limits) (w : List Conj) (ls : List Numbered) (n : ℕ) → run L σ w ≡ finished ls n → Each P w → EachLine P ls
 lines-inherit = lines-keep
 
 -- ---- questions
@@ -105,17 +107,17 @@ lines-inherit = lines-keep
 -- "a filling meets alternative n exactly when it meets a line numbered n": an answer is of a question that was read, and its lines are by their
 -- numbers those of the question's alternatives.
 pub answer-numbered : (L : Limits) (work answer : ℕ) (ws : List ℕ) (ls : List Numbered) (s : ℕ) → solving L work answer ws ≡ answered ls s
-    → (q : Question) × (readQuestion L ws ≡ asks q) × ((ρ : Filling) (n : ℕ) → MeetsAt ρ n (q .alternatives) ↔ MeetsNumbered ρ n ls)
+    → (q : Question) × (readQuestion L ws ≡ asks q) × ((ρ : Filling) (n : ℕ) → MeetsAt (signature (q .counts)) ρ n (q .alternatives) ↔ MeetsNumbered (signature (q .counts)) ρ n ls)
 answer-numbered L work answer ws ls s e =
     let (q, asked, ran) = answered-run L work answer ws ls s e in
-    (q, asked, run-numbered L (q .alternatives) ls s ran)
+    (q, asked, run-numbered (signature (q .counts)) L (q .alternatives) ls s ran)
 
 -- "A conjunction needs all its literals, a question one conjunction": so a filling meets the question exactly when it meets a line.
 pub answer-exact : (L : Limits) (work answer : ℕ) (ws : List ℕ) (ls : List Numbered) (n : ℕ) → solving L work answer ws ≡ answered ls n
-    → (q : Question) × (readQuestion L ws ≡ asks q) × ((ρ : Filling) → MeetsQuestion ρ q ↔ MeetsOne ρ (unnumbered ls))
+    → (q : Question) × (readQuestion L ws ≡ asks q) × ((ρ : Filling) → MeetsQuestion ρ q ↔ MeetsOne (signature (q .counts)) ρ (unnumbered ls))
 answer-exact L work answer ws ls n e =
     let (q, asked, same) = answer-numbered L work answer ws ls n e in
-    (q, asked, λ ρ. whatever-number ρ (q .alternatives) ls (same ρ))
+    (q, asked, λ ρ. whatever-number (signature (q .counts)) ρ (q .alternatives) ls (same ρ))
 
 -- 'Answering "none" always breaks 3': "none" is said only rightly, for where there is no line, no filling meets the question.
 pub none-is-none : (L : Limits) (work answer : ℕ) (ws : List ℕ) (n : ℕ) → solving L work answer ws ≡ answered [] n
@@ -124,12 +126,13 @@ none-is-none L work answer ws n e = let (q, asked, same) = answer-exact L work a
 
 -- ---- what lines are made of
 
--- "New literals stand in the place of the old": each symbol and each variable of a result was there before the step.
-pub step-names : (A : Name → Type 0) (k : Conj) (ks : List Conj) → step k ≡ results ks → MadeC A k → Each (MadeC A) ks
+-- "New literals stand in the place of the old": each symbol and each variable of a result was there before the step, or is a declared symbol that E7
+-- tries.
+pub step-names : (σ : Signature) (A : Name → Type 0) → Known σ A → (k : Conj) (ks : List Conj) → step σ k ≡ results ks → MadeC A k → Each (MadeC A) ks
 step-names = step-made
 
 -- "6: an undeclared number": where every alternative is declared, so is every line.
-pub lines-all-declared : (c : Counts) (L : Limits) (w : List Conj) (ls : List Numbered) (n : ℕ) → run L w ≡ finished ls n
+pub lines-all-declared : (c : Counts) (L : Limits) (w : List Conj) (ls : List Numbered) (n : ℕ) → run L (signature c) w ≡ finished ls n
     → Each (λ k. declaredC c k ≡ true) w → EachLine (λ k. declaredC c k ≡ true) ls
 lines-all-declared = lines-declared
 

@@ -3,6 +3,7 @@ pub mod Sizes
 pub mod Answers
 pub mod Cuts
 pub mod Expressions
+pub mod Orders
 pub mod Equations
 pub mod Memberships
 pub mod Pairs

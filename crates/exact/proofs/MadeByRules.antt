@@ -1,14 +1,19 @@
 -- The rules make no new names: what stands for a literal is made of what the literal is made of.
+use Prim.Native.Nat.{_<_}
 use mathlib.Core.Path.{_≡_}
 use mathlib.Core.List.{List, _∷_, _++_, map}
 use mathlib.Core.Option.{none, some}
+use lib.Dec.{T}
 use Rattle.language.specs.declared.HedgeVar.{HedgeVar}
-use Rattle.language.specs.Trees.{symbol, Hedge, ε, tvar, hvar, node, Expr, Literal, eqn, mem, Conj, hv}
+use Rattle.language.specs.declared.Sym.{Sym}
+use Rattle.language.specs.declared.Signature.{Signature}
+use Rattle.language.specs.Trees.{symbol, Hedge, ε, tvar, hvar, node, Expr, Literal, eqn, mem, Conj, anyUnordered, hv}
 use Rattle.rules.specs.Looks.{firstTerm, firstRun, loneTerm, loneT, loneH, loneNode, asSymbol, asBlank, inside, upTo, cuts, asCat, asAlt, asStar, asOver}
+use Rattle.rules.specs.Elements.{struck, orders}
 use Rattle.rules.specs.Substitution.{putC}
 use Rattle.rules.specs.Expressions.{linear}
 use Rattle.rules.specs.Reply.{results, PairRule}
-use Rattle.rules.specs.Rules.{Branch, plain, elims, Answer, EqRule, InRule, Rule, onEqn, onMem, onPair, cutResult, vanish, monomialResult}
+use Rattle.rules.specs.Rules.{Branch, plain, elims, Answer, EqRule, InRule, Rule, onEqn, onMem, onPair, cutResult, orderResult, everySymbol, namedResult, vanish, monomialResult, orderMember}
 use Rattle.rules.specs.Rules as rules
 use Rattle.rules.specs.Step.{place, placed, step}
 use Rattle.rules.specs.Each.{Each}
@@ -16,12 +21,18 @@ use Rattle.rules.specs.Sides.{AtSides}
 use Rattle.rules.proofs.Each.{_also_, each-map, each-imp}
 use Rattle.rules.proofs.Answers.{Answers, look, test, answers}
 use Rattle.rules.proofs.Looks.{loneT-is, loneH-is, loneNode-is, loneTerm-is, firstTerm-is, firstRun-is, asSymbol-is, asBlank-is, inside-is, upTo-is, asCat-is, asAlt-is, asStar-is, asOver-is, CutOf, cuts-join}
+use Rattle.rules.proofs.Elements.{struck-is, without-keeps, orders-keep}
+use Rattle.rules.proofs.Symbols.{each-symbol}
 use Rattle.rules.proofs.Steps.{Gives, OnSides, Kept, kept-at-sides, gives-behind, step-at-sides}
 use Rattle.rules.proofs.Folding.{Struck, here, further, fold-is}
-use Rattle.exact.specs.Made.{Name, aVariable, Made, MadeE, MadeL, MadeC}
+use Rattle.exact.specs.Made.{Name, aSymbol, aVariable, Made, MadeE, MadeL, MadeC}
 use Rattle.exact.proofs.Made.{made-⧺, made-++, Puts, putC-made, setT-made, setH-made, setF-made, emptied-made, MadeMonomial, linear-made}
 
-module _ (A : Name → Type 0) where
+-- E7 writes declared symbols, whether they were there before or not: where some symbol is unordered, each declared one is as A says
+abbrev pub Known : Signature → (Name → Type 0) → Type 0
+Known σ A = T (anyUnordered σ) → (f : Sym) → f .0 < σ .symbols → A (aSymbol f)
+
+module _ (σ : Signature) (A : Name → Type 0) (known : Known σ A) where
   abbrev MadeBranch : Branch → Type 0
   MadeBranch (plain ls) = MadeC A ls
   MadeBranch (elims es ls s) = MadeC A es × MadeC A ls × Puts A s
@@ -76,10 +87,32 @@ module _ (A : Name → Type 0) where
       let n = made-⧺ A (d .0) (d .1) .0 (rw (q .0) at b) in
       answers (((m .0, n .0), ((m .1, n .1), tt)), tt)
 
-  D0-makes : MakesEqn rules.D0
+  D0-makes : MakesEqn (rules.D0 σ)
   D0-makes K l r a b =
       look (loneNode l) (loneNode-is l) λ c p. look (loneNode r) (loneNode-is r) λ d q.
-      test _ λ _ _. let m = rw p at a in let n = rw q at b in answers (((m .1, n .1), tt), tt)
+      test _ λ _ _. test _ λ _ _. let m = rw p at a in let n = rw q at b in answers (((m .1, n .1), tt), tt)
+
+  Del2-makes : MakesEqn (rules.Del2 σ)
+  Del2-makes K l r a b =
+      look (loneNode l) (loneNode-is l) λ c p. look (loneNode r) (loneNode-is r) λ d q.
+      look (asSymbol (c .0)) (asSymbol-is (c .0)) λ f s. look (asSymbol (d .0)) (asSymbol-is (d .0)) λ g t.
+      test _ λ _ _. test _ λ _ _.
+      look (struck (c .1) (d .1)) (struck-is (c .1) (d .1)) λ k w.
+      let m = rw (p, s) at a in let n = rw q at b in
+      let x = without-keeps (Made A) (λ h j y z. made-⧺ A h j .1 (y, z)) (λ h j y. made-⧺ A h j .0 y) (w .shared) (c .1) (k .0) (w .left) (m .1) .1 in
+      let y = without-keeps (Made A) (λ h j y z. made-⧺ A h j .1 (y, z)) (λ h j y. made-⧺ A h j .0 y) (w .shared) (d .1) (k .1) (w .right) (n .1) .1 in
+      answers ((((m .0, x, tt), (m .0, y, tt)), tt), tt)
+
+  orders-made : (h : Hedge) → Made A h → Each (Made A) (orders h)
+  orders-made = orders-keep (Made A) (λ h j y z. made-⧺ A h j .1 (y, z)) (λ h j y. made-⧺ A h j .0 y) tt
+
+  D1-makes : MakesEqn (rules.D1 σ)
+  D1-makes K l r a b =
+      look (loneNode l) (loneNode-is l) λ c p. look (loneNode r) (loneNode-is r) λ d q.
+      look (asSymbol (c .0)) (asSymbol-is (c .0)) λ f s. look (asSymbol (d .0)) (asSymbol-is (d .0)) λ g t.
+      test _ λ _ _. test _ λ _ _. test _ λ _ _. test _ λ _ _.
+      let m = rw p at a in let n = rw q at b in
+      answers (each-map (Made A) MadeBranch (orderResult (c .1)) (λ e k. ((m .1, k), tt)) (orders (d .1)) (orders-made (d .1) (n .1)))
 
   E1-makes : MakesEqn rules.E1
   E1-makes K l r a b =
@@ -130,6 +163,16 @@ module _ (A : Name → Type 0) where
       test _ λ _ _. test _ λ _ _.
       let m = rw (p, s) at a in let n = rw q at b in
       answers (((((m .0, tt, tt), (n .0, tt, tt)), tt), (((n .0, m .1, tt), (n .0, n .1, tt)), tt), setF-made A X (d .0) (n .0)), tt)
+
+  E7-makes : MakesEqn (rules.E7 σ)
+  E7-makes K l r a b =
+      look (loneNode l) (loneNode-is l) λ c p. look (asBlank (c .0)) (asBlank-is (c .0)) λ X s.
+      look (loneNode r) (loneNode-is r) λ d q. look (asBlank (d .0)) (asBlank-is (d .0)) λ Y t.
+      test _ λ _ _. test _ λ _ _. test _ λ _ u.
+      let m = rw (p, s) at a in let n = rw q at b in
+      answers (each-map (λ f. A (aSymbol f)) MadeBranch (namedResult X (c .1) (d .1))
+      (λ f k. ((((m .0, tt, tt), (k, tt, tt)), tt), (((k, m .1, tt), (k, n .1, tt)), tt), setF-made A X (symbol f) k)) (everySymbol σ)
+      (each-symbol σ (λ f. A (aSymbol f)) (known u)))
 
   -- ---- memberships
 
@@ -197,10 +240,17 @@ module _ (A : Name → Type 0) where
       let m = rw (p, s) at a in let n = rw q at b in
       answers (((((m .0, tt, tt), (n .0, tt, tt)), tt), (((n .0, m .1, tt), b), tt), setF-made A X (symbol (g .0)) (n .0)), tt)
 
-  M11-makes : MakesMem rules.M11
+  M11-makes : MakesMem (rules.M11 σ)
   M11-makes K h R a b =
       look (loneNode h) (loneNode-is h) λ c p. look (asSymbol (c .0)) (asSymbol-is (c .0)) λ f s. look (asOver R) (asOver-is R) λ g q.
-      test _ λ _ _. let m = rw p at a in let n = rw q at b in answers (((m .1, n .1), tt), tt)
+      test _ λ _ _. test _ λ _ _. let m = rw p at a in let n = rw q at b in answers (((m .1, n .1), tt), tt)
+
+  M12-makes : MakesMem (rules.M12 σ)
+  M12-makes K h R a b =
+      look (loneNode h) (loneNode-is h) λ c p. look (asSymbol (c .0)) (asSymbol-is (c .0)) λ f s. look (asOver R) (asOver-is R) λ g q.
+      test _ λ _ _. test _ λ _ _. test _ λ _ _.
+      let m = rw p at a in let n = rw q at b in
+      answers (each-map (Made A) MadeBranch (orderMember (g .1)) (λ e k. ((k, n .1), tt)) (orders (c .1)) (orders-made (c .1) (m .1)))
 
   -- ---- two literals
 
@@ -245,16 +295,16 @@ module _ (A : Name → Type 0) where
       let (x, y) = made-++ A before (l ∷ behind) .0 m in sides-make rule p before l behind x (y .0) (y .1)
 
   -- A rule's results, wherever it applies, are made of what the conjunction is made of.
-  pub each-rule-makes : Each (AtSides (Kept (MadeC A))) rules.rules
+  pub each-rule-makes : Each (AtSides (Kept (MadeC A))) (rules.rules σ)
   each-rule-makes =
-      each-imp RuleMakes (AtSides (Kept (MadeC A))) rule-makes rules.rules
+      each-imp RuleMakes (AtSides (Kept (MadeC A))) rule-makes (rules.rules σ)
       (R1-makes also R2-makes also Fold-makes
       also F1-makes also F2-makes also F3-makes also F4-makes also F5-makes also F6-makes also F7-makes
-      also Del1-makes also Del3-makes
-      also D2-makes also D0-makes
-      also E1-makes also E2-makes also E3-makes also E4-makes also E5-makes also E6-makes
-      also M1-makes also M2-makes also M3-makes also M4-makes also M5-makes also M6-makes also M7-makes also M10-makes also M11-makes
+      also Del1-makes also Del2-makes also Del3-makes
+      also D1-makes also D2-makes also D0-makes
+      also E1-makes also E2-makes also E3-makes also E4-makes also E5-makes also E6-makes also E7-makes
+      also M1-makes also M2-makes also M3-makes also M4-makes also M5-makes also M6-makes also M7-makes also M10-makes also M11-makes also M12-makes
       also tt)
 
-  pub step-made : (k : Conj) (ks : List Conj) → step k ≡ results ks → MadeC A k → Each (MadeC A) ks
-  step-made k ks e m = step-at-sides (Kept (MadeC A)) each-rule-makes k ks e m
+  pub step-made : (k : Conj) (ks : List Conj) → step σ k ≡ results ks → MadeC A k → Each (MadeC A) ks
+  step-made k ks e m = step-at-sides σ (Kept (MadeC A)) each-rule-makes k ks e m

@@ -10,15 +10,16 @@ use borrow.Author.Tests.{leb-true, ltb-false, le-leb, le-ltb}
 use Rattle.language.specs.declared.Refusal.{Refusal}
 use Rattle.language.specs.declared.Refusal.the-variants.{LongResult, LongWaiting, LineRoom, StepLimit}
 use Rattle.language.specs.Limits.{Limits, desk, firstDesk, Within}
-use Rattle.language.specs.Trees.{Conj, Question}
+use Rattle.language.specs.declared.Signature.{Signature}
+use Rattle.language.specs.Trees.{Conj, signature, Question}
 use Rattle.language.specs.Writing.{conjWords}
 use Rattle.language.specs.Question.{asks, readQuestion}
 use Rattle.language.proofs.Bools.{both-true}
 use Rattle.language.proofs.Wider.{read-wider, first-within}
 use Rattle.meaning.specs.Values.{offsetsOf, joined}
 use Rattle.rules.specs.Reply.{Reply, nothing, results, stops}
-use Rattle.rules.specs.Step.{step}
-use Rattle.rules.specs.Run.{Numbered, allOf, numbered, size, anyLong, waitingSize, linesAt, linesSize, linesFit, Outcome, finished, refused, checked, lined, turn, runFrom, run}
+use Rattle.rules.specs.Step.{Step, step}
+use Rattle.rules.specs.Run.{Numbered, allOf, numbered, size, anyLong, waitingSize, linesAt, linesSize, linesFit, Outcome, finished, refused, checked, lined, turn, runFrom, runBy, run}
 use Rattle.rules.specs.Answer.{lineWords, countOpen, padded, answerWords, answered, ran, solvingOf, solving}
 use Rattle.rules.proofs.Invariant.{answered-run}
 
@@ -71,34 +72,34 @@ module _ (L M : Limits) (i : Within L M) where
   in-room true false r o p h f = absurd (let e = h refl in let z : _≡_ {A = ℕ} 0 1 = cc in omega arith)
   in-room false b r o p h f = never r _
 
-  turn-wider : (go on : List Numbered → List Conj → List Numbered → Outcome)
+  turn-wider : (by : Step) (go on : List Numbered → List Conj → List Numbered → Outcome)
       → ((ls : List Numbered) (ks : List Conj) (w : List Numbered) → Finishes (go ls ks w) (on ls ks w))
-      → (n : ℕ) (ls w : List Numbered) → Finishes (turn L go n ls w) (turn M on n ls w)
-  turn-wider go on f n ls [] = λ ms m e. e
-  turn-wider go on f n ls (k ∷ w) =
-      taken (step (k .literals))
-      (in-room (linesFit L (ls ++ (k ∷ []))) (linesFit M (ls ++ (k ∷ []))) LineRoom _ _ (fit-wider (ls ++ (k ∷ []))) (turn-wider go on f n (ls ++ (k ∷ [])) w))
+      → (n : ℕ) (ls w : List Numbered) → Finishes (turn L by go n ls w) (turn M by on n ls w)
+  turn-wider by go on f n ls [] = λ ms m e. e
+  turn-wider by go on f n ls (k ∷ w) =
+      taken (by (k .literals))
+      (in-room (linesFit L (ls ++ (k ∷ []))) (linesFit M (ls ++ (k ∷ []))) LineRoom _ _ (fit-wider (ls ++ (k ∷ []))) (turn-wider by go on f n (ls ++ (k ∷ [])) w))
     where
-      taken : (m : Reply (List Conj)) → Finishes (lined L (ls ++ (k ∷ [])) (λ ms. turn L go n ms w)) (lined M (ls ++ (k ∷ [])) (λ ms. turn M on n ms w))
-          → Finishes (elim m [ results ks ↦ go ls ks (allOf (k .number) ks ++ w) | nothing ↦ lined L (ls ++ (k ∷ [])) (λ ms. turn L go n ms w) | stops r ↦ refused r ])
-          (elim m [ results ks ↦ on ls ks (allOf (k .number) ks ++ w) | nothing ↦ lined M (ls ++ (k ∷ [])) (λ ms. turn M on n ms w) | stops r ↦ refused r ])
+      taken : (m : Reply (List Conj)) → Finishes (lined L (ls ++ (k ∷ [])) (λ ms. turn L by go n ms w)) (lined M (ls ++ (k ∷ [])) (λ ms. turn M by on n ms w))
+          → Finishes (elim m [ results ks ↦ go ls ks (allOf (k .number) ks ++ w) | nothing ↦ lined L (ls ++ (k ∷ [])) (λ ms. turn L by go n ms w) | stops r ↦ refused r ])
+          (elim m [ results ks ↦ on ls ks (allOf (k .number) ks ++ w) | nothing ↦ lined M (ls ++ (k ∷ [])) (λ ms. turn M by on n ms w) | stops r ↦ refused r ])
       taken nothing line = line
       taken (results ks) line = f ls ks (allOf (k .number) ks ++ w)
       taken (stops r) line = never r (refused r)
 
-  from-wider : (d e n : ℕ) (ls w : List Numbered) → d ≤ e → Finishes (runFrom L d n ls w) (runFrom M e n ls w)
+  from-wider : (by : Step) (d e n : ℕ) (ls w : List Numbered) → d ≤ e → Finishes (runFrom L by d n ls w) (runFrom M by e n ls w)
   unfolding runFrom
-  from-wider zero zero n ls w h = turn-wider _ _ (λ ms ks v. never StepLimit _) n ls w
-  from-wider zero (suc e) n ls w h = turn-wider _ _ (λ ms ks v. never StepLimit _) n ls w
-  from-wider (suc d) zero n ls w h = absurd (omega arith)
-  from-wider (suc d) (suc e) n ls w h =
-      turn-wider _ _ (λ ms ks v.
+  from-wider by zero zero n ls w h = turn-wider by _ _ (λ ms ks v. never StepLimit _) n ls w
+  from-wider by zero (suc e) n ls w h = turn-wider by _ _ (λ ms ks v. never StepLimit _) n ls w
+  from-wider by (suc d) zero n ls w h = absurd (omega arith)
+  from-wider by (suc d) (suc e) n ls w h =
+      turn-wider by _ _ (λ ms ks v.
       past (anyLong L ks) (anyLong M ks) LongResult _ _ (long-wider ks)
-      (past (ltb (L .room) (waitingSize v)) (ltb (M .room) (waitingSize v)) LongWaiting _ _ (waiting-wider (waitingSize v)) (from-wider d e (suc n) ms v (omega arith)))) n ls w
+      (past (ltb (L .room) (waitingSize v)) (ltb (M .room) (waitingSize v)) LongWaiting _ _ (waiting-wider (waitingSize v)) (from-wider by d e (suc n) ms v (omega arith)))) n ls w
 
-  pub run-wider : (w : List Conj) (ls : List Numbered) (n : ℕ) → run L w ≡ finished ls n → run M w ≡ finished ls n
-  unfolding run
-  run-wider w ls n e = from-wider (L .steps) (M .steps) 0 [] (numbered 0 w) (i .steps) ls n e
+  pub run-wider : (σ : Signature) (w : List Conj) (ls : List Numbered) (n : ℕ) → run L σ w ≡ finished ls n → run M σ w ≡ finished ls n
+  unfolding run runBy
+  run-wider σ w ls n e = from-wider (step σ) (L .steps) (M .steps) 0 [] (numbered 0 w) (i .steps) ls n e
 
   -- "a question answered under the old limits has the same lines and steps under the new"; the lines' marks are made of the lines alone
   pub solving-wider : (work answer work′ answer′ : ℕ) (ws : List ℕ) (ls : List Numbered) (n : ℕ) → solving L work answer ws ≡ answered ls n
@@ -106,7 +107,7 @@ module _ (L M : Limits) (i : Within L M) where
   unfolding solving
   solving-wider work answer work′ answer′ ws ls n e p q =
       let (a, asked, done) = answered-run L work answer ws ls n e in
-      let more : run M (a .alternatives) ≡ finished ls n = run-wider (a .alternatives) ls n done in
+      let more : run M (signature (a .counts)) (a .alternatives) ≡ finished ls n = run-wider (signature (a .counts)) (a .alternatives) ls n done in
       rw (solving, le-ltb work′ (M .room) p, le-ltb answer′ (M .room) q) (ap (solvingOf M) (read-wider L M i ws a asked) ∙ ap ran more)
 
 -- ---- the lines of a finished run have room
@@ -126,26 +127,26 @@ module _ (L : Limits) where
   goes true r o p = p refl
   goes false r o p = tt
 
-  turn-fits : (go : List Numbered → List Conj → List Numbered → Outcome) → ((ls : List Numbered) (ks : List Conj) (w : List Numbered) → linesFit L ls ≡ true → Fits (go ls ks w))
-      → (n : ℕ) (ls w : List Numbered) → linesFit L ls ≡ true → Fits (turn L go n ls w)
+  turn-fits : (by : Step) (go : List Numbered → List Conj → List Numbered → Outcome) → ((ls : List Numbered) (ks : List Conj) (w : List Numbered) → linesFit L ls ≡ true → Fits (go ls ks w))
+      → (n : ℕ) (ls w : List Numbered) → linesFit L ls ≡ true → Fits (turn L by go n ls w)
   unfolding Fits
-  turn-fits go on n ls [] p = p
-  turn-fits go on n ls (k ∷ w) p = taken (step (k .literals)) (goes (linesFit L (ls ++ (k ∷ []))) LineRoom _ (λ q. turn-fits go on n (ls ++ (k ∷ [])) w q))
+  turn-fits by go on n ls [] p = p
+  turn-fits by go on n ls (k ∷ w) p = taken (by (k .literals)) (goes (linesFit L (ls ++ (k ∷ []))) LineRoom _ (λ q. turn-fits by go on n (ls ++ (k ∷ [])) w q))
     where
-      taken : (m : Reply (List Conj)) → Fits (lined L (ls ++ (k ∷ [])) (λ ms. turn L go n ms w))
-          → Fits (elim m [ results ks ↦ go ls ks (allOf (k .number) ks ++ w) | nothing ↦ lined L (ls ++ (k ∷ [])) (λ ms. turn L go n ms w) | stops r ↦ refused r ])
+      taken : (m : Reply (List Conj)) → Fits (lined L (ls ++ (k ∷ [])) (λ ms. turn L by go n ms w))
+          → Fits (elim m [ results ks ↦ go ls ks (allOf (k .number) ks ++ w) | nothing ↦ lined L (ls ++ (k ∷ [])) (λ ms. turn L by go n ms w) | stops r ↦ refused r ])
       taken nothing line = line
       taken (results ks) line = on ls ks (allOf (k .number) ks ++ w) p
       taken (stops r) line = tt
 
-  from-fits : (d n : ℕ) (ls w : List Numbered) → linesFit L ls ≡ true → Fits (runFrom L d n ls w)
+  from-fits : (by : Step) (d n : ℕ) (ls w : List Numbered) → linesFit L ls ≡ true → Fits (runFrom L by d n ls w)
   unfolding runFrom Fits
-  from-fits zero n ls w p = turn-fits (λ _ _ _. refused StepLimit) (λ _ _ _ _. tt) n ls w p
-  from-fits (suc d) n ls w p = turn-fits _ (λ ms ks v q. halts (anyLong L ks) LongResult _ (halts (ltb (L .room) (waitingSize v)) LongWaiting _ (from-fits d (suc n) ms v q))) n ls w p
+  from-fits by zero n ls w p = turn-fits by (λ _ _ _. refused StepLimit) (λ _ _ _ _. tt) n ls w p
+  from-fits by (suc d) n ls w p = turn-fits by _ (λ ms ks v q. halts (anyLong L ks) LongResult _ (halts (ltb (L .room) (waitingSize v)) LongWaiting _ (from-fits by d (suc n) ms v q))) n ls w p
 
-  pub lines-fit : linesFit L [] ≡ true → (w : List Conj) (ls : List Numbered) (n : ℕ) → run L w ≡ finished ls n → linesFit L ls ≡ true
-  unfolding run Fits
-  lines-fit t w ls n e = rw e at (from-fits (L .steps) 0 [] (numbered 0 w) t)
+  pub lines-fit : linesFit L [] ≡ true → (σ : Signature) (w : List Conj) (ls : List Numbered) (n : ℕ) → run L σ w ≡ finished ls n → linesFit L ls ≡ true
+  unfolding run runBy Fits
+  lines-fit t σ w ls n e = rw e at (from-fits (step σ) (L .steps) 0 [] (numbered 0 w) t)
 
 -- ---- the answer's words
 
@@ -187,14 +188,14 @@ written-short L ls e =
     omega (arith, length-append (padded (linesAt L) head) (joined ws), length-padded (linesAt L) head few, length-lines ls, r)
 
 -- With as many lines as before, the answer is the same words, and zeros up to the new length.
-pub answer-wider : (L M : Limits) → Within L M → L .lines ≡ M .lines → linesFit L [] ≡ true → (w : List Conj) (ls : List Numbered) (n : ℕ) → run L w ≡ finished ls n
+pub answer-wider : (L M : Limits) → Within L M → L .lines ≡ M .lines → linesFit L [] ≡ true → (σ : Signature) (w : List Conj) (ls : List Numbered) (n : ℕ) → run L σ w ≡ finished ls n
     → answerWords M ls ≡ answerWords L ls ++ replicate (M .room - L .room) 0
 unfolding answerWords
-answer-wider L M i same t w ls n e =
+answer-wider L M i same t σ w ls n e =
     let p = i .lines in
     let q = i .behind in
     ap (λ k. padded (M .room) (written (k + 3) ls)) (sym same)
-    ∙ padded-more (L .room) (M .room) (written (linesAt L) ls) (written-short L ls (lines-fit L t w ls n e)) (omega arith)
+    ∙ padded-more (L .room) (M .room) (written (linesAt L) ls) (written-short L ls (lines-fit L t σ w ls n e)) (omega arith)
 
 -- ---- the first desk and the one of "Bigger sheets"
 
@@ -204,6 +205,6 @@ pub answered-still : (work answer work′ answer′ : ℕ) (ws : List ℕ) (ls :
 answered-still = solving-wider firstDesk desk first-within
 
 -- and the same words of an answer, up to where zeros begin
-pub same-answer : (w : List Conj) (ls : List Numbered) (n : ℕ) → run firstDesk w ≡ finished ls n
+pub same-answer : (σ : Signature) (w : List Conj) (ls : List Numbered) (n : ℕ) → run firstDesk σ w ≡ finished ls n
     → answerWords desk ls ≡ answerWords firstDesk ls ++ replicate (desk .room - firstDesk .room) 0
 same-answer = answer-wider firstDesk desk first-within refl refl

@@ -22,7 +22,7 @@ use Rattle.solver.proofs.Told.{leaves-told}
 use Rattle.outcomes.proofs.Outcome.{the-type}
 use Rattle.outcomes.specs.declared.Shown.{Shown}
 use Rattle.outcomes.specs.declared.Shown.the-variants.{Denied}
-use Rattle.example.specs.Shown.{resultOf, roomOf}
+use Rattle.line_example.specs.Shown.{resultOf, roomOf}
 use Rattle.example.specs.Exhibits.{exhibits, toldExhibits}
 use Rattle.example.specs.Answers.{Answer, Answered, Ranged, AnswerShown}
 use Rattle.example.proofs.Told.{told-exhibits}

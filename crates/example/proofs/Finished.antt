@@ -9,15 +9,16 @@ use lib.ListN.{length}
 use borrow.Author.Tests.{ltb-true, leb-true}
 use Rattle.language.specs.declared.Refusal.{Refusal}
 use Rattle.language.specs.declared.Refusal.the-variants.{LongResult, LongWaiting, LineRoom, StepLimit}
+use Rattle.language.specs.declared.Signature.{Signature}
 use Rattle.language.specs.Limits.{Limits, desk}
-use Rattle.language.specs.Trees.{Functor, symbol, fvar, Hedge, ε, tvar, hvar, node, Expr, eps, cat, alt, star, over, Literal, eqn, mem, Conj, Counts}
+use Rattle.language.specs.Trees.{Functor, symbol, fvar, Hedge, ε, tvar, hvar, node, Expr, eps, cat, alt, star, over, Literal, eqn, mem, Conj, Counts, signature}
 use Rattle.language.specs.Fine.{fineFunctor, fineHedge, fineExpr, fineLiteral, fineConj}
 use Rattle.language.specs.Question.{countsOf, declaredS, declaredT, declaredH, declaredF, declared, declaredE, declaredL, declaredC}
 use Rattle.language.proofs.Bools.{both-true}
-use Rattle.language.proofs.Asking.{ranges}
+use Rattle.language.proofs.Asking.{ranges, passed}
 use Rattle.rules.specs.Reply.{Reply, nothing, results, stops}
-use Rattle.rules.specs.Step.{step}
-use Rattle.rules.specs.Run.{Numbered, EachLine, allOf, numbered, anyLong, waitingSize, linesSize, linesFit, Outcome, finished, refused, lined, turn, runFrom, run, linesAt}
+use Rattle.rules.specs.Step.{Step, step}
+use Rattle.rules.specs.Run.{Numbered, EachLine, allOf, numbered, anyLong, waitingSize, linesSize, linesFit, Outcome, finished, refused, lined, turn, runFrom, runBy, run, linesAt}
 use Rattle.rules.specs.Answer.{solving, answered}
 use Rattle.rules.proofs.Invariant.{answered-run}
 use Rattle.exact.proofs.Exact.{lines-settled, answer-declared}
@@ -57,7 +58,7 @@ module _ (n : Counts) (s : n .symbols ≤ desk .each) (t : n .terms ≤ desk .ea
 
 -- ---- the lines of a finished run fit
 
-module _ (L : Limits) where
+module _ (L : Limits) (by : Step) where
   Fits : Outcome → Type 0
   Fits (finished ls n) = linesFit L ls ≡ true
   Fits (refused r) = Unit {0}
@@ -72,24 +73,24 @@ module _ (L : Limits) where
   goes true r o p = p refl
   goes false r o p = tt
 
-  turn-fits : (go : List Numbered → List Conj → List Numbered → Outcome) → ((ls : List Numbered) (ks : List Conj) (w : List Numbered) → linesFit L ls ≡ true → Fits (go ls ks w)) → (n : ℕ) (ls w : List Numbered) → linesFit L ls ≡ true → Fits (turn L go n ls w)
+  turn-fits : (go : List Numbered → List Conj → List Numbered → Outcome) → ((ls : List Numbered) (ks : List Conj) (w : List Numbered) → linesFit L ls ≡ true → Fits (go ls ks w)) → (n : ℕ) (ls w : List Numbered) → linesFit L ls ≡ true → Fits (turn L by go n ls w)
   unfolding Fits
   turn-fits go on n ls [] p = p
-  turn-fits go on n ls (k ∷ w) p = taken (step (k .literals)) (goes (linesFit L (ls ++ (k ∷ []))) LineRoom _ (λ q. turn-fits go on n (ls ++ (k ∷ [])) w q))
+  turn-fits go on n ls (k ∷ w) p = taken (by (k .literals)) (goes (linesFit L (ls ++ (k ∷ []))) LineRoom _ (λ q. turn-fits go on n (ls ++ (k ∷ [])) w q))
     where
-      taken : (m : Reply (List Conj)) → Fits (lined L (ls ++ (k ∷ [])) (λ ms. turn L go n ms w)) → Fits (elim m [ results ks ↦ go ls ks (allOf (k .number) ks ++ w) | nothing ↦ lined L (ls ++ (k ∷ [])) (λ ms. turn L go n ms w) | stops r ↦ refused r ])
+      taken : (m : Reply (List Conj)) → Fits (lined L (ls ++ (k ∷ [])) (λ ms. turn L by go n ms w)) → Fits (elim m [ results ks ↦ go ls ks (allOf (k .number) ks ++ w) | nothing ↦ lined L (ls ++ (k ∷ [])) (λ ms. turn L by go n ms w) | stops r ↦ refused r ])
       taken nothing line = line
       taken (results ks) line = on ls ks (allOf (k .number) ks ++ w) p
       taken (stops r) line = tt
 
-  from-fits : (d n : ℕ) (ls w : List Numbered) → linesFit L ls ≡ true → Fits (runFrom L d n ls w)
+  from-fits : (d n : ℕ) (ls w : List Numbered) → linesFit L ls ≡ true → Fits (runFrom L by d n ls w)
   unfolding runFrom Fits
   from-fits zero n ls w p = turn-fits (λ _ _ _. refused StepLimit) (λ _ _ _ _. tt) n ls w p
   from-fits (suc d) n ls w p = turn-fits _ (λ ms ks v q. halts (anyLong L ks) LongResult _ (halts (ltb (L .room) (waitingSize v)) LongWaiting _ (from-fits d (suc n) ms v q))) n ls w p
 
-lines-fit : (w : List Conj) (ls : List Numbered) (n : ℕ) → run desk w ≡ finished ls n → linesFit desk ls ≡ true
-unfolding run Fits
-lines-fit w ls n e = rw e at (from-fits desk (desk .steps) 0 [] (numbered 0 w) refl)
+lines-fit : (σ : Signature) (w : List Conj) (ls : List Numbered) (n : ℕ) → run desk σ w ≡ finished ls n → linesFit desk ls ≡ true
+unfolding run runBy Fits
+lines-fit σ w ls n e = rw e at (from-fits desk (step σ) (desk .steps) 0 [] (numbered 0 w) refl)
 
 -- ---- an answered question
 
@@ -99,19 +100,20 @@ pub record Ends (question : List ℕ) (ls : List Numbered) : Type 0 where
   pub size : linesAt desk + linesSize ls ≤ desk .room
   pub lines : EachLine Good ls
 
-each-good : (n : Counts) → n .symbols ≤ desk .each → n .terms ≤ desk .each → n .hedges ≤ desk .each → n .functions ≤ desk .each → (ls : List Numbered) → EachLine (λ k. declaredC n k ≡ true) ls → EachLine (λ k. step k ≡ nothing) ls → EachLine Good ls
+each-good : (n : Counts) → n .symbols ≤ desk .each → n .terms ≤ desk .each → n .hedges ≤ desk .each → n .functions ≤ desk .each → (ls : List Numbered) → EachLine (λ k. declaredC n k ≡ true) ls → EachLine (λ k. step (signature n) k ≡ nothing) ls → EachLine Good ls
 each-good n s t h f [] d q = tt
-each-good n s t h f (l ∷ ls) d q = (record { fine = conj-fine n s t h f (l .literals) (d .0); settled = settled-line (l .literals) (q .0) }, each-good n s t h f ls (d .1) (q .1))
+each-good n s t h f (l ∷ ls) d q = (record { fine = conj-fine n s t h f (l .literals) (d .0); settled = settled-line (signature n) (l .literals) (q .0) }, each-good n s t h f ls (d .1) (q .1))
 
 pub lines-end : (work answer : ℕ) (question : List ℕ) (ls : List Numbered) (n : ℕ) → solving desk work answer question ≡ answered ls n → Ends question ls
 lines-end work answer question ls n e =
     let (q, asked, ran) = answered-run desk work answer question ls n e in
     let r = ranges desk question q asked in
-    let f = both-true (leb (length ls) (desk .lines)) (leb (linesAt desk + linesSize ls) (desk .room)) (lines-fit (q .alternatives) ls n ran) in
+    let f = both-true (leb (length ls) (desk .lines)) (leb (linesAt desk + linesSize ls) (desk .room)) (lines-fit (signature (q .counts)) (q .alternatives) ls n ran) in
     let l = r .long in
+    let counts = passed desk question q asked .counts in
     record {
       ranged = record { header = omega arith; named = r .symbol; symbols = r .symbols; terms = r .terms; hedges = r .hedges; functions = r .functions };
       few = leb-true _ _ (f .0);
       size = leb-true _ _ (f .1);
-      lines = each-good (countsOf question) (r .symbols) (r .terms) (r .hedges) (r .functions) ls (answer-declared desk work answer question ls n e) (lines-settled desk (q .alternatives) ls n ran);
+      lines = each-good (countsOf question) (r .symbols) (r .terms) (r .hedges) (r .functions) ls (answer-declared desk work answer question ls n e) (rw counts at (lines-settled (signature (q .counts)) desk (q .alternatives) ls n ran));
     }

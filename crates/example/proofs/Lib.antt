@@ -1,7 +1,3 @@
-pub mod Rows
-pub mod Tables
-pub mod Examples
-pub mod Writing
 pub mod Lines
 pub mod Defaults
 pub mod Reading

@@ -14,7 +14,7 @@ use Rattle.rules.specs.Answer.{lineWords, answerWords}
 use Rattle.rules.specs.Calls.{lineAt}
 use Rattle.answers.proofs.Rows.{header, in-a-row, length-header, length-lines, length-answer}
 use Rattle.example.specs.Answers.{Good, Answer}
-use Rattle.example.proofs.Tables.{joined-row}
+use Rattle.line_example.proofs.Tables.{joined-row}
 
 -- ---- the line of a number
 

@@ -1,5 +1,5 @@
 -- A line read back from an answer, and its example.
-use Prim.Native.Nat.{ℕ, _+_, _-_, _<_, _≤_}
+use Prim.Native.Nat.{ℕ, _+_, _-_, _%_, _<_, _≤_}
 use mathlib.Core.Path.{_≡_, refl, sym, ap, _∙_}
 use mathlib.Core.Bool.{Bool, true, false}
 use mathlib.Core.List.{List, [], _∷_, _++_}
@@ -25,15 +25,15 @@ use Rattle.values.specs.Values.{SettledLine}
 use Rattle.words.proofs.Parts.{drop-of, word-of}
 use Rattle.outcomes.specs.declared.Shown.{Shown}
 use Rattle.outcomes.specs.declared.Shown.the-variants.{Denied}
-use Rattle.example.specs.Shown.{resultOf, roomOf}
-use Rattle.example.specs.Fillings.{LineShown}
+use Rattle.line_example.specs.Shown.{resultOf, roomOf}
+use Rattle.line_example.specs.Fillings.{LineShown}
 use Rattle.example.specs.Answers.{Good, Answer, Answered, LineIn, WordsShown, PartShown, AnswerShown}
 use Rattle.example.proofs.Lines.{no-line, Place, whole, count-is, place-of}
 
 -- ---- with the variables that the question declares
 
 pub words-shown : {question k old new : List ℕ} {oldSheets : Bool} {terms hedges functions : ℕ} {any : Sym} {r : Shown} → terms ≡ getD question 1 0 → hedges ≡ getD question 2 0 → functions ≡ getD question 3 0
-    → ((n : Counts) → n .symbols ≡ getD question 0 0 → any ≡ defaultSymbol oldSheets n) → LineShown k terms hedges functions any old new r → WordsShown question oldSheets k old new r
+    → ((n : Counts) → n .symbols ≡ getD question 0 0 % 256 → any ≡ defaultSymbol oldSheets n) → LineShown k terms hedges functions any old new r → WordsShown question oldSheets k old new r
 words-shown {question} {old = old} d e f g s = record {
   result = λ c l t. s .result c (countsOf question) l t (record { terms = sym d; hedges = sym e; functions = sym f }) ∙ ap (λ z. resultOf (filled z c)) (g (countsOf question) refl);
   room = λ c l t. s .room c (countsOf question) l t (record { terms = sym d; hedges = sym e; functions = sym f }) ∙ ap (λ z. roomOf (filled z c) old) (g (countsOf question) refl);

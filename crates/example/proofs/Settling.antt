@@ -8,6 +8,7 @@ use native.Mathlib.Omega.{arith}
 use Rattle.language.specs.declared.TermVar.{TermVar}
 use Rattle.language.specs.declared.FunVar.{FunVar}
 use Rattle.language.specs.declared.Sym.{Sym}
+use Rattle.language.specs.declared.Signature.{Signature}
 use Rattle.language.specs.Kinds.{pick}
 use Rattle.language.specs.Trees.{Hedge, ε, tvar, hvar, node, Expr, over, eqn, mem, Conj, Var, tv, hv, fv, holds}
 use Rattle.language.proofs.Bools.{both-true}
@@ -52,19 +53,19 @@ by-held false R S m P e f g = g e
 abbrev Over : Expr → Type 0
 Over R = (f : Sym) × (S : Expr) × (R ≡ over f S)
 
-terms-from : (x : TermVar) (before behind : Conj) → solvedFrom before behind ≡ true → step (before ++ behind) ≡ nothing → (R : Expr) → expressionOf (tv x) behind ≡ some R → Over R
-terms-from x before [] t q R e = absurd (let z : _≡_ {A = ℕ} 0 1 = cc in omega arith)
-terms-from x before (eqn l r ∷ behind) t q R e =
+terms-from : (σ : Signature) (x : TermVar) (before behind : Conj) → solvedFrom before behind ≡ true → step σ (before ++ behind) ≡ nothing → (R : Expr) → expressionOf (tv x) behind ≡ some R → Over R
+terms-from σ x before [] t q R e = absurd (let z : _≡_ {A = ℕ} 0 1 = cc in omega arith)
+terms-from σ x before (eqn l r ∷ behind) t q R e =
     let s = both-true (solvedLiteral (before ++ behind) (eqn l r)) (solvedFrom (before ++ (eqn l r ∷ [])) behind) t in
-    terms-from x (before ++ (eqn l r ∷ [])) behind (s .1) (ap step (append-assoc before (eqn l r ∷ []) behind) ∙ q) R e
-terms-from x before (mem h S ∷ behind) t q R e =
+    terms-from σ x (before ++ (eqn l r ∷ [])) behind (s .1) (ap (step σ) (append-assoc before (eqn l r ∷ []) behind) ∙ q) R e
+terms-from σ x before (mem h S ∷ behind) t q R e =
     let s = both-true (solvedLiteral (before ++ behind) (mem h S)) (solvedFrom (before ++ (mem h S ∷ [])) behind) t in
     by-held (holds (tv x) h) S R (expressionOf (tv x) behind) Over e
     (λ u. first (holds-term (before ++ behind) h x (s .0) u))
-    (λ d. terms-from x (before ++ (mem h S ∷ [])) behind (s .1) (ap step (append-assoc before (mem h S ∷ []) behind) ∙ q) R d)
+    (λ d. terms-from σ x (before ++ (mem h S ∷ [])) behind (s .1) (ap (step σ) (append-assoc before (mem h S ∷ []) behind) ∙ q) R d)
   where
     first : (y : TermVar) × (h ≡ tvar y ε) → Over S
-    first (y, d) = over-only (before ++ behind) y S (rw d at (quiet-mem (before ++ behind) h S (at-literal before behind (mem h S) q)))
+    first (y, d) = over-only σ (before ++ behind) y S (rw d at (quiet-mem σ (before ++ behind) h S (at-literal σ before behind (mem h S) q)))
 
 names-from : (X : FunVar) (before behind : Conj) → solvedFrom before behind ≡ true → expressionOf (fv X) behind ≡ none
 names-from X before [] t = refl
@@ -75,6 +76,6 @@ names-from X before (mem h S ∷ behind) t =
     let s = both-true (solvedLiteral (before ++ behind) (mem h S)) (solvedFrom (before ++ (mem h S ∷ [])) behind) t in
     ap (λ b. pick b (some S) (expressionOf (fv X) behind)) (holds-name (before ++ behind) h X (s .0)) ∙ names-from X (before ++ (mem h S ∷ [])) behind (s .1)
 
-pub settled-line : (c : Conj) → step c ≡ nothing → solved c ≡ true → Settled c
+pub settled-line : (σ : Signature) (c : Conj) → step σ c ≡ nothing → solved c ≡ true → Settled c
 unfolding solved
-settled-line c q t = record { terms = λ x R e. terms-from x [] c t q R e; names = λ X. names-from X [] c t }
+settled-line σ c q t = record { terms = λ x R e. terms-from σ x [] c t q R e; names = λ X. names-from X [] c t }

@@ -9,7 +9,7 @@ use Rattle.rules.specs.Calls.{Showing, shows, denied, showing}
 use Rattle.outcomes.specs.declared.Shown.{Shown}
 use Rattle.outcomes.specs.Numbers.{shownNumbers}
 use Rattle.outcomes.proofs.Apart.{shown-apart}
-use Rattle.example.specs.Shown.{numbersOf, resultOf}
+use Rattle.line_example.specs.Shown.{numbersOf, resultOf}
 use Rattle.example.specs.Exhibits.{exhibits, toldExhibits}
 
 abbrev Left : Type 0

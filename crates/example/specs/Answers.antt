@@ -1,5 +1,5 @@
 -- An answer that stands in a slice, and what is known of its lines.
-use Prim.Native.Nat.{ℕ, _+_, _<_, _≤_}
+use Prim.Native.Nat.{ℕ, _+_, _%_, _<_, _≤_}
 use mathlib.Core.Path.{_≡_}
 use mathlib.Core.Bool.{Bool, true}
 use mathlib.Core.List.{List, _++_}
@@ -20,7 +20,7 @@ use Rattle.rules.specs.Calls.{fitted, shown, lineAt}
 use Rattle.answers.specs.Lined.{lineHead}
 use Rattle.values.specs.Values.{Settled}
 use Rattle.outcomes.specs.declared.Shown.{Shown}
-use Rattle.example.specs.Shown.{resultOf, roomOf}
+use Rattle.line_example.specs.Shown.{resultOf, roomOf}
 
 pub record Good (l : Conj) : Type 0 where
   pub fine : fineConj desk l
@@ -42,8 +42,8 @@ pub record Answered (answer : List ℕ) : Type 0 where
 -- some symbol, and no more symbols and variables of a kind than there may be
 pub record Ranged (question : List ℕ) : Type 0 where
   pub header : 4 ≤ length question
-  pub named : 0 < getD question 0 0
-  pub symbols : getD question 0 0 ≤ desk .each
+  pub named : 0 < getD question 0 0 % 256
+  pub symbols : getD question 0 0 % 256 ≤ desk .each
   pub terms : getD question 1 0 ≤ desk .each
   pub hedges : getD question 2 0 ≤ desk .each
   pub functions : getD question 3 0 ≤ desk .each

@@ -8,7 +8,7 @@ use Rattle.rules.specs.Answer.{solving}
 use Rattle.rules.specs.Calls.{showing}
 use Rattle.solver.specs.Leaves.{leaves}
 use Rattle.outcomes.specs.declared.Shown.{Shown}
-use Rattle.example.specs.Shown.{numbersOf, resultOf, roomOf}
+use Rattle.line_example.specs.Shown.{numbersOf, resultOf, roomOf}
 
 -- for the line of that number, for old training sheets or not: the numbers that come back, and the work slice, the answer slice and the room,
 -- which held these words

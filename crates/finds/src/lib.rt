@@ -19,7 +19,7 @@ use language::classify;
 use language::run_word;
 use language::term_word;
 use language::wide;
-use words::element_end;
+use spans::element_end;
 use words::stands;
 use words::word;
 

@@ -2,7 +2,7 @@
 use mathlib.Core.Path.{_≡_, refl, sym, ap, ap₂, _∙_, subst}
 use mathlib.Core.Bool.{Bool, true, false, true≢false}
 use mathlib.Core.List.{List, [], _∷_, _++_, append-assoc}
-use Prim.Native.Nat.{ℕ, zero, suc, _+_, _<_, _≤_, min}
+use Prim.Native.Nat.{ℕ, zero, suc, _+_, _*_, _-_, _/_, _<_, _≤_, min}
 use native.Mathlib.Nat.{min-eq-left}
 use native.Mathlib.Omega.{arith}
 use lib.Dec.{eqb}
@@ -22,7 +22,7 @@ use Rattle.folding.specs.Twice.{again, untilSame}
 use Rattle.folding.specs.Chains.{bucket, Held, Falls, sameAt, headOf, Sought, met, unmet, Noted, old, new}
 use Rattle.folding.proofs.Same.{same-refl, same-is, literal-words, same-at}
 use Rattle.folding.proofs.Twice.{cut, twiceFrom, twice-within, twice-more}
-use Rattle.folding.proofs.Chains.{held-below}
+use Rattle.folding.proofs.Chains.{held-below, in-row}
 use Rattle.folding.proofs.Tables.{First, Table, table-old, table-new}
 
 -- ---- what is found in the chain of the literal's words, and stored
@@ -38,14 +38,14 @@ module _ (k heads next : List ℕ) (at end r h x : ℕ) (b : h ≡ bucket (slice
       go (met a t) = old (subst (λ n. Held next n r) head a) t refl refl
       go (unmet z u) = absurd (omega arith)
 
-  pub note-new : length k ≤ r → at < length k → Falls heads next at → h < length heads → at < length next → (y v : ℕ) → y ≡ at + 1 → v ≡ x
-      → Noted k heads next at end r (set heads h y) (set next at v)
+  pub note-new : length k ≤ r → at < length k → Falls heads next at → h < length heads → at / 3 < length next → (y v : ℕ) → y ≡ at + 1 → v ≡ x
+      → Noted k heads next at end r (set heads h y) (set next (at / 3) v)
   note-new p q f i n y v ey ev = go s
     where
-      go : Sought k next x at end r → Noted k heads next at end r (set heads h y) (set next at v)
+      go : Sought k next x at end r → Noted k heads next at end r (set heads h y) (set next (at / 3) v)
       go (met a t) = absurd (let z = held-below next (f .falls) a in let w = f .low h in omega arith)
       go (unmet z u) =
-          new z (λ q a. u q (subst (λ n. Held next n q) (sym head) a)) (subst (λ g. g < length heads) b i) n (ap₂ (set heads) b ey) (ap (set next at) (ev ∙ head))
+          new z (λ q a. u q (subst (λ n. Held next n q) (sym head) a)) (subst (λ g. g < length heads) b i) n (ap₂ (set heads) b ey) (ap (set next (at / 3)) (ev ∙ head))
 
 -- ---- the places fall as before
 
@@ -54,7 +54,7 @@ zeros zero h = refl
 zeros (suc n) zero = refl
 zeros (suc n) (suc h) = zeros n h
 
-pub falls-empty : (heads next : List ℕ) (at : ℕ) → length heads ≡ 1024 → length next ≡ desk .question → ((h : ℕ) → getD heads h 0 ≡ 0) → ((q : ℕ) → getD next q 0 ≡ 0) → Falls heads next at
+pub falls-empty : (heads next : List ℕ) (at : ℕ) → length heads ≡ 1024 → length next ≡ desk .question / 3 → ((h : ℕ) → getD heads h 0 ≡ 0) → ((q : ℕ) → getD next q 0 ≡ 0) → Falls heads next at
 falls-empty heads next at p q f g = record { chains = p; room = q; low = λ h. let z = f h in omega arith; falls = λ q. let z = g q in omega arith }
 
 set-low : (l : List ℕ) (h x b : ℕ) → ((g : ℕ) → getD l g 0 ≤ b) → x ≤ b → h < length l → (g : ℕ) → getD (set l h x) g 0 ≤ b
@@ -64,22 +64,22 @@ set-low l h x b f p n g = go (eqb g h) refl
     go true d = let z = ap (λ y. getD (set l h x) y 0) (eqb-true g h d) ∙ getD-set-same l h x 0 n in omega arith
     go false d = let z = getD-set-other l h g x 0 (eqb-false g h d) in let y = f g in omega arith
 
-set-falls : (l : List ℕ) (i x : ℕ) → ((q : ℕ) → getD l q 0 ≤ q) → x ≤ i → i < length l → (q : ℕ) → getD (set l i x) q 0 ≤ q
+set-falls : (l : List ℕ) (i x : ℕ) → ((q : ℕ) → getD l q 0 ≤ 3 * q) → x ≤ 3 * i → i < length l → (q : ℕ) → getD (set l i x) q 0 ≤ 3 * q
 set-falls l i x f p n q = go (eqb q i) refl
   where
-    go : (t : Bool) → eqb q i ≡ t → getD (set l i x) q 0 ≤ q
+    go : (t : Bool) → eqb q i ≡ t → getD (set l i x) q 0 ≤ 3 * q
     go true d = let e = eqb-true q i d in let z = ap (λ y. getD (set l i x) y 0) e ∙ getD-set-same l i x 0 n in omega arith
     go false d = let z = getD-set-other l i q x 0 (eqb-false q i d) in let y = f q in omega arith
 
-pub falls-on : {k heads next heads′ next′ : List ℕ} {at end r : ℕ} → Noted k heads next at end r heads′ next′ → at < end → Falls heads next at → Falls heads′ next′ end
+pub falls-on : {k heads next heads′ next′ : List ℕ} {at end r : ℕ} → Noted k heads next at end r heads′ next′ → at + 3 ≤ end → Falls heads next at → Falls heads′ next′ end
 falls-on (old r s d e) h f = rw (d, e) (record { chains = f .chains; room = f .room; low = λ g. let z = f .low g in omega arith; falls = f .falls })
 falls-on {k} {heads} {next} {heads′} {next′} {at} {end} (new z u b n d e) h f =
     rw (d, e)
     (record {
       chains = length-set heads _ (at + 1) ∙ f .chains;
-      room = length-set next at _ ∙ f .room;
-      low = set-low heads (bucket _) (at + 1) end (λ g. let z = f .low g in omega arith) (omega arith) b;
-      falls = set-falls next at (headOf heads _) (f .falls) (f .low _) n;
+      room = length-set next (at / 3) _ ∙ f .room;
+      low = set-low heads (bucket _) (at + 1) (end - 2) (λ g. let z = f .low g in omega arith) (omega arith) b;
+      falls = set-falls next (at / 3) (headOf heads _) (f .falls) (let y = f .low (bucket (slice at end k)) in let z = in-row at in omega arith) n;
     })
 
 -- ---- the literal at `at`, those of `done` before it

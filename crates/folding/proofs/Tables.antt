@@ -3,7 +3,7 @@ use mathlib.Core.Path.{_≡_, refl, sym, ap, _∙_, subst}
 use mathlib.Core.Bool.{Bool, true, false, false≢true}
 use mathlib.Core.List.{List, [], _∷_, _++_}
 use mathlib.Core.Logic.{_⊎_, inl, inr}
-use Prim.Native.Nat.{ℕ, suc, _+_, _<_}
+use Prim.Native.Nat.{ℕ, suc, _+_, _/_, _<_}
 use native.Mathlib.Omega.{arith}
 use lib.Dec.{eqb}
 use lib.ListN.{length, getD, set}
@@ -48,13 +48,13 @@ table-old {heads} {next} {done} l t e = record {
 
 -- ---- a new one, at the head of its chain
 
-module _ {heads next : List ℕ} {done : Conj} (l : Literal) (t : Table heads next done) (i h : ℕ) (f : Falls heads next i) (n : i < length next) (b : h < length heads)
+module _ {heads next : List ℕ} {done : Conj} (l : Literal) (t : Table heads next done) (i h : ℕ) (f : Falls heads next i) (n : i / 3 < length next) (b : h < length heads)
     (e : again l done ≡ false) (p : i ≡ length (conjWords done)) (c : h ≡ bucket (literalWords l)) where
   abbrev heads′ : List ℕ
   heads′ = set heads h (i + 1)
 
   abbrev next′ : List ℕ
-  next′ = set next i (getD heads h 0)
+  next′ = set next (i / 3) (getD heads h 0)
 
   old-place : (g q : ℕ) → Held next′ (getD heads g 0) q → First (done ++ (l ∷ [])) q
   old-place g q r = first-more l (t .only g q (held-unset next (f .falls) i (getD heads h 0) (f .low g) r))
@@ -66,7 +66,7 @@ module _ {heads next : List ℕ} {done : Conj} (l : Literal) (t : Table heads ne
   in-chain x q d (here s) = subst (First (done ++ (l ∷ []))) (let z : i ≡ q = omega arith in z) first-place
   in-chain x q d (further m s r) =
       let z : m ≡ i = omega arith in
-      old-place h q (subst (λ y. Held next′ y q) (ap (λ y. getD next′ y 0) z ∙ getD-set-same next i (getD heads h 0) 0 n) r)
+      old-place h q (subst (λ y. Held next′ y q) (ap (λ y. getD next′ (y / 3) 0) z ∙ getD-set-same next (i / 3) (getD heads h 0) 0 n) r)
 
   only-new : (g q : ℕ) → Held next′ (getD heads′ g 0) q → First (done ++ (l ∷ [])) q
   only-new g q r = go (eqb g h) refl
@@ -85,7 +85,7 @@ module _ {heads next : List ℕ} {done : Conj} (l : Literal) (t : Table heads ne
       go : (t : Bool) → eqb g h ≡ t → Held next′ (getD heads′ g 0) q
       go true d =
           further i (ap (λ y. getD heads′ y 0) (eqb-true g h d) ∙ getD-set-same heads h (i + 1) 0 b ∙ (let z : i + 1 ≡ suc i = omega arith in z))
-          (subst (λ y. Held next′ y q) (ap (λ y. getD heads y 0) (eqb-true g h d) ∙ sym (getD-set-same next i (getD heads h 0) 0 n)) r′)
+          (subst (λ y. Held next′ y q) (ap (λ y. getD heads y 0) (eqb-true g h d) ∙ sym (getD-set-same next (i / 3) (getD heads h 0) 0 n)) r′)
       go false d = subst (λ y. Held next′ y q) (sym (getD-set-other heads h g (i + 1) 0 (eqb-false g h d))) r′
 
   new-head : Held next′ (getD heads′ h 0) i
@@ -98,5 +98,5 @@ module _ {heads next : List ℕ} {done : Conj} (l : Literal) (t : Table heads ne
       (subst (λ g. Held next′ (getD heads′ g 0) (untilSame l (done ++ (l ∷ [])))) c
       (subst (Held next′ (getD heads′ h 0)) (p ∙ sym (until-last l done e)) new-head))
 
-  pub table-new : Table (set heads h (i + 1)) (set next i (getD heads h 0)) (done ++ (l ∷ []))
+  pub table-new : Table (set heads h (i + 1)) (set next (i / 3) (getD heads h 0)) (done ++ (l ∷ []))
   table-new = record { only = only-new; all = λ m a. all-new m (again-either m done l a) }

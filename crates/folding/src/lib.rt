@@ -1,5 +1,5 @@
 // What the fold looks for in a conjunction's words: the earliest literal that stands there again, and where it stands again first.
-ghost use Prim.Native.Nat.{ℕ, _+_, _≤_, _<_, min};
+ghost use Prim.Native.Nat.{ℕ, _+_, _-_, _*_, _≤_, _<_, min};
 ghost use mathlib.Core.Path.{_≡_};
 ghost use lib.ListN.{length, getD};
 ghost use lib.Seq.{slice};
@@ -17,6 +17,12 @@ use words::same_part;
 
 // The chains of the table: a literal's words say in which chain its place is.
 const CHAINS: usize = 1024;
+
+// No literal has fewer words: its mark and at least one word for each of its two parts. So at most one literal begins in each row of three words, and
+// a place divided by three is a number for the literal there.
+const SHORTEST: usize = 3;
+
+const LITERALS: usize = QUESTION / SHORTEST;
 
 fn least(a: usize, b: usize) -> usize
     ensures { λ r. ⌜ r ≡ min a b ⌝ }
@@ -40,8 +46,8 @@ fn chain_of(k: &[u16], from: usize, to: usize) -> usize
 }
 
 // The place in a chain where the words of a literal stand again, or the length. No literal's words begin another's: so many words as it has decide.
-fn seek(k: &[u16], next: &[u16; QUESTION], first: usize, at: usize, end: usize) -> usize
-    requires { ⌜ (at ≤ end) × (end ≤ length (now k)) × (length (now k) ≤ desk .question) × (first ≤ at) × ((q : ℕ) → getD (now next) q 0 ≤ q) ⌝ }
+fn seek(k: &[u16], next: &[u16; LITERALS], first: usize, at: usize, end: usize) -> usize
+    requires { ⌜ (at ≤ end) × (end ≤ length (now k)) × (length (now k) ≤ desk .question) × (first ≤ at - 2) × ((s : ℕ) → getD (now next) s 0 ≤ 3 * s) ⌝ }
     ensures { λ r. ⌜ Sought (now (k .entry)) (now (next .entry)) first at end r ⌝ }
 {
     let len = end - at;
@@ -51,7 +57,7 @@ fn seek(k: &[u16], next: &[u16; QUESTION], first: usize, at: usize, end: usize) 
         if same_part(k, at, end, q, q + len) {
             return q;
         }
-        p = wide(next[q]);
+        p = wide(next[q / SHORTEST]);
     }
     k.len()
 }
@@ -67,11 +73,11 @@ fn narrow(x: usize) -> u16
 fn note(
     k: &[u16],
     heads: &mut [u16; CHAINS],
-    next: &mut [u16; QUESTION],
+    next: &mut [u16; LITERALS],
     at: usize,
     end: usize,
 ) -> usize
-    requires { ⌜ (at < end) × (end ≤ length (now k)) × (length (now k) ≤ desk .question) × Falls (now heads) (now next) at ⌝ }
+    requires { ⌜ (at + 3 ≤ end) × (end ≤ length (now k)) × (length (now k) ≤ desk .question) × Falls (now heads) (now next) at ⌝ }
     ensures { λ r. ⌜ Noted (now (k .entry)) (now (heads .entry)) (now (next .entry)) at end r (now (heads .exit)) (now (next .exit)) ⌝ }
 {
     let h = chain_of(k, at, end);
@@ -80,7 +86,7 @@ fn note(
     if p < k.len() {
         return p;
     }
-    next[at] = first;
+    next[at / SHORTEST] = first;
     heads[h] = narrow(at + 1);
     p
 }
@@ -93,7 +99,7 @@ pub fn first_twice(k: &[u16]) -> usize
 {
     // a place is kept as the number after it, so that 0 ends a chain
     let mut heads = [0; CHAINS];
-    let mut next = [0; QUESTION];
+    let mut next = [0; LITERALS];
     let mut best = k.len();
     let mut i = 0;
     while i < k.len() {

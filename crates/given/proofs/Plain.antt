@@ -22,6 +22,7 @@ use Rattle.language.specs.Reading.{Got, got, stop, readHedge}
 use Rattle.language.specs.Question.{declaredF, declared}
 use Rattle.language.proofs.Words.{kind-end, kind-term, kind-run, kind-symbol, kind-function}
 use Rattle.language.proofs.Laws.{hedges-read}
+use Rattle.language.proofs.Sizes.{hedge-some}
 use Rattle.meaning.specs.Complete.{Complete, nil, tree, completeWords}
 use Rattle.meaning.specs.Values.{withNode, complete, Form, aTerm, aName, fits, fitting, valueOf}
 use Rattle.trees.specs.declared.Read.the-variants.{Next, Stop}
@@ -195,12 +196,6 @@ module _ (n : Counts) (ws : List ℕ) where
       on (got h k) i e = let z : 0 + k ≡ q = cc in all h k i (omega arith) r p
       on (stop k) i e = absurd (let z : _≡_ {A = ℕ} 0 1 = cc in omega arith)
 
-some-hedge : (h : Hedge) → 0 < length (hedgeWords h)
-some-hedge ε = omega arith
-some-hedge (tvar x r) = omega arith
-some-hedge (hvar x r) = omega arith
-some-hedge (node f c r) = omega arith
-
 -- ---- one term
 
 module _ (ws : List ℕ) where
@@ -211,7 +206,7 @@ module _ (ws : List ℕ) where
       on ε g o e = let z : nil ≡ g = cc (o .is) in ap (fits aTerm) z
       on (tvar x r) g o e = absurd (let z : _≡_ {A = ℕ} 0 1 = cc (o .is) in omega arith)
       on (hvar x r) g o e = absurd (let z : _≡_ {A = ℕ} 0 1 = cc (o .is) in omega arith)
-      on (node f c r) g o e = absurd (let a = length-append (hedgeWords c) (hedgeWords r) in let b = some-hedge c in let d = some-hedge r in omega arith)
+      on (node f c r) g o e = absurd (let a = length-append (hedgeWords c) (hedgeWords r) in let b = hedge-some c in let d = hedge-some r in omega arith)
 
   -- a symbol, its children, and what follows
   pub record Split (h : Hedge) (g : Complete) : Type 0 where

@@ -10,6 +10,7 @@ use Rattle.host.proofs.desk_solve as desk-solve
 use Rattle.host.proofs.desk_try as desk-try
 use Rattle.host.proofs.desk_example as desk-example
 use Rattle.host.proofs.desk_place as desk-place
+use Rattle.host.proofs.desk_day as desk-day
 
 desk_solve-determined : Determined desk-solve.ended desk-solve.Reads.Pre desk-solve.Reads.Post
 desk_solve-determined κs a p o q e d = ap (λ n. (n, o .1)) (e .0 ∙ sym (d .0)) ∙ ap (λ (bytes : List ℕ). (q .0, (tt, (bytes, tt)))) (e .1 ∙ sym (d .1))
@@ -32,3 +33,6 @@ desk_example-determined κs a p o q e d = ap (λ n. (n, o .1)) (e .0 ∙ sym (d 
 
 desk_place-determined : Determined desk-place.ended desk-place.Reads.Pre desk-place.Reads.Post
 desk_place-determined κs a p o q e d = ap (λ n. (n, o .1)) (e ∙ sym d)
+
+desk_day-determined : Determined desk-day.ended desk-day.Reads.Pre desk-day.Reads.Post
+desk_day-determined κs a p o q e d = ap (λ n. (n, o .1)) (e .0 ∙ sym (d .0)) ∙ ap (λ (bytes : List ℕ). (q .0, (tt, (bytes, tt)))) (e .1 ∙ sym (d .1))

@@ -1,7 +1,7 @@
 -- What does not fit is refused for its length, and so is nothing at all: the calls answer the words that fit as they answer all words.
 use Prim.Native.Nat.{ℕ, suc, _+_, _≤_, _<_}
 use mathlib.Core.Path.{_≡_, refl, ap, _∙_, sym}
-use mathlib.Core.Bool.{Bool, true, false, _&&_, _||_}
+use mathlib.Core.Bool.{Bool, true, false, _&&_, _||_, and-false}
 use mathlib.Core.List.{List, []}
 use mathlib.Core.Option.{Option, none, some}
 use native.Mathlib.Omega.{arith}
@@ -12,7 +12,7 @@ use Rattle.language.specs.declared.Refusal.the-variants.{ShortSlice, QuestionLe
 use Rattle.language.specs.Kinds.{pick}
 use Rattle.language.specs.Limits.{desk}
 use Rattle.language.specs.Trees.{Counts}
-use Rattle.language.specs.Question.{Asked, asks, refuses, readQuestion, lengthFits, laidOut, rises, offsets, countsOf}
+use Rattle.language.specs.Question.{Asked, asks, refuses, readQuestion, laidOut, rises, offsets, countsOf}
 use Rattle.meaning.specs.Values.{Given, readFilling, variables, fillingWords}
 use Rattle.meaning.specs.Values as values
 use Rattle.rules.specs.Solved.{solved}
@@ -22,45 +22,8 @@ use Rattle.rules.specs.Answer.{Solving, answered, unread, given-up, solvingOf, 
 use Rattle.rules.specs.Calls.{Trying, tryingWith, tryingOf, trying, Showing, shows, denied, lineAt, fitted, shown, showingOf, showing}
 use Rattle.rules.specs.Calls as calls
 use Rattle.word_bytes.specs.Bytes.{fitting}
+use Rattle.word_bytes.proofs.Fitting.{long-question, no-question, fitting-question}
 use Rattle.host.specs.Numbers.{used}
-
-and-false : (b : Bool) → (b && false) ≡ false
-and-false true = refl
-and-false false = refl
-
--- ---- a question
-
-at-first : (b : Bool) (x : Asked) → b ≡ false → elim b [ false ↦ refuses QuestionLength | true ↦ x ] ≡ refuses QuestionLength
-at-first b x e = ap (λ (t : Bool). elim t [ false ↦ refuses QuestionLength | true ↦ x ]) e
-
-pub long-question : (ws : List ℕ) → desk .question < length ws → readQuestion desk ws ≡ refuses QuestionLength
-unfolding readQuestion lengthFits
-long-question ws h =
-    let e : leb (length ws) (desk .question) ≡ false = lt-leb _ _ h in
-    let f : lengthFits desk ws ≡ false = ap (λ (b : Bool). leb 6 (length ws) && b) e ∙ and-false (leb 6 (length ws)) in
-    at-first (lengthFits desk ws) _ f
-
-pub no-question : readQuestion desk [] ≡ refuses QuestionLength
-unfolding readQuestion lengthFits
-no-question = refl
-
-pub fitting-question : (ws : List ℕ) → readQuestion desk (fitting (desk .question) ws) ≡ readQuestion desk ws
-unfolding fitting
-fitting-question ws = go (leb (length ws) (desk .question)) refl where
-  go : (b : Bool) → leb (length ws) (desk .question) ≡ b → readQuestion desk (pick b ws []) ≡ readQuestion desk ws
-  go true e = refl
-  go false e = no-question ∙ sym (long-question ws (leb-false _ _ e))
-
-pub fitting-solving : (work answer : ℕ) (ws : List ℕ) → solving desk work answer (fitting (desk .question) ws) ≡ solving desk work answer ws
-unfolding solving
-fitting-solving work answer ws =
-    ap
-    (λ (a : Asked).
-    elim (ltb work (desk .room)) [
-      | true ↦ unread ShortSlice
-      | false ↦ elim (ltb answer (desk .room)) [ true ↦ unread ShortSlice | false ↦ solvingOf desk a ]
-    ])
-    (fitting-question ws)
 
 -- ---- a filling
 

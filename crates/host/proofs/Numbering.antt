@@ -7,7 +7,7 @@ use Rattle.language.specs.Limits.{desk}
 use Rattle.language.specs.declared.Refusal.{Refusal}
 use Rattle.language.specs.Numbers.{numberOf}
 use Rattle.host.specs.Numbers.{used, toldBy}
-use Rattle.host.proofs.Refusals.{each-number}
+use Rattle.language.proofs.Numbering.{each-number}
 
 module _ (most lent : ℕ) where
   pub used-all : lent ≤ most → used most lent ≡ lent

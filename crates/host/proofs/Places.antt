@@ -21,7 +21,7 @@ use Rattle.reader.specs.Checking.{askedNumbers}
 use Rattle.reader.proofs.Answers.{as-checked, question-asked, question-refused}
 use Rattle.word_bytes.specs.Bytes.{wordsIn, fitting}
 use Rattle.host.specs.Host.{placeBytes}
-use Rattle.host.proofs.Fitting.{fitting-question}
+use Rattle.word_bytes.proofs.Fitting.{fitting-question}
 
 -- a right place is among the words, or right behind them
 inside : (L : Limits) (ws : List ℕ) (r : Refusal) → RightPlace L ws r → placeOf r ≤ length ws

@@ -4,7 +4,7 @@ use mathlib.Core.Bool.{Bool, true, false}
 use mathlib.Core.List.{List}
 use lib.Dec.{lit≤, ltb}
 use Rattle.language.specs.declared.Refusal.{Refusal}
-use Rattle.language.specs.declared.Refusal.the-variants.{ShortSlice, QuestionLength, CountRange, BadOffset, NotLiterals, Undeclared, LongResult, LongWaiting, LineRoom, StepLimit, FillingLayout, FillingValue, LongLiteral, NoSuchLine, OpenLine, LongExample}
+use Rattle.language.specs.declared.Refusal.the-variants.{ShortSlice, QuestionLength, CountRange, BadOffset, NotLiterals, Undeclared}
 use Rattle.language.specs.Limits.{Limits}
 use Rattle.language.specs.Numbers.{numberOf}
 use Rattle.language.specs.Trees.{Conj}
@@ -14,26 +14,8 @@ use Rattle.rules.specs.Run.{Outcome, finished, refused, run}
 use Rattle.rules.specs.Answer.{Solving, answered, unread, given-up, ran, solvingOf, solving}
 use Rattle.rules.proofs.Stopping.{RunStopsBy, run-stops-by}
 
-abbrev pub Between : ℕ → ℕ → Refusal → Type 0
+abbrev Between : ℕ → ℕ → Refusal → Type 0
 Between low high r = (low ≤ numberOf r) × (numberOf r ≤ high)
-
-pub each-number : (r : Refusal) → Between 1 16 r
-each-number ShortSlice = (lit≤ tt, lit≤ tt)
-each-number QuestionLength = (lit≤ tt, lit≤ tt)
-each-number CountRange = (lit≤ tt, lit≤ tt)
-each-number BadOffset = (lit≤ tt, lit≤ tt)
-each-number (NotLiterals at) = (lit≤ tt, lit≤ tt)
-each-number (Undeclared at) = (lit≤ tt, lit≤ tt)
-each-number LongResult = (lit≤ tt, lit≤ tt)
-each-number LongWaiting = (lit≤ tt, lit≤ tt)
-each-number LineRoom = (lit≤ tt, lit≤ tt)
-each-number StepLimit = (lit≤ tt, lit≤ tt)
-each-number FillingLayout = (lit≤ tt, lit≤ tt)
-each-number FillingValue = (lit≤ tt, lit≤ tt)
-each-number LongLiteral = (lit≤ tt, lit≤ tt)
-each-number NoSuchLine = (lit≤ tt, lit≤ tt)
-each-number OpenLine = (lit≤ tt, lit≤ tt)
-each-number LongExample = (lit≤ tt, lit≤ tt)
 
 -- ---- the reading
 

@@ -19,7 +19,7 @@ use Rattle.rules.specs.Example.{defaultSymbol, example}
 use Rattle.rules.specs.Run.{Numbered}
 use Rattle.rules.specs.Answer.{Solving, answered, unread, given-up, solving}
 use Rattle.rules.specs.Calls.{Showing, shows, denied, lineAt, fitted, shown, showingOf, showing}
-use Rattle.example.specs.Shown.{numbersOf, roomOf}
+use Rattle.line_example.specs.Shown.{numbersOf, roomOf}
 use Rattle.example.specs.Exhibits.{toldExhibits}
 use Rattle.word_bytes.specs.Bytes.{bytesOf, wordsIn, fitting}
 use Rattle.host.specs.Numbers.{used, asksOld, toldBy}
@@ -121,7 +121,7 @@ module _ (q w o own w′ o′ own′ : List ℕ) (line : ℕ) (old : Bool) (r : 
   )
 
 -- the words lent come to what the bytes come to
-pub bytes-show : (q ws bytes : List ℕ) (line old room : ℕ) → ws ≡ fitting (desk .question) (wordsIn q) → room ≡ used (desk .filling) (length bytes / 2)
-    → showing desk (asksOld old) (desk .room) (desk .room) room line ws ≡ showingBytes desk (length bytes) line old q
+pub bytes-show : (q ws bytes : List ℕ) (line old room : ℕ) (flag : Bool) → flag ≡ asksOld old → ws ≡ fitting (desk .question) (wordsIn q) → room ≡ used (desk .filling) (length bytes / 2)
+    → showing desk flag (desk .room) (desk .room) room line ws ≡ showingBytes desk (length bytes) line old q
 unfolding showingBytes
-bytes-show q ws bytes line old room ew er = rw (ew, er) (fitting-showing (asksOld old) (length bytes / 2) line (wordsIn q))
+bytes-show q ws bytes line old room flag ef ew er = rw (ef, ew, er) (fitting-showing (asksOld old) (length bytes / 2) line (wordsIn q))

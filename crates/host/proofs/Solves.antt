@@ -14,7 +14,7 @@ use Rattle.rules.specs.Answer.{Solving, answered, unread, given-up, solvingOf, 
 use Rattle.word_bytes.specs.Bytes.{bytesOf, wordsIn, fitting}
 use Rattle.host.specs.Host.{solvingBytes, solveNumber, solveLeaves}
 use Rattle.word_bytes.proofs.Pairs.{written}
-use Rattle.host.proofs.Fitting.{fitting-solving}
+use Rattle.day.proofs.Fitting.{fitting-solving}
 use Rattle.host.proofs.Refusals.{InRange}
 
 abbrev unless-short : Solving → Bool → Solving

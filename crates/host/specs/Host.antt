@@ -12,6 +12,7 @@ use Rattle.rules.specs.Answer.{Solving, answered, unread, given-up, solving, an
 use Rattle.rules.specs.Calls.{Trying, trying, Showing, shows, denied, showing}
 use Rattle.rules.specs.Calls as calls
 use Rattle.word_bytes.specs.Bytes.{wordsIn, bytesOf}
+use Rattle.sheets.specs.Day.{Day, day}
 use Rattle.host.specs.Numbers.{asksOld}
 
 -- ---- desk_solve
@@ -66,3 +67,10 @@ showLeaves (denied r) bytes = bytes
 -- "for 5 the first word that cannot continue a literal .., for 6 the first undeclared number .. for all other outcomes it is 0"
 unfoldable pub placeBytes : Limits → List ℕ → ℕ
 placeBytes L q = askedPlace (readQuestion L (wordsIn q))
+
+-- ---- desk_day
+
+-- A room of so many bytes, and a sheet's bytes. The work and the answer slice are the desk's own; what is told and left is said where a day is
+-- answered (`dayNumber`, `roomLeaves` in `day`).
+unfoldable pub dayBytes : Limits → ℕ → List ℕ → Day
+dayBytes L room sheet = day L (L .room) (L .room) (room / 2) (wordsIn sheet)

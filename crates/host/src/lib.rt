@@ -4,14 +4,16 @@ ghost use Prim.Native.Nat.{_+_, _*_, _≤_};
 ghost use mathlib.Core.Path.{_≡_};
 ghost use lib.ListN.{length};
 ghost use Rattle.language.specs.Limits.{desk};
-ghost use Rattle.host.specs.Host.{solvingBytes, solveNumber, solveLeaves, tryingBytes, TryNumber, showingBytes, showNumber, showLeaves, placeBytes};
+ghost use Rattle.host.specs.Host.{solvingBytes, solveNumber, solveLeaves, tryingBytes, TryNumber, showingBytes, showNumber, showLeaves, placeBytes, dayBytes};
 ghost use Rattle.rules.specs.Calls.{showing};
+ghost use Rattle.day.specs.Leaves.{dayNumber, roomLeaves};
 ghost use Rattle.host.specs.Numbers.{used, solvedNumber, toldBy};
+use bools::truth;
+use day::solve_day;
 use language::limits::ANSWER_BYTES;
 use language::limits::FILLING;
 use language::limits::QUESTION;
 use language::limits::ROOM;
-use language::place;
 use outcomes::Checked;
 use outcomes::Solved;
 use outcomes::outcome_number;
@@ -19,6 +21,8 @@ use outcomes::shown_length;
 use outcomes::shown_number;
 use outcomes::tried_number;
 use outcomes::tried_value;
+use outcomes::verdict_number;
+use refusals::place;
 use word_bytes::take_words;
 use word_bytes::write_words;
 
@@ -131,7 +135,7 @@ pub extern "C" fn desk_example(question: &[u8], line: u32, old: u32, room: &mut 
     let mut own = [0u16; FILLING];
     let n = take_words(question, &mut words);
     let m = most(room.len() / 2);
-    show(&words[..n], line as usize, old != 0, &mut own[..m], room)
+    show(&words[..n], line as usize, truth(old), &mut own[..m], room)
 }
 
 // Where the mistake is for which a question is refused: its place among the question's words, for 5 and 6, and else 0.
@@ -145,4 +149,15 @@ pub extern "C" fn desk_place(question: &[u8]) -> u32
         Checked::Fine => 0,
         Checked::Refused(r) => place(r) as u32,
     }
+}
+
+// Answers a day's sheet: the refusal's number, or 0.
+#[no_mangle]
+pub extern "C" fn desk_day(sheet: &[u8], room: &mut [u8]) -> u32
+    ensures { λ r. ⌜ r ≡ dayNumber (dayBytes desk (length (now (room .entry))) (now (sheet .entry))) ⌝ }
+    ensures { λ _. ⌜ now (room .exit) ≡ roomLeaves (dayBytes desk (length (now (room .entry))) (now (sheet .entry))) (now (room .entry)) ⌝ }
+{
+    let mut own_work = [0u16; ROOM];
+    let mut own_answer = [0u16; ROOM];
+    wide(verdict_number(solve_day(sheet, &mut own_work, &mut own_answer, room)))
 }

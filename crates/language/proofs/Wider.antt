@@ -26,6 +26,7 @@ use Rattle.language.proofs.Asking.{Passed, passed}
 pub record CountsWithin (L : Limits) (n : Counts) (c : ℕ) : Type 0 where
   pub symbol : 1 ≤ n .symbols
   pub symbols : n .symbols ≤ L .each
+  pub unordered : n .unordered ≤ n .symbols
   pub terms : n .terms ≤ L .each
   pub hedges : n .hedges ≤ L .each
   pub functions : n .functions ≤ L .each
@@ -38,10 +39,12 @@ counts-within L n c e =
     let f = both-true _ _ (a .0) in
     let h = both-true _ _ (f .0) in
     let t = both-true _ _ (h .0) in
-    let s = both-true _ _ (t .0) in
+    let u = both-true _ _ (t .0) in
+    let s = both-true _ _ (u .0) in
     record {
       symbol = leb-true _ _ (s .0);
       symbols = leb-true _ _ (s .1);
+      unordered = leb-true _ _ (u .1);
       terms = leb-true _ _ (t .1);
       hedges = leb-true _ _ (h .1);
       functions = leb-true _ _ (f .1);
@@ -51,7 +54,7 @@ counts-within L n c e =
 pub within-counts : (L : Limits) (n : Counts) (c : ℕ) → CountsWithin L n c → countsFit L n c ≡ true
 unfolding countsFit
 within-counts L n c w =
-    rw (le-leb 1 (n .symbols) (w .symbol), le-leb (n .symbols) (L .each) (w .symbols), le-leb (n .terms) (L .each) (w .terms), le-leb (n .hedges) (L .each) (w .hedges), le-leb (n .functions) (L .each) (w .functions)) (le-leb c (L .alternatives) (w .alternatives))
+    rw (le-leb 1 (n .symbols) (w .symbol), le-leb (n .symbols) (L .each) (w .symbols), le-leb (n .unordered) (n .symbols) (w .unordered), le-leb (n .terms) (L .each) (w .terms), le-leb (n .hedges) (L .each) (w .hedges), le-leb (n .functions) (L .each) (w .functions)) (le-leb c (L .alternatives) (w .alternatives))
 
 module _ (L : Limits) (n : Counts) (c : ℕ) (w : CountsWithin L n c) where
   below : (i m : ℕ) → m ≤ L .each → ltb i m ≡ true → i < L .each
@@ -130,6 +133,7 @@ counts-wider : (L M : Limits) → Within L M → (n : Counts) (c : ℕ) → Coun
 counts-wider L M i n c w = record {
   symbol = w .symbol;
   symbols = omega (arith, w .symbols, i .each);
+  unordered = w .unordered;
   terms = omega (arith, w .terms, i .each);
   hedges = omega (arith, w .hedges, i .each);
   functions = omega (arith, w .functions, i .each);

@@ -30,6 +30,9 @@ pub const PLACES: usize = EACH as usize;
 // conjunctions of a question
 pub const ALTERNATIVES: u16 = 16;
 
+// questions of a day's sheet
+pub const SHEETS: usize = 64;
+
 // the bytes of an answer
 pub const ANSWER_BYTES: usize = 2 * ROOM;
 

@@ -19,7 +19,7 @@ use Rattle.slices.specs.Written.{Wrote}
 use Rattle.slices.proofs.Still.{wrote-as}
 use Rattle.linear_form.specs.declared.adding.Kept.{Kept}
 use Rattle.linear_form.specs.declared.adding.Spot.{Spot}
-use Rattle.linear_form.specs.Loose.{Loose, firstWords, restWords, opening}
+use Rattle.monomials.specs.Loose.{Loose, firstWords, restWords, opening}
 use Rattle.linear_form.specs.Rows.{frontWords, backWords, rowWords, keptLength, lengthBy, resultLength, resultWords, counted, tallied, Holds, Rowed}
 use Rattle.linear_form.specs.Walks.{Keeps, Added}
 use Rattle.linear_form.proofs.Rows.{row-of, length-by}

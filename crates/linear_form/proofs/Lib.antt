@@ -1,6 +1,5 @@
 pub mod Reaching
 pub mod Charting
-pub mod Linear
 pub mod Rests
 pub mod Rows
 pub mod Written

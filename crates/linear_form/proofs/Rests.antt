@@ -5,7 +5,7 @@ use mathlib.Core.List.{[], _∷_}
 use native.Mathlib.Omega.{arith}
 use lib.ListN.{length}
 use Rattle.slices.proofs.Parts.{Split}
-use Rattle.linear_form.specs.Loose.{joins, opening}
+use Rattle.monomials.specs.Loose.{joins, opening}
 
 length-joins : (n : ℕ) → length (joins n) ≡ n
 length-joins zero = refl

@@ -20,10 +20,10 @@ use Rattle.views.proofs.Sides.{side-head, side-tail, shows-before, shows-behind
 use Rattle.slices.proofs.Parts.{part-short}
 use Rattle.linear_form.specs.declared.adding.Kept.{Kept}
 use Rattle.linear_form.specs.declared.adding.Spot.{Spot}
-use Rattle.linear_form.specs.Loose.{Loose, firstWords, restWords, opening, met}
+use Rattle.monomials.specs.Loose.{Loose, firstWords, restWords, opening, met}
 use Rattle.linear_form.specs.Rows.{keptOf, frontWords, backWords, rowWords, keptLength, lengthBy, resultLength, Bounded}
 use Rattle.linear_form.proofs.Rests.{opening-short}
-use Rattle.linear_form.proofs.Linear.{Fits, rest-of, pairs, results-same}
+use Rattle.monomials.proofs.Linear.{Fits, rest-of, pairs, results-same}
 
 pub front-length : (k : List ℕ) (s : Kept) (p : Spot) → length (frontWords k s p)
     ≡ length (slice 0 (s .at) k) + length (slice (s .from) (s .rest) k) + length (slice (p .place) (p .past) k) + length (slice (s .rest) (s .to) k) + 3

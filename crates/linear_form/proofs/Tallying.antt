@@ -20,7 +20,7 @@ use Rattle.linear_form.specs.declared.Outside.{Outside}
 use Rattle.linear_form.specs.declared.Counted.{Counted}
 use Rattle.expressions.specs.Standing.{Here}
 use Rattle.linear_form.specs.Charted.{Past}
-use Rattle.linear_form.specs.Loose.{met}
+use Rattle.monomials.specs.Loose.{met}
 use Rattle.linear_form.specs.Rows.{keptOf, rowWords, keptLength, lengthBy, counted, tallied, Sized}
 use Rattle.linear_form.specs.Walks.{Handed, closes, joined, TalliesOver, Tallies}
 use Rattle.expressions.proofs.Standing.{second-of, words-here, by-eps, by-cat, by-alt, by-star, by-over, past-end, is-alt}

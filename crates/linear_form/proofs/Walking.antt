@@ -22,7 +22,7 @@ use Rattle.linear_form.specs.declared.Outside.{Outside}
 use Rattle.linear_form.specs.declared.Walked.{Walked}
 use Rattle.expressions.specs.Standing.{Here}
 use Rattle.linear_form.specs.Charted.{Past}
-use Rattle.linear_form.specs.Loose.{met}
+use Rattle.monomials.specs.Loose.{met}
 use Rattle.linear_form.specs.Rows.{keptOf, rowWords, Holds, Rowed, Written}
 use Rattle.linear_form.specs.Walks.{Keeps, Widened, EnclosedBy, Enclosed, Handed, closes, joined, Added, WalksOver, Walks}
 use Rattle.expressions.proofs.Standing.{second-of, words-here, cases, by-eps, by-cat, by-alt, by-star, by-over, past-end, is-alt}

@@ -11,7 +11,7 @@ use Rattle.language.proofs.Stores.{sets-append}
 use Rattle.slices.proofs.Still.{wrote-as}
 use Rattle.linear_form.specs.declared.adding.Kept.{Kept}
 use Rattle.linear_form.specs.declared.adding.Spot.{Spot}
-use Rattle.linear_form.specs.Loose.{opening}
+use Rattle.monomials.specs.Loose.{opening}
 use Rattle.linear_form.specs.Rows.{frontWords, backWords, resultLength, resultWords}
 
 -- two runs in a row

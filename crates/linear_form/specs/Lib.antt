@@ -1,4 +1,3 @@
 pub mod Charted
-pub mod Loose
 pub mod Rows
 pub mod Walks

@@ -17,7 +17,7 @@ use Rattle.plans.specs.declared.Size.the-variants.{Fits, Over}
 use Rattle.slices.specs.Written.{Wrote}
 use Rattle.linear_form.specs.declared.adding.Kept.{Kept}
 use Rattle.linear_form.specs.declared.adding.Spot.{Spot}
-use Rattle.linear_form.specs.Loose.{Loose, opening, restWords, firstWords}
+use Rattle.monomials.specs.Loose.{Loose, opening, restWords, firstWords}
 
 -- what a result keeps of the conjunction
 abbrev pub keptOf : Shape → ℕ → Kept

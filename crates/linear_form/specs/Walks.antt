@@ -22,7 +22,7 @@ use Rattle.linear_form.specs.declared.Walked.{Walked}
 use Rattle.plans.specs.declared.Size.{Size}
 use Rattle.expressions.specs.Standing.{Here}
 use Rattle.linear_form.specs.Charted.{Past}
-use Rattle.linear_form.specs.Loose.{met}
+use Rattle.monomials.specs.Loose.{met}
 use Rattle.linear_form.specs.Rows.{keptLength, rowWords, tallied, Holds}
 
 -- what is among the last n words of `rest` stays there

@@ -6,7 +6,7 @@ ghost use lib.ListN.{length, drop};
 ghost use Rattle.frames.specs.Frames.{frame, frameOf};
 ghost use Rattle.language.specs.Limits.{desk};
 ghost use Rattle.slices.specs.Written.{Wrote};
-ghost use Rattle.linear_form.specs.Loose.{opening};
+ghost use Rattle.monomials.specs.Loose.{opening};
 ghost use Rattle.linear_form.specs.Rows.{keptOf, frontWords, keptLength, lengthBy, resultLength, resultWords, Bounded, counted, Rowed};
 use frames::FRAME;
 use frames::write_frame;

@@ -10,6 +10,7 @@ pub mod Settled
 pub mod Unopened
 pub mod Keeping
 pub mod Replacing
+pub mod Reordered
 pub mod Sides
 pub mod Fitting
 pub mod EquationRules

@@ -6,6 +6,7 @@ use mathlib.Core.List.{List, [], _∷_, _++_}
 use mathlib.Core.Option.{none, some}
 use lib.Dec.{T}
 use Rattle.language.specs.Limits.{Limits}
+use Rattle.language.specs.declared.Signature.{Signature}
 use Rattle.language.specs.Trees.{Literal, eqn, mem, Conj}
 use Rattle.rules.specs.Reply.{nothing, results}
 use Rattle.rules.specs.Rules.{Answer, Rule, onEqn, onMem, onPair, rules}
@@ -24,9 +25,9 @@ use Rattle.lines.proofs.Tests.{or-exchanged}
 use Rattle.lines.proofs.Places.{sides-parts}
 use Rattle.lines.proofs.Fitting.{Fits, FitAnswer, exchanged, fit-placed}
 use Rattle.lines.proofs.Keeping.{Keeps, keeps-self, keeps-row, keeps-matching}
-use Rattle.lines.proofs.EquationRules.{StaysEqn, R1-stays, F1-stays, F2-stays, F3-stays, F4-stays, Del1-stays, Del3-stays, D2-stays, D0-stays}
-use Rattle.lines.proofs.EliminationRules.{E1-stays, E2-stays, E3-stays, E4-stays, E5-stays, E6-stays}
-use Rattle.lines.proofs.MembershipRules.{StaysMem, R2-stays, F5-stays, F6-stays, F7-stays, M1-stays, M2-stays, M3-stays, M4-stays, M5-stays, M6-stays, M7-stays, M10-stays, M11-stays}
+use Rattle.lines.proofs.EquationRules.{StaysEqn, R1-stays, F1-stays, F2-stays, F3-stays, F4-stays, Del1-stays, Del2-stays, Del3-stays, D1-stays, D2-stays, D0-stays}
+use Rattle.lines.proofs.EliminationRules.{E1-stays, E2-stays, E3-stays, E4-stays, E5-stays, E6-stays, E7-stays}
+use Rattle.lines.proofs.MembershipRules.{StaysMem, R2-stays, F5-stays, F6-stays, F7-stays, M1-stays, M2-stays, M3-stays, M4-stays, M5-stays, M6-stays, M7-stays, M10-stays, M11-stays, M12-stays}
 use Rattle.lines.proofs.PairRules.{StaysPair, Fold-stays}
 use Rattle.lines.proofs.Unopened.{matching-solved}
 
@@ -63,31 +64,31 @@ rule-stays rule p = kept-at-sides Matching rule λ before l behind m.
     sides-stay rule p before l behind (and-parts (groundSide l) (groundSides behind) (sides-parts before (l ∷ behind) (m .sides) .1) .0) m
 
 -- each rule, at whatever literal and on whatever side it applies
-pub each-rule-stays : Each (AtSides KeepsMatching) rules
-each-rule-stays =
-    each-imp RuleStays (AtSides KeepsMatching) rule-stays rules
+pub each-rule-stays : (σ : Signature) → Each (AtSides KeepsMatching) (rules σ)
+each-rule-stays σ =
+    each-imp RuleStays (AtSides KeepsMatching) rule-stays (rules σ)
     (R1-stays also R2-stays also Fold-stays
     also F1-stays also F2-stays also F3-stays also F4-stays also F5-stays also F6-stays also F7-stays
-    also Del1-stays also Del3-stays
-    also D2-stays also D0-stays
-    also E1-stays also E2-stays also E3-stays also E4-stays also E5-stays also E6-stays
-    also M1-stays also M2-stays also M3-stays also M4-stays also M5-stays also M6-stays also M7-stays also M10-stays also M11-stays
+    also Del1-stays also Del2-stays σ also Del3-stays
+    also D1-stays σ also D2-stays also D0-stays σ
+    also E1-stays also E2-stays also E3-stays also E4-stays also E5-stays also E6-stays also E7-stays σ
+    also M1-stays also M2-stays also M3-stays also M4-stays also M5-stays also M6-stays also M7-stays also M10-stays also M11-stays σ also M12-stays σ
     also tt)
 
 -- Matching is kept by every step.
-pub step-matching : (k : Conj) (ks : List Conj) → Matching k → step k ≡ results ks → Each Matching ks
-step-matching k ks m e = step-at-sides KeepsMatching each-rule-stays k ks e m
+pub step-matching : (σ : Signature) (k : Conj) (ks : List Conj) → Matching k → step σ k ≡ results ks → Each Matching ks
+step-matching σ k ks m e = step-at-sides σ KeepsMatching (each-rule-stays σ) k ks e m
 
 -- ---- the run
 
 -- matching lines to which no rule applies
-each-solved : (ls : List Numbered) → EachLine Matching ls → EachLine (λ k. step k ≡ nothing) ls → EachLine (λ k. solved k ≡ true) ls
-each-solved [] m q = tt
-each-solved (k ∷ ls) m q = (matching-solved (k .literals) (m .0) (q .0), each-solved ls (m .1) (q .1))
+each-solved : (σ : Signature) (ls : List Numbered) → EachLine Matching ls → EachLine (λ k. step σ k ≡ nothing) ls → EachLine (λ k. solved k ≡ true) ls
+each-solved σ [] m q = tt
+each-solved σ (k ∷ ls) m q = (matching-solved σ (k .literals) (m .0) (q .0), each-solved σ ls (m .1) (q .1))
 
 pub none-open : (ls : List Numbered) → EachLine (λ k. solved k ≡ true) ls → countOpen ls ≡ 0
 none-open [] s = refl
 none-open (k ∷ ls) s = rw (s .0) (none-open ls (s .1))
 
-pub run-solved : (L : Limits) (w : List Conj) (ls : List Numbered) (n : ℕ) → Each Matching w → run L w ≡ finished ls n → EachLine (λ k. solved k ≡ true) ls
-run-solved L w ls n m e = each-solved ls (lines-keep Matching step-matching L w ls n e m) (lines-rest L w ls n e)
+pub run-solved : (σ : Signature) (L : Limits) (w : List Conj) (ls : List Numbered) (n : ℕ) → Each Matching w → run L σ w ≡ finished ls n → EachLine (λ k. solved k ≡ true) ls
+run-solved σ L w ls n m e = each-solved σ ls (lines-keep σ Matching (step-matching σ) L w ls n e m) (lines-rest σ L w ls n e)

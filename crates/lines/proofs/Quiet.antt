@@ -5,9 +5,10 @@ use mathlib.Core.List.{_∷_, _++_}
 use mathlib.Core.Option.{none, some}
 use Prim.Native.Nat.{ℕ}
 use native.Mathlib.Omega.{arith}
+use Rattle.language.specs.declared.Signature.{Signature}
 use Rattle.language.specs.Trees.{Hedge, Expr, Literal, eqn, mem, Conj}
 use Rattle.rules.specs.Reply.{nothing}
-use Rattle.rules.specs.Rules.{Answer, Rule, onEqn, onMem, onPair, rules, R1, R2, F3, F4, F5, F6, F7, D2, D0, E1, E2, E3, E5, E6, M2, M4, M5, M6, M11}
+use Rattle.rules.specs.Rules.{Answer, Rule, onEqn, onMem, onPair, rules, R1, R2, F3, F4, F5, F6, F7, Del2, D1, D2, D0, E1, E2, E3, E5, E6, M2, M4, M5, M6, M11, M12}
 use Rattle.rules.specs.Step.{placed, step}
 use Rattle.rules.specs.Each.{Each}
 use Rattle.rules.specs.Sides.{Idle}
@@ -23,8 +24,8 @@ Silent K (mem h R) (onMem rule) = rule K h R ≡ none
 Silent K l (onPair rule) = Unit {0}
 
 -- none of the rules applies to l among K
-abbrev pub NoRule : Conj → Literal → Type 0
-NoRule K l = Each (Silent K l) rules
+abbrev pub NoRule : Signature → Conj → Literal → Type 0
+NoRule σ K l = Each (Silent K l) (rules σ)
 
 placed-nothing : (before behind : Conj) (w : Answer) → placed before behind w ≡ nothing → w ≡ none
 placed-nothing before behind none e = refl
@@ -39,26 +40,28 @@ idle-silent before behind (mem h R) (onMem rule) i = placed-nothing before behin
 idle-silent before behind (eqn l r) (onPair rule) i = tt
 idle-silent before behind (mem h R) (onPair rule) i = tt
 
-pub at-literal : (before behind : Conj) (l : Literal) → step (before ++ (l ∷ behind)) ≡ nothing → NoRule (before ++ behind) l
-at-literal before behind l e =
-    each-imp (Idle (before ++ (l ∷ behind))) (Silent (before ++ behind) l) (idle-silent before behind l) rules (step-none (before ++ (l ∷ behind)) e)
+pub at-literal : (σ : Signature) (before behind : Conj) (l : Literal) → step σ (before ++ (l ∷ behind)) ≡ nothing → NoRule σ (before ++ behind) l
+at-literal σ before behind l e =
+    each-imp (Idle (before ++ (l ∷ behind))) (Silent (before ++ behind) l) (idle-silent before behind l) (rules σ) (step-none σ (before ++ (l ∷ behind)) e)
 
 -- ---- by the rules' names
 
 -- no rule applies to the equation, with l looked at first
-pub record QuietEqn (K : Conj) (l r : Hedge) : Type 0 where
+pub record QuietEqn (σ : Signature) (K : Conj) (l r : Hedge) : Type 0 where
   pub r1 : R1 K l r ≡ none
   pub f3 : F3 K l r ≡ none
   pub f4 : F4 K l r ≡ none
+  pub del2 : Del2 σ K l r ≡ none
+  pub d1 : D1 σ K l r ≡ none
   pub d2 : D2 K l r ≡ none
-  pub d0 : D0 K l r ≡ none
+  pub d0 : D0 σ K l r ≡ none
   pub e1 : E1 K l r ≡ none
   pub e2 : E2 K l r ≡ none
   pub e3 : E3 K l r ≡ none
   pub e5 : E5 K l r ≡ none
   pub e6 : E6 K l r ≡ none
 
-pub record QuietMem (K : Conj) (h : Hedge) (R : Expr) : Type 0 where
+pub record QuietMem (σ : Signature) (K : Conj) (h : Hedge) (R : Expr) : Type 0 where
   pub r2 : R2 K h R ≡ none
   pub f5 : F5 K h R ≡ none
   pub f6 : F6 K h R ≡ none
@@ -67,16 +70,17 @@ pub record QuietMem (K : Conj) (h : Hedge) (R : Expr) : Type 0 where
   pub m4 : M4 K h R ≡ none
   pub m5 : M5 K h R ≡ none
   pub m6 : M6 K h R ≡ none
-  pub m11 : M11 K h R ≡ none
+  pub m11 : M11 σ K h R ≡ none
+  pub m12 : M12 σ K h R ≡ none
 
-pub quiet-eqn : (K : Conj) (l r : Hedge) → NoRule K (eqn l r) → QuietEqn K l r × QuietEqn K r l
-quiet-eqn K l r q =
-    let (r1, (_, (_, (_, (_, (f3, (f4, (_, (_, (_, (_, (_, (d2, (d0, (e1, (e2, (e3, (_, (e5, (e6, _)))))))))))))))))))) = q in (
-      record { r1 = r1 .0; f3 = f3 .0; f4 = f4 .0; d2 = d2 .0; d0 = d0 .0; e1 = e1 .0; e2 = e2 .0; e3 = e3 .0; e5 = e5 .0; e6 = e6 .0 },
-      record { r1 = r1 .1; f3 = f3 .1; f4 = f4 .1; d2 = d2 .1; d0 = d0 .1; e1 = e1 .1; e2 = e2 .1; e3 = e3 .1; e5 = e5 .1; e6 = e6 .1 },
+pub quiet-eqn : (σ : Signature) (K : Conj) (l r : Hedge) → NoRule σ K (eqn l r) → QuietEqn σ K l r × QuietEqn σ K r l
+quiet-eqn σ K l r q =
+    let (r1, (_, (_, (_, (_, (f3, (f4, (_, (_, (_, (_, (del2, (_, (d1, (d2, (d0, (e1, (e2, (e3, (_, (e5, (e6, _)))))))))))))))))))))) = q in (
+      record { r1 = r1 .0; f3 = f3 .0; f4 = f4 .0; del2 = del2 .0; d1 = d1 .0; d2 = d2 .0; d0 = d0 .0; e1 = e1 .0; e2 = e2 .0; e3 = e3 .0; e5 = e5 .0; e6 = e6 .0 },
+      record { r1 = r1 .1; f3 = f3 .1; f4 = f4 .1; del2 = del2 .1; d1 = d1 .1; d2 = d2 .1; d0 = d0 .1; e1 = e1 .1; e2 = e2 .1; e3 = e3 .1; e5 = e5 .1; e6 = e6 .1 },
     )
 
-pub quiet-mem : (K : Conj) (h : Hedge) (R : Expr) → NoRule K (mem h R) → QuietMem K h R
-quiet-mem K h R q =
-    let (_, (r2, (_, (_, (_, (_, (_, (f5, (f6, (f7, (_, (_, (_, (_, (_, (_, (_, (_, (_, (_, (_, (m2, (_, (m4, (m5, (m6, (_, (_, (m11, _))))))))))))))))))))))))))))) = q in
-    record { r2 = r2; f5 = f5; f6 = f6; f7 = f7; m2 = m2; m4 = m4; m5 = m5; m6 = m6; m11 = m11 }
+pub quiet-mem : (σ : Signature) (K : Conj) (h : Hedge) (R : Expr) → NoRule σ K (mem h R) → QuietMem σ K h R
+quiet-mem σ K h R q =
+    let (_, (r2, (_, (_, (_, (_, (_, (f5, (f6, (f7, (_, (_, (_, (_, (_, (_, (_, (_, (_, (_, (_, (_, (_, (_, (m2, (_, (m4, (m5, (m6, (_, (_, (m11, (m12, _))))))))))))))))))))))))))))))))) = q in
+    record { r2 = r2; f5 = f5; f6 = f6; f7 = f7; m2 = m2; m4 = m4; m5 = m5; m6 = m6; m11 = m11; m12 = m12 }

@@ -11,6 +11,7 @@ use lib.Dec.{ltb}
 use lib.ListN.{length}
 use Rattle.language.specs.declared.Refusal.the-variants.{QuestionLength, CountRange, BadOffset, LongExample, OpenLine}
 use Rattle.language.specs.Limits.{Limits}
+use Rattle.language.specs.declared.Signature.{Signature}
 use Rattle.language.specs.Trees.{Conj, Counts, Question}
 use Rattle.language.specs.Question.{countsOf, alternativesOf, lengthFits, countsFit, laidOut, parts, readAll, declaredQ, asks, readQuestion}
 use Rattle.meaning.specs.Meaning.{Filling, MeetsAll, MeetsOne}
@@ -32,10 +33,10 @@ each-line P ℕ.zero (l ∷ ls) k e p = let d : l ≡ k = cc in rw d at (p .0)
 each-line P (ℕ.suc i) (l ∷ ls) k e p = each-line P i ls k e (p .1)
 
 -- what meets a line meets the lines
-pub meets-lines : (ρ : Filling) (i : ℕ) (ls : List Numbered) (k : Numbered) → lineAt i ls ≡ some k → MeetsAll ρ (k .literals) → MeetsOne ρ (unnumbered ls)
-meets-lines ρ i [] k e m = absurd (let z : _≡_ {A = ℕ} 0 1 = cc in omega arith)
-meets-lines ρ ℕ.zero (l ∷ ls) k e m = let d : l ≡ k = cc in inl (rw d m)
-meets-lines ρ (ℕ.suc i) (l ∷ ls) k e m = inr (meets-lines ρ i ls k e m)
+pub meets-lines : (σ : Signature) (ρ : Filling) (i : ℕ) (ls : List Numbered) (k : Numbered) → lineAt i ls ≡ some k → MeetsAll σ ρ (k .literals) → MeetsOne σ ρ (unnumbered ls)
+meets-lines σ ρ i [] k e m = absurd (let z : _≡_ {A = ℕ} 0 1 = cc in omega arith)
+meets-lines σ ρ ℕ.zero (l ∷ ls) k e m = let d : l ≡ k = cc in inl (rw d m)
+meets-lines σ ρ (ℕ.suc i) (l ∷ ls) k e m = inr (meets-lines σ ρ i ls k e m)
 
 -- ---- an example that is shown
 

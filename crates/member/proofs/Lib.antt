@@ -1,7 +1,14 @@
+pub mod AnyOrder
 pub mod Decides
+pub mod Sharing
+pub mod Kindred
+pub mod Finding
+pub mod Rowing
 pub mod Standing
 pub mod Rows
 pub mod Moves
 pub mod Runs
+pub mod Asking
+pub mod Shuffling
 pub mod Words
 pub mod Determined

@@ -4,19 +4,21 @@ use mathlib.Core.Path.{_≡_, refl, _∙_, ap}
 use mathlib.Core.Bool.{Bool, true, false, _&&_, _||_}
 use mathlib.Core.List.{List}
 use native.Mathlib.Omega.{arith}
-use borrow.Author.Tests.{eq-eqb, ne-eqb}
 use lib.ListN.{length, getD, set, length-set}
 use lib.Seq.{getD-set-same, getD-set-other}
 use Rattle.language.specs.declared.Sym.{Sym}
-use Rattle.language.specs.Trees.{Expr}
+use Rattle.language.specs.declared.Signature.{Signature}
+use Rattle.language.specs.Trees.{Expr, over}
 use Rattle.meaning.specs.Complete.{Complete, tree}
 use Rattle.rules.specs.Expressions.{nullable}
 use Rattle.member.specs.declared.Seen.{Seen}
 use Rattle.member.specs.declared.Step.{Step}
-use Rattle.member.specs.Marks.{Marked, mcat, malt, mstar, bare, final, shift, ofTerm}
-use Rattle.member.specs.Places.{sizeE, At, Holds, at-tree, Kept, kept-eps, kept-cat, kept-alt, kept-star, kept-over, Expression, Looked, Beside, Shifted, Accepted}
+use Rattle.member.specs.Marks.{Marked, mcat, malt, mstar, bare, final, shift, tests, ofTerm}
+use Rattle.any_order.specs.Places.{sizeE, At, Expression}
+use Rattle.member.specs.Places.{Holds, at-tree, Kept, kept-eps, kept-cat, kept-alt, kept-star, kept-over, Looked, Beside, Shifted, Accepted}
 use Rattle.member.proofs.Decides.{bare-shift}
-use Rattle.member.proofs.Standing.{at-lt, first, by-eps, by-cat, by-alt, by-star, by-over, m-eps, m-cat, m-alt, m-star, m-over}
+use Rattle.member.proofs.Standing.{at-lt, first, by-eps, by-cat, by-alt, by-star, by-over, m-eps, m-cat, m-alt, m-star, m-over, m-symbol, symbol-at, under}
+use Rattle.member.specs.Gathering.{Answered}
 
 -- ---- what changes
 
@@ -64,68 +66,61 @@ un-alt (kept-alt x y) = (x, y)
 
 -- ---- by the word
 
-module _ {e : List ℕ} {at : ℕ} {h : List ℕ} {j : ℕ} {k : List Bool} {m : Bool} where
-  pub sh-eps : getD e at 0 ≡ 7000 → Shifted e at h j k m k (record { end = at + 1; null = true; fin = false })
+module _ {σ : Signature} {e : List ℕ} {at : ℕ} {h : List ℕ} {j : ℕ} {k : List Bool} {m : Bool} where
+  pub sh-eps : getD e at 0 ≡ 7000 → Shifted σ e at h j k m k (record { end = at + 1; null = true; fin = false })
   sh-eps w = record {
     beside = beside-refl;
     sized = by-eps _ w (refl, refl);
-    each = λ M f c rst x kk hh. m-eps (λ M. (false ≡ final (shift m (ofTerm f c) M)) × Kept k at (shift m (ofTerm f c) M)) w (refl, kept-eps) M x;
+    each = λ M f c rst x kk hh. m-eps (λ M. (false ≡ final (shift m (ofTerm σ f (tests σ c)) M)) × Kept k at (shift m (ofTerm σ f (tests σ c)) M)) w (refl, kept-eps) M x;
   }
 
   -- a symbol: no term may stand here, it is another, or its children decide
-  pub sh-no : {s : Seen} → getD e at 0 < 7000 → Looked e (at + 1) s → m ≡ false → Shifted e at h j k m k (record { end = s .end; null = false; fin = false })
+  pub sh-no : {s : Seen} → getD e at 0 < 7000 → Looked e (at + 1) s → m ≡ false → Shifted σ e at h j k m k (record { end = s .end; null = false; fin = false })
   sh-no w l z = record {
     beside = beside-refl;
     sized = by-over _ w (λ f v a x. (omega (arith, l .each a x .0), refl));
-    each = λ M f c rst x kk hh. m-over (λ M. (false ≡ final (shift m (ofTerm f c) M)) × Kept k at (shift m (ofTerm f c) M)) w
+    each = λ M f c rst x kk hh. m-over (λ M. (false ≡ final (shift m (ofTerm σ f (tests σ c)) M)) × Kept k at (shift m (ofTerm σ f (tests σ c)) M)) w
         (λ b g v R y. (rw z, kept-over)) M x;
   }
 
-  pub sh-other : {s : Seen} → getD e at 0 < 7000 → Looked e (at + 1) s → m ≡ true → (getD e at 0 ≡ getD h j 0 → ⊥) → Shifted e at h j k m k (record { end = s .end; null = false; fin = false })
-  sh-other w l z n = record {
-    beside = beside-refl;
-    sized = by-over _ w (λ f v a x. (omega (arith, l .each a x .0), refl));
-    each = λ M f c rst x kk hh. m-over (λ M. (false ≡ final (shift m (ofTerm f c) M)) × Kept k at (shift m (ofTerm f c) M)) w
-        (λ b g v R y. (rw (z, ne-eqb (g .0) (f .0) (λ q. n (omega (arith, word hh)))), kept-over)) M x;
-  }
-
-  pub sh-yes : {s : Seen} {k′ : List Bool} {y : Bool} → getD e at 0 < 7000 → Looked e (at + 1) s → m ≡ true → getD e at 0 ≡ getD h j 0 → Expression e at
-      → Accepted e (at + 1) h (j + 1) k k′ y → Shifted e at h j k m k′ (record { end = s .end; null = false; fin = y })
-  sh-yes {s} {k′} {y} w l z n p a = record {
+  pub sh-ask : {s : Seen} {k′ : List Bool} {v v′ : List ℕ} {top : ℕ} {y : Bool} → getD e at 0 < 7000 → Looked e (at + 1) s → m ≡ true → Expression e at
+      → Answered σ e at h j k k′ v v′ top y → Shifted σ e at h j k m k′ (record { end = s .end; null = false; fin = y })
+  sh-ask {s} {k′} {y = y} w l z p a = record {
     beside =
-        let q = first p (omega arith) in
-        let u = l .each (q .R) (q .here) .0 in
-        beside-wide (a .beside (q .R) (q .here)) (omega arith) (omega arith);
+        let q = symbol-at p w in
+        let b = a .beside (q .g) (q .S) (q .here) in
+        let u = l .each (q .S) (under (q .here)) .0 in
+        beside-wide b (omega arith) (omega arith);
     sized = by-over _ w (λ f v a x. (omega (arith, l .each a x .0), refl));
-    each = λ M f c rst x kk hh. m-over (λ M. (y ≡ final (shift m (ofTerm f c) M)) × Kept k′ at (shift m (ofTerm f c) M)) w
-        (λ b g v R t. (rw (z, eq-eqb (g .0) (f .0) (omega (arith, word hh))) (a .each R c t (child hh)), kept-over)) M x;
+    each = λ M f c rst x kk hh. m-symbol (λ M. (y ≡ final (shift m (ofTerm σ f (tests σ c)) M)) × Kept k′ at (shift m (ofTerm σ f (tests σ c)) M)) w
+        (λ b g S t. (rw z (a .each g S f c rst t hh), kept-over)) M x;
   }
 
   pub sh-star : {i : Bool} {a : Step} {k₁ k′ : List Bool} → getD e at 0 ≡ 7003 → Expression e at → length e ≤ length k → i ≡ (m || getD k at false)
-      → Shifted e (at + 1) h j k i k₁ a → k′ ≡ set k₁ at (a .fin) → Shifted e at h j k m k′ (record { end = a .end; null = true; fin = a .fin })
+      → Shifted σ e (at + 1) h j k i k₁ a → k′ ≡ set k₁ at (a .fin) → Shifted σ e at h j k m k′ (record { end = a .end; null = true; fin = a .fin })
   sh-star {i} {a} {k₁} {k′} w p le ie s e₁ = record {
     beside =
         let q = first p (omega arith) in
         let u = s .sized (q .R) (q .here) .0 in
         beside-trans (beside-wide (s .beside) (omega arith) (omega arith)) (beside-wide (beside-set (a .fin) e₁) (omega arith) (omega arith));
     sized = by-star _ w (λ b x. (omega (arith, s .sized b x .0), refl));
-    each = λ M f c rst x kk hh. m-star (λ M. Kept k at M → (a .fin ≡ final (shift m (ofTerm f c) M)) × Kept k′ at (shift m (ofTerm f c) M)) w
+    each = λ M f c rst x kk hh. m-star (λ M. Kept k at M → (a .fin ≡ final (shift m (ofTerm σ f (tests σ c)) M)) × Kept k′ at (shift m (ofTerm σ f (tests σ c)) M)) w
         (λ A y kk.
         let (q, ka) = un-star kk in
         let u : i ≡ (m || final A) = cc in
         let (fa, ka₁) = s .each A f c rst y ka hh in
-        let fa′ : a .fin ≡ final (shift (m || final A) (ofTerm f c) A) = rw u at fa in
-        let ka′ : Kept k₁ (at + 1) (shift (m || final A) (ofTerm f c) A) = rw u at ka₁ in
+        let fa′ : a .fin ≡ final (shift (m || final A) (ofTerm σ f (tests σ c)) A) = rw u at fa in
+        let ka′ : Kept k₁ (at + 1) (shift (m || final A) (ofTerm σ f (tests σ c)) A) = rw u at ka₁ in
         let lt : at < length k₁ = omega (arith, at-lt (p .here), s .beside .len) in
         let st : Beside k₁ k′ at (at + 1) = beside-set (a .fin) e₁ in
-        (fa′, kept-star {a = shift (m || final A) (ofTerm f c) A} (rw e₁ (getD-set-same k₁ at (a .fin) false lt) ∙ fa′) (kept-beside (λ n l r. st .high n l) ka′)))
+        (fa′, kept-star {a = shift (m || final A) (ofTerm σ f (tests σ c)) A} (rw e₁ (getD-set-same k₁ at (a .fin) false lt) ∙ fa′) (kept-beside (λ n l r. st .high n l) ka′)))
         M x kk;
   }
 
   pub sh-cat : {b₁ i v₁ v₂ v₃ : Bool} {a b : Step} {k₁ k₂ k′ : List Bool} → getD e at 0 ≡ 7001 → Expression e at → length e ≤ length k
-      → Shifted e (at + 1) h j k m k₁ a → k₂ ≡ set k₁ at (a .fin) → b₁ ≡ (m && a .null) → i ≡ (getD k at false || b₁) → Shifted e (a .end) h j k₂ i k′ b
+      → Shifted σ e (at + 1) h j k m k₁ a → k₂ ≡ set k₁ at (a .fin) → b₁ ≡ (m && a .null) → i ≡ (getD k at false || b₁) → Shifted σ e (a .end) h j k₂ i k′ b
       → v₁ ≡ (a .null && b .null) → v₂ ≡ (a .fin && b .null) → v₃ ≡ (v₂ || b .fin)
-      → Shifted e at h j k m k′ (record { end = b .end; null = v₁; fin = v₃ })
+      → Shifted σ e at h j k m k′ (record { end = b .end; null = v₁; fin = v₃ })
   sh-cat {b₁} {i} {v₁} {v₂} {v₃} {a} {b} {k₁} {k₂} {k′} w p le s e₁ be ie t q₁ q₂ q₃ = record {
     beside = by-cat (λ R. Beside k k′ at (b .end)) w (λ A B x y.
         let z = s .sized A x .0 in
@@ -133,7 +128,7 @@ module _ {e : List ℕ} {at : ℕ} {h : List ℕ} {j : ℕ} {k : List Bool} {m :
         beside-trans (beside-trans (beside-wide (s .beside) (omega arith) (omega arith)) (beside-wide (beside-set (a .fin) e₁) (omega arith) (omega arith))) (beside-wide (t .beside) (omega arith) (omega arith)))
         (p .R) (p .here);
     sized = by-cat _ w (λ A B x y. let (z, n) = s .sized A x in let (z′, n′) = t .sized B (rw z y) in (omega arith, rw (q₁, n, n′)));
-    each = λ M f c rst x kk hh. m-cat (λ M. Kept k at M → (v₃ ≡ final (shift m (ofTerm f c) M)) × Kept k′ at (shift m (ofTerm f c) M)) w
+    each = λ M f c rst x kk hh. m-cat (λ M. Kept k at M → (v₃ ≡ final (shift m (ofTerm σ f (tests σ c)) M)) × Kept k′ at (shift m (ofTerm σ f (tests σ c)) M)) w
         (λ A B y z kk.
         let (q, ka, kb) = un-cat kk in
         let (ea, na) = s .sized (bare A) y in
@@ -143,12 +138,12 @@ module _ {e : List ℕ} {at : ℕ} {h : List ℕ} {j : ℕ} {k : List Bool} {m :
         let kb₂ : Kept k₂ (a .end) B = rw ea (kept-beside (λ n l r. st .high n (omega arith) ∙ s .beside .high n (omega arith)) kb) in
         let nb = t .sized (bare B) (rw ea z) .1 in
         let (fb, kb₁) = t .each B f c rst (rw ea z) kb₂ hh in
-        let fb′ : b .fin ≡ final (shift (final A || (m && nullable (bare A))) (ofTerm f c) B) = rw u at fb in
-        let kb′ : Kept k′ (at + 1 + sizeE (bare A)) (shift (final A || (m && nullable (bare A))) (ofTerm f c) B) = rw (u, ea) at kb₁ in
+        let fb′ : b .fin ≡ final (shift (final A || (m && nullable (bare A))) (ofTerm σ f (tests σ c)) B) = rw u at fb in
+        let kb′ : Kept k′ (at + 1 + sizeE (bare A)) (shift (final A || (m && nullable (bare A))) (ofTerm σ f (tests σ c)) B) = rw (u, ea) at kb₁ in
         let lt : at < length k₁ = omega (arith, at-lt (p .here), s .beside .len) in
-        let sz : sizeE (bare (shift m (ofTerm f c) A)) ≡ sizeE (bare A) = ap sizeE (bare-shift m (ofTerm f c) A) in (
-          rw (bare-shift (final A || (m && nullable (bare A))) (ofTerm f c) B) (cc),
-          kept-cat {a = shift m (ofTerm f c) A} {b = shift (final A || (m && nullable (bare A))) (ofTerm f c) B}
+        let sz : sizeE (bare (shift m (ofTerm σ f (tests σ c)) A)) ≡ sizeE (bare A) = ap sizeE (bare-shift m (ofTerm σ f (tests σ c)) A) in (
+          rw (bare-shift (final A || (m && nullable (bare A))) (ofTerm σ f (tests σ c)) B) (cc),
+          kept-cat {a = shift m (ofTerm σ f (tests σ c)) A} {b = shift (final A || (m && nullable (bare A))) (ofTerm σ f (tests σ c)) B}
               (t .beside .low at (omega arith) ∙ rw e₁ (getD-set-same k₁ at (a .fin) false lt) ∙ fa)
               (kept-beside (λ n l r. t .beside .low n (omega arith) ∙ st .high n l) ka₁)
               (rw sz kb′),
@@ -157,9 +152,9 @@ module _ {e : List ℕ} {at : ℕ} {h : List ℕ} {j : ℕ} {k : List Bool} {m :
   }
 
   pub sh-alt : {v₁ v₂ : Bool} {a b : Step} {k₁ k′ : List Bool} → getD e at 0 ≡ 7002 → Expression e at
-      → Shifted e (at + 1) h j k m k₁ a → Shifted e (a .end) h j k₁ m k′ b
+      → Shifted σ e (at + 1) h j k m k₁ a → Shifted σ e (a .end) h j k₁ m k′ b
       → v₁ ≡ (a .null || b .null) → v₂ ≡ (a .fin || b .fin)
-      → Shifted e at h j k m k′ (record { end = b .end; null = v₁; fin = v₂ })
+      → Shifted σ e at h j k m k′ (record { end = b .end; null = v₁; fin = v₂ })
   sh-alt {v₁} {v₂} {a} {b} {k₁} {k′} w p s t q₁ q₂ = record {
     beside = by-alt (λ R. Beside k k′ at (b .end)) w (λ A B x y.
         let z = s .sized A x .0 in
@@ -167,25 +162,25 @@ module _ {e : List ℕ} {at : ℕ} {h : List ℕ} {j : ℕ} {k : List Bool} {m :
         beside-trans (beside-wide (s .beside) (omega arith) (omega arith)) (beside-wide (t .beside) (omega arith) (omega arith)))
         (p .R) (p .here);
     sized = by-alt _ w (λ A B x y. let (z, n) = s .sized A x in let (z′, n′) = t .sized B (rw z y) in (omega arith, rw (q₁, n, n′)));
-    each = λ M f c rst x kk hh. m-alt (λ M. Kept k at M → (v₂ ≡ final (shift m (ofTerm f c) M)) × Kept k′ at (shift m (ofTerm f c) M)) w
+    each = λ M f c rst x kk hh. m-alt (λ M. Kept k at M → (v₂ ≡ final (shift m (ofTerm σ f (tests σ c)) M)) × Kept k′ at (shift m (ofTerm σ f (tests σ c)) M)) w
         (λ A B y z kk.
         let (ka, kb) = un-alt kk in
         let ea = s .sized (bare A) y .0 in
         let (fa, ka₁) = s .each A f c rst y ka hh in
         let kb₂ : Kept k₁ (a .end) B = rw ea (kept-beside (λ n l r. s .beside .high n (omega arith)) kb) in
         let (fb, kb₁) = t .each B f c rst (rw ea z) kb₂ hh in
-        let kb′ : Kept k′ (at + 1 + sizeE (bare A)) (shift m (ofTerm f c) B) = rw ea at kb₁ in
-        let sz : sizeE (bare (shift m (ofTerm f c) A)) ≡ sizeE (bare A) = ap sizeE (bare-shift m (ofTerm f c) A) in (
+        let kb′ : Kept k′ (at + 1 + sizeE (bare A)) (shift m (ofTerm σ f (tests σ c)) B) = rw ea at kb₁ in
+        let sz : sizeE (bare (shift m (ofTerm σ f (tests σ c)) A)) ≡ sizeE (bare A) = ap sizeE (bare-shift m (ofTerm σ f (tests σ c)) A) in (
           cc,
-          kept-alt {a = shift m (ofTerm f c) A} {b = shift m (ofTerm f c) B}
+          kept-alt {a = shift m (ofTerm σ f (tests σ c)) A} {b = shift m (ofTerm σ f (tests σ c)) B}
               (kept-beside (λ n l r. t .beside .low n (omega arith)) ka₁)
               (rw sz kb′),
         ))
         M x kk;
   }
 
-pub shifted-end : {e h : List ℕ} {at j : ℕ} {k k′ : List Bool} {m : Bool} {a : Step} → Shifted e at h j k m k′ a → (R : Expr) → At e at R → a .end ≡ at + sizeE R
+pub shifted-end : {σ : Signature} {e h : List ℕ} {at j : ℕ} {k k′ : List Bool} {m : Bool} {a : Step} → Shifted σ e at h j k m k′ a → (R : Expr) → At e at R → a .end ≡ at + sizeE R
 shifted-end s R x = s .sized R x .0
 
-pub shifted-falls : {e h : List ℕ} {at j t : ℕ} {k k′ : List Bool} {m : Bool} {a : Step} → 2 * (length e - at) ≡ t → Shifted e (at + 1) h j k m k′ a → Expression e at → (getD e at 0 ≡ 7000 → ⊥) → 2 * (length e - a .end) < t
+pub shifted-falls : {σ : Signature} {e h : List ℕ} {at j t : ℕ} {k k′ : List Bool} {m : Bool} {a : Step} → 100000000 * (length e - at) + 2 ≡ t → Shifted σ e (at + 1) h j k m k′ a → Expression e at → (getD e at 0 ≡ 7000 → ⊥) → 100000000 * (length e - a .end) + 2 < t
 shifted-falls z s p n = let q = first p n in omega (arith, s .sized (q .R) (q .here) .0, at-lt (p .here))

@@ -5,13 +5,16 @@ use mathlib.Core.Bool.{Bool, true, false, _&&_, _||_}
 use mathlib.Core.List.{List}
 use native.Mathlib.Omega.{arith}
 use lib.ListN.{getD}
+use Rattle.language.specs.declared.Signature.{Signature}
 use Rattle.language.specs.Trees.{Expr, eps, cat, alt, star, over}
 use Rattle.meaning.specs.Complete.{Complete}
 use Rattle.rules.specs.Expressions.{nullable}
 use Rattle.member.specs.declared.Seen.{Seen}
 use Rattle.member.specs.declared.Step.{Step}
-use Rattle.member.specs.Marks.{Marked, bare, blank, final, shift, run, accepts, ofTerm}
-use Rattle.member.specs.Places.{sizeE, At, Holds, Kept, kept-eps, kept-cat, kept-alt, kept-star, kept-over, Expression, Hedge, Term, Looked, Skipped, Beside, Cleared, Shifted, Accepted}
+use Rattle.member.specs.Marks.{Marked, bare, blank, final, shift, tests, accepts, ofTerm}
+use Rattle.any_order.specs.Places.{sizeE, At, Expression}
+use Rattle.member.specs.Places.{Holds, Kept, kept-eps, kept-cat, kept-alt, kept-star, kept-over, Hedge, Term, Looked, Skipped, Beside, Cleared, Shifted, Accepted}
+use Rattle.member.specs.Gathering.{Spared, Lent}
 use Rattle.member.proofs.Decides.{bare-blank, bare-shift}
 use Rattle.member.proofs.Standing.{by-nil, by-tree, rest}
 use Rattle.member.proofs.Moves.{beside-refl, beside-wide, beside-trans, child}
@@ -38,26 +41,26 @@ pub children-of : {h : List ℕ} {j : ℕ} → Term h j → Hedge h (j + 1)
 children-of p = record { g = p .c; here = child (p .here) }
 
 -- `left` stands at j, with the marks M
-pub record Reached (at : ℕ) (h : List ℕ) (k : List Bool) (j : ℕ) (i fin : Bool) (R : Expr) (g : Complete) : Type 0 where
+pub record Reached (σ : Signature) (at : ℕ) (h : List ℕ) (k : List Bool) (j : ℕ) (i fin : Bool) (R : Expr) (g : Complete) : Type 0 where
   pub M : Marked
   pub left : Complete
   pub bared : bare M ≡ R
   pub kept : Kept k at M
   pub here : Holds h j left
-  pub goes : run left i M ≡ accepts R g
+  pub goes : tests σ left .inOrder i M ≡ accepts σ R g
   pub ends : fin ≡ ((i && nullable (bare M)) || final M)
 
-pub record Going (e : List ℕ) (at : ℕ) (h : List ℕ) (i : ℕ) (k₀ k : List Bool) (n j : ℕ) (first fin : Bool) : Type 0 where
+pub record Going (σ : Signature) (e : List ℕ) (at : ℕ) (h : List ℕ) (i : ℕ) (k₀ k : List Bool) (n j : ℕ) (first fin : Bool) : Type 0 where
   pub stands : Hedge h j
   pub beside : Beside k₀ k at n
-  pub each : (R : Expr) (g : Complete) → At e at R → Holds h i g → Reached at h k j first fin R g
+  pub each : (R : Expr) (g : Complete) → At e at R → Holds h i g → Reached σ at h k j first fin R g
 
 or-false : (b : Bool) → b ≡ (b || false)
 or-false true = refl
 or-false false = refl
 
-module _ {e : List ℕ} {at : ℕ} {h : List ℕ} {i : ℕ} where
-  pub starts : {k k₁ : List Bool} {s : Seen} → Hedge h i → Looked e at s → Cleared k k₁ at (s .end) → Going e at h i k₁ k₁ (s .end) i true (s .null)
+module _ {σ : Signature} {e : List ℕ} {at : ℕ} {h : List ℕ} {i : ℕ} where
+  pub starts : {k k₁ : List Bool} {s : Seen} → Hedge h i → Looked e at s → Cleared k k₁ at (s .end) → Going σ e at h i k₁ k₁ (s .end) i true (s .null)
   starts {k₁ = k₁} {s = s} st l c = record {
     stands = st;
     beside = beside-refl;
@@ -75,20 +78,20 @@ module _ {e : List ℕ} {at : ℕ} {h : List ℕ} {i : ℕ} where
   }
 
   module _ {k₀ k : List Bool} {n j : ℕ} {f b : Bool} where
-    pub goes-on : {k′ : List Bool} {a : Step} {j′ : ℕ} → Going e at h i k₀ k n j f b → (getD h j 0 ≡ 0 → ⊥) → ((R : Expr) → At e at R → n ≡ at + sizeE R) → Expression e at
-        → Shifted e at h j k f k′ a → Skipped h (j + 1) j′ → Going e at h i k₀ k′ n j′ false (a .fin)
+    pub goes-on : {k′ : List Bool} {a : Step} {j′ : ℕ} → Going σ e at h i k₀ k n j f b → (getD h j 0 ≡ 0 → ⊥) → ((R : Expr) → At e at R → n ≡ at + sizeE R) → Expression e at
+        → Shifted σ e at h j k f k′ a → Skipped h (j + 1) j′ → Going σ e at h i k₀ k′ n j′ false (a .fin)
     goes-on {k′ = k′} {a = a} {j′ = j′} go w nn p s t = record {
       stands = rest (go .stands) w t;
       beside = beside-trans (go .beside) (beside-wide (s .beside) (omega arith) (omega (arith, nn (p .R) (p .here), s .sized (p .R) (p .here) .0)));
       each = λ R g x y.
           let r = go .each R g x y in
-          by-tree (λ q. Holds h j q → run q f (r .M) ≡ accepts R g → Reached at h k′ j′ false (a .fin) R g) w
+          by-tree (λ q. Holds h j q → tests σ q .inOrder f (r .M) ≡ accepts σ R g → Reached σ at h k′ j′ false (a .fin) R g) w
           (λ u c q v x′ y′ hh gg.
           let (fa, ka) = s .each (r .M) u c q (rw (r .bared) x) (r .kept) hh in
           record {
-            M = shift f (ofTerm u c) (r .M);
+            M = shift f (ofTerm σ u (tests σ c)) (r .M);
             left = q;
-            bared = bare-shift f (ofTerm u c) (r .M) ∙ r .bared;
+            bared = bare-shift f (ofTerm σ u (tests σ c)) (r .M) ∙ r .bared;
             kept = ka;
             here = rw (t .each c x′) y′;
             goes = gg;
@@ -97,11 +100,17 @@ module _ {e : List ℕ} {at : ℕ} {h : List ℕ} {i : ℕ} where
           (r .left) (r .here) (r .here) (r .goes);
     }
 
-    pub ended : {k₁ : List Bool} → Cleared k₁ k₀ at n → Going e at h i k₀ k n j f b → getD h j 0 ≡ 0 → ((R : Expr) → At e at R → n ≡ at + sizeE R) → Accepted e at h i k₁ k b
+    pub ended : {k₁ : List Bool} → Cleared k₁ k₀ at n → Going σ e at h i k₀ k n j f b → getD h j 0 ≡ 0 → ((R : Expr) → At e at R → n ≡ at + sizeE R) → Accepted σ e at h i k₁ k b
     ended cl go w nn = record {
       len = go .beside .len ∙ cl .beside .len;
       beside = λ R x. let z = nn R x in beside-wide (beside-trans (cl .beside) (go .beside)) (omega arith) (omega arith);
       each = λ R g x y.
           let r = go .each R g x y in
-          by-nil (λ q. run q f (r .M) ≡ accepts R g → b ≡ accepts R g) w (λ gg. r .ends ∙ gg) (r .left) (r .here) (r .goes);
+          by-nil (λ q. tests σ q .inOrder f (r .M) ≡ accepts σ R g → b ≡ accepts σ R g) w (λ gg. r .ends ∙ gg) (r .left) (r .here) (r .goes);
     }
+
+-- and what is lent beside the marks
+pub record Looping (σ : Signature) (e : List ℕ) (at : ℕ) (h : List ℕ) (i : ℕ) (k₀ k : List Bool) (w₀ w : List ℕ) (top n j : ℕ) (first fin : Bool) : Type 0 where
+  pub going : Going σ e at h i k₀ k n j first fin
+  pub spared : Spared w₀ w top
+  pub lent : Lent σ h j w top

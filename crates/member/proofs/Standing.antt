@@ -10,7 +10,9 @@ use Rattle.language.specs.Trees.{Expr, eps, cat, alt, star, over}
 use Rattle.meaning.specs.Complete.{Complete, nil, tree}
 use Rattle.member.specs.declared.Seen.{Seen}
 use Rattle.member.specs.Marks.{Marked, meps, mcat, malt, mstar, mover, bare, blank}
-use Rattle.member.specs.Places.{sizeE, At, at-eps, at-cat, at-alt, at-star, at-over, sizeC, Holds, at-nil, at-tree, Expression, Hedge, Term, Looked, Skipped}
+use Rattle.any_order.specs.Places.{sizeE, At, at-eps, at-cat, at-alt, at-star, at-over, Expression}
+use Rattle.member.specs.Places.{sizeC, Holds, at-nil, at-tree, Hedge, Term, Looked, Skipped}
+use Rattle.member.specs.Gathering.{Symbol}
 use Rattle.member.proofs.Decides.{bare-blank}
 
 pub at-lt : {e : List ℕ} {at : ℕ} {R : Expr} → At e at R → at < length e
@@ -68,6 +70,36 @@ module _ {e : List ℕ} {at : ℕ} where
   m-over P w x (malt a b) (at-alt l v p q) = absurd (omega arith)
   m-over P w x (mstar a) (at-star l v p) = absurd (omega arith)
   m-over P w x (mover m f a) (at-over l v u p) = x m f v a p
+
+  pub m-symbol : (P : Marked → Type 0) → getD e at 0 < 7000 → ((m : Bool) (g : Sym) (S : Expr) → At e at (over g S) → P (mover m g S)) → (M : Marked) → At e at (bare M) → P M
+  m-symbol P w x meps (at-eps l v) = absurd (omega arith)
+  m-symbol P w x (mcat a b) (at-cat l v p q) = absurd (omega arith)
+  m-symbol P w x (malt a b) (at-alt l v p q) = absurd (omega arith)
+  m-symbol P w x (mstar a) (at-star l v p) = absurd (omega arith)
+  m-symbol P w x (mover m f a) (at-over l v u p) = x m f a (at-over l v u p)
+
+  pub symbol-at : Expression e at → getD e at 0 < 7000 → Symbol e at
+  symbol-at p w = go (p .here)
+    where
+      go : {R : Expr} → At e at R → Symbol e at
+      go (at-eps l v) = absurd (omega arith)
+      go (at-cat l v x y) = absurd (omega arith)
+      go (at-alt l v x y) = absurd (omega arith)
+      go (at-star l v x) = absurd (omega arith)
+      go (at-over {f = f} {a = a} l v u x) = record { g = f; S = a; here = at-over l v u x }
+
+  pub by-symbol : (P : Expr → Type 0) → getD e at 0 < 7000 → ((g : Sym) (S : Expr) → At e at (over g S) → P (over g S)) → (R : Expr) → At e at R → P R
+  by-symbol P w x eps (at-eps l v) = absurd (omega arith)
+  by-symbol P w x (cat a b) (at-cat l v p q) = absurd (omega arith)
+  by-symbol P w x (alt a b) (at-alt l v p q) = absurd (omega arith)
+  by-symbol P w x (star a) (at-star l v p) = absurd (omega arith)
+  by-symbol P w x (over f a) (at-over l v u p) = x f a (at-over l v u p)
+
+  pub symbol-word : {g : Sym} {S : Expr} → At e at (over g S) → getD e at 0 ≡ 3000 + g .0
+  symbol-word (at-over l v u p) = v
+
+  pub under : {g : Sym} {S : Expr} → At e at (over g S) → At e (at + 1) S
+  under (at-over l v u p) = p
 
   -- of an expression: it is bare with no marks
   from-blank : (P : Expr → Type 0) → ((M : Marked) → At e at (bare M) → P (bare M)) → (R : Expr) → At e at R → P R
@@ -132,6 +164,14 @@ module _ {e : List ℕ} {at : ℕ} where
   pub looked-within : {n : ℕ} {s : Seen} → Looked e at s → Expression e at → length e ≤ n → (at ≤ s .end) × (s .end ≤ n)
   looked-within l p le = let z = l .each (p .R) (p .here) .0 in let f = at-fits (p .here) in (omega arith, omega arith)
 
+-- what stands at a place has one size
+pub at-size : {e : List ℕ} {at : ℕ} {R S : Expr} → At e at R → At e at S → sizeE R ≡ sizeE S
+at-size {S = S} (at-eps l v) y = by-eps (λ R. 1 ≡ sizeE R) v (omega arith) S y
+at-size {S = S} (at-cat {a = a} {b = b} l v p q) y = by-cat (λ R. 1 + sizeE a + sizeE b ≡ sizeE R) v (λ c d u w. let z = at-size p u in omega (arith, at-size {S = d} q (rw z w))) S y
+at-size {S = S} (at-alt {a = a} {b = b} l v p q) y = by-alt (λ R. 1 + sizeE a + sizeE b ≡ sizeE R) v (λ c d u w. let z = at-size p u in omega (arith, at-size {S = d} q (rw z w))) S y
+at-size {S = S} (at-star {a = a} l v p) y = by-star (λ R. 1 + sizeE a ≡ sizeE R) v (λ c u. omega (arith, at-size p u)) S y
+at-size {S = S} (at-over {a = a} l v n p) y = by-over (λ R. 1 + sizeE a ≡ sizeE R) (omega arith) (λ f w c u. omega (arith, at-size p u)) S y
+
 -- ---- complete hedges
 
 pub holds-lt : {h : List ℕ} {j : ℕ} {g : Complete} → Holds h j g → j < length h
@@ -166,6 +206,15 @@ module _ {h : List ℕ} {j : ℕ} where
 
   pub skipped-less : {n : ℕ} → Skipped h (j + 1) n → Hedge h j → (getD h j 0 ≡ 0 → ⊥) → length h - n < length h - j
   skipped-less s p w = let q = children p w in omega (arith, s .each (q .g) (q .here), holds-lt (p .here))
+
+  pub term-word : {f : Sym} {c r : Complete} → Holds h j (tree f c r) → getD h j 0 ≡ 3000 + f .0
+  term-word (at-tree l v p q) = v
+
+  pub term-children : {f : Sym} {c r : Complete} → Holds h j (tree f c r) → Holds h (j + 1) c
+  term-children (at-tree l v p q) = p
+
+  pub term-rest : {f : Sym} {c r : Complete} → Holds h j (tree f c r) → Holds h (j + 1 + sizeC c) r
+  term-rest (at-tree l v p q) = q
 
   pub term-here : Hedge h j → (getD h j 0 ≡ 0 → ⊥) → Term h j
   term-here p w = by-tree (λ g. Term h j) w (λ f c r v x y. record { f = f; c = c; r = r; here = at-tree (holds-lt (p .here)) v x y }) (p .g) (p .here)

@@ -1,18 +1,24 @@
 -- What is written in words stands there: from the words of an expression and of a complete hedge to their places.
-use Prim.Native.Nat.{ℕ, _+_, _<_}
-use mathlib.Core.Path.{_≡_, _∙_, ap}
-use mathlib.Core.Bool.{Bool}
+use Prim.Native.Nat.{ℕ, _+_, _<_, _≤_}
+use mathlib.Core.Path.{_≡_, sym, _∙_, ap}
+use mathlib.Core.Bool.{Bool, false}
 use mathlib.Core.List.{List, _∷_, _++_, append-assoc}
 use native.Mathlib.Numerals.{add-one}
 use native.Mathlib.Omega.{arith}
-use lib.ListN.{length, getD, drop, length-drop}
+use lib.ListN.{length, getD, drop, length-drop, replicate, length-replicate}
 use lib.Seq.{drop-cons}
+use Rattle.language.specs.declared.Signature.{Signature}
 use Rattle.language.specs.Limits.{desk}
-use Rattle.language.specs.Trees.{Expr, eps, cat, alt, star, over}
+use Rattle.language.specs.Trees.{Expr, eps, cat, alt, star, over, anyUnordered}
+use Rattle.rules.proofs.Tests.{test-true}
+use Rattle.any_order.proofs.Ranges.{not-both}
+use Rattle.member.specs.Gathering.{Scene, Lent}
+use Rattle.member.proofs.Standing.{holds-fits}
 use Rattle.language.specs.Writing.{exprWords}
 use Rattle.language.specs.Fine.{fineExpr}
 use Rattle.meaning.specs.Complete.{Complete, nil, tree, completeWords}
-use Rattle.member.specs.Places.{sizeE, At, at-eps, at-cat, at-alt, at-star, at-over, sizeC, Holds, at-nil, at-tree, Expression, Hedge, Accepted, Stands, StandsC, Both, Decided}
+use Rattle.any_order.specs.Places.{sizeE, At, at-eps, at-cat, at-alt, at-star, at-over, Expression}
+use Rattle.member.specs.Places.{sizeC, Holds, at-nil, at-tree, Hedge, Accepted, Stands, StandsC, Both, Decided}
 use Rattle.member.proofs.Decides.{decides}
 
 module _ (s : List ℕ) (at : ℕ) {x : ℕ} {t : List ℕ} (h : drop at s ≡ x ∷ t) where
@@ -71,5 +77,28 @@ module _ {e : List ℕ} {at : ℕ} {h : List ℕ} {j : ℕ} where
   pub its-hedge : Both e at h j → Hedge h j
   its-hedge b = record { g = b .g; here = holds-of (b .hedge) }
 
-  pub decided : {k k′ : List Bool} {r : Bool} → Accepted e at h j k k′ r → Decided e at h j r
-  decided a = record { means = λ R g x y. let z = a .each R g (at-of x) (holds-of y) in rw z (decides R g) }
+  pub decided : {σ : Signature} {k k′ : List Bool} {r : Bool} → Accepted σ e at h j k k′ r → Decided σ e at h j r
+  decided {σ} a = record { means = λ R g x y. let z = a .each R g (at-of x) (holds-of y) in rw z (decides σ R g) }
+
+-- ---- what `member` lends
+
+marks-long : length (replicate 4096 false) ≡ 4096
+marks-long = length-replicate {A = Bool} 4096 false
+
+abbrev room : List ℕ
+room = replicate 32768 0
+
+room-long : length room ≡ 32768
+room-long = length-replicate {A = ℕ} 32768 0
+
+pub scene-of : {e h : List ℕ} → length e ≤ desk .question → length h ≤ desk .literal → Scene e h (replicate 4096 false)
+scene-of x y = record { long = omega (arith, marks-long); short = x; hedge = y }
+
+module _ {σ : Signature} {h : List ℕ} {j : ℕ} where
+  pub lent-all : {e : List ℕ} {at : ℕ} → Both e at h j → length h ≤ desk .literal → Lent σ h j room 0
+  lent-all b z = record {
+    room = λ _. record { g = b .g; here = holds-of (b .hedge); room = omega (arith, room-long, holds-fits (holds-of (b .hedge))); bounded = omega (arith, room-long) };
+  }
+
+  pub lent-none : {w : List ℕ} {b : Bool} → b ≡ anyUnordered σ → b ≡ false → Lent σ h j w 0
+  lent-none e z = record { room = λ t. absurd (not-both (test-true (anyUnordered σ) .0 t) (sym e ∙ z)) }

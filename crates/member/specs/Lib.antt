@@ -1,2 +1,5 @@
+pub mod AnyOrder
 pub mod Marks
+pub mod Leaves
 pub mod Places
+pub mod Gathering

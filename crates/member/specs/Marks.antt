@@ -1,9 +1,15 @@
--- How membership is decided: an expression with a mark at each symbol that may have been read last, and what one more term does to the marks.
+-- How membership is decided: an expression with a mark at each symbol that may have been read last, and what one more term does to the marks. Under an
+-- unordered symbol what may be left of the expression is followed instead, term by term.
 use mathlib.Core.Bool.{Bool, true, false, _&&_, _||_}
+use mathlib.Core.List.{List, [], _∷_}
 use Rattle.language.specs.declared.Sym.{Sym}
-use Rattle.language.specs.Trees.{Expr, eps, cat, alt, star, over, eqS}
+use Rattle.language.specs.Kinds.{pick}
+use Rattle.language.specs.declared.Signature.{Signature}
+use Rattle.language.specs.Trees.{Expr, eps, cat, alt, star, over, isUnordered, eqS}
 use Rattle.meaning.specs.Complete.{Complete, nil, tree}
 use Rattle.rules.specs.Expressions.{nullable}
+use lib.Dec.{leb}
+use Rattle.member.specs.AnyOrder.{leftOf, allNullable, some, breadth, shortestOf}
 
 pub data Marked : Type 0 where
   meps : Marked
@@ -44,14 +50,21 @@ shift i p (malt a b) = malt (shift i p a) (shift i p b)
 shift i p (mstar a) = mstar (shift (i || final a) p a)
 shift i p (mover m f R) = mover (i && p f R) f R
 
--- the terms of a hedge in their order; a term is of f(R) where its symbol is f and its children are read by R
-abbrev pub run : Complete → Bool → Marked → Bool
-run nil i m = (i && nullable (bare m)) || final m
-run (tree f c r) i m = run r false (shift i (λ g R. eqS g f && run c true (blank R)) m)
+-- a hedge read in its order by marks, and in any order by what is left
+pub record Tests : Type 0 where
+  pub inOrder : Bool → Marked → Bool
+  pub anyOrder : List Expr → Bool
 
-abbrev pub accepts : Expr → Complete → Bool
-accepts R g = run g true (blank R)
+-- whether a term is of g(R), by the tests of its children: its symbol is g, and R reads the children, in any order where it is unordered
+abbrev pub ofTerm : Signature → Sym → Tests → Sym → Expr → Bool
+ofTerm σ f c g R = eqS g f && pick (isUnordered σ f) (c .anyOrder (R ∷ [])) (c .inOrder true (blank R))
 
--- whether the term f(c) is of g(R)
-abbrev pub ofTerm : Sym → Complete → Sym → Expr → Bool
-ofTerm f c g R = eqS g f && accepts R c
+abbrev pub tests : Signature → Complete → Tests
+tests σ nil = record { inOrder = λ i m. (i && nullable (bare m)) || final m; anyOrder = λ rs. allNullable rs }
+tests σ (tree f c r) = record {
+  inOrder = λ i m. tests σ r .inOrder false (shift i (ofTerm σ f (tests σ c)) m);
+  anyOrder = λ rs. leb (shortestOf rs) (breadth (tree f c r)) && some (tests σ r .anyOrder) (leftOf (ofTerm σ f (tests σ c)) rs);
+}
+
+abbrev pub accepts : Signature → Expr → Complete → Bool
+accepts σ R g = tests σ g .inOrder true (blank R)

@@ -6,6 +6,7 @@ use mathlib.Core.Bool.{Bool, true, false}
 use mathlib.Core.List.{List, _++_}
 use lib.ListN.{length, getD, drop}
 use Rattle.language.specs.declared.Sym.{Sym}
+use Rattle.language.specs.declared.Signature.{Signature}
 use Rattle.language.specs.Limits.{desk}
 use Rattle.language.specs.Trees.{Expr, eps, cat, alt, star, over}
 use Rattle.language.specs.Writing.{exprWords}
@@ -13,29 +14,15 @@ use Rattle.language.specs.Fine.{fineExpr}
 use Rattle.meaning.specs.Complete.{Complete, nil, tree, completeWords}
 use Rattle.meaning.specs.Meaning.{Member}
 use Rattle.rules.specs.Expressions.{nullable}
+use Rattle.any_order.specs.Places.{sizeE, At}
 use Rattle.member.specs.declared.Seen.{Seen}
 use Rattle.member.specs.declared.Step.{Step}
-use Rattle.member.specs.Marks.{Marked, meps, mcat, malt, mstar, mover, bare, final, shift, accepts, ofTerm}
+use Rattle.member.specs.Marks.{Marked, meps, mcat, malt, mstar, mover, bare, final, shift, accepts, tests, ofTerm}
 
 -- how many words
-abbrev pub sizeE : Expr → ℕ
-sizeE eps = 1
-sizeE (cat a b) = 1 + sizeE a + sizeE b
-sizeE (alt a b) = 1 + sizeE a + sizeE b
-sizeE (star a) = 1 + sizeE a
-sizeE (over f a) = 1 + sizeE a
-
 abbrev pub sizeC : Complete → ℕ
 sizeC nil = 1
 sizeC (tree f c r) = 1 + sizeC c + sizeC r
-
--- R stands in e at `at`
-pub data At (e : List ℕ) : ℕ → Expr → Type 0 where
-  at-eps : {at : ℕ} → at < length e → getD e at 0 ≡ 7000 → At e at eps
-  at-cat : {at : ℕ} {a b : Expr} → at < length e → getD e at 0 ≡ 7001 → At e (at + 1) a → At e (at + 1 + sizeE a) b → At e at (cat a b)
-  at-alt : {at : ℕ} {a b : Expr} → at < length e → getD e at 0 ≡ 7002 → At e (at + 1) a → At e (at + 1 + sizeE a) b → At e at (alt a b)
-  at-star : {at : ℕ} {a : Expr} → at < length e → getD e at 0 ≡ 7003 → At e (at + 1) a → At e at (star a)
-  at-over : {at : ℕ} {f : Sym} {a : Expr} → at < length e → getD e at 0 ≡ 3000 + f .0 → f .0 < 4000 → At e (at + 1) a → At e at (over f a)
 
 -- g stands in h at j
 pub data Holds (h : List ℕ) : ℕ → Complete → Type 0 where
@@ -51,10 +38,6 @@ pub data Kept (k : List Bool) : ℕ → Marked → Type 0 where
   kept-over : {at : ℕ} {f : Sym} {m : Bool} {R : Expr} → Kept k at (mover m f R)
 
 -- ---- what the functions ask
-
-pub record Expression (e : List ℕ) (at : ℕ) : Type 0 where
-  pub R : Expr
-  pub here : At e at R
 
 pub record Hedge (h : List ℕ) (j : ℕ) : Type 0 where
   pub g : Complete
@@ -87,16 +70,16 @@ pub record Cleared (k k′ : List Bool) (from to : ℕ) : Type 0 where
   pub beside : Beside k k′ from to
   pub clear : (i : ℕ) → from ≤ i → i < to → getD k′ i false ≡ false
 
-pub record Shifted (e : List ℕ) (at : ℕ) (h : List ℕ) (j : ℕ) (k : List Bool) (m : Bool) (k′ : List Bool) (r : Step) : Type 0 where
+pub record Shifted (σ : Signature) (e : List ℕ) (at : ℕ) (h : List ℕ) (j : ℕ) (k : List Bool) (m : Bool) (k′ : List Bool) (r : Step) : Type 0 where
   pub beside : Beside k k′ at (r .end)
   pub sized : (R : Expr) → At e at R → (r .end ≡ at + sizeE R) × (r .null ≡ nullable R)
   pub each : (M : Marked) (f : Sym) (c rest : Complete) → At e at (bare M) → Kept k at M → Holds h j (tree f c rest)
-      → (r .fin ≡ final (shift m (ofTerm f c) M)) × Kept k′ at (shift m (ofTerm f c) M)
+      → (r .fin ≡ final (shift m (ofTerm σ f (tests σ c)) M)) × Kept k′ at (shift m (ofTerm σ f (tests σ c)) M)
 
-pub record Accepted (e : List ℕ) (at : ℕ) (h : List ℕ) (j : ℕ) (k k′ : List Bool) (r : Bool) : Type 0 where
+pub record Accepted (σ : Signature) (e : List ℕ) (at : ℕ) (h : List ℕ) (j : ℕ) (k k′ : List Bool) (r : Bool) : Type 0 where
   pub len : length k′ ≡ length k
   pub beside : (R : Expr) → At e at R → Beside k k′ at (at + sizeE R)
-  pub each : (R : Expr) (g : Complete) → At e at R → Holds h j g → r ≡ accepts R g
+  pub each : (R : Expr) (g : Complete) → At e at R → Holds h j g → r ≡ accepts σ R g
 
 -- ---- the same in words
 
@@ -118,5 +101,5 @@ pub record Both (e : List ℕ) (at : ℕ) (h : List ℕ) (j : ℕ) : Type 0 wher
   pub hedge : StandsC h j g
 
 -- true exactly when the one is a member of the other
-pub record Decided (e : List ℕ) (at : ℕ) (h : List ℕ) (j : ℕ) (r : Bool) : Type 0 where
-  pub means : (R : Expr) (g : Complete) → Stands e at R → StandsC h j g → (r ≡ true) ↔ Member R g
+pub record Decided (σ : Signature) (e : List ℕ) (at : ℕ) (h : List ℕ) (j : ℕ) (r : Bool) : Type 0 where
+  pub means : (R : Expr) (g : Complete) → Stands e at R → StandsC h j g → (r ≡ true) ↔ Member σ R g

@@ -22,7 +22,7 @@ use Rattle.plans.specs.declared.Recipe.{Recipe}
 use Rattle.views.specs.declared.Shape.{Shape}
 use Rattle.views.specs.Looks.{bodyWords}
 use Rattle.views.specs.Views.{Shows}
-use Rattle.plans.specs.Results.{emptyEach, changed, made}
+use Rattle.plans.specs.Results.{emptyEach, changed, made, numbered}
 use Rattle.views.proofs.Words.{words-append}
 use Rattle.views.proofs.Sides.{side-whole, shows-before, shows-behind, shows-expr}
 use Rattle.plans.proofs.Replaced.{Acts, acts-functor, acts-emptied, put-conj, put-hedge, set-self}
@@ -43,7 +43,7 @@ vanish-words (node f c r) e = absurd (let z : _≡_ {A = ℕ} 0 1 = cc in omega 
 
 m1-words : {k : List ℕ} {s : Shape} {before : Conj} {h : Hedge} {R : Expr} {behind : Conj} (v : Shows k s before h R behind) (last : ℕ) → slice (s .h .from) last k ≡ bodyWords h → allRuns h ≡ true
     → made k (vanished s last .first) 0 ≡ conjWords (place before behind (elims (vanish h) [] (emptied h)))
-unfolding made
+unfolding numbered
 m1-words {k} {s} {before} {h} {R} {behind} v last e t =
     let a : Acts (emptied h) (bodyWords h) [] = acts-emptied h (v .hedge .fine) t in
     let q : Recipe = vanished s last .first in
@@ -52,7 +52,7 @@ m1-words {k} {s} {before} {h} {R} {behind} v last e t =
     let z : emptyEach (slice (s .h .from) last k) ≡ conjWords (vanish h) = ap emptyEach e ∙ vanish-words h t in
     simp (x, y, z, words-append, append-assoc, append-nil)
 
-pub m1-plans : (k : List ℕ) (s : Shape) → Makes M1 k s (λ R. m1Plan k s)
+pub m1-plans : (k : List ℕ) (s : Shape) → Makes M1 k s (λ h R. m1Plan k s)
 m1-plans k s before h R behind v = planned
     (test _ λ _ _. test _ λ _ t. test _ λ _ _.
     answers (one-result k before behind (m1Plan k s .first) (m1Plan k s .first) 0 (elims (vanish h) [] (emptied h))
@@ -64,7 +64,7 @@ m10-words : {k : List ℕ} {s : Shape} {before : Conj} {h : Hedge} {R : Expr} {b
     → h ≡ node (fvar X) c ε → slice (s .h .from) (hedgeInner k s .from) k ≡ (4000 + X .0) ∷ [] → slice (s .expr) (exprInner k s .from) k ≡ (3000 + g .0) ∷ []
     → made k (m10Plan k s .first) (exprInner k s .from)
     ≡ conjWords (place before behind (elims (eqn (node (fvar X) ε ε) (node (symbol g) ε ε) ∷ []) (mem (node (symbol g) c ε) R ∷ []) (setF X (symbol g))))
-unfolding made
+unfolding numbered
 m10-words {k} {s} {before} {h} {R} {behind} v X g c p eu er =
     let fine : fineHedge desk (node (fvar X) c ε) = subst (fineHedge desk) p (v .hedge .fine) in
     let a : Acts (setF X (symbol g)) ((4000 + X .0) ∷ []) ((3000 + g .0) ∷ []) = acts-functor X (symbol g) (fine .0) in
@@ -77,7 +77,7 @@ m10-words {k} {s} {before} {h} {R} {behind} v X g c p eu er =
     ∙ ap (λ (G : Functor). hedgeWords (node G (put (setF X (symbol g)) c) ε)) (set-self X (symbol g)) in
     simp (x, y, z, eu, er, shows-expr v, words-append, append-assoc, append-nil)
 
-pub m10-plans : (k : List ℕ) (s : Shape) → Makes M10 k s (λ R. m10Plan k s)
+pub m10-plans : (k : List ℕ) (s : Shape) → Makes M10 k s (λ h R. m10Plan k s)
 m10-plans k s before h R behind v = planned
     (look (loneNode h) (loneNode-is h) λ a p. look (asBlank (a .0)) (asBlank-is (a .0)) λ X b. look (asOver R) (asOver-is R) λ g q.
     let w : h ≡ node (fvar X) (a .1) ε = p ∙ ap (λ (f : Functor). node f (a .1) ε) b in

@@ -4,6 +4,7 @@ use mathlib.Core.Path.{_≡_, refl, sym, ap, subst, _∙_}
 use mathlib.Core.List.{List, [], _∷_, _++_, append-assoc, append-nil}
 use lib.Seq.{slice}
 use Rattle.language.specs.Limits.{desk}
+use Rattle.language.specs.declared.Signature.{Signature}
 use Rattle.language.specs.Trees.{Hedge, ε, Expr, cat, alt, eqn, mem, Conj}
 use Rattle.language.specs.Writing.{hedgeWords, exprWords, conjWords}
 use Rattle.language.specs.Fine.{fineExpr}
@@ -18,7 +19,7 @@ use Rattle.plans.specs.declared.Plan.{Plan}
 use Rattle.views.specs.declared.Shape.{Shape}
 use Rattle.views.specs.Looks.{head, tail}
 use Rattle.views.specs.Views.{Shows}
-use Rattle.plans.specs.Results.{made, resultsOf}
+use Rattle.plans.specs.Results.{made, numbered, resultsOf}
 use Rattle.plans.specs.Sizes.{placedWords}
 use Rattle.plans.specs.Slots.{planOf}
 use Rattle.views.proofs.Words.{words-append, words-body}
@@ -33,8 +34,8 @@ use Rattle.membership_plans.specs.Planned.{Applies, Is}
 use Rattle.membership_plans.proofs.Parts.{inner-part, first-here, first-part, second-part}
 
 -- at every membership that the shape shows, the plan makes what the rule answers
-abbrev pub Makes : InRule → List ℕ → Shape → (Expr → Plan) → Type 0
-Makes rule k s plan = (before : Conj) (h : Hedge) (R : Expr) (behind : Conj) → Shows k s before h R behind → Planned k (plan R) before behind (rule (before ++ behind) h R)
+abbrev pub Makes : InRule → List ℕ → Shape → (Hedge → Expr → Plan) → Type 0
+Makes rule k s plan = (before : Conj) (h : Hedge) (R : Expr) (behind : Conj) → Shows k s before h R behind → Planned k (plan h R) before behind (rule (before ++ behind) h R)
 
 -- two results
 two-results : (k : List ℕ) (before behind : Conj) (r q : Recipe) (b c : Branch)
@@ -50,11 +51,11 @@ by-two {b = b} {c = c} e f = ap (λ (r : Recipe). planOf Two r b) e ∙ ap (plan
 in-words : {k : List ℕ} {s : Shape} {before : Conj} {h : Hedge} {R : Expr} {behind : Conj} (v : Shows k s before h R behind) (from to start end : ℕ) (g : Hedge) (S : Expr)
     → slice from to k ≡ hedgeWords g → slice start end k ≡ exprWords S
     → made k (memberIn s from to start end) 0 ≡ conjWords (place before behind (plain (mem g S ∷ [])))
-unfolding made
+unfolding numbered
 in-words v from to start end g S p q = simp (shows-before v, shows-behind v, p, q, words-append, append-assoc, append-nil)
 
-pub r2-plans : (k : List ℕ) (s : Shape) → Makes R2 k s (λ R. r2Plan s)
-unfolding made
+pub r2-plans : (k : List ℕ) (s : Shape) → Makes R2 k s (λ h R. r2Plan s)
+unfolding numbered
 r2-plans k s before h R behind v = planned
     (test _ λ _ _. test _ λ _ _.
     answers (one-result k before behind (r2Plan s .first) (r2Plan s .first) 0 (plain []) (simp (shows-before v, shows-behind v, words-append, append-nil))))
@@ -63,17 +64,17 @@ r2-plans k s before h R behind v = planned
 
 m3-first : {k : List ℕ} {s : Shape} {before : Conj} {h : Hedge} {R : Expr} {behind : Conj} (v : Shows k s before h R behind)
     → made k (m3First s) 0 ≡ conjWords (place before behind (plain (mem (head h) R ∷ eqn (tail h) ε ∷ [])))
-unfolding made
+unfolding numbered
 m3-first {h = h} v =
     simp (shows-before v, shows-behind v, shows-expr v, side-head (v .hedge), side-tail (v .hedge), words-append, words-body (head h), append-assoc, append-nil)
 
 m3-second : {k : List ℕ} {s : Shape} {before : Conj} {h : Hedge} {R : Expr} {behind : Conj} (v : Shows k s before h R behind)
     → made k (m3Second s) 0 ≡ conjWords (place before behind (plain (eqn (head h) ε ∷ mem (tail h) R ∷ [])))
-unfolding made
+unfolding numbered
 m3-second {h = h} v =
     simp (shows-before v, shows-behind v, shows-expr v, side-head (v .hedge), side-tail (v .hedge), words-append, words-body (head h), append-assoc, append-nil)
 
-pub m3-plans : (k : List ℕ) (s : Shape) → Makes M3 k s (λ R. m3Plan s)
+pub m3-plans : (k : List ℕ) (s : Shape) → Makes M3 k s (λ h R. m3Plan s)
 m3-plans k s before h R behind v = planned
     (look (firstRun h) (firstRun-is h) λ a p. test _ λ _ _. look (asOver R) (asOver-is R) λ g q.
     answers (two-results k before behind (m3First s) (m3Second s) _ _
@@ -82,15 +83,15 @@ m3-plans k s before h R behind v = planned
 
 -- ---- M4, M11: the hedge, or its children, in what the expression holds
 
-pub m4-plans : (k : List ℕ) (s : Shape) → Makes M4 k s (λ R. m4Plan k s)
+pub m4-plans : (k : List ℕ) (s : Shape) → Makes M4 k s (λ h R. m4Plan k s)
 m4-plans k s before h R behind v = planned
     (look (loneTerm h) (loneTerm-is h) λ t p. look (asStar R) (asStar-is R) λ S q.
     answers (one-result k before behind (m4Plan k s .first) (m4Plan k s .first) 0 (plain (mem t S ∷ []))
     (in-words v (s .h .from) (s .h .to) (exprInner k s .from) (s .end) t S (side-whole (v .hedge) ∙ ap hedgeWords (p .0)) (inner-part v (ap exprWords q)))))
 
-pub m11-plans : (k : List ℕ) (s : Shape) → Makes M11 k s (λ R. m11Plan k s)
-m11-plans k s before h R behind v = planned
-    (look (loneNode h) (loneNode-is h) λ a p. look (asSymbol (a .0)) (asSymbol-is (a .0)) λ _ _. look (asOver R) (asOver-is R) λ g q. test _ λ _ _.
+pub m11-plans : (σ : Signature) (k : List ℕ) (s : Shape) → Makes (M11 σ) k s (λ h R. m11Plan k s)
+m11-plans σ k s before h R behind v = planned
+    (look (loneNode h) (loneNode-is h) λ a p. look (asSymbol (a .0)) (asSymbol-is (a .0)) λ _ _. look (asOver R) (asOver-is R) λ g q. test _ λ _ _. test _ λ _ _.
     answers (one-result k before behind (m11Plan k s .first) (m11Plan k s .first) 0 (plain (mem (a .1) (g .1) ∷ []))
     (in-words v (hedgeInner k s .from) (hedgeInner k s .to) (exprInner k s .from) (s .end) (a .1) (g .1)
     (ap (λ i. slice i (s .h .to - 1) k) (side-forth (v .hedge)) ∙ side-children (a .0) (a .1) (v .hedge) p)
@@ -101,14 +102,14 @@ m11-plans k s before h R behind v = planned
 module _ {k : List ℕ} {s : Shape} {before : Conj} {h : Hedge} {R : Expr} {behind : Conj} (v : Shows k s before h R behind) (j mid : ℕ) (a b : Expr)
     (p : slice j mid k ≡ exprWords a) (q : slice mid (s .end) k ≡ exprWords b) where
   m5-first : made k (m5First s j mid) 0 ≡ conjWords (place before behind (plain (mem h a ∷ mem ε b ∷ [])))
-  unfolding made
+  unfolding numbered
   m5-first = simp (shows-before v, shows-behind v, side-whole (v .hedge), p, q, words-append, append-assoc, append-nil)
 
   m5-second : made k (m5Second s j mid) 0 ≡ conjWords (place before behind (plain (mem ε a ∷ mem h b ∷ [])))
-  unfolding made
+  unfolding numbered
   m5-second = simp (shows-before v, shows-behind v, side-whole (v .hedge), p, q, words-append, append-assoc, append-nil)
 
-pub m5-plans : (k : List ℕ) (s : Shape) → Makes M5 k s (λ R. shared s (exprInner k s .from) (midOf k s R))
+pub m5-plans : (k : List ℕ) (s : Shape) → Makes M5 k s (λ h R. shared s (exprInner k s .from) (midOf k s R))
 m5-plans k s before h R behind v = planned
     (look (loneTerm h) (loneTerm-is h) λ t e. look (asCat R) (asCat-is R) λ S d.
     let fine = subst (fineExpr desk) d (v .fine) in
@@ -134,15 +135,15 @@ halved-results {k} {s} {before} {h} {R} {behind} v S d t e =
     (in-words v _ _ _ _ t (S .1) w (second-part v (ap exprWords d) (S .0) (S .1) refl (fine .0)))
 
 module _ (k : List ℕ) (s : Shape) where
-  pub m6-plans : Makes M6 k s (λ R. halved s (exprInner k s .from) (midOf k s R))
+  pub m6-plans : Makes M6 k s (λ h R. halved s (exprInner k s .from) (midOf k s R))
   m6-plans before h R behind v = planned (look (loneTerm h) (loneTerm-is h) λ t e. look (asAlt R) (asAlt-is R) λ S d. answers (halved-results v S d t (e .0)))
 
-  pub m7-plans : Makes M7 k s (λ R. halved s (exprInner k s .from) (midOf k s R))
+  pub m7-plans : Makes M7 k s (λ h R. halved s (exprInner k s .from) (midOf k s R))
   m7-plans before h R behind v = planned (look (firstRun h) (firstRun-is h) λ _ _. look (asAlt R) (asAlt-is R) λ S d. answers (halved-results v S d h refl))
 
 -- the first part ends where it was passed
 module _ {k : List ℕ} {s : Shape} {p : Part} (q : Parted k (exprInner k s .from) p) (plan : ℕ → Plan) where
-  pub m5-is : Is M5 k s (λ R. plan (midOf k s R)) (plan (p .end))
+  pub m5-is : Is M5 k s (λ h R. plan (midOf k s R)) (plan (p .end))
   m5-is h R a = answered (λ _. plan (p .end) ≡ plan (midOf k s R))
       (look (loneTerm h) (loneTerm-is h) λ _ _. look (asCat R) (asCat-is R) λ S d. answers (ap plan
       (q .each (S .0) _ (first-here (a .shown) (ap exprWords d) (S .0) (S .1) refl (subst (fineExpr desk) d (a .shown .fine) .0)) .end ∙ sym (ap (midOf k s) d))))
@@ -152,8 +153,8 @@ module _ {k : List ℕ} {s : Shape} {p : Part} (q : Parted k (exprInner k s .fro
   alt-ends a S d = ap plan
       (q .each (S .0) _ (first-here (a .shown) (ap exprWords d) (S .0) (S .1) refl (subst (fineExpr desk) d (a .shown .fine) .0)) .end ∙ sym (ap (midOf k s) d))
 
-  pub m6-is : Is M6 k s (λ R. plan (midOf k s R)) (plan (p .end))
+  pub m6-is : Is M6 k s (λ h R. plan (midOf k s R)) (plan (p .end))
   m6-is h R a = answered (λ _. plan (p .end) ≡ plan (midOf k s R)) (look (loneTerm h) (loneTerm-is h) λ _ _. look (asAlt R) (asAlt-is R) λ S d. answers (alt-ends a S d)) (a .results) (a .answer)
 
-  pub m7-is : Is M7 k s (λ R. plan (midOf k s R)) (plan (p .end))
+  pub m7-is : Is M7 k s (λ h R. plan (midOf k s R)) (plan (p .end))
   m7-is h R a = answered (λ _. plan (p .end) ≡ plan (midOf k s R)) (look (firstRun h) (firstRun-is h) λ _ _. look (asAlt R) (asAlt-is R) λ S d. answers (alt-ends a S d)) (a .results) (a .answer)

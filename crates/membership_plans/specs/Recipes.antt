@@ -3,16 +3,17 @@
 use Prim.Native.Nat.{ℕ, _+_}
 use mathlib.Core.List.{List, [], _∷_}
 use lib.ListN.{length}
-use Rattle.language.specs.Trees.{Expr, eps, cat, alt, star, over}
+use Rattle.language.specs.Trees.{Hedge, Expr, eps, cat, alt, star, over}
 use Rattle.language.specs.Writing.{exprWords}
-use Rattle.rules.specs.Places.{atR2, atM1, atM3, atM4, atM5, atM6, atM7, atM10, atM11}
-use Rattle.plans.specs.declared.Piece.the-variants.{Word, Copy, Put, Each}
+use Rattle.rules.specs.Elements.{width}
+use Rattle.rules.specs.Places.{atR2, atM1, atM3, atM4, atM5, atM6, atM7, atM10, atM11, atM12}
+use Rattle.plans.specs.declared.Piece.the-variants.{Word, Copy, Put, Each, Ordered}
 use Rattle.plans.specs.declared.Recipe.{Recipe}
-use Rattle.plans.specs.declared.Ways.the-variants.{One, Two}
+use Rattle.plans.specs.declared.Ways.the-variants.{One, Two, Orders}
 use Rattle.plans.specs.declared.Plan.{Plan}
 use Rattle.views.specs.declared.Shape.{Shape}
 use Rattle.plans.specs.declared.Within.{Within}
-use Rattle.plans.specs.Slots.{nothing, fullRecipe, fewRecipe, planOf, single, tabled, innerOf}
+use Rattle.plans.specs.Slots.{nothing, fullRecipe, fewRecipe, planOf, single, tabled, innerOf, childrenOf}
 
 -- the part of the hedge, and of the expression, behind the first word and before the last
 abbrev pub hedgeInner : List ℕ → Shape → Within
@@ -60,6 +61,15 @@ m4Plan k s = single (One 0) (memberIn s (s .h .from) (s .h .to) (exprInner k s .
 abbrev pub m11Plan : List ℕ → Shape → Plan
 m11Plan k s = single (One 0) (memberIn s (hedgeInner k s .from) (hedgeInner k s .to) (exprInner k s .from) (s .end))
 
+-- M12: the n children in each order, in what the symbol holds; a and b are the parts within the hedge and the expression
+abbrev pub reordered : Shape → Within → Within → ℕ → Plan
+reordered s a b n = single (Orders n) (fullRecipe (Copy 0 (s .at))
+    (Word 6000) (Ordered (a .from) n) (Word 0) (Copy (b .from) (s .end))
+    (Copy (s .end) (s .len)) nothing nothing nothing nothing nothing nothing 0 0 0)
+
+abbrev pub m12Plan : List ℕ → Shape → Hedge → Plan
+m12Plan k s h = reordered s (hedgeInner k s) (exprInner k s) (width (childrenOf h))
+
 -- M5: the hedge in the first part start..mid, and ε in the second; or the other way round
 abbrev pub m5First : Shape → ℕ → ℕ → Recipe
 m5First s start mid = fullRecipe (Copy 0 (s .at))
@@ -103,12 +113,12 @@ abbrev pub midOf : List ℕ → Shape → Expr → ℕ
 midOf k s R = exprInner k s .from + length (firstPart R)
 
 -- the plans of the rules by their places
-abbrev pub membershipPlans : List ℕ → Shape → Expr → List (ℕ × Plan)
-membershipPlans k s R =
+abbrev pub membershipPlans : List ℕ → Shape → Hedge → Expr → List (ℕ × Plan)
+membershipPlans k s h R =
     (atR2, r2Plan s) ∷ (atM1, m1Plan k s) ∷ (atM3, m3Plan s) ∷ (atM4, m4Plan k s)
     ∷ (atM5, shared s (exprInner k s .from) (midOf k s R)) ∷ (atM6, halved s (exprInner k s .from) (midOf k s R)) ∷ (atM7, halved s (exprInner k s .from) (midOf k s R))
-    ∷ (atM10, m10Plan k s) ∷ (atM11, m11Plan k s) ∷ []
+    ∷ (atM10, m10Plan k s) ∷ (atM11, m11Plan k s) ∷ (atM12, m12Plan k s h) ∷ []
 
 -- the plan of the rule of a place in the list; the F rules drop the conjunction
-unfoldable pub membershipPlan : ℕ → List ℕ → Shape → Expr → Plan
-membershipPlan n k s R = tabled n (membershipPlans k s R)
+unfoldable pub membershipPlan : ℕ → List ℕ → Shape → Hedge → Expr → Plan
+membershipPlan n k s h R = tabled n (membershipPlans k s h R)

@@ -1,13 +1,16 @@
 // What each rule of memberships makes of the words: its results, described by parts of them.
 ghost use mathlib.Core.Path.{_≡_};
-ghost use Rattle.rules.specs.Rules.{M5, M6, M7};
+ghost use Rattle.language.specs.declared.Signature.{Signature};
+ghost use Rattle.rules.specs.Rules.{M5, M6, M7, M12};
 ghost use Rattle.plans.specs.Slots.{dropPlan};
-ghost use Rattle.membership_plans.specs.Recipes.{r2Plan, vanished, m1Plan, m3First, m3Second, m3Plan, memberIn, m4Plan, m11Plan, m5First, m5Second, shared, halved, named, m10Plan, exprInner, midOf};
+ghost use Rattle.membership_plans.specs.Recipes.{r2Plan, vanished, m1Plan, m3First, m3Second, m3Plan, memberIn, m4Plan, m11Plan, reordered, m12Plan, m5First, m5Second, shared, halved, named, m10Plan, exprInner, midOf};
 ghost use Rattle.membership_plans.specs.Planned.{Is, Answered, RuleApplies};
+use finds::all_terms;
 use plans::Piece;
 use plans::Plan;
 use plans::Recipe;
 use plans::Ways;
+use plans::Within;
 use plans::few;
 use plans::full;
 use plans::inner;
@@ -19,6 +22,7 @@ use rules::places::AT_M6;
 use rules::places::AT_M7;
 use rules::places::AT_M10;
 use rules::places::AT_M11;
+use rules::places::AT_M12;
 use rules::places::AT_R2;
 use views::Shape;
 use views::Side;
@@ -190,6 +194,46 @@ fn plan_m11(k: &[u16], s: Shape) -> Plan
     }
 }
 
+// T' in R for each order T' of the n elements of T.
+fn reorder(s: Shape, children: Within, part: Within, n: usize) -> Plan
+    ensures { λ p. ⌜ p ≡ reordered s children part n ⌝ }
+{
+    let none = Piece::Copy(0, 0);
+    let first = full(
+        Piece::Copy(0, s.at),
+        Piece::Word(6000),
+        Piece::Ordered(children.from, n),
+        Piece::Word(0),
+        Piece::Copy(part.from, s.end),
+        Piece::Copy(s.end, s.len),
+        none,
+        none,
+        none,
+        none,
+        none,
+        none,
+        0,
+        0,
+        0,
+    );
+    Plan {
+        ways: Ways::Orders(n),
+        first,
+        second: first,
+    }
+}
+
+// The terms of T are counted.
+fn plan_m12(k: &[u16], s: Shape) -> Plan
+    ensures { λ p. ⌜ ((σ : Signature) → Is (M12 σ) (now (k .entry)) s (λ h R. m12Plan (now (k .entry)) s h) p) ⌝ }
+{
+    let h = s.h;
+    let children = inner(k, h.from, h.to);
+    let part = inner(k, s.expr, s.end);
+    let terms = all_terms(k, children.from);
+    reorder(s, children, part, terms.count)
+}
+
 // t in R1, ε in R2.
 fn in_first(s: Shape, start: usize, mid: usize) -> Recipe
     ensures { λ r. ⌜ r ≡ m5First s start mid ⌝ }
@@ -242,7 +286,7 @@ fn in_second(s: Shape, start: usize, mid: usize) -> Recipe
 
 // t in R1, ε in R2; or ε in R1, t in R2.
 fn plan_m5(k: &[u16], s: Shape) -> Plan
-    ensures { λ p. ⌜ Is M5 (now (k .entry)) s (λ R. shared s (exprInner (now (k .entry)) s .from) (midOf (now (k .entry)) s R)) p ⌝ }
+    ensures { λ p. ⌜ Is M5 (now (k .entry)) s (λ h R. shared s (exprInner (now (k .entry)) s .from) (midOf (now (k .entry)) s R)) p ⌝ }
 {
     let within = inner(k, s.expr, s.end);
     let part = expressions::pass(k, within.from);
@@ -257,7 +301,7 @@ fn plan_m5(k: &[u16], s: Shape) -> Plan
 
 // The hedge in R1; or in R2.
 fn halves(k: &[u16], s: Shape) -> Plan
-    ensures { λ p. ⌜ Is M6 (now (k .entry)) s (λ R. halved s (exprInner (now (k .entry)) s .from) (midOf (now (k .entry)) s R)) p × Is M7 (now (k .entry)) s (λ R. halved s (exprInner (now (k .entry)) s .from) (midOf (now (k .entry)) s R)) p ⌝ }
+    ensures { λ p. ⌜ Is M6 (now (k .entry)) s (λ h R. halved s (exprInner (now (k .entry)) s .from) (midOf (now (k .entry)) s R)) p × Is M7 (now (k .entry)) s (λ h R. halved s (exprInner (now (k .entry)) s .from) (midOf (now (k .entry)) s R)) p ⌝ }
 {
     let h = s.h;
     let within = inner(k, s.expr, s.end);
@@ -317,6 +361,7 @@ pub fn plan_membership(rank: usize, k: &[u16], s: Shape) -> Plan
         AT_M7 => halves(k, s),
         AT_M10 => plan_m10(k, s),
         AT_M11 => plan_m11(k, s),
+        AT_M12 => plan_m12(k, s),
         _ => plan_drop(),
     }
 }

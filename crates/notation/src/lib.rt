@@ -1,7 +1,11 @@
-// Hedges, expressions and literals written out for a reader: x0, p0, X0 are the term, hedge and function variables, a0 a symbol, () nothing at all.
+// Hedges, expressions and literals written out for a reader: x0, p0, X0 are the term, hedge and function variables, a0 a symbol, a1~ one whose parts come in
+// any order, () nothing at all.
 ghost use Prim.Native.Nat.{_≤_};
 use language::Kind;
+use language::Signature;
+use language::Sym;
 use language::classify;
+use language::is_unordered;
 use print::number;
 use print::say;
 use words::word;
@@ -12,12 +16,20 @@ fn name(letter: &[u8], n: u16) {
     number(n as u64);
 }
 
+// A symbol, with a mark where it is unordered.
+fn symbol(s: Signature, f: Sym) {
+    name(b"a", f.0);
+    if is_unordered(s, f) {
+        say(b"~");
+    }
+}
+
 // The name of a variable or a symbol.
-fn named(w: u16) {
+fn named(s: Signature, w: u16) {
     match classify(w) {
         Kind::Term(x) => name(b"x", x.0),
         Kind::Run(p) => name(b"p", p.0),
-        Kind::Symbol(f) => name(b"a", f.0),
+        Kind::Symbol(f) => symbol(s, f),
         Kind::Function(f) => name(b"X", f.0),
         _ => number(w as u64),
     }
@@ -64,7 +76,7 @@ fn after(ws: &[u16], at: usize, w: u16) -> usize
 }
 
 // A hedge; the place after its 0.
-fn past_hedge(ws: &[u16], from: usize) -> usize
+fn past_hedge(s: Signature, ws: &[u16], from: usize) -> usize
     ensures { λ r. ⌜ from ≤ r ⌝ }
 {
     let mut at = from;
@@ -83,7 +95,7 @@ fn past_hedge(ws: &[u16], from: usize) -> usize
             say(b")");
             comma(ws, at);
         } else {
-            named(w);
+            named(s, w);
             if opens(ws, at, w) {
                 say(b"(");
                 depth += 1;
@@ -97,23 +109,23 @@ fn past_hedge(ws: &[u16], from: usize) -> usize
 }
 
 // The hedge that begins here.
-pub fn hedge(ws: &[u16], from: usize) {
-    past_hedge(ws, from);
+pub fn hedge(s: Signature, ws: &[u16], from: usize) {
+    past_hedge(s, ws, from);
 }
 
 // What stands before the parts of an expression that begins with this word, between two of them, and behind them.
-fn before(w: u16) {
+fn before(s: Signature, w: u16) {
     match w {
         7000 => say(b"eps"),
         7001 => say(b"("),
         7002 => say(b"("),
         7003 => say(b""),
-        _ => over(w),
+        _ => over(s, w),
     }
 }
 
-fn over(w: u16) {
-    named(w);
+fn over(s: Signature, w: u16) {
+    named(s, w);
     say(b"(");
 }
 
@@ -142,7 +154,7 @@ fn is_leaf(ws: &[u16], next: usize, w: u16) -> bool {
 }
 
 // An expression: R . S in a row, R + S either, R* any number, a0(R) one term over R; the place after it.
-fn expression(ws: &[u16], at: usize) -> usize
+fn expression(s: Signature, ws: &[u16], at: usize) -> usize
     ensures { λ r. ⌜ at ≤ r ⌝ }
 {
     if at >= ws.len() {
@@ -151,17 +163,17 @@ fn expression(ws: &[u16], at: usize) -> usize
     let w = ws[at];
     let next = at + 1;
     if is_leaf(ws, next, w) {
-        named(w);
+        named(s, w);
         return after(ws, next, w);
     }
-    before(w);
+    before(s, w);
     if w == 7000 {
         return next;
     }
-    let middle = expression(ws, next);
+    let middle = expression(s, ws, next);
     if w == 7001 || w == 7002 {
         between(w);
-        let end = expression(ws, middle);
+        let end = expression(s, ws, middle);
         behind(w);
         return end;
     }
@@ -170,31 +182,31 @@ fn expression(ws: &[u16], at: usize) -> usize
 }
 
 // A literal; the place after it.
-fn literal(ws: &[u16], at: usize) -> usize
+fn literal(s: Signature, ws: &[u16], at: usize) -> usize
     ensures { λ r. ⌜ at ≤ r ⌝ }
 {
     if at >= ws.len() {
         return at;
     }
     let w = ws[at];
-    let middle = past_hedge(ws, at + 1);
+    let middle = past_hedge(s, ws, at + 1);
     if w == 5000 {
         say(b" = ");
-        return past_hedge(ws, middle);
+        return past_hedge(s, ws, middle);
     }
     say(b" in ");
-    expression(ws, middle)
+    expression(s, ws, middle)
 }
 
 // The literals between two places, a row for each.
-pub fn literals(ws: &[u16], from: usize, to: usize) {
+pub fn literals(s: Signature, ws: &[u16], from: usize, to: usize) {
     let mut at = from;
     let mut left = to;
     while left > from {
         left -= 1;
         if at < to {
             say(b"  ");
-            at = literal(ws, at);
+            at = literal(s, ws, at);
             say(b"\n");
         }
     }

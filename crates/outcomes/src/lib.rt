@@ -1,6 +1,6 @@
 // What the calls answer with, and the numbers of each answer.
 use language::Refusal;
-use language::number;
+use refusals::number;
 ghost use mathlib.Core.Path.{_≡_};
 ghost use Rattle.outcomes.specs.Numbers.{checkedNumber, outcomeNumber, triedNumber, triedValue, shownNumber, shownLength};
 

@@ -5,6 +5,7 @@ use Rattle.plans.proofs.full as full
 use Rattle.plans.proofs.few as few
 use Rattle.plans.proofs.inner as inner
 use Rattle.plans.proofs.grow as grow
+use Rattle.plans.proofs.grow_by as grow_by
 
 full-determined : Determined full.ended full.Reads.Pre full.Reads.Post
 full-determined κs a p o q e d = ap (λ z. (z, o .1)) (e ∙ sym d)
@@ -17,3 +18,6 @@ inner-determined κs a p o q e d = ap (λ z. (z, o .1)) (e ∙ sym d)
 
 grow-determined : Determined grow.ended grow.Reads.Pre grow.Reads.Post
 grow-determined κs a p o q e d = ap (λ z. (z, o .1)) (e ∙ sym d)
+
+grow_by-determined : Determined grow_by.ended grow_by.Reads.Pre grow_by.Reads.Post
+grow_by-determined κs a p o q e d = ap (λ z. (z, o .1)) (e ∙ sym d)

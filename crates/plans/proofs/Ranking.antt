@@ -8,6 +8,7 @@ use borrow.Author.Tests.{ne-eqb}
 use Rattle.language.specs.Kinds.{pick}
 use Rattle.language.specs.Trees.{Hedge, ε, tvar, hvar, node}
 use Rattle.rules.specs.Looks.{empty, lone, hasTerm, allRuns}
+use Rattle.rules.specs.Elements.{isNone}
 use Rattle.rules.specs.Rules.{Branch, Answer, _>>=_, check}
 use Rattle.rules.specs.Solved.{isSome}
 use Rattle.plans.specs.declared.Plan.{Plan}
@@ -24,6 +25,11 @@ lone-on a ε f = refl
 lone-on a (tvar x s) f = refl
 lone-on a (hvar p s) f = refl
 lone-on a (node g c s) f = refl
+
+-- what is none is not some
+pub none-on : {A : Type 0} (o : Option A) → isNone o ≡ not (isSome o)
+none-on none = refl
+none-on (some a) = refl
 
 pub bind-on : {A : Type 0} (m : Option A) (g : A → List Branch) → isSome (m >>= (λ a. some (g a))) ≡ isSome m
 unfolding _>>=_

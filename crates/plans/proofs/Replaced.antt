@@ -6,11 +6,13 @@ use mathlib.Core.Logic.{_⊎_, inl, inr}
 use Prim.Native.Nat.{ℕ, _+_, _<_, _≤_}
 use native.Mathlib.Omega.{arith}
 use lib.Dec.{eqb, eqb-refl, T}
+use lib.ListN.{getD}
 use lib.Seq.{slice}
-use borrow.Author.Tests.{ne-eqb}
+use borrow.Author.Tests.{eq-eqb, ne-eqb}
 use Rattle.language.specs.declared.TermVar.{TermVar}
 use Rattle.language.specs.declared.HedgeVar.{HedgeVar}
 use Rattle.language.specs.declared.FunVar.{FunVar}
+use Rattle.language.specs.declared.Sym.{Sym}
 use Rattle.language.specs.Limits.{desk}
 use Rattle.language.specs.Kinds.{pick}
 use Rattle.language.specs.Trees.{Functor, symbol, fvar, Hedge, ε, tvar, hvar, node, Expr, eps, cat, alt, star, over, Literal, eqn, mem, Conj, eqX, hv, holds}
@@ -22,6 +24,7 @@ use Rattle.views.specs.Looks.{bodyWords}
 use Rattle.plans.specs.declared.Recipe.{Recipe}
 use Rattle.plans.specs.Results.{replaced, changed}
 use Rattle.words.specs.Spans.{member}
+use Rattle.orders.specs.Orders.{renamed}
 use Rattle.views.proofs.Words.{words-join}
 use Rattle.views.proofs.Members.{both-or, eqb-base, member-body}
 
@@ -176,3 +179,27 @@ module _ {s : Subst} {us rs : List ℕ} (a : Acts s us rs) (k : List ℕ) (r : R
 
   pub put-hedge : (f t : ℕ) (h : Hedge) → fineHedge desk h → slice f t k ≡ hedgeWords h → changed k r cut (slice f t k) ≡ hedgeWords (put s h)
   put-hedge f t h fine e = put-words (slice f t k) ∙ ap (replaced us rs) e ∙ replaced-hedge a h fine
+
+-- ---- a part with a symbol for a function variable
+
+renamed-is : (old new : ℕ) (ws : List ℕ) → renamed old new ws ≡ replaced (old ∷ []) (new ∷ []) ws
+renamed-is old new [] = refl
+renamed-is old new (x ∷ ws) = one-word (eqb old x) ∙ ap (λ t. pick (eqb old x || false) (new ∷ []) (x ∷ []) ++ t) (renamed-is old new ws)
+  where
+    one-word : (b : Bool) → pick b new x ∷ renamed old new ws ≡ pick (b || false) (new ∷ []) (x ∷ []) ++ renamed old new ws
+    one-word true = refl
+    one-word false = refl
+
+module _ (X : FunVar) (g : Sym) (fine : X .0 < desk .each) (k : List ℕ) (at : ℕ) (e : getD k at 0 ≡ 4000 + X .0) where
+  named : (ws : List ℕ) → renamed (getD k at 0) (3000 + g .0) ws ≡ replaced ((4000 + X .0) ∷ []) ((3000 + g .0) ∷ []) ws
+  named ws = ap (λ x. renamed x (3000 + g .0) ws) e ∙ renamed-is (4000 + X .0) (3000 + g .0) ws
+
+  pub name-conj : (f t : ℕ) (c : Conj) → fineConj desk c → slice f t k ≡ conjWords c → renamed (getD k at 0) (3000 + g .0) (slice f t k) ≡ conjWords (putC (setF X (symbol g)) c)
+  name-conj f t c h d = named (slice f t k) ∙ ap (replaced ((4000 + X .0) ∷ []) ((3000 + g .0) ∷ [])) d ∙ replaced-conj (acts-functor X (symbol g) fine) c h
+
+  pub name-hedge : (f t : ℕ) (h : Hedge) → fineHedge desk h → slice f t k ≡ hedgeWords h → renamed (getD k at 0) (3000 + g .0) (slice f t k) ≡ hedgeWords (put (setF X (symbol g)) h)
+  name-hedge f t h i d = named (slice f t k) ∙ ap (replaced ((4000 + X .0) ∷ []) ((3000 + g .0) ∷ [])) d ∙ replaced-hedge (acts-functor X (symbol g) fine) h i
+
+  -- the variable's own word
+  pub name-self : pick (eqb (getD k at 0) (4000 + X .0)) (3000 + g .0) (4000 + X .0) ≡ 3000 + g .0
+  name-self = ap (λ b. pick b (3000 + g .0) (4000 + X .0)) (eq-eqb (getD k at 0) (4000 + X .0) e)

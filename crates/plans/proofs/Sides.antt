@@ -1,17 +1,22 @@
 -- The words of a side without its 0, and of a single F(H): the functor's word, the children, and 0.
 use Prim.Native.Nat.{ℕ, _+_, _-_, _<_}
 use native.Mathlib.Omega.{arith}
-use mathlib.Core.Path.{_≡_, refl, ap, _∙_}
+use mathlib.Core.Path.{_≡_, refl, sym, ap, _∙_, subst}
 use mathlib.Core.List.{List, [], _∷_, _++_, append-assoc}
 use lib.ListN.{length, drop, length-drop, length-append}
 use lib.Seq.{slice}
-use Rattle.language.specs.Trees.{Functor, Hedge, ε, tvar, hvar, node}
+use Rattle.language.specs.Trees.{Functor, Hedge, ε, node}
 use Rattle.language.specs.Writing.{functorWord, hedgeWords}
-use Rattle.words.proofs.Parts.{part-of, drop-of}
+use Rattle.language.proofs.Sizes.{hedge-some}
+use Rattle.words.proofs.Parts.{part-of, drop-of, below-of-word}
 use Rattle.views.specs.declared.Side.{Side}
 use Rattle.views.specs.Looks.{bodyWords}
+use Rattle.views.specs.Standing.{Stands}
 use Rattle.views.specs.Views.{Sided}
 use Rattle.views.proofs.Words.{words-body}
+use Rattle.views.proofs.Spans.{functor-some, stands-word}
+use Rattle.views.proofs.Sides.{side-stands}
+use Rattle.views.proofs.Looks.{stands-children}
 use Rattle.plans.specs.Slots.{forthIn}
 use Rattle.plans.proofs.Places.{forth-within}
 
@@ -38,15 +43,17 @@ module _ {k : List ℕ} {s : Side} {h : Hedge} (f : Functor) (c : Hedge) (v : Si
 
 -- ---- the next place after the first word of a side
 
-words-some : (h : Hedge) → 0 < length (hedgeWords h)
-words-some ε = omega arith
-words-some (tvar x r) = omega arith
-words-some (hvar p r) = omega arith
-words-some (node f c r) = omega arith
-
 -- a side stands within the words
 side-below : {k : List ℕ} {s : Side} {h : Hedge} → Sided k s h → s .from < length k
-side-below {k} {s} {h} v = omega (arith, ap length (v .here), length-drop (s .from) k, length-append (hedgeWords h) (v .beyond), words-some h)
+side-below {k} {s} {h} v = omega (arith, ap length (v .here), length-drop (s .from) k, length-append (hedgeWords h) (v .beyond), hedge-some h)
 
 pub side-forth : {k : List ℕ} {s : Side} {h : Hedge} → Sided k s h → forthIn (length k) (s .from) ≡ s .from + 1
 side-forth {k} {s} v = forth-within (length k) (s .from) (side-below v)
+
+-- the children stand there
+pub children-stand : {k : List ℕ} {i j : ℕ} {f : Functor} {c r : Hedge} {beyond : List ℕ} → Stands k i (node f c r) beyond → j ≡ forthIn (length k) i → Stands k j c (hedgeWords r ++ beyond)
+children-stand {k} {i} {j} {f} s e = rw (e ∙ forth-within (length k) i (below-of-word k i (λ q. functor-some f (sym (stands-word s) ∙ q)))) (stands-children s)
+
+-- the children of a single F(H), behind its first word
+pub inner-stands : {k : List ℕ} {s : Side} {h : Hedge} (f : Functor) (c : Hedge) (v : Sided k s h) → h ≡ node f c ε → Stands k (forthIn (length k) (s .from)) c (0 ∷ v .beyond)
+inner-stands {k} {s} f c v e = subst (λ i. Stands k i c (0 ∷ v .beyond)) (sym (side-forth v)) (stands-children (subst (λ (g : Hedge). Stands k (s .from) g (v .beyond)) e (side-stands v)))

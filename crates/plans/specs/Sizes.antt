@@ -1,5 +1,5 @@
 -- How long results are together, each in its frame.
-use Prim.Native.Nat.{ℕ, _+_, _≤_}
+use Prim.Native.Nat.{ℕ, zero, suc, _+_, _≤_}
 use mathlib.Core.List.{List, [], _∷_, map}
 use lib.Dec.{leb}
 use lib.ListN.{length}
@@ -31,14 +31,20 @@ abbrev pub Short : List (List ℕ) → Type 0
 Short [] = Unit {0}
 Short (w ∷ ws) = (length w ≤ desk .question) × Short ws
 
--- none of the results, which get this number, is too long, and there is room for them from `at` on
+-- none of the results, which get this number, is too long, there is room for them from `at` on, and they are no more than a lent slice holds
 pub record Ready (number : ℕ) (ws : List (List ℕ)) (out : List ℕ) (at : ℕ) : Type 0 where
   pub short : Short ws
   pub room : at + length (inFrames number ws) ≤ length out
+  pub low : length (inFrames number ws) ≤ desk .room
 
 -- one more of l words; past a slice's room there is no need to count on
 abbrev pub grown : ℕ → ℕ → ℕ
 grown n l = pick (leb n (desk .room)) (n + frame + l) n
+
+-- m more of l words each
+abbrev pub grownBy : ℕ → ℕ → ℕ → ℕ
+grownBy zero n l = n
+grownBy (suc m) n l = grownBy m (grown n l) l
 
 -- n words and those of the results
 abbrev pub sizedFrom : ℕ → List (List ℕ) → Size

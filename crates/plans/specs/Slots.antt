@@ -4,6 +4,7 @@ use mathlib.Core.List.{List, [], _∷_}
 use lib.Dec.{eqb, ltb}
 use lib.ListN.{length}
 use Rattle.language.specs.Kinds.{pick}
+use Rattle.language.specs.Trees.{Hedge, ε, tvar, hvar, node}
 use Rattle.plans.specs.declared.Piece.{Piece}
 use Rattle.plans.specs.declared.Piece.the-variants.{Copy}
 use Rattle.plans.specs.declared.Slot.{Slot}
@@ -60,3 +61,10 @@ forthIn n i = pick (ltb i n) (i + 1) i
 -- a part of k without its first and its last word
 abbrev pub innerOf : List ℕ → ℕ → ℕ → Within
 innerOf k from to = record { from = forthIn (length k) from; to = to - 1 }
+
+-- the children of a single term
+abbrev pub childrenOf : Hedge → Hedge
+childrenOf ε = ε
+childrenOf (tvar x r) = ε
+childrenOf (hvar p r) = ε
+childrenOf (node f c r) = c

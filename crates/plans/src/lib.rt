@@ -3,13 +3,14 @@ ghost use Prim.Native.Nat.{ℕ, _-_, _≤_};
 ghost use mathlib.Core.Path.{_≡_};
 ghost use lib.ListN.{length};
 ghost use Rattle.language.specs.Limits.{desk};
-ghost use Rattle.plans.specs.Sizes.{grown};
+ghost use Rattle.plans.specs.Sizes.{grown, grownBy};
 ghost use Rattle.plans.specs.Slots.{fullRecipe, fewRecipe, forthIn, innerOf};
 use frames::FRAME;
 use language::limits::ROOM;
 
 // A piece of a result: one word; a part as it is; a part under the substitution; a part up to the cut as it is;
-// a part from the cut on under the substitution; for each word p of a part the equation p = ε.
+// a part from the cut on under the substitution; for each word p of a part the equation p = ε; so many elements from a place on in the order of the
+// result's number; a part with the symbol of that number for the word at `old`.
 pub enum Piece {
     Word(u16),
     Copy(usize, usize),
@@ -17,6 +18,8 @@ pub enum Piece {
     ToCut(usize),
     PutFromCut(usize),
     Each(usize, usize),
+    Ordered(usize, usize),
+    Named(usize, usize),
 }
 
 pub struct Slot {
@@ -31,12 +34,15 @@ pub struct Recipe {
     pub new: usize,
 }
 
-// The results: none; one, at a cut; two; one for each of so many cuts, element by element.
+// The results: none; one, at a cut; two; one for each of so many cuts, element by element; one for each order of so many elements; one for each of so
+// many symbols. Of the last two kinds each has its number.
 pub enum Ways {
     Drop,
     One(usize),
     Two,
     Cuts(usize, usize),
+    Orders(usize),
+    Names(u16),
 }
 
 pub struct Plan {
@@ -164,4 +170,21 @@ pub fn grow(n: usize, one: usize) -> usize
     ensures { λ r. ⌜ r ≡ grown n one ⌝ }
 {
     if n <= ROOM { n + FRAME + one } else { n }
+}
+
+// So many results of one length.
+pub fn grow_by(times: usize, one: usize) -> usize
+    requires { ⌜ one ≤ desk .question ⌝ }
+    ensures { λ r. ⌜ r ≡ grownBy times 0 one ⌝ }
+{
+    let mut n = 0;
+    let mut left = times;
+    while left != 0 {
+        if ROOM < n {
+            return n;
+        }
+        n = grow(n, one);
+        left -= 1;
+    }
+    n
 }

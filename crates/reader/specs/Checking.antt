@@ -1,5 +1,5 @@
 -- What the checks of a question answer, in terms of the definition of a question.
-use Prim.Native.Nat.{ℕ, _+_}
+use Prim.Native.Nat.{ℕ, _+_, _/_, _%_}
 use mathlib.Core.List.{List, [], _∷_}
 use lib.ListN.{getD}
 use Rattle.language.specs.Limits.{Limits}
@@ -16,10 +16,10 @@ use Rattle.outcomes.specs.declared.Checked.the-variants.{Fine, Refused}
 
 -- the first five words
 abbrev pub headerOf : List ℕ → Header
-headerOf ws = record { symbols = getD ws 0 0; terms = getD ws 1 0; hedges = getD ws 2 0; functions = getD ws 3 0; alternatives = getD ws 4 0 }
+headerOf ws = record { symbols = getD ws 0 0 % 256; unordered = getD ws 0 0 / 256; terms = getD ws 1 0; hedges = getD ws 2 0; functions = getD ws 3 0; alternatives = getD ws 4 0 }
 
 abbrev pub countsIn : Header → Counts
-countsIn h = record { symbols = h .symbols; terms = h .terms; hedges = h .hedges; functions = h .functions }
+countsIn h = record { symbols = h .symbols; unordered = h .unordered; terms = h .terms; hedges = h .hedges; functions = h .functions }
 
 -- the place of the first undeclared number in words that stand from `at` on
 unfoldable pub firstUndeclared : Limits → Counts → ℕ → List ℕ → Scan

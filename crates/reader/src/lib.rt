@@ -91,9 +91,10 @@ fn read_all(w: &[u16], n: u16) -> Read
     Read::Next(from)
 }
 
-// The first five words of a question: how many of each are declared, and how many conjunctions follow.
+// The first five words of a question: how many of each are declared, how many of the symbols are unordered, and how many conjunctions follow.
 pub struct Header {
     pub symbols: u16,
+    pub unordered: u16,
     pub terms: u16,
     pub hedges: u16,
     pub functions: u16,
@@ -105,7 +106,8 @@ pub fn read_header(w: &[u16]) -> Header
     ensures { λ r. ⌜ r ≡ headerOf (now (w .entry)) ⌝ }
 {
     Header {
-        symbols: w[0],
+        symbols: w[0] % 256,
+        unordered: w[0] / 256,
         terms: w[1],
         hedges: w[2],
         functions: w[3],
@@ -121,6 +123,9 @@ fn counts_fit(h: Header) -> bool
         return false;
     }
     if EACH < h.symbols {
+        return false;
+    }
+    if h.symbols < h.unordered {
         return false;
     }
     if EACH < h.terms {

@@ -2,14 +2,20 @@
 use mathlib.Core.Path.{_≡_, refl, sym, subst, ap, _∙_}
 use mathlib.Core.Bool.{Bool, true, false}
 use mathlib.Core.List.{List, [], _∷_, map}
-use Prim.Native.Nat.{ℕ, suc, _-_, _<_, _≤_}
+use Prim.Native.Nat.{ℕ, zero, suc, _+_, _*_, _-_, _<_, _≤_}
+use native.Mathlib.Decide.{decLe}
+use native.Mathlib.Numerals.{add-one}
 use native.Mathlib.Omega.{arith}
 use lib.Dec.{leb}
-use lib.ListN.{length}
+use lib.ListN.{length, length-append}
 use borrow.Author.Tests.{le-leb, lt-leb}
 use Rattle.language.specs.Limits.{desk}
 use Rattle.language.specs.Kinds.{pick}
-use Rattle.plans.specs.Results.{made}
+use Rattle.meaning.specs.Values.{numbers}
+use Rattle.rules.specs.Elements.{factorial}
+use Rattle.orders.specs.Orders.{plenty, someOrders}
+use Rattle.orders.proofs.Orders.{counted-orders, orders-many}
+use Rattle.plans.specs.Results.{made, numbered}
 use Rattle.words.specs.Spans.{elementEnd, places}
 use Rattle.frames.specs.Frames.{inFrame, inFrames}
 use Rattle.plans.specs.Sizes.{Short, grown, sizedFrom}
@@ -80,3 +86,39 @@ module _ (k : List ℕ) (r : Recipe) (n c : ℕ) where
 
     pub cuts-short : Short (cuts k r n c) → (length (made k r c) ≤ desk .question) × Short (cuts k r (n - 1) d)
     cuts-short s = subst Short cuts-cons s
+
+-- ---- a result for each number
+abbrev pub alike : List ℕ → Recipe → ℕ → ℕ → List (List ℕ)
+alike k r i n = map (numbered k r 0) (numbers i n)
+
+module _ (k : List ℕ) (r : Recipe) (i n : ℕ) where
+  pub alike-none : n ≤ i → alike k r i (n - i) ≡ []
+  alike-none h = let z : n - i ≡ 0 = omega arith in ap (alike k r i) z
+
+  module _ (h : i < n) where
+    alike-cons : alike k r i (n - i) ≡ numbered k r 0 i ∷ alike k r (i + 1) (n - (i + 1))
+    alike-cons = let z : n - i ≡ suc (n - (i + 1)) = omega arith in ap (alike k r i) z ∙ ap (λ j. numbered k r 0 i ∷ alike k r j (n - (i + 1))) (sym (add-one i))
+
+    pub alike-split : (number : ℕ) → Split (inFrames number (alike k r i (n - i))) (inFrame number (numbered k r 0 i)) (inFrames number (alike k r (i + 1) (n - (i + 1))))
+    alike-split number = record { eq = ap (inFrames number) alike-cons }
+
+    pub alike-short : Short (alike k r i (n - i)) → (length (numbered k r 0 i) ≤ desk .question) × Short (alike k r (i + 1) (n - (i + 1)))
+    alike-short s = subst Short alike-cons s
+
+-- all of them from the first on
+pub alike-all : (k : List ℕ) (r : Recipe) (n : ℕ) → alike k r 0 n ≡ alike k r 0 (n - 0)
+alike-all k r n = let z : n ≡ n - 0 = omega arith in ap (alike k r 0) z
+
+-- a room has frames for so many only
+pub alike-few : (k : List ℕ) (r : Recipe) (number n i : ℕ) → 2 * n ≤ length (inFrames number (alike k r i n))
+alike-few k r number zero i = omega arith
+alike-few k r number (suc n) i =
+    omega (arith, alike-few k r number n (suc i), length-append (inFrame number (numbered k r 0 i)) (inFrames number (alike k r (suc i) n)))
+
+-- so they are counted whole
+pub orders-few : (n : ℕ) → factorial n < plenty → {c : ℕ} → c ≡ someOrders n → factorial n ≡ c
+orders-few n h {c} e = go (decLe n 7)
+  where
+    go : Dec (n ≤ 7) → factorial n ≡ c
+    go (yes p) = sym (counted-orders n p e)
+    go (no p) = let m = orders-many n (omega arith) in absurd (omega arith)

@@ -84,7 +84,7 @@ fits-past number ws m e h = let x = sized-fits ws m e .past number h in omega ar
 
 -- what the writer asks
 pub fits-ready : (number : ℕ) (ws : List (List ℕ)) (m : ℕ) → sized ws ≡ Fits m → m ≤ desk .room → (out : List ℕ) (at : ℕ) → at + m ≤ length out → Ready number ws out at
-fits-ready number ws m e h out at r = record { short = sized-fits ws m e .short; room = let x = fits-exact number ws m e h in omega arith }
+fits-ready number ws m e h out at r = record { short = sized-fits ws m e .short; room = let x = fits-exact number ws m e h in omega arith; low = let x = fits-exact number ws m e h in omega arith }
 
 -- ---- `Over`
 over-from : (ws : List (List ℕ)) (n : ℕ) → sizedFrom n ws ≡ Over → tooLong ws ≡ true

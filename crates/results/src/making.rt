@@ -1,11 +1,12 @@
 // One result: its length, and its words in their frame.
-ghost use Prim.Native.Nat.{_+_, _≤_};
+ghost use Prim.Native.Nat.{_+_, _≤_, _<_};
 ghost use mathlib.Core.Path.{_≡_};
 ghost use lib.ListN.{length};
 ghost use lib.Seq.{slice};
 ghost use Rattle.frames.specs.Frames.{inFrame};
 ghost use Rattle.language.specs.Limits.{desk};
-ghost use Rattle.plans.specs.Results.{pieceWords, made};
+ghost use Rattle.orders.specs.Orders.{plenty};
+ghost use Rattle.plans.specs.Results.{pieceWords, numbered, made};
 ghost use Rattle.slices.specs.Written.{Wrote};
 ghost use Rattle.results.specs.Marked.{Marked, bare};
 use super::emptying::empty_each;
@@ -16,6 +17,9 @@ use super::replacing::put;
 use super::replacing::put_len;
 use frames::FRAME;
 use frames::write_frame;
+use orders::order_len;
+use orders::write_named;
+use orders::write_order;
 use plans::Piece;
 use plans::Recipe;
 use plans::Slot;
@@ -24,7 +28,7 @@ use slices::part_len;
 
 fn piece_len(k: &[u16], s: Swap, cut: usize, m: Marks, p: Piece) -> usize
     requires { ⌜ Marked (slice (s .old) (s .until) (now k)) m × (length (now k) ≤ desk .question) ⌝ }
-    ensures { λ n. ⌜ n ≡ length (pieceWords (now (k .entry)) (bare s) cut p) ⌝ }
+    ensures { λ n. ⌜ n ≡ length (pieceWords (now (k .entry)) (bare s) cut 0 p) ⌝ }
 {
     match p {
         Piece::Word(_) => 1,
@@ -33,6 +37,8 @@ fn piece_len(k: &[u16], s: Swap, cut: usize, m: Marks, p: Piece) -> usize
         Piece::ToCut(from) => part_len(k, from, cut),
         Piece::PutFromCut(to) => put_len(k, s, cut, m, cut, to),
         Piece::Each(from, to) => 4 * part_len(k, from, to),
+        Piece::Ordered(from, n) => order_len(k, from, n),
+        Piece::Named(from, to) => part_len(k, from, to),
     }
 }
 
@@ -40,13 +46,14 @@ fn write_piece(
     k: &[u16],
     s: Swap,
     cut: usize,
+    nth: usize,
     m: Marks,
     p: Piece,
     out: &mut [u16],
     at: usize,
 ) -> usize
-    requires { ⌜ Marked (slice (s .old) (s .until) (now k)) m × (at + length (pieceWords (now k) (bare s) cut p) ≤ length (now out)) ⌝ }
-    ensures { λ e. ⌜ Wrote (now (out .entry)) at (pieceWords (now (k .entry)) (bare s) cut p) (now (out .exit)) e ⌝ }
+    requires { ⌜ Marked (slice (s .old) (s .until) (now k)) m × (at + length (pieceWords (now k) (bare s) cut nth p) ≤ length (now out)) × (nth < plenty) ⌝ }
+    ensures { λ e. ⌜ Wrote (now (out .entry)) at (pieceWords (now (k .entry)) (bare s) cut nth p) (now (out .exit)) e ⌝ }
 {
     match p {
         Piece::Word(x) => {
@@ -58,6 +65,8 @@ fn write_piece(
         Piece::ToCut(from) => copy(k, from, cut, out, at),
         Piece::PutFromCut(to) => put(k, s, cut, m, cut, to, out, at),
         Piece::Each(from, to) => empty_each(k, from, to, out, at),
+        Piece::Ordered(from, n) => write_order(k, from, n, nth, out, at),
+        Piece::Named(from, to) => write_named(k, from, to, s.old, nth, out, at),
     }
 }
 
@@ -84,10 +93,17 @@ pub(crate) fn made_len(k: &[u16], r: Recipe, cut: usize) -> usize
     n
 }
 
-// The words of a result.
-pub(crate) fn write_made(k: &[u16], r: Recipe, cut: usize, out: &mut [u16], at: usize) -> usize
-    requires { ⌜ at + length (made (now k) r cut) ≤ length (now out) ⌝ }
-    ensures { λ e. ⌜ Wrote (now (out .entry)) at (made (now (k .entry)) r cut) (now (out .exit)) e ⌝ }
+// The words of the result of that number.
+pub(crate) fn write_made(
+    k: &[u16],
+    r: Recipe,
+    cut: usize,
+    nth: usize,
+    out: &mut [u16],
+    at: usize,
+) -> usize
+    requires { ⌜ (at + length (numbered (now k) r cut nth) ≤ length (now out)) × (nth < plenty) ⌝ }
+    ensures { λ e. ⌜ Wrote (now (out .entry)) at (numbered (now (k .entry)) r cut nth) (now (out .exit)) e ⌝ }
 {
     let slots = r.slots;
     let s = Swap {
@@ -101,7 +117,7 @@ pub(crate) fn write_made(k: &[u16], r: Recipe, cut: usize, out: &mut [u16], at: 
     while i < 12 {
         let slot = slots[i];
         let p = slot.piece;
-        e = write_piece(k, s, cut, m, p, out, e);
+        e = write_piece(k, s, cut, nth, m, p, out, e);
         i += 1;
     }
     e
@@ -112,15 +128,16 @@ pub(crate) fn write_framed(
     k: &[u16],
     r: Recipe,
     cut: usize,
+    nth: usize,
     number: u16,
     out: &mut [u16],
     at: usize,
 ) -> usize
-    requires { ⌜ (length (made (now k) r cut) ≤ desk .question) × (at + length (inFrame number (made (now k) r cut)) ≤ length (now out)) ⌝ }
-    ensures { λ e. ⌜ Wrote (now (out .entry)) at (inFrame number (made (now (k .entry)) r cut)) (now (out .exit)) e ⌝ }
+    requires { ⌜ (length (numbered (now k) r cut nth) ≤ desk .question) × (at + length (inFrame number (numbered (now k) r cut nth)) ≤ length (now out)) × (nth < plenty) ⌝ }
+    ensures { λ e. ⌜ Wrote (now (out .entry)) at (inFrame number (numbered (now (k .entry)) r cut nth)) (now (out .exit)) e ⌝ }
 {
     let start = at + FRAME;
-    let e = write_made(k, r, cut, out, start);
+    let e = write_made(k, r, cut, nth, out, start);
     write_frame(out, at, e - start, number);
     e
 }

@@ -1,16 +1,23 @@
 -- Each rule's results are fine where the literal is.
+use Prim.Native.Nat.{_<_, _≤_}
 use mathlib.Core.Path.{_≡_, subst}
+use native.Mathlib.Omega.{arith}
+use Rattle.language.specs.declared.Sym.{Sym}
 use Rattle.language.specs.Limits.{Limits}
+use Rattle.language.specs.declared.Signature.{Signature}
 use Rattle.language.specs.Trees.{Functor, symbol, Hedge, ε, hvar, Expr, Literal, Conj}
 use Rattle.language.specs.Fine.{fineFunctor, fineHedge, fineExpr, fineLiteral, fineConj}
 use Rattle.rules.specs.Looks.{firstTerm, firstRun, loneTerm, loneT, loneH, loneNode, asSymbol, asBlank, inside, upTo, cuts, asCat, asAlt, asStar, asOver}
+use Rattle.rules.specs.Elements.{struck, orders}
 use Rattle.rules.specs.Expressions.{linear}
 use Rattle.rules.specs.Reply.{PairRule}
-use Rattle.rules.specs.Rules.{Branch, plain, elims, Answer, EqRule, InRule, Rule, onEqn, onMem, onPair, rules, R1, R2, Fold, F1, F2, F3, F4, F5, F6, F7, Del1, Del3, D2, D0, E1, E2, E3, E4, E5, E6, M1, M2, M3, M4, M5, M6, M7, M10, M11, cutResult, monomialResult}
+use Rattle.rules.specs.Rules.{Branch, plain, elims, Answer, EqRule, InRule, Rule, onEqn, onMem, onPair, rules, R1, R2, Fold, F1, F2, F3, F4, F5, F6, F7, Del1, Del2, Del3, D1, D2, D0, E1, E2, E3, E4, E5, E6, E7, M1, M2, M3, M4, M5, M6, M7, M10, M11, M12, orderResult, orderMember, everySymbol, namedResult, cutResult, monomialResult}
 use Rattle.rules.specs.Each.{Each}
 use Rattle.rules.proofs.Each.{_also_, each-map}
 use Rattle.rules.proofs.Answers.{Answers, look, test, answers}
 use Rattle.rules.proofs.Looks.{loneT-is, loneH-is, loneNode-is, loneTerm-is, firstTerm-is, firstRun-is, asSymbol-is, asBlank-is, inside-is, upTo-is, asCat-is, asAlt-is, asStar-is, asOver-is}
+use Rattle.rules.proofs.Elements.{struck-is, without-keeps, orders-keep}
+use Rattle.rules.proofs.Symbols.{each-symbol}
 use Rattle.rules.proofs.Steps.{Gives}
 use Rattle.rules.proofs.Folding.{Struck, here, further, fold-is}
 use Rattle.rules.proofs.FineParts.{FineSubst, fine-join, fine-both, FinePair, fine-cuts, fine-vanish, FineMonomial, fine-linear, fine-setT, fine-setH, fine-setF, fine-emptied}
@@ -66,10 +73,29 @@ module _ (L : Limits) where
       look (firstRun l) (firstRun-is l) λ a e. look (firstRun r) (firstRun-is r) λ b d. test _ λ _ _.
       answers (((like e p .1, like d q .1), tt), tt)
 
+  Del2-fine : (σ : Signature) → FineEqn (Del2 σ)
+  Del2-fine σ K l r p q =
+      look (loneNode l) (loneNode-is l) λ a e. look (loneNode r) (loneNode-is r) λ b d.
+      look (asSymbol (a .0)) (asSymbol-is (a .0)) λ f s. look (asSymbol (b .0)) (asSymbol-is (b .0)) λ _ _. test _ λ _ _. test _ λ _ _.
+      look (struck (a .1) (b .1)) (struck-is (a .1) (b .1)) λ c w.
+      let g = named s (like e p .0) in
+      let x = without-keeps (fineHedge L) (fine-join L) (fine-both L) (w .shared) (a .1) (c .0) (w .left) (like e p .1) .1 in
+      let y = without-keeps (fineHedge L) (fine-join L) (fine-both L) (w .shared) (b .1) (c .1) (w .right) (like d q .1) .1 in
+      answers ((((g, x, tt), (g, y, tt)), tt), tt)
+
   Del3-fine : FineEqn Del3
   Del3-fine K l r p q =
       look (loneH l) (loneH-is l) λ v _. look (inside v r) (inside-is v r) λ a e.
       let i = fine-both L (a .0) (hvar v (a .1)) (like e q) in answers (((i .0, tt), ((i .1 .1, tt), tt)), tt)
+
+  orders-fine : (h : Hedge) → fineHedge L h → Each (fineHedge L) (orders h)
+  orders-fine = orders-keep (fineHedge L) (fine-join L) (fine-both L) tt
+
+  D1-fine : (σ : Signature) → FineEqn (D1 σ)
+  D1-fine σ K l r p q =
+      look (loneNode l) (loneNode-is l) λ a e. look (loneNode r) (loneNode-is r) λ b d.
+      look (asSymbol (a .0)) (asSymbol-is (a .0)) λ _ _. look (asSymbol (b .0)) (asSymbol-is (b .0)) λ _ _. test _ λ _ _. test _ λ _ _. test _ λ _ _. test _ λ _ _.
+      answers (each-map (fineHedge L) FineBranch (orderResult (a .1)) (λ t f. ((like e p .1, f), tt)) (orders (b .1)) (orders-fine (b .1) (like d q .1)))
 
   D2-fine : FineEqn D2
   D2-fine K l r p q =
@@ -78,9 +104,9 @@ module _ (L : Limits) where
       let j = fine-both L (b .0) (b .1) (like (d .0) q) in
       answers (((i .0, j .0), ((i .1, j .1), tt)), tt)
 
-  D0-fine : FineEqn D0
-  D0-fine K l r p q =
-      look (loneNode l) (loneNode-is l) λ a e. look (loneNode r) (loneNode-is r) λ b d. test _ λ _ _.
+  D0-fine : (σ : Signature) → FineEqn (D0 σ)
+  D0-fine σ K l r p q =
+      look (loneNode l) (loneNode-is l) λ a e. look (loneNode r) (loneNode-is r) λ b d. test _ λ _ _. test _ λ _ _.
       answers (((like e p .1, like d q .1), tt), tt)
 
   E1-fine : FineEqn E1
@@ -119,6 +145,18 @@ module _ (L : Limits) where
       test _ λ _ _. test _ λ _ _.
       let f = like d q .0 in
       answers (((((named g (like e p .0), tt, tt), (f, tt, tt)), tt), (((f, like e p .1, tt), (f, like d q .1, tt)), tt), fine-setF L X (b .0) f), tt)
+
+  -- a symbol that it tries is fine where the declared symbols are
+  E7-fine : (σ : Signature) → σ .symbols ≤ L .each → FineEqn (E7 σ)
+  E7-fine σ few K l r p q =
+      look (loneNode l) (loneNode-is l) λ a e. look (asBlank (a .0)) (asBlank-is (a .0)) λ X g.
+      look (loneNode r) (loneNode-is r) λ b d. look (asBlank (b .0)) (asBlank-is (b .0)) λ _ _. test _ λ _ _. test _ λ _ _. test _ λ _ _.
+      answers (each-map Fine FineBranch (namedResult X (a .1) (b .1))
+      (λ f i. ((((named g (like e p .0), tt, tt), (i, tt, tt)), tt), (((i, like e p .1, tt), (i, like d q .1, tt)), tt), fine-setF L X (symbol f) i))
+      (everySymbol σ) (each-symbol σ Fine (λ f i. omega (arith, i, few))))
+    where
+      Fine : Sym → Type 0
+      Fine f = f .0 < L .each
 
   -- ---- memberships
 
@@ -180,10 +218,16 @@ module _ (L : Limits) where
       let f = of d q .0 in
       answers (((((named n (like e p .0), tt, tt), (f, tt, tt)), tt), (((f, like e p .1, tt), q), tt), fine-setF L X (symbol (g .0)) f), tt)
 
-  M11-fine : FineMem M11
-  M11-fine K h R p q =
-      look (loneNode h) (loneNode-is h) λ a e. look (asSymbol (a .0)) (asSymbol-is (a .0)) λ _ _. look (asOver R) (asOver-is R) λ g d. test _ λ _ _.
+  M11-fine : (σ : Signature) → FineMem (M11 σ)
+  M11-fine σ K h R p q =
+      look (loneNode h) (loneNode-is h) λ a e. look (asSymbol (a .0)) (asSymbol-is (a .0)) λ _ _. look (asOver R) (asOver-is R) λ g d. test _ λ _ _. test _ λ _ _.
       answers (((like e p .1, of d q .1), tt), tt)
+
+  M12-fine : (σ : Signature) → FineMem (M12 σ)
+  M12-fine σ K h R p q =
+      look (loneNode h) (loneNode-is h) λ a e. look (asSymbol (a .0)) (asSymbol-is (a .0)) λ _ _. look (asOver R) (asOver-is R) λ g d.
+      test _ λ _ _. test _ λ _ _. test _ λ _ _.
+      answers (each-map (fineHedge L) FineBranch (orderMember (g .1)) (λ t f. ((f, of d q .1), tt)) (orders (a .1)) (orders-fine (a .1) (like e p .1)))
 
   -- ---- two literals
 
@@ -201,12 +245,12 @@ module _ (L : Limits) where
   RuleFine (onMem rule) = FineMem rule
   RuleFine (onPair rule) = FineBehind rule
 
-  pub each-rule-fine : Each RuleFine rules
-  each-rule-fine =
+  pub each-rule-fine : (σ : Signature) → σ .symbols ≤ L .each → Each RuleFine (rules σ)
+  each-rule-fine σ few =
       R1-fine also R2-fine also Fold-fine
       also F1-fine also F2-fine also F3-fine also F4-fine also F5-fine also F6-fine also F7-fine
-      also Del1-fine also Del3-fine
-      also D2-fine also D0-fine
-      also E1-fine also E2-fine also E3-fine also E4-fine also E5-fine also E6-fine
-      also M1-fine also M2-fine also M3-fine also M4-fine also M5-fine also M6-fine also M7-fine also M10-fine also M11-fine
+      also Del1-fine also Del2-fine σ also Del3-fine
+      also D1-fine σ also D2-fine also D0-fine σ
+      also E1-fine also E2-fine also E3-fine also E4-fine also E5-fine also E6-fine also E7-fine σ few
+      also M1-fine also M2-fine also M3-fine also M4-fine also M5-fine also M6-fine also M7-fine also M10-fine also M11-fine σ also M12-fine σ
       also tt

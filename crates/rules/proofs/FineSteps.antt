@@ -1,8 +1,10 @@
 -- A step of a fine conjunction has fine results.
+use Prim.Native.Nat.{_≤_}
 use mathlib.Core.Path.{_≡_}
 use mathlib.Core.List.{List, _∷_, _++_}
 use mathlib.Core.Option.{none, some}
 use Rattle.language.specs.Limits.{Limits}
+use Rattle.language.specs.declared.Signature.{Signature}
 use Rattle.language.specs.Trees.{Literal, eqn, mem, Conj}
 use Rattle.language.specs.Fine.{fineLiteral, fineConj}
 use Rattle.rules.specs.Substitution.{putC}
@@ -44,5 +46,5 @@ module _ (L : Limits) where
   fine-rule rule f = kept-at-sides (fineConj L) rule λ before l behind p.
       let (q, r) = fine-split L before (l ∷ behind) p in fine-sides rule f before l behind q (r .0) (r .1)
 
-  pub step-fine : (k : Conj) (ks : List Conj) → fineConj L k → step k ≡ results ks → Each (fineConj L) ks
-  step-fine k ks p e = step-at-sides (Kept (fineConj L)) (each-imp (RuleFine L) (AtSides (Kept (fineConj L))) fine-rule rules (each-rule-fine L)) k ks e p
+  pub step-fine : (σ : Signature) → σ .symbols ≤ L .each → (k : Conj) (ks : List Conj) → fineConj L k → step σ k ≡ results ks → Each (fineConj L) ks
+  step-fine σ few k ks p e = step-at-sides σ (Kept (fineConj L)) (each-imp (RuleFine L) (AtSides (Kept (fineConj L))) fine-rule (rules σ) (each-rule-fine L σ few)) k ks e p

@@ -10,7 +10,7 @@ use Rattle.language.specs.declared.Refusal.the-variants.{ShortSlice, FillingLay
 use Rattle.language.specs.Limits.{Limits}
 use Rattle.language.specs.Kinds.{pick}
 use Rattle.language.specs.Numbers.{placeOf}
-use Rattle.language.specs.Trees.{Counts, Question}
+use Rattle.language.specs.Trees.{Counts, signature, Question}
 use Rattle.language.specs.Question.{laidOut, parts, countsOf, Asked, asks, refuses, askedPlace, readQuestion}
 use Rattle.meaning.specs.Complete.{Complete}
 use Rattle.meaning.specs.Values.{variables, forms, valuesOf, filling, Given, gives, readFilling, fillingWords}
@@ -30,7 +30,7 @@ ran-no-place (finished ls n) h = refl
 ran-no-place (refused r) h = h
 
 of-asked : (L : Limits) (a : Asked) → solvingPlace (solvingOf L a) ≡ askedPlace a
-of-asked L (asks q) = ran-no-place (run L (q .alternatives)) (run-stops-by (λ r. placeOf r ≡ 0) refl refl refl refl L (q .alternatives))
+of-asked L (asks q) = ran-no-place (run L (signature (q .counts)) (q .alternatives)) (run-stops-by (λ r. placeOf r ≡ 0) refl refl refl refl L (signature (q .counts)) (q .alternatives))
 of-asked L (refuses r) = refl
 
 -- the place that reading the question comes to, where the slices are long enough

@@ -4,8 +4,8 @@ use mathlib.Core.Path.{_≡_, refl}
 use mathlib.Core.Bool.{true, false}
 use mathlib.Core.List.{List, [], _∷_, _++_}
 use lib.ListN.{replicate}
-use Rattle.language.specs.declared.Refusal.the-variants.{QuestionLength, NotLiterals, Undeclared}
-use Rattle.language.specs.Limits.{Limits, desk, firstDesk}
+use Rattle.language.specs.declared.Refusal.the-variants.{QuestionLength, CountRange, NotLiterals, Undeclared}
+use Rattle.language.specs.Limits.{Limits, first-apart, desk, firstDesk}
 use Rattle.language.specs.Numbers.{numberOf}
 use Rattle.language.specs.Kinds.{kindOf, within}
 use Rattle.language.specs.Reading.{reading, readHedge, readExpr, readLiteral, readConj}
@@ -15,7 +15,7 @@ use Rattle.meaning.specs.Values.{fillingWords}
 use Rattle.rules.specs.Rules.{_>>=_, check}
 use Rattle.rules.specs.Step.{search, step}
 use Rattle.rules.specs.Solved.{solved}
-use Rattle.rules.specs.Run.{Outcome, finished, refused, runFrom, run}
+use Rattle.rules.specs.Run.{Outcome, finished, refused, runFrom, runBy, run}
 use Rattle.rules.specs.Table as paper
 use Rattle.rules.specs.Answer.{Solving, answered, unread, given-up, answerWords, solving}
 use Rattle.rules.specs.Example.{example}
@@ -44,11 +44,11 @@ P4-answer n = written 1
 
 -- in slices as long as the room, for the desk of today and for the one of which the paper prints it
 pub P4-whole : inWords desk (solving desk (desk .room) (desk .room) P4) ≡ P4-answer 15827
-unfolding solving answerWords readQuestion lengthFits countsFit laidOut parts reading readHedge readExpr readLiteral readConj kindOf within _>>=_ check search step solved runFrom run
+unfolding solving answerWords readQuestion lengthFits countsFit laidOut parts reading readHedge readExpr readLiteral readConj kindOf within _>>=_ check search step solved runFrom runBy run
 P4-whole = refl
 
 pub P4-first : inWords firstDesk (solving firstDesk (firstDesk .room) (firstDesk .room) P4) ≡ P4-answer 7635
-unfolding solving answerWords readQuestion lengthFits countsFit laidOut parts reading readHedge readExpr readLiteral readConj kindOf within _>>=_ check search step solved runFrom run
+unfolding solving answerWords readQuestion lengthFits countsFit laidOut parts reading readHedge readExpr readLiteral readConj kindOf within _>>=_ check search step solved runFrom runBy run
 P4-first = refl
 
 -- ---- the limits
@@ -65,7 +65,7 @@ abbrev pub header : ℕ → ℕ → ℕ → List ℕ
 header symbols hedges end = symbols ∷ 0 ∷ hedges ∷ 0 ∷ 1 ∷ 7 ∷ end ∷ []
 
 abbrev pub fine : ℕ → ℕ → Asked
-fine s h = asks (record { counts = record { symbols = s; terms = 0; hedges = h; functions = 0 }; alternatives = [] })
+fine s h = asks (record { counts = record { symbols = s; unordered = 0; terms = 0; hedges = h; functions = 0 }; alternatives = [] })
 
 -- a question of so many words, and one with that number of symbols and that symbol
 abbrev pub ofLength : ℕ → List ℕ
@@ -95,6 +95,30 @@ pub limits-printed :
 unfolding readQuestion lengthFits countsFit laidOut parts reading readHedge readExpr readLiteral readConj kindOf within declaredWord undeclaredAt
 limits-printed = (refl, refl, refl, refl, refl, refl)
 
+-- ---- the first word
+
+-- a question of no alternative with that first word
+abbrev pub withFirst : ℕ → List ℕ
+withFirst w = w ∷ 0 ∷ 0 ∷ 0 ∷ 0 ∷ 6 ∷ []
+
+abbrev pub ofSymbols : ℕ → ℕ → Asked
+ofSymbols s u = asks (record { counts = record { symbols = s; unordered = u; terms = 0; hedges = 0; functions = 0 }; alternatives = [] })
+
+-- "symbols + 256 times u .. u above the symbols is 3"
+pub first-words-printed :
+    (readQuestion desk (withFirst 1) ≡ ofSymbols 1 0)
+    × (readQuestion desk (withFirst 257) ≡ ofSymbols 1 1)
+    × (readQuestion desk (withFirst 513) ≡ refuses CountRange)
+    × (readQuestion desk (withFirst 256) ≡ refuses CountRange)
+    × (readQuestion desk (withFirst 1028) ≡ ofSymbols 4 4)
+    × (readQuestion desk (withFirst 1284) ≡ refuses CountRange)
+    × (readQuestion desk (withFirst 32896) ≡ ofSymbols 128 128)
+    × (readQuestion desk (withFirst 33152) ≡ refuses CountRange)
+    × (readQuestion desk (withFirst 129) ≡ refuses CountRange)
+    × (readQuestion desk (withFirst 65535) ≡ refuses CountRange)
+unfolding readQuestion lengthFits countsFit laidOut parts reading readHedge readExpr readLiteral readConj kindOf within declaredWord undeclaredAt
+first-words-printed = (refl, refl, refl, refl, refl, refl, refl, refl, refl, refl)
+
 -- ---- the place of the mistake
 
 -- one alternative, or two, with one symbol declared
@@ -121,7 +145,7 @@ mistakes-printed = (refl, refl, refl, refl, refl, refl)
 -- conjunctions of so many words, so much room, so many steps, three lines, and else the first desk's limits
 abbrev pub narrow : ℕ → ℕ → ℕ → Limits
 narrow longest room steps =
-    record { question = longest; room = room; literal = firstDesk .literal; lines = 3; steps = steps; filling = firstDesk .filling; each = firstDesk .each; alternatives = firstDesk .alternatives; apart = firstDesk .apart }
+    record { question = longest; room = room; literal = firstDesk .literal; lines = 3; steps = steps; filling = firstDesk .filling; each = firstDesk .each; alternatives = firstDesk .alternatives; sheets = firstDesk .sheets; apart = firstDesk .apart }
 
 abbrev pub endOf : Outcome → ℕ
 endOf (finished ls n) = 0
@@ -130,13 +154,13 @@ endOf (refused r) = numberOf r
 -- P4's step leaves three conjunctions of 12 words. 7 counts these alone; waiting, each costs "its length plus two", 42 together; as lines, with
 -- a mark and a number, each is 14 words, which stand behind the first 6.
 pub borders :
-    (endOf (run (narrow 12 48 1) (paper.P4 .question)) ≡ 0)
-    × (endOf (run (narrow 11 48 1) (paper.P4 .question)) ≡ 7)
-    × (endOf (run (narrow 12 41 1) (paper.P4 .question)) ≡ 8)
-    × (endOf (run (narrow 12 42 1) (paper.P4 .question)) ≡ 9)
-    × (endOf (run (narrow 12 47 1) (paper.P4 .question)) ≡ 9)
-    × (endOf (run (narrow 11 41 0) (paper.P4 .question)) ≡ 10)
-unfolding _>>=_ check search step runFrom run
+    (endOf (run (narrow 12 48 1) paper.fourOrdered (paper.P4 .question)) ≡ 0)
+    × (endOf (run (narrow 11 48 1) paper.fourOrdered (paper.P4 .question)) ≡ 7)
+    × (endOf (run (narrow 12 41 1) paper.fourOrdered (paper.P4 .question)) ≡ 8)
+    × (endOf (run (narrow 12 42 1) paper.fourOrdered (paper.P4 .question)) ≡ 9)
+    × (endOf (run (narrow 12 47 1) paper.fourOrdered (paper.P4 .question)) ≡ 9)
+    × (endOf (run (narrow 11 41 0) paper.fourOrdered (paper.P4 .question)) ≡ 10)
+unfolding _>>=_ check search step runFrom runBy run
 borders = (refl, refl, refl, refl, refl, refl)
 
 -- ---- the default
@@ -153,5 +177,5 @@ pub defaults-printed :
     × (showing desk true (desk .room) (desk .room) 12 0 (blanks 4) ≡ filled 3000)
     × (showing desk false (desk .room) (desk .room) 12 0 (blanks 1) ≡ filled 3000)
     × (showing desk false (desk .room) (desk .room) 12 0 (blanks 128) ≡ filled 3127)
-unfolding showing solving readQuestion lengthFits countsFit laidOut parts reading readHedge readExpr readLiteral readConj kindOf within _>>=_ check search step solved runFrom run example fillingWords
+unfolding showing solving readQuestion lengthFits countsFit laidOut parts reading readHedge readExpr readLiteral readConj kindOf within _>>=_ check search step solved runFrom runBy run example fillingWords
 defaults-printed = (refl, refl, refl, refl)

@@ -5,6 +5,7 @@ use mathlib.Core.Bool.{Bool, true, false}
 use mathlib.Core.List.{List, [], _∷_, _++_, map, append-assoc, append-nil}
 use native.Mathlib.Nat.{zero-add, add-zero, add-suc, suc-add}
 use native.Mathlib.Omega.{arith}
+use Rattle.language.specs.declared.Signature.{Signature}
 use Rattle.language.specs.Trees.{Literal, eqn, mem, Conj}
 use Rattle.rules.specs.Reply.{Reply, nothing, results, stops}
 use Rattle.rules.specs.Rules.{Rule, onEqn, onMem, onPair, rules}
@@ -112,10 +113,10 @@ module _ (P : Conj → List Conj → Type 0) where
   ruleAt-is swap i zero (rule ∷ rs) p k = literalAt-is swap rule (p .0) i [] k
   ruleAt-is swap i (suc n) (rule ∷ rs) p k = ruleAt-is swap i n rs (p .1) k
 
-  pub named-at-sides : Each (AtSides P) rules → (s : Spot) (k : Conj) (ks : List Conj) → stepAt s k ≡ results ks → P k ks
+  pub named-at-sides : (σ : Signature) → Each (AtSides P) (rules σ) → (s : Spot) (k : Conj) (ks : List Conj) → stepAt σ s k ≡ results ks → P k ks
   unfolding stepAt
-  named-at-sides p s k ks e =
-      gives-results (P k) (ruleAt (s .swapped) (s .literal) (s .rule) rules k) ks (ruleAt-is (s .swapped) (s .literal) (s .rule) rules p k) e
+  named-at-sides σ p s k ks e =
+      gives-results (P k) (ruleAt (s .swapped) (s .literal) (s .rule) (rules σ) k) ks (ruleAt-is (s .swapped) (s .literal) (s .rule) (rules σ) p k) e
 
 -- ---- what is found is the step at the place where it is found
 
@@ -135,11 +136,11 @@ module _ (n : ℕ) (rule : Rule) (whole : Conj) where
       one : (swap : Bool) → Gives AtLiteral (found n i swap (resultsAt swap rule before l k))
       one swap = gives-each AtLiteral _ (resultsAt swap rule before l k) (results-give _ (resultsAt swap rule before l k) (λ ks e. (refl, (rw add-zero at (h 0 swap)) ∙ e)))
 
-module _ (k : Conj) where
+module _ (σ : Signature) (k : Conj) where
   abbrev AtRule : Spot × List Conj → Type 0
-  AtRule f = ruleAt (f .0 .swapped) (f .0 .literal) (f .0 .rule) rules k ≡ results (f .1)
+  AtRule f = ruleAt (f .0 .swapped) (f .0 .literal) (f .0 .rule) (rules σ) k ≡ results (f .1)
 
-  first-here : (n : ℕ) (rs : List Rule) → ((m i : ℕ) (swap : Bool) → ruleAt swap i (n + m) rules k ≡ ruleAt swap i m rs k) → Gives AtRule (first n rs k)
+  first-here : (n : ℕ) (rs : List Rule) → ((m i : ℕ) (swap : Bool) → ruleAt swap i (n + m) (rules σ) k ≡ ruleAt swap i m rs k) → Gives AtRule (first n rs k)
   first-here n [] h = tt
   first-here n (rule ∷ rs) h =
       gives-next AtRule (earliest n rule 0 [] k) _
@@ -148,26 +149,26 @@ module _ (k : Conj) where
       (first-here (suc n) rs (λ m i swap. rw (add-suc, ← suc-add) at (h (suc m) i swap)))
 
 -- What the search finds is the step at the place that it names.
-pub search-named : (k : Conj) (s : Spot) (ks : List Conj) → search k ≡ results (s, ks) → stepAt s k ≡ results ks
+pub search-named : (σ : Signature) (k : Conj) (s : Spot) (ks : List Conj) → search σ k ≡ results (s, ks) → stepAt σ s k ≡ results ks
 unfolding search stepAt
-search-named k s ks e = gives-results (AtRule k) (first 0 rules k) (s, ks) (first-here k 0 rules (λ m i swap. rw zero-add)) e
+search-named σ k s ks e = gives-results (AtRule σ k) (first 0 (rules σ) k) (s, ks) (first-here σ k 0 (rules σ) (λ m i swap. rw zero-add)) e
 
 -- So a step is the step at some place.
-pub step-named : (k : Conj) (ks : List Conj) → step k ≡ results ks → (s : Spot) × (stepAt s k ≡ results ks)
+pub step-named : (σ : Signature) (k : Conj) (ks : List Conj) → step σ k ≡ results ks → (s : Spot) × (stepAt σ s k ≡ results ks)
 unfolding step
-step-named k ks e = named (search k) refl e
+step-named σ k ks e = named (search σ k) refl e
   where
-    named : (m : Found) → search k ≡ m → each (λ (f : Spot × List Conj). f .1) m ≡ results ks → (s : Spot) × (stepAt s k ≡ results ks)
+    named : (m : Found) → search σ k ≡ m → each (λ (f : Spot × List Conj). f .1) m ≡ results ks → (s : Spot) × (stepAt σ s k ≡ results ks)
     named nothing d e = let z : _≡_ {A = ℕ} 0 1 = cc in absurd (omega arith)
-    named (results f) d e = (f .0, search-named k (f .0) ks (d ∙ ap (λ (c : List Conj). results (f .0, c)) (same e)))
+    named (results f) d e = (f .0, search-named σ k (f .0) ks (d ∙ ap (λ (c : List Conj). results (f .0, c)) (same e)))
       where
         same : {A : Type 0} {x y : A} → _≡_ {A = Reply A} (results x) (results y) → x ≡ y
         same e = cc
     named (stops r) d e = let z : _≡_ {A = ℕ} 0 1 = cc in absurd (omega arith)
 
 -- What holds of every rule at every place holds of a step.
-pub step-at-sides : (P : Conj → List Conj → Type 0) → Each (AtSides P) rules → (k : Conj) (ks : List Conj) → step k ≡ results ks → P k ks
-step-at-sides P p k ks e = let (s, d) = step-named k ks e in named-at-sides P p s k ks d
+pub step-at-sides : (σ : Signature) (P : Conj → List Conj → Type 0) → Each (AtSides P) (rules σ) → (k : Conj) (ks : List Conj) → step σ k ≡ results ks → P k ks
+step-at-sides σ P p k ks e = let (s, d) = step-named σ k ks e in named-at-sides P σ p s k ks d
 
 -- ---- no step
 
@@ -190,6 +191,6 @@ first-none k n (rule ∷ rs) e =
     (λ swap before l behind d. earliest-none n rule 0 swap [] before l behind (rw d at a), first-none k (suc n) rs b)
 
 -- no step is no rule at any place
-pub step-none : (k : Conj) → step k ≡ nothing → Each (Idle k) rules
+pub step-none : (σ : Signature) (k : Conj) → step σ k ≡ nothing → Each (Idle k) (rules σ)
 unfolding step search
-step-none k e = first-none k 0 rules (each-nothing _ (first 0 rules k) e)
+step-none σ k e = first-none k 0 (rules σ) (each-nothing _ (first 0 (rules σ) k) e)

@@ -6,12 +6,13 @@ use mathlib.Core.Option.{Option, none, some}
 use lib.Dec.{ltb}
 use Rattle.language.specs.declared.Refusal.{Refusal}
 use Rattle.language.specs.declared.Refusal.the-variants.{LongResult, LongWaiting, LineRoom, StepLimit}
+use Rattle.language.specs.declared.Signature.{Signature}
 use Rattle.language.specs.Limits.{Limits}
 use Rattle.language.specs.Trees.{Literal, eqn, mem, Conj}
 use Rattle.rules.specs.Reply.{Reply, nothing, results, stops}
 use Rattle.rules.specs.Rules.{Answer, Rule, onEqn, onMem, onPair, strike, folded, Fold, rules}
 use Rattle.rules.specs.Step.{orNext, each, placed, resultsAt, found, earliest, first, search, step}
-use Rattle.rules.specs.Run.{Numbered, allOf, numbered, Outcome, finished, refused, turn, anyLong, waitingSize, linesFit, runFrom, run}
+use Rattle.rules.specs.Run.{Numbered, allOf, numbered, Outcome, finished, refused, turn, anyLong, waitingSize, linesFit, runFrom, runBy, run}
 
 module _ (P : Refusal → Type 0) where
   -- P of the refusal, where there is one
@@ -71,9 +72,9 @@ module _ (P : Refusal → Type 0) where
   at-first n (onMem rule ∷ rs) p k = by-next (earliest n (onMem rule) 0 [] k) _ (at-earliest n (onMem rule) tt 0 [] k) (at-first (suc n) rs p k)
   at-first n (onPair rule ∷ rs) p k = by-next (earliest n (onPair rule) 0 [] k) _ (at-earliest n (onPair rule) (p .0) 0 [] k) (at-first (suc n) rs (p .1) k)
 
-  pub step-stops-by : PairsStopBy rules → (k : Conj) → StopsBy (step k)
+  pub step-stops-by : (σ : Signature) → PairsStopBy (rules σ) → (k : Conj) → StopsBy (step σ k)
   unfolding step search
-  step-stops-by p k = by-each _ (first 0 rules k) (at-first 0 rules p k)
+  step-stops-by σ p k = by-each _ (first 0 (rules σ) k) (at-first 0 (rules σ) p k)
 
   Fold-stops : RuleStopsBy (onPair Fold)
   Fold-stops l behind = go (strike l behind)
@@ -83,8 +84,8 @@ module _ (P : Refusal → Type 0) where
       go (some k) = tt
 
 -- No rule of the list has a refusal of its own.
-pub step-never-stops : (k : Conj) → StopsBy (λ _. ⊥) (step k)
-step-never-stops k = step-stops-by (λ _. ⊥) (Fold-stops (λ _. ⊥), tt) k
+pub step-never-stops : (σ : Signature) (k : Conj) → StopsBy (λ _. ⊥) (step σ k)
+step-never-stops σ k = step-stops-by (λ _. ⊥) σ (Fold-stops (λ _. ⊥), tt) k
 
 -- ---- the run
 
@@ -105,26 +106,26 @@ module _ (P : Refusal → Type 0) where
     by-turned nothing s go x h e = e
     by-turned (stops r) s go x h e = absurd s
 
-    by-turn : (L : Limits) (go : List Numbered → List Conj → List Numbered → Outcome)
-        → ((ls : List Numbered) (ks : List Conj) (w : List Numbered) → RunStopsBy (go ls ks w)) → (n : ℕ) (ls w : List Numbered) → RunStopsBy (turn L go n ls w)
-    by-turn L go h n ls [] = tt
-    by-turn L go h n ls (k ∷ w) =
-        by-turned (step (k .literals)) (step-never-stops (k .literals)) (λ ks. go ls ks (allOf (k .number) ks ++ w)) _ (λ ks. h ls ks (allOf (k .number) ks ++ w))
-        (by-lined (linesFit L (ls ++ (k ∷ []))) _ (by-turn L go h n (ls ++ (k ∷ [])) w))
+    by-turn : (σ : Signature) (L : Limits) (go : List Numbered → List Conj → List Numbered → Outcome)
+        → ((ls : List Numbered) (ks : List Conj) (w : List Numbered) → RunStopsBy (go ls ks w)) → (n : ℕ) (ls w : List Numbered) → RunStopsBy (turn L (step σ) go n ls w)
+    by-turn σ L go h n ls [] = tt
+    by-turn σ L go h n ls (k ∷ w) =
+        by-turned (step σ (k .literals)) (step-never-stops σ (k .literals)) (λ ks. go ls ks (allOf (k .number) ks ++ w)) _ (λ ks. h ls ks (allOf (k .number) ks ++ w))
+        (by-lined (linesFit L (ls ++ (k ∷ []))) _ (by-turn σ L go h n (ls ++ (k ∷ [])) w))
 
     by-tested : (b : Bool) (r : Refusal) (x : Outcome) → P r → RunStopsBy x → RunStopsBy (elim b [ true ↦ refused r | false ↦ x ])
     by-tested true r x h e = h
     by-tested false r x h e = e
 
-    by-steps : (L : Limits) (d n : ℕ) (ls w : List Numbered) → RunStopsBy (runFrom L d n ls w)
+    by-steps : (σ : Signature) (L : Limits) (d n : ℕ) (ls w : List Numbered) → RunStopsBy (runFrom L (step σ) d n ls w)
     unfolding runFrom
-    by-steps L zero n ls w = by-turn L _ (λ ms ks v. ten) n ls w
-    by-steps L (suc d) n ls w =
-        by-turn L _
-        (λ ms ks v. by-tested (anyLong L ks) LongResult _ seven (by-tested (ltb (L .room) (waitingSize v)) LongWaiting _ eight (by-steps L d (suc n) ms v)))
+    by-steps σ L zero n ls w = by-turn σ L _ (λ ms ks v. ten) n ls w
+    by-steps σ L (suc d) n ls w =
+        by-turn σ L _
+        (λ ms ks v. by-tested (anyLong L ks) LongResult _ seven (by-tested (ltb (L .room) (waitingSize v)) LongWaiting _ eight (by-steps σ L d (suc n) ms v)))
         n ls w
 
     -- What holds of 7 to 10 holds of the refusal of a run.
-    pub run-stops-by : (L : Limits) (w : List Conj) → RunStopsBy (run L w)
-    unfolding run
-    run-stops-by L w = by-steps L (L .steps) 0 [] (numbered 0 w)
+    pub run-stops-by : (L : Limits) (σ : Signature) (w : List Conj) → RunStopsBy (run L σ w)
+    unfolding run runBy
+    run-stops-by L σ w = by-steps σ L (L .steps) 0 [] (numbered 0 w)

@@ -2,38 +2,38 @@
 use mathlib.Core.Path.{_≡_, refl}
 use mathlib.Core.Bool.{true, false}
 use mathlib.Core.List.{[], _∷_, map}
-use Rattle.language.specs.Trees.{ε, eqn, mem, _⧺_}
+use Rattle.language.specs.Trees.{ε, eqn, mem, isUnordered, anyUnordered, _⧺_}
 use Rattle.rules.specs.Reply.{results}
 use Rattle.rules.specs.Rules.{_>>=_, check}
 use Rattle.rules.specs.Places.{atR1, atFold, atF3, atD0, atE1}
 use Rattle.rules.specs.Step.{search, step}
 use Rattle.rules.specs.Solved.{solved}
-use Rattle.rules.specs.Run.{runFrom, run}
-use Rattle.rules.specs.Table.{report, Case, solve, table, a, b, f, g, x, p, q, aᴱ, bᴱ}
+use Rattle.rules.specs.Run.{runFrom, runBy, run}
+use Rattle.rules.specs.Table.{report, Case, fourOrdered, solveIn, solve, table, a, b, f, g, x, p, q, aᴱ, bᴱ}
 
 pub table-holds : map (λ (c : Case). solve (c .question)) table ≡ map (λ (c : Case). c .answer) table
-unfolding _>>=_ check search step solved runFrom run solve
+unfolding isUnordered anyUnordered _>>=_ check search step solved runFrom runBy run solveIn solve
 table-holds = refl
 
 -- "the first rule below that applies to any literal": D0 at the second, though E1 applies to the first; "the earliest literal"; "the written side
 -- first, then swapped": F3 applies to both, E1 to the other alone.
 pub places-found :
-    (search (eqn x a ∷ eqn (f x) (f b) ∷ []) ≡ results (record { rule = atD0; literal = 1; swapped = false }, (eqn x a ∷ eqn x b ∷ []) ∷ []))
-    × (search (eqn a b ∷ eqn b a ∷ []) ≡ results (record { rule = atF3; literal = 0; swapped = false }, []))
-    × (search (eqn a x ∷ mem x aᴱ ∷ []) ≡ results (record { rule = atE1; literal = 0; swapped = true }, (eqn x a ∷ mem a aᴱ ∷ []) ∷ []))
-unfolding _>>=_ check search
+    (search fourOrdered (eqn x a ∷ eqn (f x) (f b) ∷ []) ≡ results (record { rule = atD0; literal = 1; swapped = false }, (eqn x a ∷ eqn x b ∷ []) ∷ []))
+    × (search fourOrdered (eqn a b ∷ eqn b a ∷ []) ≡ results (record { rule = atF3; literal = 0; swapped = false }, []))
+    × (search fourOrdered (eqn a x ∷ mem x aᴱ ∷ []) ≡ results (record { rule = atE1; literal = 0; swapped = true }, (eqn x a ∷ mem a aᴱ ∷ []) ∷ []))
+unfolding isUnordered anyUnordered _>>=_ check search
 places-found = (refl, refl, refl)
 
 -- The fold: after R1 and R2 and before all others, so at "a = b" twice it comes before F3; "of two literals with the same words the later is
 -- removed", the first later one alone; the words as they stand decide, so that an equation turned round is another literal.
 pub folds-found :
-    (search (mem x aᴱ ∷ mem x aᴱ ∷ []) ≡ results (record { rule = atFold; literal = 0; swapped = false }, (mem x aᴱ ∷ []) ∷ []))
-    × (search (eqn a b ∷ eqn a b ∷ []) ≡ results (record { rule = atFold; literal = 0; swapped = false }, (eqn a b ∷ []) ∷ []))
-    × (search (eqn x a ∷ eqn x a ∷ eqn a a ∷ []) ≡ results (record { rule = atR1; literal = 2; swapped = false }, (eqn x a ∷ eqn x a ∷ []) ∷ []))
-    × (search (mem x bᴱ ∷ mem x aᴱ ∷ eqn a b ∷ mem x aᴱ ∷ mem x aᴱ ∷ [])
+    (search fourOrdered (mem x aᴱ ∷ mem x aᴱ ∷ []) ≡ results (record { rule = atFold; literal = 0; swapped = false }, (mem x aᴱ ∷ []) ∷ []))
+    × (search fourOrdered (eqn a b ∷ eqn a b ∷ []) ≡ results (record { rule = atFold; literal = 0; swapped = false }, (eqn a b ∷ []) ∷ []))
+    × (search fourOrdered (eqn x a ∷ eqn x a ∷ eqn a a ∷ []) ≡ results (record { rule = atR1; literal = 2; swapped = false }, (eqn x a ∷ eqn x a ∷ []) ∷ []))
+    × (search fourOrdered (mem x bᴱ ∷ mem x aᴱ ∷ eqn a b ∷ mem x aᴱ ∷ mem x aᴱ ∷ [])
     ≡ results (record { rule = atFold; literal = 1; swapped = false }, (mem x bᴱ ∷ mem x aᴱ ∷ eqn a b ∷ mem x aᴱ ∷ []) ∷ []))
-    × (search (eqn (f x) (g x) ∷ eqn (g x) (f x) ∷ []) ≡ results (record { rule = atF3; literal = 0; swapped = false }, []))
-unfolding _>>=_ check search
+    × (search fourOrdered (eqn (f x) (g x) ∷ eqn (g x) (f x) ∷ []) ≡ results (record { rule = atF3; literal = 0; swapped = false }, []))
+unfolding isUnordered anyUnordered _>>=_ check search
 folds-found = (refl, refl, refl, refl, refl)
 
 -- "each line shows it (from 0)": the number of the alternative that it descends from, and one without lines is counted
@@ -43,5 +43,5 @@ pub numbers-shown :
     record { isSolved = true; number = 0; literals = eqn x a ∷ [] }
     ∷ record { isSolved = true; number = 2; literals = eqn p ε ∷ eqn q a ∷ [] }
     ∷ record { isSolved = true; number = 2; literals = eqn p a ∷ eqn q ε ∷ [] } ∷ []) 2
-unfolding _>>=_ check search step solved runFrom run solve
+unfolding isUnordered anyUnordered _>>=_ check search step solved runFrom runBy run solveIn solve
 numbers-shown = refl

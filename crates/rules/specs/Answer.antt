@@ -9,7 +9,7 @@ use Rattle.language.specs.declared.Refusal.the-variants.{ShortSlice}
 use Rattle.language.specs.Limits.{Limits}
 use Rattle.language.specs.Numbers.{placeOf}
 use Rattle.language.specs.Kinds.{pick}
-use Rattle.language.specs.Trees.{Conj, Question}
+use Rattle.language.specs.Trees.{Conj, signature, Question}
 use Rattle.language.specs.Writing.{conjWords}
 use Rattle.language.specs.Question.{Asked, asks, refuses, readQuestion}
 use Rattle.meaning.specs.Values.{offsetsOf, joined}
@@ -32,11 +32,15 @@ countOpen (k ∷ ks) = pick (solved (k .literals)) (countOpen ks) (suc (countOpe
 abbrev pub padded : ℕ → List ℕ → List ℕ
 padded n ws = ws ++ replicate (n - length ws) 0
 
--- "Word 0: lines; word 1: open lines; words 2..514: the offset of each line and the end of the last, then zeros; from 515 the lines ..; then zeros"
-unfoldable pub answerWords : Limits → List Numbered → List ℕ
-answerWords L ls =
+-- "Word 0: lines; word 1: open lines; words 2..514: the offset of each line and the end of the last, then zeros; from 515 the lines .."
+abbrev pub answerBody : Limits → List Numbered → List ℕ
+answerBody L ls =
     let ws = map lineWords ls in
-    padded (L .room) (padded (linesAt L) (length ls ∷ countOpen ls ∷ offsetsOf (linesAt L) ws) ++ joined ws)
+    padded (linesAt L) (length ls ∷ countOpen ls ∷ offsetsOf (linesAt L) ws) ++ joined ws
+
+-- "; then zeros"
+unfoldable pub answerWords : Limits → List Numbered → List ℕ
+answerWords L ls = padded (L .room) (answerBody L ls)
 
 unfoldable pub zeros : Limits → List ℕ
 zeros L = replicate (L .room) 0
@@ -72,7 +76,7 @@ ran (finished ls n) = answered ls n
 ran (refused r) = given-up r
 
 abbrev pub solvingOf : Limits → Asked → Solving
-solvingOf L (asks q) = ran (run L (q .alternatives))
+solvingOf L (asks q) = ran (run L (signature (q .counts)) (q .alternatives))
 solvingOf L (refuses r) = unread r
 
 -- for a work and an answer slice of so many words: 1 before 2 to 10

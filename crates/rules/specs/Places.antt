@@ -34,11 +34,17 @@ atF7 = suc atF6
 abbrev pub atDel1 : ℕ
 atDel1 = suc atF7
 
+abbrev pub atDel2 : ℕ
+atDel2 = suc atDel1
+
 abbrev pub atDel3 : ℕ
-atDel3 = suc atDel1
+atDel3 = suc atDel2
+
+abbrev pub atD1 : ℕ
+atD1 = suc atDel3
 
 abbrev pub atD2 : ℕ
-atD2 = suc atDel3
+atD2 = suc atD1
 
 abbrev pub atD0 : ℕ
 atD0 = suc atD2
@@ -61,8 +67,11 @@ atE5 = suc atE4
 abbrev pub atE6 : ℕ
 atE6 = suc atE5
 
+abbrev pub atE7 : ℕ
+atE7 = suc atE6
+
 abbrev pub atM1 : ℕ
-atM1 = suc atE6
+atM1 = suc atE7
 
 abbrev pub atM2 : ℕ
 atM2 = suc atM1
@@ -88,6 +97,9 @@ atM10 = suc atM7
 abbrev pub atM11 : ℕ
 atM11 = suc atM10
 
+abbrev pub atM12 : ℕ
+atM12 = suc atM11
+
 -- no rule applies: the place after the last
 abbrev pub noRule : ℕ
-noRule = suc atM11
+noRule = suc atM12

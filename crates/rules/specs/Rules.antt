@@ -1,15 +1,20 @@
--- The rules R1 to M11 and the fold, each a definition of its own, and their order. A rule says, of one literal among others, what stands for it; or, of a
+-- The rules R1 to M12 and the fold, each a definition of its own, and their order. A rule says, of one literal among others, what stands for it; or, of a
 -- literal and those behind it, what stands for all of these.
+use Prim.Native.Nat.{ℕ}
 use mathlib.Core.Bool.{Bool, true, false, not, _&&_}
 use mathlib.Core.List.{List, [], _∷_, _++_, map}
 use mathlib.Core.Option.{Option, none, some, Option·map}
 use Rattle.language.specs.declared.TermVar.{TermVar}
 use Rattle.language.specs.declared.HedgeVar.{HedgeVar}
 use Rattle.language.specs.declared.FunVar.{FunVar}
+use Rattle.language.specs.declared.Sym.{Sym}
 use Rattle.language.specs.Kinds.{pick}
-use Rattle.language.specs.Trees.{Functor, symbol, fvar, Hedge, ε, tvar, hvar, node, Expr, over, Literal, eqn, mem, Conj, _⧺_, eqH, eqS, eqF, sameWords, sameLiteral, Var, tv, hv, fv, holds, inConj}
+use Rattle.language.specs.declared.Signature.{Signature}
+use Rattle.language.specs.Trees.{Functor, symbol, fvar, Hedge, ε, tvar, hvar, node, Expr, over, Literal, eqn, mem, Conj, isUnordered, anyUnordered, _⧺_, eqH, eqX, eqS, eqF, sameWords, sameLiteral, Var, tv, hv, fv, holds, inConj}
+use Rattle.meaning.specs.Values.{numbers}
 use Rattle.rules.specs.Substitution.{Subst, setT, setH, setF, emptied}
 use Rattle.rules.specs.Looks.{empty, firstTerm, firstRun, loneTerm, loneT, loneH, loneNode, asSymbol, asBlank, hasTerm, allTerms, allRuns, under, inside, upTo, cuts, isEps, asCat, asAlt, asStar, asOver}
+use Rattle.rules.specs.Elements.{struck, disjoint, orders}
 use Rattle.rules.specs.Expressions.{nullable, Monomial, linear}
 use Rattle.rules.specs.Reply.{Reply, nothing, results, PairRule}
 
@@ -149,12 +154,41 @@ Del1 K l r = do
   _ ← check (eqH (a .0) (b .0))
   into (eqn (a .1) (b .1) ∷ [])
 
+-- Del2: f(H1,h,H2) = f(H3,h,H4), f unordered, for the first shared element h: f(H1,H2) = f(H3,H4).
+abbrev pub Del2 : Signature → EqRule
+Del2 σ K l r = do
+  a ← loneNode l
+  b ← loneNode r
+  f ← asSymbol (a .0)
+  g ← asSymbol (b .0)
+  _ ← check (eqS f g)
+  _ ← check (isUnordered σ f)
+  c ← struck (a .1) (b .1)
+  into (eqn (node (symbol f) (c .0) ε) (node (symbol f) (c .1) ε) ∷ [])
+
 -- Del3: lone p = (H1, p, H2), H1 not empty, first such p: H1 = ε, H2 = ε.
 abbrev pub Del3 : EqRule
 Del3 K l r = do
   p ← loneH l
   a ← inside p r
   into (eqn (a .0) ε ∷ eqn (a .1) ε ∷ [])
+
+-- H = T'
+abbrev pub orderResult : Hedge → Hedge → Branch
+orderResult h t = plain (eqn h t ∷ [])
+
+-- D1: f(H) = f(T), f unordered, H and T disjoint: for each permutation T' of T, H = T'.
+abbrev pub D1 : Signature → EqRule
+D1 σ K l r = do
+  a ← loneNode l
+  b ← loneNode r
+  f ← asSymbol (a .0)
+  g ← asSymbol (b .0)
+  _ ← check (eqS f g)
+  _ ← check (isUnordered σ f)
+  _ ← check (allTerms (b .1))
+  _ ← check (disjoint (a .1) (b .1))
+  some (map (orderResult (a .1)) (orders (b .1)))
 
 -- D2: (t1,H1) = (t2,H2), not both rests empty: t1 = t2, H1 = H2.
 abbrev pub D2 : EqRule
@@ -164,12 +198,18 @@ D2 K l r = do
   _ ← check (not (empty (a .1) && empty (b .1)))
   into (eqn (a .0) (b .0) ∷ eqn (a .1) (b .1) ∷ [])
 
--- D0: single terms with the same functor: children are equal.
-abbrev pub D0 : EqRule
-D0 K l r = do
+-- "The same-functor rule remains for ordered symbols, and for a function variable where u is 0"
+abbrev pub keepsOrder : Signature → Functor → Bool
+keepsOrder σ (symbol f) = not (isUnordered σ f)
+keepsOrder σ (fvar X) = not (anyUnordered σ)
+
+-- D0: single terms with the same functor, one that keeps its children in order: children are equal.
+abbrev pub D0 : Signature → EqRule
+D0 σ K l r = do
   a ← loneNode l
   b ← loneNode r
   _ ← check (eqF (a .0) (b .0))
+  _ ← check (keepsOrder σ (a .0))
   into (eqn (a .1) (b .1) ∷ [])
 
 -- where there is a variable, it is in K
@@ -239,6 +279,27 @@ E6 K l r = do
   _ ← check (not (empty (a .1) && empty (b .1)))
   _ ← check (not (eqF (fvar X) (b .0)))
   eliminate (eqn (node (fvar X) ε ε) (node (b .0) ε ε)) (eqn (node (b .0) (a .1) ε) (node (b .0) (b .1) ε) ∷ []) (setF X (b .0))
+
+-- the declared symbols in order
+abbrev pub everySymbol : Signature → List Sym
+everySymbol σ = map (λ (n : ℕ). record { 0 = n }) (numbers 0 (σ .symbols))
+
+-- X() = f(), f(H1) = f(H2)
+abbrev pub namedResult : FunVar → Hedge → Hedge → Sym → Branch
+namedResult X h k f =
+    elims (eqn (node (fvar X) ε ε) (node (symbol f) ε ε) ∷ []) (eqn (node (symbol f) h ε) (node (symbol f) k ε) ∷ []) (setF X (symbol f))
+
+-- E7: X(H1) = X(H2), H1 not H2, where u is not 0: for each symbol f, "all symbols in order", X() = f(), f(H1) = f(H2).
+abbrev pub E7 : Signature → EqRule
+E7 σ K l r = do
+  a ← loneNode l
+  X ← asBlank (a .0)
+  b ← loneNode r
+  Y ← asBlank (b .0)
+  _ ← check (eqX X Y)
+  _ ← check (not (sameWords (a .1) (b .1)))
+  _ ← check (anyUnordered σ)
+  some (map (namedResult X (a .1) (b .1)) (everySymbol σ))
 
 -- p = ε for each place of a hedge variable
 abbrev pub vanish : Hedge → Conj
@@ -311,14 +372,30 @@ M10 K h R = do
   g ← asOver R
   eliminate (eqn (node (fvar X) ε ε) (node (symbol (g .0)) ε ε)) (mem (node (symbol (g .0)) (a .1) ε) R ∷ []) (setF X (symbol (g .0)))
 
--- M11: f(H) in f(R): H in R.
-abbrev pub M11 : InRule
-M11 K h R = do
+-- M11: f(H) in f(R), f ordered: H in R.
+abbrev pub M11 : Signature → InRule
+M11 σ K h R = do
   a ← loneNode h
   f ← asSymbol (a .0)
   g ← asOver R
   _ ← check (eqS f (g .0))
+  _ ← check (not (isUnordered σ f))
   into (mem (a .1) (g .1) ∷ [])
+
+-- T' in R
+abbrev pub orderMember : Expr → Hedge → Branch
+orderMember R t = plain (mem t R ∷ [])
+
+-- M12: f(T) in f(R), f unordered: for each permutation T' of T, T' in R.
+abbrev pub M12 : Signature → InRule
+M12 σ K h R = do
+  a ← loneNode h
+  f ← asSymbol (a .0)
+  g ← asOver R
+  _ ← check (eqS f (g .0))
+  _ ← check (isUnordered σ f)
+  _ ← check (allTerms (a .1))
+  some (map (orderMember (g .1)) (orders (a .1)))
 
 -- ---- the order
 
@@ -327,12 +404,13 @@ pub data Rule : Type 0 where
   onMem : InRule → Rule
   onPair : PairRule → Rule
 
-abbrev pub rules : List Rule
-rules =
+-- the rules, for these symbols
+abbrev pub rules : Signature → List Rule
+rules σ =
     onEqn R1 ∷ onMem R2 ∷ onPair Fold
     ∷ onEqn F1 ∷ onEqn F2 ∷ onEqn F3 ∷ onEqn F4 ∷ onMem F5 ∷ onMem F6 ∷ onMem F7
-    ∷ onEqn Del1 ∷ onEqn Del3
-    ∷ onEqn D2 ∷ onEqn D0
-    ∷ onEqn E1 ∷ onEqn E2 ∷ onEqn E3 ∷ onEqn E4 ∷ onEqn E5 ∷ onEqn E6
-    ∷ onMem M1 ∷ onMem M2 ∷ onMem M3 ∷ onMem M4 ∷ onMem M5 ∷ onMem M6 ∷ onMem M7 ∷ onMem M10 ∷ onMem M11
+    ∷ onEqn Del1 ∷ onEqn (Del2 σ) ∷ onEqn Del3
+    ∷ onEqn (D1 σ) ∷ onEqn D2 ∷ onEqn (D0 σ)
+    ∷ onEqn E1 ∷ onEqn E2 ∷ onEqn E3 ∷ onEqn E4 ∷ onEqn E5 ∷ onEqn E6 ∷ onEqn (E7 σ)
+    ∷ onMem M1 ∷ onMem M2 ∷ onMem M3 ∷ onMem M4 ∷ onMem M5 ∷ onMem M6 ∷ onMem M7 ∷ onMem M10 ∷ onMem (M11 σ) ∷ onMem (M12 σ)
     ∷ []

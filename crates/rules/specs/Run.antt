@@ -7,11 +7,12 @@ use lib.ListN.{length}
 use Rattle.language.specs.declared.Refusal.{Refusal}
 use Rattle.language.specs.declared.Refusal.the-variants.{LongResult, LongWaiting, LineRoom, StepLimit}
 use Rattle.language.specs.Limits.{Limits}
+use Rattle.language.specs.declared.Signature.{Signature}
 use Rattle.language.specs.Trees.{Conj}
 use Rattle.language.specs.Writing.{conjWords}
 use Rattle.rules.specs.Each.{Each}
 use Rattle.rules.specs.Reply.{nothing, results, stops}
-use Rattle.rules.specs.Step.{step}
+use Rattle.rules.specs.Step.{Step, step}
 
 -- ---- which alternative a conjunction descends from
 
@@ -84,23 +85,27 @@ checked L ks w go =
 abbrev pub lined : Limits → List Numbered → (List Numbered → Outcome) → Outcome
 lined L ls go = elim (linesFit L ls) [ true ↦ go ls | false ↦ refused LineRoom ]
 
--- The first waiting conjunction, and what `go` makes of the lines, the results and what waits after a step. "If no rule applies, the conjunction
+-- The first waiting conjunction, by what a step makes of it, and what `go` makes of the lines, the results and what waits after a step. "If no rule applies, the conjunction
 -- becomes the next line; that is no step." "Results stand in the place of the conjunction, in order", and are of its alternative. A rule's own
 -- refusal comes before 10.
-abbrev pub turn : Limits → (List Numbered → List Conj → List Numbered → Outcome) → ℕ → List Numbered → List Numbered → Outcome
-turn L go made lines [] = finished lines made
-turn L go made lines (k ∷ waiting) =
-    elim (step (k .literals)) [
+abbrev pub turn : Limits → Step → (List Numbered → List Conj → List Numbered → Outcome) → ℕ → List Numbered → List Numbered → Outcome
+turn L by go made lines [] = finished lines made
+turn L by go made lines (k ∷ waiting) =
+    elim (by (k .literals)) [
       | results ks ↦ go lines ks (allOf (k .number) ks ++ waiting)
-      | nothing ↦ lined L (lines ++ (k ∷ [])) (λ more. turn L go made more waiting)
+      | nothing ↦ lined L (lines ++ (k ∷ [])) (λ more. turn L by go made more waiting)
       | stops refusal ↦ refused refusal
     ]
 
 -- The steps that are left and those that are made: together they are the ceiling, for a run begins with none made and each step moves one over.
 -- So with none left "10,000 steps [are] made", and if "a rule still applies" it is 10. In a step: 10, 7, 8.
-unfoldable pub runFrom : Limits → ℕ → ℕ → List Numbered → List Numbered → Outcome
-runFrom L zero made lines waiting = turn L (λ _ _ _. refused StepLimit) made lines waiting
-runFrom L (suc left) made lines waiting = turn L (λ more ks wait. checked L ks wait (runFrom L left (suc made) more)) made lines waiting
+unfoldable pub runFrom : Limits → Step → ℕ → ℕ → List Numbered → List Numbered → Outcome
+runFrom L by zero made lines waiting = turn L by (λ _ _ _. refused StepLimit) made lines waiting
+runFrom L by (suc left) made lines waiting = turn L by (λ more ks wait. checked L ks wait (runFrom L by left (suc made) more)) made lines waiting
 
-unfoldable pub run : Limits → List Conj → Outcome
-run L alternatives = runFrom L (L .steps) 0 [] (numbered 0 alternatives)
+-- the run of a step
+unfoldable pub runBy : Limits → Step → List Conj → Outcome
+runBy L by alternatives = runFrom L by (L .steps) 0 [] (numbered 0 alternatives)
+
+unfoldable pub run : Limits → Signature → List Conj → Outcome
+run L σ alternatives = runBy L (step σ) alternatives

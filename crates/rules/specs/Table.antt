@@ -4,6 +4,7 @@ use mathlib.Core.Bool.{Bool, true, false}
 use mathlib.Core.List.{List, [], _∷_, map}
 use Rattle.language.specs.declared.Refusal.{Refusal}
 use Rattle.language.specs.Limits.{desk}
+use Rattle.language.specs.declared.Signature.{Signature}
 use Rattle.language.specs.Trees.{Functor, symbol, fvar, Hedge, ε, tvar, hvar, node, Expr, eps, cat, star, over, Literal, eqn, mem, Conj, _⧺_}
 use Rattle.rules.specs.Solved.{solved}
 use Rattle.rules.specs.Run.{Numbered, Outcome, finished, refused, run}
@@ -25,9 +26,16 @@ abbrev pub reported : Outcome → Report
 reported (finished ls n) = report (map marked ls) n
 reported (refused r) = noReport r
 
--- what the rules make of a question
+-- what the rules make of a question with these symbols
+unfoldable pub solveIn : Signature → List Conj → Report
+solveIn σ q = reported (run desk σ q)
+
+-- four symbols, all of them ordered
+abbrev pub fourOrdered : Signature
+fourOrdered = record { symbols = 4; unordered = 0 }
+
 unfoldable pub solve : List Conj → Report
-solve q = reported (run desk q)
+solve q = solveIn fourOrdered q
 
 -- ---- "a, b, f, g are symbols 0 to 3; p, q hedge variables; a stands for a() and in expressions a(eps)."
 

@@ -21,9 +21,13 @@ pub const AT_F7: usize = AT_F6 + 1;
 
 pub const AT_DEL1: usize = AT_F7 + 1;
 
-pub const AT_DEL3: usize = AT_DEL1 + 1;
+pub const AT_DEL2: usize = AT_DEL1 + 1;
 
-pub const AT_D2: usize = AT_DEL3 + 1;
+pub const AT_DEL3: usize = AT_DEL2 + 1;
+
+pub const AT_D1: usize = AT_DEL3 + 1;
+
+pub const AT_D2: usize = AT_D1 + 1;
 
 pub const AT_D0: usize = AT_D2 + 1;
 
@@ -39,7 +43,9 @@ pub const AT_E5: usize = AT_E4 + 1;
 
 pub const AT_E6: usize = AT_E5 + 1;
 
-pub const AT_M1: usize = AT_E6 + 1;
+pub const AT_E7: usize = AT_E6 + 1;
+
+pub const AT_M1: usize = AT_E7 + 1;
 
 pub const AT_M2: usize = AT_M1 + 1;
 
@@ -57,5 +63,7 @@ pub const AT_M10: usize = AT_M7 + 1;
 
 pub const AT_M11: usize = AT_M10 + 1;
 
+pub const AT_M12: usize = AT_M11 + 1;
+
 // No rule applies: the place after the last.
-pub const NO_RULE: usize = AT_M11 + 1;
+pub const NO_RULE: usize = AT_M12 + 1;

@@ -9,9 +9,10 @@ use lib.Dec.{eqb}
 use lib.ListN.{length, drop, getD, length-append, length-drop}
 use lib.Seq.{slice}
 use Rattle.language.specs.Limits.{desk}
-use Rattle.language.specs.Trees.{Hedge, Expr, eps, cat, alt, star, over, Literal, eqn, mem, Conj, Var, holds}
+use Rattle.language.specs.Trees.{Hedge, Expr, Literal, eqn, mem, Conj, Var, holds}
 use Rattle.language.specs.Writing.{exprWords, literalWords, conjWords}
 use Rattle.language.specs.Fine.{fineLiteral}
+use Rattle.language.proofs.Sizes.{expr-some}
 use Rattle.rules.specs.Solved.{inMember, loneVar, onlyMember}
 use Rattle.rules.proofs.Answers.{Where}
 use Rattle.words.specs.Spans.{member}
@@ -99,13 +100,6 @@ module _ (k : List ℕ) (v : Var) (x : ℕ) (fv : fineVar desk v) (ex : x ≡ va
               }
 
 -- ---- a membership among the other literals
-
-expr-some : (R : Expr) → 0 < length (exprWords R)
-expr-some eps = omega arith
-expr-some (cat a b) = omega arith
-expr-some (alt a b) = omega arith
-expr-some (star a) = omega arith
-expr-some (over f a) = omega arith
 
 module _ (k : List ℕ) (at : ℕ) (before : Conj) (h : Hedge) (R : Expr) (behind : Conj)
     (p : LiteralAt k at before (mem h R) behind) (s : Shape) (q : Shows k s before h R behind) where

@@ -6,6 +6,7 @@ use mathlib.Core.Bool.{Bool}
 use mathlib.Core.List.{List, _∷_, map}
 use lib.ListN.{length, take, drop, replicate, length-replicate}
 use lib.Seq.{sets, slice, sets-eq, take-at}
+use Rattle.language.specs.declared.Signature.{Signature}
 use Rattle.language.specs.Limits.{desk}
 use Rattle.language.specs.declared.Refusal.the-variants.{LongResult, LongWaiting, StepLimit}
 use Rattle.language.specs.Trees.{Literal, Conj}
@@ -15,13 +16,13 @@ use Rattle.rules.specs.Step.{step}
 use Rattle.rules.specs.Places.{noRule}
 use Rattle.rules.specs.Run.{Numbered}
 use Rattle.frames.specs.Frames.{frame, framedLength}
-use Rattle.steps.specs.Ranking.{Found, nowhere, somewhere, sideResults}
+use Rattle.search.specs.Ranking.{Found, nowhere, somewhere, sideResults}
 use Rattle.steps.specs.Asking.{RuleAt}
-use Rattle.steps.specs.Seeking.{bestOf}
-use Rattle.steps.specs.declared.Best.{Best}
-use Rattle.steps.proofs.Finding.{best-found}
+use Rattle.search.specs.Seeking.{bestOf}
+use Rattle.search.specs.declared.Best.{Best}
+use Rattle.search.proofs.Finding.{best-found}
 use Rattle.views.proofs.LiteralWalks.{stands-here}
-use Rattle.steps.proofs.Pass.{searched}
+use Rattle.search.proofs.Pass.{searched}
 use Rattle.views.specs.Standing.{LiteralAt, Conjunction}
 use Rattle.solver.specs.declared.State.{State}
 use Rattle.solver.specs.declared.Turned.the-variants.{On, Stop}
@@ -34,23 +35,23 @@ use Rattle.solver.proofs.Going.{first-size, first-words, no-more-steps,
 module _ (oldWork oldAnswer : List ℕ) (ls : List Numbered) (c : Numbered) (w : List Numbered) (s : State) (work answer : List ℕ)
     (p : Running oldWork oldAnswer ls (c ∷ w) s work answer) (k : List ℕ) (ek : k ≡ conjWords (c .literals)) (number : ℕ) (eu : number ≡ c .number) (next : ℕ) (en : next ≡ s .at + frame + length k)
     (n at : ℕ) (swap : Bool) (h : n < noRule) where
-  pub limit-met : Found (c .literals) n at swap → desk .steps ≤ s .steps → Turns oldWork oldAnswer ls (c ∷ w) s (Stop StepLimit) work answer
+  pub limit-met : Found (s .signature) (c .literals) n at swap → desk .steps ≤ s .steps → Turns oldWork oldAnswer ls (c ∷ w) s (Stop StepLimit) work answer
   limit-met (nowhere e f) g = absurd (omega arith)
-  limit-met (somewhere before l behind ks e q m a d) g = no-more-steps oldWork oldAnswer ls c w s work answer p k ek next en ks (searched (c .literals) _ d) g
+  limit-met (somewhere before l behind ks e q m a d) g = no-more-steps oldWork oldAnswer ls c w s work answer p k ek next en ks (searched (s .signature) (c .literals) _ d) g
 
   module _ (g : s .steps < desk .steps) (r : Stepped) (new : List ℕ)
-      (f : (before : Conj) (l : Literal) (behind : Conj) (ks : List Conj) → LiteralAt k at before l behind → sideResults swap n before l behind ≡ results ks
+      (f : (before : Conj) (l : Literal) (behind : Conj) (ks : List Conj) → LiteralAt k at before l behind → sideResults (s .signature) swap n before l behind ≡ results ks
       → Took number (map conjWords ks) work next r new) where
     -- what is shown from what was found and taken
-    both : (Q : Type 0) → ((ks : List Conj) → step (c .literals) ≡ results ks → Took (c .number) (map conjWords ks) work next r new → Q) → Found (c .literals) n at swap → Q
+    both : (Q : Type 0) → ((ks : List Conj) → step (s .signature) (c .literals) ≡ results ks → Took (c .number) (map conjWords ks) work next r new → Q) → Found (s .signature) (c .literals) n at swap → Q
     both Q u (nowhere e d) = absurd (omega arith)
-    both Q u (somewhere before l behind ks e q m a d) = u ks (searched (c .literals) _ d)
+    both Q u (somewhere before l behind ks e q m a d) = u ks (searched (s .signature) (c .literals) _ d)
         (subst (λ m. Took m (map conjWords ks) work next r new) eu (f before l behind ks (stands-here k (c .literals) (p .fine .0) ek at before l behind e q) a))
 
-    pub took-too-long : r ≡ Long → Found (c .literals) n at swap → Turns oldWork oldAnswer ls (c ∷ w) s (Stop LongResult) new answer
+    pub took-too-long : r ≡ Long → Found (s .signature) (c .literals) n at swap → Turns oldWork oldAnswer ls (c ∷ w) s (Stop LongResult) new answer
     took-too-long er = both _ go
       where
-        go : (ks : List Conj) → step (c .literals) ≡ results ks → Took (c .number) (map conjWords ks) work next r new
+        go : (ks : List Conj) → step (s .signature) (c .literals) ≡ results ks → Took (c .number) (map conjWords ks) work next r new
             → Turns oldWork oldAnswer ls (c ∷ w) s (Stop LongResult) new answer
         go ks d (long e o y) =
             subst (λ x. Turns oldWork oldAnswer ls (c ∷ w) s (Stop LongResult) x answer) (sym y)
@@ -58,10 +59,10 @@ module _ (oldWork oldAnswer : List ℕ) (ls : List Numbered) (c : Numbered) (w :
         go ks d (room m e o i y) = absurd (let z : _≡_ {A = ℕ} 0 1 = cc in omega arith)
         go ks d (done m to e o i y) = absurd (let z : _≡_ {A = ℕ} 0 1 = cc in omega arith)
 
-    pub took-no-room : r ≡ Room → Found (c .literals) n at swap → Turns oldWork oldAnswer ls (c ∷ w) s (Stop LongWaiting) new answer
+    pub took-no-room : r ≡ Room → Found (s .signature) (c .literals) n at swap → Turns oldWork oldAnswer ls (c ∷ w) s (Stop LongWaiting) new answer
     took-no-room er = both _ go
       where
-        go : (ks : List Conj) → step (c .literals) ≡ results ks → Took (c .number) (map conjWords ks) work next r new
+        go : (ks : List Conj) → step (s .signature) (c .literals) ≡ results ks → Took (c .number) (map conjWords ks) work next r new
             → Turns oldWork oldAnswer ls (c ∷ w) s (Stop LongWaiting) new answer
         go ks d (long e o y) = absurd (let z : _≡_ {A = ℕ} 0 1 = cc in omega arith)
         go ks d (room m e o i y) =
@@ -69,28 +70,28 @@ module _ (oldWork oldAnswer : List ℕ) (ls : List Numbered) (c : Numbered) (w :
             (step-room oldWork oldAnswer ls c w s work answer p k ek next en _ d g _ refl m o i)
         go ks d (done m to e o i y) = absurd (let z : _≡_ {A = ℕ} 0 1 = cc in omega arith)
 
-    pub took-step : (to : ℕ) → r ≡ Done to → Found (c .literals) n at swap → Turns oldWork oldAnswer ls (c ∷ w) s (On (record { at = to; steps = s .steps + 1; tally = s .tally })) new answer
+    pub took-step : (to : ℕ) → r ≡ Done to → Found (s .signature) (c .literals) n at swap → Turns oldWork oldAnswer ls (c ∷ w) s (On (record { at = to; steps = s .steps + 1; tally = s .tally; signature = s .signature })) new answer
     took-step to er = both _ go
       where
-        go : (ks : List Conj) → step (c .literals) ≡ results ks → Took (c .number) (map conjWords ks) work next r new
-            → Turns oldWork oldAnswer ls (c ∷ w) s (On (record { at = to; steps = s .steps + 1; tally = s .tally })) new answer
+        go : (ks : List Conj) → step (s .signature) (c .literals) ≡ results ks → Took (c .number) (map conjWords ks) work next r new
+            → Turns oldWork oldAnswer ls (c ∷ w) s (On (record { at = to; steps = s .steps + 1; tally = s .tally; signature = s .signature })) new answer
         go ks d (long e o y) = absurd (let z : _≡_ {A = ℕ} 0 1 = cc in omega arith)
         go ks d (room m e o i y) = absurd (let z : _≡_ {A = ℕ} 0 1 = cc in omega arith)
         go ks d (done m here e o i y) =
             let z : to ≡ here = cc in
-            subst (λ x. Turns oldWork oldAnswer ls (c ∷ w) s (On (record { at = x; steps = s .steps + 1; tally = s .tally })) new answer) (sym z)
+            subst (λ x. Turns oldWork oldAnswer ls (c ∷ w) s (On (record { at = x; steps = s .steps + 1; tally = s .tally; signature = s .signature })) new answer) (sym z)
             (step-on oldWork oldAnswer ls c w s work answer p k ek next en _ d g _ refl m o here new i y)
 
 -- where nothing was found, no rule applies
-pub none-found : (c : Conj) (n at : ℕ) (swap : Bool) → Found c n at swap → noRule ≤ n → step c ≡ nothing
-none-found c n at swap (nowhere e d) h = searched c _ d
-none-found c n at swap (somewhere before l behind ks e q m a d) h = absurd (omega arith)
+pub none-found : (σ : Signature) (c : Conj) (n at : ℕ) (swap : Bool) → Found σ c n at swap → noRule ≤ n → step σ c ≡ nothing
+none-found σ c n at swap (nowhere e d) h = searched σ c _ d
+none-found σ c n at swap (somewhere before l behind ks e q m a d) h = absurd (omega arith)
 
 -- where something was found, its rule applies there
-pub rule-found : (k : List ℕ) (x : Conjunction k) (b : Best) → b ≡ bestOf (x .conj) → b .rank < noRule → RuleAt k b
-rule-found k x b e h = go (best-found (x .conj) b e)
+pub rule-found : (σ : Signature) (k : List ℕ) (x : Conjunction k) (b : Best) → b ≡ bestOf σ (x .conj) → b .rank < noRule → RuleAt σ k b
+rule-found σ k x b e h = go (best-found σ (x .conj) b e)
   where
-    go : Found (x .conj) (b .rank) (b .at) (b .swap) → RuleAt k b
+    go : Found σ (x .conj) (b .rank) (b .at) (b .swap) → RuleAt σ k b
     go (nowhere n d) = absurd (omega arith)
     go (somewhere before l behind ks s q m a d) = record {
       before = before;

@@ -8,13 +8,14 @@ use lib.Dec.{leb}
 use lib.ListN.{length, drop, getD, length-take, length-drop}
 use borrow.Author.Tests.{leb-true}
 use Rattle.language.specs.Limits.{desk}
-use Rattle.language.specs.Trees.{Conj, Question}
+use Rattle.language.specs.declared.Signature.{Signature}
+use Rattle.language.specs.Trees.{Conj, signature, Question}
 use Rattle.language.specs.Writing.{conjWords}
 use Rattle.language.specs.Fine.{fineConj}
-use Rattle.language.specs.Question.{offsets, partsFrom, parts, laidOut, lengthFits, asks, readQuestion}
+use Rattle.language.specs.Question.{offsets, partsFrom, parts, laidOut, lengthFits, countsOf, asks, readQuestion}
 use Rattle.language.proofs.Bools.{both-true}
 use Rattle.language.proofs.Alternatives.{fineAll, read-all}
-use Rattle.language.proofs.Asking.{Passed, passed}
+use Rattle.language.proofs.Asking.{Passed, passed, ranges}
 use Rattle.waiting.specs.Waiting.{inOrder, Laid}
 use Rattle.waiting.proofs.Blocks.{laid-wait}
 use Rattle.answers.specs.declared.Tally.{Tally}
@@ -22,10 +23,10 @@ use Rattle.answers.specs.Lined.{Lined}
 use Rattle.reader.proofs.Answers.{question-asked}
 use Rattle.reader.specs.Checking.{checked}
 use Rattle.outcomes.specs.declared.Checked.the-variants.{Fine}
-use Rattle.rules.specs.Run.{numbered, size, run}
+use Rattle.rules.specs.Run.{numbered, size, runBy, run}
 use Rattle.rules.specs.Each.{Each}
 use Rattle.rules.proofs.Invariant.{each-numbered}
-use Rattle.solver.specs.Running.{Running, leftOf, conjunctionsOf}
+use Rattle.solver.specs.Running.{Running, leftOf, signatureOf, conjunctionsOf}
 use Rattle.solver.proofs.Lengths.{blocks-order}
 
 -- no part is longer than the whole
@@ -53,6 +54,10 @@ module _ (ws : List ℕ) (e : Fine ≡ checked (readQuestion desk ws)) where
   unfolding lengthFits
   asked-fits = leb-true (length ws) (desk .question) (both-true (leb 6 (length ws)) (leb (length ws) (desk .question)) (checks .length-fits) .1)
 
+  pub asked-long : 5 ≤ length ws
+  unfolding lengthFits
+  asked-long = let z = leb-true 6 (length ws) (both-true (leb 6 (length ws)) (leb (length ws) (desk .question)) (checks .length-fits) .0) in omega arith
+
   pub asked-laid : laidOut 5 (getD ws 4 0) ws ≡ true
   asked-laid = checks .laid-out
 
@@ -70,13 +75,17 @@ module _ (ws : List ℕ) (e : Fine ≡ checked (readQuestion desk ws)) where
       short-parts (desk .question) (5 + suc (getD ws 4 0)) (drop 1 (offsets 5 (getD ws 4 0) ws)) (drop (5 + suc (getD ws 4 0)) ws)
       (let z = asked-fits in let y = length-drop (5 + suc (getD ws 4 0)) ws in omega arith)
 
+  pub asked-signature : signatureOf (readQuestion desk ws) ≡ signature (countsOf ws)
+  asked-signature = ap signatureOf (asked .1) ∙ ap signature (passed desk ws (asked .0) (asked .1) .counts)
+
   -- the run begins
-  pub begins : (oldWork oldAnswer work answer : List ℕ) (at : ℕ) (t : Tally) → desk .room ≤ length oldWork → desk .room ≤ length oldAnswer → length answer ≡ length oldAnswer
+  pub begins : (oldWork oldAnswer work answer : List ℕ) (at : ℕ) (t : Tally) (σ : Signature) → σ ≡ signatureOf (readQuestion desk ws) → desk .room ≤ length oldWork → desk .room ≤ length oldAnswer → length answer ≡ length oldAnswer
       → Laid oldWork at (inOrder 0 (parts 5 (getD ws 4 0) ws)) work → Lined oldAnswer [] t answer
-      → Running oldWork oldAnswer [] (numbered 0 asks-for) (record { at = at; steps = 0; tally = t }) work answer
-  begins oldWork oldAnswer work answer at t room space kept w l =
+      → Running oldWork oldAnswer [] (numbered 0 asks-for) (record { at = at; steps = 0; tally = t; signature = σ }) work answer
+  begins oldWork oldAnswer work answer at t σ signed room space kept w l =
       let r = asked-read in
       record {
+        few = let r = ranges desk ws (asked .0) (asked .1) .symbols in let z = ap (λ (s : Signature). s .symbols) (signed ∙ asked-signature) in omega arith;
         waiting = laid-wait oldWork at _ work room (subst (λ bs. Laid oldWork at bs work) (ap (inOrder 0) (r .1) ∙ blocks-order 0 asks-for) w);
         lined = l;
         fine = each-numbered (fineConj desk) 0 asks-for (each-fine asks-for (r .0));
@@ -87,6 +96,7 @@ module _ (ws : List ℕ) (e : Fine ≡ checked (readQuestion desk ws)) where
         space = space;
       }
 
-  pub begin-left : (at : ℕ) (t : Tally) → leftOf (record { at = at; steps = 0; tally = t }) [] (numbered 0 asks-for) ≡ run desk asks-for
-  unfolding leftOf run
-  begin-left at t = refl
+  pub begin-left : (at : ℕ) (t : Tally) (σ : Signature) → σ ≡ signatureOf (readQuestion desk ws)
+      → leftOf (record { at = at; steps = 0; tally = t; signature = σ }) [] (numbered 0 asks-for) ≡ run desk (signatureOf (readQuestion desk ws)) asks-for
+  unfolding leftOf run runBy
+  begin-left at t σ e = ap (λ σ. leftOf (record { at = at; steps = 0; tally = t; signature = σ }) [] (numbered 0 asks-for)) e

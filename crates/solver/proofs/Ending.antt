@@ -24,7 +24,7 @@ use Rattle.outcomes.specs.declared.Solved.{Solved}
 use Rattle.outcomes.specs.Numbers.{solvedNumbers}
 use Rattle.solver.specs.declared.Ran.{Ran}
 use Rattle.solver.specs.declared.Ran.the-variants.{Done, Stopped}
-use Rattle.solver.specs.Running.{Ends, ended, given-up, conjunctionsOf}
+use Rattle.solver.specs.Running.{Ends, ended, given-up, signatureOf, conjunctionsOf}
 use Rattle.solver.specs.Leaves.{verdict, verdictFor, refusedBy, leaves, toldLeaves}
 use Rattle.solver.proofs.Told.{told-leaves}
 
@@ -41,19 +41,19 @@ counted (k ∷ ls) =
     ∙ picked (ltb 0 (countOpen (k ∷ ls)))
 
 -- a run of a question that was read is what solving it comes to
-solving-ran : (ws : List ℕ) → Fine ≡ checked (readQuestion desk ws) → solvingOf desk (readQuestion desk ws) ≡ ran (run desk (conjunctionsOf (readQuestion desk ws)))
+solving-ran : (ws : List ℕ) → Fine ≡ checked (readQuestion desk ws) → solvingOf desk (readQuestion desk ws) ≡ ran (run desk (signatureOf (readQuestion desk ws)) (conjunctionsOf (readQuestion desk ws)))
 solving-ran ws e =
     let (q, d) = question-asked ws e in
-    ap (solvingOf desk) d ∙ sym (ap (λ a. ran (run desk (conjunctionsOf a))) d)
+    ap (solvingOf desk) d ∙ sym (ap (λ a. ran (run desk (signatureOf a) (conjunctionsOf a))) d)
 
 module _ (ws : List ℕ) (e : Fine ≡ checked (readQuestion desk ws)) (oldWork oldAnswer : List ℕ) (r : Ran) (work answer : List ℕ)
-    (p : Ends (run desk (conjunctionsOf (readQuestion desk ws))) oldWork oldAnswer r work answer)
+    (p : Ends (run desk (signatureOf (readQuestion desk ws)) (conjunctionsOf (readQuestion desk ws))) oldWork oldAnswer r work answer)
     (cleared : List ℕ) (ec : cleared ≡ zeros desk ++ drop (desk .room) work) where
   pub leaves-lines : (n : ℕ) (t : Tally) (o : outcome.Outcome) → r ≡ Done n t → o ≡ verdictFor (t .lines) (t .«open»)
       → (record { outcome = o; lines = t .lines; «open» = t .«open»; steps = n }, cleared, answer) ≡ leaves (solvingOf desk (readQuestion desk ws)) oldWork oldAnswer
   leaves-lines n t o er eo = go p
     where
-      go : Ends (run desk (conjunctionsOf (readQuestion desk ws))) oldWork oldAnswer r work answer
+      go : Ends (run desk (signatureOf (readQuestion desk ws)) (conjunctionsOf (readQuestion desk ws))) oldWork oldAnswer r work answer
           → (record { outcome = o; lines = t .lines; «open» = t .«open»; steps = n }, cleared, answer) ≡ leaves (solvingOf desk (readQuestion desk ws)) oldWork oldAnswer
       go (given-up x d f k l) = absurd (let z : _≡_ {A = ℕ} 0 1 = cc in omega arith)
       go (ended m u ls d f l k) =
@@ -77,7 +77,7 @@ module _ (ws : List ℕ) (e : Fine ≡ checked (readQuestion desk ws)) (oldWork 
       → (s, cleared, wiped) ≡ leaves (solvingOf desk (readQuestion desk ws)) oldWork oldAnswer
   leaves-refusal x wiped s er ew es = go p
     where
-      go : Ends (run desk (conjunctionsOf (readQuestion desk ws))) oldWork oldAnswer r work answer
+      go : Ends (run desk (signatureOf (readQuestion desk ws)) (conjunctionsOf (readQuestion desk ws))) oldWork oldAnswer r work answer
           → (s, cleared, wiped) ≡ leaves (solvingOf desk (readQuestion desk ws)) oldWork oldAnswer
       go (ended m u ls d f l k) = absurd (let z : _≡_ {A = ℕ} 0 1 = cc in omega arith)
       go (given-up y d f k l) =

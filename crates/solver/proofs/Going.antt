@@ -85,10 +85,10 @@ module _ (oldWork oldAnswer : List ℕ) (ls : List Numbered) (c : Numbered) (w :
 
     -- ---- no rule applies
 
-    module _ (e : step (c .literals) ≡ nothing) where
+    module _ (e : step (s .signature) (c .literals) ≡ nothing) where
       full : linesFit desk (ls ++ (c ∷ [])) ≡ false → refused LineRoom ≡ leftOf s ls (c ∷ w)
       unfolding leftOf
-      full f = sym (run-full desk (s .steps) ls c w (desk .steps - s .steps) e f)
+      full f = sym (run-full desk (step (s .signature)) (s .steps) ls c w (desk .steps - s .steps) e f)
 
       pub many-lines : desk .lines ≤ s .tally .lines → Turns oldWork oldAnswer ls (c ∷ w) s (Stop LineRoom) work answer
       many-lines h = stops LineRoom (full (lines-many (ls ++ (c ∷ [])) (let a = p .lined .lines in let b = count-more ls c in omega arith)))
@@ -103,11 +103,12 @@ module _ (oldWork oldAnswer : List ℕ) (ls : List Numbered) (c : Numbered) (w :
           stops LineRoom (full (lines-past (ls ++ (c ∷ [])) (omega arith) (omega arith)))
 
       pub next-line : (u : Tally) (new : List ℕ) → length new ≡ length answer → Lined oldAnswer (ls ++ (c ∷ [])) u new
-          → Turns oldWork oldAnswer ls (c ∷ w) s (On (record { at = next; steps = s .steps; tally = u })) work new
+          → Turns oldWork oldAnswer ls (c ∷ w) s (On (record { at = next; steps = s .steps; tally = u; signature = s .signature })) work new
       unfolding leftOf
       next-line u new same l =
-          on (record { at = next; steps = s .steps; tally = u }) (ls ++ (c ∷ [])) w refl
+          on (record { at = next; steps = s .steps; tally = u; signature = s .signature }) (ls ++ (c ∷ [])) w refl
           (record {
+            few = p .few;
             waiting = rests;
             lined = l;
             fine = p .fine .1;
@@ -117,26 +118,26 @@ module _ (oldWork oldAnswer : List ℕ) (ls : List Numbered) (c : Numbered) (w :
             kept = same ∙ p .kept;
             space = p .space;
           })
-          (sym (run-line desk (s .steps) ls c w (desk .steps - s .steps) e (lines-fit (ls ++ (c ∷ [])) (l .few) (l .room))))
+          (sym (run-line desk (step (s .signature)) (s .steps) ls c w (desk .steps - s .steps) e (lines-fit (ls ++ (c ∷ [])) (l .few) (l .room))))
           (let z = rests .place in let y : desk .room - next < desk .room - s .at = omega arith in omega arith)
 
     -- ---- a rule applies
 
-    module _ (ks : List Conj) (e : step (c .literals) ≡ results ks) where
+    module _ (ks : List Conj) (e : step (s .signature) (c .literals) ≡ results ks) where
       pub no-more-steps : desk .steps ≤ s .steps → Turns oldWork oldAnswer ls (c ∷ w) s (Stop StepLimit) work answer
       unfolding leftOf
       no-more-steps h =
           let z : desk .steps - s .steps ≡ 0 = omega arith in
-          stops StepLimit (sym (ap (λ d. runFrom desk d (s .steps) ls (c ∷ w)) z ∙ run-limit desk (s .steps) ls c w ks e))
+          stops StepLimit (sym (ap (λ d. runFrom desk (step (s .signature)) d (s .steps) ls (c ∷ w)) z ∙ run-limit desk (step (s .signature)) (s .steps) ls c w ks e))
 
       module _ (h : s .steps < desk .steps) where
-        one-more : leftOf s ls (c ∷ w) ≡ runFrom desk (suc (desk .steps - (s .steps + 1))) (s .steps) ls (c ∷ w)
+        one-more : leftOf s ls (c ∷ w) ≡ runFrom desk (step (s .signature)) (suc (desk .steps - (s .steps + 1))) (s .steps) ls (c ∷ w)
         unfolding leftOf
-        one-more = ap (λ d. runFrom desk d (s .steps) ls (c ∷ w)) (let z : desk .steps - s .steps ≡ suc (desk .steps - (s .steps + 1)) = omega arith in z)
+        one-more = ap (λ d. runFrom desk (step (s .signature)) d (s .steps) ls (c ∷ w)) (let z : desk .steps - s .steps ≡ suc (desk .steps - (s .steps + 1)) = omega arith in z)
 
         module _ (ws : List (List ℕ)) (ew : ws ≡ map conjWords ks) where
           pub step-long : sized ws ≡ Over → Turns oldWork oldAnswer ls (c ∷ w) s (Stop LongResult) work answer
-          step-long o = stops LongResult (sym (one-more ∙ run-long desk (s .steps) ls c w ks e (desk .steps - (s .steps + 1)) (over-anyLong ks ws ew o)))
+          step-long o = stops LongResult (sym (one-more ∙ run-long desk (step (s .signature)) (s .steps) ls c w ks e (desk .steps - (s .steps + 1)) (over-anyLong ks ws ew o)))
 
           module _ (n : ℕ) (f : sized ws ≡ Fits n) where
             together : waitingSize (allOf (c .number) ks ++ w) + next ≡ length (inFrames (c .number) ws) + desk .room
@@ -156,32 +157,33 @@ module _ (oldWork oldAnswer : List ℕ) (ls : List Numbered) (c : Numbered) (w :
             pub step-room : next < n → Turns oldWork oldAnswer ls (c ∷ w) s (Stop LongWaiting) work answer
             step-room g =
                 stops LongWaiting
-                (sym (one-more ∙ run-room desk (s .steps) ls c w ks e (desk .steps - (s .steps + 1)) (fits-anyLong ks ws ew n f) (lt-ltb (desk .room) (waitingSize (allOf (c .number) ks ++ w)) (past g))))
+                (sym (one-more ∙ run-room desk (step (s .signature)) (s .steps) ls c w ks e (desk .steps - (s .steps + 1)) (fits-anyLong ks ws ew n f) (lt-ltb (desk .room) (waitingSize (allOf (c .number) ks ++ w)) (past g))))
 
             module _ (at : ℕ) (new : List ℕ) (g : at + n ≡ next) (d : new ≡ sets work at (inFrames (c .number) ws)) where
               within : length (inFrames (c .number) ws) ≡ n
               within = let q = rests .place in fits-exact (c .number) ws n f (omega arith)
 
-              pub step-on : Turns oldWork oldAnswer ls (c ∷ w) s (On (record { at = at; steps = s .steps + 1; tally = s .tally })) new answer
+              pub step-on : Turns oldWork oldAnswer ls (c ∷ w) s (On (record { at = at; steps = s .steps + 1; tally = s .tally; signature = s .signature })) new answer
               unfolding leftOf
               step-on =
                   let x = within in
                   let q = rests .place in
                   let t = together in
-                  on (record { at = at; steps = s .steps + 1; tally = s .tally }) ls (allOf (c .number) ks ++ w) refl
+                  on (record { at = at; steps = s .steps + 1; tally = s .tally; signature = s .signature }) ls (allOf (c .number) ks ++ w) refl
                   (record {
+                    few = p .few;
                     waiting =
                         subst (λ bs. Waiting oldWork at bs new)
                         (ap (λ l. allWith (c .number) l ++ map blockOf w) ew ∙ ap (λ l. l ++ map blockOf w) (blocks-all (c .number) ks) ∙ sym (map-append blockOf (allOf (c .number) ks) w))
                         (laid oldWork next (map blockOf w) work rests (p .room) (allWith (c .number) ws) at new (omega arith) d);
                     lined = p .lined;
-                    fine = each-++ _ (allOf (c .number) ks) w (each-of (fineConj desk) (c .number) ks (step-fine desk (c .literals) ks (p .fine .0) e)) (p .fine .1);
+                    fine = each-++ _ (allOf (c .number) ks) w (each-of (fineConj desk) (c .number) ks (step-fine desk (s .signature) (p .few) (c .literals) ks (p .fine .0) e)) (p .fine .1);
                     short = each-++ _ (allOf (c .number) ks) w (each-of (λ k. size k ≤ desk .question) (c .number) ks (short-words ks (rw ew at (sized-fits ws n f .short)))) (p .short .1);
                     made = omega arith;
                     room = p .room;
                     kept = p .kept;
                     space = p .space;
                   })
-                  (ap (λ m. runFrom desk (desk .steps - (s .steps + 1)) m ls (allOf (c .number) ks ++ w)) (let z : s .steps + 1 ≡ suc (s .steps) = omega arith in z)
-                  ∙ sym (one-more ∙ run-step desk (s .steps) ls c w ks e (desk .steps - (s .steps + 1)) (fits-anyLong ks ws ew n f) (le-ltb (desk .room) (waitingSize (allOf (c .number) ks ++ w)) (omega arith))))
+                  (ap (λ m. runFrom desk (step (s .signature)) (desk .steps - (s .steps + 1)) m ls (allOf (c .number) ks ++ w)) (let z : s .steps + 1 ≡ suc (s .steps) = omega arith in z)
+                  ∙ sym (one-more ∙ run-step desk (step (s .signature)) (s .steps) ls c w ks e (desk .steps - (s .steps + 1)) (fits-anyLong ks ws ew n f) (le-ltb (desk .room) (waitingSize (allOf (c .number) ks ++ w)) (omega arith))))
                   (omega arith)

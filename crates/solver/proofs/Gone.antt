@@ -6,6 +6,7 @@ use mathlib.Core.List.{List, [], _∷_}
 use lib.ListN.{length}
 use Rattle.language.specs.declared.Refusal.{Refusal}
 use Rattle.language.specs.Limits.{desk}
+use Rattle.rules.specs.Step.{step}
 use Rattle.rules.specs.Run.{Numbered, Outcome, refused}
 use Rattle.frames.specs.Frames.{frame, framedLength}
 use Rattle.solver.specs.declared.State.{State}
@@ -63,7 +64,7 @@ module _ (oldWork oldAnswer : List ℕ) (o : Outcome) (s : State) (work answer :
       go : (w : List Numbered) → Running oldWork oldAnswer (g .lines) w s work answer → leftOf s (g .lines) w ≡ o
           → Ends o oldWork oldAnswer (Done (s .steps) (s .tally)) work answer
       go [] p e =
-          ended (s .steps) (s .tally) (g .lines) refl (sym e ∙ run-ends desk (desk .steps - s .steps) (s .steps) (g .lines)) (p .lined)
+          ended (s .steps) (s .tally) (g .lines) refl (sym e ∙ run-ends desk (step (s .signature)) (desk .steps - s .steps) (s .steps) (g .lines)) (p .lined)
           (waiting-kept oldWork (s .at) [] work (p .waiting))
       go (c ∷ w) p e = absurd (let z = p .waiting .place in omega arith)
 

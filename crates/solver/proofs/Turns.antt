@@ -8,65 +8,65 @@ use Rattle.language.specs.declared.Refusal.the-variants.{LongResult, LongWaitin
 use Rattle.language.specs.Limits.{Limits}
 use Rattle.language.specs.Trees.{Conj}
 use Rattle.rules.specs.Reply.{nothing, results, stops}
-use Rattle.rules.specs.Step.{step}
+use Rattle.rules.specs.Step.{Step}
 use Rattle.rules.specs.Run.{Numbered, allOf, anyLong, waitingSize, linesFit, Outcome, finished, refused, checked, lined, turn, runFrom}
 
-module _ (L : Limits) where
-  pub run-ends : (d n : ℕ) (ls : List Numbered) → runFrom L d n ls [] ≡ finished ls n
+module _ (L : Limits) (by : Step) where
+  pub run-ends : (d n : ℕ) (ls : List Numbered) → runFrom L by d n ls [] ≡ finished ls n
   unfolding runFrom
   run-ends zero n ls = refl
   run-ends (suc d) n ls = refl
 
   module _ (n : ℕ) (ls : List Numbered) (k : Numbered) (w : List Numbered) where
     -- no rule applies: a line more, or 9
-    module _ (d : ℕ) (e : step (k .literals) ≡ nothing) where
-      taken : (go : List Numbered → List Conj → List Numbered → Outcome) → turn L go n ls (k ∷ w) ≡ lined L (ls ++ (k ∷ [])) (λ ms. turn L go n ms w)
-      taken go = ap (λ m. elim m [ results ks ↦ go ls ks (allOf (k .number) ks ++ w) | nothing ↦ lined L (ls ++ (k ∷ [])) (λ ms. turn L go n ms w) | stops r ↦ refused r ]) e
+    module _ (d : ℕ) (e : by (k .literals) ≡ nothing) where
+      taken : (go : List Numbered → List Conj → List Numbered → Outcome) → turn L by go n ls (k ∷ w) ≡ lined L (ls ++ (k ∷ [])) (λ ms. turn L by go n ms w)
+      taken go = ap (λ m. elim m [ results ks ↦ go ls ks (allOf (k .number) ks ++ w) | nothing ↦ lined L (ls ++ (k ∷ [])) (λ ms. turn L by go n ms w) | stops r ↦ refused r ]) e
 
       fitting : (b : Bool) → linesFit L (ls ++ (k ∷ [])) ≡ b → (go : List Numbered → List Conj → List Numbered → Outcome)
-          → turn L go n ls (k ∷ w) ≡ elim b [ true ↦ turn L go n (ls ++ (k ∷ [])) w | false ↦ refused LineRoom ]
-      fitting b f go = taken go ∙ ap (λ b. elim b [ true ↦ turn L go n (ls ++ (k ∷ [])) w | false ↦ refused LineRoom ]) f
+          → turn L by go n ls (k ∷ w) ≡ elim b [ true ↦ turn L by go n (ls ++ (k ∷ [])) w | false ↦ refused LineRoom ]
+      fitting b f go = taken go ∙ ap (λ b. elim b [ true ↦ turn L by go n (ls ++ (k ∷ [])) w | false ↦ refused LineRoom ]) f
 
-      pub run-line : linesFit L (ls ++ (k ∷ [])) ≡ true → runFrom L d n ls (k ∷ w) ≡ runFrom L d n (ls ++ (k ∷ [])) w
+      pub run-line : linesFit L (ls ++ (k ∷ [])) ≡ true → runFrom L by d n ls (k ∷ w) ≡ runFrom L by d n (ls ++ (k ∷ [])) w
       unfolding runFrom
       run-line f = at d
         where
-          at : (d : ℕ) → runFrom L d n ls (k ∷ w) ≡ runFrom L d n (ls ++ (k ∷ [])) w
+          at : (d : ℕ) → runFrom L by d n ls (k ∷ w) ≡ runFrom L by d n (ls ++ (k ∷ [])) w
           at zero = fitting true f _
           at (suc d) = fitting true f _
 
-      pub run-full : linesFit L (ls ++ (k ∷ [])) ≡ false → runFrom L d n ls (k ∷ w) ≡ refused LineRoom
+      pub run-full : linesFit L (ls ++ (k ∷ [])) ≡ false → runFrom L by d n ls (k ∷ w) ≡ refused LineRoom
       unfolding runFrom
       run-full f = at d
         where
-          at : (d : ℕ) → runFrom L d n ls (k ∷ w) ≡ refused LineRoom
+          at : (d : ℕ) → runFrom L by d n ls (k ∷ w) ≡ refused LineRoom
           at zero = fitting false f _
           at (suc d) = fitting false f _
 
     -- a rule applies: 10, 7, 8, or a step
-    module _ (ks : List Conj) (e : step (k .literals) ≡ results ks) where
-      steps : (go : List Numbered → List Conj → List Numbered → Outcome) → turn L go n ls (k ∷ w) ≡ go ls ks (allOf (k .number) ks ++ w)
-      steps go = ap (λ m. elim m [ results ks ↦ go ls ks (allOf (k .number) ks ++ w) | nothing ↦ lined L (ls ++ (k ∷ [])) (λ ms. turn L go n ms w) | stops r ↦ refused r ]) e
+    module _ (ks : List Conj) (e : by (k .literals) ≡ results ks) where
+      steps : (go : List Numbered → List Conj → List Numbered → Outcome) → turn L by go n ls (k ∷ w) ≡ go ls ks (allOf (k .number) ks ++ w)
+      steps go = ap (λ m. elim m [ results ks ↦ go ls ks (allOf (k .number) ks ++ w) | nothing ↦ lined L (ls ++ (k ∷ [])) (λ ms. turn L by go n ms w) | stops r ↦ refused r ]) e
 
-      pub run-limit : runFrom L 0 n ls (k ∷ w) ≡ refused StepLimit
+      pub run-limit : runFrom L by 0 n ls (k ∷ w) ≡ refused StepLimit
       unfolding runFrom
       run-limit = steps _
 
       module _ (d : ℕ) where
-        one : runFrom L (suc d) n ls (k ∷ w) ≡ checked L ks (allOf (k .number) ks ++ w) (runFrom L d (suc n) ls)
+        one : runFrom L by (suc d) n ls (k ∷ w) ≡ checked L ks (allOf (k .number) ks ++ w) (runFrom L by d (suc n) ls)
         unfolding runFrom
         one = steps _
 
-        pub run-long : anyLong L ks ≡ true → runFrom L (suc d) n ls (k ∷ w) ≡ refused LongResult
+        pub run-long : anyLong L ks ≡ true → runFrom L by (suc d) n ls (k ∷ w) ≡ refused LongResult
         run-long f =
-            one ∙ ap (λ b. elim b [ true ↦ refused LongResult | false ↦ elim (ltb (L .room) (waitingSize (allOf (k .number) ks ++ w))) [ true ↦ refused LongWaiting | false ↦ runFrom L d (suc n) ls (allOf (k .number) ks ++ w) ] ]) f
+            one ∙ ap (λ b. elim b [ true ↦ refused LongResult | false ↦ elim (ltb (L .room) (waitingSize (allOf (k .number) ks ++ w))) [ true ↦ refused LongWaiting | false ↦ runFrom L by d (suc n) ls (allOf (k .number) ks ++ w) ] ]) f
 
-        short : anyLong L ks ≡ false → runFrom L (suc d) n ls (k ∷ w) ≡ elim (ltb (L .room) (waitingSize (allOf (k .number) ks ++ w))) [ true ↦ refused LongWaiting | false ↦ runFrom L d (suc n) ls (allOf (k .number) ks ++ w) ]
+        short : anyLong L ks ≡ false → runFrom L by (suc d) n ls (k ∷ w) ≡ elim (ltb (L .room) (waitingSize (allOf (k .number) ks ++ w))) [ true ↦ refused LongWaiting | false ↦ runFrom L by d (suc n) ls (allOf (k .number) ks ++ w) ]
         short f =
-            one ∙ ap (λ b. elim b [ true ↦ refused LongResult | false ↦ elim (ltb (L .room) (waitingSize (allOf (k .number) ks ++ w))) [ true ↦ refused LongWaiting | false ↦ runFrom L d (suc n) ls (allOf (k .number) ks ++ w) ] ]) f
+            one ∙ ap (λ b. elim b [ true ↦ refused LongResult | false ↦ elim (ltb (L .room) (waitingSize (allOf (k .number) ks ++ w))) [ true ↦ refused LongWaiting | false ↦ runFrom L by d (suc n) ls (allOf (k .number) ks ++ w) ] ]) f
 
-        pub run-room : anyLong L ks ≡ false → ltb (L .room) (waitingSize (allOf (k .number) ks ++ w)) ≡ true → runFrom L (suc d) n ls (k ∷ w) ≡ refused LongWaiting
-        run-room f g = short f ∙ ap (λ b. elim b [ true ↦ refused LongWaiting | false ↦ runFrom L d (suc n) ls (allOf (k .number) ks ++ w) ]) g
+        pub run-room : anyLong L ks ≡ false → ltb (L .room) (waitingSize (allOf (k .number) ks ++ w)) ≡ true → runFrom L by (suc d) n ls (k ∷ w) ≡ refused LongWaiting
+        run-room f g = short f ∙ ap (λ b. elim b [ true ↦ refused LongWaiting | false ↦ runFrom L by d (suc n) ls (allOf (k .number) ks ++ w) ]) g
 
-        pub run-step : anyLong L ks ≡ false → ltb (L .room) (waitingSize (allOf (k .number) ks ++ w)) ≡ false → runFrom L (suc d) n ls (k ∷ w) ≡ runFrom L d (suc n) ls (allOf (k .number) ks ++ w)
-        run-step f g = short f ∙ ap (λ b. elim b [ true ↦ refused LongWaiting | false ↦ runFrom L d (suc n) ls (allOf (k .number) ks ++ w) ]) g
+        pub run-step : anyLong L ks ≡ false → ltb (L .room) (waitingSize (allOf (k .number) ks ++ w)) ≡ false → runFrom L by (suc d) n ls (k ∷ w) ≡ runFrom L by d (suc n) ls (allOf (k .number) ks ++ w)
+        run-step f g = short f ∙ ap (λ b. elim b [ true ↦ refused LongWaiting | false ↦ runFrom L by d (suc n) ls (allOf (k .number) ks ++ w) ]) g

@@ -4,11 +4,13 @@ use mathlib.Core.Path.{_≡_}
 use mathlib.Core.List.{List, [], _∷_, map}
 use lib.ListN.{length, drop}
 use Rattle.language.specs.declared.Refusal.{Refusal}
+use Rattle.language.specs.declared.Signature.{Signature}
 use Rattle.language.specs.Limits.{desk}
-use Rattle.language.specs.Trees.{Conj}
+use Rattle.language.specs.Trees.{Conj, signature}
 use Rattle.language.specs.Writing.{conjWords}
 use Rattle.language.specs.Fine.{fineConj}
 use Rattle.language.specs.Question.{Asked, asks, refuses}
+use Rattle.rules.specs.Step.{step}
 use Rattle.rules.specs.Run.{Numbered, EachLine, size, Outcome, finished, refused, runFrom}
 use Rattle.frames.specs.Frames.{Block}
 use Rattle.waiting.specs.Waiting.{Waiting}
@@ -26,6 +28,7 @@ blockOf k = record { number = k .number; words = conjWords (k .literals) }
 
 -- the lines ls are in the answer slice, and the conjunctions w wait in the work slice
 pub record Running (oldWork oldAnswer : List ℕ) (ls w : List Numbered) (s : State) (work answer : List ℕ) : Type 0 where
+  pub few : s .signature .symbols ≤ desk .each
   pub waiting : Waiting oldWork (s .at) (map blockOf w) work
   pub lined : Lined oldAnswer ls (s .tally) answer
   pub fine : EachLine (fineConj desk) w
@@ -37,7 +40,7 @@ pub record Running (oldWork oldAnswer : List ℕ) (ls w : List Numbered) (s : St
 
 -- what the rest of the run comes to
 unfoldable pub leftOf : State → List Numbered → List Numbered → Outcome
-leftOf s ls w = runFrom desk (desk .steps - s .steps) (s .steps) ls w
+leftOf s ls w = runFrom desk (step (s .signature)) (desk .steps - s .steps) (s .steps) ls w
 
 -- it falls from turn to turn
 abbrev pub measure : State → ℕ
@@ -54,7 +57,11 @@ pub data Turns (oldWork oldAnswer : List ℕ) (ls w : List Numbered) (s : State)
   stop : (e : Refusal) → r ≡ Stop e → refused e ≡ leftOf s ls w → Kept oldWork work → Kept oldAnswer answer
       → Turns oldWork oldAnswer ls w s r work answer
 
--- the conjunctions of a question that was read
+-- the signature and the conjunctions of a question that was read
+abbrev pub signatureOf : Asked → Signature
+signatureOf (asks q) = signature (q .counts)
+signatureOf (refuses r) = record { symbols = 0; unordered = 0 }
+
 abbrev pub conjunctionsOf : Asked → List Conj
 conjunctionsOf (asks q) = q .alternatives
 conjunctionsOf (refuses r) = []

@@ -5,20 +5,21 @@ ghost use mathlib.Core.List.{List, _∷_};
 ghost use lib.ListN.{length};
 ghost use Rattle.language.specs.Limits.{desk};
 ghost use Rattle.language.specs.Writing.{conjWords};
-ghost use Rattle.language.specs.Question.{readQuestion};
+ghost use Rattle.language.specs.Trees.{signature};
+ghost use Rattle.language.specs.Question.{countsOf, readQuestion};
 ghost use Rattle.rules.specs.Reply.{nothing};
 ghost use Rattle.rules.specs.Step.{step};
 ghost use Rattle.rules.specs.Run.{Numbered, run as runs};
 ghost use Rattle.rules.specs.Answer.{solvingOf, solving};
 ghost use Rattle.frames.specs.Frames.{frame, framedLength};
 ghost use Rattle.views.specs.Standing.{Conjunction};
-ghost use Rattle.steps.specs.Ranking.{Found};
+ghost use Rattle.search.specs.Ranking.{Found};
 ghost use Rattle.steps.specs.Asking.{RuleAt};
 ghost use Rattle.reader.specs.Checking.{checked};
 ghost use Rattle.outcomes.specs.declared.Checked.the-variants.{Fine};
 ghost use Rattle.outcomes.specs.Numbers.{solvedNumbers};
 ghost use Rattle.rules.specs.Places.{noRule};
-ghost use Rattle.solver.specs.Running.{Running, leftOf, Turns, Begun, Awaits, Ends, conjunctionsOf};
+ghost use Rattle.solver.specs.Running.{Running, leftOf, Turns, Begun, Awaits, Ends, signatureOf, conjunctionsOf};
 ghost use Rattle.solver.specs.Leaves.{leaves, toldLeaves, refusedBy, verdictFor};
 use answers::LINE_HEAD;
 use answers::Tally;
@@ -28,6 +29,7 @@ use frames::FRAME;
 use frames::read_frame;
 use frames::read_number;
 use language::Refusal;
+use language::Signature;
 use language::limits::LINES;
 use language::limits::QUESTION;
 use language::limits::ROOM;
@@ -35,22 +37,24 @@ use language::limits::STEPS;
 use outcomes::Checked;
 use outcomes::Outcome;
 use outcomes::Solved;
+use reader::read_header;
 use reader::read_question;
 use rules::places::NO_RULE;
+use search::Best;
+use search::find;
 use slices::clear;
 use slices::copy;
 use solved::is_solved;
-use steps::Best;
 use steps::Stepped;
-use steps::find;
 use steps::take_step;
 use waiting::lay_out;
 
-// Where the waiting conjunctions begin, the steps made, and the lines.
+// Where the waiting conjunctions begin, the steps made, and the lines; and the question's signature, which stays.
 pub struct State {
     pub at: usize,
     pub steps: usize,
     pub tally: Tally,
+    pub signature: Signature,
 }
 
 // What a turn comes to: the run goes on, or stops with a refusal.
@@ -69,7 +73,7 @@ pub enum Ran {
 fn line(k: &[u16], number: u16, next: usize, answer: &mut [u16], s: State) -> Turned
     requires { ⌜ (length (now k) ≤ desk .question) × (s .tally .«open» ≤ s .tally .lines) × (s .tally .end ≤ desk .room) × (desk .room ≤ length (now answer)) ⌝ }
     requires { ⌜ Conjunction (now k) ⌝ }
-    ensures { λ r. ⌜ ((oldWork oldAnswer : List ℕ) (ls : List Numbered) (c : Numbered) (w : List Numbered) (work : List ℕ) → Running oldWork oldAnswer ls (c ∷ w) s work (now (answer .entry)) → now (k .entry) ≡ conjWords (c .literals) → number ≡ c .number → next ≡ s .at + frame + length (now (k .entry)) → step (c .literals) ≡ nothing → Turns oldWork oldAnswer ls (c ∷ w) s r work (now (answer .exit))) ⌝ }
+    ensures { λ r. ⌜ ((oldWork oldAnswer : List ℕ) (ls : List Numbered) (c : Numbered) (w : List Numbered) (work : List ℕ) → Running oldWork oldAnswer ls (c ∷ w) s work (now (answer .entry)) → now (k .entry) ≡ conjWords (c .literals) → number ≡ c .number → next ≡ s .at + frame + length (now (k .entry)) → step (s .signature) (c .literals) ≡ nothing → Turns oldWork oldAnswer ls (c ∷ w) s r work (now (answer .exit))) ⌝ }
 {
     let t = s.tally;
     if LINES <= t.lines {
@@ -80,30 +84,34 @@ fn line(k: &[u16], number: u16, next: usize, answer: &mut [u16], s: State) -> Tu
     }
     let solved = is_solved(k);
     let u = add_line(k, number, solved, t, answer);
+    let signature = s.signature;
     Turned::On(State {
         at: next,
         steps: s.steps,
         tally: u,
+        signature,
     })
 }
 
 // A rule applies to k: the step is made in its place, unless a number stands against it.
 fn advance(k: &[u16], b: Best, number: u16, work: &mut [u16], next: usize, s: State) -> Turned
     requires { ⌜ (length (now k) ≤ desk .question) × (b .at < length (now k)) × (next ≤ length (now work)) × (next ≤ desk .room) ⌝ }
-    requires { ⌜ RuleAt (now k) b ⌝ }
-    ensures { λ r. ⌜ ((oldWork oldAnswer : List ℕ) (ls : List Numbered) (c : Numbered) (w : List Numbered) (answer : List ℕ) → Running oldWork oldAnswer ls (c ∷ w) s (now (work .entry)) answer → now (k .entry) ≡ conjWords (c .literals) → number ≡ c .number → next ≡ s .at + frame + length (now (k .entry)) → b .rank < noRule → Found (c .literals) (b .rank) (b .at) (b .swap) → Turns oldWork oldAnswer ls (c ∷ w) s r (now (work .exit)) answer) ⌝ }
+    requires { ⌜ RuleAt (s .signature) (now k) b ⌝ }
+    ensures { λ r. ⌜ ((oldWork oldAnswer : List ℕ) (ls : List Numbered) (c : Numbered) (w : List Numbered) (answer : List ℕ) → Running oldWork oldAnswer ls (c ∷ w) s (now (work .entry)) answer → now (k .entry) ≡ conjWords (c .literals) → number ≡ c .number → next ≡ s .at + frame + length (now (k .entry)) → b .rank < noRule → Found (s .signature) (c .literals) (b .rank) (b .at) (b .swap) → Turns oldWork oldAnswer ls (c ∷ w) s r (now (work .exit)) answer) ⌝ }
 {
     if STEPS <= s.steps {
         return Turned::Stop(Refusal::StepLimit);
     }
     let tally = s.tally;
-    match take_step(k, b, number, work, next) {
+    let signature = s.signature;
+    match take_step(k, b, signature, number, work, next) {
         Stepped::Long => Turned::Stop(Refusal::LongResult),
         Stepped::Room => Turned::Stop(Refusal::LongWaiting),
         Stepped::Done(at) => Turned::On(State {
             at,
             steps: s.steps + 1,
             tally,
+            signature,
         }),
     }
 }
@@ -121,7 +129,8 @@ fn turn_with(
     requires { ⌜ Conjunction (now k) ⌝ }
     ensures { λ r. ⌜ ((oldWork oldAnswer : List ℕ) (ls : List Numbered) (c : Numbered) (w : List Numbered) → Running oldWork oldAnswer ls (c ∷ w) s (now (work .entry)) (now (answer .entry)) → now (k .entry) ≡ conjWords (c .literals) → number ≡ c .number → next ≡ s .at + frame + length (now (k .entry)) → Turns oldWork oldAnswer ls (c ∷ w) s r (now (work .exit)) (now (answer .exit))) ⌝ }
 {
-    let b = find(k);
+    let signature = s.signature;
+    let b = find(k, signature);
     if NO_RULE <= b.rank {
         return line(k, number, next, answer, s);
     }
@@ -160,17 +169,31 @@ fn go_on(work: &mut [u16], answer: &mut [u16], begin: State) -> Ran
     Ran::Done(s.steps, tally)
 }
 
+// The signature that a question's header declares.
+fn signature_of(question: &[u16]) -> Signature
+    requires { ⌜ 5 ≤ length (now question) ⌝ }
+    ensures { λ r. ⌜ r ≡ signature (countsOf (now (question .entry))) ⌝ }
+{
+    let h = read_header(question);
+    Signature {
+        symbols: h.symbols,
+        unordered: h.unordered,
+    }
+}
+
 // The run of a question that was read.
 fn run(question: &[u16], work: &mut [u16], answer: &mut [u16]) -> Ran
     requires { ⌜ (Fine ≡ checked (readQuestion desk (now question))) × (desk .room ≤ length (now work)) × (desk .room ≤ length (now answer)) ⌝ }
-    ensures { λ r. ⌜ Ends (runs desk (conjunctionsOf (readQuestion desk (now (question .entry))))) (now (work .entry)) (now (answer .entry)) r (now (work .exit)) (now (answer .exit)) ⌝ }
+    ensures { λ r. ⌜ Ends (runs desk (signatureOf (readQuestion desk (now (question .entry)))) (conjunctionsOf (readQuestion desk (now (question .entry))))) (now (work .entry)) (now (answer .entry)) r (now (work .exit)) (now (answer .exit)) ⌝ }
 {
     let at = lay_out(question, work);
     let tally = begin(answer);
+    let signature = signature_of(question);
     let s = State {
         at,
         steps: 0,
         tally,
+        signature,
     };
     go_on(work, answer, s)
 }

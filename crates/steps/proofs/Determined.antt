@@ -1,4 +1,4 @@
--- Any two outcomes that a contract of this crate allows coincide.
+-- Any two outcomes that the contract of `take_step` allows coincide.
 use Prim.Native.Nat.{ℕ}
 use native.Mathlib.Omega.{arith}
 use mathlib.Core.Path.{_≡_, sym, ap, _∙_}
@@ -11,11 +11,7 @@ use Rattle.plans.specs.declared.Size.the-variants.{Fits, Over}
 use Rattle.steps.specs.declared.Stepped.{Stepped}
 use Rattle.steps.specs.declared.Stepped.the-variants.{Done}
 use Rattle.steps.specs.Taking.{Took, long, room, done}
-use Rattle.steps.proofs.find as find
 use Rattle.steps.proofs.take_step as take_step
-
-find-determined : Determined find.ended find.Reads.Pre find.Reads.Post
-find-determined κs a p o q e d = let x = p .1 in ap (λ z. (z, o .1)) (e .1 (x .conj) (x .fine) (x .words) ∙ sym (d .1 (x .conj) (x .fine) (x .words)))
 
 one-size : (s : Size) (n m : ℕ) → s ≡ Fits n → s ≡ Fits m → n ≡ m
 one-size s n m e d = cc
@@ -43,4 +39,4 @@ take_step-determined κs a p o q e d =
     let z =
     took-one _ _ _ _ _ _ _ _ (e (m .before) (m .l) (m .behind) (m .made) (m .stands) (m .applies)) (d (m .before) (m .l) (m .behind) (m .made) (m .stands) (m .applies))
     in
-    ap (λ r. (r, o .1)) (z .0) ∙ ap (λ s. (q .0, (tt, (tt, (tt, (s, (tt, tt))))))) (z .1)
+    ap (λ r. (r, o .1)) (z .0) ∙ ap (λ s. (q .0, (tt, (tt, (tt, (tt, (s, (tt, tt)))))))) (z .1)

@@ -6,6 +6,7 @@ use mathlib.Core.Bool.{Bool}
 use mathlib.Core.List.{List, [], _∷_, _++_, map, append-nil}
 use lib.ListN.{length, take, drop}
 use lib.Seq.{slice}
+use Rattle.language.specs.declared.Signature.{Signature}
 use Rattle.language.specs.Trees.{Literal, Conj}
 use Rattle.language.specs.Writing.{literalWords, conjWords}
 use Rattle.rules.specs.Reply.{results}
@@ -16,16 +17,16 @@ use Rattle.views.specs.Standing.{LiteralAt}
 use Rattle.plans.specs.declared.Piece.the-variants.{Copy}
 use Rattle.plans.specs.declared.Ways.the-variants.{One}
 use Rattle.plans.specs.declared.Plan.{Plan}
-use Rattle.plans.specs.Results.{made, resultsOf}
+use Rattle.plans.specs.Results.{made, numbered, resultsOf}
 use Rattle.plans.specs.Sizes.{placedWords}
 use Rattle.plans.specs.Slots.{nothing, fewRecipe, single}
 use Rattle.folding.specs.Twice.{untilSame}
 use Rattle.folding.proofs.Folds.{fold-some, fold-places, fold-words}
 use Rattle.steps.specs.Asking.{FoldHere}
-use Rattle.steps.proofs.Applied.{Answered, Folded}
+use Rattle.search.proofs.Applied.{Answered, Folded}
 use Rattle.steps.proofs.Taken.{placed-words}
 
-pub answered-words : {swap : Bool} {n : ℕ} {before : Conj} {l : Literal} {behind : Conj} {ks : List Conj} (r : Answered swap n before l behind ks)
+pub answered-words : {σ : Signature} {swap : Bool} {n : ℕ} {before : Conj} {l : Literal} {behind : Conj} {ks : List Conj} (r : Answered σ swap n before l behind ks)
     → placedWords before behind (r .branches) ≡ map conjWords ks
 answered-words {before = before} {behind = behind} r = placed-words before behind (r .branches) ∙ ap (map conjWords) (sym (r .made))
 
@@ -53,7 +54,7 @@ module _ (k : List ℕ) (at from : ℕ)
   pub fold-planned : (to len : ℕ) → to ≡ from + 1 + untilLiteral (drop (from + 1) k) → len ≡ length k
       → (before : Conj) (l : Literal) (behind : Conj) (ks : List Conj) → LiteralAt k at before l behind → Fold l behind ≡ results ks
       → resultsOf k (foldPlan from to len) ≡ map (λ (c : Conj). conjWords (before ++ c)) ks
-  unfolding resultsOf made
+  unfolding resultsOf numbered
   fold-planned to len e n before l behind ks s a =
       let z = fold-some l behind ks a in
       ap (λ w. (take from k ++ w) ∷ []) (append-nil (slice to len k) ∙ part-rest k to len n)

@@ -6,6 +6,7 @@ use mathlib.Core.Bool.{Bool, true, false}
 use mathlib.Core.List.{List, [], _∷_, _++_, map}
 use mathlib.Core.Option.{none, some}
 use lib.ListN.{length}
+use Rattle.language.specs.declared.Signature.{Signature}
 use Rattle.language.specs.Limits.{desk}
 use Rattle.language.specs.Trees.{Hedge, ε, tvar, hvar, node, Expr, Literal, eqn, mem, Conj}
 use Rattle.language.specs.Writing.{conjWords}
@@ -24,7 +25,7 @@ use Rattle.plans.specs.declared.Size.the-variants.{Fits, Over}
 use Rattle.slices.specs.Written.{Wrote}
 use Rattle.results.proofs.Sizing.{fits-ready}
 use Rattle.views.specs.Standing.{LiteralAt}
-use Rattle.steps.specs.Ranking.{sideAnswer}
+use Rattle.search.specs.Ranking.{sideAnswer}
 use Rattle.steps.specs.Taking.{Took, long, room, done}
 use Rattle.steps.specs.declared.Stepped.{Stepped}
 use Rattle.steps.specs.declared.Stepped.the-variants.{Long, Room, Done}
@@ -56,21 +57,21 @@ monomials : (K : Conj) (h : Hedge) (R : Expr) → Answers (λ bs. bs ≡ map (mo
 monomials K h R =
     look (firstTerm h) (first-parts h) λ a e. test _ λ _ _. test _ λ _ _. answers (ap (λ a. map (monomialResult (a .0) (a .1)) (linear R)) e)
 
-pub no-equation : (swap : Bool) (K : Conj) (l r : Hedge) → sideAnswer swap atM2 K (eqn l r) ≡ none
+pub no-equation : (σ : Signature) (swap : Bool) (K : Conj) (l r : Hedge) → sideAnswer σ swap atM2 K (eqn l r) ≡ none
 unfolding eqnAnswer
-no-equation true K l r = refl
-no-equation false K l r = refl
+no-equation σ true K l r = refl
+no-equation σ false K l r = refl
 
 -- where the rule is M2, the literal is a membership
-pub took-monomials : (number : ℕ) (k old new : List ℕ) (next at n : ℕ) (swap : Bool) (r : Stepped) → n ≡ atM2
+pub took-monomials : (σ : Signature) (number : ℕ) (k old new : List ℕ) (next at n : ℕ) (swap : Bool) (r : Stepped) → n ≡ atM2
     → ((before : Conj) (h : Hedge) (R : Expr) (behind : Conj) → LiteralAt k at before (mem h R) behind → Took number (monomialWords before h R behind) old next r new)
-    → (before : Conj) (l : Literal) (behind : Conj) (bs : List Branch) → LiteralAt k at before l behind → sideAnswer swap n (before ++ behind) l ≡ some bs
+    → (before : Conj) (l : Literal) (behind : Conj) (bs : List Branch) → LiteralAt k at before l behind → sideAnswer σ swap n (before ++ behind) l ≡ some bs
     → Took number (placedWords before behind bs) old next r new
 unfolding memAnswer monomialWords
-took-monomials number k old new next at n swap r e f before (eqn l s) behind bs p a =
-    absurd (let d = sym (no-equation swap (before ++ behind) l s) ∙ ap (λ n. sideAnswer swap n (before ++ behind) (eqn l s)) (sym e) ∙ a in let z : _≡_ {A = ℕ} 0 1 = cc in omega arith)
-took-monomials number k old new next at n swap r e f before (mem h R) behind bs p a =
-    let d = where-some (λ bs. bs ≡ map (monomialResult (head h) (tail h)) (linear R)) (M2 (before ++ behind) h R) bs (monomials (before ++ behind) h R .given) (ap (λ n. memAnswer n (before ++ behind) h R) (sym e) ∙ a) in
+took-monomials σ number k old new next at n swap r e f before (eqn l s) behind bs p a =
+    absurd (let d = sym (no-equation σ swap (before ++ behind) l s) ∙ ap (λ n. sideAnswer σ swap n (before ++ behind) (eqn l s)) (sym e) ∙ a in let z : _≡_ {A = ℕ} 0 1 = cc in omega arith)
+took-monomials σ number k old new next at n swap r e f before (mem h R) behind bs p a =
+    let d = where-some (λ bs. bs ≡ map (monomialResult (head h) (tail h)) (linear R)) (M2 (before ++ behind) h R) bs (monomials (before ++ behind) h R .given) (ap (λ n. memAnswer σ n (before ++ behind) h R) (sym e) ∙ a) in
     subst (λ bs. Took number (placedWords before behind bs) old next r new) (sym d) (f before h R behind p)
 
 -- ---- every rule of one literal

@@ -1,4 +1,2 @@
 pub mod Taking
-pub mod Seeking
-pub mod Ranking
 pub mod Asking

@@ -1,4 +1,4 @@
-// A step in words: the search for the first rule that applies to a conjunction, and its results in place.
+// A step in words: the results of the rule that the search found, in place.
 ghost use Prim.Native.Nat.{_+_, _≤_, _<_};
 ghost use mathlib.Core.Path.{_≡_};
 ghost use mathlib.Core.List.{List, _++_, map};
@@ -6,26 +6,22 @@ ghost use lib.ListN.{length, drop};
 ghost use Rattle.language.specs.Limits.{desk};
 ghost use Rattle.language.specs.Trees.{Hedge, Expr, Literal, mem, Conj};
 ghost use Rattle.language.specs.Writing.{conjWords};
-ghost use Rattle.language.specs.Fine.{fineConj};
 ghost use Rattle.plans.specs.Results.{resultsOf};
 ghost use Rattle.plans.specs.Sizes.{monomialWords};
-ghost use Rattle.views.specs.Standing.{LiteralAt, SomeLiteral, Conjunction};
+ghost use Rattle.views.specs.Standing.{LiteralAt};
 ghost use Rattle.rules.specs.Reply.{results};
 ghost use Rattle.rules.specs.Rules.{Fold};
-ghost use Rattle.steps.specs.Ranking.{sideAnswer, sideResults};
-ghost use Rattle.steps.specs.Seeking.{lesserOf, bestAt, bestAlone, bestFold, bestOf};
+ghost use Rattle.search.specs.Ranking.{sideAnswer, sideResults};
 ghost use Rattle.steps.specs.Taking.{Took};
 ghost use Rattle.steps.specs.Asking.{RuleAt, AnswerAt, FoldHere, SomeMembership};
 ghost use Rattle.plans.specs.Planned.{Planned};
-ghost use Rattle.rules.specs.Places.{atM2, noRule};
+ghost use Rattle.rules.specs.Places.{atM2};
 use equation_plans::plan_equation;
-use equations::rank_equation;
-use folding::first_twice;
 use folding::later_equal;
+use language::Signature;
 use linear_form::size_monomials;
 use linear_form::write_monomials;
 use membership_plans::plan_membership;
-use memberships::rank_membership;
 use plans::Piece;
 use plans::Plan;
 use plans::Size;
@@ -35,134 +31,11 @@ use results::size_results;
 use results::write_results;
 use rules::places::AT_FOLD;
 use rules::places::AT_M2;
-use rules::places::NO_RULE;
+use search::Best;
 use views::see;
 use views::show_membership;
 use views::swapped;
 use words::next_literal;
-
-// The literal of the least rank so far: its rank, its place, and whether its equation is seen from the other side.
-pub struct Best {
-    pub rank: usize,
-    pub at: usize,
-    pub swap: bool,
-}
-
-// A literal that was passed: what it is, and the place after it.
-struct Passed {
-    best: Best,
-    end: usize,
-}
-
-// The rank of the literal at a place: of an equation the lesser of its two sides, the written one where they are equal. The place after it comes
-// with it, so that its words need no other pass.
-fn rank_at(k: &[u16], at: usize) -> Passed
-    requires { ⌜ at < length (now k) ⌝ }
-    requires { ⌜ SomeLiteral (now k) at ⌝ }
-    ensures { λ p. ⌜ (p .best .at ≡ at) × ((before : Conj) (l : Literal) (behind : Conj) → LiteralAt (now (k .entry)) at before l behind → (p .best ≡ bestAt before l behind) × (drop (p .end) (now (k .entry)) ≡ conjWords behind)) ⌝ }
-{
-    if k[at] == 5000 {
-        let v = see(k, at);
-        let end = v.end;
-        let written = rank_equation(k, v);
-        let other = rank_equation(k, swapped(v));
-        if other < written {
-            let best = Best {
-                rank: other,
-                at,
-                swap: true,
-            };
-            return Passed { best, end };
-        }
-        let best = Best {
-            rank: written,
-            at,
-            swap: false,
-        };
-        return Passed { best, end };
-    }
-    let s = show_membership(k, at);
-    let end = s.end;
-    let rank = rank_membership(k, s);
-    let best = Best {
-        rank,
-        at,
-        swap: false,
-    };
-    Passed { best, end }
-}
-
-// The place after a literal, kept behind the literal's own and within the words, whatever they are.
-fn beyond(at: usize, end: usize, len: usize) -> usize
-    requires { ⌜ at < len ⌝ }
-    ensures { λ r. ⌜ (at < r) × (r ≤ len) × (at < end → end ≤ len → r ≡ end) × (len ≤ end → r ≡ len) ⌝ }
-{
-    if end <= at {
-        return len;
-    }
-    if end < len { end } else { len }
-}
-
-// The one of the lesser rank, the first where they are equal.
-fn lesser(a: Best, b: Best) -> Best
-    ensures { λ r. ⌜ r ≡ lesserOf a b ⌝ }
-{
-    if b.rank < a.rank { b } else { a }
-}
-
-// The earliest literal of the least rank, by the rules of one literal.
-fn find_alone(k: &[u16]) -> Best
-    requires { ⌜ Conjunction (now k) ⌝ }
-    ensures { λ b. ⌜ (b .rank < noRule → b .at < length (now (k .entry))) × ((c : Conj) → fineConj desk c → now (k .entry) ≡ conjWords c → b ≡ bestAlone c) ⌝ }
-{
-    let mut best = Best {
-        rank: NO_RULE,
-        at: 0,
-        swap: false,
-    };
-    let mut i = 0;
-    while i < k.len() {
-        let passed = rank_at(k, i);
-        let here = passed.best;
-        best = lesser(best, here);
-        i = beyond(i, passed.end, k.len());
-    }
-    best
-}
-
-// The fold, at the earliest literal that stands twice.
-fn find_fold(k: &[u16]) -> Best
-    requires { ⌜ length (now k) ≤ desk .question ⌝ }
-    requires { ⌜ Conjunction (now k) ⌝ }
-    ensures { λ b. ⌜ (b .rank < noRule → b .at < length (now (k .entry))) × ((c : Conj) → fineConj desk c → now (k .entry) ≡ conjWords c → b ≡ bestFold c) ⌝ }
-{
-    let at = first_twice(k);
-    if at < k.len() {
-        return Best {
-            rank: AT_FOLD,
-            at,
-            swap: false,
-        };
-    }
-    Best {
-        rank: NO_RULE,
-        at,
-        swap: false,
-    }
-}
-
-// The first rule that applies, at the earliest literal. The fold is looked for only where no rule before it applies.
-pub fn find(k: &[u16]) -> Best
-    requires { ⌜ length (now k) ≤ desk .question ⌝ }
-    requires { ⌜ Conjunction (now k) ⌝ }
-    ensures { λ b. ⌜ (b .rank < noRule → b .at < length (now (k .entry))) × ((c : Conj) → fineConj desk c → now (k .entry) ≡ conjWords c → b ≡ bestOf c) ⌝ }
-{
-    let alone = find_alone(k);
-    if alone.rank < AT_FOLD {
-        return alone;
-    }
-    lesser(alone, find_fold(k))
-}
 
 // What a step comes to: a result is too long; the results have no room before those that wait; or they are written, from a place on.
 pub enum Stepped {
@@ -172,10 +45,10 @@ pub enum Stepped {
 }
 
 // The plan of the rule of one literal of that rank at that literal; M2 has none.
-fn plan_at(k: &[u16], b: Best) -> Plan
+fn plan_at(k: &[u16], b: Best, s: Signature) -> Plan
     requires { ⌜ (b .at < length (now k)) × (b .rank ≡ atM2 → ⊥) ⌝ }
-    requires { ⌜ AnswerAt (now k) b ⌝ }
-    ensures { λ p. ⌜ ((before : Conj) (l : Literal) (behind : Conj) → LiteralAt (now (k .entry)) (b .at) before l behind → Planned (now (k .entry)) p before behind (sideAnswer (b .swap) (b .rank) (before ++ behind) l)) ⌝ }
+    requires { ⌜ AnswerAt s (now k) b ⌝ }
+    ensures { λ p. ⌜ ((before : Conj) (l : Literal) (behind : Conj) → LiteralAt (now (k .entry)) (b .at) before l behind → Planned (now (k .entry)) p before behind (sideAnswer s (b .swap) (b .rank) (before ++ behind) l)) ⌝ }
 {
     let at = b.at;
     let rank = b.rank;
@@ -183,12 +56,12 @@ fn plan_at(k: &[u16], b: Best) -> Plan
         let v = see(k, at);
         let swap = b.swap;
         if swap {
-            return plan_equation(rank, k, swapped(v));
+            return plan_equation(s, rank, k, swapped(v));
         }
-        return plan_equation(rank, k, v);
+        return plan_equation(s, rank, k, v);
     }
-    let s = show_membership(k, at);
-    plan_membership(rank, k, s)
+    let m = show_membership(k, at);
+    plan_membership(rank, k, m)
 }
 
 // The plan of the fold: all words but those of the first literal behind this one that has the same.
@@ -258,10 +131,17 @@ fn step_monomials(k: &[u16], literal: usize, number: u16, out: &mut [u16], next:
 
 // A step of the conjunction k, which has that number: the results of the rule of that rank at that literal, right before `next`, and of the same
 // number.
-pub fn take_step(k: &[u16], b: Best, number: u16, out: &mut [u16], next: usize) -> Stepped
+pub fn take_step(
+    k: &[u16],
+    b: Best,
+    s: Signature,
+    number: u16,
+    out: &mut [u16],
+    next: usize,
+) -> Stepped
     requires { ⌜ (length (now k) ≤ desk .question) × (b .at < length (now k)) × (next ≤ length (now out)) × (next ≤ desk .room) ⌝ }
-    requires { ⌜ RuleAt (now k) b ⌝ }
-    ensures { λ r. ⌜ ((before : Conj) (l : Literal) (behind : Conj) (ks : List Conj) → LiteralAt (now (k .entry)) (b .at) before l behind → sideResults (b .swap) (b .rank) before l behind ≡ results ks → Took number (map conjWords ks) (now (out .entry)) next r (now (out .exit))) ⌝ }
+    requires { ⌜ RuleAt s (now k) b ⌝ }
+    ensures { λ r. ⌜ ((before : Conj) (l : Literal) (behind : Conj) (ks : List Conj) → LiteralAt (now (k .entry)) (b .at) before l behind → sideResults s (b .swap) (b .rank) before l behind ≡ results ks → Took number (map conjWords ks) (now (out .entry)) next r (now (out .exit))) ⌝ }
 {
     if b.rank == AT_M2 {
         return step_monomials(k, b.at, number, out, next);
@@ -269,5 +149,5 @@ pub fn take_step(k: &[u16], b: Best, number: u16, out: &mut [u16], next: usize) 
     if b.rank == AT_FOLD {
         return step_planned(k, plan_fold(k, b.at), number, out, next);
     }
-    step_planned(k, plan_at(k, b), number, out, next)
+    step_planned(k, plan_at(k, b, s), number, out, next)
 }

@@ -77,7 +77,7 @@ next-literal n fs ws i end (l ∷ k) ρ e p x =
       later = k;
       is = refl;
       literal = record { given = x .given; words = here; fine = fl; known = dl; short = omega (arith, ap length here, x .short) };
-      rest = record { given = x .given; words = after; fine = fk; known = dk; short = omega (arith, length-drop end ws, x .short) };
+      rest = record { symbol = x .symbol; given = x .given; words = after; fine = fk; known = dk; short = omega (arith, length-drop end ws, x .short) };
       on = omega arith;
       inside = omega arith;
     }

@@ -2,12 +2,12 @@
 use Prim.Native.Nat.{ℕ, _+_, _≤_}
 use mathlib.Core.Path.{_≡_, refl, sym, ap, _∙_}
 use mathlib.Core.Logic.{_↔_}
-use mathlib.Core.Bool.{Bool, true, false}
+use mathlib.Core.Bool.{Bool, true}
 use mathlib.Core.List.{List, [], _∷_, _++_, append-nil}
 use native.Mathlib.Omega.{arith}
 use lib.ListN.{length, getD, length-append}
 use Rattle.language.specs.Limits.{desk}
-use Rattle.language.specs.Trees.{Expr, Literal, eqn, mem, Counts}
+use Rattle.language.specs.Trees.{Hedge, Expr, Literal, eqn, mem, Counts, signature}
 use Rattle.language.specs.Writing.{hedgeWords, exprWords, literalWords}
 use Rattle.language.specs.Fine.{fineExpr}
 use Rattle.language.specs.Question.{declared, declaredE}
@@ -15,11 +15,10 @@ use Rattle.language.specs.Between.{between}
 use Rattle.language.proofs.Bools.{both-true}
 use Rattle.meaning.specs.Complete.{completeWords}
 use Rattle.meaning.specs.Meaning.{Filling, fill, Meets}
-use Rattle.meaning.proofs.Same.{same-words}
 use Rattle.rules.specs.Calls.{filledSize}
 use Rattle.member.specs.Places.{Stands}
 use Rattle.filling.specs.Showing.{filled, Shows}
-use Rattle.trying.specs.Tasks.{firstHedge, FirstEnd, EquationMet, Testable, MembershipMet, ALiteral, FittingLiteral, LiteralMet}
+use Rattle.trying.specs.Tasks.{firstHedge, FirstEnd, Becoming, Comparable, EquationMet, Testable, MembershipMet, ALiteral, FittingLiteral, LiteralMet}
 use Rattle.trying.proofs.Parts.{inside, first-part, second-part, shows, becomes, by-equation, by-membership}
 
 -- the rest of a literal, after its first hedge
@@ -31,14 +30,11 @@ headed : (l : Literal) → literalWords l ≡ getD (literalWords l) 0 0 ∷ (hed
 headed (eqn l r) = refl
 headed (mem h R) = refl
 
-is-true : (b : Bool) → (b ≡ false → ⊥) → b ≡ true
-is-true true n = refl
-is-true false n = absurd (n refl)
-
 -- what a test of an equation asks
 pub record EquationReady (t h : ℕ) (fs ws : List ℕ) (m : ℕ) : Type 0 where
   pub left : Shows t h fs (between 1 m ws)
   pub right : Shows t h fs (between m (length ws) ws)
+  pub test : Comparable t h fs (between 1 m ws) (between m (length ws) ws)
   pub fits : length (filled t h fs (between 1 m ws)) + length (filled t h fs (between m (length ws) ws)) ≤ desk .literal
 
 -- and of a membership
@@ -65,28 +61,31 @@ module _ (n : Counts) (fs ws : List ℕ) (m : ℕ) (end : FirstEnd ws m) where
   module _ {t h : ℕ} (p : t ≡ n .terms) (q : h ≡ n .hedges) where
     -- ---- an equation
 
+    equation-becomes : {a b : Hedge} {ρ : Filling} → ALiteral n fs ws (eqn a b) ρ → Becoming t h fs (between 1 m ws) (between m (length ws) ws) (fill ρ a) (fill ρ b)
+    equation-becomes {a} {b} x =
+        let (da, db) = both-true (declared n a) (declared n b) (x .known) in
+        record {
+          first = ap (filled t h fs) (first-is x) ∙ becomes n fs _ (x .given) p q a (x .fine .0) da;
+          second = ap (filled t h fs) (rest-is x) ∙ becomes n fs _ (x .given) p q b (x .fine .1) db;
+        }
+
     pub equation-ready : FittingLiteral n fs ws → getD ws 0 0 ≡ 5000 → EquationReady t h fs ws m
     equation-ready f w = by-equation (λ l. ALiteral n fs ws l (f .ρ) → filledSize (f .ρ) l ≤ desk .literal → EquationReady t h fs ws m) w
         (λ a b x s.
         let (da, db) = both-true (declared n a) (declared n b) (x .known) in
         record {
+          test = record { g = fill (f .ρ) a; k = fill (f .ρ) b; it = equation-becomes x };
           left = rw (first-is x) (shows n fs _ (x .given) p q a (x .fine .0) da);
           right = rw (rest-is x) (shows n fs _ (x .given) p q b (x .fine .1) db);
           fits = rw (first-is x, rest-is x, becomes n fs _ (x .given) p q a (x .fine .0) da, becomes n fs _ (x .given) p q b (x .fine .1) db) (omega arith);
         })
         (f .l) (f .it .words) (f .it) (f .fits)
 
-    pub equation-says : {w w′ : List ℕ} {r : Bool} → getD ws 0 0 ≡ 5000 → EquationMet t h fs (between 1 m ws) (between m (length ws) ws) w w′ r → LiteralMet n fs ws w w′ r
+    pub equation-says : {w w′ : List ℕ} {r : Bool} → getD ws 0 0 ≡ 5000 → EquationMet (signature n) t h fs (between 1 m ws) (between m (length ws) ws) w w′ r → LiteralMet n fs ws w w′ r
     equation-says {r = r} z met = record {
       keeps = met .keeps;
-      each = λ l ρ x. by-equation (λ l. ALiteral n fs ws l ρ → (r ≡ true) ↔ Meets ρ l) z
-          (λ a b x.
-          let (da, db) = both-true (declared n a) (declared n b) (x .known) in
-          let ea : filled t h fs (between 1 m ws) ≡ completeWords (fill ρ a) = ap (filled t h fs) (first-is x) ∙ becomes n fs _ (x .given) p q a (x .fine .0) da in
-          let eb : filled t h fs (between m (length ws) ws) ≡ completeWords (fill ρ b) = ap (filled t h fs) (rest-is x) ∙ becomes n fs _ (x .given) p q b (x .fine .1) db in (
-            λ e. same-words (fill ρ a) (fill ρ b) .1 (sym ea ∙ met .compares .same e ∙ eb),
-            λ s. is-true r (λ e. met .compares .other e (ea ∙ same-words (fill ρ a) (fill ρ b) .0 s ∙ sym eb)),
-          ))
+      each = λ l ρ x. by-equation (λ l. ALiteral n fs ws l ρ → (r ≡ true) ↔ Meets (signature n) ρ l) z
+          (λ a b x. met .each (fill ρ a) (fill ρ b) (equation-becomes x))
           l (x .words) x;
     }
 
@@ -108,10 +107,10 @@ module _ (n : Counts) (fs ws : List ℕ) (m : ℕ) (end : FirstEnd ws m) where
         })
         (f .l) (f .it .words) (f .it) (f .fits)
 
-    pub membership-says : {w w′ : List ℕ} {r : Bool} → (getD ws 0 0 ≡ 5000 → ⊥) → MembershipMet t h fs (between 1 m ws) (between m (length ws) ws) w w′ r → LiteralMet n fs ws w w′ r
+    pub membership-says : {w w′ : List ℕ} {r : Bool} → (getD ws 0 0 ≡ 5000 → ⊥) → MembershipMet (signature n) t h fs (between 1 m ws) (between m (length ws) ws) w w′ r → LiteralMet n fs ws w w′ r
     membership-says {r = r} z met = record {
       keeps = met .keeps;
-      each = λ l ρ x. by-membership (λ l. ALiteral n fs ws l ρ → (r ≡ true) ↔ Meets ρ l) z
+      each = λ l ρ x. by-membership (λ l. ALiteral n fs ws l ρ → (r ≡ true) ↔ Meets (signature n) ρ l) z
           (λ a R x.
           let (da, dR) = both-true (declared n a) (declaredE n R) (x .known) in
           let ea : filled t h fs (between 1 m ws) ≡ completeWords (fill ρ a) = ap (filled t h fs) (first-is x) ∙ becomes n fs _ (x .given) p q a (x .fine .0) da in

@@ -10,10 +10,10 @@ use borrow.Author.Tests.{lt-ltb, le-ltb}
 use Rattle.language.specs.declared.Refusal.{Refusal}
 use Rattle.language.specs.declared.Refusal.the-variants.{ShortSlice, LongLiteral}
 use Rattle.language.specs.Limits.{desk}
-use Rattle.language.specs.Trees.{Question}
+use Rattle.language.specs.Trees.{signature, Question}
 use Rattle.language.specs.Question.{countsFit, Asked, asks, refuses, readQuestion}
 use Rattle.language.proofs.Asking.{passed, ranges}
-use Rattle.meaning.specs.Meaning.{Filling, MeetsQuestion}
+use Rattle.meaning.specs.Meaning.{Filling, MeetsOne}
 use Rattle.meaning.specs.Values.{Given, gives, readFilling}
 use Rattle.meaning.specs.Values as values
 use Rattle.rules.specs.Answer.{zeros, overwritten}
@@ -37,6 +37,9 @@ abbrev decided : Question → Filling → Bool → Trying
 decided q ρ b = elim b [ true ↦ given-up LongLiteral | false ↦ decides q ρ ]
 
 module _ (h : Header) (fs ws : List ℕ) where
+  counts-are : (q : Question) → readQuestion desk ws ≡ asks q → h ≡ headerOf ws → q .counts ≡ countsIn h
+  counts-are q r e = passed desk ws q r .counts ∙ ap countsIn (sym e)
+
   pub given-fits : {long : Bool} → QuestionTooLong h fs ws long → long ≡ false → SomeQuestion h fs ws → FittingQuestion h fs ws
   given-fits l e s = record { q = s .q; ρ = s .ρ; it = s .it; fits = sym (l .each (s .q) (s .ρ) (s .it)) ∙ e }
 
@@ -45,8 +48,11 @@ module _ (h : Header) (fs ws : List ℕ) where
     given-long e c = record { each = λ q ρ x. subst (λ b. Outcome (decided q ρ b) (Refused LongLiteral) w w′) (sym e ∙ l .each q ρ x) (refl, c) }
 
     module _ {u : List ℕ} {met : Bool} (e : long ≡ false) (m : QuestionMet h fs ws w u met) (c : w′ ≡ overwritten desk (zeros desk) u) where
-      says : {t : Tried} → ((q : Question) (ρ : Filling) → AQuestion h fs ws q ρ → Answers (MeetsQuestion ρ q) t) → TriedGiven h fs ws t w w′
-      says {t} a = record { each = λ q ρ x. subst (λ b. Outcome (decided q ρ b) t w w′) (sym e ∙ l .each q ρ x) (a q ρ x, c ∙ keeps-cleared (m .keeps)) }
+      says : {t : Tried} → ((q : Question) (ρ : Filling) → AQuestion h fs ws q ρ → Answers (MeetsOne (signature (countsIn h)) ρ (q .alternatives)) t) → TriedGiven h fs ws t w w′
+      says {t} a = record {
+        each = λ q ρ x. subst (λ b. Outcome (decided q ρ b) t w w′) (sym e ∙ l .each q ρ x)
+            (subst (λ n. Answers (MeetsOne (signature n) ρ (q .alternatives)) t) (sym (counts-are q (x .read) (x .head))) (a q ρ x), c ∙ keeps-cleared (m .keeps));
+      }
 
       pub given-yes : met ≡ true → TriedGiven h fs ws Yes w w′
       given-yes y = says (λ q ρ x. let (to, from) = m .each q ρ x in inl (refl, to y))
@@ -55,9 +61,6 @@ module _ (h : Header) (fs ws : List ℕ) where
       given-no y = says (λ q ρ x. let (to, from) = m .each q ρ x in inr (refl, λ z. absurd (let o : _≡_ {A = ℕ} 0 1 = cc (from z) in omega arith)))
 
   -- ---- the question is not refused
-
-  counts-are : (q : Question) → readQuestion desk ws ≡ asks q → h ≡ headerOf ws → q .counts ≡ countsIn h
-  counts-are q r e = passed desk ws q r .counts ∙ ap countsIn (sym e)
 
   pub asked-counts : AskedQuestion h ws → countsFit desk (countsIn h) (h .alternatives) ≡ true
   asked-counts a = ap (λ h. countsFit desk (countsIn h) (h .alternatives)) (a .head) ∙ passed desk ws (a .q) (a .read) .counts-fit

@@ -9,12 +9,12 @@ use native.Mathlib.Omega.{arith}
 use lib.ListN.{length, getD, drop, drop-of-length-le}
 use lib.Seq.{drop-cons}
 use Rattle.language.specs.Limits.{desk}
-use Rattle.language.specs.Trees.{Question}
+use Rattle.language.specs.Trees.{signature, Question}
 use Rattle.language.specs.Writing.{conjWords}
 use Rattle.language.specs.Question.{alternativesOf, declaredC}
 use Rattle.language.specs.Between.{between}
 use Rattle.language.proofs.Offsets.{laid-length}
-use Rattle.language.proofs.Asking.{passed, how-many, alternative}
+use Rattle.language.proofs.Asking.{passed, ranges, how-many, alternative}
 use Rattle.meaning.specs.Meaning.{Filling, MeetsAll, MeetsOne}
 use Rattle.rules.specs.Calls.{anyOver, tooLong}
 use Rattle.reader.specs.declared.Header.{Header}
@@ -35,6 +35,9 @@ module _ (h : Header) (fs ws : List ℕ) where
     counts-are : q .counts ≡ countsIn h
     counts-are = passed desk ws q (x .read) .counts ∙ ap countsIn (sym (x .head))
 
+    some-symbol : 0 < countsIn h .symbols
+    some-symbol = let e = ap (λ h. h .symbols) (x .head) in omega (arith, ranges desk ws q (x .read) .symbol)
+
     pub how-long : h .alternatives + 6 ≤ length ws
     how-long = let a = ap (λ h. h .alternatives) (x .head) in omega (arith, laid-length 5 (alternativesOf ws) ws (passed desk ws q (x .read) .laid-out))
 
@@ -49,7 +52,7 @@ module _ (h : Header) (fs ws : List ℕ) where
         record {
           rises = omega (arith, a .rises);
           inside = omega (arith, a .inside);
-          conj = record { given = x .given; words = w; fine = a .fine; known = ap (λ n. declaredC n (getD (q .alternatives) i [])) (sym counts-are) ∙ a .declared; short = omega (arith, ap length w, a .short) };
+          conj = record { symbol = some-symbol; given = x .given; words = w; fine = a .fine; known = ap (λ n. declaredC n (getD (q .alternatives) i [])) (sym counts-are) ∙ a .declared; short = omega (arith, ap length w, a .short) };
           split = drop-cons (q .alternatives) i [] (omega (arith, all-of)) ∙ ap (λ n. getD (q .alternatives) i [] ∷ drop n (q .alternatives)) (sym (add-one i));
         }
 
@@ -109,7 +112,7 @@ module _ (h : Header) (fs ws : List ℕ) where
     pub some : FittingQuestion h fs ws
     pub number : n ≡ h .alternatives
     pub fits : (q : Question) (ρ : Filling) → AQuestion h fs ws q ρ → tooLong desk ρ (q .alternatives) ≡ false → tooLong desk ρ (drop i (q .alternatives)) ≡ false
-    pub one : (q : Question) (ρ : Filling) → AQuestion h fs ws q ρ → MeetsOne ρ (drop i (q .alternatives)) ↔ MeetsOne ρ (q .alternatives)
+    pub one : (q : Question) (ρ : Filling) → AQuestion h fs ws q ρ → MeetsOne (signature (countsIn h)) ρ (drop i (q .alternatives)) ↔ MeetsOne (signature (countsIn h)) ρ (q .alternatives)
 
   pub trying-starts : {n : ℕ} (w : List ℕ) → FittingQuestion h fs ws → n ≡ h .alternatives → Trying-on 0 n w w
   trying-starts w s e = record { keeps = keeps-none w; some = s; number = e; fits = λ q ρ x f. f; one = λ q ρ x. (λ z. z, λ z. z) }
@@ -137,7 +140,7 @@ module _ (h : Header) (fs ws : List ℕ) where
             let y = there q ρ x in
             let (to-all, from-all) = c .each (getD (q .alternatives) i []) ρ (y .conj) in
             let (on, back) = m .one q ρ x in
-            (λ z. on (subst (MeetsOne ρ) (sym (y .split)) (inl (to-all e))), λ z. refl);
+            (λ z. on (subst (MeetsOne (signature (countsIn h)) ρ) (sym (y .split)) (inl (to-all e))), λ z. refl);
       }
 
       pub trying-next : r ≡ false → Trying-on (i + 1) n w v
@@ -150,10 +153,10 @@ module _ (h : Header) (fs ws : List ℕ) where
             let y = there q ρ x in
             let (to-all, from-all) = c .each (getD (q .alternatives) i []) ρ (y .conj) in
             let (on, back) = m .one q ρ x in
-            (λ z. on (subst (MeetsOne ρ) (sym (y .split)) (inr z)), λ z. later q ρ from-all (subst (MeetsOne ρ) (y .split) (back z)));
+            (λ z. on (subst (MeetsOne (signature (countsIn h)) ρ) (sym (y .split)) (inr z)), λ z. later q ρ from-all (subst (MeetsOne (signature (countsIn h)) ρ) (y .split) (back z)));
       }
         where
-          later : (q : Question) (ρ : Filling) → (MeetsAll ρ (getD (q .alternatives) i []) → r ≡ true) → MeetsOne ρ (getD (q .alternatives) i [] ∷ drop (i + 1) (q .alternatives)) → MeetsOne ρ (drop (i + 1) (q .alternatives))
+          later : (q : Question) (ρ : Filling) → (MeetsAll (signature (countsIn h)) ρ (getD (q .alternatives) i []) → r ≡ true) → MeetsOne (signature (countsIn h)) ρ (getD (q .alternatives) i [] ∷ drop (i + 1) (q .alternatives)) → MeetsOne (signature (countsIn h)) ρ (drop (i + 1) (q .alternatives))
           later q ρ k (inl z) = true≢false (k z) e
           later q ρ k (inr z) = z
 
@@ -162,5 +165,5 @@ module _ (h : Header) (fs ws : List ℕ) where
     keeps = m .keeps;
     each = λ q ρ x.
         let (on, back) = m .one q ρ x in
-        (λ z. true≢false z refl, λ z. absurd (subst (MeetsOne ρ) (no-more q ρ x i (omega (arith, m .number))) (back z)));
+        (λ z. true≢false z refl, λ z. absurd (subst (MeetsOne (signature (countsIn h)) ρ) (no-more q ρ x i (omega (arith, m .number))) (back z)));
   }

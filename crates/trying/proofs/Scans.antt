@@ -8,10 +8,11 @@ use lib.Dec.{ltb}
 use lib.ListN.{length, drop, drop-of-length-le}
 use borrow.Author.Tests.{lt-ltb, le-ltb, ltb-false}
 use Rattle.language.specs.Limits.{desk}
-use Rattle.language.specs.Trees.{eqn, mem, Conj, Counts}
+use Rattle.language.specs.Trees.{eqn, mem, Conj, Counts, signature}
 use Rattle.language.specs.Writing.{conjWords}
 use Rattle.language.specs.Between.{between}
 use Rattle.meaning.specs.Meaning.{Filling, MeetsAll}
+use Rattle.meaning.proofs.Values.{read-named}
 use Rattle.rules.specs.Calls.{filledSize, anyOver}
 use Rattle.filling.specs.Showing.{filled, Shows}
 use Rattle.trying.specs.Tasks.{Keeps, LiteralEnd, FittingLiteral, LiteralMet, AConj, SomeConj, FittingConj, ConjTooLong, ConjMet}
@@ -100,8 +101,8 @@ module _ (n : Counts) (fs ws : List ℕ) where
     pub left : Conj
     pub it : AConj n fs (drop i ws) left ρ
     pub fits : anyOver desk ρ k ≡ false → anyOver desk ρ left ≡ false
-    pub all : MeetsAll ρ left → MeetsAll ρ k
-    pub all′ : MeetsAll ρ k → MeetsAll ρ left
+    pub all : MeetsAll (signature n) ρ left → MeetsAll (signature n) ρ k
+    pub all′ : MeetsAll (signature n) ρ k → MeetsAll (signature n) ρ left
 
   pub record Testing (i : ℕ) (w w′ : List ℕ) : Type 0 where
     pub keeps : Keeps w w′
@@ -133,7 +134,7 @@ module _ (n : Counts) (fs ws : List ℕ) where
             let l = s .each k ρ x in
             let y = next-literal n fs ws i end (l .left) ρ e p (l .it) in
             let (to, from) = m .each (y .l) ρ (y .literal) in
-            (λ z. true≢false z refl, λ z. let a : MeetsAll ρ (y .l ∷ y .later) = subst (MeetsAll ρ) (y .is) (l .all′ z) in true≢false (from (a .0)) q);
+            (λ z. true≢false z refl, λ z. let a : MeetsAll (signature n) ρ (y .l ∷ y .later) = subst (MeetsAll (signature n) ρ) (y .is) (l .all′ z) in true≢false (from (a .0)) q);
       }
 
       pub test-on : r ≡ true → Testing end w v
@@ -150,8 +151,8 @@ module _ (n : Counts) (fs ws : List ℕ) where
               fits = λ f.
                   let g : anyOver desk ρ (y .l ∷ y .later) ≡ false = ap (anyOver desk ρ) (sym (y .is)) ∙ l .fits f in
                   or-false (ltb (desk .literal) (filledSize ρ (y .l))) (anyOver desk ρ (y .later)) g .1;
-              all = λ z. l .all (subst (MeetsAll ρ) (sym (y .is)) (to q, z));
-              all′ = λ z. let a : MeetsAll ρ (y .l ∷ y .later) = subst (MeetsAll ρ) (y .is) (l .all′ z) in a .1;
+              all = λ z. l .all (subst (MeetsAll (signature n) ρ) (sym (y .is)) (to q, z));
+              all′ = λ z. let a : MeetsAll (signature n) ρ (y .l ∷ y .later) = subst (MeetsAll (signature n) ρ) (y .is) (l .all′ z) in a .1;
             };
       }
 
@@ -161,5 +162,5 @@ module _ (n : Counts) (fs ws : List ℕ) where
     each = λ k ρ x.
         let l = s .each k ρ x in
         let z = none-left (l .left) (sym (drop-of-length-le ws p) ∙ l .it .words) in
-        (λ e. l .all (subst (MeetsAll ρ) (sym z) tt), λ m. refl);
+        (λ e. l .all (subst (MeetsAll (signature n) ρ) (sym z) (read-named n (x .symbol) desk fs ρ (x .given))), λ m. refl);
   }

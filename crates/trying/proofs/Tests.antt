@@ -1,18 +1,22 @@
--- Testing an equation and a membership: what was written into the work slice, and what comparing or deciding says of it.
+-- Testing an equation and a membership: what was written into the work slice, and what is decided of it.
 use Prim.Native.Nat.{ℕ, _+_, _≤_}
-use mathlib.Core.Path.{_≡_, sym, ap, _∙_}
+use mathlib.Core.Path.{_≡_, ap, ap₂, _∙_}
 use mathlib.Core.Bool.{Bool}
 use mathlib.Core.List.{List, _++_}
+use native.Mathlib.Nat.{zero-add}
 use native.Mathlib.Omega.{arith}
-use lib.ListN.{length, drop}
+use lib.ListN.{length, drop, length-append}
 use lib.Seq.{sets}
+use Rattle.language.specs.declared.Signature.{Signature}
 use Rattle.language.specs.Limits.{desk}
 use Rattle.language.specs.Between.{between}
 use Rattle.meaning.specs.Complete.{Complete, completeWords}
 use Rattle.member.specs.Places.{StandsC, Both, Decided}
+use Rattle.alike.specs.Tasks.{Two, Pair}
+use Rattle.alike.specs.Tasks as alike
 use Rattle.filling.specs.Showing.{filled, Written}
-use Rattle.trying.specs.Tasks.{SameWords, EquationMet, Testable, MembershipMet}
-use Rattle.trying.proofs.Rooms.{at-front, keeps-sets, keeps-both, first-written, second-written}
+use Rattle.trying.specs.Tasks.{Becoming, Comparable, EquationMet, Testable, MembershipMet}
+use Rattle.trying.proofs.Rooms.{at-front, keeps-sets, keeps-both, both-written}
 
 module _ {t h : ℕ} {fs : List ℕ} where
   -- a complete hedge that was written at the front stands there
@@ -26,7 +30,7 @@ module _ {t h : ℕ} {fs : List ℕ} where
     pub both-stand : Testable t h fs hedge expr → Both expr 0 w′ 0
     both-stand s = record { R = s .R; g = s .g; expression = s .expression; hedge = stands x (omega arith) (s .g) (s .becomes) }
 
-    pub membership-met : {r : Bool} → Decided expr 0 w′ 0 r → MembershipMet t h fs hedge expr w w′ r
+    pub membership-met : {σ : Signature} {r : Bool} → Decided σ expr 0 w′ 0 r → MembershipMet σ t h fs hedge expr w w′ r
     membership-met d = record {
       keeps = keeps-sets w 0 (filled t h fs hedge) w′ (x .words) (omega arith);
       each = λ R g s e. d .means R g s (stands x (omega arith) g e);
@@ -40,14 +44,21 @@ module _ {t h : ℕ} {fs : List ℕ} where
     abbrev b : List ℕ
     b = filled t h fs right
 
-    both-written : v ≡ sets (sets w 0 a) (0 + length a) b
-    both-written = y .words ∙ ap (λ l. sets l m b) (x .words) ∙ ap (λ k. sets (sets w 0 a) k b) (x .place)
+    written : between 0 n v ≡ a ++ b
+    written = both-written w a b (omega arith) v n (y .words ∙ ap (λ l. sets l m b) (x .words) ∙ ap (λ k. sets (sets w 0 a) k b) (x .place)) (omega (arith, x .place, y .place))
 
-    pub equation-met : {r : Bool} → SameWords (between 0 m v) (between m n v) r → EquationMet t h fs left right w v r
-    equation-met s = record {
+    -- the two that they become stand there
+    two : (g k : Complete) → Becoming t h fs left right g k → Two (between 0 n v) m g k
+    two g k z = record { words = written ∙ ap₂ _++_ (z .first) (z .second); middle = x .place ∙ zero-add (length a) ∙ ap length (z .first) }
+
+    pub pair-written : Comparable t h fs left right → Pair (between 0 n v) m
+    pair-written c = record { g = c .g; h = c .k; it = two (c .g) (c .k) (c .it) }
+
+    pub pair-fits : length (between 0 n v) ≤ desk .literal
+    pair-fits = omega (arith, ap length written, length-append a b)
+
+    pub equation-met : {σ : Signature} {r : Bool} → alike.Decided σ (between 0 n v) m r → EquationMet σ t h fs left right w v r
+    equation-met d = record {
       keeps = keeps-both (keeps-sets w 0 a u (x .words) (omega arith)) (keeps-sets u m b v (y .words) (omega (arith, x .place)));
-      compares =
-          let l = first-written w a b (omega arith) v m both-written (x .place) in
-          let r = second-written w a b (omega arith) v m n both-written (x .place) (y .place) in
-          record { same = λ e. sym l ∙ s .same e ∙ r; other = λ e z. s .other e (l ∙ z ∙ sym r) };
+      each = λ g k z. d .means g k (two g k z);
     }

@@ -1,5 +1,6 @@
 // Trying a filling: whether it meets a question, or why that cannot be said.
 use language::Refusal;
+use language::Signature;
 use language::limits::LITERAL;
 use language::limits::ROOM;
 use language::wide;
@@ -15,24 +16,8 @@ ghost use Rattle.language.specs.Limits.{desk};
 ghost use Rattle.rules.specs.Calls.{trying};
 ghost use Rattle.reader.specs.Checking.{countsIn};
 ghost use Rattle.filling.specs.Showing.{filled, Shows};
-ghost use Rattle.trying.specs.Tasks.{SameWords, FirstEnd, EquationMet, Testable, MembershipMet, FittingLiteral, LiteralMet, LiteralEnd, SomeConj, FittingConj, ConjTooLong, ConjMet, SomeQuestion, FittingQuestion, QuestionTooLong, QuestionMet, AskedQuestion};
+ghost use Rattle.trying.specs.Tasks.{FirstEnd, Comparable, EquationMet, Testable, MembershipMet, FittingLiteral, LiteralMet, LiteralEnd, SomeConj, FittingConj, ConjTooLong, ConjMet, SomeQuestion, FittingQuestion, QuestionTooLong, QuestionMet, AskedQuestion};
 ghost use Rattle.trying.specs.Outcome.{ToldOutcome, TriedGiven, TriedAsked};
-
-fn same(a: &[u16], b: &[u16]) -> bool
-    ensures { λ r. ⌜ SameWords (now (a .entry)) (now (b .entry)) r ⌝ }
-{
-    if a.len() != b.len() {
-        return false;
-    }
-    let mut i: usize = 0;
-    while i < a.len() {
-        if a[i] != b[i] {
-            return false;
-        }
-        i += 1;
-    }
-    true
-}
 
 // ---- A literal.
 
@@ -53,18 +38,20 @@ fn meets_equation<'a>(
     right: &'a [u16],
     terms: usize,
     hedges: usize,
+    s: Signature,
     work: &mut [u16],
 ) -> bool
     requires { ⌜ Shows terms hedges (now filling) (now left) ⌝ }
     requires { ⌜ Shows terms hedges (now filling) (now right) ⌝ }
+    requires { ⌜ Comparable terms hedges (now filling) (now left) (now right) ⌝ }
     requires { ⌜ length (filled terms hedges (now filling) (now left)) + length (filled terms hedges (now filling) (now right)) ≤ desk .literal ⌝ }
     requires { ⌜ desk .room ≤ length (now work) ⌝ }
-    ensures { λ r. ⌜ EquationMet terms hedges (now (filling .entry)) (now (left .entry)) (now (right .entry)) (now (work .entry)) (now (work .exit)) r ⌝ }
+    ensures { λ r. ⌜ EquationMet s terms hedges (now (filling .entry)) (now (left .entry)) (now (right .entry)) (now (work .entry)) (now (work .exit)) r ⌝ }
 {
     let mid = filling::fill_in(filling, left, terms, hedges, work, 0);
     let end = filling::fill_in(filling, right, terms, hedges, work, mid);
     let words = &work[..];
-    same(&words[0..mid], &words[mid..end])
+    alike::same(&words[0..end], mid, s)
 }
 
 // The hedge is written into the work slice.
@@ -74,6 +61,7 @@ fn meets_membership<'a>(
     expression: &'a [u16],
     terms: usize,
     hedges: usize,
+    s: Signature,
     work: &mut [u16],
 ) -> bool
     requires { ⌜ Shows terms hedges (now filling) (now hedge) ⌝ }
@@ -81,10 +69,10 @@ fn meets_membership<'a>(
     requires { ⌜ length (now expression) ≤ desk .question ⌝ }
     requires { ⌜ length (filled terms hedges (now filling) (now hedge)) ≤ desk .literal ⌝ }
     requires { ⌜ desk .room ≤ length (now work) ⌝ }
-    ensures { λ r. ⌜ MembershipMet terms hedges (now (filling .entry)) (now (hedge .entry)) (now (expression .entry)) (now (work .entry)) (now (work .exit)) r ⌝ }
+    ensures { λ r. ⌜ MembershipMet s terms hedges (now (filling .entry)) (now (hedge .entry)) (now (expression .entry)) (now (work .entry)) (now (work .exit)) r ⌝ }
 {
     let end = filling::fill_in(filling, hedge, terms, hedges, work, 0);
-    member::member(expression, 0, &work[..], 0)
+    member::member(expression, 0, &work[..], 0, s)
 }
 
 fn meets_literal<'a>(h: Header, filling: &'a [u16], literal: &'a [u16], work: &mut [u16]) -> bool
@@ -94,6 +82,10 @@ fn meets_literal<'a>(h: Header, filling: &'a [u16], literal: &'a [u16], work: &m
 {
     let terms = wide(h.terms);
     let hedges = wide(h.hedges);
+    let s = Signature {
+        symbols: h.symbols,
+        unordered: h.unordered,
+    };
     let mid = first_end(literal);
     let end = literal.len();
     if literal[0] == 5000 {
@@ -103,6 +95,7 @@ fn meets_literal<'a>(h: Header, filling: &'a [u16], literal: &'a [u16], work: &m
             &literal[mid..end],
             terms,
             hedges,
+            s,
             work,
         );
     }
@@ -112,6 +105,7 @@ fn meets_literal<'a>(h: Header, filling: &'a [u16], literal: &'a [u16], work: &m
         &literal[mid..end],
         terms,
         hedges,
+        s,
         work,
     )
 }

@@ -13,8 +13,8 @@ use language::Kind;
 use language::Name;
 use language::TermVar;
 use language::classify;
-use words::element_end;
-use words::hedge_end;
+use spans::element_end;
+use spans::hedge_end;
 use words::next_literal;
 use words::word;
 

@@ -1,13 +1,13 @@
 -- Any two outcomes that a contract of this crate allows coincide: how many words are taken, and the words or bytes lent.
 use Prim.Native.Nat.{ℕ}
-use mathlib.Core.Path.{sym, ap, ap₂, _∙_}
+use mathlib.Core.Path.{sym, ap, _∙_}
 use mathlib.Core.List.{List}
 use lib.ListN.{length}
 use Rattle.language.proofs.Determined.{Determined}
 use Rattle.word_bytes.proofs.take_words as take-words
 use Rattle.word_bytes.proofs.write_words as write-words
+use Rattle.word_bytes.proofs.write_words_at as write-words-at
 use Rattle.word_bytes.proofs.word_at as word-at
-use Rattle.word_bytes.proofs.put_words as put-words
 
 take_words-determined : Determined take-words.ended take-words.Reads.Pre take-words.Reads.Post
 take_words-determined κs a p o q e d =
@@ -16,8 +16,8 @@ take_words-determined κs a p o q e d =
 write_words-determined : Determined write-words.ended write-words.Reads.Pre write-words.Reads.Post
 write_words-determined κs a p o q e d = ap (λ (bytes : List ℕ). (tt, (tt, (bytes, tt)))) (e ∙ sym d)
 
-word_at-determined : Determined word-at.ended word-at.Reads.Pre word-at.Reads.Post
-word_at-determined κs a p o q e d = ap (λ z. (z, o .1)) (e ∙ sym d)
+write_words_at-determined : Determined write-words-at.ended write-words-at.Reads.Pre write-words-at.Reads.Post
+write_words_at-determined κs a p o q e d = ap (λ (bytes : List ℕ). (tt, (tt, (bytes, (tt, tt))))) (e ∙ sym d)
 
-put_words-determined : Determined put-words.ended put-words.Reads.Pre put-words.Reads.Post
-put_words-determined κs a p o q e d = ap₂ (λ z (s : List ℕ). (z, (tt, (s, (tt, tt))))) (e .0 ∙ sym (d .0)) (e .1 ∙ sym (d .1))
+word_at-determined : Determined word-at.ended word-at.Reads.Pre word-at.Reads.Post
+word_at-determined κs a p o q e d = ap (λ n. (n, o .1)) (e ∙ sym d)

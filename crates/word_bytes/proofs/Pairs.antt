@@ -7,7 +7,7 @@ use native.Mathlib.Nat.{zero-add, not-suc-le-zero, le-of-suc-le-suc}
 use native.Mathlib.Numerals.{add-one}
 use lib.ListN.{length, getD, set, take, drop, length-drop}
 use borrow.Author.Tests.{eq-eqb, ne-eqb, le-leb, lt-leb}
-use lib.Seq.{sets, drop-cons, drop-length, sets-eq, take-at}
+use lib.Seq.{sets, drop-cons, drop-length, sets-eq, take-at, take-nil, drop-nil, getD-drop}
 use Rattle.word_bytes.specs.Bytes.{wordOf, wordsOf, bytesOf, wordsIn, fitting}
 
 -- ---- lengths
@@ -45,29 +45,49 @@ none-left (low ∷ (high ∷ bs)) h = absurd (not-suc-le-zero (le-of-suc-le-suc 
 pub all-read : (bs words : List ℕ) (i : ℕ) → i ≡ length bs / 2 → sets words i (wordsOf (drop (2 * i) bs)) ≡ words
 all-read bs words i e = rw (none-left (drop (2 * i) bs) (simp length-drop (omega arith)))
 
--- ---- one word
-
-pub word-at : (bs : List ℕ) (i w : ℕ) → i < length bs / 2 → w ≡ wordOf (getD bs (2 * i) 0) (getD bs (2 * i + 1) 0) → w ≡ getD (wordsOf bs) i 0
+-- the words of the bytes from a word's place on
+pub words-from : (bs : List ℕ) (i : ℕ) → wordsOf (drop (2 * i) bs) ≡ drop i (wordsOf bs)
 unfolding wordsOf
-word-at [] i w h e = absurd (omega arith)
-word-at (low ∷ []) i w h e = absurd (omega arith)
-word-at (low ∷ (high ∷ bs)) zero w h e = e
-word-at (low ∷ (high ∷ bs)) (suc i) w h e =
-    let f : 2 * suc i ≡ suc (suc (2 * i)) = omega arith in
-    word-at bs i w (omega arith) (e ∙ rw (f, add-one (suc (suc (2 * i))), add-one (2 * i)))
+words-from bs zero = refl
+words-from [] (suc i) = ap wordsOf (drop-nil (2 * suc i))
+words-from (low ∷ []) (suc i) = ap (λ n. wordsOf (drop n (low ∷ []))) (let z : 2 * suc i ≡ suc (suc (2 * i)) = omega arith in z)
+words-from (low ∷ (high ∷ bs)) (suc i) = ap (λ n. wordsOf (drop n (low ∷ (high ∷ bs)))) (let z : 2 * suc i ≡ suc (suc (2 * i)) = omega arith in z) ∙ words-from bs i
+
+word-in : (bs : List ℕ) (i : ℕ) → suc (2 * i) < length bs → getD (wordsOf bs) i 0 ≡ wordOf (getD bs (2 * i) 0) (getD bs (suc (2 * i)) 0)
+unfolding wordsOf
+word-in bs i h =
+    ap (λ j. getD (wordsOf bs) j 0) (let z : i ≡ i + 0 = omega arith in z) ∙ sym (getD-drop i (wordsOf bs) 0 0) ∙ ap (λ ws. getD ws 0 0) (sym (words-from bs i))
+    ∙ ap (λ l. getD (wordsOf l) 0 0) (pair-at bs (2 * i) h)
+
+-- the words of so many pairs of bytes
+pub words-up-to : (bs : List ℕ) (i : ℕ) → wordsOf (take (2 * i) bs) ≡ take i (wordsOf bs)
+unfolding wordsOf
+words-up-to bs zero = refl
+words-up-to [] (suc i) = ap wordsOf (take-nil (2 * suc i))
+words-up-to (low ∷ []) (suc i) = ap (λ n. wordsOf (take n (low ∷ []))) (let z : 2 * suc i ≡ suc (suc (2 * i)) = omega arith in z)
+words-up-to (low ∷ (high ∷ bs)) (suc i) =
+    ap (λ n. wordsOf (take n (low ∷ (high ∷ bs)))) (let z : 2 * suc i ≡ suc (suc (2 * i)) = omega arith in z) ∙ ap (λ ws. wordOf low high ∷ ws) (words-up-to bs i)
 
 -- ---- a turn of writing
 
-pub write-more : (ws bytes : List ℕ) (i to a b : ℕ) → i < length ws → a ≡ getD ws i 0 % 256 → b ≡ getD ws i 0 / 256
-    → sets (set (set bytes to a) (to + 1) b) (to + 2) (bytesOf (drop (i + 1) ws)) ≡ sets bytes to (bytesOf (drop i ws))
+pub write-more : (ws bytes : List ℕ) (at i a b : ℕ) → i < length ws → a ≡ getD ws i 0 % 256 → b ≡ getD ws i 0 / 256
+    → sets (set (set bytes (2 * (at + i)) a) (2 * (at + i) + 1) b) (2 * (at + (i + 1))) (bytesOf (drop (i + 1) ws)) ≡ sets bytes (2 * (at + i)) (bytesOf (drop i ws))
 unfolding bytesOf
-write-more ws bytes i to a b h ea eb =
-    let f : to + 2 ≡ suc (suc to) = omega arith in
-    rw (ea, eb, f, add-one to, add-one i, drop-cons ws i 0 h)
+write-more ws bytes at i a b h ea eb =
+    let f : 2 * (at + (i + 1)) ≡ suc (suc (2 * (at + i))) = omega arith in
+    rw (ea, eb, f, add-one (2 * (at + i)), add-one i, drop-cons ws i 0 h)
 
-pub all-written : (ws bytes : List ℕ) (i to : ℕ) → i ≡ length ws → sets bytes to (bytesOf (drop i ws)) ≡ bytes
+pub none-written : (ws bytes : List ℕ) (at : ℕ) → sets bytes (2 * (at + 0)) (bytesOf (drop 0 ws)) ≡ sets bytes (2 * at) (bytesOf ws)
+none-written ws bytes at = ap (λ n. sets bytes (2 * n) (bytesOf ws)) (let z : at + 0 ≡ at = omega arith in z)
+
+pub all-written : (ws bytes : List ℕ) (at i : ℕ) → i ≡ length ws → sets bytes (2 * (at + i)) (bytesOf (drop i ws)) ≡ bytes
 unfolding bytesOf
-all-written ws bytes i to e = rw (e, drop-length ws)
+all-written ws bytes at i e = rw (e, drop-length ws)
+
+-- ---- one word
+
+pub word-is : (bs : List ℕ) (i w : ℕ) → suc (2 * i) < length bs → w ≡ wordOf (getD bs (2 * i) 0) (getD bs (2 * i + 1) 0) → w ≡ getD (wordsOf bs) i 0
+word-is bs i w h e = e ∙ ap (wordOf (getD bs (2 * i) 0)) (ap (λ j. getD bs j 0) (add-one (2 * i))) ∙ sym (word-in bs i h)
 
 -- ---- there and back
 

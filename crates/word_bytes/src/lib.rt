@@ -1,7 +1,7 @@
 // Words as bytes, the low byte first: read from the bytes of a caller, and written to them.
 ghost use Prim.Native.Nat.{_+_, _*_, _/_, _%_, _≤_, _<_};
 ghost use mathlib.Core.Path.{_≡_};
-ghost use lib.ListN.{length, getD, take};
+ghost use lib.ListN.{length, take, getD};
 ghost use lib.Seq.{sets};
 ghost use Rattle.word_bytes.specs.Bytes.{wordOf, wordsOf, bytesOf, wordsIn, fitting};
 
@@ -21,14 +21,6 @@ fn high(w: u16) -> u8
     ensures { λ r. ⌜ r ≡ w / 256 ⌝ }
 {
     (w / 256) as u8
-}
-
-// The word of that number among these bytes.
-pub fn word_at(bytes: &[u8], i: usize) -> u16
-    requires { ⌜ i < length (now bytes) / 2 ⌝ }
-    ensures { λ r. ⌜ r ≡ getD (wordsOf (now (bytes .entry))) i 0 ⌝ }
-{
-    word(bytes[2 * i], bytes[2 * i + 1])
 }
 
 // The words of these bytes, at the start of `words`.
@@ -60,21 +52,18 @@ pub fn take_words(bytes: &[u8], words: &mut [u16]) -> usize
     n
 }
 
-// The bytes of these words, into `bytes` at a place. The place after them.
-pub fn put_words(words: &[u16], bytes: &mut [u8], at: usize) -> usize
-    requires { ⌜ at + 2 * length (now words) ≤ length (now bytes) ⌝ }
-    ensures { λ r. ⌜ (r ≡ at + 2 * length (now (words .entry))) × (now (bytes .exit) ≡ sets (now (bytes .entry)) at (bytesOf (now (words .entry)))) ⌝ }
+// The bytes of these words, from the place of the word `at` on.
+pub fn write_words_at(words: &[u16], bytes: &mut [u8], at: usize)
+    requires { ⌜ 2 * (at + length (now words)) ≤ length (now bytes) ⌝ }
+    ensures { λ _. ⌜ now (bytes .exit) ≡ sets (now (bytes .entry)) (2 * at) (bytesOf (now (words .entry))) ⌝ }
 {
     let mut i = 0;
-    let mut to = at;
     while i < words.len() {
         let w = words[i];
-        bytes[to] = low(w);
-        bytes[to + 1] = high(w);
-        to += 2;
+        bytes[2 * (at + i)] = low(w);
+        bytes[2 * (at + i) + 1] = high(w);
         i += 1;
     }
-    to
 }
 
 // The bytes of these words, at the start of `bytes`.
@@ -82,5 +71,13 @@ pub fn write_words(words: &[u16], bytes: &mut [u8])
     requires { ⌜ 2 * length (now words) ≤ length (now bytes) ⌝ }
     ensures { λ _. ⌜ now (bytes .exit) ≡ sets (now (bytes .entry)) 0 (bytesOf (now (words .entry))) ⌝ }
 {
-    put_words(words, bytes, 0);
+    write_words_at(words, bytes, 0);
+}
+
+// The word at a place.
+pub fn word_at(bytes: &[u8], i: usize) -> u16
+    requires { ⌜ 2 * i + 1 < length (now bytes) ⌝ }
+    ensures { λ r. ⌜ r ≡ getD (wordsOf (now (bytes .entry))) i 0 ⌝ }
+{
+    word(bytes[2 * i], bytes[2 * i + 1])
 }

@@ -1,6 +1,7 @@
 // The lines of an answer, and the values of a filling.
 ghost use Prim.Native.Nat.{_<_};
 use answers::LINE_HEAD;
+use language::Signature;
 use language::wide;
 use notation::hedge;
 use notation::literals;
@@ -9,8 +10,17 @@ use print::number;
 use print::say;
 use words::word;
 
+// The signature of a question, from its first word.
+fn signature_of(question: &[u16]) -> Signature {
+    let first = word(question, 0);
+    Signature {
+        symbols: first % 256,
+        unordered: first / 256,
+    }
+}
+
 // Line i of an answer: its place among the lines, its mark and the number of its alternative, then its literals.
-fn line(answer: &[u16], i: usize)
+fn line(s: Signature, answer: &[u16], i: usize)
     requires { ⌜ i < 65536 ⌝ }
 {
     let from = wide(word(answer, i + 2));
@@ -29,15 +39,15 @@ fn line(answer: &[u16], i: usize)
     if start >= to {
         say(b"  every report meets it\n");
     }
-    literals(answer, start, to);
+    literals(s, answer, start, to);
 }
 
 // Every line of an answer.
-fn lines(answer: &[u16]) {
+fn lines(s: Signature, answer: &[u16]) {
     let n = wide(word(answer, 0));
     let mut i = 0;
     while i < n {
-        line(answer, i);
+        line(s, answer, i);
         i += 1;
     }
 }
@@ -57,10 +67,10 @@ fn counts(s: Solved) {
 }
 
 // An answer: its verdict, its counts and its lines.
-pub fn answered(verdict: &[u8], s: Solved, answer: &[u16]) {
+pub fn answered<'a>(verdict: &'a [u8], s: Solved, question: &'a [u16], answer: &'a [u16]) {
     say(verdict);
     counts(s);
-    lines(answer);
+    lines(signature_of(question), answer);
 }
 
 // A word in decimal, apart from the one before it.
@@ -100,13 +110,14 @@ fn variable(i: usize, terms: usize, hedges: usize) {
 
 // A filling's values as remarks, and then its words, so that what is written here can be read again.
 pub fn filling(question: &[u16], ws: &[u16]) {
+    let s = signature_of(question);
     let n = wide(word(ws, 0));
     let mut i = 0;
     while i < n {
         say(b"# ");
         variable(i, wide(word(question, 1)), wide(word(question, 2)));
         say(b" = ");
-        hedge(ws, wide(word(ws, i + 1)));
+        hedge(s, ws, wide(word(ws, i + 1)));
         say(b"\n");
         i += 1;
     }

@@ -14,15 +14,18 @@ pub fn help() {
     say(b"desk example --old-sheets FILE LINE\n");
     say(b"                           the same; blanks that may be anything are then a0, and\n");
     say(b"                           else the last symbol\n");
+    say(b"desk day FILE..            a table of many questions: a row for each file\n");
     say(b"\n");
     say(b"A file holds words in decimal; # begins a remark, and - is standard input.\n");
     say(b"The folder examples has some questions.\n");
     say(b"\n");
     say(b"In an answer x0 is a blank for one part, p0 for a run of parts, X0 for a name;\n");
-    say(b"a0 is a symbol, () no part at all. In a pattern R . S is one after the other,\n");
-    say(b"R + S either, R* any number. An open line may be met by some report or by none.\n");
+    say(b"a0 is a symbol, a1~ one whose parts come in any order, () no part at all. In a\n");
+    say(b"pattern R . S is one after the other, R + S either, R* any number. An open line\n");
+    say(b"may be met by some report or by none.\n");
     say(b"\n");
     say(b"The exit status is 0 where there are lines, a yes or an example, 1 where the\n");
     say(b"answer is none or no, and 2 where the desk refuses, is used wrongly or cannot\n");
-    say(b"read a file. Answers go to standard output, all else to standard error.\n");
+    say(b"read a file; of a day it is 0 where every question is answered. Answers go to\n");
+    say(b"standard output, all else to standard error.\n");
 }

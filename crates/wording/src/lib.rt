@@ -4,4 +4,5 @@ pub mod answer;
 pub mod help;
 pub mod mistakes;
 mod pointing;
-pub mod refusals;
+pub mod reasons;
+pub mod table;

@@ -3,8 +3,6 @@ use mathlib.Core.Path.{sym, ap, _∙_}
 use Rattle.language.proofs.Determined.{Determined}
 use Rattle.words.proofs.word as word
 use Rattle.words.proofs.stands as stands
-use Rattle.words.proofs.hedge_end as hedge_end
-use Rattle.words.proofs.element_end as element_end
 use Rattle.words.proofs.next_literal as next_literal
 use Rattle.words.proofs.elsewhere as elsewhere
 use Rattle.words.proofs.same_part as same_part
@@ -14,12 +12,6 @@ word-determined κs a p o q e d = ap (λ z. (z, o .1)) (e ∙ sym d)
 
 stands-determined : Determined stands.ended stands.Reads.Pre stands.Reads.Post
 stands-determined κs a p o q e d = ap (λ z. (z, o .1)) (e ∙ sym d)
-
-hedge_end-determined : Determined hedge_end.ended hedge_end.Reads.Pre hedge_end.Reads.Post
-hedge_end-determined κs a p o q e d = ap (λ z. (z, o .1)) (e ∙ sym d)
-
-element_end-determined : Determined element_end.ended element_end.Reads.Pre element_end.Reads.Post
-element_end-determined κs a p o q e d = ap (λ z. (z, o .1)) (e ∙ sym d)
 
 next_literal-determined : Determined next_literal.ended next_literal.Reads.Pre next_literal.Reads.Post
 next_literal-determined κs a p o q e d = ap (λ z. (z, o .1)) (e ∙ sym d)

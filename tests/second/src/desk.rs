@@ -1,7 +1,7 @@
-//! What a desk knows. Requests are learnt one after another; each desk here
-//! is the base with the requests up to one of them, so that the worked answers
-//! of every time can be run, and the proved desk is compared with the one that
-//! knows as much as it does.
+//! What a desk knows. Requests are learnt one after another: the base with the
+//! requests up to one of them is a desk, so that the worked answers of every
+//! time can be run. The base with any of them is one too, so that the proved
+//! desk is compared with the one that knows what it does.
 
 /// The limits that a desk keeps.
 #[derive(Clone, Copy, PartialEq, Eq, Debug)]
@@ -47,7 +47,7 @@ pub struct Desk {
     pub replays: bool,
 }
 
-/// The requests in the order in which they are learnt.
+/// The requests in the order in which the worked answers take them to be learnt.
 pub const ORDER: [u8; 14] = [12, 3, 5, 8, 1, 4, 13, 6, 7, 11, 14, 9, 10, 2];
 
 impl Desk {
@@ -62,20 +62,22 @@ impl Desk {
         replays: false,
     };
 
-    /// The desk that knows the first `count` requests of the order.
-    pub fn after(count: usize) -> Desk {
-        ORDER[..count].iter().fold(Desk::BASE, |desk, request| desk.learn(*request))
+    /// The desk that knows these requests. Whatever their order, it is the same
+    /// desk, since each adds something of its own.
+    pub fn knowing(requests: &[u8]) -> Desk {
+        requests.iter().fold(Desk::BASE, |desk, request| desk.learn(*request))
     }
 
     /// The desk that knows a request and all before it in the order.
     pub fn up_to(request: u8) -> Desk {
         let place = ORDER.iter().position(|known| *known == request);
-        Desk::after(1 + place.unwrap_or_else(|| panic!("request {request} is not known")))
+        let place = place.unwrap_or_else(|| panic!("request {request} is not known"));
+        Desk::knowing(&ORDER[..=place])
     }
 
     /// The desk that knows all requests.
     pub fn newest() -> Desk {
-        Desk::after(ORDER.len())
+        Desk::knowing(&ORDER)
     }
 
     /// The words that a waiting conjunction costs beside its own, and that a
@@ -103,7 +105,7 @@ impl Desk {
             14 => self,
             // Calls of their own.
             9 | 10 | 2 => self,
-            _ => unreachable!("every request of the order is learnt here"),
+            _ => panic!("request {request} is not known"),
         }
     }
 }

@@ -6,33 +6,75 @@ use std::io::{BufReader, BufWriter, Read, Write};
 use std::path::{Path, PathBuf};
 use std::process::{Child, ChildStdin, ChildStdout, Command, Stdio};
 
-/// How many requests the proved desk has learnt. The bridge has the number,
+/// The requests that the proved desk has learnt. The bridge has the list,
 /// since it has to know which calls there are.
-pub fn landed() -> usize {
-    include_str!("../../bridge.c")
-        .lines()
-        .find_map(|line| line.strip_prefix("#define LANDED ")?.trim().parse().ok())
-        .expect("the bridge says how many requests have landed")
+pub fn landed() -> Vec<u8> {
+    let lines = include_str!("../../bridge.c").lines();
+    let listed = lines.filter_map(|line| line.strip_prefix("#define LANDED_"));
+    listed.map(|request| request.trim().parse().expect("the number of a request")).collect()
 }
 
-/// The desk that knows as many requests as the proved one does.
+/// Whether the proved desk has learnt a request.
+pub fn knows(request: u8) -> bool {
+    landed().contains(&request)
+}
+
+/// The desk that knows the same requests as the proved one.
 pub fn desk() -> Desk {
-    Desk::after(landed())
+    Desk::knowing(&landed())
 }
 
-/// The folders of worked answers up to those of the proved desk, which come
-/// last: of the base, and of each request that it has learnt.
-pub fn worked_folders() -> Vec<PathBuf> {
+/// A folder of worked answers that the proved desk is asked.
+pub struct Folder {
+    pub path: PathBuf,
+    /// The base, or a request.
+    pub name: String,
+    /// How many of the answers the proved desk has to give as they stand.
+    pub held: Held,
+}
+
+/// Worked answers of request N are of the desk that knows N and those before it
+/// in the order.
+pub enum Held {
+    /// All: the proved desk knows what that one does.
+    Whole,
+    /// At least so many: some of those requests have not landed.
+    AtLeast(u64),
+    /// None: the proved desk knows requests that come later.
+    Older,
+}
+
+/// So many worked answers at least are of use where a request has landed before
+/// one that stands before it.
+const OF_USE: u64 = 60;
+
+/// The folders of worked answers of the base and of each request that has
+/// landed.
+pub fn worked_folders() -> Vec<Folder> {
     let folder = Path::new(env!("CARGO_MANIFEST_DIR")).join("../vectors");
-    let wishes = ORDER[..landed()].iter().map(|request| folder.join(format!("wish-{request:02}")));
-    let folders = std::iter::once(folder.clone()).chain(wishes);
-    folders.filter(|folder| folder.exists()).collect()
+    let base = Folder { path: folder.clone(), name: String::from("base"), held: Held::Older };
+    let in_order = ORDER.iter().take_while(|request| knows(**request)).count();
+    let mut folders = vec![base];
+    for (place, request) in ORDER.iter().enumerate().filter(|(_, request)| knows(**request)) {
+        let name = format!("wish-{request:02}");
+        let held = match Desk::up_to(*request) == desk() {
+            true => Held::Whole,
+            false if place < in_order => Held::Older,
+            false => Held::AtLeast(OF_USE),
+        };
+        folders.push(Folder { path: folder.join(&name), name, held });
+    }
+    folders.retain(|folder| folder.path.exists());
+    folders
 }
 
-/// The newest folder that has a file of worked answers.
+/// The newest folder that has a file of worked answers, among those of requests
+/// that landed in order.
 pub fn worked_folder(file: &str) -> PathBuf {
-    let mut folders = worked_folders().into_iter().rev();
-    folders.find(|folder| folder.join(file).exists()).expect("the base has worked answers")
+    let in_order = |folder: &Folder| !matches!(folder.held, Held::AtLeast(_));
+    let mut folders = worked_folders().into_iter().rev().filter(in_order);
+    let newest = folders.find(|folder| folder.path.join(file).exists());
+    newest.expect("the base has worked answers").path
 }
 
 /// The proved desk's process.

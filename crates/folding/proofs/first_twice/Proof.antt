@@ -1,5 +1,5 @@
 -- One pass: the table of the literals passed, and the earliest of them that stands there again.
-use Prim.Native.Nat.{ℕ, _+_, _-_, _≤_}
+use Prim.Native.Nat.{ℕ, _+_, _-_, _/_, _≤_}
 use native.Mathlib.Omega.{arith}
 use mathlib.Core.Path.{_≡_, refl, ap, _∙_}
 use mathlib.Core.List.{List, []}
@@ -9,6 +9,7 @@ use Rattle.language.specs.Limits.{desk}
 use Rattle.language.specs.Trees.{Conj}
 use Rattle.language.specs.Writing.{conjWords}
 use Rattle.language.specs.Fine.{fineConj}
+use Rattle.language.proofs.Sizes.{literal-three}
 use Rattle.views.proofs.Seen.{literal-next}
 use Rattle.views.proofs.LiteralWalks.{Walked, walk-starts, walk-here, walk-to, walk-ends}
 use Rattle.folding.specs.Chains.{Falls}
@@ -29,19 +30,20 @@ abbrev μ-loop : tie.MeasureT-loop
 μ-loop k heads₀ next₀ best₀ i₀ heads next best i = length k - i
 
 loop-holds : tie.Need-loop-holds Inv-loop μ-loop
-loop-holds c = (falls-empty _ _ _ (length-replicate {A = ℕ} 1024 0) (length-replicate {A = ℕ} (desk .question) 0) (zeros 1024) (zeros (desk .question)), λ x f e. walk-starts (Known (c .before .args .k .now) _ _ _) x (table-empty _ _ (zeros 1024), refl))
+loop-holds c = (falls-empty _ _ _ (length-replicate {A = ℕ} 1024 0) (length-replicate {A = ℕ} (desk .question / 3) 0) (zeros 1024) (zeros (desk .question / 3)), λ x f e. walk-starts (Known (c .before .args .k .now) _ _ _) x (table-empty _ _ (zeros 1024), refl))
+
+-- a literal's words from a place to its end
+abbrev Within : List ℕ → ℕ → ℕ → Type 0
+Within k at end = (at + 3 ≤ end) × (end ≤ length k)
 
 note-requires : tie.Need-note-requires Inv-loop μ-loop
 note-requires c κs =
     let c₁ = c .before .before in let c₂ = c₁ .before in let c₃ = c₂ .before in let c₄ = c₃ .before .before in
     let x = c₄ .pre .1 in
-    let e = c₁ .next-literal .ensures in (
-      omega arith,
-      walk-here (c₄ .args .k .now) (x .conj) (x .fine) (x .words) (c₃ .loop .i) (Known (c₄ .args .k .now) (c₃ .loop .heads) (c₃ .loop .next) (c₃ .loop .best)) (c₁ .next-literal .result ≤ length (c₄ .args .k .now)) (c₃ .loop .inv .1 (x .conj) (x .fine) (x .words)) (c₂ .loop-test .taken)
-          (λ done l rest p d. literal-within p _ (e ∙ literal-next p)),
-      c₄ .pre .0,
-      c₃ .loop .inv .0,
-    )
+    let e = c₁ .next-literal .ensures in
+    let within = walk-here (c₄ .args .k .now) (x .conj) (x .fine) (x .words) (c₃ .loop .i) (Known (c₄ .args .k .now) (c₃ .loop .heads) (c₃ .loop .next) (c₃ .loop .best)) (Within (c₄ .args .k .now) (c₃ .loop .i) (c₁ .next-literal .result)) (c₃ .loop .inv .1 (x .conj) (x .fine) (x .words)) (c₂ .loop-test .taken)
+    (λ done l rest p d. (let z = e ∙ literal-next p in let y = literal-three l in omega arith, literal-within p _ (e ∙ literal-next p))) in
+    (within .0, within .1, c₄ .pre .0, c₃ .loop .inv .0)
 
 loop-less : tie.Need-loop-less Inv-loop μ-loop
 loop-less c = let z = c .before .before .before .before .next-literal .ensures in omega arith
@@ -50,7 +52,7 @@ loop-again : tie.Need-loop-again Inv-loop μ-loop
 loop-again c =
     let c₁ = c .before in let c₂ = c₁ .before .before .before in let c₃ = c₂ .before in let c₄ = c₃ .before in let c₅ = c₄ .before .before in
     let e = c₂ .next-literal .ensures in (
-      falls-on (c₁ .note .ensures) (omega arith) (c₄ .loop .inv .0),
+      falls-on (c₁ .note .ensures) (walk-here (c₅ .args .k .now) (c₅ .pre .1 .conj) (c₅ .pre .1 .fine) (c₅ .pre .1 .words) (c₄ .loop .i) (Known (c₅ .args .k .now) (c₄ .loop .heads) (c₄ .loop .next) (c₄ .loop .best)) (c₄ .loop .i + 3 ≤ c₂ .next-literal .result) (c₄ .loop .inv .1 (c₅ .pre .1 .conj) (c₅ .pre .1 .fine) (c₅ .pre .1 .words)) (c₃ .loop-test .taken) (λ done l rest p d. let z = e ∙ literal-next p in let y = literal-three l in omega arith)) (c₄ .loop .inv .0),
       λ x f w.
           walk-to (c₅ .args .k .now) x f w (c₄ .loop .i) (Known (c₅ .args .k .now) (c₄ .loop .heads) (c₄ .loop .next) (c₄ .loop .best)) (Known (c₅ .args .k .now) _ _ (c .least .result)) _ (c₄ .loop .inv .1 x f w) (c₃ .loop-test .taken)
           (λ done l rest p d.

@@ -1,11 +1,11 @@
 -- `seek`: what is left of the chain was not compared yet.
-use Prim.Native.Nat.{ℕ, _-_, _≤_}
+use Prim.Native.Nat.{ℕ, _-_, _/_, _≤_}
 use mathlib.Core.Path.{refl, sym, _∙_, subst}
 use mathlib.Core.Logic.{inr}
 use native.Mathlib.Omega.{arith}
 use borrow.Author.Needs.{needs}
 use Rattle.folding.specs.Chains.{Held, here, further, met, unmet}
-use Rattle.folding.proofs.Chains.{Left, left-on, left-end}
+use Rattle.folding.proofs.Chains.{in-row, Left, left-on, left-end}
 use Rattle.folding.proofs.seek.Statement.{statement}
 use Rattle.folding.proofs.seek.Tie as tie
 
@@ -19,12 +19,16 @@ returns : tie.Need-returns Inv-loop μ-loop
 returns c = met (c .before .before .before .loop .inv .1 _ (here (omega arith))) (sym (c .before .same-part .ensures) ∙ c .if1 .taken)
 
 loop-less : tie.Need-loop-less Inv-loop μ-loop
-loop-less c = let z = c .before .before .before .before .before .before .before .pre .4 (c .before .before .before .before .before .loop .p - 1) in let y = c .wide .ensures in omega arith
+loop-less c =
+    let c₁ = c .before .before .before .before .before in
+    let q = c₁ .loop .p - 1 in
+    let z = c₁ .before .before .pre .4 (q / 3) in let x = in-row q in let y = c .wide .ensures in omega arith
 
 loop-again : tie.Need-loop-again Inv-loop μ-loop
 loop-again c =
     let c₁ = c .before .before in let c₂ = c₁ .before in let c₃ = c₂ .before .before in let c₄ = c₃ .before .before in
-    let z = c₄ .pre .4 (c₃ .loop .p - 1) in
+    let z = c₄ .pre .4 ((c₃ .loop .p - 1) / 3) in
+    let x = in-row (c₃ .loop .p - 1) in
     let y = c .wide .ensures in (
       omega arith,
       λ q r. c₃ .loop .inv .1 q (further (c₃ .loop .p - 1) (omega arith) (subst (λ n. Held (c₄ .args .next .now) n q) y r)),

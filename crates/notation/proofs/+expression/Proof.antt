@@ -18,7 +18,7 @@ use Rattle.notation.proofs.+expression.{statement}
 use Rattle.notation.proofs.+expression.Tie.{close}
 
 abbrev μ : Measures 1 kinds.ps ℕ
-μ κs a = length (a .0 .now) - a .1 .0
+μ κs a = length (a .1 .0 .now) - a .1 .1 .0
 
 abbrev At : ℕ → In 1 kinds.ps
 At t = and 1 kinds.ps (is 1 kinds.ps μ t) f.Pre

@@ -4,6 +4,7 @@ use Rattle.plans.specs.Sizes.{Short}
 use mathlib.Core.Path.{refl, ap}
 use Rattle.slices.proofs.Still.{Still, still-all, still-none, still-fits, still-run}
 use Rattle.results.proofs.Results.{cuts, cuts-none, cuts-split, cuts-short}
+use native.Mathlib.Omega.{arith}
 use borrow.Author.Needs.{needs}
 use Rattle.results.proofs.write_cuts.Statement.{statement}
 use Rattle.results.proofs.write_cuts.Tie as tie
@@ -23,6 +24,7 @@ write-framed-requires c κs =
     let a = c₃ .args in (
       cuts-short (a .k .now) (a .r) (c₂ .loop .left) (c₂ .loop .c) (c₁ .loop-test .taken) _ refl (c₂ .loop .inv .1) .0,
       still-fits (c₂ .loop .inv .0) (cuts-split (a .k .now) (a .r) (c₂ .loop .left) (c₂ .loop .c) (c₁ .loop-test .taken) _ refl (a .number)),
+      omega arith,
     )
 
 loop-again : tie.Need-loop-again Inv-loop μ-loop

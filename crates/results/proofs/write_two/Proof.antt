@@ -4,6 +4,7 @@ use mathlib.Core.List.{[], _∷_}
 use Rattle.plans.specs.Results.{made}
 use Rattle.slices.proofs.Still.{still-all, still-none, still-fits, still-run}
 use Rattle.results.proofs.Results.{framed-split}
+use native.Mathlib.Omega.{arith}
 use borrow.Author.Needs.{needs}
 use Rattle.results.proofs.write_two.Statement.{statement}
 use Rattle.results.proofs.write_two.Tie as tie
@@ -12,7 +13,7 @@ write-framed-requires : tie.Need-write-framed-requires
 write-framed-requires c κs = let a = c .before .before .before .args in
     let v = made (a .k .now) (a .a) 0 in
     let w = made (a .k .now) (a .b) 0 in
-    (c .before .before .before .pre .short .0, still-fits (still-all (a .out .now) _ _ (c .before .before .before .pre .room)) (framed-split (a .number) v (w ∷ [])))
+    (c .before .before .before .pre .short .0, still-fits (still-all (a .out .now) _ _ (c .before .before .before .pre .room)) (framed-split (a .number) v (w ∷ [])), omega arith)
 
 write-framed-requires-2 : tie.Need-write-framed-requires-2
 write-framed-requires-2 c κs =
@@ -20,7 +21,7 @@ write-framed-requires-2 c κs =
     let a = c₂ .args in
     let v = made (a .k .now) (a .a) 0 in
     let w = made (a .k .now) (a .b) 0 in
-    (c₂ .pre .short .1 .0, still-fits (still-run (still-all (a .out .now) _ _ (c₂ .pre .room)) (framed-split (a .number) v (w ∷ [])) (c₁ .write-framed .ensures)) (framed-split (a .number) w []))
+    (c₂ .pre .short .1 .0, still-fits (still-run (still-all (a .out .now) _ _ (c₂ .pre .room)) (framed-split (a .number) v (w ∷ [])) (c₁ .write-framed .ensures)) (framed-split (a .number) w []), omega arith)
 
 returns : tie.Need-returns
 returns c =

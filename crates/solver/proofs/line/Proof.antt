@@ -14,7 +14,7 @@ returns-2 c = λ oldWork oldAnswer ls x w work p ek eu en e. long-line oldWork o
 
 returns-3 : tie.Need-returns-3
 returns-3 c =
-    let c₁ = c .before .before in let c₂ = c₁ .before .before in let c₃ = c₂ .before .before .before .before .before .before .before .before in
+    let c₁ = c .before .before .before in let c₂ = c₁ .before .before in let c₃ = c₂ .before .before .before .before .before .before .before .before in
     λ oldWork oldAnswer ls x w work p ek eu en e.
     next-line oldWork oldAnswer ls x w (c₃ .args .s) work _ p _ ek _ en e _ _ (c₁ .add-line .kept .1 .1 .1 .1 .0)
     (line-added oldAnswer ls x _ _ _ _ _ ek eu (c₂ .is-solved .ensures (x .literals) (p .fine .0) ek) (p .lined) _ _ (omega arith) (omega arith) (c₁ .add-line .ensures .0) (c₁ .add-line .ensures .1))

@@ -1,27 +1,30 @@
 -- A line where nothing is found, else a step.
 use native.Mathlib.Omega.{arith}
 use borrow.Author.Needs.{needs}
-use Rattle.steps.proofs.Finding.{best-found}
+use Rattle.search.proofs.Finding.{best-found}
 use Rattle.solver.proofs.Advancing.{none-found, rule-found}
 use Rattle.solver.proofs.turn_with.Statement.{statement}
 use Rattle.solver.proofs.turn_with.Tie as tie
 
 returns : tie.Need-returns
 returns c =
-    let c₁ = c .before .before in let c₂ = c₁ .before .before in let c₃ = c₂ .before .before in let c₄ = c₃ .before .before .before .before in
-    λ oldWork oldAnswer ls x w p ek eu en. c₁ .line .ensures oldWork oldAnswer ls x w (c₄ .args .work .now) p ek eu en (none-found (x .literals) _ _ _ (best-found (x .literals) _ (c₃ .find .ensures .1 (x .literals) (p .fine .0) ek)) (c₂ .if1 .taken))
+    let c₁ = c .before .before in let c₂ = c₁ .before .before in let c₃ = c₂ .before .before in let c₄ = c₃ .before .before .before .before .before in
+    λ oldWork oldAnswer ls x w p ek eu en.
+    c₁ .line .ensures oldWork oldAnswer ls x w (c₄ .args .work .now) p ek eu en
+    (none-found (c₄ .args .s .signature) (x .literals) _ _ _ (best-found (c₄ .args .s .signature) (x .literals) _ (c₃ .find .ensures .1 (x .literals) (p .fine .0) ek)) (c₂ .if1 .taken))
 
 advance-requires : tie.Need-advance-requires
 advance-requires c κs =
-    let c₁ = c .before in let c₂ = c₁ .before .before in let c₃ = c₂ .before .before .before .before in
+    let c₁ = c .before in let c₂ = c₁ .before .before in let c₃ = c₂ .before .before .before .before .before in
     let p = c₃ .pre .0 in
     let x = c₃ .pre .1 in
-    ((p .0, c₂ .find .ensures .0 (c₁ .if1 .left), omega arith, p .1), rule-found (c₃ .args .k .now) x _ (c₂ .find .ensures .1 (x .conj) (x .fine) (x .words)) (c₁ .if1 .left))
+    ((p .0, c₂ .find .ensures .0 (c₁ .if1 .left), omega arith, p .1), rule-found (c₃ .args .s .signature) (c₃ .args .k .now) x _ (c₂ .find .ensures .1 (x .conj) (x .fine) (x .words)) (c₁ .if1 .left))
 
 returns-2 : tie.Need-returns-2
 returns-2 c =
-    let c₁ = c .before .before in let c₂ = c₁ .before .before in let c₃ = c₂ .before .before in let c₄ = c₃ .before .before .before .before in
-    λ oldWork oldAnswer ls x w p ek eu en. c₁ .advance .ensures oldWork oldAnswer ls x w (c₄ .args .answer .now) p ek eu en (c₂ .if1 .left) (best-found (x .literals) _ (c₃ .find .ensures .1 (x .literals) (p .fine .0) ek))
+    let c₁ = c .before .before in let c₂ = c₁ .before .before in let c₃ = c₂ .before .before in let c₄ = c₃ .before .before .before .before .before in
+    λ oldWork oldAnswer ls x w p ek eu en.
+    c₁ .advance .ensures oldWork oldAnswer ls x w (c₄ .args .answer .now) p ek eu en (c₂ .if1 .left) (best-found (c₄ .args .s .signature) (x .literals) _ (c₃ .find .ensures .1 (x .literals) (p .fine .0) ek))
 
 pub turn-with-spec : {M : Type 1} → statement M
 turn-with-spec =

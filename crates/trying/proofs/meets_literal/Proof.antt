@@ -34,7 +34,7 @@ meets-equation-requires c κs =
     let c₁ = c .before .before .before in let c₂ = c₁ .before .before in let c₃ = c₂ .before in let c₄ = c₃ .before in
     let c₅ = c₄ .before .before .before .before in
     let r = equation-ready _ _ _ _ (c₂ .first-end .ensures) (c₄ .wide .ensures) (c₃ .wide2 .ensures) (c₅ .pre .0) (c₁ .if1 .taken) in
-    (r .left, (r .right, (r .fits, omega arith)))
+    (r .left, (r .right, (r .test, (r .fits, omega arith))))
 
 returns : tie.Need-returns
 returns c =

@@ -5,11 +5,13 @@
 //!     measure same WORD..            a request to solve one question
 //!     measure bad KIND SHAPE RUN     a request to try a run that just fails an expression of so many words
 //!     measure deep CALL SHAPE        a request as deeply nested as its words go
+//!     measure shuffled KIND PARTS    a request to try so many parts under an unordered symbol
 //!     measure answer TIMES           answers requests by this desk as `tests/bridge.c` does by the proved one
 
 use std::hint::black_box;
 use std::io::{stdin, stdout, BufRead, BufReader, BufWriter, Write};
 
+use second::day::written;
 use second::gen::{case, Case, SEED};
 use second::host::{self, LENT};
 use second::proved;
@@ -171,6 +173,58 @@ fn deep_filling() -> Vec<u16> {
     [vec![1, 3, 3 + 2 * half as u16 + 1], vec![3000; half], vec![0; half + 1]].concat()
 }
 
+/// A part of kind i, and what it is in an expression.
+fn part(i: usize) -> [u16; 2] {
+    [3000 + i as u16, 0]
+}
+
+fn shape(i: usize) -> Vec<u16> {
+    vec![3000 + i as u16, 7000]
+}
+
+/// Shapes joined by 7001, one after the other, or 7002, either.
+fn joined(word: u16, shapes: Vec<Vec<u16>>) -> Vec<u16> {
+    let mut shapes = shapes.into_iter().rev();
+    let last = shapes.next().expect("a shape");
+    shapes.fold(last, |rest, shape| [vec![word], shape, rest].concat())
+}
+
+/// A question with the unordered symbol g, the last of 128, over its literal with the hedge variables p and q, and the values of these.
+fn under(literal: Vec<u16>, values: [Vec<u16>; 2]) -> (Vec<u16>, Vec<u16>) {
+    let question = [&[128 + 256, 0, 2, 0, 1, 7, 7 + literal.len() as u16], &literal[..]].concat();
+    let [p, q] = values;
+    let middle = 4 + p.len() as u16 + 1;
+    let end = middle + q.len() as u16 + 1;
+    (question, [vec![2, 4, middle, end], p, vec![0], q, vec![0]].concat())
+}
+
+/// So many parts, the last first, tried under g.
+fn shuffled(kind: &str, parts: usize) -> (Vec<u16>, Vec<u16>) {
+    let g = 3127;
+    let turned: Vec<u16> = (0..parts).rev().flat_map(part).collect();
+    let within = |shape: Vec<u16>, run: Vec<u16>| {
+        under([vec![6000, g, 2000, 0, 0, g], shape].concat(), [run, Vec::new()])
+    };
+    match kind {
+        // g(p) = g(q), all parts other ones
+        "same" => under(vec![5000, g, 2000, 0, 0, g, 2001, 0, 0], [(0..parts).flat_map(part).collect(), turned]),
+        // g(p) in g((a+b+..)*)
+        "star" => within([vec![7003], joined(7002, (0..parts).map(shape).collect())].concat(), turned),
+        // g(p) in g(a·b·..)
+        "list" => within(joined(7001, (0..parts).map(shape).collect()), turned),
+        // g(p) in g((a·b)*), and one b is missing
+        "pairs" => within(
+            [vec![7003, 7001], shape(0), shape(1)].concat(),
+            [part(0).repeat(parts), part(1).repeat(parts - 1)].concat(),
+        ),
+        // g(p) in g(a·a·..·b) without the b
+        _ => within(
+            [[7001, 3000, 7000].repeat(parts - 1), shape(1)].concat(),
+            part(0).repeat(parts),
+        ),
+    }
+}
+
 fn main() {
     let args: Vec<String> = std::env::args().skip(1).collect();
     let mut out = BufWriter::new(stdout());
@@ -196,14 +250,23 @@ fn main() {
             assert_eq!(proved::desk().try_filling(&question, &filling), Ok(false));
             write(Request::Try { question: bytes(&question), filling: bytes(&filling) });
         }
+        "shuffled" => {
+            let (question, filling) = shuffled(&args[1], args[2].parse().expect("a number"));
+            write(Request::Try { question: bytes(&question), filling: bytes(&filling) });
+        }
         "deep" => {
-            let question = bytes(&deep(&args[2]));
+            let words = deep(&args[2]);
+            let question = bytes(&words);
             match args[1].as_str() {
                 "solve" => {
                     write(Request::Solve { question, answer: 2 * proved::desk().limits.answer })
                 }
                 "try" => write(Request::Try { question, filling: bytes(&deep_filling()) }),
                 "place" => write(Request::Place { question }),
+                "day" => {
+                    let sheet = bytes(&written(&[words.len()], words));
+                    write(Request::Day { sheet, room: 2 * proved::desk().limits.answer })
+                }
                 _ => write(Request::Example { question, line: 0, old_sheets: 0, room: 8192 }),
             }
         }

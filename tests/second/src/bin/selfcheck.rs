@@ -1,7 +1,7 @@
 //! Puts random cases of a fixed seed to a desk and checks that it agrees with
 //! itself.
 //!
-//!     selfcheck [CASES] [KNOWN]    KNOWN is how many requests the desk knows: all, if it is not said
+//!     selfcheck [CASES] [REQUEST]    of the desk that knows the requests up to that one: all, if it is not said
 
 use std::process::ExitCode;
 
@@ -45,7 +45,7 @@ fn ensure(holds: bool, what: &str) -> Checked {
 fn main() -> ExitCode {
     let number = |at: usize| std::env::args().nth(at).map(|text| text.parse().expect("a number"));
     let cases = number(1).unwrap_or(CASES);
-    let desk = number(2).map_or(Desk::newest(), |known| Desk::after(known as usize));
+    let desk = number(2).map_or(Desk::newest(), |request| Desk::up_to(request as u8));
     let mut counts = Counts { uses: vec![0; RULES], ..Counts::default() };
     let (mut passed, mut failed) = (0, 0);
     for index in 0..cases {

@@ -3,7 +3,7 @@ use borrow.Author.Needs.{needs}
 use native.Mathlib.Omega.{arith}
 use mathlib.Core.Path.{ap}
 use lib.ListN.{length}
-use Rattle.linear_form.specs.Loose.{joins, opening}
+use Rattle.monomials.specs.Loose.{joins, opening}
 use Rattle.slices.proofs.Still.{Still, still-all, still-none, still-fits, still-run, wrote-word, wrote-as}
 use Rattle.linear_form.proofs.Rests.{opening-joins, opening-none, joins-split, joins-none}
 use Rattle.linear_form.proofs.adding.open_rest.Statement.{statement}

@@ -33,25 +33,19 @@ fn compare() -> ExitCode {
         failed: 0,
         gave: BTreeMap::new(),
     };
-    let folders = proved::worked_folders();
-    let (newest, others) = folders.split_last().expect("the base has worked answers");
-    worked::worked(&mut tally, newest);
-    worked::worked_later(&mut tally, newest);
-    for (name, question) in worked::written(newest) {
-        random::written(&mut tally, &name, &question);
+    for folder in proved::worked_folders() {
+        worked::asked(&mut tally, &folder);
     }
-    // What a desk that knew less was asked is asked again.
-    others.iter().for_each(|folder| worked::asked_again(&mut tally, folder));
     println!("worked answers: {} compared", tally.passed + tally.failed);
     for index in 0..count {
         random::random_case(&mut tally, seed, index);
-        if proved::landed() >= 12 && index % 50 == 0 {
+        if proved::knows(9) && index % 50 == 0 {
             random::random_day(&mut tally, seed, index);
         }
-        if proved::landed() >= 13 {
+        if proved::knows(10) {
             random::random_overlap(&mut tally, seed, index);
         }
-        if proved::landed() >= 14 {
+        if proved::knows(2) {
             random::random_text(&mut tally, seed, index);
         }
     }

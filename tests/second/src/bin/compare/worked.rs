@@ -3,9 +3,12 @@
 use std::path::Path;
 
 use second::host::{LENT, NO, SHOWN};
+use second::proved::{self, Folder, Held};
 use second::records::{cases, Case};
 use second::request::{bytes, Request};
+use second::worked::run_folder;
 
+use crate::random;
 use crate::tally::Tally;
 
 /// Lent bytes after a call that wrote `written` at their start.
@@ -25,8 +28,30 @@ fn records(folder: &Path, file: &str) -> Vec<Case> {
     }
 }
 
+/// Puts the questions of a folder to both desks, and says how many of its
+/// answers the second desk gives as they stand: the others need a request that
+/// the proved desk does not know, or came before one that it does.
+pub fn asked(tally: &mut Tally, folder: &Folder) {
+    if matches!(folder.held, Held::Whole) {
+        worked(tally, &folder.path);
+    } else {
+        asked_again(tally, &folder.path);
+    }
+    later(tally, &folder.path);
+    let outcome = run_folder(&folder.path, &tally.desk);
+    let (as_they_stand, others) = (outcome.passed, outcome.failed.len() as u64);
+    let least = match folder.held {
+        Held::Whole => as_they_stand + others,
+        Held::AtLeast(least) => least,
+        Held::Older => 0,
+    };
+    let name = &folder.name;
+    println!("{name}: {as_they_stand} of {} answers as they stand", as_they_stand + others);
+    tally.note(as_they_stand >= least, || format!("{name}: {least} answers should be so"));
+}
+
 /// What is expected of the proved desk by the worked answers themselves.
-pub fn worked(tally: &mut Tally, folder: &Path) {
+fn worked(tally: &mut Tally, folder: &Path) {
     let whole = 2 * tally.desk.limits.answer;
     for case in records(folder, "solve.txt") {
         let request = Request::Solve { question: bytes(&case.words('Q')), answer: whole };
@@ -73,37 +98,8 @@ pub fn worked(tally: &mut Tally, folder: &Path) {
     }
 }
 
-/// The worked answers of later calls: this desk gives them, so both are
-/// compared.
-pub fn worked_later(tally: &mut Tally, folder: &Path) {
-    let whole = 2 * tally.desk.limits.answer;
-    for case in records(folder, "trail.txt") {
-        let (question, trail) = (bytes(&case.words('Q')), 2 * case.needed('N')[0] as usize);
-        tally.both(&case.name, Request::SolveTrail { question, answer: whole, trail });
-    }
-    for case in records(folder, "replay.txt") {
-        let (question, trail) = (bytes(&case.words('Q')), bytes(&case.words('T')));
-        tally.both(&case.name, Request::Replay { question, trail, answer: whole });
-    }
-    for case in records(folder, "example-trail.txt") {
-        let (question, trail) = (bytes(&case.words('Q')), bytes(&case.words('T')));
-        let asked = case.needed('L');
-        let (line, room, old_sheets) = (asked[0], 2 * asked[1] as usize, asked[2]);
-        tally.both(&case.name, Request::ExampleTrail { question, trail, line, old_sheets, room });
-    }
-    for case in records(folder, "overlap.txt") {
-        let (first, second) = (bytes(&case.words('G')), bytes(&case.words('H')));
-        let (first_word, room) = (case.needed('O')[0], 2 * case.needed('O')[1] as usize);
-        tally.both(&case.name, Request::Overlap { first, second, first_word, room });
-    }
-    for case in records(folder, "day.txt") {
-        let (sheet, room) = (bytes(&case.words('S')), 2 * case.needed('N')[0] as usize);
-        tally.both(&case.name, Request::Day { sheet, room });
-    }
-}
-
-/// The questions of an older desk's worked answers, put to both desks.
-pub fn asked_again(tally: &mut Tally, folder: &Path) {
+/// The questions of worked answers, put to both desks.
+fn asked_again(tally: &mut Tally, folder: &Path) {
     let whole = 2 * tally.desk.limits.answer;
     for case in records(folder, "solve.txt") {
         let question = bytes(&case.words('Q'));
@@ -119,11 +115,49 @@ pub fn asked_again(tally: &mut Tally, folder: &Path) {
         let (question, line, room) = (bytes(&case.words('Q')), asked[0], 2 * asked[1] as usize);
         tally.both(&case.name, Request::Example { question, line, old_sheets, room });
     }
-    worked_later(tally, folder);
 }
 
-/// The questions of the writer's worked answers.
-pub fn written(folder: &Path) -> Vec<(String, Vec<u16>)> {
-    let cases = records(folder, "writer.txt");
-    cases.into_iter().map(|case| (case.name.clone(), case.words('Q'))).collect()
+/// The questions of calls that came with a request, put to both desks. A folder
+/// has them from that request on; what came before it may have them too.
+fn later(tally: &mut Tally, folder: &Path) {
+    if proved::knows(11) {
+        with_trails(tally, folder);
+    }
+    if proved::knows(10) {
+        for case in records(folder, "overlap.txt") {
+            let (first, second) = (bytes(&case.words('G')), bytes(&case.words('H')));
+            let (first_word, room) = (case.needed('O')[0], 2 * case.needed('O')[1] as usize);
+            tally.both(&case.name, Request::Overlap { first, second, first_word, room });
+        }
+    }
+    if proved::knows(9) {
+        for case in records(folder, "day.txt") {
+            let (sheet, room) = (bytes(&case.words('S')), 2 * case.needed('N')[0] as usize);
+            tally.both(&case.name, Request::Day { sheet, room });
+        }
+    }
+    if proved::knows(2) {
+        for case in records(folder, "writer.txt") {
+            random::written(tally, &case.name, &case.words('Q'));
+        }
+    }
+}
+
+/// Trails and their replay.
+fn with_trails(tally: &mut Tally, folder: &Path) {
+    let whole = 2 * tally.desk.limits.answer;
+    for case in records(folder, "trail.txt") {
+        let (question, trail) = (bytes(&case.words('Q')), 2 * case.needed('N')[0] as usize);
+        tally.both(&case.name, Request::SolveTrail { question, answer: whole, trail });
+    }
+    for case in records(folder, "replay.txt") {
+        let (question, trail) = (bytes(&case.words('Q')), bytes(&case.words('T')));
+        tally.both(&case.name, Request::Replay { question, trail, answer: whole });
+    }
+    for case in records(folder, "example-trail.txt") {
+        let (question, trail) = (bytes(&case.words('Q')), bytes(&case.words('T')));
+        let asked = case.needed('L');
+        let (line, room, old_sheets) = (asked[0], 2 * asked[1] as usize, asked[2]);
+        tally.both(&case.name, Request::ExampleTrail { question, trail, line, old_sheets, room });
+    }
 }

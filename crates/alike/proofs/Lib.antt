@@ -1,0 +1,6 @@
+pub mod Agreeing
+pub mod Taking
+pub mod Finding
+pub mod Comparing
+pub mod Deciding
+pub mod Determined

@@ -1,0 +1,5 @@
+pub mod Rows
+pub mod Tables
+pub mod Examples
+pub mod Writing
+pub mod Determined

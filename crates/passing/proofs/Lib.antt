@@ -1,0 +1,5 @@
+pub mod Standing
+pub mod Rows
+pub mod Beside
+pub mod Words
+pub mod Determined

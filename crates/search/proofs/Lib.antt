@@ -1,0 +1,7 @@
+pub mod Ranks
+pub mod First
+pub mod Applied
+pub mod Pass
+pub mod Finding
+pub mod Seen
+pub mod Determined
