@@ -58,16 +58,16 @@ module _ (room word : ℕ) (ps qs : List ℕ) where
 
   none-solved : (n : ℕ) → v ≡ answered [] n → (asked : Question) × (readQuestion desk (pairWords word ps qs) ≡ asks asked) × ((ρ : Filling) → ¬ MeetsQuestion ρ asked)
   none-solved n e =
-    let d : solving desk (length (replicate {A = ℕ} (desk .room) 0)) (length (replicate {A = ℕ} (desk .room) 0)) (pairWords word ps qs) ≡ answered [] n = rw (length-replicate {A = ℕ} (desk .room) 0) e in
-    none-is-none (record {
-    question = pairWords word ps qs;
-    work = replicate (desk .room) 0;
-    answer = replicate (desk .room) 0;
-    returned = record { outcome = NoLine; lines = 0; «open» = 0; steps = n };
-    workLeft = overwritten desk (zeros desk) (replicate (desk .room) 0);
-    answerLeft = overwritten desk (answerWords desk []) (replicate (desk .room) 0);
-    said = sym (ap (λ (v : Solving). toldLeaves v (replicate (desk .room) 0) (replicate (desk .room) 0)) d);
-  }) refl
+      let d : solving desk (length (replicate {A = ℕ} (desk .room) 0)) (length (replicate {A = ℕ} (desk .room) 0)) (pairWords word ps qs) ≡ answered [] n = rw (length-replicate {A = ℕ} (desk .room) 0) e in
+      none-is-none (record {
+        question = pairWords word ps qs;
+        work = replicate (desk .room) 0;
+        answer = replicate (desk .room) 0;
+        returned = record { outcome = NoLine; lines = 0; «open» = 0; steps = n };
+        workLeft = overwritten desk (zeros desk) (replicate (desk .room) 0);
+        answerLeft = overwritten desk (answerWords desk []) (replicate (desk .room) 0);
+        said = sym (ap (λ (v : Solving). toldLeaves v (replicate (desk .room) 0) (replicate (desk .room) 0)) d);
+      }) refl
 
   pub cannot-is-none : meeting room word ps qs ≡ cannot → (report : Complete) → Matches ps report → Matches qs report → ⊥
   cannot-is-none e g a b = let o = open-up cannot (λ n d. let z : _≡_ {A = ℕ} 0 1 = cc in omega arith) e in on (o .few) v refl (o .comes)
@@ -92,7 +92,7 @@ module _ (room word : ℕ) (ps qs : List ℕ) where
           let first = joint-first word (blanksIn ps) (blanksIn qs) (a .filling) (b .filling) (a .term) (held-here nothing ps (a .term) (a .pattern)) in
           let second = joint-second word (blanksIn ps) (blanksIn qs) (a .filling) (b .filling) (b .term) (held-here (counted word (blanksIn ps)) qs (b .term) (b .pattern)) in
           let meets : Same (fill ρ (firstOf ps (a .term))) (fill ρ (secondOf word ps qs (b .term))) =
-              same-trans _ (fill (a .filling) (a .term)) _ (same-≡ _ _ first) (same-trans _ g _ (a .same) (same-trans _ (fill (b .filling) (b .term)) _ (same-sym _ _ (b .same)) (same-≡ _ _ (sym second)))) in
+          same-trans _ (fill (a .filling) (a .term)) _ (same-≡ _ _ first) (same-trans _ g _ (a .same) (same-trans _ (fill (b .filling) (b .term)) _ (same-sym _ _ (b .same)) (same-≡ _ _ (sym second)))) in
           none ρ (subst (λ (x : Question). MeetsQuestion ρ x) (sym is) (inl (meets, tt)))
       on few (answered (k ∷ ks) n) d x = settled (eqb (firstSettled (k ∷ ks)) (length (k ∷ ks))) (shownBy room word ps qs (firstSettled (k ∷ ks))) (shown (showing desk false (desk .room) (desk .room) (desk .filling) (firstSettled (k ∷ ks)) (pairWords word ps qs))) x
       on few (unread r) d x = let z : _≡_ {A = ℕ} 0 1 = cc in omega arith

@@ -136,8 +136,8 @@ module _ (t h : ℕ) (fs ws room : List ℕ) (at : ℕ) where
           let lb = length-bytesOf value in
           let z : to′ ≡ to + length (bytesOf value) = omega arith in
           let e : sets new′ to′ (bytesOf rest) ≡ sets new to (bytesOf (filled t h fs (drop i ws))) =
-              (ap₂ (λ (l : List ℕ) (j : ℕ). sets l j (bytesOf rest)) (en ∙ ap (λ l. sets new to (bytesOf l)) held) z
-              ∙ sym (sets-append (bytesOf value) (bytesOf rest) new to) ∙ ap (sets new to) (sym (bytes-append value rest) ∙ ap bytesOf (sym (here t h fs ws i p)))) in
+          (ap₂ (λ (l : List ℕ) (j : ℕ). sets l j (bytesOf rest)) (en ∙ ap (λ l. sets new to (bytesOf l)) held) z
+          ∙ sym (sets-append (bytesOf value) (bytesOf rest) new to) ∙ ap (sets new to) (sym (bytes-append value rest) ∙ ap bytesOf (sym (here t h fs ws i p)))) in
           record {
             inside = omega arith;
             len = ap length en ∙ length-sets new to (bytesOf (between 0 n scratch)) ∙ x .len;

@@ -121,8 +121,8 @@ module _ (q w a own w′ a′ own′ : List ℕ) (line : ℕ) (r : ℕ × ℕ ×
         → Told (meetings.fits size (filled (p .terms) (p .hedges) (between 0 k own′) (between 8 (8 + p .first) q))) at room m room′ → Told (shownBy size word ps qs line) at room m room′
     show-told word ps qs x size at m room room′ t =
         let same : meetings.fits size (filled (p .terms) (p .hedges) (between 0 k own′) (between 8 (8 + p .first) q)) ≡ shownBy size word ps qs line =
-            rw (x .terms, x .hedges, filling-is, pattern-is word ps qs x)
-            (sym (ap (reported size (ofBoth word ps qs) (apart nothing ps)) (ap (showing desk false (desk .room) (desk .room) (desk .filling) line) (sym (x .words)) ∙ found .shown))) in
+        rw (x .terms, x .hedges, filling-is, pattern-is word ps qs x)
+        (sym (ap (reported size (ofBoth word ps qs) (apart nothing ps)) (ap (showing desk false (desk .room) (desk .room) (desk .filling) line) (sym (x .words)) ∙ found .shown))) in
         subst (λ y. Told y at room m room′) same t
 
 -- ---- the solver's answer
@@ -234,8 +234,7 @@ module _ (size word : ℕ) (ps qs : List ℕ) (at : ℕ) (room : List ℕ) where
       let (few, l, same) = asks-only whole (tooMany (ofBoth word ps qs)) long p (sym opened ∙ e) in
       let n = pair-length word ps qs in
       let m = ap length w in
-      let under = ltb-false (desk .question) (10 + (length ps + length qs)) l in
-      (
+      let under = ltb-false (desk .question) (10 + (length ps + length qs)) l in (
         subst (Known word ps qs question) same (record { words = w; few = few; fair = refl; first = refl; terms = refl; hedges = refl; short = omega arith }),
         subst (λ (p : Pair). p .len ≡ length (pairWords word ps qs)) same (sym n),
       )

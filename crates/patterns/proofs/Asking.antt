@@ -14,7 +14,7 @@ use Rattle.language.specs.Trees.{Hedge, eqn, Conj, Counts, Question}
 use Rattle.language.specs.Writing.{hedgeWords, conjWords}
 use Rattle.language.specs.Fine.{fineHedge, fineConj}
 use Rattle.language.specs.Reading.{Got, got}
-use Rattle.language.specs.Question.{parts, withConj, readAll, asks, readQuestion}
+use Rattle.language.specs.Question.{countsOf, parts, withConj, readAll, asks, readQuestion}
 use Rattle.language.specs.Kinds.{kindOf}
 use Rattle.language.specs.declared.Kind.the-variants.{End}
 use Rattle.language.proofs.Words.{kind-end}
@@ -68,22 +68,23 @@ module _ (n : Counts) (ws : List ℕ) (h : Hedge) (p : Pattern ws h) where
 
 -- ---- one conjunction in words
 
-abbrev asking : Counts → Conj → List ℕ
-asking n k = n .symbols ∷ (n .terms ∷ (n .hedges ∷ (n .functions ∷ (1 ∷ (7 ∷ ((7 + length (conjWords k)) ∷ conjWords k))))))
+abbrev asking : ℕ → Counts → Conj → List ℕ
+asking word n k = word ∷ (n .terms ∷ (n .hedges ∷ (n .functions ∷ (1 ∷ (7 ∷ ((7 + length (conjWords k)) ∷ conjWords k))))))
 
-parts-of : (n : Counts) (k : Conj) → parts 5 1 (asking n k) ≡ conjWords k ∷ []
+parts-of : (word : ℕ) (n : Counts) (k : Conj) → parts 5 1 (asking word n k) ≡ conjWords k ∷ []
 unfolding parts
-parts-of n k =
+parts-of word n k =
     ap (λ m. take m (conjWords k) ∷ []) (let z : 7 + length (conjWords k) - 7 ≡ length (conjWords k) = omega arith in z)
     ∙ ap (λ ws. ws ∷ []) (take-all (length (conjWords k)) (conjWords k) (omega arith))
 
-asked-one : (n : Counts) (k : Conj) (x : Question) → fineConj desk k → readQuestion desk (asking n k) ≡ asks x → x ≡ record { counts = n; alternatives = k ∷ [] }
-asked-one n k x f e =
-    let p = passed desk (asking n k) x e in
-    let r : readAll desk (conjWords k ∷ []) ≡ got (x .alternatives) (p .words) = ap (readAll desk) (sym (parts-of n k)) ∙ p .read in
+asked-one : (word : ℕ) (n : Counts) (k : Conj) (x : Question) → countsOf (asking word n k) ≡ n → fineConj desk k → readQuestion desk (asking word n k) ≡ asks x
+    → x ≡ record { counts = n; alternatives = k ∷ [] }
+asked-one word n k x c f e =
+    let p = passed desk (asking word n k) x e in
+    let r : readAll desk (conjWords k ∷ []) ≡ got (x .alternatives) (p .words) = ap (readAll desk) (sym (parts-of word n k)) ∙ p .read in
     let g : got (k ∷ []) (length (conjWords k) + 0) ≡ got (x .alternatives) (p .words) = sym (ap (λ t. withConj t (got [] 0)) (conjunctions-read desk .read-back k f)) ∙ r in
     let ks : x .alternatives ≡ k ∷ [] = cc in
-    ap (λ (c : Counts). record { counts = c; alternatives = x .alternatives }) (p .counts) ∙ ap (λ (l : List Conj). record { counts = n; alternatives = l }) ks
+    ap (λ (c : Counts). record { counts = c; alternatives = x .alternatives }) (p .counts ∙ c) ∙ ap (λ (l : List Conj). record { counts = n; alternatives = l }) ks
 
 -- ---- the pair
 
@@ -116,7 +117,7 @@ module _ (word : ℕ) (ps qs : List ℕ) (h k : Hedge) (p : Pattern ps h) (q : P
       let d = length-append (apart (counted word (blanksIn ps)) qs) (0 ∷ []) in
       ap length conj-words ∙ (omega arith)
 
-  pair-is : pairWords word ps qs ≡ asking n conj
+  pair-is : pairWords word ps qs ≡ asking word n conj
   unfolding pairWords
   pair-is =
       ap₂ (λ (m : ℕ) (l : List ℕ). word ∷ n .terms ∷ n .hedges ∷ n .functions ∷ 1 ∷ 7 ∷ m ∷ l) (let s = size in let z : 10 + (length ps + length qs) ≡ 7 + length (conjWords conj) = omega arith in z) (sym conj-words)
@@ -131,4 +132,4 @@ module _ (word : ℕ) (ps qs : List ℕ) (h k : Hedge) (p : Pattern ps h) (q : P
 
   -- The words of a pair's question, where they are read at all, are read as the pair's question.
   pub pair-asked : tooMany n ≡ false → (x : Question) → readQuestion desk (pairWords word ps qs) ≡ asks x → x ≡ pairAsks word ps qs h k
-  pair-asked e x r = let w = few n e in asked-one n conj x ((fine-first w, fine-second w), tt) (ap (readQuestion desk) (sym pair-is) ∙ r)
+  pair-asked e x r = let w = few n e in asked-one word n conj x refl ((fine-first w, fine-second w), tt) (ap (readQuestion desk) (sym pair-is) ∙ r)

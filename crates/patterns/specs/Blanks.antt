@@ -1,6 +1,6 @@
 -- The blanks of a pattern, by their kinds, and the pattern with its blanks numbered anew: from 0 on in the order in which they first appear, behind
 -- as many as stand before them.
-use Prim.Native.Nat.{ℕ, suc, _+_}
+use Prim.Native.Nat.{ℕ, suc, _+_, _/_, _%_}
 use mathlib.Core.Bool.{Bool, true, false, _||_}
 use mathlib.Core.List.{List, [], _∷_, _++_, map}
 use lib.Dec.{eqb}
@@ -57,15 +57,15 @@ blanksFrom b (w ∷ ws) = blanksFrom (notedOn (kindOf desk w) b) ws
 abbrev pub blanksIn : List ℕ → Blanks
 blanksIn ws = blanksFrom noBlanks ws
 
--- how many blanks of each kind there are, where `symbols` stands for the symbols
+-- how many blanks of each kind there are; the symbols, and how many of these are unordered, are those of a question's word 0
 abbrev pub counted : ℕ → Blanks → Counts
-counted symbols b = record { symbols = symbols; terms = length (b .terms); hedges = length (b .hedges); functions = length (b .functions) }
+counted word b = record { symbols = word % 256; unordered = word / 256; terms = length (b .terms); hedges = length (b .hedges); functions = length (b .functions) }
 
 abbrev pub together : Counts → Counts → Counts
-together a b = record { symbols = a .symbols; terms = a .terms + b .terms; hedges = a .hedges + b .hedges; functions = a .functions + b .functions }
+together a b = record { symbols = a .symbols; unordered = a .unordered; terms = a .terms + b .terms; hedges = a .hedges + b .hedges; functions = a .functions + b .functions }
 
 abbrev pub nothing : Counts
-nothing = record { symbols = 0; terms = 0; hedges = 0; functions = 0 }
+nothing = record { symbols = 0; unordered = 0; terms = 0; hedges = 0; functions = 0 }
 
 -- ---- "Blanks of the two rules are kept apart by renumbering"
 

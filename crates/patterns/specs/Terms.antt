@@ -8,6 +8,7 @@ use Rattle.language.specs.declared.Kind.{Kind}
 use Rattle.language.specs.declared.Kind.the-variants.{End, Term, Run, Symbol, Function, Equation, Membership, Eps, Cat, Alt, Star, Other}
 use Rattle.language.specs.Limits.{desk}
 use Rattle.language.specs.Kinds.{pick, kindOf}
+use Rattle.language.specs.declared.Signature.{Signature}
 use Rattle.language.specs.Trees.{Hedge}
 use Rattle.language.specs.Writing.{hedgeWords}
 use Rattle.language.specs.Fine.{fineHedge}
@@ -67,9 +68,9 @@ pub record Pattern (ws : List ℕ) (h : Hedge) : Type 0 where
   pub fine : fineHedge desk h
   pub words : hedgeWords h ≡ ws ++ (0 ∷ [])
 
--- A complete report matches a pattern if some filling makes the pattern the same report.
-pub record Matches (ws : List ℕ) (report : Complete) : Type 0 where
+-- A complete report matches a pattern if some filling makes the pattern the same report; which orders are the same, the signature says.
+pub record Matches (σ : Signature) (ws : List ℕ) (report : Complete) : Type 0 where
   pub term : Hedge
   pub pattern : Pattern ws term
   pub filling : Filling
-  pub same : Same (fill filling term) report
+  pub same : Same σ (fill filling term) report

@@ -165,11 +165,7 @@ fn renumbered(word: u16, table: &[usize], n: Numbers) -> u16
 {
     match classify(word) {
         Kind::Term(x) => short(term_word(TermVar(number_at(table, wide(x.0), n.terms)))),
-        Kind::Run(p) => short(run_word(HedgeVar(number_at(
-            table,
-            PLACES + wide(p.0),
-            n.hedges,
-        )))),
+        Kind::Run(p) => short(run_word(HedgeVar(number_at(table, PLACES + wide(p.0), n.hedges)))),
         Kind::Function(f) => short(function_word(FunVar(number_at(
             table,
             PLACES + PLACES + wide(f.0),
