@@ -1,15 +1,15 @@
--- `overlap::write_report` meets its contract: the values written, and then those still to come, are the report.
+-- `pairing::write_report` meets its contract: the values written, and then those still to come, are the report.
 use Prim.Native.Nat.{_≤_, _-_, _+_}
 use mathlib.Core.Path.{_≡_, refl, sym, _∙_}
 use lib.ListN.{length}
 use lib.Seq.{length-slice}
 use Rattle.language.specs.Limits.{desk}
-use Rattle.overlap.specs.Lent.{markedFrom}
-use Rattle.overlap.proofs.Reporting.{one-shows, one-fits, Writing, writing-starts, writing-inside, writing-puts, writing-on, writing-ends}
+use Rattle.pairing.specs.Lent.{markedFrom}
+use Rattle.pairing.proofs.Reporting.{one-shows, one-fits, Writing, writing-starts, writing-inside, writing-puts, writing-on, writing-ends}
 use native.Mathlib.Omega.{arith}
 use borrow.Author.Needs.{needs}
-use Rattle.overlap.proofs.write_report.Statement.{statement}
-use Rattle.overlap.proofs.write_report.Tie as tie
+use Rattle.pairing.proofs.write_report.Statement.{statement}
+use Rattle.pairing.proofs.write_report.Tie as tie
 
 abbrev Inv-loop : tie.InvT-loop
 Inv-loop filling pattern terms hedges scratch₀ room₀ at i₀ to₀ scratch room i to = Writing terms hedges filling pattern room₀ at i to room × (length scratch ≡ length scratch₀)

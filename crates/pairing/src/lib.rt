@@ -1,4 +1,4 @@
-// Whether two live rules can meet: a report that both match, if there is one. It knows the solver, the example and the reader by their contracts.
+// Whether two patterns can meet: a report that both match, if there is one. It knows the solver, the example and the reader by their contracts.
 ghost use Prim.Native.Nat.{ℕ, _+_, _*_, _/_, _≤_, _<_};
 ghost use mathlib.Core.Path.{_≡_};
 ghost use mathlib.Core.Bool.{true, false};
@@ -14,9 +14,9 @@ ghost use Rattle.filling.specs.Showing.{filled, Shows};
 ghost use Rattle.word_bytes.specs.Bytes.{wordsIn, bytesOf};
 ghost use Rattle.patterns.specs.Terms.{oneTerm};
 ghost use Rattle.patterns.specs.Pairs.{ofBoth, tooMany, pairWords};
-ghost use Rattle.overlap.specs.Meeting.{fits, early, shownBy, meetingOf, meeting};
-ghost use Rattle.overlap.specs.Lent.{Told, wordFrom, markedFrom};
-ghost use Rattle.overlap.specs.Here.{Here, PairHere, Known, PairKnown};
+ghost use Rattle.pairing.specs.Meeting.{fits, early, shownBy, meetingOf, meeting};
+ghost use Rattle.pairing.specs.Lent.{Told, markedFrom};
+ghost use Rattle.pairing.specs.Here.{Here, PairHere, Known, PairKnown};
 use filling::fill_in;
 use filling::filled_len;
 use language::limits::FILLING;
@@ -28,7 +28,7 @@ use outcomes::shown_number;
 use outcomes::verdict_number;
 use patterns::Asked;
 use patterns::Pair;
-use word_bytes::put_words;
+use word_bytes::write_words_at;
 use words::word;
 
 fn wide(n: u16) -> u32
@@ -60,7 +60,7 @@ fn first_settled(answer: &[u16], lines: usize) -> usize
     i
 }
 
-// The report's bytes, into the room at a place: each word of the pattern becomes its value, by way of the scratch.
+// The report's bytes, into the room from the word `at` on: each word of the pattern becomes its value, by way of the scratch.
 fn write_report<'a>(
     filling: &'a [u16],
     pattern: &'a [u16],
@@ -72,14 +72,15 @@ fn write_report<'a>(
 )
     requires { ⌜ Shows terms hedges (now filling) (now pattern) ⌝ }
     requires { ⌜ (length (now filling) ≤ desk .filling) × (desk .room ≤ length (now scratch)) ⌝ }
-    requires { ⌜ at + 2 * length (filled terms hedges (now filling) (now pattern)) ≤ length (now room) ⌝ }
-    ensures { λ _. ⌜ now (room .exit) ≡ sets (now (room .entry)) at (bytesOf (filled terms hedges (now (filling .entry)) (now (pattern .entry)))) ⌝ }
+    requires { ⌜ 2 * (at + length (filled terms hedges (now filling) (now pattern))) ≤ length (now room) ⌝ }
+    ensures { λ _. ⌜ now (room .exit) ≡ sets (now (room .entry)) (2 * at) (bytesOf (filled terms hedges (now (filling .entry)) (now (pattern .entry)))) ⌝ }
 {
     let mut i: usize = 0;
     let mut to = at;
     while i < pattern.len() {
         let n = fill_in(filling, &pattern[i..i + 1], terms, hedges, scratch, 0);
-        to = put_words(&scratch[0..n], room, to);
+        write_words_at(&scratch[0..n], room, to);
+        to += n;
         i += 1;
     }
 }
@@ -104,7 +105,7 @@ fn report<'a>(
 ) -> u32
     requires { ⌜ Shows terms hedges (now filling) (now pattern) ⌝ }
     requires { ⌜ (length (now filling) ≤ desk .filling) × (length (now pattern) ≤ desk .question) × (desk .room ≤ length (now scratch)) ⌝ }
-    requires { ⌜ at + 2 * size ≤ length (now room) ⌝ }
+    requires { ⌜ 2 * (at + size) ≤ length (now room) ⌝ }
     ensures { λ r. ⌜ Told (fits size (filled terms hedges (now (filling .entry)) (now (pattern .entry)))) at (now (room .entry)) r (now (room .exit)) ⌝ }
 {
     let n = filled_len(filling, pattern, terms, hedges);
@@ -140,7 +141,7 @@ fn show<'a>(
     at: usize,
     size: usize,
 ) -> u32
-    requires { ⌜ PairHere (now question) p × (length (now work) ≡ desk .room) × (length (now answer) ≡ desk .room) × (at + 2 * size ≤ length (now room)) ⌝ }
+    requires { ⌜ PairHere (now question) p × (length (now work) ≡ desk .room) × (length (now answer) ≡ desk .room) × (2 * (at + size) ≤ length (now room)) ⌝ }
     ensures { λ r. ⌜ ((word : ℕ) (ps qs : List ℕ) → Here word ps qs (now (question .entry)) p → Told (shownBy size word ps qs line) at (now (room .entry)) r (now (room .exit))) ⌝ }
 {
     let mut own = [0u16; FILLING];
@@ -164,7 +165,7 @@ fn show<'a>(
 
 // What the solver's answer to a pair's question comes to. Its slices are the library's own.
 fn settle<'a>(question: &'a [u16], p: Pair, room: &mut [u8], at: usize, size: usize) -> u32
-    requires { ⌜ PairHere (now question) p × (at + 2 * size ≤ length (now room)) ⌝ }
+    requires { ⌜ PairHere (now question) p × (2 * (at + size) ≤ length (now room)) ⌝ }
     ensures { λ r. ⌜ ((word : ℕ) (ps qs : List ℕ) → Here word ps qs (now (question .entry)) p → Told (meetingOf size word ps qs (solving desk (desk .room) (desk .room) (now (question .entry)))) at (now (room .entry)) r (now (room .exit))) ⌝ }
 {
     let mut work = [0u16; ROOM];
@@ -188,7 +189,7 @@ fn settle<'a>(question: &'a [u16], p: Pair, room: &mut [u8], at: usize, size: us
 
 // What a pair's question comes to, once it is written.
 fn decide<'a>(question: &'a [u16], p: Pair, room: &mut [u8], at: usize, size: usize) -> u32
-    requires { ⌜ PairKnown (now question) p × (at + 2 * size ≤ length (now room)) ⌝ }
+    requires { ⌜ PairKnown (now question) p × (2 * (at + size) ≤ length (now room)) ⌝ }
     ensures { λ r. ⌜ ((word : ℕ) (ps qs : List ℕ) → Known word ps qs (now (question .entry)) p → Told (meeting size word ps qs) at (now (room .entry)) r (now (room .exit))) ⌝ }
 {
     if p.fair {
@@ -197,30 +198,26 @@ fn decide<'a>(question: &'a [u16], p: Pair, room: &mut [u8], at: usize, size: us
     unfair(question)
 }
 
-// A question's word 0; a number that is no word stands for more symbols than there are.
-fn first_word(n: u32) -> u16
-    ensures { λ r. ⌜ r ≡ wordFrom n ⌝ }
-{
-    if n < 65536 {
-        return n as u16;
-    }
-    65535
-}
-
-// Whether two rules can meet, by their patterns' bytes: 100 they cannot, 101 it is not settled, 200 and the words of a report that both match, which
-// the room then holds; or the refusal's number.
-#[no_mangle]
-pub extern "C" fn overlap_pair(word_0: u32, first: &[u8], second: &[u8], room: &mut [u8]) -> u32
-    ensures { λ r. ⌜ Told (meeting (length (now (room .entry)) / 2) (wordFrom word_0) (wordsIn (now (first .entry))) (wordsIn (now (second .entry)))) 0 (now (room .entry)) r (now (room .exit)) ⌝ }
+// Whether two patterns can meet, by their bytes: 100 they cannot, 101 it is not settled, 200 and the words of a report that both match, which the
+// room then holds from the word `at` on, where it has `size` words for it; or the refusal's number. `word` is a question's word 0.
+pub fn meet(
+    word: u16,
+    first: &[u8],
+    second: &[u8],
+    room: &mut [u8],
+    at: usize,
+    size: usize,
+) -> u32
+    requires { ⌜ 2 * (at + size) ≤ length (now room) ⌝ }
+    ensures { λ r. ⌜ Told (meeting size word (wordsIn (now (first .entry))) (wordsIn (now (second .entry)))) at (now (room .entry)) r (now (room .exit)) ⌝ }
 {
     let mut question = [0u16; QUESTION];
-    let size = room.len() / 2;
-    match patterns::ask(first_word(word_0), first, second, &mut question) {
+    match patterns::ask(word, first, second, &mut question) {
         Asked::TooMany => 25,
         Asked::TooLong => 2,
         Asked::Asks(p) => {
             let n = p.len;
-            decide(&question[0..n], p, room, 0, size)
+            decide(&question[0..n], p, room, at, size)
         }
     }
 }

@@ -1,13 +1,13 @@
 -- The number that a pair of rules gets, and what is left in the bytes that are lent for the report.
-use Prim.Native.Nat.{ℕ, zero, suc, _+_}
+use Prim.Native.Nat.{ℕ, zero, suc, _+_, _*_}
 use mathlib.Core.Path.{_≡_}
 use mathlib.Core.List.{List, [], _∷_}
-use lib.Dec.{eqb, ltb}
+use lib.Dec.{eqb}
 use lib.ListN.{length, getD}
 use lib.Seq.{sets}
 use Rattle.language.specs.Kinds.{pick}
-use Rattle.word_bytes.specs.Bytes.{wordsIn, bytesOf}
-use Rattle.overlap.specs.Meeting.{Meeting, cannot, can, unsettled, refused, meeting}
+use Rattle.word_bytes.specs.Bytes.{bytesOf}
+use Rattle.pairing.specs.Meeting.{Meeting, cannot, can, unsettled, refused}
 
 -- 100 cannot meet, 101 not settled, 200 and the report's words; below stand the refusals
 abbrev pub meetingNumber : Meeting → ℕ
@@ -22,13 +22,9 @@ reportOf unsettled = []
 reportOf (can ws) = ws
 reportOf (refused n) = []
 
--- the report's bytes at a place, and all else as it was
+-- the report's bytes from the word `at` on, and all else as it was
 abbrev pub Told : Meeting → ℕ → List ℕ → ℕ → List ℕ → Type 0
-Told m at old r new = (r ≡ meetingNumber m) × (new ≡ sets old at (bytesOf (reportOf m)))
-
--- a word 0 that is no word declares too many symbols
-abbrev pub wordFrom : ℕ → ℕ
-wordFrom n = pick (ltb n 65536) n 65535
+Told m at old r new = (r ≡ meetingNumber m) × (new ≡ sets old (2 * at) (bytesOf (reportOf m)))
 
 -- the first of n lines from line i on that is marked settled in an answer's words; the place after them where none is
 unfoldable pub markedFrom : List ℕ → ℕ → ℕ → ℕ

@@ -1,14 +1,14 @@
--- `overlap::show` meets its contract: the example is refused, or the report is made of it.
+-- `pairing::show` meets its contract: the example is refused, or the report is made of it.
 use Prim.Native.Nat.{ℕ, _≤_, _+_}
 use mathlib.Core.Path.{_≡_, refl, sym, _∙_}
 use mathlib.Core.List.{List}
 use lib.ListN.{replicate}
 use Rattle.language.specs.Limits.{desk}
-use Rattle.overlap.proofs.Telling.{show-refused, show-sizes, show-few, show-inside, show-shows, show-told}
+use Rattle.pairing.proofs.Telling.{show-refused, show-sizes, show-few, show-inside, show-shows, show-told}
 use native.Mathlib.Omega.{arith}
 use borrow.Author.Needs.{needs}
-use Rattle.overlap.proofs.show.Statement.{statement}
-use Rattle.overlap.proofs.show.Tie as tie
+use Rattle.pairing.proofs.show.Statement.{statement}
+use Rattle.pairing.proofs.show.Tie as tie
 
 -- the library's own room at the start
 abbrev clear : List ℕ

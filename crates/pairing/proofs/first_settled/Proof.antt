@@ -1,13 +1,13 @@
--- `overlap::first_settled` meets its contract. The invariant: the first one from here on is the first of all.
+-- `pairing::first_settled` meets its contract. The invariant: the first one from here on is the first of all.
 use Prim.Native.Nat.{_≤_, _-_}
 use mathlib.Core.Path.{_≡_, sym, _∙_}
 use borrow.Author.Tests.{eqb-true, eqb-false}
-use Rattle.overlap.specs.Lent.{markedFrom}
-use Rattle.overlap.proofs.Reporting.{mark-here, mark-not, mark-end, marks-start}
+use Rattle.pairing.specs.Lent.{markedFrom}
+use Rattle.pairing.proofs.Reporting.{mark-here, mark-not, mark-end, marks-start}
 use native.Mathlib.Omega.{arith}
 use borrow.Author.Needs.{needs}
-use Rattle.overlap.proofs.first_settled.Statement.{statement}
-use Rattle.overlap.proofs.first_settled.Tie as tie
+use Rattle.pairing.proofs.first_settled.Statement.{statement}
+use Rattle.pairing.proofs.first_settled.Tie as tie
 
 abbrev Inv-loop : tie.InvT-loop
 Inv-loop answer lines i₀ i = (i ≤ lines) × (markedFrom answer i (lines - i) ≡ markedFrom answer 0 lines)

@@ -1,17 +1,17 @@
--- `overlap::overlap_pair` meets its contract: what was answered of the question decides.
+-- `pairing::overlap_pair` meets its contract: what was answered of the question decides.
 use Prim.Native.Nat.{ℕ, _≤_, _+_, _/_}
 use mathlib.Core.Path.{_≡_, refl, sym, subst, _∙_}
 use mathlib.Core.List.{List}
 use lib.ListN.{length, replicate}
 use Rattle.language.specs.Limits.{desk}
 use Rattle.word_bytes.specs.Bytes.{wordsIn}
-use Rattle.overlap.specs.Meeting.{meeting}
-use Rattle.overlap.specs.Lent.{Told}
-use Rattle.overlap.proofs.Telling.{pair-many, pair-long, asks-inside, asks-known}
+use Rattle.pairing.specs.Meeting.{meeting}
+use Rattle.pairing.specs.Lent.{Told}
+use Rattle.pairing.proofs.Telling.{pair-many, pair-long, asks-inside, asks-known}
 use native.Mathlib.Omega.{arith}
 use borrow.Author.Needs.{needs}
-use Rattle.overlap.proofs.overlap_pair.Statement.{statement}
-use Rattle.overlap.proofs.overlap_pair.Tie as tie
+use Rattle.pairing.proofs.overlap_pair.Statement.{statement}
+use Rattle.pairing.proofs.overlap_pair.Tie as tie
 
 -- the library's own question at the start
 abbrev clear : List ℕ

@@ -10,7 +10,8 @@ use lib.ListN.{length, take, drop, replicate, length-replicate}
 use lib.Seq.{take-at}
 use Rattle.language.specs.Limits.{desk}
 use Rattle.language.specs.Numbers.{numberOf, placeOf}
-use Rattle.language.specs.Trees.{Hedge, eqn, Counts, Question}
+use Rattle.language.specs.declared.Signature.{Signature}
+use Rattle.language.specs.Trees.{Hedge, Counts, signature, Question}
 use Rattle.language.specs.Writing.{hedgeWords}
 use Rattle.language.specs.Fine.{fineHedge}
 use Rattle.language.specs.Question.{declared, declaredQ, asks, readQuestion}
@@ -27,7 +28,7 @@ use Rattle.rules.specs.Answer.{solving, zeros}
 use Rattle.rules.specs.Calls.{Showing, shows, denied, showing}
 use Rattle.outcomes.specs.declared.Solved.{Solved}
 use Rattle.outcomes.specs.declared.Shown.the-variants.{Shows, Denied}
-use Rattle.example.specs.Shown.{numbersOf, roomOf}
+use Rattle.line_example.specs.Shown.{numbersOf, roomOf}
 use Rattle.example.specs.Exhibits.{toldExhibits}
 use Rattle.solver.specs.Leaves.{leaves}
 use Rattle.lines.specs.Fillings.{Agree}
@@ -82,10 +83,10 @@ module _ (q : List ℕ) (line : ℕ) (fs : List ℕ) (e : showing desk false (de
 
 -- ---- the pair
 
-meets-nth : (ρ : Filling) (i : ℕ) (ls : List Line) (l : Line) → nthLine i ls ≡ some l → MeetsLine ρ l → MeetsLines ρ ls
-meets-nth ρ i [] l e m = absurd (let z : _≡_ {A = ℕ} 0 1 = cc in omega arith)
-meets-nth ρ zero (k ∷ ls) l e m = let z : k ≡ l = cc in inl (subst (MeetsLine ρ) (sym z) m)
-meets-nth ρ (suc i) (k ∷ ls) l e m = inr (meets-nth ρ i ls l e m)
+meets-nth : (σ : Signature) (ρ : Filling) (i : ℕ) (ls : List Line) (l : Line) → nthLine i ls ≡ some l → MeetsLine σ ρ l → MeetsLines σ ρ ls
+meets-nth σ ρ i [] l e m = absurd (let z : _≡_ {A = ℕ} 0 1 = cc in omega arith)
+meets-nth σ ρ zero (k ∷ ls) l e m = let z : k ≡ l = cc in inl (subst (MeetsLine σ ρ) (sym z) m)
+meets-nth σ ρ (suc i) (k ∷ ls) l e m = inr (meets-nth σ ρ i ls l e m)
 
 end-filled : (t h : ℕ) (fs : List ℕ) → filled t h fs (0 ∷ []) ≡ 0 ∷ []
 unfolding filled
@@ -102,20 +103,19 @@ pub record ShownPair (word : ℕ) (ps qs : List ℕ) (h k : Hedge) (line : ℕ) 
   pub read : readFilling desk (ofBoth word ps qs) fs ≡ gives filling
   pub agrees : Agree (ofBoth word ps qs) filling (exampleOf false (ofBoth word ps qs) settled)
   pub declares : declared (ofBoth word ps qs) (firstOf ps h) ≡ true
-  pub same : Same (fill filling (firstOf ps h)) (fill filling (secondOf word ps qs k))
+  pub same : Same (signature (ofBoth word ps qs)) (fill filling (firstOf ps h)) (fill filling (secondOf word ps qs k))
 
 module _ (word : ℕ) (ps qs : List ℕ) (h k : Hedge) (p : Pattern ps h) (q : Pattern qs k) (ok : tooMany (ofBoth word ps qs) ≡ false) where
   abbrev n : Counts
   n = ofBoth word ps qs
 
-  first-declared : (x : Question) → readQuestion desk (pairWords word ps qs) ≡ asks x → declared n (firstOf ps h) ≡ true
-  first-declared x r =
+  pub both-declared : (x : Question) → readQuestion desk (pairWords word ps qs) ≡ asks x → (declared n (firstOf ps h) ≡ true) × (declared n (secondOf word ps qs k) ≡ true)
+  both-declared x r =
       let is = pair-asked word ps qs h k p q ok x r in
       let w = passed desk (pairWords word ps qs) x r in
       let d = subst (λ (y : Question). declaredQ (y .counts) (y .alternatives) ≡ true) is (subst (λ (c : Counts). declaredQ c (x .alternatives) ≡ true) (sym (w .counts)) (w .declared)) in
       both-true (declared n (firstOf ps h)) (declared n (secondOf word ps qs k))
       (both-true _ true (both-true _ true d .0) .0)
-      .0
 
   pub shown-pair : (line : ℕ) (fs : List ℕ) → showing desk false (desk .room) (desk .room) (desk .filling) line (pairWords word ps qs) ≡ shows fs → ShownPair word ps qs h k line fs
   shown-pair line fs e =
@@ -123,7 +123,7 @@ module _ (word : ℕ) (ps qs : List ℕ) (h k : Hedge) (p : Pattern ps h) (q : P
       let is = pair-asked word ps qs h k p q ok (o .asked) (o .question-read) in
       let room : take (length fs) (fs ++ drop (length fs) (clear (desk .filling))) ≡ fs = take-at fs (drop (length fs) (clear (desk .filling))) (length fs) refl in
       let counts = ap (λ (x : Question). x .counts) is in
-      let met = subst (λ (x : Question). MeetsQuestion (s .filling) x) is (o .exact .same (s .filling) .1 (meets-nth (s .filling) line (o .lines) l there (s .meets))) in
+      let met = subst (λ (x : Question). MeetsQuestion (s .filling) x) is (o .exact .same (s .filling) .1 (meets-nth (signature (o .asked .counts)) (s .filling) line (o .lines) l there (s .meets))) in
       record {
         answer = _;
         promised = o;
@@ -133,11 +133,11 @@ module _ (word : ℕ) (ps qs : List ℕ) (h k : Hedge) (p : Pattern ps h) (q : P
         filling = s .filling;
         read = subst (λ (c : Counts). readFilling desk c fs ≡ gives (s .filling)) counts (ap (readFilling desk (o .asked .counts)) (sym room) ∙ s .read);
         agrees = subst (λ (c : Counts). Agree c (s .filling) (exampleOf false c l)) counts (s .agrees);
-        declares = first-declared (o .asked) (o .question-read);
+        declares = both-declared (o .asked) (o .question-read) .0;
         same = on (s .filling) met;
       }
     where
-      on : (ρ : Filling) → MeetsQuestion ρ (pairAsks word ps qs h k) → Same (fill ρ (firstOf ps h)) (fill ρ (secondOf word ps qs k))
+      on : (ρ : Filling) → MeetsQuestion ρ (pairAsks word ps qs h k) → Same (signature n) (fill ρ (firstOf ps h)) (fill ρ (secondOf word ps qs k))
       on ρ (inl m) = m .0
 
   module _ {line : ℕ} {fs : List ℕ} (x : ShownPair word ps qs h k line fs) where
@@ -165,13 +165,13 @@ module _ (word : ℕ) (ps qs : List ℕ) (h k : Hedge) (p : Pattern ps h) (q : P
         ∙ ap (λ ρ. completeWords (fill ρ (firstOf ps h))) (sym (w .is))
 
     -- and both patterns match that report
-    pub both-match-it : Matches ps (fill (x .filling) (firstOf ps h)) × Matches qs (fill (x .filling) (firstOf ps h))
+    pub both-match-it : Matches (signature n) ps (fill (x .filling) (firstOf ps h)) × Matches (signature n) qs (fill (x .filling) (firstOf ps h))
     both-match-it = (
-      record { term = h; pattern = p; filling = back nothing (blanksIn ps) (x .filling); same = same-≡ _ _ (back-fills nothing (blanksIn ps) (x .filling) h) },
+      record { term = h; pattern = p; filling = back nothing (blanksIn ps) (x .filling); same = same-≡ (signature n) _ _ (back-fills nothing (blanksIn ps) (x .filling) h) },
       record {
         term = k;
         pattern = q;
         filling = back (counted word (blanksIn ps)) (blanksIn qs) (x .filling);
-        same = same-trans _ (fill (x .filling) (secondOf word ps qs k)) _ (same-≡ _ _ (back-fills (counted word (blanksIn ps)) (blanksIn qs) (x .filling) k)) (same-sym _ _ (x .same));
+        same = same-trans (signature n) _ (fill (x .filling) (secondOf word ps qs k)) _ (same-≡ (signature n) _ _ (back-fills (counted word (blanksIn ps)) (blanksIn qs) (x .filling) k)) (same-sym (signature n) _ _ (x .same));
       },
     )

@@ -1,9 +1,9 @@
--- `overlap::unfair` meets its contract.
-use Rattle.overlap.proofs.Reporting.{early-fine, early-so, early-late}
+-- `pairing::unfair` meets its contract.
+use Rattle.pairing.proofs.Reporting.{early-fine, early-so, early-late}
 use native.Mathlib.Omega.{arith}
 use borrow.Author.Needs.{needs}
-use Rattle.overlap.proofs.unfair.Statement.{statement}
-use Rattle.overlap.proofs.unfair.Tie as tie
+use Rattle.pairing.proofs.unfair.Statement.{statement}
+use Rattle.pairing.proofs.unfair.Tie as tie
 
 returns : tie.Need-returns
 returns c = early-fine _ (c .before .before .read-question .result) (c .before .before .read-question .ensures) _ (c .before .verdict-number .ensures) (c .if1 .taken)

@@ -25,8 +25,8 @@ use Rattle.demands.proofs.Between.{not-zero}
 use Rattle.filling.specs.Showing.{offset, ending, bodyAt, nameAt, wordOn, filled, ShowsOn, Shows, Written}
 use Rattle.word_bytes.specs.Bytes.{bytesOf}
 use Rattle.word_bytes.proofs.Pairs.{length-bytesOf}
-use Rattle.overlap.specs.Meeting.{Meeting, cannot, can, unsettled, refused, fits, early}
-use Rattle.overlap.specs.Lent.{meetingNumber, reportOf, Told, wordFrom, markedFrom}
+use Rattle.pairing.specs.Meeting.{Meeting, cannot, can, unsettled, refused, fits, early}
+use Rattle.pairing.specs.Lent.{meetingNumber, reportOf, Told, markedFrom}
 
 -- ---- how many words
 
@@ -97,8 +97,8 @@ bytes-append (u ∷ us) vs = ap (λ (l : List ℕ). (u % 256) ∷ ((u / 256) ∷
 pub record Writing (t h : ℕ) (fs ws room : List ℕ) (at i to : ℕ) (new : List ℕ) : Type 0 where
   pub inside : i ≤ length ws
   pub len : length new ≡ length room
-  pub place : to + 2 * length (filled t h fs (drop i ws)) ≡ at + 2 * length (filled t h fs ws)
-  pub same : sets new to (bytesOf (filled t h fs (drop i ws))) ≡ sets room at (bytesOf (filled t h fs ws))
+  pub place : to + length (filled t h fs (drop i ws)) ≡ at + length (filled t h fs ws)
+  pub same : sets new (2 * to) (bytesOf (filled t h fs (drop i ws))) ≡ sets room (2 * at) (bytesOf (filled t h fs ws))
 
 module _ (t h : ℕ) (fs ws room : List ℕ) (at : ℕ) where
   pub writing-starts : Writing t h fs ws room at 0 at room
@@ -114,7 +114,7 @@ module _ (t h : ℕ) (fs ws room : List ℕ) (at : ℕ) where
     sum : length (filled t h fs (drop i ws)) ≡ length value + length rest
     sum = ap length (here t h fs ws i p) ∙ length-append value rest
 
-    pub writing-room : at + 2 * length (filled t h fs ws) ≤ length room → to + 2 * length value ≤ length new
+    pub writing-room : 2 * (at + length (filled t h fs ws)) ≤ length room → 2 * (to + length value) ≤ length new
     writing-room q = let a = x .place in let b = x .len in let c = sum in omega arith
 
     -- the scratch holds the value, and its bytes are put
@@ -127,25 +127,26 @@ module _ (t h : ℕ) (fs ws room : List ℕ) (at : ℕ) where
       pub writing-inside : n ≤ length old
       writing-inside = let fit = one-fits t h fs ws i p in let e = w .place in omega arith
 
-      pub writing-puts : at + 2 * length (filled t h fs ws) ≤ length room → to + 2 * length (between 0 n scratch) ≤ length new
+      pub writing-puts : 2 * (at + length (filled t h fs ws)) ≤ length room → 2 * (to + length (between 0 n scratch)) ≤ length new
       writing-puts q = let l = ap length held in let z = writing-room q in omega arith
 
-      pub writing-on : (to′ : ℕ) (new′ : List ℕ) → to′ ≡ to + 2 * length (between 0 n scratch) → new′ ≡ sets new to (bytesOf (between 0 n scratch)) → Writing t h fs ws room at (i + 1) to′ new′
-      writing-on to′ new′ et en =
+      pub writing-on : (new′ : List ℕ) → new′ ≡ sets new (2 * to) (bytesOf (between 0 n scratch)) → Writing t h fs ws room at (i + 1) (to + n) new′
+      writing-on new′ en =
+          let size : n ≡ length value = w .place ∙ zero-add (length value) in
           let lv = ap length held in
           let lb = length-bytesOf value in
-          let z : to′ ≡ to + length (bytesOf value) = omega arith in
-          let e : sets new′ to′ (bytesOf rest) ≡ sets new to (bytesOf (filled t h fs (drop i ws))) =
-          (ap₂ (λ (l : List ℕ) (j : ℕ). sets l j (bytesOf rest)) (en ∙ ap (λ l. sets new to (bytesOf l)) held) z
-          ∙ sym (sets-append (bytesOf value) (bytesOf rest) new to) ∙ ap (sets new to) (sym (bytes-append value rest) ∙ ap bytesOf (sym (here t h fs ws i p)))) in
+          let z : 2 * (to + n) ≡ 2 * to + length (bytesOf value) = omega arith in
+          let e : sets new′ (2 * (to + n)) (bytesOf rest) ≡ sets new (2 * to) (bytesOf (filled t h fs (drop i ws))) =
+          (ap₂ (λ (l : List ℕ) (j : ℕ). sets l j (bytesOf rest)) (en ∙ ap (λ l. sets new (2 * to) (bytesOf l)) held) z
+          ∙ sym (sets-append (bytesOf value) (bytesOf rest) new (2 * to)) ∙ ap (sets new (2 * to)) (sym (bytes-append value rest) ∙ ap bytesOf (sym (here t h fs ws i p)))) in
           record {
             inside = omega arith;
-            len = ap length en ∙ length-sets new to (bytesOf (between 0 n scratch)) ∙ x .len;
+            len = ap length en ∙ length-sets new (2 * to) (bytesOf (between 0 n scratch)) ∙ x .len;
             place = let a = x .place in let c = sum in omega arith;
             same = e ∙ x .same;
           }
 
-  pub writing-ends : (i to : ℕ) (new : List ℕ) → Writing t h fs ws room at i to new → length ws ≤ i → new ≡ sets room at (bytesOf (filled t h fs ws))
+  pub writing-ends : (i to : ℕ) (new : List ℕ) → Writing t h fs ws room at i to new → length ws ≤ i → new ≡ sets room (2 * at) (bytesOf (filled t h fs ws))
   unfolding bytesOf
   writing-ends i to new x p = sym (rw (drop-of-length-le ws p, filled-none t h fs) refl) ∙ x .same
 
@@ -159,7 +160,7 @@ module _ (size : ℕ) (ws : List ℕ) (at : ℕ) (room : List ℕ) where
   unfolding bytesOf
   too-long n e p = rw (lt-ltb size (length ws) (omega arith)) (refl, refl)
 
-  pub shown-here : (n m : ℕ) (new : List ℕ) → n ≡ length ws → m ≡ n → n ≤ size → new ≡ sets room at (bytesOf ws) → Comes (200 + m) new
+  pub shown-here : (n m : ℕ) (new : List ℕ) → n ≡ length ws → m ≡ n → n ≤ size → new ≡ sets room (2 * at) (bytesOf ws) → Comes (200 + m) new
   shown-here n m new e f p g = rw (le-ltb size (length ws) (omega arith)) (ap (λ k. 200 + k) (f ∙ e), g)
 
 -- ---- 2 or 3, and else 5

@@ -1,5 +1,5 @@
 -- What each answer of a pair promises.
-use Prim.Native.Nat.{ℕ, _+_}
+use Prim.Native.Nat.{ℕ, _≤_}
 use mathlib.Core.Path.{_≡_, refl, sym, ap, subst, _∙_}
 use mathlib.Core.Logic.{_⊎_, inl, inr}
 use mathlib.Core.Bool.{Bool, true, false, _&&_}
@@ -9,9 +9,10 @@ use lib.Dec.{eqb, ltb}
 use lib.ListN.{length, replicate, length-replicate}
 use Rattle.language.specs.Limits.{desk}
 use Rattle.language.specs.Kinds.{pick}
-use Rattle.language.specs.Trees.{Question}
+use Rattle.language.specs.Trees.{Counts, signature, Question}
 use Rattle.language.specs.Question.{asks, readQuestion}
 use Rattle.language.proofs.Bools.{both-true}
+use Rattle.language.proofs.Asking.{passed, ranges}
 use Rattle.meaning.specs.Complete.{Complete, completeWords, Same}
 use Rattle.meaning.specs.Meaning.{Filling, fill, MeetsQuestion}
 use Rattle.meaning.proofs.Same.{same-sym, same-≡, same-trans}
@@ -28,11 +29,12 @@ use Rattle.patterns.specs.Blanks.{blanksIn, counted, nothing, apart}
 use Rattle.patterns.specs.Terms.{oneTerm, Matches}
 use Rattle.patterns.specs.Pairs.{ofBoth, tooMany, pairWords}
 use Rattle.patterns.specs.Renamed.{firstOf, secondOf, pairAsks}
-use Rattle.patterns.proofs.OneTerm.{one-term}
+use Rattle.patterns.proofs.OneTerm.{Term-of, one-term}
 use Rattle.patterns.proofs.Renumbering.{joint, joint-first, joint-second}
 use Rattle.patterns.proofs.Asking.{held-here, pair-asked}
-use Rattle.overlap.specs.Meeting.{Meeting, cannot, can, unsettled, refused, firstSettled, fits, reported, early, shownBy, meetingBy, meetingOf, meeting}
-use Rattle.overlap.proofs.Showing.{shown-pair, report-words, both-match-it}
+use Rattle.patterns.proofs.Taming.{tame, tame-same, tamed, tamed-named, tamed-fills}
+use Rattle.pairing.specs.Meeting.{Meeting, cannot, can, unsettled, refused, firstSettled, fits, reported, early, shownBy, meetingBy, meetingOf, meeting}
+use Rattle.pairing.proofs.Showing.{both-declared, shown-pair, report-words, both-match-it}
 
 module _ (room word : ℕ) (ps qs : List ℕ) where
   abbrev v : Solving
@@ -69,7 +71,7 @@ module _ (room word : ℕ) (ps qs : List ℕ) where
         said = sym (ap (λ (v : Solving). toldLeaves v (replicate (desk .room) 0) (replicate (desk .room) 0)) d);
       }) refl
 
-  pub cannot-is-none : meeting room word ps qs ≡ cannot → (report : Complete) → Matches ps report → Matches qs report → ⊥
+  pub cannot-is-none : meeting room word ps qs ≡ cannot → (report : Complete) → Matches (signature (ofBoth word ps qs)) ps report → Matches (signature (ofBoth word ps qs)) qs report → ⊥
   cannot-is-none e g a b = let o = open-up cannot (λ n d. let z : _≡_ {A = ℕ} 0 1 = cc in omega arith) e in on (o .few) v refl (o .comes)
     where
       settled : (t : Bool) (m : Meeting) → (m ≡ cannot → ⊥) → pick t unsettled m ≡ cannot → ⊥
@@ -91,9 +93,60 @@ module _ (room word : ℕ) (ps qs : List ℕ) where
           let ρ = joint (blanksIn ps) (blanksIn qs) (a .filling) (b .filling) in
           let first = joint-first word (blanksIn ps) (blanksIn qs) (a .filling) (b .filling) (a .term) (held-here nothing ps (a .term) (a .pattern)) in
           let second = joint-second word (blanksIn ps) (blanksIn qs) (a .filling) (b .filling) (b .term) (held-here (counted word (blanksIn ps)) qs (b .term) (b .pattern)) in
-          let meets : Same (fill ρ (firstOf ps (a .term))) (fill ρ (secondOf word ps qs (b .term))) =
-          same-trans _ (fill (a .filling) (a .term)) _ (same-≡ _ _ first) (same-trans _ g _ (a .same) (same-trans _ (fill (b .filling) (b .term)) _ (same-sym _ _ (b .same)) (same-≡ _ _ (sym second)))) in
-          none ρ (subst (λ (x : Question). MeetsQuestion ρ x) (sym is) (inl (meets, tt)))
+          let σ = signature (ofBoth word ps qs) in
+          let meets : Same σ (fill ρ (firstOf ps (a .term))) (fill ρ (secondOf word ps qs (b .term))) =
+          same-trans σ _ (fill (a .filling) (a .term)) _ (same-≡ σ _ _ first) (same-trans σ _ g _ (a .same) (same-trans σ _ (fill (b .filling) (b .term)) _ (same-sym σ _ _ (b .same)) (same-≡ σ _ _ (sym second)))) in
+          let (d₁, d₂) = both-declared word ps qs (a .term) (b .term) (a .pattern) (b .pattern) few q r in
+          let one : 1 ≤ σ .symbols = subst (λ (x : Counts). 1 ≤ x .symbols) (sym (passed desk (pairWords word ps qs) q r .counts) ∙ ap (λ (x : Question). x .counts) is) (ranges desk (pairWords word ps qs) q r .symbol) in
+          let ρ′ = tamed σ ρ in
+          let tame-meets : Same σ (fill ρ′ (firstOf ps (a .term))) (fill ρ′ (secondOf word ps qs (b .term))) =
+              same-trans σ _ (tame σ (fill ρ (firstOf ps (a .term)))) _ (same-≡ σ _ _ (tamed-fills (ofBoth word ps qs) ρ (firstOf ps (a .term)) d₁))
+              (same-trans σ _ (tame σ (fill ρ (secondOf word ps qs (b .term)))) _ (tame-same σ _ _ meets) (same-≡ σ _ _ (sym (tamed-fills (ofBoth word ps qs) ρ (secondOf word ps qs (b .term)) d₂)))) in
+          none ρ′ (subst (λ (x : Question). MeetsQuestion ρ′ x) (sym is) (inl (tame-meets, tamed-named σ ρ one)))
       on few (answered (k ∷ ks) n) d x = settled (eqb (firstSettled (k ∷ ks)) (length (k ∷ ks))) (shownBy room word ps qs (firstSettled (k ∷ ks))) (shown (showing desk false (desk .room) (desk .room) (desk .filling) (firstSettled (k ∷ ks)) (pairWords word ps qs))) x
       on few (unread r) d x = let z : _≡_ {A = ℕ} 0 1 = cc in omega arith
       on few (given-up r) d x = let z : _≡_ {A = ℕ} 0 1 = cc in omega arith
+
+  -- ---- '"can meet" with a report that both match'
+
+  -- the words, with an end mark, are those of a complete report that matches both patterns
+  pub record CanMeet (ws : List ℕ) : Type 0 where
+    pub report : Complete
+    pub words : ws ++ (0 ∷ []) ≡ completeWords report
+    pub first : Matches (signature (ofBoth word ps qs)) ps report
+    pub second : Matches (signature (ofBoth word ps qs)) qs report
+
+  module _ (few : tooMany (ofBoth word ps qs) ≡ false) (h : Term-of ps) (k : Term-of qs) (ws : List ℕ) where
+    shown-can : (line : ℕ) (s : Showing) → showing desk false (desk .room) (desk .room) (desk .filling) line (pairWords word ps qs) ≡ s
+        → reported room (ofBoth word ps qs) (apart nothing ps) s ≡ can ws → CanMeet ws
+    shown-can line (denied r) c d = absurd (let z : _≡_ {A = ℕ} 0 1 = cc in omega arith)
+    shown-can line (shows fs) c d = by (ltb room (length (filled (ofBoth word ps qs .terms) (ofBoth word ps qs .hedges) fs (apart nothing ps)))) d
+      where
+        by : (t : Bool) → pick t (refused 16) (can (filled (ofBoth word ps qs .terms) (ofBoth word ps qs .hedges) fs (apart nothing ps))) ≡ can ws → CanMeet ws
+        by true d = absurd (let z : _≡_ {A = ℕ} 0 1 = cc in omega arith)
+        by false d =
+            let z : filled (ofBoth word ps qs .terms) (ofBoth word ps qs .hedges) fs (apart nothing ps) ≡ ws = cc in
+            let x = shown-pair word ps qs (h .term) (k .term) (h .pattern) (k .pattern) few line fs c in
+            let (a, b) = both-match-it word ps qs (h .term) (k .term) (h .pattern) (k .pattern) few x in
+            record {
+              report = fill (x .filling) (firstOf ps (h .term));
+              words = ap (λ l. l ++ (0 ∷ [])) (sym z) ∙ report-words word ps qs (h .term) (k .term) (h .pattern) (k .pattern) few x;
+              first = a;
+              second = b;
+            }
+
+    solved-can : (w : Solving) → meetingOf room word ps qs w ≡ can ws → CanMeet ws
+    solved-can (answered [] n) d = absurd (let z : _≡_ {A = ℕ} 0 1 = cc in omega arith)
+    solved-can (answered (l ∷ ls) n) d = by (eqb (firstSettled (l ∷ ls)) (length (l ∷ ls))) d
+      where
+        by : (t : Bool) → pick t unsettled (shownBy room word ps qs (firstSettled (l ∷ ls))) ≡ can ws → CanMeet ws
+        by true d = absurd (let z : _≡_ {A = ℕ} 0 1 = cc in omega arith)
+        by false d = shown-can (firstSettled (l ∷ ls)) (showing desk false (desk .room) (desk .room) (desk .filling) (firstSettled (l ∷ ls)) (pairWords word ps qs)) refl d
+    solved-can (unread r) d = absurd (let z : _≡_ {A = ℕ} 0 1 = cc in omega arith)
+    solved-can (given-up r) d = absurd (let z : _≡_ {A = ℕ} 0 1 = cc in omega arith)
+
+  pub can-matches : (ws : List ℕ) → meeting room word ps qs ≡ can ws → CanMeet ws
+  can-matches ws e =
+      let o = open-up (can ws) (λ n d. let z : _≡_ {A = ℕ} 0 1 = cc in omega arith) e in
+      let (a, b) = both-true (oneTerm ps) (oneTerm qs) (o .fair) in
+      solved-can (o .few) (one-term ps a) (one-term qs b) ws v (o .comes)

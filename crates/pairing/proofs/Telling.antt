@@ -35,12 +35,12 @@ use Rattle.patterns.specs.declared.Asked.{Asked}
 use Rattle.patterns.specs.declared.Asked.the-variants.{TooMany, TooLong, Asks}
 use Rattle.patterns.specs.Pairs.{ofBoth, tooMany, pairWords, asked, askedWords, askedLeaves}
 use Rattle.patterns.proofs.OneTerm.{one-term}
-use Rattle.overlap.specs.Meeting as meetings
-use Rattle.overlap.specs.Meeting.{Meeting, cannot, can, unsettled, refused, firstSettled, reported, early, shownBy, meetingBy, meetingOf, meeting}
-use Rattle.overlap.specs.Lent.{meetingNumber, reportOf, Told, markedFrom}
-use Rattle.overlap.specs.Here.{Here, PairHere, Known}
-use Rattle.overlap.proofs.Settling.{Lines, solve-refused, solve-answered, Filled, example-refused, example-shown}
-use Rattle.overlap.proofs.Showing.{shown-pair, pair-shows}
+use Rattle.pairing.specs.Meeting as meetings
+use Rattle.pairing.specs.Meeting.{Meeting, cannot, can, unsettled, refused, firstSettled, reported, early, shownBy, meetingBy, meetingOf, meeting}
+use Rattle.pairing.specs.Lent.{meetingNumber, reportOf, Told, markedFrom}
+use Rattle.pairing.specs.Here.{Here, PairHere, Known}
+use Rattle.pairing.proofs.Settling.{Lines, solve-refused, solve-answered, Filled, example-refused, example-shown}
+use Rattle.pairing.proofs.Showing.{shown-pair, pair-shows}
 
 -- ---- the pair's words
 

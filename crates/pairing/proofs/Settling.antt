@@ -24,15 +24,15 @@ use Rattle.rules.specs.Calls.{Showing, shows, denied, showing}
 use Rattle.outcomes.specs.declared.Solved.{Solved}
 use Rattle.outcomes.specs.Numbers.{SolveNumbers, outcomeNumber, solvedNumbers}
 use Rattle.solver.specs.Leaves.{toldLeaves}
-use Rattle.example.specs.Shown.{numbersOf, roomOf}
+use Rattle.line_example.specs.Shown.{numbersOf, roomOf}
 use Rattle.example.specs.Exhibits.{toldExhibits}
 use Rattle.demands.specs.Solves.{Solve}
 use Rattle.demands.specs.Answers.{Line, marked, readLine, lineIn, withLine, readLines, readAnswer}
 use Rattle.demands.proofs.Between.{not-zero}
 use Rattle.demands.proofs.Reading.{asLine}
 use Rattle.demands.proofs.Solving as solver
-use Rattle.overlap.specs.Meeting.{Meeting, cannot, can, unsettled, refused, firstSettled, reported, shownBy, meetingBy, meetingOf}
-use Rattle.overlap.specs.Lent.{markedFrom}
+use Rattle.pairing.specs.Meeting.{Meeting, cannot, can, unsettled, refused, firstSettled, reported, shownBy, meetingBy, meetingOf}
+use Rattle.pairing.specs.Lent.{markedFrom}
 
 none≢ : {A B : Type 0} {a : A} → _≡_ {A = Option A} none (some a) → B
 none≢ e = absurd (let z : _≡_ {A = ℕ} 0 1 = cc in omega arith)

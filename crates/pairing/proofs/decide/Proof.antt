@@ -1,9 +1,9 @@
--- `overlap::decide` meets its contract.
-use Rattle.overlap.proofs.Telling.{not-fair, fair-here, fair-so}
+-- `pairing::decide` meets its contract.
+use Rattle.pairing.proofs.Telling.{not-fair, fair-here, fair-so}
 use native.Mathlib.Omega.{arith}
 use borrow.Author.Needs.{needs}
-use Rattle.overlap.proofs.decide.Statement.{statement}
-use Rattle.overlap.proofs.decide.Tie as tie
+use Rattle.pairing.proofs.decide.Statement.{statement}
+use Rattle.pairing.proofs.decide.Tie as tie
 
 settle-requires : tie.Need-settle-requires
 settle-requires c κs = (record { word = c .before .before .before .before .pre .0 .word; one = c .before .before .before .before .pre .0 .one; other = c .before .before .before .before .pre .0 .other; here = fair-here (c .before .before .before .before .args .size) (c .before .before .before .before .pre .0 .word) (c .before .before .before .before .pre .0 .one) (c .before .before .before .before .pre .0 .other) (c .before .before .before .before .args .at) (c .before .before .before .before .args .room .now) (c .before .before .before .before .args .question .now) (c .before .before .before .before .args .p) (c .before .before .before .before .pre .0 .known) (c .before .if1 .taken) }, c .before .before .before .before .pre .1)

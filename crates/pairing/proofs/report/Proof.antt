@@ -1,11 +1,11 @@
--- `overlap::report` meets its contract: the report fits, or 16.
+-- `pairing::report` meets its contract: the report fits, or 16.
 use Prim.Native.Nat.{_≤_, _+_}
 use Rattle.filling.specs.Showing.{filled}
-use Rattle.overlap.proofs.Reporting.{report-few, too-long, shown-here}
+use Rattle.pairing.proofs.Reporting.{report-few, too-long, shown-here}
 use native.Mathlib.Omega.{arith}
 use borrow.Author.Needs.{needs}
-use Rattle.overlap.proofs.report.Statement.{statement}
-use Rattle.overlap.proofs.report.Tie as tie
+use Rattle.pairing.proofs.report.Statement.{statement}
+use Rattle.pairing.proofs.report.Tie as tie
 
 filled-len-requires : tie.Need-filled-len-requires
 filled-len-requires c κs = ((c .before .before .before .before .pre .1 .0 .0), ((c .before .before .before .before .pre .1 .0 .1), (c .before .before .before .before .pre .0)))
