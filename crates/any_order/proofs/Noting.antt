@@ -161,18 +161,17 @@ module _ {w : List ℕ} {kind top : ℕ} where
 
 -- ---- the call
 
-abbrev pub blank : List ℕ
-blank = replicate 4096 0
+-- nothing is put down: n noughts
+pub record Blank (n : ℕ) (c : List ℕ) : Type 0 where
+  pub long : length c ≡ n
+  pub none : (q : ℕ) → getD c q 0 ≡ 0
 
-blank-none : (q : ℕ) → getD blank q 0 ≡ 0
-blank-none q = by (leb (q + 1) 4096) refl
+pub blank : (n : ℕ) → Blank n (replicate {A = ℕ} n 0)
+blank n = record { long = length-replicate {A = ℕ} n 0; none = λ q. by q (leb (q + 1) n) refl }
   where
-    by : (b : Bool) → leb (q + 1) 4096 ≡ b → getD blank q 0 ≡ 0
-    by true z = getD-replicate {A = ℕ} 4096 q 0 0 (omega (arith, leb-true (q + 1) 4096 z))
-    by false z = List·getD-eq-default blank 0 {n = q} (omega (arith, leb-false (q + 1) 4096 z, length-replicate {A = ℕ} 4096 0))
-
-pub blank-long : length blank ≡ 4096
-blank-long = length-replicate {A = ℕ} 4096 0
+    by : (q : ℕ) (b : Bool) → leb (q + 1) n ≡ b → getD (replicate {A = ℕ} n 0) q 0 ≡ 0
+    by q true z = getD-replicate {A = ℕ} n q 0 0 (omega (arith, leb-true (q + 1) n z))
+    by q false z = List·getD-eq-default (replicate {A = ℕ} n 0) 0 {n = q} (omega (arith, leb-false (q + 1) n z, length-replicate {A = ℕ} n 0))
 
 left-heads : (n : ℕ) (ks : List Kind) → Heads n ks → left n ks ≡ total ks
 left-heads n [] h = refl
@@ -182,28 +181,35 @@ module _ {e : List ℕ} {at : ℕ} {w : List ℕ} {base top : ℕ} where
   pub asked-fits : Asked e at w base top → top ≤ length w
   asked-fits a = a .fits
 
-  pub asked-listed : Asked e at w base top → length e ≤ desk .question → Listed w base top blank
-  asked-listed a z = record {
+module _ {e : List ℕ} {at : ℕ} {w : List ℕ} {base top : ℕ} {c : List ℕ} {n : ℕ} (z : Blank n c) where
+  pub blank-holds : Asked e at w base top → length e ≤ n → length e ≤ length c
+  blank-holds a le = omega (arith, z .long)
+
+  pub noted-holds : {l : List ℕ} → Asked e at w base top → length e ≤ n → NotedFrom w base top c l → length e ≤ length l
+  noted-holds a le d = omega (arith, d .len, z .long)
+
+  pub asked-listed : Asked e at w base top → length e ≤ n → Listed w base top c
+  asked-listed a le = record {
     ks = a .ks;
     records = a .records;
     fits = a .fits;
     bounded = a .bounded;
-    within = each-imp (λ (k : Kind). Each (λ p. p < length e) (k .places)) (λ (k : Kind). Each (λ p. p < length blank) (k .places))
-        (λ k y. each-imp (λ p. p < length e) (λ p. p < length blank) (λ p u. omega (arith, blank-long)) (k .places) y) (a .ks) (a .within);
-    most = λ q. omega (arith, blank-none q);
+    within = each-imp (λ (k : Kind). Each (λ p. p < length e) (k .places)) (λ (k : Kind). Each (λ p. p < length c) (k .places))
+        (λ k y. each-imp (λ p. p < length e) (λ p. p < length c) (λ p u. omega (arith, z .long)) (k .places) y) (a .ks) (a .within);
+    most = λ q. omega (arith, z .none q);
   }
 
-  pub asked-ready : {l : List ℕ} {times : ℕ} → Asked e at w base top → length e ≤ desk .question → NotedFrom w base top blank l → Headed w base top times
-      → Ready w base top blank l times
-  asked-ready {l} {times} a z n h = record {
+  pub asked-ready : {l : List ℕ} {times : ℕ} → Asked e at w base top → length e ≤ n → NotedFrom w base top c l → Headed w base top times
+      → Ready w base top c l times
+  asked-ready {l} {times} a le d h = record {
     ks = a .ks;
     records = a .records;
     fits = a .fits;
     bounded = a .bounded;
-    within = each-imp (λ (k : Kind). Each (λ p. p < length e) (k .places)) (λ (k : Kind). Each (λ p. (p < length blank) × (p < length l)) (k .places))
-        (λ k y. each-imp (λ p. p < length e) (λ p. (p < length blank) × (p < length l))
-        (λ p u. (omega (arith, blank-long), omega (arith, n .len, blank-long))) (k .places) y) (a .ks) (a .within);
-    room = λ p. omega (arith, blank-none p, left-heads times (a .ks) (h .each (a .ks) (a .records)), a .room);
+    within = each-imp (λ (k : Kind). Each (λ p. p < length e) (k .places)) (λ (k : Kind). Each (λ p. (p < length c) × (p < length l)) (k .places))
+        (λ k y. each-imp (λ p. p < length e) (λ p. (p < length c) × (p < length l))
+        (λ p u. (omega (arith, z .long), omega (arith, d .len, z .long))) (k .places) y) (a .ks) (a .within);
+    room = λ p. omega (arith, z .none p, left-heads times (a .ks) (h .each (a .ks) (a .records)), a .room);
     some = λ u. go (a .ks) (a .records) (h .each (a .ks) (a .records)) u;
   }
     where
@@ -211,17 +217,17 @@ module _ {e : List ℕ} {at : ℕ} {w : List ℕ} {base top : ℕ} where
       go [] y d u = absurd (omega arith)
       go (k ∷ ks) y d u = omega (arith, y .0 .some, d)
 
-  pub shared : {l : List ℕ} {times : ℕ} {r : Bool} → NotedFrom w base top blank l → Headed w base top times → Placed e at w blank l base times 0 top r → Shared e at w base top r
-  shared {l} {times} {r} n h p = record { means = λ R x ks y. go R x ks y (p .means R x ks y (n .noted ks y) (n .most)) (h .each ks y) }
+  pub shared : {l : List ℕ} {times : ℕ} {r : Bool} → NotedFrom w base top c l → Headed w base top times → Placed e at w c l base times 0 top r → Shared e at w base top r
+  shared {l} {times} {r} d h p = record { means = λ R x ks y. go R x ks y (p .means R x ks y (d .noted ks y) (d .most)) (h .each ks y) }
     where
-      like : Like (counts blank) none
-      like q = blank-none q
+      like : Like (counts c) none
+      like q = z .none q
 
-      go : (R : Expr) → At e at R → (ks : List Kind) → Records w base ks top → (r ≡ true) ↔ Going (Good R at) ks times 0 (counts blank) → Heads times ks → (r ≡ true) ↔ Rest (Good R at) ks none
+      go : (R : Expr) → At e at R → (ks : List Kind) → Records w base ks top → (r ≡ true) ↔ Going (Good R at) ks times 0 (counts c) → Heads times ks → (r ≡ true) ↔ Rest (Good R at) ks none
       go R x ks y m d =
           let g = rest-like (Good R at) (good-like R at) ks in
-          (λ t. g (counts blank) none like (whole R ks d .0 (m .0 t)), λ s. m .1 (whole R ks d .1 (g none (counts blank) (λ q. sym (like q)) s)))
+          (λ t. g (counts c) none like (whole R ks d .0 (m .0 t)), λ s. m .1 (whole R ks d .1 (g none (counts c) (λ q. sym (like q)) s)))
         where
-          whole : (R : Expr) (ks : List Kind) → Heads times ks → Going (Good R at) ks times 0 (counts blank) ↔ Rest (Good R at) ks (counts blank)
+          whole : (R : Expr) (ks : List Kind) → Heads times ks → Going (Good R at) ks times 0 (counts c) ↔ Rest (Good R at) ks (counts c)
           whole R [] hd = (λ s. s, λ s. s)
           whole R (k ∷ ks) hd = (λ s. rw hd at s, λ s. rw hd s)

@@ -11,6 +11,7 @@ use borrow.Author.Tests.{leb-true, eq-eqb, ne-eqb}
 use Rattle.language.specs.declared.Refusal.{Refusal}
 use Rattle.language.specs.Kinds.{pick}
 use Rattle.language.specs.Limits.{desk}
+use Rattle.language.specs.Trees.{signature}
 use Rattle.language.specs.Numbers.{numberOf}
 use Rattle.language.proofs.Bools.{both-true}
 use Rattle.language.proofs.Numbering.{each-number}
@@ -125,7 +126,7 @@ answered-told ls n rest answer few size e =
 pub answered-fits : (work answer : ℕ) (q : List ℕ) (ls : List Numbered) (n : ℕ) → solving desk work answer q ≡ answered ls n → (length ls ≤ desk .lines) × (linesAt desk + linesSize ls ≤ desk .room)
 answered-fits work answer q ls n e =
     let (x, asked, ran) = answered-run desk work answer q ls n e in
-    let f = both-true (leb (length ls) (desk .lines)) (leb (linesAt desk + linesSize ls) (desk .room)) (lines-fit desk refl (x .alternatives) ls n ran) in
+    let f = both-true (leb (length ls) (desk .lines)) (leb (linesAt desk + linesSize ls) (desk .room)) (lines-fit desk refl (signature (x .counts)) (x .alternatives) ls n ran) in
     (leb-true _ _ (f .0), leb-true _ _ (f .1))
 
 abbrev Back : Type 0

@@ -58,7 +58,7 @@ module _ (work answer : ℕ) (ws : List ℕ) where
   solve-place d (table.in-question f) = fault-place ws d f
   solve-place d (table.in-run q read s) = on s
     where
-      on : Stops desk (q .alternatives) d → placeOf d ≡ placeFor ws (numberOf d)
+      on : Stops desk (signature (q .counts)) (q .alternatives) d → placeOf d ≡ placeFor ws (numberOf d)
       on (long-result e _ _ _ _ _ _) = ap placeOf e ∙ sym (ap (λ r. placeFor ws (numberOf r)) e)
       on (long-waiting e _ _ _ _ _ _ _) = ap placeOf e ∙ sym (ap (λ r. placeFor ws (numberOf r)) e)
       on (no-line-fits e _ _ _ _ _) = ap placeOf e ∙ sym (ap (λ r. placeFor ws (numberOf r)) e)

@@ -93,7 +93,7 @@ module _ (ws : List ℕ) where
       on (asks q) e =
           run-right (run desk (signature (q .counts)) (q .alternatives))
           (run-stops-by (RightPlace desk ws) (none-right LongResult (λ e. omega arith) (λ e. omega arith)) (none-right LongWaiting (λ e. omega arith) (λ e. omega arith))
-          (none-right LineRoom (λ e. omega arith) (λ e. omega arith)) (none-right StepLimit (λ e. omega arith) (λ e. omega arith)) desk (q .alternatives))
+          (none-right LineRoom (λ e. omega arith) (λ e. omega arith)) (none-right StepLimit (λ e. omega arith) (λ e. omega arith)) desk (signature (q .counts)) (q .alternatives))
       on (refuses r) e = place-right desk ws r e
 
   -- ---- trying

@@ -7,7 +7,7 @@ use Rattle.language.specs.declared.Refusal.{Refusal}
 use Rattle.language.specs.declared.Refusal.the-variants.{ShortSlice, QuestionLength, CountRange, BadOffset, NotLiterals, Undeclared}
 use Rattle.language.specs.Limits.{Limits}
 use Rattle.language.specs.Numbers.{numberOf}
-use Rattle.language.specs.Trees.{Conj}
+use Rattle.language.specs.Trees.{Conj, signature}
 use Rattle.language.specs.Reading.{Got, got, stop}
 use Rattle.language.specs.Question.{Asked, asks, refuses, readQuestion, lengthFits, countsFit, laidOut, readAll, parts, declaredQ, countsOf, alternativesOf}
 use Rattle.rules.specs.Run.{Outcome, finished, refused, run}
@@ -54,8 +54,8 @@ range-run (refused r) h = h
 
 range-asked : (L : Limits) (a : Asked) → Early a → InRange (solvingOf L a)
 range-asked L (asks q) h =
-    range-run (run L (q .alternatives))
-    (run-stops-by (Between 7 10) (lit≤ tt, lit≤ tt) (lit≤ tt, lit≤ tt) (lit≤ tt, lit≤ tt) (lit≤ tt, lit≤ tt) L (q .alternatives))
+    range-run (run L (signature (q .counts)) (q .alternatives))
+    (run-stops-by (Between 7 10) (lit≤ tt, lit≤ tt) (lit≤ tt, lit≤ tt) (lit≤ tt, lit≤ tt) (lit≤ tt, lit≤ tt) L (signature (q .counts)) (q .alternatives))
 range-asked L (refuses r) h = h
 
 range-tested : (b : Bool) (s : Solving) → InRange s → InRange (elim b [ true ↦ unread ShortSlice | false ↦ s ])

@@ -26,12 +26,15 @@ use Rattle.member.specs.declared.Seen.{Seen}
 use Rattle.member.specs.declared.Fitted.{Fitted}
 use Rattle.member.specs.Marks.{blank, accepts, tests, ofTerm}
 use Rattle.member.specs.Leaves.{Fits, Terms}
-use Rattle.member.specs.Places.{sizeC, Holds, at-nil, at-tree, Hedge, Term, Looked, Skipped, Beside, Accepted}
+use Rattle.passing.specs.Places.{sizeC, Holds, at-nil, at-tree, Hedge, Term, Skipped, Beside}
+use Rattle.member.specs.Places.{Looked, Accepted}
 use Rattle.member.specs.Gathering.{rowOf, Lists, Spared, Symbol, Scene, Spacious, Lent, Gathered, Answered, FittedAll, Shuffles}
 use Rattle.member.proofs.Decides.{tests-decide, shuffled, of-term→, of-term←}
 use Rattle.member.proofs.Sharing.{shares}
-use Rattle.member.proofs.Standing.{at-lt, at-fits, first, by-eps, by-star, by-symbol, symbol-at, symbol-word, under, holds-lt, holds-fits, by-tree, term-word, term-children, term-rest}
-use Rattle.member.proofs.Moves.{beside-refl, beside-wide, beside-trans}
+use Rattle.passing.proofs.Standing.{holds-lt, holds-fits, by-tree, word, child, behind}
+use Rattle.any_order.proofs.Standing.{at-lt, at-fits, first, by-eps, by-star}
+use Rattle.member.proofs.Standing.{by-symbol, symbol-at, symbol-word, under}
+use Rattle.passing.proofs.Beside.{beside-refl, beside-wide, beside-trans}
 
 -- ---- what is lent
 
@@ -51,10 +54,10 @@ pub scene-on : {e h : List ℕ} {k k′ : List Bool} → Scene e h k → length 
 scene-on s z = record { long = omega (arith, s .long); short = s .short; hedge = s .hedge }
 
 pub term-some : {h : List ℕ} {j : ℕ} → Term h j → getD h j 0 ≡ 0 → ⊥
-term-some t z = omega (arith, term-word (t .here))
+term-some t z = omega (arith, word (t .here))
 
 pub next-far : {h : List ℕ} {j n : ℕ} → Skipped h (j + 1) n → Term h j → (j + 2 ≤ n) × (j < length h)
-next-far s t = (omega (arith, s .each (t .c) (term-children (t .here)), some-size (t .c)), holds-lt (t .here))
+next-far s t = (omega (arith, s .each (t .c) (child (t .here)), some-size (t .c)), holds-lt (t .here))
   where
     some-size : (g : Complete) → 1 ≤ sizeC g
     some-size nil = omega arith
@@ -94,7 +97,7 @@ same-sym f n e = ap (λ x. record { 0 = x }) e
 
 -- whether the symbol is unordered, by its word
 its-kind : (σ : Signature) (h : List ℕ) (j : ℕ) (f : Sym) (c rest : Complete) (x : ℕ) (b : Bool) → x ≡ getD h j 0 → b ≡ isUnordered σ (record { 0 = x - 3000 }) → Holds h j (tree f c rest) → isUnordered σ f ≡ b
-its-kind σ h j f c rest x b q u t = ap (isUnordered σ) (sym (same-sym f (x - 3000) (omega (arith, term-word t)))) ∙ sym u
+its-kind σ h j f c rest x b q u t = ap (isUnordered σ) (sym (same-sym f (x - 3000) (omega (arith, word t)))) ∙ sym u
 
 in-some-order : (σ : Signature) (at : ℕ) (c : Complete) (S : Expr) (r : Bool) → (r ≡ true) ↔ Terms (Fits σ S at) (Good S at) c none → r ≡ tests σ c .anyOrder (S ∷ [])
 in-some-order σ at c S r m =
@@ -124,7 +127,7 @@ module _ {σ : Signature} {e : List ℕ} {p : ℕ} {h : List ℕ} {j : ℕ} wher
     spared = spared-refl;
     len = refl;
     beside = λ g S x. beside-refl;
-    each = λ g S f c rest x y. rw (ne-eqb (g .0) (f .0) (λ d. n (omega (arith, symbol-word x, term-word y)))) refl;
+    each = λ g S f c rest x y. rw (ne-eqb (g .0) (f .0) (λ d. n (omega (arith, symbol-word x, word y)))) refl;
   }
 
   module _ {k k′ : List Bool} {w w′ : List ℕ} {top : ℕ} {b y : Bool} (q : getD e p 0 ≡ getD h j 0) (u : b ≡ isUnordered σ (record { 0 = getD e p 0 - 3000 })) where
@@ -134,9 +137,9 @@ module _ {σ : Signature} {e : List ℕ} {p : ℕ} {h : List ℕ} {j : ℕ} wher
       len = a .len;
       beside = λ g S x. a .beside S (under x);
       each = λ g S f c rest x t.
-          let d : eqb (g .0) (f .0) ≡ true = eq-eqb (g .0) (f .0) (omega (arith, symbol-word x, term-word t)) in
+          let d : eqb (g .0) (f .0) ≡ true = eq-eqb (g .0) (f .0) (omega (arith, symbol-word x, word t)) in
           let o : isUnordered σ f ≡ false = its-kind σ h j f c rest (getD e p 0) b q u t ∙ z in
-          rw (d, o) (a .each S c (under x) (term-children t));
+          rw (d, o) (a .each S c (under x) (child t));
     }
 
     pub ask-any-order : b ≡ true → Shuffles σ e (p + 1) h (j + 1) k k′ w w′ top top y → Answered σ e p h j k k′ w w′ top y
@@ -145,9 +148,9 @@ module _ {σ : Signature} {e : List ℕ} {p : ℕ} {h : List ℕ} {j : ℕ} wher
       len = a .len;
       beside = λ g S x. a .beside S (under x);
       each = λ g S f c rest x t.
-          let d : eqb (g .0) (f .0) ≡ true = eq-eqb (g .0) (f .0) (omega (arith, symbol-word x, term-word t)) in
+          let d : eqb (g .0) (f .0) ≡ true = eq-eqb (g .0) (f .0) (omega (arith, symbol-word x, word t)) in
           let o : isUnordered σ f ≡ true = its-kind σ h j f c rest (getD e p 0) b q u t ∙ z in
-          rw (d, o) (in-some-order σ (p + 1) c S y (a .each S c [] (under x) (term-children t) refl));
+          rw (d, o) (in-some-order σ (p + 1) c S y (a .each S c [] (under x) (child t) refl));
     }
 
 pub symbol-lt : {e : List ℕ} {p : ℕ} → Symbol e p → (p < length e) × (3000 ≤ getD e p 0)

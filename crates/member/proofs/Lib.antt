@@ -5,7 +5,6 @@ pub mod Kindred
 pub mod Finding
 pub mod Rowing
 pub mod Standing
-pub mod Rows
 pub mod Moves
 pub mod Runs
 pub mod Asking

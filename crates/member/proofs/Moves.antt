@@ -15,29 +15,15 @@ use Rattle.member.specs.declared.Seen.{Seen}
 use Rattle.member.specs.declared.Step.{Step}
 use Rattle.member.specs.Marks.{Marked, mcat, malt, mstar, bare, final, shift, tests, ofTerm}
 use Rattle.any_order.specs.Places.{sizeE, At, Expression}
-use Rattle.member.specs.Places.{Holds, at-tree, Kept, kept-eps, kept-cat, kept-alt, kept-star, kept-over, Looked, Beside, Shifted, Accepted}
+use Rattle.passing.specs.Places.{Holds, at-tree, Beside}
+use Rattle.member.specs.Places.{Kept, kept-eps, kept-cat, kept-alt, kept-star, kept-over, Looked, Shifted, Accepted}
 use Rattle.member.proofs.Decides.{bare-shift}
-use Rattle.member.proofs.Standing.{at-lt, first, by-eps, by-cat, by-alt, by-star, by-over, m-eps, m-cat, m-alt, m-star, m-over, m-symbol, symbol-at, under}
+use Rattle.passing.proofs.Beside.{beside-refl, beside-wide, beside-trans, beside-set}
+use Rattle.any_order.proofs.Standing.{at-lt, first, by-eps, by-cat, by-alt, by-star, by-over}
+use Rattle.member.proofs.Standing.{m-eps, m-cat, m-alt, m-star, m-over, m-symbol, symbol-at, under}
 use Rattle.member.specs.Gathering.{Answered}
 
 -- ---- what changes
-
-pub beside-refl : {k : List Bool} {a b : ℕ} → Beside k k a b
-beside-refl = record { len = refl; low = λ i p. refl; high = λ i p. refl }
-
-pub beside-wide : {k k′ : List Bool} {a b a′ b′ : ℕ} → Beside k k′ a b → a′ ≤ a → b ≤ b′ → Beside k k′ a′ b′
-beside-wide s p q = record { len = s .len; low = λ i r. s .low i (omega arith); high = λ i r. s .high i (omega arith) }
-
-pub beside-trans : {k k′ l : List Bool} {a b : ℕ} → Beside k k′ a b → Beside k′ l a b → Beside k l a b
-beside-trans s t = record { len = t .len ∙ s .len; low = λ i r. t .low i r ∙ s .low i r; high = λ i r. t .high i r ∙ s .high i r }
-
-beside-set : {k k′ : List Bool} {at : ℕ} (x : Bool) → k′ ≡ set k at x → Beside k k′ at (at + 1)
-beside-set {k} {k′} {at} x e =
-    rw e (record {
-      len = length-set k at x;
-      low = λ i r. getD-set-other k at i x false (omega arith);
-      high = λ i r. getD-set-other k at i x false (omega arith);
-    })
 
 kept-beside : {k k′ : List Bool} {at : ℕ} {M : Marked} → ((i : ℕ) → at ≤ i → i < at + sizeE (bare M) → getD k′ i false ≡ getD k i false) → Kept k at M → Kept k′ at M
 kept-beside z kept-eps = kept-eps

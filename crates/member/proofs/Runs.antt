@@ -13,11 +13,13 @@ use Rattle.member.specs.declared.Seen.{Seen}
 use Rattle.member.specs.declared.Step.{Step}
 use Rattle.member.specs.Marks.{Marked, bare, blank, final, shift, tests, accepts, ofTerm}
 use Rattle.any_order.specs.Places.{sizeE, At, Expression}
-use Rattle.member.specs.Places.{Holds, Kept, kept-eps, kept-cat, kept-alt, kept-star, kept-over, Hedge, Term, Looked, Skipped, Beside, Cleared, Shifted, Accepted}
+use Rattle.passing.specs.Places.{Holds, Hedge, Term, Skipped, Beside, Cleared}
+use Rattle.member.specs.Places.{Kept, kept-eps, kept-cat, kept-alt, kept-star, kept-over, Looked, Shifted, Accepted}
 use Rattle.member.specs.Gathering.{Spared, Lent}
 use Rattle.member.proofs.Decides.{bare-blank, bare-shift}
-use Rattle.member.proofs.Standing.{by-nil, by-tree, rest}
-use Rattle.member.proofs.Moves.{beside-refl, beside-wide, beside-trans, child}
+use Rattle.passing.proofs.Standing.{by-nil, by-tree, rest}
+use Rattle.passing.proofs.Beside.{beside-refl, beside-wide, beside-trans}
+use Rattle.member.proofs.Moves.{child}
 
 final-blank : (R : Expr) → final (blank R) ≡ false
 final-blank eps = refl

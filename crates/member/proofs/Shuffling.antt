@@ -28,14 +28,17 @@ use Rattle.member.specs.declared.Fitted.{Fitted}
 use Rattle.member.specs.declared.Tried.{Tried}
 use Rattle.member.specs.Marks.{tests, ofTerm}
 use Rattle.member.specs.Leaves.{Leaf, Fits, Terms}
-use Rattle.member.specs.Places.{sizeC, Holds, Hedge, Term, Looked, Skipped, Beside}
+use Rattle.passing.specs.Places.{sizeC, Holds, Hedge, Term, Skipped, Beside}
+use Rattle.member.specs.Places.{Looked}
 use Rattle.member.specs.Gathering.{rowOf, Lists, Spared, Inner, Kinds, Scene, Spacious, Lent, Gathered, Answered, FittedAll, Shuffles, ShufflesBy, Raised, Found}
 use Rattle.member.proofs.Decides.{tests-decide, of-term→, of-term←}
 use Rattle.member.proofs.Sharing.{leaf-within, terms-like}
 use Rattle.member.proofs.Kindred.{rest-imp, Chosen, rest-out, One, snoc-rest, raised-rest, records-same, records-snoc, raised-within, raised-total, raised-each, raised-times, records-raised}
 use Rattle.member.proofs.Rowing.{row-in, row-within, row-ascending}
-use Rattle.member.proofs.Standing.{at-lt, at-fits, at-size, first, by-eps, by-star, by-symbol, symbol-at, symbol-word, under, holds-lt, holds-fits, by-nil, by-tree, term-word, term-children, term-rest}
-use Rattle.member.proofs.Moves.{beside-refl, beside-wide, beside-trans}
+use Rattle.passing.proofs.Standing.{holds-lt, holds-fits, by-nil, by-tree, word, child, behind}
+use Rattle.any_order.proofs.Standing.{at-lt, at-fits, first, by-eps, by-star}
+use Rattle.member.proofs.Standing.{at-size, by-symbol, symbol-at, symbol-word, under}
+use Rattle.passing.proofs.Beside.{beside-refl, beside-wide, beside-trans}
 use Rattle.member.proofs.Asking.{spared-refl, spared-trans, spared-less, spared-set}
 
 -- ---- the row of a term has the symbols that it can be
@@ -474,7 +477,7 @@ module _ {σ : Signature} {e : List ℕ} {at q : ℕ} {h : List ℕ} {j : ℕ} {
       each = λ R S f c g ks x y hh rec. by-symbol (λ S. (r ≡ true) ↔ ((p : ℕ) × Fits σ S q f c p × Rest (λ d. Terms (Fits σ R at) (Good R at) g (bump d p)) ks none)) v
           (λ g′ S′ u.
           let yes = of-term→ σ f c (tests σ c) (tests-decide σ c) g′ S′ (test-true (ofTerm σ f (tests σ c) g′ S′) .1 (sym (a .each g′ S′ f c g u hh) ∙ n)) in
-          let rest = m .each R g (ks ++ (record { times = 1; places = q ∷ [] } ∷ [])) x (rw (sk .each c (term-children hh)) (term-rest hh)) (single-records ks rec) in
+          let rest = m .each R g (ks ++ (record { times = 1; places = q ∷ [] } ∷ [])) x (rw (sk .each c (child hh)) (behind hh)) (single-records ks rec) in
           let one = iff-trans rest (snoc-rest (Terms (Fits σ R at) (Good R at) g) (q ∷ []) ks none) in
           let out = iff-trans one (rest-out (λ p. In p (q ∷ [])) (λ p d. Terms (Fits σ R at) (Good R at) g (bump d p)) ks none) in (
             λ t. let (p, i, w) = out .0 t in (p, (g′, S′, (only p i, refl, refl), yes), w),

@@ -19,7 +19,7 @@ use Rattle.member.specs.declared.Fitted.{Fitted}
 use Rattle.member.specs.declared.Tried.{Tried}
 use Rattle.member.specs.Marks.{tests, ofTerm}
 use Rattle.member.specs.Leaves.{Leaf, Fits, Terms}
-use Rattle.member.specs.Places.{sizeC, Holds, Beside}
+use Rattle.passing.specs.Places.{sizeC, Holds, Beside}
 
 -- the places of the symbols that a term can be, of which p says whether it is of g(S)
 abbrev pub rowOf : (Sym → Expr → Bool) → Expr → ℕ → List ℕ

@@ -11,23 +11,14 @@ use Rattle.language.specs.Limits.{desk}
 use Rattle.language.specs.Trees.{Expr, eps, cat, alt, star, over}
 use Rattle.language.specs.Writing.{exprWords}
 use Rattle.language.specs.Fine.{fineExpr}
-use Rattle.meaning.specs.Complete.{Complete, nil, tree, completeWords}
+use Rattle.meaning.specs.Complete.{Complete, tree}
 use Rattle.meaning.specs.Meaning.{Member}
 use Rattle.rules.specs.Expressions.{nullable}
+use Rattle.passing.specs.Places.{Holds, StandsC, Beside}
 use Rattle.any_order.specs.Places.{sizeE, At}
 use Rattle.member.specs.declared.Seen.{Seen}
 use Rattle.member.specs.declared.Step.{Step}
 use Rattle.member.specs.Marks.{Marked, meps, mcat, malt, mstar, mover, bare, final, shift, accepts, tests, ofTerm}
-
--- how many words
-abbrev pub sizeC : Complete → ℕ
-sizeC nil = 1
-sizeC (tree f c r) = 1 + sizeC c + sizeC r
-
--- g stands in h at j
-pub data Holds (h : List ℕ) : ℕ → Complete → Type 0 where
-  at-nil : {j : ℕ} → j < length h → getD h j 0 ≡ 0 → Holds h j nil
-  at-tree : {j : ℕ} {f : Sym} {c r : Complete} → j < length h → getD h j 0 ≡ 3000 + f .0 → Holds h (j + 1) c → Holds h (j + 1 + sizeC c) r → Holds h j (tree f c r)
 
 -- k has, at each concatenation and star of m, whether its first part may end here
 pub data Kept (k : List Bool) : ℕ → Marked → Type 0 where
@@ -37,38 +28,11 @@ pub data Kept (k : List Bool) : ℕ → Marked → Type 0 where
   kept-star : {at : ℕ} {a : Marked} → getD k at false ≡ final a → Kept k (at + 1) a → Kept k at (mstar a)
   kept-over : {at : ℕ} {f : Sym} {m : Bool} {R : Expr} → Kept k at (mover m f R)
 
--- ---- what the functions ask
-
-pub record Hedge (h : List ℕ) (j : ℕ) : Type 0 where
-  pub g : Complete
-  pub here : Holds h j g
-
--- a term, and what follows it
-pub record Term (h : List ℕ) (j : ℕ) : Type 0 where
-  pub f : Sym
-  pub c : Complete
-  pub r : Complete
-  pub here : Holds h j (tree f c r)
-
--- ---- and what they promise
+-- ---- what the functions promise
 
 -- the place after whatever expression stands there, and whether ε is in its language
 pub record Looked (e : List ℕ) (at : ℕ) (r : Seen) : Type 0 where
   pub each : (R : Expr) → At e at R → (r .end ≡ at + sizeE R) × (r .null ≡ nullable R)
-
--- the place after whatever hedge stands there
-pub record Skipped (h : List ℕ) (j r : ℕ) : Type 0 where
-  pub each : (g : Complete) → Holds h j g → r ≡ j + sizeC g
-
--- k′ is k but for from..to
-pub record Beside (k k′ : List Bool) (from to : ℕ) : Type 0 where
-  pub len : length k′ ≡ length k
-  pub low : (i : ℕ) → i < from → getD k′ i false ≡ getD k i false
-  pub high : (i : ℕ) → to ≤ i → getD k′ i false ≡ getD k i false
-
-pub record Cleared (k k′ : List Bool) (from to : ℕ) : Type 0 where
-  pub beside : Beside k k′ from to
-  pub clear : (i : ℕ) → from ≤ i → i < to → getD k′ i false ≡ false
 
 pub record Shifted (σ : Signature) (e : List ℕ) (at : ℕ) (h : List ℕ) (j : ℕ) (k : List Bool) (m : Bool) (k′ : List Bool) (r : Step) : Type 0 where
   pub beside : Beside k k′ at (r .end)
@@ -88,10 +52,6 @@ pub record Stands (e : List ℕ) (at : ℕ) (R : Expr) : Type 0 where
   pub others : List ℕ
   pub fine : fineExpr desk R
   pub words : drop at e ≡ exprWords R ++ others
-
-pub record StandsC (h : List ℕ) (j : ℕ) (g : Complete) : Type 0 where
-  pub others : List ℕ
-  pub words : drop j h ≡ completeWords g ++ others
 
 -- an expression and a complete hedge stand there
 pub record Both (e : List ℕ) (at : ℕ) (h : List ℕ) (j : ℕ) : Type 0 where

@@ -2,12 +2,11 @@
 ghost use mathlib.Core.Path.{_≡_};
 ghost use mathlib.Core.Bool.{_&&_, _||_};
 ghost use Prim.Native.Nat.{_+_, _-_, _≤_, _<_};
-ghost use lib.Dec.{eqb};
 ghost use lib.ListN.{length, set};
 ghost use Rattle.language.specs.Limits.{desk};
-ghost use Rattle.language.specs.Kinds.{pick};
 ghost use Rattle.any_order.specs.Places.{Expression};
-ghost use Rattle.member.specs.Places.{Hedge, Term, Looked, Skipped, Cleared, Shifted, Accepted, Both, Decided};
+ghost use Rattle.passing.specs.Places.{Hedge, Term, Skipped};
+ghost use Rattle.member.specs.Places.{Looked, Shifted, Accepted, Both, Decided};
 ghost use Rattle.member.specs.Gathering.{Symbol, Inner, Kinds, Spared, Scene, Lent, Gathered, Answered, FittedAll, Shuffles, ShufflesBy, Found};
 use any_order::some_order;
 use bools::and;
@@ -19,6 +18,8 @@ use language::is_unordered;
 use language::limits::LITERAL;
 use language::limits::QUESTION;
 use language::wide;
+use passing::clear;
+use passing::skip;
 use slices::store;
 use words::same_part;
 
@@ -87,41 +88,6 @@ fn look(e: &[u16], at: usize) -> Seen
     Seen {
         end: b.end,
         null: or(a.null, b.null),
-    }
-}
-
-// One hedge more to pass for a symbol, one less for a 0.
-fn deeper(word: u16, depth: usize) -> usize
-    requires { ⌜ 0 < depth ⌝ }
-    requires { ⌜ depth < 18446744073709551615 ⌝ }
-    ensures { λ r. ⌜ r ≡ pick (eqb word 0) (depth - 1) (depth + 1) ⌝ }
-{
-    if word == 0 { depth - 1 } else { depth + 1 }
-}
-
-// Counting how many hedges are still to be passed, so that nesting costs no stack.
-fn skip(h: &[u16], j: usize) -> usize
-    requires { ⌜ Hedge (now h) j ⌝ }
-    ensures { λ r. ⌜ Skipped (now (h .entry)) j r ⌝ }
-{
-    let mut i = j;
-    let mut depth: usize = 1;
-    while 0 < depth {
-        depth = deeper(h[i], depth);
-        i += 1;
-    }
-    i
-}
-
-fn clear(k: &mut [bool], from: usize, to: usize)
-    requires { ⌜ from ≤ to ⌝ }
-    requires { ⌜ to ≤ length (now k) ⌝ }
-    ensures { λ _. ⌜ Cleared (now (k .entry)) (now (k .exit)) from to ⌝ }
-{
-    let mut i = from;
-    while i < to {
-        k[i] = false;
-        i += 1;
     }
 }
 

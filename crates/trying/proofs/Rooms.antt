@@ -32,8 +32,11 @@ keeps-cleared k = ap (λ l. zeros desk ++ l) (k .later)
 
 -- ---- what is written
 
-pub at-front : (w vs : List ℕ) → length vs ≤ length w → sets w 0 vs ≡ vs ++ drop (length vs) w
+at-front : (w vs : List ℕ) → length vs ≤ length w → sets w 0 vs ≡ vs ++ drop (length vs) w
 at-front w vs p = sets-eq vs w 0 (omega arith) ∙ ap (λ n. vs ++ drop n w) (zero-add (length vs))
+
+pub alone-written : (w a : List ℕ) → length a ≤ length w → (v : List ℕ) (n : ℕ) → v ≡ sets w 0 a → n ≡ length a → between 0 n v ≡ a
+alone-written w a p v n e q = ap (take (n - 0)) (e ∙ at-front w a p) ∙ take-at a (drop (length a) w) (n - 0) (omega arith)
 
 -- two, one after the other
 pub both-written : (w a b : List ℕ) → length a + length b ≤ length w → (v : List ℕ) (n : ℕ) → v ≡ sets (sets w 0 a) (0 + length a) b → n ≡ length a + length b → between 0 n v ≡ a ++ b

@@ -1,39 +1,43 @@
 -- Testing an equation and a membership: what was written into the work slice, and what is decided of it.
 use Prim.Native.Nat.{ℕ, _+_, _≤_}
-use mathlib.Core.Path.{_≡_, ap, ap₂, _∙_}
+use mathlib.Core.Path.{_≡_, sym, ap, ap₂, _∙_}
 use mathlib.Core.Bool.{Bool}
-use mathlib.Core.List.{List, _++_}
+use mathlib.Core.List.{List, [], _++_, append-nil}
 use native.Mathlib.Nat.{zero-add}
 use native.Mathlib.Omega.{arith}
-use lib.ListN.{length, drop, length-append}
+use lib.ListN.{length, length-append}
 use lib.Seq.{sets}
 use Rattle.language.specs.declared.Signature.{Signature}
 use Rattle.language.specs.Limits.{desk}
 use Rattle.language.specs.Between.{between}
 use Rattle.meaning.specs.Complete.{Complete, completeWords}
-use Rattle.member.specs.Places.{StandsC, Both, Decided}
+use Rattle.passing.specs.Places.{StandsC}
+use Rattle.member.specs.Places.{Both, Decided}
 use Rattle.alike.specs.Tasks.{Two, Pair}
 use Rattle.alike.specs.Tasks as alike
 use Rattle.filling.specs.Showing.{filled, Written}
 use Rattle.trying.specs.Tasks.{Becoming, Comparable, EquationMet, Testable, MembershipMet}
-use Rattle.trying.proofs.Rooms.{at-front, keeps-sets, keeps-both, both-written}
+use Rattle.trying.proofs.Rooms.{keeps-sets, keeps-both, alone-written, both-written}
 
 module _ {t h : ℕ} {fs : List ℕ} where
-  -- a complete hedge that was written at the front stands there
-  stands : {hedge w w′ : List ℕ} {r : ℕ} → Written t h fs hedge w 0 w′ r → length (filled t h fs hedge) ≤ length w → (g : Complete) → filled t h fs hedge ≡ completeWords g → StandsC w′ 0 g
-  stands {hedge} {w} x p g e = record {
-    others = drop (length (filled t h fs hedge)) w;
-    words = x .words ∙ at-front w (filled t h fs hedge) p ∙ ap (λ l. l ++ drop (length (filled t h fs hedge)) w) e;
-  }
+  module _ {hedge w w′ : List ℕ} {n : ℕ} (x : Written t h fs hedge w 0 w′ n) (p : length (filled t h fs hedge) ≤ desk .literal) (q : desk .room ≤ length w) where
+    written-alone : between 0 n w′ ≡ filled t h fs hedge
+    written-alone = alone-written w (filled t h fs hedge) (omega arith) w′ n (x .words) (x .place ∙ zero-add (length (filled t h fs hedge)))
 
-  module _ {hedge expr w w′ : List ℕ} {n : ℕ} (x : Written t h fs hedge w 0 w′ n) (p : length (filled t h fs hedge) ≤ desk .literal) (q : desk .room ≤ length w) where
-    pub both-stand : Testable t h fs hedge expr → Both expr 0 w′ 0
-    both-stand s = record { R = s .R; g = s .g; expression = s .expression; hedge = stands x (omega arith) (s .g) (s .becomes) }
+    -- the complete hedge that it becomes stands there
+    stands : (g : Complete) → filled t h fs hedge ≡ completeWords g → StandsC (between 0 n w′) 0 g
+    stands g e = record { others = []; words = written-alone ∙ e ∙ sym (append-nil (completeWords g)) }
 
-    pub membership-met : {σ : Signature} {r : Bool} → Decided σ expr 0 w′ 0 r → MembershipMet σ t h fs hedge expr w w′ r
+    pub both-stand : {expr : List ℕ} → Testable t h fs hedge expr → Both expr 0 (between 0 n w′) 0
+    both-stand s = record { R = s .R; g = s .g; expression = s .expression; hedge = stands (s .g) (s .becomes) }
+
+    pub hedge-fits : length (between 0 n w′) ≤ desk .literal
+    hedge-fits = omega (arith, ap length written-alone)
+
+    pub membership-met : {σ : Signature} {expr : List ℕ} {r : Bool} → Decided σ expr 0 (between 0 n w′) 0 r → MembershipMet σ t h fs hedge expr w w′ r
     membership-met d = record {
       keeps = keeps-sets w 0 (filled t h fs hedge) w′ (x .words) (omega arith);
-      each = λ R g s e. d .means R g s (stands x (omega arith) g e);
+      each = λ R g s e. d .means R g s (stands g e);
     }
 
   module _ {left right w u v : List ℕ} {m n : ℕ} (x : Written t h fs left w 0 u m) (y : Written t h fs right u m v n)

@@ -72,7 +72,8 @@ fn meets_membership<'a>(
     ensures { λ r. ⌜ MembershipMet s terms hedges (now (filling .entry)) (now (hedge .entry)) (now (expression .entry)) (now (work .entry)) (now (work .exit)) r ⌝ }
 {
     let end = filling::fill_in(filling, hedge, terms, hedges, work, 0);
-    member::member(expression, 0, &work[..], 0, s)
+    let words = &work[..];
+    member::member(s, expression, 0, &words[0..end], 0)
 }
 
 fn meets_literal<'a>(h: Header, filling: &'a [u16], literal: &'a [u16], work: &mut [u16]) -> bool

@@ -7,7 +7,9 @@ use borrow.Author.Needs.{needs}
 use lib.ListN.{length, getD}
 use borrow.Fn.Kinds.{In}
 use borrow.Fn.PlainCycle.{Measures, is, falls, and}
-use Rattle.member.proofs.Standing.{expression-lt, first, second, is-alt, looked-end, hedge-lt, term-lt, children, skipped-less, looked-within, term-here, symbol-at}
+use Rattle.passing.proofs.Standing.{hedge-lt, term-lt, children, skipped-less, term-here}
+use Rattle.any_order.proofs.Standing.{expression-lt, first, second, is-alt}
+use Rattle.member.proofs.Standing.{looked-end, looked-within, symbol-at}
 use Rattle.member.proofs.Moves.{sh-eps, sh-no, sh-ask, sh-star, sh-cat, sh-alt, shifted-end, shifted-falls}
 use Rattle.member.proofs.Runs.{Looping, starts, goes-on, ended, children-of}
 use Rattle.member.proofs.Asking.{spared-refl, spared-trans, spared-less, scene-on, term-some, next-far, lent-less, lent-on, lent-children, lent-rest, ask-gathers, ask-other, ask-in-order, ask-any-order, symbol-lt, symbol-under, fit-eps, fit-none, fit-full, fit-one, fit-star, fit-two}
@@ -35,11 +37,11 @@ use Rattle.bools.proofs.or.Reads as or-reads
 use Rattle.language.proofs.is_unordered.Reads as is-unordered-reads
 use Rattle.slices.proofs.store.Reads as store-reads
 use Rattle.any_order.proofs.some_order.Reads as some-order-reads
-use Rattle.member.proofs.clear.Reads as clear-reads
+use Rattle.passing.proofs.clear.Reads as clear-reads
 use Rattle.member.proofs.find.Reads as find-reads
 use Rattle.member.proofs.look.Reads as look-reads
 use Rattle.member.proofs.put.Reads as put-reads
-use Rattle.member.proofs.skip.Reads as skip-reads
+use Rattle.passing.proofs.skip.Reads as skip-reads
 use Rattle.member.proofs.+accepts+any+ask+crowd+fit+shift.{statement}
 use Rattle.member.proofs.+accepts+any+ask+crowd+fit+shift.Tie.{close}
 
@@ -47,13 +49,13 @@ abbrev μ-accepts : Measures 3 accepts-kinds.ps ℕ
 μ-accepts κs a = 100000000 * (length (a .1 .0 .now) - a .1 .1 .0) + 3
 
 abbrev μ-any : Measures 3 any-kinds.ps ℕ
-μ-any κs a = 100000000 * (length (a .1 .0 .now) - a .1 .1 .0) + 10000 * (length (a .1 .1 .1 .0 .now) - a .1 .1 .1 .1 .0) + 9000
+μ-any κs a = 100000000 * (length (a .1 .0 .now) - a .1 .1 .0) + 12000 * (length (a .1 .1 .1 .0 .now) - a .1 .1 .1 .1 .0) + 9000
 
 abbrev μ-ask : Measures 3 ask-kinds.ps ℕ
 μ-ask κs a = 100000000 * (length (a .1 .0 .now) - a .1 .1 .0)
 
 abbrev μ-crowd : Measures 3 crowd-kinds.ps ℕ
-μ-crowd κs a = 100000000 * (length (a .1 .0 .now) - a .1 .1 .0) + 10000 * (length (a .1 .1 .1 .1 .0 .now) - a .1 .1 .1 .1 .1 .0) + (length (a .1 .0 .now) - a .1 .1 .1 .0) + 10
+μ-crowd κs a = 100000000 * (length (a .1 .0 .now) - a .1 .1 .0) + 12000 * (length (a .1 .1 .1 .1 .0 .now) - a .1 .1 .1 .1 .1 .0) + (length (a .1 .0 .now) - a .1 .1 .1 .0) + 10
 
 abbrev μ-fit : Measures 3 fit-kinds.ps ℕ
 μ-fit κs a = 100000000 * (length (a .1 .0 .now) - a .1 .1 .0) + 1

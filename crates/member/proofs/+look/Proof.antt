@@ -10,7 +10,8 @@ use borrow.Fn.Kinds.{In}
 use borrow.Fn.PlainCycle.{Measures, is, falls, and}
 use Rattle.member.specs.declared.Seen.{Seen}
 use Rattle.member.specs.Places.{Looked}
-use Rattle.member.proofs.Standing.{expression-lt, first, second, is-alt, looked-end, looked-falls, by-eps, by-cat, by-alt, by-star, by-over}
+use Rattle.any_order.proofs.Standing.{expression-lt, first, second, is-alt, by-eps, by-cat, by-alt, by-star, by-over}
+use Rattle.member.proofs.Standing.{looked-end, looked-falls}
 use Rattle.member.proofs.look.Reads as look
 use Rattle.member.proofs.look.Kinds as look-kinds
 use Rattle.member.proofs.+look.Lts-look as look-lts
