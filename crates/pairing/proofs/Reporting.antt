@@ -130,6 +130,9 @@ module _ (t h : ℕ) (fs ws room : List ℕ) (at : ℕ) where
       pub writing-puts : 2 * (at + length (filled t h fs ws)) ≤ length room → 2 * (to + length (between 0 n scratch)) ≤ length new
       writing-puts q = let l = ap length held in let z = writing-room q in omega arith
 
+      pub writing-next : 2 * (at + length (filled t h fs ws)) ≤ length room → 2 * (to + n) ≤ length room
+      writing-next q = let e : n ≡ length value = w .place ∙ zero-add (length value) in let z = writing-room q in let l = x .len in omega arith
+
       pub writing-on : (new′ : List ℕ) → new′ ≡ sets new (2 * to) (bytesOf (between 0 n scratch)) → Writing t h fs ws room at (i + 1) (to + n) new′
       writing-on new′ en =
           let size : n ≡ length value = w .place ∙ zero-add (length value) in
