@@ -4,7 +4,7 @@ use mathlib.Core.Path.{_≡_, refl, sym, ap, subst, _∙_}
 use mathlib.Core.Bool.{Bool, true, false, _&&_, and-false}
 use mathlib.Core.List.{List, [], _∷_}
 use native.Mathlib.Omega.{arith}
-use borrow.Author.Tests.{eq-eqb, ne-eqb, eqb-true, eqb-false, le-leb, lt-leb, leb-true, lt-ltb, le-ltb, ltb-true}
+use borrow.Author.Tests.{eq-eqb, ne-eqb, eqb-true, eqb-false, le-leb, lt-leb, leb-true, lt-ltb, le-ltb, ltb-true, ltb-false}
 use lib.Dec.{eqb, leb, ltb}
 use lib.ListN.{length, getD, take, drop, length-drop}
 use lib.Seq.{length-take-le}
@@ -108,3 +108,34 @@ module _ (bs : List ℕ) where
       pub sheet-laid : n ≤ mostRules → (b : Bool) → b ≡ rulesLaid n 2 (wordsOf bs) → pick b 0 4 ≡ sheetNumber (wordsIn bs)
       unfolding sheetNumber
       sheet-laid h b e = sym (ap sheetNumber words ∙ rw (enough, le-ltb mostRules (countOf (wordsOf bs)) (omega (arith, sym en)), ← en, ← e) refl)
+
+opened : (ws : List ℕ) → sheetNumber ws ≡ pick (ltb (length ws) rulesAt) 4 (pick (ltb mostRules (countOf ws)) 24 (pick (rulesLaid (countOf ws) rulesAt ws) 0 4))
+unfolding sheetNumber
+opened ws = refl
+
+-- what is known of bytes that are a sheet
+pub record IsSheet (bs : List ℕ) : Type 0 where
+  pub words : wordsIn bs ≡ wordsOf bs
+  pub long : 4 ≤ length bs
+  pub few : countOf (wordsOf bs) ≤ mostRules
+  pub laid : rulesLaid (countOf (wordsOf bs)) rulesAt (wordsOf bs) ≡ true
+
+pub is-sheet : (bs : List ℕ) → sheetNumber (wordsIn bs) ≡ 0 → IsSheet bs
+is-sheet bs e = by-parity (eqb (length bs % 2) 0) refl
+  where
+    by-tests : (a b c : Bool) → ltb (length (wordsOf bs)) rulesAt ≡ a → ltb mostRules (countOf (wordsOf bs)) ≡ b → rulesLaid (countOf (wordsOf bs)) rulesAt (wordsOf bs) ≡ c
+        → _≡_ {A = ℕ} (pick a 4 (pick b 24 (pick c 0 4))) 0 → wordsIn bs ≡ wordsOf bs → IsSheet bs
+    by-tests true b c x y z d w = absurd (let q : _≡_ {A = ℕ} 4 0 = d in omega arith)
+    by-tests false true c x y z d w = absurd (let q : _≡_ {A = ℕ} 24 0 = d in omega arith)
+    by-tests false false false x y z d w = absurd (let q : _≡_ {A = ℕ} 4 0 = d in omega arith)
+    by-tests false false true x y z d w =
+        let l = length-wordsOf bs in
+        let n = ltb-false (length (wordsOf bs)) rulesAt x in
+        record { words = w; long = omega arith; few = ltb-false mostRules (countOf (wordsOf bs)) y; laid = z }
+
+    by-parity : (b : Bool) → eqb (length bs % 2) 0 ≡ b → IsSheet bs
+    by-parity false p = absurd (let q : _≡_ {A = ℕ} 4 0 = sheet-odd bs (eqb-false (length bs % 2) 0 p) ∙ e in omega arith)
+    by-parity true p =
+        let w = even-holds bs (eqb-true (length bs % 2) 0 p) in
+        by-tests (ltb (length (wordsOf bs)) rulesAt) (ltb mostRules (countOf (wordsOf bs))) (rulesLaid (countOf (wordsOf bs)) rulesAt (wordsOf bs)) refl refl refl
+        (sym (opened (wordsOf bs)) ∙ ap sheetNumber (sym w) ∙ e) w
