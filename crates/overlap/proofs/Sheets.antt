@@ -4,7 +4,7 @@ use mathlib.Core.Path.{_≡_, refl, sym, ap, ap₂, _∙_}
 use mathlib.Core.Bool.{Bool, true, false}
 use mathlib.Core.List.{List, [], _∷_, _++_, map}
 use native.Mathlib.Omega.{arith}
-use native.Mathlib.Nat.{suc-mul, add-mul}
+use native.Mathlib.Nat.{add-mul}
 use borrow.Author.Tests.{eq-eqb, ne-eqb, lt-ltb, le-ltb}
 use lib.Dec.{eqb, ltb}
 use lib.ListN.{length, length-append, length-map}
@@ -13,22 +13,17 @@ use Rattle.word_bytes.specs.Bytes.{wordsOf, wordsIn}
 use Rattle.live_rules.specs.Layout.{Rule, wordOf, countOf, rulesAt, rulesFrom, rulesIn, sheetNumber}
 use Rattle.live_rules.proofs.Reading.{IsSheet, is-sheet}
 use Rattle.overlap.specs.Table.{pairsOf, rowLength, table, needed, tableNumber, tableLeaves}
-use Rattle.overlap.specs.Lengths.{rowsLength, tableLength}
-use Rattle.overlap.proofs.Tabling.{rows-one, table-one, rules-count}
+use Rattle.overlap.specs.Lengths.{tableLength}
+use Rattle.overlap.proofs.Tabling.{rows-times, rules-count}
 
 -- ---- how many words
 
-rows-times : (size n : ℕ) → rowsLength size n ≡ n * rowLength size 0
-unfolding rowsLength
-rows-times size zero = omega arith
-rows-times size (suc n) = ap (λ m. size + 4 + m) (rows-times size n) ∙ omega (arith, suc-mul n (rowLength size 0))
-
-table-times : (size : ℕ) (rs : List Rule) → tableLength size (length rs) ≡ length (pairsOf rs) * rowLength size 0
+pairs-times : (size : ℕ) (rs : List Rule) → tableLength size (length rs) ≡ length (pairsOf rs) * rowLength size 0
 unfolding tableLength
-table-times size [] = omega arith
-table-times size (r ∷ rs) =
+pairs-times size [] = omega arith
+pairs-times size (r ∷ rs) =
     let xs = map {B = Rule × Rule} (λ (s : Rule). (r, s)) rs in
-    ap₂ (λ (a b : ℕ). a + b) (rows-times size (length rs)) (table-times size rs)
+    ap₂ (λ (a b : ℕ). a + b) (rows-times size (length rs)) (pairs-times size rs)
     ∙ sym (ap (λ n. n * rowLength size 0) (length-append xs (pairsOf rs) ∙ ap (λ n. n + length (pairsOf rs)) (length-map rs (λ (s : Rule). (r, s)))) ∙ add-mul (length rs) (length (pairsOf rs)) (rowLength size 0))
 
 -- ---- the call
@@ -57,7 +52,7 @@ module _ (size : ℕ) (bs room : List ℕ) where
   module _ (x : IsSheet bs) (z : sheetNumber ws ≡ 0) (n : ℕ) (en : n ≡ countOf (wordsOf bs)) where
     all-needed : tableLength size n ≡ needed size ws
     all-needed =
-        ap (tableLength size) (sym (rules-count n rulesAt (wordsOf bs))) ∙ table-times size (rulesFrom n rulesAt (wordsOf bs))
+        ap (tableLength size) (sym (rules-count n rulesAt (wordsOf bs))) ∙ pairs-times size (rulesFrom n rulesAt (wordsOf bs))
         ∙ ap₂ (λ (m : ℕ) (us : List ℕ). length (pairsOf (rulesFrom m rulesAt us)) * rowLength size 0) (en ∙ ap countOf (sym (x .words))) (sym (x .words))
 
     pub sheet-no-room : length room / 2 < tableLength size n → Ends 1 room

@@ -5,6 +5,7 @@ use mathlib.Core.Bool.{Bool, true, false, _&&_}
 use mathlib.Core.List.{List, [], _∷_, _++_, map}
 use native.Mathlib.Omega.{arith}
 use native.Mathlib.Numerals.{add-one}
+use native.Mathlib.Nat.{suc-mul, add-mul}
 use lib.ListN.{length, getD, set, length-map}
 use lib.Seq.{sets, set-comm, length-sets}
 use Rattle.language.proofs.Bools.{both-true}
@@ -15,7 +16,7 @@ use Rattle.live_rules.proofs.Reading.{Inside, inside, laid-one}
 use Rattle.pairing.specs.Meeting.{Meeting, meeting}
 use Rattle.pairing.specs.Lent.{Told, meetingNumber, reportOf}
 use Rattle.overlap.specs.Table.{pairsOf, rowOf, rowWords, rowLength, table}
-use Rattle.overlap.specs.Lengths.{rowsLength, tableLength}
+use Rattle.overlap.specs.Lengths.{rowsLength, pairCount, tableLength}
 
 -- ---- stores that stand apart
 
@@ -85,17 +86,28 @@ pub table-one : (size n : ℕ) → tableLength size (suc n) ≡ rowsLength size 
 unfolding tableLength
 table-one size n = refl
 
--- ---- how many words they have, counted
+-- ---- how many words they have
 
-pub no-rows : (size : ℕ) → (0 ≡ rowsLength size 0) × (0 ≡ tableLength size 0)
-unfolding rowsLength tableLength
-no-rows size = (refl, refl)
+pub rows-times : (size n : ℕ) → rowsLength size n ≡ n * (size + 4)
+unfolding rowsLength
+rows-times size zero = omega arith
+rows-times size (suc n) = ap (λ m. size + 4 + m) (rows-times size n) ∙ omega (arith, suc-mul n (size + 4))
 
-pub one-row-more : (size i rows : ℕ) → rows ≡ rowsLength size i → rows + (size + 4) ≡ rowsLength size (i + 1)
-one-row-more size i rows e = omega (arith, e, ap (rowsLength size) (add-one i) ∙ rows-one size i)
+pub no-pairs : 0 ≡ pairCount 0
+unfolding pairCount
+no-pairs = refl
 
-pub one-rule-more : (size i rows all : ℕ) → rows ≡ rowsLength size i → all ≡ tableLength size i → all + rows ≡ tableLength size (i + 1)
-one-rule-more size i rows all e f = omega (arith, e, f, ap (tableLength size) (add-one i) ∙ table-one size i)
+pair-one : (i : ℕ) → pairCount (suc i) ≡ i + pairCount i
+unfolding pairCount
+pair-one i = refl
+
+pub one-rule-more : (i pairs : ℕ) → pairs ≡ pairCount i → pairs + i ≡ pairCount (i + 1)
+one-rule-more i pairs e = omega (arith, e, ap pairCount (add-one i) ∙ pair-one i)
+
+pub table-times : (size n : ℕ) → pairCount n * (size + 4) ≡ tableLength size n
+unfolding tableLength pairCount
+table-times size zero = omega arith
+table-times size (suc n) = add-mul n (pairCount n) (size + 4) ∙ ap₂ (λ (a b : ℕ). a + b) (sym (rows-times size n)) (table-times size n)
 
 -- the first of some rules, and those behind it
 module _ (bs : List ℕ) (n at : ℕ) (l : rulesLaid (suc n) at (wordsOf bs) ≡ true) where

@@ -6,11 +6,11 @@ ghost use mathlib.Core.List.{map};
 ghost use lib.ListN.{length};
 ghost use lib.Seq.{sets};
 ghost use Rattle.word_bytes.specs.Bytes.{wordsOf, wordsIn, bytesOf};
-ghost use Rattle.live_rules.specs.Layout.{Rule, ruleEnd, ruleAt, rulesLaid, rulesFrom};
+ghost use Rattle.live_rules.specs.Layout.{Rule, mostRules, ruleEnd, ruleAt, rulesLaid, rulesFrom};
 ghost use Rattle.pairing.specs.Meeting.{meeting};
 ghost use Rattle.pairing.specs.Lent.{Told};
 ghost use Rattle.overlap.specs.Table.{wordFrom, pairsOf, rowWords, table, tableNumber, tableLeaves};
-ghost use Rattle.overlap.specs.Lengths.{rowsLength, tableLength};
+ghost use Rattle.overlap.specs.Lengths.{rowsLength, pairCount, tableLength};
 use language::wide;
 use live_rules::pattern;
 use live_rules::rule_end;
@@ -106,20 +106,26 @@ fn all_rows(word: u16, sheet: &[u8], n: usize, size: usize, room: &mut [u8])
     }
 }
 
-// How many words the rows of all pairs of n rules have.
-fn table_length(n: usize, size: usize) -> usize
-    requires { ⌜ (n ≤ 32) × (size < 4294967296) ⌝ }
-    ensures { λ r. ⌜ r ≡ tableLength size n ⌝ }
+// How many pairs n rules have. Numbers of 32 bits: of 64 bits the loop becomes a product of 128 on the way to some processors.
+fn pair_count(n: u32) -> u32
+    requires { ⌜ n ≤ mostRules ⌝ }
+    ensures { λ r. ⌜ (r ≡ pairCount n) × (r ≤ mostRules * mostRules) ⌝ }
 {
-    let mut rows: usize = 0;
-    let mut all: usize = 0;
-    let mut i: usize = 0;
+    let mut pairs: u32 = 0;
+    let mut i: u32 = 0;
     while i < n {
-        all += rows;
-        rows += size + HEAD;
+        pairs += i;
         i += 1;
     }
-    all
+    pairs
+}
+
+// How many words the rows of all pairs of n rules have.
+fn table_length(n: usize, size: usize) -> usize
+    requires { ⌜ (n ≤ mostRules) × (size < 4294967296) ⌝ }
+    ensures { λ r. ⌜ r ≡ tableLength size n ⌝ }
+{
+    pair_count(n as u32) as usize * (size + HEAD)
 }
 
 // The table of a sheet of live rules: the refusal's number, or 0. Each row has room for a report of `report` words.
