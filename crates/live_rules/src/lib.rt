@@ -1,9 +1,9 @@
 // A sheet of live rules in bytes: whether it is one, and where its rules stand.
-ghost use Prim.Native.Nat.{_+_, _*_, _/_, _≤_, _<_};
+ghost use Prim.Native.Nat.{_+_, _*_, _/_, _≤_};
 ghost use mathlib.Core.Path.{_≡_};
 ghost use lib.ListN.{length};
 ghost use Rattle.word_bytes.specs.Bytes.{wordsOf, wordsIn};
-ghost use Rattle.live_rules.specs.Layout.{Rule, mostRules, ruleEnd, ruleAt, ruleFits, rulesLaid, sheetNumber};
+ghost use Rattle.live_rules.specs.Layout.{ruleEnd, ruleFits, rulesLaid, sheetNumber};
 use language::wide;
 use word_bytes::word_at;
 
@@ -19,15 +19,6 @@ pub fn rule_end(sheet: &[u8], at: usize) -> usize
     ensures { λ r. ⌜ r ≡ ruleEnd (wordsOf (now (sheet .entry))) at ⌝ }
 {
     at + 2 + wide(word_at(sheet, at + 1))
-}
-
-// The pattern of the rule at a place.
-pub fn pattern<'a>(sheet: &'a [u8], at: usize) -> &'a [u8]
-    requires { ⌜ ruleEnd (wordsOf (now sheet)) at ≤ length (now sheet) / 2 ⌝ }
-    ensures { λ r. ⌜ wordsIn (now r) ≡ ruleAt (wordsOf (now (sheet .entry))) at .pattern ⌝ }
-{
-    let end = rule_end(sheet, at);
-    &sheet[2 * (at + 2)..2 * end]
 }
 
 // Whether a rule stands at a place, with all of its pattern.

@@ -12,7 +12,6 @@ ghost use Rattle.pairing.specs.Lent.{Told};
 ghost use Rattle.overlap.specs.Table.{wordFrom, pairsOf, rowWords, table, tableNumber, tableLeaves};
 ghost use Rattle.overlap.specs.Lengths.{rowsLength, pairCount, tableLength};
 use language::wide;
-use live_rules::pattern;
 use live_rules::rule_end;
 use live_rules::sheet_number;
 use pairing::meet;
@@ -40,6 +39,15 @@ pub extern "C" fn overlap_pair(word_0: u32, first: &[u8], second: &[u8], room: &
 {
     let size = room.len() / 2;
     meet(first_word(word_0), first, second, room, 0, size)
+}
+
+// The pattern of the rule at a place.
+fn pattern<'a>(sheet: &'a [u8], at: usize) -> &'a [u8]
+    requires { ⌜ ruleEnd (wordsOf (now sheet)) at ≤ length (now sheet) / 2 ⌝ }
+    ensures { λ r. ⌜ wordsIn (now r) ≡ ruleAt (wordsOf (now (sheet .entry))) at .pattern ⌝ }
+{
+    let end = rule_end(sheet, at);
+    &sheet[2 * (at + 2)..2 * end]
 }
 
 // The row of the rules at two places, from the word `to` on.
