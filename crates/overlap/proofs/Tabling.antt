@@ -165,8 +165,8 @@ module _ (size word : ℕ) (bs : List ℕ) (i from n : ℕ) (room : List ℕ) (t
           let a = rest-place in
           let rs = rulesFrom (n - (k + 1)) (ruleEnd (wordsOf bs) j) (wordsOf bs) in
           let step : table size word (map (λ (s : Rule). (ruleAt (wordsOf bs) i, s)) (rulesFrom (n - k) j (wordsOf bs))) at new ≡ table size word (map (λ (s : Rule). (ruleAt (wordsOf bs) i, s)) rs) (at + (size + 4)) (sets new (2 * at) (bytesOf (rowWords size word (ruleAt (wordsOf bs) i, ruleAt (wordsOf bs) j)))) =
-              ap (λ (l : List Rule). table size word (map (λ (s : Rule). (ruleAt (wordsOf bs) i, s)) l) at new) (ap (λ m. rulesFrom m j (wordsOf bs)) left ∙ rules-one (n - (k + 1)) j (wordsOf bs))
-              ∙ table-cons size word (ruleAt (wordsOf bs) i, ruleAt (wordsOf bs) j) (map (λ (s : Rule). (ruleAt (wordsOf bs) i, s)) rs) at new in
+          ap (λ (l : List Rule). table size word (map (λ (s : Rule). (ruleAt (wordsOf bs) i, s)) l) at new) (ap (λ m. rulesFrom m j (wordsOf bs)) left ∙ rules-one (n - (k + 1)) j (wordsOf bs))
+          ∙ table-cons size word (ruleAt (wordsOf bs) i, ruleAt (wordsOf bs) j) (map (λ (s : Rule). (ruleAt (wordsOf bs) i, s)) rs) at new in
           record {
             count = omega arith;
             laid = ap (λ m. rulesLaid (n - (k + 1)) m (wordsOf bs)) ej ∙ rules-behind bs (n - (k + 1)) j laid-here;
@@ -224,8 +224,8 @@ module _ (size word : ℕ) (bs : List ℕ) (n : ℕ) (room : List ℕ) where
           let count : length xs ≡ k - 1 = length-map rs (λ (s : Rule). (ruleAt (wordsOf bs) i, s)) ∙ rules-count (k - 1) next (wordsOf bs) in
           let here : rulesFrom k i (wordsOf bs) ≡ ruleAt (wordsOf bs) i ∷ rs = ap (λ m. rulesFrom m i (wordsOf bs)) some-left ∙ rules-one (k - 1) i (wordsOf bs) ∙ ap (λ m. ruleAt (wordsOf bs) i ∷ rulesFrom (k - 1) m (wordsOf bs)) (sym en) in
           let step : table size word (pairsOf (rulesFrom k i (wordsOf bs))) at new ≡ table size word (pairsOf rs) at′ new′ =
-              ap (λ l. table size word (pairsOf l) at new) here ∙ table-append size word xs (pairsOf rs) at new
-              ∙ ap₂ (λ (m : ℕ) (l : List ℕ). table size word (pairsOf rs) m l) (ap (λ c. at + rowsLength size c) count ∙ sym ea) (sym ew) in
+          ap (λ l. table size word (pairsOf l) at new) here ∙ table-append size word xs (pairsOf rs) at new
+          ∙ ap₂ (λ (m : ℕ) (l : List ℕ). table size word (pairsOf rs) m l) (ap (λ c. at + rowsLength size c) count ∙ sym ea) (sym ew) in
           record {
             laid = tabling-behind next en;
             len = ap length ew ∙ table-length size word xs at new ∙ x .len;

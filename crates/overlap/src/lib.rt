@@ -51,19 +51,18 @@ fn pattern<'a>(sheet: &'a [u8], at: usize) -> &'a [u8]
 }
 
 // The row of the rules at two places, from the word `to` on.
-fn row(
-    word: u16,
-    sheet: &[u8],
-    i: usize,
-    j: usize,
-    size: usize,
-    room: &mut [u8],
-    to: usize,
-)
+fn row(word: u16, sheet: &[u8], i: usize, j: usize, size: usize, room: &mut [u8], to: usize)
     requires { ⌜ (ruleEnd (wordsOf (now sheet)) i ≤ length (now sheet) / 2) × (ruleEnd (wordsOf (now sheet)) j ≤ length (now sheet) / 2) × (2 * (to + (size + 4)) ≤ length (now room)) ⌝ }
     ensures { λ _. ⌜ now (room .exit) ≡ sets (now (room .entry)) (2 * to) (bytesOf (rowWords size word (ruleAt (wordsOf (now (sheet .entry))) i, ruleAt (wordsOf (now (sheet .entry))) j))) ⌝ }
 {
-    let n = meet(word, pattern(sheet, i), pattern(sheet, j), room, to + HEAD, size);
+    let n = meet(
+        word,
+        pattern(sheet, i),
+        pattern(sheet, j),
+        room,
+        to + HEAD,
+        size,
+    );
     let mut head = [0u16; HEAD];
     head[0] = word_at(sheet, i);
     head[1] = word_at(sheet, j);

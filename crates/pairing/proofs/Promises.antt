@@ -100,8 +100,8 @@ module _ (room word : ℕ) (ps qs : List ℕ) where
           let one : 1 ≤ σ .symbols = subst (λ (x : Counts). 1 ≤ x .symbols) (sym (passed desk (pairWords word ps qs) q r .counts) ∙ ap (λ (x : Question). x .counts) is) (ranges desk (pairWords word ps qs) q r .symbol) in
           let ρ′ = tamed σ ρ in
           let tame-meets : Same σ (fill ρ′ (firstOf ps (a .term))) (fill ρ′ (secondOf word ps qs (b .term))) =
-              same-trans σ _ (tame σ (fill ρ (firstOf ps (a .term)))) _ (same-≡ σ _ _ (tamed-fills (ofBoth word ps qs) ρ (firstOf ps (a .term)) d₁))
-              (same-trans σ _ (tame σ (fill ρ (secondOf word ps qs (b .term)))) _ (tame-same σ _ _ meets) (same-≡ σ _ _ (sym (tamed-fills (ofBoth word ps qs) ρ (secondOf word ps qs (b .term)) d₂)))) in
+          same-trans σ _ (tame σ (fill ρ (firstOf ps (a .term)))) _ (same-≡ σ _ _ (tamed-fills (ofBoth word ps qs) ρ (firstOf ps (a .term)) d₁))
+          (same-trans σ _ (tame σ (fill ρ (secondOf word ps qs (b .term)))) _ (tame-same σ _ _ meets) (same-≡ σ _ _ (sym (tamed-fills (ofBoth word ps qs) ρ (secondOf word ps qs (b .term)) d₂)))) in
           none ρ′ (subst (λ (x : Question). MeetsQuestion ρ′ x) (sym is) (inl (tame-meets, tamed-named σ ρ one)))
       on few (answered (k ∷ ks) n) d x = settled (eqb (firstSettled (k ∷ ks)) (length (k ∷ ks))) (shownBy room word ps qs (firstSettled (k ∷ ks))) (shown (showing desk false (desk .room) (desk .room) (desk .filling) (firstSettled (k ∷ ks)) (pairWords word ps qs))) x
       on few (unread r) d x = let z : _≡_ {A = ℕ} 0 1 = cc in omega arith

@@ -200,14 +200,7 @@ fn decide<'a>(question: &'a [u16], p: Pair, room: &mut [u8], at: usize, size: us
 
 // Whether two patterns can meet, by their bytes: 100 they cannot, 101 it is not settled, 200 and the words of a report that both match, which the
 // room then holds from the word `at` on, where it has `size` words for it; or the refusal's number. `word` is a question's word 0.
-pub fn meet(
-    word: u16,
-    first: &[u8],
-    second: &[u8],
-    room: &mut [u8],
-    at: usize,
-    size: usize,
-) -> u32
+pub fn meet(word: u16, first: &[u8], second: &[u8], room: &mut [u8], at: usize, size: usize) -> u32
     requires { ⌜ 2 * (at + size) ≤ length (now room) ⌝ }
     ensures { λ r. ⌜ Told (meeting size word (wordsIn (now (first .entry))) (wordsIn (now (second .entry)))) at (now (room .entry)) r (now (room .exit)) ⌝ }
 {
