@@ -121,7 +121,7 @@ pub fn random_overlap(tally: &mut Tally, seed: u64, index: u64) {
     for room in [8192, fits, fits + 1, fits.saturating_sub(1)] {
         tally.both(&name, overlap(room));
     }
-    if random.chance(1, 8) {
+    if random.chance(1, 8) && !second.is_empty() {
         let (first, second, room) = (first.clone(), second[1..].to_vec(), 64);
         tally.both(&name, Request::Overlap { first, second, first_word, room });
     }
