@@ -15,6 +15,4 @@ returns-3 : tie.Need-returns-3
 returns-3 c = fits-all (c .before .before .before .before .before .args .sheet .now) (c .before .before .before .before .before .args .at) _ _ (omega arith) (c .before .before .word-at .ensures) (omega arith) (c .rule-end .ensures)
 
 pub rule-fits-spec : {M : Type 1} → statement M
-rule-fits-spec =
-    tie.close (tie.spec
-    (λ c. search needs) returns (λ c κs. search needs) returns-2 (λ c κs. search needs) returns-3)
+rule-fits-spec = tie.close (tie.spec (λ c. search needs) returns (λ c κs. search needs) returns-2 (λ c κs. search needs) returns-3)

@@ -17,10 +17,14 @@ returns-3 : tie.Need-returns-3
 returns-3 c = sheet-many (c .before .before .before .before .before .before .args .sheet .now) (omega arith) (omega arith) _ (c .before .wide .ensures ∙ c .before .before .word-at .ensures) (omega arith)
 
 returns-4 : tie.Need-returns-4
-returns-4 c = sheet-laid (c .before .before .before .before .before .before .before .before .args .sheet .now) (omega arith) (omega arith) _ (c .before .before .before .wide .ensures ∙ c .before .before .before .before .word-at .ensures) (omega arith) true (sym (c .if4 .taken) ∙ c .before .laid .ensures)
+returns-4 c =
+    let c₁ = c .before in let c₂ = c₁ .before .before in let c₃ = c₂ .before in let c₄ = c₃ .before .before .before .before in
+    sheet-laid (c₄ .args .sheet .now) (omega arith) (omega arith) _ (c₂ .wide .ensures ∙ c₃ .word-at .ensures) (omega arith) true (sym (c .if4 .taken) ∙ c₁ .laid .ensures)
 
 returns-5 : tie.Need-returns-5
-returns-5 c = sheet-laid (c .before .before .before .before .before .before .before .before .args .sheet .now) (omega arith) (omega arith) _ (c .before .before .before .wide .ensures ∙ c .before .before .before .before .word-at .ensures) (omega arith) false (sym (c .if4 .left) ∙ c .before .laid .ensures)
+returns-5 c =
+    let c₁ = c .before in let c₂ = c₁ .before .before in let c₃ = c₂ .before in let c₄ = c₃ .before .before .before .before in
+    sheet-laid (c₄ .args .sheet .now) (omega arith) (omega arith) _ (c₂ .wide .ensures ∙ c₃ .word-at .ensures) (omega arith) false (sym (c .if4 .left) ∙ c₁ .laid .ensures)
 
 pub sheet-number-spec : {M : Type 1} → statement M
 sheet-number-spec =

@@ -16,13 +16,17 @@ rule-end-requires : tie.Need-rule-end-requires Inv-loop μ-loop
 rule-end-requires c κs = let x = tabling-rule _ _ _ _ _ _ _ _ _ (c .before .loop .inv) (omega arith) in let h = x .header in omega arith
 
 rows-requires : tie.Need-rows-requires Inv-loop μ-loop
-rows-requires c κs = let x = tabling-rule _ _ _ _ _ _ _ _ _ (c .before .before .before .loop .inv) (omega arith) in (x .whole, tabling-behind _ _ _ _ _ _ _ _ _ (c .before .before .before .loop .inv) (omega arith) _ (c .before .rule-end .ensures), tabling-room _ _ _ _ _ _ _ _ _ (c .before .before .before .loop .inv) (omega arith) (c .before .before .before .before .before .before .pre .1))
+rows-requires c κs =
+    let c₁ = c .before in let c₂ = c₁ .before .before in let c₃ = c₂ .before .before .before in
+    let x = tabling-rule _ _ _ _ _ _ _ _ _ (c₂ .loop .inv) (omega arith) in (x .whole, tabling-behind _ _ _ _ _ _ _ _ _ (c₂ .loop .inv) (omega arith) _ (c₁ .rule-end .ensures), tabling-room _ _ _ _ _ _ _ _ _ (c₂ .loop .inv) (omega arith) (c₃ .pre .1))
 
 loop-again : tie.Need-loop-again Inv-loop μ-loop
-loop-again c = tabling-on _ _ _ _ _ _ _ _ _ (c .before .before .before .before .before .before .loop .inv) (omega arith) _ _ _ (c .before .before .before .before .rule-end .ensures) (c .before .before .rows .ensures .0) (c .before .before .rows .ensures .1)
+loop-again c =
+    let c₁ = c .before .before in let c₂ = c₁ .before .before in let c₃ = c₂ .before .before in
+    tabling-on _ _ _ _ _ _ _ _ _ (c₃ .loop .inv) (omega arith) _ _ _ (c₂ .rule-end .ensures) (c₁ .rows .ensures .0) (c₁ .rows .ensures .1)
 
 pub all-rows-spec : {M : Type 1} → statement M
 all-rows-spec =
     tie.close (tie.spec
-    Inv-loop μ-loop (λ c. tabling-starts _ _ _ _ _ (c .before .before .pre .0)) rule-end-requires (λ c. search needs) rows-requires (λ c. search needs)
-    loop-again (λ c. c .before .loop .inv .len) (λ c. tabling-ends _ _ _ _ _ _ _ _ _ (c .before .loop .inv) (omega arith)))
+    Inv-loop μ-loop (λ c. tabling-starts _ _ _ _ _ (c .before .before .pre .0)) rule-end-requires (λ c. search needs) rows-requires
+    (λ c. search needs) loop-again (λ c. c .before .loop .inv .len) (λ c. tabling-ends _ _ _ _ _ _ _ _ _ (c .before .loop .inv) (omega arith)))

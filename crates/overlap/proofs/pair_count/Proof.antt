@@ -24,5 +24,4 @@ returns c = (c .before .loop .inv .1 ∙ ap pairCount (let z : c .before .loop .
 pub pair-count-spec : {M : Type 1} → statement M
 pair-count-spec =
     tie.close (tie.spec
-    Inv-loop μ-loop (λ c. (omega arith, no-pairs, omega arith)) (λ c. search needs) (λ c. search needs) (λ c. search needs)
-    loop-again returns)
+    Inv-loop μ-loop (λ c. (omega arith, no-pairs, omega arith)) (λ c. search needs) (λ c. search needs) (λ c. search needs) loop-again returns)

@@ -11,9 +11,12 @@ use Rattle.overlap.proofs.pattern.Statement.{statement}
 use Rattle.overlap.proofs.pattern.Tie as tie
 
 returns : tie.Need-returns
-returns c = let e = c .before .rule-end .ensures in ap (λ (n : ℕ). wordsIn (take (2 * n - 2 * (c .before .before .before .args .at + 2)) (drop (2 * (c .before .before .before .args .at + 2)) (c .before .before .before .args .sheet .now)))) e ∙ pattern-words (c .before .before .before .args .sheet .now) (c .before .before .before .args .at + 2) (ruleEnd (wordsOf (c .before .before .before .args .sheet .now)) (c .before .before .before .args .at)) (omega arith) (c .before .before .before .pre)
+returns c =
+    let c₁ = c .before in let c₂ = c₁ .before .before in
+    let e = c₁ .rule-end .ensures in ap (λ (n : ℕ). wordsIn (take (2 * n - 2 * (c₂ .args .at + 2)) (drop (2 * (c₂ .args .at + 2)) (c₂ .args .sheet .now)))) e ∙ pattern-words (c₂ .args .sheet .now) (c₂ .args .at + 2) (ruleEnd (wordsOf (c₂ .args .sheet .now)) (c₂ .args .at)) (omega arith) (c₂ .pre)
 
 pub pattern-spec : {M : Type 1} → statement M
 pattern-spec =
     tie.close (tie.spec
-    (λ c κs. search needs) (λ c. search needs) (λ c. search needs) (λ c. search needs) (λ c. search needs) (λ c. search needs) (λ c. search needs) returns)
+    (λ c κs. search needs) (λ c. search needs) (λ c. search needs) (λ c. search needs) (λ c. search needs) (λ c. search needs) (λ c. search needs)
+    returns)

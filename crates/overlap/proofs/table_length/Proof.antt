@@ -15,6 +15,4 @@ returns : tie.Need-returns
 returns c = ap (λ n. n * (c .before .args .size + 4)) (c .pair-count .ensures .0) ∙ table-times (c .before .args .size) (c .before .args .n)
 
 pub table-length-spec : {M : Type 1} → statement M
-table-length-spec =
-    tie.close (tie.spec
-    (λ c. search needs) (λ c κs. search needs) (λ c. search needs) (λ c. search needs) mul-result returns)
+table-length-spec = tie.close (tie.spec (λ c. search needs) (λ c κs. search needs) (λ c. search needs) (λ c. search needs) mul-result returns)

@@ -16,19 +16,30 @@ abbrev clear : List ℕ
 clear = replicate (desk .question) 0
 
 part-decide-end : tie.Need-part-decide-end
-part-decide-end c = let z = asks-inside (c .before .before .before .before .before .before .before .before .before .before .args .size) (c .before .before .before .before .before .before .before .before .before .before .args .word) (wordsIn (c .before .before .before .before .before .before .before .before .before .before .args .first .now)) (wordsIn (c .before .before .before .before .before .before .before .before .before .before .args .second .now)) (c .before .before .before .before .before .before .before .before .before .before .args .at) (c .before .before .before .before .before .before .before .before .before .before .args .room .now) _ (sym (c .before .before .before .before .before .ask .ensures .0) ∙ c .before .before .p .given .1) clear _ refl (c .before .before .before .before .before .ask .ensures .1) in let k = c .before .before .before .before .before .ask .kept .1 .1 .1 .0 in omega arith
+part-decide-end c =
+    let c₁ = c .before .before in let c₂ = c₁ .before .before .before in let c₃ = c₂ .before .before .before .before .before in
+    let z = asks-inside (c₃ .args .size) (c₃ .args .word) (wordsIn (c₃ .args .first .now)) (wordsIn (c₃ .args .second .now)) (c₃ .args .at) (c₃ .args .room .now) _ (sym (c₂ .ask .ensures .0) ∙ c₁ .p .given .1) clear _ refl (c₂ .ask .ensures .1) in let k = c₂ .ask .kept .1 .1 .1 .0 in omega arith
 
 decide-requires : tie.Need-decide-requires
-decide-requires c κs = (record { word = c .before .before .before .before .before .before .before .before .before .before .before .before .args .word; one = wordsIn (c .before .before .before .before .before .before .before .before .before .before .before .before .args .first .now); other = wordsIn (c .before .before .before .before .before .before .before .before .before .before .before .before .args .second .now); known = asks-known (c .before .before .before .before .before .before .before .before .before .before .before .before .args .size) (c .before .before .before .before .before .before .before .before .before .before .before .before .args .word) (wordsIn (c .before .before .before .before .before .before .before .before .before .before .before .before .args .first .now)) (wordsIn (c .before .before .before .before .before .before .before .before .before .before .before .before .args .second .now)) (c .before .before .before .before .before .before .before .before .before .before .before .before .args .at) (c .before .before .before .before .before .before .before .before .before .before .before .before .args .room .now) _ (sym (c .before .before .before .before .before .before .before .ask .ensures .0) ∙ c .before .before .before .before .p .given .1) clear _ refl (c .before .before .before .before .before .before .before .ask .ensures .1) }, c .before .before .before .before .before .before .before .before .before .before .before .before .pre)
+decide-requires c κs =
+    let c₁ = c .before .before .before .before in let c₂ = c₁ .before .before .before in let c₃ = c₂ .before .before .before .before .before in
+    (record { word = c₃ .args .word; one = wordsIn (c₃ .args .first .now); other = wordsIn (c₃ .args .second .now); known = asks-known (c₃ .args .size) (c₃ .args .word) (wordsIn (c₃ .args .first .now)) (wordsIn (c₃ .args .second .now)) (c₃ .args .at) (c₃ .args .room .now) _ (sym (c₂ .ask .ensures .0) ∙ c₁ .p .given .1) clear _ refl (c₂ .ask .ensures .1) }, c₃ .pre)
 
 returns : tie.Need-returns
-returns c = pair-many (c .before .before .before .before .before .before .before .before .args .size) (c .before .before .before .before .before .before .before .before .args .word) (wordsIn (c .before .before .before .before .before .before .before .before .args .first .now)) (wordsIn (c .before .before .before .before .before .before .before .before .args .second .now)) (c .before .before .before .before .before .before .before .before .args .at) (c .before .before .before .before .before .before .before .before .args .room .now) (sym (c .before .before .before .ask .ensures .0) ∙ c .enum-told .given .1)
+returns c =
+    let c₁ = c .before .before .before in let c₂ = c₁ .before .before .before .before .before in
+    pair-many (c₂ .args .size) (c₂ .args .word) (wordsIn (c₂ .args .first .now)) (wordsIn (c₂ .args .second .now)) (c₂ .args .at) (c₂ .args .room .now) (sym (c₁ .ask .ensures .0) ∙ c .enum-told .given .1)
 
 returns-2 : tie.Need-returns-2
-returns-2 c = pair-long (c .before .before .before .before .before .before .before .before .args .size) (c .before .before .before .before .before .before .before .before .args .word) (wordsIn (c .before .before .before .before .before .before .before .before .args .first .now)) (wordsIn (c .before .before .before .before .before .before .before .before .args .second .now)) (c .before .before .before .before .before .before .before .before .args .at) (c .before .before .before .before .before .before .before .before .args .room .now) (sym (c .before .before .before .ask .ensures .0) ∙ c .enum-told2 .given .1)
+returns-2 c =
+    let c₁ = c .before .before .before in let c₂ = c₁ .before .before .before .before .before in
+    pair-long (c₂ .args .size) (c₂ .args .word) (wordsIn (c₂ .args .first .now)) (wordsIn (c₂ .args .second .now)) (c₂ .args .at) (c₂ .args .room .now) (sym (c₁ .ask .ensures .0) ∙ c .enum-told2 .given .1)
 
 returns-3 : tie.Need-returns-3
-returns-3 c = c .before .before .decide .ensures _ _ _ (asks-known (c .before .before .before .before .before .before .before .before .before .before .before .before .before .before .before .args .size) (c .before .before .before .before .before .before .before .before .before .before .before .before .before .before .before .args .word) (wordsIn (c .before .before .before .before .before .before .before .before .before .before .before .before .before .before .before .args .first .now)) (wordsIn (c .before .before .before .before .before .before .before .before .before .before .before .before .before .before .before .args .second .now)) (c .before .before .before .before .before .before .before .before .before .before .before .before .before .before .before .args .at) (c .before .before .before .before .before .before .before .before .before .before .before .before .before .before .before .args .room .now) _ (sym (c .before .before .before .before .before .before .before .before .before .before .ask .ensures .0) ∙ c .before .before .before .before .before .before .before .p .given .1) clear _ refl (c .before .before .before .before .before .before .before .before .before .before .ask .ensures .1))
+returns-3 c =
+    let c₁ = c .before .before in let c₂ = c₁ .before .before .before .before .before in let c₃ = c₂ .before .before .before in
+    let c₄ = c₃ .before .before .before .before .before in
+    c₁ .decide .ensures _ _ _ (asks-known (c₄ .args .size) (c₄ .args .word) (wordsIn (c₄ .args .first .now)) (wordsIn (c₄ .args .second .now)) (c₄ .args .at) (c₄ .args .room .now) _ (sym (c₃ .ask .ensures .0) ∙ c₂ .p .given .1) clear _ refl (c₃ .ask .ensures .1))
 
 pub meet-spec : {M : Type 1} → statement M
 meet-spec =

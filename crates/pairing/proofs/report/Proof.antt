@@ -8,22 +8,35 @@ use Rattle.pairing.proofs.report.Statement.{statement}
 use Rattle.pairing.proofs.report.Tie as tie
 
 filled-len-requires : tie.Need-filled-len-requires
-filled-len-requires c κs = ((c .before .before .before .before .pre .1 .0 .0), ((c .before .before .before .before .pre .1 .0 .1), (c .before .before .before .before .pre .0)))
+filled-len-requires c κs =
+    let c₁ = c .before .before .before .before in
+    ((c₁ .pre .1 .0 .0), ((c₁ .pre .1 .0 .1), (c₁ .pre .0)))
 
 returns : tie.Need-returns
-returns c = too-long (c .before .before .before .before .before .before .args .size) (filled (c .before .before .before .before .before .before .args .terms) (c .before .before .before .before .before .before .args .hedges) (c .before .before .before .before .before .before .args .filling .now) (c .before .before .before .before .before .before .args .pattern .now)) (c .before .before .before .before .before .before .args .at) (c .before .before .before .before .before .before .args .room .now) _ (c .before .filled-len .ensures) (omega arith)
+returns c =
+    let c₁ = c .before in let c₂ = c₁ .before .before .before .before .before in
+    too-long (c₂ .args .size) (filled (c₂ .args .terms) (c₂ .args .hedges) (c₂ .args .filling .now) (c₂ .args .pattern .now)) (c₂ .args .at) (c₂ .args .room .now) _ (c₁ .filled-len .ensures) (omega arith)
 
 write-report-requires : tie.Need-write-report-requires
-write-report-requires c κs = let e = c .before .before .before .filled-len .ensures in let p = c .before .before .before .before .before .before .before .before .pre .1 .1 in ((c .before .before .before .before .before .before .before .before .pre .0), (((c .before .before .before .before .before .before .before .before .pre .1 .0 .0), (c .before .before .before .before .before .before .before .before .pre .1 .0 .2)), omega arith))
+write-report-requires c κs =
+    let c₁ = c .before .before .before in let c₂ = c₁ .before .before .before .before .before in
+    let e = c₁ .filled-len .ensures in let p = c₂ .pre .1 .1 in ((c₂ .pre .0), (((c₂ .pre .1 .0 .0), (c₂ .pre .1 .0 .2)), omega arith))
 
 narrow-requires : tie.Need-narrow-requires
-narrow-requires c κs = let e = c .before .before .before .before .before .before .before .before .filled-len .ensures in let z = report-few (c .before .before .before .before .before .before .before .before .before .before .before .before .before .args .terms) (c .before .before .before .before .before .before .before .before .before .before .before .before .before .args .hedges) (c .before .before .before .before .before .before .before .before .before .before .before .before .before .args .filling .now) (c .before .before .before .before .before .before .before .before .before .before .before .before .before .args .pattern .now) (c .before .before .before .before .before .before .before .before .before .before .before .before .before .pre .1 .0 .0) (c .before .before .before .before .before .before .before .before .before .before .before .before .before .pre .1 .0 .1) in omega arith
+narrow-requires c κs =
+    let c₁ = c .before .before .before .before .before .before .before .before in let c₂ = c₁ .before .before .before .before .before in
+    let e = c₁ .filled-len .ensures in let z = report-few (c₂ .args .terms) (c₂ .args .hedges) (c₂ .args .filling .now) (c₂ .args .pattern .now) (c₂ .pre .1 .0 .0) (c₂ .pre .1 .0 .1) in omega arith
 
 add-result : tie.Need-add-result
-add-result c = let e = c .before .before .before .before .before .before .before .before .before .filled-len .ensures in let z = report-few (c .before .before .before .before .before .before .before .before .before .before .before .before .before .before .args .terms) (c .before .before .before .before .before .before .before .before .before .before .before .before .before .before .args .hedges) (c .before .before .before .before .before .before .before .before .before .before .before .before .before .before .args .filling .now) (c .before .before .before .before .before .before .before .before .before .before .before .before .before .before .args .pattern .now) (c .before .before .before .before .before .before .before .before .before .before .before .before .before .before .pre .1 .0 .0) (c .before .before .before .before .before .before .before .before .before .before .before .before .before .before .pre .1 .0 .1) in let k = c .narrow .ensures in omega arith
+add-result c =
+    let c₁ = c .before .before .before .before .before .before .before .before .before in let c₂ = c₁ .before .before .before .before .before in
+    let e = c₁ .filled-len .ensures in let z = report-few (c₂ .args .terms) (c₂ .args .hedges) (c₂ .args .filling .now) (c₂ .args .pattern .now) (c₂ .pre .1 .0 .0) (c₂ .pre .1 .0 .1) in let k = c .narrow .ensures in omega arith
 
 returns-2 : tie.Need-returns-2
-returns-2 c = shown-here (c .before .before .before .before .before .before .before .before .before .before .before .before .before .before .args .size) (filled (c .before .before .before .before .before .before .before .before .before .before .before .before .before .before .args .terms) (c .before .before .before .before .before .before .before .before .before .before .before .before .before .before .args .hedges) (c .before .before .before .before .before .before .before .before .before .before .before .before .before .before .args .filling .now) (c .before .before .before .before .before .before .before .before .before .before .before .before .before .before .args .pattern .now)) (c .before .before .before .before .before .before .before .before .before .before .before .before .before .before .args .at) (c .before .before .before .before .before .before .before .before .before .before .before .before .before .before .args .room .now) _ _ _ (c .before .before .before .before .before .before .before .before .before .filled-len .ensures) (c .narrow .ensures) (omega arith) (c .before .before .before .before .before .write-report .ensures)
+returns-2 c =
+    let c₁ = c .before .before .before .before .before in let c₂ = c₁ .before .before .before .before in
+    let c₃ = c₂ .before .before .before .before .before in
+    shown-here (c₃ .args .size) (filled (c₃ .args .terms) (c₃ .args .hedges) (c₃ .args .filling .now) (c₃ .args .pattern .now)) (c₃ .args .at) (c₃ .args .room .now) _ _ _ (c₂ .filled-len .ensures) (c .narrow .ensures) (omega arith) (c₁ .write-report .ensures)
 
 pub report-spec : {M : Type 1} → statement M
 report-spec =

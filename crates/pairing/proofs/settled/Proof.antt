@@ -11,6 +11,4 @@ returns : tie.Need-returns
 returns c = ap (λ m. eqb m 1) (c .word2 .ensures ∙ ap (λ i. getD (c .before .before .before .before .args .answer .now) i 0) (c .before .wide .ensures ∙ c .before .before .word .ensures))
 
 pub settled-spec : {M : Type 1} → statement M
-settled-spec =
-    tie.close (tie.spec
-    (λ c. search needs) (λ c κs. search needs) (λ c κs. search needs) (λ c κs. search needs) returns)
+settled-spec = tie.close (tie.spec (λ c. search needs) (λ c κs. search needs) (λ c κs. search needs) (λ c κs. search needs) returns)

@@ -15,22 +15,41 @@ abbrev clear : List ℕ
 clear = replicate (desk .filling) 0
 
 returns : tie.Need-returns
-returns c = λ word ps qs x. show-refused (c .before .before .before .before .before .before .before .before .before .before .before .before .before .before .before .before .args .question .now) (c .before .before .before .before .before .before .before .before .before .before .before .before .before .before .before .before .args .work .now) (c .before .before .before .before .before .before .before .before .before .before .before .before .before .before .before .before .args .answer .now) clear _ _ _ (c .before .before .before .before .before .before .before .before .before .before .before .before .before .before .before .before .args .line) _ (c .before .before .before .before .before .before .before .before .before .before .before .before .before .before .before .before .pre .1) (c .before .before .before .before .before .before .before .before .before .before .before .before .before .before .before .before .pre .2) refl (c .before .before .before .before .before .before .before .before .example .ensures) (c .before .before .before .before .before .before .before .before .before .before .before .before .before .before .before .before .args .p) word ps qs x _ _ _ _ _ (c .before .before .shown-number .ensures) (c .before .if1 .taken) (c .wide .ensures)
+returns c =
+    let c₁ = c .before in let c₂ = c₁ .before in let c₃ = c₂ .before .before .before .before .before .before in
+    let c₄ = c₃ .before .before .before .before .before .before .before .before in
+    λ word ps qs x. show-refused (c₄ .args .question .now) (c₄ .args .work .now) (c₄ .args .answer .now) clear _ _ _ (c₄ .args .line) _ (c₄ .pre .1) (c₄ .pre .2) refl (c₃ .example .ensures) (c₄ .args .p) word ps qs x _ _ _ _ _ (c₂ .shown-number .ensures) (c₁ .if1 .taken) (c .wide .ensures)
 
 part-report-end : tie.Need-part-report-end
-part-report-end c = let k = c .before .before .before .before .before .before .before .before .before .example .kept .1 .1 .1 .1 .1 .0 in let z = show-few (c .before .before .before .before .before .before .before .before .before .before .before .before .before .before .before .before .before .args .question .now) (c .before .before .before .before .before .before .before .before .before .before .before .before .before .before .before .before .before .args .work .now) (c .before .before .before .before .before .before .before .before .before .before .before .before .before .before .before .before .before .args .answer .now) clear _ _ _ (c .before .before .before .before .before .before .before .before .before .before .before .before .before .before .before .before .before .args .line) _ (c .before .before .before .before .before .before .before .before .before .before .before .before .before .before .before .before .before .pre .1) (c .before .before .before .before .before .before .before .before .before .before .before .before .before .before .before .before .before .pre .2) refl (c .before .before .before .before .before .before .before .before .before .example .ensures) (c .before .before .before .before .before .before .before .before .before .before .before .before .before .before .before .before .before .args .p) (sym (c .before .before .before .shown-number .ensures) ∙ c .before .before .if1 .left) _ (c .before .shown-length .ensures) in omega arith
+part-report-end c =
+    let c₁ = c .before in let c₂ = c₁ .before in let c₃ = c₂ .before in let c₄ = c₃ .before .before .before .before .before .before in
+    let c₅ = c₄ .before .before .before .before .before .before .before .before in
+    let k = c₄ .example .kept .1 .1 .1 .1 .1 .0 in let z = show-few (c₅ .args .question .now) (c₅ .args .work .now) (c₅ .args .answer .now) clear _ _ _ (c₅ .args .line) _ (c₅ .pre .1) (c₅ .pre .2) refl (c₄ .example .ensures) (c₅ .args .p) (sym (c₃ .shown-number .ensures) ∙ c₂ .if1 .left) _ (c₁ .shown-length .ensures) in omega arith
 
 add-report : tie.Need-add-report
-add-report c = let z = show-inside (c .before .before .before .before .before .before .before .before .before .before .before .before .before .before .before .before .before .before .before .args .question .now) (c .before .before .before .before .before .before .before .before .before .before .before .before .before .before .before .before .before .before .before .args .work .now) (c .before .before .before .before .before .before .before .before .before .before .before .before .before .before .before .before .before .before .before .args .answer .now) clear _ _ _ (c .before .before .before .before .before .before .before .before .before .before .before .before .before .before .before .before .before .before .before .args .line) _ (c .before .before .before .before .before .before .before .before .before .before .before .before .before .before .before .before .before .before .before .pre .1) (c .before .before .before .before .before .before .before .before .before .before .before .before .before .before .before .before .before .before .before .pre .2) refl (c .before .before .before .before .before .before .before .before .before .before .before .example .ensures) (c .before .before .before .before .before .before .before .before .before .before .before .before .before .before .before .before .before .before .before .args .p) (sym (c .before .before .before .before .before .shown-number .ensures) ∙ c .before .before .before .before .if1 .left) _ (c .before .before .before .shown-length .ensures) (c .before .before .before .before .before .before .before .before .before .before .before .before .before .before .before .before .before .before .before .pre .0) in omega arith
+add-report c =
+    let c₁ = c .before .before .before in let c₂ = c₁ .before in let c₃ = c₂ .before in let c₄ = c₃ .before .before .before .before .before .before in
+    let c₅ = c₄ .before .before .before .before .before .before .before .before in
+    let z = show-inside (c₅ .args .question .now) (c₅ .args .work .now) (c₅ .args .answer .now) clear _ _ _ (c₅ .args .line) _ (c₅ .pre .1) (c₅ .pre .2) refl (c₄ .example .ensures) (c₅ .args .p) (sym (c₃ .shown-number .ensures) ∙ c₂ .if1 .left) _ (c₁ .shown-length .ensures) (c₅ .pre .0) in omega arith
 
 part-report-end-2 : tie.Need-part-report-end-2
-part-report-end-2 c = let z = show-inside (c .before .before .before .before .before .before .before .before .before .before .before .before .before .before .before .before .before .before .before .args .question .now) (c .before .before .before .before .before .before .before .before .before .before .before .before .before .before .before .before .before .before .before .args .work .now) (c .before .before .before .before .before .before .before .before .before .before .before .before .before .before .before .before .before .before .before .args .answer .now) clear _ _ _ (c .before .before .before .before .before .before .before .before .before .before .before .before .before .before .before .before .before .before .before .args .line) _ (c .before .before .before .before .before .before .before .before .before .before .before .before .before .before .before .before .before .before .before .pre .1) (c .before .before .before .before .before .before .before .before .before .before .before .before .before .before .before .before .before .before .before .pre .2) refl (c .before .before .before .before .before .before .before .before .before .before .before .example .ensures) (c .before .before .before .before .before .before .before .before .before .before .before .before .before .before .before .before .before .before .before .args .p) (sym (c .before .before .before .before .before .shown-number .ensures) ∙ c .before .before .before .before .if1 .left) _ (c .before .before .before .shown-length .ensures) (c .before .before .before .before .before .before .before .before .before .before .before .before .before .before .before .before .before .before .before .pre .0) in omega arith
+part-report-end-2 c =
+    let c₁ = c .before .before .before in let c₂ = c₁ .before in let c₃ = c₂ .before in let c₄ = c₃ .before .before .before .before .before .before in
+    let c₅ = c₄ .before .before .before .before .before .before .before .before in
+    let z = show-inside (c₅ .args .question .now) (c₅ .args .work .now) (c₅ .args .answer .now) clear _ _ _ (c₅ .args .line) _ (c₅ .pre .1) (c₅ .pre .2) refl (c₄ .example .ensures) (c₅ .args .p) (sym (c₃ .shown-number .ensures) ∙ c₂ .if1 .left) _ (c₁ .shown-length .ensures) (c₅ .pre .0) in omega arith
 
 report-requires : tie.Need-report-requires
-report-requires c κs = let t = show-sizes (c .before .before .before .before .before .before .before .before .before .before .before .before .before .before .before .before .before .before .before .before .before .before .args .question .now) (c .before .before .before .before .before .before .before .before .before .before .before .before .before .before .before .before .before .before .before .before .before .before .args .work .now) (c .before .before .before .before .before .before .before .before .before .before .before .before .before .before .before .before .before .before .before .before .before .before .args .answer .now) clear _ _ _ (c .before .before .before .before .before .before .before .before .before .before .before .before .before .before .before .before .before .before .before .before .before .before .args .line) _ (c .before .before .before .before .before .before .before .before .before .before .before .before .before .before .before .before .before .before .before .before .before .before .pre .1) (c .before .before .before .before .before .before .before .before .before .before .before .before .before .before .before .before .before .before .before .before .before .before .pre .2) refl (c .before .before .before .before .before .before .before .before .before .before .before .before .before .before .example .ensures) (c .before .before .before .before .before .before .before .before .before .before .before .before .before .before .before .before .before .before .before .before .before .before .args .p) (sym (c .before .before .before .before .before .before .before .before .shown-number .ensures) ∙ c .before .before .before .before .before .before .before .if1 .left) _ (c .before .before .before .before .before .before .shown-length .ensures) (c .before .before .before .before .before .before .before .before .before .before .before .before .before .before .before .before .before .before .before .before .before .before .pre .0) in let k = c .before .before .before .before .before .before .before .before .before .before .before .before .before .before .example .kept .1 .1 .1 .0 in let l = c .before .before .before .before .before .before .before .before .before .before .before .before .before .before .before .before .before .before .before .before .before .before .pre .1 in (show-shows (c .before .before .before .before .before .before .before .before .before .before .before .before .before .before .before .before .before .before .before .before .before .before .args .question .now) (c .before .before .before .before .before .before .before .before .before .before .before .before .before .before .before .before .before .before .before .before .before .before .args .work .now) (c .before .before .before .before .before .before .before .before .before .before .before .before .before .before .before .before .before .before .before .before .before .before .args .answer .now) clear _ _ _ (c .before .before .before .before .before .before .before .before .before .before .before .before .before .before .before .before .before .before .before .before .before .before .args .line) _ (c .before .before .before .before .before .before .before .before .before .before .before .before .before .before .before .before .before .before .before .before .before .before .pre .1) (c .before .before .before .before .before .before .before .before .before .before .before .before .before .before .before .before .before .before .before .before .before .before .pre .2) refl (c .before .before .before .before .before .before .before .before .before .before .before .before .before .before .example .ensures) (c .before .before .before .before .before .before .before .before .before .before .before .before .before .before .before .before .before .before .before .before .before .before .args .p) (sym (c .before .before .before .before .before .before .before .before .shown-number .ensures) ∙ c .before .before .before .before .before .before .before .if1 .left) _ (c .before .before .before .before .before .before .shown-length .ensures) (c .before .before .before .before .before .before .before .before .before .before .before .before .before .before .before .before .before .before .before .before .before .before .pre .0), ((t .0, t .1, omega arith), c .before .before .before .before .before .before .before .before .before .before .before .before .before .before .before .before .before .before .before .before .before .before .pre .3))
+report-requires c κs =
+    let c₁ = c .before .before .before .before .before .before in let c₂ = c₁ .before in let c₃ = c₂ .before in
+    let c₄ = c₃ .before .before .before .before .before .before in let c₅ = c₄ .before .before .before .before .before .before .before .before in
+    let t = show-sizes (c₅ .args .question .now) (c₅ .args .work .now) (c₅ .args .answer .now) clear _ _ _ (c₅ .args .line) _ (c₅ .pre .1) (c₅ .pre .2) refl (c₄ .example .ensures) (c₅ .args .p) (sym (c₃ .shown-number .ensures) ∙ c₂ .if1 .left) _ (c₁ .shown-length .ensures) (c₅ .pre .0) in let k = c₄ .example .kept .1 .1 .1 .0 in let l = c₅ .pre .1 in (show-shows (c₅ .args .question .now) (c₅ .args .work .now) (c₅ .args .answer .now) clear _ _ _ (c₅ .args .line) _ (c₅ .pre .1) (c₅ .pre .2) refl (c₄ .example .ensures) (c₅ .args .p) (sym (c₃ .shown-number .ensures) ∙ c₂ .if1 .left) _ (c₁ .shown-length .ensures) (c₅ .pre .0), ((t .0, t .1, omega arith), c₅ .pre .3))
 
 returns-2 : tie.Need-returns-2
-returns-2 c = λ word ps qs x. show-told (c .before .before .before .before .before .before .before .before .before .before .before .before .before .before .before .before .before .before .before .before .before .before .before .before .before .before .before .args .question .now) (c .before .before .before .before .before .before .before .before .before .before .before .before .before .before .before .before .before .before .before .before .before .before .before .before .before .before .before .args .work .now) (c .before .before .before .before .before .before .before .before .before .before .before .before .before .before .before .before .before .before .before .before .before .before .before .before .before .before .before .args .answer .now) clear _ _ _ (c .before .before .before .before .before .before .before .before .before .before .before .before .before .before .before .before .before .before .before .before .before .before .before .before .before .before .before .args .line) _ (c .before .before .before .before .before .before .before .before .before .before .before .before .before .before .before .before .before .before .before .before .before .before .before .before .before .before .before .pre .1) (c .before .before .before .before .before .before .before .before .before .before .before .before .before .before .before .before .before .before .before .before .before .before .before .before .before .before .before .pre .2) refl (c .before .before .before .before .before .before .before .before .before .before .before .before .before .before .before .before .before .before .before .example .ensures) (c .before .before .before .before .before .before .before .before .before .before .before .before .before .before .before .before .before .before .before .before .before .before .before .before .before .before .before .args .p) (sym (c .before .before .before .before .before .before .before .before .before .before .before .before .before .shown-number .ensures) ∙ c .before .before .before .before .before .before .before .before .before .before .before .before .if1 .left) _ (c .before .before .before .before .before .before .before .before .before .before .before .shown-length .ensures) word ps qs x _ _ _ _ _ (c .before .before .before .before .report .ensures)
+returns-2 c =
+    let c₁ = c .before .before .before .before in let c₂ = c₁ .before .before .before .before .before .before .before in let c₃ = c₂ .before in
+    let c₄ = c₃ .before in let c₅ = c₄ .before .before .before .before .before .before in
+    let c₆ = c₅ .before .before .before .before .before .before .before .before in
+    λ word ps qs x. show-told (c₆ .args .question .now) (c₆ .args .work .now) (c₆ .args .answer .now) clear _ _ _ (c₆ .args .line) _ (c₆ .pre .1) (c₆ .pre .2) refl (c₅ .example .ensures) (c₆ .args .p) (sym (c₄ .shown-number .ensures) ∙ c₃ .if1 .left) _ (c₂ .shown-length .ensures) word ps qs x _ _ _ _ _ (c₁ .report .ensures)
 
 pub show-spec : {M : Type 1} → statement M
 show-spec =

@@ -13,7 +13,9 @@ returns : tie.Need-returns
 returns c = let h = length-wordsOf (c .before .before .args .bytes .now) in nothing-no-term _ (omega arith)
 
 returns-2 : tie.Need-returns-2
-returns-2 c = let h = length-wordsOf (c .before .before .before .before .before .before .before .args .bytes .now) in c .closes .ensures ∙ one-blank _ (omega arith) _ (c .before .before .before .classify .ensures ∙ ap (kindOf desk) (c .before .before .before .before .word-at .ensures)) (c .before .enum-told .given .1)
+returns-2 c =
+    let c₁ = c .before in let c₂ = c₁ .before .before in let c₃ = c₂ .before in let c₄ = c₃ .before .before .before in
+    let h = length-wordsOf (c₄ .args .bytes .now) in c .closes .ensures ∙ one-blank _ (omega arith) _ (c₂ .classify .ensures ∙ ap (kindOf desk) (c₃ .word-at .ensures)) (c₁ .enum-told .given .1)
 
 returns-3 : tie.Need-returns-3
 returns-3 c = let h = length-wordsOf (c .before .before .before .before .before .before .args .bytes .now) in c .closes2 .ensures ∙ one-name _ (omega arith) _ (c .before .before .classify .ensures ∙ ap (kindOf desk) (c .before .before .before .word-at .ensures)) (c .before .match .keys2)

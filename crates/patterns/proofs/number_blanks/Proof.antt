@@ -26,37 +26,57 @@ word-at-requires : tie.Need-word-at-requires Inv-loop μ-loop
 word-at-requires c κs = let h = length-wordsOf (c .before .before .before .before .args .bytes .now) in omega arith
 
 note-requires : tie.Need-note-requires Inv-loop μ-loop
-note-requires c κs = let h = length-wordsOf (c .before .before .before .before .before .before .before .before .before .before .before .args .bytes .now) in let r = term-range (wordsOf (c .before .before .before .before .before .before .before .before .before .before .before .args .bytes .now)) (c .before .before .before .before .before .before .before .before .loop .i) (omega arith) _ _ (c .before .before .before .before .before .before .before .before .loop .inv .1) _ (c .before .before .before .before .before .classify .ensures ∙ ap (kindOf desk) (c .before .before .before .before .before .before .word-at .ensures)) (c .before .before .before .x .given .1) in let s = c .before .before .before .before .before .before .before .before .loop .inv .1 .table .size in let w = c .wide .ensures in (omega arith, omega arith)
+note-requires c κs =
+    let c₁ = c .before .before .before in let c₂ = c₁ .before .before in let c₃ = c₂ .before in let c₄ = c₃ .before .before in
+    let c₅ = c₄ .before .before .before in
+    let h = length-wordsOf (c₅ .args .bytes .now) in let r = term-range (wordsOf (c₅ .args .bytes .now)) (c₄ .loop .i) (omega arith) _ _ (c₄ .loop .inv .1) _ (c₂ .classify .ensures ∙ ap (kindOf desk) (c₃ .word-at .ensures)) (c₁ .x .given .1) in let s = c₄ .loop .inv .1 .table .size in let w = c .wide .ensures in (omega arith, omega arith)
 
 loop-less : tie.Need-loop-less Inv-loop μ-loop
 loop-less c = let h = length-wordsOf (c .before .before .before .before .before .before .before .before .before .before .before .before .before .before .args .bytes .now) in omega arith
 
 loop-again : tie.Need-loop-again Inv-loop μ-loop
-loop-again c = let h = length-wordsOf (c .before .before .before .before .before .before .before .before .before .before .before .before .before .before .args .bytes .now) in (omega arith, term-noted (wordsOf (c .before .before .before .before .before .before .before .before .before .before .before .before .before .before .args .bytes .now)) (c .before .before .before .before .before .before .before .before .before .before .before .loop .i) (omega arith) _ _ (c .before .before .before .before .before .before .before .before .before .before .before .loop .inv .1) _ (c .before .before .before .before .before .before .before .before .classify .ensures ∙ ap (kindOf desk) (c .before .before .before .before .before .before .before .before .before .word-at .ensures)) _ _ (c .before .before .before .before .before .before .x .given .1) _ (c .before .before .before .wide .ensures) (c .before .before .note .ensures .0) (c .before .before .note .ensures .1), one-more (c .before .before .before .before .before .before .before .before .before .before .before .loop .table) (c .before .before .before .wide .result) (c .before .before .before .before .before .before .before .before .before .before .before .loop .terms) _ (c .before .before .before .before .before .before .before .before .before .before .before .loop .i) (c .before .before .note .ensures .0) (c .before .before .before .before .before .before .before .before .before .before .before .loop .inv .2), omega arith, omega arith)
+loop-again c =
+    let c₁ = c .before .before in let c₂ = c₁ .before in let c₃ = c₂ .before .before .before in let c₄ = c₃ .before .before in let c₅ = c₄ .before in
+    let c₆ = c₅ .before .before in let c₇ = c₆ .before .before .before in
+    let h = length-wordsOf (c₇ .args .bytes .now) in (omega arith, term-noted (wordsOf (c₇ .args .bytes .now)) (c₆ .loop .i) (omega arith) _ _ (c₆ .loop .inv .1) _ (c₄ .classify .ensures ∙ ap (kindOf desk) (c₅ .word-at .ensures)) _ _ (c₃ .x .given .1) _ (c₂ .wide .ensures) (c₁ .note .ensures .0) (c₁ .note .ensures .1), one-more (c₆ .loop .table) (c₂ .wide .result) (c₆ .loop .terms) _ (c₆ .loop .i) (c₁ .note .ensures .0) (c₆ .loop .inv .2), omega arith, omega arith)
 
 note-requires-2 : tie.Need-note-requires-2 Inv-loop μ-loop
-note-requires-2 c κs = let h = length-wordsOf (c .before .before .before .before .before .before .before .before .before .before .before .args .bytes .now) in let r = run-range (wordsOf (c .before .before .before .before .before .before .before .before .before .before .before .args .bytes .now)) (c .before .before .before .before .before .before .before .before .loop .i) (omega arith) _ _ (c .before .before .before .before .before .before .before .before .loop .inv .1) _ (c .before .before .before .before .before .classify .ensures ∙ ap (kindOf desk) (c .before .before .before .before .before .before .word-at .ensures)) (c .before .before .before .p .given .1) in let s = c .before .before .before .before .before .before .before .before .loop .inv .1 .table .size in let w = c .wide2 .ensures in (omega arith, omega arith)
+note-requires-2 c κs =
+    let c₁ = c .before .before .before in let c₂ = c₁ .before .before in let c₃ = c₂ .before in let c₄ = c₃ .before .before in
+    let c₅ = c₄ .before .before .before in
+    let h = length-wordsOf (c₅ .args .bytes .now) in let r = run-range (wordsOf (c₅ .args .bytes .now)) (c₄ .loop .i) (omega arith) _ _ (c₄ .loop .inv .1) _ (c₂ .classify .ensures ∙ ap (kindOf desk) (c₃ .word-at .ensures)) (c₁ .p .given .1) in let s = c₄ .loop .inv .1 .table .size in let w = c .wide2 .ensures in (omega arith, omega arith)
 
 loop-less-2 : tie.Need-loop-less-2 Inv-loop μ-loop
 loop-less-2 c = let h = length-wordsOf (c .before .before .before .before .before .before .before .before .before .before .before .before .before .before .args .bytes .now) in omega arith
 
 loop-again-2 : tie.Need-loop-again-2 Inv-loop μ-loop
-loop-again-2 c = let h = length-wordsOf (c .before .before .before .before .before .before .before .before .before .before .before .before .before .before .args .bytes .now) in (omega arith, run-noted (wordsOf (c .before .before .before .before .before .before .before .before .before .before .before .before .before .before .args .bytes .now)) (c .before .before .before .before .before .before .before .before .before .before .before .loop .i) (omega arith) _ _ (c .before .before .before .before .before .before .before .before .before .before .before .loop .inv .1) _ (c .before .before .before .before .before .before .before .before .classify .ensures ∙ ap (kindOf desk) (c .before .before .before .before .before .before .before .before .before .word-at .ensures)) _ _ (c .before .before .before .before .before .before .p .given .1) _ (c .before .before .before .wide2 .ensures) (c .before .before .note2 .ensures .0) (c .before .before .note2 .ensures .1), omega arith, one-more (c .before .before .before .before .before .before .before .before .before .before .before .loop .table) (atHedges + c .before .before .before .wide2 .result) (c .before .before .before .before .before .before .before .before .before .before .before .loop .hedges) _ (c .before .before .before .before .before .before .before .before .before .before .before .loop .i) (c .before .before .note2 .ensures .0) (c .before .before .before .before .before .before .before .before .before .before .before .loop .inv .3), omega arith)
+loop-again-2 c =
+    let c₁ = c .before .before in let c₂ = c₁ .before in let c₃ = c₂ .before .before .before in let c₄ = c₃ .before .before in let c₅ = c₄ .before in
+    let c₆ = c₅ .before .before in let c₇ = c₆ .before .before .before in
+    let h = length-wordsOf (c₇ .args .bytes .now) in (omega arith, run-noted (wordsOf (c₇ .args .bytes .now)) (c₆ .loop .i) (omega arith) _ _ (c₆ .loop .inv .1) _ (c₄ .classify .ensures ∙ ap (kindOf desk) (c₅ .word-at .ensures)) _ _ (c₃ .p .given .1) _ (c₂ .wide2 .ensures) (c₁ .note2 .ensures .0) (c₁ .note2 .ensures .1), omega arith, one-more (c₆ .loop .table) (atHedges + c₂ .wide2 .result) (c₆ .loop .hedges) _ (c₆ .loop .i) (c₁ .note2 .ensures .0) (c₆ .loop .inv .3), omega arith)
 
 note-requires-3 : tie.Need-note-requires-3 Inv-loop μ-loop
-note-requires-3 c κs = let h = length-wordsOf (c .before .before .before .before .before .before .before .before .before .before .before .args .bytes .now) in let r = function-range (wordsOf (c .before .before .before .before .before .before .before .before .before .before .before .args .bytes .now)) (c .before .before .before .before .before .before .before .before .loop .i) (omega arith) _ _ (c .before .before .before .before .before .before .before .before .loop .inv .1) _ (c .before .before .before .before .before .classify .ensures ∙ ap (kindOf desk) (c .before .before .before .before .before .before .word-at .ensures)) (c .before .before .before .f .given .1) in let s = c .before .before .before .before .before .before .before .before .loop .inv .1 .table .size in let w = c .wide3 .ensures in (omega arith, omega arith)
+note-requires-3 c κs =
+    let c₁ = c .before .before .before in let c₂ = c₁ .before .before in let c₃ = c₂ .before in let c₄ = c₃ .before .before in
+    let c₅ = c₄ .before .before .before in
+    let h = length-wordsOf (c₅ .args .bytes .now) in let r = function-range (wordsOf (c₅ .args .bytes .now)) (c₄ .loop .i) (omega arith) _ _ (c₄ .loop .inv .1) _ (c₂ .classify .ensures ∙ ap (kindOf desk) (c₃ .word-at .ensures)) (c₁ .f .given .1) in let s = c₄ .loop .inv .1 .table .size in let w = c .wide3 .ensures in (omega arith, omega arith)
 
 loop-less-3 : tie.Need-loop-less-3 Inv-loop μ-loop
 loop-less-3 c = let h = length-wordsOf (c .before .before .before .before .before .before .before .before .before .before .before .before .before .before .args .bytes .now) in omega arith
 
 loop-again-3 : tie.Need-loop-again-3 Inv-loop μ-loop
-loop-again-3 c = let h = length-wordsOf (c .before .before .before .before .before .before .before .before .before .before .before .before .before .before .args .bytes .now) in (omega arith, function-noted (wordsOf (c .before .before .before .before .before .before .before .before .before .before .before .before .before .before .args .bytes .now)) (c .before .before .before .before .before .before .before .before .before .before .before .loop .i) (omega arith) _ _ (c .before .before .before .before .before .before .before .before .before .before .before .loop .inv .1) _ (c .before .before .before .before .before .before .before .before .classify .ensures ∙ ap (kindOf desk) (c .before .before .before .before .before .before .before .before .before .word-at .ensures)) _ _ (c .before .before .before .before .before .before .f .given .1) _ (c .before .before .before .wide3 .ensures) (c .before .before .note3 .ensures .0) (c .before .before .note3 .ensures .1), omega arith, omega arith, one-more (c .before .before .before .before .before .before .before .before .before .before .before .loop .table) (atFunctions + c .before .before .before .wide3 .result) (c .before .before .before .before .before .before .before .before .before .before .before .loop .functions) _ (c .before .before .before .before .before .before .before .before .before .before .before .loop .i) (c .before .before .note3 .ensures .0) (c .before .before .before .before .before .before .before .before .before .before .before .loop .inv .4))
+loop-again-3 c =
+    let c₁ = c .before .before in let c₂ = c₁ .before in let c₃ = c₂ .before .before .before in let c₄ = c₃ .before .before in let c₅ = c₄ .before in
+    let c₆ = c₅ .before .before in let c₇ = c₆ .before .before .before in
+    let h = length-wordsOf (c₇ .args .bytes .now) in (omega arith, function-noted (wordsOf (c₇ .args .bytes .now)) (c₆ .loop .i) (omega arith) _ _ (c₆ .loop .inv .1) _ (c₄ .classify .ensures ∙ ap (kindOf desk) (c₅ .word-at .ensures)) _ _ (c₃ .f .given .1) _ (c₂ .wide3 .ensures) (c₁ .note3 .ensures .0) (c₁ .note3 .ensures .1), omega arith, omega arith, one-more (c₆ .loop .table) (atFunctions + c₂ .wide3 .result) (c₆ .loop .functions) _ (c₆ .loop .i) (c₁ .note3 .ensures .0) (c₆ .loop .inv .4))
 
 loop-less-4 : tie.Need-loop-less-4 Inv-loop μ-loop
 loop-less-4 c = let h = length-wordsOf (c .before .before .before .before .before .before .before .args .bytes .now) in omega arith
 
 loop-again-4 : tie.Need-loop-again-4 Inv-loop μ-loop
-loop-again-4 c = let h = length-wordsOf (c .before .before .before .before .before .before .before .args .bytes .now) in (omega arith, other-noted (wordsOf (c .before .before .before .before .before .before .before .args .bytes .now)) (c .before .before .before .before .loop .i) (omega arith) _ _ (c .before .before .before .before .loop .inv .1) _ (c .before .classify .ensures ∙ ap (kindOf desk) (c .before .before .word-at .ensures)) (c .match .keys4), omega arith, omega arith, omega arith)
+loop-again-4 c =
+    let c₁ = c .before in let c₂ = c₁ .before in let c₃ = c₂ .before .before in let c₄ = c₃ .before .before .before in
+    let h = length-wordsOf (c₄ .args .bytes .now) in (omega arith, other-noted (wordsOf (c₄ .args .bytes .now)) (c₃ .loop .i) (omega arith) _ _ (c₃ .loop .inv .1) _ (c₁ .classify .ensures ∙ ap (kindOf desk) (c₂ .word-at .ensures)) (c .match .keys4), omega arith, omega arith, omega arith)
 
 returns : tie.Need-returns Inv-loop μ-loop
 returns c = let h = length-wordsOf (c .before .before .before .before .args .bytes .now) in all-noted _ (c .before .loop .i) _ _ (omega arith) (c .before .loop .inv .1)

@@ -15,13 +15,19 @@ number-at-requires-3 : tie.Need-number-at-requires-3
 number-at-requires-3 c κs = entered-function _ _ _ _ (c .before .before .before .before .classify .ensures) _ (c .before .before .f .given .1) (c .wide3 .ensures) (c .before .before .before .before .before .before .pre)
 
 returns : tie.Need-returns
-returns c = by-term _ _ _ _ (c .before .before .before .before .before .before .before .classify .ensures) _ _ _ _ (c .short .ensures) (c .before .before .before .before .before .x .given .1) (c .before .before .before .wide .ensures) (c .before .term-word .ensures) (c .before .before .number-at .ensures .0)
+returns c =
+    let c₁ = c .before in let c₂ = c₁ .before in let c₃ = c₂ .before in let c₄ = c₃ .before .before in let c₅ = c₄ .before .before in
+    by-term _ _ _ _ (c₅ .classify .ensures) _ _ _ _ (c .short .ensures) (c₄ .x .given .1) (c₃ .wide .ensures) (c₁ .term-word .ensures) (c₂ .number-at .ensures .0)
 
 returns-2 : tie.Need-returns-2
-returns-2 c = by-run _ _ _ _ (c .before .before .before .before .before .before .before .classify .ensures) _ _ _ _ (c .short2 .ensures) (c .before .before .before .before .before .p .given .1) (c .before .before .before .wide2 .ensures) (c .before .run-word .ensures) (c .before .before .number-at2 .ensures .0)
+returns-2 c =
+    let c₁ = c .before in let c₂ = c₁ .before in let c₃ = c₂ .before in let c₄ = c₃ .before .before in let c₅ = c₄ .before .before in
+    by-run _ _ _ _ (c₅ .classify .ensures) _ _ _ _ (c .short2 .ensures) (c₄ .p .given .1) (c₃ .wide2 .ensures) (c₁ .run-word .ensures) (c₂ .number-at2 .ensures .0)
 
 returns-3 : tie.Need-returns-3
-returns-3 c = by-function _ _ _ _ (c .before .before .before .before .before .before .before .classify .ensures) _ _ _ _ (c .short3 .ensures) (c .before .before .before .before .before .f .given .1) (c .before .before .before .wide3 .ensures) (c .before .function-word .ensures) (c .before .before .number-at3 .ensures .0)
+returns-3 c =
+    let c₁ = c .before in let c₂ = c₁ .before in let c₃ = c₂ .before in let c₄ = c₃ .before .before in let c₅ = c₄ .before .before in
+    by-function _ _ _ _ (c₅ .classify .ensures) _ _ _ _ (c .short3 .ensures) (c₄ .f .given .1) (c₃ .wide3 .ensures) (c₁ .function-word .ensures) (c₂ .number-at3 .ensures .0)
 
 pub renumbered-spec : {M : Type 1} → statement M
 renumbered-spec =

@@ -14,6 +14,4 @@ returns-2 : tie.Need-returns-2
 returns-2 c = long-so (10 + (length (c .before .before .args .first .now) / 2 + length (c .before .before .args .second .now) / 2)) (omega arith)
 
 pub too-long-spec : {M : Type 1} → statement M
-too-long-spec =
-    tie.close (tie.spec
-    returns returns-2 (λ c. search needs) (λ c. search needs) (λ c. search needs))
+too-long-spec = tie.close (tie.spec returns returns-2 (λ c. search needs) (λ c. search needs) (λ c. search needs))

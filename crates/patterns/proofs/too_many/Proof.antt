@@ -6,25 +6,10 @@ use borrow.Author.Needs.{needs}
 use Rattle.patterns.proofs.too_many.Statement.{statement}
 use Rattle.patterns.proofs.too_many.Tie as tie
 
-past-requires : tie.Need-past-requires
-past-requires c κs = search needs
-
-past-requires-2 : tie.Need-past-requires-2
-past-requires-2 c κs = search needs
-
-or-requires : tie.Need-or-requires
-or-requires c κs = search needs
-
-past-requires-3 : tie.Need-past-requires-3
-past-requires-3 c κs = search needs
-
-or-requires-2 : tie.Need-or-requires-2
-or-requires-2 c κs = search needs
-
 returns : tie.Need-returns
 returns c = c .or2 .ensures ∙ ap₂ (λ (a b : Bool). a || b) (c .before .before .or .ensures ∙ ap₂ (λ (a b : Bool). a || b) (c .before .before .before .before .past .ensures) (c .before .before .before .past2 .ensures)) (c .before .past3 .ensures)
 
 pub too-many-spec : {M : Type 1} → statement M
 too-many-spec =
-    tie.close
-    (tie.spec past-requires past-requires-2 or-requires past-requires-3 or-requires-2 returns)
+    tie.close (tie.spec
+    (λ c κs. search needs) (λ c κs. search needs) (λ c κs. search needs) (λ c κs. search needs) (λ c κs. search needs) returns)

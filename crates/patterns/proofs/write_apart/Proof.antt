@@ -22,28 +22,38 @@ abbrev μ-loop : tie.MeasureT-loop
 μ-loop bytes table n question₀ at m i₀ question i = length (wordsOf bytes) - i
 
 loop-holds : tie.Need-loop-holds Inv-loop μ-loop
-loop-holds c = (omega arith, first-written (renumberedBy (c .before .before .before .args .n) (c .before .before .before .args .table .now)) (wordsOf (c .before .before .before .args .bytes .now)) (c .before .before .before .args .question .now) (c .before .before .before .args .at), refl)
+loop-holds c =
+    let c₁ = c .before .before .before in
+    (omega arith, first-written (renumberedBy (c₁ .args .n) (c₁ .args .table .now)) (wordsOf (c₁ .args .bytes .now)) (c₁ .args .question .now) (c₁ .args .at), refl)
 
 word-at-requires : tie.Need-word-at-requires Inv-loop μ-loop
 word-at-requires c κs = let h = length-wordsOf (c .before .before .before .before .before .args .bytes .now) in omega arith
 
 renumbered-requires : tie.Need-renumbered-requires Inv-loop μ-loop
-renumbered-requires c κs = let h = length-wordsOf (c .before .before .before .before .before .before .args .bytes .now) in subst (λ w. EnteredOn (c .before .before .before .before .before .before .args .n) (c .before .before .before .before .before .before .args .table .now) (kindOf desk w)) (sym (c .word-at .ensures)) (c .before .before .before .before .before .before .pre .0 .each (c .before .before .loop .i) (omega arith))
+renumbered-requires c κs =
+    let c₁ = c .before .before in let c₂ = c₁ .before .before .before .before in
+    let h = length-wordsOf (c₂ .args .bytes .now) in subst (λ w. EnteredOn (c₂ .args .n) (c₂ .args .table .now) (kindOf desk w)) (sym (c .word-at .ensures)) (c₂ .pre .0 .each (c₁ .loop .i) (omega arith))
 
 slice-write-question : tie.Need-slice-write-question Inv-loop μ-loop
-slice-write-question c = let h = length-wordsOf (c .before .before .before .before .before .before .before .args .bytes .now) in let s = c .before .before .before .loop .inv .2 in let q = c .before .before .before .before .before .before .before .pre .1 in omega arith
+slice-write-question c =
+    let c₁ = c .before .before .before in let c₂ = c₁ .before .before .before .before in
+    let h = length-wordsOf (c₂ .args .bytes .now) in let s = c₁ .loop .inv .2 in let q = c₂ .pre .1 in omega arith
 
 loop-less : tie.Need-loop-less Inv-loop μ-loop
 loop-less c = let h = length-wordsOf (c .before .before .before .before .before .before .before .args .bytes .now) in omega arith
 
 loop-again : tie.Need-loop-again Inv-loop μ-loop
-loop-again c = let h = length-wordsOf (c .before .before .before .before .before .before .before .args .bytes .now) in (omega arith, write-more _ _ _ _ (c .before .before .before .loop .i) _ (omega arith) (c .renumbered .ensures ∙ ap (renumberedBy (c .before .before .before .before .before .before .before .args .n) (c .before .before .before .before .before .before .before .args .table .now)) (c .before .word-at .ensures)) ∙ c .before .before .before .loop .inv .1, simp length-set (c .before .before .before .loop .inv .2))
+loop-again c =
+    let c₁ = c .before in let c₂ = c₁ .before .before in let c₃ = c₂ .before .before .before .before in
+    let h = length-wordsOf (c₃ .args .bytes .now) in (omega arith, write-more _ _ _ _ (c₂ .loop .i) _ (omega arith) (c .renumbered .ensures ∙ ap (renumberedBy (c₃ .args .n) (c₃ .args .table .now)) (c₁ .word-at .ensures)) ∙ c₂ .loop .inv .1, simp length-set (c₂ .loop .inv .2))
 
 slice-write-question-2 : tie.Need-slice-write-question-2 Inv-loop μ-loop
 slice-write-question-2 c = let h = length-wordsOf (c .before .before .before .before .before .args .bytes .now) in let s = c .before .loop .inv .2 in let q = c .before .before .before .before .before .pre .1 in omega arith
 
 returns : tie.Need-returns Inv-loop μ-loop
-returns c = let h = length-wordsOf (c .before .before .before .before .before .args .bytes .now) in (omega arith, all-written (renumberedBy (c .before .before .before .before .before .args .n) (c .before .before .before .before .before .args .table .now)) (wordsOf (c .before .before .before .before .before .args .bytes .now)) (c .before .loop .question) (c .before .before .before .before .before .args .question .now) (c .before .before .before .before .before .args .at) (c .before .loop .i) _ (sym h) (omega arith) (c .before .loop .inv .1))
+returns c =
+    let c₁ = c .before in let c₂ = c₁ .before .before .before .before in
+    let h = length-wordsOf (c₂ .args .bytes .now) in (omega arith, all-written (renumberedBy (c₂ .args .n) (c₂ .args .table .now)) (wordsOf (c₂ .args .bytes .now)) (c₁ .loop .question) (c₂ .args .question .now) (c₂ .args .at) (c₁ .loop .i) _ (sym h) (omega arith) (c₁ .loop .inv .1))
 
 pub write-apart-spec : {M : Type 1} → statement M
 write-apart-spec =
