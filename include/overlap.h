@@ -28,9 +28,9 @@ extern "C" {
 
 /* Whether two rules can meet. word_0 is word 0 of a question: how many symbols
  * the rules' sheet declares, and 256 times how many of these, the last, are
- * unordered; a number that is no word counts as too many. The
- * blanks of a pattern are those that stand in it, and those of the second are
- * kept apart from the first's.
+ * unordered; a number that is no word counts as too many. The blanks of a pattern
+ * are those that stand in it, and those of the second are kept apart from the
+ * first's.
  *
  * OVERLAP_CANNOT_MEET: no complete report matches both patterns.
  * OVERLAP_NOT_SETTLED: the solver left only open lines.
