@@ -40,8 +40,8 @@ extern "C" {
  *
  * Else it is why not, and the room is untouched, in this order: 25; 2 and 3 of
  * desk.h for the question of the two; 5 where a pattern is not exactly one term,
- * or has an odd count of bytes; 6; 7 to 10 of the run; 16 where the example is
- * longer than a filling may be, or the report than the room. */
+ * or has an odd count of bytes; 6; 7 to 10 and 21 of the run; 16 where the
+ * example is longer than a filling may be, or the report than the room. */
 uint32_t overlap_pair(uint32_t word_0,
                       const uint8_t *first, size_t first_len,
                       const uint8_t *second, size_t second_len,

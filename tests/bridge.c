@@ -43,6 +43,7 @@
 #define LANDED_4
 #define LANDED_6
 #define LANDED_9
+#define LANDED_7
 #define LANDED_10
 
 #ifdef LANDED_10

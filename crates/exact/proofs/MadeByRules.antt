@@ -5,9 +5,10 @@ use mathlib.Core.List.{List, _∷_, _++_, map}
 use mathlib.Core.Option.{none, some}
 use lib.Dec.{T}
 use Rattle.language.specs.declared.HedgeVar.{HedgeVar}
+use Rattle.language.specs.Limits.{walkedPairs}
 use Rattle.language.specs.declared.Sym.{Sym}
 use Rattle.language.specs.declared.Signature.{Signature}
-use Rattle.language.specs.Trees.{symbol, Hedge, ε, tvar, hvar, node, Expr, Literal, eqn, mem, Conj, anyUnordered, hv}
+use Rattle.language.specs.Trees.{symbol, Hedge, ε, tvar, hvar, node, Expr, Literal, eqn, mem, Conj, isUnordered, anyUnordered, hv}
 use Rattle.rules.specs.Looks.{firstTerm, firstRun, loneTerm, loneT, loneH, loneNode, asSymbol, asBlank, inside, upTo, cuts, asCat, asAlt, asStar, asOver}
 use Rattle.rules.specs.Elements.{struck, orders}
 use Rattle.rules.specs.Substitution.{putC}
@@ -25,6 +26,7 @@ use Rattle.rules.proofs.Elements.{struck-is, without-keeps, orders-keep}
 use Rattle.rules.proofs.Symbols.{each-symbol}
 use Rattle.rules.proofs.Steps.{Gives, OnSides, Kept, kept-at-sides, gives-behind, step-at-sides}
 use Rattle.rules.proofs.Folding.{Struck, here, further, fold-is}
+use Rattle.rules.proofs.Clashing.{drops-gives, clash-drops}
 use Rattle.exact.specs.Made.{Name, aSymbol, aVariable, Made, MadeE, MadeL, MadeC}
 use Rattle.exact.proofs.Made.{made-⧺, made-++, Puts, putC-made, setT-made, setH-made, setF-made, emptied-made, MadeMonomial, linear-made}
 
@@ -261,6 +263,9 @@ module _ (σ : Signature) (A : Name → Type 0) (known : Known σ A) where
   Fold-makes : MakesPair rules.Fold
   Fold-makes l behind m n = fold-is (Each (MadeC A)) l behind λ k s. ((m, struck-made s n), tt)
 
+  Clash-makes : MakesPair (rules.Clash σ)
+  Clash-makes l behind m n = drops-gives (Each (MadeC A)) (rules.Clash σ l behind) tt (clash-drops walkedPairs (isUnordered σ) l behind)
+
   -- ---- at a place
 
   place-made : (before behind : Conj) (b : Branch) → MadeC A before → MadeC A behind → MadeBranch b → MadeC A (place before behind b)
@@ -304,6 +309,7 @@ module _ (σ : Signature) (A : Name → Type 0) (known : Known σ A) where
       also D1-makes also D2-makes also D0-makes
       also E1-makes also E2-makes also E3-makes also E4-makes also E5-makes also E6-makes also E7-makes
       also M1-makes also M2-makes also M3-makes also M4-makes also M5-makes also M6-makes also M7-makes also M10-makes also M11-makes also M12-makes
+      also Clash-makes
       also tt)
 
   pub step-made : (k : Conj) (ks : List Conj) → step σ k ≡ results ks → MadeC A k → Each (MadeC A) ks
