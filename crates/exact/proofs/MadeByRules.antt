@@ -35,20 +35,20 @@ abbrev pub Known : Signature → (Name → Type 0) → Type 0
 Known σ A = T (anyUnordered σ) → (f : Sym) → f .0 < σ .symbols → A (aSymbol f)
 
 module _ (σ : Signature) (A : Name → Type 0) (known : Known σ A) where
-  abbrev MadeBranch : Branch → Type 0
+  abbrev pub MadeBranch : Branch → Type 0
   MadeBranch (plain ls) = MadeC A ls
   MadeBranch (elims es ls s) = MadeC A es × MadeC A ls × Puts A s
 
-  abbrev MadeAnswer : Answer → Type 0
+  abbrev pub MadeAnswer : Answer → Type 0
   MadeAnswer w = Answers (Each MadeBranch) w
 
-  abbrev MakesEqn : EqRule → Type 0
+  abbrev pub MakesEqn : EqRule → Type 0
   MakesEqn rule = (K : Conj) (l r : Hedge) → Made A l → Made A r → MadeAnswer (rule K l r)
 
-  abbrev MakesMem : InRule → Type 0
+  abbrev pub MakesMem : InRule → Type 0
   MakesMem rule = (K : Conj) (h : Hedge) (R : Expr) → Made A h → MadeE A R → MadeAnswer (rule K h R)
 
-  abbrev MakesPair : PairRule → Type 0
+  abbrev pub MakesPair : PairRule → Type 0
   MakesPair rule = (l : Literal) (behind : Conj) → MadeL A l → MadeC A behind → Gives (Each (MadeC A)) (rule l behind)
 
   -- ---- equations
@@ -274,7 +274,7 @@ module _ (σ : Signature) (A : Name → Type 0) (known : Known σ A) where
       made-++ A (putC s before) _ .1
       (putC-made A s (p .2) before m, made-++ A es _ .1 (p .0, made-++ A (putC s ls) _ .1 (putC-made A s (p .2) ls (p .1), putC-made A s (p .2) behind n)))
 
-  abbrev RuleMakes : Rule → Type 0
+  abbrev pub RuleMakes : Rule → Type 0
   RuleMakes (onEqn rule) = MakesEqn rule
   RuleMakes (onMem rule) = MakesMem rule
   RuleMakes (onPair rule) = MakesPair rule
@@ -299,18 +299,21 @@ module _ (σ : Signature) (A : Name → Type 0) (known : Known σ A) where
   rule-makes rule p = kept-at-sides (MadeC A) rule λ before l behind m.
       let (x, y) = made-++ A before (l ∷ behind) .0 m in sides-make rule p before l behind x (y .0) (y .1)
 
-  -- A rule's results, wherever it applies, are made of what the conjunction is made of.
-  pub each-rule-makes : Each (AtSides (Kept (MadeC A))) (rules.rules σ)
-  each-rule-makes =
-      each-imp RuleMakes (AtSides (Kept (MadeC A))) rule-makes (rules.rules σ)
-      (R1-makes also R2-makes also Fold-makes
+  -- What a rule answers is made of what its literal is made of.
+  pub each-makes : Each RuleMakes (rules.rules σ)
+  each-makes =
+      R1-makes also R2-makes also Fold-makes
       also F1-makes also F2-makes also F3-makes also F4-makes also F5-makes also F6-makes also F7-makes
       also Del1-makes also Del2-makes also Del3-makes
       also D1-makes also D2-makes also D0-makes
       also E1-makes also E2-makes also E3-makes also E4-makes also E5-makes also E6-makes also E7-makes
       also M1-makes also M2-makes also M3-makes also M4-makes also M5-makes also M6-makes also M7-makes also M10-makes also M11-makes also M12-makes
       also Clash-makes
-      also tt)
+      also tt
+
+  -- Its results, wherever it applies, are made of what the conjunction is made of.
+  pub each-rule-makes : Each (AtSides (Kept (MadeC A))) (rules.rules σ)
+  each-rule-makes = each-imp RuleMakes (AtSides (Kept (MadeC A))) rule-makes (rules.rules σ) each-makes
 
   pub step-made : (k : Conj) (ks : List Conj) → step σ k ≡ results ks → MadeC A k → Each (MadeC A) ks
   step-made k ks e m = step-at-sides σ (Kept (MadeC A)) each-rule-makes k ks e m

@@ -24,7 +24,7 @@ module _ (P : Refusal → Type 0) where
   StopsBy (results a) = Unit {0}
   StopsBy (stops r) = P r
 
-  by-each : {A B : Type 0} (f : A → B) (m : Reply A) → StopsBy m → StopsBy (each f m)
+  pub by-each : {A B : Type 0} (f : A → B) (m : Reply A) → StopsBy m → StopsBy (each f m)
   by-each f nothing p = tt
   by-each f (results a) p = tt
   by-each f (stops r) p = p
@@ -69,7 +69,7 @@ module _ (P : Refusal → Type 0) where
       (by-next (found n i true (resultsAt true rule before l k)) _ (by-each _ (resultsAt true rule before l k) (at-place rule p true before l k))
       (at-earliest n rule p (suc i) (before ++ (l ∷ [])) k))
 
-  at-first : (n : ℕ) (rs : List Rule) → PairsStopBy rs → (k : Conj) → StopsBy (first n rs k)
+  pub at-first : (n : ℕ) (rs : List Rule) → PairsStopBy rs → (k : Conj) → StopsBy (first n rs k)
   at-first n [] p k = tt
   at-first n (onEqn rule ∷ rs) p k = by-next (earliest n (onEqn rule) 0 [] k) _ (at-earliest n (onEqn rule) tt 0 [] k) (at-first (suc n) rs p k)
   at-first n (onMem rule ∷ rs) p k = by-next (earliest n (onMem rule) 0 [] k) _ (at-earliest n (onMem rule) tt 0 [] k) (at-first (suc n) rs p k)
@@ -79,7 +79,7 @@ module _ (P : Refusal → Type 0) where
   unfolding step search
   step-stops-by σ p k = by-each _ (first 0 (rules σ) k) (at-first 0 (rules σ) p k)
 
-  Fold-stops : RuleStopsBy (onPair Fold)
+  pub Fold-stops : RuleStopsBy (onPair Fold)
   Fold-stops l behind = go (strike l behind)
     where
       go : (w : Option Conj) → StopsBy (folded l w)
