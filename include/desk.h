@@ -20,7 +20,7 @@
 extern "C" {
 #endif
 
-/* Why a call refuses. A refusal comes back as its number, 1 to 16, 22 or 23. */
+/* Why a call refuses. A refusal comes back as its number, 1 to 16 or 21 to 23. */
 enum desk_refusal {
     DESK_SHORT_SLICE = 1,      /* the answer has under DESK_ANSWER_BYTES bytes */
     DESK_QUESTION_LENGTH = 2,  /* question: an odd count of bytes, under 6 or over 4,096 words */
@@ -38,6 +38,7 @@ enum desk_refusal {
     DESK_NO_SUCH_LINE = 14,    /* example: no such line; the first is 0 */
     DESK_OPEN_LINE = 15,       /* example: the line is open */
     DESK_LONG_EXAMPLE = 16,    /* example: longer than the room lent or than 4,096 words */
+    DESK_LONG_WALK = 21,       /* run: two shape tests of one variable lead to over 4,096 pairs of expressions */
     DESK_SHEET_LAYOUT = 22,    /* day: an odd count of bytes, over 64 questions, or an offset out of place */
     DESK_LONG_ANSWERS = 23     /* day: the answers do not fit the room lent */
 };
@@ -47,7 +48,8 @@ enum desk_refusal {
 #define DESK_QUESTION_BYTES 8192
 #define DESK_FILLING_BYTES 8192
 
-/* Solves a question. Gives 0, or why not: 1 to 10, in this order.
+/* Solves a question. Gives 0, or why not: 1 to 10, in this order, or 21, which
+ * comes before 10.
  *
  * After 0 the first DESK_ANSWER_BYTES bytes of the answer hold it: word 0 the
  * number of lines, word 1 how many of them are open, words 2 to 514 where each
@@ -55,8 +57,8 @@ enum desk_refusal {
  * (1 settled, 2 open), the number of the alternative that it comes from, the
  * first being 0, and its literals; then zeros. No line means that nothing meets
  * the question; a filling meets alternative n exactly when it meets a line of
- * that number. After 1 to 6 the answer is unchanged; after 7 to 10 its first
- * DESK_ANSWER_BYTES bytes are zeros. Later bytes are never touched. */
+ * that number. After 1 to 6 the answer is unchanged; after 7 to 10 and 21
+ * its first DESK_ANSWER_BYTES bytes are zeros. Later bytes are never touched. */
 uint32_t desk_solve(const uint8_t *question, size_t question_len,
                     uint8_t *answer, size_t answer_len);
 
@@ -82,7 +84,7 @@ uint32_t desk_try(const uint8_t *question, size_t question_len,
 
 /* Writes the example of a settled line, the first being line 0, as a filling to
  * the start of the room, and gives DESK_SHOWN plus its length in words; or why
- * not: 2 to 10, 14, 15, 16, in this order. After a refusal the room is
+ * not: 2 to 10 or 21, 14, 15, 16, in this order. After a refusal the room is
  * unchanged; bytes behind the filling are never touched. A room of
  * DESK_FILLING_BYTES is never too short for an example that the desk shows.
  *

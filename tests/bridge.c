@@ -9,6 +9,8 @@
  *   p  nothing more
  *   o  the second pattern, as its length and its bytes, word 0 and the room's
  *      length; the first pattern stands for the question
+ *   O  the words of room for a report, and the room's length; a sheet of live
+ *      rules stands for the question
  *   r  the room's length; a text stands for the question
  *   w  the room's length
  *   d  the room's length; a day's sheet stands for the question
@@ -41,6 +43,8 @@
 #define LANDED_4
 #define LANDED_6
 #define LANDED_9
+#define LANDED_7
+#define LANDED_10
 
 #ifdef LANDED_10
 #include "overlap.h"
@@ -165,6 +169,14 @@ static void answer_request(int letter, long times)
         number_out(number);
         lent_out(room, length);
         free(second);
+    } else if (letter == 'O') {
+        uint32_t report = number_in();
+        size_t length = number_in();
+        uint8_t *room = block(length);
+        for (long i = 0; i < times; i++)
+            number = overlap_sheet(question, question_len, report, room, length);
+        number_out(number);
+        lent_out(room, length);
 #endif
 #ifdef LANDED_2
     } else if (letter == 'r' || letter == 'w') {

@@ -1,7 +1,7 @@
 // Calls the desk's WebAssembly build for a program on the other side of a pipe, as bridge.c does for the other builds; it says what is
 // written and read.
 //
-//     node bridge.js DESK_WASM
+//     node bridge.js DESK_WASM OVERLAP_WASM
 //
 // A pointer is a 32-bit number there, and a length a 64-bit one. Blocks that are lent stand one after another from __heap_base on, and the
 // bytes behind the last of them are seen to stay as they are.
@@ -13,7 +13,9 @@ const BEHIND = 64;
 // whether the desk has learnt a request, which bridge.c says
 const bridge = fs.readFileSync(__dirname + "/bridge.c", "utf8");
 const landed = (request) => bridge.split("\n").includes("#define LANDED_" + request);
-const desk = new WebAssembly.Instance(new WebAssembly.Module(fs.readFileSync(process.argv[2])), {}).exports;
+const library = (file) => new WebAssembly.Instance(new WebAssembly.Module(fs.readFileSync(file)), {}).exports;
+const desk = library(process.argv[2]);
+const overlap = library(process.argv[3]);
 
 // Bytes of standard input; fewer than asked for only at its end.
 function bytesIn(count) {
@@ -48,28 +50,28 @@ function out(bytes) {
     for (let at = 0; at < bytes.length; ) at += fs.writeSync(1, bytes, at);
 }
 
-// The memory from a place on, after it has grown to hold so many bytes there.
-function memory(from, count) {
-    const short = from + count - desk.memory.buffer.byteLength;
-    if (short > 0) desk.memory.grow(Math.ceil(short / 65536));
-    return new Uint8Array(desk.memory.buffer, from, count);
+// The memory of a library from a place on, after it has grown to hold so many bytes there.
+function memory(of, from, count) {
+    const short = from + count - of.memory.buffer.byteLength;
+    if (short > 0) of.memory.grow(Math.ceil(short / 65536));
+    return new Uint8Array(of.memory.buffer, from, count);
 }
 
-// call(blocks, run, count): lends the blocks, has run called with where each is and its length, and gives the number and the bytes of the
-// last blocks, so many of them.
-function call(blocks, run, count = 1) {
-    let at = desk.__heap_base.value;
+// call(blocks, run, count, of): lends the blocks to a library, has run called with where each is and its length, and gives the number and the
+// bytes of the last blocks, so many of them.
+function call(blocks, run, count = 1, of = desk) {
+    let at = of.__heap_base.value;
     const places = [];
     for (const block of blocks) {
-        memory(at, block.length).set(block);
+        memory(of, at, block.length).set(block);
         places.push(at, BigInt(block.length));
         at += block.length;
     }
-    memory(at, BEHIND).fill(LENT);
+    memory(of, at, BEHIND).fill(LENT);
     const number = run(...places) >>> 0;
-    need(memory(at, BEHIND).every((byte) => byte === LENT));
+    need(memory(of, at, BEHIND).every((byte) => byte === LENT));
     const last = blocks.slice(-count).reduce((sum, block) => sum + block.length, 0);
-    return [number, memory(at - last, last)];
+    return [number, memory(of, at - last, last)];
 }
 
 const lent = (count) => new Uint8Array(count).fill(LENT);
@@ -86,8 +88,12 @@ for (let letter = bytesIn(1); letter.length === 1; letter = bytesIn(1)) {
     } else if (letter[0] === 0x6f) {
         const second = blockIn();
         const word0 = numberIn();
-        const pair = (...places) => desk.overlap_pair(word0, ...places);
-        [number, bytes] = call([question, second, lent(numberIn())], pair);
+        const pair = (...places) => overlap.overlap_pair(word0, ...places);
+        [number, bytes] = call([question, second, lent(numberIn())], pair, 1, overlap);
+    } else if (letter[0] === 0x4f) {
+        const report = numberIn();
+        const table = (sheet, length, ...room) => overlap.overlap_sheet(sheet, length, report, ...room);
+        [number, bytes] = call([question, lent(numberIn())], table, 1, overlap);
     } else if (letter[0] === 0x72 || letter[0] === 0x77) {
         const text = letter[0] === 0x72 ? desk.desk_read_text : desk.desk_write_text;
         [number, bytes] = call([question, lent(numberIn())], text);

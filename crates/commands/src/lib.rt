@@ -1,7 +1,8 @@
-// The commands of the desk at its prompt: a question solved, a filling tried, an example shown, many questions in a table.
+// The commands of the desk at its prompt: a question solved, a filling tried, an example shown, many questions in a table, live rules that can meet.
 mod arguments;
 mod day;
 mod files;
+mod overlap;
 mod status;
 
 ghost use Prim.Native.Nat.{_<_};
@@ -244,6 +245,15 @@ fn day_command(i: usize) -> u8
     day::table(i + 1)
 }
 
+fn overlap_command(i: usize) -> u8
+    requires { ⌜ i < 9 ⌝ }
+{
+    if is_last(i + 1) {
+        return overlap::table(i + 1);
+    }
+    wrong_use(b"overlap takes a file, with a sheet of live rules")
+}
+
 // What asks for no question.
 fn other_command(i: usize) -> u8 {
     if is(i, b"--help") {
@@ -260,7 +270,7 @@ fn other_command(i: usize) -> u8 {
     warn(b"desk: no command ");
     warn_of(i);
     warn(b"\n");
-    wrong_use(b"the commands are solve, try, example and day")
+    wrong_use(b"the commands are solve, try, example, day and overlap")
 }
 
 // Does what argument `i` and those behind it ask for.
@@ -278,6 +288,9 @@ fn run(i: usize) -> u8
     }
     if is(i, b"day") {
         return day_command(i);
+    }
+    if is(i, b"overlap") {
+        return overlap_command(i);
     }
     other_command(i)
 }

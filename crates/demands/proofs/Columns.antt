@@ -1,9 +1,10 @@
--- The third column by the numbers: 1 to 6 change nothing, 7 to 10 leave zeros.
-use Prim.Native.Nat.{_≤_}
+-- The third column by the numbers: 1 to 6 change nothing, 7 to 10 and 21 leave zeros.
+use Prim.Native.Nat.{ℕ, _≤_}
 use mathlib.Core.Path.{_≡_, refl}
+use mathlib.Core.Logic.{_⊎_, inl, inr}
 use native.Mathlib.Omega.{arith}
 use Rattle.language.specs.declared.Refusal.{Refusal}
-use Rattle.language.specs.declared.Refusal.the-variants.{ShortSlice, QuestionLength, CountRange, BadOffset, NotLiterals, Undeclared, LongResult, LongWaiting, LineRoom, StepLimit, FillingLayout, FillingValue, LongLiteral, NoSuchLine, OpenLine, LongExample, SheetLayout, LongAnswers}
+use Rattle.language.specs.declared.Refusal.the-variants.{ShortSlice, QuestionLength, CountRange, BadOffset, NotLiterals, Undeclared, LongResult, LongWaiting, LineRoom, StepLimit, FillingLayout, FillingValue, LongLiteral, NoSuchLine, OpenLine, LongExample, LongWalk, SheetLayout, LongAnswers}
 use Rattle.language.specs.Numbers.{numberOf}
 use Rattle.demands.specs.Columns.{column, unchanged, zeroed}
 
@@ -24,10 +25,16 @@ early-column LongLiteral p = absurd (omega arith)
 early-column NoSuchLine p = absurd (omega arith)
 early-column OpenLine p = absurd (omega arith)
 early-column LongExample p = absurd (omega arith)
+early-column LongWalk p = absurd (omega arith)
 early-column SheetLayout p = absurd (omega arith)
 early-column LongAnswers p = absurd (omega arith)
 
-pub late-column : (e : Refusal) → 7 ≤ numberOf e → numberOf e ≤ 10 → column e ≡ zeroed
+-- neither 7 to 10 nor 21
+other : {A : Type 0} {n : ℕ} → (n ≤ 10 → ⊥) → (n ≡ 21 → ⊥) → (n ≤ 10) ⊎ (n ≡ 21) → A
+other p q (inl h) = absurd (p h)
+other p q (inr h) = absurd (q h)
+
+pub late-column : (e : Refusal) → 7 ≤ numberOf e → (numberOf e ≤ 10) ⊎ (numberOf e ≡ 21) → column e ≡ zeroed
 late-column ShortSlice p q = absurd (omega arith)
 late-column QuestionLength p q = absurd (omega arith)
 late-column CountRange p q = absurd (omega arith)
@@ -38,11 +45,12 @@ late-column LongResult p q = refl
 late-column LongWaiting p q = refl
 late-column LineRoom p q = refl
 late-column StepLimit p q = refl
-late-column FillingLayout p q = absurd (omega arith)
-late-column FillingValue p q = absurd (omega arith)
-late-column LongLiteral p q = absurd (omega arith)
-late-column NoSuchLine p q = absurd (omega arith)
-late-column OpenLine p q = absurd (omega arith)
-late-column LongExample p q = absurd (omega arith)
-late-column SheetLayout p q = absurd (omega arith)
-late-column LongAnswers p q = absurd (omega arith)
+late-column FillingLayout p q = other (λ h. omega arith) (λ h. omega arith) q
+late-column FillingValue p q = other (λ h. omega arith) (λ h. omega arith) q
+late-column LongLiteral p q = other (λ h. omega arith) (λ h. omega arith) q
+late-column NoSuchLine p q = other (λ h. omega arith) (λ h. omega arith) q
+late-column OpenLine p q = other (λ h. omega arith) (λ h. omega arith) q
+late-column LongExample p q = other (λ h. omega arith) (λ h. omega arith) q
+late-column LongWalk p q = refl
+late-column SheetLayout p q = other (λ h. omega arith) (λ h. omega arith) q
+late-column LongAnswers p q = other (λ h. omega arith) (λ h. omega arith) q

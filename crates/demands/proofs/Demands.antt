@@ -30,7 +30,7 @@ use Rattle.demands.specs.Answers.{Line, nthLine}
 use Rattle.demands.specs.Promises.{Promised, Answered, exampleWords, RoomShows, Told}
 use Rattle.demands.specs.Before.{solvedBefore, exhibitedBefore, TriedBefore}
 use Rattle.demands.specs.Table.{SolveFault, TryFault, First}
-use Rattle.demands.specs.Tells.{SolveTells, TryTells, ExampleTells, TryAgrees}
+use Rattle.demands.specs.Tells.{SolvingNumber, SolveTells, TryTells, ExampleTells, TryAgrees}
 use Rattle.demands.specs.HostTells.{DeskSolveTells, DeskTryTells, DeskTryAgrees, BytesTold, DeskExampleTells, DeskPlaceTells}
 use Rattle.demands.proofs.Before as was
 use Rattle.demands.specs.DayTells.{AnswersIn, DeskDayTells}
@@ -45,7 +45,7 @@ use Rattle.demands.proofs.Days as days
 
 -- ---- demand 1: it refuses a bad question itself, and what it leaves is fixed
 
--- Solving refuses with 1 to 10 and leaves what the table's third column says, or it answers, and leaves zeros and the answer.
+-- Solving refuses with 1 to 10 or 21 and leaves what the table's third column says, or it answers, and leaves zeros and the answer.
 pub solve-tells : (c : Solve) → SolveTells c
 solve-tells = solving.tells
 
@@ -64,8 +64,8 @@ try-given = given.try-given
 pub example-tells : (c : Example) → ExampleTells c
 example-tells = showing.tells
 
--- and 1 to 10 come back exactly when the table says so.
-pub example-given : (c : Example) (e : Refusal) → numberOf e ≤ 10
+-- and 1 to 10 and 21 come back exactly when the table says so.
+pub example-given : (c : Example) (e : Refusal) → SolvingNumber (numberOf e)
     → (c .returned ≡ Denied e) ↔ First (SolveFault (length (c .work)) (length (c .answer)) (c .question)) e
 example-given = showing.example-given
 

@@ -100,7 +100,7 @@ module _ (c : DeskSolve) where
           tells.answers e (s .promised) (f ∙ ap (λ ks. bytesOf (answerWords desk ks) ++ drop (2 * desk .room) (c .answer)) (sym (ap numberedOf (s .lines) ∙ numbered-back ls)))
       by (unread r) d e f j =
           let b : InRange (unread r) = subst InRange d (in-range desk _ _ _) in
-          tells.DeskSolveTells.refuses r e (omega (arith, b .1)) j (f ∙ sym (ap (λ k. leftInBytes k (c .answer) (c .answer)) (early-column r (b .1))))
+          tells.DeskSolveTells.refuses r e (inl (omega (arith, b .1))) j (f ∙ sym (ap (λ k. leftInBytes k (c .answer) (c .answer)) (early-column r (b .1))))
       by (given-up r) d e f j =
           let b : InRange (given-up r) = subst InRange d (in-range desk _ _ _) in
           tells.DeskSolveTells.refuses r e (b .1) j (f ∙ sym (ap (λ k. leftInBytes k (c .answer) (c .answer)) (late-column r (b .0) (b .1))))
@@ -158,7 +158,7 @@ module _ (c : DeskExample) where
       by (answered ls n) d e f j = let t = told-from ls n d in tells.told (t .answer) (t .from .promised) (t .tells)
       by (unread r) d e f j =
           let b : InRange (unread r) = subst InRange d (in-range desk _ _ _) in
-          tells.DeskExampleTells.refuses r e (omega (arith, b .1)) j f
+          tells.DeskExampleTells.refuses r e (inl (omega (arith, b .1))) j f
       by (given-up r) d e f j =
           let b : InRange (given-up r) = subst InRange d (in-range desk _ _ _) in
           tells.DeskExampleTells.refuses r e (b .1) j f

@@ -25,7 +25,7 @@ use Rattle.rules.specs.Answer.{Solving, answered, unread, given-up, ran, solvin
 use Rattle.rules.specs.Calls.{Trying, decides, tooLong, tryingWith, tryingOf, trying}
 use Rattle.rules.specs.Calls as calls
 use Rattle.language.proofs.Numbering.{each-number}
-use Rattle.demands.specs.Runs.{Stops, long-result, long-waiting, no-line-fits, no-step-left}
+use Rattle.demands.specs.Runs.{Stops, long-result, long-waiting, no-line-fits, no-step-left, long-walk}
 use Rattle.demands.specs.Table.{QuestionFault, SolveFault, LayoutOff, TryFault, First}
 use Rattle.demands.specs.Table as table
 use Rattle.demands.proofs.Runs.{stopped-run, refused-stops}
@@ -63,6 +63,7 @@ module _ (work answer : ℕ) (ws : List ℕ) where
       on (long-waiting e _ _ _ _ _ _ _) = ap placeOf e ∙ sym (ap (λ r. placeFor ws (numberOf r)) e)
       on (no-line-fits e _ _ _ _ _) = ap placeOf e ∙ sym (ap (λ r. placeFor ws (numberOf r)) e)
       on (no-step-left e _ _ _ _ _) = ap placeOf e ∙ sym (ap (λ r. placeFor ws (numberOf r)) e)
+      on (long-walk e _ _ _ _) = ap placeOf e ∙ sym (ap (λ r. placeFor ws (numberOf r)) e)
 
   short-first : (work < desk .room) ⊎ (answer < desk .room) → First Fault ShortSlice
   short-first o = record { here = table.short-slice refl o; none-before = λ d p f. nothing-before-1 d ShortSlice refl p }

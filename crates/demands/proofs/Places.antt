@@ -8,7 +8,7 @@ use native.Mathlib.Omega.{arith}
 use lib.Dec.{ltb}
 use lib.ListN.{length}
 use Rattle.language.specs.declared.Refusal.{Refusal}
-use Rattle.language.specs.declared.Refusal.the-variants.{ShortSlice, QuestionLength, CountRange, BadOffset, NotLiterals, Undeclared, LongResult, LongWaiting, LineRoom, StepLimit, FillingLayout, FillingValue, LongLiteral, NoSuchLine, OpenLine, LongExample, SheetLayout, LongAnswers}
+use Rattle.language.specs.declared.Refusal.the-variants.{ShortSlice, QuestionLength, CountRange, BadOffset, NotLiterals, Undeclared, LongResult, LongWaiting, LineRoom, StepLimit, FillingLayout, FillingValue, LongLiteral, NoSuchLine, OpenLine, LongExample, LongWalk, SheetLayout, LongAnswers}
 use Rattle.language.specs.Limits.{desk}
 use Rattle.language.specs.Numbers.{numberOf, placeOf}
 use Rattle.language.specs.Trees.{signature, Question}
@@ -63,6 +63,7 @@ no-place LongLiteral p q = refl
 no-place NoSuchLine p q = refl
 no-place OpenLine p q = refl
 no-place LongExample p q = refl
+no-place LongWalk p q = refl
 no-place SheetLayout p q = refl
 no-place LongAnswers p q = refl
 
@@ -93,7 +94,7 @@ module _ (ws : List ℕ) where
       on (asks q) e =
           run-right (run desk (signature (q .counts)) (q .alternatives))
           (run-stops-by (RightPlace desk ws) (none-right LongResult (λ e. omega arith) (λ e. omega arith)) (none-right LongWaiting (λ e. omega arith) (λ e. omega arith))
-          (none-right LineRoom (λ e. omega arith) (λ e. omega arith)) (none-right StepLimit (λ e. omega arith) (λ e. omega arith)) desk (signature (q .counts)) (q .alternatives))
+          (none-right LineRoom (λ e. omega arith) (λ e. omega arith)) (none-right StepLimit (λ e. omega arith) (λ e. omega arith)) (none-right LongWalk (λ e. omega arith) (λ e. omega arith)) desk (signature (q .counts)) (q .alternatives))
       on (refuses r) e = place-right desk ws r e
 
   -- ---- trying
@@ -163,6 +164,7 @@ example-right c e d = by (solving desk (length (c .work)) (length (c .answer)) (
     by : (v : Solving) → _≡_ {A = Left} (c .returned, c .workLeft, c .answerLeft, c .roomLeft) (left c v) → SolvesRight (c .question) v → RightPlace desk (c .question) e
     by (answered ls n) f h =
         let p = late-number (c .oldSheets) (question.countsOf (c .question)) (length (c .room)) e (lineAt (c .line) ls) (sym (ap (λ (x : Left). x .0) f) ∙ d) in
+        let l = p .0 in
         none-right (c .question) e (λ z. omega arith) (λ z. omega arith)
     by (unread r) f h = subst (RightPlace desk (c .question)) (one (ap (λ (x : Left). x .0) f)) h
     by (given-up r) f h = subst (RightPlace desk (c .question)) (one (ap (λ (x : Left). x .0) f)) h

@@ -7,15 +7,15 @@ use native.Mathlib.Omega.{arith}
 use borrow.Author.Tests.{ltb-true, ltb-false, le-ltb, lt-ltb}
 use lib.Dec.{ltb}
 use Rattle.language.specs.declared.Refusal.{Refusal}
-use Rattle.language.specs.declared.Refusal.the-variants.{LongResult, LongWaiting, LineRoom, StepLimit}
+use Rattle.language.specs.declared.Refusal.the-variants.{LongResult, LongWaiting, LineRoom, StepLimit, LongWalk}
 use Rattle.language.specs.declared.Signature.{Signature}
 use Rattle.language.specs.Limits.{Limits}
 use Rattle.language.specs.Trees.{Conj}
 use Rattle.rules.specs.Reply.{Reply, nothing, results, stops}
 use Rattle.rules.specs.Step.{step}
 use Rattle.rules.specs.Run.{Numbered, allOf, numbered, anyLong, waitingSize, linesFit, Outcome, refused, checked, lined, turn, runFrom, runBy, run}
-use Rattle.rules.proofs.Stopping.{StopsBy, step-never-stops}
-use Rattle.demands.specs.Runs.{Reached, begins, rests, steps, Stops, long-result, long-waiting, no-line-fits, no-step-left}
+use Rattle.rules.proofs.Stopping.{StopsBy, IsLongWalk, step-stops}
+use Rattle.demands.specs.Runs.{Reached, begins, rests, steps, Stops, long-result, long-waiting, no-line-fits, no-step-left, long-walk}
 
 module _ (L : Limits) (σ : Signature) (alternatives : List Conj) where
   -- ---- what a state comes to
@@ -27,6 +27,10 @@ module _ (L : Limits) (σ : Signature) (alternatives : List Conj) where
   turn-steps : (go : List Numbered → List Conj → List Numbered → Outcome) (made : ℕ) (ls : List Numbered) (k : Numbered) (ks : List Conj) (w : List Numbered) → step σ (k .literals) ≡ results ks
       → turn L (step σ) go made ls (k ∷ w) ≡ go ls ks (allOf (k .number) ks ++ w)
   turn-steps go made ls k ks w e = ap (λ m. elim m as (λ _. Outcome) [ results ks ↦ go ls ks (allOf (k .number) ks ++ w) | nothing ↦ lined L (ls ++ (k ∷ [])) (λ ms. turn L (step σ) go made ms w) | stops r ↦ refused r ]) e
+
+  turn-walk : (go : List Numbered → List Conj → List Numbered → Outcome) (made : ℕ) (ls : List Numbered) (k : Numbered) (w : List Numbered) → step σ (k .literals) ≡ stops LongWalk
+      → turn L (step σ) go made ls (k ∷ w) ≡ refused LongWalk
+  turn-walk go made ls k w e = ap (λ m. elim m as (λ _. Outcome) [ results ks ↦ go ls ks (allOf (k .number) ks ++ w) | nothing ↦ lined L (ls ++ (k ∷ [])) (λ ms. turn L (step σ) go made ms w) | stops r ↦ refused r ]) e
 
   turn-lined : (go : List Numbered → List Conj → List Numbered → Outcome) (made : ℕ) (ls : List Numbered) (k : Numbered) (w : List Numbered) → step σ (k .literals) ≡ nothing
       → (b : Bool) → linesFit L (ls ++ (k ∷ [])) ≡ b → turn L (step σ) go made ls (k ∷ w) ≡ elim b [ true ↦ turn L (step σ) go made (ls ++ (k ∷ [])) w | false ↦ refused LineRoom ]
@@ -47,6 +51,11 @@ module _ (L : Limits) (σ : Signature) (alternatives : List Conj) where
   from-none-left : (made : ℕ) (ls : List Numbered) (k : Numbered) (ks : List Conj) (w : List Numbered) → step σ (k .literals) ≡ results ks → runFrom L (step σ) 0 made ls (k ∷ w) ≡ refused StepLimit
   unfolding runFrom
   from-none-left made ls k ks w e = turn-steps (λ _ _ _. refused StepLimit) made ls k ks w e
+
+  from-walk : (left made : ℕ) (ls : List Numbered) (k : Numbered) (w : List Numbered) → step σ (k .literals) ≡ stops LongWalk → runFrom L (step σ) left made ls (k ∷ w) ≡ refused LongWalk
+  unfolding runFrom
+  from-walk zero made ls k w e = turn-walk (λ _ _ _. refused StepLimit) made ls k w e
+  from-walk (suc left) made ls k w e = turn-walk (λ ms ks v. checked L ks v (runFrom L (step σ) left (suc made) ms)) made ls k w e
 
   checks : (ks : List Conj) (w : List Numbered) (go : List Numbered → Outcome) (a b : Bool) → anyLong L ks ≡ a → ltb (L .room) (waitingSize w) ≡ b
       → checked L ks w go ≡ elim a [ true ↦ refused LongResult | false ↦ elim b [ true ↦ refused LongWaiting | false ↦ go w ] ]
@@ -70,6 +79,7 @@ module _ (L : Limits) (σ : Signature) (alternatives : List Conj) where
       reached-run r ∙ from-steps left made ls k ks w s ∙ checks ks (allOf (k .number) ks ++ w) (runFrom L (step σ) left (suc made) ls) false true a (lt-ltb (L .room) (waitingSize (allOf (k .number) ks ++ w)) p) ∙ ap refused (sym i)
   stopped-run (no-line-fits i {made = made} {left = left} {lines = ls} k w r s f) = reached-run r ∙ from-rests left made ls k w s false f ∙ ap refused (sym i)
   stopped-run (no-step-left i {made = made} {lines = ls} k ks w r s) = reached-run r ∙ from-none-left made ls k ks w s ∙ ap refused (sym i)
+  stopped-run (long-walk i {made = made} {left = left} {lines = ls} k w r s) = reached-run r ∙ from-walk left made ls k w s ∙ ap refused (sym i)
 
   -- ---- and it is refused for nothing else
 
@@ -84,7 +94,7 @@ module _ (L : Limits) (σ : Signature) (alternatives : List Conj) where
         → ((ls : List Numbered) (k : Numbered) (ks : List Conj) (w : List Numbered) → Reached L σ alternatives made left ls (k ∷ w) → step σ (k .literals) ≡ results ks → go ls ks (allOf (k .number) ks ++ w) ≡ refused e → Stopped)
         → (ls w : List Numbered) → Reached L σ alternatives made left ls w → turn L (step σ) go made ls w ≡ refused e → Stopped
     turn-stops made left go on ls [] r d = absurd (let z : _≡_ {A = ℕ} 0 1 = cc in omega arith)
-    turn-stops made left go on ls (k ∷ w) r d = taken (step σ (k .literals)) refl (step-never-stops σ (k .literals)) d (λ s f. turn-stops made left go on (ls ++ (k ∷ [])) w (rests k w r s f))
+    turn-stops made left go on ls (k ∷ w) r d = taken (step σ (k .literals)) refl (step-stops σ (k .literals)) d (λ s f. turn-stops made left go on (ls ++ (k ∷ [])) w (rests k w r s f))
       where
         Rest : Type 0
         Rest = turn L (step σ) go made (ls ++ (k ∷ [])) w ≡ refused e → Stopped
@@ -94,12 +104,12 @@ module _ (L : Limits) (σ : Signature) (alternatives : List Conj) where
         line s true f d more = more f d
         line s false f d more = no-line-fits (refused-is d) k w r s f
 
-        taken : (m : Reply (List Conj)) → step σ (k .literals) ≡ m → StopsBy (λ _. ⊥) m
+        taken : (m : Reply (List Conj)) → step σ (k .literals) ≡ m → StopsBy IsLongWalk m
             → elim m [ results ks ↦ go ls ks (allOf (k .number) ks ++ w) | nothing ↦ lined L (ls ++ (k ∷ [])) (λ ms. turn L (step σ) go made ms w) | stops r ↦ refused r ] ≡ refused e
             → (step σ (k .literals) ≡ nothing → linesFit L (ls ++ (k ∷ [])) ≡ true → Rest) → Stopped
-        taken (stops own) s never d more = absurd never
-        taken (results ks) s never d more = on ls k ks w r s d
-        taken nothing s never d more = line s (linesFit L (ls ++ (k ∷ []))) refl d (more s)
+        taken (stops own) s is d more = long-walk (refused-is d ∙ is) k w r (s ∙ ap stops is)
+        taken (results ks) s is d more = on ls k ks w r s d
+        taken nothing s is d more = line s (linesFit L (ls ++ (k ∷ []))) refl d (more s)
 
     from-stops : (left made : ℕ) (ls w : List Numbered) → Reached L σ alternatives made left ls w → runFrom L (step σ) left made ls w ≡ refused e → Stopped
     unfolding runFrom

@@ -1,7 +1,7 @@
 -- What is shown of any call of example that came back.
 use Prim.Native.Nat.{ℕ, _≤_, _<_}
 use mathlib.Core.Path.{_≡_, refl, sym, ap, subst, _∙_}
-use mathlib.Core.Logic.{_⊎_, _↔_}
+use mathlib.Core.Logic.{_⊎_, inl, inr, _↔_}
 use mathlib.Core.Bool.{Bool, true, false, _||_}
 use mathlib.Core.List.{List, map}
 use mathlib.Core.Option.{Option, none, some}
@@ -35,7 +35,7 @@ use Rattle.demands.specs.Answers.{Line, numberedOf, nthLine}
 use Rattle.demands.specs.Promises.{Promised, exampleWords, RoomShows, Told, missing, is-open, too-long, shown as is-shown}
 use Rattle.demands.specs.Columns.{leftIn}
 use Rattle.demands.specs.Table.{SolveFault, First}
-use Rattle.demands.specs.Tells.{ExampleTells, refuses, told}
+use Rattle.demands.specs.Tells.{SolvingNumber, ExampleTells, refuses, told}
 use Rattle.demands.proofs.Said.{example-said}
 use Rattle.demands.proofs.Reading.{asLine, numbered-back}
 use Rattle.demands.proofs.Promising.{From, promise, tell}
@@ -50,18 +50,23 @@ use Rattle.demands.proofs.Solving.{solves}
 abbrev pub Left : Type 0
 Left = Shown × List ℕ × List ℕ × List ℕ
 
--- where there is an answer, a refusal has a number from 14 on
-pub late-number : (oldSheets : Bool) (n : Counts) (room : ℕ) (e : Refusal) (o : Option Numbered) → resultOf (shown desk oldSheets n room o) ≡ Denied e → 14 ≤ numberOf e
-late-number oldSheets n room e none d = let z : NoSuchLine ≡ e = cc in let y = ap numberOf z in omega arith
+-- where there is an answer, a refusal has a number from 14 to 16
+pub late-number : (oldSheets : Bool) (n : Counts) (room : ℕ) (e : Refusal) (o : Option Numbered) → resultOf (shown desk oldSheets n room o) ≡ Denied e → (14 ≤ numberOf e) × (numberOf e ≤ 16)
+late-number oldSheets n room e none d = let z : NoSuchLine ≡ e = cc in let y = ap numberOf z in (omega arith, omega arith)
 late-number oldSheets n room e (some k) d = go (solved (k .literals)) d
   where
-    at-room : (ws : List ℕ) (b : Bool) → resultOf (elim b [ true ↦ denied LongExample | false ↦ shows ws ]) ≡ Denied e → 14 ≤ numberOf e
-    at-room ws true d = let z : LongExample ≡ e = cc in let y = ap numberOf z in omega arith
+    at-room : (ws : List ℕ) (b : Bool) → resultOf (elim b [ true ↦ denied LongExample | false ↦ shows ws ]) ≡ Denied e → (14 ≤ numberOf e) × (numberOf e ≤ 16)
+    at-room ws true d = let z : LongExample ≡ e = cc in let y = ap numberOf z in (omega arith, omega arith)
     at-room ws false d = absurd (let z : _≡_ {A = ℕ} 0 1 = cc in omega arith)
 
-    go : (b : Bool) → resultOf (elim b [ true ↦ fitted desk room (fillingWords n (example (defaultSymbol oldSheets n) (k .literals))) | false ↦ denied OpenLine ]) ≡ Denied e → 14 ≤ numberOf e
+    go : (b : Bool) → resultOf (elim b [ true ↦ fitted desk room (fillingWords n (example (defaultSymbol oldSheets n) (k .literals))) | false ↦ denied OpenLine ]) ≡ Denied e → (14 ≤ numberOf e) × (numberOf e ≤ 16)
     go true d = at-room (fillingWords n (example (defaultSymbol oldSheets n) (k .literals))) (ltb (desk .filling) (length (fillingWords n (example (defaultSymbol oldSheets n) (k .literals)))) || ltb room (length (fillingWords n (example (defaultSymbol oldSheets n) (k .literals))))) d
-    go false d = let z : OpenLine ≡ e = cc in let y = ap numberOf z in omega arith
+    go false d = let z : OpenLine ≡ e = cc in let y = ap numberOf z in (omega arith, omega arith)
+
+-- and is none of solving's
+of-line : {n : ℕ} → 14 ≤ n → n ≤ 16 → SolvingNumber n → ⊥
+of-line l h (inl p) = omega arith
+of-line l h (inr p) = omega arith
 
 module _ (c : Example) where
   abbrev pub came : Left
@@ -109,20 +114,20 @@ module _ (c : Example) where
       by (unread r) d e =
           let b : InRange (unread r) = subst InRange d (in-range desk _ _ _) in
           let u = early-column r (b .1) in
-          refuses r (ap (λ (x : Left). x .0) e) (b .0, omega arith) (ap (λ (x : Left). x .1) e ∙ sym (ap (λ k. leftIn k (overwritten desk (zeros desk) (c .work)) (c .work)) u))
+          refuses r (ap (λ (x : Left). x .0) e) (b .0, inl (let h = b .1 in omega arith)) (ap (λ (x : Left). x .1) e ∙ sym (ap (λ k. leftIn k (overwritten desk (zeros desk) (c .work)) (c .work)) u))
           (ap (λ (x : Left). x .2) e ∙ sym (ap (λ k. leftIn k (overwritten desk (zeros desk) (c .answer)) (c .answer)) u)) (ap (λ (x : Left). x .3) e)
       by (given-up r) d e =
           let b : InRange (given-up r) = subst InRange d (in-range desk _ _ _) in
           let u = late-column r (b .0) (b .1) in
-          refuses r (ap (λ (x : Left). x .0) e) (omega arith, b .1) (ap (λ (x : Left). x .1) e ∙ sym (ap (λ k. leftIn k (overwritten desk (zeros desk) (c .work)) (c .work)) u))
+          refuses r (ap (λ (x : Left). x .0) e) (let h = b .0 in omega arith, b .1) (ap (λ (x : Left). x .1) e ∙ sym (ap (λ k. leftIn k (overwritten desk (zeros desk) (c .work)) (c .work)) u))
           (ap (λ (x : Left). x .2) e ∙ sym (ap (λ k. leftIn k (overwritten desk (zeros desk) (c .answer)) (c .answer)) u)) (ap (λ (x : Left). x .3) e)
       by (answered ls n) d e =
           let t = tells-from ls n d e in
           told (t .from .promised) (t .tells) (ap (λ (x : Left). x .1) e)
           (ap (λ (x : Left). x .2) e ∙ ap (λ ks. overwritten desk (answerWords desk ks) (c .answer)) (sym (ap numberedOf (t .from .lines) ∙ numbered-back ls)))
 
-  -- 1 to 10 come back exactly when the table says so, as from solving
-  pub example-given : (e : Refusal) → numberOf e ≤ 10 → (c .returned ≡ Denied e) ↔ First (SolveFault (length (c .work)) (length (c .answer)) (c .question)) e
+  -- 1 to 10 and 21 come back exactly when the table says so, as from solving
+  pub example-given : (e : Refusal) → SolvingNumber (numberOf e) → (c .returned ≡ Denied e) ↔ First (SolveFault (length (c .work)) (length (c .answer)) (c .question)) e
   example-given e few = by comes says (solve-judged (length (c .work)) (length (c .answer)) (c .question))
     where
       same : {r : Refusal} {o : Shown} → o ≡ Denied r → o ≡ Denied e → r ≡ e
@@ -131,7 +136,7 @@ module _ (c : Example) where
       by : (v : Solving) → came ≡ left v → SolveJudged (length (c .work)) (length (c .answer)) (c .question) v
           → (c .returned ≡ Denied e) ↔ First (SolveFault (length (c .work)) (length (c .answer)) (c .question)) e
       by (answered ls n) f j = (
-        λ d. absurd (let p = late-number (c .oldSheets) (countsOf (c .question)) (length (c .room)) e (lineAt (c .line) ls) (sym (ap (λ (x : Left). x .0) f) ∙ d) in omega arith),
+        λ d. absurd (let p = late-number (c .oldSheets) (countsOf (c .question)) (length (c .room)) e (lineAt (c .line) ls) (sym (ap (λ (x : Left). x .0) f) ∙ d) in of-line (p .0) (p .1) few),
         λ g. absurd (j e (g .here)),
       )
       by (unread r) f j = let is = ap (λ (x : Left). x .0) f in (λ d. rw (← same is d) j, λ g. is ∙ ap Denied (first-one (SolveFault (length (c .work)) (length (c .answer)) (c .question)) (placeFor (c .question)) (solve-place (length (c .work)) (length (c .answer)) (c .question)) r e j g))
@@ -162,7 +167,7 @@ module _ (c : Example) where
       by : ExampleTells c
           → (p : Promised (c .question) (c .answerLeft)) × (k : Line) × (nthLine (c .line) (p .lines) ≡ some k) × (k .mark ≡ 1)
           × ((desk .filling < length (exampleWords (c .oldSheets) (p .asked .counts) k)) ⊎ (length (c .room) < length (exampleWords (c .oldSheets) (p .asked .counts) k)))
-      by (refuses r d b _ _ _) = absurd (let z : r ≡ LongExample = cc in let y = ap numberOf z in omega arith)
+      by (refuses r d b _ _ _) = absurd (let z : r ≡ LongExample = cc in let y = ap numberOf z in of-line {n = numberOf r} (omega arith) (omega arith) (b .1))
       by (told p (missing _ d _) _ _) = absurd (let z : _≡_ {A = ℕ} 0 1 = cc in omega arith)
       by (told p (is-open _ _ _ d _) _ _) = absurd (let z : _≡_ {A = ℕ} 0 1 = cc in omega arith)
       by (told p (too-long k there mark l _ _) _ _) = (p, k, there, mark, l)

@@ -1,5 +1,6 @@
 -- What is shown of any call of solve that came back: by what solving came to, with the contract's equation carried along.
 use Prim.Native.Nat.{ℕ, suc}
+use mathlib.Core.Logic.{inl}
 use mathlib.Core.Path.{_≡_, refl, sym, ap, subst, _∙_}
 use mathlib.Core.Bool.{Bool, true, false}
 use mathlib.Core.List.{List, [], _∷_, map}
@@ -124,7 +125,7 @@ module _ (c : Solve) where
           let u = early-column r (b .1) in
           refuses r (record {
             returned = ap (λ (x : Left). x .0) e;
-            number = (b .0, omega arith);
+            number = (b .0, inl (let h = b .1 in omega arith));
             work = ap (λ (x : Left). x .1) e ∙ sym (ap (λ k. leftIn k (overwritten desk (zeros desk) (c .work)) (c .work)) u);
             answer = ap (λ (x : Left). x .2) e ∙ sym (ap (λ k. leftIn k (overwritten desk (zeros desk) (c .answer)) (c .answer)) u);
           })
@@ -133,7 +134,7 @@ module _ (c : Solve) where
           let u = late-column r (b .0) (b .1) in
           refuses r (record {
             returned = ap (λ (x : Left). x .0) e;
-            number = (omega arith, b .1);
+            number = (let h = b .0 in omega arith, b .1);
             work = ap (λ (x : Left). x .1) e ∙ sym (ap (λ k. leftIn k (overwritten desk (zeros desk) (c .work)) (c .work)) u);
             answer = ap (λ (x : Left). x .2) e ∙ sym (ap (λ k. leftIn k (overwritten desk (zeros desk) (c .answer)) (c .answer)) u);
           })

@@ -2,7 +2,7 @@
 use Prim.Native.Nat.{ℕ}
 use mathlib.Core.List.{List}
 use Rattle.language.specs.declared.Refusal.{Refusal}
-use Rattle.language.specs.declared.Refusal.the-variants.{ShortSlice, QuestionLength, CountRange, BadOffset, NotLiterals, Undeclared, LongResult, LongWaiting, LineRoom, StepLimit, FillingLayout, FillingValue, LongLiteral, NoSuchLine, OpenLine, LongExample, SheetLayout, LongAnswers}
+use Rattle.language.specs.declared.Refusal.the-variants.{ShortSlice, QuestionLength, CountRange, BadOffset, NotLiterals, Undeclared, LongResult, LongWaiting, LineRoom, StepLimit, FillingLayout, FillingValue, LongLiteral, NoSuchLine, OpenLine, LongExample, LongWalk, SheetLayout, LongAnswers}
 use Rattle.language.specs.Limits.{desk}
 use Rattle.rules.specs.Answer.{zeros, overwritten}
 
@@ -26,6 +26,7 @@ column LongLiteral = zeroed
 column NoSuchLine = as-solved
 column OpenLine = as-solved
 column LongExample = as-solved
+column LongWalk = zeroed
 column SheetLayout = unchanged
 column LongAnswers = zeroed
 

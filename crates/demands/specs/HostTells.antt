@@ -23,6 +23,7 @@ use Rattle.demands.specs.HostCalls.{DeskSolve, DeskTry, DeskExample, Des
 use Rattle.demands.specs.Answers.{Line, numberedOf, MeetsLines, nthLine}
 use Rattle.demands.specs.Promises.{Promised, Told}
 use Rattle.demands.specs.Table.{QuestionFault, SolveFault, TryFault, First}
+use Rattle.demands.specs.Tells.{SolvingNumber}
 
 -- the same column, in bytes
 abbrev pub leftInBytes : Column → List ℕ → List ℕ → List ℕ
@@ -33,7 +34,7 @@ leftInBytes as-solved solved old = solved
 -- "It gets back the refusal number, or 0." The answer slice has half as many words as bytes, so that "an answer under 16,384 bytes is 1"; an odd
 -- count of question bytes holds no words, so that it is 2.
 pub data DeskSolveTells (c : DeskSolve) : Type 0 where
-  refuses : (e : Refusal) → c .number ≡ numberOf e → numberOf e ≤ 10 → First (SolveFault (desk .room) (length (c .answer) / 2) (wordsIn (c .question))) e
+  refuses : (e : Refusal) → c .number ≡ numberOf e → SolvingNumber (numberOf e) → First (SolveFault (desk .room) (length (c .answer) / 2) (wordsIn (c .question))) e
       → c .answerLeft ≡ leftInBytes (column e) (c .answer) (c .answer) → DeskSolveTells c
   answers : c .number ≡ 0 → (p : Promised (wordsIn (c .question)) (wordsOf (c .answerLeft)))
       → c .answerLeft ≡ bytesOf (answerWords desk (numberedOf (p .lines))) ++ drop (2 * desk .room) (c .answer) → DeskSolveTells c
@@ -61,7 +62,7 @@ pub record BytesTold (oldSheets : Bool) (n : Counts) (l : Option Line) (old : Li
 
 -- The refusals of solving leave the room alone; and else there is an answer to the question, whose line of that number decides.
 pub data DeskExampleTells (c : DeskExample) : Type 0 where
-  refuses : (e : Refusal) → c .number ≡ numberOf e → numberOf e ≤ 10 → First (SolveFault (desk .room) (desk .room) (wordsIn (c .question))) e
+  refuses : (e : Refusal) → c .number ≡ numberOf e → SolvingNumber (numberOf e) → First (SolveFault (desk .room) (desk .room) (wordsIn (c .question))) e
       → c .roomLeft ≡ c .room → DeskExampleTells c
   told : (answer : List ℕ) (p : Promised (wordsIn (c .question)) answer) → BytesTold (asksOld (c .old)) (p .asked .counts) (nthLine (c .line) (p .lines)) (c .room) (c .number) (c .roomLeft)
       → DeskExampleTells c

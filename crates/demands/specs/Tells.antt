@@ -22,10 +22,14 @@ use Rattle.demands.specs.Solves.{Solve}
 use Rattle.demands.specs.Tries.{Try}
 use Rattle.demands.specs.Examples.{Example}
 
+-- 1 to 10, and 21
+abbrev pub SolvingNumber : ℕ → Type 0
+SolvingNumber n = (n ≤ 10) ⊎ (n ≡ 21)
+
 -- "a refusal reports 0 for all three"; its number, and what it leaves in the two slices
 pub record SolveRefuses (c : Solve) (e : Refusal) : Type 0 where
   pub returned : c .returned ≡ refusedBy e
-  pub number : (1 ≤ numberOf e) × (numberOf e ≤ 10)
+  pub number : (1 ≤ numberOf e) × SolvingNumber (numberOf e)
   pub work : c .workLeft ≡ leftIn (column e) (overwritten desk (zeros desk) (c .work)) (c .work)
   pub answer : c .answerLeft ≡ leftIn (column e) (overwritten desk (zeros desk) (c .answer)) (c .answer)
 
@@ -35,7 +39,7 @@ pub record SolveAnswers (c : Solve) : Type 0 where
   pub work : c .workLeft ≡ overwritten desk (zeros desk) (c .work)
   pub answer : c .answerLeft ≡ overwritten desk (answerWords desk (numberedOf (answered .promised .lines))) (c .answer)
 
--- "Solving gives 1 to 10"
+-- "Solving gives 1 to 10", and 21
 pub data SolveTells (c : Solve) : Type 0 where
   refuses : (e : Refusal) → SolveRefuses c e → SolveTells c
   answers : SolveAnswers c → SolveTells c
@@ -46,10 +50,10 @@ pub data TryTells (t : Try) : Type 0 where
       → t .workLeft ≡ leftIn (column e) (t .work) (t .work) → TryTells t
   decides : (t .returned ≡ Yes) ⊎ (t .returned ≡ No) → t .workLeft ≡ overwritten desk (zeros desk) (t .work) → TryTells t
 
--- "the example solves anew: 1 to 10 .., and a refusal leaves its room untouched"; and else the line decides that is read off the answer, and
+-- "the example solves anew: 1 to 10 .." and 21, ", and a refusal leaves its room untouched"; and else the line decides that is read off the answer, and
 -- "the two slices are as solved"
 pub data ExampleTells (c : Example) : Type 0 where
-  refuses : (e : Refusal) → c .returned ≡ Denied e → (1 ≤ numberOf e) × (numberOf e ≤ 10)
+  refuses : (e : Refusal) → c .returned ≡ Denied e → (1 ≤ numberOf e) × SolvingNumber (numberOf e)
       → c .workLeft ≡ leftIn (column e) (overwritten desk (zeros desk) (c .work)) (c .work) → c .answerLeft ≡ leftIn (column e) (overwritten desk (zeros desk) (c .answer)) (c .answer)
       → c .roomLeft ≡ c .room → ExampleTells c
   told : (p : Promised (c .question) (c .answerLeft)) → Told (c .oldSheets) (p .asked .counts) (c .room) (nthLine (c .line) (p .lines)) (c .returned) (c .roomLeft)

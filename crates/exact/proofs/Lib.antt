@@ -7,9 +7,11 @@ pub mod Orders
 pub mod Equations
 pub mod Memberships
 pub mod Pairs
+pub mod Made
+pub mod Shared
+pub mod Clashes
 pub mod Places
 pub mod Run
-pub mod Made
 pub mod MadeByRules
 pub mod Declared
 pub mod Exact

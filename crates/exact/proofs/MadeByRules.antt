@@ -5,9 +5,10 @@ use mathlib.Core.List.{List, _∷_, _++_, map}
 use mathlib.Core.Option.{none, some}
 use lib.Dec.{T}
 use Rattle.language.specs.declared.HedgeVar.{HedgeVar}
+use Rattle.language.specs.Limits.{walkedPairs}
 use Rattle.language.specs.declared.Sym.{Sym}
 use Rattle.language.specs.declared.Signature.{Signature}
-use Rattle.language.specs.Trees.{symbol, Hedge, ε, tvar, hvar, node, Expr, Literal, eqn, mem, Conj, anyUnordered, hv}
+use Rattle.language.specs.Trees.{symbol, Hedge, ε, tvar, hvar, node, Expr, Literal, eqn, mem, Conj, isUnordered, anyUnordered, hv}
 use Rattle.rules.specs.Looks.{firstTerm, firstRun, loneTerm, loneT, loneH, loneNode, asSymbol, asBlank, inside, upTo, cuts, asCat, asAlt, asStar, asOver}
 use Rattle.rules.specs.Elements.{struck, orders}
 use Rattle.rules.specs.Substitution.{putC}
@@ -25,6 +26,7 @@ use Rattle.rules.proofs.Elements.{struck-is, without-keeps, orders-keep}
 use Rattle.rules.proofs.Symbols.{each-symbol}
 use Rattle.rules.proofs.Steps.{Gives, OnSides, Kept, kept-at-sides, gives-behind, step-at-sides}
 use Rattle.rules.proofs.Folding.{Struck, here, further, fold-is}
+use Rattle.rules.proofs.Clashing.{drops-gives, clash-drops}
 use Rattle.exact.specs.Made.{Name, aSymbol, aVariable, Made, MadeE, MadeL, MadeC}
 use Rattle.exact.proofs.Made.{made-⧺, made-++, Puts, putC-made, setT-made, setH-made, setF-made, emptied-made, MadeMonomial, linear-made}
 
@@ -33,20 +35,20 @@ abbrev pub Known : Signature → (Name → Type 0) → Type 0
 Known σ A = T (anyUnordered σ) → (f : Sym) → f .0 < σ .symbols → A (aSymbol f)
 
 module _ (σ : Signature) (A : Name → Type 0) (known : Known σ A) where
-  abbrev MadeBranch : Branch → Type 0
+  abbrev pub MadeBranch : Branch → Type 0
   MadeBranch (plain ls) = MadeC A ls
   MadeBranch (elims es ls s) = MadeC A es × MadeC A ls × Puts A s
 
-  abbrev MadeAnswer : Answer → Type 0
+  abbrev pub MadeAnswer : Answer → Type 0
   MadeAnswer w = Answers (Each MadeBranch) w
 
-  abbrev MakesEqn : EqRule → Type 0
+  abbrev pub MakesEqn : EqRule → Type 0
   MakesEqn rule = (K : Conj) (l r : Hedge) → Made A l → Made A r → MadeAnswer (rule K l r)
 
-  abbrev MakesMem : InRule → Type 0
+  abbrev pub MakesMem : InRule → Type 0
   MakesMem rule = (K : Conj) (h : Hedge) (R : Expr) → Made A h → MadeE A R → MadeAnswer (rule K h R)
 
-  abbrev MakesPair : PairRule → Type 0
+  abbrev pub MakesPair : PairRule → Type 0
   MakesPair rule = (l : Literal) (behind : Conj) → MadeL A l → MadeC A behind → Gives (Each (MadeC A)) (rule l behind)
 
   -- ---- equations
@@ -261,6 +263,9 @@ module _ (σ : Signature) (A : Name → Type 0) (known : Known σ A) where
   Fold-makes : MakesPair rules.Fold
   Fold-makes l behind m n = fold-is (Each (MadeC A)) l behind λ k s. ((m, struck-made s n), tt)
 
+  Clash-makes : MakesPair (rules.Clash σ)
+  Clash-makes l behind m n = drops-gives (Each (MadeC A)) (rules.Clash σ l behind) tt (clash-drops walkedPairs (isUnordered σ) l behind)
+
   -- ---- at a place
 
   place-made : (before behind : Conj) (b : Branch) → MadeC A before → MadeC A behind → MadeBranch b → MadeC A (place before behind b)
@@ -269,7 +274,7 @@ module _ (σ : Signature) (A : Name → Type 0) (known : Known σ A) where
       made-++ A (putC s before) _ .1
       (putC-made A s (p .2) before m, made-++ A es _ .1 (p .0, made-++ A (putC s ls) _ .1 (putC-made A s (p .2) ls (p .1), putC-made A s (p .2) behind n)))
 
-  abbrev RuleMakes : Rule → Type 0
+  abbrev pub RuleMakes : Rule → Type 0
   RuleMakes (onEqn rule) = MakesEqn rule
   RuleMakes (onMem rule) = MakesMem rule
   RuleMakes (onPair rule) = MakesPair rule
@@ -294,17 +299,21 @@ module _ (σ : Signature) (A : Name → Type 0) (known : Known σ A) where
   rule-makes rule p = kept-at-sides (MadeC A) rule λ before l behind m.
       let (x, y) = made-++ A before (l ∷ behind) .0 m in sides-make rule p before l behind x (y .0) (y .1)
 
-  -- A rule's results, wherever it applies, are made of what the conjunction is made of.
-  pub each-rule-makes : Each (AtSides (Kept (MadeC A))) (rules.rules σ)
-  each-rule-makes =
-      each-imp RuleMakes (AtSides (Kept (MadeC A))) rule-makes (rules.rules σ)
-      (R1-makes also R2-makes also Fold-makes
+  -- What a rule answers is made of what its literal is made of.
+  pub each-makes : Each RuleMakes (rules.rules σ)
+  each-makes =
+      R1-makes also R2-makes also Fold-makes
       also F1-makes also F2-makes also F3-makes also F4-makes also F5-makes also F6-makes also F7-makes
       also Del1-makes also Del2-makes also Del3-makes
       also D1-makes also D2-makes also D0-makes
       also E1-makes also E2-makes also E3-makes also E4-makes also E5-makes also E6-makes also E7-makes
       also M1-makes also M2-makes also M3-makes also M4-makes also M5-makes also M6-makes also M7-makes also M10-makes also M11-makes also M12-makes
-      also tt)
+      also Clash-makes
+      also tt
+
+  -- Its results, wherever it applies, are made of what the conjunction is made of.
+  pub each-rule-makes : Each (AtSides (Kept (MadeC A))) (rules.rules σ)
+  each-rule-makes = each-imp RuleMakes (AtSides (Kept (MadeC A))) rule-makes (rules.rules σ) each-makes
 
   pub step-made : (k : Conj) (ks : List Conj) → step σ k ≡ results ks → MadeC A k → Each (MadeC A) ks
   step-made k ks e m = step-at-sides σ (Kept (MadeC A)) each-rule-makes k ks e m

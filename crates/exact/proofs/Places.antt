@@ -2,6 +2,7 @@
 use mathlib.Core.Logic.{inl, inr, _↔_, Iff·trans, Iff·symm}
 use mathlib.Core.List.{List, [], _∷_, _++_, map}
 use mathlib.Core.Option.{none, some}
+use Rattle.language.specs.Limits.{walkedPairs}
 use Rattle.language.specs.declared.Signature.{Signature}
 use Rattle.language.specs.Trees.{Hedge, Literal, eqn, mem, Conj}
 use Rattle.meaning.specs.Meaning.{Filling, MeetsAll, MeetsOne}
@@ -20,6 +21,7 @@ use Rattle.exact.proofs.Answers.{MeetsBranch, MeetsBranches, Faithful, 
 use Rattle.exact.proofs.Equations.{ExactEqn, R1-exact, F1-exact, F2-exact, F3-exact, F4-exact, Del1-exact, Del2-exact, Del3-exact, D1-exact, D2-exact, D0-exact, E1-exact, E2-exact, E3-exact, E4-exact, E5-exact, E6-exact, E7-exact}
 use Rattle.exact.proofs.Memberships.{ExactMem, R2-exact, F5-exact, F6-exact, F7-exact, M1-exact, M2-exact, M3-exact, M4-exact, M5-exact, M6-exact, M7-exact, M10-exact, M11-exact, M12-exact}
 use Rattle.exact.proofs.Pairs.{ExactPair, Fold-exact}
+use Rattle.exact.proofs.Clashes.{Clash-exact}
 
 module _ (σ : Signature) where
   -- ---- a result in its place
@@ -131,4 +133,5 @@ module _ (σ : Signature) where
       also D1-exact σ also D2-exact σ also D0-exact σ
       also E1-exact σ also E2-exact σ also E3-exact σ also E4-exact σ also E5-exact σ also E6-exact σ also E7-exact σ
       also M1-exact σ also M2-exact σ also M3-exact σ also M4-exact σ also M5-exact σ also M6-exact σ also M7-exact σ also M10-exact σ also M11-exact σ also M12-exact σ
+      also Clash-exact walkedPairs σ
       also tt)

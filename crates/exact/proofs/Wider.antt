@@ -21,13 +21,10 @@ use Rattle.rules.specs.Reply.{Reply, nothing, results, stops}
 use Rattle.rules.specs.Step.{Step, step}
 use Rattle.rules.specs.Run.{Numbered, allOf, numbered, size, anyLong, waitingSize, linesAt, linesSize, linesFit, Outcome, finished, refused, checked, lined, turn, runFrom, runBy, run}
 use Rattle.rules.specs.Answer.{lineWords, countOpen, padded, answerWords, answered, ran, solvingOf, solving}
+use Rattle.rules.proofs.Tests.{neither}
 use Rattle.rules.proofs.Invariant.{answered-run}
 
 -- ---- what is within the one is within the other
-
-neither : (a b : Bool) → (a || b) ≡ false → (a ≡ false) × (b ≡ false)
-neither true b e = absurd (let z : _≡_ {A = ℕ} 0 1 = cc in omega arith)
-neither false b e = (refl, e)
 
 module _ (L M : Limits) (i : Within L M) where
   long-wider : (ks : List Conj) → anyLong L ks ≡ false → anyLong M ks ≡ false

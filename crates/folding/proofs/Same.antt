@@ -17,6 +17,7 @@ use Rattle.rules.proofs.Tests.{true-test}
 use Rattle.rules.proofs.Names.{sameLiteral-is}
 use Rattle.words.specs.Places.{sameList}
 use Rattle.words.proofs.Parts.{part-of}
+use Rattle.words.proofs.Same.{list-refl, list-is}
 use Rattle.views.specs.Standing.{LiteralAt}
 use Rattle.views.proofs.Seen.{literal-here}
 use Rattle.folding.specs.Chains.{sameAt}
@@ -61,16 +62,6 @@ same-sym l m = go (sameLiteral l m) (sameLiteral m l) refl refl
     go false false d e = refl
 
 -- ---- the test of their words
-
-list-refl : (ws : List ℕ) → sameList ws ws ≡ true
-list-refl [] = refl
-list-refl (w ∷ ws) = rw (eq-eqb w w refl) (list-refl ws)
-
-list-is : (us vs : List ℕ) → sameList us vs ≡ true → us ≡ vs
-list-is [] [] e = refl
-list-is [] (v ∷ vs) e = absurd (false≢true e)
-list-is (u ∷ us) [] e = absurd (false≢true e)
-list-is (u ∷ us) (v ∷ vs) e = let p = both-true _ (sameList us vs) e in ap₂ _∷_ (eqb-true u v (p .0)) (list-is us vs (p .1))
 
 -- a test that says of two literals that they are equal
 tested : (l m : Literal) (t : Bool) → (t ≡ true → l ≡ m) → (l ≡ m → t ≡ true) → t ≡ sameLiteral l m

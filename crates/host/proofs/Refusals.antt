@@ -1,5 +1,7 @@
--- Which numbers a question's reading and its run can give: 1 to 6 before the run, 7 to 10 from it.
+-- Which numbers a question's reading and its run can give: 1 to 6 before the run, 7 to 10 and 21 from it.
 use Prim.Native.Nat.{ℕ, _≤_}
+use mathlib.Core.Path.{_≡_, refl}
+use mathlib.Core.Logic.{_⊎_, inl, inr}
 use mathlib.Core.Bool.{Bool, true, false}
 use mathlib.Core.List.{List}
 use lib.Dec.{lit≤, ltb}
@@ -42,20 +44,24 @@ early L ws =
 
 -- ---- solving
 
--- "1 to 6 ..: unchanged"; "7 to 10: zeros"
+-- from a run
+abbrev Late : Refusal → Type 0
+Late r = (7 ≤ numberOf r) × ((numberOf r ≤ 10) ⊎ (numberOf r ≡ 21))
+
+-- "1 to 6 ..: unchanged"; "7 to 10: zeros", and 21
 abbrev pub InRange : Solving → Type 0
 InRange (answered ls n) = Unit {0}
 InRange (unread r) = Between 1 6 r
-InRange (given-up r) = Between 7 10 r
+InRange (given-up r) = Late r
 
-range-run : (o : Outcome) → RunStopsBy (Between 7 10) o → InRange (ran o)
+range-run : (o : Outcome) → RunStopsBy Late o → InRange (ran o)
 range-run (finished ls n) h = tt
 range-run (refused r) h = h
 
 range-asked : (L : Limits) (a : Asked) → Early a → InRange (solvingOf L a)
 range-asked L (asks q) h =
     range-run (run L (signature (q .counts)) (q .alternatives))
-    (run-stops-by (Between 7 10) (lit≤ tt, lit≤ tt) (lit≤ tt, lit≤ tt) (lit≤ tt, lit≤ tt) (lit≤ tt, lit≤ tt) L (signature (q .counts)) (q .alternatives))
+    (run-stops-by Late (lit≤ tt, inl (lit≤ tt)) (lit≤ tt, inl (lit≤ tt)) (lit≤ tt, inl (lit≤ tt)) (lit≤ tt, inl (lit≤ tt)) (lit≤ tt, inr refl) L (signature (q .counts)) (q .alternatives))
 range-asked L (refuses r) h = h
 
 range-tested : (b : Bool) (s : Solving) → InRange s → InRange (elim b [ true ↦ unread ShortSlice | false ↦ s ])

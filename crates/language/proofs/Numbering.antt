@@ -2,7 +2,7 @@
 use Prim.Native.Nat.{_≤_}
 use lib.Dec.{lit≤}
 use Rattle.language.specs.declared.Refusal.{Refusal}
-use Rattle.language.specs.declared.Refusal.the-variants.{ShortSlice, QuestionLength, CountRange, BadOffset, NotLiterals, Undeclared, LongResult, LongWaiting, LineRoom, StepLimit, FillingLayout, FillingValue, LongLiteral, NoSuchLine, OpenLine, LongExample, SheetLayout, LongAnswers}
+use Rattle.language.specs.declared.Refusal.the-variants.{ShortSlice, QuestionLength, CountRange, BadOffset, NotLiterals, Undeclared, LongResult, LongWaiting, LineRoom, StepLimit, FillingLayout, FillingValue, LongLiteral, NoSuchLine, OpenLine, LongExample, LongWalk, SheetLayout, LongAnswers}
 use Rattle.language.specs.Numbers.{numberOf}
 
 pub each-number : (r : Refusal) → (1 ≤ numberOf r) × (numberOf r ≤ 23)
@@ -22,5 +22,6 @@ each-number LongLiteral = (lit≤ tt, lit≤ tt)
 each-number NoSuchLine = (lit≤ tt, lit≤ tt)
 each-number OpenLine = (lit≤ tt, lit≤ tt)
 each-number LongExample = (lit≤ tt, lit≤ tt)
+each-number LongWalk = (lit≤ tt, lit≤ tt)
 each-number SheetLayout = (lit≤ tt, lit≤ tt)
 each-number LongAnswers = (lit≤ tt, lit≤ tt)

@@ -30,6 +30,9 @@ pub const PLACES: usize = EACH as usize;
 // conjunctions of a question
 pub const ALTERNATIVES: u16 = 16;
 
+// different pairs of expressions that a walk may reach
+pub const PAIRS: usize = 4096;
+
 // questions of a day's sheet
 pub const SHEETS: usize = 64;
 

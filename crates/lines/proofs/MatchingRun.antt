@@ -28,7 +28,7 @@ use Rattle.lines.proofs.Keeping.{Keeps, keeps-self, keeps-row, keeps-ma
 use Rattle.lines.proofs.EquationRules.{StaysEqn, R1-stays, F1-stays, F2-stays, F3-stays, F4-stays, Del1-stays, Del2-stays, Del3-stays, D1-stays, D2-stays, D0-stays}
 use Rattle.lines.proofs.EliminationRules.{E1-stays, E2-stays, E3-stays, E4-stays, E5-stays, E6-stays, E7-stays}
 use Rattle.lines.proofs.MembershipRules.{StaysMem, R2-stays, F5-stays, F6-stays, F7-stays, M1-stays, M2-stays, M3-stays, M4-stays, M5-stays, M6-stays, M7-stays, M10-stays, M11-stays, M12-stays}
-use Rattle.lines.proofs.PairRules.{StaysPair, Fold-stays}
+use Rattle.lines.proofs.PairRules.{StaysPair, Fold-stays, Clash-stays}
 use Rattle.lines.proofs.Unopened.{matching-solved}
 
 -- ---- a rule at a literal
@@ -73,6 +73,7 @@ each-rule-stays σ =
     also D1-stays σ also D2-stays also D0-stays σ
     also E1-stays also E2-stays also E3-stays also E4-stays also E5-stays also E6-stays also E7-stays σ
     also M1-stays also M2-stays also M3-stays also M4-stays also M5-stays also M6-stays also M7-stays also M10-stays also M11-stays σ also M12-stays σ
+    also Clash-stays σ
     also tt)
 
 -- Matching is kept by every step.

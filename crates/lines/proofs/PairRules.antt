@@ -1,12 +1,15 @@
 -- The rules of two literals keep the matching fragment.
 use mathlib.Core.Logic.{inl, inr}
 use mathlib.Core.List.{[], _∷_}
-use Rattle.language.specs.Trees.{Literal, Conj}
+use Rattle.language.specs.Limits.{walkedPairs}
+use Rattle.language.specs.declared.Signature.{Signature}
+use Rattle.language.specs.Trees.{Literal, Conj, isUnordered}
 use Rattle.rules.specs.Reply.{PairRule}
-use Rattle.rules.specs.Rules.{Fold}
+use Rattle.rules.specs.Rules.{Fold, Clash}
 use Rattle.rules.specs.Each.{Each}
 use Rattle.rules.proofs.Steps.{Gives}
 use Rattle.rules.proofs.Folding.{Struck, here, further, fold-is}
+use Rattle.rules.proofs.Clashing.{drops-gives, clash-drops}
 use Rattle.lines.proofs.Places.{sides-parts, member-right, equation-parts, equation-left}
 use Rattle.lines.proofs.Keeping.{Keeps, keeps-self, keeps-row, keeps-within}
 
@@ -28,3 +31,6 @@ Fold-stays l behind = fold-is (Each (Keeps [] (l ∷ behind))) l behind λ k s. 
   keeps-within (l ∷ []) (l ∷ behind) (l ∷ k) (keeps-row (l ∷ []) (l ∷ []) (l ∷ []) behind k (keeps-self (l ∷ []) (l ∷ [])) (struck-keeps s)) (λ v t. equation-left v (l ∷ []) k t),
   tt,
 )
+
+pub Clash-stays : (σ : Signature) → StaysPair (Clash σ)
+Clash-stays σ l behind = drops-gives (Each (Keeps [] (l ∷ behind))) (Clash σ l behind) tt (clash-drops walkedPairs (isUnordered σ) l behind)

@@ -8,7 +8,7 @@ use native.Mathlib.Omega.{arith}
 use Rattle.language.specs.declared.Signature.{Signature}
 use Rattle.language.specs.Trees.{Hedge, Expr, Literal, eqn, mem, Conj}
 use Rattle.rules.specs.Reply.{nothing}
-use Rattle.rules.specs.Rules.{Answer, Rule, onEqn, onMem, onPair, rules, R1, R2, F3, F4, F5, F6, F7, Del2, D1, D2, D0, E1, E2, E3, E5, E6, M2, M4, M5, M6, M11, M12}
+use Rattle.rules.specs.Rules.{Answer, Rule, onEqn, onMem, onPair, rules, R1, R2, F1, F2, F3, F4, F5, F6, F7, Del2, D1, D2, D0, E1, E2, E3, E5, E6, M2, M4, M5, M6, M11, M12}
 use Rattle.rules.specs.Step.{placed, step}
 use Rattle.rules.specs.Each.{Each}
 use Rattle.rules.specs.Sides.{Idle}
@@ -49,6 +49,8 @@ at-literal σ before behind l e =
 -- no rule applies to the equation, with l looked at first
 pub record QuietEqn (σ : Signature) (K : Conj) (l r : Hedge) : Type 0 where
   pub r1 : R1 K l r ≡ none
+  pub f1 : F1 K l r ≡ none
+  pub f2 : F2 K l r ≡ none
   pub f3 : F3 K l r ≡ none
   pub f4 : F4 K l r ≡ none
   pub del2 : Del2 σ K l r ≡ none
@@ -75,9 +77,9 @@ pub record QuietMem (σ : Signature) (K : Conj) (h : Hedge) (R : Expr) : Type 0 
 
 pub quiet-eqn : (σ : Signature) (K : Conj) (l r : Hedge) → NoRule σ K (eqn l r) → QuietEqn σ K l r × QuietEqn σ K r l
 quiet-eqn σ K l r q =
-    let (r1, (_, (_, (_, (_, (f3, (f4, (_, (_, (_, (_, (del2, (_, (d1, (d2, (d0, (e1, (e2, (e3, (_, (e5, (e6, _)))))))))))))))))))))) = q in (
-      record { r1 = r1 .0; f3 = f3 .0; f4 = f4 .0; del2 = del2 .0; d1 = d1 .0; d2 = d2 .0; d0 = d0 .0; e1 = e1 .0; e2 = e2 .0; e3 = e3 .0; e5 = e5 .0; e6 = e6 .0 },
-      record { r1 = r1 .1; f3 = f3 .1; f4 = f4 .1; del2 = del2 .1; d1 = d1 .1; d2 = d2 .1; d0 = d0 .1; e1 = e1 .1; e2 = e2 .1; e3 = e3 .1; e5 = e5 .1; e6 = e6 .1 },
+    let (r1, (_, (_, (f1, (f2, (f3, (f4, (_, (_, (_, (_, (del2, (_, (d1, (d2, (d0, (e1, (e2, (e3, (_, (e5, (e6, _)))))))))))))))))))))) = q in (
+      record { r1 = r1 .0; f1 = f1 .0; f2 = f2 .0; f3 = f3 .0; f4 = f4 .0; del2 = del2 .0; d1 = d1 .0; d2 = d2 .0; d0 = d0 .0; e1 = e1 .0; e2 = e2 .0; e3 = e3 .0; e5 = e5 .0; e6 = e6 .0 },
+      record { r1 = r1 .1; f1 = f1 .1; f2 = f2 .1; f3 = f3 .1; f4 = f4 .1; del2 = del2 .1; d1 = d1 .1; d2 = d2 .1; d0 = d0 .1; e1 = e1 .1; e2 = e2 .1; e3 = e3 .1; e5 = e5 .1; e6 = e6 .1 },
     )
 
 pub quiet-mem : (σ : Signature) (K : Conj) (h : Hedge) (R : Expr) → NoRule σ K (mem h R) → QuietMem σ K h R

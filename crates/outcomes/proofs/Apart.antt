@@ -3,7 +3,7 @@ use Prim.Native.Nat.{ℕ}
 use mathlib.Core.Path.{_≡_, refl, sym, ap, ap₂, _∙_}
 use lib.Dec.{eqb}
 use Rattle.language.specs.declared.Refusal.{Refusal}
-use Rattle.language.specs.declared.Refusal.the-variants.{ShortSlice, QuestionLength, CountRange, BadOffset, NotLiterals, Undeclared, LongResult, LongWaiting, LineRoom, StepLimit, FillingLayout, FillingValue, LongLiteral, NoSuchLine, OpenLine, LongExample, SheetLayout, LongAnswers}
+use Rattle.language.specs.declared.Refusal.the-variants.{ShortSlice, QuestionLength, CountRange, BadOffset, NotLiterals, Undeclared, LongResult, LongWaiting, LineRoom, StepLimit, FillingLayout, FillingValue, LongLiteral, NoSuchLine, OpenLine, LongExample, LongWalk, SheetLayout, LongAnswers}
 use Rattle.language.specs.Kinds.{pick}
 use Rattle.language.specs.Numbers.{numberOf, placeOf}
 use Rattle.outcomes.specs.Numbers.{checkedNumbers, outcomeNumber, outcomePlace, outcomeValue, SolveNumbers, solvedNumbers, triedNumbers, shownNumbers}
@@ -25,7 +25,7 @@ refusalOf n at =
     (pick (eqb n 5) (NotLiterals at) (pick (eqb n 6) (Undeclared at) (pick (eqb n 7) LongResult (pick (eqb n 8) LongWaiting
     (pick (eqb n 9) LineRoom (pick (eqb n 10) StepLimit (pick (eqb n 11) FillingLayout (pick (eqb n 12) FillingValue
     (pick (eqb n 13) LongLiteral (pick (eqb n 14) NoSuchLine (pick (eqb n 15) OpenLine
-    (pick (eqb n 16) LongExample (pick (eqb n 22) SheetLayout LongAnswers))))))))))))))))
+    (pick (eqb n 16) LongExample (pick (eqb n 21) LongWalk (pick (eqb n 22) SheetLayout LongAnswers)))))))))))))))))
 
 -- `none` where the number is 0, and else the refusal of that number and place
 abbrev told : {A : Type 0} → A → (Refusal → A) → ℕ → ℕ → A
@@ -48,6 +48,7 @@ told-refused none refused LongLiteral = refl
 told-refused none refused NoSuchLine = refl
 told-refused none refused OpenLine = refl
 told-refused none refused LongExample = refl
+told-refused none refused LongWalk = refl
 told-refused none refused SheetLayout = refl
 told-refused none refused LongAnswers = refl
 

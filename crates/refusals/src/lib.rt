@@ -24,6 +24,7 @@ pub fn number(refusal: Refusal) -> u16
         Refusal::NoSuchLine => 14,
         Refusal::OpenLine => 15,
         Refusal::LongExample => 16,
+        Refusal::LongWalk => 21,
         Refusal::SheetLayout => 22,
         Refusal::LongAnswers => 23,
     }
@@ -50,6 +51,7 @@ pub fn place(refusal: Refusal) -> usize
         Refusal::NoSuchLine => 0,
         Refusal::OpenLine => 0,
         Refusal::LongExample => 0,
+        Refusal::LongWalk => 0,
         Refusal::SheetLayout => 0,
         Refusal::LongAnswers => 0,
     }

@@ -3,15 +3,15 @@ use Prim.Native.Nat.{_<_, _≤_}
 use mathlib.Core.Path.{_≡_, subst}
 use native.Mathlib.Omega.{arith}
 use Rattle.language.specs.declared.Sym.{Sym}
-use Rattle.language.specs.Limits.{Limits}
+use Rattle.language.specs.Limits.{Limits, walkedPairs}
 use Rattle.language.specs.declared.Signature.{Signature}
-use Rattle.language.specs.Trees.{Functor, symbol, Hedge, ε, hvar, Expr, Literal, Conj}
+use Rattle.language.specs.Trees.{Functor, symbol, Hedge, ε, hvar, Expr, Literal, Conj, isUnordered}
 use Rattle.language.specs.Fine.{fineFunctor, fineHedge, fineExpr, fineLiteral, fineConj}
 use Rattle.rules.specs.Looks.{firstTerm, firstRun, loneTerm, loneT, loneH, loneNode, asSymbol, asBlank, inside, upTo, cuts, asCat, asAlt, asStar, asOver}
 use Rattle.rules.specs.Elements.{struck, orders}
 use Rattle.rules.specs.Expressions.{linear}
 use Rattle.rules.specs.Reply.{PairRule}
-use Rattle.rules.specs.Rules.{Branch, plain, elims, Answer, EqRule, InRule, Rule, onEqn, onMem, onPair, rules, R1, R2, Fold, F1, F2, F3, F4, F5, F6, F7, Del1, Del2, Del3, D1, D2, D0, E1, E2, E3, E4, E5, E6, E7, M1, M2, M3, M4, M5, M6, M7, M10, M11, M12, orderResult, orderMember, everySymbol, namedResult, cutResult, monomialResult}
+use Rattle.rules.specs.Rules.{Branch, plain, elims, Answer, EqRule, InRule, Rule, onEqn, onMem, onPair, rules, R1, R2, Fold, F1, F2, F3, F4, F5, F6, F7, Del1, Del2, Del3, D1, D2, D0, E1, E2, E3, E4, E5, E6, E7, M1, M2, M3, M4, M5, M6, M7, M10, M11, M12, Clash, orderResult, orderMember, everySymbol, namedResult, cutResult, monomialResult}
 use Rattle.rules.specs.Each.{Each}
 use Rattle.rules.proofs.Each.{_also_, each-map}
 use Rattle.rules.proofs.Answers.{Answers, look, test, answers}
@@ -20,6 +20,7 @@ use Rattle.rules.proofs.Elements.{struck-is, without-keeps, orders-keep
 use Rattle.rules.proofs.Symbols.{each-symbol}
 use Rattle.rules.proofs.Steps.{Gives}
 use Rattle.rules.proofs.Folding.{Struck, here, further, fold-is}
+use Rattle.rules.proofs.Clashing.{drops-gives, clash-drops}
 use Rattle.rules.proofs.FineParts.{FineSubst, fine-join, fine-both, FinePair, fine-cuts, fine-vanish, FineMonomial, fine-linear, fine-setT, fine-setH, fine-setF, fine-emptied}
 
 module _ (L : Limits) where
@@ -238,6 +239,9 @@ module _ (L : Limits) where
   Fold-fine : FineBehind Fold
   Fold-fine l behind p q = fold-is (Each (fineConj L)) l behind λ k s. ((p, struck-fine s q), tt)
 
+  Clash-fine : (σ : Signature) → FineBehind (Clash σ)
+  Clash-fine σ l behind p q = drops-gives (Each (fineConj L)) (Clash σ l behind) tt (clash-drops walkedPairs (isUnordered σ) l behind)
+
   -- ---- in their order
 
   abbrev pub RuleFine : Rule → Type 0
@@ -253,4 +257,5 @@ module _ (L : Limits) where
       also D1-fine σ also D2-fine also D0-fine σ
       also E1-fine also E2-fine also E3-fine also E4-fine also E5-fine also E6-fine also E7-fine σ few
       also M1-fine also M2-fine also M3-fine also M4-fine also M5-fine also M6-fine also M7-fine also M10-fine also M11-fine σ also M12-fine σ
+      also Clash-fine σ
       also tt

@@ -30,7 +30,7 @@ ran-no-place (finished ls n) h = refl
 ran-no-place (refused r) h = h
 
 of-asked : (L : Limits) (a : Asked) → solvingPlace (solvingOf L a) ≡ askedPlace a
-of-asked L (asks q) = ran-no-place (run L (signature (q .counts)) (q .alternatives)) (run-stops-by (λ r. placeOf r ≡ 0) refl refl refl refl L (signature (q .counts)) (q .alternatives))
+of-asked L (asks q) = ran-no-place (run L (signature (q .counts)) (q .alternatives)) (run-stops-by (λ r. placeOf r ≡ 0) refl refl refl refl refl L (signature (q .counts)) (q .alternatives))
 of-asked L (refuses r) = refl
 
 -- the place that reading the question comes to, where the slices are long enough

@@ -10,7 +10,7 @@ use lib.Dec.{ltb}
 use lib.ListN.{getD}
 use Rattle.language.specs.declared.Refusal.{Refusal}
 use Rattle.language.specs.declared.Refusal.the-variants.{ShortSlice, LongResult, LongWaiting, LineRoom, StepLimit}
-use Rattle.language.specs.Limits.{Limits}
+use Rattle.language.specs.Limits.{Limits, walkedPairs}
 use Rattle.language.specs.declared.Signature.{Signature}
 use Rattle.language.specs.Trees.{Functor, symbol, fvar, Hedge, Expr, Literal, eqn, mem, Conj, Counts, signature, isUnordered, anyUnordered, eqS, eqF, eqX, sameWords}
 use Rattle.language.specs.Question.{Asked, asks, refuses, readQuestion}
@@ -19,12 +19,14 @@ use Rattle.language.proofs.Header.{first-word-before}
 use Rattle.meaning.proofs.Same.{none-unordered, any-unordered-none}
 use Rattle.rules.specs.Looks.{loneNode, asSymbol, asBlank, asOver, allTerms}
 use Rattle.rules.specs.Elements.{struck, disjoint}
-use Rattle.rules.specs.Reply.{Reply, nothing, results, stops}
-use Rattle.rules.specs.Rules.{Answer, EqRule, InRule, Rule, onEqn, onMem, onPair, _>>=_, check, Del2, D1, keepsOrder, D0, E7, M11, M12, rules}
+use Rattle.rules.specs.Reply.{Reply, nothing, results, stops, PairRule}
+use Rattle.rules.specs.Rules.{Answer, EqRule, InRule, Rule, onEqn, onMem, onPair, _>>=_, check, Del2, D1, keepsOrder, D0, E7, M11, M12, Clash, rules}
 use Rattle.rules.specs.Step.{orNext, each, placed, resultsAt, Spot, Found, found, earliest, first, search, Step, step}
 use Rattle.rules.specs.Run.{Numbered, allOf, numbered, anyLong, waitingSize, linesFit, Outcome, finished, refused, lined, turn, runFrom, runBy, run}
 use Rattle.rules.specs.Answer.{Solving, unread, ran, solvingOf, solving}
-use Rattle.rules.specs.Ordered.{orderedD0, orderedM11, orderedRules, orderedStep, orderedSolvingOf, orderedSolving}
+use Rattle.rules.specs.Clash.{allOrdered}
+use Rattle.rules.proofs.Clashing.{clash-same}
+use Rattle.rules.specs.Ordered.{orderedD0, orderedM11, orderedClash, orderedRules, orderedStep, orderedSolvingOf, orderedSolving}
 
 -- ---- line by line
 
@@ -110,6 +112,10 @@ mem-same rule was h true before (eqn l r) behind = refl
 mem-same rule was h false before (mem g R) behind = ap (placed before behind) (h (before ++ behind) g R)
 mem-same rule was h true before (mem g R) behind = refl
 
+pair-same : (rule was : PairRule) → ((l : Literal) (behind : Conj) → rule l behind ≡ was l behind) → SameRule (onPair rule) (onPair was)
+pair-same rule was h false before l behind = ap (each (map (λ (k : Conj). before ++ k))) (h l behind)
+pair-same rule was h true before l behind = refl
+
 eqn-never : (rule : EqRule) → ((K : Conj) (l r : Hedge) → rule K l r ≡ none) → Never (onEqn rule)
 eqn-never rule h false before (eqn l r) behind = ap (placed before behind) (h (before ++ behind) l r)
 eqn-never rule h true before (eqn l r) behind = ap (placed before behind) (h (before ++ behind) r l)
@@ -179,7 +185,8 @@ module _ (σ : Signature) (ordered : σ .unordered ≡ 0) where
       (added (eqn-never (D1 σ) (D1-never σ ordered)) (kept (unchanged _) (kept (eqn-same (D0 σ) orderedD0 (D0-as-before σ ordered))
       (kept (unchanged _) (kept (unchanged _) (kept (unchanged _) (kept (unchanged _) (kept (unchanged _) (kept (unchanged _) (added (eqn-never (E7 σ) (E7-never σ ordered))
       (kept (unchanged _) (kept (unchanged _) (kept (unchanged _) (kept (unchanged _) (kept (unchanged _) (kept (unchanged _) (kept (unchanged _) (kept (unchanged _)
-      (kept (mem-same (M11 σ) orderedM11 (M11-as-before σ ordered)) (added (mem-never (M12 σ) (M12-never σ ordered)) end))))))))))))))))))))))))))))))))
+      (kept (mem-same (M11 σ) orderedM11 (M11-as-before σ ordered)) (added (mem-never (M12 σ) (M12-never σ ordered))
+      (kept (pair-same (Clash σ) orderedClash (clash-same (isUnordered σ) allOrdered (none-unordered σ ordered) walkedPairs)) end)))))))))))))))))))))))))))))))))
 
   pub step-as-before : (k : Conj) → step σ k ≡ orderedStep k
   unfolding step search orderedStep

@@ -45,7 +45,7 @@ gives-next P nothing k p q = q
 gives-next P (results a) k p q = p
 gives-next P (stops r) k p q = tt
 
-next-nothing : {A : Type 0} (m : Reply A) (k : Unit {0} → Reply A) → orNext m k ≡ nothing → (m ≡ nothing) × (k tt ≡ nothing)
+pub next-nothing : {A : Type 0} (m : Reply A) (k : Unit {0} → Reply A) → orNext m k ≡ nothing → (m ≡ nothing) × (k tt ≡ nothing)
 next-nothing nothing k e = (refl, e)
 next-nothing (results a) k e = let z : _≡_ {A = ℕ} 0 1 = cc in absurd (omega arith)
 next-nothing (stops r) k e = let z : _≡_ {A = ℕ} 0 1 = cc in absurd (omega arith)
@@ -108,7 +108,7 @@ module _ (P : Conj → List Conj → Type 0) where
   literalAt-is swap rule p zero before (l ∷ k) = results-give (P (before ++ (l ∷ k))) (resultsAt swap rule before l k) (p swap before l k)
   literalAt-is swap rule p (suc i) before (l ∷ k) = rw append-assoc at (literalAt-is swap rule p i (before ++ (l ∷ [])) k)
 
-  ruleAt-is : (swap : Bool) (i n : ℕ) (rs : List Rule) → Each (AtSides P) rs → (k : Conj) → Gives (P k) (ruleAt swap i n rs k)
+  pub ruleAt-is : (swap : Bool) (i n : ℕ) (rs : List Rule) → Each (AtSides P) rs → (k : Conj) → Gives (P k) (ruleAt swap i n rs k)
   ruleAt-is swap i n [] p k = tt
   ruleAt-is swap i zero (rule ∷ rs) p k = literalAt-is swap rule (p .0) i [] k
   ruleAt-is swap i (suc n) (rule ∷ rs) p k = ruleAt-is swap i n rs (p .1) k
@@ -136,11 +136,11 @@ module _ (n : ℕ) (rule : Rule) (whole : Conj) where
       one : (swap : Bool) → Gives AtLiteral (found n i swap (resultsAt swap rule before l k))
       one swap = gives-each AtLiteral _ (resultsAt swap rule before l k) (results-give _ (resultsAt swap rule before l k) (λ ks e. (refl, (rw add-zero at (h 0 swap)) ∙ e)))
 
-module _ (σ : Signature) (k : Conj) where
+module _ (all : List Rule) (k : Conj) where
   abbrev AtRule : Spot × List Conj → Type 0
-  AtRule f = ruleAt (f .0 .swapped) (f .0 .literal) (f .0 .rule) (rules σ) k ≡ results (f .1)
+  AtRule f = ruleAt (f .0 .swapped) (f .0 .literal) (f .0 .rule) all k ≡ results (f .1)
 
-  first-here : (n : ℕ) (rs : List Rule) → ((m i : ℕ) (swap : Bool) → ruleAt swap i (n + m) (rules σ) k ≡ ruleAt swap i m rs k) → Gives AtRule (first n rs k)
+  first-here : (n : ℕ) (rs : List Rule) → ((m i : ℕ) (swap : Bool) → ruleAt swap i (n + m) all k ≡ ruleAt swap i m rs k) → Gives AtRule (first n rs k)
   first-here n [] h = tt
   first-here n (rule ∷ rs) h =
       gives-next AtRule (earliest n rule 0 [] k) _
@@ -148,10 +148,14 @@ module _ (σ : Signature) (k : Conj) where
       (earliest-here n rule k 0 [] k (λ j swap. rw zero-add)))
       (first-here (suc n) rs (λ m i swap. rw (add-suc, ← suc-add) at (h (suc m) i swap)))
 
--- What the search finds is the step at the place that it names.
+-- What is found first is the step at the place that it names, whatever the list of rules is;
+pub first-named : (rs : List Rule) (k : Conj) (s : Spot) (ks : List Conj) → first 0 rs k ≡ results (s, ks) → ruleAt (s .swapped) (s .literal) (s .rule) rs k ≡ results ks
+first-named rs k s ks e = gives-results (AtRule rs k) (first 0 rs k) (s, ks) (first-here rs k 0 rs (λ m i swap. rw zero-add)) e
+
+-- and so is what the search finds.
 pub search-named : (σ : Signature) (k : Conj) (s : Spot) (ks : List Conj) → search σ k ≡ results (s, ks) → stepAt σ s k ≡ results ks
 unfolding search stepAt
-search-named σ k s ks e = gives-results (AtRule σ k) (first 0 (rules σ) k) (s, ks) (first-here σ k 0 (rules σ) (λ m i swap. rw zero-add)) e
+search-named σ k s ks e = first-named (rules σ) k s ks e
 
 -- So a step is the step at some place.
 pub step-named : (σ : Signature) (k : Conj) (ks : List Conj) → step σ k ≡ results ks → (s : Spot) × (stepAt σ s k ≡ results ks)
@@ -184,7 +188,7 @@ earliest-none n rule i swap before (m ∷ middle) l behind e =
     (earliest-none n rule (suc i) swap (before ++ (m ∷ [])) middle l behind
     (next-nothing (found n i true (resultsAt true rule before m (middle ++ (l ∷ behind)))) _ (next-nothing (found n i false (resultsAt false rule before m (middle ++ (l ∷ behind)))) _ e .1) .1))
 
-first-none : (k : Conj) (n : ℕ) (rs : List Rule) → first n rs k ≡ nothing → Each (Idle k) rs
+pub first-none : (k : Conj) (n : ℕ) (rs : List Rule) → first n rs k ≡ nothing → Each (Idle k) rs
 first-none k n [] e = tt
 first-none k n (rule ∷ rs) e =
     let (a, b) = next-nothing (earliest n rule 0 [] k) (λ _. first (suc n) rs k) e in

@@ -1,17 +1,20 @@
--- With which refusals of its own a step can stop: those of the rules of two literals, of which the fold has none. And with which a run can: 7 to 10.
+-- With which refusals of its own a step can stop: those of the rules of two literals, of which the fold has none and the clash one. And with which a run
+-- can: 7 to 10, and 21.
 use Prim.Native.Nat.{ℕ, zero, suc}
+use mathlib.Core.Path.{_≡_, sym, subst}
 use mathlib.Core.Bool.{Bool, true, false}
 use mathlib.Core.List.{List, [], _∷_, _++_, map}
 use mathlib.Core.Option.{Option, none, some}
 use lib.Dec.{ltb}
 use Rattle.language.specs.declared.Refusal.{Refusal}
-use Rattle.language.specs.declared.Refusal.the-variants.{LongResult, LongWaiting, LineRoom, StepLimit}
+use Rattle.language.specs.declared.Refusal.the-variants.{LongResult, LongWaiting, LineRoom, StepLimit, LongWalk}
 use Rattle.language.specs.declared.Signature.{Signature}
-use Rattle.language.specs.Limits.{Limits}
-use Rattle.language.specs.Trees.{Literal, eqn, mem, Conj}
+use Rattle.language.specs.Limits.{Limits, walkedPairs}
+use Rattle.language.specs.Trees.{Literal, eqn, mem, Conj, isUnordered}
 use Rattle.rules.specs.Reply.{Reply, nothing, results, stops}
-use Rattle.rules.specs.Rules.{Answer, Rule, onEqn, onMem, onPair, strike, folded, Fold, rules}
+use Rattle.rules.specs.Rules.{Answer, Rule, onEqn, onMem, onPair, strike, folded, Fold, Clash, rules}
 use Rattle.rules.specs.Step.{orNext, each, placed, resultsAt, found, earliest, first, search, step}
+use Rattle.rules.proofs.Clashing.{Drops, clash-drops}
 use Rattle.rules.specs.Run.{Numbered, allOf, numbered, Outcome, finished, refused, turn, anyLong, waitingSize, linesFit, runFrom, runBy, run}
 
 module _ (P : Refusal → Type 0) where
@@ -21,7 +24,7 @@ module _ (P : Refusal → Type 0) where
   StopsBy (results a) = Unit {0}
   StopsBy (stops r) = P r
 
-  by-each : {A B : Type 0} (f : A → B) (m : Reply A) → StopsBy m → StopsBy (each f m)
+  pub by-each : {A B : Type 0} (f : A → B) (m : Reply A) → StopsBy m → StopsBy (each f m)
   by-each f nothing p = tt
   by-each f (results a) p = tt
   by-each f (stops r) p = p
@@ -66,7 +69,7 @@ module _ (P : Refusal → Type 0) where
       (by-next (found n i true (resultsAt true rule before l k)) _ (by-each _ (resultsAt true rule before l k) (at-place rule p true before l k))
       (at-earliest n rule p (suc i) (before ++ (l ∷ [])) k))
 
-  at-first : (n : ℕ) (rs : List Rule) → PairsStopBy rs → (k : Conj) → StopsBy (first n rs k)
+  pub at-first : (n : ℕ) (rs : List Rule) → PairsStopBy rs → (k : Conj) → StopsBy (first n rs k)
   at-first n [] p k = tt
   at-first n (onEqn rule ∷ rs) p k = by-next (earliest n (onEqn rule) 0 [] k) _ (at-earliest n (onEqn rule) tt 0 [] k) (at-first (suc n) rs p k)
   at-first n (onMem rule ∷ rs) p k = by-next (earliest n (onMem rule) 0 [] k) _ (at-earliest n (onMem rule) tt 0 [] k) (at-first (suc n) rs p k)
@@ -76,16 +79,27 @@ module _ (P : Refusal → Type 0) where
   unfolding step search
   step-stops-by σ p k = by-each _ (first 0 (rules σ) k) (at-first 0 (rules σ) p k)
 
-  Fold-stops : RuleStopsBy (onPair Fold)
+  pub Fold-stops : RuleStopsBy (onPair Fold)
   Fold-stops l behind = go (strike l behind)
     where
       go : (w : Option Conj) → StopsBy (folded l w)
       go none = tt
       go (some k) = tt
 
--- No rule of the list has a refusal of its own.
-pub step-never-stops : (σ : Signature) (k : Conj) → StopsBy (λ _. ⊥) (step σ k)
-step-never-stops σ k = step-stops-by (λ _. ⊥) σ (Fold-stops (λ _. ⊥), tt) k
+-- The one refusal of a step's own is 21.
+abbrev pub IsLongWalk : Refusal → Type 0
+IsLongWalk r = r ≡ LongWalk
+
+Clash-stops : (σ : Signature) → RuleStopsBy IsLongWalk (onPair (Clash σ))
+Clash-stops σ l behind = go (Clash σ l behind) (clash-drops walkedPairs (isUnordered σ) l behind)
+  where
+    go : (m : Reply (List Conj)) → Drops m → StopsBy IsLongWalk m
+    go nothing d = tt
+    go (results ks) d = tt
+    go (stops r) d = d
+
+pub step-stops : (σ : Signature) (k : Conj) → StopsBy IsLongWalk (step σ k)
+step-stops σ k = step-stops-by IsLongWalk σ (Fold-stops IsLongWalk, (Clash-stops σ, tt)) k
 
 -- ---- the run
 
@@ -95,22 +109,22 @@ module _ (P : Refusal → Type 0) where
   RunStopsBy (finished ls n) = Unit {0}
   RunStopsBy (refused r) = P r
 
-  module _ (seven : P LongResult) (eight : P LongWaiting) (nine : P LineRoom) (ten : P StepLimit) where
+  module _ (seven : P LongResult) (eight : P LongWaiting) (nine : P LineRoom) (ten : P StepLimit) (walk : P LongWalk) where
     by-lined : (b : Bool) (x : Outcome) → RunStopsBy x → RunStopsBy (elim b [ true ↦ x | false ↦ refused LineRoom ])
     by-lined true x h = h
     by-lined false x h = nine
 
-    by-turned : (m : Reply (List Conj)) → StopsBy (λ _. ⊥) m → (go : List Conj → Outcome) (x : Outcome) → ((ks : List Conj) → RunStopsBy (go ks)) → RunStopsBy x
+    by-turned : (m : Reply (List Conj)) → StopsBy IsLongWalk m → (go : List Conj → Outcome) (x : Outcome) → ((ks : List Conj) → RunStopsBy (go ks)) → RunStopsBy x
         → RunStopsBy (elim m [ results ks ↦ go ks | nothing ↦ x | stops r ↦ refused r ])
     by-turned (results ks) s go x h e = h ks
     by-turned nothing s go x h e = e
-    by-turned (stops r) s go x h e = absurd s
+    by-turned (stops r) s go x h e = subst P (sym s) walk
 
     by-turn : (σ : Signature) (L : Limits) (go : List Numbered → List Conj → List Numbered → Outcome)
         → ((ls : List Numbered) (ks : List Conj) (w : List Numbered) → RunStopsBy (go ls ks w)) → (n : ℕ) (ls w : List Numbered) → RunStopsBy (turn L (step σ) go n ls w)
     by-turn σ L go h n ls [] = tt
     by-turn σ L go h n ls (k ∷ w) =
-        by-turned (step σ (k .literals)) (step-never-stops σ (k .literals)) (λ ks. go ls ks (allOf (k .number) ks ++ w)) _ (λ ks. h ls ks (allOf (k .number) ks ++ w))
+        by-turned (step σ (k .literals)) (step-stops σ (k .literals)) (λ ks. go ls ks (allOf (k .number) ks ++ w)) _ (λ ks. h ls ks (allOf (k .number) ks ++ w))
         (by-lined (linesFit L (ls ++ (k ∷ []))) _ (by-turn σ L go h n (ls ++ (k ∷ [])) w))
 
     by-tested : (b : Bool) (r : Refusal) (x : Outcome) → P r → RunStopsBy x → RunStopsBy (elim b [ true ↦ refused r | false ↦ x ])
@@ -125,7 +139,7 @@ module _ (P : Refusal → Type 0) where
         (λ ms ks v. by-tested (anyLong L ks) LongResult _ seven (by-tested (ltb (L .room) (waitingSize v)) LongWaiting _ eight (by-steps σ L d (suc n) ms v)))
         n ls w
 
-    -- What holds of 7 to 10 holds of the refusal of a run.
+    -- What holds of 7 to 10 and 21 holds of the refusal of a run.
     pub run-stops-by : (L : Limits) (σ : Signature) (w : List Conj) → RunStopsBy (run L σ w)
     unfolding run runBy
     run-stops-by L σ w = by-steps σ L (L .steps) 0 [] (numbered 0 w)

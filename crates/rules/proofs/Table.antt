@@ -2,17 +2,18 @@
 use mathlib.Core.Path.{_≡_, refl}
 use mathlib.Core.Bool.{true, false}
 use mathlib.Core.List.{[], _∷_, map}
-use Rattle.language.specs.Trees.{ε, eqn, mem, isUnordered, anyUnordered, _⧺_}
-use Rattle.rules.specs.Reply.{results}
+use Rattle.language.specs.Trees.{ε, eps, star, eqn, mem, isUnordered, anyUnordered, _⧺_}
+use Rattle.rules.specs.Reply.{nothing, results}
+use Rattle.rules.specs.Walk.{reached, longWalk, shared, commonHedge, commonTerm}
 use Rattle.rules.specs.Rules.{_>>=_, check}
-use Rattle.rules.specs.Places.{atR1, atFold, atF3, atD0, atE1}
+use Rattle.rules.specs.Places.{atR1, atFold, atF3, atD0, atE1, atM2, atClash}
 use Rattle.rules.specs.Step.{search, step}
 use Rattle.rules.specs.Solved.{solved}
 use Rattle.rules.specs.Run.{runFrom, runBy, run}
-use Rattle.rules.specs.Table.{report, Case, fourOrdered, solveIn, solve, table, a, b, f, g, x, p, q, aᴱ, bᴱ}
+use Rattle.rules.specs.Table.{report, Case, fourOrdered, solveIn, solve, table, a, b, f, g, x, p, q, aᴱ, bᴱ, fᴱ}
 
 pub table-holds : map (λ (c : Case). solve (c .question)) table ≡ map (λ (c : Case). c .answer) table
-unfolding isUnordered anyUnordered _>>=_ check search step solved runFrom runBy run solveIn solve
+unfolding isUnordered anyUnordered _>>=_ check reached longWalk shared commonHedge commonTerm search step solved runFrom runBy run solveIn solve
 table-holds = refl
 
 -- "the first rule below that applies to any literal": D0 at the second, though E1 applies to the first; "the earliest literal"; "the written side
@@ -35,6 +36,18 @@ pub folds-found :
     × (search fourOrdered (eqn (f x) (g x) ∷ eqn (g x) (f x) ∷ []) ≡ results (record { rule = atF3; literal = 0; swapped = false }, []))
 unfolding isUnordered anyUnordered _>>=_ check search
 folds-found = (refl, refl, refl, refl, refl)
+
+-- The clash is the last rule, and "the place is the earlier one's": at the first of the two tests of x, whatever stands between; f(a) and f(b) clash below
+-- their symbol; M2 comes before it; and for a hedge variable ε lies in a* and in b*.
+pub clashes-found :
+    (search fourOrdered (mem x aᴱ ∷ mem x bᴱ ∷ []) ≡ results (record { rule = atClash; literal = 0; swapped = false }, []))
+    × (search fourOrdered (mem p aᴱ ∷ mem x (fᴱ aᴱ) ∷ mem p aᴱ ∷ mem x (fᴱ bᴱ) ∷ [])
+    ≡ results (record { rule = atFold; literal = 0; swapped = false }, (mem p aᴱ ∷ mem x (fᴱ aᴱ) ∷ mem x (fᴱ bᴱ) ∷ []) ∷ []))
+    × (search fourOrdered (mem p aᴱ ∷ mem x (fᴱ aᴱ) ∷ mem q bᴱ ∷ mem x (fᴱ bᴱ) ∷ []) ≡ results (record { rule = atClash; literal = 1; swapped = false }, []))
+    × (search fourOrdered (mem x aᴱ ∷ mem x bᴱ ∷ mem (x ⧺ x) aᴱ ∷ []) ≡ results (record { rule = atM2; literal = 2; swapped = false }, (mem x aᴱ ∷ mem x bᴱ ∷ mem x aᴱ ∷ mem x eps ∷ []) ∷ []))
+    × (search fourOrdered (mem p (star aᴱ) ∷ mem p (star bᴱ) ∷ []) ≡ nothing)
+unfolding isUnordered anyUnordered _>>=_ check reached longWalk shared commonHedge commonTerm search
+clashes-found = (refl, refl, refl, refl, refl)
 
 -- "each line shows it (from 0)": the number of the alternative that it descends from, and one without lines is counted
 pub numbers-shown :

@@ -6,9 +6,11 @@ use Prim.Native.Nat.{ℕ}
 use mathlib.Core.Bool.{true, false}
 use lib.Dec.{ltb}
 use Rattle.language.specs.declared.Refusal.the-variants.{ShortSlice}
-use Rattle.language.specs.Limits.{Limits}
+use Rattle.language.specs.Limits.{Limits, walkedPairs}
 use Rattle.language.specs.Trees.{eqn, mem, Conj, eqS, eqF}
 use Rattle.language.specs.Question.{Asked, asks, refuses, readQuestion}
+use Rattle.rules.specs.Reply.{PairRule}
+use Rattle.rules.specs.Clash.{allOrdered, ClashBy}
 use Rattle.rules.specs.Looks.{loneNode, asSymbol, asOver}
 use Rattle.rules.specs.Rules.{EqRule, InRule, _>>=_, check, into, Rule, onEqn, onMem, onPair, R1, R2, Fold, F1, F2, F3, F4, F5, F6, F7, Del1, Del3, D2, E1, E2, E3, E4, E5, E6, M1, M2, M3, M4, M5, M6, M7, M10}
 use Rattle.rules.specs.Step.{Spot, each, first, Step}
@@ -32,6 +34,10 @@ orderedM11 K h R = do
   _ ← check (eqS f (g .0))
   into (mem (a .1) (g .1) ∷ [])
 
+-- Clash: a lone variable is in R and, by a later literal, in S, and no term (or hedge) lies in both.
+abbrev pub orderedClash : PairRule
+orderedClash = ClashBy walkedPairs allOrdered
+
 abbrev pub orderedRules : List Rule
 orderedRules =
     onEqn R1 ∷ onMem R2 ∷ onPair Fold
@@ -40,6 +46,7 @@ orderedRules =
     ∷ onEqn D2 ∷ onEqn orderedD0
     ∷ onEqn E1 ∷ onEqn E2 ∷ onEqn E3 ∷ onEqn E4 ∷ onEqn E5 ∷ onEqn E6
     ∷ onMem M1 ∷ onMem M2 ∷ onMem M3 ∷ onMem M4 ∷ onMem M5 ∷ onMem M6 ∷ onMem M7 ∷ onMem M10 ∷ onMem orderedM11
+    ∷ onPair orderedClash
     ∷ []
 
 unfoldable pub orderedStep : Step

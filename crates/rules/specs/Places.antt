@@ -100,6 +100,13 @@ atM11 = suc atM10
 abbrev pub atM12 : ℕ
 atM12 = suc atM11
 
+abbrev pub atClash : ℕ
+atClash = suc atM12
+
 -- no rule applies: the place after the last
 abbrev pub noRule : ℕ
-noRule = suc atM12
+noRule = suc atClash
+
+-- nor can it be told: a rule of two literals stops the run
+abbrev pub stopsRule : ℕ
+stopsRule = suc noRule

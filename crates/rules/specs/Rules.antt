@@ -1,4 +1,4 @@
--- The rules R1 to M12 and the fold, each a definition of its own, and their order. A rule says, of one literal among others, what stands for it; or, of a
+-- The rules R1 to M12, the fold and the clash, each a definition of its own, and their order. A rule says, of one literal among others, what stands for it; or, of a
 -- literal and those behind it, what stands for all of these.
 use Prim.Native.Nat.{ℕ}
 use mathlib.Core.Bool.{Bool, true, false, not, _&&_}
@@ -7,6 +7,7 @@ use mathlib.Core.Option.{Option, none, some, Option·map}
 use Rattle.language.specs.declared.TermVar.{TermVar}
 use Rattle.language.specs.declared.HedgeVar.{HedgeVar}
 use Rattle.language.specs.declared.FunVar.{FunVar}
+use Rattle.language.specs.Limits.{walkedPairs}
 use Rattle.language.specs.declared.Sym.{Sym}
 use Rattle.language.specs.Kinds.{pick}
 use Rattle.language.specs.declared.Signature.{Signature}
@@ -17,6 +18,7 @@ use Rattle.rules.specs.Looks.{empty, firstTerm, firstRun, loneTerm, lone
 use Rattle.rules.specs.Elements.{struck, disjoint, orders}
 use Rattle.rules.specs.Expressions.{nullable, Monomial, linear}
 use Rattle.rules.specs.Reply.{Reply, nothing, results, PairRule}
+use Rattle.rules.specs.Clash.{ClashBy}
 
 -- ---- what a rule answers
 
@@ -397,6 +399,10 @@ M12 σ K h R = do
   _ ← check (allTerms (a .1))
   some (map (orderMember (g .1)) (orders (a .1)))
 
+-- Clash: a lone variable is in R and, by a later literal, in S, neither mentions an unordered symbol, and no term (or hedge) lies in both.
+abbrev pub Clash : Signature → PairRule
+Clash σ = ClashBy walkedPairs (isUnordered σ)
+
 -- ---- the order
 
 pub data Rule : Type 0 where
@@ -413,4 +419,5 @@ rules σ =
     ∷ onEqn (D1 σ) ∷ onEqn D2 ∷ onEqn (D0 σ)
     ∷ onEqn E1 ∷ onEqn E2 ∷ onEqn E3 ∷ onEqn E4 ∷ onEqn E5 ∷ onEqn E6 ∷ onEqn (E7 σ)
     ∷ onMem M1 ∷ onMem M2 ∷ onMem M3 ∷ onMem M4 ∷ onMem M5 ∷ onMem M6 ∷ onMem M7 ∷ onMem M10 ∷ onMem (M11 σ) ∷ onMem (M12 σ)
+    ∷ onPair (Clash σ)
     ∷ []

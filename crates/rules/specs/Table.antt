@@ -123,7 +123,7 @@ abbrev pub P11 : Case
 P11 = one (mem (p ⧺ q) (fᴱ eps) ∷ []) (settled (mem p (fᴱ eps) ∷ eqn q ε ∷ []) ∷ settled (eqn p ε ∷ mem q (fᴱ eps) ∷ []) ∷ []) 1
 
 abbrev pub P12 : Case
-P12 = one (mem (x ⧺ x) (cat aᴱ bᴱ) ∷ []) (open-line (mem x aᴱ ∷ mem x bᴱ ∷ []) ∷ []) 1
+P12 = one (mem (x ⧺ x) (cat aᴱ bᴱ) ∷ []) [] 2
 
 abbrev pub table : List Case
 table = P1 ∷ P2 ∷ P3 ∷ P4 ∷ P5 ∷ P6 ∷ P7 ∷ P8 ∷ P9 ∷ P10 ∷ P11 ∷ P12 ∷ []

@@ -65,5 +65,10 @@ pub const AT_M11: usize = AT_M10 + 1;
 
 pub const AT_M12: usize = AT_M11 + 1;
 
+pub const AT_CLASH: usize = AT_M12 + 1;
+
 // No rule applies: the place after the last.
-pub const NO_RULE: usize = AT_M12 + 1;
+pub const NO_RULE: usize = AT_CLASH + 1;
+
+// A rule of two literals stops the run.
+pub const STOPS: usize = NO_RULE + 1;

@@ -11,18 +11,20 @@ use Rattle.language.specs.declared.Signature.{Signature}
 use Rattle.language.specs.Kinds.{pick}
 use Rattle.language.specs.Trees.{Hedge, Expr, Literal, eqn, mem, Conj}
 use Rattle.language.specs.Writing.{literalWords, conjWords}
-use Rattle.rules.specs.Places.{atFold, noRule}
+use Rattle.rules.specs.Places.{atFold, atClash, noRule}
 use Rattle.views.specs.Standing.{LiteralAt}
 use Rattle.rules.specs.Ranks.{eqnRank, memRank}
 use Rattle.search.specs.Ranking.{Ranked, Sought, Found}
 use Rattle.search.proofs.Ranks.{rank-written, rank-swapped, rank-member}
 use Rattle.views.proofs.LiteralWalks.{literal-some}
-use Rattle.folding.specs.Twice.{firstTwice}
+use Rattle.folding.specs.Twice.{firstTwice, Once}
 use Rattle.folding.proofs.Folds.{found-none, found-at}
+use Rattle.clashes.specs.declared.Clashing.{Clashing}
+use Rattle.clashes.specs.Pairs.{firstClash}
 use Rattle.search.proofs.Applied.{idle-low, idle-once}
-use Rattle.search.proofs.Pass.{start, below, keep, better, finish, finish-fold}
+use Rattle.search.proofs.Pass.{start, below, keep, better, finish, finish-fold, finish-clash}
 use Rattle.search.specs.declared.Best.{Best}
-use Rattle.search.specs.Seeking.{best, lesserOf, bestAt, bestFrom, bestAlone, bestFold, bestOf}
+use Rattle.search.specs.Seeking.{best, lesserOf, bestAt, bestFrom, bestAlone, bestFold, bestBeforeClash, clashBest, bestClash, bestOf}
 
 -- ---- one literal
 
@@ -111,18 +113,61 @@ alone-sought σ c = pass-all σ (best noRule 0 false) [] c (start σ c 0 false)
 abbrev Finds : Signature → Conj → Best → Type 0
 Finds σ c b = Found σ c (b .rank) (b .at) (b .swap)
 
--- what is found: by the pass's best, whether a literal stands twice, and which of the two is less
+-- what is found before the clash: by the pass's best, whether a literal stands twice, and which of the two is less
 found-by : (σ : Signature) (c : Conj) (a : Best) → Seeks σ c [] a → (twice less : Bool) → ltb (firstTwice c) (length (conjWords c)) ≡ twice → ltb (pick twice atFold noRule) (a .rank) ≡ less
+    → pick less (best (pick twice atFold noRule) (firstTwice c) false) a .rank < atClash
     → Finds σ c (pick less (best (pick twice atFold noRule) (firstTwice c) false) a)
-found-by σ c a s true true d e =
+found-by σ c a s true true d e h =
     finish-fold σ c (a .rank) (a .at) (a .swap) (let h = ltb-true atFold (a .rank) e in omega arith) s (firstTwice c) (found-at c (firstTwice c) refl (ltb-true _ _ d))
-found-by σ c a s true false d e = finish σ c (a .rank) (a .at) (a .swap) (idle-low σ c (a .rank) (ltb-false atFold (a .rank) e)) s
-found-by σ c a s false true d e = absurd (let h = ltb-true noRule (a .rank) e in let b = below σ c [] (a .rank) (a .at) (a .swap) s in omega arith)
-found-by σ c a s false false d e = finish σ c (a .rank) (a .at) (a .swap) (idle-once σ c (found-none c (firstTwice c) refl (ltb-false _ _ d)) (a .rank)) s
+found-by σ c a s true false d e h = finish σ c (a .rank) (a .at) (a .swap) (idle-low σ c (a .rank) (ltb-false atFold (a .rank) e)) s
+found-by σ c a s false true d e h = absurd (omega arith)
+found-by σ c a s false false d e h = finish σ c (a .rank) (a .at) (a .swap) (idle-once σ c (found-none c (firstTwice c) refl (ltb-false _ _ d)) (a .rank) (omega arith)) s
+
+-- where nothing is: no literal stands twice, and no rule of one literal applies
+none-by : (c : Conj) (a : Best) → a .rank ≤ noRule → (twice less : Bool) → ltb (firstTwice c) (length (conjWords c)) ≡ twice → ltb (pick twice atFold noRule) (a .rank) ≡ less
+    → atClash ≤ pick less (best (pick twice atFold noRule) (firstTwice c) false) a .rank
+    → Once c [] × (atClash ≤ a .rank)
+none-by c a b true true d e h = absurd (omega arith)
+none-by c a b true false d e h = absurd (let z = ltb-false atFold (a .rank) e in omega arith)
+none-by c a b false true d e h = absurd (let z = ltb-true noRule (a .rank) e in omega arith)
+none-by c a b false false d e h = (found-none c (firstTwice c) refl (ltb-false _ _ d), h)
+
+before-found : (σ : Signature) (c : Conj) → bestBeforeClash σ c .rank < atClash → Finds σ c (bestBeforeClash σ c)
+unfolding bestBeforeClash bestFold
+before-found σ c = found-by σ c (bestAlone σ c) (alone-sought σ c) (ltb (firstTwice c) (length (conjWords c))) _ refl refl
+
+clash-found : (σ : Signature) (c : Conj) → atClash ≤ bestBeforeClash σ c .rank → Finds σ c (bestClash σ c)
+unfolding bestBeforeClash bestFold bestClash
+clash-found σ c h =
+    let a = bestAlone σ c in
+    let s = alone-sought σ c in
+    let (o, n) = none-by c a (below σ c [] (a .rank) (a .at) (a .swap) s) (ltb (firstTwice c) (length (conjWords c))) _ refl refl h in
+    finish-clash σ c (a .rank) (a .at) (a .swap) n s o
 
 pub best-found : (σ : Signature) (c : Conj) (b : Best) → b ≡ bestOf σ c → Found σ c (b .rank) (b .at) (b .swap)
-unfolding bestOf bestFold
-best-found σ c b e = subst (Finds σ c) (sym e) (found-by σ c (bestAlone σ c) (alone-sought σ c) (ltb (firstTwice c) (length (conjWords c))) _ refl refl)
+unfolding bestOf
+best-found σ c b e = subst (Finds σ c) (sym e) (go (ltb (bestBeforeClash σ c .rank) atClash) refl)
+  where
+    go : (t : Bool) → ltb (bestBeforeClash σ c .rank) atClash ≡ t → Finds σ c (pick t (bestBeforeClash σ c) (bestClash σ c))
+    go true d = before-found σ c (ltb-true _ _ d)
+    go false d = clash-found σ c (ltb-false _ _ d)
+
+-- ---- the clash beside what stands before it
+
+-- where a rule before it applies, it is not looked for
+pub before-best : (σ : Signature) (c : Conj) (b : Best) → b ≡ bestBeforeClash σ c → b .rank < atClash → b ≡ bestOf σ c
+unfolding bestOf
+before-best σ c b e h =
+    e ∙ ap (λ t. pick t (bestBeforeClash σ c) (bestClash σ c)) (sym (lt-ltb (bestBeforeClash σ c .rank) atClash (let d = ap (λ b. b .rank) e in omega arith)))
+
+pub clash-best : (σ : Signature) (c : Conj) (b r : Best) → b ≡ bestBeforeClash σ c → atClash ≤ b .rank → r ≡ bestClash σ c → r ≡ bestOf σ c
+unfolding bestOf
+clash-best σ c b r e h d =
+    d ∙ ap (λ t. pick t (bestBeforeClash σ c) (bestClash σ c)) (sym (le-ltb (bestBeforeClash σ c .rank) atClash (let z = ap (λ b. b .rank) e in omega arith)))
+
+pub clash-of : (σ : Signature) (c : Conj) (v : Clashing) → v ≡ firstClash σ 0 c → clashBest v ≡ bestClash σ c
+unfolding bestClash
+clash-of σ c v e = ap clashBest e
 
 -- ---- the fold beside the pass
 
@@ -135,13 +180,13 @@ fold-rank c = go (ltb (firstTwice c) (length (conjWords c)))
     go false = omega arith
 
 -- where a rule before the fold applies, the fold is not looked for
-pub alone-best : (σ : Signature) (c : Conj) (a : Best) → a ≡ bestAlone σ c → a .rank < atFold → a ≡ bestOf σ c
-unfolding bestOf
+pub alone-best : (σ : Signature) (c : Conj) (a : Best) → a ≡ bestAlone σ c → a .rank < atFold → a ≡ bestBeforeClash σ c
+unfolding bestBeforeClash
 alone-best σ c a e h =
     e ∙ ap (λ t. pick t (bestFold c) (bestAlone σ c)) (sym (le-ltb (bestFold c .rank) (bestAlone σ c .rank) (let f = fold-rank c in let d = ap (λ b. b .rank) e in omega arith)))
 
-pub both-best : (σ : Signature) (c : Conj) (a f r : Best) → a ≡ bestAlone σ c → f ≡ bestFold c → r ≡ lesserOf a f → r ≡ bestOf σ c
-unfolding bestOf
+pub both-best : (σ : Signature) (c : Conj) (a f r : Best) → a ≡ bestAlone σ c → f ≡ bestFold c → r ≡ lesserOf a f → r ≡ bestBeforeClash σ c
+unfolding bestBeforeClash
 both-best σ c a f r e d g = g ∙ ap₂ lesserOf e d
 
 pub fold-there : (c : Conj) (at : ℕ) → at ≡ firstTwice c → at < length (conjWords c) → best atFold at false ≡ bestFold c

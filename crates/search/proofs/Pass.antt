@@ -8,17 +8,23 @@ use mathlib.Core.Option.{none, some}
 use native.Mathlib.Nat.{zero-add}
 use lib.ListN.{length, drop}
 use Rattle.language.specs.declared.Signature.{Signature}
+use Rattle.language.specs.declared.Refusal.the-variants.{LongWalk}
 use Rattle.language.specs.Trees.{Literal, Conj}
 use Rattle.language.specs.Writing.{conjWords}
-use Rattle.rules.specs.Reply.{Reply, nothing, results}
-use Rattle.rules.specs.Rules.{Branch, Answer, folded, rules}
-use Rattle.rules.specs.Step.{orNext, each, place, placed, Spot, first, search, step}
-use Rattle.rules.specs.Places.{atR2, atFold, noRule}
+use Rattle.rules.specs.Reply.{Reply, nothing, results, stops}
+use Rattle.rules.specs.Rules.{Branch, Answer, folded, Clash, onPair, rules}
+use Rattle.rules.specs.Step.{orNext, each, place, placed, Spot, earliest, first, search, step}
+use Rattle.rules.specs.Places.{atR2, atFold, atM12, atClash, noRule}
+use Rattle.folding.specs.Twice.{Once}
 use Rattle.folding.proofs.Folds.{strike-some, FoldAt, foldOf, fold-found}
-use Rattle.search.specs.Ranking.{Tried, sided, tried, applies, replyAt, litRank, sideAnswer, Ranked, Each, NotBelow, Above, Sought, unmet, least, Found, nowhere, somewhere}
+use Rattle.clashes.specs.declared.Clashing.{Clashing}
+use Rattle.clashes.specs.Pairs.{firstClash}
+use Rattle.search.specs.Ranking.{Tried, sided, tried, applies, replyAt, litRank, sideAnswer, Ranked, Each, NotBelow, Above, Sought, unmet, least, Found, nowhere, halted, somewhere}
+use Rattle.search.specs.Seeking.{clashBest}
 use Rattle.search.proofs.Ranks.{rank-applies}
 use Rattle.search.proofs.First.{each-map, each-append, PairsIdle, skip, found-first}
-use Rattle.search.proofs.Applied.{idle-low, answer-results, fold-results}
+use Rattle.search.proofs.Applied.{idle-low, idle-once, answer-results, fold-results, clash-results}
+use Rattle.search.proofs.Clashed.{Seen, none-there, one-there, not-told, seen}
 
 pub start : (σ : Signature) (c : Conj) (at : ℕ) (swap : Bool) → Sought σ [] c noRule at swap
 start σ c at swap = unmet refl tt
@@ -82,6 +88,25 @@ finish-fold σ c n at swap h s place f =
     (fold-results σ false (f .before) (f .l) (f .behind) ∙ ap (λ w. each (map (λ (k : Conj). f .before ++ k)) (folded (f .l) w)) (strike-some (f .l) (f .behind) (f .twice) .is))
     (skip 0 atFold (rules σ) c (omega arith) (passed σ c [] n at swap atR2 h s) (idle-low σ c atFold (omega arith))
     ∙ ap (λ a. orNext a (λ _. first (suc atFold) (drop (suc atFold) (rules σ)) c)) (fold-found atFold c place f))
+
+-- the clash, where no rule applies before it
+pub finish-clash : (σ : Signature) (c : Conj) (n at : ℕ) (swap : Bool) → atClash ≤ n → Sought σ c [] n at swap → Once c []
+    → Found σ c (clashBest (firstClash σ 0 c) .rank) (clashBest (firstClash σ 0 c) .at) (clashBest (firstClash σ 0 c) .swap)
+unfolding litRank search
+finish-clash σ c n at swap h s o = go (firstClash σ 0 c) (seen σ 0 0 [] c)
+  where
+    reach : (m : Reply (Spot × List Conj)) → earliest atClash (onPair (Clash σ)) 0 [] c ≡ m → search σ c ≡ orNext m (λ _. nothing)
+    reach m e =
+        skip 0 atClash (rules σ) c (omega arith) (passed σ c [] n at swap atM12 h s) (idle-once σ c o atClash (omega arith))
+        ∙ ap (λ a. orNext a (λ _. nothing)) e
+
+    go : (v : Clashing) → Seen σ 0 0 [] c v → Found σ c (clashBest v .rank) (clashBest v .at) (clashBest v .swap)
+    go v (none-there e f) = subst (λ v. Found σ c (clashBest v .rank) (clashBest v .at) (clashBest v .swap)) (sym e) (nowhere refl (reach nothing f))
+    go v (one-there mid l behind w d a f) =
+        subst (λ v. Found σ c (clashBest v .rank) (clashBest v .at) (clashBest v .swap)) (sym d)
+        (somewhere mid l behind [] w (zero-add (length (conjWords mid))) (omega arith) (clash-results σ false mid l behind ∙ ap (each (map (λ (k : Conj). mid ++ k))) a)
+        (reach _ f ∙ ap (λ i. results (record { rule = atClash; literal = i; swapped = false }, [])) (zero-add (length mid))))
+    go v (not-told e f) = subst (λ v. Found σ c (clashBest v .rank) (clashBest v .at) (clashBest v .swap)) (sym e) (halted refl (reach (stops LongWalk) f))
 
 -- the step is what the search finds, without its place
 pub searched : (σ : Signature) (c : Conj) (m : Reply (Spot × List Conj)) → search σ c ≡ m → step σ c ≡ each (λ (f : Spot × List Conj). f .1) m

@@ -6,13 +6,14 @@ use mathlib.Core.Bool.{Bool, true, false}
 use mathlib.Core.List.{List, [], _∷_, _++_, map}
 use lib.ListN.{length}
 use Rattle.language.specs.declared.Signature.{Signature}
+use Rattle.language.specs.declared.Refusal.the-variants.{LongWalk}
 use Rattle.language.specs.Kinds.{pick}
 use Rattle.language.specs.Trees.{Literal, eqn, mem, Conj}
 use Rattle.language.specs.Writing.{conjWords}
 use Rattle.rules.specs.Reply.{Reply, nothing, results, stops}
 use Rattle.rules.specs.Rules.{Answer, Rule, onEqn, onMem, onPair, rules}
 use Rattle.rules.specs.Step.{orNext, each, placed, resultsAt, search}
-use Rattle.rules.specs.Places.{noRule}
+use Rattle.rules.specs.Places.{noRule, stopsRule}
 use Rattle.rules.specs.Ranks.{eqnAnswer, memAnswer}
 
 -- ---- the rules at one literal
@@ -104,10 +105,11 @@ pub data Sought (σ : Signature) (done rest : Conj) (n at : ℕ) (swap : Bool) :
       → Each (NotBelow σ n) (before ++ (l ∷ [])) mid rest
       → Sought σ done rest n at swap
 
--- What is found in the whole conjunction: no rule applies; or the literal at this place, and the search finds the rule of rank n there, at that
+-- What is found in the whole conjunction: no rule applies; it cannot be told whether one does; or the literal at this place, and the search finds the rule of rank n there, at that
 -- literal by its number, with these results.
 pub data Found (σ : Signature) (c : Conj) (n at : ℕ) (swap : Bool) : Type 0 where
   nowhere : n ≡ noRule → search σ c ≡ nothing → Found σ c n at swap
+  halted : n ≡ stopsRule → search σ c ≡ stops LongWalk → Found σ c n at swap
   somewhere : (before : Conj) (l : Literal) (behind : Conj) (ks : List Conj) → c ≡ before ++ (l ∷ behind) → at ≡ length (conjWords before)
       → n < noRule → sideResults σ swap n before l behind ≡ results ks
       → search σ c ≡ results (record { rule = n; literal = length before; swapped = swap }, ks)

@@ -8,9 +8,12 @@ use Rattle.language.specs.declared.Signature.{Signature}
 use Rattle.language.specs.Kinds.{pick}
 use Rattle.language.specs.Trees.{Literal, eqn, mem, Conj}
 use Rattle.language.specs.Writing.{conjWords}
-use Rattle.rules.specs.Places.{atFold, noRule}
+use Rattle.rules.specs.Places.{atFold, atClash, noRule, stopsRule}
 use Rattle.rules.specs.Ranks.{eqnRank, memRank}
 use Rattle.folding.specs.Twice.{firstTwice}
+use Rattle.clashes.specs.declared.Clashing.{Clashing}
+use Rattle.clashes.specs.declared.Clashing.the-variants.{Nowhere, At, Stopped}
+use Rattle.clashes.specs.Pairs.{firstClash}
 use Rattle.search.specs.declared.Best.{Best}
 
 abbrev pub best : ℕ → ℕ → Bool → Best
@@ -39,6 +42,19 @@ bestAlone σ c = bestFrom σ (best noRule 0 false) [] c
 unfoldable pub bestFold : Conj → Best
 bestFold c = best (pick (ltb (firstTwice c) (length (conjWords c))) atFold noRule) (firstTwice c) false
 
--- of a whole conjunction; rank `noRule`, where no rule applies
+-- by the rules of one literal and the fold
+unfoldable pub bestBeforeClash : Signature → Conj → Best
+bestBeforeClash σ c = lesserOf (bestAlone σ c) (bestFold c)
+
+-- the clash, at the earliest literal whose test clashes with a later one, or that it cannot be told
+abbrev pub clashBest : Clashing → Best
+clashBest Nowhere = best noRule 0 false
+clashBest (At at) = best atClash at false
+clashBest Stopped = best stopsRule 0 false
+
+unfoldable pub bestClash : Signature → Conj → Best
+bestClash σ c = clashBest (firstClash σ 0 c)
+
+-- of a whole conjunction; rank `noRule`, where no rule applies, and `stopsRule`, where that cannot be told
 unfoldable pub bestOf : Signature → Conj → Best
-bestOf σ c = lesserOf (bestAlone σ c) (bestFold c)
+bestOf σ c = pick (ltb (bestBeforeClash σ c .rank) atClash) (bestBeforeClash σ c) (bestClash σ c)

@@ -8,13 +8,17 @@ ghost use Rattle.language.specs.Writing.{conjWords};
 ghost use Rattle.language.specs.Fine.{fineConj};
 ghost use Rattle.views.specs.Standing.{LiteralAt, SomeLiteral, Conjunction};
 ghost use Rattle.rules.specs.Places.{noRule};
-ghost use Rattle.search.specs.Seeking.{lesserOf, bestAt, bestAlone, bestFold, bestOf};
+ghost use Rattle.search.specs.Seeking.{lesserOf, bestAt, bestAlone, bestFold, bestBeforeClash, bestClash, bestOf};
+use clashes::Clashing;
+use clashes::first_clash;
 use equations::rank_equation;
 use folding::first_twice;
 use language::Signature;
 use memberships::rank_membership;
+use rules::places::AT_CLASH;
 use rules::places::AT_FOLD;
 use rules::places::NO_RULE;
+use rules::places::STOPS;
 use views::see;
 use views::show_membership;
 use views::swapped;
@@ -129,15 +133,53 @@ fn find_fold(k: &[u16]) -> Best
     }
 }
 
-// The first rule that applies, at the earliest literal. The fold is looked for only where no rule before it applies.
-pub fn find(k: &[u16], s: Signature) -> Best
+// The clash, at the earliest literal whose test clashes with a later one.
+fn find_clash(k: &[u16], s: Signature) -> Best
     requires { ⌜ length (now k) ≤ desk .question ⌝ }
     requires { ⌜ Conjunction (now k) ⌝ }
-    ensures { λ b. ⌜ (b .rank < noRule → b .at < length (now (k .entry))) × ((c : Conj) → fineConj desk c → now (k .entry) ≡ conjWords c → b ≡ bestOf s c) ⌝ }
+    ensures { λ b. ⌜ (b .rank < noRule → b .at < length (now (k .entry))) × ((c : Conj) → fineConj desk c → now (k .entry) ≡ conjWords c → b ≡ bestClash s c) ⌝ }
+{
+    match first_clash(k, s) {
+        Clashing::Nowhere => Best {
+            rank: NO_RULE,
+            at: 0,
+            swap: false,
+        },
+        Clashing::At(at) => Best {
+            rank: AT_CLASH,
+            at,
+            swap: false,
+        },
+        Clashing::Stopped => Best {
+            rank: STOPS,
+            at: 0,
+            swap: false,
+        },
+    }
+}
+
+// By the rules of one literal and the fold, which is looked for only where no rule before it applies.
+fn find_before_clash(k: &[u16], s: Signature) -> Best
+    requires { ⌜ length (now k) ≤ desk .question ⌝ }
+    requires { ⌜ Conjunction (now k) ⌝ }
+    ensures { λ b. ⌜ (b .rank < noRule → b .at < length (now (k .entry))) × ((c : Conj) → fineConj desk c → now (k .entry) ≡ conjWords c → b ≡ bestBeforeClash s c) ⌝ }
 {
     let alone = find_alone(k, s);
     if alone.rank < AT_FOLD {
         return alone;
     }
     lesser(alone, find_fold(k))
+}
+
+// The first rule that applies, at the earliest literal. The clash is looked for only where no other rule applies.
+pub fn find(k: &[u16], s: Signature) -> Best
+    requires { ⌜ length (now k) ≤ desk .question ⌝ }
+    requires { ⌜ Conjunction (now k) ⌝ }
+    ensures { λ b. ⌜ (b .rank < noRule → b .at < length (now (k .entry))) × ((c : Conj) → fineConj desk c → now (k .entry) ≡ conjWords c → b ≡ bestOf s c) ⌝ }
+{
+    let b = find_before_clash(k, s);
+    if b.rank < AT_CLASH {
+        return b;
+    }
+    find_clash(k, s)
 }

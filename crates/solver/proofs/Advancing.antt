@@ -8,15 +8,15 @@ use lib.ListN.{length, take, drop, replicate, length-replicate}
 use lib.Seq.{sets, slice, sets-eq, take-at}
 use Rattle.language.specs.declared.Signature.{Signature}
 use Rattle.language.specs.Limits.{desk}
-use Rattle.language.specs.declared.Refusal.the-variants.{LongResult, LongWaiting, StepLimit}
+use Rattle.language.specs.declared.Refusal.the-variants.{LongResult, LongWaiting, StepLimit, LongWalk}
 use Rattle.language.specs.Trees.{Literal, Conj}
 use Rattle.language.specs.Writing.{conjWords}
-use Rattle.rules.specs.Reply.{nothing, results}
+use Rattle.rules.specs.Reply.{nothing, results, stops}
 use Rattle.rules.specs.Step.{step}
 use Rattle.rules.specs.Places.{noRule}
 use Rattle.rules.specs.Run.{Numbered}
 use Rattle.frames.specs.Frames.{frame, framedLength}
-use Rattle.search.specs.Ranking.{Found, nowhere, somewhere, sideResults}
+use Rattle.search.specs.Ranking.{Found, nowhere, halted, somewhere, sideResults}
 use Rattle.steps.specs.Asking.{RuleAt}
 use Rattle.search.specs.Seeking.{bestOf}
 use Rattle.search.specs.declared.Best.{Best}
@@ -37,6 +37,7 @@ module _ (oldWork oldAnswer : List ℕ) (ls : List Numbered) (c : Numbered) (w :
     (n at : ℕ) (swap : Bool) (h : n < noRule) where
   pub limit-met : Found (s .signature) (c .literals) n at swap → desk .steps ≤ s .steps → Turns oldWork oldAnswer ls (c ∷ w) s (Stop StepLimit) work answer
   limit-met (nowhere e f) g = absurd (omega arith)
+  limit-met (halted e f) g = absurd (omega arith)
   limit-met (somewhere before l behind ks e q m a d) g = no-more-steps oldWork oldAnswer ls c w s work answer p k ek next en ks (searched (s .signature) (c .literals) _ d) g
 
   module _ (g : s .steps < desk .steps) (r : Stepped) (new : List ℕ)
@@ -45,6 +46,7 @@ module _ (oldWork oldAnswer : List ℕ) (ls : List Numbered) (c : Numbered) (w :
     -- what is shown from what was found and taken
     both : (Q : Type 0) → ((ks : List Conj) → step (s .signature) (c .literals) ≡ results ks → Took (c .number) (map conjWords ks) work next r new → Q) → Found (s .signature) (c .literals) n at swap → Q
     both Q u (nowhere e d) = absurd (omega arith)
+    both Q u (halted e d) = absurd (omega arith)
     both Q u (somewhere before l behind ks e q m a d) = u ks (searched (s .signature) (c .literals) _ d)
         (subst (λ m. Took m (map conjWords ks) work next r new) eu (f before l behind ks (stands-here k (c .literals) (p .fine .0) ek at before l behind e q) a))
 
@@ -83,9 +85,20 @@ module _ (oldWork oldAnswer : List ℕ) (ls : List Numbered) (c : Numbered) (w :
             (step-on oldWork oldAnswer ls c w s work answer p k ek next en _ d g _ refl m o here new i y)
 
 -- where nothing was found, no rule applies
-pub none-found : (σ : Signature) (c : Conj) (n at : ℕ) (swap : Bool) → Found σ c n at swap → noRule ≤ n → step σ c ≡ nothing
+pub none-found : (σ : Signature) (c : Conj) (n at : ℕ) (swap : Bool) → Found σ c n at swap → n ≡ noRule → step σ c ≡ nothing
 none-found σ c n at swap (nowhere e d) h = searched σ c _ d
+none-found σ c n at swap (halted e d) h = absurd (omega arith)
 none-found σ c n at swap (somewhere before l behind ks e q m a d) h = absurd (omega arith)
+
+-- where it could not be told, the step says why
+pub halt-found : (σ : Signature) (c : Conj) (n at : ℕ) (swap : Bool) → Found σ c n at swap → noRule < n → step σ c ≡ stops LongWalk
+halt-found σ c n at swap (nowhere e d) h = absurd (omega arith)
+halt-found σ c n at swap (halted e d) h = searched σ c _ d
+halt-found σ c n at swap (somewhere before l behind ks e q m a d) h = absurd (omega arith)
+
+-- and else something was found
+pub below-all : {n : ℕ} → (n ≡ noRule → ⊥) → n ≤ noRule → n < noRule
+below-all {n} a b = omega (arith, a)
 
 -- where something was found, its rule applies there
 pub rule-found : (σ : Signature) (k : List ℕ) (x : Conjunction k) (b : Best) → b ≡ bestOf σ (x .conj) → b .rank < noRule → RuleAt σ k b
@@ -93,6 +106,7 @@ rule-found σ k x b e h = go (best-found σ (x .conj) b e)
   where
     go : Found σ (x .conj) (b .rank) (b .at) (b .swap) → RuleAt σ k b
     go (nowhere n d) = absurd (omega arith)
+    go (halted n d) = absurd (omega arith)
     go (somewhere before l behind ks s q m a d) = record {
       before = before;
       l = l;

@@ -15,6 +15,7 @@ use Rattle.language.specs.Trees.{Conj}
 use Rattle.language.specs.Writing.{conjWords}
 use Rattle.language.specs.Fine.{fineConj}
 use Rattle.rules.specs.Reply.{nothing, results}
+use Rattle.rules.specs.Reply as reply
 use Rattle.rules.specs.Step.{step}
 use Rattle.rules.specs.Run.{Numbered, allOf, size, waitingSize, linesFit, refused, runFrom}
 use Rattle.rules.specs.Answer.{answerWords}
@@ -33,7 +34,7 @@ use Rattle.solver.specs.declared.State.{State}
 use Rattle.solver.specs.declared.Turned.the-variants.{On, Stop}
 use Rattle.steps.specs.Taking.{room}
 use Rattle.solver.specs.Running.{blockOf, Running, leftOf, Kept, Turns, on, stop}
-use Rattle.solver.proofs.Turns.{run-line, run-full, run-limit, run-long, run-room, run-step}
+use Rattle.solver.proofs.Turns.{run-line, run-full, run-stops, run-limit, run-long, run-room, run-step}
 use Rattle.solver.proofs.Lengths.{waiting-append, words-waiting, blocks-all, each-of, short-words, lines-fit, lines-many, lines-past}
 
 -- ---- the words past the room
@@ -120,6 +121,12 @@ module _ (oldWork oldAnswer : List ℕ) (ls : List Numbered) (c : Numbered) (w :
           })
           (sym (run-line desk (step (s .signature)) (s .steps) ls c w (desk .steps - s .steps) e (lines-fit (ls ++ (c ∷ [])) (l .few) (l .room))))
           (let z = rests .place in let y : desk .room - next < desk .room - s .at = omega arith in omega arith)
+
+    -- ---- it cannot be told whether one applies
+
+    pub not-told : (r : Refusal) → step (s .signature) (c .literals) ≡ reply.stops r → Turns oldWork oldAnswer ls (c ∷ w) s (Stop r) work answer
+    unfolding leftOf
+    not-told r e = stops r (sym (run-stops desk (step (s .signature)) (s .steps) ls c w (desk .steps - s .steps) r e))
 
     -- ---- a rule applies
 

@@ -4,6 +4,7 @@ use mathlib.Core.Path.{_≡_, refl, ap, _∙_}
 use mathlib.Core.Bool.{Bool, true, false}
 use mathlib.Core.List.{List, [], _∷_, _++_}
 use lib.Dec.{ltb}
+use Rattle.language.specs.declared.Refusal.{Refusal}
 use Rattle.language.specs.declared.Refusal.the-variants.{LongResult, LongWaiting, LineRoom, StepLimit}
 use Rattle.language.specs.Limits.{Limits}
 use Rattle.language.specs.Trees.{Conj}
@@ -42,6 +43,18 @@ module _ (L : Limits) (by : Step) where
           at : (d : ℕ) → runFrom L by d n ls (k ∷ w) ≡ refused LineRoom
           at zero = fitting false f _
           at (suc d) = fitting false f _
+
+    -- it cannot be told whether one applies: its number, whatever the steps left
+    pub run-stops : (d : ℕ) (r : Refusal) → by (k .literals) ≡ stops r → runFrom L by d n ls (k ∷ w) ≡ refused r
+    unfolding runFrom
+    run-stops d r e = at d
+      where
+        ended : (go : List Numbered → List Conj → List Numbered → Outcome) → turn L by go n ls (k ∷ w) ≡ refused r
+        ended go = ap (λ m. elim m [ results ks ↦ go ls ks (allOf (k .number) ks ++ w) | nothing ↦ lined L (ls ++ (k ∷ [])) (λ ms. turn L by go n ms w) | stops r ↦ refused r ]) e
+
+        at : (d : ℕ) → runFrom L by d n ls (k ∷ w) ≡ refused r
+        at zero = ended _
+        at (suc d) = ended _
 
     -- a rule applies: 10, 7, 8, or a step
     module _ (ks : List Conj) (e : by (k .literals) ≡ results ks) where

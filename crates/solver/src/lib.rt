@@ -131,8 +131,11 @@ fn turn_with(
 {
     let signature = s.signature;
     let b = find(k, signature);
-    if NO_RULE <= b.rank {
+    if b.rank == NO_RULE {
         return line(k, number, next, answer, s);
+    }
+    if NO_RULE < b.rank {
+        return Turned::Stop(Refusal::LongWalk);
     }
     advance(k, b, number, work, next, s)
 }

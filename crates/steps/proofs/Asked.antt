@@ -8,7 +8,7 @@ use mathlib.Core.Option.{some}
 use lib.ListN.{getD}
 use Rattle.language.specs.declared.Signature.{Signature}
 use Rattle.language.specs.Trees.{Hedge, Expr, Literal, eqn, mem, Conj}
-use Rattle.rules.specs.Places.{atM2, atFold}
+use Rattle.rules.specs.Places.{atM2, atFold, atClash}
 use Rattle.views.specs.declared.View.{View}
 use Rattle.views.specs.declared.Shape.{Shape}
 use Rattle.views.specs.Views.{Sees, Shows, MembershipAt}
@@ -95,9 +95,9 @@ module _ (σ : Signature) (k : List ℕ) (b : Best) (m : AnswerAt σ k b) where
 
 -- ---- what a step is asked to have
 
-pub answer-at : (σ : Signature) (k : List ℕ) (b : Best) → RuleAt σ k b → (b .rank ≡ atFold → ⊥) → AnswerAt σ k b
-answer-at σ k b m z =
-    let r = results-answer σ (b .swap) (b .rank) (m .before) (m .l) (m .behind) (m .made) z (m .applies) in
+pub answer-at : (σ : Signature) (k : List ℕ) (b : Best) → RuleAt σ k b → (b .rank ≡ atFold → ⊥) → (b .rank ≡ atClash → ⊥) → AnswerAt σ k b
+answer-at σ k b m z y =
+    let r = results-answer σ (b .swap) (b .rank) (m .before) (m .l) (m .behind) (m .made) z y (m .applies) in
     record { before = m .before; l = m .l; behind = m .behind; branches = r .branches; stands = m .stands; answer = r .answer }
 
 pub fold-at : (σ : Signature) (k : List ℕ) (b : Best) → RuleAt σ k b → b .rank ≡ atFold → FoldHere k (b .at)

@@ -45,6 +45,12 @@ module _ (number : ℕ) (ws : List (List ℕ)) (old : List ℕ) (next : ℕ) (s 
       pub took-done : (new : List ℕ) (end : ℕ) → Wrote old (next - n) (inFrames number ws) new end → Took number ws old next (Done (next - n)) new
       took-done new end w = done n (next - n) refl (sym es ∙ e) (omega arith) (w .list)
 
+-- ---- the clash, which leaves nothing
+
+pub took-none : (number : ℕ) {ws : List (List ℕ)} (old : List ℕ) (next : ℕ) → ws ≡ [] → Took number ws old next (Done next) old
+unfolding sized
+took-none number old next e = rw e (done 0 next refl refl (omega arith) refl)
+
 -- ---- M2
 
 first-parts : (h : Hedge) → Where (λ a. a ≡ (head h, tail h)) (firstTerm h)

@@ -29,6 +29,7 @@ use plans::Ways;
 use plans::few;
 use results::size_results;
 use results::write_results;
+use rules::places::AT_CLASH;
 use rules::places::AT_FOLD;
 use rules::places::AT_M2;
 use search::Best;
@@ -148,6 +149,10 @@ pub fn take_step(
     }
     if b.rank == AT_FOLD {
         return step_planned(k, plan_fold(k, b.at), number, out, next);
+    }
+    if b.rank == AT_CLASH {
+        // it leaves nothing
+        return Stepped::Done(next);
     }
     step_planned(k, plan_at(k, b, s), number, out, next)
 }

@@ -15,6 +15,7 @@ pub fn help() {
     say(b"                           the same; blanks that may be anything are then a0, and\n");
     say(b"                           else the last symbol\n");
     say(b"desk day FILE..            a table of many questions: a row for each file\n");
+    say(b"desk overlap FILE          which live rules of a sheet can meet\n");
     say(b"\n");
     say(b"A file holds words in decimal; # begins a remark, and - is standard input.\n");
     say(b"The folder examples has some questions.\n");

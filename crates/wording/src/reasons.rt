@@ -36,7 +36,7 @@ fn of_question(n: u64) {
     }
 }
 
-// 7 to 10: the run meets a limit.
+// 7 to 10, and 21: the run meets a limit.
 fn of_run(n: u64) {
     match n {
         7 => explain(
@@ -50,6 +50,10 @@ fn of_run(n: u64) {
         9 => explain(
             b"there is a 513th line, or a line past the end of the answer",
             b"Ask about one alternative at a time, or add what is known.",
+        ),
+        21 => explain(
+            b"two shape tests of one blank lead to more than 4,096 pairs of shapes when they are compared",
+            b"Ask with shorter shape tests of that blank, or with one of them alone.",
         ),
         _ => explain(
             b"10,000 steps are made and a rule still applies",
@@ -104,6 +108,7 @@ fn reason(n: u64) {
         7..=10 => of_run(n),
         11..=13 => of_filling(n),
         14..=16 => of_line(n),
+        21 => of_run(n),
         _ => explain(
             b"no number of the table",
             b"This is a fault of the program.",

@@ -1,6 +1,6 @@
 -- Two parts compared word by word.
-use mathlib.Core.Path.{_≡_, sym, ap, _∙_}
-use mathlib.Core.Bool.{false, _&&_}
+use mathlib.Core.Path.{_≡_, refl, sym, ap, ap₂, _∙_}
+use mathlib.Core.Bool.{true, false, _&&_, false≢true}
 use mathlib.Core.List.{List, [], _∷_}
 use Prim.Native.Nat.{ℕ, _+_, _<_, _≤_, min}
 use native.Mathlib.Decide.{decLe}
@@ -9,9 +9,24 @@ use native.Mathlib.Omega.{arith}
 use lib.Dec.{leb}
 use lib.ListN.{length, getD, take, length-take, drop-of-length-le}
 use lib.Seq.{slice}
-use borrow.Author.Tests.{eq-eqb, ne-eqb, le-leb, lt-leb}
+use borrow.Author.Tests.{eq-eqb, eqb-true, ne-eqb, le-leb, lt-leb}
+use Rattle.language.proofs.Bools.{both-true}
 use Rattle.words.specs.Places.{sameList}
 use Rattle.words.proofs.Parts.{part-cons}
+
+-- ---- the test of two lists
+
+pub list-refl : (ws : List ℕ) → sameList ws ws ≡ true
+list-refl [] = refl
+list-refl (w ∷ ws) = rw (eq-eqb w w refl) (list-refl ws)
+
+pub list-is : (us vs : List ℕ) → sameList us vs ≡ true → us ≡ vs
+list-is [] [] e = refl
+list-is [] (v ∷ vs) e = absurd (false≢true e)
+list-is (u ∷ us) [] e = absurd (false≢true e)
+list-is (u ∷ us) (v ∷ vs) e = let p = both-true _ (sameList us vs) e in ap₂ _∷_ (eqb-true u v (p .0)) (list-is us vs (p .1))
+
+-- ---- of two parts
 
 part-over : (k : List ℕ) (i t : ℕ) → min t (length k) ≤ i → slice i t k ≡ []
 part-over k i t h = let e = length-take t k in drop-of-length-le (take t k) {i = i} (omega arith)

@@ -3,7 +3,7 @@
 
 use crate::desk::Desk;
 use crate::example::Ask;
-use crate::overlap::{Meeting, Sheet};
+use crate::overlap::{read_sheet, Meeting, Sheet};
 use crate::request::{words, Request};
 use crate::trail::Trail;
 use crate::words::{Refusal, Refused};
@@ -49,9 +49,13 @@ pub fn call(desk: &Desk, request: &Request, lent: &mut [u8]) -> u32 {
             }
         }
         Request::Overlap { first, second, first_word, .. } => {
-            let sheet =
-                Sheet { first_word: *first_word as u16, room: lent.len() / 2, old_sheets: false };
-            overlap(desk, &sheet, [first, second], lent)
+            // A number that is no word declares too many symbols.
+            let first_word = u16::try_from(*first_word).unwrap_or(u16::MAX);
+            let sheet = Sheet { first_word, room: lent.len() / 2, old_sheets: false };
+            met(desk.overlap(&sheet, &words(first), &words(second)), |report| put(report, lent))
+        }
+        Request::OverlapSheet { sheet, report, .. } => {
+            overlap_sheet(desk, &words(sheet), *report as usize, lent)
         }
         Request::SolveTrail { question, answer, .. } => {
             let (answer, trail) = lent.split_at_mut(*answer);
@@ -127,16 +131,39 @@ fn day(desk: &Desk, sheet: &[u8], room: &mut [u8]) -> u32 {
     }
 }
 
-fn overlap(desk: &Desk, sheet: &Sheet, patterns: [&[u8]; 2], room: &mut [u8]) -> u32 {
-    match desk.overlap(sheet, &words(patterns[0]), &words(patterns[1])) {
+/// The number of what a pair comes to; a report is shown.
+fn met(meeting: Result<Meeting, u16>, mut show: impl FnMut(&[u16])) -> u32 {
+    match meeting {
         Ok(Meeting::CannotMeet) => CANNOT_MEET,
         Ok(Meeting::NotSettled) => NOT_SETTLED,
         Ok(Meeting::CanMeet(report)) => {
-            put(&report, room);
+            show(&report);
             CAN_MEET + report.len() as u32
         }
         Err(refusal) => refusal as u32,
     }
+}
+
+/// A row for each pair: two actions, the pair's number of two words, the report.
+fn overlap_sheet(desk: &Desk, words: &[u16], report: usize, room: &mut [u8]) -> u32 {
+    let (first_word, rules) = match read_sheet(words) {
+        Ok(read) => read,
+        Err(refusal) => return refusal as u32,
+    };
+    let row_bytes = 2 * (report + 4);
+    let pairs = rules.len() * rules.len().saturating_sub(1) / 2;
+    if room.len() / 2 < pairs * (report + 4) {
+        return 1;
+    }
+    let sheet = Sheet { first_word, room: report, old_sheets: false };
+    let rows = desk.overlaps(&sheet, &rules).expect("not too many rules");
+    for (row, lent) in rows.into_iter().zip(room.chunks_exact_mut(row_bytes)) {
+        let (head, behind) = lent.split_at_mut(8);
+        let number = met(row.meeting, |report| put(report, behind));
+        let [first, second] = row.actions.map(|action| action.number());
+        put(&[first, second, number as u16, (number >> 16) as u16], head);
+    }
+    0
 }
 
 /// The whole words of bytes; an odd last byte is left out.

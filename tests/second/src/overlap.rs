@@ -56,6 +56,47 @@ pub struct Row {
     pub meeting: Result<Meeting, u16>,
 }
 
+impl Action {
+    /// The actions by their numbers on a sheet.
+    pub const ALL: [Action; 3] = [Action::Keep, Action::Drop, Action::Forward];
+
+    pub fn number(self) -> u16 {
+        self as u16
+    }
+}
+
+/// Word 0 of all rules of a sheet and the rules, from its words: 24, then 4
+/// where the words are no sheet.
+pub fn read_sheet(words: &[u16]) -> Result<(u16, Vec<LiveRule>), u16> {
+    let malformed = Refusal::Offset.number();
+    let [first_word, count, rest @ ..] = words else { return Err(malformed) };
+    if *count as usize > RULES_MOST {
+        return Err(Refusal::TooManyRules.number());
+    }
+    let (mut rules, mut rest) = (Vec::new(), rest);
+    for _ in 0..*count {
+        let [action, length, behind @ ..] = rest else { return Err(malformed) };
+        let length = *length as usize;
+        let Some(action) = Action::ALL.get(*action as usize) else { return Err(malformed) };
+        if length > behind.len() {
+            return Err(malformed);
+        }
+        rules.push(LiveRule { action: *action, pattern: behind[..length].to_vec() });
+        rest = &behind[length..];
+    }
+    rest.is_empty().then_some((*first_word, rules)).ok_or(malformed)
+}
+
+/// A sheet of rules in words.
+pub fn write_sheet(first_word: u16, rules: &[LiveRule]) -> Vec<u16> {
+    let mut words = vec![first_word, rules.len() as u16];
+    for rule in rules {
+        words.extend([rule.action.number(), rule.pattern.len() as u16]);
+        words.extend_from_slice(&rule.pattern);
+    }
+    words
+}
+
 impl Desk {
     /// Whether two rules can meet: 25, then the solver's own numbers, with 5
     /// where a pattern is not one term, then 16.

@@ -13,6 +13,7 @@ pub enum Request {
     ReadText { text: Vec<u8>, room: usize },
     WriteText { question: Vec<u8>, room: usize },
     Overlap { first: Vec<u8>, second: Vec<u8>, first_word: u32, room: usize },
+    OverlapSheet { sheet: Vec<u8>, report: u32, room: usize },
     SolveTrail { question: Vec<u8>, answer: usize, trail: usize },
     Replay { question: Vec<u8>, trail: Vec<u8>, answer: usize },
     ExampleTrail { question: Vec<u8>, trail: Vec<u8>, line: u32, old_sheets: u32, room: usize },
@@ -36,6 +37,7 @@ impl Request {
             Request::ReadText { .. } => "read a text",
             Request::WriteText { .. } => "write a text",
             Request::Overlap { .. } => "overlap",
+            Request::OverlapSheet { .. } => "overlap of a sheet",
             Request::SolveTrail { .. } => "solve with a trail",
             Request::Replay { .. } => "replay",
             Request::ExampleTrail { .. } => "example with a trail",
@@ -53,7 +55,8 @@ impl Request {
             | Request::Day { room, .. }
             | Request::ReadText { room, .. }
             | Request::WriteText { room, .. }
-            | Request::Overlap { room, .. } => *room,
+            | Request::Overlap { room, .. }
+            | Request::OverlapSheet { room, .. } => *room,
             Request::SolveTrail { answer, trail, .. } => answer + trail,
             Request::Replay { answer, .. } => *answer,
         }
@@ -75,6 +78,9 @@ impl Request {
             Request::Overlap { first, second, first_word, room } => {
                 let numbers = [*first_word, *room as u32].map(Number);
                 (b'o', [Block(first), Block(second)].into_iter().chain(numbers).collect())
+            }
+            Request::OverlapSheet { sheet, report, room } => {
+                (b'O', vec![Block(sheet), Number(*report), Number(*room as u32)])
             }
             Request::ReadText { text, room } => (b'r', vec![Block(text), Number(*room as u32)]),
             Request::WriteText { question, room } => {
@@ -125,6 +131,11 @@ impl Request {
                 first: block(from),
                 second: block(from),
                 first_word: number(from),
+                room: number(from) as usize,
+            },
+            b'O' => Request::OverlapSheet {
+                sheet: block(from),
+                report: number(from),
                 room: number(from) as usize,
             },
             b'r' => Request::ReadText { text: block(from), room: number(from) as usize },

@@ -134,13 +134,17 @@ fn compare_overlap(desk: &Desk, case: &Case) -> (Vec<u32>, Vec<u32>) {
     (case.needed('M').to_vec(), meeting_numbers(meeting))
 }
 
-fn compare_overlap_sheet(desk: &Desk, case: &Case) -> (Vec<u32>, Vec<u32>) {
-    let actions = [Action::Keep, Action::Drop, Action::Forward];
+/// The rules of a record.
+pub fn rules(case: &Case) -> Vec<LiveRule> {
     let rule = |line: &[u32]| LiveRule {
-        action: actions[line[0] as usize],
+        action: Action::ALL[line[0] as usize],
         pattern: line[1..].iter().map(|word| *word as u16).collect(),
     };
-    let rules: Vec<LiveRule> = case.fields('G').into_iter().map(rule).collect();
+    case.fields('G').into_iter().map(rule).collect()
+}
+
+fn compare_overlap_sheet(desk: &Desk, case: &Case) -> (Vec<u32>, Vec<u32>) {
+    let rules = rules(case);
     let mut expected = case.needed('Z').to_vec();
     expected.extend(case.fields('M').concat());
     let mut got = vec![0];

@@ -3,7 +3,7 @@
 use second::gen::overlaps::pair;
 use second::gen::planted::{filling, ground};
 use second::gen::random::Random;
-use second::overlap::{Action, LiveRule, Meeting, Sheet};
+use second::overlap::{read_sheet, write_sheet, Action, LiveRule, Meeting, Sheet};
 use second::read::Declared;
 use second::stack::deep;
 use second::tree::Hedge;
@@ -82,6 +82,23 @@ fn a_sheet_is_its_pairs() {
         assert_eq!(row.actions, [actions[first], actions[second]]);
         assert_eq!(row.meeting, meet(patterns[first], patterns[second]));
     }
+}
+
+/// A sheet in words: what is written is read back, and else 4 or 24.
+#[test]
+fn a_sheet_in_words() {
+    let rule = |action, pattern: &[u16]| LiveRule { action, pattern: pattern.to_vec() };
+    let rules = [rule(Action::Drop, &[3000, 0]), rule(Action::Forward, &[])];
+    let words = write_sheet(3, &rules);
+    assert_eq!(words, [3, 2, 1, 2, 3000, 0, 2, 0]);
+    let (first_word, read) = read_sheet(&words).unwrap();
+    assert_eq!((first_word, write_sheet(first_word, &read)), (3, words));
+    let number = |words: &[u16]| read_sheet(words).map(|_| ()).unwrap_err();
+    assert_eq!(read_sheet(&[3, 0]).unwrap().1.len(), 0);
+    for wrong in [&[][..], &[3], &[3, 1], &[3, 1, 0], &[3, 1, 3, 0], &[3, 1, 0, 1], &[3, 0, 0]] {
+        assert_eq!(number(wrong), 4, "{wrong:?}");
+    }
+    assert_eq!((number(&[3, 33]), number(&[3, 32])), (24, 4));
 }
 
 /// Whether a complete report matches a pattern: the solver settles that.

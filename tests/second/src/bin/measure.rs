@@ -6,6 +6,7 @@
 //!     measure bad KIND SHAPE RUN     a request to try a run that just fails an expression of so many words
 //!     measure deep CALL SHAPE        a request as deeply nested as its words go
 //!     measure shuffled KIND PARTS    a request to try so many parts under an unordered symbol
+//!     measure rules COUNT            a request for the table of so many live rules
 //!     measure answer TIMES           answers requests by this desk as `tests/bridge.c` does by the proved one
 
 use std::hint::black_box;
@@ -14,6 +15,7 @@ use std::io::{stdin, stdout, BufRead, BufReader, BufWriter, Write};
 use second::day::written;
 use second::gen::{case, Case, SEED};
 use second::host::{self, LENT};
+use second::overlap::{write_sheet, Action, LiveRule};
 use second::proved;
 use second::records::cases;
 use second::request::{bytes, Request};
@@ -225,6 +227,18 @@ fn shuffled(kind: &str, parts: usize) -> (Vec<u16>, Vec<u16>) {
     }
 }
 
+/// The rules of a sheet have four patterns in turn: f(x, a(p), q), f(p, b(x)),
+/// X(a, p) and f(x, y, c(p, x)).
+fn live_rule(number: usize) -> LiveRule {
+    let pattern = match number % 4 {
+        0 => vec![3003, 1000, 3000, 2000, 0, 2001, 0],
+        1 => vec![3003, 2000, 3001, 1000, 0, 0],
+        2 => vec![4000, 3000, 0, 2000, 0],
+        _ => vec![3003, 1000, 1001, 3002, 2000, 1000, 0, 0],
+    };
+    LiveRule { action: Action::ALL[number % 3], pattern }
+}
+
 fn main() {
     let args: Vec<String> = std::env::args().skip(1).collect();
     let mut out = BufWriter::new(stdout());
@@ -254,6 +268,13 @@ fn main() {
             let (question, filling) = shuffled(&args[1], args[2].parse().expect("a number"));
             write(Request::Try { question: bytes(&question), filling: bytes(&filling) });
         }
+        "rules" => {
+            let count: usize = args[1].parse().expect("a number");
+            let rules: Vec<LiveRule> = (0..count).map(live_rule).collect();
+            let (sheet, report) = (bytes(&write_sheet(4, &rules)), 60);
+            let room = count * (count - 1) * (report as usize + 4);
+            write(Request::OverlapSheet { sheet, report, room });
+        }
         "deep" => {
             let words = deep(&args[2]);
             let question = bytes(&words);
@@ -266,6 +287,13 @@ fn main() {
                 "day" => {
                     let sheet = bytes(&written(&[words.len()], words));
                     write(Request::Day { sheet, room: 2 * proved::desk().limits.answer })
+                }
+                // x and a(a(..a()..)), as two live rules
+                "overlap" => {
+                    let half = (proved::desk().limits.question - 10 - 1) / 2;
+                    let term = [vec![3000; half], vec![0; half]].concat();
+                    let (first, second) = (bytes(&[1000]), bytes(&term));
+                    write(Request::Overlap { first, second, first_word: 1, room: 2 * term.len() })
                 }
                 _ => write(Request::Example { question, line: 0, old_sheets: 0, room: 8192 }),
             }

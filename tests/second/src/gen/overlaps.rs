@@ -5,6 +5,7 @@ use super::pieces::{self, Pieces};
 use super::planted::{filling, hidden};
 use super::random::Random;
 use crate::desk::Desk;
+use crate::overlap::{write_sheet, Action, LiveRule};
 use crate::read::Declared;
 use crate::tree::{Hedge, Item};
 
@@ -30,6 +31,35 @@ pub fn pair(random: &mut Random, desk: &Desk) -> (u16, Vec<u16>, Vec<u16>) {
         first_word = random.pick(&[0, 1, 2, 129, 256, 257, 513, 65535]);
     }
     (first_word, first, second)
+}
+
+/// A sheet of live rules in words: the patterns of pairs, some of them twice.
+pub fn sheet(random: &mut Random, desk: &Desk) -> Vec<u16> {
+    let (first_word, first, second) = pair(random, desk);
+    let mut patterns = vec![first, second];
+    for _ in 0..random.below(5) {
+        let (_, first, second) = pair(random, desk);
+        patterns.extend([first, second]);
+    }
+    let count = random.below(patterns.len() + 1);
+    patterns.truncate(count);
+    if random.chance(1, 12) {
+        patterns = vec![vec![1000]; random.range(31, 34)];
+    }
+    let rule = |pattern| LiveRule { action: random.pick(&Action::ALL), pattern };
+    let rules: Vec<LiveRule> = patterns.into_iter().map(rule).collect();
+    write_sheet(first_word, &rules)
+}
+
+/// Makes a word of a sheet another one, or has the sheet end elsewhere.
+pub fn damage_sheet(random: &mut Random, sheet: &mut Vec<u16>) {
+    let at = random.below(sheet.len() + 1);
+    match random.below(4) {
+        0 => sheet.truncate(at),
+        1 => sheet.push(random.pick(&[0, 1, 1000])),
+        _ if at < sheet.len() => sheet[at] = random.pick(&[0, 1, 2, 3, 33, 3000, 65535]),
+        _ => {}
+    }
 }
 
 fn words(term: Item) -> Vec<u16> {

@@ -44,6 +44,9 @@ fn compare() -> ExitCode {
         }
         if proved::knows(10) {
             random::random_overlap(&mut tally, seed, index);
+            if index % 20 == 0 {
+                random::random_sheet(&mut tally, seed, index);
+            }
         }
         if proved::knows(2) {
             random::random_text(&mut tally, seed, index);

@@ -3,6 +3,7 @@
 use second::gen::random::Random;
 use second::gen::{self, case, days, overlaps, texts};
 use second::host::{self, LENT, SHOWN};
+use second::overlap::RULES_MOST;
 use second::proved;
 use second::request::{bytes, Request};
 
@@ -120,6 +121,37 @@ pub fn random_overlap(tally: &mut Tally, seed: u64, index: u64) {
     for room in [8192, fits, fits + 1, fits.saturating_sub(1)] {
         tally.both(&name, overlap(room));
     }
+    if random.chance(1, 8) && !second.is_empty() {
+        let (first, second, room) = (first.clone(), second[1..].to_vec(), 64);
+        tally.both(&name, Request::Overlap { first, second, first_word, room });
+    }
+    if random.chance(1, 8) {
+        let (first, second, room) = (first.clone(), second.clone(), 64);
+        let first_word = random.pick(&[65_535, 65_536, 65_536 + first_word, u32::MAX]);
+        tally.both(&name, Request::Overlap { first, second, first_word, room });
+    }
+}
+
+/// A sheet of live rules, in rooms that have all rows and that do not, and
+/// damaged.
+pub fn random_sheet(tally: &mut Tally, seed: u64, index: u64) {
+    let mut random = Random::of_case(seed ^ 0x5EE7, index);
+    let name = format!("sheet of rules {index}");
+    let mut sheet = overlaps::sheet(&mut random, &tally.desk);
+    let report = random.pick(&[0, 2, 9, 40, 600]);
+    let pairs = |count: usize| count * count.saturating_sub(1) / 2;
+    for _ in 0..3 {
+        let count = sheet.get(1).map_or(0, |count| (*count as usize).min(RULES_MOST));
+        let whole = 2 * pairs(count) * (report as usize + 4);
+        for room in [whole, whole + 5, whole.saturating_sub(1)] {
+            tally.both(&name, Request::OverlapSheet { sheet: bytes(&sheet), report, room });
+        }
+        let odd = bytes(&sheet).split_last().map_or(Vec::new(), |(_, odd)| odd.to_vec());
+        tally.both(&name, Request::OverlapSheet { sheet: odd, report, room: whole });
+        overlaps::damage_sheet(&mut random, &mut sheet);
+    }
+    let huge = Request::OverlapSheet { sheet: bytes(&sheet), report: u32::MAX, room: 100 };
+    tally.both(&name, huge);
 }
 
 /// A text: spelt in some way, damaged, and written by the desk, whose spelling

@@ -3,10 +3,11 @@
 use std::path::Path;
 
 use second::host::{LENT, NO, SHOWN};
+use second::overlap::{write_sheet, RULES_MOST};
 use second::proved::{self, Folder, Held};
 use second::records::{cases, Case};
 use second::request::{bytes, Request};
-use second::worked::run_folder;
+use second::worked::{rules, run_folder};
 
 use crate::random;
 use crate::tally::Tally;
@@ -128,6 +129,15 @@ fn later(tally: &mut Tally, folder: &Path) {
             let (first, second) = (bytes(&case.words('G')), bytes(&case.words('H')));
             let (first_word, room) = (case.needed('O')[0], 2 * case.needed('O')[1] as usize);
             tally.both(&case.name, Request::Overlap { first, second, first_word, room });
+        }
+        for case in records(folder, "overlap-sheet.txt") {
+            let [first_word, report, ..] = case.needed('O') else { panic!("O has three") };
+            let rules = rules(&case);
+            let sheet = bytes(&write_sheet(*first_word as u16, &rules));
+            // The desk refuses more rules than it takes, whatever the room.
+            let count = rules.len().min(RULES_MOST);
+            let room = count * count.saturating_sub(1) * (*report as usize + 4);
+            tally.both(&case.name, Request::OverlapSheet { sheet, report: *report, room });
         }
     }
     if proved::knows(9) {

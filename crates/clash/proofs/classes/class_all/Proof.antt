@@ -1,0 +1,60 @@
+-- The loop's invariant: the table has the classes below s.
+use native.Mathlib.Omega.{arith}
+use borrow.Author.Needs.{needs}
+use Rattle.clash.proofs.classes.class_all.Statement.{statement}
+use Rattle.clash.proofs.classes.class_all.Tie as tie
+use mathlib.Core.Path.{_≡_, refl, subst}
+use Prim.Native.Nat.{_+_, _*_, _-_, _≤_}
+use Rattle.clash.specs.Classes.{Tabled, KeptTo}
+use Rattle.clash.proofs.Classing.{tabled-start, kept-same, kept-then}
+use Rattle.clash.proofs.Classing.{tabled-to}
+
+abbrev Inv-loop : tie.InvT-loop
+Inv-loop k ends nulls at end classes₀ first last s₀ classes s =
+    (first ≤ s) × (s ≤ last + 1) × Tabled k at s classes × KeptTo (2 * at) classes₀ classes
+
+abbrev μ-loop : tie.MeasureT-loop
+μ-loop k ends nulls at end classes₀ first last s₀ classes s = last + 1 - s
+
+mul-first : tie.Need-mul-first Inv-loop μ-loop
+mul-first c = search needs
+
+mul-last : tie.Need-mul-last Inv-loop μ-loop
+mul-last c = search needs
+
+loop-holds : tie.Need-loop-holds Inv-loop μ-loop
+loop-holds c =
+    let p = c .before .before .before .pre .1 in (omega arith, omega arith, tabled-start refl, kept-same)
+
+class-at-requires : tie.Need-class-at-requires Inv-loop μ-loop
+class-at-requires c κs =
+    let e = c .before .before .loop .inv .3 .long in let p = c .before .before .before .before .before .before .pre .2 in let q = c .before .before .before .before .before .before .pre .3 in (c .before .before .before .before .before .before .pre .0, omega arith, refl, c .before .before .loop .inv .0, omega arith, omega arith)
+
+add-s : tie.Need-add-s Inv-loop μ-loop
+add-s c = search needs
+
+loop-less : tie.Need-loop-less Inv-loop μ-loop
+loop-less c = search needs
+
+loop-again : tie.Need-loop-again Inv-loop μ-loop
+loop-again c =
+    let e = c .class-at .ensures in let h = c .before .before .before .loop .inv .0 in (omega arith, omega arith, e .1 (c .before .before .before .loop .inv .2), kept-then h (c .before .before .before .loop .inv .3) (e .0))
+
+returns : tie.Need-returns Inv-loop μ-loop
+returns c =
+    let h = c .before .loop .inv .1 in (tabled-to (omega arith) (c .before .loop .inv .2), c .before .loop .inv .3)
+
+pub class-all-spec : {M : Type 1} → statement M
+class-all-spec =
+    tie.close
+    (tie.spec
+    Inv-loop
+    μ-loop
+    mul-first
+    mul-last
+    loop-holds
+    class-at-requires
+    add-s
+    loop-less
+    loop-again
+    returns)

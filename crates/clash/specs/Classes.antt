@@ -1,0 +1,45 @@
+-- The first of the states that mean the same expression stands for all of them.
+use Prim.Native.Nat.{ℕ, _+_, _*_, _<_, _≤_}
+use mathlib.Core.Path.{_≡_}
+use mathlib.Core.Bool.{Bool, true, false}
+use mathlib.Core.List.{List}
+use lib.ListN.{length, getD}
+use Rattle.language.specs.Limits.{desk}
+use Rattle.language.specs.Trees.{Expr}
+use Rattle.language.specs.Writing.{exprWords}
+use Rattle.expressions.specs.Standing.{Here}
+use Rattle.clash.specs.States.{Means}
+
+-- whether t, which is not before the first state, is a state of what stands at `at`
+pub record StateTest (k : List ℕ) (first t : ℕ) (r : Bool) : Type 0 where
+  pub yes : (at : ℕ) (R : Expr) (w : List ℕ) → first ≡ 2 * at → Here k at R w → first ≤ t → t < 2 * (at + length (exprWords R)) → r ≡ true → (X : Expr) × Means at R t X
+  pub only : (at : ℕ) (R : Expr) (w : List ℕ) → first ≡ 2 * at → Here k at R w → (X : Expr) → Means at R t X → r ≡ true
+
+-- whether t means what s means
+pub record Liked (k : List ℕ) (at first s t : ℕ) (r : Bool) : Type 0 where
+  pub yes : (R : Expr) (w : List ℕ) → Here k at R w → first ≡ 2 * at → first ≤ t → t < 2 * (at + length (exprWords R)) → (X : Expr) → Means at R s X → r ≡ true → Means at R t X
+  pub not : (R : Expr) (w : List ℕ) → Here k at R w → first ≡ 2 * at → (X : Expr) → Means at R s X → r ≡ false → Means at R t X → ⊥
+
+-- c means what s means, and no state before c does
+pub record Classed (k : List ℕ) (at s c : ℕ) : Type 0 where
+  pub means : (R : Expr) (w : List ℕ) → Here k at R w → (X : Expr) → Means at R s X → Means at R c X
+  pub least : (R : Expr) (w : List ℕ) → Here k at R w → (X : Expr) → Means at R s X → (t : ℕ) → t < c → Means at R t X → ⊥
+  pub low : c ≤ s
+
+-- c is the first of the states that mean X
+pub record FirstState (at : ℕ) (R : Expr) (c : ℕ) (X : Expr) : Type 0 where
+  pub means : Means at R c X
+  pub least : (t : ℕ) → t < c → Means at R t X → ⊥
+
+-- room for the states of a question's words
+abbrev pub stateRoom : ℕ
+stateRoom = 2 * desk .question + 2
+
+-- the table has this of each state below `to`
+pub record Tabled (k : List ℕ) (at to : ℕ) (classes : List ℕ) : Type 0 where
+  pub each : (R : Expr) (w : List ℕ) → Here k at R w → (s : ℕ) → s < to → (X : Expr) → Means at R s X → FirstState at R (getD classes s 0) X
+
+-- what stands before `to` is the same
+pub record KeptTo (to : ℕ) (old new : List ℕ) : Type 0 where
+  pub long : length new ≡ length old
+  pub same : (i : ℕ) → i < to → getD new i 0 ≡ getD old i 0

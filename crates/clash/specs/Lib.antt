@@ -1,0 +1,10 @@
+pub mod Charted
+pub mod Marks
+pub mod States
+pub mod Tails
+pub mod Chains
+pub mod Classes
+pub mod Symbols
+pub mod Walking
+pub mod Sweeping
+pub mod Judging

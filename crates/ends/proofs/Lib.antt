@@ -1,0 +1,15 @@
+pub mod Sums
+pub mod Putting
+pub mod Falls
+pub mod FallsEquations
+pub mod FallsEliminations
+pub mod FallsMemberships
+pub mod Counting
+pub mod AtPlaces
+pub mod EveryRule
+pub mod Ending
+pub mod Desk
+pub mod LastSettled
+pub mod LastKept
+pub mod Ends
+pub mod Worked

@@ -1,0 +1,4 @@
+pub mod Measure
+pub mod Unlimited
+pub mod Last
+pub mod Worked

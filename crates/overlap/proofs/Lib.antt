@@ -1,0 +1,3 @@
+pub mod Tabling
+pub mod Sheets
+pub mod Determined

@@ -1,0 +1,3 @@
+pub mod Meeting
+pub mod Lent
+pub mod Here

@@ -1,0 +1,9 @@
+pub mod Members
+pub mod Closures
+pub mod Continuations
+pub mod States
+pub mod Few
+pub mod Onward
+pub mod Reached
+pub mod Sharing
+pub mod Listed
