@@ -16,6 +16,7 @@ use language::Refusal;
 use language::limits::FILLING;
 use language::limits::QUESTION;
 use language::limits::ROOM;
+use mistakes::mistake;
 use outcomes::Outcome;
 use outcomes::Shown;
 use outcomes::Solved;
@@ -30,7 +31,6 @@ use wording::answer::answered;
 use wording::answer::filling;
 use wording::help::help;
 use wording::help::version;
-use wording::mistakes::mistake;
 use wording::reasons::refusal;
 
 fn wide(n: u16) -> u64 {

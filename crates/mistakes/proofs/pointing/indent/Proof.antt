@@ -1,8 +1,8 @@
--- `wording::pointing::indent` is safe and ends.
+-- `mistakes::pointing::indent` is safe and ends.
 use Prim.Native.Nat.{_≤_, _-_}
 use borrow.Author.Needs.{needs}
-use Rattle.wording.proofs.pointing.indent.Statement.{statement}
-use Rattle.wording.proofs.pointing.indent.Tie as tie
+use Rattle.mistakes.proofs.pointing.indent.Statement.{statement}
+use Rattle.mistakes.proofs.pointing.indent.Tie as tie
 
 abbrev Inv-loop : tie.InvT-loop
 Inv-loop text from to i₀ t5 t6 i = 0 ≤ i

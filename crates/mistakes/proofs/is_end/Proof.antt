@@ -1,8 +1,8 @@
--- `wording::mistakes::is_end` is safe and ends.
+-- `mistakes::is_end` is safe and ends.
 use Prim.Native.Nat.{_≤_, _-_}
 use borrow.Author.Needs.{needs}
-use Rattle.wording.proofs.mistakes.is_end.Statement.{statement}
-use Rattle.wording.proofs.mistakes.is_end.Tie as tie
+use Rattle.mistakes.proofs.is_end.Statement.{statement}
+use Rattle.mistakes.proofs.is_end.Tie as tie
 
 abbrev Inv-loop : tie.InvT-loop
 Inv-loop question at stop i₀ i = 0 ≤ i

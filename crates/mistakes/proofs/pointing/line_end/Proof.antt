@@ -1,9 +1,9 @@
--- `wording::pointing::line_end` is safe and ends.
+-- `mistakes::pointing::line_end` is safe and ends.
 use Prim.Native.Nat.{_≤_, _-_}
 use lib.ListN.{length}
 use borrow.Author.Needs.{needs}
-use Rattle.wording.proofs.pointing.line_end.Statement.{statement}
-use Rattle.wording.proofs.pointing.line_end.Tie as tie
+use Rattle.mistakes.proofs.pointing.line_end.Statement.{statement}
+use Rattle.mistakes.proofs.pointing.line_end.Tie as tie
 
 abbrev Inv-loop : tie.InvT-loop
 Inv-loop text from i₀ i = from ≤ i

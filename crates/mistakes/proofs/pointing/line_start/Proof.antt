@@ -1,9 +1,9 @@
--- `wording::pointing::line_start` is safe and ends.
+-- `mistakes::pointing::line_start` is safe and ends.
 use Prim.Native.Nat.{_≤_}
 use lib.ListN.{length}
 use borrow.Author.Needs.{needs}
-use Rattle.wording.proofs.pointing.line_start.Statement.{statement}
-use Rattle.wording.proofs.pointing.line_start.Tie as tie
+use Rattle.mistakes.proofs.pointing.line_start.Statement.{statement}
+use Rattle.mistakes.proofs.pointing.line_start.Tie as tie
 
 abbrev Inv-loop : tie.InvT-loop
 Inv-loop text at i₀ i = (i ≤ at) × (at ≤ length text)

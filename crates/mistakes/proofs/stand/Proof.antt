@@ -1,8 +1,8 @@
--- `wording::mistakes::stand` is safe and ends.
+-- `mistakes::stand` is safe and ends.
 use Prim.Native.Nat.{_≤_, _-_}
 use borrow.Author.Needs.{needs}
-use Rattle.wording.proofs.mistakes.stand.Statement.{statement}
-use Rattle.wording.proofs.mistakes.stand.Tie as tie
+use Rattle.mistakes.proofs.stand.Statement.{statement}
+use Rattle.mistakes.proofs.stand.Tie as tie
 
 abbrev Inv-loop : tie.InvT-loop
 Inv-loop question at s₀ i₀ s i = 0 ≤ i

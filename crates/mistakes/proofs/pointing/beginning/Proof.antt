@@ -1,9 +1,9 @@
--- `wording::pointing::beginning` is safe and ends.
+-- `mistakes::pointing::beginning` is safe and ends.
 use Prim.Native.Nat.{_≤_, _-_}
 use lib.ListN.{length}
 use borrow.Author.Needs.{needs}
-use Rattle.wording.proofs.pointing.beginning.Statement.{statement}
-use Rattle.wording.proofs.pointing.beginning.Tie as tie
+use Rattle.mistakes.proofs.pointing.beginning.Statement.{statement}
+use Rattle.mistakes.proofs.pointing.beginning.Tie as tie
 
 abbrev Inv-loop : tie.InvT-loop
 Inv-loop text n low₀ high₀ low high = (low ≤ high) × (high ≤ length text)

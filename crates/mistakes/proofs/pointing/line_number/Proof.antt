@@ -1,9 +1,9 @@
--- `wording::pointing::line_number` is safe and ends.
+-- `mistakes::pointing::line_number` is safe and ends.
 use Prim.Native.Nat.{_≤_, _-_}
 use lib.ListN.{length}
 use borrow.Author.Needs.{needs}
-use Rattle.wording.proofs.pointing.line_number.Statement.{statement}
-use Rattle.wording.proofs.pointing.line_number.Tie as tie
+use Rattle.mistakes.proofs.pointing.line_number.Statement.{statement}
+use Rattle.mistakes.proofs.pointing.line_number.Tie as tie
 
 abbrev Inv-loop : tie.InvT-loop
 Inv-loop text at line₀ i₀ line i = (i ≤ at) × (at ≤ length text)
