@@ -20,9 +20,9 @@
 extern "C" {
 #endif
 
-/* Why a call refuses. A refusal comes back as its number, 1 to 16 or 21 to 23. */
+/* Why a call refuses. A refusal comes back as its number, 1 to 16, 21 to 23 or 26 to 29. */
 enum desk_refusal {
-    DESK_SHORT_SLICE = 1,      /* the answer has under DESK_ANSWER_BYTES bytes */
+    DESK_SHORT_SLICE = 1,      /* the answer, or a step's room, has under DESK_ANSWER_BYTES bytes */
     DESK_QUESTION_LENGTH = 2,  /* question: an odd count of bytes, under 6 or over 4,096 words */
     DESK_COUNT_RANGE = 3,      /* question: a count out of range */
     DESK_BAD_OFFSET = 4,       /* question: an offset missing or out of place */
@@ -40,7 +40,11 @@ enum desk_refusal {
     DESK_LONG_EXAMPLE = 16,    /* example: longer than the room lent or than 4,096 words */
     DESK_LONG_WALK = 21,       /* run: two shape tests of one variable lead to over 4,096 pairs of expressions */
     DESK_SHEET_LAYOUT = 22,    /* day: an odd count of bytes, over 64 questions, or an offset out of place */
-    DESK_LONG_ANSWERS = 23     /* day: the answers do not fit the room lent */
+    DESK_LONG_ANSWERS = 23,    /* day: the answers do not fit the room lent */
+    DESK_BAD_STEP = 26,        /* replay, step: the step that is named does not apply */
+    DESK_SHORT_TRAIL = 27,     /* replay: the trail ends early, or within a step */
+    DESK_LONG_TRAIL = 28,      /* replay: the trail goes on after the end */
+    DESK_TRAIL_ROOM = 29       /* run: the trail passes the room lent for it */
 };
 
 /* Bytes of an answer, of the longest question and of the longest filling. */
@@ -93,6 +97,81 @@ uint32_t desk_try(const uint8_t *question, size_t question_len,
  * on old training sheets. The example meets its line either way. */
 uint32_t desk_example(const uint8_t *question, size_t question_len, uint32_t line,
                       uint32_t old_sheets, uint8_t *room, size_t room_len);
+
+/* Bytes of a room that no trail is too long for: three words for each step. */
+#define DESK_TRAIL_BYTES 60000
+
+/* desk_solve_trail gives this and the number of steps. Every number below is a
+ * refusal. */
+#define DESK_STEPS 100
+
+/* Solves a question as desk_solve does, and writes its trail to the start of a
+ * room: three words for each step, the rule's place in the list, the literal's
+ * place in its conjunction, both from 0, and 1 where the sides were swapped, else
+ * 0. Gives DESK_STEPS plus the number of steps, or why not: 1 to 10 or 21, as
+ * desk_solve does, or 29, which comes after 8 in a step.
+ *
+ * The answer is as desk_solve leaves it. Bytes behind the trail are not touched.
+ * After 1 to 6 the room is unchanged as well; after 7 to 10, 21 and 29 the first
+ * DESK_ANSWER_BYTES bytes of the answer and all words of the room are zeros. An
+ * odd last byte of the room is never touched. */
+uint32_t desk_solve_trail(const uint8_t *question, size_t question_len,
+                          uint8_t *answer, size_t answer_len,
+                          uint8_t *trail, size_t trail_len);
+
+/* Follows a trail, whoever wrote it, on a question, and builds the lines itself.
+ * Gives 0, or why not: 1 to 6 as desk_solve, and then 7, 8, 9, 21, 26, 27 or 28.
+ * Whether any rule applies is tested first, so that 21 comes before 26 to 28. A
+ * step is accepted wherever the rule that it names applies, first or not, and a
+ * trail only when no rule applies any more. An odd count of trail bytes ends
+ * within a step.
+ *
+ * After 0 the answer has the layout of desk_solve's, and the same is true of its
+ * lines: no line means that nothing meets the question, and a filling meets
+ * alternative n exactly when it meets a line of that number. The trail that
+ * desk_solve_trail wrote is accepted and gives the same answer. After 1 to 6 the
+ * answer is unchanged; after all others its first DESK_ANSWER_BYTES bytes are
+ * zeros. Later bytes are never touched. */
+uint32_t desk_replay(const uint8_t *question, size_t question_len,
+                     const uint8_t *trail, size_t trail_len,
+                     uint8_t *answer, size_t answer_len);
+
+/* As desk_example, of a line to which a trail leads: it replays the trail instead
+ * of solving. Gives DESK_SHOWN plus the filling's length in words; or why not:
+ * 2 to 9, 21 or 26 to 28, as desk_replay, and then 14, 15, 16. What it shows
+ * meets the question, whoever wrote the trail. */
+uint32_t desk_example_trail(const uint8_t *question, size_t question_len,
+                            const uint8_t *trail, size_t trail_len,
+                            uint32_t line, uint32_t old_sheets,
+                            uint8_t *room, size_t room_len);
+
+/* Makes one named step of a question of one alternative. The rule is its place in
+ * the list of rules, the literal its place in the alternative, both from 0, and
+ * the side is 1 for an equation taken with its sides swapped, else 0: the three
+ * words of a step in a trail. So a walk through an answer is drawn step by step:
+ * what waits first is asked, as a question of its own, for the trail's next step.
+ *
+ * Gives DESK_SHOWN plus the word of the room where the results begin; or why not:
+ * 1 to 6 as desk_solve, 3 too where there is not one alternative, and then 26
+ * where the named rule does not apply there, 21 where it is the last rule and
+ * two shape tests lead too far, 7 or 8. The rule need not be the first to apply.
+ *
+ * After a step the first DESK_ANSWER_BYTES bytes of the room are zeros and then,
+ * up to their end, the results in their order, each in a frame: its length in
+ * words, the number that the call was given, and the words of its literals. At
+ * the word where the results begin stands the first one's length; the next frame
+ * stands right behind its literals. Where there is no result, since nothing meets
+ * the alternative, they begin at the end: DESK_SHOWN + DESK_ANSWER_BYTES / 2. A
+ * result of length 0 has no literals: everything meets it. After 1 to 6 the room
+ * is unchanged; after 7, 8, 21 and 26 its first DESK_ANSWER_BYTES bytes are
+ * zeros. Later bytes are never touched.
+ *
+ * A number that is no word, over 65,535, counts as 65,535: in the frames it stands
+ * so, and no rule, no literal and no side is that: 26. A result of over 4,089 words
+ * can wait in a run and is no question with its header: 2. */
+uint32_t desk_step(const uint8_t *question, size_t question_len, uint32_t number,
+                   uint32_t rule, uint32_t literal, uint32_t side,
+                   uint8_t *room, size_t room_len);
 
 /* The most questions of a day, the words before the first of n questions or
  * answers, and the bytes of a room that the answers of n questions always fit. */

@@ -17,6 +17,8 @@
  *   S  the answer's and the trail's length
  *   R  a trail, as its length and its bytes, and the answer's length
  *   E  a trail, the line, the flag and the room's length
+ *   N  the number of the results, the rule, the literal, the side and the room's
+ *      length
  * Numbers are 32 bits, low byte first. Bytes are lent full of LENT. Each answer
  * is the number that came back and then every byte that was lent, in the order
  * of the call.
@@ -45,6 +47,7 @@
 #define LANDED_9
 #define LANDED_7
 #define LANDED_10
+#define LANDED_11
 
 #ifdef LANDED_10
 #include "overlap.h"
@@ -147,6 +150,14 @@ static void answer_request(int letter, long times)
         number_out(number);
         lent_out(room, length);
         free(trail);
+    } else if (letter == 'N') {
+        uint32_t results = number_in(), rule = number_in(), literal = number_in(), side = number_in();
+        size_t length = number_in();
+        uint8_t *room = block(length);
+        for (long i = 0; i < times; i++)
+            number = desk_step(question, question_len, results, rule, literal, side, room, length);
+        number_out(number);
+        lent_out(room, length);
 #endif
 #ifdef LANDED_9
     } else if (letter == 'd') {

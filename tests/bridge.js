@@ -108,6 +108,10 @@ for (let letter = bytesIn(1); letter.length === 1; letter = bytesIn(1)) {
         const flags = [numberIn(), numberIn()];
         const example = (q, qlen, t, tlen, room, length) => desk.desk_example_trail(q, qlen, t, tlen, ...flags, room, length);
         [number, bytes] = call([question, trail, lent(numberIn())], example);
+    } else if (letter[0] === 0x4e) {
+        const numbers = [numberIn(), numberIn(), numberIn(), numberIn()];
+        const step = (q, qlen, room, length) => desk.desk_step(q, qlen, ...numbers, room, length);
+        [number, bytes] = call([question, lent(numberIn())], step);
     } else {
         const flags = landed(8) ? [numberIn(), numberIn()] : [numberIn(), numberIn()].slice(0, 1);
         const example = (q, qlen, room, length) => desk.desk_example(q, qlen, ...flags, room, length);

@@ -33,9 +33,6 @@ use crate::looks::variable_of;
 use bools::and;
 use bools::or;
 use finds::all_terms;
-use finds::has_term;
-use finds::inside;
-use finds::under;
 use finds::up_to;
 use language::Signature;
 use language::any_unordered;
@@ -45,6 +42,9 @@ use language::run_word;
 use language::term_word;
 use plans::inner;
 use sharing::first_shared;
+use spots::has_term;
+use spots::inside;
+use spots::under;
 use views::Side;
 use views::View;
 use words::elsewhere;
@@ -55,9 +55,7 @@ use words::stands;
 pub fn r1(k: &[u16], v: View) -> bool
     ensures { λ b. ⌜ Asks testR1 (now (k .entry)) v b ⌝ }
 {
-    let l = v.l;
-    let r = v.r;
-    same_part(k, l.from, l.to, r.from, r.to)
+    same_part(k, v.l.from, v.l.to, v.r.from, v.r.to)
 }
 
 // F1: x against a hedge that has x below a functor at its top.
@@ -65,9 +63,8 @@ pub fn f1(k: &[u16], v: View) -> bool
     ensures { λ b. ⌜ Asks testF1 (now (k .entry)) v b ⌝ }
 {
     let l = v.l;
-    let r = v.r;
     let a = l.look;
-    let below = under(k, r.from, variable_of(a));
+    let below = under(k, v.r.from, variable_of(a));
     and(lone_variable(a), below)
 }
 
@@ -76,10 +73,9 @@ pub fn f2(k: &[u16], v: View) -> bool
     ensures { λ b. ⌜ Asks testF2 (now (k .entry)) v b ⌝ }
 {
     let l = v.l;
-    let r = v.r;
     let a = l.look;
-    let terms = has_term(k, r.from);
-    let held = stands(k, r.from, r.to, run_word(run_of(a)));
+    let terms = has_term(k, v.r.from);
+    let held = stands(k, v.r.from, v.r.to, run_word(run_of(a)));
     and(lone_run(a), and(terms, held))
 }
 
@@ -104,9 +100,8 @@ pub fn f4(k: &[u16], v: View) -> bool
     ensures { λ b. ⌜ Asks testF4 (now (k .entry)) v b ⌝ }
 {
     let l = v.l;
-    let r = v.r;
     let a = l.look;
-    let terms = has_term(k, r.from);
+    let terms = has_term(k, v.r.from);
     and(is_empty(a), terms)
 }
 
@@ -144,10 +139,8 @@ fn shuffled(k: &[u16], v: View, signature: Signature) -> bool
 fn children_shared(k: &[u16], v: View) -> bool
     ensures { λ b. ⌜ ((before behind : Conj) (l r : Hedge) → Sees (now (k .entry)) v before l r behind → loneFunctor (lookOf l) ≡ true → loneFunctor (lookOf r) ≡ true → b ≡ isSome (struck (childrenOf l) (childrenOf r))) ⌝ }
 {
-    let l = v.l;
-    let r = v.r;
-    let c = inner(k, l.from, l.to);
-    let d = inner(k, r.from, r.to);
+    let c = inner(k, v.l.from, v.l.to);
+    let d = inner(k, v.r.from, v.r.to);
     let spots = first_shared(k, c.from, d.from);
     spots.found
 }
@@ -174,9 +167,8 @@ pub fn del3(k: &[u16], v: View) -> bool
     ensures { λ b. ⌜ Asks testDel3 (now (k .entry)) v b ⌝ }
 {
     let l = v.l;
-    let r = v.r;
     let a = l.look;
-    let spot = inside(k, r.from, run_of(a));
+    let spot = inside(k, v.r.from, run_of(a));
     and(lone_run(a), spot.found)
 }
 
@@ -184,9 +176,8 @@ pub fn del3(k: &[u16], v: View) -> bool
 pub fn d1(k: &[u16], v: View, signature: Signature) -> bool
     ensures { λ b. ⌜ Asks (testD1 signature) (now (k .entry)) v b ⌝ }
 {
-    let r = v.r;
     let one = shuffled(k, v, signature);
-    let terms = child_terms(k, r.from);
+    let terms = child_terms(k, v.r.from);
     let shared = children_shared(k, v);
     and(one, and(terms, !shared))
 }
@@ -258,10 +249,9 @@ pub fn e2(k: &[u16], v: View) -> bool
     ensures { λ b. ⌜ Asks testE2 (now (k .entry)) v b ⌝ }
 {
     let l = v.l;
-    let r = v.r;
     let a = l.look;
     let x = run_word(run_of(a));
-    let held = stands(k, r.from, r.to, x);
+    let held = stands(k, v.r.from, v.r.to, x);
     let there = elsewhere(k, v.at, v.end, x);
     and(lone_run(a), and(!held, and(there, run_too(k, v))))
 }
@@ -271,10 +261,9 @@ pub fn e3(k: &[u16], v: View) -> bool
     ensures { λ b. ⌜ Asks testE3 (now (k .entry)) v b ⌝ }
 {
     let l = v.l;
-    let r = v.r;
     let a = l.look;
-    let terms = all_terms(k, r.from);
-    let held = stands(k, r.from, r.to, run_word(run_of(a)));
+    let terms = all_terms(k, v.r.from);
+    let held = stands(k, v.r.from, v.r.to, run_word(run_of(a)));
     let last = is_last(a);
     and(is_run(a), and(!last, and(terms.all, !held)))
 }
@@ -284,9 +273,8 @@ pub fn e4(k: &[u16], v: View) -> bool
     ensures { λ b. ⌜ Asks testE4 (now (k .entry)) v b ⌝ }
 {
     let l = v.l;
-    let r = v.r;
     let a = l.look;
-    let ahead = up_to(k, r.from, run_of(a));
+    let ahead = up_to(k, v.r.from, run_of(a));
     let last = is_last(a);
     and(is_run(a), and(!last, ahead.found))
 }

@@ -1,15 +1,21 @@
 // Whether the rule of one place in the list applies at a literal: the search asks for the first that does, and this for one that is named.
+ghost use Prim.Native.Nat.{_<_};
 ghost use mathlib.Core.Path.{_≡_};
 ghost use mathlib.Core.List.{_++_};
-ghost use Rattle.language.specs.Trees.{Hedge, Expr, Conj};
+ghost use lib.ListN.{length};
+ghost use Rattle.language.specs.Kinds.{pick};
+ghost use Rattle.language.specs.Trees.{Hedge, Expr, Literal, eqn, Conj};
 ghost use Rattle.rules.specs.Ranks.{eqnAnswer, memAnswer};
 ghost use Rattle.rules.specs.Solved.{isSome};
-ghost use Rattle.views.specs.Views.{Sees, Shows, EquationAt, MembershipAt};
+ghost use Rattle.views.specs.Standing.{LiteralAt, SomeLiteral};
+ghost use Rattle.views.specs.Views.{Sees, Shows};
+ghost use Rattle.applies.specs.Answers.{answersAt};
 
 mod equation;
 mod looks;
 mod membership;
 
+use bools::and;
 use equation::d0;
 use equation::d1;
 use equation::d2;
@@ -75,10 +81,12 @@ use rules::places::AT_R1;
 use rules::places::AT_R2;
 use views::Shape;
 use views::View;
+use views::see;
+use views::show_membership;
+use views::swapped;
 
 // The rule of that place applies to the equation, seen from its left side.
-pub fn equation_applies(rank: usize, k: &[u16], v: View, signature: Signature) -> bool
-    requires { ⌜ EquationAt (now k) v ⌝ }
+fn equation_applies(rank: usize, k: &[u16], v: View, signature: Signature) -> bool
     ensures { λ b. ⌜ ((before behind : Conj) (l r : Hedge) → Sees (now (k .entry)) v before l r behind → b ≡ isSome (eqnAnswer signature rank (before ++ behind) l r)) ⌝ }
 {
     match rank {
@@ -105,8 +113,7 @@ pub fn equation_applies(rank: usize, k: &[u16], v: View, signature: Signature) -
 }
 
 // The rule of that place applies to the membership.
-pub fn membership_applies(rank: usize, k: &[u16], s: Shape, signature: Signature) -> bool
-    requires { ⌜ MembershipAt (now k) s ⌝ }
+fn membership_applies(rank: usize, k: &[u16], s: Shape, signature: Signature) -> bool
     ensures { λ b. ⌜ ((before : Conj) (h : Hedge) (R : Expr) (behind : Conj) → Shows (now (k .entry)) s before h R behind → b ≡ isSome (memAnswer signature rank (before ++ behind) h R)) ⌝ }
 {
     match rank {
@@ -126,4 +133,30 @@ pub fn membership_applies(rank: usize, k: &[u16], s: Shape, signature: Signature
         AT_M12 => m12(k, s, signature),
         _ => false,
     }
+}
+
+// The equation at a place, seen from that side.
+fn seen(k: &[u16], at: usize, swap: bool) -> View
+    requires { ⌜ at < length (now k) ⌝ }
+    ensures { λ v. ⌜ ((before : Conj) (l r : Hedge) (behind : Conj) → LiteralAt (now (k .entry)) at before (eqn l r) behind → Sees (now (k .entry)) v before (pick swap r l) (pick swap l r) behind) ⌝ }
+{
+    let v = see(k, at);
+    if swap {
+        return swapped(v);
+    }
+    v
+}
+
+// The rule of that place applies to the literal that stands at `at`, seen from that side. A membership has no other side.
+pub fn literal_applies(rank: usize, k: &[u16], at: usize, swap: bool, signature: Signature) -> bool
+    requires { ⌜ at < length (now k) ⌝ }
+    requires { ⌜ SomeLiteral (now k) at ⌝ }
+    ensures { λ b. ⌜ ((before : Conj) (l : Literal) (behind : Conj) → LiteralAt (now (k .entry)) at before l behind → b ≡ answersAt signature rank swap (before ++ behind) l) ⌝ }
+{
+    if k[at] == 5000 {
+        return equation_applies(rank, k, seen(k, at, swap), signature);
+    }
+    let m = show_membership(k, at);
+    let there = membership_applies(rank, k, m, signature);
+    and(!swap, there)
 }

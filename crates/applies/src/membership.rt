@@ -16,10 +16,10 @@ use crate::looks::symbol_in;
 use crate::looks::symbol_of;
 use bools::and;
 use expressions::pass;
-use finds::has_term;
 use language::Signature;
 use language::Sym;
 use language::is_unordered;
+use spots::has_term;
 use views::Shape;
 use views::Side;
 
@@ -77,8 +77,7 @@ pub fn f6(k: &[u16], s: Shape) -> bool
 pub fn f7(k: &[u16], s: Shape) -> bool
     ensures { λ b. ⌜ AsksIn testF7 (now (k .entry)) s b ⌝ }
 {
-    let h = s.h;
-    let terms = has_term(k, h.from);
+    let terms = has_term(k, s.h.from);
     and(terms, form_of(s) == 7000)
 }
 

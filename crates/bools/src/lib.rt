@@ -15,6 +15,12 @@ pub fn or(a: bool, b: bool) -> bool
     if a { true } else { b }
 }
 
+pub fn neither(a: bool, b: bool) -> bool
+    ensures { λ r. ⌜ r ≡ not (a || b) ⌝ }
+{
+    if a { false } else { !b }
+}
+
 // Whether a number is not 0.
 pub fn truth(n: u32) -> bool
     ensures { λ r. ⌜ r ≡ not (eqb n 0) ⌝ }

@@ -134,7 +134,7 @@ fn test_pair(
 }
 
 // The literal at a place, with each test of the same variable behind it, until one clashes or cannot be told.
-fn test_behind(k: &[u16], at: usize, s: Signature) -> Verdict
+pub fn test_behind(k: &[u16], at: usize, s: Signature) -> Verdict
     requires { ⌜ (at < length (now k)) × (length (now k) ≤ desk .question) ⌝ }
     requires { ⌜ SomeLiteral (now k) at ⌝ }
     ensures { λ r. ⌜ ((before : Conj) (l : Literal) (behind : Conj) → LiteralAt (now (k .entry)) at before l behind → r ≡ replyOf s l behind) ⌝ }

@@ -15,7 +15,8 @@ use Rattle.rules.specs.Answer.{zeros, overwritten}
 use Rattle.word_bytes.specs.Bytes.{wordsIn}
 use Rattle.sheets.specs.Layout.{sheetLaid, sheetParts, sheetWords}
 use Rattle.sheets.specs.Day.{Day, answers, unread, given-up, fitted, answersOf, day}
-use Rattle.day.specs.Leaves.{dayNumbers, wordBytes, roomLeaves, sliceLeaves}
+use Rattle.handing.specs.Handed.{wordBytes}
+use Rattle.day.specs.Leaves.{dayNumbers, roomLeaves, sliceLeaves}
 use Rattle.day.specs.Written.{Ended, Kept}
 
 refused-if : (b : Bool) (r : Refusal) (x : Day) → b ≡ true → elim b [ true ↦ unread r | false ↦ x ] ≡ unread r

@@ -22,7 +22,7 @@ use Rattle.word_bytes.proofs.Pairs as pairs
 use Rattle.sheets.specs.Layout.{doubled, undoubled, partsAt, countOf, sheetOffsets, sheetWords, sheetParts, sheetLaid}
 use Rattle.sheets.specs.Day.{answerPart, answersOf}
 use Rattle.sheets.proofs.RoundTrip.{length-doubled, length-sheet}
-use Rattle.day.specs.Leaves.{wordBytes}
+use Rattle.handing.specs.Handed.{wordBytes}
 use Rattle.day.specs.Written.{written, most, Placed, Ended}
 use Rattle.day.proofs.Headers.{no}
 use Rattle.day.proofs.Cuts.{length-undoubled}

@@ -1,11 +1,12 @@
 -- What answering a day's sheet gives back, and what it leaves in the room's bytes and in the two lent slices.
-use Prim.Native.Nat.{ℕ, _*_, _/_}
+use Prim.Native.Nat.{ℕ, _*_}
 use mathlib.Core.List.{List, _++_}
 use lib.ListN.{length, drop, replicate}
 use Rattle.language.specs.Limits.{desk}
 use Rattle.language.specs.Numbers.{numberOf}
 use Rattle.rules.specs.Answer.{zeros, overwritten}
 use Rattle.word_bytes.specs.Bytes.{bytesOf}
+use Rattle.handing.specs.Handed.{wordBytes}
 use Rattle.sheets.specs.Day.{Day, answers, unread, given-up}
 
 -- the number that comes back
@@ -17,10 +18,6 @@ dayNumber (given-up r) = numberOf r
 -- and its place, which is 0
 abbrev pub dayNumbers : Day → ℕ × ℕ
 dayNumbers d = (dayNumber d, 0)
-
--- the bytes of a room's words; an odd last byte is none of them
-abbrev pub wordBytes : List ℕ → ℕ
-wordBytes bytes = 2 * (length bytes / 2)
 
 -- "The rest of the room is unchanged"; "with nothing changed"; "the room is then all zeros"
 abbrev pub roomLeaves : Day → List ℕ → List ℕ

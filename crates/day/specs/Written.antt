@@ -10,7 +10,7 @@ use Rattle.language.specs.Limits.{desk}
 use Rattle.meaning.specs.Values.{offsetsOf, joined}
 use Rattle.word_bytes.specs.Bytes.{bytesOf}
 use Rattle.sheets.specs.Layout.{doubled, partsAt, sheetWords}
-use Rattle.day.specs.Leaves.{wordBytes}
+use Rattle.handing.specs.Handed.{wordBytes}
 
 -- n, the offset of each part and the end of the last, and the parts, in a room that held `old`
 unfoldable pub written : ℕ → List ℕ → List (List ℕ) → List ℕ

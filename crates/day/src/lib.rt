@@ -2,9 +2,9 @@
 ghost use Prim.Native.Nat.{_+_, _*_, _/_, _≤_, _<_};
 ghost use mathlib.Core.Path.{_≡_};
 ghost use mathlib.Core.Bool.{true};
-ghost use mathlib.Core.List.{_∷_, [], _++_};
+ghost use mathlib.Core.List.{_∷_, []};
 ghost use lib.Dec.{leb, eqb};
-ghost use lib.ListN.{length, take, drop, getD, replicate};
+ghost use lib.ListN.{length, take, drop, getD};
 ghost use lib.Seq.{sets, slice};
 ghost use Rattle.language.specs.Limits.{desk};
 ghost use Rattle.language.specs.Kinds.{pick};
@@ -13,9 +13,10 @@ ghost use Rattle.outcomes.specs.Numbers.{checkedNumbers};
 ghost use Rattle.word_bytes.specs.Bytes.{wordsIn, wordsOf, bytesOf};
 ghost use Rattle.sheets.specs.Layout.{doubled, undoubled, partsAt, countOf, tableLaid, sheetLaid, sheetParts, sheetWords};
 ghost use Rattle.sheets.specs.Day.{answerPart, answersOf, day};
-ghost use Rattle.day.specs.Leaves.{dayNumbers, wordBytes, roomLeaves, sliceLeaves};
+ghost use Rattle.day.specs.Leaves.{dayNumbers, roomLeaves, sliceLeaves};
 ghost use Rattle.day.specs.Written.{written, Ended, Kept};
 ghost use Rattle.language.specs.Question.{rising};
+use handing::clear_words;
 use language::Refusal;
 use language::limits::QUESTION;
 use language::limits::ROOM;
@@ -167,18 +168,6 @@ fn put_part(room: &mut [u8], at: usize, number: u16, words: &[u16])
     write_words_at(words, room, at + 1);
 }
 
-// Zeros in every word of the room.
-fn clear_room(room: &mut [u8])
-    ensures { λ _. ⌜ now (room .exit) ≡ replicate (wordBytes (now (room .entry))) 0 ++ drop (wordBytes (now (room .entry))) (now (room .entry)) ⌝ }
-{
-    let end = 2 * (room.len() / 2);
-    let mut i = 0;
-    while i < end {
-        room[i] = 0;
-        i += 1;
-    }
-}
-
 // The number of answers, and where the first begins.
 fn begin(room: &mut [u8], n: u16)
     requires { ⌜ 2 * partsAt n ≤ length (now room) ⌝ }
@@ -258,6 +247,6 @@ pub fn solve_day(sheet: &[u8], work: &mut [u16], answer: &mut [u16], room: &mut 
     if fits {
         return Checked::Fine;
     }
-    clear_room(room);
+    clear_words(room);
     Checked::Refused(Refusal::LongAnswers)
 }

@@ -17,7 +17,7 @@ use Rattle.rules.specs.Run.{Numbered, Outcome, finished, run}
 use Rattle.rules.specs.Answer.{Solving, answered, unread, solvingOf, solving, markOf}
 use Rattle.rules.specs.Each.{Each}
 use Rattle.solver.specs.Leaves.{leaves}
-use Rattle.example.specs.Answers.{Answer}
+use Rattle.answer_example.specs.Answers.{Answer}
 use Rattle.example.proofs.Finished.{lines-end}
 use Rattle.language.proofs.Numbering.{each-number}
 use Rattle.demands.specs.Answers.{Line, numberedOf}

@@ -4,7 +4,7 @@ use mathlib.Core.Path.{_≡_, refl}
 use mathlib.Core.Logic.{_⊎_, inl, inr}
 use native.Mathlib.Omega.{arith}
 use Rattle.language.specs.declared.Refusal.{Refusal}
-use Rattle.language.specs.declared.Refusal.the-variants.{ShortSlice, QuestionLength, CountRange, BadOffset, NotLiterals, Undeclared, LongResult, LongWaiting, LineRoom, StepLimit, FillingLayout, FillingValue, LongLiteral, NoSuchLine, OpenLine, LongExample, LongWalk, SheetLayout, LongAnswers}
+use Rattle.language.specs.declared.Refusal.the-variants.{ShortSlice, QuestionLength, CountRange, BadOffset, NotLiterals, Undeclared, LongResult, LongWaiting, LineRoom, StepLimit, FillingLayout, FillingValue, LongLiteral, NoSuchLine, OpenLine, LongExample, NotText, ManyNames, LongText, OtherNumbers, LongWalk, SheetLayout, LongAnswers, BadStep, ShortTrail, LongTrail, TrailRoom}
 use Rattle.language.specs.Numbers.{numberOf}
 use Rattle.demands.specs.Columns.{column, unchanged, zeroed}
 
@@ -25,9 +25,17 @@ early-column LongLiteral p = absurd (omega arith)
 early-column NoSuchLine p = absurd (omega arith)
 early-column OpenLine p = absurd (omega arith)
 early-column LongExample p = absurd (omega arith)
+early-column NotText p = absurd (omega arith)
+early-column ManyNames p = absurd (omega arith)
+early-column LongText p = absurd (omega arith)
+early-column OtherNumbers p = absurd (omega arith)
 early-column LongWalk p = absurd (omega arith)
 early-column SheetLayout p = absurd (omega arith)
 early-column LongAnswers p = absurd (omega arith)
+early-column BadStep p = absurd (omega arith)
+early-column ShortTrail p = absurd (omega arith)
+early-column LongTrail p = absurd (omega arith)
+early-column TrailRoom p = absurd (omega arith)
 
 -- neither 7 to 10 nor 21
 other : {A : Type 0} {n : ℕ} → (n ≤ 10 → ⊥) → (n ≡ 21 → ⊥) → (n ≤ 10) ⊎ (n ≡ 21) → A
@@ -51,6 +59,14 @@ late-column LongLiteral p q = other (λ h. omega arith) (λ h. omega arith) q
 late-column NoSuchLine p q = other (λ h. omega arith) (λ h. omega arith) q
 late-column OpenLine p q = other (λ h. omega arith) (λ h. omega arith) q
 late-column LongExample p q = other (λ h. omega arith) (λ h. omega arith) q
+late-column NotText p q = other (λ h. omega arith) (λ h. omega arith) q
+late-column ManyNames p q = other (λ h. omega arith) (λ h. omega arith) q
+late-column LongText p q = other (λ h. omega arith) (λ h. omega arith) q
+late-column OtherNumbers p q = other (λ h. omega arith) (λ h. omega arith) q
 late-column LongWalk p q = refl
 late-column SheetLayout p q = other (λ h. omega arith) (λ h. omega arith) q
 late-column LongAnswers p q = other (λ h. omega arith) (λ h. omega arith) q
+late-column BadStep p q = other (λ h. omega arith) (λ h. omega arith) q
+late-column ShortTrail p q = other (λ h. omega arith) (λ h. omega arith) q
+late-column LongTrail p q = other (λ h. omega arith) (λ h. omega arith) q
+late-column TrailRoom p q = other (λ h. omega arith) (λ h. omega arith) q

@@ -21,9 +21,10 @@ use Rattle.meaning.specs.Values.{Given, gives, readFilling}
 use Rattle.meaning.specs.Values as values
 use Rattle.exact.proofs.Declared.{read-declared}
 use Rattle.line_example.specs.Shown.{resultOf, roomOf}
-use Rattle.example.specs.Answers.{Answer}
+use Rattle.answer_example.specs.Answers.{Answer}
 use Rattle.word_bytes.specs.Bytes.{wordsOf, bytesOf, wordsIn}
 use Rattle.host.specs.Host as host
+use Rattle.try_host.specs.Host as try_host
 use Rattle.host.specs.Numbers.{asksOld}
 use Rattle.language.proofs.Numbering.{each-number}
 use Rattle.host.proofs.Refusals.{InRange, in-range}
@@ -177,14 +178,14 @@ example-follows s z c same p =
 -- ---- desk_try
 
 pub try-tells : (t : DeskTry) → DeskTryTells t
-unfolding host.tryingBytes host.TryNumber
+unfolding try_host.tryingBytes try_host.TryNumber
 try-tells t = by (trying desk (desk .room) (wordsIn (t .question)) (wordsIn (t .filling))) (t .said) (try-judged (desk .room) (wordsIn (t .question)) (wordsIn (t .filling)))
   where
     decided : {P : Type 0} {n : ℕ} → ((n ≡ 101) × P) ⊎ ((n ≡ 100) × (P → ⊥)) → (n ≡ 101) ⊎ (n ≡ 100)
     decided (inl a) = inl (a .0)
     decided (inr a) = inr (a .0)
 
-    by : (v : Trying) → host.TryNumber v (t .number) → TryJudged (desk .room) (wordsIn (t .question)) (wordsIn (t .filling)) v → DeskTryTells t
+    by : (v : Trying) → try_host.TryNumber v (t .number) → TryJudged (desk .room) (wordsIn (t .question)) (wordsIn (t .filling)) v → DeskTryTells t
     by (decides q ρ) o j = tells.decides (decided o)
     by (calls.unread r) o j = tells.DeskTryTells.refuses r o j
     by (calls.given-up r) o j = tells.DeskTryTells.refuses r o j
@@ -197,22 +198,22 @@ module _ (q : Question) (fs : List ℕ) (n : ℕ) (high : 100 ≤ n) where
   refuses-low : {A : Type 0} (r : Refusal) → n ≡ numberOf r → A
   refuses-low r e = absurd (let b = each-number r in omega arith)
 
-  by-size : (ρ : Filling) → readFilling desk (q .counts) fs ≡ gives ρ → (b : Bool) → host.TryNumber (elim b [ true ↦ calls.given-up LongLiteral | false ↦ decides q ρ ]) n → Decides
-  unfolding host.TryNumber
+  by-size : (ρ : Filling) → readFilling desk (q .counts) fs ≡ gives ρ → (b : Bool) → try_host.TryNumber (elim b [ true ↦ calls.given-up LongLiteral | false ↦ decides q ρ ]) n → Decides
+  unfolding try_host.TryNumber
   by-size ρ g true o = refuses-low LongLiteral o
   by-size ρ g false o = (ρ, g, o)
 
-  by-given : (g : Given) → readFilling desk (q .counts) fs ≡ g → host.TryNumber (tryingWith desk q g) n → Decides
-  unfolding host.TryNumber
+  by-given : (g : Given) → readFilling desk (q .counts) fs ≡ g → try_host.TryNumber (tryingWith desk q g) n → Decides
+  unfolding try_host.TryNumber
   by-given (gives ρ) e o = by-size ρ e (tooLong desk ρ (q .alternatives)) o
   by-given (values.refuses x) e o = refuses-low x o
 
-  decided-so : (ws : List ℕ) → readQuestion desk ws ≡ asks q → host.TryNumber (trying desk (desk .room) ws fs) n → Decides
+  decided-so : (ws : List ℕ) → readQuestion desk ws ≡ asks q → try_host.TryNumber (trying desk (desk .room) ws fs) n → Decides
   unfolding trying
-  decided-so ws asked o = by-given (readFilling desk (q .counts) fs) refl (subst (λ a. host.TryNumber (tryingOf desk a fs) n) asked o)
+  decided-so ws asked o = by-given (readFilling desk (q .counts) fs) refl (subst (λ a. try_host.TryNumber (tryingOf desk a fs) n) asked o)
 
 pub try-agrees : (t : DeskTry) {bytes answer : List ℕ} → t .question ≡ bytes → (p : Promised (wordsIn bytes) answer) → DeskTryAgrees p (t .filling) (t .number)
-unfolding host.tryingBytes
+unfolding try_host.tryingBytes
 try-agrees t same p =
     let found : (h : 100 ≤ t .number) → Decides (p .asked) (wordsIn (t .filling)) (t .number) h =
     λ h. decided-so (p .asked) (wordsIn (t .filling)) (t .number) h (wordsIn (t .question)) (ap (λ b. readQuestion desk (wordsIn b)) same ∙ p .question-read) (t .said) in

@@ -8,7 +8,7 @@ use native.Mathlib.Omega.{arith}
 use lib.Dec.{ltb}
 use lib.ListN.{length}
 use Rattle.language.specs.declared.Refusal.{Refusal}
-use Rattle.language.specs.declared.Refusal.the-variants.{ShortSlice, QuestionLength, CountRange, BadOffset, NotLiterals, Undeclared, LongResult, LongWaiting, LineRoom, StepLimit, FillingLayout, FillingValue, LongLiteral, NoSuchLine, OpenLine, LongExample, LongWalk, SheetLayout, LongAnswers}
+use Rattle.language.specs.declared.Refusal.the-variants.{ShortSlice, QuestionLength, CountRange, BadOffset, NotLiterals, Undeclared, LongResult, LongWaiting, LineRoom, StepLimit, FillingLayout, FillingValue, LongLiteral, NoSuchLine, OpenLine, LongExample, NotText, ManyNames, LongText, OtherNumbers, LongWalk, SheetLayout, LongAnswers, BadStep, ShortTrail, LongTrail, TrailRoom}
 use Rattle.language.specs.Limits.{desk}
 use Rattle.language.specs.Numbers.{numberOf, placeOf}
 use Rattle.language.specs.Trees.{signature, Question}
@@ -32,7 +32,7 @@ use Rattle.outcomes.specs.declared.Shown.the-variants.{Denied}
 use Rattle.solver.specs.Leaves.{leaves}
 use Rattle.trying.specs.Outcome.{Outcome as Tries}
 use Rattle.word_bytes.specs.Bytes.{wordsIn}
-use Rattle.host.specs.Host.{placeBytes}
+use Rattle.try_host.specs.Host.{placeBytes}
 use Rattle.demands.specs.Solves.{Solve}
 use Rattle.demands.specs.Tries.{Try}
 use Rattle.demands.specs.Examples.{Example}
@@ -63,9 +63,17 @@ no-place LongLiteral p q = refl
 no-place NoSuchLine p q = refl
 no-place OpenLine p q = refl
 no-place LongExample p q = refl
+no-place NotText p q = refl
+no-place ManyNames p q = refl
+no-place LongText p q = refl
+no-place OtherNumbers p q = refl
 no-place LongWalk p q = refl
 no-place SheetLayout p q = refl
 no-place LongAnswers p q = refl
+no-place BadStep p q = refl
+no-place ShortTrail p q = refl
+no-place LongTrail p q = refl
+no-place TrailRoom p q = refl
 
 module _ (ws : List ℕ) where
   none-right : (r : Refusal) → ¬ (numberOf r ≡ 5) → ¬ (numberOf r ≡ 6) → RightPlace desk ws r

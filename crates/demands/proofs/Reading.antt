@@ -22,8 +22,8 @@ use Rattle.rules.specs.Run.{Numbered, unnumbered}
 use Rattle.rules.specs.Answer.{markOf, lineWords, countOpen}
 use Rattle.rules.specs.Calls.{lineAt}
 use Rattle.exact.specs.Numbers.{MeetsNumbered}
-use Rattle.example.specs.Answers.{Answer}
-use Rattle.example.proofs.Lines.{Place, place-of, count-is}
+use Rattle.answer_example.specs.Answers.{Answer}
+use Rattle.answer_example.proofs.Lines.{Place, place-of, count-is}
 use Rattle.demands.specs.Answers.{Line, numberedOf, marked, readLine, lineIn, withLine, readLines, readAnswer, MeetsLines, MeetsLinesOf, nthLine, opens}
 
 -- a line of the run as it stands in an answer

@@ -27,7 +27,7 @@ use Rattle.outcomes.specs.declared.Shown.{Shown}
 use Rattle.outcomes.specs.declared.Shown.the-variants.{Shows, Denied}
 use Rattle.line_example.specs.Shown.{resultOf, roomOf}
 use Rattle.example.specs.Exhibits.{exhibits}
-use Rattle.example.specs.Answers.{Answer}
+use Rattle.answer_example.specs.Answers.{Answer}
 use Rattle.host.proofs.Refusals.{InRange, in-range}
 use Rattle.demands.specs.Solves.{Solve}
 use Rattle.demands.specs.Examples.{Example}

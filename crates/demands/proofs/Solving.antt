@@ -24,7 +24,7 @@ use Rattle.outcomes.specs.declared.Outcome.the-variants.{NoLine, AllSolved, Som
 use Rattle.outcomes.specs.declared.Solved.{Solved}
 use Rattle.outcomes.specs.Numbers.{outcomeNumber}
 use Rattle.solver.specs.Leaves.{verdict, verdictFor, leaves}
-use Rattle.example.specs.Answers.{Answer}
+use Rattle.answer_example.specs.Answers.{Answer}
 use Rattle.host.proofs.Refusals.{InRange, in-range}
 use Rattle.demands.specs.Solves.{Solve}
 use Rattle.demands.specs.Answers.{Line, numberedOf, MeetsLines, opens}

@@ -2,7 +2,7 @@
 use Prim.Native.Nat.{ℕ}
 use mathlib.Core.List.{List}
 use Rattle.language.specs.declared.Refusal.{Refusal}
-use Rattle.language.specs.declared.Refusal.the-variants.{ShortSlice, QuestionLength, CountRange, BadOffset, NotLiterals, Undeclared, LongResult, LongWaiting, LineRoom, StepLimit, FillingLayout, FillingValue, LongLiteral, NoSuchLine, OpenLine, LongExample, LongWalk, SheetLayout, LongAnswers}
+use Rattle.language.specs.declared.Refusal.the-variants.{ShortSlice, QuestionLength, CountRange, BadOffset, NotLiterals, Undeclared, LongResult, LongWaiting, LineRoom, StepLimit, FillingLayout, FillingValue, LongLiteral, NoSuchLine, OpenLine, LongExample, NotText, ManyNames, LongText, OtherNumbers, LongWalk, SheetLayout, LongAnswers, BadStep, ShortTrail, LongTrail, TrailRoom}
 use Rattle.language.specs.Limits.{desk}
 use Rattle.rules.specs.Answer.{zeros, overwritten}
 
@@ -26,9 +26,17 @@ column LongLiteral = zeroed
 column NoSuchLine = as-solved
 column OpenLine = as-solved
 column LongExample = as-solved
+column NotText = unchanged
+column ManyNames = unchanged
+column LongText = unchanged
+column OtherNumbers = unchanged
 column LongWalk = zeroed
 column SheetLayout = unchanged
 column LongAnswers = zeroed
+column BadStep = zeroed
+column ShortTrail = zeroed
+column LongTrail = zeroed
+column TrailRoom = zeroed
 
 -- What a slice that held `old` holds after a refusal, if solving leaves `solved` in it. '"Zeros" covers the first' 16,384 'words; later words of a
 -- longer slice stay.'

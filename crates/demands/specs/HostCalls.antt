@@ -5,12 +5,13 @@ use mathlib.Core.Path.{_≡_}
 use mathlib.Core.List.{List}
 use lib.ListN.{length}
 use Rattle.language.specs.Limits.{desk}
-use Rattle.host.specs.Host.{solvingBytes, solveNumber, solveLeaves, tryingBytes, TryNumber, showingBytes, showNumber, showLeaves, placeBytes, dayBytes}
+use Rattle.host.specs.Host.{solvingBytes, solveNumber, solveLeaves, showingBytes, showNumber, showLeaves, dayBytes}
+use Rattle.try_host.specs.Host.{tryingBytes, TryNumber, placeBytes}
 use Rattle.day.specs.Leaves.{dayNumber, roomLeaves}
 use Rattle.host.proofs.desk_solve as desk-solve
-use Rattle.host.proofs.desk_try as desk-try
+use Rattle.try_host.proofs.desk_try as desk-try
 use Rattle.host.proofs.desk_example as desk-example
-use Rattle.host.proofs.desk_place as desk-place
+use Rattle.try_host.proofs.desk_place as desk-place
 use Rattle.host.proofs.desk_day as desk-day
 use Rattle.demands.specs.Calls.{Call}
 

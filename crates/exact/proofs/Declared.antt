@@ -11,13 +11,16 @@ use Rattle.language.specs.declared.Refusal.the-variants.{QuestionLength, CountR
 use Rattle.language.specs.Trees.{Functor, symbol, fvar, Hedge, ε, tvar, hvar, node, Expr, eps, cat, alt, star, over, Literal, eqn, mem, Conj, Counts, signature, Question, tv, hv, fv}
 use Rattle.language.specs.Reading.{Got, got, stop}
 use Rattle.language.specs.Question.{countsOf, alternativesOf, lengthFits, countsFit, laidOut, parts, readAll, declaredS, declaredT, declaredH, declaredX, declaredF, declared, declaredE, declaredL, declaredC, declaredQ, Asked, asks, refuses, readQuestion}
+use Rattle.rules.specs.Reply.{results}
+use Rattle.rules.specs.Step.{Spot, stepAt}
 use Rattle.rules.specs.Run.{Numbered, EachLine, finished, run}
 use Rattle.rules.specs.Each.{Each}
 use Rattle.rules.proofs.Each.{each-imp}
 use Rattle.rules.proofs.Tests.{and-parts, and-both, test-true}
 use Rattle.rules.proofs.Invariant.{lines-keep}
+use Rattle.rules.proofs.Steps.{Kept, named-at-sides}
 use Rattle.exact.specs.Made.{Name, aSymbol, aVariable, MadeF, Made, MadeE, MadeL, MadeC}
-use Rattle.exact.proofs.MadeByRules.{step-made}
+use Rattle.exact.proofs.MadeByRules.{each-rule-makes, step-made}
 
 -- ---- declared is made of declared names
 
@@ -75,6 +78,12 @@ module _ (n : Counts) where
   lines-declared L w ls s e p =
       each-imp _ _ (λ (k : Numbered) m. from-made (k .literals) m) ls
       (lines-keep (signature n) (MadeC Declared) (λ k ks m d. step-made (signature n) Declared (λ _ f i. lt→ltb (f .0) (n .symbols) i) k ks d m) L w ls s e (each-imp DeclaredC (MadeC Declared) to-made w p))
+
+  -- and at any named place
+  pub named-declared : (s : Spot) (k : Conj) (ks : List Conj) → DeclaredC k → stepAt (signature n) s k ≡ results ks → Each DeclaredC ks
+  named-declared s k ks p e =
+      each-imp (MadeC Declared) DeclaredC from-made ks
+      (named-at-sides (Kept (MadeC Declared)) (signature n) (each-rule-makes (signature n) Declared (λ _ f i. lt→ltb (f .0) (n .symbols) i)) s k ks e (to-made k p))
 
   pub each-declared : (ks : List Conj) → T (declaredQ n ks) → Each DeclaredC ks
   each-declared [] t = tt

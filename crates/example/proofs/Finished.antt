@@ -8,19 +8,20 @@ use lib.Dec.{leb}
 use lib.ListN.{length}
 use borrow.Author.Tests.{ltb-true, leb-true}
 use Rattle.language.specs.Limits.{desk}
-use Rattle.language.specs.Trees.{Functor, symbol, fvar, Hedge, ε, tvar, hvar, node, Expr, eps, cat, alt, star, over, Literal, eqn, mem, Conj, Counts, signature}
+use Rattle.language.specs.Trees.{Functor, symbol, fvar, Hedge, ε, tvar, hvar, node, Expr, eps, cat, alt, star, over, Literal, eqn, mem, Conj, Counts, signature, Question}
 use Rattle.language.specs.Fine.{fineFunctor, fineHedge, fineExpr, fineLiteral, fineConj}
-use Rattle.language.specs.Question.{countsOf, declaredS, declaredT, declaredH, declaredF, declared, declaredE, declaredL, declaredC}
+use Rattle.language.specs.Question.{asks, readQuestion, countsOf, declaredS, declaredT, declaredH, declaredF, declared, declaredE, declaredL, declaredC}
 use Rattle.language.proofs.Bools.{both-true}
 use Rattle.language.proofs.Asking.{ranges, passed}
 use Rattle.rules.specs.Reply.{nothing}
 use Rattle.rules.specs.Step.{step}
-use Rattle.rules.specs.Run.{Numbered, EachLine, linesSize, linesAt}
+use Rattle.rules.specs.Run.{Numbered, EachLine, linesSize, linesAt, linesFit}
 use Rattle.rules.specs.Answer.{solving, answered}
 use Rattle.rules.proofs.Invariant.{answered-run}
-use Rattle.exact.proofs.Exact.{lines-settled, answer-declared}
+use Rattle.exact.proofs.Exact.{lines-settled, lines-all-declared}
+use Rattle.exact.proofs.Declared.{read-declared}
 use Rattle.exact.proofs.Wider.{lines-fit}
-use Rattle.example.specs.Answers.{Good, Ranged}
+use Rattle.answer_example.specs.Answers.{Good, Ranged}
 use Rattle.example.proofs.Settling.{settled-line}
 
 -- ---- what is declared has words
@@ -66,16 +67,24 @@ each-good : (n : Counts) → n .symbols ≤ desk .each → n .terms ≤ desk .ea
 each-good n s t h f [] d q = tt
 each-good n s t h f (l ∷ ls) d q = (record { fine = conj-fine n s t h f (l .literals) (d .0); settled = settled-line (signature n) (l .literals) (q .0) }, each-good n s t h f ls (d .1) (q .1))
 
-pub lines-end : (work answer : ℕ) (question : List ℕ) (ls : List Numbered) (n : ℕ) → solving desk work answer question ≡ answered ls n → Ends question ls
-lines-end work answer question ls n e =
-    let (q, asked, ran) = answered-run desk work answer question ls n e in
+-- a question that was read, and lines that fit, are declared, and that no rule applies to
+pub ends-of : (question : List ℕ) (q : Question) → readQuestion desk question ≡ asks q → (ls : List Numbered) → linesFit desk ls ≡ true
+    → EachLine (λ k. declaredC (q .counts) k ≡ true) ls → EachLine (λ k. step (signature (q .counts)) k ≡ nothing) ls → Ends question ls
+ends-of question q asked ls fit d quiet =
     let r = ranges desk question q asked in
-    let f = both-true (leb (length ls) (desk .lines)) (leb (linesAt desk + linesSize ls) (desk .room)) (lines-fit desk refl (signature (q .counts)) (q .alternatives) ls n ran) in
+    let f = both-true (leb (length ls) (desk .lines)) (leb (linesAt desk + linesSize ls) (desk .room)) fit in
     let l = r .long in
     let counts = passed desk question q asked .counts in
     record {
       ranged = record { header = omega arith; named = r .symbol; symbols = r .symbols; terms = r .terms; hedges = r .hedges; functions = r .functions };
       few = leb-true _ _ (f .0);
       size = leb-true _ _ (f .1);
-      lines = each-good (countsOf question) (r .symbols) (r .terms) (r .hedges) (r .functions) ls (answer-declared desk work answer question ls n e) (rw counts at (lines-settled (signature (q .counts)) desk (q .alternatives) ls n ran));
+      lines = each-good (countsOf question) (r .symbols) (r .terms) (r .hedges) (r .functions) ls (rw counts at d) (rw counts at quiet);
     }
+
+pub lines-end : (work answer : ℕ) (question : List ℕ) (ls : List Numbered) (n : ℕ) → solving desk work answer question ≡ answered ls n → Ends question ls
+lines-end work answer question ls n e =
+    let (q, asked, ran) = answered-run desk work answer question ls n e in
+    let σ = signature (q .counts) in
+    ends-of question q asked ls (lines-fit desk refl σ (q .alternatives) ls n ran)
+    (lines-all-declared (q .counts) desk (q .alternatives) ls n ran (read-declared desk question q asked .1)) (lines-settled σ desk (q .alternatives) ls n ran)

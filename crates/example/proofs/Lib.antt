@@ -1,8 +1,6 @@
-pub mod Lines
-pub mod Defaults
-pub mod Reading
 pub mod Settling
 pub mod Finished
 pub mod Told
 pub mod Exhibits
+pub mod Anew
 pub mod Determined

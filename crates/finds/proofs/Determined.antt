@@ -2,23 +2,11 @@
 use mathlib.Core.Path.{ap}
 use Rattle.language.proofs.Determined.{Determined}
 use Rattle.finds.proofs.Firsts.{walked-one}
-use Rattle.finds.proofs.has_term as has_term
 use Rattle.finds.proofs.all_terms as all_terms
-use Rattle.finds.proofs.under as under
 use Rattle.finds.proofs.up_to as up_to
-use Rattle.finds.proofs.inside as inside
-
-has_term-determined : Determined has_term.ended has_term.Reads.Pre has_term.Reads.Post
-has_term-determined κs a p o q e d = ap (λ z. (z, o .1)) (walked-one (e .1) (d .1))
 
 all_terms-determined : Determined all_terms.ended all_terms.Reads.Pre all_terms.Reads.Post
 all_terms-determined κs a p o q e d = ap (λ z. (z, o .1)) (walked-one (e .2) (d .2))
 
-under-determined : Determined under.ended under.Reads.Pre under.Reads.Post
-under-determined κs a p o q e d = ap (λ z. (z, o .1)) (walked-one (e .1) (d .1))
-
 up_to-determined : Determined up_to.ended up_to.Reads.Pre up_to.Reads.Post
 up_to-determined κs a p o q e d = ap (λ z. (z, o .1)) (walked-one (e .2) (d .2))
-
-inside-determined : Determined inside.ended inside.Reads.Pre inside.Reads.Post
-inside-determined κs a p o q e d = ap (λ z. (z, o .1)) (walked-one (e .1) (d .1))

@@ -1,11 +1,11 @@
 // The values of a filling, read: its count and offsets, the form of each value, and which of the refusals 11 and 12 is given.
+use header::Header;
 use language::Kind;
 use language::Refusal;
 use language::classify;
 use language::limits::FILLING;
 use language::wide;
 use outcomes::Checked;
-use reader::Header;
 use trees::Read;
 ghost use mathlib.Core.Path.{_≡_};
 ghost use mathlib.Core.Bool.{true};
@@ -15,7 +15,7 @@ ghost use Rattle.language.specs.Limits.{desk};
 ghost use Rattle.language.specs.Kinds.{kindOf};
 ghost use Rattle.language.specs.Question.{laidOut, countsFit};
 ghost use Rattle.meaning.specs.Values.{variables, readFilling};
-ghost use Rattle.reader.specs.Checking.{countsIn};
+ghost use Rattle.header.specs.Heading.{countsIn};
 ghost use Rattle.given.specs.Checking.{plainOn, plainWords, ofForm, formAt, Judged, OneTerm, allOfForm, given};
 
 // No variable, and a symbol only if it is declared.
@@ -128,7 +128,7 @@ pub fn read_filling(h: Header, filling: &[u16]) -> Checked
     if filling[0] != n {
         return Checked::Refused(Refusal::FillingLayout);
     }
-    if !reader::laid_out(filling, 1, n) {
+    if !header::laid_out(filling, 1, n) {
         return Checked::Refused(Refusal::FillingLayout);
     }
     if !values_fit(h, filling, n) {

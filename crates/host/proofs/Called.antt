@@ -4,15 +4,15 @@ use mathlib.Core.Path.{_≡_, ap, _∙_}
 use mathlib.Core.List.{List, _++_, append-nil}
 use native.Mathlib.Omega.{arith}
 use lib.ListN.{length, drop, drop-of-length-le}
-use lib.Seq.{sets}
 use Rattle.language.specs.Limits.{desk}
 use Rattle.rules.specs.Answer.{Solving, answered, unread, given-up, solving}
 use Rattle.outcomes.specs.Numbers.{SolveNumbers}
 use Rattle.solver.specs.Leaves.{toldLeaves}
-use Rattle.word_bytes.specs.Bytes.{bytesOf, wordsIn, fitting}
-use Rattle.host.specs.Host.{solvingBytes, solveNumber}
-use Rattle.host.proofs.Refusals.{InRange, in-range}
-use Rattle.host.proofs.Solves.{Left, Own, same, kept, wrote, bytes-left}
+use Rattle.word_bytes.specs.Bytes.{wordsIn, fitting}
+use Rattle.handing.specs.Handed.{answerOut}
+use Rattle.host.specs.Host.{solvingBytes, solveNumber, solveLeaves}
+use Rattle.host.proofs.Refusals.{InRange, in-range, in-order}
+use Rattle.host.proofs.Solves.{Own, same, answer-told}
 
 none-behind : (ws own : List ℕ) → length own ≡ desk .room → ws ++ drop (desk .room) own ≡ ws
 none-behind ws own e = ap (λ (l : List ℕ). ws ++ l) (drop-of-length-le own {i = (desk .room)} (omega arith)) ∙ append-nil ws
@@ -21,7 +21,7 @@ none-behind ws own e = ap (λ (l : List ℕ). ws ++ l) (drop-of-length-le own {i
 abbrev Told : Type 0
 Told = SolveNumbers × List ℕ × List ℕ
 
-read-off : (s : Solving) (r : SolveNumbers) (w o w′ o′ : List ℕ) → length o ≡ desk .room → (r, w′, o′) ≡ toldLeaves s w o → (r .number ≡ solveNumber s) × Own s o′
+pub read-off : (s : Solving) (r : SolveNumbers) (w o w′ o′ : List ℕ) → length o ≡ desk .room → (r, w′, o′) ≡ toldLeaves s w o → (r .number ≡ solveNumber s) × Own s o′
 unfolding solveNumber
 read-off (answered ls n) r w o w′ o′ n8 e = (ap (λ (t : Told). t .0 .number) e, ap (λ (t : Told). t .2) e ∙ none-behind _ o n8)
 read-off (unread x) r w o w′ o′ n8 e = (ap (λ (t : Told). t .0 .number) e, tt)
@@ -45,8 +45,5 @@ module _ (q a : List ℕ) (room : 2 * desk .room ≤ length a)
   unfolding solvingBytes
   some-number = in-range desk (desk .room) (length a / 2) (wordsIn q)
 
-  pub refused-early : 1 ≤ k → k ≤ 6 → Left q a comes k a
-  refused-early low high = kept q a room comes k some-number (number ∙ told .0) low high
-
-  pub answered-or-late : (a′ : List ℕ) → (1 ≤ k → k ≤ 6 → ⊥) → length o′ ≡ desk .room → a′ ≡ sets a 0 (bytesOf o′) → Left q a comes k a′
-  answered-or-late a′ h n e = wrote q a room comes k o′ a′ some-number (number ∙ told .0) h (told .1) (bytes-left q a room o′ a′ n e)
+  pub solved-told : (a′ : List ℕ) → length o′ ≡ desk .room → a′ ≡ answerOut k o′ a → (k ≡ solveNumber comes) × (a′ ≡ solveLeaves desk comes a)
+  solved-told a′ long e = (number ∙ told .0, e ∙ answer-told a o′ room long comes (in-order comes some-number) k (number ∙ told .0) (told .1))

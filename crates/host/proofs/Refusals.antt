@@ -16,12 +16,12 @@ use Rattle.rules.specs.Run.{Outcome, finished, refused, run}
 use Rattle.rules.specs.Answer.{Solving, answered, unread, given-up, ran, solvingOf, solving}
 use Rattle.rules.proofs.Stopping.{RunStopsBy, run-stops-by}
 
-abbrev Between : ℕ → ℕ → Refusal → Type 0
+abbrev pub Between : ℕ → ℕ → Refusal → Type 0
 Between low high r = (low ≤ numberOf r) × (numberOf r ≤ high)
 
 -- ---- the reading
 
-abbrev Early : Asked → Type 0
+abbrev pub Early : Asked → Type 0
 Early (asks q) = Unit {0}
 Early (refuses r) = Between 1 6 r
 
@@ -33,7 +33,7 @@ read : (o : Got (List Conj)) (at : ℕ → ℕ) (go : List Conj → Asked) → (
 read (stop n) at go h = (lit≤ tt, lit≤ tt)
 read (got ks n) at go h = h ks
 
-early : (L : Limits) (ws : List ℕ) → Early (readQuestion L ws)
+pub early : (L : Limits) (ws : List ℕ) → Early (readQuestion L ws)
 unfolding readQuestion
 early L ws =
     tested (lengthFits L ws) QuestionLength _ (lit≤ tt, lit≤ tt)
@@ -53,6 +53,17 @@ abbrev pub InRange : Solving → Type 0
 InRange (answered ls n) = Unit {0}
 InRange (unread r) = Between 1 6 r
 InRange (given-up r) = Late r
+
+-- what becomes of an answer's bytes asks for no more: 1 to 6 before the run, and 7 or more from it
+abbrev pub InOrder : Solving → Type 0
+InOrder (answered ls n) = Unit {0}
+InOrder (unread r) = Between 1 6 r
+InOrder (given-up r) = 7 ≤ numberOf r
+
+pub in-order : (s : Solving) → InRange s → InOrder s
+in-order (answered ls n) h = tt
+in-order (unread r) h = h
+in-order (given-up r) h = h .0
 
 range-run : (o : Outcome) → RunStopsBy Late o → InRange (ran o)
 range-run (finished ls n) h = tt

@@ -22,10 +22,11 @@ use Rattle.rules.specs.Calls.{Showing, shows, denied, lineAt, fitted, shown, sh
 use Rattle.line_example.specs.Shown.{numbersOf, roomOf}
 use Rattle.example.specs.Exhibits.{toldExhibits}
 use Rattle.word_bytes.specs.Bytes.{bytesOf, wordsIn, fitting}
-use Rattle.host.specs.Numbers.{used, asksOld, toldBy}
+use Rattle.handing.specs.Handed.{used, numberOr}
+use Rattle.handing.proofs.Handed.{number-value, number-refused}
+use Rattle.host.specs.Numbers.{asksOld}
 use Rattle.host.specs.Host.{showingBytes, showNumber, showLeaves}
 use Rattle.word_bytes.proofs.Pairs.{written}
-use Rattle.host.proofs.Numbering.{used-all, told-value, told-number}
 use Rattle.host.proofs.Fitting.{fitting-showing}
 
 -- ---- how long an example can be
@@ -49,7 +50,7 @@ fits-shown : (old : Bool) (n : Counts) (room : ℕ) (o : Option Numbered) → Fi
 fits-shown old n room none = tt
 fits-shown old n room (some k) = fits-line (solved (k .literals)) room _ (fits-fitted room (fillingWords n (example (defaultSymbol old n) (k .literals))))
 
-fits-solved : (old : Bool) (n : Counts) (room line : ℕ) (s : Solving) → Fits room (showingOf desk old n room line s)
+pub fits-solved : (old : Bool) (n : Counts) (room line : ℕ) (s : Solving) → Fits room (showingOf desk old n room line s)
 fits-solved old n room line (answered ls steps) = fits-shown old n room (lineAt line ls)
 fits-solved old n room line (unread r) = tt
 fits-solved old n room line (given-up r) = tt
@@ -61,16 +62,16 @@ fits old work answer room line ws = fits-solved old (countsOf ws) room line (sol
 -- ---- the number
 
 abbrev shownTold : ℕ × ℕ × ℕ → ℕ
-shownTold n = toldBy (n .0) (n .2)
+shownTold n = numberOr (n .0) (n .2)
 
-told : (s : Showing) (room k : ℕ) (r : ℕ × ℕ × ℕ) → Fits room s → r ≡ numbersOf s → k ≡ shownTold r → k ≡ showNumber s
+pub told : (s : Showing) (k : ℕ) (r : ℕ × ℕ × ℕ) → r ≡ numbersOf s → k ≡ shownTold r → k ≡ showNumber s
 unfolding showNumber
-told (shows ws) room k r h e f = f ∙ ap shownTold e ∙ told-value 0 (length ws) refl ∙ ap (λ (n : ℕ). 100 + n) (used-all (desk .filling) (length ws) (h .0))
-told (denied x) room k r h e f = f ∙ ap shownTold e ∙ told-number x 0
+told (shows ws) k r e f = f ∙ ap shownTold e ∙ number-value 0 (length ws) refl
+told (denied x) k r e f = f ∙ ap shownTold e ∙ number-refused x 0
 
 -- ---- the room
 
-within : (s : Showing) (room : ℕ) → Fits room s → numbersOf s .2 ≤ room
+pub within : (s : Showing) (room : ℕ) → Fits room s → numbersOf s .2 ≤ room
 within (shows ws) room h = h .1
 within (denied x) room h = omega arith
 
@@ -79,7 +80,7 @@ unfolding bytesOf
 none-written own bytes = refl
 
 -- a refusal has no words to write
-writes : (s : Showing) (own own′ bytes bytes′ : List ℕ) → Fits (length own) s → 2 * length own ≤ length bytes → own′ ≡ roomOf s own
+pub writes : (s : Showing) (own own′ bytes bytes′ : List ℕ) → Fits (length own) s → 2 * length own ≤ length bytes → own′ ≡ roomOf s own
     → bytes′ ≡ sets bytes 0 (bytesOf (take (numbersOf s .2) own′)) → bytes′ ≡ showLeaves s bytes
 unfolding showLeaves
 writes (shows ws) own own′ bytes bytes′ h room eo eb =
@@ -116,7 +117,7 @@ module _ (q w o own w′ o′ own′ : List ℕ) (line : ℕ) (old : Bool) (r : 
   pub shown-line : (k n : ℕ) (bytes bytes′ : List ℕ) → k ≡ shownTold r → n ≡ r .2 → 2 * length own ≤ length bytes
       → bytes′ ≡ sets bytes 0 (bytesOf (take n own′)) → (k ≡ showNumber comes) × (bytes′ ≡ showLeaves comes bytes)
   shown-line k n bytes bytes′ number f room eb = (
-    told comes (length own) k r (fits old (desk .room) (desk .room) (length own) line q) result number,
+    told comes k r result number,
     writes comes own own′ bytes bytes′ (fits old (desk .room) (desk .room) (length own) line q) room room-left (eb ∙ ap (λ (m : ℕ). sets bytes 0 (bytesOf (take m own′))) (f ∙ ap (λ (n : ℕ × ℕ × ℕ). n .2) result)),
   )
 

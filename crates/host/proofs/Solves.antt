@@ -15,7 +15,9 @@ use Rattle.word_bytes.specs.Bytes.{bytesOf, wordsIn, fitting}
 use Rattle.host.specs.Host.{solvingBytes, solveNumber, solveLeaves}
 use Rattle.word_bytes.proofs.Pairs.{written}
 use Rattle.day.proofs.Fitting.{fitting-solving}
-use Rattle.host.proofs.Refusals.{InRange}
+use Rattle.handing.specs.Handed.{keepsBytes, answerOut}
+use Rattle.handing.proofs.Handed.{keeps-none, keeps-early, keeps-late, answer-kept, answer-put}
+use Rattle.host.proofs.Refusals.{InOrder}
 
 abbrev unless-short : Solving → Bool → Solving
 unless-short s b = elim b [ true ↦ unread ShortSlice | false ↦ s ]
@@ -36,31 +38,24 @@ Own (unread r) own = Unit {0}
 Own (given-up r) own = own ≡ zeros desk
 
 module _ (q a : List ℕ) where
-  -- the number that comes back, and the answer's bytes at exit
-  abbrev pub Left : Solving → ℕ → List ℕ → Type 0
-  Left s k a′ = (k ≡ solveNumber s) × (a′ ≡ solveLeaves desk s a)
-
-  pub too-short : length a < 2 * desk .room → Left (solvingBytes desk (length a) q) 1 a
+  pub too-short : length a < 2 * desk .room → (1 ≡ solveNumber (solvingBytes desk (length a) q)) × (a ≡ solveLeaves desk (solvingBytes desk (length a) q) a)
   unfolding solveNumber solveLeaves
   too-short h = rw (short-answer q (length a) h) (refl, refl)
 
-  module _ (room : 2 * desk .room ≤ length a) where
-    -- the words lent to the solver come to what the bytes come to
-    pub same : solving desk (desk .room) (desk .room) (fitting (desk .question) (wordsIn q)) ≡ solvingBytes desk (length a) q
-    unfolding solving
-    same = fitting-solving (desk .room) (desk .room) (wordsIn q) ∙ sym (long-answer q (length a) room)
+  -- the words lent to the solver come to what the bytes come to
+  pub same : 2 * desk .room ≤ length a → solving desk (desk .room) (desk .room) (fitting (desk .question) (wordsIn q)) ≡ solvingBytes desk (length a) q
+  unfolding solving
+  same room = fitting-solving (desk .room) (desk .room) (wordsIn q) ∙ sym (long-answer q (length a) room)
 
-    pub kept : (s : Solving) (k : ℕ) → InRange s → k ≡ solveNumber s → 1 ≤ k → k ≤ 6 → Left s k a
-    unfolding solveNumber solveLeaves
-    kept (answered ls n) k b e low high = absurd (omega arith)
-    kept (unread r) k b e low high = (e, refl)
-    kept (given-up r) k b e low high = absurd (omega arith)
+module _ (a own : List ℕ) (room : 2 * desk .room ≤ length a) (long : length own ≡ desk .room) where
+  pub bytes-left : sets a 0 (bytesOf own) ≡ bytesOf own ++ drop (2 * desk .room) a
+  bytes-left = written a own (omega arith) ∙ ap (λ (m : ℕ). bytesOf own ++ drop (2 * m) a) long
 
-    pub bytes-left : (own a′ : List ℕ) → length own ≡ desk .room → a′ ≡ sets a 0 (bytesOf own) → a′ ≡ bytesOf own ++ drop (2 * desk .room) a
-    bytes-left own a′ n e = e ∙ written a own (omega arith) ∙ ap (λ (m : ℕ). bytesOf own ++ drop (2 * m) a) n
+  put : (k : ℕ) (ws : List ℕ) → keepsBytes k ≡ false → own ≡ ws → answerOut k own a ≡ bytesOf ws ++ drop (2 * desk .room) a
+  put k ws h e = answer-put k own a h ∙ bytes-left ∙ ap (λ (us : List ℕ). bytesOf us ++ drop (2 * desk .room) a) e
 
-    pub wrote : (s : Solving) (k : ℕ) (own a′ : List ℕ) → InRange s → k ≡ solveNumber s → (1 ≤ k → k ≤ 6 → ⊥) → Own s own → a′ ≡ bytesOf own ++ drop (2 * desk .room) a → Left s k a′
-    unfolding solveNumber solveLeaves
-    wrote (answered ls n) k own a′ b e h o f = (e, f ∙ ap (λ (ws : List ℕ). bytesOf ws ++ drop (2 * desk .room) a) o)
-    wrote (unread r) k own a′ b e h o f = absurd (h (omega arith) (omega arith))
-    wrote (given-up r) k own a′ b e h o f = (e, f ∙ ap (λ (ws : List ℕ). bytesOf ws ++ drop (2 * desk .room) a) o)
+  pub answer-told : (s : Solving) → InOrder s → (k : ℕ) → k ≡ solveNumber s → Own s own → answerOut k own a ≡ solveLeaves desk s a
+  unfolding solveNumber solveLeaves
+  answer-told (answered ls n) o k e f = put k _ (keeps-none k e) f
+  answer-told (unread r) o k e f = answer-kept k own a (keeps-early k (λ z. omega arith) (omega arith))
+  answer-told (given-up r) o k e f = put k _ (keeps-late k (omega arith)) f

@@ -1,16 +1,11 @@
--- What each call of the host returns, and what it leaves in the bytes lent to it, for every input.
+-- What each call of the host that solves returns, and what it leaves in the bytes lent to it, for every input.
 use Prim.Native.Nat.{ℕ, _+_, _*_, _/_}
-use mathlib.Core.Path.{_≡_}
-use mathlib.Core.Logic.{_⊎_}
 use mathlib.Core.List.{List, _++_}
 use lib.ListN.{length, drop}
 use Rattle.language.specs.Limits.{Limits}
 use Rattle.language.specs.Numbers.{numberOf}
-use Rattle.language.specs.Question.{askedPlace, readQuestion}
-use Rattle.meaning.specs.Meaning.{MeetsQuestion}
 use Rattle.rules.specs.Answer.{Solving, answered, unread, given-up, solving, answerWords, zeros}
-use Rattle.rules.specs.Calls.{Trying, trying, Showing, shows, denied, showing}
-use Rattle.rules.specs.Calls as calls
+use Rattle.rules.specs.Calls.{Showing, shows, denied, showing}
 use Rattle.word_bytes.specs.Bytes.{wordsIn, bytesOf}
 use Rattle.sheets.specs.Day.{Day, day}
 use Rattle.host.specs.Numbers.{asksOld}
@@ -33,18 +28,6 @@ solveLeaves L (answered ls n) bytes = bytesOf (answerWords L ls) ++ drop (2 * L 
 solveLeaves L (unread r) bytes = bytes
 solveLeaves L (given-up r) bytes = bytesOf (zeros L) ++ drop (2 * L .room) bytes
 
--- ---- desk_try
-
--- A question's bytes and a filling's. The work slice is the desk's own.
-unfoldable pub tryingBytes : Limits → List ℕ → List ℕ → Trying
-tryingBytes L q f = trying L (L .room) (wordsIn q) (wordsIn f)
-
--- 100 is no, 101 is yes, and below stand the refusals
-unfoldable pub TryNumber : Trying → ℕ → Type 0
-TryNumber (calls.decides q ρ) n = ((n ≡ 101) × MeetsQuestion ρ q) ⊎ ((n ≡ 100) × (MeetsQuestion ρ q → ⊥))
-TryNumber (calls.unread r) n = n ≡ numberOf r
-TryNumber (calls.given-up r) n = n ≡ numberOf r
-
 -- ---- desk_example
 
 -- A room of so many bytes, a line's number, the flag for old training sheets, and a question's bytes. The work and the answer slice are the desk's
@@ -61,12 +44,6 @@ showNumber (denied r) = numberOf r
 unfoldable pub showLeaves : Showing → List ℕ → List ℕ
 showLeaves (shows ws) bytes = bytesOf ws ++ drop (2 * length ws) bytes
 showLeaves (denied r) bytes = bytes
-
--- ---- desk_place
-
--- "for 5 the first word that cannot continue a literal .., for 6 the first undeclared number .. for all other outcomes it is 0"
-unfoldable pub placeBytes : Limits → List ℕ → ℕ
-placeBytes L q = askedPlace (readQuestion L (wordsIn q))
 
 -- ---- desk_day
 

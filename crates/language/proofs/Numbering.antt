@@ -2,10 +2,10 @@
 use Prim.Native.Nat.{_≤_}
 use lib.Dec.{lit≤}
 use Rattle.language.specs.declared.Refusal.{Refusal}
-use Rattle.language.specs.declared.Refusal.the-variants.{ShortSlice, QuestionLength, CountRange, BadOffset, NotLiterals, Undeclared, LongResult, LongWaiting, LineRoom, StepLimit, FillingLayout, FillingValue, LongLiteral, NoSuchLine, OpenLine, LongExample, LongWalk, SheetLayout, LongAnswers}
+use Rattle.language.specs.declared.Refusal.the-variants.{ShortSlice, QuestionLength, CountRange, BadOffset, NotLiterals, Undeclared, LongResult, LongWaiting, LineRoom, StepLimit, FillingLayout, FillingValue, LongLiteral, NoSuchLine, OpenLine, LongExample, NotText, ManyNames, LongText, OtherNumbers, LongWalk, SheetLayout, LongAnswers, BadStep, ShortTrail, LongTrail, TrailRoom}
 use Rattle.language.specs.Numbers.{numberOf}
 
-pub each-number : (r : Refusal) → (1 ≤ numberOf r) × (numberOf r ≤ 23)
+pub each-number : (r : Refusal) → (1 ≤ numberOf r) × (numberOf r ≤ 29)
 each-number ShortSlice = (lit≤ tt, lit≤ tt)
 each-number QuestionLength = (lit≤ tt, lit≤ tt)
 each-number CountRange = (lit≤ tt, lit≤ tt)
@@ -22,6 +22,14 @@ each-number LongLiteral = (lit≤ tt, lit≤ tt)
 each-number NoSuchLine = (lit≤ tt, lit≤ tt)
 each-number OpenLine = (lit≤ tt, lit≤ tt)
 each-number LongExample = (lit≤ tt, lit≤ tt)
+each-number NotText = (lit≤ tt, lit≤ tt)
+each-number ManyNames = (lit≤ tt, lit≤ tt)
+each-number LongText = (lit≤ tt, lit≤ tt)
+each-number OtherNumbers = (lit≤ tt, lit≤ tt)
 each-number LongWalk = (lit≤ tt, lit≤ tt)
 each-number SheetLayout = (lit≤ tt, lit≤ tt)
 each-number LongAnswers = (lit≤ tt, lit≤ tt)
+each-number BadStep = (lit≤ tt, lit≤ tt)
+each-number ShortTrail = (lit≤ tt, lit≤ tt)
+each-number LongTrail = (lit≤ tt, lit≤ tt)
+each-number TrailRoom = (lit≤ tt, lit≤ tt)

@@ -7,9 +7,10 @@ use lib.ListN.{length, drop}
 use lib.Seq.{slice}
 use Rattle.language.specs.Kinds.{pick}
 use Rattle.language.specs.Limits.{desk}
-use Rattle.language.specs.Trees.{Hedge, Expr, Conj}
+use Rattle.language.specs.Trees.{Hedge, Expr, mem, Conj}
 use Rattle.frames.specs.Frames.{frame, frameOf, inFrames}
 use Rattle.plans.specs.Sizes.{grown, sized, monomialWords, Ready}
+use Rattle.views.specs.Standing.{LiteralAt}
 use Rattle.views.specs.Views.{Shows, MembershipAt}
 use Rattle.views.specs.declared.Shape.{Shape}
 use Rattle.plans.specs.declared.Size.{Size}
@@ -76,6 +77,14 @@ pub record Rowed (k : List ℕ) (s : Kept) (p : Spot) (rest out : List ℕ) (t :
   pub room : r ≤ length out′
   pub wrote : (ws : List ℕ) → length ws ≡ p .words → Holds rest ws → desk .question ≤ length rest → resultLength k s p ≤ desk .question
       → t + frame + resultLength k s p ≤ length out → Wrote out t (frameOf (resultLength k s p) (s .number) ++ resultWords k s p ws) out′ r
+
+-- some membership stands at `at`
+pub record SomeMembership (k : List ℕ) (at : ℕ) : Type 0 where
+  pub before : Conj
+  pub h : Hedge
+  pub R : Expr
+  pub behind : Conj
+  pub stands : LiteralAt k at before (mem h R) behind
 
 -- some membership stands in k where s says, and `out` has room for M2's results from `at` on, none of which is too long
 pub record RoomFor (k : List ℕ) (s : Shape) (number : ℕ) (out : List ℕ) (at : ℕ) : Type 0 where

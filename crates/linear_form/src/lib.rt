@@ -11,8 +11,12 @@ ghost use Prim.Native.Nat.{_≤_, _<_, _+_, _*_};
 ghost use lib.ListN.{length};
 ghost use Rattle.language.specs.Limits.{desk};
 ghost use Rattle.linear_form.specs.Charted.{ChartedFrom};
+ghost use Rattle.language.specs.Trees.{Hedge, Expr, mem, Conj};
+ghost use Rattle.plans.specs.Sizes.{monomialWords};
+ghost use Rattle.taking.specs.Taking.{Took};
+ghost use Rattle.views.specs.Standing.{LiteralAt};
 ghost use Rattle.views.specs.Views.{MembershipAt};
-ghost use Rattle.linear_form.specs.Rows.{Sized, Written, RoomFor};
+ghost use Rattle.linear_form.specs.Rows.{Sized, Written, RoomFor, SomeMembership};
 ghost use Rattle.linear_form.specs.Walks.{Widened, Enclosed, Handed, closes, joined, Tallies, Walks};
 use adding::Kept;
 use adding::Spot;
@@ -26,7 +30,9 @@ use chart::expression_end;
 use language::limits::QUESTION;
 use plans::Size;
 use slices::copy;
+use taking::Stepped;
 use views::Shape;
+use views::show_membership;
 use words::word;
 
 // What the rests of an expression's monomials get from outside of it: how many parts, and how many words they have together.
@@ -220,7 +226,7 @@ fn walk(
 }
 
 // How many words M2's results take, each in its frame, whatever their number; or that one of them is too long.
-pub fn size_monomials(k: &[u16], s: Shape) -> Size
+fn size_monomials(k: &[u16], s: Shape) -> Size
     requires { ⌜ length (now k) ≤ desk .question ⌝ }
     requires { ⌜ MembershipAt (now k) s ⌝ }
     ensures { λ n. ⌜ Sized (now (k .entry)) s n ⌝ }
@@ -235,7 +241,7 @@ pub fn size_monomials(k: &[u16], s: Shape) -> Size
 }
 
 // M2's results, each in its frame, all with the number of the conjunction that they come from.
-pub fn write_monomials(k: &[u16], s: Shape, number: u16, out: &mut [u16], at: usize) -> usize
+fn write_monomials(k: &[u16], s: Shape, number: u16, out: &mut [u16], at: usize) -> usize
     requires { ⌜ (length (now k) ≤ desk .question) × (at ≤ length (now out)) ⌝ }
     requires { ⌜ RoomFor (now k) s number (now out) at ⌝ }
     ensures { λ e. ⌜ Written (now (k .entry)) s number (now (out .entry)) at (now (out .exit)) e ⌝ }
@@ -247,4 +253,30 @@ pub fn write_monomials(k: &[u16], s: Shape, number: u16, out: &mut [u16], at: us
     let o = Outside { parts: 0, words: 0 };
     let w = walk(k, &ends, t, s.expr, o, &mut rest, out, at);
     w.to
+}
+
+// The results of M2 at the membership at a place, right before `next`.
+pub fn step_monomials(
+    k: &[u16],
+    literal: usize,
+    number: u16,
+    out: &mut [u16],
+    next: usize,
+) -> Stepped
+    requires { ⌜ (length (now k) ≤ desk .question) × (literal < length (now k)) × (next ≤ length (now out)) × (next ≤ desk .room) ⌝ }
+    requires { ⌜ SomeMembership (now k) literal ⌝ }
+    ensures { λ r. ⌜ ((before : Conj) (h : Hedge) (R : Expr) (behind : Conj) → LiteralAt (now (k .entry)) literal before (mem h R) behind → Took number (monomialWords before h R behind) (now (out .entry)) next r (now (out .exit))) ⌝ }
+{
+    let s = show_membership(k, literal);
+    match size_monomials(k, s) {
+        Size::Over => Stepped::Long,
+        Size::Fits(n) => {
+            if next < n {
+                return Stepped::Room;
+            }
+            let at = next - n;
+            write_monomials(k, s, number, out, at);
+            Stepped::Done(at)
+        }
+    }
 }

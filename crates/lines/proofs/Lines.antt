@@ -20,7 +20,7 @@ use Rattle.rules.specs.Reply.{nothing, results}
 use Rattle.rules.specs.Rules.{rules}
 use Rattle.rules.specs.Step.{step}
 use Rattle.rules.specs.Solved.{solved}
-use Rattle.rules.specs.Run.{Numbered, EachLine, finished, run}
+use Rattle.rules.specs.Run.{Numbered, EachLine, unnumbered, finished, run}
 use Rattle.rules.specs.Answer.{countOpen, answered, solving}
 use Rattle.rules.specs.Example.{defaultSymbol, example}
 use Rattle.rules.specs.Table.{a, b, f, p, P9}
@@ -116,15 +116,25 @@ pub example-written : (L : Limits) (old : Bool) (n : Counts) (c : ℕ) (k : Conj
     → (ρ : Filling) × (readFilling L n (fillingWords n (example (defaultSymbol old n) k)) ≡ gives ρ) × Agree n ρ (example (defaultSymbol old n) k) × MeetsAll (signature n) ρ k
 example-written L old n c k e d is-solved quiet s = example-either-setting L old n c k e d is-solved quiet .2 s
 
--- So the example of a solved line of a finished run, written and read back, meets one of the declared conjunctions that the run began with.
+-- So the example of a solved line, written and read back, meets one of the conjunctions that are met exactly where a line is: the lines are declared,
+-- and no rule applies to them.
+pub example-written-line : (L : Limits) (old : Bool) (n : Counts) (c : ℕ) (w : List Conj) (ls : List Numbered) → countsFit L n c ≡ true
+    → EachLine (λ k. declaredC n k ≡ true) ls → EachLine (λ k. step (signature n) k ≡ nothing) ls
+    → ((ρ : Filling) → MeetsOne (signature n) ρ w ↔ MeetsOne (signature n) ρ (unnumbered ls))
+    → (i : ℕ) (k : Numbered) → lineAt i ls ≡ some k → solved (k .literals) ≡ true
+    → length (fillingWords n (example (defaultSymbol old n) (k .literals))) ≤ L .filling → WordsMeet L n (fillingWords n (example (defaultSymbol old n) (k .literals))) w
+example-written-line L old n c w ls e d rests same i k there is-solved s =
+    let declared = each-line (λ j. declaredC n j ≡ true) i ls k there d in
+    let quiet = each-line (λ j. step (signature n) j ≡ nothing) i ls k there rests in
+    let (ρ, back, _, m) = example-written L old n c (k .literals) e declared is-solved quiet s in
+    (ρ, back, same ρ .1 (meets-lines (signature n) ρ i ls k there m))
+
+-- It is so of the lines of a finished run that began with declared conjunctions.
 pub example-written-run : (L : Limits) (old : Bool) (n : Counts) (c : ℕ) (w : List Conj) (ls : List Numbered) (steps : ℕ) → countsFit L n c ≡ true → Each (λ k. declaredC n k ≡ true) w
     → run L (signature n) w ≡ finished ls steps → (i : ℕ) (k : Numbered) → lineAt i ls ≡ some k → solved (k .literals) ≡ true
     → length (fillingWords n (example (defaultSymbol old n) (k .literals))) ≤ L .filling → WordsMeet L n (fillingWords n (example (defaultSymbol old n) (k .literals))) w
-example-written-run L old n c w ls steps e d ran i k there is-solved s =
-    let declared = each-line (λ j. declaredC n j ≡ true) i ls k there (lines-declared n L w ls steps ran d) in
-    let quiet = each-line (λ j. step (signature n) j ≡ nothing) i ls k there (lines-rest (signature n) L w ls steps ran) in
-    let (ρ, back, _, m) = example-written L old n c (k .literals) e declared is-solved quiet s in
-    (ρ, back, run-same (signature n) L w ls steps ran ρ .1 (meets-lines (signature n) ρ i ls k there m))
+example-written-run L old n c w ls steps e d ran =
+    example-written-line L old n c w ls e (lines-declared n L w ls steps ran d) (lines-rest (signature n) L w ls steps ran) (run-same (signature n) L w ls steps ran)
 
 -- "the example solves anew": the words that the example call shows are a filling of the question that was asked, and it meets the question.
 pub shown-meets : (L : Limits) (old : Bool) (work answer room line : ℕ) (ws fs : List ℕ) → showing L old work answer room line ws ≡ shows fs

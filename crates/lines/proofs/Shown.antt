@@ -83,7 +83,7 @@ module _ (L : Limits) (old : Bool) (n : Counts) (room line : ℕ) (fs : List ℕ
         fits-room = rw w at (ltb-false room (length (fillingWords n (example (defaultSymbol old n) (k .literals)))) b);
       }
 
-  of-solving : (s : Solving) → showingOf L old n room line s ≡ shows fs → Shows L old n room line s fs
+  pub of-solving : (s : Solving) → showingOf L old n room line s ≡ shows fs → Shows L old n room line s fs
   of-solving (answered ls m) e = of-line ls m (lineAt line ls) refl e
   of-solving (unread r) e = absurd (let z : _≡_ {A = ℕ} 0 1 = cc in omega arith)
   of-solving (given-up r) e = absurd (let z : _≡_ {A = ℕ} 0 1 = cc in omega arith)

@@ -5,6 +5,7 @@ use mathlib.Core.Logic.{_⊎_, inl, inr, _↔_}
 use mathlib.Core.Bool.{Bool, true, false, _&&_, _||_}
 use mathlib.Core.List.{List, [], _∷_, _++_}
 use native.Mathlib.Omega.{arith}
+use native.Mathlib.Decide.{decLt}
 use lib.Dec.{T, leb, eqb}
 use lib.ListN.{length, getD, set, length-set, length-append, List·getD-append}
 use lib.Seq.{getD-set-same, getD-set-other, getD-append-add}
@@ -28,7 +29,7 @@ use Rattle.member.specs.Marks.{blank, accepts, tests, ofTerm}
 use Rattle.member.specs.Leaves.{Fits, Terms}
 use Rattle.passing.specs.Places.{sizeC, Holds, at-nil, at-tree, Hedge, Term, Skipped, Beside}
 use Rattle.member.specs.Places.{Looked, Accepted}
-use Rattle.member.specs.Gathering.{rowOf, Lists, Spared, Symbol, Scene, Spacious, Lent, Gathered, Answered, FittedAll, Shuffles}
+use Rattle.member.specs.Gathering.{rowOf, Lists, Spared, Symbol, Scene, Spacious, Lent, Gathered, Answered, FittedAll, Shuffles, Noted}
 use Rattle.member.proofs.Decides.{tests-decide, shuffled, of-term→, of-term←}
 use Rattle.member.proofs.Sharing.{shares}
 use Rattle.passing.proofs.Standing.{holds-lt, holds-fits, by-tree, word, child, behind}
@@ -191,6 +192,29 @@ or-false : (x y o : Bool) → o ≡ (x || y) → o ≡ false → (x ≡ false) �
 or-false true y o e z = absurd (not-both e z)
 or-false false y o e z = (refl, sym e ∙ z)
 
+fitted-by : {σ : Signature} {e : List ℕ} {at : ℕ} {h : List ℕ} {j : ℕ} {k k′ : List Bool} {w v v₁ : List ℕ} {t cap : ℕ} {r r₁ : Fitted}
+    → v₁ ≡ v → r₁ ≡ r → FittedAll σ e at h j k k′ w v t cap r → FittedAll σ e at h j k k′ w v₁ t cap r₁
+fitted-by d z f = rw (d, z) f
+
+-- what is written of one symbol
+module _ {w : List ℕ} {t cap at : ℕ} {y : Bool} {end : ℕ} where
+  pub noted-not : y ≡ false → Noted w t cap at y end w (record { end = end; top = t; full = false })
+  noted-not n = record { not = λ _. (refl, refl); one = λ z. absurd (not-both z n); more = λ z. absurd (not-both z n) }
+
+  pub noted-one : {w₁ : List ℕ} → y ≡ true → t < cap → w₁ ≡ set w t at → Noted w t cap at y end w₁ (record { end = end; top = t + 1; full = false })
+  noted-one z l d = record { not = λ n. absurd (not-both z n); one = λ _ _. (d, refl); more = λ _ g. absurd (omega arith) }
+
+  pub noted-more : y ≡ true → cap ≤ t → Noted w t cap at y end w (record { end = end; top = t; full = true })
+  noted-more z g = record { not = λ n. absurd (not-both z n); one = λ _ l. absurd (omega arith); more = λ _ _. (refl, refl) }
+
+pub noted-len : {w w′ : List ℕ} {t cap at : ℕ} {y : Bool} {end : ℕ} {r : Fitted} → Noted w t cap at y end w′ r → length w′ ≡ length w
+noted-len {w} {w′} {t} {cap} {at} {y} n = go y refl (decLt t cap)
+  where
+    go : (b : Bool) → y ≡ b → Dec (t < cap) → length w′ ≡ length w
+    go false q d = ap length (n .not q .0)
+    go true q (yes d) = ap length (n .one q d .0) ∙ length-set w t at
+    go true q (no d) = ap length (n .more q (omega arith) .0)
+
 module _ {σ : Signature} {e : List ℕ} {at : ℕ} {h : List ℕ} {j : ℕ} {k : List Bool} {w : List ℕ} {t cap : ℕ} where
   pub fit-eps : getD e at 0 ≡ 7000 → t ≤ cap → FittedAll σ e at h j k k w w t cap (record { end = at + 1; top = t; full = false })
   fit-eps v z = record {
@@ -212,7 +236,7 @@ module _ {σ : Signature} {e : List ℕ} {at : ℕ} {h : List ℕ} {j : ℕ} {k 
     its-size : (R : Expr) → At e at R → s .end ≡ at + sizeE R
     its-size = by-symbol (λ R. s .end ≡ at + sizeE R) v (λ g S x. omega (arith, l .each S (under x) .0))
 
-    pub fit-none : y ≡ false → FittedAll σ e at h j k k′ w w′ t cap (record { end = s .end; top = t; full = false })
+    fit-none : y ≡ false → FittedAll σ e at h j k k′ w w′ t cap (record { end = s .end; top = t; full = false })
     fit-none n = record {
       spared = a .spared;
       beside = its-beside;
@@ -222,10 +246,10 @@ module _ {σ : Signature} {e : List ℕ} {at : ℕ} {h : List ℕ} {j : ℕ} {k 
           (λ g S u. let i : ofTerm σ f (tests σ c) g S ≡ false = sym (a .each g S f c rest u d) ∙ n in rw i lists-none) R x;
     }
 
-    pub fit-full : FittedAll σ e at h j k k′ w w′ t cap (record { end = s .end; top = t; full = true })
+    fit-full : FittedAll σ e at h j k k′ w w′ t cap (record { end = s .end; top = t; full = true })
     fit-full = record { spared = a .spared; beside = its-beside; sized = its-size; within = (omega arith, z); each = λ R f c rest x d m. absurd (not-both refl m) }
 
-    pub fit-one : {w₂ : List ℕ} → y ≡ true → t < cap → cap ≤ length w → w₂ ≡ set w′ t at → FittedAll σ e at h j k k′ w w₂ t cap (record { end = s .end; top = t + 1; full = false })
+    fit-one : {w₂ : List ℕ} → y ≡ true → t < cap → cap ≤ length w → w₂ ≡ set w′ t at → FittedAll σ e at h j k k′ w w₂ t cap (record { end = s .end; top = t + 1; full = false })
     fit-one {w₂} n o r d = record {
       spared = spared-set w′ t at (a .spared) (omega arith) d;
       beside = its-beside;
@@ -234,6 +258,15 @@ module _ {σ : Signature} {e : List ℕ} {at : ℕ} {h : List ℕ} {j : ℕ} {k 
       each = λ R f c rest x d′ m. by-symbol (λ R. Lists w₂ t (rowOf (ofTerm σ f (tests σ c)) R at) (t + 1)) v
           (λ g S u. let i : ofTerm σ f (tests σ c) g S ≡ true = sym (a .each g S f c rest u d′) ∙ n in rw i (lists-one w′ (omega (arith, a .spared .len)) d)) R x;
     }
+
+    -- whichever it is
+    pub fit-noted : {w₂ : List ℕ} {r : Fitted} → cap ≤ length w → Noted w′ t cap at y (s .end) w₂ r → FittedAll σ e at h j k k′ w w₂ t cap r
+    fit-noted {w₂} {r} u n = go y refl (decLt t cap)
+      where
+        go : (b : Bool) → y ≡ b → Dec (t < cap) → FittedAll σ e at h j k k′ w w₂ t cap r
+        go false q d = fitted-by (n .not q .0) (n .not q .1) (fit-none q)
+        go true q (yes d) = fitted-by refl (n .one q d .1) (fit-one q d u (n .one q d .0))
+        go true q (no d) = let g : cap ≤ t = omega arith in fitted-by (n .more q g .0) (n .more q g .1) fit-full
 
   pub fit-star : {k′ : List Bool} {w′ : List ℕ} {r : Fitted} → getD e at 0 ≡ 7003 → Expression e at → FittedAll σ e (at + 1) h j k k′ w w′ t cap r → FittedAll σ e at h j k k′ w w′ t cap r
   fit-star {k′} {w′} {r} v p a = record {

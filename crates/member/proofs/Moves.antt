@@ -4,6 +4,7 @@ use mathlib.Core.Path.{_≡_, refl, _∙_, ap}
 use mathlib.Core.Bool.{Bool, true, false, _&&_, _||_}
 use mathlib.Core.List.{List}
 use native.Mathlib.Omega.{arith}
+use native.Mathlib.Decide.{ℕ-discrete}
 use lib.ListN.{length, getD, set, length-set}
 use lib.Seq.{getD-set-same, getD-set-other}
 use Rattle.language.specs.declared.Sym.{Sym}
@@ -16,10 +17,10 @@ use Rattle.member.specs.declared.Step.{Step}
 use Rattle.member.specs.Marks.{Marked, mcat, malt, mstar, bare, final, shift, tests, ofTerm}
 use Rattle.any_order.specs.Places.{sizeE, At, Expression}
 use Rattle.passing.specs.Places.{Holds, at-tree, Beside}
-use Rattle.member.specs.Places.{Kept, kept-eps, kept-cat, kept-alt, kept-star, kept-over, Looked, Shifted, Accepted}
+use Rattle.member.specs.Places.{Kept, kept-eps, kept-cat, kept-alt, kept-star, kept-over, Looked, Shifted, Enters, Follows, Keeps, Together, Accepted}
 use Rattle.member.proofs.Decides.{bare-shift}
 use Rattle.passing.proofs.Beside.{beside-refl, beside-wide, beside-trans, beside-set}
-use Rattle.any_order.proofs.Standing.{at-lt, first, by-eps, by-cat, by-alt, by-star, by-over}
+use Rattle.any_order.proofs.Standing.{at-lt, first, is-alt, by-eps, by-cat, by-alt, by-star, by-over}
 use Rattle.member.proofs.Standing.{m-eps, m-cat, m-alt, m-star, m-over, m-symbol, symbol-at, under}
 use Rattle.member.specs.Gathering.{Answered}
 
@@ -50,7 +51,46 @@ un-cat (kept-cat q x y) = (q, x, y)
 un-alt : {k : List Bool} {at : ℕ} {A B : Marked} → Kept k at (malt A B) → Kept k (at + 1) A × Kept k (at + 1 + sizeE (bare A)) B
 un-alt (kept-alt x y) = (x, y)
 
+-- ---- what the parts are read with
+
+pub enters-star : {x : ℕ} {m old r : Bool} → x ≡ 7003 → r ≡ (m || old) → Enters x m old r
+enters-star z d = record { star = λ _. d; other = λ n. absurd (n z) }
+
+pub enters-other : {x : ℕ} {m old : Bool} → (x ≡ 7003 → ⊥) → Enters x m old m
+enters-other n = record { star = λ z. absurd (n z); other = λ _. refl }
+
+pub follows-cat : {x : ℕ} {m old null b r : Bool} → x ≡ 7001 → b ≡ (m && null) → r ≡ (old || b) → Follows x m old null r
+follows-cat {old = old} z q d = record { cat = λ _. d ∙ ap (λ v. old || v) q; other = λ n. absurd (n z) }
+
+pub follows-other : {x : ℕ} {m old null : Bool} → (x ≡ 7001 → ⊥) → Follows x m old null m
+follows-other n = record { cat = λ z. absurd (n z); other = λ _. refl }
+
+pub keeps-none : {k : List Bool} {at x : ℕ} {fin : Bool} → x ≡ 7002 → Keeps k at x fin k
+keeps-none z = record { alt = λ _. refl; other = λ n. absurd (n z) }
+
+pub keeps-one : {k : List Bool} {at x : ℕ} {fin : Bool} → (x ≡ 7002 → ⊥) → Keeps k at x fin (set k at fin)
+keeps-one n = record { alt = λ z. absurd (n z); other = λ _. refl }
+
+pub keeps-len : {k k′ : List Bool} {at x : ℕ} {fin : Bool} → Keeps k at x fin k′ → length k′ ≡ length k
+keeps-len {k} {k′} {at} {x} {fin} p = go (ℕ-discrete x 7002)
+  where
+    go : Dec (x ≡ 7002) → length k′ ≡ length k
+    go (yes z) = ap length (p .alt z)
+    go (no n) = ap length (p .other n) ∙ length-set k at fin
+
+pub together-cat : {x : ℕ} {a b : Step} {v₁ v₂ v₃ : Bool} → x ≡ 7001 → v₁ ≡ (a .null && b .null) → v₂ ≡ (a .fin && b .null) → v₃ ≡ (v₂ || b .fin)
+    → Together x a b (record { end = b .end; null = v₁; fin = v₃ })
+together-cat z q₁ q₂ q₃ = record { cat = λ _. rw (q₁, q₃, q₂) refl; other = λ n. absurd (n z) }
+
+pub together-alt : {x : ℕ} {a b : Step} {v₁ v₂ : Bool} → (x ≡ 7001 → ⊥) → v₁ ≡ (a .null || b .null) → v₂ ≡ (a .fin || b .fin)
+    → Together x a b (record { end = b .end; null = v₁; fin = v₂ })
+together-alt n q₁ q₂ = record { cat = λ z. absurd (n z); other = λ _. rw (q₁, q₂) refl }
+
 -- ---- by the word
+
+shifted-by : {σ : Signature} {e : List ℕ} {at : ℕ} {h : List ℕ} {j : ℕ} {k k₁ k′ : List Bool} {m m₁ : Bool} {a b : Step}
+    → k ≡ k₁ → m ≡ m₁ → b ≡ a → Shifted σ e at h j k m k′ a → Shifted σ e at h j k₁ m₁ k′ b
+shifted-by d z y s = rw y (rw (d, z) at s)
 
 module _ {σ : Signature} {e : List ℕ} {at : ℕ} {h : List ℕ} {j : ℕ} {k : List Bool} {m : Bool} where
   pub sh-eps : getD e at 0 ≡ 7000 → Shifted σ e at h j k m k (record { end = at + 1; null = true; fin = false })
@@ -164,6 +204,23 @@ module _ {σ : Signature} {e : List ℕ} {at : ℕ} {h : List ℕ} {j : ℕ} {k 
         ))
         M x kk;
   }
+
+module _ {σ : Signature} {e : List ℕ} {at : ℕ} {h : List ℕ} {j : ℕ} {k : List Bool} {m i : Bool} {a : Step} {k₁ k₂ : List Bool}
+    (p : Expression e at) (le : length e ≤ length k) (en : Enters (getD e at 0) m (getD k at false) i) (s : Shifted σ e (at + 1) h j k i k₁ a)
+    (kp : Keeps k₁ at (getD e at 0) (a .fin) k₂) where
+  pub sh-one : getD e at 0 ≡ 7003 → Shifted σ e at h j k m k₂ (record { end = a .end; null = true; fin = a .fin })
+  sh-one w = sh-star w p le (en .star w) s (kp .other (λ z. omega (arith, w, z)))
+
+  pub sh-two : {i₂ : Bool} {b r : Step} {k′ : List Bool} → (getD e at 0 ≡ 7000 → ⊥) → 7000 ≤ getD e at 0 → (getD e at 0 ≡ 7003 → ⊥)
+      → Follows (getD e at 0) m (getD k at false) (a .null) i₂ → Shifted σ e (a .end) h j k₂ i₂ k′ b → Together (getD e at 0) a b r → Shifted σ e at h j k m k′ r
+  sh-two {i₂} {b} {r} {k′} n₀ n₁ n₃ fl t tg = go (ℕ-discrete (getD e at 0) 7001)
+    where
+      go : Dec (getD e at 0 ≡ 7001) → Shifted σ e at h j k m k′ r
+      go (yes w) = shifted-by refl refl (tg .cat w)
+          (sh-cat {b₁ = m && a .null} w p le (shifted-by refl (en .other n₃) refl s) (kp .other (λ z. omega (arith, w, z))) refl (fl .cat w) t refl refl refl)
+      go (no n) =
+          let w = is-alt p n₀ n₃ n₁ n in
+          shifted-by refl refl (tg .other n) (sh-alt w p (shifted-by refl (en .other n₃) refl s) (shifted-by (kp .alt w) (fl .other n) refl t) refl refl)
 
 pub shifted-end : {σ : Signature} {e h : List ℕ} {at j : ℕ} {k k′ : List Bool} {m : Bool} {a : Step} → Shifted σ e at h j k m k′ a → (R : Expr) → At e at R → a .end ≡ at + sizeE R
 shifted-end s R x = s .sized R x .0

@@ -25,12 +25,13 @@ use Rattle.any_order.proofs.Recording.{records-le}
 use Rattle.any_order.proofs.Placing.{in-at}
 use Rattle.member.specs.declared.Seen.{Seen}
 use Rattle.member.specs.declared.Fitted.{Fitted}
+use Rattle.member.specs.declared.Joined.{Joined}
 use Rattle.member.specs.declared.Tried.{Tried}
 use Rattle.member.specs.Marks.{tests, ofTerm}
 use Rattle.member.specs.Leaves.{Leaf, Fits, Terms}
 use Rattle.passing.specs.Places.{sizeC, Holds, Hedge, Term, Skipped, Beside}
 use Rattle.member.specs.Places.{Looked}
-use Rattle.member.specs.Gathering.{rowOf, Lists, Spared, Inner, Kinds, Scene, Spacious, Lent, Gathered, Answered, FittedAll, Shuffles, ShufflesBy, Raised, Found}
+use Rattle.member.specs.Gathering.{rowOf, Lists, Spared, Inner, Kinds, Scene, Spacious, Lent, Gathered, Answered, FittedAll, Shuffles, ShufflesBy, Raised, Found, Countable, Joins, Undoable, Undone, Roomy}
 use Rattle.member.proofs.Decides.{tests-decide, of-term→, of-term←}
 use Rattle.member.proofs.Sharing.{leaf-within, terms-like}
 use Rattle.member.proofs.Kindred.{rest-imp, Chosen, rest-out, One, snoc-rest, raised-rest, records-same, records-snoc, raised-within, raised-total, raised-each, raised-times, records-raised}
@@ -62,6 +63,16 @@ one-more σ R at f c rest ks =
 
 iff-trans : {A B C : Type 0} → A ↔ B → B ↔ C → A ↔ C
 iff-trans f g = (λ a. g .0 (f .0 a), λ c. f .1 (g .1 c))
+
+spared-by : {w w′ v : List ℕ} {t t′ : ℕ} → w ≡ w′ → t ≡ t′ → Spared w v t → Spared w′ v t′
+spared-by d z s = rw (d, z) at s
+
+shuffles-by : {σ : Signature} {e : List ℕ} {at : ℕ} {h : List ℕ} {j : ℕ} {k k′ : List Bool} {w w₁ v v₁ : List ℕ} {base t t₁ : ℕ} {r : Bool}
+    → w ≡ w₁ → t ≡ t₁ → v₁ ≡ v → Shuffles σ e at h j k k′ w v base t r → Shuffles σ e at h j k k′ w₁ v₁ base t₁ r
+shuffles-by d z y m = rw y (rw (d, z) at m)
+
+gathered-by : {e h : List ℕ} {j : ℕ} {w w₁ : List ℕ} {base t t₁ : ℕ} → w₁ ≡ w → t₁ ≡ t → Gathered e h j w base t → Gathered e h j w₁ base t₁
+gathered-by d z g = rw (d, z) g
 
 -- ---- the end
 
@@ -137,7 +148,7 @@ module _ {e h : List ℕ} {j : ℕ} {w : List ℕ} {base top : ℕ} where
     pub cap-within : (top + 2 ≤ cap) × (cap ≤ length w)
     cap-within = by-tree (λ x. Size x → (top + 2 ≤ cap) × (cap ≤ length w)) n (λ f c r v x y (a, b). (omega (arith, some-words c, some-words r), omega (arith, some-words c, some-words r))) (g .g) (g .here) size
 
-    pub cap-sub : (2 * (stop - j) ≤ length w + 4) × (j ≤ stop)
+    cap-sub : (2 * (stop - j) ≤ length w + 4) × (j ≤ stop)
     cap-sub = (omega (arith, size), omega (arith, size))
 
     pub cap-lent : {σ : Signature} → Lent σ h (j + 1) w cap
@@ -145,6 +156,9 @@ module _ {e h : List ℕ} {j : ℕ} {w : List ℕ} {base top : ℕ} where
       room = λ _. by-tree (λ x. Size x → Spacious h (j + 1) w cap) n
           (λ f c r v x y (a, b). record { g = c; here = x; room = omega (arith, some-words c, some-words r); bounded = g .bounded }) (g .g) (g .here) size;
     }
+
+  pub gathered-roomy : Gathered e h j w base top → (getD h j 0 ≡ 0 → ⊥) → Roomy h j (length w)
+  gathered-roomy g n = record { bounded = g .bounded; enough = λ stop s. cap-sub g n s refl }
 
   -- the next term
   gathered-next : {next : ℕ} {v : List ℕ} {t : ℕ} (g : Gathered e h j w base top) → (getD h j 0 ≡ 0 → ⊥) → Skipped h (j + 1) next → length v ≡ length w
@@ -263,12 +277,12 @@ module _ {σ : Signature} {e : List ℕ} {at : ℕ} {h : List ℕ} {j : ℕ} {w 
             g y y;
       }
 
-      pub any-new-at : {k₂ : List Bool} {w₂ w₃ : List ℕ} {r : Bool} → top + 2 ≤ length w → w₃ ≡ set (set w₁ top 1) (top + 1) (f .top - top - 2) → Shuffles σ e at h next k₁ k₂ w₃ w₂ base (f .top) r
+      any-new-at : {k₂ : List Bool} {w₂ w₃ : List ℕ} {r : Bool} → top + 2 ≤ length w → w₃ ≡ set (set w₁ top 1) (top + 1) (f .top - top - 2) → Shuffles σ e at h next k₁ k₂ w₃ w₂ base (f .top) r
           → Shuffles σ e at h j k k₂ w w₂ base top r
       any-new-at le d m = any-new le (rw d at m)
 
       -- a kind that is there
-      pub any-old : {k₂ : List Bool} {w₂ w₃ : List ℕ} {o : ℕ} {r : Bool} → top ≤ length w → Found w₁ base top (f .top) o → (o ≡ top → ⊥) → o < top
+      any-old : {k₂ : List Bool} {w₂ w₃ : List ℕ} {o : ℕ} {r : Bool} → top ≤ length w → Found w₁ base top (f .top) o → (o ≡ top → ⊥) → o < top
           → Shuffles σ e at h next k₁ k₂ (set w₁ o (getD w₁ o 0 + 1)) w₂ base top r → w₃ ≡ set w₂ o (getD w₂ o 0 - 1) → Shuffles σ e at h j k k₂ w w₃ base top r
       any-old {k₂} {w₂} {w₃} {o} {r} le fd ne lt m d = record {
         spared = rw d (record {
@@ -301,6 +315,15 @@ module _ {σ : Signature} {e : List ℕ} {at : ℕ} {h : List ℕ} {j : ℕ} {w 
               iff-trans (m .each R rest ks′ x hr recs)
               (iff-trans (raised-rest (Terms (Fits σ R at) (Good R at) rest) (terms-respect σ R at rest) L ks base o ks′ y none) (one-more σ R at u c rest ks))
 
+      -- whichever it is
+      pub any-joined : {k₂ : List Bool} {w₂ w₃ w₄ : List ℕ} {o : Joined} {r : Bool} → top + 2 ≤ length w → Joins w₁ base top (f .top) w₃ o
+          → Shuffles σ e at h next k₁ k₂ w₃ w₂ base (o .top) r → Undone w₂ (o .at) top w₄ → Shuffles σ e at h j k k₂ w w₄ base top r
+      any-joined {k₂} {w₂} {w₃} {w₄} {o} {r} le i m u = go (ℕ-discrete (o .at) top)
+        where
+          go : Dec (o .at ≡ top) → Shuffles σ e at h j k k₂ w w₄ base top r
+          go (yes d) = shuffles-by refl refl (u .new d) (any-new-at le (i .new d .1) (shuffles-by refl (i .new d .0) refl m))
+          go (no d) = any-old (omega arith) (i .found) d (omega (arith, i .found .within .1, d)) (shuffles-by (i .old d .1) (i .old d .0) refl m) (u .old d)
+
   -- ---- what the next call finds
 
   module _ {k k₁ : List Bool} {w₁ : List ℕ} {stop cap next : ℕ} {f : Fitted} (p : Expression e at) (g : Gathered e h j w base top) (n : getD h j 0 ≡ 0 → ⊥)
@@ -327,10 +350,7 @@ module _ {σ : Signature} {e : List ℕ} {at : ℕ} {h : List ℕ} {j : ℕ} {w 
             (each-++ (λ (k : Kind). Each (λ q. q < length e) (k .places)) (g .ks) (record { times = 1; places = L } ∷ []) (g .within) (within-row σ (p .R) e at u c (p .here), tt))
             (total-snoc (g .ks) (record { times = 1; places = L })) room-left
 
-    pub gathered-new-at : {w₃ : List ℕ} → w₃ ≡ set (set w₁ top 1) (top + 1) (f .top - top - 2) → Gathered e h next w₃ base (f .top)
-    gathered-new-at d = rw d gathered-new
-
-    pub gathered-old : {o : ℕ} → Found w₁ base top (f .top) o → (o ≡ top → ⊥) → Gathered e h next (set w₁ o (getD w₁ o 0 + 1)) base top
+    gathered-old : {o : ℕ} → Found w₁ base top (f .top) o → (o ≡ top → ⊥) → Gathered e h next (set w₁ o (getD w₁ o 0 + 1)) base top
     gathered-old {o} fd ne = by-tree (λ x. g .g ≡ x → Gathered e h next (set w₁ o (getD w₁ o 0 + 1)) base top) n (λ u c r v x y d. go u c r d (rw d at (g .here))) (g .g) (g .here) refl
       where
         go : (u : Sym) (c r : Complete) → g .g ≡ tree u c r → Holds h j (tree u c r) → Gathered e h next (set w₁ o (getD w₁ o 0 + 1)) base top
@@ -346,7 +366,7 @@ module _ {σ : Signature} {e : List ℕ} {at : ℕ} {h : List ℕ} {j : ℕ} {w 
                 (raised-total (g .ks) base o L ks′ y) (λ u c r d. omega (arith, room-left u c r d, a .within .0))
 
     -- the number of terms of a kind fits in a word
-    pub kind-few : {o : ℕ} → Found w₁ base top (f .top) o → (o ≡ top → ⊥) → getD w₁ o 0 + 1 < 65536
+    kind-few : {o : ℕ} → Found w₁ base top (f .top) o → (o ≡ top → ⊥) → getD w₁ o 0 + 1 < 65536
     kind-few {o} fd ne = by-tree (λ x. g .g ≡ x → getD w₁ o 0 + 1 < 65536) n (λ u c r v x y d. go u c r (rw d at (g .here))) (g .g) (g .here) refl
       where
         go : (u : Sym) (c r : Complete) → Holds h j (tree u c r) → getD w₁ o 0 + 1 < 65536
@@ -357,18 +377,56 @@ module _ {σ : Signature} {e : List ℕ} {at : ℕ} {h : List ℕ} {j : ℕ} {w 
             with-found (inr (ks′, y)) =
                 omega (arith, raised-times w₁ top (g .ks) base o (rowOf (ofTerm σ u (tests σ c)) (p .R) at) ks′ (records-fit w w₁ base top (a .spared) (g .ks) (g .records)) y, g .few, some-words (g .g))
 
--- what is stored, one after another
-pub two-stores : {σ : Signature} {e : List ℕ} {at : ℕ} {h : List ℕ} {j : ℕ} {k k₁ : List Bool} {v w : List ℕ} {t cap : ℕ} {f : Fitted} → FittedAll σ e at h j k k₁ v w t cap f
-    → (a x b y : ℕ) {w₁ w₂ : List ℕ} → w₁ ≡ set w a x → w₂ ≡ set w₁ b y → w₂ ≡ set (set w a x) b y
-two-stores _ a x b y e d = d ∙ ap (λ v. set v b y) e
+    pub kinds-countable : Countable w₁ base top (f .top)
+    kinds-countable = record { few = λ o fd ne. kind-few fd ne }
 
-pub three-stores : {σ : Signature} {e : List ℕ} {p : ℕ} {h : List ℕ} {j : ℕ} {k k₁ : List Bool} {v w : List ℕ} {top : ℕ} {r : Bool} → Answered σ e p h j k k₁ v w top r
-    → (a x b y c z : ℕ) {w₁ w₂ w₃ : List ℕ} → w₁ ≡ set w a x → w₂ ≡ set w₁ b y → w₃ ≡ set w₂ c z → w₃ ≡ set (set (set w a x) b y) c z
-three-stores _ a x b y c z e d f = f ∙ ap (λ v. set v c z) (d ∙ ap (λ v. set v b y) e)
+    pub gathered-joined : {w₃ : List ℕ} {o : Joined} → Joins w₁ base top (f .top) w₃ o → Gathered e h next w₃ base (o .top)
+    gathered-joined {w₃} {o} i = go (ℕ-discrete (o .at) top)
+      where
+        go : Dec (o .at ≡ top) → Gathered e h next w₃ base (o .top)
+        go (yes d) = gathered-by (i .new d .1) (i .new d .0) gathered-new
+        go (no d) = gathered-by (i .old d .1) (i .old d .0) (gathered-old (i .found) d)
+
+-- ---- the kind of a term
+
+module _ {w : List ℕ} {base top t o : ℕ} where
+  pub join-new : {w₁ w₂ : List ℕ} → Found w base top t o → o ≡ top → w₁ ≡ set w top 1 → w₂ ≡ set w₁ (top + 1) (t - top - 2) → Joins w base top t w₂ (record { at = o; top = t })
+  join-new f z d₁ d₂ = record { found = f; new = λ _. (refl, d₂ ∙ ap (λ v. set v (top + 1) (t - top - 2)) d₁); old = λ n. absurd (n z) }
+
+  pub join-old : Found w base top t o → (o ≡ top → ⊥) → Joins w base top t (set w o (getD w o 0 + 1)) (record { at = o; top = top })
+  join-old f n = record { found = f; new = λ z. absurd (n z); old = λ _. (refl, refl) }
+
+module _ {w : List ℕ} {o top : ℕ} where
+  pub undo-new : o ≡ top → Undone w o top w
+  undo-new z = record { new = λ _. refl; old = λ n. absurd (n z) }
+
+  pub undo-old : (o ≡ top → ⊥) → Undone w o top (set w o (getD w o 0 - 1))
+  undo-old n = record { new = λ z. absurd (n z); old = λ _. refl }
+
+pub joins-len : {w w′ : List ℕ} {base top t : ℕ} {o : Joined} → Joins w base top t w′ o → length w′ ≡ length w
+joins-len {w} {w′} {base} {top} {t} {o} i = go (ℕ-discrete (o .at) top)
+  where
+    go : Dec (o .at ≡ top) → length w′ ≡ length w
+    go (yes d) = ap length (i .new d .1) ∙ length-set (set w top 1) (top + 1) (t - top - 2) ∙ length-set w top 1
+    go (no d) = ap length (i .old d .1) ∙ length-set w (o .at) (getD w (o .at) 0 + 1)
+
+pub undone-len : {w w′ : List ℕ} {o top : ℕ} → Undone w o top w′ → length w′ ≡ length w
+undone-len {w} {w′} {o} {top} u = go (ℕ-discrete o top)
+  where
+    go : Dec (o ≡ top) → length w′ ≡ length w
+    go (yes d) = ap length (u .new d)
+    go (no d) = ap length (u .old d) ∙ length-set w o (getD w o 0 - 1)
 
 -- a kind that has one term more has some
-pub raised-some : {w : List ℕ} {base top t o : ℕ} {v : List ℕ} → Found w base top t o → Spared (set w o (getD w o 0 + 1)) v top → o < top → o < length w → (o < length v) × (1 ≤ getD v o 0)
+raised-some : {w : List ℕ} {base top t o : ℕ} {v : List ℕ} → Found w base top t o → Spared (set w o (getD w o 0 + 1)) v top → o < top → o < length w → (o < length v) × (1 ≤ getD v o 0)
 raised-some {w = w} {o = o} f s l u = (omega (arith, s .len, length-set w o (getD w o 0 + 1)), omega (arith, s .low o l, getD-set-same w o (getD w o 0 + 1) 0 u))
+
+pub joined-some : {w w₃ v : List ℕ} {base top t : ℕ} {o : Joined} → Joins w base top t w₃ o → Spared w₃ v (o .top) → top < length w → length w < 65536 → Undoable v (o .at) top
+joined-some {w} {w₃} {v} {base} {top} {t} {o} i s l b = record {
+  some = λ n.
+      let u = raised-some (i .found) (spared-by (i .old n .1) (i .old n .0) s) (omega (arith, i .found .within .1, n)) (omega (arith, i .found .within .1)) in
+      (u .0, omega (arith, s .len, joins-len i), u .1);
+}
 
 -- ---- each symbol alone
 
@@ -447,7 +505,7 @@ module _ {σ : Signature} {e : List ℕ} {at q : ℕ} {h : List ℕ} {j : ℕ} {
     spared = spared-refl;
     len = refl;
     beside = λ R x. beside-refl;
-    sized = by-eps (λ S. q + 1 ≡ q + sizeE S) v refl;
+    sized = λ _. by-eps (λ S. q + 1 ≡ q + sizeE S) v refl;
     each = λ R S f c g ks x y hh rec. by-eps (λ S. (false ≡ true) ↔ ((p : ℕ) × Fits σ S q f c p × Rest (λ d. Terms (Fits σ R at) (Good R at) g (bump d p)) ks none)) v
         (λ t. absurd (not-both t refl), λ (p, (g′, S′, z, m), s). absurd z) S y;
   }
@@ -458,7 +516,7 @@ module _ {σ : Signature} {e : List ℕ} {at q : ℕ} {h : List ℕ} {j : ℕ} {
       spared = a .spared;
       len = a .len;
       beside = crowd-beside v i a;
-      sized = crowd-size v l;
+      sized = λ _. crowd-size v l;
       each = λ R S f c g ks x y hh rec. by-symbol (λ S. (false ≡ true) ↔ ((p : ℕ) × Fits σ S q f c p × Rest (λ d. Terms (Fits σ R at) (Good R at) g (bump d p)) ks none)) v
           (λ g′ S′ u. (
             λ t. absurd (not-both t refl),
@@ -473,7 +531,7 @@ module _ {σ : Signature} {e : List ℕ} {at q : ℕ} {h : List ℕ} {j : ℕ} {
       spared = spared-trans sp (spared-less (m .spared) (omega arith));
       len = m .len ∙ a .len;
       beside = λ R x. beside-trans (crowd-beside v i a R x) (m .beside R x);
-      sized = crowd-size v l;
+      sized = λ _. crowd-size v l;
       each = λ R S f c g ks x y hh rec. by-symbol (λ S. (r ≡ true) ↔ ((p : ℕ) × Fits σ S q f c p × Rest (λ d. Terms (Fits σ R at) (Good R at) g (bump d p)) ks none)) v
           (λ g′ S′ u.
           let yes = of-term→ σ f c (tests σ c) (tests-decide σ c) g′ S′ (test-true (ofTerm σ f (tests σ c) g′ S′) .1 (sym (a .each g′ S′ f c g u hh) ∙ n)) in
@@ -500,7 +558,7 @@ module _ {σ : Signature} {e : List ℕ} {at q : ℕ} {h : List ℕ} {j : ℕ} {
     spared = a .spared;
     len = a .len;
     beside = a .beside;
-    sized = by-star (λ S. r .end ≡ q + sizeE S) v (λ A x. omega (arith, a .sized A x));
+    sized = λ n. by-star (λ S. r .end ≡ q + sizeE S) v (λ A x. omega (arith, a .sized n A x));
     each = λ R S f c g ks x y hh rec. by-star (λ S. (r .yes ≡ true) ↔ ((p : ℕ) × Fits σ S q f c p × Rest (λ d. Terms (Fits σ R at) (Good R at) g (bump d p)) ks none)) v
         (λ A u. a .each R A f c g ks x u hh rec) S y;
   }
@@ -508,27 +566,20 @@ module _ {σ : Signature} {e : List ℕ} {at q : ℕ} {h : List ℕ} {j : ℕ} {
   -- 7001 and 7002
   module _ {k₁ : List Bool} {w₁ : List ℕ} {a : Tried} (i : Inner e at q) (n0 : getD e q 0 ≡ 7000 → ⊥) (lo : 7000 ≤ getD e q 0) (n3 : getD e q 0 ≡ 7003 → ⊥)
       (x : ShufflesBy σ e at (q + 1) h j k k₁ w w₁ base top a) where
-    pub crowd-first : {s : Seen} → a .yes ≡ true → Looked e (a .end) s → ShufflesBy σ e at q h j k k₁ w w₁ base top (record { end = s .end; yes = true })
-    crowd-first {s} z l = record {
+    pub crowd-first : a .yes ≡ true → ShufflesBy σ e at q h j k k₁ w w₁ base top a
+    crowd-first z = record {
       spared = x .spared;
       len = x .len;
       beside = x .beside;
-      sized = λ S y. size y;
+      sized = λ n. absurd (not-both z n);
       each = λ R S f c g ks v y hh rec. go R f c g ks v hh rec y;
     }
       where
-        size : {S : Expr} → At e q S → s .end ≡ q + sizeE S
-        size (at-eps l w) = absurd (n0 w)
-        size (at-cat {a = A} {b = B} l′ w u v) = let d = x .sized A u in omega (arith, l .each B (rw d v) .0)
-        size (at-alt {a = A} {b = B} l′ w u v) = let d = x .sized A u in omega (arith, l .each B (rw d v) .0)
-        size (at-star l w u) = absurd (n3 w)
-        size (at-over l w u v) = absurd (omega arith)
-
         go : (R : Expr) (f : Sym) (c g : Complete) (ks : List Kind) → At e at R → Holds h j (tree f c g) → Records w base ks top → {S : Expr} → At e q S
-            → (true ≡ true) ↔ ((p : ℕ) × Fits σ S q f c p × Rest (λ d. Terms (Fits σ R at) (Good R at) g (bump d p)) ks none)
+            → (a .yes ≡ true) ↔ ((p : ℕ) × Fits σ S q f c p × Rest (λ d. Terms (Fits σ R at) (Good R at) g (bump d p)) ks none)
         go R f c g ks r hh rec (at-eps l w) = absurd (n0 w)
-        go R f c g ks r hh rec (at-cat {a = A} {b = B} l w u v) = (λ _. let (p, (g′, S′, o, m), t) = x .each R A f c g ks r u hh rec .0 z in (p, (g′, S′, inl o, m), t), λ _. refl)
-        go R f c g ks r hh rec (at-alt {a = A} {b = B} l w u v) = (λ _. let (p, (g′, S′, o, m), t) = x .each R A f c g ks r u hh rec .0 z in (p, (g′, S′, inl o, m), t), λ _. refl)
+        go R f c g ks r hh rec (at-cat {a = A} {b = B} l w u v) = (λ _. let (p, (g′, S′, o, m), t) = x .each R A f c g ks r u hh rec .0 z in (p, (g′, S′, inl o, m), t), λ _. z)
+        go R f c g ks r hh rec (at-alt {a = A} {b = B} l w u v) = (λ _. let (p, (g′, S′, o, m), t) = x .each R A f c g ks r u hh rec .0 z in (p, (g′, S′, inl o, m), t), λ _. z)
         go R f c g ks r hh rec (at-star l w u) = absurd (n3 w)
         go R f c g ks r hh rec (at-over l w u v) = absurd (omega arith)
 
@@ -537,21 +588,21 @@ module _ {σ : Signature} {e : List ℕ} {at q : ℕ} {h : List ℕ} {j : ℕ} {
       spared = spared-trans (x .spared) (y .spared);
       len = y .len ∙ x .len;
       beside = λ R v. beside-trans (x .beside R v) (y .beside R v);
-      sized = λ S u. size u;
+      sized = λ n S u. size n u;
       each = λ R S f c g ks v u hh rec. go R f c g ks v hh rec u;
     }
       where
-        size : {S : Expr} → At e q S → b .end ≡ q + sizeE S
-        size (at-eps l w) = absurd (n0 w)
-        size (at-cat {a = A} {b = B} l′ w u v) = let d = x .sized A u in omega (arith, y .sized B (rw d v))
-        size (at-alt {a = A} {b = B} l′ w u v) = let d = x .sized A u in omega (arith, y .sized B (rw d v))
-        size (at-star l w u) = absurd (n3 w)
-        size (at-over l w u v) = absurd (omega arith)
+        size : b .yes ≡ false → {S : Expr} → At e q S → b .end ≡ q + sizeE S
+        size n (at-eps l w) = absurd (n0 w)
+        size n (at-cat {a = A} {b = B} l′ w u v) = let d = x .sized z A u in omega (arith, y .sized n B (rw d v))
+        size n (at-alt {a = A} {b = B} l′ w u v) = let d = x .sized z A u in omega (arith, y .sized n B (rw d v))
+        size n (at-star l w u) = absurd (n3 w)
+        size n (at-over l w u v) = absurd (omega arith)
 
         both : (A B : Expr) (R : Expr) (f : Sym) (c g : Complete) (ks : List Kind) → At e at R → Holds h j (tree f c g) → Records w base ks top → At e (q + 1) A → At e (q + 1 + sizeE A) B
             → (b .yes ≡ true) ↔ ((p : ℕ) × Fits σ (cat A B) q f c p × Rest (λ d. Terms (Fits σ R at) (Good R at) g (bump d p)) ks none)
         both A B R f c g ks r hh rec u v =
-            let d = x .sized A u in
+            let d = x .sized z A u in
             let m = y .each R B f c g ks r (rw d v) hh (records-same w w₁ base ks top (λ p lo hi. x .spared .low p hi) rec) in (
               λ t. let (p, (g′, S′, o, k), s) = m .0 t in (p, (g′, S′, inr (rw d at o), k), s),
               λ (p, (g′, S′, o, k), s). elim o [

@@ -1,11 +1,11 @@
 -- Under an unordered symbol: the terms are gathered by the symbols that they can be, and then shared out.
-use Prim.Native.Nat.{ℕ, _+_, _*_, _<_, _≤_}
+use Prim.Native.Nat.{ℕ, _+_, _-_, _*_, _<_, _≤_}
 use mathlib.Core.Path.{_≡_}
 use mathlib.Core.Logic.{_⊎_, _↔_}
 use mathlib.Core.Bool.{Bool, true, false}
 use mathlib.Core.List.{List, [], _∷_, _++_}
 use lib.Dec.{T}
-use lib.ListN.{length, getD}
+use lib.ListN.{length, getD, set}
 use Rattle.language.specs.declared.Sym.{Sym}
 use Rattle.language.specs.declared.Signature.{Signature}
 use Rattle.language.specs.Limits.{desk}
@@ -16,10 +16,11 @@ use Rattle.rules.specs.Each.{Each}
 use Rattle.any_order.specs.Places.{sizeE, At}
 use Rattle.any_order.specs.Sharing.{Counts, bump, Kind, Rest, Good, none, Records, total}
 use Rattle.member.specs.declared.Fitted.{Fitted}
+use Rattle.member.specs.declared.Joined.{Joined}
 use Rattle.member.specs.declared.Tried.{Tried}
 use Rattle.member.specs.Marks.{tests, ofTerm}
 use Rattle.member.specs.Leaves.{Leaf, Fits, Terms}
-use Rattle.passing.specs.Places.{sizeC, Holds, Beside}
+use Rattle.passing.specs.Places.{sizeC, Holds, Beside, Skipped}
 
 -- the places of the symbols that a term can be, of which p says whether it is of g(S)
 abbrev pub rowOf : (Sym → Expr → Bool) → Expr → ℕ → List ℕ
@@ -118,7 +119,7 @@ pub record ShufflesBy (σ : Signature) (e : List ℕ) (at q : ℕ) (h : List ℕ
   pub spared : Spared w w′ top
   pub len : length k′ ≡ length k
   pub beside : (R : Expr) → At e at R → Beside k k′ at (at + sizeE R)
-  pub sized : (S : Expr) → At e q S → r .end ≡ q + sizeE S
+  pub sized : r .yes ≡ false → (S : Expr) → At e q S → r .end ≡ q + sizeE S
   pub each : (R S : Expr) (f : Sym) (c g : Complete) (ks : List Kind) → At e at R → At e q S → Holds h j (tree f c g) → Records w base ks top
       → (r .yes ≡ true) ↔ ((p : ℕ) × Fits σ S q f c p × Rest (λ d. Terms (Fits σ R at) (Good R at) g (bump d p)) ks none)
 
@@ -135,3 +136,38 @@ Raised (k ∷ ks) at o L ks′ =
 pub record Found (w : List ℕ) (at top t o : ℕ) : Type 0 where
   pub within : (at ≤ o) × (o ≤ top)
   pub each : (ks : List Kind) (L : List ℕ) → Records w at ks top → Lists w (top + 2) L t → (o ≡ top) ⊎ ((ks′ : List Kind) × Raised ks at o L ks′)
+
+-- each kind may have one term more
+pub record Countable (w : List ℕ) (base top t : ℕ) : Type 0 where
+  pub few : (o : ℕ) → Found w base top t o → (o ≡ top → ⊥) → getD w o 0 + 1 < 65536
+
+-- the kind that was found has one term more, or it is new
+pub record Joins (w : List ℕ) (base top t : ℕ) (w′ : List ℕ) (r : Joined) : Type 0 where
+  pub found : Found w base top t (r .at)
+  pub new : r .at ≡ top → (r .top ≡ t) × (w′ ≡ set (set w top 1) (top + 1) (t - top - 2))
+  pub old : (r .at ≡ top → ⊥) → (r .top ≡ top) × (w′ ≡ set w (r .at) (getD w (r .at) 0 + 1))
+
+pub record Undoable (w : List ℕ) (o top : ℕ) : Type 0 where
+  pub some : (o ≡ top → ⊥) → (o < length w) × (length w < 65536) × (1 ≤ getD w o 0)
+
+-- the kind at o has one term less, or it is behind the others
+pub record Undone (w : List ℕ) (o top : ℕ) (w′ : List ℕ) : Type 0 where
+  pub new : o ≡ top → w′ ≡ w
+  pub old : (o ≡ top → ⊥) → w′ ≡ set w o (getD w o 0 - 1)
+
+-- ---- how far the places of a term may go
+
+pub record Roomy (h : List ℕ) (j n : ℕ) : Type 0 where
+  pub bounded : n < 65536
+  pub enough : (stop : ℕ) → Skipped h j stop → (2 * (stop - j) ≤ n + 4) × (j ≤ stop)
+
+pub record Capped (h : List ℕ) (j n r : ℕ) : Type 0 where
+  pub stop : ℕ
+  pub skipped : Skipped h j stop
+  pub is : r ≡ n + 4 - 2 * (stop - j)
+
+-- the place of a symbol is written, where the term is of it and there is room
+pub record Noted (w : List ℕ) (t cap at : ℕ) (yes : Bool) (end : ℕ) (w′ : List ℕ) (r : Fitted) : Type 0 where
+  pub not : yes ≡ false → (w′ ≡ w) × (r ≡ record { end = end; top = t; full = false })
+  pub one : yes ≡ true → t < cap → (w′ ≡ set w t at) × (r ≡ record { end = end; top = t + 1; full = false })
+  pub more : yes ≡ true → cap ≤ t → (w′ ≡ w) × (r ≡ record { end = end; top = t; full = true })

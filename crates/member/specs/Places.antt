@@ -2,9 +2,9 @@
 use Prim.Native.Nat.{ℕ, _+_, _<_, _≤_}
 use mathlib.Core.Path.{_≡_}
 use mathlib.Core.Logic.{_↔_}
-use mathlib.Core.Bool.{Bool, true, false}
+use mathlib.Core.Bool.{Bool, true, false, _&&_, _||_}
 use mathlib.Core.List.{List, _++_}
-use lib.ListN.{length, getD, drop}
+use lib.ListN.{length, getD, drop, set}
 use Rattle.language.specs.declared.Sym.{Sym}
 use Rattle.language.specs.declared.Signature.{Signature}
 use Rattle.language.specs.Limits.{desk}
@@ -39,6 +39,23 @@ pub record Shifted (σ : Signature) (e : List ℕ) (at : ℕ) (h : List ℕ) (j 
   pub sized : (R : Expr) → At e at R → (r .end ≡ at + sizeE R) × (r .null ≡ nullable R)
   pub each : (M : Marked) (f : Sym) (c rest : Complete) → At e at (bare M) → Kept k at M → Holds h j (tree f c rest)
       → (r .fin ≡ final (shift m (ofTerm σ f (tests σ c)) M)) × Kept k′ at (shift m (ofTerm σ f (tests σ c)) M)
+
+-- what the two parts of a concatenation, a choice or a star are read with, and what is kept and returned of them, by the word that stands there
+pub record Enters (x : ℕ) (m old r : Bool) : Type 0 where
+  pub star : x ≡ 7003 → r ≡ (m || old)
+  pub other : (x ≡ 7003 → ⊥) → r ≡ m
+
+pub record Follows (x : ℕ) (m old null r : Bool) : Type 0 where
+  pub cat : x ≡ 7001 → r ≡ (old || (m && null))
+  pub other : (x ≡ 7001 → ⊥) → r ≡ m
+
+pub record Keeps (k : List Bool) (at x : ℕ) (fin : Bool) (k′ : List Bool) : Type 0 where
+  pub alt : x ≡ 7002 → k′ ≡ k
+  pub other : (x ≡ 7002 → ⊥) → k′ ≡ set k at fin
+
+pub record Together (x : ℕ) (a b r : Step) : Type 0 where
+  pub cat : x ≡ 7001 → r ≡ record { end = b .end; null = a .null && b .null; fin = (a .fin && b .null) || b .fin }
+  pub other : (x ≡ 7001 → ⊥) → r ≡ record { end = b .end; null = a .null || b .null; fin = a .fin || b .fin }
 
 pub record Accepted (σ : Signature) (e : List ℕ) (at : ℕ) (h : List ℕ) (j : ℕ) (k k′ : List Bool) (r : Bool) : Type 0 where
   pub len : length k′ ≡ length k

@@ -6,8 +6,8 @@ ghost use lib.ListN.{length, set};
 ghost use Rattle.language.specs.Limits.{desk};
 ghost use Rattle.any_order.specs.Places.{Expression};
 ghost use Rattle.passing.specs.Places.{Hedge, Term, Skipped};
-ghost use Rattle.member.specs.Places.{Looked, Shifted, Accepted, Both, Decided};
-ghost use Rattle.member.specs.Gathering.{Symbol, Inner, Kinds, Spared, Scene, Lent, Gathered, Answered, FittedAll, Shuffles, ShufflesBy, Found};
+ghost use Rattle.member.specs.Places.{Looked, Shifted, Enters, Follows, Keeps, Together, Accepted, Both, Decided};
+ghost use Rattle.member.specs.Gathering.{Symbol, Inner, Kinds, Spared, Scene, Lent, Gathered, Answered, FittedAll, Shuffles, ShufflesBy, Found, Countable, Joins, Undoable, Undone, Roomy, Capped, Noted};
 use any_order::some_order;
 use bools::and;
 use bools::or;
@@ -46,7 +46,13 @@ struct Fitted {
     pub full: bool,
 }
 
-// The place after an expression, and whether one of its symbols will do.
+// The kind that has one term more, and the place after the kinds.
+struct Joined {
+    pub at: usize,
+    pub top: usize,
+}
+
+// Whether one of an expression's symbols will do; where none does, the place after it.
 struct Tried {
     pub end: usize,
     pub yes: bool,
@@ -91,11 +97,53 @@ fn look(e: &[u16], at: usize) -> Seen
     }
 }
 
-fn put(k: &mut [bool], at: usize, x: bool)
-    requires { ⌜ at < length (now k) ⌝ }
-    ensures { λ _. ⌜ now (k .exit) ≡ set (now (k .entry)) at x ⌝ }
+// Whether a term may be the first of the first part of what the word x begins. m: of the whole; old: the first part may have ended before.
+fn enters(x: u16, m: bool, old: bool) -> bool
+    ensures { λ r. ⌜ Enters x m old r ⌝ }
 {
-    k[at] = x;
+    if x == 7003 {
+        return or(m, old);
+    }
+    m
+}
+
+// The same of the second part. null: the first part may be empty.
+fn follows(x: u16, m: bool, old: bool, null: bool) -> bool
+    ensures { λ r. ⌜ Follows x m old null r ⌝ }
+{
+    if x == 7001 {
+        return or(old, and(m, null));
+    }
+    m
+}
+
+// Keeps whether the first part may end here, which a choice does not ask.
+fn keep(k: &mut [bool], at: usize, x: u16, fin: bool)
+    requires { ⌜ at < length (now k) ⌝ }
+    ensures { λ _. ⌜ Keeps (now (k .entry)) at x fin (now (k .exit)) ⌝ }
+{
+    if x == 7002 {
+        return;
+    }
+    k[at] = fin;
+}
+
+// A concatenation or a choice, after its two parts.
+fn together(x: u16, a: Step, b: Step) -> Step
+    ensures { λ r. ⌜ Together x a b r ⌝ }
+{
+    if x == 7001 {
+        return Step {
+            end: b.end,
+            null: and(a.null, b.null),
+            fin: or(and(a.fin, b.null), b.fin),
+        };
+    }
+    Step {
+        end: b.end,
+        null: or(a.null, b.null),
+        fin: or(a.fin, b.fin),
+    }
 }
 
 // The kind from `at` on that has the places which stand from top + 2 to t; `top` where none has.
@@ -112,6 +160,80 @@ fn find(w: &[u16], at: usize, top: usize, t: usize) -> usize
         return find(w, next, top, t);
     }
     top
+}
+
+// One term more of the kind that has the places which stand from top + 2 to t: of a new one, where none has.
+fn join(w: &mut [u16], base: usize, top: usize, t: usize) -> Joined
+    requires { ⌜ Kinds (now w) base top ⌝ }
+    requires { ⌜ (top + 2 ≤ t) × (t ≤ length (now w)) × (length (now w) < 65536) ⌝ }
+    requires { ⌜ Countable (now w) base top t ⌝ }
+    ensures { λ r. ⌜ Joins (now (w .entry)) base top t (now (w .exit)) r ⌝ }
+{
+    let o = find(w, base, top, t);
+    if o == top {
+        store(w, top, 1);
+        store(w, top + 1, t - top - 2);
+        return Joined { at: o, top: t };
+    }
+    w[o] += 1;
+    Joined { at: o, top }
+}
+
+// One term less of the kind at o; the new kind is behind `top`, and stays.
+fn undo(w: &mut [u16], o: usize, top: usize)
+    requires { ⌜ Undoable (now w) o top ⌝ }
+    ensures { λ _. ⌜ Undone (now (w .entry)) o top (now (w .exit)) ⌝ }
+{
+    if o == top {
+        return;
+    }
+    w[o] -= 1;
+}
+
+// A kind of one term, with one place.
+fn alone(w: &mut [u16], top: usize, q: usize)
+    requires { ⌜ (top + 2 < length (now w)) × (length (now w) < 65536) × (q < 65536) ⌝ }
+    ensures { λ _. ⌜ now (w .exit) ≡ set (set (set (now (w .entry)) top 1) (top + 1) 1) (top + 2) q ⌝ }
+{
+    store(w, top, 1);
+    store(w, top + 1, 1);
+    store(w, top + 2, q);
+}
+
+// The place of a symbol that will do is written to w at t, before `cap`; end: the place after the symbol's expression.
+fn note(w: &mut [u16], t: usize, cap: usize, at: usize, yes: bool, end: usize) -> Fitted
+    requires { ⌜ (t ≤ cap) × (cap ≤ length (now w)) × (at < 65536) ⌝ }
+    ensures { λ r. ⌜ Noted (now (w .entry)) t cap at yes end (now (w .exit)) r ⌝ }
+{
+    if yes {
+        if t < cap {
+            store(w, t, at);
+            return Fitted {
+                end,
+                top: t + 1,
+                full: false,
+            };
+        }
+        return Fitted {
+            end,
+            top: t,
+            full: true,
+        };
+    }
+    Fitted {
+        end,
+        top: t,
+        full: false,
+    }
+}
+
+// Where the places of the term at j have to end, of n words, so that there is room for the hedge.
+fn room(h: &[u16], j: usize, n: usize) -> usize
+    requires { ⌜ Hedge (now h) j ⌝ }
+    requires { ⌜ Roomy (now h) j n ⌝ }
+    ensures { λ r. ⌜ Capped (now (h .entry)) j n r ⌝ }
+{
+    n + 4 - 2 * (skip(h, j) - j)
 }
 
 // Whether the term that stands in h at j is of the symbol that stands in e at p.
@@ -131,8 +253,9 @@ fn ask<'a>(
     requires { ⌜ Lent s (now h) (j + 1) (now w) top ⌝ }
     ensures { λ r. ⌜ Answered s (now (e .entry)) p (now (h .entry)) j (now (k .entry)) (now (k .exit)) (now (w .entry)) (now (w .exit)) top r ⌝ }
 {
-    if e[p] == h[j] {
-        if is_unordered(s, Sym(e[p] - 3000)) {
+    let x = e[p];
+    if x == h[j] {
+        if is_unordered(s, Sym(x - 3000)) {
             return any(s, e, p + 1, h, j + 1, k, w, top, top);
         }
         return accepts(s, e, p + 1, h, j + 1, k, w, top);
@@ -169,26 +292,8 @@ fn fit<'a>(
     }
     if x < 7000 {
         let l = look(e, at + 1);
-        if ask(s, e, at, h, j, k, w, t) {
-            if t < cap {
-                store(w, t, at);
-                return Fitted {
-                    end: l.end,
-                    top: t + 1,
-                    full: false,
-                };
-            }
-            return Fitted {
-                end: l.end,
-                top: t,
-                full: true,
-            };
-        }
-        return Fitted {
-            end: l.end,
-            top: t,
-            full: false,
-        };
+        let yes = ask(s, e, at, h, j, k, w, t);
+        return note(w, t, cap, at, yes, l.end);
     }
     let a = fit(s, e, at + 1, h, j, k, w, t, cap);
     if x == 7003 {
@@ -225,7 +330,7 @@ fn any<'a>(
         return some_order(e, at, w, base, top);
     }
     let next = skip(h, j + 1);
-    let cap = w.len() + 4 - 2 * (skip(h, j) - j);
+    let cap = room(h, j, w.len());
     let f = fit(s, e, at, h, j, k, w, top + 2, cap);
     if f.full {
         let c = crowd(s, e, at, at, h, j, next, k, w, base, top);
@@ -235,15 +340,9 @@ fn any<'a>(
     if t == top + 2 {
         return false;
     }
-    let o = find(w, base, top, t);
-    if o == top {
-        store(w, top, 1);
-        store(w, top + 1, t - top - 2);
-        return any(s, e, at, h, next, k, w, base, t);
-    }
-    w[o] += 1;
-    let yes = any(s, e, at, h, next, k, w, base, top);
-    w[o] -= 1;
+    let o = join(w, base, top, t);
+    let yes = any(s, e, at, h, next, k, w, base, o.top);
+    undo(w, o.at, top);
     yes
 }
 
@@ -279,9 +378,7 @@ fn crowd<'a>(
     if x < 7000 {
         let l = look(e, q + 1);
         if ask(s, e, q, h, j, k, w, top) {
-            store(w, top, 1);
-            store(w, top + 1, 1);
-            store(w, top + 2, q);
+            alone(w, top, q);
             let yes = any(s, e, at, h, next, k, w, base, top + 3);
             return Tried { end: l.end, yes };
         }
@@ -294,14 +391,10 @@ fn crowd<'a>(
     if x == 7003 {
         return a;
     }
-    let n = a.end;
     if a.yes {
-        let l = look(e, n);
-        return Tried {
-            end: l.end,
-            yes: true,
-        };
+        return a;
     }
+    let n = a.end;
     crowd(s, e, at, n, h, j, next, k, w, base, top)
 }
 
@@ -348,36 +441,19 @@ fn shift<'a>(
             fin: false,
         };
     }
+    let old = k[at];
+    let a = shift(s, e, at + 1, h, j, k, w, top, enters(x, m, old));
+    keep(k, at, x, a.fin);
     if x == 7003 {
-        let old = k[at];
-        let a = shift(s, e, at + 1, h, j, k, w, top, or(m, old));
-        put(k, at, a.fin);
         return Step {
             end: a.end,
             null: true,
             fin: a.fin,
         };
     }
-    if x == 7001 {
-        let old = k[at];
-        let a = shift(s, e, at + 1, h, j, k, w, top, m);
-        put(k, at, a.fin);
-        let n = a.end;
-        let b = shift(s, e, n, h, j, k, w, top, or(old, and(m, a.null)));
-        return Step {
-            end: b.end,
-            null: and(a.null, b.null),
-            fin: or(and(a.fin, b.null), b.fin),
-        };
-    }
-    let a = shift(s, e, at + 1, h, j, k, w, top, m);
     let n = a.end;
-    let b = shift(s, e, n, h, j, k, w, top, m);
-    Step {
-        end: b.end,
-        null: or(a.null, b.null),
-        fin: or(a.fin, b.fin),
-    }
+    let b = shift(s, e, n, h, j, k, w, top, follows(x, m, old, a.null));
+    together(x, a, b)
 }
 
 // Whether the hedge that stands in h at i is read by the expression at `at`. Inner expressions stand apart, so one k serves all levels.

@@ -120,7 +120,7 @@ fn rank_run(k: &[u16], from: usize, first: Kind, last: bool) -> usize
 {
     match first {
         Kind::Eps => {
-            if finds::has_term(k, from) {
+            if spots::has_term(k, from) {
                 return AT_F7;
             }
             AT_M1

@@ -25,7 +25,7 @@ fn symbol(s: Signature, f: Sym) {
 }
 
 // The name of a variable or a symbol.
-fn named(s: Signature, w: u16) {
+pub fn named(s: Signature, w: u16) {
     match classify(w) {
         Kind::Term(x) => name(b"x", x.0),
         Kind::Run(p) => name(b"p", p.0),
@@ -196,6 +196,11 @@ fn literal(s: Signature, ws: &[u16], at: usize) -> usize
     }
     say(b" in ");
     expression(s, ws, middle)
+}
+
+// The literal that begins here.
+pub fn one_literal(s: Signature, ws: &[u16], at: usize) {
+    literal(s, ws, at);
 }
 
 // The literals between two places, a row for each.

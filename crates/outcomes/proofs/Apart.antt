@@ -3,7 +3,7 @@ use Prim.Native.Nat.{ℕ}
 use mathlib.Core.Path.{_≡_, refl, sym, ap, ap₂, _∙_}
 use lib.Dec.{eqb}
 use Rattle.language.specs.declared.Refusal.{Refusal}
-use Rattle.language.specs.declared.Refusal.the-variants.{ShortSlice, QuestionLength, CountRange, BadOffset, NotLiterals, Undeclared, LongResult, LongWaiting, LineRoom, StepLimit, FillingLayout, FillingValue, LongLiteral, NoSuchLine, OpenLine, LongExample, LongWalk, SheetLayout, LongAnswers}
+use Rattle.language.specs.declared.Refusal.the-variants.{ShortSlice, QuestionLength, CountRange, BadOffset, NotLiterals, Undeclared, LongResult, LongWaiting, LineRoom, StepLimit, FillingLayout, FillingValue, LongLiteral, NoSuchLine, OpenLine, LongExample, NotText, ManyNames, LongText, OtherNumbers, LongWalk, SheetLayout, LongAnswers, BadStep, ShortTrail, LongTrail, TrailRoom}
 use Rattle.language.specs.Kinds.{pick}
 use Rattle.language.specs.Numbers.{numberOf, placeOf}
 use Rattle.outcomes.specs.Numbers.{checkedNumbers, outcomeNumber, outcomePlace, outcomeValue, SolveNumbers, solvedNumbers, triedNumbers, shownNumbers}
@@ -25,7 +25,9 @@ refusalOf n at =
     (pick (eqb n 5) (NotLiterals at) (pick (eqb n 6) (Undeclared at) (pick (eqb n 7) LongResult (pick (eqb n 8) LongWaiting
     (pick (eqb n 9) LineRoom (pick (eqb n 10) StepLimit (pick (eqb n 11) FillingLayout (pick (eqb n 12) FillingValue
     (pick (eqb n 13) LongLiteral (pick (eqb n 14) NoSuchLine (pick (eqb n 15) OpenLine
-    (pick (eqb n 16) LongExample (pick (eqb n 21) LongWalk (pick (eqb n 22) SheetLayout LongAnswers)))))))))))))))))
+    (pick (eqb n 16) LongExample (pick (eqb n 17) NotText (pick (eqb n 18) ManyNames (pick (eqb n 19) LongText
+    (pick (eqb n 20) OtherNumbers (pick (eqb n 21) LongWalk (pick (eqb n 22) SheetLayout (pick (eqb n 23) LongAnswers
+    (pick (eqb n 26) BadStep (pick (eqb n 27) ShortTrail (pick (eqb n 28) LongTrail TrailRoom)))))))))))))))))))))))))
 
 -- `none` where the number is 0, and else the refusal of that number and place
 abbrev told : {A : Type 0} → A → (Refusal → A) → ℕ → ℕ → A
@@ -48,9 +50,17 @@ told-refused none refused LongLiteral = refl
 told-refused none refused NoSuchLine = refl
 told-refused none refused OpenLine = refl
 told-refused none refused LongExample = refl
+told-refused none refused NotText = refl
+told-refused none refused ManyNames = refl
+told-refused none refused LongText = refl
+told-refused none refused OtherNumbers = refl
 told-refused none refused LongWalk = refl
 told-refused none refused SheetLayout = refl
 told-refused none refused LongAnswers = refl
+told-refused none refused BadStep = refl
+told-refused none refused ShortTrail = refl
+told-refused none refused LongTrail = refl
+told-refused none refused TrailRoom = refl
 
 pub refusals-apart : (r s : Refusal) → numberOf r ≡ numberOf s → placeOf r ≡ placeOf s → r ≡ s
 refusals-apart r s e f = sym (told-refused r (λ x. x) r) ∙ ap₂ (told r (λ x. x)) e f ∙ told-refused r (λ x. x) s

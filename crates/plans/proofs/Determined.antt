@@ -1,17 +1,9 @@
 -- Any two outcomes that a contract of this crate allows coincide.
 use mathlib.Core.Path.{sym, ap, _∙_}
 use Rattle.language.proofs.Determined.{Determined}
-use Rattle.plans.proofs.full as full
-use Rattle.plans.proofs.few as few
 use Rattle.plans.proofs.inner as inner
 use Rattle.plans.proofs.grow as grow
 use Rattle.plans.proofs.grow_by as grow_by
-
-full-determined : Determined full.ended full.Reads.Pre full.Reads.Post
-full-determined κs a p o q e d = ap (λ z. (z, o .1)) (e ∙ sym d)
-
-few-determined : Determined few.ended few.Reads.Pre few.Reads.Post
-few-determined κs a p o q e d = ap (λ z. (z, o .1)) (e ∙ sym d)
 
 inner-determined : Determined inner.ended inner.Reads.Pre inner.Reads.Post
 inner-determined κs a p o q e d = ap (λ z. (z, o .1)) (e ∙ sym d)

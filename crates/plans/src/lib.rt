@@ -4,7 +4,7 @@ ghost use mathlib.Core.Path.{_≡_};
 ghost use lib.ListN.{length};
 ghost use Rattle.language.specs.Limits.{desk};
 ghost use Rattle.plans.specs.Sizes.{grown, grownBy};
-ghost use Rattle.plans.specs.Slots.{fullRecipe, fewRecipe, forthIn, innerOf};
+ghost use Rattle.plans.specs.Slots.{forthIn, innerOf};
 use frames::FRAME;
 use language::limits::ROOM;
 
@@ -61,81 +61,6 @@ pub enum Size {
 pub struct Within {
     pub from: usize,
     pub to: usize,
-}
-
-// A recipe of twelve pieces.
-pub fn full(
-    a: Piece,
-    b: Piece,
-    c: Piece,
-    d: Piece,
-    e: Piece,
-    f: Piece,
-    g: Piece,
-    h: Piece,
-    i: Piece,
-    j: Piece,
-    k: Piece,
-    l: Piece,
-    old: usize,
-    until: usize,
-    new: usize,
-) -> Recipe
-    ensures { λ r. ⌜ r ≡ fullRecipe a b c d e f g h i j k l old until new ⌝ }
-{
-    let slots = [
-        Slot { piece: a },
-        Slot { piece: b },
-        Slot { piece: c },
-        Slot { piece: d },
-        Slot { piece: e },
-        Slot { piece: f },
-        Slot { piece: g },
-        Slot { piece: h },
-        Slot { piece: i },
-        Slot { piece: j },
-        Slot { piece: k },
-        Slot { piece: l },
-    ];
-    Recipe {
-        slots,
-        old,
-        until,
-        new,
-    }
-}
-
-// A recipe of five pieces: the others have no words.
-pub fn few(
-    a: Piece,
-    b: Piece,
-    c: Piece,
-    d: Piece,
-    e: Piece,
-    old: usize,
-    until: usize,
-    new: usize,
-) -> Recipe
-    ensures { λ r. ⌜ r ≡ fewRecipe a b c d e old until new ⌝ }
-{
-    let none = Piece::Copy(0, 0);
-    full(
-        a,
-        b,
-        c,
-        d,
-        e,
-        none,
-        none,
-        none,
-        none,
-        none,
-        none,
-        none,
-        old,
-        until,
-        new,
-    )
 }
 
 // The next place, within the words: past them a place need not have one.

@@ -16,14 +16,16 @@ use Rattle.language.specs.Question.{laidOut, parts, countsOf, alternativesOf, l
 use Rattle.language.specs.Undeclared.{declaredWords, undeclaredAt}
 use Rattle.language.proofs.Questions.{bad-length, bad-counts, bad-offset, bad-literals, not-declared, asked}
 use Rattle.language.proofs.Alternatives.{question-declared}
-use Rattle.reader.specs.declared.Header.{Header}
-use Rattle.reader.specs.declared.Scan.the-variants.{Declared, Undeclared}
+use Rattle.header.specs.declared.Header.{Header}
+use Rattle.header.specs.Heading.{headerOf, countsIn}
+use Rattle.undeclared.specs.declared.Scan.the-variants.{Declared, Undeclared}
+use Rattle.undeclared.specs.Scanning.{firstUndeclared}
 use Rattle.trees.specs.declared.Read.the-variants.{Next, Stop}
 use Rattle.trees.specs.Places.{placed}
 use Rattle.outcomes.specs.declared.Checked.the-variants.{Fine, Refused}
 use Rattle.outcomes.specs.Numbers.{checkedNumbers}
-use Rattle.reader.specs.Checking.{headerOf, countsIn, firstUndeclared, askedNumbers}
-use Rattle.reader.proofs.Checks.{scan-clean, scan-finds}
+use Rattle.reader.specs.Checking.{askedNumbers}
+use Rattle.undeclared.proofs.Scans.{scan-clean, scan-finds}
 
 module _ (ws : List ℕ) where
   refused : (r : Refusal) → readQuestion desk ws ≡ refuses r → checkedNumbers (Refused r) ≡ askedNumbers (readQuestion desk ws)

@@ -24,9 +24,17 @@ pub fn number(refusal: Refusal) -> u16
         Refusal::NoSuchLine => 14,
         Refusal::OpenLine => 15,
         Refusal::LongExample => 16,
+        Refusal::NotText => 17,
+        Refusal::ManyNames => 18,
+        Refusal::LongText => 19,
+        Refusal::OtherNumbers => 20,
         Refusal::LongWalk => 21,
         Refusal::SheetLayout => 22,
         Refusal::LongAnswers => 23,
+        Refusal::BadStep => 26,
+        Refusal::ShortTrail => 27,
+        Refusal::LongTrail => 28,
+        Refusal::TrailRoom => 29,
     }
 }
 
@@ -51,8 +59,16 @@ pub fn place(refusal: Refusal) -> usize
         Refusal::NoSuchLine => 0,
         Refusal::OpenLine => 0,
         Refusal::LongExample => 0,
+        Refusal::NotText => 0,
+        Refusal::ManyNames => 0,
+        Refusal::LongText => 0,
+        Refusal::OtherNumbers => 0,
         Refusal::LongWalk => 0,
         Refusal::SheetLayout => 0,
         Refusal::LongAnswers => 0,
+        Refusal::BadStep => 0,
+        Refusal::ShortTrail => 0,
+        Refusal::LongTrail => 0,
+        Refusal::TrailRoom => 0,
     }
 }

@@ -1,11 +1,9 @@
--- Any two outcomes that a contract of this crate allows coincide.
-use mathlib.Core.Path.{sym, ap, _∙_}
+-- Any two outcomes that the contract of `step_planned` allows coincide.
+use mathlib.Core.Path.{ap, _∙_}
 use Rattle.language.proofs.Determined.{Determined}
-use Rattle.results.proofs.size_results as size_results
-use Rattle.results.proofs.write_results as write_results
+use Rattle.taking.proofs.One.{took-one}
+use Rattle.results.proofs.step_planned as step_planned
 
-size_results-determined : Determined size_results.ended size_results.Reads.Pre size_results.Reads.Post
-size_results-determined κs a p o q e d = ap (λ z. (z, o .1)) (e ∙ sym d)
-
-write_results-determined : Determined write_results.ended write_results.Reads.Pre write_results.Reads.Post
-write_results-determined κs a p o q e d = ap (λ z. (z, o .1)) (e .end ∙ sym (d .end)) ∙ ap (λ s. (q .0, (tt, (tt, (tt, (s, (tt, tt))))))) (e .list ∙ sym (d .list))
+step_planned-determined : Determined step_planned.ended step_planned.Reads.Pre step_planned.Reads.Post
+step_planned-determined κs a p o q e d =
+    let z = took-one _ _ _ _ _ _ _ _ e d in ap (λ r. (r, o .1)) (z .0) ∙ ap (λ s. (q .0, (tt, (tt, (tt, (s, (tt, tt))))))) (z .1)

@@ -4,5 +4,4 @@ pub mod Replaced
 pub mod Made
 pub mod Results
 pub mod Planned
-pub mod Sizing
 pub mod Determined

@@ -1,4 +1,4 @@
-// A plan's results in words: how long they are together, and writing them in a row, each in its frame.
+// A plan's results in words: how long they are together, and, where nothing stands against it, written in a row, each in its frame.
 mod emptying;
 mod making;
 mod replacing;
@@ -14,6 +14,7 @@ ghost use Rattle.words.specs.Spans.{places};
 ghost use Rattle.frames.specs.Frames.{inFrames};
 ghost use Rattle.plans.specs.Sizes.{sizedFrom, sized, Ready};
 ghost use Rattle.slices.specs.Written.{Wrote};
+ghost use Rattle.taking.specs.Taking.{Took};
 use language::limits::QUESTION;
 use language::wide;
 use making::made_len;
@@ -26,6 +27,7 @@ use plans::Ways;
 use plans::grow;
 use plans::grow_by;
 use spans::element_end;
+use taking::Stepped;
 
 // n words and those of one result.
 fn size_one(k: &[u16], r: Recipe, cut: usize, n: usize) -> Size
@@ -87,7 +89,7 @@ fn size_alike(k: &[u16], r: Recipe, times: usize) -> Size
 }
 
 // How many words a plan's results take, each in its frame; or that one of them is too long.
-pub fn size_results(k: &[u16], plan: Plan) -> Size
+fn size_results(k: &[u16], plan: Plan) -> Size
     requires { ⌜ length (now k) ≤ desk .question ⌝ }
     ensures { λ s. ⌜ s ≡ sized (resultsOf (now (k .entry)) plan) ⌝ }
 {
@@ -150,7 +152,7 @@ fn write_alike(k: &[u16], r: Recipe, times: usize, number: u16, out: &mut [u16],
 }
 
 // A plan's results, each in its frame, all with the number of the conjunction that they come from.
-pub fn write_results(k: &[u16], plan: Plan, number: u16, out: &mut [u16], at: usize) -> usize
+fn write_results(k: &[u16], plan: Plan, number: u16, out: &mut [u16], at: usize) -> usize
     requires { ⌜ Ready number (resultsOf (now k) plan) (now out) at ⌝ }
     ensures { λ e. ⌜ Wrote (now (out .entry)) at (inFrames number (resultsOf (now (k .entry)) plan)) (now (out .exit)) e ⌝ }
 {
@@ -164,5 +166,23 @@ pub fn write_results(k: &[u16], plan: Plan, number: u16, out: &mut [u16], at: us
         Ways::Cuts(cut, n) => write_cuts(k, first, cut, n, number, out, at),
         Ways::Orders(n) => write_alike(k, first, count_orders(n), number, out, at),
         Ways::Names(n) => write_alike(k, first, wide(n), number, out, at),
+    }
+}
+
+// The results of a plan, right before `next`.
+pub fn step_planned(k: &[u16], plan: Plan, number: u16, out: &mut [u16], next: usize) -> Stepped
+    requires { ⌜ (length (now k) ≤ desk .question) × (next ≤ length (now out)) × (next ≤ desk .room) ⌝ }
+    ensures { λ r. ⌜ Took number (resultsOf (now (k .entry)) plan) (now (out .entry)) next r (now (out .exit)) ⌝ }
+{
+    match size_results(k, plan) {
+        Size::Over => Stepped::Long,
+        Size::Fits(n) => {
+            if next < n {
+                return Stepped::Room;
+            }
+            let at = next - n;
+            write_results(k, plan, number, out, at);
+            Stepped::Done(at)
+        }
     }
 }

@@ -17,12 +17,12 @@ use super::replacing::put;
 use super::replacing::put_len;
 use frames::FRAME;
 use frames::write_frame;
+use in_order::write_order;
 use orders::order_len;
-use orders::write_named;
-use orders::write_order;
 use plans::Piece;
 use plans::Recipe;
 use plans::Slot;
+use renaming::write_named;
 use slices::copy;
 use slices::part_len;
 

@@ -10,11 +10,11 @@ use Rattle.language.specs.Fine.{fineLiteral, fineConj}
 use Rattle.rules.specs.Substitution.{putC}
 use Rattle.rules.specs.Reply.{results}
 use Rattle.rules.specs.Rules.{Branch, plain, elims, Answer, Rule, onEqn, onMem, onPair, rules}
-use Rattle.rules.specs.Step.{place, placed, step}
+use Rattle.rules.specs.Step.{place, placed, Spot, stepAt, step}
 use Rattle.rules.specs.Each.{Each}
 use Rattle.rules.specs.Sides.{AtSides}
 use Rattle.rules.proofs.Each.{each-imp, each-map}
-use Rattle.rules.proofs.Steps.{Gives, OnSides, Kept, kept-at-sides, gives-behind, step-at-sides}
+use Rattle.rules.proofs.Steps.{Gives, OnSides, Kept, kept-at-sides, gives-behind, named-at-sides, step-at-sides}
 use Rattle.rules.proofs.FineParts.{fine-append, fine-split, fine-putC}
 use Rattle.rules.proofs.FineRules.{FineBranch, FineAnswer, RuleFine, each-rule-fine}
 
@@ -46,5 +46,12 @@ module _ (L : Limits) where
   fine-rule rule f = kept-at-sides (fineConj L) rule λ before l behind p.
       let (q, r) = fine-split L before (l ∷ behind) p in fine-sides rule f before l behind q (r .0) (r .1)
 
+  each-fine : (σ : Signature) → σ .symbols ≤ L .each → Each (AtSides (Kept (fineConj L))) (rules σ)
+  each-fine σ few = each-imp (RuleFine L) (AtSides (Kept (fineConj L))) fine-rule (rules σ) (each-rule-fine L σ few)
+
   pub step-fine : (σ : Signature) → σ .symbols ≤ L .each → (k : Conj) (ks : List Conj) → fineConj L k → step σ k ≡ results ks → Each (fineConj L) ks
-  step-fine σ few k ks p e = step-at-sides σ (Kept (fineConj L)) (each-imp (RuleFine L) (AtSides (Kept (fineConj L))) fine-rule (rules σ) (each-rule-fine L σ few)) k ks e p
+  step-fine σ few k ks p e = step-at-sides σ (Kept (fineConj L)) (each-fine σ few) k ks e p
+
+  -- and so at any named place
+  pub named-fine : (σ : Signature) → σ .symbols ≤ L .each → (s : Spot) (k : Conj) (ks : List Conj) → fineConj L k → stepAt σ s k ≡ results ks → Each (fineConj L) ks
+  named-fine σ few s k ks p e = named-at-sides (Kept (fineConj L)) σ (each-fine σ few) s k ks e p

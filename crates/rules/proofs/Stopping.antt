@@ -13,7 +13,7 @@ use Rattle.language.specs.Limits.{Limits, walkedPairs}
 use Rattle.language.specs.Trees.{Literal, eqn, mem, Conj, isUnordered}
 use Rattle.rules.specs.Reply.{Reply, nothing, results, stops}
 use Rattle.rules.specs.Rules.{Answer, Rule, onEqn, onMem, onPair, strike, folded, Fold, Clash, rules}
-use Rattle.rules.specs.Step.{orNext, each, placed, resultsAt, found, earliest, first, search, step}
+use Rattle.rules.specs.Step.{orNext, each, placed, resultsAt, Spot, literalAt, ruleAt, stepAt, found, earliest, first, search, step}
 use Rattle.rules.proofs.Clashing.{Drops, clash-drops}
 use Rattle.rules.specs.Run.{Numbered, allOf, numbered, Outcome, finished, refused, turn, anyLong, waitingSize, linesFit, runFrom, runBy, run}
 
@@ -62,6 +62,25 @@ module _ (P : Refusal → Type 0) where
   at-place (onPair rule) p false before l behind = by-each (map (λ (k : Conj). before ++ k)) (rule l behind) (p l behind)
   at-place (onPair rule) p true before l behind = tt
 
+  -- at a named place
+  at-literal : (swap : Bool) (rule : Rule) → RuleStopsBy rule → (i : ℕ) (before k : Conj) → StopsBy (literalAt swap rule i before k)
+  at-literal swap rule p i before [] = tt
+  at-literal swap rule p zero before (l ∷ k) = at-place rule p swap before l k
+  at-literal swap rule p (suc i) before (l ∷ k) = at-literal swap rule p i (before ++ (l ∷ [])) k
+
+  at-rule : (swap : Bool) (i n : ℕ) (rs : List Rule) → PairsStopBy rs → (k : Conj) → StopsBy (ruleAt swap i n rs k)
+  at-rule swap i n [] p k = tt
+  at-rule swap i zero (onEqn rule ∷ rs) p k = at-literal swap (onEqn rule) tt i [] k
+  at-rule swap i zero (onMem rule ∷ rs) p k = at-literal swap (onMem rule) tt i [] k
+  at-rule swap i zero (onPair rule ∷ rs) p k = at-literal swap (onPair rule) (p .0) i [] k
+  at-rule swap i (suc n) (onEqn rule ∷ rs) p k = at-rule swap i n rs p k
+  at-rule swap i (suc n) (onMem rule ∷ rs) p k = at-rule swap i n rs p k
+  at-rule swap i (suc n) (onPair rule ∷ rs) p k = at-rule swap i n rs (p .1) k
+
+  named-stops-by : (σ : Signature) → PairsStopBy (rules σ) → (s : Spot) (k : Conj) → StopsBy (stepAt σ s k)
+  unfolding stepAt
+  named-stops-by σ p s k = at-rule (s .swapped) (s .literal) (s .rule) (rules σ) p k
+
   at-earliest : (n : ℕ) (rule : Rule) → RuleStopsBy rule → (i : ℕ) (before k : Conj) → StopsBy (earliest n rule i before k)
   at-earliest n rule p i before [] = tt
   at-earliest n rule p i before (l ∷ k) =
@@ -100,6 +119,9 @@ Clash-stops σ l behind = go (Clash σ l behind) (clash-drops walkedPairs (isUno
 
 pub step-stops : (σ : Signature) (k : Conj) → StopsBy IsLongWalk (step σ k)
 step-stops σ k = step-stops-by IsLongWalk σ (Fold-stops IsLongWalk, (Clash-stops σ, tt)) k
+
+pub named-stops : (σ : Signature) (s : Spot) (k : Conj) → StopsBy IsLongWalk (stepAt σ s k)
+named-stops σ s k = named-stops-by IsLongWalk σ (Fold-stops IsLongWalk, (Clash-stops σ, tt)) s k
 
 -- ---- the run
 

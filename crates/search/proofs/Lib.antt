@@ -4,5 +4,4 @@ pub mod Applied
 pub mod Clashed
 pub mod Pass
 pub mod Finding
-pub mod Seen
 pub mod Determined

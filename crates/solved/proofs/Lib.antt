@@ -1,4 +1,3 @@
-pub mod Sides
 pub mod Memberships
 pub mod Marked
 pub mod Determined

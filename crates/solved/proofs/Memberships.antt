@@ -26,9 +26,9 @@ use Rattle.words.proofs.Parts.{part-of, drop-of, word-of}
 use Rattle.views.proofs.Literals.{next-literal}
 use Rattle.views.proofs.Members.{member-literal, or-assoc}
 use Rattle.views.proofs.Sides.{shows-finish}
-use Rattle.solved.specs.Lone.{wordOf, loneWord, loneVariable}
+use Rattle.alone.specs.Lone.{wordOf, loneWord, loneVariable}
 use Rattle.solved.specs.Ranges.{Between}
-use Rattle.solved.proofs.Sides.{lone-look, lone-fine, word-lone, word-some}
+use Rattle.alone.proofs.Sides.{lone-look, lone-fine, word-lone, word-some}
 
 -- whether one literal is a membership with the variable in it
 abbrev inOne : Var → Literal → Bool

@@ -1,7 +1,7 @@
 // Whether a line is solved, read off its words.
-ghost use Prim.Native.Nat.{_+_, _≤_, _<_};
+ghost use Prim.Native.Nat.{_≤_, _<_};
 ghost use mathlib.Core.Path.{_≡_};
-ghost use mathlib.Core.Bool.{not, _&&_, _||_};
+ghost use mathlib.Core.Bool.{_&&_};
 ghost use mathlib.Core.List.{_++_};
 ghost use lib.Dec.{eqb};
 ghost use lib.ListN.{length, getD};
@@ -15,122 +15,28 @@ ghost use Rattle.words.specs.Spans.{member};
 ghost use Rattle.views.specs.Views.{Shows};
 ghost use Rattle.views.specs.Variables.{variableWord, fineVar};
 ghost use Rattle.views.specs.Standing.{LiteralAt, Conjunction};
-ghost use Rattle.solved.specs.Lone.{singleTerm, bareFunctor, lone, sideVariable, loneVariable, loneWord, aloneSide};
+ghost use Rattle.alone.specs.Lone.{loneVariable};
 ghost use Rattle.solved.specs.Ranges.{Between};
+use alone::Lone;
+use alone::alone_side;
+use alone::lone_word;
+use alone::side_variable;
 use bools::and;
-use language::FunVar;
-use language::HedgeVar;
-use language::Name;
+use bools::neither;
 use language::TermVar;
-use language::function_word;
-use language::run_word;
-use language::term_word;
 use views::Look;
 use views::Shape;
-use views::View;
 use views::see;
 use views::show_membership;
 use views::swapped;
-use words::elsewhere;
 use words::next_literal;
 use words::stands;
 
-// The one variable that a hedge is, by its kind.
-pub enum Lone {
-    Nothing,
-    Term(TermVar),
-    Run(HedgeVar),
-    Blank(FunVar),
-}
-
-fn chosen(t: bool, x: Lone) -> Lone
-    ensures { λ r. ⌜ r ≡ lone t x ⌝ }
-{
-    if t { x } else { Lone::Nothing }
-}
-
-fn single_term(look: Look) -> bool
-    ensures { λ r. ⌜ r ≡ singleTerm look ⌝ }
-{
-    match look {
-        Look::Empty => false,
-        Look::Term(_, last) => last,
-        Look::Run(_, _) => false,
-        Look::Node(_, last, _) => last,
-    }
-}
-
-fn bare_functor(look: Look) -> bool
-    ensures { λ r. ⌜ r ≡ bareFunctor look ⌝ }
-{
-    match look {
-        Look::Empty => false,
-        Look::Term(_, _) => false,
-        Look::Run(_, _) => false,
-        Look::Node(_, last, bare) => and(bare, last),
-    }
-}
-
-// The variable that a side is, against the other side.
-pub fn side_variable(l: Look, r: Look) -> Lone
-    ensures { λ x. ⌜ x ≡ sideVariable l r ⌝ }
-{
-    match l {
-        Look::Empty => Lone::Nothing,
-        Look::Term(x, last) => chosen(and(last, single_term(r)), Lone::Term(x)),
-        Look::Run(p, last) => chosen(last, Lone::Run(p)),
-        Look::Node(name, last, bare) => match name {
-            Name::Symbol(_) => Lone::Nothing,
-            Name::Blank(f) => chosen(and(bare, and(last, bare_functor(r))), Lone::Blank(f)),
-        },
-    }
-}
-
-// The variable whose membership it is.
+// The variable whose membership it is: the one that the hedge would be against a single term.
 fn lone_variable(look: Look) -> Lone
     ensures { λ x. ⌜ x ≡ loneVariable look ⌝ }
 {
-    match look {
-        Look::Empty => Lone::Nothing,
-        Look::Term(x, last) => chosen(last, Lone::Term(x)),
-        Look::Run(p, last) => chosen(last, Lone::Run(p)),
-        Look::Node(_, _, _) => Lone::Nothing,
-    }
-}
-
-// The word of the variable, or 0 where there is none.
-pub fn lone_word(x: Lone) -> usize
-    ensures { λ w. ⌜ w ≡ loneWord x ⌝ }
-{
-    match x {
-        Lone::Nothing => 0,
-        Lone::Term(x) => term_word(x),
-        Lone::Run(p) => run_word(p),
-        Lone::Blank(f) => function_word(f),
-    }
-}
-
-// Whether the side that is looked at first is one variable whose word stands nowhere else.
-pub fn alone_side(k: &[u16], v: View) -> bool
-    ensures { λ t. ⌜ t ≡ aloneSide (now (k .entry)) v ⌝ }
-{
-    let l = v.l;
-    let r = v.r;
-    let a = l.look;
-    let b = r.look;
-    let x = lone_word(side_variable(a, b));
-    if x == 0 {
-        return false;
-    }
-    let here = stands(k, r.from, r.to, x);
-    let there = elsewhere(k, v.at, v.end, x);
-    neither(here, there)
-}
-
-fn neither(a: bool, b: bool) -> bool
-    ensures { λ r. ⌜ r ≡ not (a || b) ⌝ }
-{
-    if a { false } else { !b }
+    side_variable(look, Look::Term(TermVar(0), true))
 }
 
 // Whether a word stands in the literal i..next, where that is a membership.

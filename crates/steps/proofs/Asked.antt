@@ -11,22 +11,17 @@ use Rattle.language.specs.Trees.{Hedge, Expr, Literal, eqn, mem, Conj}
 use Rattle.rules.specs.Places.{atM2, atFold, atClash}
 use Rattle.views.specs.declared.View.{View}
 use Rattle.views.specs.declared.Shape.{Shape}
-use Rattle.views.specs.Views.{Sees, Shows, MembershipAt}
+use Rattle.views.specs.Views.{Sees, Shows}
 use Rattle.views.specs.Standing.{LiteralAt}
 use Rattle.views.proofs.LiteralWalks.{at-equation, at-membership}
-use Rattle.equation_plans.specs.Planned as equation
+use Rattle.equation_recipes.specs.Planned as equation
 use Rattle.membership_plans.specs.Planned as membership
 use Rattle.search.specs.declared.Best.{Best}
 use Rattle.search.specs.Ranking.{sideAnswer}
 use Rattle.search.proofs.Applied.{results-answer, results-fold}
-use Rattle.steps.specs.Asking.{RuleAt, AnswerAt, FoldHere, SomeMembership}
+use Rattle.linear_form.specs.Rows.{SomeMembership}
+use Rattle.steps.specs.Asking.{RuleAt, AnswerAt, FoldHere}
 use Rattle.steps.proofs.Taken.{no-equation}
-
--- ---- a membership, shown
-
-pub shown-at : (k : List ℕ) (at : ℕ) (s : Shape) → ((before : Conj) (h : Hedge) (R : Expr) (behind : Conj) → LiteralAt k at before (mem h R) behind → Shows k s before h R behind)
-    → SomeMembership k at → MembershipAt k s
-shown-at k at s f m = record { before = m .before; h = m .h; R = m .R; behind = m .behind; shows = f (m .before) (m .h) (m .R) (m .behind) (m .stands) }
 
 -- ---- the rule of one literal that answers there
 

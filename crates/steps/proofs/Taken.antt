@@ -1,13 +1,11 @@
--- What a step leaves, from the size of its results and what is written; and M2, whose results are by monomials.
-use Prim.Native.Nat.{ℕ, _+_, _-_, _<_, _≤_}
+-- The words that a rule of one literal makes; of M2 by its monomials, and that it applies to no equation.
+use Prim.Native.Nat.{ℕ}
 use native.Mathlib.Omega.{arith}
 use mathlib.Core.Path.{_≡_, refl, sym, ap, _∙_, subst}
 use mathlib.Core.Bool.{Bool, true, false}
 use mathlib.Core.List.{List, [], _∷_, _++_, map}
 use mathlib.Core.Option.{none, some}
-use lib.ListN.{length}
 use Rattle.language.specs.declared.Signature.{Signature}
-use Rattle.language.specs.Limits.{desk}
 use Rattle.language.specs.Trees.{Hedge, ε, tvar, hvar, node, Expr, Literal, eqn, mem, Conj}
 use Rattle.language.specs.Writing.{conjWords}
 use Rattle.rules.specs.Looks.{firstTerm}
@@ -18,38 +16,11 @@ use Rattle.rules.specs.Places.{atM2}
 use Rattle.rules.proofs.Answers.{where-some, Where, Answers, look, test, answers}
 use Rattle.views.specs.Looks.{head, tail}
 use Rattle.rules.specs.Ranks.{eqnAnswer, memAnswer}
-use Rattle.frames.specs.Frames.{inFrames}
-use Rattle.plans.specs.Sizes.{sized, placedWords, monomialWords, Ready}
-use Rattle.plans.specs.declared.Size.{Size}
-use Rattle.plans.specs.declared.Size.the-variants.{Fits, Over}
-use Rattle.slices.specs.Written.{Wrote}
-use Rattle.results.proofs.Sizing.{fits-ready}
+use Rattle.plans.specs.Sizes.{placedWords, monomialWords}
 use Rattle.views.specs.Standing.{LiteralAt}
 use Rattle.search.specs.Ranking.{sideAnswer}
-use Rattle.steps.specs.Taking.{Took, long, room, done}
-use Rattle.steps.specs.declared.Stepped.{Stepped}
-use Rattle.steps.specs.declared.Stepped.the-variants.{Long, Room, Done}
-
-module _ (number : ℕ) (ws : List (List ℕ)) (old : List ℕ) (next : ℕ) (s : Size) (es : s ≡ sized ws) where
-  pub took-long : s ≡ Over → Took number ws old next Long old
-  took-long e = long refl (sym es ∙ e) refl
-
-  module _ (n : ℕ) (e : s ≡ Fits n) where
-    pub took-room : next < n → Took number ws old next Room old
-    took-room h = room n refl (sym es ∙ e) h refl
-
-    module _ (h : n ≤ next) where
-      pub took-ready : next ≤ desk .room → next ≤ length old → Ready number ws old (next - n)
-      took-ready small fits = fits-ready number ws n (sym es ∙ e) (omega arith) old (next - n) (omega arith)
-
-      pub took-done : (new : List ℕ) (end : ℕ) → Wrote old (next - n) (inFrames number ws) new end → Took number ws old next (Done (next - n)) new
-      took-done new end w = done n (next - n) refl (sym es ∙ e) (omega arith) (w .list)
-
--- ---- the clash, which leaves nothing
-
-pub took-none : (number : ℕ) {ws : List (List ℕ)} (old : List ℕ) (next : ℕ) → ws ≡ [] → Took number ws old next (Done next) old
-unfolding sized
-took-none number old next e = rw e (done 0 next refl refl (omega arith) refl)
+use Rattle.taking.specs.Taking.{Took}
+use Rattle.taking.specs.declared.Stepped.{Stepped}
 
 -- ---- M2
 
@@ -86,6 +57,3 @@ pub placed-words : (before behind : Conj) (bs : List Branch) → placedWords bef
 unfolding placedWords
 placed-words before behind [] = refl
 placed-words before behind (b ∷ bs) = ap (λ l. conjWords (place before behind b) ∷ l) (placed-words before behind bs)
-
-pub took-as : {number : ℕ} {ws vs : List (List ℕ)} {old : List ℕ} {next : ℕ} {r : Stepped} {new : List ℕ} → ws ≡ vs → Took number ws old next r new → Took number vs old next r new
-took-as {number} {old = old} {next} {r} {new} e t = subst (λ ws. Took number ws old next r new) e t

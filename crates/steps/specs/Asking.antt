@@ -4,7 +4,7 @@ use mathlib.Core.Path.{_≡_}
 use mathlib.Core.List.{List, _++_}
 use mathlib.Core.Option.{some}
 use Rattle.language.specs.declared.Signature.{Signature}
-use Rattle.language.specs.Trees.{Hedge, Expr, Literal, mem, Conj}
+use Rattle.language.specs.Trees.{Literal, Conj}
 use Rattle.rules.specs.Reply.{results}
 use Rattle.rules.specs.Rules.{Branch, Fold}
 use Rattle.views.specs.Standing.{LiteralAt}
@@ -37,11 +37,3 @@ pub record FoldHere (k : List ℕ) (at : ℕ) : Type 0 where
   pub made : List Conj
   pub stands : LiteralAt k at before l behind
   pub applies : Fold l behind ≡ results made
-
--- some membership stands at `at`
-pub record SomeMembership (k : List ℕ) (at : ℕ) : Type 0 where
-  pub before : Conj
-  pub h : Hedge
-  pub R : Expr
-  pub behind : Conj
-  pub stands : LiteralAt k at before (mem h R) behind

@@ -4,46 +4,36 @@ ghost use mathlib.Core.Path.{_≡_};
 ghost use mathlib.Core.List.{List, _++_, map};
 ghost use lib.ListN.{length, drop};
 ghost use Rattle.language.specs.Limits.{desk};
-ghost use Rattle.language.specs.Trees.{Hedge, Expr, Literal, mem, Conj};
+ghost use Rattle.language.specs.Trees.{Literal, Conj};
 ghost use Rattle.language.specs.Writing.{conjWords};
 ghost use Rattle.plans.specs.Results.{resultsOf};
-ghost use Rattle.plans.specs.Sizes.{monomialWords};
 ghost use Rattle.views.specs.Standing.{LiteralAt};
 ghost use Rattle.rules.specs.Reply.{results};
 ghost use Rattle.rules.specs.Rules.{Fold};
 ghost use Rattle.search.specs.Ranking.{sideAnswer, sideResults};
-ghost use Rattle.steps.specs.Taking.{Took};
-ghost use Rattle.steps.specs.Asking.{RuleAt, AnswerAt, FoldHere, SomeMembership};
+ghost use Rattle.taking.specs.Taking.{Took};
+ghost use Rattle.steps.specs.Asking.{RuleAt, AnswerAt, FoldHere};
 ghost use Rattle.plans.specs.Planned.{Planned};
 ghost use Rattle.rules.specs.Places.{atM2};
 use equation_plans::plan_equation;
 use folding::later_equal;
 use language::Signature;
-use linear_form::size_monomials;
-use linear_form::write_monomials;
+use linear_form::step_monomials;
 use membership_plans::plan_membership;
 use plans::Piece;
 use plans::Plan;
-use plans::Size;
 use plans::Ways;
-use plans::few;
-use results::size_results;
-use results::write_results;
+use recipes::few;
+use results::step_planned;
 use rules::places::AT_CLASH;
 use rules::places::AT_FOLD;
 use rules::places::AT_M2;
 use search::Best;
+use taking::Stepped;
 use views::see;
 use views::show_membership;
 use views::swapped;
 use words::next_literal;
-
-// What a step comes to: a result is too long; the results have no room before those that wait; or they are written, from a place on.
-pub enum Stepped {
-    Long,
-    Room,
-    Done(usize),
-}
 
 // The plan of the rule of one literal of that rank at that literal; M2 has none.
 fn plan_at(k: &[u16], b: Best, s: Signature) -> Plan
@@ -89,44 +79,6 @@ fn plan_fold(k: &[u16], at: usize) -> Plan
         ways: Ways::One(0),
         first,
         second: first,
-    }
-}
-
-// The results of a plan, right before `next`.
-fn step_planned(k: &[u16], plan: Plan, number: u16, out: &mut [u16], next: usize) -> Stepped
-    requires { ⌜ (length (now k) ≤ desk .question) × (next ≤ length (now out)) × (next ≤ desk .room) ⌝ }
-    ensures { λ r. ⌜ Took number (resultsOf (now (k .entry)) plan) (now (out .entry)) next r (now (out .exit)) ⌝ }
-{
-    match size_results(k, plan) {
-        Size::Over => Stepped::Long,
-        Size::Fits(n) => {
-            if next < n {
-                return Stepped::Room;
-            }
-            let at = next - n;
-            write_results(k, plan, number, out, at);
-            Stepped::Done(at)
-        }
-    }
-}
-
-// The results of M2 at the membership at a place, right before `next`.
-fn step_monomials(k: &[u16], literal: usize, number: u16, out: &mut [u16], next: usize) -> Stepped
-    requires { ⌜ (length (now k) ≤ desk .question) × (literal < length (now k)) × (next ≤ length (now out)) × (next ≤ desk .room) ⌝ }
-    requires { ⌜ SomeMembership (now k) literal ⌝ }
-    ensures { λ r. ⌜ ((before : Conj) (h : Hedge) (R : Expr) (behind : Conj) → LiteralAt (now (k .entry)) literal before (mem h R) behind → Took number (monomialWords before h R behind) (now (out .entry)) next r (now (out .exit))) ⌝ }
-{
-    let s = show_membership(k, literal);
-    match size_monomials(k, s) {
-        Size::Over => Stepped::Long,
-        Size::Fits(n) => {
-            if next < n {
-                return Stepped::Room;
-            }
-            let at = next - n;
-            write_monomials(k, s, number, out, at);
-            Stepped::Done(at)
-        }
     }
 }
 

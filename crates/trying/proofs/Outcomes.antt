@@ -18,11 +18,12 @@ use Rattle.meaning.specs.Values.{Given, gives, readFilling}
 use Rattle.meaning.specs.Values as values
 use Rattle.rules.specs.Answer.{zeros, overwritten}
 use Rattle.rules.specs.Calls.{Trying, decides, given-up, tryingWith, tryingOf, trying}
-use Rattle.reader.specs.declared.Header.{Header}
+use Rattle.header.specs.declared.Header.{Header}
 use Rattle.outcomes.specs.declared.Checked.{Checked}
 use Rattle.outcomes.specs.declared.Checked.the-variants.{Fine}
 use Rattle.outcomes.specs.declared.Checked.the-variants as checked-as
-use Rattle.reader.specs.Checking.{headerOf, countsIn, checked}
+use Rattle.header.specs.Heading.{headerOf, countsIn}
+use Rattle.reader.specs.Checking.{checked}
 use Rattle.given.specs.Checking.{given}
 use Rattle.outcomes.specs.declared.Tried.{Tried}
 use Rattle.outcomes.specs.declared.Tried.the-variants.{Yes, No, Refused}

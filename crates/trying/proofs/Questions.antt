@@ -17,8 +17,8 @@ use Rattle.language.proofs.Offsets.{laid-length}
 use Rattle.language.proofs.Asking.{passed, ranges, how-many, alternative}
 use Rattle.meaning.specs.Meaning.{Filling, MeetsAll, MeetsOne}
 use Rattle.rules.specs.Calls.{anyOver, tooLong}
-use Rattle.reader.specs.declared.Header.{Header}
-use Rattle.reader.specs.Checking.{countsIn}
+use Rattle.header.specs.declared.Header.{Header}
+use Rattle.header.specs.Heading.{countsIn}
 use Rattle.trying.specs.Tasks.{Keeps, AConj, SomeConj, FittingConj, ConjTooLong, ConjMet, AQuestion, SomeQuestion, FittingQuestion, QuestionTooLong, QuestionMet}
 use Rattle.trying.proofs.Rooms.{keeps-none, keeps-both}
 use Rattle.trying.proofs.Scans.{or-false, true≢false}

@@ -12,8 +12,8 @@ use Rattle.meaning.specs.Meaning.{Filling, MeetsQuestion}
 use Rattle.meaning.specs.Values.{gives, readFilling}
 use Rattle.rules.specs.Answer.{zeros, overwritten}
 use Rattle.rules.specs.Calls.{Trying, decides, unread, given-up, tryingWith}
-use Rattle.reader.specs.declared.Header.{Header}
-use Rattle.reader.specs.Checking.{headerOf}
+use Rattle.header.specs.declared.Header.{Header}
+use Rattle.header.specs.Heading.{headerOf}
 use Rattle.trying.specs.Tasks.{AQuestion}
 use Rattle.outcomes.specs.declared.Tried.{Tried}
 use Rattle.outcomes.specs.declared.Tried.the-variants.{Yes, No, Refused}

@@ -15,8 +15,8 @@ use Rattle.meaning.specs.Complete.{Complete, Same, completeWords}
 use Rattle.meaning.specs.Meaning.{Filling, Member, Meets, MeetsAll, MeetsOne}
 use Rattle.meaning.specs.Values.{gives, readFilling}
 use Rattle.rules.specs.Calls.{filledSize, anyOver, tooLong}
-use Rattle.reader.specs.declared.Header.{Header}
-use Rattle.reader.specs.Checking.{headerOf, countsIn}
+use Rattle.header.specs.declared.Header.{Header}
+use Rattle.header.specs.Heading.{headerOf, countsIn}
 use Rattle.member.specs.Places.{Stands}
 use Rattle.filling.specs.Showing.{filled}
 

@@ -1,4 +1,5 @@
 // Trying a filling: whether it meets a question, or why that cannot be said.
+use header::Header;
 use language::Refusal;
 use language::Signature;
 use language::limits::LITERAL;
@@ -6,7 +7,6 @@ use language::limits::ROOM;
 use language::wide;
 use outcomes::Checked;
 use outcomes::Tried;
-use reader::Header;
 use slices::clear;
 use trees::Read;
 ghost use mathlib.Core.Path.{_≡_};
@@ -14,7 +14,7 @@ ghost use Prim.Native.Nat.{_+_, _≤_, _<_};
 ghost use lib.ListN.{length};
 ghost use Rattle.language.specs.Limits.{desk};
 ghost use Rattle.rules.specs.Calls.{trying};
-ghost use Rattle.reader.specs.Checking.{countsIn};
+ghost use Rattle.header.specs.Heading.{countsIn};
 ghost use Rattle.filling.specs.Showing.{filled, Shows};
 ghost use Rattle.trying.specs.Tasks.{FirstEnd, Comparable, EquationMet, Testable, MembershipMet, FittingLiteral, LiteralMet, LiteralEnd, SomeConj, FittingConj, ConjTooLong, ConjMet, SomeQuestion, FittingQuestion, QuestionTooLong, QuestionMet, AskedQuestion};
 ghost use Rattle.trying.specs.Outcome.{ToldOutcome, TriedGiven, TriedAsked};
@@ -239,7 +239,7 @@ pub fn try_filling<'a>(question: &'a [u16], filling: &'a [u16], work: &mut [u16]
     match reader::read_question(question) {
         Checked::Refused(mistake) => Tried::Refused(mistake),
         Checked::Fine => {
-            let h = reader::read_header(question);
+            let h = header::read_header(question);
             try_asked(h, question, filling, work)
         }
     }

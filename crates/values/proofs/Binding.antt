@@ -29,7 +29,7 @@ use Rattle.values.specs.declared.bindings.Place.the-variants.{At, Nowher
 use Rattle.values.specs.declared.bindings.Bound.{Bound}
 use Rattle.values.specs.declared.bindings.Bound.the-variants.{To, Free}
 use Rattle.values.proofs.Walks.{literal-here}
-use Rattle.solved.proofs.Sides.{side-fine, word-some}
+use Rattle.alone.proofs.Sides.{side-fine, word-some}
 
 -- different words are of different variables
 pub eqb-words : (u v : Var) → fineVar desk u → fineVar desk v → eqb (variableWord u) (variableWord v) ≡ eqV u v

@@ -11,9 +11,9 @@ use Rattle.views.specs.Looks.{lookOf}
 use Rattle.views.specs.Views.{Sees}
 use Rattle.views.specs.declared.View.{View}
 use Rattle.views.specs.Variables.{variableWord}
-use Rattle.solved.specs.declared.Lone.{Lone}
-use Rattle.solved.specs.Lone.{loneWord, wordOf, sideVariable}
-use Rattle.solved.proofs.Sides.{word-lone, side-look}
+use Rattle.alone.specs.declared.Lone.{Lone}
+use Rattle.alone.specs.Lone.{loneWord, wordOf, sideVariable}
+use Rattle.alone.proofs.Sides.{word-lone, side-look}
 use Rattle.values.specs.Binding.{soleWord}
 
 sole-word : (K : Conj) (r : Hedge) (m : Option Var) → isSome (alone K r m) ≡ true → wordOf m ≡ soleWord (alone K r m)

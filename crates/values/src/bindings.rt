@@ -12,12 +12,12 @@ ghost use Rattle.values.specs.Lines.{varOf, Named, Line, Told, Expressed
 ghost use Rattle.values.specs.Binding.{soleWord, BoundBy};
 ghost use Rattle.views.specs.Standing.{LiteralAt};
 use crate::Variable;
+use alone::alone_side;
+use alone::lone_word;
+use alone::side_variable;
 use language::function_word;
 use language::run_word;
 use language::term_word;
-use solved::alone_side;
-use solved::lone_word;
-use solved::side_variable;
 use views::View;
 use views::see;
 use views::side_at;

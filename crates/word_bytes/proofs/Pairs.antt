@@ -1,6 +1,7 @@
 -- Laws of words as bytes: their lengths, each turn of reading and writing, and that the two undo each other.
 use Prim.Native.Nat.{ℕ, zero, suc, _+_, _*_, _/_, _%_, _≤_, _<_}
 use mathlib.Core.Path.{_≡_, refl, ap, _∙_, sym}
+use mathlib.Core.Bool.{true, false}
 use mathlib.Core.List.{List, [], _∷_, _++_}
 use native.Mathlib.Omega.{arith}
 use native.Mathlib.Nat.{zero-add, not-suc-le-zero, le-of-suc-le-suc}
@@ -8,7 +9,7 @@ use native.Mathlib.Numerals.{add-one}
 use lib.ListN.{length, getD, set, take, drop, length-drop}
 use borrow.Author.Tests.{eq-eqb, ne-eqb, le-leb, lt-leb}
 use lib.Seq.{sets, drop-cons, drop-length, sets-eq, take-at, take-nil, drop-nil, getD-drop}
-use Rattle.word_bytes.specs.Bytes.{wordOf, wordsOf, bytesOf, wordsIn, fitting}
+use Rattle.word_bytes.specs.Bytes.{wordOf, wordsOf, halfWord, bytesOf, wordsIn, fitting}
 
 -- ---- lengths
 
@@ -22,6 +23,15 @@ pub length-bytesOf : (ws : List ℕ) → length (bytesOf ws) ≡ 2 * length ws
 unfolding bytesOf
 length-bytesOf [] = refl
 length-bytesOf (w ∷ ws) = let h : length (bytesOf ws) ≡ 2 * length ws = length-bytesOf ws in omega arith
+
+-- by whether the count is odd
+pub half-left : (bs : List ℕ) (n : ℕ) → length bs ≡ 2 * n + 1 → halfWord bs ≡ true
+unfolding halfWord
+half-left bs n e = eq-eqb (length bs % 2) 1 (omega arith)
+
+pub none-half : (bs : List ℕ) (n : ℕ) → length bs ≡ 2 * n → halfWord bs ≡ false
+unfolding halfWord
+none-half bs n e = ne-eqb (length bs % 2) 1 (λ d. omega arith)
 
 -- ---- a turn of reading
 

@@ -1,5 +1,6 @@
 -- Words as bytes, the low byte first.
 use Prim.Native.Nat.{ℕ, _+_, _*_, _/_, _%_}
+use mathlib.Core.Bool.{Bool}
 use mathlib.Core.List.{List, [], _∷_}
 use lib.Dec.{eqb, leb}
 use lib.ListN.{length}
@@ -14,6 +15,10 @@ unfoldable pub wordsOf : List ℕ → List ℕ
 wordsOf [] = []
 wordsOf (low ∷ []) = []
 wordsOf (low ∷ (high ∷ bs)) = wordOf low high ∷ wordsOf bs
+
+-- whether a last byte stands alone, half of a word
+unfoldable pub halfWord : List ℕ → Bool
+halfWord bs = eqb (length bs % 2) 1
 
 -- the bytes of words
 unfoldable pub bytesOf : List ℕ → List ℕ

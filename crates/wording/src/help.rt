@@ -14,6 +14,9 @@ pub fn help() {
     say(b"desk example --old-sheets FILE LINE\n");
     say(b"                           the same; blanks that may be anything are then a0, and\n");
     say(b"                           else the last symbol\n");
+    say(b"desk walk FILE             every step of the answer, in plain words\n");
+    say(b"desk trail FILE            the steps alone, as a trail: three words for each\n");
+    say(b"desk replay FILE TRAIL     the answer that a trail leads to, whoever wrote it\n");
     say(b"desk day FILE..            a table of many questions: a row for each file\n");
     say(b"desk overlap FILE          which live rules of a sheet can meet\n");
     say(b"\n");

@@ -98,6 +98,24 @@ fn of_line(n: u64) {
     }
 }
 
+// 26 to 28: the trail is not right.
+fn of_trail(n: u64) {
+    match n {
+        26 => explain(
+            b"a step of the trail does not apply",
+            b"Its three words are the place of a rule in the list, the place of a literal, both from 0, and 1 where its sides are swapped, else 0; desk trail writes a trail that applies.",
+        ),
+        27 => explain(
+            b"the trail ends early or within a step",
+            b"Some rule still applies where it ends; desk trail writes a whole one.",
+        ),
+        _ => explain(
+            b"the trail goes on after the end",
+            b"No rule applies any more there: leave out what stands behind.",
+        ),
+    }
+}
+
 fn reason(n: u64) {
     match n {
         1 => explain(
@@ -109,6 +127,7 @@ fn reason(n: u64) {
         11..=13 => of_filling(n),
         14..=16 => of_line(n),
         21 => of_run(n),
+        26..=28 => of_trail(n),
         _ => explain(
             b"no number of the table",
             b"This is a fault of the program.",

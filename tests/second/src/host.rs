@@ -5,7 +5,7 @@ use crate::desk::Desk;
 use crate::example::Ask;
 use crate::overlap::{read_sheet, Meeting, Sheet};
 use crate::request::{words, Request};
-use crate::trail::Trail;
+use crate::trail::{Trail, STEP};
 use crate::words::{Refusal, Refused};
 
 /// What a lent byte holds before a call.
@@ -68,6 +68,11 @@ pub fn call(desk: &Desk, request: &Request, lent: &mut [u8]) -> u32 {
             let trail = Trail { words: &steps, half: trail.len() % 2 == 1 };
             filling_shown(desk.example_with_trail(&words(question), &trail, ask), lent)
         }
+        Request::Step { question, number, step, .. } => {
+            // A number that is no word is the last one.
+            let word = |number: u32| u16::try_from(number).unwrap_or(u16::MAX);
+            one_step(desk, question, word(*number), step.map(word), lent)
+        }
         Request::Example { question, line, old_sheets, .. } => {
             let ask = ask(*line, *old_sheets, lent.len());
             let shown = desk.example(&words(question), ask);
@@ -113,6 +118,28 @@ fn replay(desk: &Desk, question: &[u8], trail: &[u8], answer: &mut [u8]) -> u32 
     let out = desk.replay(&words(question), &trail);
     put(&out.answer, answer);
     out.refusal as u32
+}
+
+/// The results stand at the end of the room, behind zeros; after 7 and more it
+/// is zeros.
+fn one_step(desk: &Desk, question: &[u8], number: u16, step: [u16; STEP], room: &mut [u8]) -> u32 {
+    let whole = desk.limits.answer;
+    if room.len() < 2 * whole {
+        return 1;
+    }
+    match desk.one_step(&words(question), number, step) {
+        Ok(results) => {
+            let begin = whole - results.len();
+            put(&[vec![0; begin], results].concat(), room);
+            SHOWN + begin as u32
+        }
+        Err(refused) => {
+            if refused.number() >= 7 {
+                put(&vec![0; whole], room);
+            }
+            refused.number() as u32
+        }
+    }
 }
 
 /// An odd count of bytes is no sheet, and has no words here.

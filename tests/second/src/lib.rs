@@ -45,6 +45,7 @@ use read::Question;
 use rules::RULES;
 use run::Run;
 pub use trail::Trail;
+use trail::STEP;
 use words::Refusal;
 pub use words::Refused;
 
@@ -95,6 +96,25 @@ impl Desk {
     /// Builds the lines by a trail.
     pub fn replay(&self, question: &[u16], trail: &Trail) -> SolveOut {
         self.answered(question, 0, |question| run::replay(self, question, trail))
+    }
+
+    /// Makes one named step of a question of one conjunction: the results in
+    /// words, each behind its length and a number that is given; or 2 to 6, 3
+    /// too where there is not one conjunction, and then 7, 8, 21 or 26.
+    pub fn one_step(
+        &self,
+        question: &[u16],
+        number: u16,
+        named: [u16; STEP],
+    ) -> Result<Vec<u16>, Refused> {
+        let question = read::question(question, self)?;
+        let [conjunction] = &question.conjunctions[..] else { return Err(Refusal::Count.into()) };
+        let mut words = Vec::new();
+        for result in run::one_step(self, question.declared, conjunction, named)? {
+            words.extend([result.words() as u16, number]);
+            result.write(&mut words);
+        }
+        Ok(words)
     }
 
     /// Reads a question, has it run and writes the answer; so many words are

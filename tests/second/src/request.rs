@@ -1,5 +1,6 @@
 //! A call as a host makes it, and as `../bridge.c` reads it from a pipe.
 
+use crate::trail::STEP;
 use std::io::{Read, Write};
 
 /// A call: what it is given, and how many bytes it is lent to write to.
@@ -17,6 +18,7 @@ pub enum Request {
     SolveTrail { question: Vec<u8>, answer: usize, trail: usize },
     Replay { question: Vec<u8>, trail: Vec<u8>, answer: usize },
     ExampleTrail { question: Vec<u8>, trail: Vec<u8>, line: u32, old_sheets: u32, room: usize },
+    Step { question: Vec<u8>, number: u32, step: [u32; STEP], room: usize },
 }
 
 /// A part of a request in the pipe.
@@ -41,6 +43,7 @@ impl Request {
             Request::SolveTrail { .. } => "solve with a trail",
             Request::Replay { .. } => "replay",
             Request::ExampleTrail { .. } => "example with a trail",
+            Request::Step { .. } => "one step",
         }
     }
 
@@ -52,6 +55,7 @@ impl Request {
             Request::Try { .. } | Request::Place { .. } => 0,
             Request::Example { room, .. }
             | Request::ExampleTrail { room, .. }
+            | Request::Step { room, .. }
             | Request::Day { room, .. }
             | Request::ReadText { room, .. }
             | Request::WriteText { room, .. }
@@ -96,6 +100,10 @@ impl Request {
             Request::ExampleTrail { question, trail, line, old_sheets, room } => {
                 let numbers = [*line, *old_sheets, *room as u32].map(Number);
                 (b'E', [Block(question), Block(trail)].into_iter().chain(numbers).collect())
+            }
+            Request::Step { question, number, step: [rule, literal, side], room } => {
+                let numbers = [*number, *rule, *literal, *side, *room as u32].map(Number);
+                (b'N', [Block(question)].into_iter().chain(numbers).collect())
             }
         }
     }
@@ -156,6 +164,12 @@ impl Request {
                 trail: block(from),
                 line: number(from),
                 old_sheets: number(from),
+                room: number(from) as usize,
+            },
+            b'N' => Request::Step {
+                question: block(from),
+                number: number(from),
+                step: [number(from), number(from), number(from)],
                 room: number(from) as usize,
             },
             _ => panic!("{letter} is no request"),

@@ -4,7 +4,7 @@
 use crate::counts::Counts;
 use crate::desk::Desk;
 use crate::literal::Conjunction;
-use crate::read::Question;
+use crate::read::{Declared, Question};
 use crate::rules::{choose, Choice, Setting, RULES};
 use crate::solved::is_solved;
 use crate::step::step;
@@ -62,6 +62,25 @@ pub fn replay(desk: &Desk, question: &Question, trail: &Trail) -> Result<Run, Re
     match left.is_empty() {
         true => Ok(runner.done),
         false => Err(Refusal::TrailTooLong),
+    }
+}
+
+/// Makes one step of a conjunction, where it applies: its results, or 7, 8, 21
+/// or 26.
+pub fn one_step(
+    desk: &Desk,
+    declared: Declared,
+    conjunction: &Conjunction,
+    named: [u16; STEP],
+) -> Result<Vec<Conjunction>, Refusal> {
+    let setting = Setting { desk: *desk, declared };
+    let counts = Counts::of(conjunction);
+    let choice = Trail::of(&named).next(&setting, conjunction, &counts)?;
+    let results = step(&setting, conjunction, choice)?;
+    let room: usize = results.iter().map(|result| result.words() + desk.beside()).sum();
+    match room > desk.limits.waiting {
+        true => Err(Refusal::WaitingTooLong),
+        false => Ok(results),
     }
 }
 

@@ -104,3 +104,22 @@ fn the_example_by_a_trail() {
     assert_eq!(shown(&trail, 1, 6), Err(14));
     assert_eq!(shown(&trail[..6], 0, 6), Err(27));
 }
+
+/// x = a, x = b: E1 at the second literal leaves b = a; a result stands behind its
+/// length and the number given.
+#[test]
+fn one_step() {
+    let asked = question(1, 0, &[5000, 1000, 0, 3000, 0, 0, 5000, 1000, 0, 3001, 0, 0]);
+    let made = |asked: &[u16], step| desk().one_step(asked, 9, step).map_err(|no| no.number());
+    let (e1, f3) = (Rule::E1 as u16, Rule::F3 as u16);
+    let left = made(&asked, [e1, 1, 0]).expect("a step");
+    assert_eq!(left[..2], [left.len() as u16 - 2, 9]);
+    let next = question(1, 0, &left[2..]);
+    assert_eq!(made(&next, [f3, 0, 1]), Ok(vec![]));
+    assert_eq!(made(&next, [f3, 1, 0]), Err(26));
+    assert_eq!(made(&asked, [e1, 2, 0]), Err(26));
+    assert_eq!(made(&asked, [e1, 1, 2]), Err(26));
+    assert_eq!(made(&asked[..5], [e1, 1, 0]), Err(2));
+    assert_eq!(made(&[4, 1, 0, 0, 0, 6], [e1, 0, 0]), Err(3));
+    assert_eq!(made(&[4, 1, 0, 0, 2, 8, 8, 8], [e1, 0, 0]), Err(3));
+}

@@ -1,7 +1,7 @@
 -- By the parts within the sides.
 use borrow.Author.Needs.{needs}
 use Rattle.plans.proofs.Planned.{by-parts}
-use Rattle.equation_plans.specs.Recipes.{equated}
+use Rattle.equation_recipes.specs.Recipes.{equated}
 use Rattle.equation_plans.proofs.plan_d0.Statement.{statement}
 use Rattle.equation_plans.proofs.plan_d0.Tie as tie
 

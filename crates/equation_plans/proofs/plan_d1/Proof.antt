@@ -4,8 +4,8 @@ use mathlib.Core.Path.{ap, sym, subst, _∙_}
 use Rattle.plans.specs.declared.Within.{Within}
 use Rattle.plans.proofs.Planned.{by-parts}
 use Rattle.views.specs.Standing.{Stands}
-use Rattle.equation_plans.specs.Recipes.{reordered}
-use Rattle.equation_plans.proofs.Unordered.{d1-is}
+use Rattle.equation_recipes.specs.Recipes.{reordered}
+use Rattle.equation_recipes.proofs.Unordered.{d1-is}
 use Rattle.equation_plans.proofs.plan_d1.Statement.{statement}
 use Rattle.equation_plans.proofs.plan_d1.Tie as tie
 

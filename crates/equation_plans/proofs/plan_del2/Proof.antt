@@ -4,7 +4,7 @@ use mathlib.Core.Path.{ap, _∙_}
 use Rattle.plans.specs.declared.Within.{Within}
 use Rattle.plans.proofs.Planned.{by-parts}
 use Rattle.sharing.specs.Shared.{firstShared}
-use Rattle.equation_plans.specs.Recipes.{struckOut}
+use Rattle.equation_recipes.specs.Recipes.{struckOut}
 use Rattle.equation_plans.proofs.plan_del2.Statement.{statement}
 use Rattle.equation_plans.proofs.plan_del2.Tie as tie
 

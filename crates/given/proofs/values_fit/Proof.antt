@@ -7,7 +7,7 @@ use borrow.Author.Needs.{needs}
 use borrow.Author.Tests.{not-true, not-false}
 use Rattle.language.proofs.Walks.{Walk, walk-starts, walk-room, walk-part, walk-on, walk-stops, walk-ends, passing, passes-none, passes-on, passes-fails}
 use Rattle.meaning.specs.Values.{variables}
-use Rattle.reader.specs.Checking.{countsIn}
+use Rattle.header.specs.Heading.{countsIn}
 use Rattle.given.proofs.Forms.{valueTest, all-pass}
 use Rattle.given.proofs.values_fit.Statement.{statement}
 use Rattle.given.proofs.values_fit.Tie as tie

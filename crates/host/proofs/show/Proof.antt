@@ -7,7 +7,7 @@ use lib.ListN.{length, length-take, replicate, length-replicate}
 use lib.Seq.{length-take-le}
 use borrow.Author.Needs.{needs}
 use Rattle.language.specs.Limits.{desk}
-use Rattle.host.proofs.Numbering.{told-as}
+use Rattle.handing.proofs.Handed.{number-as}
 use Rattle.host.proofs.Shows.{example-within, shown-line}
 use Rattle.host.proofs.show.Statement.{statement}
 use Rattle.host.proofs.show.Tie as tie
@@ -40,15 +40,24 @@ write-words-requires c κs =
     let h : c₁ .shown-length .result ≤ length (a .own .now) = example-within (a .question .now) clear clear (a .own .now) _ _ _ (a .line) (a .old) _ long long (c₂ .example .ensures) _ (c₁ .shown-length .ensures) in
     simp length-take (omega arith)
 
+cast-told : tie.Need-cast-told
+cast-told c =
+    let c₁ = c .before .before .before .before .before .before in let c₂ = c₁ .before .before .before .before .before in
+    let c₃ = c₂ .before .before .before .before .before .before .before in
+    let a = c₃ .args in
+    let p = c₃ .pre .0 in
+    let h : c₁ .shown-length .result ≤ length (a .own .now) = example-within (a .question .now) clear clear (a .own .now) _ _ _ (a .line) (a .old) _ long long (c₂ .example .ensures) _ (c₁ .shown-length .ensures) in
+    omega arith
+
 returns : tie.Need-returns
 returns c =
     let c₁ = c .before in let c₂ = c₁ .before .before .before in let c₃ = c₂ .before .before .before in
     let c₄ = c₃ .before .before .before .before .before in let c₅ = c₄ .before .before .before .before .before .before .before in
     let a = c₅ .args in
-    shown-line (a .question .now) clear clear (a .own .now) _ _ _ (a .line) (a .old) _ long long (c₄ .example .ensures) _ _ _ _ (told-as (c .told .ensures) (c₁ .shown-number .ensures) (c₃ .shown-length .ensures)) (c₃ .shown-length .ensures) (c₅ .pre .1) (c₂ .write-words .ensures)
+    shown-line (a .question .now) clear clear (a .own .now) _ _ _ (a .line) (a .old) _ long long (c₄ .example .ensures) _ _ _ _ (number-as (c .told .ensures) (c₁ .shown-number .ensures) (c₃ .shown-length .ensures)) (c₃ .shown-length .ensures) (c₅ .pre .1) (c₂ .write-words .ensures)
 
 pub show-spec : {M : Type 1} → statement M
 show-spec =
     tie.close (tie.spec
     (λ c. search needs) (λ c. search needs) (λ c κs. search needs) (λ c κs. search needs) slice-reshare-prefix-write-words slice-aggregate-write-words
-    write-words-requires (λ c κs. search needs) (λ c κs. search needs) (λ c. search needs) (λ c. search needs) returns)
+    write-words-requires (λ c κs. search needs) cast-told (λ c κs. search needs) (λ c. search needs) (λ c. search needs) returns)

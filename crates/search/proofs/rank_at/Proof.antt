@@ -8,7 +8,7 @@ use Rattle.views.proofs.Sides.{shows-finish}
 use Rattle.views.proofs.LiteralWalks.{at-equation, at-membership}
 use Rattle.search.specs.Seeking.{best, bestAt}
 use Rattle.search.proofs.Finding.{best-swapped, best-written, best-member}
-use Rattle.search.proofs.Seen.{equation-at, membership-at, turned-at}
+use Rattle.literals.proofs.Seen.{equation-at, membership-at, turned-at}
 use Rattle.search.proofs.rank_at.Statement.{statement}
 use Rattle.search.proofs.rank_at.Tie as tie
 

@@ -1,7 +1,7 @@
 -- No lone variable; or one, and whether it is in another membership.
 use mathlib.Core.Path.{ap, _∙_}
 use borrow.Author.Needs.{needs}
-use Rattle.solved.specs.Lone.{loneWord}
+use Rattle.alone.specs.Lone.{loneWord}
 use Rattle.solved.proofs.Memberships.{no-lone, only-here}
 use Rattle.solved.proofs.lone_member.Statement.{statement}
 use Rattle.solved.proofs.lone_member.Tie as tie

@@ -5,7 +5,7 @@ use mathlib.Core.List.{_++_}
 use borrow.Author.Needs.{needs}
 use Rattle.rules.specs.Solved.{solvedLiteral}
 use Rattle.views.proofs.LiteralWalks.{at-equation, at-membership}
-use Rattle.solved.proofs.Sides.{alone-sees}
+use Rattle.alone.proofs.Sides.{alone-sees}
 use Rattle.solved.proofs.Marked.{written-solves, other-solves}
 use Rattle.solved.proofs.solved_literal.Statement.{statement}
 use Rattle.solved.proofs.solved_literal.Tie as tie

@@ -4,7 +4,8 @@ use mathlib.Core.Path.{ap, _∙_}
 use mathlib.Core.List.{map}
 use borrow.Author.Needs.{needs}
 use Rattle.language.specs.Writing.{conjWords}
-use Rattle.steps.proofs.Taken.{took-monomials, took-none, took-as}
+use Rattle.taking.proofs.Taken.{took-none, took-as}
+use Rattle.steps.proofs.Taken.{took-monomials}
 use Rattle.steps.proofs.Asked.{monomials-at, answer-at, fold-at}
 use Rattle.search.proofs.Applied.{results-answer, results-fold, results-clash}
 use Rattle.steps.proofs.Made.{answered-words, folded-words}

@@ -4,7 +4,7 @@ use native.Mathlib.Omega.{arith}
 use lib.ListN.{length}
 use borrow.Author.Needs.{needs}
 use borrow.Author.Tests.{not-true, not-false}
-use Rattle.reader.specs.Checking.{countsIn}
+use Rattle.header.specs.Heading.{countsIn}
 use Rattle.trying.proofs.Scans.{Testing, test-starts, test-here, test-ready, test-fails, test-on, test-ends}
 use Rattle.trying.proofs.meets_all.Statement.{statement}
 use Rattle.trying.proofs.meets_all.Tie as tie

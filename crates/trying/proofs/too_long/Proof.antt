@@ -3,7 +3,7 @@ use Prim.Native.Nat.{_-_}
 use native.Mathlib.Omega.{arith}
 use lib.ListN.{length}
 use borrow.Author.Needs.{needs}
-use Rattle.reader.specs.Checking.{countsIn}
+use Rattle.header.specs.Heading.{countsIn}
 use Rattle.trying.proofs.Scans.{Scanning, scan-starts, scan-here, scan-ready, scan-over, scan-on, scan-ends}
 use Rattle.trying.proofs.too_long.Statement.{statement}
 use Rattle.trying.proofs.too_long.Tie as tie

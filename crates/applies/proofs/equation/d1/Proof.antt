@@ -10,7 +10,7 @@ use Rattle.applies.proofs.equation.d1.Tie as tie
 
 returns : tie.Need-returns
 returns c =
-    let c₁ = c .before in let c₂ = c₁ .before in let c₃ = c₂ .before in let c₄ = c₃ .before in let c₅ = c₄ .before .before .before in
+    let c₁ = c .before in let c₂ = c₁ .before in let c₃ = c₂ .before in let c₄ = c₃ .before in let c₅ = c₄ .before .before in
     λ before behind l r w.
     guarded (c .and2 .ensures) (c₄ .shuffled .ensures before behind l r w)
     (λ y. both (c₁ .and .ensures) (c₃ .child-terms .ensures r _ (side-stands (w .right)) (shuffled-right (c₅ .args .signature) l r (before ++ behind) y)) (ap not (c₂ .children-shared .ensures before behind l r w (shuffled-left (c₅ .args .signature) l r (before ++ behind) y) (shuffled-right (c₅ .args .signature) l r (before ++ behind) y))))

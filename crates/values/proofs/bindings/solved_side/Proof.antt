@@ -1,7 +1,7 @@
 -- The side seen first solves the variable that it is, where that stands nowhere else.
 use mathlib.Core.Path.{_∙_}
 use borrow.Author.Needs.{needs}
-use Rattle.solved.proofs.Sides.{alone-sees}
+use Rattle.alone.proofs.Sides.{alone-sees}
 use Rattle.values.proofs.Looks.{solved-word, unsolved-word}
 use Rattle.values.proofs.bindings.solved_side.Statement.{statement}
 use Rattle.values.proofs.bindings.solved_side.Tie as tie

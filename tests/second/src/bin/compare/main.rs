@@ -4,7 +4,9 @@
 //!
 //!     compare CASES SEED COMMAND..    COMMAND starts the bridge to the proved desk
 //!
-//! A seed is a number, and `-` is the seed of every day.
+//! CASES is how many, or FROM..TO of them, so that several can share them out;
+//! the worked answers come with the first case. A seed is a number, and `-` is
+//! the seed of every day.
 
 mod random;
 mod tally;
@@ -21,7 +23,11 @@ use tally::Tally;
 
 fn compare() -> ExitCode {
     let args: Vec<String> = std::env::args().skip(1).collect();
-    let count: u64 = args[0].parse().expect("a number of cases");
+    let number = |text: &str| -> u64 { text.parse().expect("a number of cases") };
+    let (from, to) = match args[0].split_once("..") {
+        Some((from, to)) => (number(from), number(to)),
+        None => (0, number(&args[0])),
+    };
     let seed: u64 = match args[1].as_str() {
         "-" => SEED,
         number => number.parse().expect("a seed"),
@@ -33,11 +39,13 @@ fn compare() -> ExitCode {
         failed: 0,
         gave: BTreeMap::new(),
     };
-    for folder in proved::worked_folders() {
-        worked::asked(&mut tally, &folder);
+    if from == 0 {
+        for folder in proved::worked_folders() {
+            worked::asked(&mut tally, &folder);
+        }
+        println!("worked answers: {} compared", tally.passed + tally.failed);
     }
-    println!("worked answers: {} compared", tally.passed + tally.failed);
-    for index in 0..count {
+    for index in from..to {
         random::random_case(&mut tally, seed, index);
         if proved::knows(9) && index % 50 == 0 {
             random::random_day(&mut tally, seed, index);
@@ -52,7 +60,7 @@ fn compare() -> ExitCode {
             random::random_text(&mut tally, seed, index);
         }
     }
-    println!("random cases: {count}, seed {seed}");
+    println!("random cases: {}, seed {seed}", to - from);
     for (call, counts) in &tally.gave {
         let shown: Vec<String> = counts.iter().map(|(n, times)| format!("{n}: {times}")).collect();
         println!("{call} gave {}", shown.join(", "));

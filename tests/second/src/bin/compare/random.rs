@@ -1,7 +1,7 @@
 //! Random cases.
 
 use second::gen::random::Random;
-use second::gen::{self, case, days, overlaps, texts};
+use second::gen::{self, case, days, overlaps, texts, trails};
 use second::host::{self, LENT, SHOWN};
 use second::overlap::RULES_MOST;
 use second::proved;
@@ -54,6 +54,9 @@ pub fn random_case(tally: &mut Tally, seed: u64, index: u64) {
         tally.both(&name, example(&question, ask.line as u32, room));
     }
     with_trails(tally, &name, &case, &mut random);
+    if proved::knows(11) {
+        with_steps(tally, &name, &case.question, &mut random);
+    }
     if random.chance(1, 8) {
         tally.both(&name, example(&question, random.pick(&[512, 65_536, u32::MAX]), 100));
     }
@@ -87,6 +90,25 @@ fn with_trails(tally: &mut Tally, name: &str, case: &gen::Case, random: &mut Ran
             let (question, trail, room) = (question.clone(), trail.clone(), 2 * ask.room);
             tally.both(name, Request::ExampleTrail { question, trail, line, old_sheets, room });
         }
+    }
+}
+
+/// Named steps along a walk, in rooms that are long enough and not, now and then
+/// with numbers that are no words and half a word behind the question.
+fn with_steps(tally: &mut Tally, name: &str, question: &[u16], random: &mut Random) {
+    let whole = 2 * tally.desk.limits.answer;
+    for (question, step) in trails::walk(random, &tally.desk, question) {
+        let mut question = bytes(&question);
+        let mut step = step.map(u32::from);
+        let number = random.pick(&[0, 1, 15, 65_535, 65_536, u32::MAX]);
+        let room = random.pick(&[whole, whole, whole, whole, whole + 1, whole + 9, whole - 1]);
+        if random.chance(1, 10) {
+            step[random.below(3)] += 65_536;
+        }
+        if random.chance(1, 20) {
+            question.push(0);
+        }
+        tally.both(name, Request::Step { question, number, step, room });
     }
 }
 

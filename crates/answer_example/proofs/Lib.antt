@@ -1,0 +1,4 @@
+pub mod Lines
+pub mod Defaults
+pub mod Reading
+pub mod Determined

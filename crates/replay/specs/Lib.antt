@@ -1,0 +1,3 @@
+pub mod Trail
+pub mod Replay
+pub mod Calls

@@ -1,0 +1,1 @@
+// Trails and their replay, over the definitions: nothing here runs yet.

@@ -1,0 +1,12 @@
+pub mod Lengths
+pub mod Going
+pub mod Left
+pub mod Choosing
+pub mod Trails
+pub mod Advancing
+pub mod Gone
+pub mod Asked
+pub mod Told
+pub mod Ending
+pub mod Calling
+pub mod Determined

@@ -1,0 +1,5 @@
+pub mod Running
+pub mod Courses
+pub mod Turning
+pub mod Leaves
+pub mod Calling

@@ -1,0 +1,27 @@
+// A question solved. The command prints and says its status: it returns nothing.
+use files::load;
+use files::status::failed;
+use language::limits::QUESTION;
+use language::limits::ROOM;
+use replies::solved;
+
+fn solve<'a>(question: &'a [u16], text: &'a [u8], i: usize) {
+    let mut work = [0u16; ROOM];
+    let mut answer = [0u16; ROOM];
+    let s = solver::solve(question, &mut work, &mut answer);
+    solved(s, question, &answer, text, i);
+}
+
+// The lines of the question in the file that argument `i` names.
+pub fn solve_file(i: usize) {
+    let mut buf = io::large_buffer();
+    let mut words = [0u16; 2 * QUESTION];
+    let t = load(i, &mut buf, &mut words);
+    let n = t.words;
+    let m = t.bytes;
+    if !t.fine {
+        failed();
+        return;
+    }
+    solve(&words[0..n], &buf[0..m], i);
+}

@@ -1,0 +1,4 @@
+pub mod Sizing
+pub mod Taken
+pub mod Numbered
+pub mod One

@@ -1,0 +1,4 @@
+pub mod Fitting
+pub mod Finished
+pub mod Retraced
+pub mod Determined

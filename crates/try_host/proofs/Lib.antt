@@ -1,0 +1,4 @@
+pub mod Fitting
+pub mod Tries
+pub mod Places
+pub mod Determined
