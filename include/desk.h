@@ -20,7 +20,7 @@
 extern "C" {
 #endif
 
-/* Why a call refuses. A refusal comes back as its number, 1 to 16, 21 to 23 or 26 to 29. */
+/* Why a call refuses. A refusal comes back as its number, 1 to 23 or 26 to 29. */
 enum desk_refusal {
     DESK_SHORT_SLICE = 1,      /* the answer, or a step's room, has under DESK_ANSWER_BYTES bytes */
     DESK_QUESTION_LENGTH = 2,  /* question: an odd count of bytes, under 6 or over 4,096 words */
@@ -38,6 +38,10 @@ enum desk_refusal {
     DESK_NO_SUCH_LINE = 14,    /* example: no such line; the first is 0 */
     DESK_OPEN_LINE = 15,       /* example: the line is open */
     DESK_LONG_EXAMPLE = 16,    /* example: longer than the room lent or than 4,096 words */
+    DESK_NOT_TEXT = 17,        /* reading a text: it is none */
+    DESK_MANY_NAMES = 18,      /* reading a text: over 128 names of one sort, or over 16 lines */
+    DESK_LONG_TEXT = 19,       /* reading a text: over 4,096 words or past the room; writing one: past the room */
+    DESK_OTHER_NUMBERS = 20,   /* writing a text: the question is numbered or counted otherwise than a text is */
     DESK_LONG_WALK = 21,       /* run: two shape tests of one variable lead to over 4,096 pairs of expressions */
     DESK_SHEET_LAYOUT = 22,    /* day: an odd count of bytes, over 64 questions, or an offset out of place */
     DESK_LONG_ANSWERS = 23,    /* day: the answers do not fit the room lent */
@@ -194,6 +198,33 @@ uint32_t desk_step(const uint8_t *question, size_t question_len, uint32_t number
  * which is given before any solving, the room is unchanged; after 23 each of its
  * words is 0, and an odd last byte is unchanged. */
 uint32_t desk_day(const uint8_t *sheet, size_t sheet_len, uint8_t *room, size_t room_len);
+
+/* desk_write_text gives this and the text's length in bytes, desk_read_text this
+ * and the question's length in words. Every number below is a refusal. A room of
+ * DESK_TEXT_BYTES is never too short for a text, and one of DESK_QUESTION_BYTES
+ * never for a question. docs/TEXT.md says what a text is. */
+#define DESK_TEXT 100
+#define DESK_TEXT_BYTES 53296
+
+/* Writes a question as a text to the start of the room, and gives DESK_TEXT plus
+ * its length in bytes; or why not: 2 to 6, then 20 where its numbers are not in
+ * the order of first appearance, or it declares something that does not appear or
+ * a symbol as unordered, then 19 where the text is longer than the room. The room
+ * takes plain bytes, with no 0 behind them. After a refusal it is unchanged; bytes
+ * behind the text are never touched. */
+uint32_t desk_write_text(const uint8_t *question, size_t question_len,
+                         uint8_t *room, size_t room_len);
+
+/* Reads a text, of plain bytes and of any length, and writes the words of its
+ * question to the start of the room. Gives DESK_TEXT plus their number; or why
+ * not: 17 where it is not a text, then 18 where it has more names of one sort or
+ * more lines than a question can have, then 19 where the words are more than a
+ * question can have or than the room. After a refusal the room is unchanged; bytes
+ * behind the words, and an odd last byte, are never touched. The words are a
+ * question that no call refuses with 2 to 6. What desk_write_text wrote is read
+ * back as the same words. */
+uint32_t desk_read_text(const uint8_t *text, size_t text_len,
+                        uint8_t *room, size_t room_len);
 
 #ifdef __cplusplus
 }

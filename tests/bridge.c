@@ -48,6 +48,7 @@
 #define LANDED_7
 #define LANDED_10
 #define LANDED_11
+#define LANDED_2
 
 #ifdef LANDED_10
 #include "overlap.h"

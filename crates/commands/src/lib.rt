@@ -11,6 +11,8 @@ use overlap_table::overlap_file;
 use print::warn;
 use replay_command::replay_file;
 use solve_command::solve_file;
+use text_commands::text_file;
+use text_commands::words_file;
 use try_command::try_file;
 use walk_commands::trail_file;
 use walk_commands::walk_file;
@@ -103,6 +105,26 @@ fn overlap_asked(i: usize)
     wrong_use(b"overlap takes a file, with a sheet of live rules");
 }
 
+fn text_asked(i: usize)
+    requires { ⌜ i < 9 ⌝ }
+{
+    if is_last(i + 1) {
+        text_file(i + 1);
+        return;
+    }
+    wrong_use(b"text takes a file");
+}
+
+fn words_asked(i: usize)
+    requires { ⌜ i < 9 ⌝ }
+{
+    if is_last(i + 1) {
+        words_file(i + 1);
+        return;
+    }
+    wrong_use(b"words takes a file");
+}
+
 // What asks for no question.
 fn other_asked(i: usize) {
     if is(i, b"--help") {
@@ -122,7 +144,22 @@ fn other_asked(i: usize) {
     warn(b"desk: no command ");
     warn_of(i);
     warn(b"\n");
-    wrong_use(b"the commands are solve, try, example, walk, trail, replay, day and overlap");
+    wrong_use(
+        b"the commands are solve, try, example, walk, trail, replay, day, overlap, text and words",
+    );
+}
+
+// What asks for another form of a question, and all else.
+fn form_asked(i: usize)
+    requires { ⌜ i < 9 ⌝ }
+{
+    if is(i, b"text") {
+        text_asked(i);
+    } else if is(i, b"words") {
+        words_asked(i);
+    } else {
+        other_asked(i);
+    }
 }
 
 // What asks for the steps of an answer, and all else.
@@ -136,7 +173,7 @@ fn steps_asked(i: usize)
     } else if is(i, b"replay") {
         replay_asked(i);
     } else {
-        other_asked(i);
+        form_asked(i);
     }
 }
 

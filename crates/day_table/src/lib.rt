@@ -1,7 +1,7 @@
 // A day's questions, file by file: a table with a row for each, and on a terminal how far that is.
 use files::arguments::say_of;
 use files::arguments::warn_of;
-use files::load;
+use files::load_question;
 use files::status::failed;
 use files::status::found;
 use language::limits::QUESTION;
@@ -89,10 +89,10 @@ fn solve_row(question: &[u16], r: Place) -> bool {
 fn row(r: Place) -> bool {
     let mut buf = io::large_buffer();
     let mut words = [0u16; 2 * QUESTION];
-    let t = load(r.file, &mut buf, &mut words);
+    let t = load_question(r.file, &mut buf, &mut words);
     if !t.fine {
         name(r);
-        unread_row();
+        unread_row(t.number);
         return false;
     }
     let n = t.words;

@@ -1,13 +1,13 @@
 // An example shown. The command prints and says its status: it returns nothing.
 use files::arguments::wrong_use;
-use files::load;
-use files::status::failed;
+use files::load_question;
 use files::status::found;
 use language::limits::FILLING;
 use language::limits::QUESTION;
 use language::limits::ROOM;
 use outcomes::Shown;
 use prompt::parse;
+use replies::no_question;
 use replies::refuse;
 use wording::answer::filling;
 
@@ -58,11 +58,11 @@ fn show_line<'a>(question: &'a [u16], old: bool, text: &'a [u8], i: usize, j: us
 pub fn example_file(i: usize, j: usize, old: bool) {
     let mut buf = io::large_buffer();
     let mut words = [0u16; 2 * QUESTION];
-    let t = load(i, &mut buf, &mut words);
+    let t = load_question(i, &mut buf, &mut words);
     let n = t.words;
     let m = t.bytes;
     if !t.fine {
-        failed();
+        no_question(t.number, &buf[0..m], i);
         return;
     }
     show_line(&words[0..n], old, &buf[0..m], i, j);

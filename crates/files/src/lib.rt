@@ -1,4 +1,4 @@
-// What the operating system gives the desk at its prompt: arguments, and words from a file, or from standard input where its name is -.
+// What the operating system gives the desk at its prompt: arguments, and words or a text from a file, or from standard input where its name is -.
 // No contract can say what that is (docs/PROMISES.md); what is proved is that it fits and that reading it ends.
 ghost use Prim.Native.Nat.{_≤_};
 ghost use mathlib.Core.Path.{_≡_};
@@ -7,9 +7,12 @@ ghost use lib.ListN.{length};
 pub mod arguments;
 pub mod status;
 
+use language::Refusal;
 use print::warn;
 use print::warn_number;
 use prompt::parse;
+use read_text::Reading;
+use read_text::read_text;
 
 // More bytes than a file may have: as many as there is room for, and one more.
 const TOO_MANY: usize = 65536;
@@ -88,11 +91,123 @@ fn fetch(i: usize, buf: &mut [u8]) -> usize {
     got
 }
 
-// Whether a file was read, and how many bytes and words it has.
+// How many words were taken from some bytes. Where none could be, the number of a refusal, or 0 where the reason is said.
+struct Taken {
+    fine: bool,
+    number: u16,
+    words: usize,
+}
+
+fn not_taken(number: u16) -> Taken
+    ensures { λ r. ⌜ r .words ≡ 0 ⌝ }
+{
+    Taken {
+        fine: false,
+        number,
+        words: 0,
+    }
+}
+
+// The first bytes of a buffer.
+fn first<'a>(buf: &'a [u8], n: usize) -> &'a [u8] {
+    if n <= buf.len() {
+        return &buf[0..n];
+    }
+    buf
+}
+
+// Words in decimal, from the file of argument `i`.
+fn in_decimal(i: usize, buf: &[u8], n: usize, words: &mut [u16]) -> Taken
+    ensures { λ r. ⌜ r .words ≤ length (now (words .exit)) ⌝ }
+{
+    let t = parse(first(buf, n), words);
+    if t.line != 0 {
+        complain(i, t.line, t.column);
+        return not_taken(0);
+    }
+    Taken {
+        fine: true,
+        number: 0,
+        words: t.words,
+    }
+}
+
+fn refused(r: Refusal) -> Taken
+    ensures { λ t. ⌜ t .words ≡ 0 ⌝ }
+{
+    not_taken(refusals::number(r))
+}
+
+// So many words, where there is room for them.
+fn given(n: usize, room: usize) -> Taken
+    ensures { λ r. ⌜ r .words ≤ room ⌝ }
+{
+    if room < n {
+        return not_taken(0);
+    }
+    Taken {
+        fine: true,
+        number: 0,
+        words: n,
+    }
+}
+
+// The words of the question that a text is.
+fn in_a_text(buf: &[u8], n: usize, words: &mut [u16]) -> Taken
+    ensures { λ r. ⌜ r .words ≤ length (now (words .exit)) ⌝ }
+{
+    match read_text(first(buf, n), words) {
+        Reading::Given(m) => given(m, words.len()),
+        Reading::Refused(r) => refused(r),
+    }
+}
+
+// Whether a byte stands among words, outside remarks.
+fn is_plain(b: u8) -> bool {
+    match b {
+        b'0'..=b'9' => true,
+        b' ' => true,
+        b'\t' => true,
+        b'\r' => true,
+        b'\n' => true,
+        _ => false,
+    }
+}
+
+// Whether a file is a text: the first byte that is no digit, blank or line end does not begin a remark, which only words have.
+fn holds_text(buf: &[u8], n: usize) -> bool {
+    let bytes = first(buf, n);
+    let mut i = 0;
+    while i < bytes.len() {
+        let b = bytes[i];
+        if !is_plain(b) {
+            return b != b'#';
+        }
+        i += 1;
+    }
+    false
+}
+
+// What was read of a file: how many bytes, how many words they came to, and whether they were a text. Where they came to none, the number of the
+// refusal, or 0 where the reason is said already.
 pub struct Loaded {
     pub fine: bool,
+    pub number: u16,
+    pub is_text: bool,
     pub bytes: usize,
     pub words: usize,
+}
+
+fn read_of(bytes: usize, is_text: bool, t: Taken) -> Loaded
+    ensures { λ r. ⌜ (r .bytes ≡ bytes) × (r .words ≡ t .words) ⌝ }
+{
+    Loaded {
+        fine: t.fine,
+        number: t.number,
+        is_text,
+        bytes,
+        words: t.words,
+    }
 }
 
 fn not_loaded() -> Loaded
@@ -100,6 +215,8 @@ fn not_loaded() -> Loaded
 {
     Loaded {
         fine: false,
+        number: 0,
+        is_text: false,
         bytes: 0,
         words: 0,
     }
@@ -113,14 +230,22 @@ pub fn load(i: usize, buf: &mut [u8], words: &mut [u16]) -> Loaded
     if buf.len() < n {
         return not_loaded();
     }
-    let t = parse(&buf[0..n], words);
-    if t.line != 0 {
-        complain(i, t.line, t.column);
+    let t = in_decimal(i, buf, n, words);
+    read_of(n, false, t)
+}
+
+// The same of a question, which may be a text.
+pub fn load_question(i: usize, buf: &mut [u8], words: &mut [u16]) -> Loaded
+    ensures { λ r. ⌜ (r .bytes ≤ length (now (buf .exit))) × (r .words ≤ length (now (words .exit))) ⌝ }
+{
+    let n = fetch(i, buf);
+    if buf.len() < n {
         return not_loaded();
     }
-    Loaded {
-        fine: true,
-        bytes: n,
-        words: t.words,
+    if holds_text(buf, n) {
+        let t = in_a_text(buf, n, words);
+        return read_of(n, true, t);
     }
+    let t = in_decimal(i, buf, n, words);
+    read_of(n, false, t)
 }

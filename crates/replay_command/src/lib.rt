@@ -2,6 +2,7 @@
 ghost use Prim.Native.Nat.{_≤_};
 ghost use lib.ListN.{length};
 use files::load;
+use files::load_question;
 use files::status::failed;
 use language::Refusal;
 use language::limits::QUESTION;
@@ -12,6 +13,7 @@ use print::warn;
 use print::warn_number;
 use refusals::number;
 use replayer::replay;
+use replies::no_question;
 use replies::refuse;
 use replies::solved;
 use word_bytes::write_words;
@@ -172,11 +174,11 @@ fn replay_trail<'a>(question: &'a [u16], text: &'a [u8], i: usize, j: usize) {
 pub fn replay_file(i: usize, j: usize) {
     let mut buf = io::large_buffer();
     let mut words = [0u16; 2 * QUESTION];
-    let t = load(i, &mut buf, &mut words);
+    let t = load_question(i, &mut buf, &mut words);
     let n = t.words;
     let m = t.bytes;
     if !t.fine {
-        failed();
+        no_question(t.number, &buf[0..m], i);
         return;
     }
     replay_trail(&words[0..n], &buf[0..m], i, j);

@@ -8,8 +8,12 @@ use language::Refusal;
 use mistakes::mistake;
 use outcomes::Outcome;
 use outcomes::Solved;
+use text_places::not_text;
 use wording::answer::answered;
 use wording::reasons::refusal;
+
+// The number of the refusal of what is no text.
+const NOT_TEXT: u16 = 17;
 
 fn wide(n: u16) -> u64 {
     n as u64
@@ -21,6 +25,18 @@ pub fn refuse<'a>(r: Refusal, question: &'a [u16], text: &'a [u8], i: usize) {
     if refusals::place(r) != 0 {
         name_of(i);
         mistake(r, question, text);
+    }
+    failed();
+}
+
+// Says why a file has no question: a text that is refused by this number, or for a reason that is said already.
+pub fn no_question(number: u16, text: &[u8], i: usize) {
+    if number != 0 {
+        refusal(wide(number));
+        if number == NOT_TEXT {
+            name_of(i);
+            not_text(text);
+        }
     }
     failed();
 }

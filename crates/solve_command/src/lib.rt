@@ -1,8 +1,8 @@
 // A question solved. The command prints and says its status: it returns nothing.
-use files::load;
-use files::status::failed;
+use files::load_question;
 use language::limits::QUESTION;
 use language::limits::ROOM;
+use replies::no_question;
 use replies::solved;
 
 fn solve<'a>(question: &'a [u16], text: &'a [u8], i: usize) {
@@ -16,11 +16,11 @@ fn solve<'a>(question: &'a [u16], text: &'a [u8], i: usize) {
 pub fn solve_file(i: usize) {
     let mut buf = io::large_buffer();
     let mut words = [0u16; 2 * QUESTION];
-    let t = load(i, &mut buf, &mut words);
+    let t = load_question(i, &mut buf, &mut words);
     let n = t.words;
     let m = t.bytes;
     if !t.fine {
-        failed();
+        no_question(t.number, &buf[0..m], i);
         return;
     }
     solve(&words[0..n], &buf[0..m], i);

@@ -1,5 +1,6 @@
 // A filling tried. The command prints and says its status: it returns nothing.
 use files::load;
+use files::load_question;
 use files::status::failed;
 use files::status::found;
 use files::status::nothing;
@@ -8,6 +9,7 @@ use language::limits::QUESTION;
 use language::limits::ROOM;
 use outcomes::Tried;
 use print::say;
+use replies::no_question;
 use replies::refuse;
 
 fn tell<'a>(t: Tried, question: &'a [u16], text: &'a [u8], i: usize) {
@@ -47,11 +49,11 @@ fn try_values<'a>(question: &'a [u16], text: &'a [u8], i: usize, j: usize) {
 pub fn try_file(i: usize, j: usize) {
     let mut buf = io::large_buffer();
     let mut words = [0u16; 2 * QUESTION];
-    let t = load(i, &mut buf, &mut words);
+    let t = load_question(i, &mut buf, &mut words);
     let n = t.words;
     let m = t.bytes;
     if !t.fine {
-        failed();
+        no_question(t.number, &buf[0..m], i);
         return;
     }
     try_values(&words[0..n], &buf[0..m], i, j);

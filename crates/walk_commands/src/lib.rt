@@ -1,6 +1,5 @@
 // A question's trail: walked through, or written. The commands print and say their status: they return nothing.
-use files::load;
-use files::status::failed;
+use files::load_question;
 use files::status::found;
 use files::status::nothing;
 use language::limits::QUESTION;
@@ -8,6 +7,7 @@ use language::limits::ROOM;
 use language::limits::STEPS;
 use outcomes::Outcome;
 use outcomes::Solved;
+use replies::no_question;
 use replies::refuse;
 use trails::solve_trail;
 use walks::walk;
@@ -80,11 +80,11 @@ fn with_trail<'a>(question: &'a [u16], walks: bool, text: &'a [u8], i: usize) {
 fn with_question(walks: bool, i: usize) {
     let mut buf = io::large_buffer();
     let mut words = [0u16; 2 * QUESTION];
-    let t = load(i, &mut buf, &mut words);
+    let t = load_question(i, &mut buf, &mut words);
     let n = t.words;
     let m = t.bytes;
     if !t.fine {
-        failed();
+        no_question(t.number, &buf[0..m], i);
         return;
     }
     with_trail(&words[0..n], walks, &buf[0..m], i);

@@ -82,7 +82,7 @@ fn decimal(w: u16, i: usize) {
 }
 
 // Words in decimal, in a row.
-fn words(ws: &[u16]) {
+pub fn words(ws: &[u16]) {
     let mut i = 0;
     while i < ws.len() {
         decimal(ws[i], i);

@@ -19,9 +19,12 @@ pub fn help() {
     say(b"desk replay FILE TRAIL     the answer that a trail leads to, whoever wrote it\n");
     say(b"desk day FILE..            a table of many questions: a row for each file\n");
     say(b"desk overlap FILE          which live rules of a sheet can meet\n");
+    say(b"desk text FILE             a question as a text\n");
+    say(b"desk words FILE            a question as words in decimal\n");
     say(b"\n");
-    say(b"A file holds words in decimal; # begins a remark, and - is standard input.\n");
-    say(b"The folder examples has some questions.\n");
+    say(b"A file holds words in decimal; # begins a remark, and - is standard input. A\n");
+    say(b"question may be a text instead, as docs/TEXT.md says. The folder examples has\n");
+    say(b"some questions.\n");
     say(b"\n");
     say(b"In an answer x0 is a blank for one part, p0 for a run of parts, X0 for a name;\n");
     say(b"a0 is a symbol, a1~ one whose parts come in any order, () no part at all. In a\n");

@@ -98,6 +98,28 @@ fn of_line(n: u64) {
     }
 }
 
+// 17 to 20: the text is not right, or the question has none.
+fn of_text(n: u64) {
+    match n {
+        17 => explain(
+            b"it is not a text of the grammar",
+            b"docs/TEXT.md says what a text is: names, ?one *run %name, = and in, commas and round brackets, one alternative to a line.",
+        ),
+        18 => explain(
+            b"the text has more names of one kind, or more lines, than a question can count",
+            b"Ask in several questions: 128 names of each kind, 16 lines.",
+        ),
+        19 => explain(
+            b"it is longer than a question may be, or than the room",
+            b"Ask a smaller question.",
+        ),
+        _ => explain(
+            b"the question is numbered or counted otherwise than a text would be",
+            b"Number the names of each kind in the order in which they first stand in the words, and declare only those.",
+        ),
+    }
+}
+
 // 26 to 28: the trail is not right.
 fn of_trail(n: u64) {
     match n {
@@ -126,6 +148,7 @@ fn reason(n: u64) {
         7..=10 => of_run(n),
         11..=13 => of_filling(n),
         14..=16 => of_line(n),
+        17..=20 => of_text(n),
         21 => of_run(n),
         26..=28 => of_trail(n),
         _ => explain(

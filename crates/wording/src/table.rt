@@ -81,7 +81,13 @@ pub fn outcome_row(s: Solved) {
     }
 }
 
-// A row of a file that was not read, behind its name.
-pub fn unread_row() {
-    say(b"not read\n");
+// A row of a file that came to no question, behind its name: a text that is refused by this number, or, where it is 0, a file that was not read.
+pub fn unread_row(n: u16) {
+    if n == 0 {
+        say(b"not read\n");
+        return;
+    }
+    say(b"refused  number ");
+    number(n as u64);
+    say(b"\n");
 }

@@ -7,7 +7,8 @@ use crate::literal::Claim;
 use crate::read;
 use crate::tree::{Functor, Hedge, Item};
 use crate::words::{
-    classify, Word, FUNCTION_VARIABLE, HEDGE_VARIABLE, KIND_MOST, SYMBOL, TERM_VARIABLE,
+    classify, Word, CONJUNCTIONS_MOST, FUNCTION_VARIABLE, HEDGE_VARIABLE, KIND_MOST, SYMBOL,
+    TERM_VARIABLE,
 };
 
 /// A question with its numbers in order of first appearance and counted by
@@ -202,6 +203,27 @@ impl Speller<'_> {
             _ => self.choice(expression),
         }
     }
+}
+
+/// A text with about as many names of a kind, lines or words as a question may
+/// have.
+pub fn large(random: &mut Random, desk: &Desk) -> Vec<u8> {
+    let about = |random: &mut Random, most: usize| random.range(most - 2, most + 2);
+    if random.chance(1, 5) {
+        return b"()\n".repeat(about(random, CONJUNCTIONS_MOST as usize));
+    }
+    let mark = random.pick(&["", "?", "*", "%"]);
+    if random.chance(1, 2) {
+        let count = about(random, desk.limits.kind as usize);
+        let names: Vec<String> = (0..count).map(|number| format!("{mark}n{number}")).collect();
+        return format!("({}) = ()", names.join(",")).into_bytes();
+    }
+    // the header, the offsets, the equation and the ends of its sides
+    let words = about(random, desk.limits.question) - 10;
+    let each = if matches!(mark, "?" | "*") { 1 } else { 2 };
+    let mut names = vec![format!("{mark}n"); words / each];
+    names.resize(names.len() + words % each, String::from("?m"));
+    format!("({}) = ()", names.join(",")).into_bytes()
 }
 
 /// Changes a text in one or two places.

@@ -192,6 +192,12 @@ pub fn random_text(tally: &mut Tally, seed: u64, index: u64) {
         }
         texts::damage(&mut random, &mut text);
     }
+    if random.chance(1, 20) {
+        let text = texts::large(&mut random, &tally.desk);
+        for room in [8192, 8191, 1 << 14] {
+            tally.both(&name, Request::ReadText { text: text.clone(), room });
+        }
+    }
 }
 
 /// Has a question written, in rooms that the text fits and does not fit.
@@ -207,6 +213,8 @@ pub fn written(tally: &mut Tally, name: &str, question: &[u16]) {
     let mut whole = lent.clone();
     whole.truncate(length);
     tally.expect(name, &write(length), number, &whole);
+    let read = Request::ReadText { text: whole, room: 2 * question.len() };
+    tally.expect(name, &read, SHOWN + question.len() as u32, &bytes(question));
     if let Some(short) = length.checked_sub(1) {
         tally.expect(name, &write(short), 19, &vec![LENT; short]);
     }

@@ -1,0 +1,3 @@
+pub mod Sides
+pub mod Shapes
+pub mod Filling

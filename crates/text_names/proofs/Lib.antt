@@ -1,0 +1,4 @@
+pub mod Letters
+pub mod Shelving
+pub mod Words
+pub mod Determined

@@ -1,0 +1,11 @@
+pub mod Hedges
+pub mod Expressions
+pub mod Readings
+pub mod Tables
+pub mod Numbers
+pub mod Lexing
+pub mod Writing
+pub mod RoundTrip
+pub mod Accepted
+pub mod Examples
+pub mod Refusing

@@ -1,0 +1,5 @@
+pub mod Parsing
+pub mod Texts
+pub mod Numbering
+pub mod Writer
+pub mod Outcomes

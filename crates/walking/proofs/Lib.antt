@@ -1,0 +1,4 @@
+pub mod Tokens
+pub mod Elements
+pub mod Wholes
+pub mod Determined

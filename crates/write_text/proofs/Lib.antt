@@ -1,0 +1,10 @@
+pub mod Laid
+pub mod Words
+pub mod Shaping
+pub mod Siding
+pub mod Counting
+pub mod Joining
+pub mod Lining
+pub mod Verdicts
+pub mod Bounds
+pub mod Determined
