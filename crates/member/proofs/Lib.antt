@@ -9,5 +9,7 @@ pub mod Moves
 pub mod Runs
 pub mod Asking
 pub mod Shuffling
+pub mod Joining
+pub mod Crowding
 pub mod Words
 pub mod Determined

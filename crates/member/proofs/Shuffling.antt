@@ -1,6 +1,6 @@
 -- Under an unordered symbol: the terms go to their kinds, one after another, and at the end the kinds are shared out.
 use Prim.Native.Nat.{ℕ, _+_, _-_, _*_, _<_, _≤_}
-use mathlib.Core.Path.{_≡_, refl, sym, _∙_, ap}
+use mathlib.Core.Path.{_≡_, refl, _∙_}
 use mathlib.Core.Logic.{_⊎_, inl, inr, _↔_}
 use mathlib.Core.Bool.{Bool, true, false}
 use mathlib.Core.List.{List, [], _∷_, _++_}
@@ -10,36 +10,29 @@ use lib.ListN.{length, getD, set, length-set}
 use lib.Seq.{getD-set-same, getD-set-other}
 use Rattle.language.specs.declared.Sym.{Sym}
 use Rattle.language.specs.declared.Signature.{Signature}
-use Rattle.language.specs.Limits.{desk}
-use Rattle.language.specs.Trees.{Expr, eps, cat, alt, star, over}
+use Rattle.language.specs.Trees.{Expr}
 use Rattle.meaning.specs.Complete.{Complete, nil, tree}
 use Rattle.rules.specs.Each.{Each}
 use Rattle.rules.proofs.Each.{each-++}
-use Rattle.rules.proofs.Tests.{test-true}
-use Rattle.any_order.specs.Places.{sizeE, At, at-eps, at-cat, at-alt, at-star, at-over, Expression}
-use Rattle.any_order.specs.Sharing.{Counts, bump, Kind, In, Rest, Good, none, Recorded, Records, Ascending, total}
+use Rattle.any_order.specs.Places.{sizeE, At, Expression}
+use Rattle.any_order.specs.Sharing.{bump, Kind, In, Rest, Good, none, Recorded, Records, Ascending, total}
 use Rattle.any_order.specs.Searching.{Asked, Shared}
-use Rattle.any_order.proofs.Shares.{Like, Respects, good-like}
+use Rattle.any_order.proofs.Shares.{Respects, good-like}
 use Rattle.any_order.proofs.Ranges.{not-both}
-use Rattle.any_order.proofs.Recording.{records-le}
-use Rattle.any_order.proofs.Placing.{in-at}
-use Rattle.member.specs.declared.Seen.{Seen}
 use Rattle.member.specs.declared.Fitted.{Fitted}
 use Rattle.member.specs.declared.Joined.{Joined}
 use Rattle.member.specs.declared.Tried.{Tried}
 use Rattle.member.specs.Marks.{tests, ofTerm}
-use Rattle.member.specs.Leaves.{Leaf, Fits, Terms}
-use Rattle.passing.specs.Places.{sizeC, Holds, Hedge, Term, Skipped, Beside}
-use Rattle.member.specs.Places.{Looked}
-use Rattle.member.specs.Gathering.{rowOf, Lists, Spared, Inner, Kinds, Scene, Spacious, Lent, Gathered, Answered, FittedAll, Shuffles, ShufflesBy, Raised, Found, Countable, Joins, Undoable, Undone, Roomy}
+use Rattle.member.specs.Leaves.{Fits, Terms}
+use Rattle.passing.specs.Places.{sizeC, Holds, Hedge, Skipped, Beside}
+use Rattle.member.specs.Gathering.{rowOf, Lists, Spared, Kinds, Spacious, Lent, Gathered, FittedAll, Shuffles, ShufflesBy, Raised, Found, Countable, Joins, Undone, Roomy}
 use Rattle.member.proofs.Decides.{tests-decide, of-term→, of-term←}
-use Rattle.member.proofs.Sharing.{leaf-within, terms-like}
-use Rattle.member.proofs.Kindred.{rest-imp, Chosen, rest-out, One, snoc-rest, raised-rest, records-same, records-snoc, raised-within, raised-total, raised-each, raised-times, records-raised}
+use Rattle.member.proofs.Sharing.{terms-like}
+use Rattle.member.proofs.Kindred.{rest-imp, rest-out, One, snoc-rest, raised-rest, records-same, records-snoc, raised-total, raised-each, raised-times, records-raised}
 use Rattle.member.proofs.Rowing.{row-in, row-within, row-ascending}
-use Rattle.passing.proofs.Standing.{holds-lt, holds-fits, by-nil, by-tree, word, child, behind}
-use Rattle.any_order.proofs.Standing.{at-lt, at-fits, first, by-eps, by-star}
-use Rattle.member.proofs.Standing.{at-size, by-symbol, symbol-at, symbol-word, under}
-use Rattle.passing.proofs.Beside.{beside-refl, beside-wide, beside-trans}
+use Rattle.passing.proofs.Standing.{holds-lt, by-nil, by-tree}
+use Rattle.any_order.proofs.Standing.{at-fits}
+use Rattle.passing.proofs.Beside.{beside-refl, beside-trans}
 use Rattle.member.proofs.Asking.{spared-refl, spared-trans, spared-less, spared-set}
 
 -- ---- the row of a term has the symbols that it can be
@@ -61,10 +54,10 @@ one-more σ R at f c rest ks =
       λ w. rest-imp (Terms (Fits σ R at) (Good R at) (tree f c rest)) (One L G) (λ d (q, y, x). (q, fits-row σ R at f c q .1 y, x)) ks none w,
     )
 
-iff-trans : {A B C : Type 0} → A ↔ B → B ↔ C → A ↔ C
+pub iff-trans : {A B C : Type 0} → A ↔ B → B ↔ C → A ↔ C
 iff-trans f g = (λ a. g .0 (f .0 a), λ c. f .1 (g .1 c))
 
-spared-by : {w w′ v : List ℕ} {t t′ : ℕ} → w ≡ w′ → t ≡ t′ → Spared w v t → Spared w′ v t′
+pub spared-by : {w w′ v : List ℕ} {t t′ : ℕ} → w ≡ w′ → t ≡ t′ → Spared w v t → Spared w′ v t′
 spared-by d z s = rw (d, z) at s
 
 shuffles-by : {σ : Signature} {e : List ℕ} {at : ℕ} {h : List ℕ} {j : ℕ} {k k′ : List Bool} {w w₁ v v₁ : List ℕ} {base t t₁ : ℕ} {r : Bool}
@@ -90,7 +83,7 @@ module _ {σ : Signature} {e : List ℕ} {at : ℕ} {h : List ℕ} {j : ℕ} {k 
 
 -- ---- what is still to be gathered
 
-some-words : (g : Complete) → 1 ≤ sizeC g
+pub some-words : (g : Complete) → 1 ≤ sizeC g
 some-words nil = omega arith
 some-words (tree f c r) = omega arith
 
@@ -161,7 +154,7 @@ module _ {e h : List ℕ} {j : ℕ} {w : List ℕ} {base top : ℕ} where
   gathered-roomy g n = record { bounded = g .bounded; enough = λ stop s. cap-sub g n s refl }
 
   -- the next term
-  gathered-next : {next : ℕ} {v : List ℕ} {t : ℕ} (g : Gathered e h j w base top) → (getD h j 0 ≡ 0 → ⊥) → Skipped h (j + 1) next → length v ≡ length w
+  pub gathered-next : {next : ℕ} {v : List ℕ} {t : ℕ} (g : Gathered e h j w base top) → (getD h j 0 ≡ 0 → ⊥) → Skipped h (j + 1) next → length v ≡ length w
       → (ks : List Kind) → Records v base ks t → Each (λ (k : Kind). Each (λ p. p < length e) (k .places)) ks → total ks ≡ total (g .ks) + 1
       → ((f : Sym) (c r : Complete) → g .g ≡ tree f c r → t + 2 * sizeC r ≤ length w) → Gathered e h next v base t
   gathered-next {next} {v} {t} g n s l ks rec wi to room = by-tree (λ x. g .g ≡ x → total (g .ks) + sizeC x < 65536 → Gathered e h next v base t) n
@@ -203,7 +196,7 @@ within-row σ R e at f c x = go (rowOf (ofTerm σ f (tests σ c)) R at) (λ q i.
     go [] y = tt
     go (q ∷ L) y = (y q (inl refl), go L (λ p i. y p (inr i)))
 
-total-snoc : (ks : List Kind) (k : Kind) → total (ks ++ (k ∷ [])) ≡ total ks + k .times
+pub total-snoc : (ks : List Kind) (k : Kind) → total (ks ++ (k ∷ [])) ≡ total ks + k .times
 total-snoc [] k = omega arith
 total-snoc (m ∷ ks) k = omega (arith, total-snoc ks k)
 
@@ -386,235 +379,3 @@ module _ {σ : Signature} {e : List ℕ} {at : ℕ} {h : List ℕ} {j : ℕ} {w 
         go : Dec (o .at ≡ top) → Gathered e h next w₃ base (o .top)
         go (yes d) = gathered-by (i .new d .1) (i .new d .0) gathered-new
         go (no d) = gathered-by (i .old d .1) (i .old d .0) (gathered-old (i .found) d)
-
--- ---- the kind of a term
-
-module _ {w : List ℕ} {base top t o : ℕ} where
-  pub join-new : {w₁ w₂ : List ℕ} → Found w base top t o → o ≡ top → w₁ ≡ set w top 1 → w₂ ≡ set w₁ (top + 1) (t - top - 2) → Joins w base top t w₂ (record { at = o; top = t })
-  join-new f z d₁ d₂ = record { found = f; new = λ _. (refl, d₂ ∙ ap (λ v. set v (top + 1) (t - top - 2)) d₁); old = λ n. absurd (n z) }
-
-  pub join-old : Found w base top t o → (o ≡ top → ⊥) → Joins w base top t (set w o (getD w o 0 + 1)) (record { at = o; top = top })
-  join-old f n = record { found = f; new = λ z. absurd (n z); old = λ _. (refl, refl) }
-
-module _ {w : List ℕ} {o top : ℕ} where
-  pub undo-new : o ≡ top → Undone w o top w
-  undo-new z = record { new = λ _. refl; old = λ n. absurd (n z) }
-
-  pub undo-old : (o ≡ top → ⊥) → Undone w o top (set w o (getD w o 0 - 1))
-  undo-old n = record { new = λ z. absurd (n z); old = λ _. refl }
-
-pub joins-len : {w w′ : List ℕ} {base top t : ℕ} {o : Joined} → Joins w base top t w′ o → length w′ ≡ length w
-joins-len {w} {w′} {base} {top} {t} {o} i = go (ℕ-discrete (o .at) top)
-  where
-    go : Dec (o .at ≡ top) → length w′ ≡ length w
-    go (yes d) = ap length (i .new d .1) ∙ length-set (set w top 1) (top + 1) (t - top - 2) ∙ length-set w top 1
-    go (no d) = ap length (i .old d .1) ∙ length-set w (o .at) (getD w (o .at) 0 + 1)
-
-pub undone-len : {w w′ : List ℕ} {o top : ℕ} → Undone w o top w′ → length w′ ≡ length w
-undone-len {w} {w′} {o} {top} u = go (ℕ-discrete o top)
-  where
-    go : Dec (o ≡ top) → length w′ ≡ length w
-    go (yes d) = ap length (u .new d)
-    go (no d) = ap length (u .old d) ∙ length-set w o (getD w o 0 - 1)
-
--- a kind that has one term more has some
-raised-some : {w : List ℕ} {base top t o : ℕ} {v : List ℕ} → Found w base top t o → Spared (set w o (getD w o 0 + 1)) v top → o < top → o < length w → (o < length v) × (1 ≤ getD v o 0)
-raised-some {w = w} {o = o} f s l u = (omega (arith, s .len, length-set w o (getD w o 0 + 1)), omega (arith, s .low o l, getD-set-same w o (getD w o 0 + 1) 0 u))
-
-pub joined-some : {w w₃ v : List ℕ} {base top t : ℕ} {o : Joined} → Joins w base top t w₃ o → Spared w₃ v (o .top) → top < length w → length w < 65536 → Undoable v (o .at) top
-joined-some {w} {w₃} {v} {base} {top} {t} {o} i s l b = record {
-  some = λ n.
-      let u = raised-some (i .found) (spared-by (i .old n .1) (i .old n .0) s) (omega (arith, i .found .within .1, n)) (omega (arith, i .found .within .1)) in
-      (u .0, omega (arith, s .len, joins-len i), u .1);
-}
-
--- ---- each symbol alone
-
-pub inner-self : {e : List ℕ} {at : ℕ} → Expression e at → Inner e at at
-inner-self p = record { R = p .R; here = p .here; S = p .R; there = p .here; low = omega arith; high = omega arith }
-
-module _ {e : List ℕ} {at q : ℕ} where
-  pub inner-expression : Inner e at q → Expression e q
-  inner-expression i = record { R = i .S; here = i .there }
-
-  pub inner-whole : Inner e at q → Expression e at
-  inner-whole i = record { R = i .R; here = i .here }
-
-  pub inner-first : Inner e at q → (getD e q 0 ≡ 7000 → ⊥) → Inner e at (q + 1)
-  inner-first i n = go (i .there) (i .high)
-    where
-      go : {S : Expr} → At e q S → q + sizeE S ≤ at + sizeE (i .R) → Inner e at (q + 1)
-      go (at-eps l w) u = absurd (n w)
-      go (at-cat {a = a} l w x y) u = record { R = i .R; here = i .here; S = a; there = x; low = omega (arith, i .low); high = omega arith }
-      go (at-alt {a = a} l w x y) u = record { R = i .R; here = i .here; S = a; there = x; low = omega (arith, i .low); high = omega arith }
-      go (at-star {a = a} l w x) u = record { R = i .R; here = i .here; S = a; there = x; low = omega (arith, i .low); high = omega arith }
-      go (at-over {a = a} l w v x) u = record { R = i .R; here = i .here; S = a; there = x; low = omega (arith, i .low); high = omega arith }
-
-  pub inner-second : {n : ℕ} → Inner e at q → (getD e q 0 ≡ 7000 → ⊥) → 7000 ≤ getD e q 0 → (getD e q 0 ≡ 7003 → ⊥) → ((R : Expr) → At e (q + 1) R → n ≡ q + 1 + sizeE R) → Inner e at n
-  inner-second {n} i n0 lo n3 z = go (i .there) (i .high)
-    where
-      go : {S : Expr} → At e q S → q + sizeE S ≤ at + sizeE (i .R) → Inner e at n
-      go (at-eps l w) u = absurd (n0 w)
-      go (at-cat {a = a} {b = b} l w x y) u = let d = z a x in record { R = i .R; here = i .here; S = b; there = rw d y; low = omega (arith, i .low); high = omega arith }
-      go (at-alt {a = a} {b = b} l w x y) u = let d = z a x in record { R = i .R; here = i .here; S = b; there = rw d y; low = omega (arith, i .low); high = omega arith }
-      go (at-star l w x) u = absurd (n3 w)
-      go (at-over l w v x) u = absurd (omega arith)
-
--- the words of a kind with one term and one place
-single : {w : List ℕ} (w₁ : List ℕ) (top q : ℕ) {w₂ : List ℕ} → Spared w w₁ top → top + 6 ≤ length w → w₂ ≡ set (set (set w₁ top 1) (top + 1) 1) (top + 2) q → Recorded w₂ top (record { times = 1; places = q ∷ [] })
-single w₁ top q s le d = rw d (record {
-  times = getD-set-other (set (set w₁ top 1) (top + 1) 1) (top + 2) top q 0 (omega arith) ∙ getD-set-other (set w₁ top 1) (top + 1) top 1 0 (omega arith) ∙ getD-set-same w₁ top 1 0 (omega (arith, s .len));
-  some = omega arith;
-  count = getD-set-other (set (set w₁ top 1) (top + 1) 1) (top + 2) (top + 1) q 0 (omega arith) ∙ getD-set-same (set w₁ top 1) (top + 1) 1 0 (omega (arith, length-set w₁ top 1, s .len));
-  places = λ i z. at-first i (omega arith);
-  ascending = λ i j lo hi. let z : i ≡ j = omega arith in rw z (omega arith);
-})
-  where
-    at-first : (i : ℕ) → i ≡ 0 → getD (set (set (set w₁ top 1) (top + 1) 1) (top + 2) q) (top + 2 + i) 0 ≡ getD (q ∷ []) i 0
-    at-first i z =
-        let o : top + 2 + 0 ≡ top + 2 = omega arith in
-        rw (z, o) (getD-set-same (set (set w₁ top 1) (top + 1) 1) (top + 2) q 0 (omega (arith, length-set (set w₁ top 1) (top + 1) 1, length-set w₁ top 1, s .len)))
-
-pub gathered-one : {e : List ℕ} {at q : ℕ} {h : List ℕ} {j : ℕ} {w : List ℕ} {base top next : ℕ} {w₁ w₂ : List ℕ} → Inner e at q → Gathered e h j w base top → (getD h j 0 ≡ 0 → ⊥) → Skipped h (j + 1) next → Spared w w₁ top
-    → w₂ ≡ set (set (set w₁ top 1) (top + 1) 1) (top + 2) q → Gathered e h next w₂ base (top + 3)
-gathered-one {e} {at} {q} {h} {j} {w} {base} {top} {next} {w₁} {w₂} i g n sk s d =
-    gathered-next g n sk (sp .len) (g .ks ++ (record { times = 1; places = q ∷ [] } ∷ []))
-    (records-snoc w₂ base (g .ks) top (record { times = 1; places = q ∷ [] }) (top + 3) (records-same w w₂ base (g .ks) top (λ p lo hi. sp .low p hi) (g .records)) (single w₁ top q s (gathered-six g n .0) d) (omega arith))
-    (each-++ (λ (k : Kind). Each (λ p. p < length e) (k .places)) (g .ks) (record { times = 1; places = q ∷ [] } ∷ []) (g .within) ((at-lt (i .there), tt), tt))
-    (total-snoc (g .ks) (record { times = 1; places = q ∷ [] }))
-    (λ u c r z. let rr : top + 2 * sizeC (tree u c r) ≤ length w = rw z at (g .room) in omega (arith, some-words c))
-  where
-    sp : Spared w w₂ top
-    sp = rw d (spared-set (set (set w₁ top 1) (top + 1) 1) (top + 2) q (spared-set (set w₁ top 1) (top + 1) 1 (spared-set w₁ top 1 s (omega arith) refl) (omega arith) refl) (omega arith) refl)
-
-crowd-beside : {σ : Signature} {e : List ℕ} {at q : ℕ} {h : List ℕ} {j : ℕ} {k k₁ : List Bool} {w w₁ : List ℕ} {top : ℕ} {y : Bool} → getD e q 0 < 7000 → Inner e at q
-    → Answered σ e q h j k k₁ w w₁ top y → (R : Expr) → At e at R → Beside k k₁ at (at + sizeE R)
-crowd-beside v i a R x =
-    let o = symbol-at (inner-expression i) v in
-    let b = a .beside (o .g) (o .S) (o .here) in
-    let z = at-size x (i .here) in
-    let u = at-size (o .here) (i .there) in
-    beside-wide b (omega (arith, i .low)) (omega (arith, i .high))
-
-crowd-size : {e : List ℕ} {q : ℕ} {s : Seen} → getD e q 0 < 7000 → Looked e (q + 1) s → (S : Expr) → At e q S → s .end ≡ q + sizeE S
-crowd-size {q = q} {s = s} v l = by-symbol (λ S. s .end ≡ q + sizeE S) v (λ g S x. omega (arith, l .each S (under x) .0))
-
-module _ {σ : Signature} {e : List ℕ} {at q : ℕ} {h : List ℕ} {j : ℕ} {k : List Bool} {w : List ℕ} {base top : ℕ} where
-  pub crowd-eps : getD e q 0 ≡ 7000 → ShufflesBy σ e at q h j k k w w base top (record { end = q + 1; yes = false })
-  crowd-eps v = record {
-    spared = spared-refl;
-    len = refl;
-    beside = λ R x. beside-refl;
-    sized = λ _. by-eps (λ S. q + 1 ≡ q + sizeE S) v refl;
-    each = λ R S f c g ks x y hh rec. by-eps (λ S. (false ≡ true) ↔ ((p : ℕ) × Fits σ S q f c p × Rest (λ d. Terms (Fits σ R at) (Good R at) g (bump d p)) ks none)) v
-        (λ t. absurd (not-both t refl), λ (p, (g′, S′, z, m), s). absurd z) S y;
-  }
-
-  module _ {k₁ : List Bool} {w₁ : List ℕ} {s : Seen} {y : Bool} (v : getD e q 0 < 7000) (i : Inner e at q) (l : Looked e (q + 1) s) (a : Answered σ e q h j k k₁ w w₁ top y) where
-    pub crowd-no : y ≡ false → ShufflesBy σ e at q h j k k₁ w w₁ base top (record { end = s .end; yes = false })
-    crowd-no n = record {
-      spared = a .spared;
-      len = a .len;
-      beside = crowd-beside v i a;
-      sized = λ _. crowd-size v l;
-      each = λ R S f c g ks x y hh rec. by-symbol (λ S. (false ≡ true) ↔ ((p : ℕ) × Fits σ S q f c p × Rest (λ d. Terms (Fits σ R at) (Good R at) g (bump d p)) ks none)) v
-          (λ g′ S′ u. (
-            λ t. absurd (not-both t refl),
-            λ (p, (g″, S″, (e₁, e₂, e₃), m), r). absurd (not-both (test-true (ofTerm σ f (tests σ c) g′ S′) .0 (of-term← σ f c (tests σ c) (tests-decide σ c) g′ S′ (rw (e₂, e₃) m))) (sym (a .each g′ S′ f c g u hh) ∙ n)),
-          )) S y;
-    }
-
-    pub crowd-yes : {next : ℕ} {k₂ : List Bool} {w₂ w₃ : List ℕ} {r : Bool} → y ≡ true → Skipped h (j + 1) next → top + 6 ≤ length w
-        → w₂ ≡ set (set (set w₁ top 1) (top + 1) 1) (top + 2) q → Shuffles σ e at h next k₁ k₂ w₂ w₃ base (top + 3) r
-        → ShufflesBy σ e at q h j k k₂ w w₃ base top (record { end = s .end; yes = r })
-    crowd-yes {next} {k₂} {w₂} {w₃} {r} n sk le d m = record {
-      spared = spared-trans sp (spared-less (m .spared) (omega arith));
-      len = m .len ∙ a .len;
-      beside = λ R x. beside-trans (crowd-beside v i a R x) (m .beside R x);
-      sized = λ _. crowd-size v l;
-      each = λ R S f c g ks x y hh rec. by-symbol (λ S. (r ≡ true) ↔ ((p : ℕ) × Fits σ S q f c p × Rest (λ d. Terms (Fits σ R at) (Good R at) g (bump d p)) ks none)) v
-          (λ g′ S′ u.
-          let yes = of-term→ σ f c (tests σ c) (tests-decide σ c) g′ S′ (test-true (ofTerm σ f (tests σ c) g′ S′) .1 (sym (a .each g′ S′ f c g u hh) ∙ n)) in
-          let rest = m .each R g (ks ++ (record { times = 1; places = q ∷ [] } ∷ [])) x (rw (sk .each c (child hh)) (behind hh)) (single-records ks rec) in
-          let one = iff-trans rest (snoc-rest (Terms (Fits σ R at) (Good R at) g) (q ∷ []) ks none) in
-          let out = iff-trans one (rest-out (λ p. In p (q ∷ [])) (λ p d. Terms (Fits σ R at) (Good R at) g (bump d p)) ks none) in (
-            λ t. let (p, i, w) = out .0 t in (p, (g′, S′, (only p i, refl, refl), yes), w),
-            λ (p, (g″, S″, (e₁, e₂, e₃), m′), w). out .1 (p, inl e₁, w),
-          )) S y;
-    }
-      where
-        only : (p : ℕ) → In p (q ∷ []) → p ≡ q
-        only p (inl z) = z
-        only p (inr z) = absurd z
-
-        sp : Spared w w₂ top
-        sp = rw d (spared-set (set (set w₁ top 1) (top + 1) 1) (top + 2) q (spared-set (set w₁ top 1) (top + 1) 1 (spared-set w₁ top 1 (a .spared) (omega arith) refl) (omega arith) refl) (omega arith) refl)
-
-        single-records : (ks : List Kind) → Records w base ks top → Records w₂ base (ks ++ (record { times = 1; places = q ∷ [] } ∷ [])) (top + 3)
-        single-records ks rec = records-snoc w₂ base ks top (record { times = 1; places = q ∷ [] }) (top + 3) (records-same w w₂ base ks top (λ p lo hi. sp .low p hi) rec) (single w₁ top q (a .spared) le d) (omega arith)
-
-  pub crowd-star : {k₁ : List Bool} {w₁ : List ℕ} {r : Tried} → getD e q 0 ≡ 7003 → ShufflesBy σ e at (q + 1) h j k k₁ w w₁ base top r → ShufflesBy σ e at q h j k k₁ w w₁ base top r
-  crowd-star {r = r} v a = record {
-    spared = a .spared;
-    len = a .len;
-    beside = a .beside;
-    sized = λ n. by-star (λ S. r .end ≡ q + sizeE S) v (λ A x. omega (arith, a .sized n A x));
-    each = λ R S f c g ks x y hh rec. by-star (λ S. (r .yes ≡ true) ↔ ((p : ℕ) × Fits σ S q f c p × Rest (λ d. Terms (Fits σ R at) (Good R at) g (bump d p)) ks none)) v
-        (λ A u. a .each R A f c g ks x u hh rec) S y;
-  }
-
-  -- 7001 and 7002
-  module _ {k₁ : List Bool} {w₁ : List ℕ} {a : Tried} (i : Inner e at q) (n0 : getD e q 0 ≡ 7000 → ⊥) (lo : 7000 ≤ getD e q 0) (n3 : getD e q 0 ≡ 7003 → ⊥)
-      (x : ShufflesBy σ e at (q + 1) h j k k₁ w w₁ base top a) where
-    pub crowd-first : a .yes ≡ true → ShufflesBy σ e at q h j k k₁ w w₁ base top a
-    crowd-first z = record {
-      spared = x .spared;
-      len = x .len;
-      beside = x .beside;
-      sized = λ n. absurd (not-both z n);
-      each = λ R S f c g ks v y hh rec. go R f c g ks v hh rec y;
-    }
-      where
-        go : (R : Expr) (f : Sym) (c g : Complete) (ks : List Kind) → At e at R → Holds h j (tree f c g) → Records w base ks top → {S : Expr} → At e q S
-            → (a .yes ≡ true) ↔ ((p : ℕ) × Fits σ S q f c p × Rest (λ d. Terms (Fits σ R at) (Good R at) g (bump d p)) ks none)
-        go R f c g ks r hh rec (at-eps l w) = absurd (n0 w)
-        go R f c g ks r hh rec (at-cat {a = A} {b = B} l w u v) = (λ _. let (p, (g′, S′, o, m), t) = x .each R A f c g ks r u hh rec .0 z in (p, (g′, S′, inl o, m), t), λ _. z)
-        go R f c g ks r hh rec (at-alt {a = A} {b = B} l w u v) = (λ _. let (p, (g′, S′, o, m), t) = x .each R A f c g ks r u hh rec .0 z in (p, (g′, S′, inl o, m), t), λ _. z)
-        go R f c g ks r hh rec (at-star l w u) = absurd (n3 w)
-        go R f c g ks r hh rec (at-over l w u v) = absurd (omega arith)
-
-    pub crowd-second : {k₂ : List Bool} {w₂ : List ℕ} {b : Tried} → a .yes ≡ false → ShufflesBy σ e at (a .end) h j k₁ k₂ w₁ w₂ base top b → ShufflesBy σ e at q h j k k₂ w w₂ base top b
-    crowd-second {k₂} {w₂} {b} z y = record {
-      spared = spared-trans (x .spared) (y .spared);
-      len = y .len ∙ x .len;
-      beside = λ R v. beside-trans (x .beside R v) (y .beside R v);
-      sized = λ n S u. size n u;
-      each = λ R S f c g ks v u hh rec. go R f c g ks v hh rec u;
-    }
-      where
-        size : b .yes ≡ false → {S : Expr} → At e q S → b .end ≡ q + sizeE S
-        size n (at-eps l w) = absurd (n0 w)
-        size n (at-cat {a = A} {b = B} l′ w u v) = let d = x .sized z A u in omega (arith, y .sized n B (rw d v))
-        size n (at-alt {a = A} {b = B} l′ w u v) = let d = x .sized z A u in omega (arith, y .sized n B (rw d v))
-        size n (at-star l w u) = absurd (n3 w)
-        size n (at-over l w u v) = absurd (omega arith)
-
-        both : (A B : Expr) (R : Expr) (f : Sym) (c g : Complete) (ks : List Kind) → At e at R → Holds h j (tree f c g) → Records w base ks top → At e (q + 1) A → At e (q + 1 + sizeE A) B
-            → (b .yes ≡ true) ↔ ((p : ℕ) × Fits σ (cat A B) q f c p × Rest (λ d. Terms (Fits σ R at) (Good R at) g (bump d p)) ks none)
-        both A B R f c g ks r hh rec u v =
-            let d = x .sized z A u in
-            let m = y .each R B f c g ks r (rw d v) hh (records-same w w₁ base ks top (λ p lo hi. x .spared .low p hi) rec) in (
-              λ t. let (p, (g′, S′, o, k), s) = m .0 t in (p, (g′, S′, inr (rw d at o), k), s),
-              λ (p, (g′, S′, o, k), s). elim o [
-                | inl o′ ↦ absurd (not-both (x .each R A f c g ks r u hh rec .1 (p, (g′, S′, o′, k), s)) z)
-                | inr o′ ↦ m .1 (p, (g′, S′, rw d o′, k), s)
-              ],
-            )
-
-        go : (R : Expr) (f : Sym) (c g : Complete) (ks : List Kind) → At e at R → Holds h j (tree f c g) → Records w base ks top → {S : Expr} → At e q S
-            → (b .yes ≡ true) ↔ ((p : ℕ) × Fits σ S q f c p × Rest (λ d. Terms (Fits σ R at) (Good R at) g (bump d p)) ks none)
-        go R f c g ks r hh rec (at-eps l w) = absurd (n0 w)
-        go R f c g ks r hh rec (at-cat {a = A} {b = B} l w u v) = both A B R f c g ks r hh rec u v
-        go R f c g ks r hh rec (at-alt {a = A} {b = B} l w u v) = both A B R f c g ks r hh rec u v
-        go R f c g ks r hh rec (at-star l w u) = absurd (n3 w)
-        go R f c g ks r hh rec (at-over l w u v) = absurd (omega arith)

@@ -13,7 +13,9 @@ use Rattle.member.proofs.Standing.{looked-end, looked-within, symbol-at
 use Rattle.member.proofs.Moves.{keeps-len, sh-eps, sh-no, sh-ask, sh-one, sh-two, shifted-end, shifted-falls}
 use Rattle.member.proofs.Runs.{Looping, starts, goes-on, ended, children-of}
 use Rattle.member.proofs.Asking.{spared-refl, spared-trans, spared-less, scene-on, term-some, next-far, lent-less, lent-on, lent-children, lent-rest, ask-gathers, ask-other, ask-in-order, ask-any-order, symbol-lt, symbol-under, fit-eps, fit-noted, noted-len, fit-star, fit-two}
-use Rattle.member.proofs.Shuffling.{gathered-asks, any-end, gathered-lt, gathered-hedge, gathered-kinds, gathered-spared, gathered-six, gathered-lent, cap-within, cap-lent, gathered-roomy, any-none, any-crowd, any-joined, kinds-countable, gathered-joined, joins-len, undone-len, joined-some, inner-self, inner-expression, inner-first, inner-second, crowd-eps, crowd-no, crowd-yes, gathered-one, crowd-star, crowd-first, crowd-second}
+use Rattle.member.proofs.Shuffling.{gathered-asks, any-end, gathered-lt, gathered-hedge, gathered-kinds, gathered-spared, gathered-six, gathered-lent, cap-within, cap-lent, gathered-roomy, any-none, any-crowd, any-joined, kinds-countable, gathered-joined}
+use Rattle.member.proofs.Joining.{joins-len, undone-len, joined-some}
+use Rattle.member.proofs.Crowding.{inner-self, inner-expression, inner-first, inner-second, crowd-eps, crowd-no, crowd-yes, gathered-one, crowd-star, crowd-first, crowd-second}
 use Rattle.member.proofs.accepts.Reads as accepts
 use Rattle.member.proofs.accepts.Kinds as accepts-kinds
 use Rattle.member.proofs.+accepts+any+ask+crowd+fit+shift.Lts-accepts as accepts-lts

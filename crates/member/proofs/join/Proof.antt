@@ -1,7 +1,7 @@
 -- `member::join` meets its contract, whether the kind is new or not.
 use native.Mathlib.Omega.{arith}
 use borrow.Author.Needs.{needs}
-use Rattle.member.proofs.Shuffling.{join-new, join-old}
+use Rattle.member.proofs.Joining.{join-new, join-old}
 use Rattle.member.proofs.join.Statement.{statement}
 use Rattle.member.proofs.join.Tie as tie
 

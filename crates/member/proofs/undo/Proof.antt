@@ -1,7 +1,7 @@
 -- `member::undo` meets its contract, whether the kind is new or not.
 use native.Mathlib.Omega.{arith}
 use borrow.Author.Needs.{needs}
-use Rattle.member.proofs.Shuffling.{undo-new, undo-old}
+use Rattle.member.proofs.Joining.{undo-new, undo-old}
 use Rattle.member.proofs.undo.Statement.{statement}
 use Rattle.member.proofs.undo.Tie as tie
 
