@@ -1,13 +1,26 @@
 // Membership of a complete hedge in an expression, both given in words: in time words times words, but for the children of unordered symbols.
 ghost use mathlib.Core.Path.{_≡_};
 ghost use mathlib.Core.Bool.{_&&_, _||_};
-ghost use Prim.Native.Nat.{_+_, _-_, _≤_, _<_};
-ghost use lib.ListN.{length, set};
+ghost use Prim.Native.Nat.{_+_, _≤_, _<_};
+ghost use lib.ListN.{length};
 ghost use Rattle.language.specs.Limits.{desk};
 ghost use Rattle.any_order.specs.Places.{Expression};
 ghost use Rattle.passing.specs.Places.{Hedge, Term, Skipped};
-ghost use Rattle.member.specs.Places.{Looked, Shifted, Enters, Follows, Keeps, Together, Accepted, Both, Decided};
-ghost use Rattle.member.specs.Gathering.{Symbol, Inner, Kinds, Spared, Scene, Lent, Gathered, Answered, FittedAll, Shuffles, ShufflesBy, Found, Countable, Joins, Undoable, Undone, Roomy, Capped, Noted};
+ghost use Rattle.member.specs.Places.{Looked, Shifted, Accepted, Both, Decided};
+ghost use Rattle.member.specs.Gathering.{Symbol, Inner, Spared, Scene, Lent, Gathered, Answered, FittedAll, Shuffles, ShufflesBy};
+
+mod kinds;
+mod parts;
+
+use crate::kinds::alone;
+use crate::kinds::join;
+use crate::kinds::note;
+use crate::kinds::room;
+use crate::kinds::undo;
+use crate::parts::enters;
+use crate::parts::follows;
+use crate::parts::keep;
+use crate::parts::together;
 use any_order::some_order;
 use bools::and;
 use bools::or;
@@ -17,11 +30,8 @@ use language::any_unordered;
 use language::is_unordered;
 use language::limits::LITERAL;
 use language::limits::QUESTION;
-use language::wide;
 use passing::clear;
 use passing::skip;
-use slices::store;
-use words::same_part;
 
 // words for the kinds of terms: two for each word of a hedge, and as many for places
 const KINDS: usize = 4 * LITERAL;
@@ -95,145 +105,6 @@ fn look(e: &[u16], at: usize) -> Seen
         end: b.end,
         null: or(a.null, b.null),
     }
-}
-
-// Whether a term may be the first of the first part of what the word x begins. m: of the whole; old: the first part may have ended before.
-fn enters(x: u16, m: bool, old: bool) -> bool
-    ensures { λ r. ⌜ Enters x m old r ⌝ }
-{
-    if x == 7003 {
-        return or(m, old);
-    }
-    m
-}
-
-// The same of the second part. null: the first part may be empty.
-fn follows(x: u16, m: bool, old: bool, null: bool) -> bool
-    ensures { λ r. ⌜ Follows x m old null r ⌝ }
-{
-    if x == 7001 {
-        return or(old, and(m, null));
-    }
-    m
-}
-
-// Keeps whether the first part may end here, which a choice does not ask.
-fn keep(k: &mut [bool], at: usize, x: u16, fin: bool)
-    requires { ⌜ at < length (now k) ⌝ }
-    ensures { λ _. ⌜ Keeps (now (k .entry)) at x fin (now (k .exit)) ⌝ }
-{
-    if x == 7002 {
-        return;
-    }
-    k[at] = fin;
-}
-
-// A concatenation or a choice, after its two parts.
-fn together(x: u16, a: Step, b: Step) -> Step
-    ensures { λ r. ⌜ Together x a b r ⌝ }
-{
-    if x == 7001 {
-        return Step {
-            end: b.end,
-            null: and(a.null, b.null),
-            fin: or(and(a.fin, b.null), b.fin),
-        };
-    }
-    Step {
-        end: b.end,
-        null: or(a.null, b.null),
-        fin: or(a.fin, b.fin),
-    }
-}
-
-// The kind from `at` on that has the places which stand from top + 2 to t; `top` where none has.
-fn find(w: &[u16], at: usize, top: usize, t: usize) -> usize
-    requires { ⌜ Kinds (now w) at top ⌝ }
-    requires { ⌜ (top + 2 ≤ t) × (t ≤ length (now w)) ⌝ }
-    ensures { λ r. ⌜ Found (now (w .entry)) at top t r ⌝ }
-{
-    if at < top {
-        let next = at + 2 + wide(w[at + 1]);
-        if same_part(w, at + 2, next, top + 2, t) {
-            return at;
-        }
-        return find(w, next, top, t);
-    }
-    top
-}
-
-// One term more of the kind that has the places which stand from top + 2 to t: of a new one, where none has.
-fn join(w: &mut [u16], base: usize, top: usize, t: usize) -> Joined
-    requires { ⌜ Kinds (now w) base top ⌝ }
-    requires { ⌜ (top + 2 ≤ t) × (t ≤ length (now w)) × (length (now w) < 65536) ⌝ }
-    requires { ⌜ Countable (now w) base top t ⌝ }
-    ensures { λ r. ⌜ Joins (now (w .entry)) base top t (now (w .exit)) r ⌝ }
-{
-    let o = find(w, base, top, t);
-    if o == top {
-        store(w, top, 1);
-        store(w, top + 1, t - top - 2);
-        return Joined { at: o, top: t };
-    }
-    w[o] += 1;
-    Joined { at: o, top }
-}
-
-// One term less of the kind at o; the new kind is behind `top`, and stays.
-fn undo(w: &mut [u16], o: usize, top: usize)
-    requires { ⌜ Undoable (now w) o top ⌝ }
-    ensures { λ _. ⌜ Undone (now (w .entry)) o top (now (w .exit)) ⌝ }
-{
-    if o == top {
-        return;
-    }
-    w[o] -= 1;
-}
-
-// A kind of one term, with one place.
-fn alone(w: &mut [u16], top: usize, q: usize)
-    requires { ⌜ (top + 2 < length (now w)) × (length (now w) < 65536) × (q < 65536) ⌝ }
-    ensures { λ _. ⌜ now (w .exit) ≡ set (set (set (now (w .entry)) top 1) (top + 1) 1) (top + 2) q ⌝ }
-{
-    store(w, top, 1);
-    store(w, top + 1, 1);
-    store(w, top + 2, q);
-}
-
-// The place of a symbol that will do is written to w at t, before `cap`; end: the place after the symbol's expression.
-fn note(w: &mut [u16], t: usize, cap: usize, at: usize, yes: bool, end: usize) -> Fitted
-    requires { ⌜ (t ≤ cap) × (cap ≤ length (now w)) × (at < 65536) ⌝ }
-    ensures { λ r. ⌜ Noted (now (w .entry)) t cap at yes end (now (w .exit)) r ⌝ }
-{
-    if yes {
-        if t < cap {
-            store(w, t, at);
-            return Fitted {
-                end,
-                top: t + 1,
-                full: false,
-            };
-        }
-        return Fitted {
-            end,
-            top: t,
-            full: true,
-        };
-    }
-    Fitted {
-        end,
-        top: t,
-        full: false,
-    }
-}
-
-// Where the places of the term at j have to end, of n words, so that there is room for the hedge.
-fn room(h: &[u16], j: usize, n: usize) -> usize
-    requires { ⌜ Hedge (now h) j ⌝ }
-    requires { ⌜ Roomy (now h) j n ⌝ }
-    ensures { λ r. ⌜ Capped (now (h .entry)) j n r ⌝ }
-{
-    n + 4 - 2 * (skip(h, j) - j)
 }
 
 // Whether the term that stands in h at j is of the symbol that stands in e at p.

@@ -39,15 +39,15 @@ use Rattle.language.proofs.is_unordered.Reads as is-unordered-reads
 use Rattle.any_order.proofs.some_order.Reads as some-order-reads
 use Rattle.passing.proofs.clear.Reads as clear-reads
 use Rattle.member.proofs.look.Reads as look-reads
-use Rattle.member.proofs.alone.Reads as alone-reads
-use Rattle.member.proofs.enters.Reads as enters-reads
-use Rattle.member.proofs.follows.Reads as follows-reads
-use Rattle.member.proofs.join.Reads as join-reads
-use Rattle.member.proofs.keep.Reads as keep-reads
-use Rattle.member.proofs.note.Reads as note-reads
-use Rattle.member.proofs.room.Reads as room-reads
-use Rattle.member.proofs.together.Reads as together-reads
-use Rattle.member.proofs.undo.Reads as undo-reads
+use Rattle.member.proofs.kinds.alone.Reads as alone-reads
+use Rattle.member.proofs.parts.enters.Reads as enters-reads
+use Rattle.member.proofs.parts.follows.Reads as follows-reads
+use Rattle.member.proofs.kinds.join.Reads as join-reads
+use Rattle.member.proofs.parts.keep.Reads as keep-reads
+use Rattle.member.proofs.kinds.note.Reads as note-reads
+use Rattle.member.proofs.kinds.room.Reads as room-reads
+use Rattle.member.proofs.parts.together.Reads as together-reads
+use Rattle.member.proofs.kinds.undo.Reads as undo-reads
 use Rattle.passing.proofs.skip.Reads as skip-reads
 use Rattle.member.proofs.+accepts+any+ask+crowd+fit+shift.{statement}
 use Rattle.member.proofs.+accepts+any+ask+crowd+fit+shift.Tie.{close}

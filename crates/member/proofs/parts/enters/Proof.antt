@@ -1,8 +1,8 @@
 -- `member::enters` meets its contract: of a star by either.
 use borrow.Author.Needs.{needs}
 use Rattle.member.proofs.Moves.{enters-star, enters-other}
-use Rattle.member.proofs.enters.Statement.{statement}
-use Rattle.member.proofs.enters.Tie as tie
+use Rattle.member.proofs.parts.enters.Statement.{statement}
+use Rattle.member.proofs.parts.enters.Tie as tie
 
 pub enters-spec : {M : Type 1} → statement M
 enters-spec =

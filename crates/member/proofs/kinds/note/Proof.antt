@@ -2,8 +2,8 @@
 use native.Mathlib.Omega.{arith}
 use borrow.Author.Needs.{needs}
 use Rattle.member.proofs.Asking.{noted-not, noted-one, noted-more}
-use Rattle.member.proofs.note.Statement.{statement}
-use Rattle.member.proofs.note.Tie as tie
+use Rattle.member.proofs.kinds.note.Statement.{statement}
+use Rattle.member.proofs.kinds.note.Tie as tie
 
 pub note-spec : {M : Type 1} → statement M
 note-spec =

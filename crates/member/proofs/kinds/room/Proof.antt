@@ -1,8 +1,8 @@
 -- `member::room` meets its contract: the hedge is within the words.
 use mathlib.Core.Path.{refl}
 use native.Mathlib.Omega.{arith}
-use Rattle.member.proofs.room.Statement.{statement}
-use Rattle.member.proofs.room.Tie as tie
+use Rattle.member.proofs.kinds.room.Statement.{statement}
+use Rattle.member.proofs.kinds.room.Tie as tie
 
 pub room-spec : {M : Type 1} → statement M
 room-spec =

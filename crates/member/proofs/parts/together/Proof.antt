@@ -1,8 +1,8 @@
 -- `member::together` meets its contract, by the word.
 use borrow.Author.Needs.{needs}
 use Rattle.member.proofs.Moves.{together-cat, together-alt}
-use Rattle.member.proofs.together.Statement.{statement}
-use Rattle.member.proofs.together.Tie as tie
+use Rattle.member.proofs.parts.together.Statement.{statement}
+use Rattle.member.proofs.parts.together.Tie as tie
 
 pub together-spec : {M : Type 1} → statement M
 together-spec =

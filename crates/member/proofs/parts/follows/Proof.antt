@@ -1,8 +1,8 @@
 -- `member::follows` meets its contract: of a concatenation by both.
 use borrow.Author.Needs.{needs}
 use Rattle.member.proofs.Moves.{follows-cat, follows-other}
-use Rattle.member.proofs.follows.Statement.{statement}
-use Rattle.member.proofs.follows.Tie as tie
+use Rattle.member.proofs.parts.follows.Statement.{statement}
+use Rattle.member.proofs.parts.follows.Tie as tie
 
 pub follows-spec : {M : Type 1} → statement M
 follows-spec =

@@ -5,13 +5,13 @@ use borrow.Author.Needs.{needs}
 use borrow.Fn.Kinds.{In}
 use borrow.Fn.PlainCycle.{Measures, is, falls, and}
 use Rattle.member.proofs.Finding.{kinds-fit, kinds-on, find-here, find-on, find-none}
-use Rattle.member.proofs.find.Reads as find
-use Rattle.member.proofs.find.Kinds as find-kinds
-use Rattle.member.proofs.+find.Lts-find as find-lts
+use Rattle.member.proofs.kinds.find.Reads as find
+use Rattle.member.proofs.kinds.find.Kinds as find-kinds
+use Rattle.member.proofs.kinds.+find.Lts-find as find-lts
 use Rattle.words.proofs.same_part.Reads as same-part-reads
 use Rattle.language.proofs.wide.Reads as wide-reads
-use Rattle.member.proofs.+find.{statement}
-use Rattle.member.proofs.+find.Tie.{close}
+use Rattle.member.proofs.kinds.+find.{statement}
+use Rattle.member.proofs.kinds.+find.Tie.{close}
 
 abbrev μ : Measures 1 find-kinds.ps ℕ
 μ κs a = a .1 .1 .0 - a .1 .0

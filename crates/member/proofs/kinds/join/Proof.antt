@@ -2,8 +2,8 @@
 use native.Mathlib.Omega.{arith}
 use borrow.Author.Needs.{needs}
 use Rattle.member.proofs.Joining.{join-new, join-old}
-use Rattle.member.proofs.join.Statement.{statement}
-use Rattle.member.proofs.join.Tie as tie
+use Rattle.member.proofs.kinds.join.Statement.{statement}
+use Rattle.member.proofs.kinds.join.Tie as tie
 
 pub join-spec : {M : Type 1} → statement M
 join-spec =

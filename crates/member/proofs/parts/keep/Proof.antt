@@ -2,8 +2,8 @@
 use native.Mathlib.Omega.{arith}
 use borrow.Author.Needs.{needs}
 use Rattle.member.proofs.Moves.{keeps-none, keeps-one}
-use Rattle.member.proofs.keep.Statement.{statement}
-use Rattle.member.proofs.keep.Tie as tie
+use Rattle.member.proofs.parts.keep.Statement.{statement}
+use Rattle.member.proofs.parts.keep.Tie as tie
 
 pub keep-spec : {M : Type 1} → statement M
 keep-spec =

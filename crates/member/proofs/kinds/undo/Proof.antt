@@ -2,8 +2,8 @@
 use native.Mathlib.Omega.{arith}
 use borrow.Author.Needs.{needs}
 use Rattle.member.proofs.Joining.{undo-new, undo-old}
-use Rattle.member.proofs.undo.Statement.{statement}
-use Rattle.member.proofs.undo.Tie as tie
+use Rattle.member.proofs.kinds.undo.Statement.{statement}
+use Rattle.member.proofs.kinds.undo.Tie as tie
 
 pub undo-spec : {M : Type 1} → statement M
 undo-spec =

@@ -4,8 +4,8 @@ use mathlib.Core.Path.{_∙_, ap}
 use lib.ListN.{set}
 use native.Mathlib.Omega.{arith}
 use borrow.Author.Needs.{needs}
-use Rattle.member.proofs.alone.Statement.{statement}
-use Rattle.member.proofs.alone.Tie as tie
+use Rattle.member.proofs.kinds.alone.Statement.{statement}
+use Rattle.member.proofs.kinds.alone.Tie as tie
 
 pub alone-spec : {M : Type 1} → statement M
 alone-spec =
