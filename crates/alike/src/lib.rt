@@ -1,5 +1,4 @@
 // Whether two complete hedges in words are the same, where the children of some symbols come in any order.
-ghost use mathlib.Core.Path.{_≡_};
 ghost use Prim.Native.Nat.{_≤_};
 ghost use lib.ListN.{length};
 ghost use Rattle.language.specs.Limits.{desk};

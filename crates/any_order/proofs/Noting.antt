@@ -1,7 +1,7 @@
 -- The last kind for each place, and the call.
 use Prim.Native.Nat.{ℕ, suc, _+_, _-_, _<_, _≤_}
 use mathlib.Core.Path.{_≡_, refl, sym, _∙_, ap}
-use mathlib.Core.Logic.{_⊎_, inl, inr, _↔_}
+use mathlib.Core.Logic.{_↔_}
 use mathlib.Core.Bool.{Bool, true, false}
 use mathlib.Core.List.{List, [], _∷_}
 use native.Mathlib.Omega.{arith}
@@ -10,13 +10,12 @@ use lib.ListN.{length, getD, set, length-set, replicate, length-replicate, getD-
 use lib.Dec.{leb}
 use borrow.Author.Tests.{leb-true, leb-false}
 use lib.Seq.{getD-set-same, getD-set-other}
-use Rattle.language.specs.Limits.{desk}
 use Rattle.language.specs.Trees.{Expr}
 use Rattle.rules.specs.Each.{Each}
 use Rattle.rules.proofs.Each.{each-imp}
-use Rattle.any_order.specs.Places.{At, Expression}
-use Rattle.any_order.specs.Sharing.{Counts, Kind, In, Rest, Going, Good, none, Records, Recorded, total}
-use Rattle.any_order.specs.Searching.{counts, Ready, left, Some, Noted, Heads, Placed, Markable, Marked, Listed, NotedFrom, Headed, Asked, Shared}
+use Rattle.any_order.specs.Places.{At}
+use Rattle.any_order.specs.Sharing.{Kind, Rest, Going, Good, none, Records, total}
+use Rattle.any_order.specs.Searching.{counts, Ready, left, Noted, Heads, Placed, Markable, Marked, Listed, NotedFrom, Headed, Asked, Shared}
 use Rattle.any_order.proofs.Shares.{Like, good-like, rest-like}
 use Rattle.any_order.proofs.Recording.{records-le}
 use Rattle.any_order.proofs.Placing.{in-at, each-at}

@@ -1,7 +1,7 @@
 -- The search: what is tried is all there is to try.
 use Prim.Native.Nat.{ℕ, zero, suc, _+_, _-_, _*_, _<_, _≤_}
 use mathlib.Core.Path.{_≡_, refl, sym, _∙_, ap}
-use mathlib.Core.Logic.{_⊎_, inl, inr, _↔_}
+use mathlib.Core.Logic.{inl, inr, _↔_}
 use mathlib.Core.Bool.{Bool, true, false, not}
 use mathlib.Core.List.{List, [], _∷_}
 use native.Mathlib.Omega.{arith}
@@ -12,13 +12,13 @@ use lib.Seq.{getD-set-same, getD-set-other, set-set, set-getD}
 use borrow.Author.Tests.{leb-true, leb-false, not-true}
 use Rattle.language.specs.Trees.{Expr}
 use Rattle.rules.specs.Each.{Each}
-use Rattle.rules.proofs.Each.{some-each, each-imp}
+use Rattle.rules.proofs.Each.{some-each}
 use Rattle.any_order.specs.declared.Next.{Next}
 use Rattle.any_order.specs.Places.{At}
-use Rattle.any_order.specs.Sharing.{Counts, bump, Kind, In, Ways, Rest, Going, Good, Records, Recorded, Ascending, total}
-use Rattle.any_order.specs.Searching.{counts, Open, Grown, Few, Possible, Ready, left, Some, Noted, Heads, Onward, Trying, Placed, Attempted}
+use Rattle.any_order.specs.Sharing.{Counts, bump, Kind, In, Ways, Rest, Going, Good, Records, Recorded, total}
+use Rattle.any_order.specs.Searching.{counts, Open, Few, Possible, Ready, left, Some, Noted, Heads, Onward, Trying, Placed, Attempted}
 use Rattle.any_order.proofs.Ranges.{not-both}
-use Rattle.any_order.proofs.Shares.{Like, Respects, good-like, bump-same, bump-other, ways-like, rest-like, Leftmost, leftmost, from-leftmost, Reached, ways-reach, rest-reach}
+use Rattle.any_order.proofs.Shares.{Like, good-like, bump-same, bump-other, ways-like, rest-like, Leftmost, leftmost, from-leftmost, ways-reach, rest-reach}
 use Rattle.any_order.proofs.Recording.{records-le, some-fits}
 
 -- ---- places of a list

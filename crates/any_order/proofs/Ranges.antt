@@ -1,13 +1,13 @@
 -- What lies in ranges that are met, added and repeated.
 use Prim.Native.Nat.{ℕ, zero, suc, _+_, _-_, _<_, _≤_, max, min}
 use mathlib.Core.Path.{_≡_, refl, sym, _∙_}
-use mathlib.Core.Logic.{_⊎_, inl, inr, _↔_}
+use mathlib.Core.Logic.{_⊎_, inl, inr}
 use mathlib.Core.Bool.{Bool, true, false, _||_}
 use native.Mathlib.Omega.{arith}
 use lib.Dec.{leb}
 use borrow.Author.Tests.{leb-true, leb-false}
 use Rattle.any_order.specs.declared.Range.{Range}
-use Rattle.any_order.specs.Searching.{Lies, Small, Emptied, Met, Added, Repeated}
+use Rattle.any_order.specs.Searching.{Lies, Emptied, Met, Added, Repeated}
 
 pub not-both : {b : Bool} → b ≡ true → b ≡ false → ⊥
 not-both {b} e d = let z : false ≡ true = sym d ∙ e in let y : _≡_ {A = ℕ} 0 1 = cc in omega arith

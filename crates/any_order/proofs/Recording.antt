@@ -1,11 +1,10 @@
 -- Kinds that stand in words.
 use Prim.Native.Nat.{ℕ, _+_, _<_, _≤_}
-use mathlib.Core.Path.{_≡_, refl, sym, _∙_}
+use mathlib.Core.Path.{_≡_, refl, _∙_}
 use mathlib.Core.List.{List, [], _∷_}
 use native.Mathlib.Omega.{arith}
 use lib.ListN.{length, getD}
-use Rattle.any_order.specs.declared.Next.{Next}
-use Rattle.any_order.specs.Sharing.{Kind, Recorded, Records}
+use Rattle.any_order.specs.Sharing.{Kind, Records}
 use Rattle.any_order.specs.Searching.{Some, Heads, Onward}
 
 pub records-le : (w : List ℕ) (at : ℕ) (ks : List Kind) (top : ℕ) → Records w at ks top → at ≤ top

@@ -1,20 +1,18 @@
 -- Terms put on symbols: only the numbers matter, not which term comes first.
 use Prim.Native.Nat.{ℕ, zero, suc, _+_, _<_, _≤_}
-use mathlib.Core.Path.{_≡_, refl, sym, _∙_, ap}
-use mathlib.Core.Logic.{_⊎_, inl, inr, _↔_}
+use mathlib.Core.Path.{_≡_, refl, sym, _∙_}
+use mathlib.Core.Logic.{_⊎_, inl, inr}
 use mathlib.Core.Bool.{Bool, true, false}
 use mathlib.Core.List.{List, [], _∷_}
 use native.Mathlib.Omega.{arith}
 use lib.Dec.{eqb, leb}
-use lib.ListN.{length, getD}
 use borrow.Author.Tests.{leb-true, leb-false, eq-eqb, ne-eqb}
 use native.Mathlib.Decide.{ℕ-discrete}
 use Rattle.language.specs.Kinds.{pick}
 use Rattle.language.specs.Trees.{Expr, eps, cat, alt, star, over}
-use Rattle.rules.specs.Each.{Each, Some}
-use Rattle.rules.proofs.Each.{some-each}
+use Rattle.rules.specs.Each.{Each}
 use Rattle.any_order.specs.Places.{sizeE}
-use Rattle.any_order.specs.Sharing.{Counts, bump, Sums, Kind, In, Ways, Rest, Going, Good}
+use Rattle.any_order.specs.Sharing.{Counts, bump, Sums, Kind, In, Ways, Rest, Good}
 
 -- ---- the same numbers
 

@@ -1,18 +1,18 @@
 -- What the numbers on an expression's symbols may become, by the word that stands there.
 use Prim.Native.Nat.{ℕ, _+_, _*_, _<_, _≤_}
-use mathlib.Core.Path.{_≡_, refl, sym, _∙_}
-use mathlib.Core.Logic.{_⊎_, inl, inr, _↔_}
+use mathlib.Core.Path.{_≡_, refl}
+use mathlib.Core.Logic.{inl, inr}
 use mathlib.Core.Bool.{Bool, true, false}
 use mathlib.Core.List.{List}
 use native.Mathlib.Omega.{arith}
 use lib.ListN.{length, getD}
 use Rattle.language.specs.Limits.{desk}
-use Rattle.language.specs.Trees.{Expr, eps, cat, alt, star, over}
+use Rattle.language.specs.Trees.{Expr}
 use Rattle.any_order.specs.declared.Range.{Range}
 use Rattle.any_order.specs.declared.Span.{Span}
 use Rattle.any_order.specs.Places.{sizeE, At, Expression}
-use Rattle.any_order.specs.Sharing.{Counts, Sums}
-use Rattle.any_order.specs.Searching.{Past, Lies, Small, Met, Added, Repeated, Few, counts, Open, Grows, Grown, Spanned, Possible}
+use Rattle.any_order.specs.Sharing.{Sums}
+use Rattle.any_order.specs.Searching.{Past, Lies, Small, Met, Added, Repeated, Few, counts, Grows, Spanned, Possible}
 use Rattle.any_order.proofs.Ranges.{lies, not-both}
 use Rattle.any_order.proofs.Standing.{at-fits, by-eps, by-cat, by-alt, by-star, by-over}
 

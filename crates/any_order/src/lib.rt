@@ -1,8 +1,8 @@
 // Whether terms of several kinds can be shared out among the symbols of an expression so that, in some order, they are a member of it. The terms of a kind may
 // be put on the same symbols.
 ghost use mathlib.Core.Path.{_≡_};
-ghost use Prim.Native.Nat.{_+_, _-_, _*_, _≤_, _<_, max, min};
-ghost use lib.ListN.{length, set};
+ghost use Prim.Native.Nat.{_+_, _-_, _≤_, _<_, max, min};
+ghost use lib.ListN.{length};
 ghost use Rattle.language.specs.Limits.{desk};
 ghost use Rattle.any_order.specs.Places.{Expression};
 ghost use Rattle.any_order.specs.Searching.{Past, Emptied, Met, Added, Repeated, Small, Few, Grows, Spanned, Possible, Ready, Some, Onward, Placed, Attempted, Markable, Marked, Listed, NotedFrom, Headed, Asked, Shared};

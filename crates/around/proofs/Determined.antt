@@ -1,5 +1,5 @@
 -- Any two outcomes that a contract of this crate allows coincide.
-use mathlib.Core.Path.{_≡_, sym, ap, _∙_}
+use mathlib.Core.Path.{sym, ap, _∙_}
 use mathlib.Core.List.{List}
 use Prim.Native.Nat.{ℕ}
 use Rattle.language.proofs.Determined.{Determined}

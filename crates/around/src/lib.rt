@@ -1,7 +1,6 @@
 // What comes before a run and after it.
-ghost use Prim.Native.Nat.{ℕ, _≤_};
+ghost use Prim.Native.Nat.{_≤_};
 ghost use mathlib.Core.Path.{_≡_};
-ghost use mathlib.Core.List.{List};
 ghost use lib.ListN.{length, replicate};
 ghost use Rattle.language.specs.Limits.{desk};
 ghost use Rattle.language.specs.Question.{readQuestion};

@@ -1,24 +1,24 @@
 -- An expression where it stands in a text: its bytes are those of its tokens and no others, so read backwards they give its words.
-use Prim.Native.Nat.{ℕ, zero, suc, _+_, _-_, _*_, _<_, _≤_}
+use Prim.Native.Nat.{ℕ, zero, suc, _+_, _-_, _*_, _≤_}
 use native.Mathlib.Omega.{arith}
 use mathlib.Core.Path.{_≡_, refl, sym, ap, ap₂, _∙_, subst}
 use mathlib.Core.Bool.{Bool, true, false}
 use mathlib.Core.List.{List, [], _∷_, _++_}
-use mathlib.Core.Option.{Option, none, some}
+use mathlib.Core.Option.{none, some}
 use lib.Dec.{eqb}
 use lib.ListN.{length, take, drop, getD, length-append}
 use Rattle.language.specs.Kinds.{pick}
 use Rattle.language.specs.Between.{between}
-use Rattle.language.specs.Trees.{Functor, symbol, fvar, Expr}
+use Rattle.language.specs.Trees.{symbol, fvar, Expr}
 use Rattle.language.specs.Writing.{exprWords}
 use Rattle.language.proofs.Offsets.{between-cons}
-use Rattle.grammar.specs.Tokens.{Token, one, run, functor, equals, comma, opens, closes, plus, times, nameByte, blank, beginsName, Tokens, puts, renames, renamed, nameToken, letter, marked, starOr, byte, tokens}
+use Rattle.grammar.specs.Tokens.{Token, one, run, functor, equals, comma, opens, closes, plus, times, nameByte, blank, beginsName, Tokens, puts, renamed, nameToken, letter, marked, starOr, byte, tokens}
 use Rattle.grammar.specs.Grammar.{choice, Means, linesOf, ahead}
 use Rattle.texts.specs.Numbering.{Naming, nameExpr}
 use Rattle.lexing.specs.Bytes.{line, others, nameFrom, nameLength}
 use Rattle.lexing.specs.Pieces.{here}
 use Rattle.lexing.proofs.Laws.{line-go, others-go, begins-line, standing, name-read}
-use Rattle.flat.specs.Filling.{Filled, operandOn, turns, nothing}
+use Rattle.flat.specs.Filling.{operandOn, turns, nothing}
 use Rattle.flat.proofs.Filling as Filling
 use Rattle.backwards.specs.Backward.{one-if, owedIn, taken, backwards, weight}
 use Rattle.backwards.proofs.Plain.{Plain, plain-part}

@@ -1,7 +1,7 @@
 -- The tokens of an expression are names and characters of expressions, and no others.
 use mathlib.Core.Path.{_≡_, refl, sym, ap, _∙_}
 use mathlib.Core.List.{List, [], _∷_, _++_, append-assoc}
-use Rattle.language.specs.Trees.{Functor, symbol, fvar, Expr}
+use Rattle.language.specs.Trees.{symbol, fvar, Expr}
 use Rattle.grammar.specs.Tokens.{Token, one, run, functor, equals, comma, opens, closes, plus, times}
 use Rattle.grammar.specs.Grammar.{Level, Means, single, under, group, once, again, only, either, last, then, no-listed, some-listed}
 

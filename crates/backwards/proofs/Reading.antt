@@ -1,15 +1,14 @@
 -- Bytes read backwards are tokens read backwards.
-use Prim.Native.Nat.{ℕ, zero, suc, _+_, _*_, _≤_}
+use Prim.Native.Nat.{ℕ, _+_, _*_}
 use native.Mathlib.Omega.{arith}
 use mathlib.Core.Path.{_≡_, refl, sym, ap, ap₂, _∙_, subst}
 use mathlib.Core.Bool.{Bool, true, false}
-use mathlib.Core.List.{List, [], _∷_, _++_}
-use mathlib.Core.Option.{Option, none, some}
+use mathlib.Core.List.{List, [], _∷_}
+use mathlib.Core.Option.{none, some}
 use lib.Dec.{eqb}
-use lib.ListN.{length, length-append}
 use Rattle.language.specs.Kinds.{pick}
-use Rattle.language.specs.Trees.{Functor, symbol, fvar}
-use Rattle.grammar.specs.Tokens.{Token, one, run, functor, equals, comma, opens, closes, plus, times, nameByte, blank, beginsName, Tokens, puts, renames, renamed, nameToken, letter, marked, starOr, byte, tokens}
+use Rattle.language.specs.Trees.{symbol, fvar}
+use Rattle.grammar.specs.Tokens.{Token, one, run, functor, equals, comma, opens, closes, plus, times, nameByte, blank, beginsName, Tokens, puts, renamed, nameToken, letter, marked, starOr, tokens}
 use Rattle.texts.specs.Numbering.{Naming}
 use Rattle.lexing.specs.declared.Mark.{Mark}
 use Rattle.lexing.specs.declared.Mark.the-variants.{End, Bad, Symbol, One, Run, Function, Equals, Comma, Opens, Closes, Plus, Times}
@@ -18,7 +17,7 @@ use Rattle.lexing.proofs.Laws.{reading, blank-free, read-byte, read-blank, no-n
 use Rattle.flat.specs.Filling.{Filled, turn, turns}
 use Rattle.backwards.specs.Backward.{taken, backwards}
 use Rattle.backwards.specs.Backward as Back
-use Rattle.backwards.proofs.Plain.{Character, Plain}
+use Rattle.backwards.proofs.Plain.{Plain}
 
 none-some : {A : Type 0} {ts : List Token} → _≡_ {A = Tokens} none (some ts) → A
 none-some e = absurd (let z : _≡_ {A = ℕ} 0 1 = cc in omega arith)

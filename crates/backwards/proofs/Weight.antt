@@ -1,13 +1,13 @@
 -- What is written and what is owed only grows: so no more brackets have something owed before them than there will be words.
 use Prim.Native.Nat.{ℕ, zero, suc, _+_, _-_, _≤_}
 use native.Mathlib.Omega.{arith}
-use mathlib.Core.Path.{_≡_, refl, sym, ap, _∙_, subst}
-use mathlib.Core.Bool.{Bool, true, false, _||_}
-use mathlib.Core.List.{List, [], _∷_, _++_}
+use mathlib.Core.Path.{_≡_, refl}
+use mathlib.Core.Bool.{Bool, true, false}
+use mathlib.Core.List.{List, [], _∷_}
 use lib.Dec.{eqb}
 use lib.ListN.{length}
 use Rattle.language.specs.Kinds.{pick}
-use Rattle.language.specs.Trees.{Functor, symbol, fvar}
+use Rattle.language.specs.Trees.{symbol, fvar}
 use Rattle.grammar.specs.Tokens.{Token, one, run, functor, equals, comma, opens, closes, plus, times}
 use Rattle.texts.specs.Numbering.{Naming}
 use Rattle.flat.specs.Filling.{Frame, Filled, starsOn, operandOn, itemOn, owes, enclosed, released, turn, turns, nothing}

@@ -1,5 +1,5 @@
 -- The lone variable of a literal, by its words: the variable, and behind it the end of the hedge.
-use Prim.Native.Nat.{ℕ, _+_, _<_, _≤_}
+use Prim.Native.Nat.{ℕ, _+_}
 use mathlib.Core.Path.{_≡_, refl, sym, ap, ap₂, _∙_}
 use mathlib.Core.Bool.{Bool, true, false, false≢true}
 use mathlib.Core.List.{List, [], _∷_, _++_, append-assoc}
@@ -11,8 +11,8 @@ use Rattle.language.specs.declared.HedgeVar.{HedgeVar}
 use Rattle.language.specs.declared.Kind.{Kind}
 use Rattle.language.specs.Limits.{desk}
 use Rattle.language.specs.Kinds.{pick, kindOf}
-use Rattle.language.specs.Trees.{Functor, symbol, fvar, Hedge, ε, tvar, hvar, node, Expr, eps, cat, alt, star, over, Literal, eqn, mem, Conj}
-use Rattle.language.specs.Writing.{functorWord, hedgeWords, exprWords, literalWords, conjWords}
+use Rattle.language.specs.Trees.{Functor, symbol, fvar, Hedge, ε, tvar, hvar, node, Expr, eps, cat, alt, star, over, mem, Conj}
+use Rattle.language.specs.Writing.{functorWord, hedgeWords, exprWords, conjWords}
 use Rattle.language.specs.Fine.{fineFunctor, fineHedge}
 use Rattle.language.proofs.Arms.{Among, each-kind}
 use Rattle.language.proofs.Words.{kind-term, kind-run, kind-symbol, kind-function}

@@ -1,5 +1,5 @@
 -- The rule itself, over trees: a literal and those behind it come to what its tests come to.
-use mathlib.Core.Path.{_≡_, refl, sym, ap, ap₂, _∙_}
+use mathlib.Core.Path.{_≡_, refl, ap, ap₂, _∙_}
 use mathlib.Core.Bool.{Bool, true, false, _||_}
 use mathlib.Core.List.{List, [], _∷_}
 use mathlib.Core.Option.{none, some}
@@ -11,7 +11,7 @@ use Rattle.language.specs.Limits.{walkedPairs}
 use Rattle.language.specs.Kinds.{pick}
 use Rattle.language.specs.Trees.{Hedge, ε, tvar, hvar, node, Expr, Literal, eqn, mem, Conj, isUnordered, tv, hv, eqV}
 use Rattle.rules.specs.Looks.{empty}
-use Rattle.rules.specs.Solved.{loneVar, given}
+use Rattle.rules.specs.Solved.{given}
 use Rattle.rules.specs.Walk.{longWalk, commonHedge, commonTerm}
 use Rattle.rules.specs.Reply.{Reply, nothing, results, stops, orNext}
 use Rattle.rules.specs.Clash.{mentions, isLone, tryPair, tryBehind}
@@ -19,9 +19,8 @@ use Rattle.rules.specs.Rules.{Clash}
 use Rattle.clash.specs.declared.Verdict.{Verdict}
 use Rattle.clash.specs.declared.Verdict.the-variants.{Shares, Clashes, Long}
 use Rattle.clash.specs.Judging.{verdictOf}
-use Rattle.clashes.specs.declared.Lone.{Lone}
 use Rattle.clashes.specs.declared.Lone.the-variants.{Nothing, Term, Run}
-use Rattle.clashes.specs.Pairs.{loneIn, isTerm, sameLone, testOf, thenOf, behindOf, replyOf, answerOf}
+use Rattle.clashes.specs.Pairs.{loneIn, sameLone, testOf, thenOf, behindOf, replyOf, answerOf}
 
 -- ---- two tests
 

@@ -1,5 +1,5 @@
 -- The questions of a sheet: the i-th stands between two offsets, and its bytes hold its words.
-use Prim.Native.Nat.{ℕ, zero, suc, _+_, _-_, _*_, _/_, _%_, _<_, _≤_}
+use Prim.Native.Nat.{ℕ, zero, suc, _+_, _-_, _*_, _%_, _<_, _≤_}
 use mathlib.Core.Path.{_≡_, refl, sym, ap, ap₂, subst, _∙_}
 use mathlib.Core.Bool.{Bool, true, false}
 use mathlib.Core.List.{List, [], _∷_}
@@ -14,7 +14,7 @@ use Rattle.language.specs.Between.{between}
 use Rattle.language.proofs.Offsets.{Part, part-is, part-from}
 use Rattle.word_bytes.specs.Bytes.{wordsOf, wordsIn}
 use Rattle.word_bytes.proofs.Pairs.{length-wordsOf, words-from, words-up-to, even-holds}
-use Rattle.sheets.specs.Layout.{undoubled, partsAt, countOf, sheetOffsets, tableLaid, sheetLaid, sheetParts}
+use Rattle.sheets.specs.Layout.{undoubled, partsAt, countOf, sheetOffsets, sheetLaid, sheetParts}
 use Rattle.day.proofs.Headers.{offsetAt, offsets-cons, table-long, table-begins, table-rises, laid-few, laid-table, no, odd-sheet}
 
 pub length-undoubled : (n : ℕ) (ws : List ℕ) → length (undoubled n ws) ≡ n

@@ -1,7 +1,7 @@
 -- What solving leaves in the answer slice, read up to the end of its last line.
 use Prim.Native.Nat.{ℕ, suc, _+_, _-_, _<_, _≤_}
 use mathlib.Core.Path.{_≡_, refl, sym, ap, subst, _∙_}
-use mathlib.Core.Bool.{Bool, true, false}
+use mathlib.Core.Bool.{false}
 use mathlib.Core.List.{List, [], _∷_, _++_, map, append-assoc}
 use native.Mathlib.Omega.{arith}
 use lib.Dec.{leb, eqb}
@@ -17,7 +17,7 @@ use Rattle.language.proofs.Bools.{both-true}
 use Rattle.language.proofs.Numbering.{each-number}
 use Rattle.meaning.specs.Values.{offsetsOf, joined}
 use Rattle.rules.specs.Run.{Numbered, linesAt, linesSize}
-use Rattle.rules.specs.Answer.{Solving, answered, unread, given-up, solving, lineWords, countOpen, padded, answerBody, answerWords, zeros, overwritten}
+use Rattle.rules.specs.Answer.{Solving, answered, unread, given-up, solving, lineWords, answerBody, answerWords, zeros, overwritten}
 use Rattle.rules.proofs.Invariant.{answered-run}
 use Rattle.exact.proofs.Wider.{lines-fit}
 use Rattle.answers.proofs.Rows.{header, length-header, length-lines, length-answer}

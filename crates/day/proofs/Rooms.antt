@@ -2,11 +2,11 @@
 use Prim.Native.Nat.{ℕ, suc, _+_, _-_, _*_, _/_, _%_, _<_, _≤_}
 use mathlib.Core.Path.{_≡_, refl, sym, ap, _∙_}
 use mathlib.Core.Bool.{Bool, true, false}
-use mathlib.Core.List.{List, [], _∷_, _++_, map, append-nil}
+use mathlib.Core.List.{List, [], _∷_, _++_}
 use native.Mathlib.Omega.{arith}
 use lib.Dec.{leb}
-use lib.ListN.{length, take, drop, getD, set, length-append, length-map, List·getD-map}
-use lib.Seq.{sets, length-sets, take-suc, take-all, take-nil, drop-set-lt, length-take-le}
+use lib.ListN.{length, take, drop, getD, set, length-append, length-map}
+use lib.Seq.{sets, length-sets, take-suc, take-all, drop-set-lt, length-take-le}
 use borrow.Author.Tests.{le-leb, lt-leb}
 use Rattle.language.specs.Limits.{desk}
 use Rattle.language.proofs.Offsets.{parts-length}
@@ -19,7 +19,7 @@ use Rattle.answers.proofs.Rows.{joined-more, offsets-more}
 use Rattle.word_bytes.specs.Bytes.{bytesOf}
 use Rattle.word_bytes.proofs.Pairs.{length-bytesOf}
 use Rattle.word_bytes.proofs.Pairs as pairs
-use Rattle.sheets.specs.Layout.{doubled, undoubled, partsAt, countOf, sheetOffsets, sheetWords, sheetParts, sheetLaid}
+use Rattle.sheets.specs.Layout.{doubled, undoubled, partsAt, countOf, sheetOffsets, sheetWords, sheetParts}
 use Rattle.sheets.specs.Day.{answerPart, answersOf}
 use Rattle.sheets.proofs.RoundTrip.{length-doubled, length-sheet}
 use Rattle.handing.specs.Handed.{wordBytes}

@@ -1,6 +1,6 @@
 -- Question by question: the answers placed so far, one more, or no room for it.
 use Prim.Native.Nat.{ℕ, suc, _+_, _*_, _/_, _<_, _≤_}
-use mathlib.Core.Path.{_≡_, refl, sym, ap, ap₂, _∙_}
+use mathlib.Core.Path.{_≡_, sym, ap, ap₂, _∙_}
 use mathlib.Core.Bool.{Bool, true, false}
 use mathlib.Core.List.{List, [], _∷_}
 use native.Mathlib.Omega.{arith}
@@ -11,7 +11,7 @@ use Rattle.rules.specs.Answer.{solving}
 use Rattle.word_bytes.specs.Bytes.{wordsIn, wordsOf, bytesOf}
 use Rattle.sheets.specs.Layout.{doubled, partsAt, countOf, sheetLaid, sheetParts}
 use Rattle.sheets.specs.Day.{answerPart, answersOf}
-use Rattle.day.specs.Written.{written, most, Placed, Ended}
+use Rattle.day.specs.Written.{written, Placed, Ended}
 use Rattle.day.proofs.Cuts.{held}
 use Rattle.day.proofs.Rooms.{length-written, begun-again, answers-count, answer-of, placed-none, placed-long, placed-more, placed-full, placed-all, none-placed, ended-begun}
 

@@ -30,7 +30,7 @@ use Rattle.day.proofs.Days.{no-sheet, a-sheet}
 use Rattle.host.specs.Host as host
 use Rattle.host.proofs.Solves.{long-answer}
 use Rattle.demands.specs.HostCalls.{DeskSolve, DeskDay}
-use Rattle.demands.specs.DayTells.{byItself, EachByItself, dayWords, AnswersIn, DeskDayTells, unlaid, too-long}
+use Rattle.demands.specs.DayTells.{byItself, dayWords, AnswersIn, DeskDayTells, unlaid, too-long}
 use Rattle.demands.specs.DayTells as tells
 use Rattle.demands.proofs.Hosting.{words-before}
 

@@ -14,9 +14,7 @@ use language::HedgeVar;
 use language::Signature;
 use plans::Piece;
 use plans::Plan;
-use plans::Recipe;
 use plans::Ways;
-use plans::Within;
 use plans::inner;
 use recipes::few;
 use recipes::full;
@@ -30,7 +28,6 @@ use rules::places::AT_E6;
 use rules::places::AT_E7;
 use spots::inside;
 use views::Look;
-use views::Side;
 use views::View;
 
 // The equation stays, and in all others the left side's words before `until` become the right side's before the cut.

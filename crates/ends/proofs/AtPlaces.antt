@@ -1,29 +1,27 @@
 -- Every rule, wherever it applies, leaves conjunctions that are below the one it is applied to.
-use Prim.Native.Nat.{ℕ, zero, suc, _+_, _≤_, _<_}
-use mathlib.Core.Path.{_≡_, refl, sym, ap, _∙_, subst}
+use Prim.Native.Nat.{_+_, _≤_, _<_}
+use mathlib.Core.Path.{_≡_, refl, ap}
 use mathlib.Core.Logic.{_⊎_, inl, inr}
-use mathlib.Core.Bool.{Bool, true, false, not}
+use mathlib.Core.Bool.{Bool, true, false}
 use mathlib.Core.List.{List, [], _∷_, _++_, map}
-use mathlib.Core.Option.{Option, none, some}
+use mathlib.Core.Option.{none, some}
 use native.Mathlib.Omega.{arith}
-use lib.Dec.{T}
 use Rattle.language.specs.declared.Signature.{Signature}
-use Rattle.language.specs.Trees.{Hedge, Expr, eps, cat, alt, star, over, Literal, eqn, mem, Conj, Var}
+use Rattle.language.specs.Trees.{Expr, eps, cat, alt, star, over, Literal, eqn, mem, Conj, Var}
 use Rattle.rules.specs.Substitution.{putC}
-use Rattle.rules.specs.Reply.{Reply, nothing, results, stops, PairRule}
+use Rattle.rules.specs.Reply.{PairRule}
 use Rattle.rules.specs.Rules.{Branch, plain, elims, Answer, Rule, onEqn, onMem, onPair}
-use Rattle.rules.specs.Rules as rules
-use Rattle.rules.specs.Step.{place, placed, each, resultsAt}
+use Rattle.rules.specs.Step.{place, placed, resultsAt}
 use Rattle.rules.specs.Each.{Each}
 use Rattle.rules.specs.Sides.{AtSides}
-use Rattle.rules.proofs.Each.{_also_, each-map, each-imp}
-use Rattle.rules.proofs.Answers.{Answers, look, test, answers}
+use Rattle.rules.proofs.Each.{each-map, each-imp}
+use Rattle.rules.proofs.Answers.{Answers}
 use Rattle.rules.proofs.Steps.{Gives, gives-results, gives-imp, gives-each, OnSides, on-sides}
-use Rattle.rules.proofs.Folding.{Struck, here, further, fold-is}
+use Rattle.rules.proofs.Folding.{Struck, here, further}
 use Rattle.exact.specs.Made.{MadeE, MadeL, MadeC}
 use Rattle.exact.proofs.Made.{made-++}
-use Rattle.exact.proofs.MadeByRules.{MadeBranch, MadeAnswer, MakesEqn, MakesMem, MakesPair, RuleMakes, each-makes}
-use Rattle.ends.specs.Measure.{occL, occC, own, ownC, settled, unsettled, hedgesL, hedges, restL, rest, Below}
+use Rattle.exact.proofs.MadeByRules.{MadeBranch, MadeAnswer, MakesEqn, MakesMem}
+use Rattle.ends.specs.Measure.{occL, occC, own, ownC, settled, hedgesL, hedges, restL, rest, Below}
 use Rattle.ends.proofs.Sums.{occ-++, own-++, hedges-++, rest-++, owns-once, literal-weighs}
 use Rattle.ends.proofs.Putting.{Apart, apart, made-apart-all, put-keeps-all, own-stays, clear-all}
 use Rattle.ends.proofs.Falls.{LeftAlone, Lighter, Settles, Vanishes, Falls, FallsEqn, FallsMem, falls-swapped}

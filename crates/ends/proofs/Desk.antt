@@ -1,23 +1,22 @@
 -- The desk's run is the run without limits, wherever it is not refused: the same lines, the same steps.
-use Prim.Native.Nat.{ℕ, zero, suc, _+_, _≤_, _<_}
+use Prim.Native.Nat.{ℕ, zero, suc, _+_}
 use mathlib.Core.Path.{_≡_, refl, sym, ap, _∙_, subst}
 use mathlib.Core.Bool.{Bool, true, false, _||_}
-use mathlib.Core.List.{List, [], _∷_, _++_, map, append-assoc, append-nil}
+use mathlib.Core.List.{List, [], _∷_, _++_, append-assoc, append-nil}
 use mathlib.Core.Option.{Option, none, some}
 use native.Mathlib.Omega.{arith}
 use lib.Dec.{ltb}
-use lib.ListN.{length}
 use Rattle.language.specs.declared.Refusal.{Refusal}
 use Rattle.language.specs.declared.Refusal.the-variants.{LongResult, LongWaiting, LineRoom, StepLimit, LongWalk}
 use Rattle.language.specs.declared.Signature.{Signature}
 use Rattle.language.specs.Limits.{Limits, walkedPairs}
-use Rattle.language.specs.Trees.{Expr, Literal, eqn, mem, Conj, isUnordered, signature, Question, Var}
+use Rattle.language.specs.Trees.{Expr, Literal, eqn, mem, Conj, isUnordered, Var}
 use Rattle.rules.specs.Solved.{loneVar}
 use Rattle.rules.specs.Walk.{longWalk}
-use Rattle.rules.specs.Clash.{Unordered, mentions, agree, isLone, tryPair, tryBehind, ClashBy}
+use Rattle.rules.specs.Clash.{Unordered, mentions, agree, isLone, tryPair, tryBehind}
 use Rattle.rules.specs.Reply.{Reply, nothing, results, stops, orNext}
-use Rattle.rules.specs.Rules.{Rule, onEqn, onMem, onPair, Clash, rules}
-use Rattle.rules.specs.Step.{Spot, each, resultsAt, Found, found, earliest, first, search, step}
+use Rattle.rules.specs.Rules.{Rule, onPair, Clash, rules}
+use Rattle.rules.specs.Step.{each, resultsAt, found, earliest, first, search, step}
 use Rattle.rules.specs.Run.{Numbered, allOf, numbered, anyLong, waitingSize, linesFit, Outcome, finished, refused, checked, lined, turn, runFrom, runBy, run}
 use Rattle.ends.specs.Unlimited.{walkPair, walkBehind, FreeClash, endingIn, freeRules, freeStep, Goes, done, line, made}
 

@@ -1,21 +1,19 @@
 -- There is no way on for ever, whatever rule is chosen; so the run without limits reaches its lines.
-use Prim.Native.Nat.{ℕ, zero, suc, _+_, _≤_, _<_}
+use Prim.Native.Nat.{ℕ, zero, suc, _+_, _<_}
 use mathlib.Core.Path.{_≡_, refl, sym, ap, _∙_, subst}
-use mathlib.Core.Logic.{_⊎_, inl, inr}
-use mathlib.Core.Bool.{Bool, true, false}
+use mathlib.Core.Logic.{inl, inr}
 use mathlib.Core.List.{List, [], _∷_, _++_, append-assoc, append-nil, List·Memᴰ, List·Memᴰ·head, List·Memᴰ·tail}
 use native.Mathlib.Omega.{arith}
 use Rattle.language.specs.declared.Signature.{Signature}
 use Rattle.language.specs.Trees.{Functor, symbol, fvar, Hedge, ε, tvar, hvar, node, Expr, eps, cat, alt, star, over, Literal, eqn, mem, Conj, Var, tv, hv, fv}
 use Rattle.rules.specs.Reply.{Reply, nothing, results, stops}
-use Rattle.rules.specs.Rules.{Rule, rules}
 use Rattle.rules.specs.Step.{Spot, ruleAt, each, Found, first}
 use Rattle.rules.specs.Each.{Each}
 use Rattle.rules.specs.Run.{Numbered, allOf}
-use Rattle.rules.proofs.Each.{each-in, each-imp}
-use Rattle.rules.proofs.Steps.{Gives, gives-results, Kept, ruleAt-is, first-named}
+use Rattle.rules.proofs.Each.{each-in}
+use Rattle.rules.proofs.Steps.{gives-results, Kept, ruleAt-is, first-named}
 use Rattle.rules.proofs.Stopping.{StopsBy, by-each, at-first, Fold-stops}
-use Rattle.exact.specs.Made.{Name, aSymbol, aVariable, MadeF, Made, MadeE, MadeL, MadeC}
+use Rattle.exact.specs.Made.{Name, MadeF, Made, MadeE, MadeC}
 use Rattle.ends.specs.Measure.{unsettled, hedges, rest, Below}
 use Rattle.ends.specs.Unlimited.{FreeClash, freeRules, freeStepAt, freeStep, Goes, done, line, made, Ends, ends}
 use Rattle.ends.proofs.Counting.{In}

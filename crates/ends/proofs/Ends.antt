@@ -3,7 +3,7 @@ use Prim.Native.Nat.{ℕ, _≤_}
 use mathlib.Core.Path.{_≡_, refl}
 use mathlib.Core.Logic.{_↔_}
 use mathlib.Core.Bool.{Bool, true, false}
-use mathlib.Core.List.{List, [], _∷_, _++_, List·Memᴰ}
+use mathlib.Core.List.{List, [], _∷_, List·Memᴰ}
 use native.Mathlib.Omega.{arith}
 use lib.Dec.{T, ltb}
 use lib.ListN.{length}
@@ -13,9 +13,9 @@ use Rattle.language.specs.Limits.{Limits}
 use Rattle.language.specs.Trees.{Expr, Conj, signature, Question, Var}
 use Rattle.language.specs.Question.{asks, readQuestion}
 use Rattle.rules.specs.Walk.{Pair, reached, longWalk}
-use Rattle.rules.specs.Reply.{nothing, results}
+use Rattle.rules.specs.Reply.{nothing}
 use Rattle.rules.specs.Solved.{solved}
-use Rattle.rules.specs.Step.{Spot, step}
+use Rattle.rules.specs.Step.{step}
 use Rattle.rules.specs.Each.{Each}
 use Rattle.rules.specs.Sides.{AtSides, Idle}
 use Rattle.rules.specs.Run.{Numbered, numbered, EachLine, finished, run}
@@ -25,11 +25,8 @@ use Rattle.rules.proofs.Invariant.{lines-keep, lines-rest, answered-run}
 use Rattle.lines.proofs.MatchingRun.{none-open}
 use Rattle.walk.specs.Reach.{Reach, Once}
 use Rattle.walk.proofs.Reached.{reached-exact, reached-once}
-use Rattle.exact.specs.Made.{MadeC}
-use Rattle.ends.specs.Measure.{Below}
-use Rattle.ends.specs.Unlimited.{freeRules, freeStepAt, freeStep, Goes, Ends}
+use Rattle.ends.specs.Unlimited.{freeRules, freeStep, Goes, Ends}
 use Rattle.ends.specs.Last.{lastRuns}
-use Rattle.ends.proofs.Counting.{In}
 use Rattle.ends.proofs.AtPlaces.{Falling}
 use Rattle.ends.proofs.EveryRule.{every-rule-falls}
 use Rattle.ends.proofs.Ending.{Somewhere, every-way-ends, run-ends, goes-once, goes-rest}

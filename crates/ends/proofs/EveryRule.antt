@@ -8,18 +8,16 @@ use Rattle.language.specs.Trees.{Expr, Literal, eqn, mem, Conj, isUnordered, Va
 use Rattle.rules.specs.Looks.{loneT, loneH, loneNode, asSymbol, asOver}
 use Rattle.rules.specs.Solved.{loneVar}
 use Rattle.rules.specs.Clash.{Unordered, mentions, agree, isLone}
-use Rattle.rules.specs.Reply.{Reply, nothing, results, stops, orNext, PairRule}
+use Rattle.rules.specs.Reply.{Reply, nothing, results, stops, orNext}
 use Rattle.rules.specs.Rules.{Rule, onEqn, onMem, onPair}
 use Rattle.rules.specs.Rules as rules
-use Rattle.rules.specs.Step.{each}
 use Rattle.rules.specs.Each.{Each}
 use Rattle.rules.specs.Sides.{AtSides}
 use Rattle.rules.proofs.Each.{_also_, each-imp}
 use Rattle.rules.proofs.Answers.{look, test, answers}
 use Rattle.rules.proofs.Looks.{loneT-is, loneH-is, loneNode-is, asSymbol-is, asOver-is}
-use Rattle.rules.proofs.Steps.{Gives, gives-each, gives-imp, kept-at-sides, Kept}
+use Rattle.rules.proofs.Steps.{Gives, gives-each, kept-at-sides, Kept}
 use Rattle.rules.proofs.Folding.{fold-is}
-use Rattle.rules.proofs.Clashing.{drops-gives}
 use Rattle.exact.specs.Made.{Name, MadeC}
 use Rattle.exact.proofs.MadeByRules.{Known, RuleMakes, each-makes, each-rule-makes}
 use Rattle.ends.specs.Unlimited.{walkPair, walkBehind, FreeClash, endingIn, freeRules}

@@ -1,27 +1,27 @@
 -- What is shown of each rule wherever it applies: what stands for the literal weighs less, or a variable is settled; and a settled variable's own equation is left alone.
 use Prim.Native.Nat.{ℕ, zero, suc, _+_, _≤_, _<_}
-use mathlib.Core.Path.{_≡_, refl, sym, ap, _∙_, subst}
+use mathlib.Core.Path.{_≡_, refl, ap, _∙_}
 use mathlib.Core.Logic.{_⊎_, inl, inr}
-use mathlib.Core.Bool.{Bool, true, false, _&&_, _||_, not}
-use mathlib.Core.List.{List, [], _∷_, _++_, map}
+use mathlib.Core.Bool.{Bool, true, false, _&&_}
+use mathlib.Core.List.{[]}
 use mathlib.Core.Option.{Option, none, some}
 use native.Mathlib.Omega.{arith}
 use lib.Dec.{T}
 use Rattle.language.specs.declared.HedgeVar.{HedgeVar}
 use Rattle.language.specs.Kinds.{pick}
-use Rattle.language.specs.Trees.{Functor, symbol, fvar, Hedge, ε, tvar, hvar, node, Expr, Literal, eqn, mem, Conj, _⧺_, sameWords, Var, tv, hv, fv, eqV, inFunctor, holds, inConj}
-use Rattle.rules.specs.Looks.{empty, hasTerm, allTerms, onto, upTo}
+use Rattle.language.specs.Trees.{Functor, symbol, fvar, Hedge, ε, tvar, hvar, node, Expr, Literal, eqn, mem, Conj, _⧺_, sameWords, Var, tv, hv, fv, eqV, inFunctor, holds}
+use Rattle.rules.specs.Looks.{empty, onto, upTo}
 use Rattle.rules.specs.Elements.{without, orStruck, struck, width, orders}
 use Rattle.rules.specs.Solved.{given, isTerm, isFunctor, variable}
 use Rattle.rules.specs.Substitution.{Subst, putC}
-use Rattle.rules.specs.Rules.{Branch, plain, elims, EqRule, InRule, Answer}
+use Rattle.rules.specs.Rules.{Branch, plain, elims, EqRule, InRule}
 use Rattle.rules.specs.Each.{Each}
 use Rattle.rules.proofs.Answers.{Where, where-map, Answers}
 use Rattle.rules.proofs.Looks.{empty-is}
-use Rattle.rules.proofs.Elements.{Drawn, orders-by}
-use Rattle.rules.proofs.Tests.{and-parts, true-test, test-true, picks, neither}
-use Rattle.ends.specs.Measure.{one, occF, occ, occL, occC, is, own, ownC, places, odd, odd′, hedgesL, hedges, restL, rest}
-use Rattle.ends.proofs.Sums.{occ-⧺, places-⧺, odd′-some, odd′-few, none-of, one-of, given-is, variable-once, own-swapped, occ-swapped, rest-swapped}
+use Rattle.rules.proofs.Elements.{orders-by}
+use Rattle.rules.proofs.Tests.{and-parts, true-test, test-true, picks}
+use Rattle.ends.specs.Measure.{one, occF, occ, occL, occC, is, own, ownC, places, odd′, hedgesL, hedges, restL, rest}
+use Rattle.ends.proofs.Sums.{places-⧺, own-swapped, occ-swapped, rest-swapped}
 use Rattle.ends.proofs.Putting.{Leaves, OneTerm, Clears}
 
 -- ---- what is shown

@@ -1,9 +1,9 @@
 -- The rules of equations that eliminate a variable: it was not settled, and it is.
-use Prim.Native.Nat.{ℕ, zero, suc, _+_, _≤_, _<_}
-use mathlib.Core.Path.{_≡_, refl, sym, ap, _∙_, subst}
+use Prim.Native.Nat.{ℕ, _+_, _≤_, _<_}
+use mathlib.Core.Path.{_≡_, refl, ap}
 use mathlib.Core.Logic.{_⊎_, inl, inr}
-use mathlib.Core.Bool.{Bool, true, false, _&&_, _||_, not}
-use mathlib.Core.List.{List, [], _∷_, _++_, map}
+use mathlib.Core.Bool.{Bool, true, false, _&&_, not}
+use mathlib.Core.List.{[], _∷_, map}
 use mathlib.Core.Option.{Option, none, some}
 use native.Mathlib.Omega.{arith}
 use lib.Dec.{T}
@@ -12,22 +12,21 @@ use Rattle.language.specs.declared.HedgeVar.{HedgeVar}
 use Rattle.language.specs.declared.FunVar.{FunVar}
 use Rattle.language.specs.declared.Sym.{Sym}
 use Rattle.language.specs.declared.Signature.{Signature}
-use Rattle.language.specs.Kinds.{pick}
-use Rattle.language.specs.Trees.{Functor, symbol, fvar, Hedge, ε, tvar, hvar, node, Literal, eqn, mem, Conj, _⧺_, eqT, eqF, eqX, sameWords, Var, tv, hv, fv, eqV, inFunctor, holds, inConj}
+use Rattle.language.specs.Trees.{Functor, symbol, fvar, Hedge, ε, tvar, hvar, node, Literal, eqn, Conj, _⧺_, eqT, eqF, eqX, sameWords, Var, tv, hv, fv, eqV, holds, inConj}
 use Rattle.rules.specs.Looks.{empty, allTerms, firstRun, loneTerm, loneT, loneH, loneNode, asBlank, upTo, cuts}
 use Rattle.rules.specs.Solved.{given, isTerm, isFunctor, variable}
 use Rattle.rules.specs.Substitution.{setT, setH, setF}
-use Rattle.rules.specs.Rules.{Branch, elims, too, cutResult, everySymbol, namedResult}
+use Rattle.rules.specs.Rules.{elims, too, cutResult, everySymbol, namedResult}
 use Rattle.rules.specs.Rules as rules
 use Rattle.rules.specs.Each.{Each}
 use Rattle.rules.proofs.Each.{each-map, each-all}
-use Rattle.rules.proofs.Answers.{Where, Answers, look, test, answers}
-use Rattle.rules.proofs.Looks.{empty-is, lone-is, loneT-is, loneH-is, loneNode-is, firstRun-is, asBlank-is, UpTo, upTo-is, CutOf, cuts-join}
-use Rattle.rules.proofs.Names.{eqT-is, eqX-is, eqV-is, eqV-self}
-use Rattle.rules.proofs.Tests.{and-parts, true-test, test-true, picks, neither}
-use Rattle.ends.specs.Measure.{one, occF, occ, occL, occC, is, own, ownC}
+use Rattle.rules.proofs.Answers.{Where, look, test, answers}
+use Rattle.rules.proofs.Looks.{empty-is, lone-is, loneT-is, loneH-is, loneNode-is, firstRun-is, asBlank-is, CutOf, cuts-join}
+use Rattle.rules.proofs.Names.{eqX-is, eqV-is, eqV-self}
+use Rattle.rules.proofs.Tests.{true-test, picks}
+use Rattle.ends.specs.Measure.{one, occF, occ, occL, occC, is, own}
 use Rattle.ends.proofs.Sums.{occ-⧺, none-of, one-of, holds-counted, not-held, given-is, variable-once}
-use Rattle.ends.proofs.Putting.{Leaves, OneTerm, Clears, setT-leaves, setH-leaves, setF-leaves, setT-clears, setH-clears, setF-clears}
+use Rattle.ends.proofs.Putting.{OneTerm, setT-leaves, setH-leaves, setF-leaves, setT-clears, setH-clears, setF-clears}
 use Rattle.ends.proofs.Falls.{LeftAlone, Settles, Minds, Falls, FallsEqn, zero-or, and-no, faces, isRun, upTo-before}
 use Rattle.ends.proofs.FallsEquations.{not-true, counted-in}
 

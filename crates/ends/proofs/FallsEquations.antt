@@ -1,35 +1,28 @@
 -- Each rule of equations, wherever it applies.
-use Prim.Native.Nat.{ℕ, zero, suc, _+_, _≤_, _<_}
-use mathlib.Core.Path.{_≡_, refl, sym, ap, _∙_, subst}
-use mathlib.Core.Logic.{_⊎_, inl, inr}
-use mathlib.Core.Bool.{Bool, true, false, _&&_, _||_, not}
-use mathlib.Core.List.{List, [], _∷_, _++_, map}
-use mathlib.Core.Option.{Option, none, some}
+use Prim.Native.Nat.{ℕ, suc, _+_, _≤_, _<_}
+use mathlib.Core.Path.{_≡_, refl, ap, _∙_}
+use mathlib.Core.Logic.{inl, inr}
+use mathlib.Core.Bool.{Bool, true, false, _&&_, not}
+use mathlib.Core.List.{[], _∷_}
+use mathlib.Core.Option.{none}
 use native.Mathlib.Omega.{arith}
 use lib.Dec.{T}
-use Rattle.language.specs.declared.TermVar.{TermVar}
 use Rattle.language.specs.declared.HedgeVar.{HedgeVar}
-use Rattle.language.specs.declared.FunVar.{FunVar}
-use Rattle.language.specs.declared.Sym.{Sym}
 use Rattle.language.specs.declared.Signature.{Signature}
-use Rattle.language.specs.Kinds.{pick}
-use Rattle.language.specs.Trees.{Functor, symbol, fvar, Hedge, ε, tvar, hvar, node, Expr, Literal, eqn, mem, Conj, _⧺_, eqT, eqH, eqF, Var, tv, hv, fv, eqV, holds, inConj}
-use Rattle.rules.specs.Looks.{empty, allTerms, firstTerm, firstRun, loneTerm, loneT, loneH, loneNode, asSymbol, asBlank, inside, upTo, cuts}
+use Rattle.language.specs.Trees.{Functor, symbol, fvar, Hedge, ε, tvar, hvar, node, eqn, Conj, _⧺_, Var, hv, fv, eqV, inConj}
+use Rattle.rules.specs.Looks.{empty, firstTerm, firstRun, loneH, loneNode, asSymbol, inside}
 use Rattle.rules.specs.Elements.{struck, width, orders}
-use Rattle.rules.specs.Solved.{given, isTerm, isFunctor, variable}
-use Rattle.rules.specs.Substitution.{setT, setH, setF}
-use Rattle.rules.specs.Rules.{Branch, plain, elims, too, cutResult, orderResult, everySymbol, namedResult}
+use Rattle.rules.specs.Solved.{isTerm, isFunctor, variable}
+use Rattle.rules.specs.Rules.{orderResult}
 use Rattle.rules.specs.Rules as rules
-use Rattle.rules.specs.Each.{Each}
-use Rattle.rules.proofs.Each.{each-map, each-all}
-use Rattle.rules.proofs.Answers.{Where, Answers, look, test, answers}
-use Rattle.rules.proofs.Looks.{empty-is, lone-is, loneT-is, loneH-is, loneNode-is, firstRun-is, asSymbol-is, asBlank-is, inside-is, upTo-is, CutOf, cuts-join}
-use Rattle.rules.proofs.Names.{eqT-is, eqH-is, eqX-is, eqF-is, eqV-is, eqV-self, sameWords-is}
-use Rattle.rules.proofs.Tests.{and-parts, true-test, test-true, picks, neither}
-use Rattle.ends.specs.Measure.{one, occF, occ, occL, occC, is, own, ownC, places, odd, odd′, hedgesL, hedges, restL, rest}
-use Rattle.ends.proofs.Sums.{occ-⧺, places-⧺, odd′-some, odd′-few, none-of, one-of, places-some, in-counted, not-held, given-is, variable-once}
-use Rattle.ends.proofs.Putting.{Leaves, OneTerm, Clears, setT-leaves, setH-leaves, setF-leaves, setT-clears, setH-clears, setF-clears}
-use Rattle.ends.proofs.Falls.{LeftAlone, Lighter, Settles, Minds, Falls, FallsEqn, zero-or, and-no, alone-term, faces, isRun, one-place, occ-places, odd′-on, struck-fewer, orders-places, upTo-before}
+use Rattle.rules.proofs.Each.{each-map}
+use Rattle.rules.proofs.Answers.{Where, look, test, answers}
+use Rattle.rules.proofs.Looks.{empty-is, loneH-is, loneNode-is, firstRun-is, asSymbol-is, inside-is}
+use Rattle.rules.proofs.Names.{eqH-is, eqF-is, sameWords-is}
+use Rattle.rules.proofs.Tests.{true-test}
+use Rattle.ends.specs.Measure.{one, occC, is, places, restL, rest}
+use Rattle.ends.proofs.Sums.{occ-⧺, places-⧺, odd′-some, odd′-few, one-of, in-counted, given-is, variable-once}
+use Rattle.ends.proofs.Falls.{LeftAlone, Falls, FallsEqn, zero-or, alone-term, isRun, one-place, occ-places, odd′-on, struck-fewer, orders-places}
 
 -- ---- tests
 

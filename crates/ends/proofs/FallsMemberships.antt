@@ -1,28 +1,23 @@
 -- Each rule of memberships, wherever it applies.
-use Prim.Native.Nat.{ℕ, zero, suc, _+_, _≤_, _<_}
-use mathlib.Core.Path.{_≡_, refl, sym, ap, _∙_, subst}
-use mathlib.Core.Logic.{_⊎_, inl, inr}
-use mathlib.Core.Bool.{Bool, true, false, not}
-use mathlib.Core.List.{List, [], _∷_, map}
-use mathlib.Core.Option.{Option, none, some}
+use Prim.Native.Nat.{ℕ, zero, suc, _+_, _<_}
+use mathlib.Core.Path.{_≡_, refl, ap, _∙_}
+use mathlib.Core.Logic.{inl, inr}
+use mathlib.Core.Bool.{Bool, true, false}
 use native.Mathlib.Omega.{arith}
-use lib.Dec.{T}
 use Rattle.language.specs.declared.Signature.{Signature}
-use Rattle.language.specs.Trees.{symbol, fvar, Hedge, ε, tvar, hvar, node, Expr, eps, cat, alt, star, over, Literal, eqn, mem, Conj, _⧺_, Var, tv, hv, fv, eqV, holds}
-use Rattle.rules.specs.Looks.{empty, allRuns, firstTerm, firstRun, loneTerm, loneNode, asSymbol, asBlank, asCat, asAlt, asStar, asOver}
+use Rattle.language.specs.Trees.{symbol, fvar, Hedge, ε, tvar, hvar, node, Expr, cat, alt, star, mem, Conj, _⧺_, Var, fv, holds}
+use Rattle.rules.specs.Looks.{empty, firstTerm, firstRun, loneTerm, loneNode, asSymbol, asBlank, asCat, asAlt, asStar, asOver}
 use Rattle.rules.specs.Elements.{orders}
 use Rattle.rules.specs.Expressions.{Monomial, linear}
-use Rattle.rules.specs.Substitution.{emptied}
-use Rattle.rules.specs.Rules.{Branch, plain, elims, vanish, monomialResult, orderMember}
+use Rattle.rules.specs.Rules.{vanish, monomialResult, orderMember}
 use Rattle.rules.specs.Rules as rules
-use Rattle.rules.specs.Each.{Each}
 use Rattle.rules.proofs.Each.{each-map, each-all}
-use Rattle.rules.proofs.Answers.{Where, Answers, look, test, answers}
-use Rattle.rules.proofs.Looks.{empty-is, loneNode-is, firstRun-is, asSymbol-is, asBlank-is, asCat-is, asAlt-is, asStar-is, asOver-is}
-use Rattle.ends.specs.Measure.{one, occ, occL, occC, own, places, constructors, odd, hedgesL, hedges, restL, rest}
+use Rattle.rules.proofs.Answers.{look, test, answers}
+use Rattle.rules.proofs.Looks.{loneNode-is, firstRun-is, asSymbol-is, asBlank-is, asCat-is, asAlt-is, asStar-is, asOver-is}
+use Rattle.ends.specs.Measure.{one, occ, places, odd, hedges}
 use Rattle.ends.proofs.Sums.{places-⧺, odd-on, odd-apart, expr-weighs, holds-counted, places-some}
 use Rattle.ends.proofs.Putting.{emptied-leaves, emptied-lighter}
-use Rattle.ends.proofs.Falls.{LeftAlone, Settles, Minds, Falls, FallsMem, orders-places}
+use Rattle.ends.proofs.Falls.{LeftAlone, Falls, FallsMem, orders-places}
 use Rattle.ends.proofs.FallsEquations.{not-true, first-is}
 use Rattle.ends.proofs.FallsEliminations.{term-is, self, other, settles-name, minds-name}
 

@@ -1,9 +1,9 @@
 -- Hedge variables last, no unordered symbol, no membership: every rule, wherever it applies, leaves such conjunctions.
 use Prim.Native.Nat.{ℕ}
-use mathlib.Core.Path.{_≡_, refl, sym, ap, _∙_, subst}
+use mathlib.Core.Path.{_≡_, refl, sym, ap, subst}
 use mathlib.Core.Bool.{Bool, true, false, _&&_, not}
-use mathlib.Core.List.{List, [], _∷_, _++_, map}
-use mathlib.Core.Option.{Option, none, some}
+use mathlib.Core.List.{List, [], _∷_, _++_}
+use mathlib.Core.Option.{none, some}
 use native.Mathlib.Omega.{arith}
 use lib.Dec.{T}
 use Rattle.language.specs.declared.TermVar.{TermVar}
@@ -11,12 +11,12 @@ use Rattle.language.specs.declared.HedgeVar.{HedgeVar}
 use Rattle.language.specs.declared.FunVar.{FunVar}
 use Rattle.language.specs.declared.Signature.{Signature}
 use Rattle.language.specs.Limits.{walkedPairs}
-use Rattle.language.specs.Trees.{Functor, symbol, fvar, Hedge, ε, tvar, hvar, node, Expr, Literal, eqn, mem, Conj, isUnordered, anyUnordered, _⧺_, eqT, eqH}
+use Rattle.language.specs.Trees.{Functor, Hedge, ε, tvar, hvar, node, Literal, eqn, mem, Conj, isUnordered, anyUnordered, _⧺_, eqT, eqH}
 use Rattle.meaning.proofs.Same.{none-unordered, any-unordered-none}
-use Rattle.rules.specs.Looks.{empty, firstTerm, firstRun, loneTerm, loneT, loneH, loneNode, asSymbol, asBlank, inside, upTo}
+use Rattle.rules.specs.Looks.{empty, firstTerm, firstRun, loneTerm, loneT, loneH, loneNode, asSymbol, asBlank, inside}
 use Rattle.rules.specs.Solved.{isTerm}
-use Rattle.rules.specs.Substitution.{Subst, setT, setH, setF, put, putC}
-use Rattle.rules.specs.Reply.{Reply, nothing, results, stops}
+use Rattle.rules.specs.Substitution.{Subst, setF, put, putC}
+use Rattle.rules.specs.Reply.{results}
 use Rattle.rules.specs.Rules.{Branch, plain, elims, Answer, EqRule, Rule, onEqn, onMem, onPair}
 use Rattle.rules.specs.Rules as rules
 use Rattle.rules.specs.Step.{place, placed, step}

@@ -1,30 +1,28 @@
 -- Hedge variables last, no unordered symbol, no membership: a conjunction to which no rule applies is solved.
-use Prim.Native.Nat.{ℕ}
-use mathlib.Core.Path.{_≡_, refl, sym, ap, _∙_, subst}
+use mathlib.Core.Path.{_≡_, refl, sym, ap, subst}
 use mathlib.Core.Logic.{_⊎_, inl, inr}
 use mathlib.Core.Bool.{Bool, true, false, _&&_, _||_, not}
-use mathlib.Core.List.{List, [], _∷_, _++_, append-assoc}
+use mathlib.Core.List.{[], _∷_, _++_, append-assoc}
 use mathlib.Core.Option.{Option, none, some, Option·some-ne-none}
-use native.Mathlib.Omega.{arith}
 use lib.Dec.{T}
 use Rattle.language.specs.declared.TermVar.{TermVar}
 use Rattle.language.specs.declared.HedgeVar.{HedgeVar}
 use Rattle.language.specs.declared.FunVar.{FunVar}
 use Rattle.language.specs.declared.Sym.{Sym}
 use Rattle.language.specs.declared.Signature.{Signature}
-use Rattle.language.specs.Trees.{Functor, symbol, fvar, Hedge, ε, tvar, hvar, node, Literal, eqn, mem, Conj, isUnordered, anyUnordered, eqT, eqH, eqX, eqS, eqF, Var, tv, hv, fv, eqV, inFunctor, holds, inConj}
+use Rattle.language.specs.Trees.{Functor, symbol, fvar, Hedge, ε, tvar, hvar, node, eqn, mem, Conj, eqT, eqH, eqX, eqS, eqF, Var, tv, hv, fv, inFunctor, holds, inConj}
 use Rattle.meaning.proofs.Same.{none-unordered, any-unordered-none}
 use Rattle.rules.specs.Reply.{nothing}
 use Rattle.rules.specs.Step.{step}
-use Rattle.rules.specs.Looks.{empty, hasTerm, loneT, loneH, asBlank}
-use Rattle.rules.specs.Solved.{given, isSome, orElse, variable, alone, solvedLiteral, solvedFrom, solved}
-use Rattle.rules.specs.Rules.{keepsOrder, too}
+use Rattle.rules.specs.Looks.{empty, hasTerm, loneH}
+use Rattle.rules.specs.Solved.{isSome, orElse, variable, alone, solvedLiteral, solvedFrom, solved}
+use Rattle.rules.specs.Rules.{keepsOrder}
 use Rattle.rules.proofs.Looks.{empty-is}
 use Rattle.rules.proofs.Names.{eqT-is, eqH-is, eqX-is, eqV-self}
 use Rattle.rules.proofs.Tests.{or-left, and-parts, and-both, test-true}
 use Rattle.lines.proofs.Quiet.{at-literal, QuietEqn, quiet-eqn}
 use Rattle.lines.proofs.Settled.{found, passes, must, both-alone, given-alone}
-use Rattle.ends.specs.Last.{last, lastLiteral, lastRuns}
+use Rattle.ends.specs.Last.{last, lastRuns}
 
 -- one of the two sides is a variable that stands nowhere else
 abbrev Either : Conj → Hedge → Hedge → Type 0

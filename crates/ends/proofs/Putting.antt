@@ -1,26 +1,25 @@
 -- What a substitution does to a variable: one that it leaves alone stands where it stood, and one that it puts nowhere stands nowhere.
-use Prim.Native.Nat.{ℕ, zero, suc, _+_, _≤_, _<_}
+use Prim.Native.Nat.{ℕ, _+_, _≤_}
 use mathlib.Core.Path.{_≡_, refl, sym, ap, _∙_, subst}
-use mathlib.Core.Bool.{Bool, true, false, _&&_, _||_}
-use mathlib.Core.List.{List, [], _∷_, _++_}
-use mathlib.Core.Option.{Option, none, some}
+use mathlib.Core.Bool.{Bool, true, false, _&&_}
+use mathlib.Core.List.{[], _∷_}
 use native.Mathlib.Omega.{arith}
 use lib.Dec.{T}
 use Rattle.language.specs.declared.TermVar.{TermVar}
 use Rattle.language.specs.declared.HedgeVar.{HedgeVar}
 use Rattle.language.specs.declared.FunVar.{FunVar}
 use Rattle.language.specs.Kinds.{pick}
-use Rattle.language.specs.Trees.{Functor, symbol, fvar, Hedge, ε, tvar, hvar, node, Literal, eqn, mem, Conj, _⧺_, eqT, eqH, eqX, Var, tv, hv, fv, eqV, holds}
+use Rattle.language.specs.Trees.{Functor, symbol, fvar, Hedge, ε, tvar, hvar, node, eqn, mem, Conj, _⧺_, eqT, eqH, eqX, Var, tv, hv, fv, eqV, holds}
 use Rattle.rules.specs.Looks.{empty}
 use Rattle.rules.specs.Solved.{given, isTerm, isFunctor, variable}
-use Rattle.rules.specs.Substitution.{Subst, setT, setH, setF, emptied, putF, put, putL, putC}
+use Rattle.rules.specs.Substitution.{Subst, setT, setH, setF, emptied, putF, put, putC}
 use Rattle.rules.proofs.Looks.{empty-is}
-use Rattle.rules.proofs.Names.{eqT-is, eqH-is, eqX-is, eqV-is, eqV-self}
+use Rattle.rules.proofs.Names.{eqT-is, eqH-is, eqX-is, eqV-is}
 use Rattle.rules.proofs.Tests.{and-parts, true-test, test-true}
-use Rattle.exact.specs.Made.{Name, aSymbol, aVariable, MadeF, Made, MadeE, MadeL, MadeC}
+use Rattle.exact.specs.Made.{Name, aSymbol, aVariable, MadeF, Made, MadeC}
 use Rattle.exact.proofs.Made.{Puts}
-use Rattle.ends.specs.Measure.{one, occF, occ, occL, occC, is, own, ownC, places, hedgesL, hedges}
-use Rattle.ends.proofs.Sums.{none-of, one-of, occ-⧺, places-⧺, odd-none}
+use Rattle.ends.specs.Measure.{one, occF, occ, occC, is, ownC, places, hedges}
+use Rattle.ends.proofs.Sums.{none-of, one-of, occ-⧺, odd-none}
 
 -- ---- made of other variables
 

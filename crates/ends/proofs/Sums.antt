@@ -1,17 +1,15 @@
 -- All that is counted and weighed is a sum over literals, and over what stands in a row; and what is said of a variable that stands nowhere.
 use Prim.Native.Nat.{ℕ, zero, suc, _+_, _≤_, _<_}
 use mathlib.Core.Path.{_≡_, refl, ap}
-use mathlib.Core.Logic.{_⊎_, inl, inr}
 use mathlib.Core.Bool.{Bool, true, false, _&&_, _||_}
-use mathlib.Core.List.{List, [], _∷_, _++_}
-use mathlib.Core.Option.{Option, none, some}
+use mathlib.Core.List.{[], _∷_, _++_}
 use native.Mathlib.Omega.{arith}
 use lib.Dec.{T}
 use Rattle.language.specs.Trees.{Functor, symbol, fvar, Hedge, ε, tvar, hvar, node, Expr, eps, cat, alt, star, over, Literal, eqn, mem, Conj, _⧺_, Var, tv, hv, fv, eqV, inFunctor, holds, inLiteral, inConj}
 use Rattle.rules.specs.Looks.{empty}
 use Rattle.rules.proofs.Tests.{neither}
 use Rattle.rules.specs.Solved.{given, isTerm, isFunctor, variable}
-use Rattle.ends.specs.Measure.{one, occF, occ, occL, occC, is, own, ownC, places, constructors, odd, odd′, hedgesL, hedges, restL, rest}
+use Rattle.ends.specs.Measure.{one, occF, occ, occL, occC, is, own, ownC, places, constructors, odd, odd′, hedges, restL, rest}
 
 -- ---- in a row
 

@@ -1,11 +1,11 @@
 -- The measure falling, computed by the definitions.
 use Prim.Native.Nat.{ℕ}
 use mathlib.Core.Path.{_≡_, refl}
-use mathlib.Core.List.{List, [], _∷_}
+use mathlib.Core.List.{[], _∷_}
 use Rattle.language.specs.Trees.{ε, Expr, cat, star, over, eqn, mem, isUnordered, anyUnordered, _⧺_, tvar, tv, hv}
 use Rattle.rules.specs.Walk.{reached, longWalk, shared, commonHedge, commonTerm}
 use Rattle.rules.specs.Rules.{_>>=_, check}
-use Rattle.rules.specs.Table.{fourOrdered, a, b, f, g, x, p, aᴱ, bᴱ, fᴱ, P9}
+use Rattle.rules.specs.Table.{fourOrdered, a, b, f, g, x, p, aᴱ, bᴱ, fᴱ}
 use Rattle.ends.specs.Unlimited.{freeStep}
 use Rattle.ends.specs.Worked.{Measured, measures}
 

@@ -10,7 +10,6 @@ use finds::all_terms;
 use language::Signature;
 use plans::Piece;
 use plans::Plan;
-use plans::Recipe;
 use plans::Ways;
 use plans::Within;
 use plans::inner;
@@ -24,7 +23,6 @@ use rules::places::AT_DEL2;
 use rules::places::AT_R1;
 use sharing::Spots;
 use sharing::first_shared;
-use views::Side;
 use views::View;
 
 // The literal is removed.

@@ -12,7 +12,7 @@ use Rattle.plans.specs.declared.Plan.{Plan}
 use Rattle.views.specs.declared.View.{View}
 use Rattle.views.specs.Looks.{head, tail}
 use Rattle.views.specs.Views.{Sees}
-use Rattle.plans.specs.Results.{made, numbered}
+use Rattle.plans.specs.Results.{numbered}
 use Rattle.views.proofs.Words.{words-body, words-append}
 use Rattle.views.proofs.Sides.{side-head, side-tail, sees-before, sees-behind}
 use Rattle.plans.specs.Planned.{Planned}

@@ -1,10 +1,9 @@
 -- The plans of the rules of unordered symbols: Del2, D1 and E7.
-use Prim.Native.Nat.{ℕ, _+_, _-_, _<_}
+use Prim.Native.Nat.{ℕ, _+_, _-_}
 use native.Mathlib.Omega.{arith}
 use mathlib.Core.Path.{_≡_, refl, sym, ap, _∙_, subst}
-use mathlib.Core.Bool.{Bool, true, false}
+use mathlib.Core.Bool.{true}
 use mathlib.Core.List.{List, [], _∷_, _++_, append-assoc, append-nil, map, map-map}
-use mathlib.Core.Option.{some}
 use lib.Dec.{eqb}
 use borrow.Author.Tests.{eqb-true}
 use lib.ListN.{length, getD, length-append}
@@ -32,7 +31,7 @@ use Rattle.views.specs.declared.View.{View}
 use Rattle.views.specs.Looks.{bodyWords}
 use Rattle.views.specs.Views.{Sided, Sees}
 use Rattle.views.specs.Standing.{Stands}
-use Rattle.views.proofs.Words.{words-body, words-join, words-append}
+use Rattle.views.proofs.Words.{words-join, words-append}
 use Rattle.views.proofs.Sides.{side-whole, sees-before, sees-behind}
 use Rattle.finds.specs.declared.Terms.{Terms}
 use Rattle.finds.specs.Walks.{Counted}
@@ -41,7 +40,6 @@ use Rattle.sharing.specs.declared.Spots.{Spots}
 use Rattle.sharing.specs.Shared.{firstShared}
 use Rattle.sharing.proofs.Shared.{CutOut, shares, cut-behind}
 use Rattle.orders.specs.Orders.{ordered, renamed}
-use Rattle.plans.specs.declared.Recipe.{Recipe}
 use Rattle.plans.specs.Results.{numbered, resultsOf}
 use Rattle.plans.specs.Sizes.{placedWords}
 use Rattle.plans.specs.Slots.{childrenOf}

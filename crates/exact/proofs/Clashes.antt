@@ -1,7 +1,7 @@
 -- The clash drops a conjunction exactly where two tests of one variable, alone, have nothing in common, gives 21 exactly where a walk is too long, and is exact.
 use Prim.Native.Nat.{ℕ}
 use mathlib.Core.Path.{_≡_, refl, sym, _∙_, subst}
-use mathlib.Core.Logic.{inl, inr, _↔_}
+use mathlib.Core.Logic.{_↔_}
 use mathlib.Core.Bool.{Bool, true, false, _||_}
 use mathlib.Core.List.{List, [], _∷_}
 use mathlib.Core.Option.{Option, none, some, Option·some-ne-none}

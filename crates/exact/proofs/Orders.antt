@@ -1,21 +1,21 @@
 -- The orders of a hedge of terms: filled, they are the orders of the filled hedge.
-use Prim.Native.Nat.{ℕ, zero, suc, _+_}
+use Prim.Native.Nat.{ℕ, zero, suc}
 use mathlib.Core.Path.{_≡_, refl, sym, _∙_, ap}
-use mathlib.Core.Logic.{_⊎_, inl, inr}
+use mathlib.Core.Logic.{inl, inr}
 use mathlib.Core.List.{List, [], _∷_, map}
 use native.Mathlib.Omega.{arith}
 use lib.Dec.{T}
 use Rattle.language.specs.declared.Sym.{Sym}
 use Rattle.language.specs.Trees.{Hedge, ε, tvar, hvar, node, _⧺_}
-use Rattle.meaning.specs.Complete.{Complete, nil, tree, _·_, Draws, Shuffled}
+use Rattle.meaning.specs.Complete.{Complete, nil, tree, Draws, Shuffled}
 use Rattle.meaning.specs.Meaning.{Filling, fillF, fill}
 use Rattle.meaning.proofs.Complete.{nil≢tree}
 use Rattle.meaning.proofs.Shuffles.{draws-middle}
 use Rattle.rules.specs.Each.{Each, Some}
 use Rattle.rules.specs.Looks.{allTerms}
 use Rattle.rules.specs.Elements.{drawn, width, ordersOf, orders}
-use Rattle.rules.proofs.Each.{each-imp, some-map, some-imp, some-each}
-use Rattle.rules.proofs.Elements.{Without, Drawn, drawn-is, no-width, some-spread, orders-by}
+use Rattle.rules.proofs.Each.{each-imp, some-map, some-imp}
+use Rattle.rules.proofs.Elements.{Drawn, drawn-is, no-width, some-spread, orders-by}
 use Rattle.exact.proofs.Fillings.{fill-⧺}
 
 -- ---- terms

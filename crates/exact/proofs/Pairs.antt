@@ -1,6 +1,6 @@
 -- The rules of two literals are exact.
-use mathlib.Core.Logic.{inl, inr, _↔_}
-use mathlib.Core.List.{[], _∷_}
+use mathlib.Core.Logic.{_↔_}
+use mathlib.Core.List.{_∷_}
 use Rattle.language.specs.declared.Signature.{Signature}
 use Rattle.language.specs.Trees.{Literal, Conj}
 use Rattle.meaning.specs.Meaning.{Filling, MeetsAll}

@@ -1,7 +1,7 @@
 -- A question answered under some limits has the same lines, marks, steps and answer under wider ones.
 use Prim.Native.Nat.{ℕ, zero, suc, _+_, _-_, _≤_}
 use mathlib.Core.Path.{_≡_, refl, sym, ap, _∙_}
-use mathlib.Core.Bool.{Bool, true, false, _&&_, _||_}
+use mathlib.Core.Bool.{Bool, true, false}
 use mathlib.Core.List.{List, [], _∷_, _++_, map, append-assoc}
 use native.Mathlib.Omega.{arith}
 use lib.Dec.{leb, ltb}
@@ -11,15 +11,13 @@ use Rattle.language.specs.declared.Refusal.{Refusal}
 use Rattle.language.specs.declared.Refusal.the-variants.{LongResult, LongWaiting, LineRoom, StepLimit}
 use Rattle.language.specs.Limits.{Limits, desk, firstDesk, Within}
 use Rattle.language.specs.declared.Signature.{Signature}
-use Rattle.language.specs.Trees.{Conj, signature, Question}
-use Rattle.language.specs.Writing.{conjWords}
-use Rattle.language.specs.Question.{asks, readQuestion}
+use Rattle.language.specs.Trees.{Conj, signature}
 use Rattle.language.proofs.Bools.{both-true}
 use Rattle.language.proofs.Wider.{read-wider, first-within}
 use Rattle.meaning.specs.Values.{offsetsOf, joined}
 use Rattle.rules.specs.Reply.{Reply, nothing, results, stops}
 use Rattle.rules.specs.Step.{Step, step}
-use Rattle.rules.specs.Run.{Numbered, allOf, numbered, size, anyLong, waitingSize, linesAt, linesSize, linesFit, Outcome, finished, refused, checked, lined, turn, runFrom, runBy, run}
+use Rattle.rules.specs.Run.{Numbered, allOf, numbered, size, anyLong, waitingSize, linesAt, linesSize, linesFit, Outcome, finished, refused, lined, turn, runFrom, runBy, run}
 use Rattle.rules.specs.Answer.{lineWords, countOpen, padded, answerWords, answered, ran, solvingOf, solving}
 use Rattle.rules.proofs.Tests.{neither}
 use Rattle.rules.proofs.Invariant.{answered-run}

@@ -1,11 +1,10 @@
 -- Words put right before those that are there.
-use Prim.Native.Nat.{ℕ, zero, suc, _+_, _-_, _<_, _≤_}
+use Prim.Native.Nat.{ℕ, suc, _+_, _-_, _<_, _≤_}
 use native.Mathlib.Omega.{arith}
-use native.Mathlib.Numerals.{add-one}
 use mathlib.Core.Path.{_≡_, refl, sym, ap, ap₂, _∙_, subst}
 use mathlib.Core.Bool.{Bool, true, false, not}
-use mathlib.Core.List.{List, [], _∷_}
-use lib.ListN.{length, drop, getD, set, length-set, length-drop}
+use mathlib.Core.List.{List, _∷_}
+use lib.ListN.{length, drop, set, length-set, length-drop}
 use lib.Seq.{drop-cons, getD-set-same, drop-set-lt}
 use borrow.Author.Tests.{not-true, not-false}
 use Rattle.language.specs.Limits.{Limits}
@@ -13,7 +12,7 @@ use Rattle.language.specs.Kinds.{pick}
 use Rattle.texts.specs.Numbering.{symbols}
 use Rattle.text_names.specs.Shelves.{nameAt, numbering}
 use Rattle.flat.specs.Filling.{starsOn}
-use Rattle.grammar.specs.Tokens.{comma, plus, times, nameToken}
+use Rattle.grammar.specs.Tokens.{comma, plus}
 use Rattle.backwards.specs.Backward.{one-if}
 use Rattle.backwards.proofs.Weight.{length-stars, length-if}
 use Rattle.expression_words.specs.declared.Fill.{Fill}

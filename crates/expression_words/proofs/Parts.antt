@@ -1,28 +1,24 @@
 -- The bytes of an expression from its end on: what each makes of what is there, and that the room is enough.
-use Prim.Native.Nat.{ℕ, zero, suc, _+_, _-_, _*_, _<_, _≤_}
+use Prim.Native.Nat.{ℕ, zero, suc, _+_, _-_, _<_, _≤_}
 use native.Mathlib.Omega.{arith}
-use mathlib.Core.Path.{_≡_, refl, sym, ap, ap₂, _∙_, subst}
-use mathlib.Core.Bool.{Bool, true, false, not}
-use mathlib.Core.List.{List, [], _∷_, _++_}
+use mathlib.Core.Path.{_≡_, refl, sym, ap, _∙_, subst}
+use mathlib.Core.Bool.{Bool, true, false}
+use mathlib.Core.List.{List, [], _∷_}
 use lib.Dec.{eqb}
-use lib.ListN.{length, take, drop, getD, length-drop}
-use lib.Seq.{drop-cons, drop-length}
-use borrow.Author.Tests.{eq-eqb, eqb-true, not-true, not-false}
-use Rattle.language.specs.Limits.{Limits}
+use lib.ListN.{length, take, drop, getD}
+use borrow.Author.Tests.{eqb-true}
 use Rattle.language.specs.Kinds.{pick}
 use Rattle.language.specs.Between.{between}
-use Rattle.language.proofs.Offsets.{between-cons, length-between}
+use Rattle.language.proofs.Offsets.{between-cons}
 use Rattle.grammar.specs.Tokens.{Token, comma, opens, closes, plus, times, nameByte, blank, beginsName, nameToken}
-use Rattle.texts.specs.Numbering.{Naming, symbols}
+use Rattle.texts.specs.Numbering.{Naming}
 use Rattle.lexing.specs.declared.Mark.{Mark}
 use Rattle.lexing.specs.declared.Mark.the-variants.{End, Bad, Symbol, One, Run, Function, Equals, Comma, Opens, Closes, Plus, Times}
 use Rattle.lexing.specs.Bytes.{nameFrom, markOf}
-use Rattle.text_names.specs.Shelves.{nameAt, numbering, Shelves}
-use Rattle.flat.specs.Filling.{Frame, Filled, starsOn, operandOn, itemOn, owes, enclosed, released, leafOn, turn, nothing}
-use Rattle.backwards.specs.Backward.{one-if, owedIn, taken, marked, backwards, weight}
-use Rattle.backwards.proofs.Weight.{Tidy, Heavy, heavier, tidy, heavy, few-frames}
-use Rattle.expression_words.specs.declared.Fill.{Fill}
-use Rattle.expression_words.specs.Seen.{codeOf, framesIn, seen, owing, insideOwed, Space, Marked, Named, NameSpace, NameTaken, part, whole, Expression}
+use Rattle.flat.specs.Filling.{Frame, Filled, itemOn, enclosed, released, turn, nothing}
+use Rattle.backwards.specs.Backward.{taken, marked, backwards, weight}
+use Rattle.backwards.proofs.Weight.{Tidy, Heavy, heavier, tidy, heavy}
+use Rattle.expression_words.specs.Seen.{part, whole}
 
 -- ---- what grows, keeps tidy, and keeps no bracket without something owed
 

@@ -1,8 +1,8 @@
 -- Into brackets and out of them: rows of what is owed.
-use Prim.Native.Nat.{ℕ, zero, suc, _+_, _-_, _*_, _/_, _%_, _<_, _≤_}
+use Prim.Native.Nat.{ℕ, zero, suc, _+_, _-_, _/_, _%_, _<_, _≤_}
 use native.Mathlib.Omega.{arith}
 use mathlib.Core.Path.{_≡_, refl, sym, ap, ap₂, _∙_, subst}
-use mathlib.Core.Bool.{Bool, true, false, not}
+use mathlib.Core.Bool.{Bool, true, false}
 use mathlib.Core.List.{List, [], _∷_}
 use lib.Dec.{eqb}
 use lib.ListN.{length, drop, getD, set, length-set}
@@ -10,13 +10,11 @@ use lib.Seq.{getD-set-same, getD-set-other}
 use borrow.Author.Tests.{eq-eqb, ne-eqb}
 use Rattle.language.specs.Kinds.{pick}
 use Rattle.flat.specs.Filling.{Frame, Filled, owes, enclosed, released}
-use Rattle.backwards.specs.Backward.{one-if}
 use Rattle.expression_words.specs.declared.Fill.{Fill}
-use Rattle.language.specs.Limits.{Limits, desk}
 use Rattle.grammar.specs.Tokens.{comma, plus}
 use Rattle.lexing.specs.declared.Mark.{Mark}
 use Rattle.lexing.specs.declared.Mark.the-variants.{End, Bad, Symbol, One, Run, Function, Equals, Comma, Opens, Closes, Plus, Times}
-use Rattle.expression_words.specs.Seen.{codeOf, frameOf, framesIn, seen, freeOf, starredOf, insideIn, itemIn, Laid, Turned, Released, Enclosed, Marked}
+use Rattle.expression_words.specs.Seen.{codeOf, frameOf, framesIn, seen, freeOf, starredOf, insideIn, Laid, Turned, Released, Enclosed, Marked}
 
 -- ---- what is owed, as one number and back
 

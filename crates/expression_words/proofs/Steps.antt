@@ -3,27 +3,27 @@ use Prim.Native.Nat.{ℕ, zero, suc, _+_, _-_, _*_, _<_, _≤_}
 use native.Mathlib.Omega.{arith}
 use mathlib.Core.Path.{_≡_, refl, sym, ap, ap₂, _∙_, subst}
 use mathlib.Core.Bool.{Bool, true, false, not}
-use mathlib.Core.List.{List, [], _∷_, _++_}
+use mathlib.Core.List.{List, [], _∷_}
 use lib.ListN.{length, take, drop, getD, length-drop, drop-of-length-le}
-use lib.Seq.{drop-cons, take-nil}
+use lib.Seq.{drop-cons}
 use borrow.Author.Tests.{not-true, not-false}
 use Rattle.language.specs.Limits.{Limits}
 use Rattle.language.specs.Kinds.{pick}
 use Rattle.language.specs.Between.{between}
-use Rattle.language.proofs.Offsets.{between-cons, length-between}
+use Rattle.language.proofs.Offsets.{between-cons}
 use Rattle.grammar.specs.Tokens.{nameByte, beginsName, nameToken}
-use Rattle.texts.specs.Numbering.{Naming, symbols}
+use Rattle.texts.specs.Numbering.{Naming}
 use Rattle.lexing.specs.declared.Mark.{Mark}
 use Rattle.lexing.specs.declared.Mark.the-variants.{Opens}
 use Rattle.lexing.specs.Bytes.{nameFrom, markOf}
-use Rattle.text_names.specs.Shelves.{nameAt, numbering, Shelves}
-use Rattle.flat.specs.Filling.{Frame, Filled, operandOn, itemOn, released, leafOn, turn, nothing}
-use Rattle.backwards.specs.Backward.{one-if, owedIn, taken, marked, backwards, weight}
-use Rattle.backwards.proofs.Weight.{Tidy, Heavy, few-frames, released-weight, length-item, length-if, length-operand}
+use Rattle.text_names.specs.Shelves.{numbering, Shelves}
+use Rattle.flat.specs.Filling.{operandOn, itemOn, released, turn}
+use Rattle.backwards.specs.Backward.{one-if, owedIn, taken, marked, weight}
+use Rattle.backwards.proofs.Weight.{Tidy, Heavy, few-frames, released-weight, length-item}
 use Rattle.expression_words.specs.declared.Fill.{Fill}
 use Rattle.expression_words.specs.Seen.{codeOf, framesIn, seen, owing, insideOwed, operandIn, Laid, Space, Marked, Named, NameSpace, NameTaken, part, whole, Expression}
 use Rattle.expression_words.proofs.Laying.{laid-place}
-use Rattle.expression_words.proofs.Parts.{Good, part-name, part-mark, part-end, part-tidy, part-whole, depth-taken, good-taken, good-marked}
+use Rattle.expression_words.proofs.Parts.{part-name, part-mark, part-end, part-tidy, part-whole, depth-taken, good-taken, good-marked}
 
 -- ---- what the weight of a state says of its places
 

@@ -13,12 +13,11 @@ ghost use mathlib.Core.List.{_∷_};
 ghost use lib.ListN.{length, drop};
 ghost use Rattle.language.specs.Limits.{desk};
 ghost use Rattle.language.specs.Kinds.{pick};
-ghost use Rattle.grammar.specs.Tokens.{comma, plus, times, nameToken};
-ghost use Rattle.texts.specs.Numbering.{symbols};
-ghost use Rattle.text_names.specs.Shelves.{nameAt, numbering, Shelves};
+ghost use Rattle.grammar.specs.Tokens.{comma, plus};
+ghost use Rattle.text_names.specs.Shelves.{numbering, Shelves};
 ghost use Rattle.flat.specs.Filling.{starsOn, operandOn};
-ghost use Rattle.backwards.specs.Backward.{one-if, weight};
-ghost use Rattle.expression_words.specs.Seen.{codeOf, seen, Laid, operandIn, itemIn, owing, Turned, insideIn, insideOwed, starredOf, freeOf, Released, Enclosed, Marked, Space, Named, NameSpace, NameTaken, Expression, whole};
+ghost use Rattle.backwards.specs.Backward.{one-if};
+ghost use Rattle.expression_words.specs.Seen.{codeOf, Laid, operandIn, itemIn, owing, Turned, insideIn, insideOwed, starredOf, freeOf, Released, Enclosed, Marked, Space, Named, NameSpace, NameTaken, Expression, whole};
 
 // Where the first word stands, and what is owed before it: stars, an operand's word, an item's; whether a bracket that opens stands behind,
 // or one that closes; how many brackets are open, and before how many of them something is owed.

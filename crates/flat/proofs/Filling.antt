@@ -2,18 +2,17 @@
 use Prim.Native.Nat.{ℕ, zero, suc, _+_, _-_, _<_}
 use native.Mathlib.Omega.{arith}
 use mathlib.Core.Path.{_≡_, refl, sym, ap, ap₂, _∙_, subst}
-use mathlib.Core.Bool.{Bool, true, false, _||_}
+use mathlib.Core.Bool.{Bool, true, false}
 use mathlib.Core.List.{List, [], _∷_, _++_, append-assoc}
-use lib.Dec.{eqb}
 use borrow.Author.Tests.{eq-eqb, ne-eqb}
 use Rattle.language.specs.Kinds.{pick}
 use Rattle.language.specs.declared.Sym.{Sym}
-use Rattle.language.specs.Trees.{Functor, symbol, fvar, Expr, eps, cat, alt, star, over}
+use Rattle.language.specs.Trees.{symbol, Expr, eps, cat, alt, star, over}
 use Rattle.language.specs.Writing.{exprWords}
-use Rattle.grammar.specs.Tokens.{Token, one, run, functor, equals, comma, opens, closes, plus, times}
+use Rattle.grammar.specs.Tokens.{Token, functor, comma, opens, closes, plus, times}
 use Rattle.grammar.specs.Grammar.{Level, atom, starred, choice, listed, within, Means, single, under, group, once, again, only, either, last, then, no-listed, some-listed}
 use Rattle.texts.specs.Numbering.{symbols, Naming, nameExpr}
-use Rattle.flat.specs.Filling.{Frame, Filled, starsOn, operandOn, itemOn, owes, enclosed, released, leafOn, turn, turns, nothing}
+use Rattle.flat.specs.Filling.{Frame, Filled, starsOn, operandOn, itemOn, owes, enclosed, released, turn, turns, nothing}
 
 module _ (ρ : Naming) where
   abbrev words : Expr → List ℕ

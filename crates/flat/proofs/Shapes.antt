@@ -1,5 +1,5 @@
 -- The loop over an expression does what the grammar says: it ends where the expression ends, and counts its words.
-use Prim.Native.Nat.{ℕ, zero, suc, _+_, _*_, _<_, _≤_}
+use Prim.Native.Nat.{ℕ, zero, suc, _+_}
 use native.Mathlib.Omega.{arith}
 use mathlib.Core.Path.{_≡_, refl, sym, ap, _∙_, subst}
 use mathlib.Core.List.{List, [], _∷_, _++_}
@@ -12,7 +12,7 @@ use Rattle.grammar.specs.Grammar.{Level, atom, starred, choice, listed, within,
 use Rattle.texts.specs.Parsing.{Res, got, stop}
 use Rattle.flat.specs.declared.State.{State}
 use Rattle.flat.specs.declared.State.the-variants.{Opened, Wanted, Named, Ready}
-use Rattle.flat.specs.Flat.{add, endAt, symbolThen, deeper, scan, flatExpr}
+use Rattle.flat.specs.Flat.{add, endAt, scan, flatExpr}
 use Rattle.texts.proofs.Hedges.{Calm}
 use Rattle.texts.proofs.Expressions.{Ends, ends-calm}
 

@@ -1,7 +1,7 @@
 -- An expression's words from its tokens, the last token first. The words are in prefix order, the tokens are not; but read backwards, each
 -- operator is met behind all that it stands before, so that every word is written right before those that are there already.
-use Prim.Native.Nat.{ℕ, zero, suc, _+_, _-_, _<_}
-use mathlib.Core.Bool.{Bool, true, false, _||_, not}
+use Prim.Native.Nat.{ℕ, zero, suc, _+_, _-_}
+use mathlib.Core.Bool.{Bool, true, false, _||_}
 use mathlib.Core.List.{List, [], _∷_}
 use lib.Dec.{eqb}
 use Rattle.language.specs.Kinds.{pick}

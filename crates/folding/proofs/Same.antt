@@ -1,17 +1,16 @@
 -- Literals with the same words are equal, and the words of one begin no other's.
-use mathlib.Core.Path.{_≡_, refl, sym, ap, ap₂, _∙_}
-use mathlib.Core.Bool.{Bool, true, false, false≢true}
+use mathlib.Core.Path.{_≡_, refl, sym, ap, _∙_}
+use mathlib.Core.Bool.{Bool, true, false}
 use mathlib.Core.List.{List, [], _∷_, _++_}
 use Prim.Native.Nat.{ℕ, zero, suc, _+_, _-_}
 use native.Mathlib.Omega.{arith}
 use lib.ListN.{length, take, drop, take-append-drop}
 use lib.Seq.{slice, take-append-seam, take-nil}
-use borrow.Author.Tests.{eq-eqb, eqb-true}
+use borrow.Author.Tests.{eq-eqb}
 use Rattle.language.specs.Limits.{desk}
 use Rattle.language.specs.Trees.{Functor, symbol, fvar, Hedge, ε, tvar, hvar, node, Expr, eps, cat, alt, star, over, Literal, eqn, mem, Conj, eqF, sameWords, sameExpr, sameLiteral}
 use Rattle.language.specs.Writing.{literalWords}
 use Rattle.language.specs.Fine.{fineLiteral}
-use Rattle.language.proofs.Bools.{both-true}
 use Rattle.language.proofs.Laws.{literals-read}
 use Rattle.rules.proofs.Tests.{true-test}
 use Rattle.rules.proofs.Names.{sameLiteral-is}

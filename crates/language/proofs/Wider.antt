@@ -13,13 +13,13 @@ use Rattle.language.specs.Limits.{Limits, desk, firstDesk, Within}
 use Rattle.language.specs.Trees.{Functor, symbol, fvar, Hedge, ε, tvar, hvar, node, Expr, eps, cat, alt, star, over, Literal, eqn, mem, Conj, Counts, Question}
 use Rattle.language.specs.Writing.{conjWords}
 use Rattle.language.specs.Fine.{fineFunctor, fineHedge, fineExpr, fineLiteral, fineConj}
-use Rattle.language.specs.Reading.{Got, got, readConj}
-use Rattle.language.specs.Question.{parts, countsOf, alternativesOf, lengthFits, countsFit, declaredF, declared, declaredE, declaredL, declaredC, declaredQ, withConj, readAll, asks, refuses, readQuestion}
+use Rattle.language.specs.Reading.{got}
+use Rattle.language.specs.Question.{parts, countsOf, alternativesOf, lengthFits, countsFit, declaredF, declared, declaredE, declaredL, declaredC, declaredQ, readAll, asks, refuses, readQuestion}
 use Rattle.language.proofs.Bools.{both-true}
 use Rattle.language.proofs.Laws.{conjunctions-read}
 use Rattle.language.proofs.Questions.{bad-length, bad-counts, asked}
 use Rattle.language.proofs.Alternatives.{fineAll, allWords, read-all}
-use Rattle.language.proofs.Asking.{Passed, passed}
+use Rattle.language.proofs.Asking.{passed}
 
 -- ---- what is declared by counts within the limits has words under these limits
 

@@ -1,24 +1,23 @@
 -- The bytes of a line, one after the other: a blank, a token by itself, a name, a mark before a name.
-use Prim.Native.Nat.{ℕ, zero, suc, _+_, _*_, _<_, _≤_}
+use Prim.Native.Nat.{ℕ, suc, _+_, _*_, _<_, _≤_}
 use native.Mathlib.Omega.{arith}
 use native.Mathlib.Numerals.{add-one}
-use mathlib.Core.Path.{_≡_, refl, sym, ap, ap₂, _∙_, subst}
+use mathlib.Core.Path.{_≡_, refl, sym, ap, ap₂, _∙_}
 use mathlib.Core.Bool.{Bool, true, false, _||_}
 use mathlib.Core.List.{List, [], _∷_}
 use mathlib.Core.Option.{none, some}
 use lib.Dec.{leb, eqb}
 use lib.ListN.{length, drop, getD, drop-of-length-le, length-drop}
 use lib.Seq.{drop-cons, drop-drop, getD-drop}
-use borrow.Author.Tests.{leb-true, leb-false, le-leb, lt-leb, eqb-true, eq-eqb, ne-eqb}
+use borrow.Author.Tests.{leb-true, leb-false, le-leb, lt-leb, eqb-true, ne-eqb}
 use Rattle.language.specs.Kinds.{pick}
 use Rattle.language.specs.Trees.{fvar}
-use Rattle.grammar.specs.Tokens.{one, run, functor, equals, comma, opens, closes, plus, times, nameByte, blank, beginsName, Tokens, puts, renames, renamed, nameToken, letter, marked, starOr, byte, tokens}
+use Rattle.grammar.specs.Tokens.{one, functor, equals, comma, opens, closes, plus, nameByte, blank, beginsName, Tokens, puts, renamed, nameToken, letter, marked, starOr, byte, tokens}
 use Rattle.texts.proofs.Lexing.{tokens-cons, byte-letter}
 use Rattle.lexing.specs.declared.Mark.{Mark}
 use Rattle.lexing.specs.declared.Mark.the-variants.{End, Bad, Symbol, One, Run, Function, Equals, Comma, Opens, Closes, Plus, Times}
-use Rattle.lexing.specs.declared.Piece.{Piece}
-use Rattle.lexing.specs.Bytes.{line, others, nameFrom, leading, nameLength, blanks, markOf, sortOf, alone}
-use Rattle.lexing.specs.Pieces.{here, front, piece, markedOf, pieceOf, Skipped, Next}
+use Rattle.lexing.specs.Bytes.{line, others, nameFrom, leading, nameLength, blanks, markOf}
+use Rattle.lexing.specs.Pieces.{Skipped}
 
 -- ---- a letter or digit, by its range
 

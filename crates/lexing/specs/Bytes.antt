@@ -1,6 +1,6 @@
 -- A text from a place on: its line, the lines behind that, the name that stands first; and what a byte begins.
 use Prim.Native.Nat.{ℕ, suc, _+_, _*_}
-use mathlib.Core.Bool.{Bool, true, false}
+use mathlib.Core.Bool.{Bool}
 use mathlib.Core.List.{List, [], _∷_}
 use lib.Dec.{eqb}
 use Rattle.language.specs.Kinds.{pick}

@@ -8,7 +8,7 @@ use lib.Dec.{eqb}
 use lib.ListN.{length, drop, getD}
 use Rattle.language.specs.Kinds.{pick}
 use Rattle.language.specs.Trees.{fvar}
-use Rattle.grammar.specs.Tokens.{beginsName, blank, one, run, functor, equals, comma, opens, closes, plus, times, Tokens, puts, nameToken, tokens}
+use Rattle.grammar.specs.Tokens.{blank, one, run, functor, equals, comma, opens, closes, plus, times, Tokens, puts, nameToken, tokens}
 use Rattle.lexing.specs.declared.Mark.{Mark}
 use Rattle.lexing.specs.declared.Mark.the-variants.{End, Bad, Symbol, One, Run, Function, Equals, Comma, Opens, Closes, Plus, Times}
 use Rattle.lexing.specs.declared.Piece.{Piece}

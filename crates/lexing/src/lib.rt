@@ -1,7 +1,7 @@
 // The tokens of a text, one after the other, where they stand: a name is kept as the place where it begins.
 ghost use Prim.Native.Nat.{_+_, _≤_, _<_};
 ghost use mathlib.Core.Path.{_≡_};
-ghost use lib.ListN.{length, drop, getD};
+ghost use lib.ListN.{length, drop};
 ghost use Rattle.language.specs.Kinds.{pick};
 ghost use Rattle.grammar.specs.Tokens.{nameByte, blank};
 ghost use Rattle.lexing.specs.declared.Mark.the-variants.{Bad, Symbol};

@@ -1,8 +1,7 @@
 -- The orders of a hedge have its variables, and blanks only where it has any; a hedge without an element has no more.
-use mathlib.Core.Path.{_≡_}
 use mathlib.Core.Logic.{_⊎_, inl, inr}
 use lib.Dec.{T}
-use Rattle.language.specs.Trees.{Functor, Hedge, ε, tvar, hvar, node, _⧺_, Var, holds}
+use Rattle.language.specs.Trees.{Hedge, ε, tvar, hvar, node, _⧺_, Var, holds}
 use Rattle.rules.specs.Elements.{orders}
 use Rattle.rules.specs.Each.{Each}
 use Rattle.rules.proofs.Elements.{Without, Drawn, without-keeps, orders-by}

@@ -1,25 +1,24 @@
 -- An example that is shown under some limits is shown, with the same words, under wider ones.
 use Prim.Native.Nat.{ℕ, _≤_}
-use mathlib.Core.Path.{_≡_, sym, ap, _∙_}
-use mathlib.Core.Bool.{Bool, true, false, _||_}
+use mathlib.Core.Path.{_≡_, sym, ap}
+use mathlib.Core.Bool.{Bool, true, false}
 use mathlib.Core.List.{List}
-use mathlib.Core.Option.{Option, some}
+use mathlib.Core.Option.{some}
 use native.Mathlib.Omega.{arith}
 use borrow.Author.Tests.{le-ltb}
 use lib.Dec.{ltb}
 use lib.ListN.{length}
 use Rattle.language.specs.Limits.{Limits, desk, firstDesk, Within}
 use Rattle.language.proofs.Wider.{first-within}
-use Rattle.language.specs.Trees.{Counts, Conj}
+use Rattle.language.specs.Trees.{Counts}
 use Rattle.language.specs.Question.{countsOf}
 use Rattle.meaning.specs.Values.{fillingWords}
 use Rattle.rules.specs.Solved.{solved}
 use Rattle.rules.specs.Run.{Numbered}
-use Rattle.rules.specs.Answer.{Solving, answered, solving}
 use Rattle.rules.specs.Example.{defaultSymbol, example}
-use Rattle.rules.specs.Calls.{lineAt, Showing, shows, fitted, shown, showingOf, showing}
+use Rattle.rules.specs.Calls.{shows, fitted, shown, showing}
 use Rattle.exact.proofs.Wider.{solving-wider}
-use Rattle.lines.proofs.Shown.{Shows, shown-is}
+use Rattle.lines.proofs.Shown.{shown-is}
 
 fits : (M : Limits) (old : Bool) (n : Counts) (room : ℕ) (k : Numbered) (fs : List ℕ) → solved (k .literals) ≡ true → fs ≡ fillingWords n (example (defaultSymbol old n) (k .literals))
     → ltb (M .filling) (length fs) ≡ false → ltb room (length fs) ≡ false → shown M old n room (some k) ≡ shows fs

@@ -1,18 +1,15 @@
 -- A sheet that is written is read back: it is one, and its rules are those that were written.
-use Prim.Native.Nat.{ℕ, zero, suc, _+_, _-_, _<_, _≤_}
-use mathlib.Core.Path.{_≡_, refl, sym, ap, ap₂, subst, _∙_}
+use Prim.Native.Nat.{ℕ, suc, _+_, _-_, _<_, _≤_}
+use mathlib.Core.Path.{_≡_, refl, sym, ap, ap₂, _∙_}
 use mathlib.Core.Bool.{Bool, true, _&&_}
 use mathlib.Core.List.{List, [], _∷_, _++_}
 use native.Mathlib.Omega.{arith}
-use native.Mathlib.Numerals.{add-one}
 use borrow.Author.Tests.{eq-eqb, le-leb, lt-ltb, le-ltb}
-use lib.Dec.{eqb, leb, ltb}
+use lib.Dec.{leb, ltb}
 use lib.ListN.{length, getD, take, drop, length-drop, length-append}
 use lib.Seq.{getD-drop, drop-drop, take-at, drop-at}
-use Rattle.language.specs.Kinds.{pick}
 use Rattle.language.specs.Between.{between}
 use Rattle.live_rules.specs.Layout.{Rule, actions, mostRules, ruleWords, rulesWords, sheetWords, countOf, rulesAt, ruleEnd, ruleAt, ruleFits, rulesLaid, rulesFrom, rulesIn, sheetNumber}
-use Rattle.live_rules.proofs.Reading.{laid-one}
 
 -- every rule has one of the actions
 pub data Acting : List Rule → Type 0 where

@@ -9,10 +9,10 @@ use lib.ListN.{length, getD}
 use Rattle.language.specs.declared.Sym.{Sym}
 use Rattle.language.specs.declared.Refusal.the-variants.{FillingLayout, FillingValue}
 use Rattle.language.specs.Limits.{Limits}
-use Rattle.language.specs.Trees.{Functor, symbol, fvar, Hedge, ε, tvar, hvar, node, Counts, signature}
+use Rattle.language.specs.Trees.{symbol, fvar, Hedge, ε, tvar, hvar, node, Counts, signature}
 use Rattle.language.specs.Reading.{Got, got, stop, readHedge}
 use Rattle.language.specs.Question.{laidOut, parts, declaredS, declared}
-use Rattle.meaning.specs.Complete.{Complete, nil, tree}
+use Rattle.meaning.specs.Complete.{Complete, nil}
 use Rattle.meaning.specs.Meaning.{Filling, Named}
 use Rattle.meaning.specs.Values.{withNode, complete, Form, forms, variables, fits, fitting, valueOf, withValue, valuesOf, rootOf, filling, Given, gives, refuses, readFilling}
 

@@ -3,7 +3,7 @@
 use Prim.Native.Nat.{ℕ, suc, _+_, _≤_}
 use mathlib.Core.Path.{_≡_, refl, sym, _∙_, ap}
 use mathlib.Core.Logic.{_⊎_, inl, inr, _↔_}
-use mathlib.Core.Bool.{Bool, true, false, _&&_, _||_}
+use mathlib.Core.Bool.{Bool, true, false}
 use mathlib.Core.List.{List, [], _∷_, _++_, map}
 use native.Mathlib.Omega.{arith}
 use lib.Dec.{T, leb}
@@ -14,14 +14,13 @@ use Rattle.language.specs.declared.Signature.{Signature}
 use Rattle.language.specs.Trees.{Expr, eps, cat, alt, star, over}
 use Rattle.meaning.specs.Complete.{Complete, nil, tree, _·_, Draws, Shuffled, Same}
 use Rattle.meaning.specs.Meaning.{Many, stop, more, Member}
-use Rattle.meaning.proofs.Complete.{·-nil, ·-assoc, nil-parts}
-use Rattle.meaning.proofs.Shuffles.{shuffled-refl, shuffled-draws, shuffled-trans, shuffled-before, shuffled-sym, shuffled-front}
+use Rattle.meaning.proofs.Complete.{·-nil, ·-assoc}
+use Rattle.meaning.proofs.Shuffles.{shuffled-refl, shuffled-draws, shuffled-trans, shuffled-sym, shuffled-front}
 use Rattle.meaning.proofs.Same.{same-sym, same-nil, nil-no-tree, same-first}
-use Rattle.rules.specs.Expressions.{nullable}
 use Rattle.rules.specs.Each.{Some}
 use Rattle.rules.proofs.Each.{some-++, some-map, some-imp}
-use Rattle.rules.proofs.Tests.{or-cases, or-left, or-right, and-parts, and-both}
-use Rattle.member.specs.AnyOrder.{left, leftOf, allNullable, some, breadth, shortest, shortestOf}
+use Rattle.rules.proofs.Tests.{or-cases, or-left, or-right}
+use Rattle.member.specs.AnyOrder.{left, leftOf, some, breadth, shortest, shortestOf}
 
 -- ---- in some order, with something beside
 

@@ -1,8 +1,8 @@
 -- Whether a term is of a symbol, and which symbols it can be.
 use Prim.Native.Nat.{ℕ, _+_, _-_, _*_, _<_, _≤_}
 use mathlib.Core.Path.{_≡_, refl, sym, _∙_, ap}
-use mathlib.Core.Logic.{_⊎_, inl, inr, _↔_}
-use mathlib.Core.Bool.{Bool, true, false, _&&_, _||_}
+use mathlib.Core.Logic.{_↔_}
+use mathlib.Core.Bool.{Bool, true, false, _||_}
 use mathlib.Core.List.{List, [], _∷_, _++_}
 use native.Mathlib.Omega.{arith}
 use native.Mathlib.Decide.{decLt}
@@ -12,28 +12,25 @@ use lib.Seq.{getD-set-same, getD-set-other, getD-append-add}
 use borrow.Author.Tests.{eq-eqb, ne-eqb, leb-true, leb-false}
 use Rattle.language.specs.declared.Sym.{Sym}
 use Rattle.language.specs.declared.Signature.{Signature}
-use Rattle.language.specs.Limits.{desk}
-use Rattle.language.specs.Kinds.{pick}
-use Rattle.language.specs.Trees.{Expr, eps, cat, alt, star, over, isUnordered, anyUnordered, eqS}
-use Rattle.meaning.specs.Complete.{Complete, nil, tree, Shuffled}
-use Rattle.meaning.specs.Meaning.{Member}
+use Rattle.language.specs.Trees.{Expr, isUnordered, anyUnordered}
+use Rattle.meaning.specs.Complete.{Complete, nil, tree}
 use Rattle.meaning.proofs.Same.{none-any, none-unordered}
-use Rattle.rules.proofs.Tests.{test-true, true-test}
+use Rattle.rules.proofs.Tests.{test-true}
 use Rattle.any_order.specs.Places.{sizeE, At, at-eps, at-cat, at-alt, at-star, at-over, Expression}
 use Rattle.any_order.specs.Sharing.{Good, none}
 use Rattle.any_order.proofs.Ranges.{not-both}
 use Rattle.any_order.proofs.Determined.{same-test}
 use Rattle.member.specs.declared.Seen.{Seen}
 use Rattle.member.specs.declared.Fitted.{Fitted}
-use Rattle.member.specs.Marks.{blank, accepts, tests, ofTerm}
+use Rattle.member.specs.Marks.{tests, ofTerm}
 use Rattle.member.specs.Leaves.{Fits, Terms}
-use Rattle.passing.specs.Places.{sizeC, Holds, at-nil, at-tree, Hedge, Term, Skipped, Beside}
+use Rattle.passing.specs.Places.{sizeC, Holds, Term, Skipped, Beside}
 use Rattle.member.specs.Places.{Looked, Accepted}
 use Rattle.member.specs.Gathering.{rowOf, Lists, Spared, Symbol, Scene, Spacious, Lent, Gathered, Answered, FittedAll, Shuffles, Noted}
-use Rattle.member.proofs.Decides.{tests-decide, shuffled, of-term→, of-term←}
+use Rattle.member.proofs.Decides.{tests-decide, shuffled}
 use Rattle.member.proofs.Sharing.{shares}
-use Rattle.passing.proofs.Standing.{holds-lt, holds-fits, by-tree, word, child, behind}
-use Rattle.any_order.proofs.Standing.{at-lt, at-fits, first, by-eps, by-star}
+use Rattle.passing.proofs.Standing.{holds-lt, holds-fits, by-tree, word, child}
+use Rattle.any_order.proofs.Standing.{at-lt, first, by-eps, by-star}
 use Rattle.member.proofs.Standing.{by-symbol, symbol-at, symbol-word, under}
 use Rattle.passing.proofs.Beside.{beside-refl, beside-wide, beside-trans}
 

@@ -1,14 +1,14 @@
 -- Kinds of terms: one term more of a kind, and a kind more, are one more term at the end.
 use Prim.Native.Nat.{ℕ, zero, suc, _+_, _<_, _≤_}
-use mathlib.Core.Path.{_≡_, refl, sym, _∙_, ap}
-use mathlib.Core.Logic.{_⊎_, inl, inr, _↔_}
+use mathlib.Core.Path.{_≡_, sym, _∙_, ap}
+use mathlib.Core.Logic.{inl, inr, _↔_}
 use mathlib.Core.List.{List, [], _∷_, _++_}
 use native.Mathlib.Omega.{arith}
-use lib.ListN.{length, getD, set, length-set}
+use lib.ListN.{length, getD, set}
 use lib.Seq.{getD-set-same, getD-set-other}
 use Rattle.rules.specs.Each.{Each}
 use Rattle.any_order.specs.Sharing.{Counts, bump, Kind, In, Ways, Rest, Recorded, Records, total}
-use Rattle.any_order.proofs.Shares.{Like, Respects, bump-like, bump-swap, ways-like, rest-like}
+use Rattle.any_order.proofs.Shares.{Respects, bump-swap, ways-like, rest-like}
 use Rattle.any_order.proofs.Recording.{records-le}
 use Rattle.member.specs.Gathering.{Raised}
 

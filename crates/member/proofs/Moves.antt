@@ -6,10 +6,10 @@ use mathlib.Core.List.{List}
 use native.Mathlib.Omega.{arith}
 use native.Mathlib.Decide.{ℕ-discrete}
 use lib.ListN.{length, getD, set, length-set}
-use lib.Seq.{getD-set-same, getD-set-other}
+use lib.Seq.{getD-set-same}
 use Rattle.language.specs.declared.Sym.{Sym}
 use Rattle.language.specs.declared.Signature.{Signature}
-use Rattle.language.specs.Trees.{Expr, over}
+use Rattle.language.specs.Trees.{Expr}
 use Rattle.meaning.specs.Complete.{Complete, tree}
 use Rattle.rules.specs.Expressions.{nullable}
 use Rattle.member.specs.declared.Seen.{Seen}
@@ -17,7 +17,7 @@ use Rattle.member.specs.declared.Step.{Step}
 use Rattle.member.specs.Marks.{Marked, mcat, malt, mstar, bare, final, shift, tests, ofTerm}
 use Rattle.any_order.specs.Places.{sizeE, At, Expression}
 use Rattle.passing.specs.Places.{Holds, at-tree, Beside}
-use Rattle.member.specs.Places.{Kept, kept-eps, kept-cat, kept-alt, kept-star, kept-over, Looked, Shifted, Enters, Follows, Keeps, Together, Accepted}
+use Rattle.member.specs.Places.{Kept, kept-eps, kept-cat, kept-alt, kept-star, kept-over, Looked, Shifted, Enters, Follows, Keeps, Together}
 use Rattle.member.proofs.Decides.{bare-shift}
 use Rattle.passing.proofs.Beside.{beside-refl, beside-wide, beside-trans, beside-set}
 use Rattle.any_order.proofs.Standing.{at-lt, first, is-alt, by-eps, by-cat, by-alt, by-star, by-over}

@@ -12,7 +12,7 @@ use Rattle.meaning.specs.Complete.{Complete, nil, tree, _·_, Draws, Shuffled}
 use Rattle.meaning.specs.Meaning.{Many, stop, more, Member}
 use Rattle.meaning.proofs.Complete.{·-nil, ·-assoc}
 use Rattle.meaning.proofs.Shuffles.{shuffled-refl, shuffled-trans, shuffled-sym, shuffled-front}
-use Rattle.meaning.proofs.Same.{same-nil, nil-no-tree, same-first, same-sym}
+use Rattle.meaning.proofs.Same.{same-nil, nil-no-tree, same-first}
 use Rattle.rules.specs.Each.{Each}
 use Rattle.any_order.specs.Places.{sizeE}
 use Rattle.any_order.specs.Sharing.{Counts, bump, Sums, Good, none}

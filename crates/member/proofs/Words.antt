@@ -1,10 +1,10 @@
 -- What `member` is lent: what is written in words stands there, and there is room.
 use Prim.Native.Nat.{ℕ, _+_, _*_, _≤_}
-use mathlib.Core.Path.{_≡_, sym, _∙_, ap}
+use mathlib.Core.Path.{_≡_, sym, _∙_}
 use mathlib.Core.Bool.{Bool, false}
-use mathlib.Core.List.{List, _∷_, _++_, append-assoc}
+use mathlib.Core.List.{List, _++_, append-assoc}
 use native.Mathlib.Omega.{arith}
-use lib.ListN.{length, getD, drop, length-drop, replicate, length-replicate}
+use lib.ListN.{length, drop, replicate, length-replicate}
 use Rattle.language.specs.declared.Signature.{Signature}
 use Rattle.language.specs.Limits.{desk}
 use Rattle.language.specs.Trees.{Expr, eps, cat, alt, star, over, anyUnordered}

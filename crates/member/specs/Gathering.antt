@@ -11,15 +11,15 @@ use Rattle.language.specs.declared.Signature.{Signature}
 use Rattle.language.specs.Limits.{desk}
 use Rattle.language.specs.Kinds.{pick}
 use Rattle.language.specs.Trees.{Expr, eps, cat, alt, star, over, anyUnordered}
-use Rattle.meaning.specs.Complete.{Complete, nil, tree}
+use Rattle.meaning.specs.Complete.{Complete, tree}
 use Rattle.rules.specs.Each.{Each}
 use Rattle.any_order.specs.Places.{sizeE, At}
-use Rattle.any_order.specs.Sharing.{Counts, bump, Kind, Rest, Good, none, Records, total}
+use Rattle.any_order.specs.Sharing.{bump, Kind, Rest, Good, none, Records, total}
 use Rattle.member.specs.declared.Fitted.{Fitted}
 use Rattle.member.specs.declared.Joined.{Joined}
 use Rattle.member.specs.declared.Tried.{Tried}
 use Rattle.member.specs.Marks.{tests, ofTerm}
-use Rattle.member.specs.Leaves.{Leaf, Fits, Terms}
+use Rattle.member.specs.Leaves.{Fits, Terms}
 use Rattle.passing.specs.Places.{sizeC, Holds, Beside, Skipped}
 
 -- the places of the symbols that a term can be, of which p says whether it is of g(S)

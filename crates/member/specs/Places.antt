@@ -1,5 +1,5 @@
 -- Where an expression and a complete hedge stand in words, what the marks leave among bools, and what the functions promise of them.
-use Prim.Native.Nat.{ℕ, _+_, _<_, _≤_}
+use Prim.Native.Nat.{ℕ, _+_}
 use mathlib.Core.Path.{_≡_}
 use mathlib.Core.Logic.{_↔_}
 use mathlib.Core.Bool.{Bool, true, false, _&&_, _||_}
@@ -8,7 +8,7 @@ use lib.ListN.{length, getD, drop, set}
 use Rattle.language.specs.declared.Sym.{Sym}
 use Rattle.language.specs.declared.Signature.{Signature}
 use Rattle.language.specs.Limits.{desk}
-use Rattle.language.specs.Trees.{Expr, eps, cat, alt, star, over}
+use Rattle.language.specs.Trees.{Expr, cat, alt, star}
 use Rattle.language.specs.Writing.{exprWords}
 use Rattle.language.specs.Fine.{fineExpr}
 use Rattle.meaning.specs.Complete.{Complete, tree}

@@ -1,6 +1,4 @@
 // Membership of a complete hedge in an expression, both given in words: in time words times words, but for the children of unordered symbols.
-ghost use mathlib.Core.Path.{_≡_};
-ghost use mathlib.Core.Bool.{_&&_, _||_};
 ghost use Prim.Native.Nat.{_+_, _≤_, _<_};
 ghost use lib.ListN.{length};
 ghost use Rattle.language.specs.Limits.{desk};

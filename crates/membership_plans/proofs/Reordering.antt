@@ -4,7 +4,7 @@ use mathlib.Core.Path.{_≡_, sym, ap, _∙_}
 use mathlib.Core.List.{List, [], _∷_, _++_, append-assoc, append-nil, map, map-map}
 use lib.Seq.{slice}
 use Rattle.language.specs.declared.Signature.{Signature}
-use Rattle.language.specs.Trees.{Functor, Hedge, ε, node, Expr, over, Conj}
+use Rattle.language.specs.Trees.{Functor, Hedge, ε, node, Expr, Conj}
 use Rattle.language.specs.Writing.{hedgeWords, exprWords, conjWords}
 use Rattle.rules.specs.Elements.{orders, width}
 use Rattle.rules.specs.Looks.{loneNode, asSymbol, asOver, allTerms}

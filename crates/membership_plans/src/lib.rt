@@ -3,7 +3,7 @@ ghost use mathlib.Core.Path.{_≡_};
 ghost use Rattle.language.specs.declared.Signature.{Signature};
 ghost use Rattle.rules.specs.Rules.{M5, M6, M7, M12};
 ghost use Rattle.plans.specs.Slots.{dropPlan};
-ghost use Rattle.membership_plans.specs.Recipes.{r2Plan, vanished, m1Plan, m3First, m3Second, m3Plan, memberIn, m4Plan, m11Plan, reordered, m12Plan, m5First, m5Second, shared, halved, named, m10Plan, exprInner, midOf};
+ghost use Rattle.membership_plans.specs.Recipes.{r2Plan, m1Plan, m3First, m3Second, m3Plan, memberIn, m4Plan, m11Plan, reordered, m12Plan, m5First, m5Second, shared, halved, m10Plan, exprInner, midOf};
 ghost use Rattle.membership_plans.specs.Planned.{Is, Answered, RuleApplies};
 use finds::all_terms;
 use plans::Piece;
@@ -25,7 +25,6 @@ use rules::places::AT_M11;
 use rules::places::AT_M12;
 use rules::places::AT_R2;
 use views::Shape;
-use views::Side;
 
 // No result.
 fn plan_drop() -> Plan

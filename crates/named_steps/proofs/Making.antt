@@ -1,7 +1,6 @@
 -- A named step at a conjunction: what was chosen, and what taking it leaves.
-use Prim.Native.Nat.{ℕ, _+_, _<_, _≤_}
+use Prim.Native.Nat.{ℕ, _+_, _<_}
 use native.Mathlib.Omega.{arith}
-use native.Mathlib.Decide.{decLe}
 use mathlib.Core.Path.{_≡_, refl, sym, ap, _∙_, subst}
 use mathlib.Core.Bool.{Bool, true, false}
 use mathlib.Core.List.{List, [], _∷_, _++_, map}
@@ -16,11 +15,10 @@ use Rattle.language.specs.Trees.{Conj}
 use Rattle.language.specs.Writing.{literalWords, conjWords}
 use Rattle.language.specs.Fine.{fineConj}
 use Rattle.rules.specs.Reply.{Reply, nothing, results, stops}
-use Rattle.rules.specs.Run.{allOf, anyLong, waitingSize}
+use Rattle.rules.specs.Run.{allOf, waitingSize}
 use Rattle.replay.specs.Replay.{Triple}
-use Rattle.frames.specs.Frames.{inFrames}
 use Rattle.plans.specs.Sizes.{sized}
-use Rattle.plans.specs.declared.Size.the-variants.{Fits, Over}
+use Rattle.plans.specs.declared.Size.the-variants.{Fits}
 use Rattle.taking.proofs.Sizing.{fits-exact, fits-past, over-anyLong, fits-anyLong}
 use Rattle.views.specs.Standing.{LiteralAt}
 use Rattle.views.proofs.LiteralWalks.{stands-here, literal-some}

@@ -1,10 +1,9 @@
 -- A question of one conjunction: what stands behind its table, and what the call leaves by how it was read.
 use Prim.Native.Nat.{ℕ, _+_, _-_, _<_, _≤_}
 use native.Mathlib.Omega.{arith}
-use mathlib.Core.Path.{_≡_, refl, sym, ap, _∙_, subst}
+use mathlib.Core.Path.{_≡_, refl, sym, ap, _∙_}
 use mathlib.Core.Bool.{Bool, true, false}
 use mathlib.Core.List.{List, [], _∷_, _++_, map, append-assoc, append-nil}
-use lib.Dec.{ltb}
 use lib.ListN.{length, take, drop, replicate, getD, length-append, length-drop, length-replicate, replicate-append-replicate}
 use lib.Seq.{sets, sets-eq, take-at, drop-at}
 use borrow.Author.Tests.{lt-ltb, le-ltb}
@@ -31,7 +30,7 @@ use Rattle.outcomes.specs.declared.Checked.the-variants.{Fine, Refused}
 use Rattle.replay.specs.Replay.{Triple}
 use Rattle.named_steps.specs.declared.Stepping.{Stepping}
 use Rattle.named_steps.specs.declared.Stepping.the-variants as stepping
-use Rattle.named_steps.specs.Naming.{Naming, made, unread, given-up, namedAt, ofOne, namingOf, naming}
+use Rattle.named_steps.specs.Naming.{Naming, unread, namedAt, ofOne, namingOf, naming}
 use Rattle.named_steps.specs.Leaves.{resultWords, begins, roomOf, leaves, Leaves, makes}
 use Rattle.named_steps.specs.Leaves as left
 

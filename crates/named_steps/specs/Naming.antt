@@ -7,7 +7,7 @@ use Rattle.language.specs.declared.Refusal.{Refusal}
 use Rattle.language.specs.declared.Refusal.the-variants.{ShortSlice, CountRange, LongResult, LongWaiting, BadStep}
 use Rattle.language.specs.declared.Signature.{Signature}
 use Rattle.language.specs.Limits.{Limits}
-use Rattle.language.specs.Trees.{Conj, signature, Question}
+use Rattle.language.specs.Trees.{Conj, signature}
 use Rattle.language.specs.Question.{Asked, asks, refuses, readQuestion}
 use Rattle.rules.specs.Reply.{Reply, nothing, results, stops}
 use Rattle.rules.specs.Run.{allOf, anyLong, waitingSize}

@@ -1,17 +1,17 @@
 -- What the call for a whole sheet comes to.
-use Prim.Native.Nat.{ℕ, zero, suc, _+_, _-_, _*_, _/_, _<_, _≤_}
+use Prim.Native.Nat.{ℕ, _+_, _-_, _*_, _/_, _<_, _≤_}
 use mathlib.Core.Path.{_≡_, refl, sym, ap, ap₂, _∙_}
 use mathlib.Core.Bool.{Bool, true, false}
-use mathlib.Core.List.{List, [], _∷_, _++_, map}
+use mathlib.Core.List.{List, [], _∷_, map}
 use native.Mathlib.Omega.{arith}
 use native.Mathlib.Nat.{add-mul}
-use borrow.Author.Tests.{eq-eqb, ne-eqb, lt-ltb, le-ltb}
+use borrow.Author.Tests.{ne-eqb, lt-ltb, le-ltb}
 use lib.Dec.{eqb, ltb}
 use lib.ListN.{length, length-append, length-map}
 use Rattle.language.specs.Kinds.{pick}
 use Rattle.word_bytes.specs.Bytes.{wordsOf, wordsIn}
 use Rattle.live_rules.specs.Layout.{Rule, wordOf, countOf, rulesAt, rulesFrom, rulesIn, sheetNumber}
-use Rattle.live_rules.proofs.Reading.{IsSheet, is-sheet}
+use Rattle.live_rules.proofs.Reading.{IsSheet}
 use Rattle.overlap.specs.Table.{pairsOf, rowLength, table, needed, tableNumber, tableLeaves}
 use Rattle.overlap.specs.Lengths.{tableLength}
 use Rattle.overlap.proofs.Tabling.{rows-times, rules-count}

@@ -1,7 +1,7 @@
 -- The rows of a table in the room's bytes: one row, the rows of one rule, and the rows of all pairs.
 use Prim.Native.Nat.{ℕ, zero, suc, _+_, _-_, _*_, _/_, _%_, _<_, _≤_}
-use mathlib.Core.Path.{_≡_, refl, sym, ap, ap₂, subst, _∙_}
-use mathlib.Core.Bool.{Bool, true, false, _&&_}
+use mathlib.Core.Path.{_≡_, refl, sym, ap, ap₂, _∙_}
+use mathlib.Core.Bool.{true}
 use mathlib.Core.List.{List, [], _∷_, _++_, map}
 use native.Mathlib.Omega.{arith}
 use native.Mathlib.Numerals.{add-one}
@@ -13,9 +13,9 @@ use Rattle.language.proofs.Stores.{sets-append}
 use Rattle.word_bytes.specs.Bytes.{wordsOf, bytesOf}
 use Rattle.live_rules.specs.Layout.{Rule, ruleEnd, ruleAt, ruleFits, rulesLaid, rulesFrom}
 use Rattle.live_rules.proofs.Reading.{Inside, inside, laid-one}
-use Rattle.pairing.specs.Meeting.{Meeting, meeting}
-use Rattle.pairing.specs.Lent.{Told, meetingNumber, reportOf}
-use Rattle.overlap.specs.Table.{pairsOf, rowOf, rowWords, rowLength, table}
+use Rattle.pairing.specs.Meeting.{meeting}
+use Rattle.pairing.specs.Lent.{Told, reportOf}
+use Rattle.overlap.specs.Table.{pairsOf, rowWords, rowLength, table}
 use Rattle.overlap.specs.Lengths.{rowsLength, pairCount, tableLength}
 
 -- ---- stores that stand apart

@@ -11,7 +11,6 @@ use lib.Seq.{sets, take-at, drop-at}
 use Rattle.language.specs.Limits.{desk}
 use Rattle.language.specs.Kinds.{pick}
 use Rattle.language.specs.Numbers.{numberOf}
-use Rattle.language.specs.Trees.{signature}
 use Rattle.language.specs.Question.{Asked, asks, refuses, readQuestion}
 use Rattle.language.proofs.Numbering.{each-number}
 use Rattle.word_bytes.specs.Bytes.{wordsOf, wordsIn, bytesOf}
@@ -25,7 +24,7 @@ use Rattle.patterns.specs.Blanks.{nothing, apart}
 use Rattle.patterns.specs.Terms.{oneTerm}
 use Rattle.patterns.specs.Pairs.{ofBoth, tooMany, pairWords}
 use Rattle.pairing.specs.Meeting.{Meeting, cannot, can, unsettled, refused, firstSettled, fits, reported, early, shownBy, meetingBy, meetingOf, meeting}
-use Rattle.pairing.specs.Lent.{meetingNumber, reportOf, Told}
+use Rattle.pairing.specs.Lent.{meetingNumber, reportOf}
 use Rattle.pairing.proofs.Promises.{cannot-is-none, can-matches}
 use Rattle.overlap.specs.Table.{wordFrom}
 use Rattle.overlap_demands.specs.Calls.{OverlapPair}

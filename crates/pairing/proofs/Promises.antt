@@ -1,7 +1,7 @@
 -- What each answer of a pair promises.
 use Prim.Native.Nat.{ℕ, _≤_}
 use mathlib.Core.Path.{_≡_, refl, sym, ap, subst, _∙_}
-use mathlib.Core.Logic.{_⊎_, inl, inr}
+use mathlib.Core.Logic.{inl}
 use mathlib.Core.Bool.{Bool, true, false, _&&_}
 use mathlib.Core.List.{List, [], _∷_, _++_}
 use native.Mathlib.Omega.{arith}
@@ -16,24 +16,21 @@ use Rattle.language.proofs.Asking.{passed, ranges}
 use Rattle.meaning.specs.Complete.{Complete, completeWords, Same}
 use Rattle.meaning.specs.Meaning.{Filling, fill, MeetsQuestion}
 use Rattle.meaning.proofs.Same.{same-sym, same-≡, same-trans}
-use Rattle.rules.specs.Run.{Numbered}
 use Rattle.rules.specs.Answer.{answerWords, zeros, overwritten, Solving, answered, unread, given-up, solving}
 use Rattle.rules.specs.Calls.{Showing, shows, denied, showing}
 use Rattle.outcomes.specs.declared.Outcome.the-variants.{NoLine}
-use Rattle.outcomes.specs.Numbers.{SolveNumbers}
 use Rattle.solver.specs.Leaves.{toldLeaves}
 use Rattle.filling.specs.Showing.{filled}
-use Rattle.demands.specs.Solves.{Solve}
 use Rattle.demands.proofs.Demands.{none-is-none}
 use Rattle.patterns.specs.Blanks.{blanksIn, counted, nothing, apart}
 use Rattle.patterns.specs.Terms.{oneTerm, Matches}
 use Rattle.patterns.specs.Pairs.{ofBoth, tooMany, pairWords}
-use Rattle.patterns.specs.Renamed.{firstOf, secondOf, pairAsks}
+use Rattle.patterns.specs.Renamed.{firstOf, secondOf}
 use Rattle.patterns.proofs.OneTerm.{Term-of, one-term}
 use Rattle.patterns.proofs.Renumbering.{joint, joint-first, joint-second}
 use Rattle.patterns.proofs.Asking.{held-here, pair-asked}
 use Rattle.patterns.proofs.Taming.{tame, tame-same, tamed, tamed-named, tamed-fills}
-use Rattle.pairing.specs.Meeting.{Meeting, cannot, can, unsettled, refused, firstSettled, fits, reported, early, shownBy, meetingBy, meetingOf, meeting}
+use Rattle.pairing.specs.Meeting.{Meeting, cannot, can, unsettled, refused, firstSettled, reported, early, shownBy, meetingOf, meeting}
 use Rattle.pairing.proofs.Showing.{both-declared, shown-pair, report-words, both-match-it}
 
 module _ (room word : ℕ) (ps qs : List ℕ) where

@@ -1,14 +1,13 @@
 -- The report's words: how many they are at most, and each turn of writing their bytes.
-use Prim.Native.Nat.{ℕ, zero, suc, _+_, _-_, _*_, _/_, _%_, _<_, _≤_}
+use Prim.Native.Nat.{ℕ, suc, _+_, _-_, _*_, _/_, _%_, _<_, _≤_}
 use mathlib.Core.Path.{_≡_, refl, sym, ap, ap₂, subst, _∙_}
-use mathlib.Core.Bool.{Bool, true, false, _||_}
 use mathlib.Core.List.{List, [], _∷_, _++_, append-nil}
 use native.Mathlib.Omega.{arith}
-use native.Mathlib.Nat.{add-zero, zero-add}
-use native.Mathlib.Numerals.{add-one, one-add}
+use native.Mathlib.Nat.{zero-add}
+use native.Mathlib.Numerals.{add-one}
 use borrow.Author.Tests.{eq-eqb, ne-eqb, le-leb, lt-leb, lt-ltb, le-ltb}
-use lib.Dec.{eqb, leb, ltb}
-use lib.ListN.{length, getD, set, take, drop, length-append, length-take, length-drop, drop-of-length-le, List·getD-eq-default}
+use lib.Dec.{eqb}
+use lib.ListN.{length, getD, take, drop, length-append, length-take, length-drop, drop-of-length-le}
 use lib.Seq.{sets, drop-cons, length-sets, sets-eq, take-at}
 use Rattle.language.specs.declared.Kind.{Kind}
 use Rattle.language.specs.declared.Kind.the-variants.{End, Term, Run, Symbol, Function, Equation, Membership, Eps, Cat, Alt, Star, Other}
@@ -16,17 +15,17 @@ use Rattle.language.specs.Between.{between}
 use Rattle.language.specs.Limits.{desk}
 use Rattle.language.specs.Kinds.{pick, kindOf}
 use Rattle.language.specs.Numbers.{numberOf}
-use Rattle.language.specs.Question.{Asked, asks, refuses, readQuestion}
+use Rattle.language.specs.Question.{Asked, asks, refuses}
 use Rattle.language.proofs.Stores.{sets-append}
 use Rattle.outcomes.specs.Numbers.{checkedNumbers, checkedNumber}
 use Rattle.outcomes.specs.declared.Checked.{Checked}
 use Rattle.reader.specs.Checking.{askedNumber, askedNumbers}
 use Rattle.demands.proofs.Between.{not-zero}
-use Rattle.filling.specs.Showing.{offset, ending, bodyAt, nameAt, wordOn, filled, ShowsOn, Shows, Written}
+use Rattle.filling.specs.Showing.{offset, ending, wordOn, filled, ShowsOn, Shows, Written}
 use Rattle.word_bytes.specs.Bytes.{bytesOf}
 use Rattle.word_bytes.proofs.Pairs.{length-bytesOf}
-use Rattle.pairing.specs.Meeting.{Meeting, cannot, can, unsettled, refused, fits, early}
-use Rattle.pairing.specs.Lent.{meetingNumber, reportOf, Told, markedFrom}
+use Rattle.pairing.specs.Meeting.{fits, early}
+use Rattle.pairing.specs.Lent.{Told, markedFrom}
 
 -- ---- how many words
 

@@ -1,20 +1,16 @@
 -- What the solver's answer and the example say of a pair, from the contracts of these calls (by the theorems of `demands`).
-use Prim.Native.Nat.{ℕ, zero, suc, _+_, _-_, _<_, _≤_}
-use mathlib.Core.Path.{_≡_, refl, sym, ap, ap₂, subst, _∙_}
-use mathlib.Core.Bool.{Bool, true, false, _&&_}
-use mathlib.Core.List.{List, [], _∷_, _++_, map}
+use Prim.Native.Nat.{ℕ, zero, suc, _+_, _-_}
+use mathlib.Core.Path.{_≡_, refl, sym, ap, ap₂, _∙_}
+use mathlib.Core.Bool.{Bool, true, false}
+use mathlib.Core.List.{List, [], _∷_, map}
 use mathlib.Core.Option.{Option, none, some}
 use native.Mathlib.Omega.{arith}
 use native.Mathlib.Nat.{zero-add}
-use native.Mathlib.Numerals.{add-one}
-use borrow.Author.Tests.{eq-eqb, ne-eqb}
 use lib.Dec.{eqb}
 use lib.ListN.{length, getD, take, drop}
-use lib.Seq.{take-at, drop-cons, drop-nil}
-use Rattle.language.specs.declared.Refusal.{Refusal}
-use Rattle.language.specs.Limits.{Limits, desk}
+use lib.Seq.{take-at, drop-nil}
+use Rattle.language.specs.Limits.{desk}
 use Rattle.language.specs.Kinds.{pick}
-use Rattle.language.specs.Numbers.{numberOf, placeOf}
 use Rattle.language.specs.Trees.{Counts}
 use Rattle.language.specs.Reading.{Got, got, stop, readConj}
 use Rattle.rules.specs.Solved.{solved}
@@ -31,7 +27,7 @@ use Rattle.demands.specs.Answers.{Line, marked, readLine, lineIn, withLine, rea
 use Rattle.demands.proofs.Between.{not-zero}
 use Rattle.demands.proofs.Reading.{asLine}
 use Rattle.demands.proofs.Solving as solver
-use Rattle.pairing.specs.Meeting.{Meeting, cannot, can, unsettled, refused, firstSettled, reported, shownBy, meetingBy, meetingOf}
+use Rattle.pairing.specs.Meeting.{refused, firstSettled, reported, meetingOf}
 use Rattle.pairing.specs.Lent.{markedFrom}
 
 none≢ : {A B : Type 0} {a : A} → _≡_ {A = Option A} none (some a) → B

@@ -1,15 +1,14 @@
 -- The filling that an example shows for a pair has a value for every blank of the first pattern, and makes both patterns the same report.
-use Prim.Native.Nat.{ℕ, zero, suc, _+_, _<_, _≤_}
-use mathlib.Core.Path.{_≡_, refl, sym, ap, ap₂, subst, _∙_}
-use mathlib.Core.Logic.{_⊎_, inl, inr, _↔_}
-use mathlib.Core.Bool.{Bool, true, false, _&&_}
+use Prim.Native.Nat.{ℕ, zero, suc, _+_}
+use mathlib.Core.Path.{_≡_, refl, sym, ap, subst, _∙_}
+use mathlib.Core.Logic.{inl, inr}
+use mathlib.Core.Bool.{true, false}
 use mathlib.Core.List.{List, [], _∷_, _++_}
-use mathlib.Core.Option.{Option, none, some}
+use mathlib.Core.Option.{some}
 use native.Mathlib.Omega.{arith}
 use lib.ListN.{length, take, drop, replicate, length-replicate}
 use lib.Seq.{take-at}
 use Rattle.language.specs.Limits.{desk}
-use Rattle.language.specs.Numbers.{numberOf, placeOf}
 use Rattle.language.specs.declared.Signature.{Signature}
 use Rattle.language.specs.Trees.{Hedge, Counts, signature, Question}
 use Rattle.language.specs.Writing.{hedgeWords}
@@ -20,14 +19,14 @@ use Rattle.language.specs.Undeclared.{declaredWords}
 use Rattle.language.proofs.Bools.{both-true}
 use Rattle.language.proofs.Asking.{passed}
 use Rattle.language.proofs.Undeclared.{declared-append, hedge-declared}
-use Rattle.meaning.specs.Complete.{Complete, completeWords, Same}
+use Rattle.meaning.specs.Complete.{completeWords, Same}
 use Rattle.meaning.specs.Meaning.{Filling, fill, MeetsQuestion}
 use Rattle.meaning.specs.Values.{gives, readFilling}
 use Rattle.meaning.proofs.Same.{same-sym, same-≡, same-trans}
-use Rattle.rules.specs.Answer.{solving, zeros}
-use Rattle.rules.specs.Calls.{Showing, shows, denied, showing}
+use Rattle.rules.specs.Answer.{solving}
+use Rattle.rules.specs.Calls.{Showing, shows, showing}
 use Rattle.outcomes.specs.declared.Solved.{Solved}
-use Rattle.outcomes.specs.declared.Shown.the-variants.{Shows, Denied}
+use Rattle.outcomes.specs.declared.Shown.the-variants.{Shows}
 use Rattle.line_example.specs.Shown.{numbersOf, roomOf}
 use Rattle.example.specs.Exhibits.{toldExhibits}
 use Rattle.solver.specs.Leaves.{leaves}
@@ -38,16 +37,15 @@ use Rattle.filling.proofs.Given.{was, has-values}
 use Rattle.filling.proofs.Values.{declared-shows}
 use Rattle.filling.proofs.Becomes.{filled-append, hedge-becomes}
 use Rattle.demands.specs.Answers.{Line, MeetsLine, MeetsLines, nthLine}
-use Rattle.demands.specs.Promises.{Promised, exampleOf, RoomShows}
+use Rattle.demands.specs.Promises.{Promised, exampleOf}
 use Rattle.demands.specs.Examples.{Example}
 use Rattle.demands.proofs.Demands.{shows-only-so}
 use Rattle.patterns.specs.Blanks.{blanksIn, counted, nothing, apart}
-use Rattle.patterns.specs.Terms.{oneTerm, Pattern, Matches}
+use Rattle.patterns.specs.Terms.{Pattern, Matches}
 use Rattle.patterns.specs.Pairs.{ofBoth, tooMany, pairWords}
 use Rattle.patterns.specs.Renamed.{firstOf, secondOf, pairAsks}
-use Rattle.patterns.proofs.OneTerm.{Term-of, one-term}
-use Rattle.patterns.proofs.Renumbering.{back, back-fills, joint, joint-first, joint-second}
-use Rattle.patterns.proofs.Asking.{few, apart-words, held-here, fine-first, pair-asked}
+use Rattle.patterns.proofs.Renumbering.{back, back-fills}
+use Rattle.patterns.proofs.Asking.{few, apart-words, fine-first, pair-asked}
 
 -- ---- an example that is shown, as a call that came back
 

@@ -1,24 +1,23 @@
 -- What the calls for a pair return, from what was told of its question.
-use Prim.Native.Nat.{ℕ, _+_, _-_, _*_, _<_, _≤_}
+use Prim.Native.Nat.{ℕ, _+_, _-_, _≤_}
 use mathlib.Core.Path.{_≡_, refl, sym, ap, ap₂, subst, _∙_}
 use mathlib.Core.Bool.{Bool, true, false, _&&_, and-false}
-use mathlib.Core.List.{List, [], _∷_, _++_, map}
+use mathlib.Core.List.{List, [], _∷_, _++_}
 use native.Mathlib.Omega.{arith}
-use borrow.Author.Tests.{eq-eqb, ne-eqb, ltb-true, ltb-false, le-leb, lt-leb}
-use lib.Dec.{eqb, leb, ltb}
-use lib.ListN.{length, getD, take, drop, length-append, length-map}
+use borrow.Author.Tests.{eq-eqb, ne-eqb, ltb-true, ltb-false, lt-leb}
+use lib.Dec.{leb, ltb}
+use lib.ListN.{length, getD, take, length-append, length-map}
 use lib.Seq.{sets, sets-eq, take-at}
 use Rattle.language.specs.Limits.{desk}
 use Rattle.language.specs.Kinds.{pick}
 use Rattle.language.specs.Between.{between}
-use Rattle.language.specs.Numbers.{numberOf}
 use Rattle.language.specs.declared.Refusal.the-variants.{QuestionLength}
-use Rattle.language.specs.Question.{lengthFits, asks, refuses, readQuestion}
+use Rattle.language.specs.Question.{lengthFits, refuses, readQuestion}
 use Rattle.language.proofs.Bools.{both-true}
 use Rattle.language.proofs.Questions.{bad-length}
 use Rattle.rules.specs.Run.{Numbered}
-use Rattle.rules.specs.Answer.{Solving, answered, unread, given-up, solvingOf, solving}
-use Rattle.rules.specs.Calls.{Showing, shows, denied, showing}
+use Rattle.rules.specs.Answer.{unread, solvingOf, solving}
+use Rattle.rules.specs.Calls.{shows, showing}
 use Rattle.outcomes.specs.declared.Solved.{Solved}
 use Rattle.outcomes.specs.Numbers.{SolveNumbers, outcomeNumber, solvedNumbers}
 use Rattle.solver.specs.Leaves.{toldLeaves}
@@ -36,8 +35,8 @@ use Rattle.patterns.specs.declared.Asked.the-variants.{TooMany, TooLong, Asks}
 use Rattle.patterns.specs.Pairs.{ofBoth, tooMany, pairWords, asked, askedWords, askedLeaves}
 use Rattle.patterns.proofs.OneTerm.{one-term}
 use Rattle.pairing.specs.Meeting as meetings
-use Rattle.pairing.specs.Meeting.{Meeting, cannot, can, unsettled, refused, firstSettled, reported, early, shownBy, meetingBy, meetingOf, meeting}
-use Rattle.pairing.specs.Lent.{meetingNumber, reportOf, Told, markedFrom}
+use Rattle.pairing.specs.Meeting.{Meeting, refused, firstSettled, reported, early, shownBy, meetingBy, meetingOf, meeting}
+use Rattle.pairing.specs.Lent.{Told, markedFrom}
 use Rattle.pairing.specs.Here.{Here, PairHere, Known}
 use Rattle.pairing.proofs.Settling.{Lines, solve-refused, solve-answered, Filled, example-refused, example-shown}
 use Rattle.pairing.proofs.Showing.{shown-pair, pair-shows}

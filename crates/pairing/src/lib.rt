@@ -1,19 +1,16 @@
 // Whether two patterns can meet: a report that both match, if there is one. It knows the solver, the example and the reader by their contracts.
-ghost use Prim.Native.Nat.{ℕ, _+_, _*_, _/_, _≤_, _<_};
+ghost use Prim.Native.Nat.{ℕ, _+_, _*_, _≤_, _<_};
 ghost use mathlib.Core.Path.{_≡_};
-ghost use mathlib.Core.Bool.{true, false};
+ghost use mathlib.Core.Bool.{false};
 ghost use mathlib.Core.List.{List};
 ghost use lib.Dec.{eqb};
-ghost use lib.ListN.{length, getD, take};
+ghost use lib.ListN.{length, getD};
 ghost use lib.Seq.{sets};
 ghost use Rattle.language.specs.Limits.{desk};
-ghost use Rattle.language.specs.Between.{between};
 ghost use Rattle.language.specs.Question.{readQuestion};
 ghost use Rattle.rules.specs.Answer.{solving};
 ghost use Rattle.filling.specs.Showing.{filled, Shows};
 ghost use Rattle.word_bytes.specs.Bytes.{wordsIn, bytesOf};
-ghost use Rattle.patterns.specs.Terms.{oneTerm};
-ghost use Rattle.patterns.specs.Pairs.{ofBoth, tooMany, pairWords};
 ghost use Rattle.pairing.specs.Meeting.{fits, early, shownBy, meetingOf, meeting};
 ghost use Rattle.pairing.specs.Lent.{Told, markedFrom};
 ghost use Rattle.pairing.specs.Here.{Here, PairHere, Known, PairKnown};

@@ -1,26 +1,23 @@
 -- The words of a pair's question are read as the pair's question.
-use Prim.Native.Nat.{ℕ, suc, _+_, _-_, _<_, _≤_}
+use Prim.Native.Nat.{ℕ, _+_, _-_, _≤_}
 use mathlib.Core.Path.{_≡_, refl, sym, ap, ap₂, subst, _∙_}
 use mathlib.Core.Bool.{Bool, true, false, _||_}
 use mathlib.Core.List.{List, [], _∷_, _++_, map, append-assoc}
 use native.Mathlib.Omega.{arith}
-use native.Mathlib.Nat.{zero-add}
 use borrow.Author.Tests.{ltb-false}
 use lib.Dec.{ltb}
 use lib.ListN.{length, take, length-append, length-map}
 use lib.Seq.{take-all}
 use Rattle.language.specs.Limits.{desk}
-use Rattle.language.specs.Trees.{Hedge, eqn, Conj, Counts, Question}
+use Rattle.language.specs.Trees.{Hedge, Conj, Counts, Question}
 use Rattle.language.specs.Writing.{hedgeWords, conjWords}
 use Rattle.language.specs.Fine.{fineHedge, fineConj}
-use Rattle.language.specs.Reading.{Got, got}
+use Rattle.language.specs.Reading.{got}
 use Rattle.language.specs.Question.{countsOf, parts, withConj, readAll, asks, readQuestion}
-use Rattle.language.specs.Kinds.{kindOf}
-use Rattle.language.specs.declared.Kind.the-variants.{End}
 use Rattle.language.proofs.Words.{kind-end}
 use Rattle.language.proofs.Laws.{conjunctions-read}
 use Rattle.language.proofs.Asking.{passed}
-use Rattle.patterns.specs.Blanks.{Blanks, blanksIn, counted, together, nothing, numberedOn, numberedBy, apart}
+use Rattle.patterns.specs.Blanks.{Blanks, blanksIn, counted, nothing, numberedOn, numberedBy, apart}
 use Rattle.patterns.specs.Terms.{Pattern}
 use Rattle.patterns.specs.Pairs.{ofBoth, tooMany, pairWords}
 use Rattle.patterns.specs.Renamed.{renamed, firstOf, secondOf, pairConj, pairAsks}

@@ -1,10 +1,10 @@
 -- When words are one term: the tree they stand for, and that each tree's words are so.
-use Prim.Native.Nat.{ℕ, zero, suc, _+_, _-_, _<_, _≤_}
-use mathlib.Core.Path.{_≡_, refl, sym, ap, subst, _∙_}
+use Prim.Native.Nat.{ℕ, zero, suc, _+_, _-_, _<_}
+use mathlib.Core.Path.{_≡_, refl, sym, ap, _∙_}
 use mathlib.Core.Bool.{Bool, true, false}
 use mathlib.Core.List.{List, [], _∷_, _++_, append-assoc}
 use native.Mathlib.Omega.{arith}
-use borrow.Author.Tests.{eq-eqb, ne-eqb, eqb-true}
+use borrow.Author.Tests.{eq-eqb, ne-eqb}
 use lib.Dec.{eqb}
 use lib.ListN.{length, getD, drop}
 use lib.Seq.{drop-cons}
@@ -15,10 +15,10 @@ use Rattle.language.specs.Kinds.{pick, kindOf}
 use Rattle.language.specs.Trees.{Functor, symbol, fvar, Hedge, ε, tvar, hvar, node}
 use Rattle.language.specs.Writing.{functorWord, hedgeWords}
 use Rattle.language.specs.Fine.{fineFunctor, fineHedge}
-use Rattle.language.proofs.Words.{Is, is, kind-end, kind-term, kind-run, kind-symbol, kind-function}
+use Rattle.language.proofs.Words.{Is, is}
 use Rattle.language.proofs.Words as words
 use Rattle.rules.specs.Solved.{isTerm}
-use Rattle.patterns.specs.Terms.{Went, to, out, goes, goesOn, closing, begins, oneTerm, Pattern}
+use Rattle.patterns.specs.Terms.{goes, goesOn, closing, begins, oneTerm, Pattern}
 
 false≢true : {A : Type 0} → _≡_ {A = Bool} false true → A
 false≢true e = absurd (let z : _≡_ {A = ℕ} 0 1 = cc in omega arith)

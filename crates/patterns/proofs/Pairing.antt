@@ -1,29 +1,27 @@
 -- A pattern's words by its table are the pattern numbered apart; and what is written piece by piece is the pair's question.
-use Prim.Native.Nat.{ℕ, suc, _+_, _-_, _*_, _/_, _<_, _≤_}
+use Prim.Native.Nat.{ℕ, _+_, _-_, _*_, _≤_}
 use mathlib.Core.Path.{_≡_, refl, sym, ap, ap₂, subst, _∙_}
 use mathlib.Core.Bool.{Bool, true, false, _&&_, _||_}
 use mathlib.Core.List.{List, [], _∷_, _++_, map, append-assoc}
 use native.Mathlib.Omega.{arith}
 use native.Mathlib.Nat.{zero-add}
-use native.Mathlib.Numerals.{add-one}
-use borrow.Author.Tests.{le-ltb}
 use lib.Dec.{ltb}
-use lib.ListN.{length, getD, set, replicate, length-map, length-append, getD-replicate, length-replicate}
+use lib.ListN.{length, getD, replicate, length-map, length-append, getD-replicate, length-replicate}
 use lib.Seq.{sets}
 use Rattle.language.specs.declared.Kind.{Kind}
 use Rattle.language.specs.declared.Kind.the-variants.{End, Term, Run, Symbol, Function, Equation, Membership, Eps, Cat, Alt, Star, Other}
 use Rattle.language.specs.Limits.{desk}
-use Rattle.language.specs.Kinds.{pick, kindOf}
+use Rattle.language.specs.Kinds.{kindOf}
 use Rattle.language.specs.Trees.{Counts}
 use Rattle.language.proofs.Words.{Is, term, run, function, is}
 use Rattle.language.proofs.Stores.{sets-append}
 use Rattle.patterns.specs.declared.Numbers.{Numbers}
 use Rattle.patterns.specs.declared.Asked.{Asked}
 use Rattle.patterns.specs.declared.Asked.the-variants.{TooMany, TooLong, Asks}
-use Rattle.patterns.specs.Blanks.{among, before, Blanks, noBlanks, blanksIn, counted, together, nothing, numberedOn, numberedBy, apart}
+use Rattle.patterns.specs.Blanks.{before, Blanks, noBlanks, blanksIn, counted, nothing, numberedOn, numberedBy, apart}
 use Rattle.patterns.specs.Terms.{oneTerm}
 use Rattle.patterns.specs.Pairs.{ofBoth, tooMany, pairWords, asked, askedWords, askedLeaves}
-use Rattle.patterns.specs.Tables.{atHedges, atFunctions, entry, Tabled, NotedAs, Noted, renumberedOn, renumberedBy, Entered, EnteredOn, Ready}
+use Rattle.patterns.specs.Tables.{atHedges, atFunctions, Tabled, Noted, renumberedOn, renumberedBy, EnteredOn, Ready}
 use Rattle.patterns.proofs.Noting.{there, AmongOn, AllIn, all-at, blanks-in}
 use Rattle.patterns.proofs.Asking.{Few, few}
 

@@ -1,7 +1,7 @@
 -- Patterns whose blanks are numbered anew: their words, and fillings of two patterns that are kept apart: two make one, and one is two.
-use Prim.Native.Nat.{ℕ, _+_, _-_, _<_, _≤_}
+use Prim.Native.Nat.{ℕ, _+_, _-_, _≤_}
 use mathlib.Core.Path.{_≡_, refl, sym, ap, ap₂, _∙_}
-use mathlib.Core.Bool.{Bool, true, false, _&&_}
+use mathlib.Core.Bool.{true}
 use mathlib.Core.List.{List, [], _∷_, _++_, map}
 use native.Mathlib.Omega.{arith}
 use native.Mathlib.Nat.{zero-add}
@@ -15,9 +15,8 @@ use Rattle.language.specs.Kinds.{pick, kindOf}
 use Rattle.language.specs.Trees.{Functor, symbol, fvar, Hedge, ε, tvar, hvar, node, Counts}
 use Rattle.language.specs.Writing.{functorWord, hedgeWords}
 use Rattle.language.specs.Fine.{fineFunctor, fineHedge}
-use Rattle.language.specs.Question.{declaredT, declaredH, declaredX, declaredF, declared}
 use Rattle.language.proofs.Words.{kind-end, kind-term, kind-run, kind-symbol, kind-function}
-use Rattle.meaning.specs.Complete.{Complete, nil, tree, _·_}
+use Rattle.meaning.specs.Complete.{tree, _·_}
 use Rattle.meaning.specs.Meaning.{Filling, fillF, fill}
 use Rattle.patterns.specs.Blanks.{among, before, Blanks, counted, nothing, numberedOn, numberedBy}
 use Rattle.patterns.specs.Renamed.{renamedF, renamed}

@@ -2,7 +2,7 @@
 -- the declared symbols: a pattern has no others.
 use Prim.Native.Nat.{_≤_}
 use mathlib.Core.Path.{_≡_, refl, sym, ap, subst, _∙_}
-use mathlib.Core.Logic.{_⊎_, inl, inr}
+use mathlib.Core.Logic.{inl, inr}
 use mathlib.Core.Bool.{Bool, true, false, _&&_}
 use lib.Dec.{T, ltb, lt→ltb}
 use Rattle.language.specs.declared.Sym.{Sym}

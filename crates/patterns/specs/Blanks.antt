@@ -1,7 +1,7 @@
 -- The blanks of a pattern, by their kinds, and the pattern with its blanks numbered anew: from 0 on in the order in which they first appear, behind
 -- as many as stand before them.
 use Prim.Native.Nat.{ℕ, suc, _+_, _/_, _%_}
-use mathlib.Core.Bool.{Bool, true, false, _||_}
+use mathlib.Core.Bool.{Bool, false, _||_}
 use mathlib.Core.List.{List, [], _∷_, _++_, map}
 use lib.Dec.{eqb}
 use lib.ListN.{length}

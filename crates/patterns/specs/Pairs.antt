@@ -8,7 +8,6 @@ use lib.Seq.{sets}
 use Rattle.language.specs.Limits.{desk}
 use Rattle.language.specs.Kinds.{pick}
 use Rattle.language.specs.Trees.{Counts}
-use Rattle.patterns.specs.declared.Pair.{Pair}
 use Rattle.patterns.specs.declared.Asked.{Asked}
 use Rattle.patterns.specs.declared.Asked.the-variants.{TooMany, TooLong, Asks}
 use Rattle.patterns.specs.Blanks.{blanksIn, counted, together, nothing, apart}

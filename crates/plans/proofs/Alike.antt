@@ -1,7 +1,7 @@
 -- Results of one length: what they come to together is known from their number and that length, and a number past the room need not be counted.
 use Prim.Native.Nat.{ℕ, zero, suc, _+_, _*_, _-_, _<_, _≤_}
 use mathlib.Core.Path.{_≡_, refl, sym, ap, _∙_}
-use mathlib.Core.List.{List, [], _∷_, _++_, map}
+use mathlib.Core.List.{List, map}
 use native.Mathlib.Decide.{decLe}
 use native.Mathlib.Omega.{arith}
 use lib.Dec.{leb}
@@ -13,13 +13,12 @@ use Rattle.language.specs.Kinds.{pick}
 use Rattle.meaning.specs.Values.{numbers}
 use Rattle.rules.specs.Elements.{factorial}
 use Rattle.frames.specs.Frames.{frame}
-use Rattle.orders.specs.Orders.{plenty, someOrders, renamed}
+use Rattle.orders.specs.Orders.{plenty, someOrders}
 use Rattle.orders.proofs.Orders.{ordered-length, orders-many, few-orders, many-orders}
 use Rattle.orders.proofs.Renamed.{length-renamed}
 use Rattle.plans.specs.declared.Piece.{Piece}
 use Rattle.plans.specs.declared.Piece.the-variants.{Word, Copy, Put, ToCut, PutFromCut, Each, Ordered, Named}
 use Rattle.plans.specs.declared.Recipe.{Recipe}
-use Rattle.plans.specs.declared.Size.{Size}
 use Rattle.plans.specs.declared.Size.the-variants.{Fits, Over}
 use Rattle.plans.specs.Results.{pieceWords, slotAt, piecesFrom, numbered, made}
 use Rattle.plans.specs.Sizes.{grown, grownBy, sizedFrom, sized}

@@ -1,13 +1,12 @@
 -- The elements of a hedge in the order of a number: their words are those of the hedge at that place in the list of its orders.
-use Prim.Native.Nat.{ℕ, zero, suc, _+_, _*_, _-_, _/_, _%_, _<_, _≤_}
+use Prim.Native.Nat.{ℕ, zero, suc, _+_, _-_, _/_, _%_, _<_}
 use mathlib.Core.Path.{_≡_, refl, sym, ap, _∙_, subst}
-use mathlib.Core.Logic.{_↔_}
 use mathlib.Core.List.{List, [], _∷_, _++_, append-assoc, map}
 use native.Mathlib.Omega.{arith}
 use native.Mathlib.Nat.{mod-lt, mod-eq-of-lt, div-add-mod', div-lt-iff-lt-mul}
 use lib.ListN.{length, getD}
 use lib.Seq.{slice}
-use Rattle.language.specs.Trees.{Hedge, ε, tvar, hvar, node, _⧺_}
+use Rattle.language.specs.Trees.{Hedge, ε, tvar, hvar, node}
 use Rattle.language.specs.Writing.{hedgeWords}
 use Rattle.meaning.specs.Values.{numbers}
 use Rattle.rules.specs.Elements.{drawn, width, ordersOf, orders, factorial}

@@ -1,5 +1,5 @@
 // How the results of a rule are described: by parts of a conjunction's words, copied or with words replaced.
-ghost use Prim.Native.Nat.{ℕ, _-_, _≤_};
+ghost use Prim.Native.Nat.{_-_, _≤_};
 ghost use mathlib.Core.Path.{_≡_};
 ghost use lib.ListN.{length};
 ghost use Rattle.language.specs.Limits.{desk};

@@ -1,14 +1,14 @@
 -- The trail of every answered run is accepted and gives the same lines in the same steps.
-use Prim.Native.Nat.{ℕ, zero, suc, _+_, _*_, _≤_}
-use mathlib.Core.Path.{_≡_, refl, sym, ap, _∙_, subst}
+use Prim.Native.Nat.{ℕ, zero, suc, _+_, _*_}
+use mathlib.Core.Path.{_≡_, refl, ap, _∙_}
 use mathlib.Core.Bool.{Bool, true, false}
 use mathlib.Core.List.{List, [], _∷_, _++_, map}
-use mathlib.Core.Option.{Option, none, some}
+use mathlib.Core.Option.{some}
 use native.Mathlib.Omega.{arith}
 use lib.Dec.{ltb}
 use lib.ListN.{length}
 use Rattle.language.specs.declared.Refusal.{Refusal}
-use Rattle.language.specs.declared.Refusal.the-variants.{LongResult, LongWaiting, LineRoom, StepLimit, BadStep, ShortTrail, LongTrail}
+use Rattle.language.specs.declared.Refusal.the-variants.{LongResult, LongWaiting, LineRoom, StepLimit, BadStep, LongTrail}
 use Rattle.language.specs.declared.Signature.{Signature}
 use Rattle.language.specs.Limits.{Limits}
 use Rattle.language.specs.Kinds.{pick}
@@ -17,7 +17,7 @@ use Rattle.rules.specs.Reply.{Reply, nothing, results, stops}
 use Rattle.rules.specs.Step.{Spot, each, Found, search, stepAt, step}
 use Rattle.rules.specs.Run.{Numbered, allOf, numbered, anyLong, waitingSize, linesFit, Outcome, finished, refused, checked, lined, turn, runFrom, runBy, run}
 use Rattle.rules.proofs.Steps.{search-named}
-use Rattle.replay.specs.Trail.{traced, trailFrom, trail, spotWords, trailWords}
+use Rattle.replay.specs.Trail.{traced, trailFrom, trail, trailWords}
 use Rattle.replay.specs.Replay.{Triple, triples, leftOver, spotOf, retraced, at, replayFrom, replay}
 
 -- ---- in words and back

@@ -1,5 +1,5 @@
 -- What holds all along a replay, whoever wrote the trail: what a step at any named place and a new line keep holds of the lines at the end.
-use Prim.Native.Nat.{ℕ, zero, suc}
+use Prim.Native.Nat.{ℕ, suc}
 use mathlib.Core.Path.{_≡_, refl}
 use mathlib.Core.Bool.{Bool, true, false, _||_}
 use mathlib.Core.List.{List, [], _∷_, _++_}

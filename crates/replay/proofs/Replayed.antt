@@ -1,20 +1,17 @@
 -- What is promised of a trail and its replay, over the definitions.
-use Prim.Native.Nat.{ℕ, zero, suc, _+_, _*_, _≤_, _<_}
-use mathlib.Core.Path.{_≡_, refl, sym, ap, _∙_, subst}
+use Prim.Native.Nat.{ℕ, _+_}
+use mathlib.Core.Path.{_≡_}
 use mathlib.Core.Logic.{_↔_, Iff·trans}
-use mathlib.Core.Bool.{Bool, true, false}
+use mathlib.Core.Bool.{Bool, false}
 use mathlib.Core.List.{List, [], _∷_, _++_, append-assoc, append-nil}
 use native.Mathlib.Nat.{zero-add}
-use native.Mathlib.Omega.{arith}
-use lib.Dec.{ltb, T}
 use lib.ListN.{length}
 use Rattle.language.specs.declared.Signature.{Signature}
 use Rattle.language.specs.Limits.{Limits}
 use Rattle.language.specs.Trees.{Conj}
-use Rattle.meaning.specs.Meaning.{Filling, MeetsAll, MeetsOne}
-use Rattle.rules.specs.Reply.{Reply, nothing, results, stops}
-use Rattle.rules.specs.Step.{Spot, step}
-use Rattle.rules.specs.Each.{Each}
+use Rattle.meaning.specs.Meaning.{Filling, MeetsOne}
+use Rattle.rules.specs.Reply.{nothing}
+use Rattle.rules.specs.Step.{step}
 use Rattle.rules.specs.Run.{Numbered, unnumbered, EachLine, finished, run}
 use Rattle.rules.proofs.Each.{each-++}
 use Rattle.exact.specs.Numbers.{MeetsAt, MeetsNumbered}

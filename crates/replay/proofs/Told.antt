@@ -1,6 +1,6 @@
 -- What a caller is told of trails: solving with one, replaying one, the example with one.
 use Prim.Native.Nat.{ℕ, _*_, _≤_}
-use mathlib.Core.Path.{_≡_, refl, sym, ap, _∙_, subst}
+use mathlib.Core.Path.{_≡_, refl, ap, _∙_}
 use mathlib.Core.Logic.{_↔_}
 use mathlib.Core.Bool.{Bool, true, false}
 use mathlib.Core.List.{List, []}
@@ -9,7 +9,7 @@ use lib.Dec.{ltb}
 use lib.ListN.{length}
 use Rattle.language.specs.declared.Refusal.the-variants.{ShortSlice}
 use Rattle.language.specs.Limits.{Limits}
-use Rattle.language.specs.Trees.{Conj, signature, Question}
+use Rattle.language.specs.Trees.{signature, Question}
 use Rattle.language.specs.Question.{Asked, asks, refuses, readQuestion, countsOf, alternativesOf}
 use Rattle.meaning.specs.Meaning.{Filling, MeetsOne, MeetsQuestion}
 use Rattle.rules.specs.Reply.{nothing}
@@ -22,7 +22,7 @@ use Rattle.exact.proofs.Declared.{read-declared, named-declared}
 use Rattle.lines.specs.Fillings.{WordsMeet}
 use Rattle.lines.proofs.Shown.{of-solving, words-meet, read-counts}
 use Rattle.lines.proofs.Lines.{example-written-line}
-use Rattle.replay.specs.Trail.{trail, trailWords, runTrail}
+use Rattle.replay.specs.Trail.{trail, runTrail}
 use Rattle.replay.specs.Replay.{replay}
 use Rattle.replay.specs.Calls.{lent, solvingTrailOf, solvingTrail, trailOf, replayingOf, replaying, showingTrail}
 use Rattle.replay.proofs.Along.{replay-keeps}

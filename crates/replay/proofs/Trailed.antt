@@ -1,12 +1,11 @@
 -- Solving with a trail: as solving, but for 29.
-use Prim.Native.Nat.{ℕ, zero, suc, _+_, _*_, _≤_, _<_}
+use Prim.Native.Nat.{ℕ, zero, suc, _+_, _*_, _≤_}
 use mathlib.Core.Path.{_≡_, refl, ap, _∙_}
 use mathlib.Core.Logic.{_⊎_, inl, inr}
 use mathlib.Core.Bool.{Bool, true, false}
 use mathlib.Core.List.{List, [], _∷_, _++_}
 use native.Mathlib.Omega.{arith}
 use lib.Dec.{ltb}
-use lib.ListN.{length}
 use borrow.Author.Tests.{ltb-false, ltb-true}
 use Rattle.language.specs.declared.Refusal.{Refusal}
 use Rattle.language.specs.declared.Refusal.the-variants.{LongResult, LongWaiting, LineRoom, StepLimit, LongWalk, TrailRoom}
@@ -17,7 +16,7 @@ use Rattle.rules.specs.Reply.{Reply, nothing, results, stops}
 use Rattle.rules.specs.Step.{step}
 use Rattle.rules.specs.Run.{Numbered, allOf, numbered, anyLong, waitingSize, linesFit, Outcome, finished, refused, checked, lined, turn, runFrom, runBy, run}
 use Rattle.rules.proofs.Stopping.{RunStopsBy, run-stops-by}
-use Rattle.replay.specs.Trail.{trailFrom, written, runWriting, runTrail}
+use Rattle.replay.specs.Trail.{written, runWriting, runTrail}
 use Rattle.replay.proofs.Accepted.{from-anywhere}
 
 differ : {A : Type 0} {ls : List Numbered} {n : ℕ} {r : Refusal} → _≡_ {A = Outcome} (refused r) (finished ls n) → A

@@ -4,13 +4,13 @@ use mathlib.Core.List.{List, [], _∷_}
 use mathlib.Core.Bool.{true, false}
 use Rattle.language.specs.declared.Refusal.the-variants.{BadStep, ShortTrail, LongTrail, TrailRoom}
 use Rattle.language.specs.Limits.{desk}
-use Rattle.language.specs.Trees.{Conj, ε, eqn, mem, isUnordered, anyUnordered, _⧺_}
+use Rattle.language.specs.Trees.{Conj, eqn, mem, isUnordered, anyUnordered}
 use Rattle.rules.specs.Walk.{reached, longWalk, shared, commonHedge, commonTerm}
 use Rattle.rules.specs.Rules.{_>>=_, check}
 use Rattle.rules.specs.Places.{atR1, atFold, atF3, atF5, atD0, atE1, atE3, atM2, atClash}
 use Rattle.rules.specs.Step.{search, step, stepAt}
-use Rattle.rules.specs.Run.{finished, refused, runFrom}
-use Rattle.rules.specs.Table.{fourOrdered, a, b, f, x, p, q, aᴱ, bᴱ, P4, P10, P12}
+use Rattle.rules.specs.Run.{finished, refused}
+use Rattle.rules.specs.Table.{fourOrdered, a, b, f, x, bᴱ, P4, P10, P12}
 use Rattle.replay.specs.Trail.{trail, trailWords, runWriting, runTrail}
 use Rattle.replay.specs.Replay.{replayFrom, replay}
 

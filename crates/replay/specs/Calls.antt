@@ -6,7 +6,7 @@ use lib.Dec.{ltb}
 use lib.ListN.{length, drop, replicate}
 use Rattle.language.specs.declared.Refusal.the-variants.{ShortSlice}
 use Rattle.language.specs.Limits.{Limits}
-use Rattle.language.specs.Trees.{signature, Question}
+use Rattle.language.specs.Trees.{signature}
 use Rattle.language.specs.Question.{Asked, asks, refuses, readQuestion, countsOf}
 use Rattle.rules.specs.Answer.{Solving, answered, unread, given-up, ran}
 use Rattle.rules.specs.Calls.{Showing, showingOf}

@@ -10,7 +10,7 @@ use Rattle.language.specs.declared.Signature.{Signature}
 use Rattle.language.specs.Limits.{Limits}
 use Rattle.language.specs.Kinds.{pick}
 use Rattle.language.specs.Trees.{Conj}
-use Rattle.rules.specs.Reply.{Reply, nothing, results, stops}
+use Rattle.rules.specs.Reply.{nothing, results, stops}
 use Rattle.rules.specs.Step.{Spot, stepAt, step}
 use Rattle.rules.specs.Run.{Numbered, allOf, numbered, Outcome, finished, refused, checked, lined}
 

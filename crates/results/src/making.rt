@@ -21,7 +21,6 @@ use in_order::write_order;
 use orders::order_len;
 use plans::Piece;
 use plans::Recipe;
-use plans::Slot;
 use renaming::write_named;
 use slices::copy;
 use slices::part_len;

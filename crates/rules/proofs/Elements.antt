@@ -5,7 +5,7 @@ use mathlib.Core.Logic.{inl, inr}
 use mathlib.Core.List.{List, [], _∷_, _++_, map}
 use mathlib.Core.Option.{Option, none, some}
 use native.Mathlib.Omega.{arith}
-use Rattle.language.specs.Trees.{Functor, Hedge, ε, tvar, hvar, node, _⧺_, sameWords}
+use Rattle.language.specs.Trees.{Hedge, ε, tvar, hvar, node, _⧺_, sameWords}
 use Rattle.rules.specs.Each.{Each, Some}
 use Rattle.rules.specs.Looks.{onto}
 use Rattle.rules.specs.Elements.{without, orStruck, struck, drawn, spread, width, ordersOf, orders}

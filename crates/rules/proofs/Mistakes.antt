@@ -19,7 +19,7 @@ use Rattle.rules.specs.Solved.{solved}
 use Rattle.rules.specs.Run.{Numbered, Outcome, finished, refused, run}
 use Rattle.rules.specs.Answer.{Solving, answered, unread, given-up, solvingPlace, ran, solvingOf, solving}
 use Rattle.rules.specs.Example.{defaultSymbol, example}
-use Rattle.rules.specs.Calls.{tooLong, Trying, decides, tryingPlace, tryingWith, tryingOf, trying, lineAt, Showing, shows, denied, showingPlace, fitted, shown, showingOf, showing}
+use Rattle.rules.specs.Calls.{tooLong, decides, tryingPlace, tryingWith, tryingOf, trying, lineAt, shows, denied, showingPlace, shown, showingOf, showing}
 use Rattle.rules.specs.Calls as calls
 use Rattle.rules.proofs.Stopping.{RunStopsBy, run-stops-by}
 

@@ -9,7 +9,7 @@ use native.Mathlib.Omega.{arith}
 use lib.Dec.{ltb}
 use lib.ListN.{getD}
 use Rattle.language.specs.declared.Refusal.{Refusal}
-use Rattle.language.specs.declared.Refusal.the-variants.{ShortSlice, LongResult, LongWaiting, LineRoom, StepLimit}
+use Rattle.language.specs.declared.Refusal.the-variants.{ShortSlice, LongResult, LongWaiting, LineRoom}
 use Rattle.language.specs.Limits.{Limits, walkedPairs}
 use Rattle.language.specs.declared.Signature.{Signature}
 use Rattle.language.specs.Trees.{Functor, symbol, fvar, Hedge, Expr, Literal, eqn, mem, Conj, Counts, signature, isUnordered, anyUnordered, eqS, eqF, eqX, sameWords}
@@ -17,12 +17,11 @@ use Rattle.language.specs.Question.{Asked, asks, refuses, readQuestion}
 use Rattle.language.proofs.Asking.{passed}
 use Rattle.language.proofs.Header.{first-word-before}
 use Rattle.meaning.proofs.Same.{none-unordered, any-unordered-none}
-use Rattle.rules.specs.Looks.{loneNode, asSymbol, asBlank, asOver, allTerms}
-use Rattle.rules.specs.Elements.{struck, disjoint}
+use Rattle.rules.specs.Looks.{loneNode, asSymbol, asBlank, asOver}
 use Rattle.rules.specs.Reply.{Reply, nothing, results, stops, PairRule}
 use Rattle.rules.specs.Rules.{Answer, EqRule, InRule, Rule, onEqn, onMem, onPair, _>>=_, check, Del2, D1, keepsOrder, D0, E7, M11, M12, Clash, rules}
 use Rattle.rules.specs.Step.{orNext, each, placed, resultsAt, Spot, Found, found, earliest, first, search, Step, step}
-use Rattle.rules.specs.Run.{Numbered, allOf, numbered, anyLong, waitingSize, linesFit, Outcome, finished, refused, lined, turn, runFrom, runBy, run}
+use Rattle.rules.specs.Run.{Numbered, allOf, numbered, anyLong, waitingSize, linesFit, Outcome, refused, lined, turn, runFrom, runBy, run}
 use Rattle.rules.specs.Answer.{Solving, unread, ran, solvingOf, solving}
 use Rattle.rules.specs.Clash.{allOrdered}
 use Rattle.rules.proofs.Clashing.{clash-same}

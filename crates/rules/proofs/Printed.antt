@@ -5,7 +5,7 @@ use mathlib.Core.Bool.{true, false}
 use mathlib.Core.List.{List, [], _∷_, _++_}
 use lib.ListN.{replicate}
 use Rattle.language.specs.declared.Refusal.the-variants.{QuestionLength, CountRange, NotLiterals, Undeclared}
-use Rattle.language.specs.Limits.{Limits, first-apart, desk, firstDesk}
+use Rattle.language.specs.Limits.{Limits, desk, firstDesk}
 use Rattle.language.specs.Numbers.{numberOf}
 use Rattle.language.specs.Kinds.{kindOf, within}
 use Rattle.language.specs.Reading.{reading, readHedge, readExpr, readLiteral, readConj}

@@ -1,6 +1,6 @@
 -- What holds of every declared symbol holds of each that E7 tries; and it tries each of them.
 use Prim.Native.Nat.{ℕ, zero, suc, _+_, _<_}
-use mathlib.Core.Path.{_≡_, refl}
+use mathlib.Core.Path.{_≡_}
 use mathlib.Core.Logic.{inl, inr}
 use native.Mathlib.Omega.{arith}
 use Rattle.language.specs.declared.Sym.{Sym}

@@ -1,7 +1,6 @@
 -- What the clash makes of worked pairs of memberships, by computation: each sentence of the request, and the limit on both sides.
 use Prim.Native.Nat.{ℕ}
 use mathlib.Core.Path.{_≡_, refl}
-use mathlib.Core.Bool.{true, false}
 use mathlib.Core.List.{List, [], _∷_}
 use lib.Dec.{eqb}
 use Rattle.language.specs.declared.Refusal.the-variants.{LongWalk}

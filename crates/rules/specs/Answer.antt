@@ -1,6 +1,6 @@
 -- The answer's words and what solving a question comes to.
-use Prim.Native.Nat.{ℕ, zero, suc, _+_, _-_}
-use mathlib.Core.Bool.{Bool, true, false}
+use Prim.Native.Nat.{ℕ, suc, _+_, _-_}
+use mathlib.Core.Bool.{true, false}
 use mathlib.Core.List.{List, [], _∷_, _++_, map}
 use lib.Dec.{ltb}
 use lib.ListN.{length, drop, replicate}
@@ -9,7 +9,7 @@ use Rattle.language.specs.declared.Refusal.the-variants.{ShortSlice}
 use Rattle.language.specs.Limits.{Limits}
 use Rattle.language.specs.Numbers.{placeOf}
 use Rattle.language.specs.Kinds.{pick}
-use Rattle.language.specs.Trees.{Conj, signature, Question}
+use Rattle.language.specs.Trees.{Conj, signature}
 use Rattle.language.specs.Writing.{conjWords}
 use Rattle.language.specs.Question.{Asked, asks, refuses, readQuestion}
 use Rattle.meaning.specs.Values.{offsetsOf, joined}

@@ -2,10 +2,10 @@
 use Prim.Native.Nat.{ℕ}
 use mathlib.Core.Bool.{Bool, true, false, _||_}
 use mathlib.Core.List.{List, [], _∷_}
-use mathlib.Core.Option.{Option, none, some}
+use mathlib.Core.Option.{none, some}
 use Rattle.language.specs.declared.Sym.{Sym}
 use Rattle.language.specs.declared.Refusal.the-variants.{LongWalk}
-use Rattle.language.specs.Trees.{Hedge, Expr, eps, cat, alt, star, over, Literal, eqn, mem, Conj, Var, tv, hv, fv, eqV}
+use Rattle.language.specs.Trees.{Hedge, Expr, eps, cat, alt, star, over, eqn, mem, Conj, Var, tv, hv, fv, eqV}
 use Rattle.rules.specs.Solved.{loneVar}
 use Rattle.rules.specs.Reply.{Reply, nothing, results, stops, orNext, PairRule}
 use Rattle.rules.specs.Walk.{commonHedge, commonTerm, longWalk}

@@ -4,7 +4,7 @@ use mathlib.Core.Bool.{Bool, true, false}
 use mathlib.Core.List.{List, [], _∷_, _++_, map}
 use mathlib.Core.Option.{Option, none, some, Option·map}
 use Rattle.language.specs.Kinds.{pick}
-use Rattle.language.specs.Trees.{Functor, Hedge, ε, tvar, hvar, node, _⧺_, sameWords}
+use Rattle.language.specs.Trees.{Hedge, ε, tvar, hvar, node, _⧺_, sameWords}
 use Rattle.rules.specs.Looks.{onto}
 
 -- ---- shared

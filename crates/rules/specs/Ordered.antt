@@ -1,7 +1,6 @@
 -- The rules where every symbol is ordered, as they stood before unordered symbols came, and a step by them. They are here for one theorem alone: that
 -- questions with u = 0 answer as before.
 use mathlib.Core.List.{List, [], _∷_}
-use mathlib.Core.Option.{some}
 use Prim.Native.Nat.{ℕ}
 use mathlib.Core.Bool.{true, false}
 use lib.Dec.{ltb}

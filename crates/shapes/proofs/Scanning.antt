@@ -3,12 +3,12 @@ use Prim.Native.Nat.{ℕ, zero, suc, _+_, _-_, _/_, _%_, _<_, _≤_, min}
 use native.Mathlib.Omega.{arith}
 use native.Mathlib.Numerals.{add-one}
 use mathlib.Core.Path.{_≡_, refl, sym, ap, ap₂, _∙_, subst}
-use mathlib.Core.Bool.{Bool, true, false, _&&_, _||_}
-use mathlib.Core.List.{List, [], _∷_}
+use mathlib.Core.Bool.{Bool, true, false}
+use mathlib.Core.List.{List}
 use mathlib.Core.Option.{none, some}
 use lib.Dec.{leb, eqb}
 use lib.ListN.{length, drop}
-use borrow.Author.Tests.{eq-eqb, ne-eqb, le-leb, lt-leb, leb-true, eqb-true, eqb-false}
+use borrow.Author.Tests.{eq-eqb, ne-eqb, le-leb, lt-leb, eqb-true}
 use Rattle.language.specs.Limits.{Limits}
 use Rattle.language.specs.Kinds.{pick}
 use Rattle.language.proofs.Bools.{both-true}
@@ -23,7 +23,6 @@ use Rattle.lexing.proofs.Pieces.{next-law}
 use Rattle.flat.specs.declared.State.{State}
 use Rattle.flat.specs.declared.State.the-variants.{Opened, Wanted, Named, Ready}
 use Rattle.flat.specs.Flat.{add, scan, flatExpr}
-use Rattle.walking.specs.declared.Way.{Way}
 use Rattle.walking.specs.Walking.{reads, gotAt, stageOf}
 use Rattle.shapes.specs.Shapes.{actionOf, stateBehind, ends, refused, depthBy, endWords}
 use Rattle.shapes.specs.Scanned.{countOn, pieceOn, shapeFrom, shapeOn, Scanned}

@@ -1,6 +1,6 @@
 -- What the loop over an expression does with each token.
 use Prim.Native.Nat.{ℕ, _+_, _-_, _/_}
-use mathlib.Core.Bool.{Bool, true, false, _&&_, _||_}
+use mathlib.Core.Bool.{Bool, _&&_, _||_}
 use lib.Dec.{leb, eqb}
 use Rattle.language.specs.Kinds.{pick}
 use Rattle.lexing.specs.declared.Mark.{Mark}

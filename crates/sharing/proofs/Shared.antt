@@ -8,10 +8,10 @@ use native.Mathlib.Omega.{arith}
 use lib.Dec.{eqb, ltb}
 use lib.ListN.{length, getD, drop, length-append, length-drop}
 use lib.Seq.{slice}
-use borrow.Author.Tests.{eq-eqb, ne-eqb, le-ltb, lt-ltb}
+use borrow.Author.Tests.{ne-eqb, le-ltb, lt-ltb}
 use Rattle.language.specs.Limits.{desk}
 use Rattle.language.specs.Kinds.{pick}
-use Rattle.language.specs.Trees.{symbol, fvar, Hedge, ε, tvar, hvar, node, _⧺_, sameWords}
+use Rattle.language.specs.Trees.{Hedge, ε, tvar, hvar, node, _⧺_, sameWords}
 use Rattle.language.specs.Writing.{hedgeWords}
 use Rattle.language.specs.Fine.{fineHedge}
 use Rattle.rules.specs.Looks.{onto}

@@ -12,8 +12,7 @@ use Rattle.language.specs.Kinds.{pick}
 use Rattle.words.specs.Spans.{opens, span, elementEnd}
 use Rattle.words.specs.Places.{sameList}
 use Rattle.words.proofs.Spans.{element-on, element-more}
-use Rattle.sharing.specs.declared.Spots.{Spots}
-use Rattle.sharing.specs.Shared.{equalFrom, nowhere, twice, sharedFrom, firstShared}
+use Rattle.sharing.specs.Shared.{equalFrom, nowhere, twice, sharedFrom}
 
 -- ---- places
 

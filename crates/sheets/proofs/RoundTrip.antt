@@ -1,7 +1,7 @@
 -- A sheet is written and read back: it is laid out as it should be, and its parts are those that were written.
 use Prim.Native.Nat.{ℕ, suc, _+_, _*_, _/_, _%_, _≤_}
 use mathlib.Core.Path.{_≡_, refl, sym, ap, ap₂, _∙_}
-use mathlib.Core.Bool.{Bool, true, _&&_}
+use mathlib.Core.Bool.{true, _&&_}
 use mathlib.Core.List.{List, [], _∷_, _++_, append-assoc, append-nil}
 use native.Mathlib.Omega.{arith}
 use lib.Dec.{T, leb, le→leb}
@@ -9,7 +9,7 @@ use lib.ListN.{length, drop, length-append}
 use lib.Seq.{drop-at}
 use lib.Ieee.Bits.{is-true}
 use Rattle.language.specs.Limits.{Limits}
-use Rattle.language.specs.Question.{rises, partsFrom}
+use Rattle.language.specs.Question.{rises}
 use Rattle.meaning.specs.Values.{offsetsOf, joined}
 use Rattle.rules.proofs.Tests.{and-both}
 use Rattle.lines.proofs.WrittenTable.{length-offsets, rises-offsets, parts-before}

@@ -7,7 +7,7 @@ use mathlib.Core.Option.{Option, none, some}
 use native.Mathlib.Omega.{arith}
 use lib.Dec.{leb, lit≤}
 use lib.ListN.{length, take, drop}
-use lib.Seq.{sets, take-at}
+use lib.Seq.{take-at}
 use borrow.Author.Tests.{leb-true, leb-false}
 use Rattle.language.specs.declared.Refusal.{Refusal}
 use Rattle.language.specs.declared.Refusal.the-variants.{NotText, ManyNames, LongText}
@@ -18,7 +18,7 @@ use Rattle.language.specs.Question.{countsFit}
 use Rattle.grammar.specs.Grammar.{TextOf}
 use Rattle.texts.specs.Texts.{parse}
 use Rattle.texts.specs.Numbering.{countsIn}
-use Rattle.texts.specs.Outcomes.{Outcome, gives, denies, readsText}
+use Rattle.texts.specs.Outcomes.{gives, denies, readsText}
 use Rattle.texts.proofs.Readings.{text-spelt, not-of-grammar}
 use Rattle.texts.proofs.Accepted.{accepted, seventeen}
 use Rattle.texts.proofs.Refusing.{eighteen, nineteen, read}

@@ -1,12 +1,12 @@
 -- What is shown of any call of desk_write_text that came back, and of a call of desk_read_text with what it wrote.
-use Prim.Native.Nat.{ℕ, _+_, _*_, _/_, _≤_, _<_}
+use Prim.Native.Nat.{ℕ, _+_, _*_, _/_, _≤_}
 use mathlib.Core.Path.{_≡_, refl, sym, ap, _∙_}
 use mathlib.Core.Bool.{Bool, true, false}
 use mathlib.Core.List.{List, _++_}
 use native.Mathlib.Omega.{arith}
 use lib.Dec.{leb}
 use lib.ListN.{length, take, drop}
-use lib.Seq.{sets, sets-eq, take-at}
+use lib.Seq.{sets-eq, take-at}
 use borrow.Author.Tests.{leb-true, leb-false}
 use Rattle.language.specs.declared.Refusal.{Refusal}
 use Rattle.language.specs.declared.Refusal.the-variants.{LongText, OtherNumbers}
@@ -16,7 +16,7 @@ use Rattle.language.specs.Trees.{Question}
 use Rattle.language.specs.Question.{Asked, asks, refuses, readQuestion}
 use Rattle.language.proofs.Numbering.{each-number}
 use Rattle.texts.specs.Writer.{allText}
-use Rattle.texts.specs.Outcomes.{Outcome, gives, denies, asRead, readsText, writesText}
+use Rattle.texts.specs.Outcomes.{gives, denies, asRead, readsText, writesText}
 use Rattle.texts.proofs.Refusing.{as-before, twenty, too-long, text-of}
 use Rattle.texts.proofs.RoundTrip.{round-trip}
 use Rattle.word_bytes.specs.Bytes.{wordsIn, wordsOf}

@@ -5,7 +5,6 @@ use mathlib.Core.List.{List}
 use native.Mathlib.Omega.{arith}
 use lib.ListN.{length}
 use Rattle.language.specs.Limits.{desk}
-use Rattle.language.specs.Numbers.{numberOf}
 use Rattle.language.specs.Question.{Asked, asks, refuses, readQuestion}
 use Rattle.language.proofs.Numbering.{each-number}
 use Rattle.texts.specs.Outcomes.{Outcome, gives, denies, writesText}

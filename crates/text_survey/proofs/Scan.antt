@@ -1,28 +1,26 @@
 -- A line token by token, and a text line by line.
-use Prim.Native.Nat.{ℕ, zero, suc, _+_, _-_, _<_, _≤_}
+use Prim.Native.Nat.{ℕ, suc, _+_, _-_, _<_, _≤_}
 use native.Mathlib.Omega.{arith}
-use mathlib.Core.Path.{_≡_, refl, sym, ap, ap₂, _∙_, subst}
+use mathlib.Core.Path.{_≡_, refl, sym, ap, _∙_, subst}
 use mathlib.Core.Bool.{Bool, true, false, not}
-use mathlib.Core.List.{List, [], _∷_, _++_}
+use mathlib.Core.List.{List, [], _∷_}
 use mathlib.Core.Option.{Option, none, some}
 use lib.Dec.{eqb}
 use lib.ListN.{length, drop, getD, drop-of-length-le}
 use borrow.Author.Tests.{eq-eqb, ne-eqb, eqb-true, not-true, not-false}
 use Rattle.language.specs.Kinds.{pick}
-use Rattle.language.specs.Trees.{symbol, fvar}
-use Rattle.grammar.specs.Tokens.{Token, one, run, functor, equals, comma, opens, closes, plus, times, Tokens, puts, nameToken, tokens}
+use Rattle.language.specs.Trees.{fvar}
+use Rattle.grammar.specs.Tokens.{Token, one, run, functor, equals, comma, opens, closes, plus, times, Tokens, puts, nameToken}
 use Rattle.grammar.specs.Grammar.{linesOf}
 use Rattle.lexing.specs.declared.Mark.{Mark}
 use Rattle.lexing.specs.declared.Mark.the-variants.{End, Bad, Symbol, One, Run, Function, Equals, Comma, Opens, Closes, Plus, Times}
 use Rattle.lexing.specs.declared.Piece.{Piece}
 use Rattle.lexing.specs.Bytes.{others, nameFrom, sortOf}
-use Rattle.lexing.specs.Bytes as Bytes
 use Rattle.lexing.specs.Pieces.{here, front, nextOf, Next}
 use Rattle.lexing.proofs.Laws.{standing}
 use Rattle.lexing.proofs.Pieces.{next-law}
 use Rattle.backwards.proofs.Cutting.{lines-split}
 use Rattle.text_survey.specs.declared.Seen.{Seen}
-use Rattle.text_survey.specs.declared.Look.{Look}
 use Rattle.text_survey.specs.Surveys.{counts, surveyOf, stepOf, tokenOn, lineFrom, lineOn, LineSeen, lookOf, Surveyed}
 use Rattle.text_survey.specs.Surveys as Surveys
 

@@ -2,23 +2,20 @@
 use Prim.Native.Nat.{ℕ, zero, suc, _+_, _-_, _*_, _<_, _≤_}
 use native.Mathlib.Omega.{arith}
 use mathlib.Core.Path.{_≡_, refl, sym, ap, ap₂, _∙_, subst}
-use mathlib.Core.Bool.{Bool, true, false, not, _&&_}
-use mathlib.Core.List.{List, [], _∷_, _++_}
-use mathlib.Core.Option.{Option, none, some}
+use mathlib.Core.Bool.{Bool, true, false, _&&_}
+use mathlib.Core.List.{List, [], _∷_}
+use mathlib.Core.Option.{none, some}
 use lib.Dec.{eqb}
 use lib.ListN.{length, drop, getD}
-use borrow.Author.Tests.{eqb-true, eq-eqb, ne-eqb, not-true, not-false}
+use borrow.Author.Tests.{eqb-true, eq-eqb, ne-eqb}
 use Rattle.language.specs.Kinds.{pick}
-use Rattle.language.specs.Trees.{Functor, symbol, fvar}
-use Rattle.grammar.specs.Tokens.{Token, one, run, functor, equals, comma, opens, closes, plus, times, beginsName, Tokens, puts, renamed, nameToken, nameByte, blank, letter, marked, starOr, byte, tokens}
-use Rattle.grammar.specs.Grammar.{inSym}
+use Rattle.language.specs.Trees.{fvar}
+use Rattle.grammar.specs.Tokens.{Token, one, run, functor, equals, comma, opens, closes, plus, times, beginsName, Tokens, nameToken, nameByte, blank, letter, marked, starOr, byte, tokens}
 use Rattle.lexing.specs.declared.Mark.{Mark}
 use Rattle.lexing.specs.declared.Mark.the-variants.{End, Bad, Symbol, One, Run, Function, Equals, Comma, Opens, Closes, Plus, Times}
-use Rattle.lexing.specs.declared.Piece.{Piece}
-use Rattle.lexing.specs.Bytes.{line, others, sortOf, nameFrom}
-use Rattle.lexing.specs.Pieces.{here, front, nextOf, Next}
+use Rattle.lexing.specs.Bytes.{line, others, sortOf}
+use Rattle.lexing.specs.Pieces.{here, front}
 use Rattle.lexing.proofs.Laws.{standing, line-go}
-use Rattle.lexing.proofs.Pieces.{next-law}
 use Rattle.text_names.specs.Shelves.{nameAt, Letter}
 use Rattle.language.specs.Between.{between}
 use Rattle.language.proofs.Offsets.{between-cons}

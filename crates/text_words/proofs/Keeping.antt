@@ -1,26 +1,25 @@
 -- What is left in the end: all words, or a room that is cleared.
-use Prim.Native.Nat.{ℕ, zero, suc, _+_, _<_, _≤_, min}
+use Prim.Native.Nat.{ℕ, zero, suc, _+_, _<_, _≤_}
 use native.Mathlib.Omega.{arith}
 use native.Mathlib.Numerals.{add-one}
-use mathlib.Core.Path.{_≡_, refl, sym, ap, ap₂, _∙_, subst}
+use mathlib.Core.Path.{_≡_, refl, sym, ap, ap₂, _∙_}
 use mathlib.Core.Bool.{Bool, true, false, not, _&&_}
 use mathlib.Core.List.{List, [], _∷_, _++_}
 use mathlib.Core.Option.{Option, none, some}
 use lib.Dec.{leb, ltb}
-use lib.ListN.{length, take, drop, set, replicate, length-replicate, drop-of-length-le}
+use lib.ListN.{length, set, replicate, length-replicate, drop-of-length-le}
 use lib.Seq.{sets, sets-eq, length-sets}
-use borrow.Author.Tests.{le-leb, lt-leb, lt-ltb, le-ltb, leb-true, ltb-true, not-true, not-false}
+use borrow.Author.Tests.{le-leb, lt-leb, lt-ltb, leb-true, ltb-true, not-true, not-false}
 use Rattle.language.specs.Kinds.{pick}
 use Rattle.language.specs.Trees.{Conj}
 use Rattle.language.proofs.Stores.{sets-append}
-use Rattle.grammar.specs.Grammar.{Lines, linesOf, TextOf}
+use Rattle.grammar.specs.Grammar.{Lines, linesOf}
 use Rattle.meaning.specs.Values.{joined}
 use Rattle.texts.specs.Texts.{parse}
 use Rattle.texts.specs.Numbering.{Naming}
 use Rattle.texts.proofs.Readings.{text-read, text-spelt}
 use Rattle.text_words.specs.declared.Took.{Took}
-use Rattle.text_words.specs.declared.Written.{Written}
-use Rattle.text_words.specs.Bodies.{wordsOf, endsOf, endIn, bodyIn, Body, Looped, cleared, keptOf, Left, leaves, writtenOf, ReadBody}
+use Rattle.text_words.specs.Bodies.{wordsOf, endIn, bodyIn, Looped, cleared, keptOf, leaves, writtenOf, ReadBody}
 
 -- ---- the test
 

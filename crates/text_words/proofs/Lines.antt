@@ -1,27 +1,25 @@
 -- The loop over the lines of a text.
-use Prim.Native.Nat.{ℕ, zero, suc, _+_, _-_, _*_, _<_, _≤_, min}
+use Prim.Native.Nat.{ℕ, _+_, _-_, _<_, _≤_}
 use native.Mathlib.Omega.{arith}
 use mathlib.Core.Path.{_≡_, refl, sym, ap, ap₂, _∙_, subst}
 use mathlib.Core.Bool.{Bool, true, false, not}
-use mathlib.Core.List.{List, [], _∷_, _++_, append-assoc, map}
+use mathlib.Core.List.{List, [], _∷_, _++_, append-assoc}
 use mathlib.Core.Option.{Option, none, some}
 use lib.ListN.{length, drop, set, length-set, length-append}
-use lib.Seq.{sets, length-sets}
+use lib.Seq.{sets}
 use borrow.Author.Tests.{not-true, not-false}
 use Rattle.language.specs.Limits.{Limits}
-use Rattle.language.specs.Kinds.{pick}
 use Rattle.language.specs.Trees.{Conj}
 use Rattle.language.specs.Writing.{conjWords}
 use Rattle.grammar.specs.Tokens.{Token, Tokens, tokens}
 use Rattle.grammar.specs.Grammar.{Line, Lines, no-line, blank, line, linesOf}
 use Rattle.meaning.specs.Values.{joined}
 use Rattle.texts.specs.Parsing.{lineOf, literals, literalOf, sideOf, hedge}
-use Rattle.texts.specs.Numbering.{Naming, nameConj, nameAll}
+use Rattle.texts.specs.Numbering.{Naming, nameConj}
 use Rattle.texts.proofs.Readings.{line-read}
 use Rattle.lexing.specs.Bytes.{others}
-use Rattle.lexing.specs.Bytes as Bytes
 use Rattle.lexing.specs.Pieces.{here}
-use Rattle.text_names.specs.Shelves.{numbering, Shelves}
+use Rattle.text_names.specs.Shelves.{numbering}
 use Rattle.walking.specs.declared.Way.{Way}
 use Rattle.room_words.specs.Rooms.{Wrote}
 use Rattle.backwards.proofs.Cutting.{lines-split}

@@ -1,17 +1,17 @@
 -- Two brackets and nothing else; and the end of a line.
-use Prim.Native.Nat.{ℕ, zero, suc, _+_, _-_, _*_, _<_, _≤_}
+use Prim.Native.Nat.{ℕ, _-_, _<_, _≤_}
 use native.Mathlib.Omega.{arith}
-use mathlib.Core.Path.{_≡_, refl, sym, ap, ap₂, _∙_, subst}
-use mathlib.Core.Bool.{Bool, true, false, not}
-use mathlib.Core.List.{List, [], _∷_, _++_}
-use mathlib.Core.Option.{Option, none, some}
+use mathlib.Core.Path.{_≡_, refl, sym, ap, _∙_, subst}
+use mathlib.Core.Bool.{true, false}
+use mathlib.Core.List.{List, [], _∷_}
+use mathlib.Core.Option.{some}
 use lib.ListN.{length, drop, getD}
-use Rattle.language.specs.Trees.{symbol, fvar}
+use Rattle.language.specs.Trees.{fvar}
 use Rattle.grammar.specs.Tokens.{Token, one, run, functor, equals, comma, opens, closes, plus, times, Tokens, puts, nameToken}
 use Rattle.lexing.specs.declared.Mark.{Mark}
 use Rattle.lexing.specs.declared.Mark.the-variants.{End, Bad, Symbol, One, Run, Function, Equals, Comma, Opens, Closes, Plus, Times}
 use Rattle.lexing.specs.declared.Piece.{Piece}
-use Rattle.lexing.specs.Bytes.{others, nameFrom, sortOf}
+use Rattle.lexing.specs.Bytes.{nameFrom, sortOf}
 use Rattle.lexing.specs.Pieces.{here, front, nextOf, Next}
 use Rattle.lexing.proofs.Pieces.{next-law}
 use Rattle.walking.specs.declared.Way.{Way}

@@ -1,25 +1,23 @@
 -- Literals with commas between them, and lines.
-use Prim.Native.Nat.{ℕ, zero, suc, _+_, _-_, _*_, _<_, _≤_, min}
+use Prim.Native.Nat.{ℕ, _+_, _-_, _<_, _≤_}
 use native.Mathlib.Omega.{arith}
-use mathlib.Core.Path.{_≡_, refl, sym, ap, ap₂, _∙_, subst}
-use mathlib.Core.Bool.{Bool, true, false, not}
+use mathlib.Core.Path.{_≡_, refl, sym, ap, _∙_, subst}
+use mathlib.Core.Bool.{true, false, not}
 use mathlib.Core.List.{List, [], _∷_, _++_, append-assoc}
-use mathlib.Core.Option.{Option, none, some}
-use lib.ListN.{length, drop, getD}
+use mathlib.Core.Option.{some}
+use lib.ListN.{length, drop}
 use borrow.Author.Tests.{not-true, not-false}
 use Rattle.language.specs.Limits.{Limits}
 use Rattle.language.specs.Trees.{Literal, Conj}
 use Rattle.language.specs.Writing.{literalWords, conjWords}
-use Rattle.grammar.specs.Tokens.{Token, one, run, functor, equals, comma, opens, closes, plus, times, Tokens, puts}
+use Rattle.grammar.specs.Tokens.{Token, one, run, functor, equals, comma, opens, closes, plus, times, Tokens}
 use Rattle.grammar.specs.Grammar.{Says, Literals, final, another, Line, asks-nothing, asks}
-use Rattle.texts.specs.Parsing.{Res, got, literalOf}
 use Rattle.texts.specs.Numbering.{Naming, nameLiteral, nameConj}
 use Rattle.texts.proofs.Readings.{literal-read}
-use Rattle.lexing.specs.declared.Mark.{Mark}
 use Rattle.lexing.specs.declared.Piece.{Piece}
-use Rattle.lexing.specs.Bytes.{others, sortOf}
-use Rattle.lexing.specs.Pieces.{here, nextOf, Next}
-use Rattle.text_names.specs.Shelves.{numbering, Shelves}
+use Rattle.lexing.specs.Bytes.{others}
+use Rattle.lexing.specs.Pieces.{here, nextOf}
+use Rattle.text_names.specs.Shelves.{numbering}
 use Rattle.walking.specs.declared.Way.{Way}
 use Rattle.room_words.specs.Rooms.{Wrote}
 use Rattle.room_words.proofs.Rooms.{wrote-then, wrote-none}

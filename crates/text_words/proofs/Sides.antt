@@ -1,34 +1,32 @@
 -- The right side of an equation, an expression and a literal, as the code reads them.
-use Prim.Native.Nat.{ℕ, zero, suc, _+_, _-_, _*_, _<_, _≤_, min}
+use Prim.Native.Nat.{ℕ, suc, _+_, _-_, _<_, _≤_, min}
 use native.Mathlib.Omega.{arith}
 use mathlib.Core.Path.{_≡_, refl, sym, ap, ap₂, _∙_, subst}
 use mathlib.Core.Bool.{Bool, true, false, not, _&&_}
 use mathlib.Core.List.{List, [], _∷_, _++_, append-assoc}
-use mathlib.Core.Option.{Option, none, some}
-use lib.ListN.{length, drop, getD, take, set, length-set, length-append}
+use mathlib.Core.Option.{some}
+use lib.ListN.{length, drop, take, set, length-set, length-append}
 use lib.Seq.{sets, sets-eq, length-sets, set-comm, set-set}
 use lib.Dec.{eqb}
 use borrow.Author.Tests.{eq-eqb, eqb-true, not-true, not-false}
 use Rattle.language.proofs.Bools.{both-true}
 use borrow.Rule.Slice.PartMut.{putMid, post-is}
 use Rattle.language.specs.Limits.{Limits}
-use Rattle.language.specs.Kinds.{pick}
 use Rattle.language.specs.Between.{between}
 use Rattle.language.proofs.Offsets.{length-between}
-use Rattle.language.specs.Trees.{symbol, fvar, Hedge, Expr, eps, cat, alt, star, over, Literal, eqn, mem}
+use Rattle.language.specs.Trees.{Hedge, Expr, eps, cat, alt, star, over, Literal, eqn, mem}
 use Rattle.language.specs.Writing.{hedgeWords, exprWords, literalWords}
-use Rattle.grammar.specs.Tokens.{Token, one, run, functor, equals, comma, opens, closes, plus, times, Tokens, puts, nameToken}
+use Rattle.grammar.specs.Tokens.{Token, one, run, functor, equals, comma, opens, closes, plus, times, Tokens, nameToken}
 use Rattle.grammar.specs.Grammar.{begins, Spells, choice, Means, inSym, Says, equal, member}
 use Rattle.texts.specs.Parsing.{Res, got, stop}
 use Rattle.texts.specs.Numbering.{Naming, nameHedge, nameExpr, nameLiteral}
 use Rattle.texts.proofs.Hedges.{Calm}
 use Rattle.texts.proofs.Expressions.{Ends, ends-calm}
-use Rattle.lexing.specs.declared.Mark.{Mark}
 use Rattle.lexing.specs.declared.Piece.{Piece}
 use Rattle.lexing.specs.Bytes.{others, nameFrom, sortOf}
 use Rattle.lexing.specs.Pieces.{here, front, nextOf, Next}
 use Rattle.lexing.proofs.Pieces.{next-law}
-use Rattle.text_names.specs.Shelves.{nameAt, numbering, Shelves}
+use Rattle.text_names.specs.Shelves.{numbering, Shelves}
 use Rattle.flat.specs.Flat.{flatSide, flatExpr}
 use Rattle.flat.proofs.Sides.{flat-side-spelt, flat-side-read}
 use Rattle.flat.proofs.Shapes.{size, flat-expr-spelt, flat-expr-read}

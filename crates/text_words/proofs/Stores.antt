@@ -1,14 +1,14 @@
 -- Runs of stores one behind the other, and offsets of parts with one more.
-use Prim.Native.Nat.{ℕ, zero, suc, _+_, _<_, _≤_}
+use Prim.Native.Nat.{ℕ, suc, _+_, _<_}
 use native.Mathlib.Omega.{arith}
-use mathlib.Core.Path.{_≡_, refl, sym, ap, ap₂, _∙_, subst}
-use mathlib.Core.List.{List, [], _∷_, _++_, append-assoc, map}
+use mathlib.Core.Path.{_≡_, refl, sym, ap, _∙_}
+use mathlib.Core.List.{List, [], _∷_, _++_, append-assoc}
 use lib.ListN.{length, set, length-append}
 use lib.Seq.{sets, set-comm}
 use Rattle.language.specs.Trees.{Conj}
 use Rattle.language.specs.Writing.{conjWords}
 use Rattle.meaning.specs.Values.{joined, offsetsOf}
-use Rattle.texts.specs.Numbering.{Naming, nameConj, nameAll}
+use Rattle.texts.specs.Numbering.{Naming, nameConj}
 use Rattle.text_words.specs.Bodies.{wordsOf, endsOf}
 
 pub sets-++ : (l : List ℕ) (n : ℕ) (us vs : List ℕ) → sets (sets l n us) (n + length us) vs ≡ sets l n (us ++ vs)

@@ -2,12 +2,11 @@
 use Prim.Native.Nat.{ℕ, _+_, _≤_}
 use mathlib.Core.Path.{_≡_}
 use mathlib.Core.Bool.{Bool, true, false, _&&_}
-use mathlib.Core.List.{List, [], _∷_}
+use mathlib.Core.List.{List}
 use mathlib.Core.Option.{some}
 use lib.Dec.{eqb}
 use lib.ListN.{length, drop}
 use Rattle.language.specs.Limits.{Limits}
-use Rattle.language.specs.Trees.{Hedge, Expr, Literal}
 use Rattle.language.specs.Writing.{hedgeWords, exprWords, literalWords}
 use Rattle.grammar.specs.Tokens.{Token}
 use Rattle.grammar.specs.Grammar.{begins, Spells, choice, Means, inSym, Says}
@@ -16,7 +15,7 @@ use Rattle.lexing.specs.declared.Mark.{Mark}
 use Rattle.lexing.specs.declared.Mark.the-variants.{End, Bad, Symbol, One, Run, Function, Equals, Comma, Opens, Closes, Plus, Times}
 use Rattle.lexing.specs.Bytes.{others, sortOf}
 use Rattle.lexing.specs.Pieces.{here}
-use Rattle.text_names.specs.Shelves.{nameAt, numbering, Shelves}
+use Rattle.text_names.specs.Shelves.{nameAt, Shelves}
 use Rattle.walking.specs.declared.Way.{Way}
 use Rattle.room_words.specs.Rooms.{Wrote}
 use Rattle.backwards.proofs.Cutting.{Over}

@@ -3,7 +3,7 @@ use crate::literal::literal;
 use lexing::Mark;
 use lexing::next;
 use walking::Way;
-ghost use Prim.Native.Nat.{_+_, _≤_, _<_};
+ghost use Prim.Native.Nat.{_≤_};
 ghost use mathlib.Core.Path.{_≡_};
 ghost use lib.ListN.{length};
 ghost use Rattle.language.specs.Limits.{desk};

@@ -1,22 +1,22 @@
 -- What the reader gives is a question: no refusal from 2 to 6, and numbered as read.
 use Prim.Native.Nat.{ℕ, zero, suc, _+_, _-_, _<_, _≤_}
 use native.Mathlib.Omega.{arith}
-use mathlib.Core.Path.{_≡_, refl, sym, ap, ap₂, _∙_, subst}
+use mathlib.Core.Path.{_≡_, refl, sym, ap, ap₂, _∙_}
 use mathlib.Core.Bool.{Bool, true, false, _&&_}
 use mathlib.Core.List.{List, [], _∷_, _++_, map}
 use mathlib.Core.Option.{Option, none, some}
-use lib.Dec.{leb, ltb, eqb}
-use lib.ListN.{length, take, drop, getD, length-append, length-map}
+use lib.Dec.{leb, eqb}
+use lib.ListN.{length, take, drop, length-append, length-map}
 use lib.Seq.{take-append-le, take-all, drop-append-seam}
 use borrow.Author.Tests.{leb-true, le-leb, lt-ltb, eq-eqb}
 use Rattle.language.specs.declared.Refusal.{Refusal}
-use Rattle.language.specs.declared.Refusal.the-variants.{NotText, ManyNames, LongText, OtherNumbers}
+use Rattle.language.specs.declared.Refusal.the-variants.{NotText, ManyNames, LongText}
 use Rattle.language.specs.Limits.{Limits}
 use Rattle.language.specs.Kinds.{pick}
-use Rattle.language.specs.Trees.{Functor, symbol, fvar, Hedge, ε, tvar, hvar, node, Expr, eps, cat, alt, star, over, Literal, eqn, mem, Conj, Counts, Question}
+use Rattle.language.specs.Trees.{Functor, symbol, fvar, Hedge, ε, tvar, hvar, node, Expr, eps, cat, alt, star, over, Literal, eqn, mem, Conj, Counts}
 use Rattle.language.specs.Writing.{conjWords}
 use Rattle.language.specs.Fine.{fineFunctor, fineHedge, fineExpr, fineLiteral, fineConj}
-use Rattle.language.specs.Reading.{Got, got, after, readConj}
+use Rattle.language.specs.Reading.{got}
 use Rattle.language.specs.Question.{offsets, rising, rises, laidOut, partsFrom, parts, countsOf, alternativesOf, lengthFits, countsFit, declaredF, declared, declaredE, declaredL, declaredC, declaredQ, withConj, readAll, asks, readQuestion}
 use Rattle.language.proofs.Header.{first-word}
 use Rattle.language.proofs.Bools.{both-true}
@@ -25,7 +25,7 @@ use Rattle.language.proofs.Laws.{conjunctions-read}
 use Rattle.language.proofs.Questions.{asked}
 use Rattle.grammar.specs.Grammar.{TextOf}
 use Rattle.meaning.specs.Values.{joined, offsetsOf}
-use Rattle.texts.specs.Numbering.{Class, symbols, terms, hedges, functions, atS, atT, atH, atX, atF, inHedge, inExpr, inLiteral, inConj, inAll, nameAll, table, numbered, inOrder, atLeastOne, countsIn}
+use Rattle.texts.specs.Numbering.{Class, symbols, terms, hedges, functions, atS, atT, atH, atX, atF, inHedge, inExpr, inLiteral, inConj, inAll, nameAll, table, numbered, atLeastOne, countsIn}
 use Rattle.texts.specs.Texts.{parse}
 use Rattle.texts.specs.Outcomes.{Outcome, gives, denies, questionWords, fitted, counted, readsText, asRead, symbolsAre, countIs}
 use Rattle.texts.proofs.Readings.{text-spelt, text-read}

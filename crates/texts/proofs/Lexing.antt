@@ -1,15 +1,15 @@
 -- Bytes and tokens: what each piece of the writer's text is read as.
-use Prim.Native.Nat.{ℕ, zero, suc, _+_, _*_, _/_, _%_, _<_, _≤_}
+use Prim.Native.Nat.{ℕ, _+_, _*_, _/_, _%_, _<_}
 use native.Mathlib.Omega.{arith}
-use mathlib.Core.Path.{_≡_, refl, sym, ap, ap₂, _∙_, subst}
-use mathlib.Core.Bool.{Bool, true, false, _&&_, _||_}
+use mathlib.Core.Path.{_≡_, refl, ap, ap₂, _∙_}
+use mathlib.Core.Bool.{Bool, true, false}
 use mathlib.Core.List.{List, [], _∷_, _++_}
-use mathlib.Core.Option.{Option, none, some}
-use lib.Dec.{leb, ltb, eqb}
-use borrow.Author.Tests.{le-leb, ltb-true, ltb-false, eqb-true, eqb-false, eq-eqb, ne-eqb}
+use mathlib.Core.Option.{some}
+use lib.Dec.{ltb, eqb}
+use borrow.Author.Tests.{le-leb, ltb-true, eqb-true, eqb-false, eq-eqb, ne-eqb}
 use Rattle.language.specs.Kinds.{pick}
-use Rattle.language.specs.Trees.{Functor, symbol, fvar}
-use Rattle.grammar.specs.Tokens.{Token, one, run, functor, equals, comma, opens, closes, plus, times, nameByte, blank, beginsName, nameOf, Tokens, puts, renamed, nameToken, letter, marked, starOr, byte, tokens}
+use Rattle.language.specs.Trees.{fvar}
+use Rattle.grammar.specs.Tokens.{Token, one, run, functor, equals, comma, opens, closes, plus, times, nameByte, blank, beginsName, nameOf, Tokens, puts, nameToken, letter, marked, starOr, byte, tokens}
 use Rattle.texts.specs.Numbering.{Class, symbols, terms, hedges, functions}
 use Rattle.texts.specs.Writer.{digits, letterOf, nameText, plain}
 

@@ -1,16 +1,14 @@
 -- Numbering: other names, one for each, give the same question; a question that is numbered in order stays as it is; and what the
 -- numbering gives is in order.
-use Prim.Native.Nat.{ℕ, zero, suc, _+_, _<_, _≤_}
-use native.Mathlib.Omega.{arith}
-use mathlib.Core.Path.{_≡_, refl, sym, ap, ap₂, _∙_, subst, fun-ext}
-use mathlib.Core.Bool.{Bool, true, false}
-use mathlib.Core.List.{List, [], _∷_, _++_, map}
-use mathlib.Core.Option.{Option, none, some}
+use Prim.Native.Nat.{ℕ, _<_}
+use mathlib.Core.Path.{_≡_, refl, ap, ap₂, _∙_}
+use mathlib.Core.List.{List, [], _∷_, map}
+use mathlib.Core.Option.{some}
 use lib.Dec.{eqb}
 use lib.ListN.{length}
 use Rattle.language.specs.Trees.{Functor, symbol, fvar, Hedge, ε, tvar, hvar, node, Expr, eps, cat, alt, star, over, Literal, eqn, mem, Conj}
 use Rattle.texts.specs.Numbering.{Class, symbols, terms, hedges, functions, atS, atT, atH, atX, atF, inHedge, inExpr, inLiteral, inConj, inAll, Naming, nameF, nameHedge, nameExpr, nameLiteral, nameConj, nameAll, place, entered, table, numbered, inOrder}
-use Rattle.texts.proofs.Tables.{All, entered-other, place-other, upTo, place-upTo, in-order, numbers-in-order}
+use Rattle.texts.proofs.Tables.{All, entered-other, place-other, place-upTo, in-order, numbers-in-order}
 
 -- ---- the names of a tree under other names
 

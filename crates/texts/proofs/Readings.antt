@@ -1,20 +1,19 @@
 -- Lines and texts: a text is read exactly where the grammar spells it, and it has one reading.
-use Prim.Native.Nat.{ℕ, zero, suc, _+_, _*_, _<_, _≤_}
+use Prim.Native.Nat.{ℕ, zero, suc, _<_, _≤_}
 use native.Mathlib.Omega.{arith}
 use mathlib.Core.Path.{_≡_, refl, sym, ap, _∙_, subst}
 use mathlib.Core.Bool.{Bool, true, false}
 use mathlib.Core.List.{List, [], _∷_}
 use mathlib.Core.Option.{Option, none, some}
 use lib.ListN.{length}
-use lib.Dec.{eqb}
 use borrow.Author.Tests.{eqb-true}
 use Rattle.language.specs.Kinds.{pick}
 use Rattle.language.specs.Trees.{Functor, symbol, fvar, Hedge, Expr, Literal, eqn, mem, Conj, eqF}
-use Rattle.grammar.specs.Tokens.{Token, one, run, functor, equals, comma, opens, closes, plus, times, Tokens, tokens, nameOf}
-use Rattle.grammar.specs.Grammar.{begins, Spells, choice, Means, inSym, Says, equal, member, Literals, final, another, Line, asks-nothing, asks, Lines, no-line, blank, line, linesOf, TextOf}
+use Rattle.grammar.specs.Tokens.{Token, one, run, functor, equals, comma, opens, closes, plus, times, Tokens, tokens}
+use Rattle.grammar.specs.Grammar.{begins, Spells, choice, inSym, Says, equal, member, Literals, final, another, Line, asks-nothing, asks, Lines, no-line, blank, line, linesOf, TextOf}
 use Rattle.texts.specs.Parsing.{Res, got, stop, mapped, bind, hedge, sideOf, exprOf, literalOn, literalOf, added, literalsOn, literalsFrom, literals, isClose, isNothing, lineOf}
 use Rattle.texts.specs.Texts.{withLine, lineOn, tokensOn, readLines, parse}
-use Rattle.texts.proofs.Hedges.{Calm, side-read, side-spelt, shorter}
+use Rattle.texts.proofs.Hedges.{side-read, side-spelt, shorter}
 use Rattle.texts.proofs.Hedges as Hedges
 use Rattle.texts.proofs.Expressions as Expressions
 use Rattle.texts.proofs.Expressions.{Ends, ends-calm, expr-read, expr-spelt}

@@ -1,6 +1,5 @@
 -- When each number comes back: 17, 18, 19 from the reader, and 2 to 6, 20, 19 from the writer, in this order.
 use Prim.Native.Nat.{ℕ, _<_, _≤_}
-use native.Mathlib.Omega.{arith}
 use mathlib.Core.Path.{_≡_, refl, ap, _∙_}
 use mathlib.Core.Bool.{Bool, true, false, _&&_}
 use mathlib.Core.List.{List}

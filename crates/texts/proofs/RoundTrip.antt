@@ -1,11 +1,11 @@
 -- Writing and reading back gives the same question words.
 use Prim.Native.Nat.{ℕ, zero, suc, _+_, _-_, _*_, _/_, _%_, _<_, _≤_}
 use native.Mathlib.Omega.{arith}
-use mathlib.Core.Path.{_≡_, refl, sym, ap, ap₂, _∙_, subst}
+use mathlib.Core.Path.{_≡_, refl, sym, ap, ap₂, _∙_}
 use mathlib.Core.Bool.{Bool, true, false, _&&_}
 use mathlib.Core.List.{List, [], _∷_, _++_, map}
 use mathlib.Core.Option.{Option, none, some}
-use lib.Dec.{leb, eqb}
+use lib.Dec.{leb}
 use lib.ListN.{length, take, drop, getD, length-take, length-drop, take-append-drop, length-map}
 use lib.Seq.{drop-drop}
 use borrow.Author.Tests.{leb-true, le-leb, eqb-true}
@@ -15,20 +15,19 @@ use Rattle.language.specs.Limits.{Limits}
 use Rattle.language.specs.Kinds.{pick}
 use Rattle.language.specs.Trees.{Conj, Counts, Question}
 use Rattle.language.specs.Writing.{conjWords}
-use Rattle.language.specs.Fine.{fineConj}
-use Rattle.language.specs.Question.{offsets, rising, laidOut, partsFrom, parts, countsOf, alternativesOf, lengthFits, countsFit, Asked, asks, refuses, readQuestion}
+use Rattle.language.specs.Question.{rising, laidOut, partsFrom, parts, alternativesOf, countsFit, Asked, asks, refuses, readQuestion}
 use Rattle.language.specs.Between.{between}
 use Rattle.language.proofs.Bools.{both-true}
 use Rattle.language.proofs.Offsets.{between-cons, rising-le, laid-length, laid-begins, laid-rises, parts-start}
 use Rattle.language.proofs.Alternatives.{fineAll, allWords, read-all, parts-join}
-use Rattle.language.proofs.Asking.{Passed, passed, Ranges, ranges, how-many}
+use Rattle.language.proofs.Asking.{passed, ranges, how-many}
 use Rattle.meaning.specs.Values.{joined, offsetsOf}
 use Rattle.texts.specs.Texts.{parse}
 use Rattle.texts.specs.Numbering.{Class, symbols, terms, hedges, functions, inAll, nameAll, entered, table, numbered, inOrder, atLeastOne, countsIn}
 use Rattle.texts.specs.Writer.{plain, allText}
 use Rattle.texts.specs.Outcomes.{Outcome, gives, denies, questionWords, fitted, counted, readsText, countIs, symbolsAre, asRead, lent, writesText}
 use Rattle.texts.proofs.Readings.{text-read}
-use Rattle.texts.proofs.Tables.{All, all-map, in-order, entered-other, upTo, length-upTo}
+use Rattle.texts.proofs.Tables.{All, all-map, in-order, entered-other, length-upTo}
 use Rattle.texts.proofs.Numbers.{map-all, other-names, kept}
 use Rattle.texts.proofs.Lexing.{plain-names}
 use Rattle.texts.proofs.Writing as Writing

@@ -1,22 +1,22 @@
 -- What the writer writes is of the grammar, and spells the question with the writer's names.
-use Prim.Native.Nat.{ℕ, zero, suc, _+_, _*_, _<_, _≤_}
+use Prim.Native.Nat.{ℕ, _+_, _<_}
 use native.Mathlib.Omega.{arith}
-use mathlib.Core.Path.{_≡_, refl, sym, ap, ap₂, _∙_, subst}
+use mathlib.Core.Path.{_≡_, refl, sym, ap, _∙_, subst}
 use mathlib.Core.Bool.{Bool, true, false}
 use mathlib.Core.List.{List, [], _∷_, _++_}
-use mathlib.Core.Option.{Option, none, some}
+use mathlib.Core.Option.{none, some}
 use lib.Dec.{eqb}
-use borrow.Author.Tests.{eqb-true, ne-eqb}
+use borrow.Author.Tests.{eqb-true}
 use Rattle.language.specs.Limits.{Limits}
 use Rattle.language.specs.Kinds.{pick}
 use Rattle.language.specs.Trees.{Functor, symbol, fvar, Hedge, ε, tvar, hvar, node, Expr, eps, cat, alt, star, over, Literal, eqn, mem, Conj}
 use Rattle.language.specs.Fine.{fineFunctor, fineHedge, fineExpr, fineLiteral, fineConj}
 use Rattle.language.proofs.Alternatives.{fineAll}
-use Rattle.grammar.specs.Tokens.{Token, one, run, functor, equals, comma, opens, closes, plus, times, nameByte, blank, beginsName, nameOf, Tokens, puts, renamed, nameToken, letter, marked, starOr, byte, tokens}
-use Rattle.grammar.specs.Grammar.{Place, begins, follows, inside, Spells, empty, full, ends, more, alone, brackets, part, parts, leaf, tree, Level, atom, starred, choice, listed, within, Means, single, under, group, once, again, only, either, last, then, no-listed, some-listed, inSym, Says, equal, member, Literals, final, another, Line, asks-nothing, asks, Lines, no-line, line, ahead, linesOf, TextOf}
+use Rattle.grammar.specs.Tokens.{Token, one, run, functor, equals, comma, opens, closes, plus, times, nameByte, blank, beginsName, Tokens, letter, marked, starOr, byte, tokens}
+use Rattle.grammar.specs.Grammar.{begins, follows, inside, Spells, empty, full, ends, more, alone, brackets, part, parts, leaf, tree, starred, choice, listed, Means, single, under, group, once, again, only, either, last, then, no-listed, some-listed, inSym, Says, equal, member, Literals, final, another, Line, asks-nothing, asks, Lines, no-line, line, ahead, linesOf, TextOf}
 use Rattle.grammar.specs.Grammar as Grammar
 use Rattle.texts.specs.Numbering.{terms, hedges, nameF, nameHedge, nameExpr, nameLiteral, nameConj, nameAll}
-use Rattle.texts.specs.Writer.{plain, functorText, sepText, childText, insideText, sideText, Tight, innerText, exprText, literalText, moreText, literalsText, lineText, allText}
+use Rattle.texts.specs.Writer.{plain, functorText, sepText, childText, insideText, sideText, exprText, literalText, literalsText, lineText, allText}
 use Rattle.texts.specs.Writer as Writer
 use Rattle.texts.proofs.Lexing.{Reads, by-step, by-space, by-star, by-symbol, by-term, by-run, by-function, name-tokens, equals-step, comma-step, opens-step, closes-step, plus-step}
 

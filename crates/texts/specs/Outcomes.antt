@@ -1,7 +1,7 @@
 -- What reading and writing a text come to, with the numbers 17 to 20 and 2 to 6.
 use Prim.Native.Nat.{ℕ, _+_, _*_}
-use mathlib.Core.Bool.{Bool, true, false, _&&_}
-use mathlib.Core.List.{List, [], _∷_, _++_, map}
+use mathlib.Core.Bool.{Bool, false, _&&_}
+use mathlib.Core.List.{List, _∷_, _++_, map}
 use mathlib.Core.Option.{Option, none, some}
 use lib.Dec.{leb, eqb}
 use lib.ListN.{length}
@@ -14,7 +14,7 @@ use Rattle.language.specs.Writing.{conjWords}
 use Rattle.language.specs.Question.{countsFit, asks, refuses, readQuestion}
 use Rattle.meaning.specs.Values.{joined, offsetsOf}
 use Rattle.texts.specs.Texts.{parse}
-use Rattle.texts.specs.Numbering.{Class, symbols, terms, hedges, functions, inAll, inOrder, atLeastOne, numbered, countsIn}
+use Rattle.texts.specs.Numbering.{symbols, terms, hedges, functions, inAll, inOrder, atLeastOne, numbered, countsIn}
 use Rattle.texts.specs.Writer.{allText}
 
 pub data Outcome : Type 0 where

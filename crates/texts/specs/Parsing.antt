@@ -6,7 +6,7 @@ use mathlib.Core.Option.{Option, none, some}
 use lib.ListN.{length}
 use Rattle.language.specs.Kinds.{pick}
 use Rattle.language.specs.Trees.{Functor, symbol, fvar, Hedge, ε, tvar, hvar, node, Expr, eps, cat, alt, star, over, Literal, eqn, mem, Conj, eqF}
-use Rattle.grammar.specs.Tokens.{Token, one, run, functor, equals, comma, opens, closes, plus, times, Tokens, tokens}
+use Rattle.grammar.specs.Tokens.{Token, one, run, functor, equals, comma, opens, closes, plus, times}
 use Rattle.grammar.specs.Grammar.{Place, begins, follows, inside, Level, atom, starred, choice, listed, within, inSym}
 
 pub data Res (A : Type 0) : Type 0 where

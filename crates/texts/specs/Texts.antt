@@ -1,10 +1,7 @@
 -- A text: its lines, and the conjunctions that they spell, with names' numbers; or that it is not of the grammar.
 use Prim.Native.Nat.{ℕ}
-use mathlib.Core.Bool.{Bool}
 use mathlib.Core.List.{List, [], _∷_}
 use mathlib.Core.Option.{Option, none, some}
-use lib.Dec.{eqb}
-use Rattle.language.specs.Kinds.{pick}
 use Rattle.language.specs.Trees.{Conj}
 use Rattle.grammar.specs.Tokens.{Token, Tokens, tokens}
 use Rattle.grammar.specs.Grammar.{linesOf}

@@ -2,7 +2,6 @@
 -- known of a call but its contract (`allowed` beside each kind of call). The proofs are cited.
 use Prim.Native.Nat.{ℕ, _+_, _*_}
 use mathlib.Core.Path.{_≡_}
-use mathlib.Core.List.{List}
 use lib.ListN.{take}
 use Rattle.language.specs.Limits.{desk}
 use Rattle.language.specs.Trees.{Question}

@@ -1,22 +1,21 @@
 -- What is shown of any call of desk_replay that came back.
 use Prim.Native.Nat.{ℕ, _+_, _*_, _/_, _≤_}
 use mathlib.Core.Path.{_≡_, refl, sym, ap, subst, _∙_}
-use mathlib.Core.Logic.{_⊎_, inl, inr}
+use mathlib.Core.Logic.{inl, inr}
 use mathlib.Core.Bool.{Bool, true, false}
 use mathlib.Core.List.{List, [], _∷_, _++_, map}
 use native.Mathlib.Omega.{arith}
 use lib.Dec.{lit≤, ltb}
 use lib.ListN.{length, drop}
 use Rattle.language.specs.declared.Refusal.{Refusal}
-use Rattle.language.specs.declared.Refusal.the-variants.{LongResult, LongWaiting, LineRoom, LongWalk, BadStep, ShortTrail, LongTrail, ShortSlice}
+use Rattle.language.specs.declared.Refusal.the-variants.{ShortSlice}
 use Rattle.language.specs.declared.Signature.{Signature}
 use Rattle.language.specs.Limits.{desk}
 use Rattle.language.specs.Numbers.{numberOf}
-use Rattle.language.specs.Trees.{Conj, signature, Question}
+use Rattle.language.specs.Trees.{signature}
 use Rattle.language.specs.Question.{Asked, asks, refuses, readQuestion}
-use Rattle.rules.specs.Each.{Each}
-use Rattle.rules.specs.Reply.{nothing, results}
-use Rattle.rules.specs.Step.{Spot, stepAt, step}
+use Rattle.rules.specs.Reply.{nothing}
+use Rattle.rules.specs.Step.{step}
 use Rattle.rules.specs.Solved.{solved}
 use Rattle.rules.specs.Run.{Numbered, EachLine, Outcome, finished, refused}
 use Rattle.rules.specs.Answer.{Solving, answered, unread, given-up, ran, answerWords}

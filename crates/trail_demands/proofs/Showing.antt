@@ -1,7 +1,6 @@
 -- What is shown of any call of desk_example_trail that came back.
 use Prim.Native.Nat.{ℕ, _+_, _*_, _/_}
 use mathlib.Core.Path.{_≡_, refl, sym, ap, subst, _∙_}
-use mathlib.Core.List.{List, _++_}
 use native.Mathlib.Omega.{arith}
 use lib.ListN.{length, take, drop}
 use lib.Seq.{take-at}
@@ -10,7 +9,7 @@ use Rattle.language.specs.Trees.{Question}
 use Rattle.language.specs.Question.{asks, readQuestion}
 use Rattle.rules.specs.Calls.{Showing, shows, denied}
 use Rattle.lines.specs.Fillings.{WordsMeet}
-use Rattle.word_bytes.specs.Bytes.{wordsOf, wordsIn, halfWord, bytesOf}
+use Rattle.word_bytes.specs.Bytes.{wordsOf, wordsIn, halfWord}
 use Rattle.host.specs.Host as host
 use Rattle.host.specs.Numbers.{asksOld}
 use Rattle.replay.specs.Calls.{showingTrail}

@@ -5,7 +5,7 @@ use mathlib.Core.Path.{_≡_, refl, sym, ap, _∙_}
 use mathlib.Core.Bool.{Bool, true, false}
 use mathlib.Core.List.{List, []}
 use native.Mathlib.Omega.{arith}
-use lib.Dec.{leb, ltb}
+use lib.Dec.{leb}
 use lib.ListN.{length}
 use borrow.Author.Tests.{leb-false, lt-ltb, le-ltb}
 use Rattle.language.specs.declared.Refusal.the-variants.{ShortSlice, QuestionLength}
@@ -14,7 +14,7 @@ use Rattle.language.specs.Limits.{desk}
 use Rattle.language.specs.Trees.{signature}
 use Rattle.language.specs.Question.{Asked, asks, refuses, readQuestion, countsOf}
 use Rattle.rules.specs.Answer.{Solving, unread, ran}
-use Rattle.rules.specs.Calls.{Showing, denied, showingOf}
+use Rattle.rules.specs.Calls.{denied, showingOf}
 use Rattle.word_bytes.specs.Bytes.{wordsIn, wordsOf, halfWord, fitting}
 use Rattle.word_bytes.proofs.Fitting.{long-question, no-question, fitting-question}
 use Rattle.handing.specs.Handed.{used}

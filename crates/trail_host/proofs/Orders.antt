@@ -1,6 +1,5 @@
 -- Which numbers solving with a trail and a replay can give: 1 to 6 before the run, and 7 or more from it.
 use Prim.Native.Nat.{ℕ, _≤_}
-use mathlib.Core.Path.{_≡_}
 use mathlib.Core.Bool.{Bool, true, false}
 use mathlib.Core.List.{List}
 use lib.Dec.{lit≤, ltb}

@@ -9,7 +9,6 @@ use outcomes::Checked;
 use outcomes::Tried;
 use slices::clear;
 use trees::Read;
-ghost use mathlib.Core.Path.{_≡_};
 ghost use Prim.Native.Nat.{_+_, _≤_, _<_};
 ghost use lib.ListN.{length};
 ghost use Rattle.language.specs.Limits.{desk};

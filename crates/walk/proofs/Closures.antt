@@ -1,6 +1,6 @@
 -- What is added to a list of pairs, and that adding what follows comes to an end: where no list of such pairs is longer than the times it is done,
 -- whatever follows from the list that is left stands in it.
-use Prim.Native.Nat.{ℕ, zero, suc, _+_, _≤_, _<_}
+use Prim.Native.Nat.{ℕ, zero, suc, _+_, _≤_}
 use mathlib.Core.Path.{_≡_, refl, ap, subst, _∙_}
 use mathlib.Core.Logic.{_⊎_, inl, inr, _↔_}
 use mathlib.Core.Bool.{Bool, true, false}

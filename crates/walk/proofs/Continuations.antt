@@ -3,8 +3,6 @@
 use mathlib.Core.Path.{_≡_, refl, sym, _∙_, ap}
 use mathlib.Core.Bool.{Bool, true, false}
 use mathlib.Core.List.{List, [], _∷_, _++_, map, append-nil}
-use lib.Dec.{T}
-use Rattle.language.specs.declared.Sym.{Sym}
 use Rattle.language.specs.Kinds.{pick}
 use Rattle.language.specs.Trees.{Expr, eps, cat, alt, star, over}
 use Rattle.rules.specs.Looks.{isEps}
@@ -13,7 +11,7 @@ use Rattle.rules.proofs.Tests.{true-test}
 use Rattle.rules.proofs.Looks.{isEps-is}
 use Rattle.rules.specs.Each.{Each}
 use Rattle.rules.proofs.Each.{each-map, each-++}
-use Rattle.walk.specs.Spots.{Spot, here, inLeft, inRight, inFirst, inSecond, inStar, whole, nameAt, innerAt, restAt, behind, monomial, spots, firsts, nexts}
+use Rattle.walk.specs.Spots.{Spot, here, inLeft, inRight, inFirst, inSecond, inStar, whole, restAt, behind, monomial, spots, firsts, nexts}
 
 -- monomials of spots that go through f are those of the spots
 through : (f : Spot → Spot) → ((p : Spot) → monomial (f p) ≡ monomial p) → (ps : List Spot) → map monomial (map f ps) ≡ map monomial ps

@@ -1,6 +1,6 @@
 -- An expression has no more states than twice its words.
-use Prim.Native.Nat.{ℕ, zero, suc, _+_, _*_, _≤_}
-use mathlib.Core.Path.{_≡_, refl, sym, _∙_, ap}
+use Prim.Native.Nat.{ℕ, suc, _+_, _*_, _≤_}
+use mathlib.Core.Path.{_≡_, refl, _∙_}
 use mathlib.Core.List.{List, [], _∷_, _++_, map}
 use native.Mathlib.Omega.{arith}
 use native.Mathlib.Nat.{mul-le-mul}
@@ -8,7 +8,7 @@ use lib.ListN.{length, length-append, length-map}
 use Rattle.language.specs.Trees.{Expr, eps, cat, alt, star, over}
 use Rattle.language.specs.Writing.{exprWords}
 use Rattle.rules.specs.Walk.{most}
-use Rattle.walk.specs.Spots.{Spot, here, inLeft, inRight, inFirst, inSecond, inStar, restAt, spots, inners, within, states}
+use Rattle.walk.specs.Spots.{Spot, inLeft, inRight, inFirst, inSecond, inStar, restAt, spots, inners, within, states}
 
 within-++ : (l m : List Expr) → length (within (l ++ m)) ≡ length (within l) + length (within m)
 within-++ [] m = omega arith

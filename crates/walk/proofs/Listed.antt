@@ -12,7 +12,7 @@ use Rattle.language.specs.Trees.{Expr}
 use Rattle.rules.specs.Expressions.{nullable, Monomial}
 use Rattle.rules.specs.Walk.{Pair, onward, reached, longWalk}
 use Rattle.rules.proofs.Tests.{test-true}
-use Rattle.walk.specs.Reach.{Twins, Reach, Once, ReachesMore, Shares, empty, more}
+use Rattle.walk.specs.Reach.{Twins, Reach, Once, Shares, empty, more}
 use Rattle.walk.proofs.Members.{no-more}
 use Rattle.walk.proofs.Onward.{in-onward}
 use Rattle.walk.proofs.Reached.{all-met, reached-exact, reached-once, long-exact}

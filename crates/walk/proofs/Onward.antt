@@ -3,7 +3,6 @@ use mathlib.Core.Path.{_≡_, refl, subst}
 use mathlib.Core.Logic.{_⊎_, inl, inr, _↔_}
 use mathlib.Core.Bool.{Bool, true, false}
 use mathlib.Core.List.{List, [], _∷_, List·Memᴰ, List·Memᴰ·head, List·Memᴰ·tail}
-use lib.Dec.{T}
 use Rattle.language.specs.Kinds.{pick}
 use Rattle.language.specs.Trees.{eqS}
 use Rattle.rules.specs.Expressions.{Monomial, linear}

@@ -1,6 +1,6 @@
 -- The walk ends: it reaches each pair that it should, no other, and none twice. So 21 is given exactly where more different pairs are reached.
-use Prim.Native.Nat.{ℕ, suc, _+_, _*_, _≤_, _<_}
-use mathlib.Core.Path.{_≡_, refl, sym, subst}
+use Prim.Native.Nat.{ℕ, suc, _≤_}
+use mathlib.Core.Path.{refl, sym, subst}
 use mathlib.Core.Logic.{inl, inr, _↔_}
 use mathlib.Core.List.{List, [], _∷_, List·Memᴰ, List·Memᴰ·head, List·Memᴰ·tail}
 use native.Mathlib.Nat.{le-trans}
@@ -8,9 +8,8 @@ use native.Mathlib.Omega.{arith}
 use lib.Dec.{T, leb→le, le→leb}
 use lib.ListN.{length}
 use Rattle.language.specs.Trees.{Expr}
-use Rattle.rules.specs.Expressions.{Monomial}
 use Rattle.rules.specs.Walk.{Pair, onward, onwards, most, reached, longWalk}
-use Rattle.walk.specs.Reach.{Twins, Reach, start, inner, rest, Once, ReachesMore}
+use Rattle.walk.specs.Reach.{Reach, start, inner, rest, Once, ReachesMore}
 use Rattle.walk.proofs.Members.{pairs, in-pairs, of-pairs, pairs-length, no-more}
 use Rattle.walk.proofs.Closures.{Closed, closes}
 use Rattle.walk.specs.Spots.{states}

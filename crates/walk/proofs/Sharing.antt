@@ -1,8 +1,7 @@
 -- The tests say that a hedge, or a term, is shared exactly where it is.
-use Prim.Native.Nat.{ℕ, _+_, _≤_}
 use mathlib.Core.Path.{_≡_, refl, subst}
 use mathlib.Core.Logic.{_⊎_, inl, inr, _↔_}
-use mathlib.Core.Bool.{Bool, true, false, _&&_, _||_}
+use mathlib.Core.Bool.{Bool, true, false, _&&_}
 use mathlib.Core.List.{List, [], _∷_, List·Memᴰ, List·Memᴰ·head, List·Memᴰ·tail}
 use native.Mathlib.Omega.{arith}
 use lib.Dec.{T}
@@ -13,7 +12,7 @@ use Rattle.rules.specs.Expressions.{nullable, Monomial, linear}
 use Rattle.rules.specs.Walk.{Pair, among, onward, reached, someOf, somePair, sharesBy, sharing, shared, commonHedge, commonTerm}
 use Rattle.rules.proofs.Tests.{or-cases, or-left, or-right, and-parts, and-both, true-test}
 use Rattle.rules.proofs.Names.{eqS-is, eqS-same}
-use Rattle.walk.specs.Reach.{Twins, start, inner, rest, Once, Shares, empty, more, SharesTerm}
+use Rattle.walk.specs.Reach.{Twins, start, inner, rest, Shares, empty, more, SharesTerm}
 use Rattle.walk.proofs.Members.{no-more}
 use Rattle.walk.proofs.Closures.{among-in, in-among, Closed, closes}
 use Rattle.walk.proofs.Onward.{in-onward}

@@ -1,7 +1,7 @@
 -- Linear forms lead from the states of an expression to its states: there are finitely many.
-use mathlib.Core.Path.{_≡_, refl, sym, _∙_, ap}
+use mathlib.Core.Path.{_≡_, refl, _∙_}
 use mathlib.Core.Logic.{_⊎_, inl, inr}
-use mathlib.Core.List.{List, [], _∷_, _++_, map, List·Memᴰ, List·Memᴰ·head, List·Memᴰ·tail}
+use mathlib.Core.List.{List, _∷_, _++_, map, List·Memᴰ, List·Memᴰ·head, List·Memᴰ·tail}
 use Rattle.language.specs.Trees.{Expr, eps, cat, alt, star, over}
 use Rattle.rules.specs.Expressions.{Monomial, linear}
 use Rattle.rules.proofs.Each.{each-in}

@@ -1,5 +1,4 @@
 -- The symbols of an expression that stand below no other symbol: the way down to one, what is left after it is read, and which can follow it.
-use mathlib.Core.Bool.{Bool, true, false}
 use mathlib.Core.List.{List, [], _∷_, _++_, map}
 use Rattle.language.specs.declared.Sym.{Sym}
 use Rattle.language.specs.Kinds.{pick}

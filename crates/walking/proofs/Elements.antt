@@ -1,35 +1,34 @@
 -- The loop over the elements in brackets, and a side.
-use Prim.Native.Nat.{ℕ, zero, suc, _+_, _-_, _*_, _<_, _≤_, min}
+use Prim.Native.Nat.{ℕ, zero, suc, _+_, _-_, _<_, _≤_}
 use native.Mathlib.Omega.{arith}
 use native.Mathlib.Numerals.{add-one}
 use mathlib.Core.Path.{_≡_, refl, sym, ap, ap₂, _∙_, subst}
 use mathlib.Core.Bool.{Bool, true, false, not}
 use mathlib.Core.List.{List, [], _∷_, _++_, append-assoc}
 use mathlib.Core.Option.{none, some}
-use lib.Dec.{leb, ltb, eqb}
+use lib.Dec.{eqb}
 use lib.ListN.{length, drop}
 use lib.Seq.{sets}
-use borrow.Author.Tests.{eq-eqb, ne-eqb, eqb-true, eqb-false, not-true, not-false}
+use borrow.Author.Tests.{eq-eqb, ne-eqb, eqb-true, not-true, not-false}
 use Rattle.language.specs.Limits.{Limits}
 use Rattle.language.specs.Kinds.{pick}
-use Rattle.grammar.specs.Tokens.{Token, Tokens}
+use Rattle.grammar.specs.Tokens.{Tokens}
 use Rattle.texts.specs.Parsing.{Res, got, stop}
 use Rattle.texts.specs.Numbering.{Naming}
 use Rattle.lexing.specs.declared.Mark.{Mark}
 use Rattle.lexing.specs.declared.Mark.the-variants.{End, Bad, Symbol, One, Run, Function, Equals, Comma, Opens, Closes, Plus, Times}
 use Rattle.lexing.specs.declared.Piece.{Piece}
 use Rattle.lexing.specs.Bytes.{others, nameFrom, sortOf}
-use Rattle.lexing.specs.Pieces.{here, front, nextOf, Next}
+use Rattle.lexing.specs.Pieces.{here, nextOf, Next}
 use Rattle.lexing.proofs.Pieces.{next-law}
 use Rattle.flat.specs.declared.State.{State}
-use Rattle.flat.specs.declared.State.the-variants.{Opened, Wanted, Named, Ready}
+use Rattle.flat.specs.declared.State.the-variants.{Opened, Ready}
 use Rattle.flat.specs.Flat.{lay, inBrackets}
 use Rattle.text_names.specs.Shelves.{nameAt, numbering, Shelves}
 use Rattle.room_words.specs.Rooms.{wordIf, Put}
 use Rattle.room_words.proofs.Rooms.{put-length, put-wrote, put-nothing, put-then}
 use Rattle.text_names.specs.Words.{ownWord}
-use Rattle.walking.specs.declared.Way.{Way}
-use Rattle.walking.specs.Walking.{reads, gotAt, roleOf, stageOf, allows, stateAfter, owes, writes, depthAfter, lastOf, tokenWords, closing, goesOn, Walked, leaves, behindWords, pieceOn, bracketsFrom, bracketsOn}
+use Rattle.walking.specs.Walking.{reads, gotAt, roleOf, stageOf, allows, stateAfter, owes, writes, depthAfter, lastOf, tokenWords, goesOn, Walked, leaves, behindWords, pieceOn, bracketsFrom, bracketsOn}
 use Rattle.walking.proofs.Tokens.{token-read, token-refused}
 
 -- ---- what a token writes

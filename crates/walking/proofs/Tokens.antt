@@ -1,9 +1,9 @@
 -- One token in brackets, as the code takes it.
-use Prim.Native.Nat.{ℕ, zero, suc, _+_, _<_, _≤_, min}
+use Prim.Native.Nat.{ℕ, zero, suc, _<_, _≤_}
 use native.Mathlib.Omega.{arith}
-use mathlib.Core.Path.{_≡_, refl, sym, ap, ap₂, _∙_, subst}
-use mathlib.Core.Bool.{Bool, true, false, not}
-use mathlib.Core.List.{List, [], _∷_, _++_}
+use mathlib.Core.Path.{_≡_, refl}
+use mathlib.Core.Bool.{true, false, not}
+use mathlib.Core.List.{List, []}
 use mathlib.Core.Option.{none, some}
 use lib.Dec.{leb, ltb, eqb}
 use borrow.Author.Tests.{lt-ltb, le-ltb, eq-eqb, ne-eqb}
@@ -16,7 +16,7 @@ use Rattle.lexing.specs.Pieces.{front}
 use Rattle.flat.specs.declared.State.{State}
 use Rattle.flat.specs.declared.State.the-variants.{Opened, Wanted, Named, Ready}
 use Rattle.flat.specs.Flat.{lay, inBrackets}
-use Rattle.walking.specs.Walking.{reads, gotAt, roleOf, stageOf, allows, owes, writes, tokenWords, closing, goesOn}
+use Rattle.walking.specs.Walking.{reads, roleOf, stageOf, allows, owes, writes, tokenWords, goesOn}
 
 lay-nil : (r : Res (List ℕ)) → r ≡ lay [] r
 lay-nil (got ws ts) = refl

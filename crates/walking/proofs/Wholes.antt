@@ -1,5 +1,5 @@
 -- A side: brackets, a blank, a functor with brackets or without.
-use Prim.Native.Nat.{ℕ, zero, suc, _+_, _<_, _≤_, min}
+use Prim.Native.Nat.{ℕ, _+_, _≤_}
 use native.Mathlib.Omega.{arith}
 use mathlib.Core.Path.{_≡_, refl, sym, ap, ap₂, _∙_, subst}
 use mathlib.Core.Bool.{Bool, true, false, not}
@@ -7,11 +7,10 @@ use mathlib.Core.List.{List, [], _∷_, _++_}
 use mathlib.Core.Option.{none, some}
 use lib.ListN.{length, drop}
 use lib.Seq.{sets}
-use lib.Dec.{eqb}
 use borrow.Author.Tests.{eq-eqb, ne-eqb, not-true, not-false}
 use Rattle.language.specs.Limits.{Limits}
 use Rattle.grammar.specs.Tokens.{Token, one, run, functor, equals, comma, opens, closes, plus, times, Tokens}
-use Rattle.texts.specs.Parsing.{Res, got, stop}
+use Rattle.texts.specs.Parsing.{Res, stop}
 use Rattle.texts.specs.Numbering.{Naming}
 use Rattle.lexing.specs.declared.Mark.{Mark}
 use Rattle.lexing.specs.declared.Mark.the-variants.{End, Bad, Symbol, One, Run, Function, Equals, Comma, Opens, Closes, Plus, Times}
@@ -21,12 +20,12 @@ use Rattle.lexing.specs.Pieces.{here, front, nextOf, Next}
 use Rattle.lexing.proofs.Pieces.{next-law}
 use Rattle.flat.specs.declared.State.the-variants.{Opened}
 use Rattle.flat.specs.Flat.{lay, inBrackets, closed, flatSide}
-use Rattle.text_names.specs.Shelves.{nameAt, numbering, Shelves}
+use Rattle.text_names.specs.Shelves.{nameAt, numbering}
 use Rattle.room_words.specs.Rooms.{Put}
 use Rattle.room_words.proofs.Rooms.{put-length, put-wrote, put-then, wrote-then}
 use Rattle.text_names.specs.Words.{ownWord}
 use Rattle.walking.specs.declared.Way.{Way}
-use Rattle.walking.specs.Walking.{reads, gotAt, roleOf, allows, Walked, behindFunctor, Closed, leaves, behindWords, bracketsOn, closedOn, behindBy, behindOn, elementOn, sideBy, sideOn}
+use Rattle.walking.specs.Walking.{reads, gotAt, roleOf, allows, Walked, behindFunctor, Closed, leaves, behindWords, bracketsOn, closedOn, behindBy, behindOn, sideBy, sideOn}
 
 -- ---- over tokens
 

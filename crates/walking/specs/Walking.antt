@@ -1,5 +1,5 @@
 -- What the loop over a side does with each token: whether it can stand there, what it writes, and how it goes on.
-use Prim.Native.Nat.{ℕ, zero, suc, _+_, _-_, _*_, _≤_, min}
+use Prim.Native.Nat.{ℕ, zero, suc, _+_, _-_, _≤_, min}
 use mathlib.Core.Path.{_≡_}
 use mathlib.Core.Bool.{Bool, true, false, _&&_, _||_, not}
 use mathlib.Core.List.{List, [], _∷_, _++_}
@@ -21,7 +21,7 @@ use Rattle.text_names.specs.Shelves.{nameAt}
 use Rattle.text_names.specs.Words.{ownWord}
 use Rattle.flat.specs.declared.State.{State}
 use Rattle.flat.specs.declared.State.the-variants.{Opened, Wanted, Named, Ready}
-use Rattle.flat.specs.Flat.{inBrackets, closed, flatSide}
+use Rattle.flat.specs.Flat.{inBrackets, closed}
 use Rattle.walking.specs.declared.Way.{Way}
 
 -- ---- tokens that may break off

@@ -5,7 +5,6 @@ use room_words::put_if;
 use text_names::own_word;
 ghost use Prim.Native.Nat.{_+_, _≤_, _<_};
 ghost use mathlib.Core.Path.{_≡_};
-ghost use mathlib.Core.Bool.{Bool};
 ghost use lib.ListN.{length};
 ghost use Rattle.language.specs.Limits.{desk};
 ghost use Rattle.flat.specs.declared.State.the-variants.{Opened};

@@ -1,14 +1,14 @@
 -- A text is short: at most 13 bytes for a word of the question, and 3 for a line.
-use Prim.Native.Nat.{ℕ, _+_, _*_, _/_, _%_, _<_, _≤_}
+use Prim.Native.Nat.{ℕ, _+_, _*_, _/_, _%_, _≤_}
 use mathlib.Core.Path.{_≡_, refl, sym, ap, _∙_}
 use mathlib.Core.Bool.{Bool, true, false}
 use mathlib.Core.List.{List, [], _∷_, _++_, map}
 use native.Mathlib.Omega.{arith}
 use lib.Dec.{eqb, leb, ltb}
-use lib.ListN.{length, drop, length-append, length-drop}
+use lib.ListN.{length, length-append, length-drop}
 use Rattle.language.specs.Kinds.{pick}
 use Rattle.language.specs.Limits.{desk}
-use Rattle.language.specs.Trees.{Functor, Hedge, ε, tvar, hvar, node, Expr, eps, cat, alt, star, over, Literal, eqn, mem, Conj, Question}
+use Rattle.language.specs.Trees.{Hedge, ε, tvar, hvar, node, Expr, eps, cat, alt, star, over, Literal, eqn, mem, Conj, Question}
 use Rattle.language.specs.Writing.{functorWord, hedgeWords, exprWords, literalWords, conjWords}
 use Rattle.language.specs.Fine.{fineConj}
 use Rattle.language.specs.Question.{Asked, asks, refuses, alternativesOf, parts, readQuestion}
@@ -19,7 +19,7 @@ use Rattle.language.proofs.Offsets.{laid-rises, parts-start}
 use Rattle.language.proofs.Alternatives.{fineAll, allWords, read-all, parts-join}
 use Rattle.language.proofs.Asking.{passed, ranges, how-many}
 use Rattle.texts.specs.Writer.{digits, lineText, allText}
-use Rattle.texts.specs.Outcomes.{Outcome, gives, denies, asRead, lent, writesText}
+use Rattle.texts.specs.Outcomes.{gives, denies, asRead, lent, writesText}
 use Rattle.write_text.specs.Pieces.{given, four, firstOf, secondOf, closingOf, markOf, letterIn, wordText, behind, elements, isOne, unless, sidePiece, braceOf, headPiece, betweenPiece, starOf, tailPiece, elsewhere, shape, literalPiece, literalsPiece}
 use Rattle.write_text.proofs.Joining.{line-is}
 use Rattle.write_text.proofs.Verdicts.{denied, wrote}

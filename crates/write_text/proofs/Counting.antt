@@ -8,21 +8,21 @@ use native.Mathlib.Omega.{arith}
 use native.Mathlib.Numerals.{add-one}
 use lib.Dec.{leb, ltb, eqb}
 use lib.ListN.{length, getD, drop, drop-of-length-le}
-use borrow.Author.Tests.{le-leb, lt-leb, lt-ltb, le-ltb, eq-eqb, ne-eqb, leb-true, leb-false, ltb-true, ltb-false, eqb-true, eqb-false}
+use borrow.Author.Tests.{le-leb, lt-leb, lt-ltb, le-ltb, eq-eqb, ne-eqb, leb-true, ltb-true, eqb-true}
 use Rattle.language.specs.Kinds.{pick}
 use Rattle.language.specs.Limits.{desk}
-use Rattle.language.specs.Trees.{Functor, symbol, fvar, Hedge, ε, tvar, hvar, node, Expr, eps, cat, alt, star, over, Literal, eqn, mem, Conj, Counts, Question}
+use Rattle.language.specs.Trees.{Functor, symbol, fvar, Hedge, ε, tvar, hvar, node, Expr, eps, cat, alt, star, over, Literal, eqn, mem, Conj, Question}
 use Rattle.language.specs.Writing.{functorWord, hedgeWords, exprWords, literalWords, conjWords}
 use Rattle.language.specs.Fine.{fineFunctor, fineHedge, fineExpr, fineLiteral, fineConj}
-use Rattle.language.specs.Question.{alternativesOf, countsOf, asks, parts, readQuestion}
+use Rattle.language.specs.Question.{alternativesOf, asks, parts, readQuestion}
 use Rattle.language.specs.Between.{between}
 use Rattle.language.proofs.Offsets.{laid-rises, parts-start}
 use Rattle.language.proofs.Alternatives.{fineAll, allWords, read-all, parts-join}
 use Rattle.language.proofs.Asking.{passed}
-use Rattle.texts.specs.Numbering.{Class, symbols, terms, hedges, functions, atS, atT, atH, atX, atF, inHedge, inExpr, inLiteral, inConj, inAll, inOrder, atLeastOne}
+use Rattle.texts.specs.Numbering.{Class, symbols, terms, hedges, functions, atS, atT, atH, atX, atF, inHedge, inExpr, inLiteral, inConj, inAll, inOrder}
 use Rattle.texts.specs.Outcomes.{countIs, symbolsAre, asRead}
 use Rattle.words.proofs.Parts.{drop-here}
-use Rattle.write_text.specs.Numbers.{isIn, numbersIn, countAfter, stepOf, countedAs}
+use Rattle.write_text.specs.Numbers.{isIn, numbersIn, stepOf, countedAs}
 use Rattle.write_text.specs.Standing.{Numbered}
 
 -- ---- a word, of a class or of none

@@ -1,11 +1,11 @@
 -- The pieces in a row are the text that the definition of writing gives.
-use Prim.Native.Nat.{ℕ, _+_, _%_, _<_, _≤_}
+use Prim.Native.Nat.{ℕ, _+_, _%_, _<_}
 use mathlib.Core.Path.{_≡_, refl, sym, ap, _∙_}
-use mathlib.Core.Bool.{Bool, true, false, _&&_, _||_, not}
+use mathlib.Core.Bool.{true, false, _||_}
 use mathlib.Core.List.{List, [], _∷_, _++_, append-assoc, append-nil}
 use native.Mathlib.Omega.{arith}
-use lib.Dec.{eqb, ltb}
-use borrow.Author.Tests.{eq-eqb, ne-eqb, lt-ltb, le-ltb}
+use lib.Dec.{eqb}
+use borrow.Author.Tests.{ne-eqb, lt-ltb, le-ltb}
 use Rattle.language.specs.Kinds.{pick}
 use Rattle.language.specs.Limits.{desk}
 use Rattle.language.specs.Trees.{Functor, symbol, fvar, Hedge, ε, tvar, hvar, node, Expr, eps, cat, alt, star, over, Literal, eqn, mem, Conj}
@@ -13,7 +13,7 @@ use Rattle.language.specs.Writing.{functorWord}
 use Rattle.language.specs.Fine.{fineFunctor, fineHedge, fineExpr, fineLiteral, fineConj}
 use Rattle.texts.specs.Numbering.{symbols, terms, hedges, functions}
 use Rattle.texts.specs.Writer.{digits, nameText, functorText, sepText, childText, insideText, sideText, starred, chosen, listed, innerText, exprText, literalText, moreText, literalsText, lineText}
-use Rattle.write_text.specs.Pieces.{given, four, firstOf, secondOf, closingOf, markOf, letterIn, wordText, behind, elements, isOne, unless, sidePiece, opens, braceOf, headPiece, starOf, tailPiece, shape, literalPiece, literalsPiece}
+use Rattle.write_text.specs.Pieces.{given, four, firstOf, secondOf, closingOf, markOf, letterIn, wordText, behind, elements, unless, sidePiece, headPiece, tailPiece, shape, literalPiece, literalsPiece}
 
 -- ---- words
 

@@ -1,22 +1,21 @@
 -- What writing literals, lines and all lines finds.
-use Prim.Native.Nat.{ℕ, zero, suc, _+_, _-_, _<_, _≤_}
+use Prim.Native.Nat.{ℕ, _+_, _-_, _<_, _≤_}
 use mathlib.Core.Path.{_≡_, refl, sym, ap, _∙_}
 use mathlib.Core.List.{List, [], _∷_, _++_, append-assoc}
 use native.Mathlib.Omega.{arith}
 use native.Mathlib.Numerals.{add-one}
-use lib.ListN.{length, getD, drop, take, length-append, length-drop, drop-of-length-le}
+use lib.ListN.{length, getD, drop, length-append, length-drop, drop-of-length-le}
 use lib.Seq.{drop-cons}
 use Rattle.language.specs.Limits.{desk}
-use Rattle.language.specs.Trees.{Hedge, Expr, Literal, eqn, mem, Conj, Question}
+use Rattle.language.specs.Trees.{Hedge, Literal, eqn, mem, Conj, Question}
 use Rattle.language.specs.Writing.{hedgeWords, exprWords, literalWords, conjWords}
-use Rattle.language.specs.Fine.{fineHedge, fineLiteral, fineConj}
+use Rattle.language.specs.Fine.{fineHedge, fineConj}
 use Rattle.language.specs.Between.{between}
 use Rattle.language.specs.Question.{alternativesOf, asks, readQuestion}
 use Rattle.language.proofs.Asking.{passed, ranges, how-many, alternative}
 use Rattle.language.proofs.Offsets.{laid-length}
 use Rattle.texts.specs.Writer.{lineText, allText}
 use Rattle.words.proofs.Parts.{drop-of}
-use Rattle.expressions.specs.Standing.{Here}
 use Rattle.expressions.proofs.Standing.{word-of, tail-of}
 use Rattle.write_text.specs.declared.Wrote.{Wrote}
 use Rattle.write_text.specs.Laid.{Laid}

@@ -1,18 +1,18 @@
 -- The words of a hedge, one by one, are its elements; and what writing a side finds.
 use Prim.Native.Nat.{ℕ, _+_, _-_, _<_, _≤_}
 use mathlib.Core.Path.{_≡_, refl, sym, ap, _∙_}
-use mathlib.Core.Bool.{Bool, true, false}
+use mathlib.Core.Bool.{Bool, false}
 use mathlib.Core.List.{List, [], _∷_, _++_, append-assoc}
 use native.Mathlib.Omega.{arith}
-use lib.Dec.{eqb, ltb}
+use lib.Dec.{eqb}
 use lib.ListN.{length, getD, drop, take, length-append, length-drop}
-use lib.Seq.{take-append-seam, drop-append-seam}
+use lib.Seq.{take-append-seam}
 use borrow.Author.Tests.{eq-eqb, ne-eqb, lt-ltb, le-ltb}
 use Rattle.language.specs.Kinds.{pick}
 use Rattle.language.specs.Limits.{desk}
 use Rattle.language.specs.Trees.{Functor, symbol, fvar, Hedge, ε, tvar, hvar, node}
 use Rattle.language.specs.Writing.{functorWord, hedgeWords}
-use Rattle.language.specs.Fine.{fineFunctor, fineHedge}
+use Rattle.language.specs.Fine.{fineHedge}
 use Rattle.language.specs.Reading.{Got, got, stop, readHedge}
 use Rattle.language.specs.Between.{between}
 use Rattle.language.proofs.Laws.{hedges-read}
@@ -21,11 +21,10 @@ use Rattle.texts.specs.Writer.{isEmpty}
 use Rattle.trees.specs.declared.Read.{Read}
 use Rattle.trees.specs.declared.Read.the-variants.{Next, Stop}
 use Rattle.trees.specs.Places.{placed}
-use Rattle.expressions.proofs.Standing.{inside, word-of, tail-of}
-use Rattle.write_text.specs.declared.Wrote.{Wrote}
+use Rattle.expressions.proofs.Standing.{word-of, tail-of}
 use Rattle.write_text.specs.Laid.{Laid}
-use Rattle.write_text.specs.Pieces.{given, closingOf, wordText, afterOf, flat, behind, elements, isOne, unless, sidePiece}
-use Rattle.write_text.specs.Standing.{Side, OneAt, Done, Sided}
+use Rattle.write_text.specs.Pieces.{given, closingOf, wordText, afterOf, flat, behind, elements, isOne, unless}
+use Rattle.write_text.specs.Standing.{Side, OneAt, Sided}
 use Rattle.write_text.proofs.Laid.{laid-as, laid-row, laid-none}
 
 -- ---- word by word

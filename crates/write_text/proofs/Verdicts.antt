@@ -1,12 +1,10 @@
 -- What writing a text comes to, by what the checks of the question, its numbers and the room found.
 use Prim.Native.Nat.{ℕ, _+_, _-_, _≤_, _<_}
-use mathlib.Core.Path.{_≡_, refl, sym, ap, _∙_}
+use mathlib.Core.Path.{_≡_, sym, ap, _∙_}
 use mathlib.Core.Bool.{Bool, true, false, not}
 use mathlib.Core.List.{List}
 use native.Mathlib.Omega.{arith}
-use lib.Dec.{leb}
 use lib.ListN.{length}
-use lib.Seq.{sets}
 use borrow.Author.Tests.{le-leb, lt-leb}
 use Rattle.language.specs.declared.Refusal.{Refusal}
 use Rattle.language.specs.declared.Refusal.the-variants.{LongText, OtherNumbers}
@@ -24,7 +22,6 @@ use Rattle.texts.specs.Writer.{allText}
 use Rattle.texts.specs.Outcomes.{Outcome, gives, denies, asRead, lent, writesText}
 use Rattle.write_text.specs.declared.Written.{Written}
 use Rattle.write_text.specs.declared.Written.the-variants.{Given}
-use Rattle.write_text.specs.Laid.{Laid}
 use Rattle.write_text.specs.Standing.{IsQuestion, AllLined, Numbered}
 use Rattle.write_text.specs.Writes.{writtenBy, leftBy}
 

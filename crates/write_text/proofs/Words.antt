@@ -2,14 +2,14 @@
 use Prim.Native.Nat.{ℕ, _+_, _%_, _/_, _<_, _≤_}
 use mathlib.Core.Path.{_≡_, refl, sym, ap, _∙_}
 use mathlib.Core.Bool.{Bool, true, false}
-use mathlib.Core.List.{List, [], _∷_, _++_}
+use mathlib.Core.List.{List, _++_}
 use native.Mathlib.Omega.{arith}
 use lib.Dec.{ltb}
 use borrow.Author.Tests.{eq-eqb, ne-eqb, lt-ltb, le-ltb, ltb-true, ltb-false}
 use Rattle.language.specs.Kinds.{pick}
 use Rattle.texts.specs.Writer.{digits}
 use Rattle.write_text.specs.Laid.{Laid}
-use Rattle.write_text.specs.Pieces.{given, four, hundredsOf, tensOf, firstOf, secondOf, closingOf, markOf, letterIn, wordText, afterOf}
+use Rattle.write_text.specs.Pieces.{given, four, hundredsOf, tensOf, firstOf, secondOf, closingOf, markOf, letterIn, wordText}
 use Rattle.write_text.proofs.Laid.{laid-as, laid-row, given-none, given-one}
 
 -- ---- digits

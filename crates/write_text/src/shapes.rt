@@ -5,7 +5,7 @@ use crate::bytes::put_four;
 use crate::bytes::put_word;
 ghost use mathlib.Core.Path.{_≡_};
 ghost use Rattle.write_text.specs.Laid.{Laid};
-ghost use Rattle.write_text.specs.Pieces.{opens, braceOf, headPiece, firstIn, secondIn, betweenPiece, starOf, tailPiece, isTwo, elsewhere};
+ghost use Rattle.write_text.specs.Pieces.{opens, braceOf, headPiece, firstIn, secondIn, betweenPiece, starOf, isTwo, elsewhere};
 ghost use Rattle.write_text.specs.Standing.{Shaped};
 
 fn is_open(t: u8, x: u16) -> bool

@@ -1,6 +1,6 @@
 -- `any_order::place` and `any_order::attempt` call one another. The measure is what is left of the kinds, and of the first the terms that are left.
 use Prim.Native.Nat.{ℕ, _+_, _-_, _*_, _<_}
-use mathlib.Core.Path.{refl, ap, _∙_}
+use mathlib.Core.Path.{ap, _∙_}
 use native.Mathlib.Omega.{arith}
 use borrow.Author.Needs.{needs}
 use lib.ListN.{length, getD, length-set}

@@ -1,6 +1,4 @@
 -- `any_order::empty` meets its contract: a lemma for each way out.
-use native.Mathlib.Omega.{arith}
-use borrow.Author.Needs.{needs}
 use Rattle.any_order.proofs.Ranges.{open-some, closed-some, closed-none}
 use Rattle.any_order.proofs.empty.Statement.{statement}
 use Rattle.any_order.proofs.empty.Tie as tie

@@ -1,5 +1,4 @@
 -- `any_order::grows` meets its contract: a lemma for each way out.
-use native.Mathlib.Omega.{arith}
 use borrow.Author.Needs.{needs}
 use Rattle.any_order.proofs.Spans.{grows-later, grows-past, grows-here, grows-before}
 use Rattle.any_order.proofs.grows.Statement.{statement}

@@ -1,5 +1,4 @@
 -- `any_order::heading` meets its contract.
-use native.Mathlib.Omega.{arith}
 use borrow.Author.Needs.{needs}
 use Rattle.any_order.proofs.Noting.{headed, headed-none}
 use Rattle.any_order.proofs.heading.Statement.{statement}

@@ -1,5 +1,4 @@
 -- `any_order::meet` meets its contract: a lemma for each way out.
-use native.Mathlib.Omega.{arith}
 use borrow.Author.Needs.{needs}
 use Rattle.any_order.proofs.Ranges.{met-left-open, met-right-open, met-closed}
 use Rattle.any_order.proofs.meet.Statement.{statement}

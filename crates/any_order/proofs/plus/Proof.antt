@@ -1,5 +1,4 @@
 -- `any_order::plus` meets its contract: a lemma for each way out.
-use native.Mathlib.Omega.{arith}
 use borrow.Author.Needs.{needs}
 use Rattle.any_order.proofs.Ranges.{added-left-none, added-right-none, added}
 use Rattle.any_order.proofs.plus.Statement.{statement}

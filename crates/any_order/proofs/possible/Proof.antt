@@ -1,5 +1,4 @@
 -- `any_order::possible` meets its contract: whether 1 lies in the range.
-use native.Mathlib.Omega.{arith}
 use borrow.Author.Needs.{needs}
 use Rattle.any_order.proofs.Spans.{too-many, yes-endless, too-few, yes-one}
 use Rattle.any_order.proofs.possible.Statement.{statement}

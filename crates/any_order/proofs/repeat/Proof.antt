@@ -1,5 +1,4 @@
 -- `any_order::repeat` meets its contract: a lemma for each way out.
-use native.Mathlib.Omega.{arith}
 use borrow.Author.Needs.{needs}
 use Rattle.any_order.proofs.Ranges.{repeated-none, repeated}
 use Rattle.any_order.proofs.repeat.Statement.{statement}

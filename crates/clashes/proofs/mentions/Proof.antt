@@ -1,5 +1,5 @@
 -- `mentions`: one stands in the part exactly if one stands in what is left of it.
-use Prim.Native.Nat.{_-_, _≤_}
+use Prim.Native.Nat.{_-_}
 use native.Mathlib.Omega.{arith}
 use mathlib.Core.Path.{_≡_, refl, sym, _∙_}
 use lib.Seq.{slice}

@@ -1,5 +1,4 @@
 -- `day::answer_day` meets its contract: no room for the table, or what the loop leaves in a room that is begun.
-use mathlib.Core.Path.{sym, ap, _∙_}
 use native.Mathlib.Omega.{arith}
 use borrow.Author.Needs.{needs}
 use Rattle.day.proofs.Cuts.{table-inside}

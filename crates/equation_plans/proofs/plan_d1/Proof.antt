@@ -1,6 +1,6 @@
 -- The terms of the right side's children are counted.
 use borrow.Author.Needs.{needs}
-use mathlib.Core.Path.{ap, sym, subst, _∙_}
+use mathlib.Core.Path.{sym, subst, _∙_}
 use Rattle.plans.specs.declared.Within.{Within}
 use Rattle.plans.proofs.Planned.{by-parts}
 use Rattle.views.specs.Standing.{Stands}

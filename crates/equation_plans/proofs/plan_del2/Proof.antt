@@ -1,7 +1,6 @@
 -- By the parts within the sides, and the places of what they share.
 use borrow.Author.Needs.{needs}
 use mathlib.Core.Path.{ap, _∙_}
-use Rattle.plans.specs.declared.Within.{Within}
 use Rattle.plans.proofs.Planned.{by-parts}
 use Rattle.sharing.specs.Shared.{firstShared}
 use Rattle.equation_recipes.specs.Recipes.{struckOut}

@@ -1,6 +1,5 @@
 -- `expression_words::on_comma` meets its contract: the item behind it.
 use Rattle.expression_words.proofs.Laying.{comma-turned}
-use native.Mathlib.Omega.{arith}
 use borrow.Author.Needs.{needs}
 use Rattle.expression_words.proofs.on_comma.Statement.{statement}
 use Rattle.expression_words.proofs.on_comma.Tie as tie

@@ -1,7 +1,5 @@
 -- `expression_words::on_mark` meets its contract: character by character.
-use Rattle.lexing.specs.declared.Mark.the-variants.{Opens}
 use Rattle.expression_words.proofs.Rows.{end-marked, bad-marked, symbol-marked, one-marked, function-marked, equals-marked, star-marked, times-marked, comma-marked, plus-marked, as-opens, closes-marked}
-use native.Mathlib.Omega.{arith}
 use borrow.Author.Needs.{needs}
 use Rattle.expression_words.proofs.on_mark.Statement.{statement}
 use Rattle.expression_words.proofs.on_mark.Tie as tie

@@ -1,6 +1,5 @@
 -- `expression_words::on_opens` meets its contract: what stands in it, and what is owed before it.
 use Rattle.expression_words.proofs.Rows.{opens-marked}
-use native.Mathlib.Omega.{arith}
 use borrow.Author.Needs.{needs}
 use Rattle.expression_words.proofs.on_opens.Statement.{statement}
 use Rattle.expression_words.proofs.on_opens.Tie as tie

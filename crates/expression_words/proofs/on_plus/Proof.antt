@@ -1,6 +1,5 @@
 -- `expression_words::on_plus` meets its contract: the operand behind it.
 use Rattle.expression_words.proofs.Laying.{plus-turned}
-use native.Mathlib.Omega.{arith}
 use borrow.Author.Needs.{needs}
 use Rattle.expression_words.proofs.on_plus.Statement.{statement}
 use Rattle.expression_words.proofs.on_plus.Tie as tie

@@ -1,7 +1,5 @@
 -- `expression_words::out` meets its contract: nothing is owed before any bracket, before this one, or it is owed again.
-use mathlib.Core.Path.{refl}
 use Rattle.expression_words.proofs.Rows.{released-none, released-other, released-top}
-use native.Mathlib.Omega.{arith}
 use borrow.Author.Needs.{needs}
 use Rattle.expression_words.proofs.out.Statement.{statement}
 use Rattle.expression_words.proofs.out.Tie as tie

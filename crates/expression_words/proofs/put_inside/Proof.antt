@@ -1,6 +1,5 @@
 -- `expression_words::put_inside` meets its contract: eps, or items.
 use Rattle.expression_words.proofs.Laying.{inside-bare, inside-items, owed-bare, owed-items}
-use native.Mathlib.Omega.{arith}
 use borrow.Author.Needs.{needs}
 use Rattle.expression_words.proofs.put_inside.Statement.{statement}
 use Rattle.expression_words.proofs.put_inside.Tie as tie

@@ -1,6 +1,5 @@
 -- `expression_words::take_name` meets its contract: no byte, a name, another byte.
-use Rattle.expression_words.proofs.Steps.{none-taken, other-taken, within, name-space, name-taken}
-use native.Mathlib.Omega.{arith}
+use Rattle.expression_words.proofs.Steps.{none-taken, other-taken, name-space, name-taken}
 use borrow.Author.Needs.{needs}
 use Rattle.expression_words.proofs.take_name.Statement.{statement}
 use Rattle.expression_words.proofs.take_name.Tie as tie

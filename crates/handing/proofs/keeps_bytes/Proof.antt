@@ -1,6 +1,5 @@
 -- `handing::keeps_bytes` meets its contract.
 use mathlib.Core.Path.{_≡_, sym}
-use mathlib.Core.Bool.{false}
 use lib.Dec.{leb}
 use borrow.Author.Tests.{ne-eqb}
 use Prim.Native.Nat.{ℕ}

@@ -1,8 +1,7 @@
 -- `handing::put_trail` meets its contract, by the number.
-use Prim.Native.Nat.{_*_, _≤_}
 use mathlib.Core.Path.{sym, _∙_}
 use native.Mathlib.Omega.{arith}
-use lib.ListN.{length, length-take}
+use lib.ListN.{length-take}
 use lib.Seq.{length-take-le}
 use borrow.Author.Needs.{needs}
 use Rattle.handing.proofs.Handed.{trail-kept, trail-put, trail-cleared}

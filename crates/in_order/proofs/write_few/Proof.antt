@@ -1,7 +1,6 @@
 -- The loop's invariant: the m elements that are left are still to come, in their order of what is left of the number.
 use Prim.Native.Nat.{_/_, _%_, _-_, _≤_}
-use mathlib.Core.Path.{_≡_, ap, sym, _∙_}
-use mathlib.Core.List.{[]}
+use mathlib.Core.Path.{_≡_, ap, sym}
 use lib.ListN.{length}
 use native.Mathlib.Omega.{arith}
 use native.Mathlib.Nat.{mod-lt}

@@ -1,6 +1,5 @@
 -- `literal_number`: those passed are counted, and none is past the place.
 use Prim.Native.Nat.{_-_, _≤_}
-use mathlib.Core.Path.{_≡_}
 use native.Mathlib.Omega.{arith}
 use borrow.Author.Needs.{needs}
 use Rattle.language.specs.Trees.{Literal, Conj}

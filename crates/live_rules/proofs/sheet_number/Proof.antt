@@ -1,5 +1,5 @@
 -- `live_rules::sheet_number` meets its contract.
-use mathlib.Core.Path.{_≡_, sym, ap, _∙_}
+use mathlib.Core.Path.{sym, _∙_}
 use mathlib.Core.Bool.{true, false}
 use Rattle.live_rules.proofs.Reading.{sheet-odd, sheet-short, sheet-many, sheet-laid}
 use native.Mathlib.Omega.{arith}

@@ -1,7 +1,7 @@
 -- `member`'s functions that call one another. The measure is the words of the expression that are left; under an unordered symbol then the words of the hedge,
 -- and, where each symbol is tried alone, the words of the expression behind it.
 use Prim.Native.Nat.{ℕ, _+_, _-_, _*_, _<_}
-use mathlib.Core.Path.{_≡_, refl, _∙_}
+use mathlib.Core.Path.{_∙_}
 use native.Mathlib.Omega.{arith}
 use borrow.Author.Needs.{needs}
 use lib.ListN.{length, getD}

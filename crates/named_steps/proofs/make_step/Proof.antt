@@ -1,7 +1,6 @@
 -- `make_step`: the step that is named, and what taking it leaves.
 use mathlib.Core.Path.{refl, ap}
 use native.Mathlib.Omega.{arith}
-use lib.ListN.{length}
 use borrow.Author.Needs.{needs}
 use Rattle.language.specs.Limits.{desk}
 use Rattle.telling.specs.Telling.{tripleOf}

@@ -1,5 +1,5 @@
 -- `overlap::all_rows` meets its contract.
-use Prim.Native.Nat.{_≤_, _-_}
+use Prim.Native.Nat.{_-_}
 use Rattle.overlap.proofs.Tabling.{Tabling, tabling-starts, tabling-rule, tabling-behind, tabling-room, tabling-on, tabling-ends}
 use native.Mathlib.Omega.{arith}
 use borrow.Author.Needs.{needs}

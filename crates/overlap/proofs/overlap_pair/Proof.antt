@@ -1,5 +1,5 @@
 -- `overlap::overlap_pair` meets its contract.
-use Prim.Native.Nat.{ℕ, _/_}
+use Prim.Native.Nat.{_/_}
 use mathlib.Core.Path.{subst}
 use lib.ListN.{length}
 use Rattle.word_bytes.specs.Bytes.{wordsIn}

@@ -1,8 +1,5 @@
 -- `overlap::overlap_sheet` meets its contract.
-use Prim.Native.Nat.{ℕ, _≤_}
-use mathlib.Core.Path.{_≡_, sym, ap, subst, _∙_}
-use mathlib.Core.Bool.{true}
-use lib.ListN.{length}
+use mathlib.Core.Path.{sym, ap, _∙_}
 use Rattle.word_bytes.specs.Bytes.{wordsOf}
 use Rattle.live_rules.specs.Layout.{rulesLaid}
 use Rattle.live_rules.proofs.Reading.{is-sheet}

@@ -1,6 +1,4 @@
 -- `overlap::row` meets its contract: the report, and then what stands before it.
-use Prim.Native.Nat.{_≤_, _+_}
-use mathlib.Core.Path.{_≡_}
 use Rattle.word_bytes.specs.Bytes.{wordsOf}
 use Rattle.overlap.proofs.Tabling.{row-is}
 use native.Mathlib.Omega.{arith}

@@ -1,5 +1,5 @@
 -- `overlap::rows` meets its contract.
-use Prim.Native.Nat.{_≤_, _-_}
+use Prim.Native.Nat.{_-_}
 use Rattle.overlap.proofs.Tabling.{Rowing, rowing-starts, rowing-rule, rowing-room, rowing-on, rowing-ends}
 use native.Mathlib.Omega.{arith}
 use borrow.Author.Needs.{needs}

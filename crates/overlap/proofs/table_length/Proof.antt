@@ -1,5 +1,5 @@
 -- `overlap::table_length` meets its contract.
-use mathlib.Core.Path.{_≡_, ap, _∙_}
+use mathlib.Core.Path.{ap, _∙_}
 use Prim.Native.Nat.{_+_, _*_}
 use native.Mathlib.Nat.{mul-le-mul-right}
 use Rattle.overlap.proofs.Tabling.{table-times}

@@ -1,6 +1,5 @@
 -- `pairing::decide` meets its contract.
 use Rattle.pairing.proofs.Telling.{not-fair, fair-here, fair-so}
-use native.Mathlib.Omega.{arith}
 use borrow.Author.Needs.{needs}
 use Rattle.pairing.proofs.decide.Statement.{statement}
 use Rattle.pairing.proofs.decide.Tie as tie

@@ -1,8 +1,8 @@
 -- `pairing::meet` meets its contract: what was answered of the question decides.
-use Prim.Native.Nat.{ℕ, _≤_, _+_}
-use mathlib.Core.Path.{_≡_, refl, sym, _∙_}
+use Prim.Native.Nat.{ℕ}
+use mathlib.Core.Path.{refl, sym, _∙_}
 use mathlib.Core.List.{List}
-use lib.ListN.{length, replicate}
+use lib.ListN.{replicate}
 use Rattle.language.specs.Limits.{desk}
 use Rattle.word_bytes.specs.Bytes.{wordsIn}
 use Rattle.pairing.proofs.Telling.{pair-many, pair-long, asks-inside, asks-known}

@@ -1,5 +1,4 @@
 -- `pairing::report` meets its contract: the report fits, or 16.
-use Prim.Native.Nat.{_≤_, _+_}
 use Rattle.filling.specs.Showing.{filled}
 use Rattle.pairing.proofs.Reporting.{report-few, too-long, shown-here}
 use native.Mathlib.Omega.{arith}

@@ -1,11 +1,10 @@
 -- `pairing::settle` meets its contract: each return cites the law of what the answer holds.
-use Prim.Native.Nat.{ℕ, _≤_, _+_}
-use mathlib.Core.Path.{_≡_, refl, sym, _∙_}
+use Prim.Native.Nat.{ℕ}
+use mathlib.Core.Path.{refl, sym, _∙_}
 use mathlib.Core.List.{List}
 use lib.ListN.{replicate}
 use Rattle.language.specs.Limits.{desk}
 use Rattle.pairing.proofs.Telling.{settle-refused, settle-none, settle-open, settle-shown}
-use native.Mathlib.Omega.{arith}
 use borrow.Author.Needs.{needs}
 use Rattle.pairing.proofs.settle.Statement.{statement}
 use Rattle.pairing.proofs.settle.Tie as tie

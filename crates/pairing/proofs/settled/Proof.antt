@@ -1,8 +1,7 @@
 -- `pairing::settled` meets its contract.
-use mathlib.Core.Path.{_≡_, ap, _∙_}
+use mathlib.Core.Path.{ap, _∙_}
 use lib.Dec.{eqb}
 use lib.ListN.{getD}
-use native.Mathlib.Omega.{arith}
 use borrow.Author.Needs.{needs}
 use Rattle.pairing.proofs.settled.Statement.{statement}
 use Rattle.pairing.proofs.settled.Tie as tie

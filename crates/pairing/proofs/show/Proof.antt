@@ -1,6 +1,6 @@
 -- `pairing::show` meets its contract: the example is refused, or the report is made of it.
-use Prim.Native.Nat.{ℕ, _≤_, _+_}
-use mathlib.Core.Path.{_≡_, refl, sym, _∙_}
+use Prim.Native.Nat.{ℕ}
+use mathlib.Core.Path.{refl, sym, _∙_}
 use mathlib.Core.List.{List}
 use lib.ListN.{replicate}
 use Rattle.language.specs.Limits.{desk}

@@ -1,8 +1,7 @@
 -- `pairing::write_report` meets its contract: the values written, and then those still to come, are the report.
-use Prim.Native.Nat.{_≤_, _-_, _+_}
-use mathlib.Core.Path.{_≡_, refl, sym, _∙_}
+use Prim.Native.Nat.{_-_}
+use mathlib.Core.Path.{_≡_, refl, _∙_}
 use lib.ListN.{length}
-use Rattle.language.specs.Limits.{desk}
 use Rattle.pairing.proofs.Reporting.{one-shows, one-fits, Writing, writing-starts, writing-inside, writing-puts, writing-next, writing-on, writing-ends}
 use native.Mathlib.Omega.{arith}
 use borrow.Author.Needs.{needs}

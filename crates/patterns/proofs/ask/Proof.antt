@@ -1,10 +1,9 @@
 -- `patterns::ask` meets its contract: each return cites the law of its test.
 use Prim.Native.Nat.{_+_}
-use mathlib.Core.Path.{_≡_, refl, sym, ap, ap₂, _∙_}
+use mathlib.Core.Path.{sym, ap₂, _∙_}
 use lib.Dec.{ltb}
 use borrow.Author.Tests.{ltb-false}
 use Rattle.language.specs.Limits.{desk}
-use Rattle.word_bytes.specs.Bytes.{wordsOf}
 use Rattle.word_bytes.proofs.Pairs.{length-wordsOf}
 use Rattle.patterns.proofs.Pairing.{none-tabled, sums-fit, ask-many, ask-few, ask-long, ask-asks}
 use native.Mathlib.Omega.{arith}

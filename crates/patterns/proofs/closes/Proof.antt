@@ -1,6 +1,6 @@
 -- `patterns::closes` meets its contract. The invariant: what is left to scan is to answer.
 use Prim.Native.Nat.{_-_, _≤_}
-use mathlib.Core.Path.{_≡_, refl, sym, _∙_}
+use mathlib.Core.Path.{_≡_, refl, _∙_}
 use lib.ListN.{length, drop}
 use Rattle.word_bytes.specs.Bytes.{wordsOf}
 use Rattle.word_bytes.proofs.Pairs.{length-wordsOf}

@@ -1,6 +1,5 @@
 -- `patterns::even` meets its contract.
 use Rattle.patterns.proofs.Turns.{whole-even, whole-odd}
-use native.Mathlib.Omega.{arith}
 use borrow.Author.Needs.{needs}
 use Rattle.patterns.proofs.even.Statement.{statement}
 use Rattle.patterns.proofs.even.Tie as tie

@@ -1,6 +1,5 @@
 -- `patterns::note` meets its contract.
 use Rattle.patterns.proofs.Turns.{notes-new, notes-old}
-use native.Mathlib.Omega.{arith}
 use borrow.Author.Needs.{needs}
 use Rattle.patterns.proofs.note.Statement.{statement}
 use Rattle.patterns.proofs.note.Tie as tie

@@ -1,6 +1,6 @@
 -- `patterns::number_blanks` meets its contract. The invariant: the words passed are noted.
 use Prim.Native.Nat.{_≤_, _-_, _+_}
-use mathlib.Core.Path.{_≡_, sym, ap, _∙_}
+use mathlib.Core.Path.{sym, ap, _∙_}
 use lib.ListN.{length, take}
 use Rattle.language.specs.Limits.{desk}
 use Rattle.language.specs.Kinds.{kindOf}

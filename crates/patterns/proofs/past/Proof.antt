@@ -1,7 +1,5 @@
 -- `patterns::past` meets its contract.
 use Rattle.patterns.proofs.Turns.{past-first, past-second}
-use native.Mathlib.Omega.{arith}
-use borrow.Author.Needs.{needs}
 use Rattle.patterns.proofs.past.Statement.{statement}
 use Rattle.patterns.proofs.past.Tie as tie
 

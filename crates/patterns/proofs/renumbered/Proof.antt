@@ -1,6 +1,5 @@
 -- `patterns::renumbered` meets its contract: each arm cites the law of its kind.
 use Rattle.patterns.proofs.Turns.{entered-term, entered-run, entered-function, by-term, by-run, by-function, by-other}
-use native.Mathlib.Omega.{arith}
 use borrow.Author.Needs.{needs}
 use Rattle.patterns.proofs.renumbered.Statement.{statement}
 use Rattle.patterns.proofs.renumbered.Tie as tie

@@ -1,7 +1,6 @@
 -- `patterns::too_many` meets its contract.
 use mathlib.Core.Path.{ap₂, _∙_}
 use mathlib.Core.Bool.{Bool, _||_}
-use native.Mathlib.Omega.{arith}
 use borrow.Author.Needs.{needs}
 use Rattle.patterns.proofs.too_many.Statement.{statement}
 use Rattle.patterns.proofs.too_many.Tie as tie

@@ -1,13 +1,9 @@
 -- `patterns::write_pair` meets its contract: the pieces are the pair's question.
-use mathlib.Core.Path.{_≡_, refl, sym, ap, _∙_}
-use Prim.Native.Nat.{_+_}
-use mathlib.Core.List.{List}
-use lib.ListN.{length-set}
+use mathlib.Core.Path.{refl, sym, _∙_}
 use Rattle.word_bytes.specs.Bytes.{wordsOf}
 use Rattle.word_bytes.proofs.Pairs.{length-wordsOf}
 use Rattle.patterns.proofs.Pairing.{sums-fit, first-ready, second-ready, pair-written}
 use native.Mathlib.Omega.{arith}
-use borrow.Author.Needs.{needs}
 use Rattle.patterns.proofs.write_pair.Statement.{statement}
 use Rattle.patterns.proofs.write_pair.Tie as tie
 

@@ -1,6 +1,5 @@
 -- The test is the definition's.
 use borrow.Author.Tests.{eq-eqb, ne-eqb}
-use borrow.Author.Needs.{needs}
 use Rattle.renaming.proofs.rename_word.Statement.{statement}
 use Rattle.renaming.proofs.rename_word.Tie as tie
 

@@ -1,11 +1,8 @@
 -- The loop's invariant: the results from the i-th on are still to come, and none is too long.
-use Prim.Native.Nat.{_-_, _<_, _≤_}
-use mathlib.Core.Path.{ap, sym, subst}
-use lib.ListN.{length}
+use Prim.Native.Nat.{_-_}
+use mathlib.Core.Path.{ap, subst}
 use native.Mathlib.Omega.{arith}
-use Rattle.language.specs.Limits.{desk}
 use Rattle.frames.specs.Frames.{inFrames}
-use Rattle.orders.specs.Orders.{plenty}
 use Rattle.plans.specs.Sizes.{Short}
 use Rattle.slices.proofs.Still.{Still, still-all, still-none, still-fits, still-run}
 use Rattle.results.proofs.Results.{alike, alike-all, alike-none, alike-split, alike-short, alike-few}

@@ -1,6 +1,5 @@
 -- `text_host::desk_write_text` meets its contract: the words lent come to what the bytes come to.
 use Rattle.text_host.proofs.Written.{told-short, told-number, told-left}
-use native.Mathlib.Omega.{arith}
 use borrow.Author.Needs.{needs}
 use Rattle.text_host.proofs.desk_write_text.Statement.{statement}
 use Rattle.text_host.proofs.desk_write_text.Tie as tie

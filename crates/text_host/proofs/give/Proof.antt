@@ -1,8 +1,7 @@
 -- `text_host::give` meets its contract: by what was read.
-use Prim.Native.Nat.{ℕ, _≤_}
-use mathlib.Core.Path.{_≡_, refl, sym, ap, _∙_}
+use mathlib.Core.Path.{sym, ap, _∙_}
 use native.Mathlib.Omega.{arith}
-use lib.ListN.{length, take, length-take}
+use lib.ListN.{take, length-take}
 use lib.Seq.{sets, length-take-le}
 use borrow.Author.Needs.{needs}
 use Rattle.word_bytes.specs.Bytes.{bytesOf}

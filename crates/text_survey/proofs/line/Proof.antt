@@ -2,7 +2,6 @@
 use Prim.Native.Nat.{_-_}
 use lib.ListN.{length}
 use Rattle.text_survey.proofs.Scan.{Going, line-starts, line-less, line-on, line-ends}
-use native.Mathlib.Omega.{arith}
 use borrow.Author.Needs.{needs}
 use Rattle.text_survey.proofs.line.Statement.{statement}
 use Rattle.text_survey.proofs.line.Tie as tie

@@ -1,6 +1,5 @@
 -- `text_survey::one_more` meets its contract: one more, or none.
 use Rattle.text_survey.proofs.Scan.{one-yes, one-no}
-use native.Mathlib.Omega.{arith}
 use borrow.Author.Needs.{needs}
 use Rattle.text_survey.proofs.one_more.Statement.{statement}
 use Rattle.text_survey.proofs.one_more.Tie as tie

@@ -1,6 +1,5 @@
 -- `text_words::is_kept` meets its contract: not read, no place for an offset, and whether there was room.
 use Rattle.text_words.proofs.Keeping.{not-kept, no-offsets, all-kept}
-use borrow.Author.Needs.{needs}
 use Rattle.text_words.proofs.is_kept.Statement.{statement}
 use Rattle.text_words.proofs.is_kept.Tie as tie
 

@@ -1,7 +1,5 @@
 -- `text_words::take` meets its contract: no token, no conjunction, a conjunction.
-use mathlib.Core.Path.{refl}
 use Rattle.text_words.proofs.Lines.{took-blank, took-bad, took-line}
-use native.Mathlib.Omega.{arith}
 use borrow.Author.Needs.{needs}
 use Rattle.text_words.proofs.take.Statement.{statement}
 use Rattle.text_words.proofs.take.Tie as tie

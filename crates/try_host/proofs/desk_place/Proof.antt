@@ -1,6 +1,5 @@
 -- `try_host::desk_place` meets its contract: the words lent have the mistake that the bytes have.
 use mathlib.Core.Path.{_∙_}
-use native.Mathlib.Omega.{arith}
 use borrow.Author.Needs.{needs}
 use Rattle.try_host.proofs.Places.{no-mistake, its-place, place-short}
 use Rattle.try_host.proofs.desk_place.Statement.{statement}

@@ -1,5 +1,4 @@
 -- `walking::behind_functor` meets its contract: with brackets, and without.
-use native.Mathlib.Omega.{arith}
 use Rattle.walking.proofs.Wholes.{past-next, with-brackets, without-brackets}
 use borrow.Author.Needs.{needs}
 use Rattle.walking.proofs.behind_functor.Statement.{statement}

@@ -1,7 +1,6 @@
 -- `walking::depth_after` meets its contract: a bracket that opens, one that closes, and any other token.
 use native.Mathlib.Omega.{arith}
 use Rattle.walking.proofs.Elements.{behind-opens, behind-closes, behind-other}
-use borrow.Author.Needs.{needs}
 use Rattle.walking.proofs.depth_after.Statement.{statement}
 use Rattle.walking.proofs.depth_after.Tie as tie
 

@@ -1,6 +1,5 @@
 -- `walking::has_word` meets its contract: names, and a bracket that closes.
 use Rattle.walking.proofs.Tokens.{word-early, word-late}
-use borrow.Author.Needs.{needs}
 use Rattle.walking.proofs.has_word.Statement.{statement}
 use Rattle.walking.proofs.has_word.Tie as tie
 

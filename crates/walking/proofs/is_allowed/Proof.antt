@@ -1,7 +1,5 @@
 -- `walking::is_allowed` meets its contract: by the role.
-use native.Mathlib.Omega.{arith}
 use Rattle.walking.proofs.Tokens.{none-allowed, element-allowed, comma-allowed, opens-allowed, closes-allowed}
-use borrow.Author.Needs.{needs}
 use Rattle.walking.proofs.is_allowed.Statement.{statement}
 use Rattle.walking.proofs.is_allowed.Tie as tie
 

@@ -1,6 +1,5 @@
 -- `walking::is_last` meets its contract: a bracket that closes, and any other token.
 use Rattle.walking.proofs.Elements.{last-closes, last-other}
-use borrow.Author.Needs.{needs}
 use Rattle.walking.proofs.is_last.Statement.{statement}
 use Rattle.walking.proofs.is_last.Tie as tie
 

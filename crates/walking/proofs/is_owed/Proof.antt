@@ -1,6 +1,5 @@
 -- `walking::is_owed` meets its contract: behind a functor, and elsewhere.
 use Rattle.walking.proofs.Tokens.{owed-behind, owed-nowhere}
-use borrow.Author.Needs.{needs}
 use Rattle.walking.proofs.is_owed.Statement.{statement}
 use Rattle.walking.proofs.is_owed.Tie as tie
 

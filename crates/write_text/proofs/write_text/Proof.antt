@@ -1,7 +1,6 @@
 -- each way out.
 use Rattle.write_text.proofs.Verdicts.{fine-question, ends-refused, ends-unnumbered, ends-long, ends-written}
 use mathlib.Core.Path.{refl}
-use native.Mathlib.Omega.{arith}
 use borrow.Author.Needs.{needs}
 use Rattle.write_text.proofs.write_text.Statement.{statement}
 use Rattle.write_text.proofs.write_text.Tie as tie

@@ -1,8 +1,6 @@
 -- `text_words::conjunction::conjunction` meets its contract: a line that asks nothing, and literals.
-use mathlib.Core.Path.{refl}
 use Rattle.language.specs.Limits.{desk}
 use Rattle.text_words.proofs.Rows.{line-nothing, line-literals}
-use native.Mathlib.Omega.{arith}
 use borrow.Author.Needs.{needs}
 use Rattle.text_words.proofs.conjunction.conjunction.Statement.{statement}
 use Rattle.text_words.proofs.conjunction.conjunction.Tie as tie

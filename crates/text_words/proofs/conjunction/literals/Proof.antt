@@ -1,10 +1,8 @@
 -- `text_words::conjunction::literals` meets its contract: literal by literal.
 use Prim.Native.Nat.{_-_}
-use mathlib.Core.Path.{_∙_}
 use lib.ListN.{length}
 use Rattle.language.specs.Limits.{desk}
 use Rattle.text_words.proofs.Rows.{Going, literals-start, literals-bad, literals-end, literals-less, literals-on}
-use native.Mathlib.Omega.{arith}
 use borrow.Author.Needs.{needs}
 use Rattle.text_words.proofs.conjunction.literals.Statement.{statement}
 use Rattle.text_words.proofs.conjunction.literals.Tie as tie

@@ -1,6 +1,5 @@
 -- `text_words::conjunction::nothing` meets its contract: bracket by bracket.
 use Rattle.text_words.proofs.Pairs.{past, none-opens, none-closes, none-ends, is-nothing}
-use native.Mathlib.Omega.{arith}
 use borrow.Author.Needs.{needs}
 use Rattle.text_words.proofs.conjunction.nothing.Statement.{statement}
 use Rattle.text_words.proofs.conjunction.nothing.Tie as tie

@@ -1,8 +1,6 @@
 -- `text_words::literal::expression` meets its contract: no expression, one that does not end there, one too long, and one that is written.
-use mathlib.Core.Path.{refl}
 use Rattle.language.specs.Limits.{desk}
 use Rattle.text_words.proofs.Sides.{no-expression, not-ended, expression-full, writable, expression-written, part-long}
-use native.Mathlib.Omega.{arith}
 use borrow.Author.Needs.{needs}
 use Rattle.text_words.proofs.literal.expression.Statement.{statement}
 use Rattle.text_words.proofs.literal.expression.Tie as tie

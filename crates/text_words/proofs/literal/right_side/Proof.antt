@@ -1,7 +1,6 @@
 -- `text_words::literal::right_side` meets its contract: no side, and one with what stands behind it.
 use Rattle.language.specs.Limits.{desk}
 use Rattle.text_words.proofs.Sides.{no-right-side, right-side}
-use native.Mathlib.Omega.{arith}
 use borrow.Author.Needs.{needs}
 use Rattle.text_words.proofs.literal.right_side.Statement.{statement}
 use Rattle.text_words.proofs.literal.right_side.Tie as tie

@@ -1,6 +1,5 @@
 -- `write_text::bytes::first` meets its contract: by the tests.
-use borrow.Author.Needs.{needs}
-use borrow.Author.Tests.{eq-eqb, ne-eqb, lt-ltb, le-ltb}
+use borrow.Author.Tests.{eq-eqb, ne-eqb}
 use Rattle.write_text.proofs.bytes.first.Statement.{statement}
 use Rattle.write_text.proofs.bytes.first.Tie as tie
 

@@ -1,6 +1,5 @@
 -- A side, the sign, and a side or an expression.
 use Rattle.write_text.proofs.Lining.{tested-equation, tested-membership}
-use native.Mathlib.Omega.{arith}
 use borrow.Author.Needs.{needs}
 use Rattle.write_text.proofs.lines.put_literal.Statement.{statement}
 use Rattle.write_text.proofs.lines.put_literal.Tie as tie

@@ -1,6 +1,5 @@
 -- by the answer.
 use Rattle.write_text.proofs.Shaping.{braced, not-braced}
-use mathlib.Core.Path.{sym, ap, _∙_}
 use borrow.Author.Needs.{needs}
 use Rattle.write_text.proofs.shapes.brace.Statement.{statement}
 use Rattle.write_text.proofs.shapes.brace.Tie as tie

@@ -1,7 +1,5 @@
 -- by the tests.
 use Rattle.write_text.proofs.Shaping.{opens-under, opens-cat, opens-alt, opens-none}
-use native.Mathlib.Omega.{arith}
-use borrow.Author.Tests.{eq-eqb, ne-eqb}
 use Rattle.write_text.proofs.shapes.is_open.Statement.{statement}
 use Rattle.write_text.proofs.shapes.is_open.Tie as tie
 

@@ -1,7 +1,5 @@
 -- by the test.
 use Rattle.write_text.proofs.Shaping.{between-cat, between-alt}
-use borrow.Author.Tests.{eq-eqb, ne-eqb}
-use mathlib.Core.Path.{sym, ap}
 use borrow.Author.Needs.{needs}
 use Rattle.write_text.proofs.shapes.put_between.Statement.{statement}
 use Rattle.write_text.proofs.shapes.put_between.Tie as tie

@@ -1,6 +1,5 @@
 -- each return by the test of its place: the hedge is empty, or a variable comes first, or a functor, behind whose children the end is.
 use Rattle.write_text.proofs.Siding.{one-past, one-empty, one-variable, one-functor, one-broken}
-use native.Mathlib.Omega.{arith}
 use borrow.Author.Needs.{needs}
 use Rattle.write_text.proofs.sides.is_one.Statement.{statement}
 use Rattle.write_text.proofs.sides.is_one.Tie as tie
