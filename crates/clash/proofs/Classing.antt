@@ -12,13 +12,17 @@ use lib.Seq.{getD-set-same, getD-set-other}
 use Rattle.language.specs.Limits.{desk}
 use Rattle.language.specs.Trees.{Expr, eps, cat, alt, star, over}
 use Rattle.language.specs.Writing.{exprWords}
-use Rattle.expressions.specs.Standing.{Here}
+use Rattle.expressions.specs.Standing.{Here, Parted}
 use Rattle.expressions.proofs.Standing.{word-of}
 use Rattle.walk.specs.Spots.{Spot, here, inLeft, inRight, inFirst, inSecond, inStar, whole, innerAt, restAt}
 use Rattle.clash.specs.Marks.{placeOf}
 use Rattle.clash.specs.States.{Sought, nowhere, onTop, below, through, under, sought, Spotted, Means, itself, inside, after}
-use Rattle.clash.specs.Tails.{Compared, SameState}
-use Rattle.clash.specs.Classes.{StateTest, Liked, Classed, FirstState, Tabled, KeptTo}
+use Rattle.expressions.specs.declared.Part.{Part}
+use Rattle.clash.specs.declared.tails.Tail.{Tail}
+use Rattle.clash.specs.declared.tails.Laid.{Laid}
+use Rattle.clash.specs.declared.tails.Split.{Split}
+use Rattle.clash.specs.Tails.{Compared, Opened, SplitOf, TailOf, SameState}
+use Rattle.clash.specs.Classes.{StateTest, Liked, Classed, FirstState, Tabled, KeptTo, lastPart, countOf, Counted, Keyed, KeyedTo}
 use Rattle.clash.proofs.Places.{cat-left, cat-right, alt-left, alt-right, over-here, over-below, sought-right, Right}
 use Rattle.clash.proofs.Meanings.{Stands, in-cat, in-alt, in-star, in-over, spotted-place, spotted-stands}
 use Rattle.clash.proofs.Marking.{place-in}
@@ -223,3 +227,55 @@ kept-then l e d = record { long = d .long ∙ e .long; same = λ i h. d .same i 
 
 pub tabled-to : {k classes : List ℕ} {at s t : ℕ} → s ≡ t → Tabled k at s classes → Tabled k at t classes
 tabled-to {k} {classes} {at} e t = subst (λ s. Tabled k at s classes) e t
+
+-- ---- keys
+
+pub like-apart : {k : List ℕ} {at first s t x y : ℕ} → Keyed k at s x → Keyed k at t y → (x ≡ y → ⊥) → Liked k at first s t false
+like-apart a b n = record { yes = λ R w h e l m X o z. differ (sym z); not = λ R w h e X m _ o. n (a .each R w h X m ∙ sym (b .each R w h X o)) }
+
+pub counted : {k : List ℕ} {at r : ℕ} {p : Part} → Parted k at p → r ≡ (p .end - at) % 65536 → Counted k at r
+counted {at = at} p e =
+    record { each = λ X w h. e ∙ ap (λ n. n % 65536) (let d = p .each X w h .end in let z : _ ≡ length (exprWords X) = omega arith in z) }
+
+pub keys-none : {k keys : List ℕ} {at t : ℕ} → t ≡ 2 * at → KeyedTo k at t keys
+keys-none {at = at} e = record { below = λ s l. record { each = λ R w h X m. let x = state-from at R s X m in absurd (omega arith) } }
+
+keys-more : {k old new : List ℕ} {at s : ℕ} → KeyedTo k at s old → ((i : ℕ) → i < s → getD new i 0 ≡ getD old i 0) → Keyed k at s (getD new s 0) → KeyedTo k at (s + 1) new
+keys-more {k} {old} {new} {at} {s} t e f = record { below = λ i l. go i l (ℕ-discrete i s) }
+  where
+    go : (i : ℕ) → i < s + 1 → Dec (i ≡ s) → Keyed k at i (getD new i 0)
+    go i l (yes d) = subst (λ i. Keyed k at i (getD new i 0)) (sym d) f
+    go i l (no d) = subst (Keyed k at i) (sym (e i (omega arith))) (t .below i (omega arith))
+
+pub keys-state : {k keys : List ℕ} {at s x : ℕ} → s < length keys → Keyed k at s x → KeyedTo k at s keys → KeyedTo k at (s + 1) (set keys s x)
+keys-state {k} {keys} {at} {s} {x} l d t =
+    keys-more t (λ i h. getD-set-other keys s i x 0 (omega arith)) (subst (Keyed k at s) (sym (getD-set-same keys s x 0 l)) d)
+
+pub keys-skip : {k keys : List ℕ} {at first s : ℕ} → first ≡ 2 * at → StateTest k first s false → KeyedTo k at s keys → KeyedTo k at (s + 1) keys
+keys-skip {at = at} e d t = keys-more t (λ i h. refl) (record { each = λ R w h X m. differ (sym (d .only at R w e h X m)) })
+
+-- the key of a tail that was laid open
+other-part : (X : Expr) → ((A B : Expr) → X ≡ cat A B → ⊥) → lastPart X ≡ X
+other-part eps n = refl
+other-part (cat A B) n = absurd (n A B refl)
+other-part (alt A B) n = refl
+other-part (star A) n = refl
+other-part (over f A) n = refl
+
+module _ {k : List ℕ} {at s : ℕ} {t : Tail} {o : Laid} (a : TailOf k at s t) (b : Opened k t o) where
+  pub key-none : o .none ≡ true → Keyed k at s 1
+  key-none e = record { each = λ R w h X m. ap (λ X. countOf (lastPart X)) (sym (b .none X (a .each R w h X m) e)) }
+
+  module _ {c : Split} (d : SplitOf k t o c) {r : ℕ} where
+    pub key-cat : c .can ≡ true → Counted k (c .part) r → Keyed k at s r
+    key-cat e f =
+        record { each = λ R w h X m. let j = d .yes X (a .each R w h X m) e in f .each (j .second) (j .beyond) (j .stands) ∙ ap (λ X. countOf (lastPart X)) (sym (j .is)) }
+
+    pub key-other : o .none ≡ false → c .can ≡ false → Counted k (o .part) r → Keyed k at s r
+    key-other z e f =
+        record {
+          each = λ R w h X m.
+              let i = a .each R w h X m in
+              let (v, g) = b .one X i z (d .only e) in
+              f .each X v g ∙ ap countOf (sym (other-part X (d .not X i e)));
+        }

@@ -1,11 +1,11 @@
 -- The first of the states that mean the same expression stands for all of them.
-use Prim.Native.Nat.{ℕ, _+_, _*_, _<_, _≤_}
+use Prim.Native.Nat.{ℕ, _+_, _*_, _%_, _<_, _≤_}
 use mathlib.Core.Path.{_≡_}
 use mathlib.Core.Bool.{Bool, true, false}
 use mathlib.Core.List.{List}
 use lib.ListN.{length, getD}
 use Rattle.language.specs.Limits.{desk}
-use Rattle.language.specs.Trees.{Expr}
+use Rattle.language.specs.Trees.{Expr, eps, cat, alt, star, over}
 use Rattle.language.specs.Writing.{exprWords}
 use Rattle.expressions.specs.Standing.{Here}
 use Rattle.clash.specs.States.{Means}
@@ -43,3 +43,28 @@ pub record Tabled (k : List ℕ) (at to : ℕ) (classes : List ℕ) : Type 0 whe
 pub record KeptTo (to : ℕ) (old new : List ℕ) : Type 0 where
   pub long : length new ≡ length old
   pub same : (i : ℕ) → i < to → getD new i 0 ≡ getD old i 0
+
+-- ---- keys, by which most states are told apart
+
+-- the second part of a concatenation, or the whole
+abbrev pub lastPart : Expr → Expr
+lastPart eps = eps
+lastPart (cat A B) = B
+lastPart (alt A B) = alt A B
+lastPart (star A) = star A
+lastPart (over f A) = over f A
+
+-- how many words it has, as a word can hold it
+abbrev pub countOf : Expr → ℕ
+countOf X = length (exprWords X) % 65536
+
+pub record Counted (k : List ℕ) (at r : ℕ) : Type 0 where
+  pub each : (X : Expr) (w : List ℕ) → Here k at X w → r ≡ countOf X
+
+-- r is the key of what s means
+pub record Keyed (k : List ℕ) (at s r : ℕ) : Type 0 where
+  pub each : (R : Expr) (w : List ℕ) → Here k at R w → (X : Expr) → Means at R s X → r ≡ countOf (lastPart X)
+
+-- the table has the keys of the states below `to`
+pub record KeyedTo (k : List ℕ) (at to : ℕ) (keys : List ℕ) : Type 0 where
+  pub below : (s : ℕ) → s < to → Keyed k at s (getD keys s 0)

@@ -93,7 +93,7 @@ pub struct Laid {
     pub next: usize,
 }
 
-fn lay_open(k: &[u16], ends: &[usize], nulls: &[bool], t: Tail) -> Laid
+pub(crate) fn lay_open(k: &[u16], ends: &[usize], nulls: &[bool], t: Tail) -> Laid
     requires { ⌜ ChartedFrom 0 (now k) (now ends) (now nulls) ⌝ }
     ensures { λ r. ⌜ Opened (now (k .entry)) t r ⌝ }
 {
@@ -132,7 +132,7 @@ pub struct Split {
     pub part: usize,
 }
 
-fn take_apart(k: &[u16], ends: &[usize], nulls: &[bool], t: Tail, o: Laid) -> Split
+pub(crate) fn take_apart(k: &[u16], ends: &[usize], nulls: &[bool], t: Tail, o: Laid) -> Split
     requires { ⌜ ChartedFrom 0 (now k) (now ends) (now nulls) × Opened (now k) t o × (o .none ≡ false) ⌝ }
     ensures { λ r. ⌜ SplitOf (now (k .entry)) t o r ⌝ }
 {
@@ -211,7 +211,7 @@ fn same(k: &[u16], ends: &[usize], nulls: &[bool], s: Tail, t: Tail) -> bool
 }
 
 // A state of the expression at a place, as a tail.
-fn tail_of(k: &[u16], ends: &[usize], nulls: &[bool], at: usize, s: usize) -> Tail
+pub(crate) fn tail_of(k: &[u16], ends: &[usize], nulls: &[bool], at: usize, s: usize) -> Tail
     requires { ⌜ ChartedFrom 0 (now k) (now ends) (now nulls) ⌝ }
     ensures { λ t. ⌜ TailOf (now (k .entry)) at s t ⌝ }
 {

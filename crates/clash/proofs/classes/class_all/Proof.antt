@@ -1,20 +1,20 @@
--- The loop's invariant: the table has the classes below s.
+-- The loop's invariant: the table has the classes below s, and their keys are there.
 use native.Mathlib.Omega.{arith}
 use borrow.Author.Needs.{needs}
 use Rattle.clash.proofs.classes.class_all.Statement.{statement}
 use Rattle.clash.proofs.classes.class_all.Tie as tie
-use mathlib.Core.Path.{_≡_, refl, subst}
-use Prim.Native.Nat.{_+_, _*_, _-_, _≤_}
-use Rattle.clash.specs.Classes.{Tabled, KeptTo}
-use Rattle.clash.proofs.Classing.{tabled-start, kept-same, kept-then}
-use Rattle.clash.proofs.Classing.{tabled-to}
+use Prim.Native.Nat.{ℕ, _+_, _*_, _-_, _<_, _≤_}
+use mathlib.Core.Path.{_≡_, refl, sym, subst, ap, _∙_}
+use lib.ListN.{length, getD, length-replicate, length-set}
+use Rattle.clash.specs.Classes.{Tabled, KeptTo, KeyedTo, stateRoom}
+use Rattle.clash.proofs.Classing.{tabled-start, tabled-to, kept-same, kept-then, keys-none}
 
 abbrev Inv-loop : tie.InvT-loop
-Inv-loop k ends nulls at end classes₀ first last s₀ classes s =
-    (first ≤ s) × (s ≤ last + 1) × Tabled k at s classes × KeptTo (2 * at) classes₀ classes
+Inv-loop k ends nulls at end classes₀ first last keys₀ s₀ classes keys s =
+    (first ≤ s) × (s ≤ last + 1) × Tabled k at s classes × KeptTo (2 * at) classes₀ classes × KeyedTo k at s keys × (length keys ≡ stateRoom)
 
 abbrev μ-loop : tie.MeasureT-loop
-μ-loop k ends nulls at end classes₀ first last s₀ classes s = last + 1 - s
+μ-loop k ends nulls at end classes₀ first last keys₀ s₀ classes keys s = last + 1 - s
 
 mul-first : tie.Need-mul-first Inv-loop μ-loop
 mul-first c = search needs
@@ -24,11 +24,11 @@ mul-last c = search needs
 
 loop-holds : tie.Need-loop-holds Inv-loop μ-loop
 loop-holds c =
-    let p = c .before .before .before .pre .1 in (omega arith, omega arith, tabled-start refl, kept-same)
+    let p = c .before .before .before .pre .1 in (omega arith, omega arith, tabled-start refl, kept-same, keys-none refl, length-replicate {A = ℕ} stateRoom 0)
 
 class-at-requires : tie.Need-class-at-requires Inv-loop μ-loop
 class-at-requires c κs =
-    let e = c .before .before .loop .inv .3 .long in let p = c .before .before .before .before .before .before .pre .2 in let q = c .before .before .before .before .before .before .pre .3 in (c .before .before .before .before .before .before .pre .0, omega arith, refl, c .before .before .loop .inv .0, omega arith, omega arith)
+    let e = c .before .before .before .loop .inv .3 .long in let p = c .before .before .before .before .before .before .before .pre .2 in let q = c .before .before .before .before .before .before .before .pre .3 in ((c .before .before .before .before .before .before .before .pre .0, omega arith, refl, c .before .before .before .loop .inv .0, omega arith), (omega arith, c .before .before .before .loop .inv .5, c .before .before .before .loop .inv .4))
 
 add-s : tie.Need-add-s Inv-loop μ-loop
 add-s c = search needs
@@ -38,7 +38,7 @@ loop-less c = search needs
 
 loop-again : tie.Need-loop-again Inv-loop μ-loop
 loop-again c =
-    let e = c .class-at .ensures in let h = c .before .before .before .loop .inv .0 in (omega arith, omega arith, e .1 (c .before .before .before .loop .inv .2), kept-then h (c .before .before .before .loop .inv .3) (e .0))
+    let e = c .class-at .ensures in let h = c .before .before .before .before .loop .inv .0 in (omega arith, omega arith, e .1 (c .before .before .before .before .loop .inv .2), kept-then h (c .before .before .before .before .loop .inv .3) (e .0), e .2, e .3)
 
 returns : tie.Need-returns Inv-loop μ-loop
 returns c =

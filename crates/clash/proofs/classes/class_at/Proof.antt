@@ -1,14 +1,19 @@
--- Where it is a state, its class is written.
+-- Where it is a state, its class and its key are written.
 use native.Mathlib.Omega.{arith}
 use borrow.Author.Needs.{needs}
 use Rattle.clash.proofs.classes.class_at.Statement.{statement}
 use Rattle.clash.proofs.classes.class_at.Tie as tie
-use mathlib.Core.Path.{_≡_, subst}
+use Prim.Native.Nat.{ℕ, _+_, _*_, _-_, _<_, _≤_}
+use mathlib.Core.Path.{_≡_, refl, sym, subst, ap, _∙_}
+use lib.ListN.{length, getD, length-replicate, length-set}
 use Rattle.clash.specs.Classes.{StateTest}
-use Rattle.clash.proofs.Classing.{tabled-state, tabled-skip, kept-set, kept-same}
+use Rattle.clash.proofs.Classing.{tabled-state, tabled-skip, kept-set, kept-same, keys-state, keys-skip}
 
 is-state-requires : tie.Need-is-state-requires
 is-state-requires c κs = search needs
+
+key-of-requires : tie.Need-key-of-requires
+key-of-requires c κs = search needs
 
 class-of-requires : tie.Need-class-of-requires
 class-of-requires c κs = search needs
@@ -22,22 +27,31 @@ mul-classes c = search needs
 element-write-classes : tie.Need-element-write-classes
 element-write-classes c = search needs
 
+mul-keys : tie.Need-mul-keys
+mul-keys c = search needs
+
+element-write-keys : tie.Need-element-write-keys
+element-write-keys c = search needs
+
 returns : tie.Need-returns
 returns c =
-    (kept-set _ _ (omega arith) kept-same, λ t. let e = c .before .before .before .before .before .before .before .pre .5 in tabled-state (omega arith) (c .before .class-of .ensures) (c .narrow .ensures) t)
+    let e = c .before .before .before .before .before .before .before .before .before .pre .1 .0 in let d = c .before .before .before .before .before .before .before .before .before .pre .1 .1 in (kept-set _ _ (omega arith) kept-same, λ t. tabled-state (omega arith) (c .before .class-of .ensures) (c .narrow .ensures) t, keys-state (omega arith) (c .before .before .before .key-of .ensures) (c .before .before .before .before .before .before .before .before .before .pre .1 .2), length-set (c .before .before .before .before .before .before .before .before .before .args .keys .now) _ _ ∙ d)
 
 returns-2 : tie.Need-returns-2
 returns-2 c =
-    (kept-same, λ t. tabled-skip (c .before .before .before .before .before .pre .2) (subst (StateTest _ _ _) (c .if1 .left) (c .before .is-state .ensures)) t)
+    let z = subst (StateTest _ _ _) (c .if1 .left) (c .before .is-state .ensures) in (kept-same, λ t. tabled-skip (c .before .before .before .before .before .pre .0 .2) z t, keys-skip (c .before .before .before .before .before .pre .0 .2) z (c .before .before .before .before .before .pre .1 .2), c .before .before .before .before .before .pre .1 .1)
 
 pub class-at-spec : {M : Type 1} → statement M
 class-at-spec =
     tie.close
     (tie.spec
     is-state-requires
+    key-of-requires
     class-of-requires
     narrow-requires
     mul-classes
     element-write-classes
+    mul-keys
+    element-write-keys
     returns
     returns-2)
