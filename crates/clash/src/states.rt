@@ -1,4 +1,4 @@
-// States of an expression in its words, by the places of its symbols: what is inside a symbol, and what is left after it.
+// What can be read next in a state of an expression: in the expression at a place, or in what is left after a symbol.
 ghost use Prim.Native.Nat.{_≤_};
 ghost use lib.ListN.{length};
 ghost use Rattle.charts.specs.Charted.{ChartedFrom};
