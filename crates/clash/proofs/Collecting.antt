@@ -1,16 +1,15 @@
 -- Marked places listed in order, and the symbols that they are.
 use Prim.Native.Nat.{ℕ, zero, suc, _+_, _<_, _≤_}
 use mathlib.Core.Path.{_≡_, refl, sym, _∙_, ap, subst}
-use mathlib.Core.Logic.{_⊎_, inl, inr}
 use mathlib.Core.Bool.{Bool, true, false}
-use mathlib.Core.List.{List, [], _∷_, map, List·Memᴰ, List·Memᴰ·head, List·Memᴰ·tail}
+use mathlib.Core.List.{List}
 use native.Mathlib.Omega.{arith}
 use native.Mathlib.Decide.{ℕ-discrete}
 use lib.ListN.{length, getD, set, replicate, length-set}
 use Rattle.language.specs.Kinds.{pick}
 use lib.Seq.{getD-set-same, getD-set-other}
 use Rattle.clash.specs.Symbols.{Collected}
-use Rattle.clash.proofs.Peeling.{differ}
+use Rattle.state_classes.proofs.Peeling.{differ}
 
 pub collected-start : {marks : List Bool} {from : ℕ} {list : List ℕ} → Collected marks from from list 0
 collected-start = record { few = omega arith; each = λ i l. absurd (omega arith); sound = λ i l. absurd (omega arith); whole = λ p l h. absurd (omega arith) }

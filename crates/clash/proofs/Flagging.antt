@@ -20,7 +20,7 @@ use Rattle.clash.specs.Chains.{IsPair}
 use Rattle.clash.specs.Walking.{Stand, Stop}
 use Rattle.clash.specs.Sweeping.{Says, Marked, Leading, SomeWith, SomeOf, Flagged, TwinsFlagged, LeadsFrom, Sound, ClosedFrom, unmarked, Swelled, SweptAt, SweptTo, Settled}
 use Rattle.clash.proofs.Going.{stop-at, first-one, stop-inside, stop-after, names-one, words-one}
-use Rattle.clash.proofs.Peeling.{differ}
+use Rattle.state_classes.proofs.Peeling.{differ}
 
 -- ---- marked pairs of states are marked pairs of expressions
 

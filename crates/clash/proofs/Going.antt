@@ -1,8 +1,8 @@
 -- From a pair of states on: the pairs that the code lists are those that the walk goes on to.
 use Prim.Native.Nat.{ℕ, _+_, _*_, _<_, _≤_}
 use mathlib.Core.Path.{_≡_, refl, sym, _∙_, ap, subst}
-use mathlib.Core.Logic.{_⊎_, inl, inr}
-use mathlib.Core.Bool.{Bool, true, false, _&&_}
+use mathlib.Core.Logic.{inl, inr}
+use mathlib.Core.Bool.{Bool, false, _&&_}
 use mathlib.Core.List.{List, List·Memᴰ}
 use native.Mathlib.Omega.{arith}
 use native.Mathlib.Decide.{decLt, ℕ-discrete}
@@ -12,23 +12,22 @@ use Rattle.language.specs.Limits.{walkedPairs}
 use Rattle.language.specs.declared.Sym.{Sym}
 use Rattle.language.specs.Trees.{Expr}
 use Rattle.language.specs.Writing.{exprWords}
-use Rattle.rules.specs.Expressions.{nullable, Monomial, linear}
+use Rattle.rules.specs.Expressions.{nullable, Monomial}
 use Rattle.rules.specs.Walk.{Pair, onward}
 use Rattle.walk.specs.Reach.{Twins, Reach}
-use Rattle.walk.specs.Spots.{Spot, nameAt}
 use Rattle.walk.proofs.Onward.{On, of-onward, in-onward}
 use Rattle.walk.proofs.Reached.{reach-on}
 use Rattle.expressions.specs.Standing.{Here}
 use Rattle.clash.specs.declared.symbols.Symbols.{Symbols}
 use Rattle.clash.specs.declared.walking.Places.{Places}
 use Rattle.clash.specs.declared.walking.Step.{Step}
-use Rattle.clash.specs.States.{Means, inside, after}
-use Rattle.clash.specs.Classes.{FirstState, Tabled}
+use Rattle.state_classes.specs.States.{Means, inside, after}
+use Rattle.state_classes.specs.Classes.{FirstState, Tabled}
 use Rattle.clash.specs.Symbols.{Takes, Reads, Symboled}
-use Rattle.clash.specs.Chains.{Among, Kept, Grown, Just}
-use Rattle.clash.specs.Walking.{Twin, TwinWith, TwinOf, Stand, Stop, Lists, Walked, Went, Gone}
-use Rattle.clash.proofs.Meanings.{spot-word, spotted-place, spotted-stands}
-use Rattle.clash.proofs.Classing.{place-to}
+use Rattle.clash.specs.Chains.{Kept, Grown}
+use Rattle.clash.specs.Walking.{TwinOf, Stand, Stop, Lists, Walked, Went, Gone}
+use Rattle.state_classes.proofs.Meanings.{spot-word, spotted-place, spotted-stands}
+use Rattle.state_classes.proofs.Classing.{place-to}
 
 -- ---- a symbol that takes a monomial
 

@@ -1,14 +1,14 @@
 -- Whether symbols lead to marked pairs, by tests.
-use Prim.Native.Nat.{ℕ, _+_, _*_, _-_, _<_, _≤_}
+use Prim.Native.Nat.{ℕ, _+_, _*_, _-_, _<_}
 use mathlib.Core.Path.{_≡_, refl, sym, _∙_, ap, subst}
 use mathlib.Core.Bool.{Bool, true, false, _&&_}
 use mathlib.Core.List.{List}
 use native.Mathlib.Omega.{arith}
 use native.Mathlib.Decide.{decLt}
-use lib.ListN.{length, getD}
+use lib.ListN.{getD}
 use Rattle.clash.specs.Chains.{Chained, IsPair, Found, stops}
 use Rattle.clash.specs.Sweeping.{Says, Marked, Leading, SomeWith, SomeOf}
-use Rattle.clash.proofs.Peeling.{differ}
+use Rattle.state_classes.proofs.Peeling.{differ}
 
 pub says-no : {P : Type 0} → (P → ⊥) → Says P false
 says-no z = record { yes = λ e. differ (sym e); not = λ e p. z p }

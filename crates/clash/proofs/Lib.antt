@@ -1,15 +1,8 @@
-pub mod Charting
 pub mod Marking
 pub mod Beginning
 pub mod Resuming
-pub mod Places
-pub mod Levels
-pub mod Meanings
-pub mod Peeling
-pub mod Opening
-pub mod Comparing
+pub mod Following
 pub mod Chaining
-pub mod Classing
 pub mod Growing
 pub mod Collecting
 pub mod Leading

@@ -1,9 +1,9 @@
 -- The symbols that a state lists take just the monomials of what it means.
-use Prim.Native.Nat.{ℕ, _+_, _*_, _<_, _≤_}
+use Prim.Native.Nat.{ℕ, _+_, _<_, _≤_}
 use mathlib.Core.Path.{_≡_, refl, sym, _∙_, ap, subst}
 use mathlib.Core.Logic.{_⊎_, inl, inr}
 use mathlib.Core.Bool.{Bool, true, false}
-use mathlib.Core.List.{List, [], _∷_, map, List·Memᴰ, List·Memᴰ·head, List·Memᴰ·tail}
+use mathlib.Core.List.{List, [], _∷_, List·Memᴰ, List·Memᴰ·head, List·Memᴰ·tail}
 use native.Mathlib.Omega.{arith}
 use native.Mathlib.Decide.{ℕ-discrete}
 use lib.ListN.{length, getD, set, length-set}
@@ -12,15 +12,15 @@ use Rattle.language.specs.Limits.{desk}
 use Rattle.language.specs.Trees.{Expr}
 use Rattle.language.specs.Writing.{exprWords}
 use Rattle.rules.specs.Expressions.{Monomial, linear}
-use Rattle.expressions.specs.Standing.{Here}
 use Rattle.walk.specs.Spots.{Spot, monomial}
 use Rattle.walk.proofs.Members.{in-map, of-map}
-use Rattle.clash.specs.Marks.{placeOf, placesOf, marked}
-use Rattle.clash.specs.States.{Means, Spotted, FollowedBy, Followed}
+use Rattle.charts.specs.Levels.{placeOf}
+use Rattle.state_classes.specs.States.{Spotted}
+use Rattle.clash.specs.Marks.{placesOf, marked}
+use Rattle.clash.specs.Following.{FollowedBy, Followed}
 use Rattle.clash.specs.Symbols.{Collected, Takes, Reads, Symboled}
-use Rattle.clash.proofs.Marking.{marked-long}
-use Rattle.clash.proofs.Classing.{place-from, place-to}
-use Rattle.clash.proofs.Peeling.{differ}
+use Rattle.state_classes.proofs.Classing.{place-from, place-to}
+use Rattle.state_classes.proofs.Peeling.{differ}
 
 -- ---- which places are marked
 

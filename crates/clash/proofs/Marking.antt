@@ -1,15 +1,15 @@
--- Laws of marks: lists of places in a row, places of spots that go through a part, and where a spot can stand.
-use Prim.Native.Nat.{ℕ, _+_, _<_, _≤_}
-use mathlib.Core.Path.{_≡_, refl, sym, ap, _∙_}
-use mathlib.Core.Bool.{Bool, true, false, _&&_}
+-- Laws of marks: lists of places in a row, and places of spots that go through a part.
+use Prim.Native.Nat.{ℕ, _+_}
+use mathlib.Core.Path.{_≡_, refl, ap, _∙_}
+use mathlib.Core.Bool.{Bool, true, false}
 use mathlib.Core.List.{List, [], _∷_, _++_, map}
-use native.Mathlib.Omega.{arith}
-use lib.ListN.{length, set, length-append, length-set}
+use lib.ListN.{length, set, length-set}
 use Rattle.language.specs.Kinds.{pick}
 use Rattle.language.specs.Trees.{Expr}
 use Rattle.language.specs.Writing.{exprWords}
-use Rattle.walk.specs.Spots.{Spot, here, inLeft, inRight, inFirst, inSecond, inStar, whole}
-use Rattle.clash.specs.Marks.{placeOf, placesOf, marked}
+use Rattle.walk.specs.Spots.{Spot, inLeft, inRight, inFirst, inSecond, inStar}
+use Rattle.charts.specs.Levels.{placeOf}
+use Rattle.clash.specs.Marks.{placesOf, marked}
 
 pub marked-long : (ps : List ℕ) (f : List Bool) → length (marked ps f) ≡ length f
 marked-long [] f = refl
@@ -47,12 +47,3 @@ module _ (at : ℕ) (ps : List Spot) where
 
   pub places-star : placesOf at (map inStar ps) ≡ placesOf (at + 1) ps
   places-star = through at (at + 1) inStar (λ p. refl) ps
-
--- a spot stands within its expression
-pub place-in : (at : ℕ) (p : Spot) → (at ≤ placeOf at p) × (placeOf at p < at + length (exprWords (whole p)))
-place-in at (here f R) = (omega arith, omega arith)
-place-in at (inLeft p b) = let (x, y) = place-in (at + 1) p in let l = length-append (exprWords (whole p)) (exprWords b) in (omega arith, omega arith)
-place-in at (inRight a p) = let (x, y) = place-in (at + 1 + length (exprWords a)) p in let l = length-append (exprWords a) (exprWords (whole p)) in (omega arith, omega arith)
-place-in at (inFirst p b) = let (x, y) = place-in (at + 1) p in let l = length-append (exprWords (whole p)) (exprWords b) in (omega arith, omega arith)
-place-in at (inSecond a p) = let (x, y) = place-in (at + 1 + length (exprWords a)) p in let l = length-append (exprWords a) (exprWords (whole p)) in (omega arith, omega arith)
-place-in at (inStar p) = let (x, y) = place-in (at + 1) p in (omega arith, omega arith)

@@ -1,18 +1,17 @@
 -- What the symbols that can be read after one tell of the whole, by the parts of an expression.
 use Prim.Native.Nat.{ℕ, _+_, _<_, _≤_}
 use mathlib.Core.Path.{_≡_, refl, sym, ap, ap₂, subst, _∙_}
-use mathlib.Core.Logic.{_⊎_, inl, inr}
+use mathlib.Core.Logic.{inl, inr}
 use mathlib.Core.Bool.{Bool, true, false, _&&_}
-use mathlib.Core.List.{List, [], _∷_, _++_, map, append-nil}
+use mathlib.Core.List.{List, [], _++_, map, append-nil}
 use native.Mathlib.Omega.{arith}
 use lib.Dec.{T, eqb, leb}
 use lib.ListN.{length, getD}
-use borrow.Author.Tests.{eqb-true, eqb-false, leb-true, leb-false, eq-eqb, ne-eqb}
-use Rattle.language.specs.declared.Sym.{Sym}
+use borrow.Author.Tests.{eqb-true, eqb-false, leb-true, leb-false, ne-eqb}
 use Rattle.language.specs.Limits.{desk}
 use Rattle.language.specs.Fine.{fineExpr}
 use Rattle.language.specs.Kinds.{pick}
-use Rattle.language.specs.Trees.{Expr, eps, cat, alt, star, over}
+use Rattle.language.specs.Trees.{Expr, cat, star}
 use Rattle.language.specs.Writing.{exprWords}
 use Rattle.rules.specs.Looks.{isEps}
 use Rattle.rules.specs.Expressions.{nullable}
@@ -21,17 +20,11 @@ use Rattle.rules.proofs.Looks.{isEps-is}
 use Rattle.expressions.specs.declared.Part.{Part}
 use Rattle.expressions.specs.Standing.{Here, Parted}
 use Rattle.expressions.proofs.Standing.{second-of, cases, by-eps, by-cat, by-alt, by-star, by-over, past-end, is-alt}
-use Rattle.walk.specs.Spots.{Spot, here, inLeft, inRight, inFirst, inSecond, inStar, whole, behind, restAt, firsts, nexts}
-use Rattle.clash.specs.Marks.{placeOf, placesOf, marked, Begun, Resumed}
-use Rattle.clash.proofs.Marking.{marked-++, places-++, places-pick, places-left, places-right, places-first, places-second, places-star, place-in}
-
--- ---- the test of the second part
-
-pub later-star : (x mid p : ℕ) → x ≡ 7003 → false ≡ pick (eqb x 7003) false (leb mid p)
-later-star x mid p e = rw (eq-eqb x 7003 e) refl
-
-pub later-other : (x mid p : ℕ) → (x ≡ 7003 → ⊥) → leb mid p ≡ pick (eqb x 7003) false (leb mid p)
-later-other x mid p n = rw (ne-eqb x 7003 n) refl
+use Rattle.walk.specs.Spots.{Spot, here, inLeft, inRight, inStar, whole, behind, restAt, firsts, nexts}
+use Rattle.charts.specs.Levels.{placeOf}
+use Rattle.state_classes.proofs.Spots.{eps-spot, over-spot, star-spot, cat-spot, alt-spot, not-first, not-second}
+use Rattle.clash.specs.Marks.{placesOf, marked, Begun, Resumed}
+use Rattle.clash.proofs.Marking.{marked-++, places-++, places-pick, places-left, places-right, places-first, places-second, places-star}
 
 -- ---- an expression behind what is left
 
@@ -46,51 +39,6 @@ nullable-behind b C = go (isEps b) refl (isEps C) refl
     go true e u d = rw (isEps-is b (true-test (isEps b) e)) (right (nullable C))
     go false e true d = rw (isEps-is C (true-test (isEps C) d)) refl
     go false e false d = refl
-
--- ---- which spots an expression can have
-
-no : {A : Type 0} → _≡_ {A = ℕ} 0 1 → A
-no z = absurd (omega arith)
-
-pub eps-spot : {A : Type 0} (s : Spot) → whole s ≡ eps → A
-eps-spot (here f R) e = no cc
-eps-spot (inLeft p b) e = no cc
-eps-spot (inRight a p) e = no cc
-eps-spot (inFirst p b) e = no cc
-eps-spot (inSecond a p) e = no cc
-eps-spot (inStar p) e = no cc
-
-pub over-spot : (s : Spot) (f : Sym) (A : Expr) → whole s ≡ over f A → s ≡ here f A
-over-spot (here g R) f A e = cc
-over-spot (inLeft p b) f A e = no cc
-over-spot (inRight a p) f A e = no cc
-over-spot (inFirst p b) f A e = no cc
-over-spot (inSecond a p) f A e = no cc
-over-spot (inStar p) f A e = no cc
-
-pub star-spot : (s : Spot) (A : Expr) → whole s ≡ star A → (t : Spot) × (whole t ≡ A) × (s ≡ inStar t)
-star-spot (here g R) A e = no cc
-star-spot (inLeft p b) A e = no cc
-star-spot (inRight a p) A e = no cc
-star-spot (inFirst p b) A e = no cc
-star-spot (inSecond a p) A e = no cc
-star-spot (inStar p) A e = (p, cc, refl)
-
-pub cat-spot : (s : Spot) (A B : Expr) → whole s ≡ cat A B → ((t : Spot) × (whole t ≡ A) × (s ≡ inLeft t B)) ⊎ ((t : Spot) × (whole t ≡ B) × (s ≡ inRight A t))
-cat-spot (here g R) A B e = no cc
-cat-spot (inLeft p b) A B e = inl (p, cc, cc)
-cat-spot (inRight a p) A B e = inr (p, cc, cc)
-cat-spot (inFirst p b) A B e = no cc
-cat-spot (inSecond a p) A B e = no cc
-cat-spot (inStar p) A B e = no cc
-
-pub alt-spot : (s : Spot) (A B : Expr) → whole s ≡ alt A B → ((t : Spot) × (whole t ≡ A) × (s ≡ inFirst t B)) ⊎ ((t : Spot) × (whole t ≡ B) × (s ≡ inSecond A t))
-alt-spot (here g R) A B e = no cc
-alt-spot (inLeft p b) A B e = no cc
-alt-spot (inRight a p) A B e = no cc
-alt-spot (inFirst p b) A B e = inl (p, cc, cc)
-alt-spot (inSecond a p) A B e = inr (p, cc, cc)
-alt-spot (inStar p) A B e = no cc
 
 -- ---- the marks
 
@@ -154,20 +102,6 @@ module _ (k : List ℕ) (at p : ℕ) (old new : List Bool) {q : Part} (a : Parte
   length-of : (t : Spot) {A : Expr} → whole t ≡ A → length (exprWords (whole t)) ≡ length (exprWords A)
   length-of t e = ap (λ X. length (exprWords X)) e
 
-  -- a spot of the first part stands before the second, and one of the second does not
-  pub not-first : {X : Type 0} {A : Expr} {w : List ℕ} → Here k (at + 1) A w → (t : Spot) → whole t ≡ A → placeOf (at + 1) t ≡ p → q .end ≤ p → X
-  not-first {A = A} h t e x l =
-      let y = a .each A _ h .end in
-      let z = place-in (at + 1) t .1 in
-      let n = length-of t e in
-      absurd (omega arith)
-
-  pub not-second : {X : Type 0} {A : Expr} {w : List ℕ} → Here k (at + 1) A w → (t : Spot) → placeOf (at + 1 + length (exprWords A)) t ≡ p → p < q .end → X
-  not-second {A = A} h t x l =
-      let y = a .each A _ h .end in
-      let z = place-in (at + 1 + length (exprWords A)) t .0 in
-      absurd (omega arith)
-
   second-told : {r : Bool} {A : Expr} (B : Expr) (w : List ℕ) → Resumed k (q .end) p old new r → Here k (at + 1) A (exprWords B ++ w) → fineExpr desk B → (t : Spot) → whole t ≡ B
       → placeOf (at + 1 + length (exprWords A)) t ≡ p → (new ≡ marked (placesOf (at + 1 + length (exprWords A)) (nexts t)) old) × (r ≡ nullable (restAt t))
   second-told {A = A} B w d h o t f x =
@@ -189,12 +123,12 @@ module _ (k : List ℕ) (at p : ℕ) (old new : List Bool) {q : Part} (a : Parte
         go : (c : Bool) → eqb (getD k at 0) 7001 ≡ c → (R : Expr) (w : List ℕ) → Here k at R w → Of at p old new r R w
         go true e R w h =
             by-cat (Of at p old new r) (eqb-true (getD k at 0) 7001 e) (λ A B w h o s c. elim (cat-spot s A B c) [
-              | inl (t, f, g) ↦ subst (Told at p old new r) (sym g) (λ x. not-first h t f x (two .1))
+              | inl (t, f, g) ↦ subst (Told at p old new r) (sym g) (λ x. not-first k at p a h t f x (two .1))
               | inr (t, f, g) ↦ subst (Told at p old new r) (sym g) (λ x. let (m, n) = second-told B w d h o t f x in (m ∙ ap (λ l. marked l old) (sym (places-right at (nexts t) A)), n))
             ]) R w h
         go false e R w h =
             by-alt (Of at p old new r) (is-alt h n0 (eqb-false (getD k at 0) 7001 e) (two .0) lo) (λ A B w h o s c. elim (alt-spot s A B c) [
-              | inl (t, f, g) ↦ subst (Told at p old new r) (sym g) (λ x. not-first h t f x (two .1))
+              | inl (t, f, g) ↦ subst (Told at p old new r) (sym g) (λ x. not-first k at p a h t f x (two .1))
               | inr (t, f, g) ↦ subst (Told at p old new r) (sym g) (λ x. let (m, n) = second-told B w d h o t f x in (m ∙ ap (λ l. marked l old) (sym (places-second at (nexts t) A)), n))
             ]) R w h
 
@@ -206,7 +140,7 @@ module _ (k : List ℕ) (at p : ℕ) (old new : List Bool) {q : Part} (a : Parte
       resumed-alt {r} z d =
           by-each (d .long) (by-alt (Of at p old new r) z (λ A B w h o s c. elim (alt-spot s A B c) [
             | inl (t, f, g) ↦ subst (Told at p old new r) (sym g) (λ x. let (m, n) = of-part d h t f x in (m ∙ ap (λ l. marked l old) (sym (places-first at (nexts t) B)), n))
-            | inr (t, f, g) ↦ subst (Told at p old new r) (sym g) (λ x. not-second h t x (before (λ y. omega arith)))
+            | inr (t, f, g) ↦ subst (Told at p old new r) (sym g) (λ x. not-second k at p a h t x (before (λ y. omega arith)))
           ]))
 
       pub resumed-cat : {middle : List Bool} {b : Part} → (getD k at 0 ≡ 7002 → ⊥) → (getD k at 0 ≡ 7003 → ⊥) → Resumed k (at + 1) p old middle true
@@ -224,7 +158,7 @@ module _ (k : List ℕ) (at p : ℕ) (old new : List Bool) {q : Part} (a : Parte
                       (g .each B w v ∙ ap (λ j. marked (placesOf j (firsts B)) middle) l) (places-on at t B true (sym n)),
                   u .each B w v .null ∙ sym (nullable-behind B (restAt t) ∙ ap (λ z. z && nullable B) (sym n)),
                 ))
-            | inr (t, f, y) ↦ subst (Told at p old new (b .null)) (sym y) (λ x. not-second h t x (before n3))
+            | inr (t, f, y) ↦ subst (Told at p old new (b .null)) (sym y) (λ x. not-second k at p a h t x (before n3))
           ]
 
       -- where more has to be read, nothing behind it is met
@@ -243,7 +177,7 @@ module _ (k : List ℕ) (at p : ℕ) (old new : List Bool) {q : Part} (a : Parte
                 | inl (t, f, y) ↦ subst (Told at p old new false) (sym y) (λ x.
                     let (m, n) = of-part d h t f x in
                     (alone old (placesOf (at + 1) (nexts t)) (placesOf at (nexts (inLeft t B))) m (places-on at t B false (sym n)), sym (nullable-behind B (restAt t) ∙ ap (λ z. z && nullable B) (sym n))))
-                | inr (t, f, y) ↦ subst (Told at p old new false) (sym y) (λ x. not-second h t x (before (eqb-false (getD k at 0) 7003 e)))
+                | inr (t, f, y) ↦ subst (Told at p old new false) (sym y) (λ x. not-second k at p a h t x (before (eqb-false (getD k at 0) 7003 e)))
               ]) R w h
 
 pub resumed-star : {k : List ℕ} {at p : ℕ} {old middle new : List Bool} → getD k at 0 ≡ 7003 → Resumed k (at + 1) p old middle true → Begun k (at + 1) middle new

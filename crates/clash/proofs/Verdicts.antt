@@ -1,43 +1,42 @@
 -- The verdict of a walk that is whole.
 use Prim.Native.Nat.{ℕ, zero, suc, _+_, _*_, _<_, _≤_}
 use mathlib.Core.Path.{_≡_, refl, sym, _∙_, ap, subst}
-use mathlib.Core.Logic.{_⊎_, inl, inr, _↔_}
+use mathlib.Core.Logic.{inl, inr, _↔_}
 use mathlib.Core.Bool.{Bool, true, false, _&&_}
 use mathlib.Core.List.{List, [], _∷_, List·Memᴰ, List·Memᴰ·head, List·Memᴰ·tail}
 use native.Mathlib.Omega.{arith}
 use native.Mathlib.Decide.{decLt, decLe, ℕ-discrete}
 use borrow.Author.Tests.{le-ltb}
-use lib.Dec.{T, ltb}
+use lib.Dec.{T}
 use lib.ListN.{length, getD, set, replicate, length-replicate}
 use lib.Seq.{getD-set-same}
 use Rattle.language.specs.Limits.{walkedPairs}
 use Rattle.language.specs.Kinds.{pick}
 use Rattle.language.specs.Trees.{Expr}
-use Rattle.rules.specs.Expressions.{nullable, Monomial}
+use Rattle.rules.specs.Expressions.{nullable}
 use Rattle.rules.specs.Walk.{Pair, onward, longWalk, commonHedge, commonTerm}
 use Rattle.rules.proofs.Tests.{test-true, and-parts, and-both, true-test}
-use Rattle.walk.specs.Reach.{Twins, Reach, start, Once, Shares, empty, SharesTerm}
+use Rattle.walk.specs.Reach.{Reach, start, Once, Shares, empty, SharesTerm}
 use Rattle.walk.proofs.Onward.{in-onward}
 use Rattle.walk.proofs.Listed.{Listed, Whole, too-long, long-by-number, Marked, all-marked}
 use Rattle.walk.proofs.Sharing.{hedge-exact, term-exact}
 use Rattle.walk.specs.Spots.{Spot, innerAt, restAt}
 use Rattle.clash.specs.declared.walking.Places.{Places}
-use Rattle.clash.specs.declared.Verdict.{Verdict}
 use Rattle.clash.specs.declared.Verdict.the-variants.{Clashes, Long}
 use Rattle.clash.specs.declared.Verdict.the-variants as verdict
-use Rattle.clash.specs.States.{Sought, onTop, below, sought, Spotted, Means, itself, inside, after}
-use Rattle.clash.specs.Classes.{FirstState, Tabled, KeptTo}
+use Rattle.state_classes.specs.States.{Spotted, Means, itself, inside, after}
+use Rattle.state_classes.specs.Classes.{FirstState, Tabled, KeptTo}
 use Rattle.expressions.specs.declared.Part.{Part}
 use Rattle.expressions.specs.Standing.{Here, Parted}
 use Rattle.expressions.proofs.Standing.{past-end}
 use Rattle.language.specs.Writing.{exprWords}
-use Rattle.clash.specs.Chains.{Chained, IsPair, Found, stops}
+use Rattle.clash.specs.Chains.{Chained, Found, stops}
 use Rattle.clash.specs.Walking.{Stand, Stop, Lists, Walked, Gone}
-use Rattle.clash.specs.Sweeping.{Says, Flagged, TwinsFlagged, LeadsFrom, Settled, FirstShares}
+use Rattle.clash.specs.Sweeping.{Says, Flagged, TwinsFlagged, Settled, FirstShares}
 use Rattle.clash.specs.Judging.{verdictOf}
-use Rattle.clash.proofs.Classing.{place-from, state-from}
+use Rattle.state_classes.proofs.Classing.{place-from, state-from}
 use Rattle.clash.proofs.Going.{stop-at, first-one}
-use Rattle.clash.proofs.Peeling.{differ}
+use Rattle.state_classes.proofs.Peeling.{differ}
 
 -- ---- a state means one expression
 

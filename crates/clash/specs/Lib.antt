@@ -1,9 +1,6 @@
-pub mod Charted
 pub mod Marks
-pub mod States
-pub mod Tails
+pub mod Following
 pub mod Chains
-pub mod Classes
 pub mod Symbols
 pub mod Walking
 pub mod Sweeping

@@ -1,23 +1,14 @@
--- The places of spots in the words of their expression, and marks on them.
-use Prim.Native.Nat.{ℕ, _+_}
+-- Marks on the places of spots.
+use Prim.Native.Nat.{ℕ}
 use mathlib.Core.Path.{_≡_}
 use mathlib.Core.Bool.{Bool, true}
 use mathlib.Core.List.{List, [], _∷_, map}
 use lib.ListN.{length, set}
 use Rattle.language.specs.Trees.{Expr}
-use Rattle.language.specs.Writing.{exprWords}
 use Rattle.rules.specs.Expressions.{nullable}
-use Rattle.walk.specs.Spots.{Spot, here, inLeft, inRight, inFirst, inSecond, inStar, whole, restAt, firsts, nexts}
+use Rattle.walk.specs.Spots.{Spot, whole, restAt, firsts, nexts}
 use Rattle.expressions.specs.Standing.{Here}
-
--- where the symbol of a spot stands, if its expression stands at `at`
-abbrev pub placeOf : ℕ → Spot → ℕ
-placeOf at (here f R) = at
-placeOf at (inLeft p b) = placeOf (at + 1) p
-placeOf at (inRight a p) = placeOf (at + 1 + length (exprWords a)) p
-placeOf at (inFirst p b) = placeOf (at + 1) p
-placeOf at (inSecond a p) = placeOf (at + 1 + length (exprWords a)) p
-placeOf at (inStar p) = placeOf (at + 1) p
+use Rattle.charts.specs.Levels.{placeOf}
 
 abbrev pub placesOf : ℕ → List Spot → List ℕ
 placesOf at ps = map (placeOf at) ps

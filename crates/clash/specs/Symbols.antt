@@ -1,5 +1,5 @@
 -- The symbols that can be read next in a state, listed by their places.
-use Prim.Native.Nat.{ℕ, _+_, _*_, _<_, _≤_}
+use Prim.Native.Nat.{ℕ, _+_, _<_, _≤_}
 use mathlib.Core.Path.{_≡_}
 use mathlib.Core.Bool.{Bool, true, false}
 use mathlib.Core.List.{List, List·Memᴰ}
@@ -11,7 +11,7 @@ use Rattle.rules.specs.Expressions.{nullable, Monomial, linear}
 use Rattle.expressions.specs.Standing.{Here}
 use Rattle.walk.specs.Spots.{Spot, monomial}
 use Rattle.clash.specs.declared.symbols.Symbols.{Symbols}
-use Rattle.clash.specs.States.{Means, Spotted}
+use Rattle.state_classes.specs.States.{Means, Spotted}
 
 -- the first n of the list are places before `to`
 pub record Listed (to : ℕ) (list : List ℕ) (n : ℕ) : Type 0 where

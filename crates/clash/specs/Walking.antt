@@ -2,7 +2,7 @@
 use Prim.Native.Nat.{ℕ, _+_, _*_, _<_, _≤_}
 use mathlib.Core.Path.{_≡_}
 use mathlib.Core.Logic.{_⊎_}
-use mathlib.Core.Bool.{Bool, true, false, _&&_}
+use mathlib.Core.Bool.{Bool, false, _&&_}
 use mathlib.Core.List.{List, List·Memᴰ}
 use lib.ListN.{length, getD}
 use Rattle.language.specs.Limits.{desk, walkedPairs}
@@ -14,8 +14,7 @@ use Rattle.walk.specs.Reach.{Reach}
 use Rattle.expressions.specs.Standing.{Here}
 use Rattle.clash.specs.declared.walking.Places.{Places}
 use Rattle.clash.specs.declared.walking.Step.{Step}
-use Rattle.clash.specs.States.{Means}
-use Rattle.clash.specs.Classes.{FirstState, Tabled}
+use Rattle.state_classes.specs.Classes.{FirstState, Tabled}
 use Rattle.clash.specs.Chains.{Kept, Just}
 
 -- ---- where two symbols lead to

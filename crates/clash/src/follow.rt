@@ -3,11 +3,12 @@ ghost use Prim.Native.Nat.{_+_, _≤_, _<_};
 ghost use mathlib.Core.Path.{_≡_};
 ghost use lib.ListN.{length, set};
 ghost use mathlib.Core.Bool.{true, false};
-ghost use lib.Dec.{eqb, leb};
+ghost use lib.Dec.{eqb};
 ghost use Rattle.language.specs.Kinds.{pick};
-ghost use Rattle.clash.specs.Charted.{ChartedFrom};
+ghost use Rattle.charts.specs.Charted.{ChartedFrom};
 ghost use Rattle.clash.specs.Marks.{Begun, Resumed};
-use crate::chart::part_at;
+use charts::later;
+use charts::part_at;
 
 // One mark.
 fn mark(marks: &mut [bool], at: usize)
@@ -50,13 +51,6 @@ pub(crate) fn begin(k: &[u16], ends: &[usize], nulls: &[bool], at: usize, marks:
         return;
     }
     begin(k, ends, nulls, mid, marks);
-}
-
-// Whether the symbol at p stands in the second part of a concatenation or a choice.
-pub(crate) fn later(x: u16, mid: usize, p: usize) -> bool
-    ensures { λ r. ⌜ r ≡ pick (eqb x 7003) false (leb mid p) ⌝ }
-{
-    if x == 7003 { false } else { mid <= p }
 }
 
 // Marks the symbols of the expression at a place that can be read after the one at p. Whether nothing more need be read.

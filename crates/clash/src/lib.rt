@@ -1,30 +1,23 @@
 // Two shape tests of one variable, walked together in their words.
-mod chart;
-mod classes;
 mod follow;
 mod pairs;
 mod states;
 mod sweeps;
 mod symbols;
-mod tails;
 mod walking;
 
-ghost use Prim.Native.Nat.{ℕ, _+_, _≤_, _<_};
+ghost use Prim.Native.Nat.{ℕ, _≤_, _<_};
 ghost use mathlib.Core.Path.{_≡_};
 ghost use mathlib.Core.List.{List};
 ghost use lib.ListN.{length};
 ghost use Rattle.language.specs.Limits.{desk};
 ghost use Rattle.language.specs.Trees.{Expr};
 ghost use Rattle.expressions.specs.Standing.{Here};
-ghost use Rattle.clash.specs.Charted.{ChartedFrom};
+ghost use Rattle.charts.specs.Charted.{ChartedFrom};
 ghost use Rattle.clash.specs.Chains.{Chained};
 ghost use Rattle.clash.specs.Walking.{Bounds, Stand};
 ghost use Rattle.clash.specs.Sweeping.{FirstShares};
 ghost use Rattle.clash.specs.Judging.{verdictOf, Two};
-use crate::chart::chart;
-use crate::chart::part_at;
-use crate::classes::STATES;
-use crate::classes::class_all;
 use crate::pairs::CHAINS;
 use crate::pairs::STOPS;
 use crate::pairs::add;
@@ -33,8 +26,12 @@ use crate::sweeps::leads_from;
 use crate::sweeps::settle;
 use crate::walking::Places;
 use crate::walking::walk_on;
+use charts::chart;
+use charts::part_at;
 use language::limits::PAIRS;
 use language::limits::QUESTION;
+use state_classes::STATES;
+use state_classes::class_all;
 
 // Of two tests of one variable: something lies in both, nothing does, or the walk is too long to tell.
 pub enum Verdict {

@@ -1,43 +1,12 @@
-// States of an expression in its words, by the places of its symbols: what is inside a symbol, and what is left after it.
-ghost use Prim.Native.Nat.{_+_, _≤_, _<_};
+// What can be read next in a state of an expression: in the expression at a place, or in what is left after a symbol.
+ghost use Prim.Native.Nat.{_≤_};
 ghost use lib.ListN.{length};
-ghost use Rattle.clash.specs.Charted.{ChartedFrom};
-ghost use Rattle.clash.specs.States.{Lowered, Leveled, Followed};
-use crate::chart::part_at;
+ghost use Rattle.charts.specs.Charted.{ChartedFrom};
+ghost use Rattle.clash.specs.Following.{Followed};
 use crate::follow::begin;
-use crate::follow::later;
 use crate::follow::resume;
-
-// From a place towards a symbol further on: the part of a star, a concatenation or a choice in which it stands.
-fn lower(k: &[u16], ends: &[usize], nulls: &[bool], x: usize, j: usize) -> usize
-    requires { ⌜ ChartedFrom 0 (now k) (now ends) (now nulls) × (x < length (now k)) ⌝ }
-    ensures { λ y. ⌜ Lowered (now (k .entry)) x j y ⌝ }
-{
-    let a = part_at(k, ends, nulls, x + 1);
-    let mid = a.end;
-    if later(k[x], mid, j) { mid } else { x + 1 }
-}
-
-// Where the expression stands that the symbol at j is a symbol of, in the expression at a place.
-pub(crate) fn level_of(k: &[u16], ends: &[usize], nulls: &[bool], at: usize, j: usize) -> usize
-    requires { ⌜ ChartedFrom 0 (now k) (now ends) (now nulls) ⌝ }
-    ensures { λ l. ⌜ Leveled (now (k .entry)) at j l ⌝ }
-{
-    let mut x = at;
-    let mut l = at;
-    while x < j {
-        if k.len() <= x {
-            return l;
-        }
-        if k[x] < 7000 {
-            l = x + 1;
-            x += 1;
-        } else {
-            x = lower(k, ends, nulls, x, j);
-        }
-    }
-    l
-}
+use charts::level_of;
+use charts::part_at;
 
 // Marks the symbols that can be read next in a state of the expression at a place. Whether nothing need be read.
 pub(crate) fn follow(

@@ -1,14 +1,13 @@
 // Which of the pairs of a walk have a hedge in both: those with the empty hedge, and those from which a symbol leads to two pairs that have one.
-ghost use Prim.Native.Nat.{ℕ, _+_, _*_, _≤_, _<_};
+ghost use Prim.Native.Nat.{_+_, _*_, _≤_, _<_};
 ghost use mathlib.Core.Path.{_≡_};
 ghost use lib.ListN.{length};
-ghost use Rattle.language.specs.Limits.{desk, walkedPairs};
-ghost use Rattle.clash.specs.Charted.{ChartedFrom};
+ghost use Rattle.language.specs.Limits.{desk};
+ghost use Rattle.charts.specs.Charted.{ChartedFrom};
 ghost use Rattle.clash.specs.Chains.{Chained, stops};
 ghost use Rattle.clash.specs.Symbols.{Listed};
 ghost use Rattle.clash.specs.Walking.{Bounds};
 ghost use Rattle.clash.specs.Sweeping.{Known, Leads, LeadsWith, LeadsOf, LeadsFrom, SweptAt, Swept, Settled};
-use crate::classes::STATES;
 use crate::pairs::CHAINS;
 use crate::pairs::STOPS;
 use crate::pairs::find;
@@ -18,6 +17,7 @@ use bools::and;
 use bools::or;
 use language::limits::QUESTION;
 use language::wide;
+use state_classes::STATES;
 
 // Whether a pair is one of the first n, and is marked.
 fn known(

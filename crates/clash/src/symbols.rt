@@ -4,7 +4,7 @@ ghost use mathlib.Core.Path.{_≡_};
 ghost use lib.ListN.{length, set};
 ghost use Rattle.language.specs.Kinds.{pick};
 ghost use Rattle.language.specs.Limits.{desk};
-ghost use Rattle.clash.specs.Charted.{ChartedFrom};
+ghost use Rattle.charts.specs.Charted.{ChartedFrom};
 ghost use Rattle.clash.specs.Symbols.{Collected, Symboled};
 use crate::pairs::narrow;
 use crate::states::follow;

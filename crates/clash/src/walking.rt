@@ -1,13 +1,12 @@
 // The walk from two expressions: from each pair of states that it has met on to the pairs that symbols lead to which can be read next in both.
-ghost use Prim.Native.Nat.{ℕ, _+_, _*_, _≤_, _<_};
+ghost use Prim.Native.Nat.{_+_, _*_, _≤_, _<_};
 ghost use mathlib.Core.Path.{_≡_};
-ghost use lib.ListN.{length, getD};
-ghost use Rattle.language.specs.Limits.{desk, walkedPairs};
-ghost use Rattle.clash.specs.Charted.{ChartedFrom};
+ghost use lib.ListN.{length};
+ghost use Rattle.language.specs.Limits.{desk};
+ghost use Rattle.charts.specs.Charted.{ChartedFrom};
 ghost use Rattle.clash.specs.Chains.{Chained, Grown, stops};
 ghost use Rattle.clash.specs.Symbols.{Listed};
 ghost use Rattle.clash.specs.Walking.{Twin, TwinWith, TwinOf, Bounds, Went, Gone};
-use crate::classes::STATES;
 use crate::pairs::CHAINS;
 use crate::pairs::STOPS;
 use crate::pairs::meet;
@@ -16,6 +15,7 @@ use bools::and;
 use language::limits::PAIRS;
 use language::limits::QUESTION;
 use language::wide;
+use state_classes::STATES;
 
 // The two pairs that the symbols at p and q lead to, where these are one symbol.
 fn meet_twin(

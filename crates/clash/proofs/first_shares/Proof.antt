@@ -8,7 +8,7 @@ use mathlib.Core.Path.{_≡_, refl, sym, subst, ap, _∙_}
 use mathlib.Core.Bool.{Bool, true, false}
 use lib.ListN.{length, getD, length-replicate, length-set}
 use Rattle.language.specs.Limits.{desk}
-use Rattle.clash.proofs.Peeling.{differ}
+use Rattle.state_classes.proofs.Peeling.{differ}
 
 leads-from-requires : tie.Need-leads-from-requires
 leads-from-requires c κs = search needs

@@ -8,8 +8,8 @@ use mathlib.Core.Path.{_≡_, refl, sym, subst, ap, _∙_}
 use mathlib.Core.Bool.{Bool, true, false}
 use lib.ListN.{length, getD, length-replicate, length-set}
 use Rattle.language.specs.Limits.{desk}
-use Rattle.clash.specs.Classes.{stateRoom}
-use Rattle.clash.proofs.Charting.{chart-from}
+use Rattle.state_classes.specs.Classes.{stateRoom}
+use Rattle.charts.proofs.Charting.{chart-from}
 use Rattle.clash.proofs.Verdicts.{part-bounds, tabled-kept}
 
 slice-aggregate-chart : tie.Need-slice-aggregate-chart
@@ -30,7 +30,7 @@ slice-aggregate-part-at-2 c = search needs
 
 part-at-requires : tie.Need-part-at-requires
 part-at-requires c κs =
-    chart-from (omega arith) (c .before .before .before .before .chart .ensures)
+    chart-from (omega arith) (c .before .before .before .before .chart .ensures .here)
 
 slice-aggregate-part-at-3 : tie.Need-slice-aggregate-part-at-3
 slice-aggregate-part-at-3 c = search needs
@@ -40,7 +40,7 @@ slice-aggregate-part-at-4 c = search needs
 
 part-at-requires-2 : tie.Need-part-at-requires-2
 part-at-requires-2 c κs =
-    chart-from (omega arith) (c .before .before .before .before .before .before .before .chart .ensures)
+    chart-from (omega arith) (c .before .before .before .before .before .before .before .chart .ensures .here)
 
 slice-aggregate-class-all : tie.Need-slice-aggregate-class-all
 slice-aggregate-class-all c = search needs
@@ -50,7 +50,7 @@ slice-aggregate-class-all-2 c = search needs
 
 class-all-requires : tie.Need-class-all-requires
 class-all-requires c κs =
-    let t = c .before .before .before .before .before .before .before .before .before .before .before .before .before .before .before .pre .1 in let (ae, al) = part-bounds (t .one) (c .before .before .before .before .before .before .part-at .ensures) in let (be, bl) = part-bounds (t .two) (c .before .before .before .part-at2 .ensures) in let q = t .apart in let s = c .before .before .before .before .before .before .before .before .before .before .before .before .before .before .before .pre .0 in (c .before .before .before .before .before .before .before .before .before .before .before .chart .ensures, omega arith, omega arith, length-replicate {A = ℕ} stateRoom 0)
+    let t = c .before .before .before .before .before .before .before .before .before .before .before .before .before .before .before .pre .1 in let (ae, al) = part-bounds (t .one) (c .before .before .before .before .before .before .part-at .ensures) in let (be, bl) = part-bounds (t .two) (c .before .before .before .part-at2 .ensures) in let q = t .apart in let s = c .before .before .before .before .before .before .before .before .before .before .before .before .before .before .before .pre .0 in (c .before .before .before .before .before .before .before .before .before .before .before .chart .ensures .here, omega arith, omega arith, length-replicate {A = ℕ} stateRoom 0, record { expression = t .first; beyond = t .beyond; here = t .one; to = ae })
 
 slice-aggregate-class-all-3 : tie.Need-slice-aggregate-class-all-3
 slice-aggregate-class-all-3 c = search needs
@@ -60,7 +60,7 @@ slice-aggregate-class-all-4 c = search needs
 
 class-all-requires-2 : tie.Need-class-all-requires-2
 class-all-requires-2 c κs =
-    let t = c .before .before .before .before .before .before .before .before .before .before .before .before .before .before .before .before .before .before .before .pre .1 in let (ae, al) = part-bounds (t .one) (c .before .before .before .before .before .before .before .before .before .before .part-at .ensures) in let (be, bl) = part-bounds (t .two) (c .before .before .before .before .before .before .before .part-at2 .ensures) in let q = t .apart in let s = c .before .before .before .before .before .before .before .before .before .before .before .before .before .before .before .before .before .before .before .pre .0 in (c .before .before .before .before .before .before .before .before .before .before .before .before .before .before .before .chart .ensures, omega arith, omega arith, c .before .before .before .class-all .ensures .1 .long ∙ length-replicate {A = ℕ} stateRoom 0)
+    let t = c .before .before .before .before .before .before .before .before .before .before .before .before .before .before .before .before .before .before .before .pre .1 in let (ae, al) = part-bounds (t .one) (c .before .before .before .before .before .before .before .before .before .before .part-at .ensures) in let (be, bl) = part-bounds (t .two) (c .before .before .before .before .before .before .before .part-at2 .ensures) in let q = t .apart in let s = c .before .before .before .before .before .before .before .before .before .before .before .before .before .before .before .before .before .before .before .pre .0 in (c .before .before .before .before .before .before .before .before .before .before .before .before .before .before .before .chart .ensures .here, omega arith, omega arith, c .before .before .before .class-all .ensures .1 .long ∙ length-replicate {A = ℕ} stateRoom 0, record { expression = t .second; beyond = t .further; here = t .two; to = be })
 
 slice-aggregate-judge-classed : tie.Need-slice-aggregate-judge-classed
 slice-aggregate-judge-classed c = search needs
@@ -70,7 +70,7 @@ slice-aggregate-judge-classed-2 c = search needs
 
 judge-classed-requires : tie.Need-judge-classed-requires
 judge-classed-requires c κs =
-    let t = c .before .before .before .before .before .before .before .before .before .before .before .before .before .before .before .before .before .before .before .before .before .before .before .pre .1 in let (ae, al) = part-bounds (t .one) (c .before .before .before .before .before .before .before .before .before .before .before .before .before .before .part-at .ensures) in let (be, bl) = part-bounds (t .two) (c .before .before .before .before .before .before .before .before .before .before .before .part-at2 .ensures) in let q = t .apart in let s = c .before .before .before .before .before .before .before .before .before .before .before .before .before .before .before .before .before .before .before .before .before .before .before .pre .0 in (c .before .before .before .before .before .before .before .before .before .before .before .before .before .before .before .before .before .before .before .chart .ensures, record { one = omega arith; apart = omega arith; two = omega arith; within = bl; few = s })
+    let t = c .before .before .before .before .before .before .before .before .before .before .before .before .before .before .before .before .before .before .before .before .before .before .before .pre .1 in let (ae, al) = part-bounds (t .one) (c .before .before .before .before .before .before .before .before .before .before .before .before .before .before .part-at .ensures) in let (be, bl) = part-bounds (t .two) (c .before .before .before .before .before .before .before .before .before .before .before .part-at2 .ensures) in let q = t .apart in let s = c .before .before .before .before .before .before .before .before .before .before .before .before .before .before .before .before .before .before .before .before .before .before .before .pre .0 in (c .before .before .before .before .before .before .before .before .before .before .before .before .before .before .before .before .before .before .before .chart .ensures .here, record { one = omega arith; apart = omega arith; two = omega arith; within = bl; few = s })
 
 returns : tie.Need-returns
 returns c =

@@ -6,12 +6,12 @@ use mathlib.Core.Path.{sym, _∙_}
 use lib.ListN.{length}
 use borrow.Fn.Kinds.{In}
 use borrow.Fn.PlainCycle.{Measures, is, falls, and}
-use Rattle.clash.proofs.Charting.{chart-from}
+use Rattle.charts.proofs.Charting.{chart-from}
 use Rattle.clash.proofs.Beginning.{begun-end, begun-eps, begun-over, begun-star, begun-shut, begun-both}
 use Rattle.clash.proofs.follow.begin.Reads as f
 use Rattle.clash.proofs.follow.begin.Kinds as kinds
 use Rattle.clash.proofs.follow.+begin.Lts-begin as lts
-use Rattle.clash.proofs.chart.part_at.Reads as part-at-reads
+use Rattle.charts.proofs.part_at.Reads as part-at-reads
 use Rattle.clash.proofs.follow.mark.Reads as mark-reads
 use Rattle.clash.proofs.follow.shut.Reads as shut-reads
 use Rattle.clash.proofs.follow.+begin.{statement}

@@ -7,14 +7,14 @@ use lib.ListN.{length}
 use borrow.Fn.Kinds.{In}
 use borrow.Fn.PlainCycle.{Measures, is, falls, and}
 use Rattle.clash.specs.Marks.{Resumed}
-use Rattle.clash.proofs.Charting.{chart-from}
+use Rattle.charts.proofs.Charting.{chart-from}
 use Rattle.clash.proofs.Resuming.{resumed-end, resumed-eps, resumed-over, resumed-second, resumed-alt, resumed-star, resumed-cat, resumed-no}
 use Rattle.clash.proofs.follow.resume.Reads as f
 use Rattle.clash.proofs.follow.resume.Kinds as kinds
 use Rattle.clash.proofs.follow.+resume.Lts-resume as lts
-use Rattle.clash.proofs.chart.part_at.Reads as part-at-reads
+use Rattle.charts.proofs.part_at.Reads as part-at-reads
 use Rattle.clash.proofs.follow.begin.Reads as begin-reads
-use Rattle.clash.proofs.follow.later.Reads as later-reads
+use Rattle.charts.proofs.later.Reads as later-reads
 use Rattle.clash.proofs.follow.+resume.{statement}
 use Rattle.clash.proofs.follow.+resume.Tie.{close}
 

@@ -2,8 +2,8 @@
 use borrow.Author.Needs.{needs}
 use native.Mathlib.Omega.{arith}
 use mathlib.Core.Path.{refl}
-use Rattle.clash.proofs.Charting.{chart-from}
-use Rattle.clash.proofs.Meanings.{followed-even, followed-odd}
+use Rattle.charts.proofs.Charting.{chart-from}
+use Rattle.clash.proofs.Following.{followed-even, followed-odd}
 use Rattle.clash.proofs.states.follow.Statement.{statement}
 use Rattle.clash.proofs.states.follow.Tie as tie
 

@@ -1,0 +1,4 @@
+pub mod Charting
+pub mod Places
+pub mod Levels
+pub mod Determined
