@@ -17,7 +17,7 @@ use Rattle.expressions.specs.declared.Part.{Part}
 use Rattle.expressions.specs.Passing.{partAt}
 use Rattle.expressions.specs.Standing.{Here, Parted}
 use Rattle.expressions.proofs.Standing.{second-of, cases, by-over, past-end, word-of}
-use Rattle.walk.specs.Spots.{Spot, here, inLeft, inRight, inFirst, inSecond, inStar, whole}
+use Rattle.walk.specs.Spots.{Spot, here, inLeft, inRight, inFirst, inSecond, inStar}
 use Rattle.charts.specs.Levels.{Sought, nowhere, onTop, below, through, under, sought, lowerAt, levelFrom, levelOf, Lowered, Leveled}
 use Rattle.charts.proofs.Places.{place-in, Right, sought-right, cat-left, cat-right, alt-left, alt-right, over-here, over-below}
 

@@ -2,21 +2,20 @@
 use Prim.Native.Nat.{ℕ, _+_, _<_, _≤_}
 use mathlib.Core.Path.{_≡_, refl, sym, ap, ap₂, subst, _∙_}
 use mathlib.Core.Bool.{Bool, true, false}
-use mathlib.Core.List.{List, [], _∷_, _++_, map, append-nil}
-use native.Mathlib.Omega.{arith}
+use mathlib.Core.List.{List, [], _++_, map, append-nil}
 use lib.Dec.{T, eqb}
 use lib.ListN.{length, getD, set, length-set}
 use borrow.Author.Tests.{eqb-true, eqb-false}
 use Rattle.language.specs.Kinds.{pick}
 use Rattle.language.specs.Limits.{desk}
 use Rattle.language.specs.Fine.{fineExpr}
-use Rattle.language.specs.Trees.{Expr, eps, cat, alt, star, over}
+use Rattle.language.specs.Trees.{Expr, cat}
 use Rattle.language.specs.Writing.{exprWords}
 use Rattle.rules.specs.Expressions.{nullable}
 use Rattle.expressions.specs.declared.Part.{Part}
 use Rattle.expressions.specs.Standing.{Here, Parted}
 use Rattle.expressions.proofs.Standing.{second-of, by-eps, by-cat, by-alt, by-star, by-over, past-end, is-alt}
-use Rattle.walk.specs.Spots.{inLeft, inRight, inFirst, inSecond, inStar, firsts}
+use Rattle.walk.specs.Spots.{inLeft, inRight, inFirst, inSecond, firsts}
 use Rattle.clash.specs.Marks.{placesOf, marked, Begun}
 use Rattle.clash.proofs.Marking.{marked-++, places-++, places-left, places-right, places-first, places-second, places-star}
 

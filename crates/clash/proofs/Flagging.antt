@@ -1,24 +1,21 @@
 -- Marks on the pairs of a walk: what leads to marked pairs, and sweep after sweep.
-use Prim.Native.Nat.{ℕ, zero, suc, _+_, _*_, _<_, _≤_}
+use Prim.Native.Nat.{ℕ, zero, suc, _+_, _<_, _≤_}
 use mathlib.Core.Path.{_≡_, refl, sym, _∙_, ap, subst}
-use mathlib.Core.Logic.{_⊎_, inl, inr}
 use mathlib.Core.Bool.{Bool, true, false, _||_}
 use mathlib.Core.List.{List, [], _∷_}
 use native.Mathlib.Omega.{arith}
-use native.Mathlib.Decide.{decLt, ℕ-discrete}
+use native.Mathlib.Decide.{ℕ-discrete}
 use lib.ListN.{length, getD, set, length-set}
 use lib.Seq.{getD-set-same, getD-set-other}
 use Rattle.language.specs.Kinds.{pick}
 use Rattle.language.specs.Trees.{Expr}
-use Rattle.rules.specs.Expressions.{Monomial}
 use Rattle.rules.specs.Walk.{Pair}
-use Rattle.walk.specs.Reach.{Twins, Shares, more}
+use Rattle.walk.specs.Reach.{Shares, more}
 use Rattle.clash.specs.declared.symbols.Symbols.{Symbols}
 use Rattle.clash.specs.declared.walking.Places.{Places}
-use Rattle.clash.specs.Symbols.{Takes, Reads, Symboled}
-use Rattle.clash.specs.Chains.{IsPair}
+use Rattle.clash.specs.Symbols.{Reads, Symboled}
 use Rattle.clash.specs.Walking.{Stand, Stop}
-use Rattle.clash.specs.Sweeping.{Says, Marked, Leading, SomeWith, SomeOf, Flagged, TwinsFlagged, LeadsFrom, Sound, ClosedFrom, unmarked, Swelled, SweptAt, SweptTo, Settled}
+use Rattle.clash.specs.Sweeping.{Says, Marked, SomeOf, Flagged, TwinsFlagged, LeadsFrom, Sound, ClosedFrom, unmarked, Swelled, SweptAt, SweptTo, Settled}
 use Rattle.clash.proofs.Going.{stop-at, first-one, stop-inside, stop-after, names-one, words-one}
 use Rattle.state_classes.proofs.Peeling.{differ}
 

@@ -1,14 +1,14 @@
 -- Pairs listed one behind the other: laws for one pair, and for lists that grow one after the other.
-use Prim.Native.Nat.{ℕ, zero, suc, _+_, _*_, _-_, _<_, _≤_}
+use Prim.Native.Nat.{ℕ, _+_, _*_, _-_, _<_, _≤_}
 use mathlib.Core.Path.{_≡_, refl, sym, _∙_, ap, subst}
 use mathlib.Core.Logic.{_⊎_, inl, inr}
 use mathlib.Core.List.{List}
 use native.Mathlib.Omega.{arith}
 use native.Mathlib.Decide.{decLt, ℕ-discrete}
-use lib.ListN.{length, getD, set}
+use lib.ListN.{getD, set}
 use lib.Seq.{getD-set-same, getD-set-other}
 use Rattle.language.specs.Limits.{walkedPairs}
-use Rattle.clash.specs.Chains.{Chained, IsPair, Found, Kept, Grown, Just, Met}
+use Rattle.clash.specs.Chains.{Chained, Found, Kept, Grown, Met}
 use Rattle.clash.specs.Walking.{Twin, TwinWith, TwinOf}
 
 same-kept : {left right : List ℕ} {n : ℕ} → Kept left right n left right

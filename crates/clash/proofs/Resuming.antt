@@ -20,7 +20,7 @@ use Rattle.rules.proofs.Looks.{isEps-is}
 use Rattle.expressions.specs.declared.Part.{Part}
 use Rattle.expressions.specs.Standing.{Here, Parted}
 use Rattle.expressions.proofs.Standing.{second-of, cases, by-eps, by-cat, by-alt, by-star, by-over, past-end, is-alt}
-use Rattle.walk.specs.Spots.{Spot, here, inLeft, inRight, inStar, whole, behind, restAt, firsts, nexts}
+use Rattle.walk.specs.Spots.{Spot, inLeft, inRight, inStar, whole, behind, restAt, firsts, nexts}
 use Rattle.charts.specs.Levels.{placeOf}
 use Rattle.state_classes.proofs.Spots.{eps-spot, over-spot, star-spot, cat-spot, alt-spot, not-first, not-second}
 use Rattle.clash.specs.Marks.{placesOf, marked, Begun, Resumed}

@@ -17,7 +17,7 @@ use Rattle.rules.specs.Looks.{isEps}
 use Rattle.expressions.specs.declared.Part.{Part}
 use Rattle.expressions.specs.Standing.{Here, Parted}
 use Rattle.expressions.proofs.Standing.{second-of, cases, by-star, by-over, past-end}
-use Rattle.walk.specs.Spots.{Spot, here, whole, behind, restAt}
+use Rattle.walk.specs.Spots.{Spot, whole, behind, restAt}
 use Rattle.state_classes.specs.declared.tails.Cut.{Cut}
 use Rattle.charts.specs.Levels.{placeOf}
 use Rattle.state_classes.specs.Tails.{Left, Parts, Peeled}

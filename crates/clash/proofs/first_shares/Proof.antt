@@ -1,13 +1,9 @@
 -- By the kind of the variable.
-use native.Mathlib.Omega.{arith}
 use borrow.Author.Needs.{needs}
 use Rattle.clash.proofs.first_shares.Statement.{statement}
 use Rattle.clash.proofs.first_shares.Tie as tie
-use Prim.Native.Nat.{ℕ, _+_, _-_, _<_, _≤_}
-use mathlib.Core.Path.{_≡_, refl, sym, subst, ap, _∙_}
-use mathlib.Core.Bool.{Bool, true, false}
-use lib.ListN.{length, getD, length-replicate, length-set}
-use Rattle.language.specs.Limits.{desk}
+use Prim.Native.Nat.{_-_}
+use mathlib.Core.Path.{refl, sym, _∙_}
 use Rattle.state_classes.proofs.Peeling.{differ}
 
 leads-from-requires : tie.Need-leads-from-requires

@@ -3,10 +3,10 @@ use native.Mathlib.Omega.{arith}
 use borrow.Author.Needs.{needs}
 use Rattle.clash.proofs.judge.Statement.{statement}
 use Rattle.clash.proofs.judge.Tie as tie
-use Prim.Native.Nat.{ℕ, _+_, _-_, _<_, _≤_}
-use mathlib.Core.Path.{_≡_, refl, sym, subst, ap, _∙_}
-use mathlib.Core.Bool.{Bool, true, false}
-use lib.ListN.{length, getD, length-replicate, length-set}
+use Prim.Native.Nat.{ℕ, _-_}
+use mathlib.Core.Path.{_∙_}
+use mathlib.Core.Bool.{Bool, false}
+use lib.ListN.{length-replicate}
 use Rattle.language.specs.Limits.{desk}
 use Rattle.state_classes.specs.Classes.{stateRoom}
 use Rattle.charts.proofs.Charting.{chart-from}

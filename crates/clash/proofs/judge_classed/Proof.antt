@@ -1,13 +1,11 @@
 -- The walk, the marks, and the first pair.
 use native.Mathlib.Omega.{arith}
-use borrow.Author.Needs.{needs}
 use Rattle.clash.proofs.judge_classed.Statement.{statement}
 use Rattle.clash.proofs.judge_classed.Tie as tie
-use Prim.Native.Nat.{ℕ, _+_, _-_, _<_, _≤_}
-use mathlib.Core.Path.{_≡_, refl, sym, subst, ap, _∙_}
+use Prim.Native.Nat.{_-_}
+use mathlib.Core.Path.{refl, sym, ap, _∙_}
 use mathlib.Core.Bool.{Bool, true, false}
-use lib.ListN.{length, getD, length-replicate, length-set}
-use Rattle.language.specs.Limits.{desk}
+use lib.ListN.{length-replicate}
 use Rattle.clash.specs.Chains.{stops}
 use Rattle.clash.specs.declared.Verdict.the-variants.{Shares, Clashes}
 use Rattle.clash.proofs.Verdicts.{judged-long, judged, chained-none, found-none, first-set}

@@ -1,5 +1,5 @@
 -- Each of the chains is as it was, but for the new head of one.
-use mathlib.Core.Path.{_≡_, refl}
+use mathlib.Core.Path.{refl}
 use borrow.Author.Needs.{needs}
 use Rattle.clash.proofs.Chaining.{added-at}
 use Rattle.clash.proofs.pairs.add.Statement.{statement}

@@ -1,5 +1,5 @@
 -- A remainder is less than what it is taken by.
-use mathlib.Core.Path.{_≡_, refl}
+use mathlib.Core.Path.{refl}
 use borrow.Author.Needs.{needs}
 use Rattle.clash.specs.Chains.{chainOf}
 use Rattle.clash.proofs.Chaining.{chain-lt}

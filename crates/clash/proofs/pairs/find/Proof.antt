@@ -1,9 +1,8 @@
 -- The invariant: where the pair can still stand is below x.
-use Prim.Native.Nat.{ℕ, _+_, _-_, _<_, _≤_}
+use Prim.Native.Nat.{_-_}
 use native.Mathlib.Omega.{arith}
 use borrow.Author.Needs.{needs}
-use lib.ListN.{length}
-use Rattle.clash.proofs.Chaining.{chain-lt, Below, starts, less, unmet, in-room, in-array, step, hit}
+use Rattle.clash.proofs.Chaining.{Below, starts, less, unmet, in-room, in-array, step, hit}
 use Rattle.clash.proofs.pairs.find.Statement.{statement}
 use Rattle.clash.proofs.pairs.find.Tie as tie
 

@@ -1,5 +1,4 @@
 -- By whether the pair is there.
-use native.Mathlib.Omega.{arith}
 use borrow.Author.Needs.{needs}
 use Rattle.clash.proofs.pairs.meet.Statement.{statement}
 use Rattle.clash.proofs.pairs.meet.Tie as tie

@@ -1,5 +1,4 @@
 -- By the place of the pair.
-use native.Mathlib.Omega.{arith}
 use borrow.Author.Needs.{needs}
 use Rattle.clash.proofs.sweeps.known.Statement.{statement}
 use Rattle.clash.proofs.sweeps.known.Tie as tie

@@ -1,5 +1,4 @@
 -- By the two symbols, and then by the two pairs.
-use native.Mathlib.Omega.{arith}
 use borrow.Author.Needs.{needs}
 use Rattle.clash.proofs.sweeps.leads.Statement.{statement}
 use Rattle.clash.proofs.sweeps.leads.Tie as tie

@@ -3,10 +3,9 @@ use native.Mathlib.Omega.{arith}
 use borrow.Author.Needs.{needs}
 use Rattle.clash.proofs.sweeps.leads_of.Statement.{statement}
 use Rattle.clash.proofs.sweeps.leads_of.Tie as tie
-use Prim.Native.Nat.{ℕ, _+_, _-_, _<_, _≤_}
-use mathlib.Core.Path.{_≡_, refl, sym, subst, _∙_}
-use lib.ListN.{length, getD}
-use mathlib.Core.Bool.{true, false}
+use Prim.Native.Nat.{ℕ, _-_, _<_, _≤_}
+use mathlib.Core.Path.{subst}
+use lib.ListN.{getD}
 use Rattle.clash.specs.Sweeping.{Says, SomeWith}
 use Rattle.clash.proofs.Leading.{of-here, of-not-here, of-nowhere, none-more}
 

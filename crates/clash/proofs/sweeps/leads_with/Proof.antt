@@ -3,10 +3,9 @@ use native.Mathlib.Omega.{arith}
 use borrow.Author.Needs.{needs}
 use Rattle.clash.proofs.sweeps.leads_with.Statement.{statement}
 use Rattle.clash.proofs.sweeps.leads_with.Tie as tie
-use Prim.Native.Nat.{ℕ, _+_, _-_, _<_, _≤_}
-use mathlib.Core.Path.{_≡_, refl, sym, subst, _∙_}
-use lib.ListN.{length, getD}
-use mathlib.Core.Bool.{true, false}
+use Prim.Native.Nat.{ℕ, _-_, _<_, _≤_}
+use mathlib.Core.Path.{subst}
+use lib.ListN.{getD}
 use Rattle.clash.specs.Sweeping.{Says, Leading}
 use Rattle.clash.proofs.Leading.{with-here, not-here, with-nowhere, none-more}
 

@@ -1,12 +1,8 @@
 -- The loop's invariant: where the last sweep was quiet, nothing more is to be marked.
-use native.Mathlib.Omega.{arith}
-use borrow.Author.Needs.{needs}
 use Rattle.clash.proofs.sweeps.settle.Statement.{statement}
 use Rattle.clash.proofs.sweeps.settle.Tie as tie
-use Prim.Native.Nat.{ℕ, _+_, _-_, _<_, _≤_}
-use mathlib.Core.Path.{_≡_, refl, sym, subst, _∙_}
-use lib.ListN.{length, getD, length-replicate, length-set}
-use Rattle.language.specs.Limits.{desk}
+use Prim.Native.Nat.{_+_, _-_}
+use mathlib.Core.Path.{_∙_}
 use Rattle.language.specs.Kinds.{pick}
 use Rattle.clash.specs.Sweeping.{unmarked}
 use Rattle.clash.proofs.Flagging.{Sweeping, sweeping-start, sweeping-more, sweeping-less, settled}

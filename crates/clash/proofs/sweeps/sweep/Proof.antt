@@ -3,10 +3,8 @@ use native.Mathlib.Omega.{arith}
 use borrow.Author.Needs.{needs}
 use Rattle.clash.proofs.sweeps.sweep.Statement.{statement}
 use Rattle.clash.proofs.sweeps.sweep.Tie as tie
-use Prim.Native.Nat.{ℕ, _+_, _-_, _<_, _≤_}
-use mathlib.Core.Path.{_≡_, refl, sym, subst, _∙_}
-use lib.ListN.{length, getD, length-replicate, length-set}
-use Rattle.language.specs.Limits.{desk}
+use Prim.Native.Nat.{_-_, _≤_}
+use mathlib.Core.Path.{_∙_}
 use Rattle.clash.specs.Sweeping.{SweptTo}
 use Rattle.clash.proofs.Flagging.{sweep-start, sweep-more, swept-all}
 

@@ -1,12 +1,9 @@
 -- By the mark, and then by where the pair leads.
 use native.Mathlib.Omega.{arith}
-use borrow.Author.Needs.{needs}
 use Rattle.clash.proofs.sweeps.sweep_at.Statement.{statement}
 use Rattle.clash.proofs.sweeps.sweep_at.Tie as tie
-use Prim.Native.Nat.{ℕ, _+_, _-_, _<_, _≤_}
-use mathlib.Core.Path.{_≡_, refl, sym, subst, _∙_}
-use lib.ListN.{length, getD, length-replicate, length-set}
-use Rattle.language.specs.Limits.{desk}
+use Prim.Native.Nat.{_-_}
+use mathlib.Core.Path.{subst}
 use Rattle.clash.specs.Sweeping.{LeadsFrom}
 use Rattle.clash.proofs.Flagging.{swept-old, swept-none, swept-new}
 

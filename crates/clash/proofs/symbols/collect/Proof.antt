@@ -3,8 +3,8 @@ use native.Mathlib.Omega.{arith}
 use borrow.Author.Needs.{needs}
 use Rattle.clash.proofs.symbols.collect.Statement.{statement}
 use Rattle.clash.proofs.symbols.collect.Tie as tie
-use mathlib.Core.Path.{_≡_, refl, subst, _∙_}
-use Prim.Native.Nat.{_+_, _-_, _≤_}
+use mathlib.Core.Path.{_≡_, refl, _∙_}
+use Prim.Native.Nat.{_-_, _≤_}
 use lib.ListN.{length}
 use Rattle.clash.specs.Symbols.{Collected}
 use Rattle.clash.proofs.Collecting.{collected-start, collected-step}

@@ -1,5 +1,4 @@
 -- By the mark.
-use native.Mathlib.Omega.{arith}
 use borrow.Author.Needs.{needs}
 use Rattle.clash.proofs.symbols.collect_one.Statement.{statement}
 use Rattle.clash.proofs.symbols.collect_one.Tie as tie

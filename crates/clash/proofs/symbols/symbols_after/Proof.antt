@@ -3,10 +3,8 @@ use native.Mathlib.Omega.{arith}
 use borrow.Author.Needs.{needs}
 use Rattle.clash.proofs.symbols.symbols_after.Statement.{statement}
 use Rattle.clash.proofs.symbols.symbols_after.Tie as tie
-use lib.ListN.{length, length-replicate}
-use mathlib.Core.Path.{_≡_, refl, sym, subst, _∙_}
+use lib.ListN.{length-replicate}
 use mathlib.Core.Bool.{Bool, false}
-use Prim.Native.Nat.{_≤_}
 use Rattle.language.specs.Limits.{desk}
 use Rattle.clash.proofs.Collecting.{blank}
 use Rattle.clash.proofs.Listing.{symboled}

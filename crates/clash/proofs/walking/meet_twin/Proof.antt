@@ -1,5 +1,4 @@
 -- Two pairs, or none.
-use native.Mathlib.Omega.{arith}
 use borrow.Author.Needs.{needs}
 use Rattle.clash.proofs.walking.meet_twin.Statement.{statement}
 use Rattle.clash.proofs.walking.meet_twin.Tie as tie

@@ -3,10 +3,9 @@ use native.Mathlib.Omega.{arith}
 use borrow.Author.Needs.{needs}
 use Rattle.clash.proofs.walking.walk_on.Statement.{statement}
 use Rattle.clash.proofs.walking.walk_on.Tie as tie
-use Prim.Native.Nat.{ℕ, _+_, _-_, _<_, _≤_}
-use mathlib.Core.Path.{_≡_, refl, sym, subst, _∙_}
-use lib.ListN.{length, getD, length-replicate, length-set}
-use Rattle.language.specs.Limits.{desk}
+use Prim.Native.Nat.{_-_}
+use mathlib.Core.Path.{_≡_, refl, _∙_}
+use lib.ListN.{length, length-set}
 use Rattle.clash.specs.Chains.{Chained, stops}
 use Rattle.clash.proofs.Going.{Walks, walks-start, walks-more, gone-long, gone-all}
 
