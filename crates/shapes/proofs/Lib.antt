@@ -1,2 +1,4 @@
 pub mod Scanning
+pub mod Actions
+pub mod Loop
 pub mod Determined

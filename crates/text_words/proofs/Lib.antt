@@ -1,5 +1,6 @@
 pub mod Ends
 pub mod Sides
+pub mod Literals
 pub mod Pairs
 pub mod Rows
 pub mod Stores

@@ -1,5 +1,5 @@
 -- `shapes::action` meets its contract: by the state.
-use Rattle.shapes.proofs.Scanning.{at-opened, at-wanted, at-named, at-ready}
+use Rattle.shapes.proofs.Actions.{at-opened, at-wanted, at-named, at-ready}
 use borrow.Author.Needs.{needs}
 use Rattle.shapes.proofs.action.Statement.{statement}
 use Rattle.shapes.proofs.action.Tie as tie

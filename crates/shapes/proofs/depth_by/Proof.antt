@@ -1,6 +1,6 @@
 -- `shapes::depth_by` meets its contract: by the first digit.
 use native.Mathlib.Omega.{arith}
-use Rattle.shapes.proofs.Scanning.{deeper, shallower, as-deep}
+use Rattle.shapes.proofs.Actions.{deeper, shallower, as-deep}
 use borrow.Author.Needs.{needs}
 use Rattle.shapes.proofs.depth_by.Statement.{statement}
 use Rattle.shapes.proofs.depth_by.Tie as tie

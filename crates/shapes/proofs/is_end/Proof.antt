@@ -1,5 +1,5 @@
 -- `shapes::is_end` meets its contract: with brackets open, and without.
-use Rattle.shapes.proofs.Scanning.{no-end, end-if}
+use Rattle.shapes.proofs.Actions.{no-end, end-if}
 use Rattle.shapes.proofs.is_end.Statement.{statement}
 use Rattle.shapes.proofs.is_end.Tie as tie
 

@@ -1,5 +1,5 @@
 -- `shapes::is_refused` meets its contract: by the first digit.
-use Rattle.shapes.proofs.Scanning.{refused-0, refused-5}
+use Rattle.shapes.proofs.Actions.{refused-0, refused-5}
 use Rattle.shapes.proofs.is_refused.Statement.{statement}
 use Rattle.shapes.proofs.is_refused.Tie as tie
 

@@ -3,7 +3,8 @@ use Prim.Native.Nat.{_-_}
 use native.Mathlib.Omega.{arith}
 use lib.ListN.{length}
 use Rattle.language.specs.Limits.{desk}
-use Rattle.shapes.proofs.Scanning.{Going, going-starts, end-small, ends-here, refuses, deep-less, deep-enough, less, goes-on}
+use Rattle.shapes.proofs.Actions.{end-small}
+use Rattle.shapes.proofs.Loop.{Going, going-starts, ends-here, refuses, deep-less, deep-enough, less, goes-on}
 use borrow.Author.Needs.{needs}
 use Rattle.shapes.proofs.shape.Statement.{statement}
 use Rattle.shapes.proofs.shape.Tie as tie

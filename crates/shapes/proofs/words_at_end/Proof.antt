@@ -1,5 +1,5 @@
 -- `shapes::words_at_end` meets its contract: behind a name, and elsewhere.
-use Rattle.shapes.proofs.Scanning.{end-named, end-other}
+use Rattle.shapes.proofs.Actions.{end-named, end-other}
 use Rattle.shapes.proofs.words_at_end.Statement.{statement}
 use Rattle.shapes.proofs.words_at_end.Tie as tie
 

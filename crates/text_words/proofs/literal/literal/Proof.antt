@@ -1,6 +1,6 @@
 -- `text_words::literal::literal` meets its contract: no side, an equation, no literal, a membership.
 use Rattle.language.specs.Limits.{desk}
-use Rattle.text_words.proofs.Sides.{no-literal, right-starts, an-equation, neither, expression-starts, a-membership}
+use Rattle.text_words.proofs.Literals.{no-literal, right-starts, an-equation, neither, expression-starts, a-membership}
 use borrow.Author.Needs.{needs}
 use Rattle.text_words.proofs.literal.literal.Statement.{statement}
 use Rattle.text_words.proofs.literal.literal.Tie as tie
