@@ -1,4 +1,7 @@
 // An example shown. The command prints and says its status: it returns nothing.
+ghost use Prim.Native.Nat.{_≤_};
+ghost use lib.ListN.{length};
+use files::Loaded;
 use files::SHEET;
 use files::arguments::wrong_use;
 use files::load_question;
@@ -57,23 +60,20 @@ fn place(n: u16) -> usize {
 }
 
 // The example of the line that argument `j` names, for old training sheets or not.
-fn show_line<'a>(
-    question: &'a [u16],
-    old: bool,
-    text: &'a [u8],
-    names: &'a [u8],
-    i: usize,
-    j: usize,
-) {
+fn show_line<'a>(question: &'a [u16], old: bool, buf: &'a [u8], t: Loaded, i: usize, j: usize)
+    requires { ⌜ (t .bytes ≤ length (now buf)) × (t .named ≤ length (now buf)) ⌝ }
+{
+    let m = t.bytes;
+    let k = t.named;
     let mut said = io::buffer();
     let n = os::arg(j, &mut said);
     let mut line = [0u16; 1];
-    let t = parse(&said[..n], &mut line);
-    if t.line != 0 {
+    let p = parse(&said[..n], &mut line);
+    if p.line != 0 {
         wrong_use(b"a line is named by a number, and the first is 0");
         return;
     }
-    show(question, place(line[0]), old, text, names, i);
+    show(question, place(line[0]), old, &buf[0..m], &buf[0..k], i);
 }
 
 // The example of the line that argument `j` names, of the question in the file that argument `i` names.
@@ -83,10 +83,9 @@ pub fn example_file(i: usize, j: usize, old: bool) {
     let t = load_question(i, &mut buf, &mut words);
     let n = t.words;
     let m = t.bytes;
-    let k = t.named;
     if !t.fine {
         no_question(t.number, &buf[0..m], i);
         return;
     }
-    show_line(&words[0..n], old, &buf[0..m], &buf[0..k], i, j);
+    show_line(&words[0..n], old, &buf, t, i, j);
 }

@@ -1,6 +1,7 @@
 // A trail from a file replayed. The command prints and says its status: it returns nothing.
 ghost use Prim.Native.Nat.{_≤_};
 ghost use lib.ListN.{length};
+use files::Loaded;
 use files::SHEET;
 use files::load;
 use files::load_question;
@@ -166,16 +167,20 @@ fn replay_told<'a>(question: &'a [u16], trail: &'a [u16], text: &'a [u8], names:
 }
 
 // Replays the trail of the file that argument `j` names.
-fn replay_trail<'a>(question: &'a [u16], text: &'a [u8], names: &'a [u8], i: usize, j: usize) {
-    let mut buf = io::large_buffer();
+fn replay_trail<'a>(question: &'a [u16], buf: &'a [u8], t: Loaded, i: usize, j: usize)
+    requires { ⌜ (t .bytes ≤ length (now buf)) × (t .named ≤ length (now buf)) ⌝ }
+{
+    let m = t.bytes;
+    let k = t.named;
+    let mut trail = io::large_buffer();
     let mut words = [0u16; TOLD];
-    let t = load(j, &mut buf, &mut words);
-    if !t.fine {
+    let told = load(j, &mut trail, &mut words);
+    if !told.fine {
         failed();
         return;
     }
-    let n = t.words;
-    replay_told(question, &words[0..n], text, names, i);
+    let n = told.words;
+    replay_told(question, &words[0..n], &buf[0..m], &buf[0..k], i);
 }
 
 // The answer that the trail in the file of argument `j` leads to, of the question in the file that argument `i` names.
@@ -185,10 +190,9 @@ pub fn replay_file(i: usize, j: usize) {
     let t = load_question(i, &mut buf, &mut words);
     let n = t.words;
     let m = t.bytes;
-    let k = t.named;
     if !t.fine {
         no_question(t.number, &buf[0..m], i);
         return;
     }
-    replay_trail(&words[0..n], &buf[0..m], &buf[0..k], i, j);
+    replay_trail(&words[0..n], &buf, t, i, j);
 }
