@@ -20,6 +20,7 @@ use rooms::BODY;
 use rooms::Frame;
 use rooms::HEAD;
 use rooms::WAITING;
+use rooms::body;
 use rooms::carry;
 use rooms::head;
 use rooms::is_line;
@@ -107,11 +108,21 @@ fn is_one(side: u16) -> bool {
     side == 1
 }
 
+// The step that comes next in the trail, of a conjunction, with so many results.
+fn act(k: &[u16], trail: &[u16], made: usize, n: usize) -> Act {
+    let from = plus(made, plus(made, made));
+    Act {
+        rule: wide(word(trail, from)),
+        at: literal_from(k, wide(word(trail, plus(from, 1)))),
+        swap: is_one(word(trail, plus(from, 2))),
+        cases: n,
+    }
+}
+
 // The results of a step stand in the room from a place on: they are shown and wait.
 fn stepped(
-    question: &[u16],
+    one: &[u16],
     names: &[u8],
-    k: &[u16],
     trail: &[u16],
     work: &[u16],
     begin: usize,
@@ -119,17 +130,20 @@ fn stepped(
     waiting: &mut [u16],
     p: Place,
 ) -> Place {
-    let from = plus(p.made, plus(p.made, p.made));
-    let literal = wide(word(trail, plus(from, 1)));
+    let literal = wide(word(trail, plus(plus(p.made, 1), plus(p.made, p.made))));
+    let k = body(one);
     let n = count(work, begin);
-    let t = Act {
-        rule: wide(word(trail, from)),
-        at: literal_from(k, literal),
-        swap: is_one(word(trail, plus(from, 2))),
-        cases: n,
-    };
     let step = plus(p.made, 1);
-    told(question, names, k, literal, t, work, begin, step, f);
+    told(
+        one,
+        names,
+        literal,
+        act(k, trail, p.made, n),
+        work,
+        begin,
+        step,
+        f,
+    );
     let next = plus(p.at, plus(HEAD, k.len()));
     let at = minus(next, taken(begin, n));
     stack(work, begin, n, step, f, waiting, at);
@@ -142,9 +156,8 @@ fn stepped(
 
 // The step that comes next in the trail, of a question of one conjunction.
 fn step(
-    question: &[u16],
-    names: &[u8],
     one: &[u16],
+    names: &[u8],
     trail: &[u16],
     f: Frame,
     waiting: &mut [u16],
@@ -154,22 +167,9 @@ fn step(
     let rule = word(trail, from);
     let literal = word(trail, plus(from, 1));
     let side = word(trail, plus(from, 2));
-    if one.len() < BODY {
-        return over(p);
-    }
     let mut work = [0u16; ROOM];
     match step_named(one, f.number, rule, literal, side, &mut work) {
-        Stepping::Made(begin) => stepped(
-            question,
-            names,
-            &one[BODY..],
-            trail,
-            &work,
-            begin,
-            f,
-            waiting,
-            p,
-        ),
+        Stepping::Made(begin) => stepped(one, names, trail, &work, begin, f, waiting, p),
         Stepping::Refused(_) => over(p),
     }
 }
@@ -190,24 +190,20 @@ fn line(answer: &[u16], f: Frame, n: usize, p: Place) -> Place {
 
 // The first waiting conjunction, as a question of its own.
 fn go_on(
-    question: &[u16],
+    one: &[u16],
     names: &[u8],
     answer: &[u16],
     trail: &[u16],
-    one: &[u16],
     f: Frame,
     waiting: &mut [u16],
     p: Place,
 ) -> Place {
-    if one.len() < BODY {
-        return over(p);
+    let k = body(one);
+    heading(signature_of(one), names, k, f);
+    if is_line(answer, p.line, one, BODY, k.len()) {
+        return line(answer, f, k.len(), p);
     }
-    let n = one.len() - BODY;
-    heading(signature_of(question), names, &one[BODY..], f);
-    if is_line(answer, p.line, one, BODY, n) {
-        return line(answer, f, n, p);
-    }
-    step(question, names, one, trail, f, waiting, p)
+    step(one, names, trail, f, waiting, p)
 }
 
 // One turn of the walk: a step or a line.
@@ -231,16 +227,7 @@ fn turn(
     let mut one = [0u16; QUESTION];
     head(question, n, &mut one);
     carry(waiting, plus(p.at, HEAD), n, &mut one, BODY);
-    go_on(
-        question,
-        names,
-        answer,
-        trail,
-        &one[0..BODY + n],
-        f,
-        waiting,
-        p,
-    )
+    go_on(&one[0..BODY + n], names, answer, trail, f, waiting, p)
 }
 
 // So many turns: every step and every line has one.

@@ -6,6 +6,7 @@ use crate::places::minus;
 use crate::places::past;
 use crate::places::plus;
 use crate::rooms::Frame;
+use crate::rooms::body;
 use language::Signature;
 use language::limits::ROOM;
 use language::wide;
@@ -120,9 +121,9 @@ fn news_of(
 }
 
 // Why nothing is left.
-fn ends(s: Signature, names: &[u8], question: &[u16], k: &[u16], t: Act, depth: usize) {
+fn ends(s: Signature, names: &[u8], one: &[u16], k: &[u16], t: Act, depth: usize) {
     if t.rule == AT_CLASH {
-        let second = partner(question, k, t.at);
+        let second = partner(one, k, t.at);
         if second < k.len() {
             clashed(s, names, k, t.at, second, depth);
             return;
@@ -131,11 +132,10 @@ fn ends(s: Signature, names: &[u8], question: &[u16], k: &[u16], t: Act, depth: 
     dropped(s, names, k, t, depth);
 }
 
-// A step that was made, in rows.
+// A step that was made of a question of one conjunction, in rows.
 pub(crate) fn told(
-    question: &[u16],
+    one: &[u16],
     names: &[u8],
-    k: &[u16],
     literal: usize,
     t: Act,
     work: &[u16],
@@ -143,11 +143,12 @@ pub(crate) fn told(
     step: usize,
     f: Frame,
 ) {
-    let s = signature_of(question);
+    let s = signature_of(one);
+    let k = body(one);
     let depth = wide(f.depth);
     step_begins(s, names, k, t, step, depth);
     if t.cases == 0 {
-        ends(s, names, question, k, t, plus(depth, 1));
+        ends(s, names, one, k, t, plus(depth, 1));
         return;
     }
     step_says(s, names, k, t, plus(depth, 1));
