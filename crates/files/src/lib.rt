@@ -7,17 +7,26 @@ ghost use lib.ListN.{length};
 pub mod arguments;
 pub mod status;
 
+use collecting::ALL;
+use collecting::collect;
 use language::Refusal;
 use print::warn;
 use print::warn_number;
 use prompt::parse;
 use read_text::Reading;
 use read_text::read_text;
+use word_bytes::write_words;
 
 // More bytes than a file may have: as many as there is room for, and one more.
 const TOO_MANY: usize = 65536;
 
-const NOT_READ: usize = TOO_MANY + 1;
+const NOT_READ: usize = SHEET + 1;
+
+// The bytes of the shelves of a text's names.
+const SHELVES: usize = 2 * ALL;
+
+// Room for the bytes of a file, and behind those of a text for the names in it.
+pub const SHEET: usize = TOO_MANY + SHELVES;
 
 fn is_dash(path: &[u8]) -> bool {
     if path.len() != 1 {
@@ -83,7 +92,7 @@ fn fetch(i: usize, buf: &mut [u8]) -> usize {
     }
     let got = io::read_full(fd, buf);
     libc::close(fd);
-    if got == TOO_MANY {
+    if TOO_MANY <= got {
         name(&path[..n]);
         warn(b": more than 65,535 bytes\n");
         return NOT_READ;
@@ -188,36 +197,81 @@ fn holds_text(buf: &[u8], n: usize) -> bool {
     false
 }
 
-// What was read of a file: how many bytes, how many words they came to, and whether they were a text. Where they came to none, the number of the
-// refusal, or 0 where the reason is said already.
+fn narrow(n: usize) -> u16 {
+    if n < 65536 { n as u16 } else { 0 }
+}
+
+fn put(out: &mut [u16], at: usize, w: u16) {
+    if at < out.len() {
+        out[at] = w;
+    }
+}
+
+// The places of the shelves as words: no file has more bytes than a word can count.
+fn narrowed(shelves: &[usize], out: &mut [u16]) {
+    let mut i = 0;
+    while i < shelves.len() {
+        put(out, i, narrow(shelves[i]));
+        i += 1;
+    }
+}
+
+// The words of these places as bytes, at the start of `out`.
+fn write_shelves(shelves: &[usize], out: &mut [u8]) {
+    let mut words = [0u16; ALL];
+    narrowed(shelves, &mut words);
+    if SHELVES <= out.len() {
+        write_words(&words, out);
+    }
+}
+
+// The names of a text of so many bytes, on shelves behind it as `collecting` leaves them, two bytes for each place: how many bytes the text and its names
+// are, or 0 where there is no room for them.
+fn list_names(buf: &mut [u8], n: usize) -> usize
+    ensures { λ r. ⌜ r ≤ length (now (buf .exit)) ⌝ }
+{
+    if buf.len() < SHELVES {
+        return 0;
+    }
+    if buf.len() - SHELVES < n {
+        return 0;
+    }
+    let mut shelves = [0usize; ALL];
+    collect(&buf[0..n], &mut shelves);
+    write_shelves(&shelves, &mut buf[n..]);
+    n + SHELVES
+}
+
+// What was read of a file: how many bytes, how many of them and behind them are a text and its names, 0 where it is no text, and how many words they came
+// to. Where they came to none, the number of the refusal, or 0 where the reason is said already.
 pub struct Loaded {
     pub fine: bool,
     pub number: u16,
-    pub is_text: bool,
     pub bytes: usize,
+    pub named: usize,
     pub words: usize,
 }
 
-fn read_of(bytes: usize, is_text: bool, t: Taken) -> Loaded
-    ensures { λ r. ⌜ (r .bytes ≡ bytes) × (r .words ≡ t .words) ⌝ }
+fn read_of(bytes: usize, named: usize, t: Taken) -> Loaded
+    ensures { λ r. ⌜ (r .bytes ≡ bytes) × (r .named ≡ named) × (r .words ≡ t .words) ⌝ }
 {
     Loaded {
         fine: t.fine,
         number: t.number,
-        is_text,
         bytes,
+        named,
         words: t.words,
     }
 }
 
 fn not_loaded() -> Loaded
-    ensures { λ r. ⌜ (r .bytes ≡ 0) × (r .words ≡ 0) ⌝ }
+    ensures { λ r. ⌜ (r .bytes ≡ 0) × (r .named ≡ 0) × (r .words ≡ 0) ⌝ }
 {
     Loaded {
         fine: false,
         number: 0,
-        is_text: false,
         bytes: 0,
+        named: 0,
         words: 0,
     }
 }
@@ -231,12 +285,12 @@ pub fn load(i: usize, buf: &mut [u8], words: &mut [u16]) -> Loaded
         return not_loaded();
     }
     let t = in_decimal(i, buf, n, words);
-    read_of(n, false, t)
+    read_of(n, 0, t)
 }
 
-// The same of a question, which may be a text.
+// The same of a question, which may be a text: its names then stand behind it.
 pub fn load_question(i: usize, buf: &mut [u8], words: &mut [u16]) -> Loaded
-    ensures { λ r. ⌜ (r .bytes ≤ length (now (buf .exit))) × (r .words ≤ length (now (words .exit))) ⌝ }
+    ensures { λ r. ⌜ (r .bytes ≤ length (now (buf .exit))) × (r .named ≤ length (now (buf .exit))) × (r .words ≤ length (now (words .exit))) ⌝ }
 {
     let n = fetch(i, buf);
     if buf.len() < n {
@@ -244,8 +298,9 @@ pub fn load_question(i: usize, buf: &mut [u8], words: &mut [u16]) -> Loaded
     }
     if holds_text(buf, n) {
         let t = in_a_text(buf, n, words);
-        return read_of(n, true, t);
+        let named = list_names(buf, n);
+        return read_of(n, named, t);
     }
     let t = in_decimal(i, buf, n, words);
-    read_of(n, false, t)
+    read_of(n, 0, t)
 }

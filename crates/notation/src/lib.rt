@@ -1,38 +1,57 @@
-// Hedges, expressions and literals written out for a reader: x0, p0, X0 are the term, hedge and function variables, a0 a symbol, a1~ one whose parts come in
-// any order, () nothing at all.
+// Hedges, expressions and literals written out for a reader. Where a question came as words, x0, p0, X0 are the term, hedge and function variables, a0 a
+// symbol, a1~ one whose parts come in any order, () nothing at all. Where it came as a text, all is written as a text is, in that text's own names.
 ghost use Prim.Native.Nat.{_≤_};
+
+mod names;
+
 use language::Kind;
 use language::Signature;
 use language::Sym;
 use language::classify;
 use language::is_unordered;
+use language::wide;
+use names::FUNCTIONS;
+use names::HEDGES;
+use names::SYMBOLS;
+use names::TERMS;
+use names::is_text;
+use names::name;
 use print::number;
 use print::say;
+use spans::element_end;
 use words::word;
 
-// A letter and a number.
-fn name(letter: &[u8], n: u16) {
-    say(letter);
-    number(n as u64);
-}
-
 // A symbol, with a mark where it is unordered.
-fn symbol(s: Signature, f: Sym) {
-    name(b"a", f.0);
+fn symbol(s: Signature, names: &[u8], f: Sym) {
+    name(names, SYMBOLS, wide(f.0), b"", b"a");
     if is_unordered(s, f) {
         say(b"~");
     }
 }
 
 // The name of a variable or a symbol.
-pub fn named(s: Signature, w: u16) {
+pub fn named(s: Signature, names: &[u8], w: u16) {
     match classify(w) {
-        Kind::Term(x) => name(b"x", x.0),
-        Kind::Run(p) => name(b"p", p.0),
-        Kind::Symbol(f) => symbol(s, f),
-        Kind::Function(f) => name(b"X", f.0),
+        Kind::Term(x) => name(names, TERMS, wide(x.0), b"?", b"x"),
+        Kind::Run(p) => name(names, HEDGES, wide(p.0), b"*", b"p"),
+        Kind::Symbol(f) => symbol(s, names, f),
+        Kind::Function(f) => name(names, FUNCTIONS, wide(f.0), b"%", b"X"),
         _ => number(w as u64),
     }
+}
+
+// The name of variable i of a filling: term, hedge, function variables in order.
+pub fn variable(names: &[u8], i: usize, terms: usize, hedges: usize) {
+    if i < terms {
+        name(names, TERMS, i, b"?", b"x");
+        return;
+    }
+    let j = i - terms;
+    if j < hedges {
+        name(names, HEDGES, j, b"*", b"p");
+        return;
+    }
+    name(names, FUNCTIONS, j - hedges, b"%", b"X");
 }
 
 // Whether a word has children, and a 0 behind them.
@@ -76,7 +95,7 @@ fn after(ws: &[u16], at: usize, w: u16) -> usize
 }
 
 // A hedge; the place after its 0.
-fn past_hedge(s: Signature, ws: &[u16], from: usize) -> usize
+fn past_hedge(s: Signature, names: &[u8], ws: &[u16], from: usize) -> usize
     ensures { λ r. ⌜ from ≤ r ⌝ }
 {
     let mut at = from;
@@ -95,7 +114,7 @@ fn past_hedge(s: Signature, ws: &[u16], from: usize) -> usize
             say(b")");
             comma(ws, at);
         } else {
-            named(s, w);
+            named(s, names, w);
             if opens(ws, at, w) {
                 say(b"(");
                 depth += 1;
@@ -108,41 +127,116 @@ fn past_hedge(s: Signature, ws: &[u16], from: usize) -> usize
     at
 }
 
-// The hedge that begins here.
-pub fn hedge(s: Signature, ws: &[u16], from: usize) {
-    past_hedge(s, ws, from);
+// Whether a side is several elements in a text, where brackets stand around them.
+fn is_row(names: &[u8], ws: &[u16], from: usize) -> bool {
+    if word(ws, from) == 0 {
+        return false;
+    }
+    if is_text(names) {
+        return word(ws, element_end(ws, from)) != 0;
+    }
+    false
 }
 
-// What stands before the parts of an expression that begins with this word, between two of them, and behind them.
-fn before(s: Signature, w: u16) {
-    match w {
-        7000 => say(b"eps"),
-        7001 => say(b"("),
-        7002 => say(b"("),
-        7003 => say(b""),
-        _ => over(s, w),
+fn bracket(stands: bool, text: &[u8]) {
+    if stands {
+        say(text);
     }
 }
 
-fn over(s: Signature, w: u16) {
-    named(s, w);
+// A hedge as a side; the place after its 0.
+fn side(s: Signature, names: &[u8], ws: &[u16], from: usize) -> usize
+    ensures { λ r. ⌜ from ≤ r ⌝ }
+{
+    let row = is_row(names, ws, from);
+    bracket(row, b"(");
+    let end = past_hedge(s, names, ws, from);
+    bracket(row, b")");
+    end
+}
+
+// The hedge that begins here.
+pub fn hedge(s: Signature, names: &[u8], ws: &[u16], from: usize) {
+    side(s, names, ws, from);
+}
+
+// How much of an expression can stand at a place of a text without brackets: a list of choices, a choice, or less. For a question of words all have them.
+const LISTED: u8 = 0;
+
+const CHOICE: u8 = 1;
+
+const TIGHT: u8 = 2;
+
+fn level(names: &[u8], of_text: u8) -> u8 {
+    if is_text(names) { of_text } else { TIGHT }
+}
+
+// That of the first part of an expression that begins with this word, and that of the second.
+fn first_level(names: &[u8], w: u16) -> u8 {
+    match w {
+        7001 => level(names, CHOICE),
+        7002 => TIGHT,
+        7003 => TIGHT,
+        _ => level(names, LISTED),
+    }
+}
+
+fn second_level(names: &[u8], w: u16) -> u8 {
+    if w == 7001 {
+        return level(names, LISTED);
+    }
+    level(names, CHOICE)
+}
+
+// Whether brackets stand around it.
+fn is_bracketed(w: u16, level: u8) -> bool {
+    match w {
+        7001 => LISTED < level,
+        7002 => CHOICE < level,
+        _ => false,
+    }
+}
+
+// A sign of expressions: that of texts, or that for a question of words.
+fn sign<'a>(names: &'a [u8], of_text: &'a [u8], of_words: &'a [u8]) {
+    if is_text(names) {
+        say(of_text);
+        return;
+    }
+    say(of_words);
+}
+
+// What stands before the parts of an expression that begins with this word, between two of them, and behind them.
+fn before(s: Signature, names: &[u8], w: u16, level: u8) {
+    match w {
+        7000 => sign(names, b"()", b"eps"),
+        7001 => bracket(is_bracketed(w, level), b"("),
+        7002 => bracket(is_bracketed(w, level), b"("),
+        7003 => say(b""),
+        _ => over(s, names, w),
+    }
+}
+
+fn over(s: Signature, names: &[u8], w: u16) {
+    named(s, names, w);
     say(b"(");
 }
 
-fn between(w: u16) {
+fn between(names: &[u8], w: u16) {
     if w == 7001 {
-        say(b" . ");
+        sign(names, b", ", b" . ");
         return;
     }
     say(b" + ");
 }
 
-fn behind(w: u16) {
-    if w == 7003 {
-        say(b"*");
-        return;
+fn behind(w: u16, level: u8) {
+    match w {
+        7001 => bracket(is_bracketed(w, level), b")"),
+        7002 => bracket(is_bracketed(w, level), b")"),
+        7003 => say(b"*"),
+        _ => say(b")"),
     }
-    say(b")");
 }
 
 // A symbol over eps, which is written as the symbol alone.
@@ -153,8 +247,8 @@ fn is_leaf(ws: &[u16], next: usize, w: u16) -> bool {
     }
 }
 
-// An expression: R . S in a row, R + S either, R* any number, a0(R) one term over R; the place after it.
-fn expression(s: Signature, ws: &[u16], at: usize) -> usize
+// An expression: R . S in a row, in a text R, S; R + S either, R* any number, a0(R) one term over R; the place after it.
+fn expression(s: Signature, names: &[u8], ws: &[u16], at: usize, level: u8) -> usize
     ensures { λ r. ⌜ at ≤ r ⌝ }
 {
     if at >= ws.len() {
@@ -163,55 +257,55 @@ fn expression(s: Signature, ws: &[u16], at: usize) -> usize
     let w = ws[at];
     let next = at + 1;
     if is_leaf(ws, next, w) {
-        named(s, w);
+        named(s, names, w);
         return after(ws, next, w);
     }
-    before(s, w);
+    before(s, names, w, level);
     if w == 7000 {
         return next;
     }
-    let middle = expression(s, ws, next);
+    let middle = expression(s, names, ws, next, first_level(names, w));
     if w == 7001 || w == 7002 {
-        between(w);
-        let end = expression(s, ws, middle);
-        behind(w);
+        between(names, w);
+        let end = expression(s, names, ws, middle, second_level(names, w));
+        behind(w, level);
         return end;
     }
-    behind(w);
+    behind(w, level);
     middle
 }
 
 // A literal; the place after it.
-fn literal(s: Signature, ws: &[u16], at: usize) -> usize
+fn literal(s: Signature, names: &[u8], ws: &[u16], at: usize) -> usize
     ensures { λ r. ⌜ at ≤ r ⌝ }
 {
     if at >= ws.len() {
         return at;
     }
     let w = ws[at];
-    let middle = past_hedge(s, ws, at + 1);
+    let middle = side(s, names, ws, at + 1);
     if w == 5000 {
         say(b" = ");
-        return past_hedge(s, ws, middle);
+        return side(s, names, ws, middle);
     }
     say(b" in ");
-    expression(s, ws, middle)
+    expression(s, names, ws, middle, level(names, CHOICE))
 }
 
 // The literal that begins here.
-pub fn one_literal(s: Signature, ws: &[u16], at: usize) {
-    literal(s, ws, at);
+pub fn one_literal(s: Signature, names: &[u8], ws: &[u16], at: usize) {
+    literal(s, names, ws, at);
 }
 
 // The literals between two places, a row for each.
-pub fn literals(s: Signature, ws: &[u16], from: usize, to: usize) {
+pub fn literals(s: Signature, names: &[u8], ws: &[u16], from: usize, to: usize) {
     let mut at = from;
     let mut left = to;
     while left > from {
         left -= 1;
         if at < to {
             say(b"  ");
-            at = literal(s, ws, at);
+            at = literal(s, names, ws, at);
             say(b"\n");
         }
     }

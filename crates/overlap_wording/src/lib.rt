@@ -33,7 +33,7 @@ pub fn pair(i: usize, a: u16, j: usize, b: u16) {
 // Behind two rules: they can meet, with a report that both match.
 pub fn met(s: Signature, report: &[u16]) {
     say(b"can meet, by ");
-    hedge(s, report, 0);
+    hedge(s, b"", report, 0);
     say(b"\n");
 }
 

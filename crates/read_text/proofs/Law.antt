@@ -27,7 +27,7 @@ use Rattle.texts.specs.Outcomes.{Outcome, gives, denies, questionWords, fitted,
 use Rattle.texts.proofs.Readings.{line-read}
 use Rattle.texts.proofs.Accepted.{seventeen, not-seventeen}
 use Rattle.text_names.specs.Shelves.{nameAt, listed, width, shelfOf, Shelf, Shelves, numbering, enterAll}
-use Rattle.read_text.specs.Collecting.{Taken}
+use Rattle.collecting.specs.Collecting.{Taken}
 use Rattle.read_text.proofs.Tables.{all-of-them, too-many}
 use Rattle.text_words.specs.declared.Written.{Written}
 use Rattle.text_survey.specs.declared.Look.{Look}

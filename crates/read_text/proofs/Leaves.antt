@@ -1,4 +1,4 @@
--- The small calls: at least one, too many, words copied, shelves of zeros.
+-- The small calls: at least one, too many, words copied.
 use Prim.Native.Nat.{ℕ, zero, suc, _+_, _-_, _*_, _<_, _≤_}
 use native.Mathlib.Omega.{arith}
 use native.Mathlib.Numerals.{add-one}
@@ -6,12 +6,11 @@ use mathlib.Core.Path.{_≡_, refl, sym, ap, ap₂, _∙_, subst}
 use mathlib.Core.Bool.{Bool, true, false, _||_}
 use mathlib.Core.List.{List, [], _∷_, _++_}
 use lib.Dec.{ltb}
-use lib.ListN.{length, take, getD, set, length-take, replicate, getD-replicate, length-replicate}
+use lib.ListN.{length, take, getD, set, length-take}
 use lib.Seq.{sets, take-suc, length-sets}
 use borrow.Author.Tests.{lt-ltb, le-ltb, ltb-false}
-use Rattle.language.specs.Limits.{Limits, desk}
-use Rattle.texts.specs.Numbering.{Class, symbols, terms, hedges, functions}
-use Rattle.text_names.specs.Shelves.{width, shelfOf, Shelf, Shelves}
+use Rattle.language.specs.Limits.{Limits}
+use Rattle.text_names.specs.Shelves.{width}
 use Rattle.text_words.proofs.Stores.{sets-++}
 use Rattle.read_text.specs.Reads.{manyOf, oneAtLeast}
 
@@ -75,36 +74,6 @@ copy-on {words} {room} {n} {i} {room′} g p = record {
 
 pub copy-ends : {words room : List ℕ} {n i : ℕ} {room′ : List ℕ} → Copying words room n i room′ → n ≤ i → room′ ≡ sets room 0 (take n words)
 copy-ends {words} {room} {n} {i} g p = g .same ∙ ap (λ k. sets room 0 (take k words)) (let h = g .high in let z : i ≡ n = omega arith in z)
-
--- ---- shelves of zeros
-
-abbrev pub zeros : ℕ → List ℕ
-zeros n = replicate n 0
-
-zero-at : (n i : ℕ) → i < n → getD (zeros n) i 0 ≡ 0
-zero-at n i p = getD-replicate n i 0 0 p
-
-module _ {names : List ℕ} (e : names ≡ zeros (4 * (desk .each + 2))) where
-  pub empty-counts : (c : Class) → getD names (shelfOf desk c) 0 ≡ 0
-  empty-counts c = ap (λ l. getD l (shelfOf desk c) 0) e ∙ on c
-    where
-      on : (c : Class) → getD (zeros (4 * (desk .each + 2))) (shelfOf desk c) 0 ≡ 0
-      on terms = zero-at (4 * (desk .each + 2)) 0 (omega arith)
-      on hedges = zero-at (4 * (desk .each + 2)) (width desk) (omega arith)
-      on symbols = zero-at (4 * (desk .each + 2)) (2 * width desk) (omega arith)
-      on functions = zero-at (4 * (desk .each + 2)) (3 * width desk) (omega arith)
-
-  pub names-long : length names ≡ 4 * (desk .each + 2)
-  names-long = ap length e ∙ length-replicate {A = ℕ} (4 * (desk .each + 2)) 0
-
-  pub empty-shelves : Shelves desk names
-  empty-shelves c = record { within = let l = names-long in at-most c l; few = let z = empty-counts c in omega arith }
-    where
-      at-most : (c : Class) → length names ≡ 4 * (desk .each + 2) → shelfOf desk c + width desk ≤ length names
-      at-most terms l = omega arith
-      at-most hedges l = omega arith
-      at-most symbols l = omega arith
-      at-most functions l = omega arith
 
 -- ---- counts that fit a word
 

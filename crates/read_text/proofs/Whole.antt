@@ -13,7 +13,7 @@ use Rattle.language.specs.declared.Refusal.the-variants.{NotText, ManyNames, Lo
 use Rattle.language.specs.Limits.{Limits, desk}
 use Rattle.texts.specs.Outcomes.{Outcome, gives, denies, readsText}
 use Rattle.text_names.specs.Shelves.{numbering, Shelves}
-use Rattle.read_text.specs.Collecting.{Taken}
+use Rattle.collecting.specs.Collecting.{Taken}
 use Rattle.text_words.specs.declared.Written.{Written}
 use Rattle.text_survey.specs.declared.Look.{Look}
 use Rattle.text_survey.specs.Surveys.{Surveyed}
@@ -22,7 +22,7 @@ use Rattle.read_text.specs.declared.Reading.{Reading}
 use Rattle.read_text.specs.declared.Reading.the-variants.{Given, Refused}
 use Rattle.read_text.specs.Reads.{readingOf, leftBy, manyOf, headerOf, firstOf}
 use Rattle.read_text.proofs.Law.{not-tokens, not-lines, many-names, long-words, long-room, all-words}
-use Rattle.read_text.proofs.Leaves.{zeros, empty-counts}
+use Rattle.collecting.proofs.Zeros.{zeros, empty-counts}
 
 abbrev Done : List ℕ → List ℕ → Reading → List ℕ → Type 0
 Done text room r room′ = (r ≡ readingOf (readsText desk (length room) text)) × (room′ ≡ leftBy (readsText desk (length room) text) room)

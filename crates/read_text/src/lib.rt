@@ -1,8 +1,6 @@
 // Reading a text: the words of its question, or 17, 18, 19.
-mod collecting;
-
-use crate::collecting::ALL;
-use crate::collecting::collect;
+use collecting::ALL;
+use collecting::collect;
 use language::Refusal;
 use language::limits::ALTERNATIVES;
 use language::limits::PLACES;

@@ -1,6 +1,8 @@
 // A trail from a file replayed. The command prints and says its status: it returns nothing.
 ghost use Prim.Native.Nat.{_≤_};
 ghost use lib.ListN.{length};
+use files::Loaded;
+use files::SHEET;
 use files::load;
 use files::load_question;
 use files::status::failed;
@@ -130,6 +132,7 @@ fn replayed<'a>(
     answer: &'a [u16],
     told: &'a [u8],
     text: &'a [u8],
+    names: &'a [u8],
     i: usize,
 ) {
     let outcome = s.outcome;
@@ -137,42 +140,52 @@ fn replayed<'a>(
         denied(r, question, told, text, i);
         return;
     }
-    solved(s, question, answer, text, i);
+    solved(s, question, answer, text, names, i);
 }
 
-fn replay_words<'a>(question: &'a [u16], told: &'a [u8], text: &'a [u8], i: usize) {
+fn replay_words<'a>(
+    question: &'a [u16],
+    told: &'a [u8],
+    text: &'a [u8],
+    names: &'a [u8],
+    i: usize,
+) {
     let mut work = [0u16; ROOM];
     let mut answer = [0u16; ROOM];
     let s = replay(question, told, &mut work, &mut answer);
-    replayed(s, question, &answer, told, text, i);
+    replayed(s, question, &answer, told, text, names, i);
 }
 
 // Replays a trail's words, as the bytes that they are.
-fn replay_told<'a>(question: &'a [u16], trail: &'a [u16], text: &'a [u8], i: usize)
+fn replay_told<'a>(question: &'a [u16], trail: &'a [u16], text: &'a [u8], names: &'a [u8], i: usize)
     requires { ⌜ length (now trail) ≤ 32768 ⌝ }
 {
     let mut told = [0u8; 2 * TOLD];
     write_words(trail, &mut told);
     let n = 2 * trail.len();
-    replay_words(question, &told[0..n], text, i);
+    replay_words(question, &told[0..n], text, names, i);
 }
 
 // Replays the trail of the file that argument `j` names.
-fn replay_trail<'a>(question: &'a [u16], text: &'a [u8], i: usize, j: usize) {
-    let mut buf = io::large_buffer();
+fn replay_trail<'a>(question: &'a [u16], buf: &'a [u8], t: Loaded, i: usize, j: usize)
+    requires { ⌜ (t .bytes ≤ length (now buf)) × (t .named ≤ length (now buf)) ⌝ }
+{
+    let m = t.bytes;
+    let k = t.named;
+    let mut trail = io::large_buffer();
     let mut words = [0u16; TOLD];
-    let t = load(j, &mut buf, &mut words);
-    if !t.fine {
+    let told = load(j, &mut trail, &mut words);
+    if !told.fine {
         failed();
         return;
     }
-    let n = t.words;
-    replay_told(question, &words[0..n], text, i);
+    let n = told.words;
+    replay_told(question, &words[0..n], &buf[0..m], &buf[0..k], i);
 }
 
 // The answer that the trail in the file of argument `j` leads to, of the question in the file that argument `i` names.
 pub fn replay_file(i: usize, j: usize) {
-    let mut buf = io::large_buffer();
+    let mut buf = [0u8; SHEET];
     let mut words = [0u16; 2 * QUESTION];
     let t = load_question(i, &mut buf, &mut words);
     let n = t.words;
@@ -181,5 +194,5 @@ pub fn replay_file(i: usize, j: usize) {
         no_question(t.number, &buf[0..m], i);
         return;
     }
-    replay_trail(&words[0..n], &buf[0..m], i, j);
+    replay_trail(&words[0..n], &buf, t, i, j);
 }

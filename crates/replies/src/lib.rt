@@ -41,8 +41,15 @@ pub fn no_question(number: u16, text: &[u8], i: usize) {
     failed();
 }
 
-// Says what solving came to.
-pub fn solved<'a>(s: Solved, question: &'a [u16], answer: &'a [u16], text: &'a [u8], i: usize) {
+// Says what solving came to, in these names.
+pub fn solved<'a>(
+    s: Solved,
+    question: &'a [u16],
+    answer: &'a [u16],
+    text: &'a [u8],
+    names: &'a [u8],
+    i: usize,
+) {
     let outcome = s.outcome;
     match outcome {
         Outcome::Refused(r) => refuse(r, question, text, i),
@@ -52,11 +59,18 @@ pub fn solved<'a>(s: Solved, question: &'a [u16], answer: &'a [u16], text: &'a [
                 s,
                 question,
                 answer,
+                names,
             );
             nothing();
         }
         Outcome::AllSolved => {
-            answered(b"settled: every line can be met\n", s, question, answer);
+            answered(
+                b"settled: every line can be met\n",
+                s,
+                question,
+                answer,
+                names,
+            );
             found();
         }
         Outcome::SomeOpen => {
@@ -65,6 +79,7 @@ pub fn solved<'a>(s: Solved, question: &'a [u16], answer: &'a [u16], text: &'a [
                 s,
                 question,
                 answer,
+                names,
             );
             found();
         }

@@ -1,4 +1,8 @@
 // A question's trail: walked through, or written. The commands print and say their status: they return nothing.
+ghost use Prim.Native.Nat.{_≤_};
+ghost use lib.ListN.{length};
+use files::Loaded;
+use files::SHEET;
 use files::load_question;
 use files::status::found;
 use files::status::nothing;
@@ -33,6 +37,7 @@ fn walked<'a>(
     answer: &'a [u16],
     trail: &'a [u16],
     text: &'a [u8],
+    names: &'a [u8],
     i: usize,
 ) {
     let steps = s.steps;
@@ -40,11 +45,11 @@ fn walked<'a>(
     match outcome {
         Outcome::Refused(r) => refuse(r, question, text, i),
         Outcome::NoLine => {
-            walk(question, answer, first_steps(trail, steps));
+            walk(question, answer, first_steps(trail, steps), names);
             nothing();
         }
         _ => {
-            walk(question, answer, first_steps(trail, steps));
+            walk(question, answer, first_steps(trail, steps), names);
             found();
         }
     }
@@ -64,21 +69,25 @@ fn written<'a>(s: Solved, question: &'a [u16], trail: &'a [u16], text: &'a [u8],
 }
 
 // The trail of a question, walked through or alone.
-fn with_trail<'a>(question: &'a [u16], walks: bool, text: &'a [u8], i: usize) {
+fn with_trail<'a>(question: &'a [u16], walks: bool, buf: &'a [u8], t: Loaded, i: usize)
+    requires { ⌜ (t .bytes ≤ length (now buf)) × (t .named ≤ length (now buf)) ⌝ }
+{
+    let m = t.bytes;
+    let k = t.named;
     let mut work = [0u16; ROOM];
     let mut answer = [0u16; ROOM];
     let mut trail = [0u16; TRAIL];
     let s = solve_trail(question, &mut work, &mut answer, &mut trail);
     if walks {
-        walked(s, question, &answer, &trail, text, i);
+        walked(s, question, &answer, &trail, &buf[0..m], &buf[0..k], i);
         return;
     }
-    written(s, question, &trail, text, i);
+    written(s, question, &trail, &buf[0..m], i);
 }
 
 // The trail of the question in the file that argument `i` names, walked through or alone.
 fn with_question(walks: bool, i: usize) {
-    let mut buf = io::large_buffer();
+    let mut buf = [0u8; SHEET];
     let mut words = [0u16; 2 * QUESTION];
     let t = load_question(i, &mut buf, &mut words);
     let n = t.words;
@@ -87,7 +96,7 @@ fn with_question(walks: bool, i: usize) {
         no_question(t.number, &buf[0..m], i);
         return;
     }
-    with_trail(&words[0..n], walks, &buf[0..m], i);
+    with_trail(&words[0..n], walks, &buf, t, i);
 }
 
 // Every step of the answer of the question in the file that argument `i` names.

@@ -13,12 +13,18 @@ use rules::places::AT_F6;
 use rules::places::AT_F7;
 use rules::places::AT_M2;
 
-pub(crate) fn reason(s: Signature, k: &[u16], t: Act) {
+pub(crate) fn reason(s: Signature, names: &[u8], k: &[u16], t: Act) {
     let v = variable(k, t);
     let rule = t.rule;
     match rule {
-        AT_F1 => about(s, b"", v, b" would have to hold itself and more"),
-        AT_F2 => about(s, b"the run ", v, b" would have to hold itself and more"),
+        AT_F1 => about(s, names, b"", v, b" would have to hold itself and more"),
+        AT_F2 => about(
+            s,
+            names,
+            b"the run ",
+            v,
+            b" would have to hold itself and more",
+        ),
         AT_F3 => say(b"the two parts have different names, so they are never the same"),
         AT_F4 => say(b"one side is empty, and the other has at least one part"),
         AT_F5 => say(b"the part has another name than the shape asks for"),

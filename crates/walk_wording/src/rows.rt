@@ -1,4 +1,4 @@
-// The rows of a walk: each behind blanks for how deep it is.
+// The rows of a walk: each behind blanks for how deep it is. `names` has the names of the text that the question came as (crates/notation).
 use crate::Act;
 use crate::names::rule_name;
 use crate::reasons::reason;
@@ -32,9 +32,9 @@ fn end() {
 }
 
 // A literal in a row.
-pub fn literal_row(s: Signature, k: &[u16], at: usize, depth: usize) {
+pub fn literal_row(s: Signature, names: &[u8], k: &[u16], at: usize, depth: usize) {
     indent(depth);
-    one_literal(s, k, at);
+    one_literal(s, names, k, at);
     end();
 }
 
@@ -60,39 +60,39 @@ pub fn case_begins(i: usize, step: usize, depth: usize) {
 }
 
 // A step: its number, its rule and the literal that it acts on.
-pub fn step_begins(s: Signature, k: &[u16], t: Act, step: usize, depth: usize) {
+pub fn step_begins(s: Signature, names: &[u8], k: &[u16], t: Act, step: usize, depth: usize) {
     indent(depth);
     say(b"step ");
     number(step as u64);
     say(b", ");
     rule_name(t.rule);
     say(b": ");
-    one_literal(s, k, t.at);
+    one_literal(s, names, k, t.at);
     end();
 }
 
 // Why it may be made.
-pub fn step_says(s: Signature, k: &[u16], t: Act, depth: usize) {
+pub fn step_says(s: Signature, names: &[u8], k: &[u16], t: Act, depth: usize) {
     indent(depth);
-    sentence(s, k, t);
+    sentence(s, names, k, t);
     end();
 }
 
 // Why nothing is left.
-pub fn dropped(s: Signature, k: &[u16], t: Act, depth: usize) {
+pub fn dropped(s: Signature, names: &[u8], k: &[u16], t: Act, depth: usize) {
     indent(depth);
     say(b"dropped: ");
-    reason(s, k, t);
+    reason(s, names, k, t);
     end();
 }
 
 // The same by two tests that clash.
-pub fn clashed(s: Signature, k: &[u16], first: usize, second: usize, depth: usize) {
+pub fn clashed(s: Signature, names: &[u8], k: &[u16], first: usize, second: usize, depth: usize) {
     indent(depth);
     say(b"dropped: ");
-    one_literal(s, k, first);
+    one_literal(s, names, k, first);
     say(b" and ");
-    one_literal(s, k, second);
+    one_literal(s, names, k, second);
     say(b" share no report");
     end();
 }
@@ -111,11 +111,11 @@ pub fn case_is(i: usize, depth: usize) {
 }
 
 // One more literal of a result, apart from the one before it.
-pub fn one_more(s: Signature, k: &[u16], at: usize, first: bool) {
+pub fn one_more(s: Signature, names: &[u8], k: &[u16], at: usize, first: bool) {
     if !first {
         say(b"; ");
     }
-    one_literal(s, k, at);
+    one_literal(s, names, k, at);
 }
 
 pub fn nothing_new() {

@@ -48,9 +48,9 @@ pub(crate) fn variable(k: &[u16], t: Act) -> u16 {
 }
 
 // A sentence about a variable or a symbol.
-pub(crate) fn about<'a>(s: Signature, before: &'a [u8], v: u16, behind: &'a [u8]) {
+pub(crate) fn about<'a>(s: Signature, names: &'a [u8], before: &'a [u8], v: u16, behind: &'a [u8]) {
     say(before);
-    named(s, v);
+    named(s, names, v);
     say(behind);
 }
 
@@ -74,8 +74,8 @@ fn told(text: &[u8], n: usize) {
 }
 
 // Which of the parts on the other side a run may take.
-fn cuts(s: Signature, v: u16, n: usize) {
-    about(s, b"the run ", v, b" ");
+fn cuts(s: Signature, names: &[u8], v: u16, n: usize) {
+    about(s, names, b"the run ", v, b" ");
     match n {
         1 => say(b"can take nothing here: one case"),
         2 => say(b"may take nothing or the one part: two cases"),
@@ -88,9 +88,10 @@ fn cuts(s: Signature, v: u16, n: usize) {
 }
 
 // The same where it stands in one of them itself.
-fn some_cuts(s: Signature, v: u16, n: usize) {
+fn some_cuts(s: Signature, names: &[u8], v: u16, n: usize) {
     about(
         s,
+        names,
         b"the run ",
         v,
         b" cannot reach the part that it stands in itself: ",
@@ -99,7 +100,7 @@ fn some_cuts(s: Signature, v: u16, n: usize) {
 }
 
 // R1, R2, the fold, Del1 to Del3, D1, D2, D0: what is the same is struck or taken apart.
-fn of_same(s: Signature, v: u16, t: Act) {
+fn of_same(s: Signature, names: &[u8], v: u16, t: Act) {
     let rule = t.rule;
     match rule {
         AT_R1 => say(b"both sides are written the same, so it always holds and is struck"),
@@ -107,6 +108,7 @@ fn of_same(s: Signature, v: u16, t: Act) {
         AT_FOLD => say(b"the same is asked twice, so the later one is struck"),
         AT_DEL1 => about(
             s,
+            names,
             b"both sides begin with the run ",
             v,
             b", so it is struck from both",
@@ -116,6 +118,7 @@ fn of_same(s: Signature, v: u16, t: Act) {
         ),
         AT_DEL3 => about(
             s,
+            names,
             b"the run ",
             v,
             b" stands among others on the other side, so all of those are empty",
@@ -132,31 +135,35 @@ fn of_same(s: Signature, v: u16, t: Act) {
 }
 
 // E1 to E7: a variable is filled in.
-fn of_filled(s: Signature, v: u16, t: Act) {
+fn of_filled(s: Signature, names: &[u8], v: u16, t: Act) {
     let rule = t.rule;
     match rule {
         AT_E1 => about(
             s,
+            names,
             b"the blank ",
             v,
             b" is known now, and is filled in everywhere else",
         ),
         AT_E2 => about(
             s,
+            names,
             b"the run ",
             v,
             b" is known now, and is filled in everywhere else",
         ),
-        AT_E3 => cuts(s, v, t.cases),
-        AT_E4 => some_cuts(s, v, t.cases),
+        AT_E3 => cuts(s, names, v, t.cases),
+        AT_E4 => some_cuts(s, names, v, t.cases),
         AT_E5 => about(
             s,
+            names,
             b"the name ",
             v,
             b" is known now, and is filled in everywhere else",
         ),
         AT_E6 => about(
             s,
+            names,
             b"the two parts must have one name, so ",
             v,
             b" is the other's and is filled in everywhere",
@@ -164,6 +171,7 @@ fn of_filled(s: Signature, v: u16, t: Act) {
         _ => {
             about(
                 s,
+                names,
                 b"the name ",
                 v,
                 b" may be any symbol, so each is tried: ",
@@ -174,7 +182,7 @@ fn of_filled(s: Signature, v: u16, t: Act) {
 }
 
 // M1 to M7, M10 to M12: a shape test is taken apart.
-fn of_shapes(s: Signature, v: u16, t: Act) {
+fn of_shapes(s: Signature, names: &[u8], v: u16, t: Act) {
     let rule = t.rule;
     match rule {
         AT_M1 => say(b"only an empty run has this shape, so every run here is empty"),
@@ -184,6 +192,7 @@ fn of_shapes(s: Signature, v: u16, t: Act) {
         ),
         AT_M3 => about(
             s,
+            names,
             b"the shape is one part: the run ",
             v,
             b" is that part, or it is empty: two cases",
@@ -196,6 +205,7 @@ fn of_shapes(s: Signature, v: u16, t: Act) {
         AT_M7 => say(b"all of it has the one shape or the other: two cases"),
         AT_M10 => about(
             s,
+            names,
             b"the shape asks for its own name, so ",
             v,
             b" is that and is filled in everywhere",
@@ -211,15 +221,15 @@ fn of_shapes(s: Signature, v: u16, t: Act) {
     }
 }
 
-pub(crate) fn sentence(s: Signature, k: &[u16], t: Act) {
+pub(crate) fn sentence(s: Signature, names: &[u8], k: &[u16], t: Act) {
     let v = variable(k, t);
     if t.rule <= AT_D0 {
-        of_same(s, v, t);
+        of_same(s, names, v, t);
         return;
     }
     if t.rule <= AT_E7 {
-        of_filled(s, v, t);
+        of_filled(s, names, v, t);
         return;
     }
-    of_shapes(s, v, t);
+    of_shapes(s, names, v, t);
 }

@@ -4,19 +4,15 @@ mod clashing;
 mod news;
 mod places;
 mod rooms;
+mod shown;
 
-use clashing::partner;
-use language::Signature;
 use language::limits::QUESTION;
 use language::limits::ROOM;
 use language::wide;
 use named_steps::Stepping;
 use named_steps::step_named;
-use news::Row;
-use news::result;
 use places::literal_from;
 use places::minus;
-use places::past;
 use places::plus;
 use print::number;
 use print::say;
@@ -24,6 +20,7 @@ use rooms::BODY;
 use rooms::Frame;
 use rooms::HEAD;
 use rooms::WAITING;
+use rooms::body;
 use rooms::carry;
 use rooms::head;
 use rooms::is_line;
@@ -32,18 +29,16 @@ use rooms::lay_out;
 use rooms::narrow;
 use rooms::read_frame;
 use rooms::wait;
-use rules::places::AT_CLASH;
-use rules::places::AT_FOLD;
+use shown::FRAME;
+use shown::case_number;
+use shown::count;
+use shown::heading;
+use shown::signature_of;
+use shown::told;
+use shown::words_of;
 use walk_wording::Act;
-use walk_wording::rows::alternative;
-use walk_wording::rows::case_begins;
-use walk_wording::rows::clashed;
-use walk_wording::rows::dropped;
-use walk_wording::rows::literal_row;
 use walk_wording::rows::open;
 use walk_wording::rows::settled;
-use walk_wording::rows::step_begins;
-use walk_wording::rows::step_says;
 use walk_wording::rows::summary;
 use walk_wording::rows::too_long;
 use words::word;
@@ -51,145 +46,11 @@ use words::word;
 // The words of a step in a trail.
 const TRIPLE: usize = 3;
 
-// How many words stand before a result that a named step leaves.
-const FRAME: usize = 2;
-
 // Where the waiting conjunctions begin, the steps made and the lines met.
 struct Place {
     at: usize,
     made: usize,
     line: usize,
-}
-
-fn signature_of(question: &[u16]) -> Signature {
-    let first = word(question, 0);
-    Signature {
-        symbols: first % 256,
-        unordered: first / 256,
-    }
-}
-
-// Every literal of an alternative, a row for each.
-fn literals(s: Signature, k: &[u16]) {
-    let mut at = 0;
-    let mut left = k.len();
-    while left > 0 {
-        if at < k.len() {
-            literal_row(s, k, at, 1);
-        }
-        at = past(k, at);
-        left -= 1;
-    }
-}
-
-// What a conjunction begins with: as an alternative, as a case, or as the only result of the step before.
-fn heading(s: Signature, k: &[u16], f: Frame) {
-    if f.step == 0 {
-        alternative(wide(f.number), k.len() > 0);
-        literals(s, k);
-        return;
-    }
-    if f.case > 0 {
-        case_begins(wide(f.case), wide(f.step), minus(wide(f.depth), 1));
-    }
-}
-
-// The results, each behind its frame, from a place on: how many there are.
-fn count(work: &[u16], begin: usize) -> usize {
-    let mut n = 0;
-    let mut at = begin;
-    let mut left = ROOM;
-    while left > 0 {
-        if ROOM <= at {
-            return n;
-        }
-        at = plus(at, plus(FRAME, wide(word(work, at))));
-        n = plus(n, 1);
-        left -= 1;
-    }
-    n
-}
-
-// The words of the result at a place.
-fn words_of<'a>(work: &'a [u16], at: usize) -> &'a [u16] {
-    let from = plus(at, FRAME);
-    let to = plus(from, wide(word(work, at)));
-    if work.len() < to {
-        return &work[0..0];
-    }
-    if to < from {
-        return &work[0..0];
-    }
-    &work[from..to]
-}
-
-// Which case a result is: none where it is the only one.
-fn case_number(n: usize, i: usize) -> usize {
-    if n == 1 {
-        return 0;
-    }
-    plus(i, 1)
-}
-
-// What each result has new.
-fn news_of(
-    s: Signature,
-    k: &[u16],
-    literal: usize,
-    t: Act,
-    work: &[u16],
-    begin: usize,
-    depth: usize,
-) {
-    let mut at = begin;
-    let mut i = 0;
-    while i < t.cases {
-        let r = words_of(work, at);
-        let row = Row {
-            case: case_number(t.cases, i),
-            depth,
-        };
-        result(s, k, literal, t.at, r, row);
-        at = plus(at, plus(FRAME, r.len()));
-        i += 1;
-    }
-}
-
-// Why nothing is left.
-fn ends(s: Signature, question: &[u16], k: &[u16], t: Act, depth: usize) {
-    if t.rule == AT_CLASH {
-        let second = partner(question, k, t.at);
-        if second < k.len() {
-            clashed(s, k, t.at, second, depth);
-            return;
-        }
-    }
-    dropped(s, k, t, depth);
-}
-
-// A step that was made, in rows.
-fn told(
-    question: &[u16],
-    k: &[u16],
-    literal: usize,
-    t: Act,
-    work: &[u16],
-    begin: usize,
-    step: usize,
-    f: Frame,
-) {
-    let s = signature_of(question);
-    let depth = wide(f.depth);
-    step_begins(s, k, t, step, depth);
-    if t.cases == 0 {
-        ends(s, question, k, t, plus(depth, 1));
-        return;
-    }
-    step_says(s, k, t, plus(depth, 1));
-    if t.rule == AT_FOLD {
-        return;
-    }
-    news_of(s, k, literal, t, work, begin, plus(depth, 1));
 }
 
 // How deep the results of a step are: cases stand deeper than what they are cases of.
@@ -247,10 +108,21 @@ fn is_one(side: u16) -> bool {
     side == 1
 }
 
+// The step that comes next in the trail, of a conjunction, with so many results.
+fn act(k: &[u16], trail: &[u16], made: usize, n: usize) -> Act {
+    let from = plus(made, plus(made, made));
+    Act {
+        rule: wide(word(trail, from)),
+        at: literal_from(k, wide(word(trail, plus(from, 1)))),
+        swap: is_one(word(trail, plus(from, 2))),
+        cases: n,
+    }
+}
+
 // The results of a step stand in the room from a place on: they are shown and wait.
 fn stepped(
-    question: &[u16],
-    k: &[u16],
+    one: &[u16],
+    names: &[u8],
     trail: &[u16],
     work: &[u16],
     begin: usize,
@@ -258,17 +130,20 @@ fn stepped(
     waiting: &mut [u16],
     p: Place,
 ) -> Place {
-    let from = plus(p.made, plus(p.made, p.made));
-    let literal = wide(word(trail, plus(from, 1)));
+    let literal = wide(word(trail, plus(plus(p.made, 1), plus(p.made, p.made))));
+    let k = body(one);
     let n = count(work, begin);
-    let t = Act {
-        rule: wide(word(trail, from)),
-        at: literal_from(k, literal),
-        swap: is_one(word(trail, plus(from, 2))),
-        cases: n,
-    };
     let step = plus(p.made, 1);
-    told(question, k, literal, t, work, begin, step, f);
+    told(
+        one,
+        names,
+        literal,
+        act(k, trail, p.made, n),
+        work,
+        begin,
+        step,
+        f,
+    );
     let next = plus(p.at, plus(HEAD, k.len()));
     let at = minus(next, taken(begin, n));
     stack(work, begin, n, step, f, waiting, at);
@@ -281,8 +156,8 @@ fn stepped(
 
 // The step that comes next in the trail, of a question of one conjunction.
 fn step(
-    question: &[u16],
     one: &[u16],
+    names: &[u8],
     trail: &[u16],
     f: Frame,
     waiting: &mut [u16],
@@ -292,21 +167,9 @@ fn step(
     let rule = word(trail, from);
     let literal = word(trail, plus(from, 1));
     let side = word(trail, plus(from, 2));
-    if one.len() < BODY {
-        return over(p);
-    }
     let mut work = [0u16; ROOM];
     match step_named(one, f.number, rule, literal, side, &mut work) {
-        Stepping::Made(begin) => stepped(
-            question,
-            &one[BODY..],
-            trail,
-            &work,
-            begin,
-            f,
-            waiting,
-            p,
-        ),
+        Stepping::Made(begin) => stepped(one, names, trail, &work, begin, f, waiting, p),
         Stepping::Refused(_) => over(p),
     }
 }
@@ -327,27 +190,31 @@ fn line(answer: &[u16], f: Frame, n: usize, p: Place) -> Place {
 
 // The first waiting conjunction, as a question of its own.
 fn go_on(
-    question: &[u16],
+    one: &[u16],
+    names: &[u8],
     answer: &[u16],
     trail: &[u16],
-    one: &[u16],
     f: Frame,
     waiting: &mut [u16],
     p: Place,
 ) -> Place {
-    if one.len() < BODY {
-        return over(p);
+    let k = body(one);
+    heading(signature_of(one), names, k, f);
+    if is_line(answer, p.line, one, BODY, k.len()) {
+        return line(answer, f, k.len(), p);
     }
-    let n = one.len() - BODY;
-    heading(signature_of(question), &one[BODY..], f);
-    if is_line(answer, p.line, one, BODY, n) {
-        return line(answer, f, n, p);
-    }
-    step(question, one, trail, f, waiting, p)
+    step(one, names, trail, f, waiting, p)
 }
 
 // One turn of the walk: a step or a line.
-fn turn(question: &[u16], answer: &[u16], trail: &[u16], waiting: &mut [u16], p: Place) -> Place {
+fn turn(
+    question: &[u16],
+    names: &[u8],
+    answer: &[u16],
+    trail: &[u16],
+    waiting: &mut [u16],
+    p: Place,
+) -> Place {
     if WAITING <= p.at {
         return p;
     }
@@ -360,11 +227,18 @@ fn turn(question: &[u16], answer: &[u16], trail: &[u16], waiting: &mut [u16], p:
     let mut one = [0u16; QUESTION];
     head(question, n, &mut one);
     carry(waiting, plus(p.at, HEAD), n, &mut one, BODY);
-    go_on(question, answer, trail, &one[0..BODY + n], f, waiting, p)
+    go_on(&one[0..BODY + n], names, answer, trail, f, waiting, p)
 }
 
 // So many turns: every step and every line has one.
-fn turns(question: &[u16], answer: &[u16], trail: &[u16], waiting: &mut [u16], n: usize) {
+fn turns(
+    question: &[u16],
+    names: &[u8],
+    answer: &[u16],
+    trail: &[u16],
+    waiting: &mut [u16],
+    n: usize,
+) {
     let mut p = Place {
         at: lay_out(question, waiting),
         made: 0,
@@ -372,17 +246,24 @@ fn turns(question: &[u16], answer: &[u16], trail: &[u16], waiting: &mut [u16], n
     };
     let mut left = n;
     while left > 0 {
-        p = turn(question, answer, trail, waiting, p);
+        p = turn(question, names, answer, trail, waiting, p);
         left -= 1;
     }
 }
 
-// Walks through the answer of a question that was solved with this trail.
-pub fn walk(question: &[u16], answer: &[u16], trail: &[u16]) {
+// Walks through the answer of a question that was solved with this trail. `names` has the names of the text that it came as (crates/notation).
+pub fn walk(question: &[u16], answer: &[u16], trail: &[u16], names: &[u8]) {
     let mut waiting = [0u16; WAITING];
     let steps = trail.len() / TRIPLE;
     let lines = wide(word(answer, 0));
-    turns(question, answer, trail, &mut waiting, plus(steps, lines));
+    turns(
+        question,
+        names,
+        answer,
+        trail,
+        &mut waiting,
+        plus(steps, lines),
+    );
     summary(lines, wide(word(answer, 1)), steps);
 }
 

@@ -32,15 +32,15 @@ fn begin(row: Row) {
     case_is(row.case, row.depth);
 }
 
-fn show(s: Signature, r: &[u16], p: Passed, row: Row) {
+fn show(s: Signature, names: &[u8], r: &[u16], p: Passed, row: Row) {
     if p.shown == 0 {
         begin(row);
     }
-    one_more(s, r, p.new, p.shown == 0);
+    one_more(s, names, r, p.new, p.shown == 0);
 }
 
 // A literal that was there before.
-fn kept(s: Signature, k: &[u16], r: &[u16], p: Passed, row: Row) -> Passed {
+fn kept(s: Signature, names: &[u8], k: &[u16], r: &[u16], p: Passed, row: Row) -> Passed {
     let end = past(k, p.old);
     let next = past(r, p.new);
     let n = minus(end, p.old);
@@ -53,7 +53,7 @@ fn kept(s: Signature, k: &[u16], r: &[u16], p: Passed, row: Row) -> Passed {
             };
         }
     }
-    show(s, r, p, row);
+    show(s, names, r, p, row);
     Passed {
         old: end,
         new: next,
@@ -62,8 +62,8 @@ fn kept(s: Signature, k: &[u16], r: &[u16], p: Passed, row: Row) -> Passed {
 }
 
 // A literal that stands in the place of the old one.
-fn made(s: Signature, r: &[u16], p: Passed, row: Row) -> Passed {
-    show(s, r, p, row);
+fn made(s: Signature, names: &[u8], r: &[u16], p: Passed, row: Row) -> Passed {
+    show(s, names, r, p, row);
     Passed {
         old: p.old,
         new: past(r, p.new),
@@ -72,21 +72,29 @@ fn made(s: Signature, r: &[u16], p: Passed, row: Row) -> Passed {
 }
 
 // So many that were there before.
-fn all_kept(s: Signature, k: &[u16], r: &[u16], from: Passed, n: usize, row: Row) -> Passed {
+fn all_kept(
+    s: Signature,
+    names: &[u8],
+    k: &[u16],
+    r: &[u16],
+    from: Passed,
+    n: usize,
+    row: Row,
+) -> Passed {
     let mut p = from;
     let mut left = n;
     while left > 0 {
-        p = kept(s, k, r, p, row);
+        p = kept(s, names, k, r, p, row);
         left -= 1;
     }
     p
 }
 
-fn all_made(s: Signature, r: &[u16], from: Passed, n: usize, row: Row) -> Passed {
+fn all_made(s: Signature, names: &[u8], r: &[u16], from: Passed, n: usize, row: Row) -> Passed {
     let mut p = from;
     let mut left = n;
     while left > 0 {
-        p = made(s, r, p, row);
+        p = made(s, names, r, p, row);
         left -= 1;
     }
     p
@@ -104,7 +112,15 @@ fn end(shown: usize, row: Row) {
 }
 
 // The result r of a step at literal i of k, which stands at a place: those before it and those behind it are there in the result too.
-pub(crate) fn result(s: Signature, k: &[u16], i: usize, at: usize, r: &[u16], row: Row) {
+pub(crate) fn result(
+    s: Signature,
+    names: &[u8],
+    k: &[u16],
+    i: usize,
+    at: usize,
+    r: &[u16],
+    row: Row,
+) {
     let behind = minus(literals_of(k), plus(i, 1));
     let middle = minus(literals_of(r), plus(i, behind));
     let none = Passed {
@@ -112,13 +128,13 @@ pub(crate) fn result(s: Signature, k: &[u16], i: usize, at: usize, r: &[u16], ro
         new: 0,
         shown: 0,
     };
-    let p = all_kept(s, k, r, none, i, row);
-    let q = all_made(s, r, p, middle, row);
+    let p = all_kept(s, names, k, r, none, i, row);
+    let q = all_made(s, names, r, p, middle, row);
     let there = Passed {
         old: past(k, at),
         new: q.new,
         shown: q.shown,
     };
-    let e = all_kept(s, k, r, there, behind, row);
+    let e = all_kept(s, names, k, r, there, behind, row);
     end(e.shown, row);
 }

@@ -18,6 +18,14 @@ const COUNTS: usize = 5;
 // The words of a question of one conjunction stand behind its counts and its two offsets.
 pub(crate) const BODY: usize = 7;
 
+// And they are these.
+pub(crate) fn body<'a>(one: &'a [u16]) -> &'a [u16] {
+    if one.len() < BODY {
+        return &one[0..0];
+    }
+    &one[BODY..]
+}
+
 // What stands before a waiting conjunction: how many words it has, its alternative, how deep it is, which case of which step it is. Step 0 is none: it is
 // an alternative; case 0 is the only result.
 pub(crate) struct Frame {

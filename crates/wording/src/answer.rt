@@ -1,10 +1,12 @@
-// The lines of an answer, and the values of a filling.
+// The lines of an answer, and the values of a filling. `names` has the names of the text that the question came as, and is empty where it came as words
+// (crates/notation).
 ghost use Prim.Native.Nat.{_<_};
 use answers::LINE_HEAD;
 use language::Signature;
 use language::wide;
 use notation::hedge;
 use notation::literals;
+use notation::variable;
 use outcomes::Solved;
 use print::number;
 use print::say;
@@ -20,7 +22,7 @@ fn signature_of(question: &[u16]) -> Signature {
 }
 
 // Line i of an answer: its place among the lines, its mark and the number of its alternative, then its literals.
-fn line(s: Signature, answer: &[u16], i: usize)
+fn line(s: Signature, names: &[u8], answer: &[u16], i: usize)
     requires { ⌜ i < 65536 ⌝ }
 {
     let from = wide(word(answer, i + 2));
@@ -39,15 +41,15 @@ fn line(s: Signature, answer: &[u16], i: usize)
     if start >= to {
         say(b"  every report meets it\n");
     }
-    literals(s, answer, start, to);
+    literals(s, names, answer, start, to);
 }
 
 // Every line of an answer.
-fn lines(s: Signature, answer: &[u16]) {
+fn lines(s: Signature, names: &[u8], answer: &[u16]) {
     let n = wide(word(answer, 0));
     let mut i = 0;
     while i < n {
-        line(s, answer, i);
+        line(s, names, answer, i);
         i += 1;
     }
 }
@@ -67,10 +69,16 @@ fn counts(s: Solved) {
 }
 
 // An answer: its verdict, its counts and its lines.
-pub fn answered<'a>(verdict: &'a [u8], s: Solved, question: &'a [u16], answer: &'a [u16]) {
+pub fn answered<'a>(
+    verdict: &'a [u8],
+    s: Solved,
+    question: &'a [u16],
+    answer: &'a [u16],
+    names: &'a [u8],
+) {
     say(verdict);
     counts(s);
-    lines(signature_of(question), answer);
+    lines(signature_of(question), names, answer);
 }
 
 // A word in decimal, apart from the one before it.
@@ -91,33 +99,16 @@ pub fn words(ws: &[u16]) {
     say(b"\n");
 }
 
-// The name of variable i of a filling: term, hedge, function variables in order.
-fn variable(i: usize, terms: usize, hedges: usize) {
-    if i < terms {
-        say(b"x");
-        number(i as u64);
-        return;
-    }
-    let j = i - terms;
-    if j < hedges {
-        say(b"p");
-        number(j as u64);
-        return;
-    }
-    say(b"X");
-    number((j - hedges) as u64);
-}
-
 // A filling's values as remarks, and then its words, so that what is written here can be read again.
-pub fn filling(question: &[u16], ws: &[u16]) {
+pub fn filling(question: &[u16], ws: &[u16], names: &[u8]) {
     let s = signature_of(question);
     let n = wide(word(ws, 0));
     let mut i = 0;
     while i < n {
         say(b"# ");
-        variable(i, wide(word(question, 1)), wide(word(question, 2)));
+        variable(names, i, wide(word(question, 1)), wide(word(question, 2)));
         say(b" = ");
-        hedge(s, ws, wide(word(ws, i + 1)));
+        hedge(s, names, ws, wide(word(ws, i + 1)));
         say(b"\n");
         i += 1;
     }

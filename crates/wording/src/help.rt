@@ -28,8 +28,9 @@ pub fn help() {
     say(b"\n");
     say(b"In an answer x0 is a blank for one part, p0 for a run of parts, X0 for a name;\n");
     say(b"a0 is a symbol, a1~ one whose parts come in any order, () no part at all. In a\n");
-    say(b"pattern R . S is one after the other, R + S either, R* any number. An open line\n");
-    say(b"may be met by some report or by none.\n");
+    say(b"pattern R . S is one after the other, R + S either, R* any number. A text is\n");
+    say(b"answered in its own names and signs. An open line may be met by some report or\n");
+    say(b"by none.\n");
     say(b"\n");
     say(b"The exit status is 0 where there are lines, a yes or an example, 1 where the\n");
     say(b"answer is none or no, and 2 where the desk refuses, is used wrongly or cannot\n");

@@ -12,23 +12,25 @@ use Rattle.notation.proofs.after.Reads as after-reads
 use Rattle.notation.proofs.before.Reads as before-reads
 use Rattle.notation.proofs.behind.Reads as behind-reads
 use Rattle.notation.proofs.between.Reads as between-reads
+use Rattle.notation.proofs.first_level.Reads as first-level-reads
 use Rattle.notation.proofs.is_leaf.Reads as is-leaf-reads
 use Rattle.notation.proofs.named.Reads as named-reads
+use Rattle.notation.proofs.second_level.Reads as second-level-reads
 use Rattle.notation.proofs.+expression.{statement}
 use Rattle.notation.proofs.+expression.Tie.{close}
 
-abbrev μ : Measures 1 kinds.ps ℕ
-μ κs a = length (a .1 .0 .now) - a .1 .1 .0
+abbrev μ : Measures 2 kinds.ps ℕ
+μ κs a = length (a .1 .1 .0 .now) - a .1 .1 .1 .0
 
-abbrev At : ℕ → In 1 kinds.ps
-At t = and 1 kinds.ps (is 1 kinds.ps μ t) f.Pre
+abbrev At : ℕ → In 2 kinds.ps
+At t = and 2 kinds.ps (is 2 kinds.ps μ t) f.Pre
 
-abbrev Below : ℕ → In 1 kinds.ps
-Below t = and 1 kinds.ps (falls 1 kinds.ps _<_ μ t) f.Pre
+abbrev Below : ℕ → In 2 kinds.ps
+Below t = and 2 kinds.ps (falls 2 kinds.ps _<_ μ t) f.Pre
 
 pub +expression-spec : {M : Type 1} → statement M
 +expression-spec =
-    close μ λ t. lts.spec (is-leaf-reads.Asked, is-leaf-reads.Learnt, named-reads.Asked, named-reads.Learnt, after-reads.Asked, after-reads.Learnt, before-reads.Asked, before-reads.Learnt, Below t, f.Post, between-reads.Asked, between-reads.Learnt, behind-reads.Asked, behind-reads.Learnt) (At t) f.Post
+    close μ λ t. lts.spec (is-leaf-reads.Asked, is-leaf-reads.Learnt, named-reads.Asked, named-reads.Learnt, after-reads.Asked, after-reads.Learnt, before-reads.Asked, before-reads.Learnt, first-level-reads.Asked, first-level-reads.Learnt, Below t, f.Post, between-reads.Asked, between-reads.Learnt, second-level-reads.Asked, second-level-reads.Learnt, behind-reads.Asked, behind-reads.Learnt) (At t) f.Post
     (λ c. search needs)
     (λ c. search needs)
     (λ c. search needs)
@@ -39,7 +41,9 @@ pub +expression-spec : {M : Type 1} → statement M
     (λ c. search needs)
     (λ c κs. search needs)
     (λ c. search needs)
+    (λ c κs. search needs)
     (λ c κs. (omega arith, tt))
+    (λ c κs. search needs)
     (λ c κs. search needs)
     (λ c κs. (omega arith, tt))
     (λ c κs. search needs)

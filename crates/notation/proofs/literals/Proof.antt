@@ -5,10 +5,10 @@ use Rattle.notation.proofs.literals.Statement.{statement}
 use Rattle.notation.proofs.literals.Tie as tie
 
 abbrev Inv-loop : tie.InvT-loop
-Inv-loop s ws from to at₀ left₀ t6 t7 at left = Unit {0}
+Inv-loop s names ws from to at₀ left₀ t6 t7 at left = Unit {0}
 
 abbrev μ-loop : tie.MeasureT-loop
-μ-loop s ws from to at₀ left₀ t6 t7 at left = left - from
+μ-loop s names ws from to at₀ left₀ t6 t7 at left = left - from
 
 pub literals-spec : {M : Type 1} → statement M
 literals-spec =

@@ -6,10 +6,10 @@ use Rattle.notation.proofs.past_hedge.Statement.{statement}
 use Rattle.notation.proofs.past_hedge.Tie as tie
 
 abbrev Inv-loop : tie.InvT-loop
-Inv-loop s ws from at₀ depth₀ t7 t8 at depth = (from ≤ at) × (depth ≤ at)
+Inv-loop s names ws from at₀ depth₀ t7 t8 at depth = (from ≤ at) × (depth ≤ at)
 
 abbrev μ-loop : tie.MeasureT-loop
-μ-loop s ws from at₀ depth₀ t7 t8 at depth = length ws - at
+μ-loop s names ws from at₀ depth₀ t7 t8 at depth = length ws - at
 
 pub past-hedge-spec : {M : Type 1} → statement M
 past-hedge-spec =

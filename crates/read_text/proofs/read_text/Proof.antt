@@ -3,7 +3,7 @@ use mathlib.Core.Path.{refl, sym, _∙_}
 use lib.ListN.{length-replicate}
 use Prim.Native.Nat.{ℕ, _+_, _*_}
 use Rattle.language.specs.Limits.{desk}
-use Rattle.read_text.proofs.Leaves.{empty-shelves}
+use Rattle.collecting.proofs.Zeros.{empty-shelves}
 use Rattle.read_text.proofs.Whole.{done-tokens, lined, done-lines, done-many, done-long, done-room, done-given}
 use native.Mathlib.Omega.{arith}
 use borrow.Author.Needs.{needs}

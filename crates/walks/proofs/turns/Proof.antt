@@ -6,10 +6,10 @@ use Rattle.walks.proofs.turns.Statement.{statement}
 use Rattle.walks.proofs.turns.Tie as tie
 
 abbrev Inv-loop : tie.InvT-loop
-Inv-loop question answer trail waiting₀ n p₀ left₀ waiting p left = length waiting ≡ length waiting₀
+Inv-loop question names answer trail waiting₀ n p₀ left₀ waiting p left = length waiting ≡ length waiting₀
 
 abbrev μ-loop : tie.MeasureT-loop
-μ-loop question answer trail waiting₀ n p₀ left₀ waiting p left = left
+μ-loop question names answer trail waiting₀ n p₀ left₀ waiting p left = left
 
 pub turns-spec : {M : Type 1} → statement M
 turns-spec =

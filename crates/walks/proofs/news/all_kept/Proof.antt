@@ -5,10 +5,10 @@ use Rattle.walks.proofs.news.all_kept.Statement.{statement}
 use Rattle.walks.proofs.news.all_kept.Tie as tie
 
 abbrev Inv-loop : tie.InvT-loop
-Inv-loop s k r n row p₀ left₀ p left = left ≤ n
+Inv-loop s names k r n row p₀ left₀ p left = left ≤ n
 
 abbrev μ-loop : tie.MeasureT-loop
-μ-loop s k r n row p₀ left₀ p left = left
+μ-loop s names k r n row p₀ left₀ p left = left
 
 pub all-kept-spec : {M : Type 1} → statement M
 all-kept-spec =

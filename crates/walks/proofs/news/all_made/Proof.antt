@@ -5,10 +5,10 @@ use Rattle.walks.proofs.news.all_made.Statement.{statement}
 use Rattle.walks.proofs.news.all_made.Tie as tie
 
 abbrev Inv-loop : tie.InvT-loop
-Inv-loop s r n row p₀ left₀ p left = left ≤ n
+Inv-loop s names r n row p₀ left₀ p left = left ≤ n
 
 abbrev μ-loop : tie.MeasureT-loop
-μ-loop s r n row p₀ left₀ p left = left
+μ-loop s names r n row p₀ left₀ p left = left
 
 pub all-made-spec : {M : Type 1} → statement M
 all-made-spec =

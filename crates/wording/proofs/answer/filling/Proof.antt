@@ -5,10 +5,10 @@ use Rattle.wording.proofs.answer.filling.Statement.{statement}
 use Rattle.wording.proofs.answer.filling.Tie as tie
 
 abbrev Inv-loop : tie.InvT-loop
-Inv-loop question ws s n i₀ t5 t6 t7 i = (i ≤ n) × (n < 65536)
+Inv-loop question ws names s n i₀ t5 t6 t7 i = (i ≤ n) × (n < 65536)
 
 abbrev μ-loop : tie.MeasureT-loop
-μ-loop question ws s n i₀ t5 t6 t7 i = n - i
+μ-loop question ws names s n i₀ t5 t6 t7 i = n - i
 
 pub filling-spec : {M : Type 1} → statement M
 filling-spec =

@@ -5,10 +5,10 @@ use Rattle.wording.proofs.answer.lines.Statement.{statement}
 use Rattle.wording.proofs.answer.lines.Tie as tie
 
 abbrev Inv-loop : tie.InvT-loop
-Inv-loop s answer n i₀ i = (i ≤ n) × (n < 65536)
+Inv-loop s names answer n i₀ i = (i ≤ n) × (n < 65536)
 
 abbrev μ-loop : tie.MeasureT-loop
-μ-loop s answer n i₀ i = n - i
+μ-loop s names answer n i₀ i = n - i
 
 pub lines-spec : {M : Type 1} → statement M
 lines-spec =

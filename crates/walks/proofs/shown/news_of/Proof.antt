@@ -1,14 +1,14 @@
--- `walks::news_of` is safe and ends.
+-- `walks::shown::news_of` is safe and ends.
 use Prim.Native.Nat.{_≤_, _-_}
 use borrow.Author.Needs.{needs}
-use Rattle.walks.proofs.news_of.Statement.{statement}
-use Rattle.walks.proofs.news_of.Tie as tie
+use Rattle.walks.proofs.shown.news_of.Statement.{statement}
+use Rattle.walks.proofs.shown.news_of.Tie as tie
 
 abbrev Inv-loop : tie.InvT-loop
-Inv-loop s k literal t work begin depth at₀ i₀ at i = i ≤ t .cases
+Inv-loop s names k literal t work begin depth at₀ i₀ at i = i ≤ t .cases
 
 abbrev μ-loop : tie.MeasureT-loop
-μ-loop s k literal t work begin depth at₀ i₀ at i = t .cases - i
+μ-loop s names k literal t work begin depth at₀ i₀ at i = t .cases - i
 
 pub news-of-spec : {M : Type 1} → statement M
 news-of-spec =

@@ -5,10 +5,10 @@ use mathlib.Core.Path.{_≡_, refl, sym, ap, ap₂, _∙_, subst}
 use mathlib.Core.Bool.{Bool, true, false, not}
 use mathlib.Core.List.{List, [], _∷_, _++_, map}
 use mathlib.Core.Option.{Option, none, some}
-use lib.Dec.{eqb}
+use lib.Dec.{ltb, eqb}
 use lib.ListN.{length, take, drop, getD, drop-of-length-le, length-take, length-drop}
 use lib.Seq.{ext-getD, getD-take, getD-drop, drop-cons}
-use borrow.Author.Tests.{eq-eqb}
+use borrow.Author.Tests.{eq-eqb, lt-ltb, le-ltb}
 use Rattle.language.specs.Limits.{Limits}
 use Rattle.language.specs.Kinds.{pick}
 use Rattle.language.specs.Between.{between}
@@ -27,8 +27,8 @@ use Rattle.lexing.proofs.Laws.{standing}
 use Rattle.lexing.proofs.Pieces.{next-law}
 use Rattle.text_names.specs.Shelves.{nameAt, listed, width, shelfOf, Shelf, Shelves, entering, enterAll, Entered, enterOn}
 use Rattle.text_names.proofs.Shelving.{enter-law}
-use Rattle.read_text.specs.Collecting.{namesIn, own, behind, shelfAt, Took, LineTaken, Taken}
-use Rattle.read_text.proofs.Names.{names-in-line, conj-behind}
+use Rattle.collecting.specs.Collecting.{namesIn, own, behind, shelfAt, tookOn, LineOn, line-ends, line-goes, LinesOn, last-line, one-more, Took, LineTaken, Taken}
+use Rattle.collecting.proofs.Names.{names-in-line, conj-behind}
 
 module _ (L : Limits) (text : List ℕ) where
   -- ---- a shelf on which nothing changed
@@ -83,8 +83,8 @@ module _ (L : Limits) (text : List ℕ) where
       abbrev One′ : Class → Mark → Bool → Type 0
       One′ c m b = Shelf L names′ (shelfOf L c) × (listed text names′ (shelfOf L c) ≡ enterAll L (listed text names (shelfOf L c)) (own c b m (nameAt text at)))
 
-      took : (m : Mark) (b : Bool) → length names′ ≡ length names → ((c : Class) → One′ c m b) → Took L text names m b at names′
-      took m b l f = record { len = l; shelves = λ c. f c .0; each = λ c. f c .1 }
+      took : (m : Mark) (b : Bool) → names′ ≡ tookOn L text names m b at → length names′ ≡ length names → ((c : Class) → One′ c m b) → Took L text names m b at names′
+      took m b o l f = record { on = o; len = l; shelves = λ c. f c .0; each = λ c. f c .1 }
 
       by-term : (b : Bool) → Entered L text names (shelfOf L terms) at names′ → (c : Class) → One′ c One b
       unfolding enterAll
@@ -115,46 +115,55 @@ module _ (L : Limits) (text : List ℕ) where
       by-function b e functions = (new functions e, e .here)
 
       -- a name entered on the shelf of its mark
-      taken-on : (m : Mark) (b : Bool) → shelfAt L m b < 4 * width L → Entered L text names (shelfAt L m b) at names′ → Took L text names m b at names′
-      taken-on End b p e = absurd (omega arith)
-      taken-on Bad b p e = absurd (omega arith)
-      taken-on Symbol true p e = absurd (omega arith)
-      taken-on Symbol false p e = took Symbol false (e .len) (by-symbol e)
-      taken-on One b p e = took One b (e .len) (by-term b e)
-      taken-on Run b p e = took Run b (e .len) (by-run b e)
-      taken-on Function b p e = took Function b (e .len) (by-function b e)
-      taken-on Equals b p e = absurd (omega arith)
-      taken-on Comma b p e = absurd (omega arith)
-      taken-on Opens b p e = absurd (omega arith)
-      taken-on Closes b p e = absurd (omega arith)
-      taken-on Plus b p e = absurd (omega arith)
-      taken-on Times b p e = absurd (omega arith)
+      taken-on : (m : Mark) (b : Bool) → names′ ≡ tookOn L text names m b at → shelfAt L m b < 4 * width L → Entered L text names (shelfAt L m b) at names′ → Took L text names m b at names′
+      taken-on End b o p e = absurd (omega arith)
+      taken-on Bad b o p e = absurd (omega arith)
+      taken-on Symbol true o p e = absurd (omega arith)
+      taken-on Symbol false o p e = took Symbol false o (e .len) (by-symbol e)
+      taken-on One b o p e = took One b o (e .len) (by-term b e)
+      taken-on Run b o p e = took Run b o (e .len) (by-run b e)
+      taken-on Function b o p e = took Function b o (e .len) (by-function b e)
+      taken-on Equals b o p e = absurd (omega arith)
+      taken-on Comma b o p e = absurd (omega arith)
+      taken-on Opens b o p e = absurd (omega arith)
+      taken-on Closes b o p e = absurd (omega arith)
+      taken-on Plus b o p e = absurd (omega arith)
+      taken-on Times b o p e = absurd (omega arith)
 
-      taken-at : {m : Mark} {b : Bool} {x : ℕ} → x ≡ shelfAt L m b → x < 4 * width L → Entered L text names x at names′ → Took L text names m b at names′
-      taken-at {m} {b} {x} e p t = taken-on m b (subst (λ n. n < 4 * width L) e p) (subst (λ n. Entered L text names n at names′) e t)
+      taken-at : {m : Mark} {b : Bool} {x : ℕ} → names′ ≡ tookOn L text names m b at → x ≡ shelfAt L m b → x < 4 * width L → Entered L text names x at names′ → Took L text names m b at names′
+      taken-at {m} {b} {x} o e p t = taken-on m b o (subst (λ n. n < 4 * width L) e p) (subst (λ n. Entered L text names n at names′) e t)
 
     -- and none
-    nothing-new : (m : Mark) (b : Bool) → ((c : Class) → own c b m (nameAt text at) ≡ []) → Took L text names m b at names
+    nothing-new : (m : Mark) (b : Bool) → names ≡ tookOn L text names m b at → ((c : Class) → own c b m (nameAt text at) ≡ []) → Took L text names m b at names
     unfolding enterAll
-    nothing-new m b f = record { len = refl; shelves = s; each = λ c. sym (ap (enterAll L (listed text names (shelfOf L c))) (f c)) }
+    nothing-new m b o f = record { on = o; len = refl; shelves = s; each = λ c. sym (ap (enterAll L (listed text names (shelfOf L c))) (f c)) }
 
-    not-taken-on : (m : Mark) (b : Bool) → 4 * width L ≤ shelfAt L m b → Took L text names m b at names
-    not-taken-on End b p = nothing-new End b (λ c. refl)
-    not-taken-on Bad b p = nothing-new Bad b (λ c. refl)
-    not-taken-on Symbol true p = nothing-new Symbol true (λ c. refl)
-    not-taken-on Symbol false p = absurd (omega arith)
-    not-taken-on One b p = absurd (omega arith)
-    not-taken-on Run b p = absurd (omega arith)
-    not-taken-on Function b p = absurd (omega arith)
-    not-taken-on Equals b p = nothing-new Equals b (λ c. refl)
-    not-taken-on Comma b p = nothing-new Comma b (λ c. refl)
-    not-taken-on Opens b p = nothing-new Opens b (λ c. refl)
-    not-taken-on Closes b p = nothing-new Closes b (λ c. refl)
-    not-taken-on Plus b p = nothing-new Plus b (λ c. refl)
-    not-taken-on Times b p = nothing-new Times b (λ c. refl)
+    -- what the code does is what it says, either way
+    on-none : (m : Mark) (b : Bool) → 4 * width L ≤ shelfAt L m b → names ≡ tookOn L text names m b at
+    unfolding tookOn
+    on-none m b p = sym (ap (λ z. pick z (enterOn L text names (shelfAt L m b) at) names) (le-ltb (shelfAt L m b) (4 * width L) p))
+
+    on-shelves : (m : Mark) (b : Bool) → shelfAt L m b < 4 * width L → enterOn L text names (shelfAt L m b) at ≡ tookOn L text names m b at
+    unfolding tookOn
+    on-shelves m b p = sym (ap (λ z. pick z (enterOn L text names (shelfAt L m b) at) names) (lt-ltb (shelfAt L m b) (4 * width L) p))
+
+    not-taken-on : (m : Mark) (b : Bool) → names ≡ tookOn L text names m b at → 4 * width L ≤ shelfAt L m b → Took L text names m b at names
+    not-taken-on End b o p = nothing-new End b o (λ c. refl)
+    not-taken-on Bad b o p = nothing-new Bad b o (λ c. refl)
+    not-taken-on Symbol true o p = nothing-new Symbol true o (λ c. refl)
+    not-taken-on Symbol false o p = absurd (omega arith)
+    not-taken-on One b o p = absurd (omega arith)
+    not-taken-on Run b o p = absurd (omega arith)
+    not-taken-on Function b o p = absurd (omega arith)
+    not-taken-on Equals b o p = nothing-new Equals b o (λ c. refl)
+    not-taken-on Comma b o p = nothing-new Comma b o (λ c. refl)
+    not-taken-on Opens b o p = nothing-new Opens b o (λ c. refl)
+    not-taken-on Closes b o p = nothing-new Closes b o (λ c. refl)
+    not-taken-on Plus b o p = nothing-new Plus b o (λ c. refl)
+    not-taken-on Times b o p = nothing-new Times b o (λ c. refl)
 
     pub not-taken : {m : Mark} {b : Bool} {x : ℕ} → x ≡ shelfAt L m b → 4 * width L ≤ x → Took L text names m b at names
-    not-taken {m} {b} e p = not-taken-on m b (subst (λ n. 4 * width L ≤ n) e p)
+    not-taken {m} {b} e p = let q = subst (λ n. 4 * width L ≤ n) e p in not-taken-on m b (on-none m b q) q
 
     on-shelf : (m : Mark) (b : Bool) → shelfAt L m b < 4 * width L → Shelf L names (shelfAt L m b)
     on-shelf End b p = absurd (omega arith)
@@ -175,7 +184,7 @@ module _ (L : Limits) (text : List ℕ) where
     its-shelf m b e p = subst (Shelf L names) (sym e) (on-shelf m b (subst (λ n. n < 4 * width L) e p))
 
     pub taken : {m : Mark} {b : Bool} {x : ℕ} {names′ : List ℕ} → x ≡ shelfAt L m b → x < 4 * width L → names′ ≡ enterOn L text names x at → Took L text names m b at names′
-    taken {m} {b} {x} {names′} e p t = taken-at names′ e p (subst (Entered L text names x at) (sym t) (enter-law L text names x at (its-shelf m b e p)))
+    taken {m} {b} {x} {names′} e p t = taken-at names′ (t ∙ ap (λ n. enterOn L text names n at) e ∙ on-shelves m b (subst (λ n. n < 4 * width L) e p)) e p (subst (Entered L text names x at) (sym t) (enter-law L text names x at (its-shelf m b e p)))
 
   -- ---- a line
 
@@ -266,6 +275,7 @@ module _ (L : Limits) (text : List ℕ) where
 
   -- with what is still to come, the shelves are as they are to be
   pub record Going (names : List ℕ) (at : ℕ) (names′ : List ℕ) (i : ℕ) (b : Bool) : Type 0 where
+    pub on : (n : List ℕ) (r : ℕ) → LineOn L text names′ i b n r → LineOn L text names at false n r
     pub low : at ≤ i
     pub high : i ≤ length text
     pub len : length names′ ≡ length names
@@ -276,7 +286,7 @@ module _ (L : Limits) (text : List ℕ) where
 
   module _ (names : List ℕ) (at : ℕ) where
     pub going-starts : at ≤ length text → Shelves L names → Going names at names at false
-    going-starts p s = record { low = omega arith; high = p; len = refl; shelves = s; same = refl; lives = λ ts e. (ts, e, (λ c. refl)) }
+    going-starts p s = record { on = λ n r d. d; low = omega arith; high = p; len = refl; shelves = s; same = refl; lives = λ ts e. (ts, e, (λ c. refl)) }
 
     module _ {names′ : List ℕ} {i : ℕ} {b : Bool} (g : Going names at names′ i b) {p : Piece} (e₀ : p ≡ nextOf text i) where
       n : Next text i p
@@ -285,6 +295,7 @@ module _ (L : Limits) (text : List ℕ) where
       pub going-ends : {x : ℕ} → x ≡ sortOf (p .mark) → x ≡ 0 → LineTaken L text names at (p .to) names′
       unfolding enterAll
       going-ends d z = record {
+        on = g .on names′ (p .to) (subst (λ q. LineOn L text names′ i b names′ (q .to)) (sym e₀) (line-ends (ap (λ q. sortOf (q .mark)) (sym e₀) ∙ sym d ∙ z)));
         low = let u = g .low in let v = n .low in let w = n .through in omega arith;
         high = n .high;
         len = g .len;
@@ -299,6 +310,9 @@ module _ (L : Limits) (text : List ℕ) where
 
       pub going-on : {x : ℕ} → x ≡ sortOf (p .mark) → (x ≡ 0 → ⊥) → {names″ : List ℕ} → Took L text names′ (p .mark) b (p .from) names″ → {b′ : Bool} → b′ ≡ behind (p .mark) b → Going names at names″ (p .to) b′
       going-on d z {names″} t {b′} f = record {
+        on = λ k r l. g .on k r (line-goes (λ y. z (d ∙ ap (λ q. sortOf (q .mark)) e₀ ∙ y))
+            (subst (λ q. LineOn L text (tookOn L text names′ (q .mark) b (q .from)) (q .to) (behind (q .mark) b) k r) e₀
+            (subst (λ v. LineOn L text (tookOn L text names′ (p .mark) b (p .from)) (p .to) v k r) f (subst (λ v. LineOn L text v (p .to) b′ k r) (t .on) l))));
         low = let u = g .low in let v = n .low in let w = n .through in omega arith;
         high = n .high;
         len = t .len ∙ g .len;
@@ -339,6 +353,7 @@ module _ (L : Limits) (text : List ℕ) where
   none-left [] no-line = refl
 
   pub record GoingOn (names names′ : List ℕ) (at : ℕ) : Type 0 where
+    pub on : (n : List ℕ) → LinesOn L text names′ at n → LinesOn L text names 0 n
     pub high : at ≤ length text
     pub len : length names′ ≡ length names
     pub shelves : Shelves L names′
@@ -346,7 +361,7 @@ module _ (L : Limits) (text : List ℕ) where
 
   module _ (names : List ℕ) where
     pub text-starts : Shelves L names → GoingOn names names 0
-    text-starts s = record { high = omega arith; len = refl; shelves = s; lives = λ ks d. (ks, d, (λ c. refl)) }
+    text-starts s = record { on = λ n d. d; high = omega arith; len = refl; shelves = s; lives = λ ks d. (ks, d, (λ c. refl)) }
 
     module _ {names′ : List ℕ} {at : ℕ} (g : GoingOn names names′ at) {names″ : List ℕ} {r : ℕ} (t : LineTaken L text names′ at r names″) where
       -- the line just read, of the lines that are left
@@ -367,6 +382,7 @@ module _ (L : Limits) (text : List ℕ) where
       pub text-ends : length text ≤ r → Taken L text names names″
       unfolding enterAll
       text-ends p = record {
+        on = g .on names″ (last-line (t .on) p);
         len = t .len ∙ g .len;
         shelves = t .shelves;
         each = λ ks d c.
@@ -378,6 +394,7 @@ module _ (L : Limits) (text : List ℕ) where
 
       pub text-on : r < length text → GoingOn names names″ (r + 1)
       text-on p = record {
+        on = λ n d. g .on n (one-more (t .on) p d);
         high = omega arith;
         len = t .len ∙ g .len;
         shelves = t .shelves;

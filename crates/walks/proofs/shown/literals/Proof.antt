@@ -1,15 +1,15 @@
--- `walks::literals` is safe and ends.
+-- `walks::shown::literals` is safe and ends.
 use Prim.Native.Nat.{_≤_}
 use lib.ListN.{length}
 use borrow.Author.Needs.{needs}
-use Rattle.walks.proofs.literals.Statement.{statement}
-use Rattle.walks.proofs.literals.Tie as tie
+use Rattle.walks.proofs.shown.literals.Statement.{statement}
+use Rattle.walks.proofs.shown.literals.Tie as tie
 
 abbrev Inv-loop : tie.InvT-loop
-Inv-loop s k at₀ left₀ at left = left ≤ length k
+Inv-loop s names k at₀ left₀ at left = left ≤ length k
 
 abbrev μ-loop : tie.MeasureT-loop
-μ-loop s k at₀ left₀ at left = left
+μ-loop s names k at₀ left₀ at left = left
 
 pub literals-spec : {M : Type 1} → statement M
 literals-spec =

@@ -1,12 +1,12 @@
--- `read_text::collecting::take_line` meets its contract: token by token.
+-- `collecting::take_line` meets its contract: token by token.
 use Prim.Native.Nat.{_-_}
 use native.Mathlib.Omega.{arith}
 use lib.ListN.{length}
 use Rattle.language.specs.Limits.{desk}
-use Rattle.read_text.proofs.Taking.{Going, going-starts, going-ends, going-less, going-on}
+use Rattle.collecting.proofs.Taking.{Going, going-starts, going-ends, going-less, going-on}
 use borrow.Author.Needs.{needs}
-use Rattle.read_text.proofs.collecting.take_line.Statement.{statement}
-use Rattle.read_text.proofs.collecting.take_line.Tie as tie
+use Rattle.collecting.proofs.take_line.Statement.{statement}
+use Rattle.collecting.proofs.take_line.Tie as tie
 
 abbrev Inv-loop : tie.InvT-loop
 Inv-loop text names₀ at i₀ after₀ names i after = Going desk text names₀ at names i after

@@ -1,8 +1,8 @@
--- `walks::count` is safe and ends.
+-- `walks::shown::count` is safe and ends.
 use Prim.Native.Nat.{_≤_}
 use borrow.Author.Needs.{needs}
-use Rattle.walks.proofs.count.Statement.{statement}
-use Rattle.walks.proofs.count.Tie as tie
+use Rattle.walks.proofs.shown.count.Statement.{statement}
+use Rattle.walks.proofs.shown.count.Tie as tie
 
 abbrev Inv-loop : tie.InvT-loop
 Inv-loop work begin n₀ at₀ left₀ n at left = left ≤ left₀

@@ -1,11 +1,12 @@
-// The names of a whole text, each put on the shelf of its class in the order of first appearance.
+// The names of a whole text, each put on the shelf of its class in the order of first appearance: for whoever reads the text, and for whoever names
+// things as it does.
 ghost use Prim.Native.Nat.{_≤_};
 ghost use mathlib.Core.Path.{_≡_};
 ghost use lib.ListN.{length};
 ghost use Rattle.language.specs.Limits.{desk};
 ghost use Rattle.lexing.specs.declared.Mark.the-variants.{Symbol};
 ghost use Rattle.text_names.specs.Shelves.{Shelves};
-ghost use Rattle.read_text.specs.Collecting.{behind, shelfAt, Took, LineTaken, Taken};
+ghost use Rattle.collecting.specs.Collecting.{behind, shelfAt, Took, LineTaken, Taken};
 use lexing::Mark;
 use lexing::next;
 use lexing::sort;
@@ -90,7 +91,7 @@ fn take_line(text: &[u8], names: &mut [usize], at: usize) -> usize
     }
 }
 
-// The names of a text.
+// The names of a text, behind those that the shelves have.
 pub fn collect(text: &[u8], names: &mut [usize])
     requires { ⌜ Shelves desk (now names) ⌝ }
     ensures { λ _. ⌜ Taken desk (now (text .entry)) (now (names .entry)) (now (names .exit)) ⌝ }

@@ -7,7 +7,7 @@ use Rattle.language.specs.Trees.{Functor, symbol, fvar, Hedge, ε, tvar, hvar, 
 use Rattle.grammar.specs.Tokens.{Token, one, run, functor, equals, comma, opens, closes, plus, times}
 use Rattle.grammar.specs.Grammar.{Place, begins, follows, inside, Spells, empty, full, ends, more, alone, brackets, part, parts, leaf, tree, Level, atom, starred, choice, listed, within, Means, single, under, group, once, again, only, either, last, then, no-listed, some-listed, Says, equal, member, Literals, final, another, Line, asks-nothing, asks}
 use Rattle.texts.specs.Numbering.{Class, symbols, terms, hedges, functions, atS, atT, atH, atX, atF, inHedge, inExpr, inLiteral, inConj}
-use Rattle.read_text.specs.Collecting.{namesIn}
+use Rattle.collecting.specs.Collecting.{namesIn}
 
 module _ (κ : Class) where
   by-functor : (f : Functor) (ts : List Token) → namesIn κ false (functor f ∷ ts) ≡ atF κ f (namesIn κ true ts)

@@ -1,12 +1,12 @@
--- `read_text::collecting::collect` meets its contract: line by line.
+-- `collecting::collect` meets its contract: line by line.
 use Prim.Native.Nat.{_-_}
 use native.Mathlib.Omega.{arith}
 use lib.ListN.{length}
 use Rattle.language.specs.Limits.{desk}
-use Rattle.read_text.proofs.Taking.{GoingOn, text-starts, text-ends, text-on}
+use Rattle.collecting.proofs.Taking.{GoingOn, text-starts, text-ends, text-on}
 use borrow.Author.Needs.{needs}
-use Rattle.read_text.proofs.collecting.collect.Statement.{statement}
-use Rattle.read_text.proofs.collecting.collect.Tie as tie
+use Rattle.collecting.proofs.collect.Statement.{statement}
+use Rattle.collecting.proofs.collect.Tie as tie
 
 abbrev Inv-loop : tie.InvT-loop
 Inv-loop text names₀ at₀ names at = GoingOn desk text names₀ names at

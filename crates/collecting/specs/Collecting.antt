@@ -1,9 +1,10 @@
 -- The names of a line's tokens, in order. A name directly behind an element is the word `in`, and no name.
-use Prim.Native.Nat.{ℕ, _*_, _≤_, _<_}
+use Prim.Native.Nat.{ℕ, _+_, _*_, _≤_, _<_}
 use mathlib.Core.Path.{_≡_}
 use mathlib.Core.Bool.{Bool, true, false, not}
 use mathlib.Core.List.{List, [], _∷_}
 use mathlib.Core.Option.{none, some}
+use lib.Dec.{ltb}
 use lib.ListN.{length, drop, getD}
 use Rattle.language.specs.Limits.{Limits}
 use Rattle.language.specs.Kinds.{pick}
@@ -13,9 +14,9 @@ use Rattle.texts.specs.Numbering.{Class, symbols, terms, hedges, functions, atS
 use Rattle.grammar.specs.Grammar.{Lines, linesOf}
 use Rattle.lexing.specs.declared.Mark.{Mark}
 use Rattle.lexing.specs.declared.Mark.the-variants.{End, Bad, Symbol, One, Run, Function, Equals, Comma, Opens, Closes, Plus, Times}
-use Rattle.lexing.specs.Bytes.{others}
-use Rattle.lexing.specs.Pieces.{here}
-use Rattle.text_names.specs.Shelves.{nameAt, listed, width, shelfOf, Shelves, enterAll}
+use Rattle.lexing.specs.Bytes.{others, sortOf}
+use Rattle.lexing.specs.Pieces.{here, nextOf}
+use Rattle.text_names.specs.Shelves.{nameAt, listed, width, shelfOf, Shelves, enterAll, enterOn}
 
 abbrev pub namesIn : Class → Bool → List Token → List ℕ
 namesIn c b [] = []
@@ -76,13 +77,31 @@ shelfAt L Closes b = 4 * width L
 shelfAt L Plus b = 4 * width L
 shelfAt L Times b = 4 * width L
 
+-- the shelves with its name entered, if it has one
+unfoldable pub tookOn : Limits → List ℕ → List ℕ → Mark → Bool → ℕ → List ℕ
+tookOn L text names m b at = pick (ltb (shelfAt L m b) (4 * width L)) (enterOn L text names (shelfAt L m b) at) names
+
+-- which shelves the tokens of a line from i on leave, and where they end; b: whether an element ends there
+pub data LineOn (L : Limits) (text : List ℕ) : List ℕ → ℕ → Bool → List ℕ → ℕ → Type 0 where
+  line-ends : {names : List ℕ} {i : ℕ} {b : Bool} → sortOf (nextOf text i .mark) ≡ 0 → LineOn L text names i b names (nextOf text i .to)
+  line-goes : {names names′ : List ℕ} {i r : ℕ} {b : Bool} → (sortOf (nextOf text i .mark) ≡ 0 → ⊥)
+      → LineOn L text (tookOn L text names (nextOf text i .mark) b (nextOf text i .from)) (nextOf text i .to) (behind (nextOf text i .mark) b) names′ r
+      → LineOn L text names i b names′ r
+
+-- and those of the lines from a place on, of any bytes at all
+pub data LinesOn (L : Limits) (text : List ℕ) : List ℕ → ℕ → List ℕ → Type 0 where
+  last-line : {names names′ : List ℕ} {at r : ℕ} → LineOn L text names at false names′ r → length text ≤ r → LinesOn L text names at names′
+  one-more : {names names′ names″ : List ℕ} {at r : ℕ} → LineOn L text names at false names′ r → r < length text → LinesOn L text names′ (r + 1) names″ → LinesOn L text names at names″
+
 pub record Took (L : Limits) (text names : List ℕ) (m : Mark) (b : Bool) (at : ℕ) (names′ : List ℕ) : Type 0 where
+  pub on : names′ ≡ tookOn L text names m b at
   pub len : length names′ ≡ length names
   pub shelves : Shelves L names′
   pub each : (c : Class) → listed text names′ (shelfOf L c) ≡ enterAll L (listed text names (shelfOf L c)) (own c b m (nameAt text at))
 
 -- a line's names, where it is made of tokens; r is where it ends
 pub record LineTaken (L : Limits) (text names : List ℕ) (at r : ℕ) (names′ : List ℕ) : Type 0 where
+  pub on : LineOn L text names at false names′ r
   pub low : at ≤ r
   pub high : r ≤ length text
   pub len : length names′ ≡ length names
@@ -91,8 +110,9 @@ pub record LineTaken (L : Limits) (text names : List ℕ) (at r : ℕ) (names′
   pub ends : (ts : List Token) → here text at ≡ some ts → r < length text → getD text r 0 ≡ 10
   pub each : (ts : List Token) → here text at ≡ some ts → (c : Class) → listed text names′ (shelfOf L c) ≡ enterAll L (listed text names (shelfOf L c)) (namesIn c false ts)
 
--- the names of a text of the grammar
+-- what the shelves hold after all lines; of a text of the grammar, its names
 pub record Taken (L : Limits) (text names names′ : List ℕ) : Type 0 where
+  pub on : LinesOn L text names 0 names′
   pub len : length names′ ≡ length names
   pub shelves : Shelves L names′
   pub each : (ks : List Conj) → Lines ks (linesOf text) → (c : Class) → listed text names′ (shelfOf L c) ≡ enterAll L (listed text names (shelfOf L c)) (inAll c ks)
