@@ -1,10 +1,10 @@
 -- In a line of the grammar the names of its tokens are those of its trees, in their order.
 use Prim.Native.Nat.{ℕ}
 use mathlib.Core.Path.{_≡_, refl, sym, ap, _∙_}
-use mathlib.Core.Bool.{Bool, true, false}
+use mathlib.Core.Bool.{true, false}
 use mathlib.Core.List.{List, [], _∷_, _++_, append-assoc}
 use Rattle.language.specs.Trees.{Functor, symbol, fvar, Hedge, ε, tvar, hvar, node, Expr, eps, cat, alt, star, over, Literal, eqn, mem, Conj}
-use Rattle.grammar.specs.Tokens.{Token, one, run, functor, equals, comma, opens, closes, plus, times}
+use Rattle.grammar.specs.Tokens.{Token, functor, opens}
 use Rattle.grammar.specs.Grammar.{Place, begins, follows, inside, Spells, empty, full, ends, more, alone, brackets, part, parts, leaf, tree, Level, atom, starred, choice, listed, within, Means, single, under, group, once, again, only, either, last, then, no-listed, some-listed, Says, equal, member, Literals, final, another, Line, asks-nothing, asks}
 use Rattle.texts.specs.Numbering.{Class, symbols, terms, hedges, functions, atS, atT, atH, atX, atF, inHedge, inExpr, inLiteral, inConj}
 use Rattle.collecting.specs.Collecting.{namesIn}

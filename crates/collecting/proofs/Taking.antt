@@ -1,22 +1,22 @@
 -- The names of tokens, of a line and of a text, each on its shelf.
-use Prim.Native.Nat.{ℕ, zero, suc, _+_, _*_, _-_, _<_, _≤_}
+use Prim.Native.Nat.{ℕ, _+_, _*_, _-_, _<_, _≤_}
 use native.Mathlib.Omega.{arith}
 use mathlib.Core.Path.{_≡_, refl, sym, ap, ap₂, _∙_, subst}
 use mathlib.Core.Bool.{Bool, true, false, not}
 use mathlib.Core.List.{List, [], _∷_, _++_, map}
-use mathlib.Core.Option.{Option, none, some}
-use lib.Dec.{ltb, eqb}
-use lib.ListN.{length, take, drop, getD, drop-of-length-le, length-take, length-drop}
-use lib.Seq.{ext-getD, getD-take, getD-drop, drop-cons}
+use mathlib.Core.Option.{none, some}
+use lib.Dec.{eqb}
+use lib.ListN.{length, drop, getD, drop-of-length-le}
+use lib.Seq.{ext-getD, getD-take, getD-drop}
 use borrow.Author.Tests.{eq-eqb, lt-ltb, le-ltb}
 use Rattle.language.specs.Limits.{Limits}
 use Rattle.language.specs.Kinds.{pick}
 use Rattle.language.specs.Between.{between}
-use Rattle.language.specs.Trees.{symbol, fvar, Conj}
+use Rattle.language.specs.Trees.{Conj}
 use Rattle.language.proofs.Offsets.{length-between}
-use Rattle.grammar.specs.Tokens.{Token, one, run, functor, equals, comma, opens, closes, plus, times, Tokens, puts, tokens}
+use Rattle.grammar.specs.Tokens.{Token, Tokens, puts, tokens}
 use Rattle.grammar.specs.Grammar.{Lines, no-line, blank, line, linesOf, ahead}
-use Rattle.texts.specs.Numbering.{Class, symbols, terms, hedges, functions, atS, atT, atH, atX, inConj, inAll}
+use Rattle.texts.specs.Numbering.{Class, symbols, terms, hedges, functions, atS, atT, atH, atX, inAll}
 use Rattle.lexing.specs.declared.Mark.{Mark}
 use Rattle.lexing.specs.declared.Mark.the-variants.{End, Bad, Symbol, One, Run, Function, Equals, Comma, Opens, Closes, Plus, Times}
 use Rattle.lexing.specs.declared.Piece.{Piece}

@@ -3,40 +3,37 @@ use Prim.Native.Nat.{ℕ, zero, suc, _+_, _-_, _*_, _<_, _≤_, min}
 use native.Mathlib.Omega.{arith}
 use mathlib.Core.Path.{_≡_, refl, sym, ap, ap₂, _∙_, subst, fun-ext}
 use mathlib.Core.Bool.{Bool, true, false, not, _&&_, _||_}
-use mathlib.Core.List.{List, [], _∷_, _++_, append-assoc, map}
-use mathlib.Core.Option.{Option, none, some}
+use mathlib.Core.List.{List, [], _∷_, _++_, map}
+use mathlib.Core.Option.{Option, some}
 use lib.Dec.{ltb, leb}
-use lib.ListN.{length, take, drop, getD, set, length-append, length-map, length-take, replicate, getD-replicate, length-replicate}
-use lib.Seq.{sets, sets-eq, length-sets, take-append-le, take-all, take-append-seam, set-comm}
-use borrow.Author.Tests.{ltb-true, ltb-false, le-leb, lt-leb, leb-true, lt-ltb, le-ltb, not-true, not-false}
+use lib.ListN.{length, take, drop, getD, set, length-append, length-map}
+use lib.Seq.{sets, sets-eq, take-append-seam}
+use borrow.Author.Tests.{ltb-true, ltb-false, le-leb, lt-leb, not-true, not-false}
 use Rattle.language.specs.declared.Refusal.the-variants.{NotText, ManyNames, LongText}
-use Rattle.language.specs.Limits.{Limits, desk}
+use Rattle.language.specs.Limits.{Limits}
 use Rattle.language.specs.Kinds.{pick}
 use Rattle.language.specs.Between.{between}
-use Rattle.language.specs.Trees.{Conj, Counts}
+use Rattle.language.specs.Trees.{Conj}
 use Rattle.language.specs.Writing.{conjWords}
 use Rattle.language.specs.Question.{countsFit}
-use Rattle.language.proofs.Bools.{both-true}
 use Rattle.language.proofs.Offsets.{length-between}
-use Rattle.grammar.specs.Tokens.{Token, Tokens, tokens}
-use Rattle.grammar.specs.Grammar.{Line, Lines, no-line, blank, line, linesOf, TextOf}
+use Rattle.grammar.specs.Tokens.{Token}
+use Rattle.grammar.specs.Grammar.{Line, Lines, no-line, blank, line, linesOf}
 use Rattle.meaning.specs.Values.{joined, offsetsOf}
 use Rattle.texts.specs.Parsing.{lineOf, literals, literalOf, sideOf, hedge}
-use Rattle.texts.specs.Numbering.{Class, symbols, terms, hedges, functions, Naming, place, inAll, nameAll, entered, table, numbered, atLeastOne, countsIn}
-use Rattle.texts.specs.Outcomes.{Outcome, gives, denies, questionWords, fitted, counted, readsText}
+use Rattle.texts.specs.Numbering.{Class, symbols, terms, hedges, functions, Naming, place, inAll, nameAll, table, numbered, atLeastOne, countsIn}
+use Rattle.texts.specs.Outcomes.{gives, denies, questionWords, fitted, counted, readsText}
 use Rattle.texts.proofs.Readings.{line-read}
 use Rattle.texts.proofs.Accepted.{seventeen, not-seventeen}
-use Rattle.text_names.specs.Shelves.{nameAt, listed, width, shelfOf, Shelf, Shelves, numbering, enterAll}
+use Rattle.text_names.specs.Shelves.{nameAt, listed, width, shelfOf, numbering, enterAll}
 use Rattle.collecting.specs.Collecting.{Taken}
 use Rattle.read_text.proofs.Tables.{all-of-them, too-many}
 use Rattle.text_words.specs.declared.Written.{Written}
 use Rattle.text_survey.specs.declared.Look.{Look}
 use Rattle.text_survey.specs.Surveys.{another, counts, surveyOf, Surveyed}
-use Rattle.text_words.specs.Bodies.{wordsOf, endsOf, Body, ReadBody, Lined}
+use Rattle.text_words.specs.Bodies.{wordsOf, endsOf, Body, ReadBody}
 use Rattle.text_words.proofs.Stores.{sets-++, set-before, ends-offsets, length-ends, length-words}
-use Rattle.read_text.specs.declared.Reading.{Reading}
-use Rattle.read_text.specs.declared.Reading.the-variants.{Given, Refused}
-use Rattle.read_text.specs.Reads.{readingOf, leftBy, manyOf, oneAtLeast, headerOf, firstOf}
+use Rattle.read_text.specs.Reads.{manyOf, oneAtLeast, headerOf, firstOf}
 
 -- ---- the lines that are spelt are those that have a token
 

@@ -1,7 +1,7 @@
 -- The call: what each of its ways out gives and leaves.
-use Prim.Native.Nat.{ℕ, _+_, _*_, _<_, _≤_, min}
+use Prim.Native.Nat.{ℕ, _+_, _*_, _<_, _≤_}
 use native.Mathlib.Omega.{arith}
-use mathlib.Core.Path.{_≡_, refl, sym, ap, ap₂, _∙_, subst}
+use mathlib.Core.Path.{_≡_, sym, ap, _∙_, subst}
 use mathlib.Core.Bool.{Bool, true, false, not}
 use mathlib.Core.List.{List}
 use lib.Dec.{lit≤}
@@ -10,9 +10,9 @@ use lib.Seq.{sets}
 use borrow.Author.Tests.{not-false}
 use Rattle.language.specs.declared.Refusal.{Refusal}
 use Rattle.language.specs.declared.Refusal.the-variants.{NotText, ManyNames, LongText}
-use Rattle.language.specs.Limits.{Limits, desk}
-use Rattle.texts.specs.Outcomes.{Outcome, gives, denies, readsText}
-use Rattle.text_names.specs.Shelves.{numbering, Shelves}
+use Rattle.language.specs.Limits.{desk}
+use Rattle.texts.specs.Outcomes.{denies, readsText}
+use Rattle.text_names.specs.Shelves.{numbering}
 use Rattle.collecting.specs.Collecting.{Taken}
 use Rattle.text_words.specs.declared.Written.{Written}
 use Rattle.text_survey.specs.declared.Look.{Look}

@@ -16,7 +16,6 @@ ghost use lib.ListN.{length, take};
 ghost use lib.Seq.{sets};
 ghost use Rattle.language.specs.Limits.{desk};
 ghost use Rattle.texts.specs.Outcomes.{readsText};
-ghost use Rattle.text_names.specs.Shelves.{Shelves};
 ghost use Rattle.read_text.specs.Reads.{readingOf, leftBy, manyOf, oneAtLeast, headerOf, firstOf};
 
 const LINES: usize = ALTERNATIVES as usize;

@@ -1,6 +1,5 @@
 -- Any two outcomes that a contract of this crate allows coincide.
-use Prim.Native.Nat.{ℕ}
-use mathlib.Core.Path.{_≡_, sym, ap, _∙_}
+use mathlib.Core.Path.{sym, ap, _∙_}
 use Rattle.language.proofs.Determined.{Determined}
 use Rattle.text_names.proofs.Letters.{one-letter}
 use Rattle.text_names.proofs.letter_at as letter_at

@@ -1,13 +1,13 @@
 -- A shelf of names: looking along it, and putting a name at its end.
-use Prim.Native.Nat.{ℕ, zero, suc, _+_, _-_, _<_, _≤_}
+use Prim.Native.Nat.{ℕ, suc, _+_, _-_, _<_, _≤_}
 use native.Mathlib.Omega.{arith}
 use native.Mathlib.Numerals.{add-one}
-use mathlib.Core.Path.{_≡_, refl, sym, ap, ap₂, _∙_, subst}
+use mathlib.Core.Path.{_≡_, refl, sym, ap, _∙_}
 use mathlib.Core.Bool.{Bool, true, false, _||_}
 use mathlib.Core.List.{List, [], _∷_, _++_, map}
 use lib.Dec.{ltb, eqb}
-use lib.ListN.{length, take, drop, getD, set, length-map, length-set, length-take, length-drop}
-use lib.Seq.{getD-set-same, getD-set-other, drop-set-lt, take-suc-set, drop-set-add, take-set-le}
+use lib.ListN.{length, take, drop, getD, set, length-map, length-set, length-drop}
+use lib.Seq.{getD-set-same, getD-set-other, drop-set-lt, take-suc-set, drop-set-add}
 use borrow.Author.Tests.{ltb-true, ltb-false, lt-ltb, le-ltb}
 use Rattle.language.specs.Limits.{Limits}
 use Rattle.language.specs.Kinds.{pick}
@@ -15,7 +15,7 @@ use Rattle.language.specs.Between.{between}
 use Rattle.language.proofs.Offsets.{between-cons, length-between}
 use Rattle.texts.specs.Numbering.{holds, place}
 use Rattle.texts.proofs.Tables.{place-below}
-use Rattle.text_names.specs.Shelves.{nameAt, listed, width, Shelf, entering, Entered, enterOn}
+use Rattle.text_names.specs.Shelves.{nameAt, listed, Shelf, entering, Entered, enterOn}
 
 -- ---- where a name stands
 

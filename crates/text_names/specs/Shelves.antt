@@ -1,6 +1,6 @@
 -- Names kept as the places where they begin, on a shelf for each class: how many there are, then their places.
 -- A shelf has room for one name more than a header can count, so that a full one tells that there are too many.
-use Prim.Native.Nat.{ℕ, suc, _+_, _*_, _≤_, _<_}
+use Prim.Native.Nat.{ℕ, _+_, _*_, _≤_, _<_}
 use mathlib.Core.Path.{_≡_}
 use mathlib.Core.List.{List, [], _∷_, _++_, map}
 use lib.Dec.{ltb}

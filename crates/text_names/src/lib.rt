@@ -1,8 +1,7 @@
 // The names of a text: compared where they stand, and numbered in the order of their first appearance.
-ghost use Prim.Native.Nat.{_+_, _≤_, _<_};
+ghost use Prim.Native.Nat.{_+_, _<_};
 ghost use mathlib.Core.Path.{_≡_};
 ghost use lib.Dec.{eqb};
-ghost use lib.ListN.{length, drop, getD};
 ghost use Rattle.language.specs.Limits.{desk};
 ghost use Rattle.texts.specs.Numbering.{place};
 ghost use Rattle.text_names.specs.Shelves.{nameAt, Letter, listed, numbering, Shelf, Shelves, enterOn};

@@ -4,7 +4,6 @@ use native.Mathlib.Omega.{arith}
 use lib.ListN.{length}
 use Rattle.language.specs.Limits.{desk}
 use Rattle.collecting.proofs.Taking.{GoingOn, text-starts, text-ends, text-on}
-use borrow.Author.Needs.{needs}
 use Rattle.collecting.proofs.collect.Statement.{statement}
 use Rattle.collecting.proofs.collect.Tie as tie
 

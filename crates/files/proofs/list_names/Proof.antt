@@ -1,6 +1,5 @@
 -- `files::list_names` is safe: shelves of zeros are lent.
 use mathlib.Core.Path.{refl}
-use native.Mathlib.Omega.{arith}
 use borrow.Author.Needs.{needs}
 use Rattle.collecting.proofs.Zeros.{empty-shelves}
 use Rattle.files.proofs.list_names.Statement.{statement}

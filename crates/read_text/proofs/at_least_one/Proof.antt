@@ -1,6 +1,5 @@
 -- `read_text::at_least_one` meets its contract: 1 for 0.
 use Rattle.read_text.proofs.Leaves.{some-already}
-use native.Mathlib.Omega.{arith}
 use borrow.Author.Needs.{needs}
 use Rattle.read_text.proofs.at_least_one.Statement.{statement}
 use Rattle.read_text.proofs.at_least_one.Tie as tie

@@ -1,7 +1,6 @@
 -- `read_text::is_many` meets its contract: count by count.
 use Rattle.language.specs.Limits.{desk}
 use Rattle.read_text.proofs.Leaves.{many-terms, many-hedges, many-symbols, many-functions, many-lines}
-use native.Mathlib.Omega.{arith}
 use borrow.Author.Needs.{needs}
 use Rattle.read_text.proofs.is_many.Statement.{statement}
 use Rattle.read_text.proofs.is_many.Tie as tie
