@@ -6,6 +6,7 @@ use mathlib.Core.Logic.{inl, inr}
 use Prim.Native.Nat.{ℕ, suc, _+_, _<_, _≤_}
 use native.Mathlib.Omega.{arith}
 use lib.Dec.{eqb, ltb}
+use lib.ListN.{length}
 use borrow.Author.Tests.{lt-ltb, le-ltb, eq-eqb, ne-eqb}
 use Rattle.language.specs.Limits.{desk}
 use Rattle.language.specs.Kinds.{pick}
@@ -20,6 +21,15 @@ use Rattle.counts.specs.Tables.{times}
 pub times-append : (x : ℕ) (a b : List ℕ) → times x (a ++ b) ≡ times x a + times x b
 times-append x [] b = omega arith
 times-append x (y ∷ a) b = let h = times-append x a b in omega arith
+
+-- no word stands more often than there are words
+pub times-short : (x : ℕ) (ws : List ℕ) → times x ws ≤ length ws
+times-short x [] = omega arith
+times-short x (y ∷ ws) = let h = times-short x ws in let b = one (eqb y x) in omega arith
+  where
+    one : (b : Bool) → pick b 1 0 ≤ 1
+    one true = omega arith
+    one false = omega arith
 
 -- ---- the words of trees
 

@@ -2,9 +2,9 @@
 ghost use Prim.Native.Nat.{ℕ, _+_, _-_, _≤_, _<_};
 ghost use mathlib.Core.Path.{_≡_};
 ghost use lib.Dec.{eqb, ltb};
-ghost use lib.ListN.{length, getD, replicate};
+ghost use lib.ListN.{length, getD};
 ghost use lib.Seq.{slice};
-ghost use Rattle.counts.specs.Tables.{times, table, countAt, oneIn, oneOut, added, removed, afresh};
+ghost use Rattle.counts.specs.Tables.{times, table, countAt, oneIn, oneOut, added, removed};
 use language::limits::LAST_FUNCTION;
 use language::wide;
 
@@ -55,27 +55,6 @@ pub fn count_out(k: &[u16], from: usize, to: usize, t: &mut [u16; TABLE])
         one_out(wide(k[i]), t);
         i += 1;
     }
-}
-
-// An empty table.
-fn no_counts(t: &mut [u16; TABLE])
-    requires { ⌜ length (now t) ≡ table ⌝ }
-    ensures { λ _. ⌜ now (t .exit) ≡ replicate table 0 ⌝ }
-{
-    let mut i: usize = 0;
-    while i < TABLE {
-        t[i] = 0;
-        i += 1;
-    }
-}
-
-// The count of a part taken afresh.
-pub fn count_afresh(k: &[u16], from: usize, to: usize, t: &mut [u16; TABLE])
-    requires { ⌜ (to ≤ length (now k)) × (to < 65536) × (length (now t) ≡ table) ⌝ }
-    ensures { λ _. ⌜ now (t .exit) ≡ afresh (slice from to (now (k .entry))) ⌝ }
-{
-    no_counts(t);
-    count_in(k, from, to, t);
 }
 
 // Whether a word is counted more than once.
