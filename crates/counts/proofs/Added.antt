@@ -88,13 +88,9 @@ module _ (y : ℕ) (h : y < table) where
 
 -- ---- taken afresh
 
-zeros : (n x : ℕ) → _≡_ {A = ℕ} (getD (replicate n 0) x 0) 0
-zeros zero x = refl
-zeros (suc n) zero = refl
-zeros (suc n) (suc x) = zeros n x
-
-pub zero-at : (x : ℕ) → _≡_ {A = ℕ} (getD (replicate table 0) x 0) 0
-zero-at x = zeros table x
+pub afresh-none : replicate table 0 ≡ afresh []
+unfolding afresh added
+afresh-none = refl
 
 pub length-afresh : (ws : List ℕ) → length (afresh ws) ≡ table
 unfolding afresh

@@ -1,24 +1,27 @@
 -- A variable that an equation has in one place: it is among the other literals exactly if the table counts it more than once.
 use mathlib.Core.Path.{_≡_, refl, sym, ap, _∙_}
-use mathlib.Core.Bool.{Bool, true, false, _&&_, _||_, false≢true}
+use mathlib.Core.Bool.{Bool, true, false, not, _||_}
 use mathlib.Core.List.{List, _∷_, _++_}
 use Prim.Native.Nat.{ℕ, suc, _+_, _<_}
 use native.Mathlib.Omega.{arith}
 use lib.Dec.{eqb, ltb}
 use lib.ListN.{getD}
-use borrow.Author.Tests.{eq-eqb, ne-eqb, eqb-false}
+use borrow.Author.Tests.{eq-eqb}
 use Rattle.language.specs.Limits.{desk}
 use Rattle.language.specs.Kinds.{pick}
 use Rattle.language.specs.declared.TermVar.{TermVar}
 use Rattle.language.specs.declared.HedgeVar.{HedgeVar}
 use Rattle.language.specs.declared.FunVar.{FunVar}
-use Rattle.language.specs.Trees.{Functor, symbol, fvar, Hedge, ε, tvar, hvar, node, eqn, Conj, Var, tv, hv, fv, eqT, eqH, eqX, eqV, eqF, inFunctor, holds, inConj}
+use Rattle.language.specs.Trees.{fvar, Hedge, ε, tvar, hvar, node, eps, Literal, eqn, mem, Conj, Var, tv, hv, fv, holds, inConj}
 use Rattle.language.specs.Writing.{conjWords}
 use Rattle.language.specs.Fine.{fineConj}
 use Rattle.views.specs.Variables.{variableWord, fineVar}
+use Rattle.views.specs.Standing.{LiteralAt}
+use Rattle.views.proofs.Words.{words-append}
+use Rattle.rules.proofs.FineParts.{fine-append}
 use Rattle.counts.specs.Counts.{countHedge, countConj}
 use Rattle.counts.specs.Tables.{table, countAt, afresh, Tallied, Beside}
-use Rattle.counts.proofs.Times.{times-conj, count-append, some-conj, some-hedge, none-of, more-than-one}
+use Rattle.counts.proofs.Times.{times-conj, count-append, some-conj, some-hedge, none-of, more-than-one, just-one}
 use Rattle.counts.proofs.Added.{counted, at-afresh}
 
 pub record Own (v : Var) (l r : Hedge) : Type 0 where
@@ -49,6 +52,10 @@ own-blank X r e = record { once = let a = bit true (eq-eqb (X .0) (X .0) refl) i
 pub own-turned : {v : Var} {l r : Hedge} → Own v l r → Own v r l
 own-turned {v} {l} {r} o = record { once = let q = o .once in omega arith }
 
+-- nor anywhere else exactly if it is counted once
+pub nowhere-else : {t : List ℕ} {K : Conj} {l r : Hedge} (v : Var) → Beside t K l r → fineVar desk v → countHedge v l ≡ 1 → eqb (countAt t (variableWord v)) 1 ≡ not (holds v r || inConj v K)
+nowhere-else {t} {K} {l} {r} v b f o = just-one (countAt t (variableWord v)) (some-conj v (mem r eps ∷ K)) (let p = b .count v f in omega arith)
+
 -- ---- from the table of a conjunction to an equation in it
 
 pub beside : {t : List ℕ} (before : Conj) (l r : Hedge) (behind : Conj) → Tallied t (before ++ (eqn l r ∷ behind)) → Beside t (before ++ behind) l r
@@ -57,11 +64,20 @@ beside before l r behind y = record { count = λ v f. let a = y .count v f in le
 pub beside-turned : {t : List ℕ} {K : Conj} {l r : Hedge} → Beside t K l r → Beside t K r l
 beside-turned b = record { count = λ v f. let a = b .count v f in omega arith }
 
--- the last words of an expression are no variables': words counted afresh count every variable
+-- a variable's word has a place in the table
+pub low : (v : Var) → fineVar desk v → variableWord v < table
+low (tv x) g = omega arith
+low (hv p) g = omega arith
+low (fv X) g = omega arith
+
+-- words counted afresh count every variable
 pub tallied : (c : Conj) → fineConj desk c → (t : List ℕ) → t ≡ afresh (conjWords c) → Tallied t c
 tallied c f t e = record { count = λ v g. sym (counted (variableWord v) t (low v g)) ∙ ap (λ s. getD s (variableWord v) 0) e ∙ at-afresh (variableWord v) (low v g) (conjWords c) ∙ times-conj v g c f }
-  where
-    low : (v : Var) → fineVar desk v → variableWord v < table
-    low (tv x) g = omega arith
-    low (hv p) g = omega arith
-    low (fv X) g = omega arith
+
+-- the table of a conjunction's words counts every variable of it, wherever a literal stands
+pub counted-here : {k : List ℕ} {at : ℕ} {before : Conj} {l : Literal} {behind : Conj} {t : List ℕ} → LiteralAt k at before l behind → t ≡ afresh k → Tallied t (before ++ (l ∷ behind))
+counted-here {before = before} {l} {behind} {t} p e =
+    tallied (before ++ (l ∷ behind)) (fine-append desk before (l ∷ behind) (p .fineBefore) (p .fine, p .fineBehind)) t (e ∙ ap afresh (p .words ∙ sym (words-append before (l ∷ behind))))
+
+pub beside-here : {k : List ℕ} {at : ℕ} {before : Conj} {l r : Hedge} {behind : Conj} {t : List ℕ} → LiteralAt k at before (eqn l r) behind → t ≡ afresh k → Beside t (before ++ behind) l r
+beside-here {before = before} {l} {r} {behind} p e = beside before l r behind (counted-here p e)

@@ -83,7 +83,7 @@ some-one : (b : Bool) → Some b (pick b 1 0)
 some-one true = more {n = 1} (omega arith)
 some-one false = none refl
 
-some-or : {a b : Bool} {m n : ℕ} → Some a m → Some b n → Some (a || b) (m + n)
+pub some-or : {a b : Bool} {m n : ℕ} → Some a m → Some b n → Some (a || b) (m + n)
 some-or {m} {n} (more p) q = more {n = m + n} (omega arith)
 some-or {m} {n} (none p) (more q) = more {n = m + n} (omega arith)
 some-or {m} {n} (none p) (none q) = none {n = m + n} (omega arith)

@@ -1,22 +1,15 @@
--- The table of a conjunction's words has the counts beside each equation in it.
+-- An equation in its words, and the table that has the counts of its conjunction.
 use Prim.Native.Nat.{ℕ}
-use mathlib.Core.Path.{_≡_, sym, ap, _∙_}
-use mathlib.Core.List.{List, _∷_, _++_}
+use mathlib.Core.Path.{_≡_}
+use mathlib.Core.List.{List}
 use lib.ListN.{getD}
-use Rattle.language.specs.Limits.{desk}
 use Rattle.language.specs.Trees.{Hedge, eqn, Conj}
 use Rattle.views.specs.declared.View.{View}
 use Rattle.views.specs.Views.{Sees}
 use Rattle.views.specs.Standing.{LiteralAt, SomeLiteral}
 use Rattle.views.proofs.LiteralWalks.{at-equation}
-use Rattle.views.proofs.Words.{words-append}
-use Rattle.rules.proofs.FineParts.{fine-append}
-use Rattle.counts.specs.Tables.{afresh, Beside, EquationCounted}
-use Rattle.counts.proofs.Own.{beside, beside-turned, tallied}
-
-pub beside-here : {k : List ℕ} {at : ℕ} {before : Conj} {l r : Hedge} {behind : Conj} {table : List ℕ} → LiteralAt k at before (eqn l r) behind → table ≡ afresh k → Beside table (before ++ behind) l r
-beside-here {before} {l} {r} {behind} {table} p e =
-    beside before l r behind (tallied (before ++ (eqn l r ∷ behind)) (fine-append desk before (eqn l r ∷ behind) (p .fineBefore) (p .fine, p .fineBehind)) table (e ∙ ap afresh (p .words ∙ sym (words-append before (eqn l r ∷ behind)))))
+use Rattle.counts.specs.Tables.{afresh, EquationCounted}
+use Rattle.counts.proofs.Own.{beside-here, beside-turned}
 
 pub counted-at : (k : List ℕ) (at : ℕ) → SomeLiteral k at → (v : View) → getD k at 0 ≡ 5000
     → ((before : Conj) (l r : Hedge) (behind : Conj) → LiteralAt k at before (eqn l r) behind → Sees k v before l r behind) → {table : List ℕ} → table ≡ afresh k → EquationCounted k table v

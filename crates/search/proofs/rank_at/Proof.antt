@@ -9,8 +9,8 @@ use Rattle.views.proofs.LiteralWalks.{at-equation, at-membership}
 use Rattle.search.specs.Seeking.{best, bestAt}
 use Rattle.search.proofs.Finding.{best-swapped, best-written, best-member}
 use Rattle.literals.proofs.Seen.{membership-at}
-use Rattle.counts.proofs.Own.{beside-turned}
-use Rattle.search.proofs.Counted.{beside-here, counted-at, counted-turned}
+use Rattle.counts.proofs.Own.{beside-here, beside-turned}
+use Rattle.search.proofs.Counted.{counted-at, counted-turned}
 use Rattle.search.proofs.rank_at.Statement.{statement}
 use Rattle.search.proofs.rank_at.Tie as tie
 
