@@ -95,7 +95,7 @@ fn turn_with(
     let signature = s.signature;
     let b = find(k, table, signature);
     if b.rank == NO_RULE {
-        return line(k, number, next, answer, s);
+        return line(k, table, number, next, answer, s);
     }
     if NO_RULE < b.rank {
         return Turned::Stop(Refusal::LongWalk);
