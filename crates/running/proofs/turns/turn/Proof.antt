@@ -10,9 +10,9 @@ use Rattle.running.proofs.turns.turn.Tie as tie
 
 turn-with-requires : tie.Need-turn-with-requires
 turn-with-requires c κs =
-    let x = @pre .1 .0 in
-    let t = @pre .1 .1 in
-    let p = @pre .0 in
+    let x = c .before .before .before .before .before .before .before .before .before .before .pre .1 .0 in
+    let t = c .before .before .before .before .before .before .before .before .before .before .pre .1 .1 in
+    let p = c .before .before .before .before .before .before .before .before .before .before .pre .0 in
     let e = taken-size t (omega arith) in (
       (omega arith, omega arith, p .2, p .3, p .4, p .5),
       (
@@ -25,7 +25,7 @@ turn-with-requires c κs =
           first = x .first;
           rest = x .rest;
           under = x .under;
-          words = taken-words (x .oldWork) (x .oldAnswer) (x .lines) (x .first) (x .rest) (@args .s) (@args .work .now) (@args .answer .now) (x .under .running) t;
+          words = taken-words (x .oldWork) (x .oldAnswer) (x .lines) (x .first) (x .rest) (c .before .before .before .before .before .before .before .before .before .before .args .s) (c .before .before .before .before .before .before .before .before .before .before .args .work .now) (c .before .before .before .before .before .before .before .before .before .before .args .answer .now) (x .under .running) t;
         },
         t .counts,
       ),
@@ -33,9 +33,9 @@ turn-with-requires c κs =
 
 returns : tie.Need-returns
 returns c = λ old whole oldWork oldAnswer ls x w u.
-    @turn-with .ensures old whole oldWork oldAnswer ls x w u
-    (taken-words oldWork oldAnswer ls x w (@args .s) (@args .work .now) (@args .answer .now) (u .running) (@pre .1 .1))
-    (@read-number .ensures ∙ first-of oldWork oldAnswer ls x w (@args .s) (@args .work .now) (@args .answer .now) (u .running)) (omega arith)
+    c .before .before .before .before .before .before .turn-with .ensures old whole oldWork oldAnswer ls x w u
+    (taken-words oldWork oldAnswer ls x w (c .before .before .before .before .before .before .before .before .before .before .before .before .before .before .before .before .before .args .s) (c .before .before .before .before .before .before .before .before .before .before .before .before .before .before .before .before .before .args .work .now) (c .before .before .before .before .before .before .before .before .before .before .before .before .before .before .before .before .before .args .answer .now) (u .running) (c .before .before .before .before .before .before .before .before .before .before .before .before .before .before .before .before .before .pre .1 .1))
+    (c .before .before .before .before .before .before .before .before .before .before .read-number .ensures ∙ first-of oldWork oldAnswer ls x w (c .before .before .before .before .before .before .before .before .before .before .before .before .before .before .before .before .before .args .s) (c .before .before .before .before .before .before .before .before .before .before .before .before .before .before .before .before .before .args .work .now) (c .before .before .before .before .before .before .before .before .before .before .before .before .before .before .before .before .before .args .answer .now) (u .running)) (omega arith)
 
 pub turn-spec : {M : Type 1} → statement M
 turn-spec = tie.close (tie.spec (λ c κs. search needs) (λ c. search needs) (λ c. search needs) turn-with-requires (λ c. search needs) (λ c. search needs) (λ c. search needs) returns)
