@@ -100,7 +100,7 @@ fn turn_with(
     if NO_RULE < b.rank {
         return Turned::Stop(Refusal::LongWalk);
     }
-    match choose(k, b, told, course, s) {
+    match choose(k, table, b, told, course, s) {
         Chosen::Not(e) => Turned::Stop(e),
         Chosen::Step(c) => {
             let made = one_more(told, course, s.steps);

@@ -35,7 +35,7 @@ returns-2 c =
 choose-requires : tie.Need-choose-requires
 choose-requires c κs =
     let c₁ = c .before .before .before .before .before .before .before .before .before .before .before in
-    let x = c₁ .pre .1 .0 in ((x .under .guided, c₁ .pre .0 .0), record { conj = x .first .literals; fine = x .under .running .fine .0; words = x .words })
+    let x = c₁ .pre .1 .0 in ((x .under .guided, c₁ .pre .0 .0), (record { conj = x .first .literals; fine = x .under .running .fine .0; words = x .words }, c₁ .pre .1 .1))
 
 one-more-requires : tie.Need-one-more-requires
 one-more-requires c κs =
