@@ -13,7 +13,7 @@ zeros-short x = go (decLt x places)
   where
     go : Dec (x < places) → getD (replicate places 0) x 0 ≤ 0
     go (yes h) = let z = getD-replicate {A = ℕ} places x 0 0 h in omega arith
-    go (no h) = let z = List·getD-eq-default (replicate places 0) 0 {n = x} (let l = length-replicate {A = ℕ} places 0 in omega arith) in omega arith
+    go (no h) = let z = List·getD-eq-default {A = ℕ} (replicate places 0) 0 {n = x} (let l = length-replicate {A = ℕ} places 0 in omega arith) in omega arith
 
 pub all-counted : (k t : List ℕ) → t ≡ added (slice 0 (length k) k) (replicate places 0) → t ≡ afresh k
 unfolding afresh
