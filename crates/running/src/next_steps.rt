@@ -37,13 +37,7 @@ fn under_ceiling(b: Best, steps: usize) -> Chosen
 }
 
 // The step that comes next in a trail, so many being behind.
-fn told_step(
-    k: &[u16],
-    table: &[u16; TABLE],
-    told: &[u8],
-    made: usize,
-    s: Signature,
-) -> Chosen
+fn told_step(k: &[u16], table: &[u16; TABLE], told: &[u8], made: usize, s: Signature) -> Chosen
     requires { ⌜ (6 * made ≤ length (now told)) × (length (now k) ≤ desk .question) ⌝ }
     requires { ⌜ Conjunction (now k) ⌝ }
     requires { ⌜ now table ≡ afresh (now k) ⌝ }
