@@ -4,7 +4,7 @@ use native.Mathlib.Omega.{arith}
 use native.Mathlib.Decide.{decLt}
 use mathlib.Core.Path.{_≡_, refl, sym, ap, _∙_}
 use mathlib.Core.Bool.{Bool, true, false, _||_}
-use mathlib.Core.List.{List, [], _∷_, _++_}
+use mathlib.Core.List.{List, [], _∷_}
 use lib.Dec.{eqb, ltb}
 use lib.ListN.{length, getD, take, drop, take-append-drop, drop-of-length-le}
 use lib.Seq.{slice, take-take, drop-drop}
@@ -12,7 +12,7 @@ use borrow.Author.Tests.{lt-ltb, le-ltb, eq-eqb, ne-eqb}
 use Rattle.language.specs.Kinds.{pick}
 use Rattle.words.specs.Spans.{member}
 use Rattle.words.proofs.Parts.{take-short, part-cons, part-none, part-past}
-use Rattle.counts.specs.Tables.{times, table as places, countAt, afresh}
+use Rattle.counts.specs.Tables.{times, table as places, afresh}
 use Rattle.counts.proofs.Times.{Some, none, more, some-or, times-append}
 use Rattle.counts.proofs.Added.{at-afresh}
 

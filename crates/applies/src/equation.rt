@@ -48,7 +48,6 @@ use sharing::first_shared;
 use spots::has_term;
 use spots::inside;
 use spots::under;
-use views::Side;
 use views::View;
 use words::same_part;
 use words::stands;

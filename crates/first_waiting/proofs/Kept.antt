@@ -1,11 +1,11 @@
 -- Words of which a part in the middle is other than before: their list, and the table of their counts.
-use Prim.Native.Nat.{ℕ, suc, _+_, _-_, _<_, _≤_}
+use Prim.Native.Nat.{ℕ, _+_, _-_, _<_, _≤_}
 use native.Mathlib.Omega.{arith}
 use native.Mathlib.Decide.{ℕ-discrete, decLt}
 use mathlib.Core.Path.{_≡_, refl, sym, ap, _∙_}
 use mathlib.Core.List.{List, _++_}
-use lib.ListN.{length, getD, take, drop, length-append, List·getD-eq-default}
-use lib.Seq.{slice, sets, sets-eq, ext-getD, getD-take, getD-drop, take-add, take-all, drop-append-le, drop-at, length-take-le, length-slice}
+use lib.ListN.{length, getD, take, drop, List·getD-eq-default}
+use lib.Seq.{slice, sets, sets-eq, ext-getD, getD-take, getD-drop, take-add, drop-append-le, drop-at, length-take-le, length-slice}
 use Rattle.language.specs.Limits.{desk}
 use Rattle.counts.specs.Tables.{times, table, added, removed, afresh}
 use Rattle.counts.proofs.Times.{times-append, times-short}

@@ -1,6 +1,6 @@
 // The first waiting conjunction, taken out of its frame, and beside it the table of how often each variable occurs in it. Both are kept from turn to
 // turn: only the words that are not as before are counted.
-ghost use Prim.Native.Nat.{ℕ, _+_, _-_, _≤_, _<_};
+ghost use Prim.Native.Nat.{_+_, _-_, _≤_, _<_};
 ghost use mathlib.Core.Path.{_≡_};
 ghost use lib.ListN.{length, take};
 ghost use lib.Seq.{slice, sets};

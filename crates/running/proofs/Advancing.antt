@@ -18,7 +18,7 @@ use Rattle.rules.specs.Each.{Each}
 use Rattle.rules.specs.Reply.{nothing, results, stops}
 use Rattle.rules.specs.Step.{Spot, step}
 use Rattle.rules.specs.Places.{noRule}
-use Rattle.rules.specs.Run.{Numbered, allOf, anyLong, waitingSize, linesFit, Outcome, refused}
+use Rattle.rules.specs.Run.{Numbered, allOf, anyLong, waitingSize, linesFit, refused}
 use Rattle.frames.specs.Frames.{frame}
 use Rattle.views.specs.Standing.{LiteralAt}
 use Rattle.views.proofs.LiteralWalks.{stands-here, literal-some}
@@ -44,7 +44,7 @@ use Rattle.running.specs.Courses.{left, goes, Guided, Below, Traces, Roo
 use Rattle.telling.specs.declared.Chosen.{Chosen}
 use Rattle.telling.specs.declared.Chosen.the-variants.{Step, Not}
 use Rattle.running.proofs.Left.{left-line, left-stops, goes-long, goes-full, first-on, told-on, noted-short, noted-on}
-use Rattle.running.specs.Turning.{Guide, guide, leftOf, goesOf, Noting, Trailed, Under, bound, measure, Turns, on, stop}
+use Rattle.running.specs.Turning.{Guide, guide, leftOf, goesOf, Noting, Trailed, Under, bound, Turns, on, stop}
 use Rattle.running.proofs.Trails.{trailed-line, noting-step, noting-length}
 
 -- ---- a line

@@ -2,13 +2,13 @@
 use Prim.Native.Nat.{ℕ, _+_, _-_, _≤_}
 use native.Mathlib.Omega.{arith}
 use mathlib.Core.Path.{_≡_, sym, ap, _∙_}
-use mathlib.Core.List.{List, [], _∷_}
+use mathlib.Core.List.{List, _∷_}
 use lib.ListN.{length, drop, take}
 use lib.Seq.{sets, slice, sets-eq, take-at, length-sets, length-slice}
 use Rattle.language.specs.Writing.{conjWords}
 use Rattle.rules.specs.Run.{Numbered}
 use Rattle.frames.specs.Frames.{frame, framedLength}
-use Rattle.counts.specs.Tables.{table as places, afresh}
+use Rattle.counts.specs.Tables.{afresh}
 use Rattle.running.specs.declared.moves.State.{State}
 use Rattle.running.specs.Running.{Running}
 use Rattle.running.specs.Turning.{Taken}

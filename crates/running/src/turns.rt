@@ -1,17 +1,15 @@
 // The run of a question, turn by turn, on one of the three courses.
-ghost use Prim.Native.Nat.{ℕ, _+_, _≤_, _<_};
+ghost use Prim.Native.Nat.{_+_, _≤_, _<_};
 ghost use mathlib.Core.Path.{_≡_};
-ghost use mathlib.Core.List.{List};
 ghost use lib.ListN.{length};
 ghost use Rattle.language.specs.Limits.{desk};
 ghost use Rattle.language.specs.Question.{readQuestion};
 ghost use Rattle.frames.specs.Frames.{frame, framedLength};
-ghost use Rattle.views.specs.Standing.{Conjunction};
 ghost use Rattle.counts.specs.Tables.{afresh};
 ghost use Rattle.steps.specs.Asking.{RuleAt};
 ghost use Rattle.reader.specs.Checking.{checked};
 ghost use Rattle.outcomes.specs.declared.Checked.the-variants.{Fine};
-ghost use Rattle.running.specs.Courses.{Guided, Roomy};
+ghost use Rattle.running.specs.Courses.{Roomy};
 ghost use Rattle.running.specs.Turning.{Advances, FirstOf, Taken, TurnsWith, TurnsFirst, Awaits, Begun, GoesOn, Runs};
 use crate::moves::State;
 use crate::moves::Turned;

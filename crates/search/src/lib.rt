@@ -1,5 +1,5 @@
 // The search for the first rule that applies to a conjunction, in its words.
-ghost use Prim.Native.Nat.{_+_, _≤_, _<_};
+ghost use Prim.Native.Nat.{_≤_, _<_};
 ghost use mathlib.Core.Path.{_≡_};
 ghost use lib.ListN.{length, drop};
 ghost use Rattle.language.specs.Limits.{desk};

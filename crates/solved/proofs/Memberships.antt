@@ -2,8 +2,8 @@
 use Prim.Native.Nat.{ℕ, suc, _+_, _-_, _<_, _≤_}
 use native.Mathlib.Omega.{arith}
 use native.Mathlib.Decide.{decLt}
-use mathlib.Core.Path.{_≡_, refl, sym, ap, _∙_, subst}
-use mathlib.Core.Bool.{Bool, true, false, not, _&&_, _||_}
+use mathlib.Core.Path.{_≡_, refl, sym, ap, _∙_}
+use mathlib.Core.Bool.{Bool, true, false, not, _||_}
 use mathlib.Core.List.{List, [], _∷_, _++_}
 use mathlib.Core.Option.{Option, none, some}
 use lib.Dec.{eqb}
@@ -12,13 +12,9 @@ use lib.Seq.{slice, length-slice}
 use borrow.Author.Tests.{eq-eqb, ne-eqb}
 use Rattle.language.specs.Kinds.{pick}
 use Rattle.language.specs.Limits.{desk}
-use Rattle.language.specs.declared.TermVar.{TermVar}
-use Rattle.language.specs.declared.HedgeVar.{HedgeVar}
-use Rattle.language.specs.declared.FunVar.{FunVar}
-use Rattle.language.specs.Trees.{Hedge, ε, tvar, hvar, node, symbol, fvar, Expr, Literal, eqn, mem, Conj, Var, tv, hv, fv, holds, inConj}
+use Rattle.language.specs.Trees.{Hedge, ε, tvar, hvar, node, symbol, fvar, Expr, Literal, eqn, mem, Conj, Var, tv, fv, holds, inConj}
 use Rattle.language.specs.Writing.{literalWords, conjWords}
 use Rattle.language.specs.Fine.{fineConj}
-use Rattle.rules.specs.Looks.{empty}
 use Rattle.rules.specs.Solved.{given, variable, alone, isSome, isTerm, isFunctor, inMember, loneVar, onlyMember}
 use Rattle.rules.proofs.Answers.{Where}
 use Rattle.rules.proofs.FineParts.{fine-append}
@@ -33,7 +29,7 @@ use Rattle.views.specs.Standing.{LiteralAt}
 use Rattle.views.proofs.Words.{words-append}
 use Rattle.views.proofs.Seen.{literal-here, literal-next}
 use Rattle.counts.specs.Counts.{countHedge}
-use Rattle.counts.specs.Tables.{times, table, countAt, added, afresh, Beside}
+use Rattle.counts.specs.Tables.{times, table, countAt, added, Beside}
 use Rattle.counts.proofs.Times.{Some, times-short, times-literal, some-hedge, some-or, just-one}
 use Rattle.counts.proofs.Times as times-laws
 use Rattle.counts.proofs.Added.{at-added, length-added, counted}

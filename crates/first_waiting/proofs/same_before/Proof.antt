@@ -1,10 +1,9 @@
 -- `same_before`: the words passed are the same.
-use Prim.Native.Nat.{_+_, _-_, _≤_}
-use mathlib.Core.Path.{sym}
+use Prim.Native.Nat.{_-_, _≤_}
 use native.Mathlib.Omega.{arith}
 use borrow.Author.Needs.{needs}
-use Rattle.first_waiting.specs.Parts.{Alike, AlikeBack}
-use Rattle.first_waiting.proofs.Kept.{alike-none, alike-more, back-none, back-more}
+use Rattle.first_waiting.specs.Parts.{Alike}
+use Rattle.first_waiting.proofs.Kept.{alike-none, alike-more}
 use Rattle.first_waiting.proofs.same_before.Statement.{statement}
 use Rattle.first_waiting.proofs.same_before.Tie as tie
 

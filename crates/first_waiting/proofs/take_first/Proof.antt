@@ -1,12 +1,12 @@
 -- `take_first`: what is the same in front and behind stays, the part between is counted out and in, and copied.
 use Prim.Native.Nat.{_+_}
-use mathlib.Core.Path.{_≡_, ap, _∙_}
+use mathlib.Core.Path.{ap, _∙_}
 use native.Mathlib.Omega.{arith}
 use lib.ListN.{length}
 use lib.Seq.{slice, sets, length-slice}
 use borrow.Author.Needs.{needs}
 use Rattle.frames.specs.Frames.{frame}
-use Rattle.counts.specs.Tables.{table, afresh}
+use Rattle.counts.specs.Tables.{afresh}
 use Rattle.counts.proofs.Added.{length-afresh, length-removed}
 use Rattle.first_waiting.proofs.Kept.{follows, out-fits, in-fits, table-kept, words-kept}
 use Rattle.first_waiting.proofs.take_first.Statement.{statement}

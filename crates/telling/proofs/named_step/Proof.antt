@@ -1,9 +1,7 @@
 -- `named_step`: the words counted afresh are the table of `named_by`.
-use Prim.Native.Nat.{ℕ, _+_, _-_}
+use Prim.Native.Nat.{ℕ, _-_}
 use native.Mathlib.Omega.{arith}
-use mathlib.Core.Path.{_∙_}
-use lib.ListN.{length, length-replicate}
-use borrow.Author.Needs.{needs}
+use lib.ListN.{length-replicate}
 use Rattle.counts.specs.Tables.{table as places}
 use Rattle.telling.proofs.Counting.{zeros-short, all-counted}
 use Rattle.telling.proofs.named_step.Statement.{statement}

@@ -1,6 +1,5 @@
 -- The table says how often in all words, the part how often in its own.
 use native.Mathlib.Omega.{arith}
-use mathlib.Core.Path.{_∙_}
 use borrow.Author.Needs.{needs}
 use Rattle.applies.proofs.Others.{by-table}
 use Rattle.applies.proofs.counted.elsewhere.Statement.{statement}

@@ -1,5 +1,5 @@
 -- By whether it is the word.
-use mathlib.Core.Path.{sym, ap, _∙_}
+use mathlib.Core.Path.{sym, _∙_}
 use borrow.Author.Needs.{needs}
 use Rattle.applies.proofs.Others.{one-here, none-here}
 use Rattle.applies.proofs.counted.one_if.Statement.{statement}

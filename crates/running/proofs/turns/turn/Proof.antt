@@ -1,7 +1,6 @@
 -- `turn`: the conjunction that was taken out is the first that waits, and the turn is made with it.
 use native.Mathlib.Omega.{arith}
 use mathlib.Core.Path.{_∙_}
-use lib.ListN.{length}
 use borrow.Author.Needs.{needs}
 use Rattle.running.proofs.Going.{first-of}
 use Rattle.running.proofs.TakenOut.{taken-words, taken-size}
