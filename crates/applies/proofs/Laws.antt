@@ -1,6 +1,6 @@
 -- Each test is that of its rule, line by line.
 use Prim.Native.Nat.{ℕ}
-use mathlib.Core.Path.{_≡_, refl, sym, ap, _∙_}
+use mathlib.Core.Path.{_≡_, refl}
 use mathlib.Core.Bool.{Bool, true, false, not, _&&_, and-true}
 use Rattle.language.specs.declared.Signature.{Signature}
 use Rattle.language.specs.Trees.{symbol, fvar, Hedge, ε, tvar, hvar, node, Expr, Conj, isUnordered, anyUnordered, eqS, eqX, sameWords}

@@ -29,6 +29,8 @@ use Rattle.views.specs.Standing.{Stands}
 use Rattle.views.specs.Variables.{variableWord, fineVar}
 use Rattle.views.specs.Views.{Sided, Sees, Shows}
 use Rattle.views.proofs.Members.{member-hedge, elsewhere-sees}
+use Rattle.counts.specs.Tables.{table as places}
+use Rattle.counts.proofs.Own.{low}
 use Rattle.views.proofs.Sides.{side-stands, side-whole}
 use Rattle.finds.specs.declared.Found.{Found}
 use Rattle.finds.specs.declared.Spot.{Spot}
@@ -147,8 +149,8 @@ same-blanks {X} {x} {f} {y} r e d = r ∙ ap (λ z. isBlank z f) e ∙ ap (isBla
 
 module _ {k : List ℕ} {v : View} {before : Conj} {l r : Hedge} {behind : Conj} (w : Sees k v before l r behind) where
   -- a variable's word stands elsewhere
-  there : (y : Var) → fineVar desk y → {x : ℕ} → x ≡ variableWord y → {b : Bool} → b ≡ (member x (take (v .at) k) || member x (drop (v .end) k)) → b ≡ inConj y (before ++ behind)
-  there y f e d = d ∙ ap (λ z. member z (take (v .at) k) || member z (drop (v .end) k)) e ∙ elsewhere-sees y f w
+  there : (y : Var) → fineVar desk y → {x : ℕ} → x ≡ variableWord y → {b : Bool} → (x < places → b ≡ (member x (take (v .at) k) || member x (drop (v .end) k))) → b ≡ inConj y (before ++ behind)
+  there y f e d = d (let z = low y f in omega arith) ∙ ap (λ z. member z (take (v .at) k) || member z (drop (v .end) k)) e ∙ elsewhere-sees y f w
 
   pub variable-held : {y : TermVar} → y ≡ variableOf (v .l .look) → {x : ℕ} → x ≡ 1000 + y .0 → {b : Bool} → b ≡ member x (slice (v .r .from) (v .r .to) k) → b ≡ holds (tv (variableOf (lookOf l))) r
   variable-held e d m = held (w .right) (tv (variableOf (lookOf l))) (variable-fine l (w .left .fine)) (variable-word (w .left) e d) m
@@ -157,15 +159,15 @@ module _ {k : List ℕ} {v : View} {before : Conj} {l r : Hedge} {behind : Conj}
   run-held e d m = held (w .right) (hv (runOf (lookOf l))) (run-fine l (w .left .fine)) (run-word (w .left) e d) m
 
   module _ {s : Side} {h : Hedge} (u : Sided k s h) where
-    pub variable-there : {y : TermVar} → y ≡ variableOf (s .look) → {x : ℕ} → x ≡ 1000 + y .0 → {b : Bool} → b ≡ (member x (take (v .at) k) || member x (drop (v .end) k))
+    pub variable-there : {y : TermVar} → y ≡ variableOf (s .look) → {x : ℕ} → x ≡ 1000 + y .0 → {b : Bool} → (x < places → b ≡ (member x (take (v .at) k) || member x (drop (v .end) k)))
         → b ≡ inConj (tv (variableOf (lookOf h))) (before ++ behind)
     variable-there e d m = there (tv (variableOf (lookOf h))) (variable-fine h (u .fine)) (variable-word u e d) m
 
-    pub run-there : {p : HedgeVar} → p ≡ runOf (s .look) → {x : ℕ} → x ≡ 2000 + p .0 → {b : Bool} → b ≡ (member x (take (v .at) k) || member x (drop (v .end) k))
+    pub run-there : {p : HedgeVar} → p ≡ runOf (s .look) → {x : ℕ} → x ≡ 2000 + p .0 → {b : Bool} → (x < places → b ≡ (member x (take (v .at) k) || member x (drop (v .end) k)))
         → b ≡ inConj (hv (runOf (lookOf h))) (before ++ behind)
     run-there e d m = there (hv (runOf (lookOf h))) (run-fine h (u .fine)) (run-word u e d) m
 
-    pub blank-there : {f : Name} → f ≡ nameIn (s .look) → {X : FunVar} → X ≡ blankOf f → {x : ℕ} → x ≡ 4000 + X .0 → {b : Bool} → b ≡ (member x (take (v .at) k) || member x (drop (v .end) k))
+    pub blank-there : {f : Name} → f ≡ nameIn (s .look) → {X : FunVar} → X ≡ blankOf f → {x : ℕ} → x ≡ 4000 + X .0 → {b : Bool} → (x < places → b ≡ (member x (take (v .at) k) || member x (drop (v .end) k)))
         → b ≡ inConj (fv (blankOf (nameIn (lookOf h)))) (before ++ behind)
     blank-there e d g m = there (fv (blankOf (nameIn (lookOf h)))) (blank-fine h (u .fine)) (blank-word u e d g) m
 

@@ -10,8 +10,10 @@ ghost use Rattle.rules.specs.Solved.{isSome};
 ghost use Rattle.views.specs.Looks.{lookOf};
 ghost use Rattle.views.specs.Standing.{Stands};
 ghost use Rattle.views.specs.Views.{Sees};
+ghost use Rattle.counts.specs.Tables.{afresh};
 ghost use Rattle.applies.specs.Parts.{loneVariable, loneRun, loneFunctor, variableOf, runOf, childrenOf};
 ghost use Rattle.applies.specs.Tests.{Asks, testR1, testF1, testF2, testF3, testF4, testDel1, oneShuffled, testDel2, testDel3, testD1, testD2, testD0, testE1, testE2, testE3, testE4, blanksIn, testE5, testE6, testE7};
+use crate::counted::elsewhere;
 use crate::looks::blank_of;
 use crate::looks::is_bare;
 use crate::looks::is_blank;
@@ -32,6 +34,7 @@ use crate::looks::symbol_of;
 use crate::looks::variable_of;
 use bools::and;
 use bools::or;
+use counts::TABLE;
 use finds::all_terms;
 use finds::up_to;
 use language::Signature;
@@ -45,9 +48,7 @@ use sharing::first_shared;
 use spots::has_term;
 use spots::inside;
 use spots::under;
-use views::Side;
 use views::View;
-use words::elsewhere;
 use words::same_part;
 use words::stands;
 
@@ -208,18 +209,20 @@ pub fn d0(k: &[u16], v: View, signature: Signature) -> bool
 }
 
 // Where the right side is one term variable, it is in the others too.
-fn variable_too(k: &[u16], v: View) -> bool
+fn variable_too(k: &[u16], table: &[u16; TABLE], v: View) -> bool
+    requires { ⌜ now table ≡ afresh (now k) ⌝ }
     ensures { λ b. ⌜ Asks (λ K l r. not (loneVariable (lookOf r)) || inConj (tv (variableOf (lookOf r))) K) (now (k .entry)) v b ⌝ }
 {
     let r = v.r;
     let b = r.look;
-    let there = elsewhere(k, v.at, v.end, term_word(variable_of(b)));
+    let there = elsewhere(k, table, v.at, v.end, term_word(variable_of(b)));
     let lone = lone_variable(b);
     or(!lone, there)
 }
 
 // E1: x against a term without it, and the variables elsewhere too.
-pub fn e1(k: &[u16], v: View) -> bool
+pub fn e1(k: &[u16], table: &[u16; TABLE], v: View) -> bool
+    requires { ⌜ now table ≡ afresh (now k) ⌝ }
     ensures { λ b. ⌜ Asks testE1 (now (k .entry)) v b ⌝ }
 {
     let l = v.l;
@@ -228,32 +231,34 @@ pub fn e1(k: &[u16], v: View) -> bool
     let b = r.look;
     let x = term_word(variable_of(a));
     let held = stands(k, r.from, r.to, x);
-    let there = elsewhere(k, v.at, v.end, x);
-    let bound = and(!held, and(there, variable_too(k, v)));
+    let there = elsewhere(k, table, v.at, v.end, x);
+    let bound = and(!held, and(there, variable_too(k, table, v)));
     and(lone_variable(a), and(single(b), bound))
 }
 
 // Where the right side is one hedge variable, it is in the others too.
-fn run_too(k: &[u16], v: View) -> bool
+fn run_too(k: &[u16], table: &[u16; TABLE], v: View) -> bool
+    requires { ⌜ now table ≡ afresh (now k) ⌝ }
     ensures { λ b. ⌜ Asks (λ K l r. not (loneRun (lookOf r)) || inConj (hv (runOf (lookOf r))) K) (now (k .entry)) v b ⌝ }
 {
     let r = v.r;
     let b = r.look;
-    let there = elsewhere(k, v.at, v.end, run_word(run_of(b)));
+    let there = elsewhere(k, table, v.at, v.end, run_word(run_of(b)));
     let lone = lone_run(b);
     or(!lone, there)
 }
 
 // E2: p against a hedge without it, and the variables elsewhere too.
-pub fn e2(k: &[u16], v: View) -> bool
+pub fn e2(k: &[u16], table: &[u16; TABLE], v: View) -> bool
+    requires { ⌜ now table ≡ afresh (now k) ⌝ }
     ensures { λ b. ⌜ Asks testE2 (now (k .entry)) v b ⌝ }
 {
     let l = v.l;
     let a = l.look;
     let x = run_word(run_of(a));
     let held = stands(k, v.r.from, v.r.to, x);
-    let there = elsewhere(k, v.at, v.end, x);
-    and(lone_run(a), and(!held, and(there, run_too(k, v))))
+    let there = elsewhere(k, table, v.at, v.end, x);
+    and(lone_run(a), and(!held, and(there, run_too(k, table, v))))
 }
 
 // E3: p and more against terms alone, without p.
@@ -280,7 +285,8 @@ pub fn e4(k: &[u16], v: View) -> bool
 }
 
 // The function variable of the left side is in the others, and that of the right side too.
-fn blanks_elsewhere(k: &[u16], v: View) -> bool
+fn blanks_elsewhere(k: &[u16], table: &[u16; TABLE], v: View) -> bool
+    requires { ⌜ now table ≡ afresh (now k) ⌝ }
     ensures { λ b. ⌜ Asks blanksIn (now (k .entry)) v b ⌝ }
 {
     let l = v.l;
@@ -288,13 +294,14 @@ fn blanks_elsewhere(k: &[u16], v: View) -> bool
     let a = l.look;
     let b = r.look;
     let g = name_in(b);
-    let first = elsewhere(k, v.at, v.end, function_word(blank_of(name_in(a))));
-    let second = elsewhere(k, v.at, v.end, function_word(blank_of(g)));
+    let first = elsewhere(k, table, v.at, v.end, function_word(blank_of(name_in(a))));
+    let second = elsewhere(k, table, v.at, v.end, function_word(blank_of(g)));
     and(first, or(is_symbol(g), second))
 }
 
 // E5: X() against F(), another functor, and the variables elsewhere too.
-pub fn e5(k: &[u16], v: View) -> bool
+pub fn e5(k: &[u16], table: &[u16; TABLE], v: View) -> bool
+    requires { ⌜ now table ≡ afresh (now k) ⌝ }
     ensures { λ b. ⌜ Asks testE5 (now (k .entry)) v b ⌝ }
 {
     let l = v.l;
@@ -304,7 +311,7 @@ pub fn e5(k: &[u16], v: View) -> bool
     let f = name_in(a);
     let symbol = is_symbol(f);
     let same = is_blank(blank_of(f), name_in(b));
-    let bound = and(!same, blanks_elsewhere(k, v));
+    let bound = and(!same, blanks_elsewhere(k, table, v));
     let bare = and(is_bare(a), and(is_bare(b), bound));
     and(lone_functor(a), and(!symbol, and(lone_functor(b), bare)))
 }

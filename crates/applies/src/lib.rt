@@ -9,13 +9,16 @@ ghost use Rattle.rules.specs.Ranks.{eqnAnswer, memAnswer};
 ghost use Rattle.rules.specs.Solved.{isSome};
 ghost use Rattle.views.specs.Standing.{LiteralAt, SomeLiteral};
 ghost use Rattle.views.specs.Views.{Sees, Shows};
+ghost use Rattle.counts.specs.Tables.{afresh};
 ghost use Rattle.applies.specs.Answers.{answersAt};
 
+mod counted;
 mod equation;
 mod looks;
 mod membership;
 
 use bools::and;
+use counts::TABLE;
 use equation::d0;
 use equation::d1;
 use equation::d2;
@@ -86,7 +89,14 @@ use views::show_membership;
 use views::swapped;
 
 // The rule of that place applies to the equation, seen from its left side.
-fn equation_applies(rank: usize, k: &[u16], v: View, signature: Signature) -> bool
+fn equation_applies(
+    rank: usize,
+    k: &[u16],
+    table: &[u16; TABLE],
+    v: View,
+    signature: Signature,
+) -> bool
+    requires { ⌜ now table ≡ afresh (now k) ⌝ }
     ensures { λ b. ⌜ ((before behind : Conj) (l r : Hedge) → Sees (now (k .entry)) v before l r behind → b ≡ isSome (eqnAnswer signature rank (before ++ behind) l r)) ⌝ }
 {
     match rank {
@@ -101,11 +111,11 @@ fn equation_applies(rank: usize, k: &[u16], v: View, signature: Signature) -> bo
         AT_D1 => d1(k, v, signature),
         AT_D2 => d2(k, v),
         AT_D0 => d0(k, v, signature),
-        AT_E1 => e1(k, v),
-        AT_E2 => e2(k, v),
+        AT_E1 => e1(k, table, v),
+        AT_E2 => e2(k, table, v),
         AT_E3 => e3(k, v),
         AT_E4 => e4(k, v),
-        AT_E5 => e5(k, v),
+        AT_E5 => e5(k, table, v),
         AT_E6 => e6(k, v),
         AT_E7 => e7(k, v, signature),
         _ => false,
@@ -147,14 +157,23 @@ fn seen(k: &[u16], at: usize, swap: bool) -> View
     v
 }
 
-// The rule of that place applies to the literal that stands at `at`, seen from that side. A membership has no other side.
-pub fn literal_applies(rank: usize, k: &[u16], at: usize, swap: bool, signature: Signature) -> bool
+// The rule of that place applies to the literal that stands at `at`, seen from that side, the table having the counts of all variables. A membership
+// has no other side.
+pub fn literal_applies(
+    rank: usize,
+    k: &[u16],
+    table: &[u16; TABLE],
+    at: usize,
+    swap: bool,
+    signature: Signature,
+) -> bool
     requires { ⌜ at < length (now k) ⌝ }
     requires { ⌜ SomeLiteral (now k) at ⌝ }
+    requires { ⌜ now table ≡ afresh (now k) ⌝ }
     ensures { λ b. ⌜ ((before : Conj) (l : Literal) (behind : Conj) → LiteralAt (now (k .entry)) at before l behind → b ≡ answersAt signature rank swap (before ++ behind) l) ⌝ }
 {
     if k[at] == 5000 {
-        return equation_applies(rank, k, seen(k, at, swap), signature);
+        return equation_applies(rank, k, table, seen(k, at, swap), signature);
     }
     let m = show_membership(k, at);
     let there = membership_applies(rank, k, m, signature);

@@ -21,7 +21,6 @@ use language::Sym;
 use language::is_unordered;
 use spots::has_term;
 use views::Shape;
-use views::Side;
 
 // What the expression begins with.
 fn form_of(s: Shape) -> usize

@@ -1,11 +1,11 @@
 -- An equation whose left side begins with a hedge variable: what each test says of the first rule.
 use Prim.Native.Nat.{ℕ, _+_, _<_}
 use native.Mathlib.Omega.{arith}
-use mathlib.Core.Path.{_≡_, refl, sym, ap, _∙_}
-use mathlib.Core.Bool.{Bool, true, false, not, _&&_, _||_}
-use mathlib.Core.List.{List, _++_}
+use mathlib.Core.Path.{_≡_, refl, sym, ap, _∙_, subst}
+use mathlib.Core.Bool.{Bool, true, false, not, _&&_, _||_, false≢true}
+use mathlib.Core.List.{List}
 use borrow.Author.Tests.{eq-eqb, ne-eqb}
-use lib.ListN.{take, drop}
+use lib.Dec.{ltb}
 use lib.Seq.{slice}
 use Rattle.language.specs.declared.TermVar.{TermVar}
 use Rattle.language.specs.declared.HedgeVar.{HedgeVar}
@@ -20,20 +20,50 @@ use Rattle.rules.specs.Solved.{isSome}
 use Rattle.rules.specs.Places.{atR1, atF2, atDel1, atDel3, atE2, atE3, atE4, noRule}
 use Rattle.views.specs.declared.Look.the-variants.{Empty, Term, Run, Node}
 use Rattle.views.specs.declared.Side.{Side}
-use Rattle.views.specs.declared.View.{View}
 use Rattle.views.specs.Looks.{lookOf}
-use Rattle.views.specs.Views.{Sided, Sees}
+use Rattle.views.specs.Views.{Sided}
 use Rattle.words.specs.Spans.{member}
-use Rattle.views.proofs.Members.{member-hedge, elsewhere-sees}
+use Rattle.views.proofs.Members.{eqb-sym, member-hedge}
 use Rattle.views.proofs.Sides.{side-whole}
+use Rattle.counts.specs.Tables.{countAt, Beside}
+use Rattle.counts.proofs.Own.{Own, among-others, own-run, own-turned}
 use Rattle.equations.specs.Rank.{lonely, leading, rankOf}
 use Rattle.equations.specs.Ranked.{Begins}
 use Rattle.equations.proofs.Looked.{at-empty, at-term, at-run, at-node}
 
--- a hedge variable stands elsewhere
-pub run-elsewhere : {k : List ℕ} {v : View} {before : Conj} {l r : Hedge} {behind : Conj} → Sees k v before l r behind → (q : HedgeVar) → q .0 < desk .each → {p : ℕ} → p ≡ 2000 + q .0
-    → (member p (take (v .at) k) || member p (drop (v .end) k)) ≡ inConj (hv q) (before ++ behind)
-run-elsewhere {k} {v} w q b {p} e = ap (λ z. member z (take (v .at) k) || member z (drop (v .end) k)) e ∙ elsewhere-sees (hv q) b w
+-- a hedge variable that the equation has once stands elsewhere
+pub run-elsewhere : {table : List ℕ} {K : Conj} {l r : Hedge} → Beside table K l r → (q : HedgeVar) → q .0 < desk .each → Own (hv q) l r → {x : ℕ} → x ≡ 2000 + q .0
+    → ltb 1 (countAt table x) ≡ inConj (hv q) K
+run-elsewhere b q f o e = among-others (hv q) b f o e
+
+pub lone-run : (q : HedgeVar) (s r : Hedge) → empty s ≡ true → holds (hv q) r ≡ false → Own (hv q) (hvar q s) r
+lone-run q ε r e h = own-run q r h
+lone-run q (tvar x s) r e h = absurd (false≢true e)
+lone-run q (hvar x s) r e h = absurd (false≢true e)
+lone-run q (node f c s) r e h = absurd (false≢true e)
+
+pub run-empty : (q : HedgeVar) (s r : Hedge) → empty s ≡ true → Empty ≡ lookOf r → Own (hv q) (hvar q s) r
+run-empty q s r e d = at-empty (λ m. Own (hv q) (hvar q s) m) r d (lone-run q s ε e refl)
+
+or-left : (a b : Bool) → (a || b) ≡ false → a ≡ false
+or-left true b e = e
+or-left false b e = refl
+
+-- the other variable, where it is one
+pub other-run : (l : Hedge) (w : HedgeVar) (t r : Hedge) → r ≡ hvar w t → empty t ≡ true → holds (hv w) l ≡ false → Own (hv w) l r
+other-run l w t r i e h = subst (λ m. Own (hv w) l m) (sym i) (own-turned (lone-run w t l e h))
+
+pub not-other : (q w : HedgeVar) (s t : Hedge) → empty s ≡ true → holds (hv q) (hvar w t) ≡ false → holds (hv w) (hvar q s) ≡ false
+not-other q w s t e h = go s e
+  where
+    i : eqH w q ≡ false
+    i = eqb-sym (w .0) (q .0) ∙ or-left (eqH q w) (holds (hv q) t) h
+
+    go : (s : Hedge) → empty s ≡ true → holds (hv w) (hvar q s) ≡ false
+    go ε e = ap (λ b. b || false) i
+    go (tvar x s) e = absurd (false≢true e)
+    go (hvar x s) e = absurd (false≢true e)
+    go (node f c s) e = absurd (false≢true e)
 
 -- and in a side
 pub run-held : {k : List ℕ} {s : Side} {h : Hedge} → Sided k s h → (q : HedgeVar) → q .0 < desk .each → {p : ℕ} → p ≡ 2000 + q .0 → member p (slice (s .from) (s .to) k) ≡ holds (hv q) h
@@ -173,6 +203,6 @@ begins-node r e = at-node Begins r e (λ f d t _ _ _. tt)
 pub too-run : (K : Conj) (r : Hedge) {w : HedgeVar} {b : Bool} → Run w b ≡ lookOf r → b ≡ false → true ≡ too hv (loneH r) K
 too-run K r {w} {b} e = at-run (λ m. b ≡ false → true ≡ too hv (loneH m) K) r e (λ t i f. sym (not-lone w t K (sym i ∙ f)))
 
-pub too-alone : (K : Conj) (r : Hedge) {w : HedgeVar} {b u : Bool} → Run w b ≡ lookOf r → b ≡ true → ((t : Hedge) → r ≡ hvar w t → u ≡ inConj (hv w) K) → u ≡ too hv (loneH r) K
-too-alone K r {w} {b} {u} e = at-run (λ m. b ≡ true → ((t : Hedge) → m ≡ hvar w t → u ≡ inConj (hv w) K) → u ≡ too hv (loneH m) K) r e
-    (λ t i f h. h t refl ∙ sym (lone-too w t K (sym i ∙ f)))
+pub too-alone : (K : Conj) (r : Hedge) {w : HedgeVar} {b u : Bool} → Run w b ≡ lookOf r → b ≡ true → ((t : Hedge) → r ≡ hvar w t → empty t ≡ true → u ≡ inConj (hv w) K) → u ≡ too hv (loneH r) K
+too-alone K r {w} {b} {u} e = at-run (λ m. b ≡ true → ((t : Hedge) → m ≡ hvar w t → empty t ≡ true → u ≡ inConj (hv w) K) → u ≡ too hv (loneH m) K) r e
+    (λ t i f h. h t refl (sym i ∙ f) ∙ sym (lone-too w t K (sym i ∙ f)))

@@ -1,27 +1,26 @@
 -- Single terms by their functors: what each test says of the first rule.
 use Prim.Native.Nat.{ℕ, _+_, _<_}
 use mathlib.Core.Path.{_≡_, refl, sym, ap, _∙_}
-use mathlib.Core.Bool.{Bool, true, false, not, _&&_, _||_, and-true}
-use mathlib.Core.List.{List, _++_}
+use mathlib.Core.Bool.{Bool, true, false, not, _&&_, _||_, and-true, false≢true}
+use mathlib.Core.List.{List}
 use borrow.Author.Tests.{eq-eqb, ne-eqb}
-use lib.ListN.{take, drop}
+use lib.Dec.{ltb}
 use Rattle.language.specs.declared.FunVar.{FunVar}
 use Rattle.language.specs.declared.Sym.{Sym}
 use Rattle.language.specs.declared.Signature.{Signature}
 use Rattle.language.specs.declared.Name.the-variants.{Symbol, Blank}
 use Rattle.language.specs.Limits.{desk}
 use Rattle.language.specs.Kinds.{pick}
-use Rattle.language.specs.Trees.{Functor, symbol, fvar, Hedge, Conj, isUnordered, anyUnordered, eqS, eqF, fv, inConj}
+use Rattle.language.specs.Trees.{Functor, symbol, fvar, Hedge, ε, tvar, hvar, node, Conj, isUnordered, anyUnordered, eqS, eqX, eqF, fv, inConj}
 use Rattle.language.specs.Fine.{fineFunctor}
 use Rattle.rules.specs.Looks.{empty, allTerms}
 use Rattle.rules.specs.Elements.{struck}
 use Rattle.rules.specs.Solved.{isSome}
 use Rattle.rules.specs.Places.{atF3, atDel2, atD1, atD0, atE5, atE6, atE7, noRule}
-use Rattle.views.specs.declared.View.{View}
 use Rattle.views.specs.Looks.{nameOf}
-use Rattle.views.specs.Views.{Sees}
-use Rattle.words.specs.Spans.{member}
-use Rattle.views.proofs.Members.{elsewhere-sees}
+use Rattle.views.proofs.Members.{eqb-sym}
+use Rattle.counts.specs.Tables.{countAt, Beside}
+use Rattle.counts.proofs.Own.{Own, among-others, own-blank, own-turned}
 use Rattle.equations.specs.Rank.{shuffled, functors}
 use Rattle.equations.specs.Ranked.{blanksIn}
 use Rattle.equations.proofs.Looked.{at-symbol, at-blank}
@@ -35,10 +34,44 @@ pub not-false : {b : Bool} → not b ≡ false → b ≡ true
 not-false {b = true} e = refl
 not-false {b = false} e = sym e
 
--- a function variable stands elsewhere
-pub blank-elsewhere : {k : List ℕ} {v : View} {before : Conj} {l r : Hedge} {behind : Conj} → Sees k v before l r behind → (X : FunVar) → X .0 < desk .each → {f : ℕ} → f ≡ 4000 + X .0
-    → (member f (take (v .at) k) || member f (drop (v .end) k)) ≡ inConj (fv X) (before ++ behind)
-blank-elsewhere {k} {v} w X b {f} e = ap (λ x. member x (take (v .at) k) || member x (drop (v .end) k)) e ∙ elsewhere-sees (fv X) b w
+-- a function variable that the equation has once stands elsewhere
+pub blank-elsewhere : {table : List ℕ} {K : Conj} {l r : Hedge} → Beside table K l r → (X : FunVar) → X .0 < desk .each → Own (fv X) l r → {x : ℕ} → x ≡ 4000 + X .0
+    → ltb 1 (countAt table x) ≡ inConj (fv X) K
+blank-elsewhere b X f o e = among-others (fv X) b f o e
+
+-- X() = F(), X not F: each is there once
+pub left-own : (X : FunVar) (G : Functor) → eqF (fvar X) G ≡ false → Own (fv X) (node (fvar X) ε ε) (node G ε ε)
+left-own X (symbol g) e = own-blank X (node (symbol g) ε ε) refl
+left-own X (fvar Y) e = own-blank X (node (fvar Y) ε ε) (rw e)
+
+pub right-own : (X Y : FunVar) (G : Functor) → Blank Y ≡ nameOf G → eqF (fvar X) G ≡ false → Own (fv Y) (node (fvar X) ε ε) (node G ε ε)
+right-own X Y G d = at-blank (λ G. eqF (fvar X) G ≡ false → Own (fv Y) (node (fvar X) ε ε) (node G ε ε)) G d
+    (λ e. own-turned (own-blank Y (node (fvar X) ε ε) (let i : eqX Y X ≡ false = eqb-sym (Y .0) (X .0) ∙ e in rw i)))
+
+-- without children
+pub bare-blanks : {table : List ℕ} {K : Conj} (F G : Functor) (c d : Hedge) → (empty c && empty d) ≡ true → Beside table K (node F c ε) (node G d ε) → Beside table K (node F ε ε) (node G ε ε)
+bare-blanks F G ε ε e b = b
+bare-blanks F G ε (tvar x d) e b = absurd (false≢true e)
+bare-blanks F G ε (hvar x d) e b = absurd (false≢true e)
+bare-blanks F G ε (node f c d) e b = absurd (false≢true e)
+bare-blanks F G (tvar x c) d e b = absurd (false≢true e)
+bare-blanks F G (hvar x c) d e b = absurd (false≢true e)
+bare-blanks F G (node f c′ c) d e b = absurd (false≢true e)
+
+-- the functor on the left is a variable
+pub blank-functors : {table : List ℕ} (σ : Signature) (K : Conj) (F G : Functor) (c d : Hedge) {X : FunVar} {n : ℕ} → Blank X ≡ nameOf F → Beside table K (node F c ε) (node G d ε) → fineFunctor desk F
+    → (Beside table K (node (fvar X) c ε) (node G d ε) → X .0 < desk .each → n ≡ functors σ K (fvar X) c G d) → n ≡ functors σ K F c G d
+blank-functors {table} σ K F G c d {X} {n} e b f h = at-blank (λ F. Beside table K (node F c ε) (node G d ε) → fineFunctor desk F → n ≡ functors σ K F c G d) F e h b f
+
+-- single terms
+pub lone-nodes : {table : List ℕ} {K : Conj} (F G : Functor) (c d s t : Hedge) → (empty s && empty t) ≡ true → Beside table K (node F c s) (node G d t) → Beside table K (node F c ε) (node G d ε)
+lone-nodes F G c d ε ε e b = b
+lone-nodes F G c d ε (tvar x t) e b = absurd (false≢true e)
+lone-nodes F G c d ε (hvar x t) e b = absurd (false≢true e)
+lone-nodes F G c d ε (node f c′ t) e b = absurd (false≢true e)
+lone-nodes F G c d (tvar x s) t e b = absurd (false≢true e)
+lone-nodes F G c d (hvar x s) t e b = absurd (false≢true e)
+lone-nodes F G c d (node f c′ s) t e b = absurd (false≢true e)
 
 -- ---- E5's test
 

@@ -7,15 +7,16 @@ use Rattle.language.specs.declared.Signature.{Signature}
 use Rattle.language.specs.Trees.{Functor, symbol, fvar, Hedge, ε, tvar, hvar, node, Conj, fv, inConj}
 use Rattle.views.specs.declared.View.{View}
 use Rattle.views.specs.Views.{Sees}
+use Rattle.counts.specs.Tables.{Beside}
 use Rattle.equations.specs.Rank.{rankOf}
 
--- n is the rank of the equation that the view shows
-abbrev pub RanksBy : Signature → List ℕ → View → Hedge → Hedge → ℕ → Type 0
-RanksBy σ k v l r n = (before behind : Conj) → Sees k v before l r behind → n ≡ rankOf σ (before ++ behind) l r
+-- n is the rank of the equation that the view shows; the table has the counts of its conjunction
+abbrev pub RanksBy : Signature → List ℕ → List ℕ → View → Hedge → Hedge → ℕ → Type 0
+RanksBy σ k table v l r n = (before behind : Conj) → Sees k v before l r behind → Beside table (before ++ behind) l r → n ≡ rankOf σ (before ++ behind) l r
 
 -- it is so whatever symbols are unordered
-abbrev pub Ranks : List ℕ → View → Hedge → Hedge → ℕ → Type 0
-Ranks k v l r n = (σ : Signature) → RanksBy σ k v l r n
+abbrev pub Ranks : List ℕ → List ℕ → View → Hedge → Hedge → ℕ → Type 0
+Ranks k table v l r n = (σ : Signature) → RanksBy σ k table v l r n
 
 abbrev pub isBlank : Functor → Bool
 isBlank (symbol f) = false

@@ -10,8 +10,11 @@ ghost use Rattle.rules.specs.Looks.{empty, under as below};
 ghost use Rattle.rules.specs.Places.{atE1, noRule};
 ghost use Rattle.views.specs.Views.{Sees};
 ghost use Rattle.views.specs.Standing.{Stands};
+ghost use Rattle.counts.specs.Tables.{Beside};
 ghost use Rattle.equations.specs.Ranked.{Ranks};
 use bools::and;
+use counts::TABLE;
+use counts::repeated;
 use language::TermVar;
 use language::term_word;
 use rules::places::AT_D2;
@@ -25,12 +28,11 @@ use spots::under;
 use views::Look;
 use views::Side;
 use views::View;
-use words::elsewhere;
 use words::same_part;
 
 // The left side is empty: R1, F4.
 pub fn rank_empty(k: &[u16], v: View) -> usize
-    ensures { λ n. ⌜ ((r : Hedge) → Ranks (now (k .entry)) v ε r n) ⌝ }
+    ensures { λ n. ⌜ ((r : Hedge) (table : List ℕ) → Ranks (now (k .entry)) table v ε r n) ⌝ }
 {
     let r = v.r;
     let look = r.look;
@@ -58,14 +60,14 @@ fn hidden(k: &[u16], lone: bool, at: usize, x: TermVar) -> bool
 }
 
 // E1: two lone variables.
-fn rank_variables(k: &[u16], v: View, x: TermVar, z: TermVar) -> usize
-    ensures { λ n. ⌜ ((before behind : Conj) (l r : Hedge) → Sees (now (k .entry)) v before l r behind → x .0 < desk .each → z .0 < desk .each → n ≡ pick (not (eqT x z) && (inConj (tv x) (before ++ behind) && inConj (tv z) (before ++ behind))) atE1 noRule) ⌝ }
+fn rank_variables(table: &[u16; TABLE], x: TermVar, z: TermVar) -> usize
+    ensures { λ n. ⌜ ((K : Conj) → Beside (now (table .entry)) K (tvar x ε) (tvar z ε) → x .0 < desk .each → z .0 < desk .each → n ≡ pick (not (eqT x z) && (inConj (tv x) K && inConj (tv z) K)) atE1 noRule) ⌝ }
 {
     if x.0 == z.0 {
         return NO_RULE;
     }
-    let first = elsewhere(k, v.at, v.end, term_word(x));
-    let second = elsewhere(k, v.at, v.end, term_word(z));
+    let first = repeated(table, term_word(x));
+    let second = repeated(table, term_word(z));
     if and(first, second) {
         return AT_E1;
     }
@@ -73,8 +75,16 @@ fn rank_variables(k: &[u16], v: View, x: TermVar, z: TermVar) -> usize
 }
 
 // Both sides begin with a term variable: R1, F1, D2, E1.
-fn rank_term_term(k: &[u16], v: View, x: TermVar, lone: bool, z: TermVar, more: bool) -> usize
-    ensures { λ n. ⌜ ((s t : Hedge) → lone ≡ empty s → more ≡ empty t → Ranks (now (k .entry)) v (tvar x s) (tvar z t) n) ⌝ }
+fn rank_term_term(
+    k: &[u16],
+    table: &[u16; TABLE],
+    v: View,
+    x: TermVar,
+    lone: bool,
+    z: TermVar,
+    more: bool,
+) -> usize
+    ensures { λ n. ⌜ ((s t : Hedge) → lone ≡ empty s → more ≡ empty t → Ranks (now (k .entry)) (now (table .entry)) v (tvar x s) (tvar z t) n) ⌝ }
 {
     let l = v.l;
     let r = v.r;
@@ -85,21 +95,28 @@ fn rank_term_term(k: &[u16], v: View, x: TermVar, lone: bool, z: TermVar, more: 
         return AT_F1;
     }
     if and(lone, more) {
-        return rank_variables(k, v, x, z);
+        return rank_variables(table, x, z);
     }
     AT_D2
 }
 
 // A term variable against a functor: F1, D2, E1.
-fn rank_term_node(k: &[u16], v: View, x: TermVar, lone: bool, more: bool) -> usize
-    ensures { λ n. ⌜ ((s : Hedge) (G : Functor) (d t : Hedge) → lone ≡ empty s → more ≡ empty t → Ranks (now (k .entry)) v (tvar x s) (node G d t) n) ⌝ }
+fn rank_term_node(
+    k: &[u16],
+    table: &[u16; TABLE],
+    v: View,
+    x: TermVar,
+    lone: bool,
+    more: bool,
+) -> usize
+    ensures { λ n. ⌜ ((s : Hedge) (G : Functor) (d t : Hedge) → lone ≡ empty s → more ≡ empty t → Ranks (now (k .entry)) (now (table .entry)) v (tvar x s) (node G d t) n) ⌝ }
 {
     let r = v.r;
     if hidden(k, lone, r.from, x) {
         return AT_F1;
     }
     if and(lone, more) {
-        if elsewhere(k, v.at, v.end, term_word(x)) {
+        if repeated(table, term_word(x)) {
             return AT_E1;
         }
         return NO_RULE;
@@ -108,20 +125,20 @@ fn rank_term_node(k: &[u16], v: View, x: TermVar, lone: bool, more: bool) -> usi
 }
 
 // The left side begins with a term variable.
-pub fn rank_term(k: &[u16], v: View, x: TermVar, lone: bool) -> usize
-    ensures { λ n. ⌜ ((s r : Hedge) → lone ≡ empty s → Ranks (now (k .entry)) v (tvar x s) r n) ⌝ }
+pub fn rank_term(k: &[u16], table: &[u16; TABLE], v: View, x: TermVar, lone: bool) -> usize
+    ensures { λ n. ⌜ ((s r : Hedge) → lone ≡ empty s → Ranks (now (k .entry)) (now (table .entry)) v (tvar x s) r n) ⌝ }
 {
     let r = v.r;
     let look = r.look;
     match look {
         Look::Empty => NO_RULE,
-        Look::Term(z, more) => rank_term_term(k, v, x, lone, z, more),
+        Look::Term(z, more) => rank_term_term(k, table, v, x, lone, z, more),
         Look::Run(_, _) => {
             if hidden(k, lone, r.from, x) {
                 return AT_F1;
             }
             NO_RULE
         }
-        Look::Node(_, more, _) => rank_term_node(k, v, x, lone, more),
+        Look::Node(_, more, _) => rank_term_node(k, table, v, x, lone, more),
     }
 }

@@ -36,7 +36,6 @@ use rules::places::AT_R2;
 use rules::places::NO_RULE;
 use views::Look;
 use views::Shape;
-use views::Side;
 
 // ε in the expression at a place: R2, F6.
 fn rank_empty(k: &[u16], at: usize) -> usize

@@ -13,10 +13,10 @@ use Rattle.language.specs.declared.Signature.{Signature}
 use Rattle.language.specs.Kinds.{pick}
 use Rattle.language.specs.Trees.{Hedge, Expr, Literal, eqn, mem, Conj, sameLiteral}
 use Rattle.language.specs.Writing.{literalWords, conjWords}
-use Rattle.rules.specs.Reply.{Reply, nothing, results, stops}
+use Rattle.rules.specs.Reply.{nothing}
 use Rattle.rules.specs.Rules.{Answer, folded, Fold, Rule, onEqn, onMem, onPair, rules}
 use Rattle.rules.specs.Solved.{isSome}
-use Rattle.rules.specs.Step.{each, placed, resultsAt}
+use Rattle.rules.specs.Step.{each, placed}
 use Rattle.rules.specs.Places.{atFold, atClash}
 use Rattle.rules.specs.Ranks.{atEqn, atMem, answerAt, eqnAnswer, memAnswer}
 use Rattle.views.specs.Standing.{LiteralAt}

@@ -5,8 +5,7 @@ use mathlib.Core.Path.{_≡_, refl, sym, ap, _∙_, subst}
 use mathlib.Core.Bool.{Bool, true, false, true≢false}
 use mathlib.Core.List.{List, [], _∷_, _++_, map}
 use lib.Dec.{ltb}
-use lib.ListN.{length, drop, take, replicate, length-replicate, length-append}
-use lib.Seq.{sets, slice, sets-eq, take-at}
+use lib.ListN.{length, length-append}
 use borrow.Author.Tests.{lt-ltb, le-ltb}
 use Rattle.language.specs.declared.Refusal.{Refusal}
 use Rattle.language.specs.declared.Refusal.the-variants.{LongResult, LongWaiting, LineRoom, LongWalk, TrailRoom}
@@ -19,8 +18,8 @@ use Rattle.rules.specs.Each.{Each}
 use Rattle.rules.specs.Reply.{nothing, results, stops}
 use Rattle.rules.specs.Step.{Spot, step}
 use Rattle.rules.specs.Places.{noRule}
-use Rattle.rules.specs.Run.{Numbered, allOf, anyLong, waitingSize, linesFit, Outcome, refused}
-use Rattle.frames.specs.Frames.{frame, framedLength}
+use Rattle.rules.specs.Run.{Numbered, allOf, anyLong, waitingSize, linesFit, refused}
+use Rattle.frames.specs.Frames.{frame}
 use Rattle.views.specs.Standing.{LiteralAt}
 use Rattle.views.proofs.LiteralWalks.{stands-here, literal-some}
 use Rattle.search.specs.declared.Best.{Best}
@@ -38,14 +37,14 @@ use Rattle.running.specs.declared.moves.Turned.{Turned}
 use Rattle.running.specs.declared.moves.Turned.the-variants.{On, Stop}
 use Rattle.running.specs.Running.{Running, Kept, stepped, Lines, more, full, Made}
 use Rattle.running.specs.Running as moves
-use Rattle.running.proofs.Going.{waiting-kept, lined-kept, first-size, first-words, took-made}
+use Rattle.running.proofs.Going.{waiting-kept, lined-kept, took-made}
 use Rattle.courses.specs.declared.Course.{Course}
 use Rattle.courses.specs.declared.Course.the-variants.{First, Noted, Told}
 use Rattle.running.specs.Courses.{left, goes, Guided, Below, Traces, Roomy, NotedStep, Chooses, refuses, makes}
 use Rattle.telling.specs.declared.Chosen.{Chosen}
 use Rattle.telling.specs.declared.Chosen.the-variants.{Step, Not}
 use Rattle.running.proofs.Left.{left-line, left-stops, goes-long, goes-full, first-on, told-on, noted-short, noted-on}
-use Rattle.running.specs.Turning.{Guide, guide, leftOf, goesOf, Noting, Trailed, Under, bound, measure, Turns, on, stop}
+use Rattle.running.specs.Turning.{Guide, guide, leftOf, goesOf, Noting, Trailed, Under, bound, Turns, on, stop}
 use Rattle.running.proofs.Trails.{trailed-line, noting-step, noting-length}
 
 -- ---- a line
@@ -227,21 +226,6 @@ rule-at σ k c fine words b ks a =
           let p = a .place in
           omega arith,
     )
-
--- ---- the first block, copied to the front of an array
-
-taken-out : (z a work b : List ℕ) (from to n : ℕ) → a ≡ sets z 0 (slice from to work) → slice from to work ≡ b → length b ≡ n → n ≤ length z → take n a ≡ b
-taken-out z a work b from to n e d l h =
-    ap (take n) (e ∙ ap (sets z 0) d ∙ sets-eq b z 0 (omega arith)) ∙ take-at b (drop (0 + length b) z) n l
-
-pub first-taken : (oldWork oldAnswer : List ℕ) (ls : List Numbered) (c : Numbered) (w : List Numbered) (s : State) (work answer : List ℕ)
-    → Running oldWork oldAnswer ls (c ∷ w) s work answer → (n : ℕ) → n ≡ framedLength work (s .at) → n ≤ desk .question
-    → (a : List ℕ) → a ≡ sets (replicate (desk .question) 0) 0 (slice (s .at + frame) (s .at + frame + n) work) → take (n - 0) a ≡ conjWords (c .literals)
-first-taken oldWork oldAnswer ls c w s work answer p n en h a ea =
-    let e : n ≡ length (conjWords (c .literals)) = en ∙ first-size oldWork oldAnswer ls c w s work answer p in
-    let b : slice (s .at + frame) (s .at + frame + n) work ≡ conjWords (c .literals) = ap (λ m. slice (s .at + frame) (s .at + frame + m) work) e ∙ first-words oldWork oldAnswer ls c w s work answer p in
-    ap (λ m. take m a) (let z : n - 0 ≡ n = omega arith in z)
-    ∙ taken-out (replicate (desk .question) 0) a work (conjWords (c .literals)) (s .at + frame) (s .at + frame + n) n ea b (sym e) (let l = length-replicate {A = ℕ} (desk .question) 0 in omega arith)
 
 -- ---- what was chosen
 

@@ -31,7 +31,7 @@ use Rattle.running.proofs.Lengths.{blocks-order}
 use Rattle.courses.specs.declared.Course.{Course}
 use Rattle.courses.specs.declared.Course.the-variants.{First, Noted, Told}
 use Rattle.running.specs.Courses.{left, Guided}
-use Rattle.replay.specs.Trail.{trailFrom, trail}
+use Rattle.replay.specs.Trail.{trail}
 use Rattle.running.specs.Turning.{guide, leftOf, Trailed, Under, signatureOf, conjunctionsOf}
 
 -- no part is longer than the whole

@@ -1,7 +1,7 @@
 -- What a run comes to on each course, before it and after it, and what the room for a trail then holds.
 use Prim.Native.Nat.{ℕ, _*_}
 use mathlib.Core.Path.{_≡_, refl, sym, ap, _∙_, subst}
-use mathlib.Core.List.{List, [], _∷_, _++_, append-nil}
+use mathlib.Core.List.{List, [], _++_}
 use lib.ListN.{length, drop, replicate}
 use Rattle.language.specs.declared.Refusal.{Refusal}
 use Rattle.language.specs.Limits.{desk}
@@ -16,12 +16,10 @@ use Rattle.replay.specs.Trail.{trail, trailWords, runTrail}
 use Rattle.replay.specs.Replay.{replay}
 use Rattle.replay.specs.Calls.{solvingTrailOf, solvingTrail, trailOf, trailLeaves, replayingOf, replaying}
 use Rattle.noting.proofs.Laws.{spot-length}
-use Rattle.answers.specs.declared.Tally.{Tally}
 use Rattle.word_bytes.specs.Bytes.{wordsOf, halfWord}
 use Rattle.courses.specs.declared.Course.{Course}
 use Rattle.courses.specs.declared.Course.the-variants.{First, Noted, Told}
 use Rattle.around.specs.declared.Ran.{Ran}
-use Rattle.around.specs.declared.Ran.the-variants.{Done, Stopped}
 use Rattle.running.specs.Courses.{left}
 use Rattle.running.specs.Turning.{guide, TrailEnds, Ends, ended, given-up, signatureOf, conjunctionsOf}
 use Rattle.around.specs.Ready.{readied}

@@ -1,9 +1,9 @@
 -- Which step is made next on each course, and that the run goes on from its results.
-use Prim.Native.Nat.{ℕ, suc, _+_, _*_, _<_, _≤_}
+use Prim.Native.Nat.{ℕ, _+_, _*_, _<_, _≤_}
 use native.Mathlib.Omega.{arith}
 use mathlib.Core.Path.{_≡_, refl, sym, ap, _∙_, subst}
 use mathlib.Core.Bool.{Bool, true, false}
-use mathlib.Core.List.{List, [], _∷_, _++_}
+use mathlib.Core.List.{List, [], _∷_}
 use mathlib.Core.Option.{Option, none, some}
 use lib.Dec.{leb}
 use lib.ListN.{length, drop, length-drop, getD}
@@ -18,7 +18,7 @@ use Rattle.rules.specs.Each.{Each}
 use Rattle.rules.specs.Reply.{Reply, nothing, results, stops}
 use Rattle.rules.specs.Places.{noRule}
 use Rattle.rules.specs.Step.{Spot, step, stepAt, search}
-use Rattle.rules.specs.Run.{Numbered, allOf}
+use Rattle.rules.specs.Run.{Numbered}
 use Rattle.rules.proofs.FineSteps.{step-fine, named-fine}
 use Rattle.replay.specs.Replay.{Triple, triples, spotOf}
 use Rattle.search.specs.declared.Best.{Best}
@@ -34,7 +34,7 @@ use Rattle.running.specs.declared.moves.State.{State}
 use Rattle.around.specs.declared.Ran.the-variants.{Done, Stopped}
 use Rattle.courses.specs.declared.Course.{Course}
 use Rattle.courses.specs.declared.Course.the-variants.{First, Noted, Told}
-use Rattle.running.specs.Courses.{left, goes, Guided, nextOf, underCeiling, Chooses, refuses, makes, Finishes, done, goes-on}
+use Rattle.running.specs.Courses.{Guided, nextOf, underCeiling, Chooses, refuses, makes, Finishes, done, goes-on}
 use Rattle.running.proofs.Left.{first-none, noted-none, first-step, noted-step, told-short, told-wrong, told-stopped, told-step, no-triples, next-triple, next-rest, first-ends, noted-ends, told-ends, told-more}
 
 module _ (told : List ℕ) (room : ℕ) (σ : Signature) (n : ℕ) (c : Numbered) (fine : fineConj desk (c .literals)) (few : σ .symbols ≤ desk .each)

@@ -1,12 +1,12 @@
 -- What is told of a run, from how it ended and what was cleared; and what comes before it.
-use Prim.Native.Nat.{ℕ, _<_, _≤_}
+use Prim.Native.Nat.{ℕ, _≤_}
 use native.Mathlib.Omega.{arith}
 use mathlib.Core.Path.{_≡_, refl, sym, ap, _∙_}
 use mathlib.Core.Bool.{Bool, true, false}
 use mathlib.Core.List.{List, [], _∷_, _++_}
 use lib.Dec.{ltb}
 use lib.ListN.{length, drop}
-use borrow.Author.Tests.{ne-eqb, lt-ltb, le-ltb, ltb-false}
+use borrow.Author.Tests.{ne-eqb, le-ltb, ltb-false}
 use Rattle.language.specs.declared.Refusal.{Refusal}
 use Rattle.language.specs.declared.Refusal.the-variants.{ShortSlice}
 use Rattle.language.specs.Limits.{desk}

@@ -1,5 +1,5 @@
 -- The moves of a run in the slices: what stands first, a line more or 9, and the results of a step or 7, 8.
-use Prim.Native.Nat.{ℕ, suc, _+_, _-_, _<_, _≤_}
+use Prim.Native.Nat.{ℕ, _+_, _-_, _<_, _≤_}
 use native.Mathlib.Omega.{arith}
 use native.Mathlib.Decide.{decLe}
 use mathlib.Core.Path.{_≡_, refl, sym, ap, _∙_, subst}
@@ -9,7 +9,6 @@ use lib.Dec.{ltb}
 use lib.ListN.{length, drop}
 use lib.Seq.{slice, sets, drop-drop, drop-at}
 use borrow.Author.Tests.{lt-ltb, le-ltb}
-use Rattle.language.specs.declared.Refusal.{Refusal}
 use Rattle.language.specs.declared.Refusal.the-variants.{LineRoom}
 use Rattle.language.specs.Limits.{desk}
 use Rattle.language.specs.Trees.{Conj}
@@ -21,7 +20,7 @@ use Rattle.rules.specs.Answer.{answerWords}
 use Rattle.rules.proofs.Each.{each-++}
 use Rattle.frames.specs.Frames.{frame, Block, framed, allWith, inFrames, framedLength, framedNumber}
 use Rattle.plans.specs.Sizes.{sized}
-use Rattle.plans.specs.declared.Size.the-variants.{Fits, Over}
+use Rattle.plans.specs.declared.Size.the-variants.{Fits}
 use Rattle.taking.proofs.Sizing.{sized-fits, fits-exact, fits-past, over-anyLong, fits-anyLong}
 use Rattle.waiting.specs.Waiting.{Waiting}
 use Rattle.waiting.proofs.Blocks.{laid, first-length, first-number, first-block, first-room, rest-wait}

@@ -8,17 +8,16 @@ use Rattle.language.specs.declared.Refusal.{Refusal}
 use Rattle.language.specs.declared.Refusal.the-variants.{LongTrail}
 use Rattle.language.specs.Limits.{desk}
 use Rattle.rules.specs.Step.{Spot}
-use Rattle.rules.specs.Run.{Numbered, Outcome, finished, refused}
+use Rattle.rules.specs.Run.{Numbered, Outcome, refused}
 use Rattle.frames.specs.Frames.{frame, framedLength}
 use Rattle.running.specs.declared.moves.State.{State}
 use Rattle.running.specs.declared.moves.Turned.{Turned}
 use Rattle.running.specs.declared.moves.Turned.the-variants.{On, Stop}
-use Rattle.running.specs.Running.{Running, Kept}
 use Rattle.running.proofs.Going.{waiting-kept, lined-kept, first-size, first-fits, open-fits, end-fits, work-fits, answer-fits}
 use Rattle.courses.specs.declared.Course.{Course}
 use Rattle.around.specs.declared.Ran.{Ran}
-use Rattle.around.specs.declared.Ran.the-variants.{Done, Stopped}
-use Rattle.running.specs.Courses.{left, Guided, Finishes, done, goes-on}
+use Rattle.around.specs.declared.Ran.the-variants.{Stopped}
+use Rattle.running.specs.Courses.{Guided, Finishes, done, goes-on}
 use Rattle.running.specs.Turning.{Guide, guide, leftOf, Under, measure, Turns, on, stop, Awaits, Ends, ended, given-up}
 use Rattle.running.proofs.Trails.{trailed-ends}
 

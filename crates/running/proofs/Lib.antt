@@ -1,5 +1,6 @@
 pub mod Lengths
 pub mod Going
+pub mod TakenOut
 pub mod Left
 pub mod Choosing
 pub mod Trails

@@ -2,7 +2,6 @@
 use Prim.Native.Nat.{ℕ, zero, suc, _+_, _*_, _-_, _<_, _≤_}
 use native.Mathlib.Omega.{arith}
 use mathlib.Core.Path.{_≡_, refl, sym, ap, _∙_}
-use mathlib.Core.Bool.{Bool, true, false}
 use mathlib.Core.List.{List, [], _∷_, _++_, append-assoc, append-nil}
 use lib.ListN.{length, drop, length-append, length-drop}
 use Rattle.language.specs.declared.Signature.{Signature}
@@ -10,7 +9,7 @@ use Rattle.language.specs.Limits.{desk}
 use Rattle.language.specs.Kinds.{pick}
 use Rattle.language.specs.Trees.{Conj}
 use Rattle.rules.specs.Reply.{nothing, results, stops}
-use Rattle.rules.specs.Step.{Spot, each, Found, search, step}
+use Rattle.rules.specs.Step.{Spot, Found, search, step}
 use Rattle.rules.specs.Run.{Numbered, allOf}
 use Rattle.rules.proofs.Steps.{each-nothing}
 use Rattle.replay.specs.Trail.{traced, trailFrom, trailWords}

@@ -1,7 +1,7 @@
 -- What the rest of a run comes to on each course, and which step is made next. A trail that is told is in bytes.
 use Prim.Native.Nat.{ℕ, suc, _+_, _*_, _-_, _<_, _≤_}
 use mathlib.Core.Path.{_≡_}
-use mathlib.Core.Bool.{Bool, true, false, _||_}
+use mathlib.Core.Bool.{_||_}
 use mathlib.Core.List.{List, [], _∷_, _++_}
 use lib.Dec.{leb}
 use lib.ListN.{length, drop}
@@ -10,15 +10,15 @@ use Rattle.language.specs.declared.Refusal.the-variants.{StepLimit, ShortTrail,
 use Rattle.language.specs.declared.Signature.{Signature}
 use Rattle.language.specs.Limits.{desk}
 use Rattle.language.specs.Kinds.{pick}
-use Rattle.language.specs.Trees.{Literal, Conj}
+use Rattle.language.specs.Trees.{Conj}
 use Rattle.language.specs.Writing.{conjWords}
 use Rattle.language.specs.Fine.{fineConj}
 use Rattle.rules.specs.Reply.{results}
 use Rattle.rules.specs.Each.{Each}
 use Rattle.rules.specs.Places.{noRule}
-use Rattle.rules.specs.Step.{Spot, step, search}
+use Rattle.rules.specs.Step.{step, search}
 use Rattle.rules.specs.Run.{Numbered, allOf, Outcome, finished, refused, checked, runFrom}
-use Rattle.replay.specs.Trail.{trailFrom, trailWords, written, runWriting}
+use Rattle.replay.specs.Trail.{written, runWriting}
 use Rattle.replay.specs.Replay.{Triple, triples, leftOver, replayFrom}
 use Rattle.search.specs.declared.Best.{Best}
 use Rattle.search.specs.Ranking.{Found}
@@ -28,7 +28,6 @@ use Rattle.telling.specs.Telling.{chosenBy, Applies}
 use Rattle.word_bytes.specs.Bytes.{wordsOf, halfWord}
 pub use Rattle.courses.specs.Steps.{Below, Roomy, NotedStep}
 use Rattle.running.specs.declared.moves.State.{State}
-use Rattle.answers.specs.declared.Tally.{Tally}
 use Rattle.courses.specs.declared.Course.{Course}
 use Rattle.courses.specs.declared.Course.the-variants.{First, Noted, Told}
 use Rattle.around.specs.declared.Ran.{Ran}

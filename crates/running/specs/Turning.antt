@@ -3,6 +3,7 @@ use Prim.Native.Nat.{ℕ, _+_, _*_, _-_, _<_, _≤_}
 use mathlib.Core.Path.{_≡_}
 use mathlib.Core.List.{List, [], _∷_, _++_}
 use lib.ListN.{length, drop}
+use lib.Seq.{slice}
 use Rattle.language.specs.declared.Refusal.{Refusal}
 use Rattle.language.specs.declared.Signature.{Signature}
 use Rattle.language.specs.Limits.{desk}
@@ -13,7 +14,8 @@ use Rattle.language.specs.Question.{Asked, asks, refuses}
 use Rattle.rules.specs.Each.{Each}
 use Rattle.rules.specs.Step.{Spot}
 use Rattle.rules.specs.Run.{Numbered, allOf, numbered, Outcome, finished, refused}
-use Rattle.frames.specs.Frames.{frame}
+use Rattle.frames.specs.Frames.{frame, framedLength}
+use Rattle.counts.specs.Tables.{afresh}
 use Rattle.replay.specs.Trail.{trailFrom, trailWords, trail}
 use Rattle.search.specs.declared.Best.{Best}
 use Rattle.telling.specs.Telling.{Applies}
@@ -108,6 +110,11 @@ pub record FirstOf (k : List ℕ) (number next : ℕ) (course : Course) (s : Sta
   pub rest : List Numbered
   pub under : Under (guide course told old whole) oldWork oldAnswer lines (first ∷ rest) s work answer out
   pub words : k ≡ conjWords (first .literals)
+
+-- k is the conjunction that waits first, taken out, and the table is the count of its words
+pub record Taken (k table : List ℕ) (s : State) (work : List ℕ) : Type 0 where
+  pub words : k ≡ slice (s .at + frame) (s .at + frame + framedLength work (s .at)) work
+  pub counts : table ≡ afresh k
 
 abbrev pub TurnsWith : List ℕ → ℕ → ℕ → Course → State → List ℕ → List ℕ → List ℕ → List ℕ → Turned → List ℕ → List ℕ → List ℕ → Type 0
 TurnsWith k number next course s work answer told out r work′ answer′ out′ =

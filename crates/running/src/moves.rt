@@ -8,10 +8,12 @@ ghost use Rattle.language.specs.Writing.{conjWords};
 ghost use Rattle.rules.specs.Run.{Numbered};
 ghost use Rattle.frames.specs.Frames.{frame};
 ghost use Rattle.views.specs.Standing.{Conjunction};
+ghost use Rattle.counts.specs.Tables.{afresh};
 ghost use Rattle.running.specs.Running.{Running, Lines};
 use answers::LINE_HEAD;
 use answers::Tally;
 use answers::add_line;
+use counts::TABLE;
 use language::Refusal;
 use language::Signature;
 use language::limits::LINES;
@@ -32,10 +34,18 @@ pub enum Turned {
     Stop(Refusal),
 }
 
-// k, which is of that alternative, becomes the next line, and `next` is where those that wait then begin.
-pub fn line(k: &[u16], number: u16, next: usize, answer: &mut [u16], s: State) -> Turned
+// k, which is of that alternative and has these counts, becomes the next line, and `next` is where those that wait then begin.
+pub fn line(
+    k: &[u16],
+    table: &[u16; TABLE],
+    number: u16,
+    next: usize,
+    answer: &mut [u16],
+    s: State,
+) -> Turned
     requires { ⌜ (length (now k) ≤ desk .question) × (s .tally .«open» ≤ s .tally .lines) × (s .tally .end ≤ desk .room) × (desk .room ≤ length (now answer)) ⌝ }
     requires { ⌜ Conjunction (now k) ⌝ }
+    requires { ⌜ now table ≡ afresh (now k) ⌝ }
     ensures { λ r. ⌜ ((oldWork oldAnswer : List ℕ) (ls : List Numbered) (c : Numbered) (w : List Numbered) (work : List ℕ) → Running oldWork oldAnswer ls (c ∷ w) s work (now (answer .entry)) → now (k .entry) ≡ conjWords (c .literals) → number ≡ c .number → next ≡ s .at + frame + length (now (k .entry)) → Lines oldWork oldAnswer ls c w s r work (now (answer .exit))) ⌝ }
 {
     let t = s.tally;
@@ -45,7 +55,7 @@ pub fn line(k: &[u16], number: u16, next: usize, answer: &mut [u16], s: State) -
     if ROOM < t.end + LINE_HEAD + k.len() {
         return Turned::Stop(Refusal::LineRoom);
     }
-    let solved = is_solved(k);
+    let solved = is_solved(k, table);
     let u = add_line(k, number, solved, t, answer);
     let signature = s.signature;
     Turned::On(State {

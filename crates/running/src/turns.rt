@@ -1,17 +1,16 @@
 // The run of a question, turn by turn, on one of the three courses.
-ghost use Prim.Native.Nat.{ℕ, _+_, _≤_, _<_};
+ghost use Prim.Native.Nat.{_+_, _≤_, _<_};
 ghost use mathlib.Core.Path.{_≡_};
-ghost use mathlib.Core.List.{List};
 ghost use lib.ListN.{length};
 ghost use Rattle.language.specs.Limits.{desk};
 ghost use Rattle.language.specs.Question.{readQuestion};
 ghost use Rattle.frames.specs.Frames.{frame, framedLength};
-ghost use Rattle.views.specs.Standing.{Conjunction};
+ghost use Rattle.counts.specs.Tables.{afresh};
 ghost use Rattle.steps.specs.Asking.{RuleAt};
 ghost use Rattle.reader.specs.Checking.{checked};
 ghost use Rattle.outcomes.specs.declared.Checked.the-variants.{Fine};
-ghost use Rattle.running.specs.Courses.{Guided, Roomy};
-ghost use Rattle.running.specs.Turning.{Advances, FirstOf, TurnsWith, TurnsFirst, Awaits, Begun, GoesOn, Runs};
+ghost use Rattle.running.specs.Courses.{Roomy};
+ghost use Rattle.running.specs.Turning.{Advances, FirstOf, Taken, TurnsWith, TurnsFirst, Awaits, Begun, GoesOn, Runs};
 use crate::moves::State;
 use crate::moves::Turned;
 use crate::moves::line;
@@ -19,11 +18,12 @@ use crate::next_steps::choose;
 use crate::next_steps::finish;
 use answers::begin;
 use around::Ran;
+use counts::TABLE;
 use courses::Course;
 use courses::note;
 use courses::one_more;
+use first_waiting::take_first;
 use frames::FRAME;
-use frames::read_frame;
 use frames::read_number;
 use header::signature_of;
 use language::Refusal;
@@ -32,7 +32,6 @@ use language::limits::ROOM;
 use rules::places::NO_RULE;
 use search::Best;
 use search::find;
-use slices::copy;
 use steps::take_step;
 use taking::Stepped;
 use telling::Chosen;
@@ -73,9 +72,10 @@ fn advance(
     }
 }
 
-// One turn, the first waiting conjunction being k, of that alternative.
+// One turn, the first waiting conjunction being k, of that alternative, and the table having the counts of its variables.
 fn turn_with(
     k: &[u16],
+    table: &[u16; TABLE],
     number: u16,
     next: usize,
     work: &mut [u16],
@@ -87,17 +87,18 @@ fn turn_with(
 ) -> Turned
     requires { ⌜ (length (now k) ≤ desk .question) × (next ≤ desk .room) × (desk .room ≤ length (now work)) × (s .tally .«open» ≤ s .tally .lines) × (s .tally .end ≤ desk .room) × (desk .room ≤ length (now answer)) ⌝ }
     requires { ⌜ FirstOf (now k) number next course s (now work) (now answer) (now told) (now out) ⌝ }
+    requires { ⌜ now table ≡ afresh (now k) ⌝ }
     ensures { λ r. ⌜ TurnsWith (now (k .entry)) number next course s (now (work .entry)) (now (answer .entry)) (now (told .entry)) (now (out .entry)) r (now (work .exit)) (now (answer .exit)) (now (out .exit)) ⌝ }
 {
     let signature = s.signature;
-    let b = find(k, signature);
+    let b = find(k, table, signature);
     if b.rank == NO_RULE {
-        return line(k, number, next, answer, s);
+        return line(k, table, number, next, answer, s);
     }
     if NO_RULE < b.rank {
         return Turned::Stop(Refusal::LongWalk);
     }
-    match choose(k, b, told, course, s) {
+    match choose(k, table, b, told, course, s) {
         Chosen::Not(e) => Turned::Stop(e),
         Chosen::Step(c) => {
             let made = one_more(told, course, s.steps);
@@ -106,8 +107,10 @@ fn turn_with(
     }
 }
 
-// One turn: the first waiting conjunction is taken out, so that results can be written over its place.
+// One turn, the first waiting conjunction having been taken out, so that results can be written over its place, with the table of its counts.
 fn turn(
+    k: &[u16],
+    table: &[u16; TABLE],
     work: &mut [u16],
     answer: &mut [u16],
     told: &[u8],
@@ -117,19 +120,16 @@ fn turn(
 ) -> Turned
     requires { ⌜ (s .at + frame + framedLength (now work) (s .at) ≤ desk .room) × (framedLength (now work) (s .at) ≤ desk .question) × (desk .room ≤ length (now work)) × (s .tally .«open» ≤ s .tally .lines) × (s .tally .end ≤ desk .room) × (desk .room ≤ length (now answer)) ⌝ }
     requires { ⌜ Awaits course (now told) s (now work) (now answer) (now out) ⌝ }
+    requires { ⌜ Taken (now k) (now table) s (now work) ⌝ }
     ensures { λ r. ⌜ TurnsFirst course (now (told .entry)) s (now (work .entry)) (now (answer .entry)) (now (out .entry)) r (now (work .exit)) (now (answer .exit)) (now (out .exit)) ⌝ }
 {
     let at = s.at;
-    let n = read_frame(work, at);
     let number = read_number(work, at);
-    let start = at + FRAME;
-    let next = start + n;
-    let mut k = [0; QUESTION];
-    copy(work, start, next, &mut k, 0);
-    turn_with(&k[0..n], number, next, work, answer, told, out, course, s)
+    let next = at + FRAME + k.len();
+    turn_with(k, table, number, next, work, answer, told, out, course, s)
 }
 
-// Turn after turn, until nothing waits.
+// Turn after turn, until nothing waits. The table is that of the conjunction that waits first at each of them.
 fn go_on(
     work: &mut [u16],
     answer: &mut [u16],
@@ -141,9 +141,13 @@ fn go_on(
     requires { ⌜ Begun course (now told) begin (now work) (now answer) (now out) ⌝ }
     ensures { λ r. ⌜ GoesOn course (now (told .entry)) begin (now (work .entry)) (now (answer .entry)) (now (out .entry)) r (now (work .exit)) (now (answer .exit)) (now (out .exit)) ⌝ }
 {
+    let mut k = [0; QUESTION];
+    let mut table = [0; TABLE];
+    let mut n: usize = 0;
     let mut s = begin;
     while s.at < ROOM {
-        match turn(work, answer, told, out, course, s) {
+        n = take_first(work, s.at, &mut k, n, &mut table);
+        match turn(&k[0..n], &table, work, answer, told, out, course, s) {
             Turned::On(t) => s = t,
             Turned::Stop(e) => return Ran::Stopped(e),
         }

@@ -8,7 +8,7 @@ use mathlib.Core.Option.{none, some}
 use lib.ListN.{length}
 use Rattle.language.specs.declared.Signature.{Signature}
 use Rattle.language.specs.Kinds.{pick}
-use Rattle.language.specs.Trees.{Hedge, Expr, Literal, eqn, mem, Conj}
+use Rattle.language.specs.Trees.{Hedge, Expr, eqn, mem, Conj}
 use Rattle.rules.specs.Reply.{nothing, results, stops}
 use Rattle.rules.specs.Rules.{Answer, Rule, onEqn, onMem, onPair, rules}
 use Rattle.rules.specs.Solved.{isSome}

@@ -1,5 +1,5 @@
 // The search for the first rule that applies to a conjunction, in its words.
-ghost use Prim.Native.Nat.{_+_, _≤_, _<_};
+ghost use Prim.Native.Nat.{_≤_, _<_};
 ghost use mathlib.Core.Path.{_≡_};
 ghost use lib.ListN.{length, drop};
 ghost use Rattle.language.specs.Limits.{desk};
@@ -8,9 +8,11 @@ ghost use Rattle.language.specs.Writing.{conjWords};
 ghost use Rattle.language.specs.Fine.{fineConj};
 ghost use Rattle.views.specs.Standing.{LiteralAt, SomeLiteral, Conjunction};
 ghost use Rattle.rules.specs.Places.{noRule};
+ghost use Rattle.counts.specs.Tables.{afresh};
 ghost use Rattle.search.specs.Seeking.{lesserOf, bestAt, bestAlone, bestFold, bestBeforeClash, bestClash, bestOf};
 use clashes::Clashing;
 use clashes::first_clash;
+use counts::TABLE;
 use equations::rank_equation;
 use folding::first_twice;
 use language::Signature;
@@ -38,16 +40,17 @@ struct Passed {
 
 // The rank of the literal at a place: of an equation the lesser of its two sides, the written one where they are equal. The place after it comes
 // with it, so that its words need no other pass.
-fn rank_at(k: &[u16], at: usize, s: Signature) -> Passed
+fn rank_at(k: &[u16], table: &[u16; TABLE], at: usize, s: Signature) -> Passed
     requires { ⌜ at < length (now k) ⌝ }
     requires { ⌜ SomeLiteral (now k) at ⌝ }
+    requires { ⌜ now table ≡ afresh (now k) ⌝ }
     ensures { λ p. ⌜ (p .best .at ≡ at) × ((before : Conj) (l : Literal) (behind : Conj) → LiteralAt (now (k .entry)) at before l behind → (p .best ≡ bestAt s before l behind) × (drop (p .end) (now (k .entry)) ≡ conjWords behind)) ⌝ }
 {
     if k[at] == 5000 {
         let v = see(k, at);
         let end = v.end;
-        let written = rank_equation(k, v, s);
-        let other = rank_equation(k, swapped(v), s);
+        let written = rank_equation(k, table, v, s);
+        let other = rank_equation(k, table, swapped(v), s);
         if other < written {
             let best = Best {
                 rank: other,
@@ -93,8 +96,9 @@ fn lesser(a: Best, b: Best) -> Best
 }
 
 // The earliest literal of the least rank, by the rules of one literal.
-fn find_alone(k: &[u16], s: Signature) -> Best
+fn find_alone(k: &[u16], table: &[u16; TABLE], s: Signature) -> Best
     requires { ⌜ Conjunction (now k) ⌝ }
+    requires { ⌜ now table ≡ afresh (now k) ⌝ }
     ensures { λ b. ⌜ (b .rank < noRule → b .at < length (now (k .entry))) × ((c : Conj) → fineConj desk c → now (k .entry) ≡ conjWords c → b ≡ bestAlone s c) ⌝ }
 {
     let mut best = Best {
@@ -104,7 +108,7 @@ fn find_alone(k: &[u16], s: Signature) -> Best
     };
     let mut i = 0;
     while i < k.len() {
-        let passed = rank_at(k, i, s);
+        let passed = rank_at(k, table, i, s);
         let here = passed.best;
         best = lesser(best, here);
         i = beyond(i, passed.end, k.len());
@@ -159,25 +163,27 @@ fn find_clash(k: &[u16], s: Signature) -> Best
 }
 
 // By the rules of one literal and the fold, which is looked for only where no rule before it applies.
-fn find_before_clash(k: &[u16], s: Signature) -> Best
+fn find_before_clash(k: &[u16], table: &[u16; TABLE], s: Signature) -> Best
     requires { ⌜ length (now k) ≤ desk .question ⌝ }
     requires { ⌜ Conjunction (now k) ⌝ }
+    requires { ⌜ now table ≡ afresh (now k) ⌝ }
     ensures { λ b. ⌜ (b .rank < noRule → b .at < length (now (k .entry))) × ((c : Conj) → fineConj desk c → now (k .entry) ≡ conjWords c → b ≡ bestBeforeClash s c) ⌝ }
 {
-    let alone = find_alone(k, s);
+    let alone = find_alone(k, table, s);
     if alone.rank < AT_FOLD {
         return alone;
     }
     lesser(alone, find_fold(k))
 }
 
-// The first rule that applies, at the earliest literal. The clash is looked for only where no other rule applies.
-pub fn find(k: &[u16], s: Signature) -> Best
+// The first rule that applies, at the earliest literal, the table having the counts of all variables. The clash is looked for only where no other rule applies.
+pub fn find(k: &[u16], table: &[u16; TABLE], s: Signature) -> Best
     requires { ⌜ length (now k) ≤ desk .question ⌝ }
     requires { ⌜ Conjunction (now k) ⌝ }
+    requires { ⌜ now table ≡ afresh (now k) ⌝ }
     ensures { λ b. ⌜ (b .rank < noRule → b .at < length (now (k .entry))) × ((c : Conj) → fineConj desk c → now (k .entry) ≡ conjWords c → b ≡ bestOf s c) ⌝ }
 {
-    let b = find_before_clash(k, s);
+    let b = find_before_clash(k, table, s);
     if b.rank < AT_CLASH {
         return b;
     }

@@ -1,36 +1,32 @@
-// Whether a line is solved, read off its words.
-ghost use Prim.Native.Nat.{_≤_, _<_};
+// Whether a line is solved, read off its words and off how often each variable occurs in it.
+ghost use Prim.Native.Nat.{ℕ, _+_, _-_, _≤_, _<_};
 ghost use mathlib.Core.Path.{_≡_};
-ghost use mathlib.Core.Bool.{_&&_};
-ghost use mathlib.Core.List.{_++_};
-ghost use lib.Dec.{eqb};
-ghost use lib.ListN.{length, getD};
-ghost use lib.Seq.{slice};
+ghost use mathlib.Core.List.{List, _∷_, _++_};
+ghost use lib.ListN.{length, getD, replicate};
 ghost use Rattle.language.specs.Limits.{desk};
-ghost use Rattle.language.specs.Trees.{Hedge, Expr, Literal, mem, Conj, Var};
+ghost use Rattle.language.specs.Trees.{Hedge, Expr, Literal, mem, Conj};
 ghost use Rattle.language.specs.Writing.{conjWords};
 ghost use Rattle.language.specs.Fine.{fineConj};
-ghost use Rattle.rules.specs.Solved.{inMember, solvedLiteral, solved};
-ghost use Rattle.words.specs.Spans.{member};
-ghost use Rattle.views.specs.Views.{Shows};
-ghost use Rattle.views.specs.Variables.{variableWord, fineVar};
+ghost use Rattle.rules.specs.Solved.{variable, alone, isSome, solvedLiteral, solved};
+ghost use Rattle.views.specs.Views.{Sees, Shows};
 ghost use Rattle.views.specs.Standing.{LiteralAt, Conjunction};
 ghost use Rattle.alone.specs.Lone.{loneVariable};
-ghost use Rattle.solved.specs.Ranges.{Between};
+ghost use Rattle.counts.specs.Tables.{table as places, afresh, Tallied, Beside};
+ghost use Rattle.solved.specs.Members.{memberIn, InMembers};
 use alone::Lone;
-use alone::alone_side;
 use alone::lone_word;
 use alone::side_variable;
-use bools::and;
-use bools::neither;
+use counts::TABLE;
+use counts::count_in;
+use counts::once;
 use language::TermVar;
 use views::Look;
 use views::Shape;
+use views::View;
 use views::see;
 use views::show_membership;
 use views::swapped;
 use words::next_literal;
-use words::stands;
 
 // The variable whose membership it is: the one that the hedge would be against a single term.
 fn lone_variable(look: Look) -> Lone
@@ -39,36 +35,47 @@ fn lone_variable(look: Look) -> Lone
     side_variable(look, Look::Term(TermVar(0), true))
 }
 
-// Whether a word stands in the literal i..next, where that is a membership.
-fn member_at(k: &[u16], i: usize, next: usize, x: usize) -> bool
-    requires { ⌜ i < length (now k) ⌝ }
-    ensures { λ r. ⌜ r ≡ (eqb (getD (now (k .entry)) i 0) 6000 && member x (slice i next (now (k .entry)))) ⌝ }
+// Whether the side that is looked at first is one variable that is counted once.
+fn lonely_side(table: &[u16; TABLE], v: View) -> bool
+    ensures { λ t. ⌜ ((k : List ℕ) (before : Conj) (l r : Hedge) (behind : Conj) → Sees k v before l r behind → Beside (now (table .entry)) (before ++ behind) l r → t ≡ isSome (alone (before ++ behind) r (variable l r))) ⌝ }
 {
-    let membership = k[i] == 6000;
-    let held = stands(k, i, next, x);
-    and(membership, held)
+    let l = v.l;
+    let r = v.r;
+    let a = l.look;
+    let b = r.look;
+    let x = lone_word(side_variable(a, b));
+    if x == 0 {
+        return false;
+    }
+    once(table, x)
 }
 
-// Whether a variable's word stands in a membership among the literals from one place up to another.
-fn in_members(k: &[u16], from: usize, to: usize, x: usize) -> bool
-    requires { ⌜ to ≤ length (now k) ⌝ }
-    ensures { λ r. ⌜ ((v : Var) (c behind : Conj) → fineVar desk v → x ≡ variableWord v → Between (now (k .entry)) from to c behind → r ≡ inMember v c) ⌝ }
+// The words of the literal i..next counted in, where that is a membership.
+fn member_in(k: &[u16], i: usize, next: usize, members: &mut [u16; TABLE])
+    requires { ⌜ (i < length (now k)) × (next ≤ length (now k)) × (length (now members) ≡ places) × ((x : ℕ) → getD (now members) x 0 + (next - i) < 65536) ⌝ }
+    ensures { λ _. ⌜ now (members .exit) ≡ memberIn (now (k .entry)) i next (now (members .entry)) ⌝ }
 {
-    let mut i = from;
-    while i < to {
+    if k[i] == 6000 {
+        count_in(k, i, next, members);
+    }
+}
+
+// How often each variable stands in memberships.
+fn count_members(k: &[u16], members: &mut [u16; TABLE])
+    requires { ⌜ (length (now k) ≤ desk .question) × (now members ≡ replicate places 0) ⌝ }
+    ensures { λ _. ⌜ ((c : Conj) → fineConj desk c → now (k .entry) ≡ conjWords c → InMembers (now (members .exit)) c) ⌝ }
+{
+    let mut i = 0;
+    while i < k.len() {
         let next = next_literal(k, i);
-        if member_at(k, i, next, x) {
-            return true;
-        }
+        member_in(k, i, next, members);
         i = next;
     }
-    false
 }
 
-// Whether a membership, which stands at a place, is of a lone variable that is in no other membership.
-fn lone_member(k: &[u16], at: usize, s: Shape) -> bool
-    requires { ⌜ at < length (now k) ⌝ }
-    ensures { λ r. ⌜ ((before : Conj) (h : Hedge) (R : Expr) (behind : Conj) → LiteralAt (now (k .entry)) at before (mem h R) behind → Shows (now (k .entry)) s before h R behind → r ≡ solvedLiteral (before ++ behind) (mem h R)) ⌝ }
+// Whether a membership is of a lone variable that is in no other membership.
+fn lone_member(members: &[u16; TABLE], s: Shape) -> bool
+    ensures { λ r. ⌜ ((k : List ℕ) (before : Conj) (h : Hedge) (R : Expr) (behind : Conj) → Shows k s before h R behind → InMembers (now (members .entry)) (before ++ (mem h R ∷ behind)) → r ≡ solvedLiteral (before ++ behind) (mem h R)) ⌝ }
 {
     let h = s.h;
     let look = h.look;
@@ -76,36 +83,38 @@ fn lone_member(k: &[u16], at: usize, s: Shape) -> bool
     if x == 0 {
         return false;
     }
-    let before = in_members(k, 0, at, x);
-    let behind = in_members(k, s.end, k.len(), x);
-    neither(before, behind)
+    once(members, x)
 }
 
 // Whether the literal at a place is solved.
-fn solved_literal(k: &[u16], at: usize) -> bool
+fn solved_literal(k: &[u16], table: &[u16; TABLE], members: &[u16; TABLE], at: usize) -> bool
     requires { ⌜ at < length (now k) ⌝ }
-    ensures { λ t. ⌜ ((before : Conj) (l : Literal) (behind : Conj) → LiteralAt (now (k .entry)) at before l behind → t ≡ solvedLiteral (before ++ behind) l) ⌝ }
+    ensures { λ t. ⌜ ((before : Conj) (l : Literal) (behind : Conj) → LiteralAt (now (k .entry)) at before l behind → Tallied (now (table .entry)) (before ++ (l ∷ behind)) → InMembers (now (members .entry)) (before ++ (l ∷ behind)) → t ≡ solvedLiteral (before ++ behind) l) ⌝ }
 {
     if k[at] == 5000 {
         let v = see(k, at);
-        if alone_side(k, v) {
+        if lonely_side(table, v) {
             return true;
         }
-        return alone_side(k, swapped(v));
+        return lonely_side(table, swapped(v));
     }
     let s = show_membership(k, at);
-    lone_member(k, at, s)
+    lone_member(members, s)
 }
 
-// Whether a line is solved.
-pub fn is_solved(k: &[u16]) -> bool
+// Whether a line is solved, the table having the counts of its variables.
+pub fn is_solved(k: &[u16], table: &[u16; TABLE]) -> bool
+    requires { ⌜ length (now k) ≤ desk .question ⌝ }
     requires { ⌜ Conjunction (now k) ⌝ }
+    requires { ⌜ now table ≡ afresh (now k) ⌝ }
     ensures { λ r. ⌜ ((c : Conj) → fineConj desk c → now (k .entry) ≡ conjWords c → r ≡ solved c) ⌝ }
 {
+    let mut members = [0; TABLE];
+    count_members(k, &mut members);
     let mut i = 0;
     while i < k.len() {
         let next = next_literal(k, i);
-        let here = solved_literal(k, i);
+        let here = solved_literal(k, table, &members, i);
         if !here {
             return false;
         }

@@ -13,7 +13,7 @@ use Rattle.language.specs.declared.Signature.{Signature}
 use Rattle.language.specs.Limits.{desk}
 use Rattle.language.specs.Fine.{fineConj}
 use Rattle.language.specs.Kinds.{pick}
-use Rattle.language.specs.Trees.{Hedge, Expr, Literal, eqn, mem, Conj}
+use Rattle.language.specs.Trees.{Literal, eqn, mem, Conj}
 use Rattle.language.specs.Writing.{literalWords, conjWords}
 use Rattle.rules.specs.Reply.{Reply, nothing, results, stops}
 use Rattle.rules.specs.Rules.{Answer, Rule, onEqn, onMem, onPair, rules}
@@ -29,8 +29,8 @@ use Rattle.views.proofs.LiteralWalks.{literal-some, stands-here}
 use Rattle.literals.specs.Places.{wordsBefore}
 use Rattle.naming.specs.Naming.{makes, placeAt, namedAt}
 use Rattle.naming.proofs.Laws.{unmade}
-use Rattle.replay.specs.Replay.{Triple, spotOf}
-use Rattle.search.specs.Ranking.{sideAnswer, pairAt, pairAnswer, sideResults}
+use Rattle.replay.specs.Replay.{Triple}
+use Rattle.search.specs.Ranking.{pairAt, pairAnswer, sideResults}
 use Rattle.telling.specs.Telling.{tripleOf, namedReply, named, chosenOf, chosenBy, Applies, ClashNamed, unnamed, too-long, clashes}
 use Rattle.telling.specs.declared.Chosen.{Chosen}
 use Rattle.telling.specs.declared.Chosen.the-variants.{Step, Not}

@@ -7,9 +7,12 @@ ghost use Rattle.language.specs.Trees.{Literal, Conj};
 ghost use Rattle.language.specs.Writing.{conjWords};
 ghost use Rattle.language.specs.Fine.{fineConj};
 ghost use Rattle.views.specs.Standing.{LiteralAt, SomeLiteral, Conjunction};
+ghost use Rattle.counts.specs.Tables.{afresh};
 ghost use Rattle.telling.specs.Telling.{tripleOf, chosenBy, ClashNamed};
 use clash::Verdict;
 use clashes::test_behind;
+use counts::TABLE;
+use counts::count_in;
 use language::Refusal;
 use language::Signature;
 use language::wide;
@@ -44,10 +47,18 @@ fn named_clash(k: &[u16], at: usize, swap: bool, s: Signature) -> Chosen
     }
 }
 
-// The step of these three words, where the rule applies there; else why none is made.
-pub fn named_step(k: &[u16], rule: u16, literal: u16, side: u16, s: Signature) -> Chosen
+// The step of these three words, where the rule applies there; else why none is made. The table has the counts of all variables.
+pub fn named_by(
+    k: &[u16],
+    table: &[u16; TABLE],
+    rule: u16,
+    literal: u16,
+    side: u16,
+    s: Signature,
+) -> Chosen
     requires { ⌜ length (now k) ≤ desk .question ⌝ }
     requires { ⌜ Conjunction (now k) ⌝ }
+    requires { ⌜ now table ≡ afresh (now k) ⌝ }
     ensures { λ r. ⌜ ((c : Conj) → fineConj desk c → now (k .entry) ≡ conjWords c → r ≡ chosenBy s c (tripleOf rule literal side)) ⌝ }
 {
     if 1 < side {
@@ -62,8 +73,19 @@ pub fn named_step(k: &[u16], rule: u16, literal: u16, side: u16, s: Signature) -
     if rank == AT_CLASH {
         return named_clash(k, at, swap, s);
     }
-    if applies_at(rank, k, at, swap, s) {
+    if applies_at(rank, k, table, at, swap, s) {
         return Chosen::Step(Best { rank, at, swap });
     }
     Chosen::Not(Refusal::BadStep)
+}
+
+// The same for a conjunction that stands by itself: its variables are counted first.
+pub fn named_step(k: &[u16], rule: u16, literal: u16, side: u16, s: Signature) -> Chosen
+    requires { ⌜ length (now k) ≤ desk .question ⌝ }
+    requires { ⌜ Conjunction (now k) ⌝ }
+    ensures { λ r. ⌜ ((c : Conj) → fineConj desk c → now (k .entry) ≡ conjWords c → r ≡ chosenBy s c (tripleOf rule literal side)) ⌝ }
+{
+    let mut table = [0; TABLE];
+    count_in(k, 0, k.len(), &mut table);
+    named_by(k, &table, rule, literal, side, s)
 }

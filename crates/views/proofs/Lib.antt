@@ -1,5 +1,6 @@
 pub mod Words
 pub mod Spans
+pub mod Rests
 pub mod Sides
 pub mod Members
 pub mod Same

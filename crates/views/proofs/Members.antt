@@ -54,12 +54,12 @@ member-append x (y ∷ a) b = ap (λ t. eqb y x || t) (member-append x a b) ∙ 
 at-base : (b m n : ℕ) → eqb (b + n) (b + m) ≡ eqb m n
 at-base b m n = eqb-base b n m ∙ eqb-sym n m
 
-at-term : (v : Var) (x : TermVar) → fineVar desk v → x .0 < desk .each → eqb (1000 + x .0) (variableWord v) ≡ eqV v (tv x)
+pub at-term : (v : Var) (x : TermVar) → fineVar desk v → x .0 < desk .each → eqb (1000 + x .0) (variableWord v) ≡ eqV v (tv x)
 at-term (tv y) x f g = at-base 1000 (y .0) (x .0)
 at-term (hv q) x f g = ne-eqb (1000 + x .0) (2000 + q .0) (omega arith)
 at-term (fv Y) x f g = ne-eqb (1000 + x .0) (4000 + Y .0) (omega arith)
 
-at-run : (v : Var) (p : HedgeVar) → fineVar desk v → p .0 < desk .each → eqb (2000 + p .0) (variableWord v) ≡ eqV v (hv p)
+pub at-run : (v : Var) (p : HedgeVar) → fineVar desk v → p .0 < desk .each → eqb (2000 + p .0) (variableWord v) ≡ eqV v (hv p)
 at-run (tv y) p f g = ne-eqb (2000 + p .0) (1000 + y .0) (omega arith)
 at-run (hv q) p f g = at-base 2000 (q .0) (p .0)
 at-run (fv Y) p f g = ne-eqb (2000 + p .0) (4000 + Y .0) (omega arith)
@@ -73,7 +73,7 @@ at-functor (fv Y) (symbol n) f g = ne-eqb (3000 + n .0) (4000 + Y .0) (omega ari
 at-functor (fv Y) (fvar X) f g = at-base 4000 (Y .0) (X .0)
 
 -- a word that is no variable's
-other : (v : Var) (x : ℕ) → fineVar desk v → (x < 1000) ⊎ ((3000 ≤ x) × (x < 4000)) ⊎ (5000 ≤ x) → eqb x (variableWord v) ≡ false
+pub other : (v : Var) (x : ℕ) → fineVar desk v → (x < 1000) ⊎ ((3000 ≤ x) × (x < 4000)) ⊎ (5000 ≤ x) → eqb x (variableWord v) ≡ false
 other (tv y) x f (inl o) = ne-eqb x (1000 + y .0) (omega arith)
 other (tv y) x f (inr (inl o)) = ne-eqb x (1000 + y .0) (omega arith)
 other (tv y) x f (inr (inr o)) = ne-eqb x (1000 + y .0) (omega arith)

@@ -81,7 +81,7 @@ pub fn side_at(k: &[u16], from: usize) -> Side
     ensures { λ s. ⌜ (s .from ≡ from) × ((h : Hedge) (beyond : List ℕ) → Stands (now (k .entry)) from h beyond → Sided (now (k .entry)) s h) × (s ≡ sideAt (now (k .entry)) from) ⌝ }
 {
     let rest = element_end(k, from);
-    let to = hedge_end(k, from);
+    let to = hedge_end(k, rest);
     let look = look_at(k, from, rest);
     Side {
         from,

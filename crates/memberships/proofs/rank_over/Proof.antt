@@ -1,16 +1,15 @@
 -- By the functor, and for a symbol whether it is the same, and then whether it is unordered.
-use Prim.Native.Nat.{ℕ}
 use mathlib.Core.Path.{_≡_, sym, ap, _∙_}
-use mathlib.Core.Bool.{Bool, true, false}
+use mathlib.Core.Bool.{Bool}
 use borrow.Author.Tests.{eq-eqb, ne-eqb}
 use Rattle.language.specs.declared.Signature.{Signature}
 use Rattle.language.specs.declared.Sym.{Sym}
 use Rattle.language.specs.declared.Name.{Name}
-use Rattle.language.specs.declared.Name.the-variants.{Symbol, Blank}
+use Rattle.language.specs.declared.Name.the-variants.{Symbol}
 use Rattle.language.specs.Kinds.{pick}
 use Rattle.language.specs.Trees.{isUnordered, eqS}
 use Rattle.rules.specs.Looks.{allTerms}
-use Rattle.rules.specs.Places.{atF5, atM10, atM11, atM12, noRule}
+use Rattle.rules.specs.Places.{atF5, atM11, atM12, noRule}
 use Rattle.memberships.specs.Rank.{sameRank, overBy}
 use borrow.Author.Needs.{needs}
 use Rattle.memberships.proofs.rank_over.Statement.{statement}

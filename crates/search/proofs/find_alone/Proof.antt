@@ -23,10 +23,10 @@ abbrev Known : Signature → Best → Conj → Conj → Conj → Type 0
 Known σ b c done rest = bestFrom σ b done rest ≡ bestAlone σ c
 
 abbrev Inv-loop : tie.InvT-loop
-Inv-loop k s best₀ i₀ best i = (best .rank < noRule → best .at < length k) × ((c : Conj) → fineConj desk c → k ≡ conjWords c → Walked (Known s best c) c i)
+Inv-loop k table s best₀ i₀ best i = (best .rank < noRule → best .at < length k) × ((c : Conj) → fineConj desk c → k ≡ conjWords c → Walked (Known s best c) c i)
 
 abbrev μ-loop : tie.MeasureT-loop
-μ-loop k s best₀ i₀ best i = length k - i
+μ-loop k table s best₀ i₀ best i = length k - i
 
 loop-holds : tie.Need-loop-holds Inv-loop μ-loop
 unfolding bestAlone
@@ -36,10 +36,13 @@ rank-at-requires : tie.Need-rank-at-requires Inv-loop μ-loop
 rank-at-requires c κs =
     let c₁ = c .before in let c₂ = c₁ .before .before in
     let k = c₂ .args .k .now in
-    let x = c₂ .pre in (
+    let x = c₂ .pre .0 in (
       c .loop-test .taken,
-      walk-here k (x .conj) (x .fine) (x .words) (c₁ .loop .i) (Known (c₂ .args .s) (c₁ .loop .best) (x .conj)) (SomeLiteral k (c₁ .loop .i)) (c₁ .loop .inv .1 (x .conj) (x .fine) (x .words)) (c .loop-test .taken)
-          λ done l rest p d. record { before = done; l = l; behind = rest; stands = p },
+      (
+        walk-here k (x .conj) (x .fine) (x .words) (c₁ .loop .i) (Known (c₂ .args .s) (c₁ .loop .best) (x .conj)) (SomeLiteral k (c₁ .loop .i)) (c₁ .loop .inv .1 (x .conj) (x .fine) (x .words)) (c .loop-test .taken)
+            λ done l rest p d. record { before = done; l = l; behind = rest; stands = p },
+        c₂ .pre .1,
+      ),
     )
 
 loop-again : tie.Need-loop-again Inv-loop μ-loop

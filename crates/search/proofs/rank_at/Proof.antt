@@ -8,24 +8,26 @@ use Rattle.views.proofs.Sides.{shows-finish}
 use Rattle.views.proofs.LiteralWalks.{at-equation, at-membership}
 use Rattle.search.specs.Seeking.{best, bestAt}
 use Rattle.search.proofs.Finding.{best-swapped, best-written, best-member}
-use Rattle.literals.proofs.Seen.{equation-at, membership-at, turned-at}
+use Rattle.literals.proofs.Seen.{membership-at}
+use Rattle.counts.proofs.Own.{beside-here, beside-turned}
+use Rattle.search.proofs.Counted.{counted-at, counted-turned}
 use Rattle.search.proofs.rank_at.Statement.{statement}
 use Rattle.search.proofs.rank_at.Tie as tie
 
 rank-equation-requires : tie.Need-rank-equation-requires
 rank-equation-requires c κs =
     let c₁ = c .before in let c₂ = c₁ .before .before .before in
-    equation-at (c₂ .args .k .now) (c₂ .args .at) (c₂ .pre .1) _ (c₁ .if1 .taken) (c .see .ensures .0)
+    counted-at (c₂ .args .k .now) (c₂ .args .at) (c₂ .pre .1 .0) _ (c₁ .if1 .taken) (c .see .ensures .0) (c₂ .pre .1 .1)
 
 rank-equation-requires-2 : tie.Need-rank-equation-requires-2
 rank-equation-requires-2 c κs =
     let c₁ = c .before .before in let c₂ = c₁ .before in let c₃ = c₂ .before .before .before in
-    turned-at (c₃ .args .k .now) _ _ (c .swapped .ensures .0) (equation-at (c₃ .args .k .now) (c₃ .args .at) (c₃ .pre .1) _ (c₂ .if1 .taken) (c₁ .see .ensures .0))
+    counted-turned (c₃ .args .k .now) _ _ (c .swapped .ensures .0) (counted-at (c₃ .args .k .now) (c₃ .args .at) (c₃ .pre .1 .0) _ (c₂ .if1 .taken) (c₁ .see .ensures .0) (c₃ .pre .1 .1))
 
 rank-membership-requires : tie.Need-rank-membership-requires
 rank-membership-requires c κs =
     let c₁ = c .before in let c₂ = c₁ .before .before .before in
-    membership-at (c₂ .args .k .now) (c₂ .args .at) (c₂ .pre .1) _ (c₁ .if1 .left) (c .show-membership .ensures .0)
+    membership-at (c₂ .args .k .now) (c₂ .args .at) (c₂ .pre .1 .0) _ (c₁ .if1 .left) (c .show-membership .ensures .0)
 
 returns : tie.Need-returns
 returns c =
@@ -35,8 +37,8 @@ returns c =
       at-equation (c₆ .args .k .now) (c₆ .args .at) (λ before l behind. (best (c₁ .rank-equation2 .result) (c₆ .args .at) true ≡ bestAt (c₆ .args .s) before l behind) × (drop (c₄ .see .result .end) (c₆ .args .k .now) ≡ conjWords behind)) (c₅ .if1 .taken)
           λ before l r behind p.
           let s = c₄ .see .ensures .0 before l r behind p in (
-            best-swapped (c₆ .args .s) before l r behind _ (c₃ .rank-equation .result) (c₁ .rank-equation2 .result) (p .place) (c₃ .rank-equation .ensures before behind l r s)
-                (c₁ .rank-equation2 .ensures before behind r l (c₂ .swapped .ensures .0 (c₆ .args .k .now) before behind l r s)) (c .if2 .taken),
+            best-swapped (c₆ .args .s) before l r behind _ (c₃ .rank-equation .result) (c₁ .rank-equation2 .result) (p .place) (c₃ .rank-equation .ensures before behind l r s (beside-here p (c₆ .pre .1 .1)))
+                (c₁ .rank-equation2 .ensures before behind r l (c₂ .swapped .ensures .0 (c₆ .args .k .now) before behind l r s) (beside-turned (beside-here p (c₆ .pre .1 .1)))) (c .if2 .taken),
             s .finish,
           ),
     )
@@ -49,8 +51,8 @@ returns-2 c =
       at-equation (c₆ .args .k .now) (c₆ .args .at) (λ before l behind. (best (c₃ .rank-equation .result) (c₆ .args .at) false ≡ bestAt (c₆ .args .s) before l behind) × (drop (c₄ .see .result .end) (c₆ .args .k .now) ≡ conjWords behind)) (c₅ .if1 .taken)
           λ before l r behind p.
           let s = c₄ .see .ensures .0 before l r behind p in (
-            best-written (c₆ .args .s) before l r behind _ (c₃ .rank-equation .result) (c₁ .rank-equation2 .result) (p .place) (c₃ .rank-equation .ensures before behind l r s)
-                (c₁ .rank-equation2 .ensures before behind r l (c₂ .swapped .ensures .0 (c₆ .args .k .now) before behind l r s)) (c .if2 .left),
+            best-written (c₆ .args .s) before l r behind _ (c₃ .rank-equation .result) (c₁ .rank-equation2 .result) (p .place) (c₃ .rank-equation .ensures before behind l r s (beside-here p (c₆ .pre .1 .1)))
+                (c₁ .rank-equation2 .ensures before behind r l (c₂ .swapped .ensures .0 (c₆ .args .k .now) before behind l r s) (beside-turned (beside-here p (c₆ .pre .1 .1)))) (c .if2 .left),
             s .finish,
           ),
     )

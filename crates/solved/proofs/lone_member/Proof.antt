@@ -7,19 +7,10 @@ use Rattle.solved.proofs.lone_member.Statement.{statement}
 use Rattle.solved.proofs.lone_member.Tie as tie
 
 returns : tie.Need-returns
-returns c =
-    let c₁ = c .before in let c₂ = c₁ .before in let c₃ = c₂ .before .before .before in
-    λ before h R behind p q. no-lone (c₃ .args .k .now) (c₃ .args .at) before h R behind p (c₃ .args .s) q _ (c₁ .lone-word .ensures ∙ ap loneWord (c₂ .lone-variable .ensures)) (c .if1 .taken)
+returns c = λ k before h R behind q m. no-lone q _ (c .before .lone-word .ensures ∙ ap loneWord (c .before .before .lone-variable .ensures)) (c .if1 .taken)
 
 returns-2 : tie.Need-returns-2
-returns-2 c =
-    let c₁ = c .before in let c₂ = c₁ .before in let c₃ = c₂ .before in let c₄ = c₃ .before in let c₅ = c₄ .before in
-    let c₆ = c₅ .before .before .before in
-    λ before h R behind p q.
-    c .neither .ensures
-    ∙ only-here (c₆ .args .k .now) (c₆ .args .at) before h R behind p (c₆ .args .s) q _ (c₄ .lone-word .ensures ∙ ap loneWord (c₅ .lone-variable .ensures)) (c₃ .if1 .left) _ _ (c₂ .in-members .ensures) (c₁ .in-members2 .ensures)
+returns-2 c = λ k before h R behind q m. c .once .ensures ∙ only-here q _ (c .before .before .lone-word .ensures ∙ ap loneWord (c .before .before .before .lone-variable .ensures)) (c .before .if1 .left) m
 
 pub lone-member-spec : {M : Type 1} → statement M
-lone-member-spec =
-    tie.close (tie.spec
-    (λ c κs. search needs) (λ c κs. search needs) returns (λ c κs. search needs) (λ c κs. search needs) (λ c κs. search needs) returns-2)
+lone-member-spec = tie.close (tie.spec (λ c κs. search needs) (λ c κs. search needs) returns (λ c κs. search needs) returns-2)

@@ -15,7 +15,7 @@ returns-2 : tie.Need-returns-2
 returns-2 c =
     let c₁ = c .before in let c₂ = c₁ .before in let c₃ = c₂ .before in let c₄ = c₃ .before in let c₅ = c₄ .before .before .before in
     λ x f e.
-    c .named-step .ensures x f e
+    c .named-by .ensures x f e
     ∙ next-told (c₅ .args .s) x (c₅ .args .told .now) (c₅ .args .made) _ _ _ (let y = c₄ .if1 .left in let z = c₅ .pre .0 .0 in omega arith) (c₃ .word-at .ensures) (c₂ .word-at2 .ensures) (c₁ .word-at3 .ensures)
 
 pub told-step-spec : {M : Type 1} → statement M

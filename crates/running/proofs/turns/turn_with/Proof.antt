@@ -9,12 +9,12 @@ use Rattle.running.proofs.turns.turn_with.Statement.{statement}
 use Rattle.running.proofs.turns.turn_with.Tie as tie
 
 find-requires : tie.Need-find-requires
-find-requires c κs = let x = c .before .before .before .before .before .before .pre .1 in (c .before .before .before .before .before .before .pre .0 .0, record { conj = x .first .literals; fine = x .under .running .fine .0; words = x .words })
+find-requires c κs = let x = c .before .before .before .before .before .before .pre .1 .0 in (c .before .before .before .before .before .before .pre .0 .0, (record { conj = x .first .literals; fine = x .under .running .fine .0; words = x .words }, c .before .before .before .before .before .before .pre .1 .1))
 
 line-requires : tie.Need-line-requires
 line-requires c κs =
     let c₁ = c .before .before .before .before .before .before .before .before .before .before in
-    let x = c₁ .pre .1 in let p = c₁ .pre .0 in ((p .0, p .3, p .4, p .5), record { conj = x .first .literals; fine = x .under .running .fine .0; words = x .words })
+    let x = c₁ .pre .1 .0 in let p = c₁ .pre .0 in ((p .0, p .3, p .4, p .5), (record { conj = x .first .literals; fine = x .under .running .fine .0; words = x .words }, c₁ .pre .1 .1))
 
 returns : tie.Need-returns
 returns c =
@@ -35,13 +35,13 @@ returns-2 c =
 choose-requires : tie.Need-choose-requires
 choose-requires c κs =
     let c₁ = c .before .before .before .before .before .before .before .before .before .before .before in
-    let x = c₁ .pre .1 in ((x .under .guided, c₁ .pre .0 .0), record { conj = x .first .literals; fine = x .under .running .fine .0; words = x .words })
+    let x = c₁ .pre .1 .0 in ((x .under .guided, c₁ .pre .0 .0), (record { conj = x .first .literals; fine = x .under .running .fine .0; words = x .words }, c₁ .pre .1 .1))
 
 one-more-requires : tie.Need-one-more-requires
 one-more-requires c κs =
     let c₁ = c .before in let c₂ = c₁ .before .before in let c₃ = c₂ .before in let c₄ = c₃ .before .before in let c₅ = c₄ .before .before in
     let c₆ = c₅ .before .before .before .before .before .before .before in
-    let x = c₆ .pre .1 in
+    let x = c₆ .pre .1 .0 in
     let f = best-found (c₆ .args .s .signature) (x .first .literals) _ (c₅ .find .ensures .1 (x .first .literals) (x .under .running .fine .0) (x .words)) in
     chosen-step (c₆ .args .course) (c₆ .args .told .now) (length (x .old)) (c₆ .args .s .signature) (c₆ .args .s .steps) (x .first) _ _ (c₁ .c .given .1)
     (c₂ .choose .ensures (length (x .old)) (x .first) (x .under .running .fine .0) (x .words) (x .under .running .few) (below-all (c₄ .if1 .left) (c₃ .if2 .left)) f) .below
@@ -50,7 +50,7 @@ advance-requires : tie.Need-advance-requires
 advance-requires c κs =
     let c₁ = c .before .before .before .before in let c₂ = c₁ .before .before in let c₃ = c₂ .before in let c₄ = c₃ .before .before in
     let c₅ = c₄ .before .before in let c₆ = c₅ .before .before .before .before .before .before .before in
-    let x = c₆ .pre .1 in
+    let x = c₆ .pre .1 .0 in
     let p = c₆ .pre .0 in
     let f = best-found (c₆ .args .s .signature) (x .first .literals) _ (c₅ .find .ensures .1 (x .first .literals) (x .under .running .fine .0) (x .words)) in
     let d = chosen-step (c₆ .args .course) (c₆ .args .told .now) (length (x .old)) (c₆ .args .s .signature) (c₆ .args .s .steps) (x .first) _ _ (c₁ .c .given .1)

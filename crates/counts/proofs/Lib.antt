@@ -1,0 +1,4 @@
+pub mod Times
+pub mod Added
+pub mod Own
+pub mod Determined
