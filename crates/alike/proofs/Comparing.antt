@@ -11,8 +11,8 @@ use lib.ListN.{length, get_or, set, length-set}
 use Rattle.language.specs.declared.Sym.{Sym}
 use Rattle.language.specs.declared.Signature.{Signature}
 use Rattle.meaning.specs.Complete.{Complete, nil, tree}
-use Rattle.meaning.specs.Deciding.{isNil, takeOut, sameUpTo}
-use Rattle.passing.specs.Places.{sizeC, Holds, at-nil, at-tree, Hedge, Skipped, Beside, Cleared}
+use Rattle.meaning.specs.Deciding.{is_nil, take_out, same_up_to}
+use Rattle.passing.specs.Places.{size_c, Holds, at-nil, at-tree, Hedge, Skipped, Beside, Cleared}
 use Rattle.passing.proofs.Standing.{holds-lt, holds_fits, by-nil, by-tree, rest, child, behind}
 use Rattle.passing.proofs.Beside.{beside-refl, beside-wide, beside_trans, beside-set}
 use Rattle.alike.specs.Taking.{fit, left}
@@ -25,12 +25,12 @@ pub record Matched (σ : Signature) (w : List ℕ) (b : Bool) (k : List Bool) (x
   pub second : Complete
   pub one : Holds w x first
   pub other : Holds w y second
-  pub goes : sameUpTo σ g b h ≡ sameUpTo σ first b (left k y second)
+  pub goes : same_up_to σ g b h ≡ same_up_to σ first b (left k y second)
 
 pub record Comparing (σ : Signature) (w : List ℕ) (i j : ℕ) (b : Bool) (n : ℕ) (k₀ k : List Bool) (x y : ℕ) : Type 0 where
   pub one : Hedge w x
   pub other : Hedge w y
-  pub ends : y + sizeC other.g ≡ n
+  pub ends : y + size_c other.g ≡ n
   pub long : length w ≤ length k
   pub on : i ≤ x
   pub low : j ≤ y
@@ -39,13 +39,13 @@ pub record Comparing (σ : Signature) (w : List ℕ) (i j : ℕ) (b : Bool) (n :
   pub each : (g h : Complete) → Holds w i g → Holds w j h → Matched σ w b k x y g h
 
 -- the test, a tree further
-none_out : (σ : Signature) (f : Sym) (c r : Complete) (b : Bool) (h : Complete) → takeOut b (fit σ f c) h ≡ none → sameUpTo σ (tree f c r) b h ≡ false
-none_out σ f c r b h e = ap (λ m. elim m [ none ↦ false | some k ↦ sameUpTo σ r b k ]) e
+none_out : (σ : Signature) (f : Sym) (c r : Complete) (b : Bool) (h : Complete) → take_out b (fit σ f c) h ≡ none → same_up_to σ (tree f c r) b h ≡ false
+none_out σ f c r b h e = ap (λ m. elim m [ none ↦ false | some k ↦ same_up_to σ r b k ]) e
 
-one_out : (σ : Signature) (f : Sym) (c r : Complete) (b : Bool) (h k : Complete) → takeOut b (fit σ f c) h ≡ some k → sameUpTo σ (tree f c r) b h ≡ sameUpTo σ r b k
-one_out σ f c r b h k e = ap (λ m. elim m [ none ↦ false | some k ↦ sameUpTo σ r b k ]) e
+one_out : (σ : Signature) (f : Sym) (c r : Complete) (b : Bool) (h k : Complete) → take_out b (fit σ f c) h ≡ some k → same_up_to σ (tree f c r) b h ≡ same_up_to σ r b k
+one_out σ f c r b h k e = ap (λ m. elim m [ none ↦ false | some k ↦ same_up_to σ r b k ]) e
 
-some_size : (g : Complete) → 0 < sizeC g
+some_size : (g : Complete) → 0 < size_c g
 some_size nil = omega arith
 some_size (tree f c r) = omega arith
 
@@ -71,7 +71,7 @@ module _ {σ : Signature} {w : List ℕ} {i j : ℕ} {b : Bool} {n : ℕ} where
     beside = beside-refl;
     free = λ z. c.clear j (omega arith) (omega (arith, s.each q.g q.here, some_size q.g));
     each = λ g h a d. let e = s.each h d in
-        record { first = g; second = h; one = a; other = d; goes = ap (sameUpTo σ g b) (sym (left-all k j h (λ z l u. c.clear z l (omega arith)))) };
+        record { first = g; second = h; one = a; other = d; goes = ap (same_up_to σ g b) (sym (left-all k j h (λ z l u. c.clear z l (omega arith)))) };
   }
 
   module _ {k₀ k : List Bool} {x y : ℕ} (s : Comparing σ w i j b n k₀ k x y) where
@@ -80,7 +80,7 @@ module _ {σ : Signature} {w : List ℕ} {i j : ℕ} {b : Bool} {n : ℕ} where
       taker : (P : Complete → Type 0) → ((f : Sym) (c r : Complete) → Holds w x (tree f c r) → P (tree f c r)) → (q : Complete) → Holds w x q → P q
       taker P a q h = by-tree P z (λ f c r e u v. a f c r (at-tree (holds-lt h) e u v)) q h
 
-      out : (f : Sym) (c r h : Complete) → Holds w x (tree f c r) → Holds w y h → Out k y h (length w) (takeOut b (fit σ f c) (left k y h)) p
+      out : (f : Sym) (c r h : Complete) → Holds w x (tree f c r) → Holds w y h → Out k y h (length w) (take_out b (fit σ f c) (left k y h)) p
       out f c r h a d = rw (t.each f c r h a d) (taken (length w) k b (fit σ f c) y h (omega (arith, holds_fits d, s.long)))
 
       beside-find : Beside k₀ k' j n
@@ -92,7 +92,7 @@ module _ {σ : Signature} {w : List ℕ} {i j : ℕ} {b : Bool} {n : ℕ} where
         len = t.len ∙ s.beside.len ∙ c.beside.len;
         beside = λ h d. let e = m.each h d in beside-wide (beside_trans c.beside beside-find) (omega arith) (omega arith);
         each = λ g h a d. let o = s.each g h a d in
-            sym (o.goes ∙ taker (λ q. sameUpTo σ q b (left k y o.second) ≡ false)
+            sym (o.goes ∙ taker (λ q. same_up_to σ q b (left k y o.second) ≡ false)
             (λ f c r u. none_out σ f c r b (left k y o.second) (out_none (holds_fits o.other) l (out f c r o.second u o.other))) o.first o.one);
       }
 
@@ -114,7 +114,7 @@ module _ {σ : Signature} {w : List ℕ} {i j : ℕ} {b : Bool} {n : ℕ} where
                 s.one.g s.one.here;
             free = q.free;
             each = λ g h a d. let v = s.each g h a d in
-                taker (λ a. sameUpTo σ g b h ≡ sameUpTo σ a b (left k y v.second) → Matched σ w b k₂ x₂ y₂ g h)
+                taker (λ a. same_up_to σ g b h ≡ same_up_to σ a b (left k y v.second) → Matched σ w b k₂ x₂ y₂ g h)
                 (λ f c r u d.
                 let (is, _, _) = out_some l (out f c r v.second u v.other) in
                 let o = q.each v.second v.other in
@@ -125,7 +125,7 @@ module _ {σ : Signature} {w : List ℕ} {i j : ℕ} {b : Bool} {n : ℕ} where
                   second = o.rest;
                   one = rw (m.each c (child u)) (behind u);
                   other = o.here;
-                  goes = d ∙ one_out σ f c r b (left k y v.second) (left (set k p true) y v.second) is ∙ ap (sameUpTo σ r b) (sym same ∙ o.all);
+                  goes = d ∙ one_out σ f c r b (left k y v.second) (left (set k p true) y v.second) is ∙ ap (same_up_to σ r b) (sym same ∙ o.all);
                 })
                 v.first v.one v.goes;
           }
@@ -136,9 +136,9 @@ module _ {σ : Signature} {w : List ℕ} {i j : ℕ} {b : Bool} {n : ℕ} where
       len = s.beside.len ∙ c.beside.len;
       beside = λ h d. let e = m.each h d in beside-wide (beside_trans c.beside s.beside) (omega arith) (omega arith);
       each = λ g h a d. let v = s.each g h a d in
-          sym (v.goes ∙ by-nil (λ q. sameUpTo σ q b (left k y v.second) ≡ eqb (get_or w y 0) 0) z (sym (none_left v.second v.other)) v.first v.one);
+          sym (v.goes ∙ by-nil (λ q. same_up_to σ q b (left k y v.second) ≡ eqb (get_or w y 0) 0) z (sym (none_left v.second v.other)) v.first v.one);
     }
       where
-        none_left : (h : Complete) → Holds w y h → eqb (get_or w y 0) 0 ≡ isNil (left k y h)
+        none_left : (h : Complete) → Holds w y h → eqb (get_or w y 0) 0 ≡ is_nil (left k y h)
         none_left nil (at-nil l e) = eq-eqb (get_or w y 0) 0 e
         none_left (tree f c r) (at-tree l e u v) = ne_eqb (get_or w y 0) 0 (omega arith) ∙ rw (s.free (omega arith))

@@ -9,9 +9,9 @@ use lib.ListN.{length, get_or}
 use Rattle.language.specs.declared.Sym.{Sym}
 use Rattle.language.specs.declared.Signature.{Signature}
 use Rattle.language.specs.Kinds.{pick}
-use Rattle.language.specs.Trees.{isUnordered}
+use Rattle.language.specs.Trees.{is_unordered}
 use Rattle.meaning.specs.Complete.{Complete, tree}
-use Rattle.passing.specs.Places.{sizeC, Holds, at-tree, Hedge, Term, Skipped, Beside}
+use Rattle.passing.specs.Places.{size_c, Holds, at-tree, Hedge, Term, Skipped, Beside}
 use Rattle.passing.proofs.Standing.{holds-lt, by-nil, by-tree, rest, child, behind, word}
 use Rattle.passing.proofs.Beside.{beside-refl, beside-wide, beside_trans}
 use Rattle.alike.specs.Taking.{fit, left, found, Tops}
@@ -44,7 +44,7 @@ module _ {w : List ℕ} {k : List Bool} {y : ℕ} where
       low = by-tree (λ _. y ≤ n) z (λ f c r v a b. omega (arith, t.each c a, s.low)) s.at.g s.at.here;
       each = λ h x.
           let o = s.each h x in
-          by-tree (λ q. left k y h ≡ left k p q → p + sizeC q ≡ y + sizeC h → Onward w k y n h) z
+          by-tree (λ q. left k y h ≡ left k p q → p + size_c q ≡ y + size_c h → Onward w k y n h) z
           (λ f c r v a b l e.
           let q = t.each c a in
           record { rest = r; here = rw q b; all = l ∙ rw (is_true (get_or k p false) m, q); ends = omega arith })
@@ -66,14 +66,14 @@ module _ {σ : Signature} {w : List ℕ} {x p : ℕ} {k : List Bool} where
   pub fits-other : get_or k p false ≡ false → (get_or w x 0 ≡ get_or w p 0 → ⊥) → Fitted σ w x p k k false
   fits-other m n = record { len = refl; beside = λ g d t a. beside-refl; each = λ f c s g d t a b. rw (m, ne_eqb f.0 g.0 (λ e. n (omega (arith, word a, word b)))) }
 
-  pub fits_below : {k' : List Bool} {v r : Bool} → get_or k p false ≡ false → get_or w x 0 ≡ get_or w p 0 → v ≡ isUnordered σ (record { 0 = get_or w x 0 - 3000 })
+  pub fits_below : {k' : List Bool} {v r : Bool} → get_or k p false ≡ false → get_or w x 0 ≡ get_or w p 0 → v ≡ is_unordered σ (record { 0 = get_or w x 0 - 3000 })
       → Compared σ w (x + 1) (p + 1) k v k' r → Fitted σ w x p k k' r
   fits_below {k'} {v} {r} m e u t = record {
     len = t.len;
     beside = λ g d t' a. t.beside d (child a);
     each = λ f c s g d t' a b.
         let n : get_or w x 0 - 3000 ≡ f.0 = omega (arith, word a) in
-        let i : v ≡ isUnordered σ f = u ∙ ap (λ n. isUnordered σ (record { 0 = n })) n in
+        let i : v ≡ is_unordered σ f = u ∙ ap (λ n. is_unordered σ (record { 0 = n })) n in
         rw (m, eq-eqb f.0 g.0 (omega (arith, word a, word b))) (rw i at (t.each c d (child a) (child b)));
   }
 
@@ -144,8 +144,8 @@ module _ {σ : Signature} {w : List ℕ} {x y : ℕ} {k₀ : List Bool} {b : Boo
       tops-on : (f : Sym) (c h : Complete) → Sought σ w y k₀ k b p f c h → Tops k₀ k' y h
       tops-on f c h o = first (λ q. Within y h p q → Tops k₀ k' y h) (λ g d r a i. tops-trans k₀ k k' y h o.tops (tops-below i (t.beside g d r a))) o.rest o.here o.within
 
-      beside-on : (h : Complete) → Holds w y h → Beside k₀ k' y (y + sizeC h)
-      beside-on h d = let o = some h d in first (λ q. Within y h p q → Beside k₀ k' y (y + sizeC h))
+      beside-on : (h : Complete) → Holds w y h → Beside k₀ k' y (y + size_c h)
+      beside-on h d = let o = some h d in first (λ q. Within y h p q → Beside k₀ k' y (y + size_c h))
           (λ g d r a i. let l = within_low i in let n = within-ends i in
           beside_trans (beside-wide s.beside (omega arith) (omega arith)) (beside-wide (t.beside g d r a) (omega arith) (omega arith)))
           o.rest o.here o.within

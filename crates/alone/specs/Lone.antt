@@ -9,23 +9,23 @@ use Rattle.words.specs.Spans.{member}
 use Rattle.views.specs.declared.View.{View}
 use Rattle.views.specs.declared.Look.{Look}
 use Rattle.views.specs.declared.Look.TheVariants.{Empty, Term, Run, Node}
-use Rattle.views.specs.Variables.{variableWord}
+use Rattle.views.specs.Variables.{variable_word}
 use Rattle.alone.specs.declared.Lone.{Lone}
 use Rattle.alone.specs.declared.Lone.TheVariants as one
 
 -- a variable of the trees, as the code holds it
-abbrev pub loneOf : Option Var → Lone
-loneOf none = one.Nothing
-loneOf (some (tv x)) = one.Term x
-loneOf (some (hv p)) = one.Run p
-loneOf (some (fv X)) = one.Blank X
+abbrev pub lone_of : Option Var → Lone
+lone_of none = one.Nothing
+lone_of (some (tv x)) = one.Term x
+lone_of (some (hv p)) = one.Run p
+lone_of (some (fv X)) = one.Blank X
 
 -- its word, or 0
-abbrev pub loneWord : Lone → ℕ
-loneWord one.Nothing = 0
-loneWord (one.Term x) = 1000 + x.0
-loneWord (one.Run p) = 2000 + p.0
-loneWord (one.Blank f) = 4000 + f.0
+abbrev pub lone_word : Lone → ℕ
+lone_word one.Nothing = 0
+lone_word (one.Term x) = 1000 + x.0
+lone_word (one.Run p) = 2000 + p.0
+lone_word (one.Blank f) = 4000 + f.0
 
 -- the variable, where the test holds
 abbrev pub lone : Bool → Lone → Lone
@@ -33,39 +33,39 @@ lone t x = pick t x one.Nothing
 
 abbrev pub word_of : Option Var → ℕ
 word_of none = 0
-word_of (some v) = variableWord v
+word_of (some v) = variable_word v
 
 -- a single term
-abbrev pub singleTerm : Look → Bool
-singleTerm Empty = false
-singleTerm (Term x last) = last
-singleTerm (Run p last) = false
-singleTerm (Node f last bare) = last
+abbrev pub single_term : Look → Bool
+single_term Empty = false
+single_term (Term x last) = last
+single_term (Run p last) = false
+single_term (Node f last bare) = last
 
 -- a functor without children, alone
-abbrev pub bareFunctor : Look → Bool
-bareFunctor Empty = false
-bareFunctor (Term x last) = false
-bareFunctor (Run p last) = false
-bareFunctor (Node f last bare) = bare && last
+abbrev pub bare_functor : Look → Bool
+bare_functor Empty = false
+bare_functor (Term x last) = false
+bare_functor (Run p last) = false
+bare_functor (Node f last bare) = bare && last
 
 -- the variable that a side is, against the other
-abbrev pub sideVariable : Look → Look → Lone
-sideVariable Empty r = one.Nothing
-sideVariable (Term x last) r = lone (last && singleTerm r) (one.Term x)
-sideVariable (Run p last) r = lone last (one.Run p)
-sideVariable (Node (Symbol f) last bare) r = one.Nothing
-sideVariable (Node (Blank f) last bare) r = lone (bare && (last && bareFunctor r)) (one.Blank f)
+abbrev pub side_variable : Look → Look → Lone
+side_variable Empty r = one.Nothing
+side_variable (Term x last) r = lone (last && single_term r) (one.Term x)
+side_variable (Run p last) r = lone last (one.Run p)
+side_variable (Node (Symbol f) last bare) r = one.Nothing
+side_variable (Node (Blank f) last bare) r = lone (bare && (last && bare_functor r)) (one.Blank f)
 
 -- the side that is looked at first is a variable, and its word stands neither in the other side nor in another literal
-unfoldable pub aloneSide : List ℕ → View → Bool
-aloneSide k v =
-    let x = loneWord (sideVariable v.l.look v.r.look) in
+unfoldable pub alone_side : List ℕ → View → Bool
+alone_side k v =
+    let x = lone_word (side_variable v.l.look v.r.look) in
     not (eqb x 0) && not (member x (slice v.r.from v.r.to k) || (member x (take v.at k) || member x (drop v.end k)))
 
 -- the variable whose membership it is
-abbrev pub loneVariable : Look → Lone
-loneVariable Empty = one.Nothing
-loneVariable (Term x last) = lone last (one.Term x)
-loneVariable (Run p last) = lone last (one.Run p)
-loneVariable (Node f last bare) = one.Nothing
+abbrev pub lone_variable : Look → Lone
+lone_variable Empty = one.Nothing
+lone_variable (Term x last) = lone last (one.Term x)
+lone_variable (Run p last) = lone last (one.Run p)
+lone_variable (Node f last bare) = one.Nothing

@@ -1,6 +1,6 @@
 // The one variable that a side of an equation is, and whether it stands nowhere else.
 ghost use Rattle.std.specs.Prelude.{◌≡◌};
-ghost use Rattle.alone.specs.Lone.{singleTerm, bareFunctor, lone, sideVariable, loneWord, aloneSide};
+ghost use Rattle.alone.specs.Lone.{single_term, bare_functor, lone, side_variable, lone_word, alone_side};
 
 use bools::{and, neither};
 use language::{FunVar, HedgeVar, Name, TermVar, function_word, run_word, term_word};
@@ -23,7 +23,7 @@ fn chosen(t: bool, x: Lone) -> Lone
 }
 
 fn single_term(look: Look) -> bool
-    ensures { result ≡ singleTerm look }
+    ensures { result ≡ single_term look }
 {
     match look {
         Look::Empty => false,
@@ -34,7 +34,7 @@ fn single_term(look: Look) -> bool
 }
 
 fn bare_functor(look: Look) -> bool
-    ensures { result ≡ bareFunctor look }
+    ensures { result ≡ bare_functor look }
 {
     match look {
         Look::Empty => false,
@@ -46,7 +46,7 @@ fn bare_functor(look: Look) -> bool
 
 // The variable that a side is, against the other side.
 pub fn side_variable(l: Look, r: Look) -> Lone
-    ensures { result ≡ sideVariable l r }
+    ensures { result ≡ side_variable l r }
 {
     match l {
         Look::Empty => Lone::Nothing,
@@ -61,7 +61,7 @@ pub fn side_variable(l: Look, r: Look) -> Lone
 
 // The word of the variable, or 0 where there is none.
 pub fn lone_word(x: Lone) -> usize
-    ensures { result ≡ loneWord x }
+    ensures { result ≡ lone_word x }
 {
     match x {
         Lone::Nothing => 0,
@@ -73,7 +73,7 @@ pub fn lone_word(x: Lone) -> usize
 
 // Whether the side that is looked at first is one variable whose word stands nowhere else.
 pub fn alone_side(k: &[u16], v: View) -> bool
-    ensures { result ≡ aloneSide k.now v }
+    ensures { result ≡ alone_side k.now v }
 {
     let l = v.l;
     let r = v.r;

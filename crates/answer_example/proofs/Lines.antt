@@ -7,10 +7,10 @@ use native.Mathlib.Omega.{arith}
 use lib.ListN.{length, get_or, drop, length-append, get_or-append, replicate, length-replicate}
 use lib.Seq.{drop-append-add, drop-append_seam}
 use Rattle.language.specs.Limits.{desk}
-use Rattle.language.specs.Writing.{conjWords}
-use Rattle.meaning.specs.Values.{offsetsOf, joined}
-use Rattle.rules.specs.Run.{Numbered, EachLine, linesSize, linesAt}
-use Rattle.rules.specs.Answer.{lineWords, answerWords}
+use Rattle.language.specs.Writing.{conj_words}
+use Rattle.meaning.specs.Values.{offsets_of, joined}
+use Rattle.rules.specs.Run.{Numbered, EachLine, lines_size, lines_at}
+use Rattle.rules.specs.Answer.{line_words, answer_words}
 use Rattle.rules.specs.Calls.{line_at}
 use Rattle.answers.proofs.Rows.{header, in_a_row, length-header, length-lines, length-answer}
 use Rattle.answer_example.specs.Answers.{Good, Answer}
@@ -41,19 +41,19 @@ no_line (k ∷ ls) (suc i) p = no_line ls i (omega arith)
 
 -- ---- offsets
 
-offset_at : (at : ℕ) (before : List Numbered) (l : Numbered) (behind : List Numbered) → get_or (offsetsOf at (map lineWords (before ++ (l ∷ behind)))) (length before) 0 ≡ at + linesSize before
+offset_at : (at : ℕ) (before : List Numbered) (l : Numbered) (behind : List Numbered) → get_or (offsets_of at (map line_words (before ++ (l ∷ behind)))) (length before) 0 ≡ at + lines_size before
 offset_at at [] l behind = let z : at ≡ at + 0 = omega arith in z
-offset_at at (k ∷ before) l behind = let e = offset_at (at + length (lineWords k)) before l behind in let z : at + suc (suc (length (conjWords k.literals))) + linesSize before ≡ at + (suc (suc (length (conjWords k.literals))) + linesSize before) = omega arith in e ∙ z
+offset_at at (k ∷ before) l behind = let e = offset_at (at + length (line_words k)) before l behind in let z : at + suc (suc (length (conj_words k.literals))) + lines_size before ≡ at + (suc (suc (length (conj_words k.literals))) + lines_size before) = omega arith in e ∙ z
 
-offset-next : (at : ℕ) (before : List Numbered) (l : Numbered) (behind : List Numbered) → get_or (offsetsOf at (map lineWords (before ++ (l ∷ behind)))) (suc (length before)) 0 ≡ at + linesSize before + suc (suc (length (conjWords l.literals)))
+offset-next : (at : ℕ) (before : List Numbered) (l : Numbered) (behind : List Numbered) → get_or (offsets_of at (map line_words (before ++ (l ∷ behind)))) (suc (length before)) 0 ≡ at + lines_size before + suc (suc (length (conj_words l.literals)))
 offset-next at [] l behind = first behind
   where
-    first : (behind : List Numbered) → get_or (offsetsOf (at + suc (suc (length (conjWords l.literals)))) (map lineWords behind)) 0 0 ≡ at + 0 + suc (suc (length (conjWords l.literals)))
-    first [] = let z : at + suc (suc (length (conjWords l.literals))) ≡ at + 0 + suc (suc (length (conjWords l.literals))) = omega arith in z
-    first (k ∷ ks) = let z : at + suc (suc (length (conjWords l.literals))) ≡ at + 0 + suc (suc (length (conjWords l.literals))) = omega arith in z
+    first : (behind : List Numbered) → get_or (offsets_of (at + suc (suc (length (conj_words l.literals)))) (map line_words behind)) 0 0 ≡ at + 0 + suc (suc (length (conj_words l.literals)))
+    first [] = let z : at + suc (suc (length (conj_words l.literals))) ≡ at + 0 + suc (suc (length (conj_words l.literals))) = omega arith in z
+    first (k ∷ ks) = let z : at + suc (suc (length (conj_words l.literals))) ≡ at + 0 + suc (suc (length (conj_words l.literals))) = omega arith in z
 offset-next at (k ∷ before) l behind =
-    let e = offset-next (at + length (lineWords k)) before l behind in
-    let z : at + suc (suc (length (conjWords k.literals))) + linesSize before + suc (suc (length (conjWords l.literals))) ≡ at + (suc (suc (length (conjWords k.literals))) + linesSize before) + suc (suc (length (conjWords l.literals))) = omega arith in
+    let e = offset-next (at + length (line_words k)) before l behind in
+    let z : at + suc (suc (length (conj_words k.literals))) + lines_size before + suc (suc (length (conj_words l.literals))) ≡ at + (suc (suc (length (conj_words k.literals))) + lines_size before) + suc (suc (length (conj_words l.literals))) = omega arith in
     e ∙ z
 
 -- ---- where a line stands
@@ -64,16 +64,16 @@ pub record Place (answer : List ℕ) (ls : List Numbered) (i : ℕ) : Type 0 whe
   pub good : Good l.literals
   pub from : ℕ
   pub offset : get_or answer (i + 2) 0 ≡ from
-  pub next : get_or answer (i + 3) 0 ≡ from + suc (suc (length (conjWords l.literals)))
-  pub within : from + suc (suc (length (conjWords l.literals))) ≤ desk.room
+  pub next : get_or answer (i + 3) 0 ≡ from + suc (suc (length (conj_words l.literals)))
+  pub within : from + suc (suc (length (conj_words l.literals))) ≤ desk.room
   pub few : i ≤ desk.lines
   pub beyond : List ℕ
-  pub here : drop from answer ≡ lineWords l ++ beyond
+  pub here : drop from answer ≡ line_words l ++ beyond
 
 module _ {answer : List ℕ} {ls : List Numbered} (a : Answer answer ls) where
   -- the words behind the header
   tail : List ℕ
-  tail = replicate (desk.lines - length ls) 0 ++ ((joined (map lineWords ls) ++ replicate (desk.room - (linesAt desk + linesSize ls)) 0) ++ a.rest)
+  tail = replicate (desk.lines - length ls) 0 ++ ((joined (map line_words ls) ++ replicate (desk.room - (lines_at desk + lines_size ls)) 0) ++ a.rest)
 
   row : answer ≡ header ls ++ tail
   unfolding tail
@@ -81,17 +81,17 @@ module _ {answer : List ℕ} {ls : List Numbered} (a : Answer answer ls) where
 
   pub whole : desk.room ≤ length answer
   whole =
-      let e = ap length a.words ∙ length-append (answerWords desk ls) a.rest in
+      let e = ap length a.words ∙ length-append (answer_words desk ls) a.rest in
       let n = length-answer ls a.few a.size in
       omega arith
 
   pub count-is : get_or answer 0 0 ≡ length ls
   count-is = ap (λ w. get_or w 0 0) row
 
-  offsets_are : (j : ℕ) → j < length (offsetsOf (linesAt desk) (map lineWords ls)) → get_or answer (suc (suc j)) 0 ≡ get_or (offsetsOf (linesAt desk) (map lineWords ls)) j 0
-  offsets_are j p = ap (λ w. get_or w (suc (suc j)) 0) row ∙ get_or-append (offsetsOf (linesAt desk) (map lineWords ls)) tail 0 j p
+  offsets_are : (j : ℕ) → j < length (offsets_of (lines_at desk) (map line_words ls)) → get_or answer (suc (suc j)) 0 ≡ get_or (offsets_of (lines_at desk) (map line_words ls)) j 0
+  offsets_are j p = ap (λ w. get_or w (suc (suc j)) 0) row ∙ get_or-append (offsets_of (lines_at desk) (map line_words ls)) tail 0 j p
 
-  lines_are : (n : ℕ) → drop (linesAt desk + n) answer ≡ drop n (joined (map lineWords ls) ++ (replicate (desk.room - (linesAt desk + linesSize ls)) 0 ++ a.rest))
+  lines_are : (n : ℕ) → drop (lines_at desk + n) answer ≡ drop n (joined (map line_words ls) ++ (replicate (desk.room - (lines_at desk + lines_size ls)) 0 ++ a.rest))
   unfolding tail
   lines_are n =
       let A : List ℕ = header ls ++ replicate (desk.lines - length ls) 0 in
@@ -99,13 +99,13 @@ module _ {answer : List ℕ} {ls : List Numbered} (a : Answer answer ls) where
       let f = a.few in
       let m = length-append (header ls) (replicate (desk.lines - length ls) 0) in
       let t = length-replicate {A = ℕ} (desk.lines - length ls) 0 in
-      let z : linesAt desk + n ≡ length A + n = omega arith in
-      let Z : List ℕ = replicate (desk.room - (linesAt desk + linesSize ls)) 0 in
-      let B : List ℕ = (joined (map lineWords ls) ++ Z) ++ a.rest in
-      ap (λ w. drop (linesAt desk + n) w) (row ∙ sym (append_assoc (header ls) (replicate (desk.lines - length ls) 0) B))
+      let z : lines_at desk + n ≡ length A + n = omega arith in
+      let Z : List ℕ = replicate (desk.room - (lines_at desk + lines_size ls)) 0 in
+      let B : List ℕ = (joined (map line_words ls) ++ Z) ++ a.rest in
+      ap (λ w. drop (lines_at desk + n) w) (row ∙ sym (append_assoc (header ls) (replicate (desk.lines - length ls) 0) B))
       ∙ ap (λ i. drop i (A ++ B)) z
       ∙ drop-append-add A B n
-      ∙ ap (drop n) (append_assoc (joined (map lineWords ls)) Z a.rest)
+      ∙ ap (drop n) (append_assoc (joined (map line_words ls)) Z a.rest)
 
   pub place_of : (i : ℕ) → i < length ls → Place answer ls i
   place_of i p =
@@ -116,12 +116,12 @@ module _ {answer : List ℕ} {ls : List Numbered} (a : Answer answer ls) where
         l = s.l;
         is = s.is;
         good = s.good;
-        from = linesAt desk + linesSize s.before;
+        from = lines_at desk + lines_size s.before;
         offset = offset s;
         next = next s;
         within = within s;
         few = omega arith;
-        beyond = joined (map lineWords s.behind) ++ (replicate (desk.room - (linesAt desk + linesSize ls)) 0 ++ a.rest);
+        beyond = joined (map line_words s.behind) ++ (replicate (desk.room - (lines_at desk + lines_size ls)) 0 ++ a.rest);
         here = here s;
       }
     where
@@ -131,37 +131,37 @@ module _ {answer : List ℕ} {ls : List Numbered} (a : Answer answer ls) where
       three : i + 3 ≡ suc (suc (suc i))
       three = omega arith
 
-      offset : (s : Split ls i) → get_or answer (i + 2) 0 ≡ linesAt desk + linesSize s.before
+      offset : (s : Split ls i) → get_or answer (i + 2) 0 ≡ lines_at desk + lines_size s.before
       offset s =
           let sizes = length-header ls in
-          ap (λ j. get_or answer j 0) two ∙ offsets_are i (omega arith) ∙ ap (λ j. get_or (offsetsOf (linesAt desk) (map lineWords ls)) j 0) s.place
-          ∙ ap (λ ks. get_or (offsetsOf (linesAt desk) (map lineWords ks)) (length s.before) 0) s.split ∙ offset_at (linesAt desk) s.before s.l s.behind
+          ap (λ j. get_or answer j 0) two ∙ offsets_are i (omega arith) ∙ ap (λ j. get_or (offsets_of (lines_at desk) (map line_words ls)) j 0) s.place
+          ∙ ap (λ ks. get_or (offsets_of (lines_at desk) (map line_words ks)) (length s.before) 0) s.split ∙ offset_at (lines_at desk) s.before s.l s.behind
 
-      next : (s : Split ls i) → get_or answer (i + 3) 0 ≡ linesAt desk + linesSize s.before + suc (suc (length (conjWords s.l.literals)))
+      next : (s : Split ls i) → get_or answer (i + 3) 0 ≡ lines_at desk + lines_size s.before + suc (suc (length (conj_words s.l.literals)))
       next s =
           let sizes = length-header ls in
-          ap (λ j. get_or answer j 0) three ∙ offsets_are (suc i) (omega arith) ∙ ap (λ j. get_or (offsetsOf (linesAt desk) (map lineWords ls)) (suc j) 0) s.place
-          ∙ ap (λ ks. get_or (offsetsOf (linesAt desk) (map lineWords ks)) (suc (length s.before)) 0) s.split ∙ offset-next (linesAt desk) s.before s.l s.behind
+          ap (λ j. get_or answer j 0) three ∙ offsets_are (suc i) (omega arith) ∙ ap (λ j. get_or (offsets_of (lines_at desk) (map line_words ls)) (suc j) 0) s.place
+          ∙ ap (λ ks. get_or (offsets_of (lines_at desk) (map line_words ks)) (suc (length s.before)) 0) s.split ∙ offset-next (lines_at desk) s.before s.l s.behind
 
-      sizes-of : (before : List Numbered) (l : Numbered) (behind : List Numbered) → linesSize before + suc (suc (length (conjWords l.literals))) ≤ linesSize (before ++ (l ∷ behind))
+      sizes-of : (before : List Numbered) (l : Numbered) (behind : List Numbered) → lines_size before + suc (suc (length (conj_words l.literals))) ≤ lines_size (before ++ (l ∷ behind))
       sizes-of [] l behind = omega arith
       sizes-of (k ∷ before) l behind = let h = sizes-of before l behind in omega arith
 
-      within : (s : Split ls i) → linesAt desk + linesSize s.before + suc (suc (length (conjWords s.l.literals))) ≤ desk.room
+      within : (s : Split ls i) → lines_at desk + lines_size s.before + suc (suc (length (conj_words s.l.literals))) ≤ desk.room
       within s =
           let m = sizes-of s.before s.l s.behind in
-          let e = ap linesSize s.split in
+          let e = ap lines_size s.split in
           let z = a.size in
           omega arith
 
-      here : (s : Split ls i) → drop (linesAt desk + linesSize s.before) answer ≡ lineWords s.l ++ (joined (map lineWords s.behind) ++ (replicate (desk.room - (linesAt desk + linesSize ls)) 0 ++ a.rest))
+      here : (s : Split ls i) → drop (lines_at desk + lines_size s.before) answer ≡ line_words s.l ++ (joined (map line_words s.behind) ++ (replicate (desk.room - (lines_at desk + lines_size ls)) 0 ++ a.rest))
       here s =
-          let B = joined (map lineWords s.before) in
-          let C = replicate (desk.room - (linesAt desk + linesSize ls)) 0 ++ a.rest in
-          lines_are (linesSize s.before)
-          ∙ ap (λ n. drop n (joined (map lineWords ls) ++ C)) (sym (length-lines s.before))
+          let B = joined (map line_words s.before) in
+          let C = replicate (desk.room - (lines_at desk + lines_size ls)) 0 ++ a.rest in
+          lines_are (lines_size s.before)
+          ∙ ap (λ n. drop n (joined (map line_words ls) ++ C)) (sym (length-lines s.before))
           ∙ ap (λ w. drop (length B) (w ++ C))
-          (ap (λ ks. joined (map lineWords ks)) s.split ∙ ap joined (map-append lineWords s.before (s.l ∷ s.behind)) ∙ joined-row (map lineWords s.before) (map lineWords (s.l ∷ s.behind)))
+          (ap (λ ks. joined (map line_words ks)) s.split ∙ ap joined (map-append line_words s.before (s.l ∷ s.behind)) ∙ joined-row (map line_words s.before) (map line_words (s.l ∷ s.behind)))
           ∙ ap (drop (length B)) (append_assoc B _ C)
           ∙ drop-append_seam B _
-          ∙ append_assoc (lineWords s.l) (joined (map lineWords s.behind)) C
+          ∙ append_assoc (line_words s.l) (joined (map line_words s.behind)) C

@@ -11,36 +11,36 @@ use Rattle.language.specs.declared.Sym.{Sym}
 use Rattle.language.specs.Kinds.{pick}
 use Rattle.language.specs.Limits.{desk}
 use Rattle.language.specs.Trees.{Conj, Counts}
-use Rattle.language.specs.Writing.{conjWords}
-use Rattle.language.specs.Question.{countsOf}
-use Rattle.meaning.specs.Values.{fillingWords}
+use Rattle.language.specs.Writing.{conj_words}
+use Rattle.language.specs.Question.{counts_of}
+use Rattle.meaning.specs.Values.{filling_words}
 use Rattle.rules.specs.Solved.{solved}
 use Rattle.rules.specs.Run.{Numbered}
-use Rattle.rules.specs.Answer.{mark_of, lineWords}
-use Rattle.rules.specs.Example.{defaultSymbol, example}
+use Rattle.rules.specs.Answer.{mark_of, line_words}
+use Rattle.rules.specs.Example.{default_symbol, example}
 use Rattle.rules.specs.Calls.{Showing, denied, fitted, shown}
-use Rattle.answers.specs.Lined.{lineHead}
+use Rattle.answers.specs.Lined.{line_head}
 use Rattle.values.specs.Lines.{Line}
 use Rattle.values.specs.Values.{SettledLine}
 use Rattle.words.proofs.Parts.{drop_of, word-of}
 use Rattle.outcomes.specs.declared.Shown.{Shown}
 use Rattle.outcomes.specs.declared.Shown.TheVariants.{Denied}
-use Rattle.line_example.specs.Shown.{result_of, roomOf}
+use Rattle.line_example.specs.Shown.{result_of, room_of}
 use Rattle.line_example.specs.Fillings.{LineShown}
 use Rattle.answer_example.specs.Answers.{Good, Answer, Answered, LineIn, WordsShown, PartShown, AnswerShown}
 use Rattle.answer_example.proofs.Lines.{no_line, Place, whole, count-is, place_of}
 
 -- ---- with the variables that the question declares
 
-pub words-shown : {question k old new : List ℕ} {oldSheets : Bool} {terms hedges functions : ℕ} {any : Sym} {r : Shown} → terms ≡ get_or question 1 0 → hedges ≡ get_or question 2 0 → functions ≡ get_or question 3 0
-    → ((n : Counts) → n.symbols ≡ get_or question 0 0 % 256 → any ≡ defaultSymbol oldSheets n) → LineShown k terms hedges functions any old new r → WordsShown question oldSheets k old new r
+pub words-shown : {question k old new : List ℕ} {old_sheets : Bool} {terms hedges functions : ℕ} {any : Sym} {r : Shown} → terms ≡ get_or question 1 0 → hedges ≡ get_or question 2 0 → functions ≡ get_or question 3 0
+    → ((n : Counts) → n.symbols ≡ get_or question 0 0 % 256 → any ≡ default_symbol old_sheets n) → LineShown k terms hedges functions any old new r → WordsShown question old_sheets k old new r
 words-shown {question} {old = old} d e f g s = record {
-  result = λ c l t. s.result c (countsOf question) l t (record { terms = sym d; hedges = sym e; functions = sym f }) ∙ ap (λ z. result_of (filled z c)) (g (countsOf question) refl);
-  room = λ c l t. s.room c (countsOf question) l t (record { terms = sym d; hedges = sym e; functions = sym f }) ∙ ap (λ z. roomOf (filled z c) old) (g (countsOf question) refl);
+  result = λ c l t. s.result c (counts_of question) l t (record { terms = sym d; hedges = sym e; functions = sym f }) ∙ ap (λ z. result_of (filled z c)) (g (counts_of question) refl);
+  room = λ c l t. s.room c (counts_of question) l t (record { terms = sym d; hedges = sym e; functions = sym f }) ∙ ap (λ z. room_of (filled z c) old) (g (counts_of question) refl);
 }
   where
     filled : Sym → Conj → Showing
-    filled any c = fitted desk (length old) (fillingWords (countsOf question) (example any c))
+    filled any c = fitted desk (length old) (filling_words (counts_of question) (example any c))
 
 -- ---- by its mark
 
@@ -54,49 +54,49 @@ by-other false n = refl
 
 -- what is shown of a line, by whether it is solved
 abbrev by-solved : Bool → Counts → ℕ → Conj → Bool → Showing
-by-solved oldSheets n room c b = elim b [ true ↦ fitted desk room (fillingWords n (example (defaultSymbol oldSheets n) c)) | false ↦ denied OpenLine ]
+by-solved old_sheets n room c b = elim b [ true ↦ fitted desk room (filling_words n (example (default_symbol old_sheets n) c)) | false ↦ denied OpenLine ]
 
-mark-is : (answer : List ℕ) (from mark : ℕ) → mark ≡ get_or answer from 0 → (c : Numbered) (beyond : List ℕ) → drop from answer ≡ lineWords c ++ beyond → mark ≡ pick (solved c.literals) 1 2
-mark-is answer from mark m c beyond e = m ∙ word-of answer from (lineWords c ++ beyond) e
+mark-is : (answer : List ℕ) (from mark : ℕ) → mark ≡ get_or answer from 0 → (c : Numbered) (beyond : List ℕ) → drop from answer ≡ line_words c ++ beyond → mark ≡ pick (solved c.literals) 1 2
+mark-is answer from mark m c beyond e = m ∙ word-of answer from (line_words c ++ beyond) e
 
-line_of : (answer : List ℕ) (from to : ℕ) (c : Numbered) (beyond : List ℕ) → drop from answer ≡ lineWords c ++ beyond → to ≡ from + lineHead + length (conjWords c.literals) → Good c.literals
-    → Line (take (to - (from + lineHead)) (drop (from + lineHead) answer)) c.literals
+line_of : (answer : List ℕ) (from to : ℕ) (c : Numbered) (beyond : List ℕ) → drop from answer ≡ line_words c ++ beyond → to ≡ from + line_head + length (conj_words c.literals) → Good c.literals
+    → Line (take (to - (from + line_head)) (drop (from + line_head) answer)) c.literals
 line_of answer from to c beyond e d g = record {
   words =
-      let ws = conjWords c.literals in
-      let n : to - (from + lineHead) ≡ length ws = omega arith in
-      ap (take (to - (from + lineHead))) (drop_of answer from (from + lineHead) (mark_of c.literals ∷ c.number ∷ []) (ws ++ beyond) e refl) ∙ ap (λ i. take i (ws ++ beyond)) n ∙ take-append_seam ws beyond;
+      let ws = conj_words c.literals in
+      let n : to - (from + line_head) ≡ length ws = omega arith in
+      ap (take (to - (from + line_head))) (drop_of answer from (from + line_head) (mark_of c.literals ∷ c.number ∷ []) (ws ++ beyond) e refl) ∙ ap (λ i. take i (ws ++ beyond)) n ∙ take-append_seam ws beyond;
   fine = g.fine;
 }
 
-is-solved : (answer : List ℕ) (from mark : ℕ) → mark ≡ get_or answer from 0 → mark ≡ 1 → (c : Numbered) (beyond : List ℕ) → drop from answer ≡ lineWords c ++ beyond → solved c.literals ≡ true
+is-solved : (answer : List ℕ) (from mark : ℕ) → mark ≡ get_or answer from 0 → mark ≡ 1 → (c : Numbered) (beyond : List ℕ) → drop from answer ≡ line_words c ++ beyond → solved c.literals ≡ true
 is-solved answer from mark m z c beyond e = by-mark (solved c.literals) (sym (mark-is answer from mark m c beyond e) ∙ z)
 
-pub part-settled : {answer : List ℕ} {from to mark : ℕ} → mark ≡ get_or answer from 0 → mark ≡ 1 → LineIn answer from to → SettledLine (take (to - (from + lineHead)) (drop (from + lineHead) answer))
+pub part-settled : {answer : List ℕ} {from to mark : ℕ} → mark ≡ get_or answer from 0 → mark ≡ 1 → LineIn answer from to → SettledLine (take (to - (from + line_head)) (drop (from + line_head) answer))
 part-settled {answer} {from} {to} {mark} m z l = record {
   c = l.c.literals;
   line = line_of answer from to l.c l.beyond l.here l.end l.good;
   settled = l.good.settled (is-solved answer from mark m z l.c l.beyond l.here);
 }
 
-module _ {question : List ℕ} {oldSheets : Bool} {answer old : List ℕ} {from to mark : ℕ} (m : mark ≡ get_or answer from 0) where
-  pub part-open : (mark ≡ 1 → ⊥) → PartShown question oldSheets answer from to old old (Denied OpenLine)
+module _ {question : List ℕ} {old_sheets : Bool} {answer old : List ℕ} {from to mark : ℕ} (m : mark ≡ get_or answer from 0) where
+  pub part-open : (mark ≡ 1 → ⊥) → PartShown question old_sheets answer from to old old (Denied OpenLine)
   part-open n = record {
-    result = λ c beyond e d g. ap (λ b. result_of (by-solved oldSheets (countsOf question) (length old) c.literals b)) (sym (is_open c beyond e));
-    room = λ c beyond e d g. ap (λ b. roomOf (by-solved oldSheets (countsOf question) (length old) c.literals b) old) (sym (is_open c beyond e));
+    result = λ c beyond e d g. ap (λ b. result_of (by-solved old_sheets (counts_of question) (length old) c.literals b)) (sym (is_open c beyond e));
+    room = λ c beyond e d g. ap (λ b. room_of (by-solved old_sheets (counts_of question) (length old) c.literals b) old) (sym (is_open c beyond e));
   }
     where
-      is_open : (c : Numbered) (beyond : List ℕ) → drop from answer ≡ lineWords c ++ beyond → solved c.literals ≡ false
+      is_open : (c : Numbered) (beyond : List ℕ) → drop from answer ≡ line_words c ++ beyond → solved c.literals ≡ false
       is_open c beyond e = by-other (solved c.literals) (λ z. n (mark-is answer from mark m c beyond e ∙ z))
 
-  pub part-shown : {new : List ℕ} {r : Shown} → mark ≡ 1 → WordsShown question oldSheets (take (to - (from + lineHead)) (drop (from + lineHead) answer)) old new r → PartShown question oldSheets answer from to old new r
+  pub part-shown : {new : List ℕ} {r : Shown} → mark ≡ 1 → WordsShown question old_sheets (take (to - (from + line_head)) (drop (from + line_head) answer)) old new r → PartShown question old_sheets answer from to old new r
   part-shown z s = record {
     result = λ c beyond e d g.
         let y = is-solved answer from mark m z c beyond e in
-        s.result c.literals (line_of answer from to c beyond e d g) (g.settled y) ∙ ap (λ b. result_of (by-solved oldSheets (countsOf question) (length old) c.literals b)) (sym y);
+        s.result c.literals (line_of answer from to c beyond e d g) (g.settled y) ∙ ap (λ b. result_of (by-solved old_sheets (counts_of question) (length old) c.literals b)) (sym y);
     room = λ c beyond e d g.
         let y = is-solved answer from mark m z c beyond e in
-        s.room c.literals (line_of answer from to c beyond e d g) (g.settled y) ∙ ap (λ b. roomOf (by-solved oldSheets (countsOf question) (length old) c.literals b) old) (sym y);
+        s.room c.literals (line_of answer from to c beyond e d g) (g.settled y) ∙ ap (λ b. room_of (by-solved old_sheets (counts_of question) (length old) c.literals b) old) (sym y);
   }
 
 -- ---- by its number
@@ -105,17 +105,17 @@ module _ {answer : List ℕ} {lines w : ℕ} (d : w ≡ get_or answer 0 0) (e : 
   count : (ls : List Numbered) → Answer answer ls → lines ≡ length ls
   count ls a = e ∙ d ∙ count-is a
 
-  pub line-missing : {question : List ℕ} {oldSheets : Bool} {old : List ℕ} {line : ℕ} → lines ≤ line → AnswerShown question line oldSheets answer old old (Denied NoSuchLine)
-  line-missing {question} {oldSheets} {old} {line} p = record {
-    result = λ ls a. let n = count ls a in ap (λ m. result_of (shown desk oldSheets (countsOf question) (length old) m)) (sym (no_line ls line (omega arith)));
-    room = λ ls a. let n = count ls a in ap (λ m. roomOf (shown desk oldSheets (countsOf question) (length old) m) old) (sym (no_line ls line (omega arith)));
+  pub line-missing : {question : List ℕ} {old_sheets : Bool} {old : List ℕ} {line : ℕ} → lines ≤ line → AnswerShown question line old_sheets answer old old (Denied NoSuchLine)
+  line-missing {question} {old_sheets} {old} {line} p = record {
+    result = λ ls a. let n = count ls a in ap (λ m. result_of (shown desk old_sheets (counts_of question) (length old) m)) (sym (no_line ls line (omega arith)));
+    room = λ ls a. let n = count ls a in ap (λ m. room_of (shown desk old_sheets (counts_of question) (length old) m) old) (sym (no_line ls line (omega arith)));
   }
 
   module _ {line from to u v : ℕ} (f : u ≡ get_or answer (line + 2) 0) (g : from ≡ u) (h : v ≡ get_or answer (line + 3) 0) (i : to ≡ v) (p : line < lines) where
     place : (ls : List Numbered) → Answer answer ls → Place answer ls line
     place ls a = let n = count ls a in place_of a line (omega arith)
 
-    pub part-fits : Answered answer → (from + lineHead ≤ to) × (to ≤ length answer) × (to ≤ 65536) × LineIn answer from to
+    pub part-fits : Answered answer → (from + line_head ≤ to) × (to ≤ length answer) × (to ≤ 65536) × LineIn answer from to
     part-fits a =
         let q = place a.ls a.is in
         let x = q.offset in
@@ -126,16 +126,16 @@ module _ {answer : List ℕ} {lines w : ℕ} (d : w ≡ get_or answer 0 0) (e : 
         let t = i ∙ h ∙ q.next in
         (omega arith, omega arith, omega arith, record { c = q.l; beyond = q.beyond; here = ap (λ j. drop j answer) d ∙ q.here; end = omega arith; good = q.good })
 
-    pub line-shown : {question : List ℕ} {oldSheets : Bool} {old new : List ℕ} {r : Shown} → PartShown question oldSheets answer from to old new r → AnswerShown question line oldSheets answer old new r
-    line-shown {question} {oldSheets} {old} s = record {
+    pub line-shown : {question : List ℕ} {old_sheets : Bool} {old new : List ℕ} {r : Shown} → PartShown question old_sheets answer from to old new r → AnswerShown question line old_sheets answer old new r
+    line-shown {question} {old_sheets} {old} s = record {
       result = λ ls a.
           let q = place ls a in
           let x = g ∙ f ∙ q.offset in
           let y = i ∙ h ∙ q.next in
-          s.result q.l q.beyond (ap (λ j. drop j answer) x ∙ q.here) (omega arith) q.good ∙ ap (λ m. result_of (shown desk oldSheets (countsOf question) (length old) m)) (sym q.is);
+          s.result q.l q.beyond (ap (λ j. drop j answer) x ∙ q.here) (omega arith) q.good ∙ ap (λ m. result_of (shown desk old_sheets (counts_of question) (length old) m)) (sym q.is);
       room = λ ls a.
           let q = place ls a in
           let x = g ∙ f ∙ q.offset in
           let y = i ∙ h ∙ q.next in
-          s.room q.l q.beyond (ap (λ j. drop j answer) x ∙ q.here) (omega arith) q.good ∙ ap (λ m. roomOf (shown desk oldSheets (countsOf question) (length old) m) old) (sym q.is);
+          s.room q.l q.beyond (ap (λ j. drop j answer) x ∙ q.here) (omega arith) q.good ∙ ap (λ m. room_of (shown desk old_sheets (counts_of question) (length old) m) old) (sym q.is);
     }

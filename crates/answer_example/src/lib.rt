@@ -1,8 +1,8 @@
 // The example of a line of an answer, which is read where it stands.
 ghost use Rattle.std.specs.Prelude.{◌+◌, ◌<◌, ◌≤◌, length, ◌≡◌};
 ghost use Rattle.language.specs.Trees.{Counts};
-ghost use Rattle.rules.specs.Example.{defaultSymbol};
-ghost use Rattle.answers.specs.Lined.{lineHead};
+ghost use Rattle.rules.specs.Example.{default_symbol};
+ghost use Rattle.answers.specs.Lined.{line_head};
 ghost use Rattle.values.specs.Values.{SettledLine};
 ghost use Rattle.answer_example.specs.Answers.{Ranged, Answered, LineIn, WordsShown, PartShown, AnswerShown};
 
@@ -15,7 +15,7 @@ use words::word;
 // The symbol that free blanks take: the last declared one, and for old training sheets the first.
 fn default_symbol(symbols: u16, old: bool) -> Sym
     requires { 0 < symbols }
-    ensures { (result.0 < symbols) × ((n : Counts) → n.symbols ≡ symbols → result ≡ defaultSymbol old n) }
+    ensures { (result.0 < symbols) × ((n : Counts) → n.symbols ≡ symbols → result ≡ default_symbol old n) }
 {
     let last = symbols - 1;
     if old { Sym(0) } else { Sym(last) }
@@ -42,7 +42,7 @@ fn show_part(
     to: usize,
     room: &mut [u16],
 ) -> Shown
-    requires { Ranged question.now × (from + lineHead ≤ to) × (to ≤ length answer.now) × (to ≤ 65536) × LineIn answer.now from to }
+    requires { Ranged question.now × (from + line_head ≤ to) × (to ≤ length answer.now) × (to ≤ 65536) × LineIn answer.now from to }
     ensures { PartShown question.now old answer.now from to room.old room.new result }
 {
     let mark = word(answer, from);

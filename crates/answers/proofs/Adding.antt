@@ -6,10 +6,10 @@ use mathlib.Core.List.{List, [], ◌∷◌, ◌++◌, map, append_assoc, map-app
 use lib.ListN.{length, take, drop, set, length-append, replicate, length-replicate, replicate-append-replicate}
 use lib.Seq.{sets, sets-eq, take_at, drop_at, set_at}
 use Rattle.language.specs.Limits.{desk}
-use Rattle.language.specs.Writing.{conjWords}
-use Rattle.meaning.specs.Values.{offsetsOf, joined}
-use Rattle.rules.specs.Run.{Numbered, linesSize, linesAt}
-use Rattle.rules.specs.Answer.{lineWords, countOpen, answerWords, zeros}
+use Rattle.language.specs.Writing.{conj_words}
+use Rattle.meaning.specs.Values.{offsets_of, joined}
+use Rattle.rules.specs.Run.{Numbered, lines_size, lines_at}
+use Rattle.rules.specs.Answer.{line_words, count_open, answer_words, zeros}
 use Rattle.answers.proofs.Rows.{joined-more, offsets-more, length-lines, lines-size-more, count-more, in_a_row, length-header}
 
 -- words stored over as many others
@@ -60,52 +60,52 @@ unfolding row
 row_counts x y x' y' os m ls n rest = refl
 
 answer-row : (ls : List Numbered) (rest : List ℕ) → length ls ≤ desk.lines
-    → answerWords desk ls ++ rest ≡ row (length ls) (countOpen ls) (offsetsOf (linesAt desk) (map lineWords ls)) (desk.lines - length ls) (joined (map lineWords ls)) (desk.room - (linesAt desk + linesSize ls)) rest
+    → answer_words desk ls ++ rest ≡ row (length ls) (count_open ls) (offsets_of (lines_at desk) (map line_words ls)) (desk.lines - length ls) (joined (map line_words ls)) (desk.room - (lines_at desk + lines_size ls)) rest
 unfolding row
 answer-row ls rest few =
-    let os = offsetsOf (linesAt desk) (map lineWords ls) in
+    let os = offsets_of (lines_at desk) (map line_words ls) in
     let z₁ : List ℕ = replicate (desk.lines - length ls) 0 in
-    let b = joined (map lineWords ls) in
-    let z₂ : List ℕ = replicate (desk.room - (linesAt desk + linesSize ls)) 0 in
+    let b = joined (map line_words ls) in
+    let z₂ : List ℕ = replicate (desk.room - (lines_at desk + lines_size ls)) 0 in
     ap (λ l. l ++ rest) (in_a_row ls few)
-    ∙ ap (λ l. length ls ∷ countOpen ls ∷ l)
+    ∙ ap (λ l. length ls ∷ count_open ls ∷ l)
     (append_assoc os (z₁ ++ (b ++ z₂)) rest ∙ ap (λ l. os ++ l) (append_assoc z₁ (b ++ z₂) rest ∙ ap (λ l. z₁ ++ l) (append_assoc b z₂ rest)))
 
 -- ---- the empty answer
 
-pub answer-none : (old : List ℕ) → set (zeros desk ++ drop desk.room old) 2 (linesAt desk) ≡ answerWords desk [] ++ drop desk.room old
+pub answer-none : (old : List ℕ) → set (zeros desk ++ drop desk.room old) 2 (lines_at desk) ≡ answer_words desk [] ++ drop desk.room old
 unfolding row zeros
 answer-none old =
-    ap (λ l. 0 ∷ 0 ∷ (linesAt desk) ∷ l) (ap (λ l. l ++ drop desk.room old) (sym (replicate-append-replicate desk.lines (desk.room - linesAt desk) 0)) ∙ append_assoc (replicate desk.lines 0) (replicate (desk.room - linesAt desk) 0) (drop desk.room old))
+    ap (λ l. 0 ∷ 0 ∷ (lines_at desk) ∷ l) (ap (λ l. l ++ drop desk.room old) (sym (replicate-append-replicate desk.lines (desk.room - lines_at desk) 0)) ∙ append_assoc (replicate desk.lines 0) (replicate (desk.room - lines_at desk) 0) (drop desk.room old))
     ∙ sym (answer-row [] (drop desk.room old) (omega arith))
 
 -- ---- one line more
 
 pub answer-more : (ls : List Numbered) (k : Numbered) (rest : List ℕ) (end lines opens : ℕ)
-    → lines ≡ length ls → end ≡ linesAt desk + linesSize ls → opens ≡ countOpen (ls ++ (k ∷ [])) → length ls < desk.lines → end + suc (suc (length (conjWords k.literals))) ≤ desk.room
-    → set (set (set (sets (answerWords desk ls ++ rest) end (lineWords k)) (lines + 3) (end + suc (suc (length (conjWords k.literals))))) 0 (lines + 1)) 1 opens
-    ≡ answerWords desk (ls ++ (k ∷ [])) ++ rest
+    → lines ≡ length ls → end ≡ lines_at desk + lines_size ls → opens ≡ count_open (ls ++ (k ∷ [])) → length ls < desk.lines → end + suc (suc (length (conj_words k.literals))) ≤ desk.room
+    → set (set (set (sets (answer_words desk ls ++ rest) end (line_words k)) (lines + 3) (end + suc (suc (length (conj_words k.literals))))) 0 (lines + 1)) 1 opens
+    ≡ answer_words desk (ls ++ (k ∷ [])) ++ rest
 answer-more ls k rest end lines opens el ee eo few room =
-    let w = lineWords k in
-    let ws = map lineWords ls in
-    let os = offsetsOf (linesAt desk) ws in
-    let z : ℕ = desk.room - (linesAt desk + linesSize (ls ++ (k ∷ []))) in
+    let w = line_words k in
+    let ws = map line_words ls in
+    let os = offsets_of (lines_at desk) ws in
+    let z : ℕ = desk.room - (lines_at desk + lines_size (ls ++ (k ∷ []))) in
     let s = lines-size-more ls k in
     let c = count-more ls k in
     let b = length-lines ls in
     let h = length-header ls in
-    let m = map-append lineWords ls (k ∷ []) in
-    ap (λ a. set (set (set (sets a end w) (lines + 3) (end + suc (suc (length (conjWords k.literals))))) 0 (lines + 1)) 1 opens) (answer-row ls rest (omega arith))
-    ∙ ap (λ a. set (set (set a (lines + 3) (end + suc (suc (length (conjWords k.literals))))) 0 (lines + 1)) 1 opens)
-    (row_line (length ls) (countOpen ls) os (desk.lines - length ls) (joined ws) z rest w end (desk.room - (linesAt desk + linesSize ls)) (omega arith) (omega arith))
+    let m = map-append line_words ls (k ∷ []) in
+    ap (λ a. set (set (set (sets a end w) (lines + 3) (end + suc (suc (length (conj_words k.literals))))) 0 (lines + 1)) 1 opens) (answer-row ls rest (omega arith))
+    ∙ ap (λ a. set (set (set a (lines + 3) (end + suc (suc (length (conj_words k.literals))))) 0 (lines + 1)) 1 opens)
+    (row_line (length ls) (count_open ls) os (desk.lines - length ls) (joined ws) z rest w end (desk.room - (lines_at desk + lines_size ls)) (omega arith) (omega arith))
     ∙ ap (λ a. set (set a 0 (lines + 1)) 1 opens)
-    (row-offset (length ls) (countOpen ls) os (desk.lines - length (ls ++ (k ∷ []))) (joined ws ++ w) z rest (lines + 3) (desk.lines - length ls) (end + suc (suc (length (conjWords k.literals)))) (omega arith) (omega arith))
-    ∙ row_counts (length ls) (countOpen ls) (lines + 1) opens (os ++ ((end + suc (suc (length (conjWords k.literals)))) ∷ [])) (desk.lines - length (ls ++ (k ∷ []))) (joined ws ++ w) z rest
-    ∙ ap (λ x. row x opens (os ++ ((end + suc (suc (length (conjWords k.literals)))) ∷ [])) (desk.lines - length (ls ++ (k ∷ []))) (joined ws ++ w) z rest) (let q : lines + 1 ≡ length (ls ++ (k ∷ [])) = omega arith in q)
-    ∙ ap (λ y. row (length (ls ++ (k ∷ []))) y (os ++ ((end + suc (suc (length (conjWords k.literals)))) ∷ [])) (desk.lines - length (ls ++ (k ∷ []))) (joined ws ++ w) z rest) eo
-    ∙ ap (λ o. row (length (ls ++ (k ∷ []))) (countOpen (ls ++ (k ∷ []))) o (desk.lines - length (ls ++ (k ∷ []))) (joined ws ++ w) z rest)
-    (ap (λ n. os ++ (n ∷ [])) (let q : end + suc (suc (length (conjWords k.literals))) ≡ linesAt desk + length (joined ws) + suc (suc (length (conjWords k.literals))) = omega arith in q)
-    ∙ sym (offsets-more (linesAt desk) ws w) ∙ ap (offsetsOf (linesAt desk)) (sym m))
-    ∙ ap (λ j. row (length (ls ++ (k ∷ []))) (countOpen (ls ++ (k ∷ []))) (offsetsOf (linesAt desk) (map lineWords (ls ++ (k ∷ [])))) (desk.lines - length (ls ++ (k ∷ []))) j z rest)
+    (row-offset (length ls) (count_open ls) os (desk.lines - length (ls ++ (k ∷ []))) (joined ws ++ w) z rest (lines + 3) (desk.lines - length ls) (end + suc (suc (length (conj_words k.literals)))) (omega arith) (omega arith))
+    ∙ row_counts (length ls) (count_open ls) (lines + 1) opens (os ++ ((end + suc (suc (length (conj_words k.literals)))) ∷ [])) (desk.lines - length (ls ++ (k ∷ []))) (joined ws ++ w) z rest
+    ∙ ap (λ x. row x opens (os ++ ((end + suc (suc (length (conj_words k.literals)))) ∷ [])) (desk.lines - length (ls ++ (k ∷ []))) (joined ws ++ w) z rest) (let q : lines + 1 ≡ length (ls ++ (k ∷ [])) = omega arith in q)
+    ∙ ap (λ y. row (length (ls ++ (k ∷ []))) y (os ++ ((end + suc (suc (length (conj_words k.literals)))) ∷ [])) (desk.lines - length (ls ++ (k ∷ []))) (joined ws ++ w) z rest) eo
+    ∙ ap (λ o. row (length (ls ++ (k ∷ []))) (count_open (ls ++ (k ∷ []))) o (desk.lines - length (ls ++ (k ∷ []))) (joined ws ++ w) z rest)
+    (ap (λ n. os ++ (n ∷ [])) (let q : end + suc (suc (length (conj_words k.literals))) ≡ lines_at desk + length (joined ws) + suc (suc (length (conj_words k.literals))) = omega arith in q)
+    ∙ sym (offsets-more (lines_at desk) ws w) ∙ ap (offsets_of (lines_at desk)) (sym m))
+    ∙ ap (λ j. row (length (ls ++ (k ∷ []))) (count_open (ls ++ (k ∷ []))) (offsets_of (lines_at desk) (map line_words (ls ++ (k ∷ [])))) (desk.lines - length (ls ++ (k ∷ []))) j z rest)
     (sym (joined-more ws w) ∙ ap joined (sym m))
     ∙ sym (answer-row (ls ++ (k ∷ [])) rest (omega arith))

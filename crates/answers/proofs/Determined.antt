@@ -2,7 +2,7 @@
 use mathlib.Core.Path.{◌≡◌, sym, ap, ◌∙◌}
 use Rattle.language.proofs.Determined.{Determined}
 use Rattle.answers.specs.declared.Tally.{Tally}
-use Rattle.answers.specs.Lined.{withLine}
+use Rattle.answers.specs.Lined.{with_line}
 use Rattle.answers.proofs.begin as begin
 use Rattle.answers.proofs.add_line as add_line
 
@@ -20,4 +20,4 @@ add_line-determined : Determined add_line.ended add_line.Reads.Pre add_line.Read
 add_line-determined κs a p o q e d =
     let z : o.0 ≡ q.0 = e.0 ∙ sym d.0 in
     ap (λ t. (t, o.1)) z
-    ∙ ap (λ s. (q.0, (tt, (tt, (tt, (tt, (s, tt))))))) (e.1 ∙ ap (λ t. withLine a.1.1.1.0 t a.1.0 a.1.1.0 a.0.now a.1.1.1.1.0.now) z ∙ sym d.1)
+    ∙ ap (λ s. (q.0, (tt, (tt, (tt, (tt, (s, tt))))))) (e.1 ∙ ap (λ t. with_line a.1.1.1.0 t a.1.0 a.1.1.0 a.0.now a.1.1.1.1.0.now) z ∙ sym d.1)

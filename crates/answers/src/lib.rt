@@ -3,7 +3,7 @@ ghost use Rattle.std.specs.Prelude.{◌+◌, ◌≤◌, ◌<◌, ◌≡◌, [], 
 ghost use Rattle.std.proofs.lemmas.List.Edits.{sets};
 ghost use Rattle.language.specs.Limits.{desk};
 ghost use Rattle.language.specs.Kinds.{pick};
-ghost use Rattle.answers.specs.Lined.{lineHead, Cleared, Lined, counted, withLine};
+ghost use Rattle.answers.specs.Lined.{line_head, Cleared, Lined, counted, with_line};
 
 use language::limits::LINES_AT;
 use slices::{copy, store};
@@ -49,7 +49,7 @@ pub fn begin(answer: &mut [u16]) -> Tally
 
 // The line's mark, its number and its words, behind the others.
 fn write_line(k: &[u16], number: u16, solved: bool, at: usize, answer: &mut [u16])
-    requires { at + lineHead + length k.now ≤ length answer.old }
+    requires { at + line_head + length k.now ≤ length answer.old }
     ensures { answer.new ≡ sets answer.old at (pick solved 1 2 ∷ number ∷ k.now) }
 {
     store(answer, at, mark(solved));
@@ -59,8 +59,8 @@ fn write_line(k: &[u16], number: u16, solved: bool, at: usize, answer: &mut [u16
 
 // A line more.
 pub fn add_line(k: &[u16], number: u16, solved: bool, t: Tally, answer: &mut [u16]) -> Tally
-    requires { (t.lines < desk.lines) × (t.«open» ≤ t.lines) × (t.end + lineHead + length k.now ≤ desk.room) × (desk.room ≤ length answer.old) }
-    ensures { (result ≡ counted t solved k.now) × (answer.new ≡ withLine t result number solved k.now answer.old) }
+    requires { (t.lines < desk.lines) × (t.«open» ≤ t.lines) × (t.end + line_head + length k.now ≤ desk.room) × (desk.room ≤ length answer.old) }
+    ensures { (result ≡ counted t solved k.now) × (answer.new ≡ with_line t result number solved k.now answer.old) }
 {
     let at = t.end;
     let lines = t.lines + 1;

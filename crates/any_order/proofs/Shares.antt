@@ -11,7 +11,7 @@ use native.Mathlib.Decide.{ℕ_discrete}
 use Rattle.language.specs.Kinds.{pick}
 use Rattle.language.specs.Trees.{Expr, eps, cat, alt, star, over}
 use Rattle.rules.specs.Each.{Each}
-use Rattle.any_order.specs.Places.{sizeE}
+use Rattle.any_order.specs.Places.{size_e}
 use Rattle.any_order.specs.Sharing.{Counts, bump, Sums, Kind, In, Ways, Rest, Good}
 
 -- ---- the same numbers
@@ -22,18 +22,18 @@ Like c d = (q : ℕ) → c q ≡ d q
 abbrev pub Respects : (Counts → Type 0) → Type 0
 Respects G = (c d : Counts) → Like c d → G c → G d
 
-pub sums-within : (R : Expr) (at : ℕ) (c d : Counts) (n : ℕ) → ((q : ℕ) → at ≤ q → q < at + sizeE R → c q ≡ d q) → Sums R at c n → Sums R at d n
+pub sums-within : (R : Expr) (at : ℕ) (c d : Counts) (n : ℕ) → ((q : ℕ) → at ≤ q → q < at + size_e R → c q ≡ d q) → Sums R at c n → Sums R at d n
 sums-within eps at c d n h s = tt
 sums-within (cat a b) at c d n h (s, t) = (
   sums-within a (at + 1) c d n (λ q l u. h q (omega arith) (omega arith)) s,
-  sums-within b (at + 1 + sizeE a) c d n (λ q l u. h q (omega arith) (omega arith)) t,
+  sums-within b (at + 1 + size_e a) c d n (λ q l u. h q (omega arith) (omega arith)) t,
 )
 sums-within (alt a b) at c d n h (i, j, e, s, t) = (
   i,
   j,
   e,
   sums-within a (at + 1) c d i (λ q l u. h q (omega arith) (omega arith)) s,
-  sums-within b (at + 1 + sizeE a) c d j (λ q l u. h q (omega arith) (omega arith)) t,
+  sums-within b (at + 1 + size_e a) c d j (λ q l u. h q (omega arith) (omega arith)) t,
 )
 sums-within (star a) at c d n h (i, z, s) = (i, z, sums-within a (at + 1) c d i (λ q l u. h q (omega arith) (omega arith)) s)
 sums-within (over f a) at c d n h s = sym (h at (omega arith) (omega arith)) ∙ s

@@ -6,7 +6,7 @@ use native.Mathlib.Omega.{arith}
 use lib.ListN.{length, get_or}
 use Rattle.language.specs.declared.Sym.{Sym}
 use Rattle.language.specs.Trees.{Expr, eps, cat, alt, star, over}
-use Rattle.any_order.specs.Places.{sizeE, At, at-eps, at-cat, at-alt, at-star, at-over, Expression}
+use Rattle.any_order.specs.Places.{size_e, At, at-eps, at-cat, at-alt, at-star, at-over, Expression}
 use Rattle.any_order.specs.Searching.{Past}
 
 pub at_lt : {e : List ℕ} {at : ℕ} {R : Expr} → At e at R → at < length e
@@ -19,7 +19,7 @@ at_lt (at-over l w u p) = l
 pub expression-lt : {e : List ℕ} {at : ℕ} → Expression e at → at < length e
 expression-lt p = at_lt p.here
 
-pub at-fits : {e : List ℕ} {at : ℕ} {R : Expr} → At e at R → at + sizeE R ≤ length e
+pub at-fits : {e : List ℕ} {at : ℕ} {R : Expr} → At e at R → at + size_e R ≤ length e
 at-fits (at-eps l w) = omega arith
 at-fits (at-cat l w p q) = omega (arith, at-fits q)
 at-fits (at-alt l w p q) = omega (arith, at-fits q)
@@ -36,14 +36,14 @@ module _ {e : List ℕ} {at : ℕ} where
   by-eps P w x (star a) (at-star l v p) = absurd (omega arith)
   by-eps P w x (over f a) (at-over l v u p) = absurd (omega arith)
 
-  pub by-cat : (P : Expr → Type 0) → get_or e at 0 ≡ 7001 → ((a b : Expr) → At e (at + 1) a → At e (at + 1 + sizeE a) b → P (cat a b)) → (R : Expr) → At e at R → P R
+  pub by-cat : (P : Expr → Type 0) → get_or e at 0 ≡ 7001 → ((a b : Expr) → At e (at + 1) a → At e (at + 1 + size_e a) b → P (cat a b)) → (R : Expr) → At e at R → P R
   by-cat P w x eps (at-eps l v) = absurd (omega arith)
   by-cat P w x (cat a b) (at-cat l v p q) = x a b p q
   by-cat P w x (alt a b) (at-alt l v p q) = absurd (omega arith)
   by-cat P w x (star a) (at-star l v p) = absurd (omega arith)
   by-cat P w x (over f a) (at-over l v u p) = absurd (omega arith)
 
-  pub by-alt : (P : Expr → Type 0) → get_or e at 0 ≡ 7002 → ((a b : Expr) → At e (at + 1) a → At e (at + 1 + sizeE a) b → P (alt a b)) → (R : Expr) → At e at R → P R
+  pub by-alt : (P : Expr → Type 0) → get_or e at 0 ≡ 7002 → ((a b : Expr) → At e (at + 1) a → At e (at + 1 + size_e a) b → P (alt a b)) → (R : Expr) → At e at R → P R
   by-alt P w x eps (at-eps l v) = absurd (omega arith)
   by-alt P w x (cat a b) (at-cat l v p q) = absurd (omega arith)
   by-alt P w x (alt a b) (at-alt l v p q) = x a b p q
@@ -88,7 +88,7 @@ module _ {e : List ℕ} {at : ℕ} where
 
   -- and those of 7001 and 7002 a second one, at the place n after the first
   pub second : {n : ℕ} → Expression e at → (get_or e at 0 ≡ 7000 → ⊥) → 7000 ≤ get_or e at 0 → (get_or e at 0 ≡ 7003 → ⊥)
-      → ((R : Expr) → At e (at + 1) R → n ≡ at + 1 + sizeE R) → Expression e n
+      → ((R : Expr) → At e (at + 1) R → n ≡ at + 1 + size_e R) → Expression e n
   second {n} p n0 lo n3 z = go p.here
     where
       go : {R : Expr} → At e at R → Expression e n
@@ -99,13 +99,13 @@ module _ {e : List ℕ} {at : ℕ} where
       go (at-over l w u x) = absurd (omega arith)
 
   -- the measure falls at the second
-  pub less : {n t : ℕ} → length e - at ≡ t → ((R : Expr) → At e (at + 1) R → n ≡ at + 1 + sizeE R) → Expression e at → (get_or e at 0 ≡ 7000 → ⊥) → length e - n < t
+  pub less : {n t : ℕ} → length e - at ≡ t → ((R : Expr) → At e (at + 1) R → n ≡ at + 1 + size_e R) → Expression e at → (get_or e at 0 ≡ 7000 → ⊥) → length e - n < t
   less z l p n = let q = first p n in omega (arith, l q.R q.here, at_lt p.here)
 
 -- ---- the place after it
 
 module _ {e : List ℕ} {at : ℕ} where
-  pub past-each : {n : ℕ} → Past e at n → (R : Expr) → At e at R → n ≡ at + sizeE R
+  pub past-each : {n : ℕ} → Past e at n → (R : Expr) → At e at R → n ≡ at + size_e R
   past-each p = p.each
 
   pub past-eps : get_or e at 0 ≡ 7000 → Past e at (at + 1)
@@ -121,7 +121,7 @@ module _ {e : List ℕ} {at : ℕ} where
   pub past_two : {n m : ℕ} → Expression e at → (get_or e at 0 ≡ 7000 → ⊥) → 7000 ≤ get_or e at 0 → (get_or e at 0 ≡ 7003 → ⊥) → Past e (at + 1) n → Past e n m → Past e at m
   past_two {n} {m} p n0 lo n3 x y = record { each = λ R z. go z }
     where
-      go : {R : Expr} → At e at R → m ≡ at + sizeE R
+      go : {R : Expr} → At e at R → m ≡ at + size_e R
       go (at-eps l w) = absurd (n0 w)
       go (at-cat {a = a} {b = b} l w u v) = omega (arith, x.each a u, y.each b (rw (x.each a u) v))
       go (at-alt {a = a} {b = b} l w u v) = omega (arith, x.each a u, y.each b (rw (x.each a u) v))

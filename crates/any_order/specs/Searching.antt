@@ -5,12 +5,12 @@ use Rattle.rules.specs.Each.{Each}
 use Rattle.any_order.specs.declared.Range.{Range}
 use Rattle.any_order.specs.declared.Span.{Span}
 use Rattle.any_order.specs.declared.Next.{Next}
-use Rattle.any_order.specs.Places.{sizeE, At, Expression}
+use Rattle.any_order.specs.Places.{size_e, At, Expression}
 use Rattle.any_order.specs.Sharing.{Counts, bump, Sums, Kind, Ways, Rest, Going, Good, none, Records, total}
 
 -- the place after whatever expression stands there
 pub record Past (e : List ℕ) (at r : ℕ) : Type 0 where
-  pub each : (R : Expr) → At e at R → r ≡ at + sizeE R
+  pub each : (R : Expr) → At e at R → r ≡ at + size_e R
 
 -- ---- ranges of numbers
 
@@ -63,8 +63,8 @@ pub record Grown (c l : List ℕ) (kind f : ℕ) (d : Counts) : Type 0 where
 
 -- the numbers of members that the counts may become
 pub record Spanned (e : List ℕ) (at : ℕ) (c l : List ℕ) (kind f : ℕ) (r : Span) : Type 0 where
-  pub end : (R : Expr) → At e at R → r.end ≡ at + sizeE R
-  pub small : (R : Expr) → At e at R → Small (65536 * sizeE R) r.range
+  pub end : (R : Expr) → At e at R → r.end ≡ at + size_e R
+  pub small : (R : Expr) → At e at R → Small (65536 * size_e R) r.range
   pub sound : (R : Expr) → At e at R → (d : Counts) → Grown c l kind f d → (n : ℕ) → Sums R at d n → Lies n r.range
   pub exact : (R : Expr) → At e at R → ((p : ℕ) → Open l kind f p → ⊥) → (n : ℕ) → Lies n r.range → Sums R at (counts c) n
 

@@ -4,7 +4,7 @@ use Rattle.std.specs.Prelude.{ℕ, zero, suc, ◌+◌, ◌<◌, ◌≤◌, ◌�
 use Rattle.language.specs.Kinds.{pick}
 use Rattle.language.specs.Trees.{Expr, eps, cat, alt, star, over}
 use Rattle.rules.specs.Each.{Some}
-use Rattle.any_order.specs.Places.{sizeE}
+use Rattle.any_order.specs.Places.{size_e}
 
 -- how many terms are put on the symbol at each place
 abbrev pub Counts : Type 0
@@ -17,8 +17,8 @@ bump c p q = pick (eqb q p) (suc (c q)) (c q)
 -- star has any number, but none where there is no star.
 abbrev pub Sums : Expr → ℕ → Counts → ℕ → Type 0
 Sums eps at c n = Unit {0}
-Sums (cat a b) at c n = Sums a (at + 1) c n × Sums b (at + 1 + sizeE a) c n
-Sums (alt a b) at c n = (i : ℕ) × (j : ℕ) × (n ≡ i + j) × Sums a (at + 1) c i × Sums b (at + 1 + sizeE a) c j
+Sums (cat a b) at c n = Sums a (at + 1) c n × Sums b (at + 1 + size_e a) c n
+Sums (alt a b) at c n = (i : ℕ) × (j : ℕ) × (n ≡ i + j) × Sums a (at + 1) c i × Sums b (at + 1 + size_e a) c j
 Sums (star a) at c n = (i : ℕ) × (0 < i → 0 < n) × Sums a (at + 1) c i
 Sums (over f a) at c n = c at ≡ n
 

@@ -3,10 +3,10 @@ use Rattle.std.specs.Prelude.{ℕ, Bool, not, ◌&&◌}
 use Rattle.language.specs.declared.Signature.{Signature}
 use Rattle.language.specs.Kinds.{pick}
 use Rattle.language.specs.Trees.{Literal, eqn, mem, Conj}
-use Rattle.rules.specs.Ranks.{eqnAnswer, memAnswer}
+use Rattle.rules.specs.Ranks.{eqn_answer, mem_answer}
 use Rattle.rules.specs.Solved.{is_some}
 
 -- a membership has no other side
-abbrev pub answersAt : Signature → ℕ → Bool → Conj → Literal → Bool
-answersAt σ n swap K (eqn l r) = is_some (eqnAnswer σ n K (pick swap r l) (pick swap l r))
-answersAt σ n swap K (mem h R) = not swap && is_some (memAnswer σ n K h R)
+abbrev pub answers_at : Signature → ℕ → Bool → Conj → Literal → Bool
+answers_at σ n swap K (eqn l r) = is_some (eqn_answer σ n K (pick swap r l) (pick swap l r))
+answers_at σ n swap K (mem h R) = not swap && is_some (mem_answer σ n K h R)

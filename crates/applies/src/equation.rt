@@ -1,15 +1,15 @@
 // Whether a rule of equations applies, seen from the left side: a test for each, over what the search looks at.
 ghost use Rattle.std.specs.Prelude.{ℕ, ◌≡◌, true, not, ◌||◌, List};
-ghost use Rattle.language.specs.Trees.{Hedge, Conj, tv, hv, inConj};
-ghost use Rattle.rules.specs.Looks.{allTerms};
+ghost use Rattle.language.specs.Trees.{Hedge, Conj, tv, hv, in_conj};
+ghost use Rattle.rules.specs.Looks.{all_terms};
 ghost use Rattle.rules.specs.Elements.{struck};
 ghost use Rattle.rules.specs.Solved.{is_some};
 ghost use Rattle.views.specs.Looks.{look_of};
 ghost use Rattle.views.specs.Standing.{Stands};
 ghost use Rattle.views.specs.Views.{Sees};
 ghost use Rattle.counts.specs.Tables.{afresh};
-ghost use Rattle.applies.specs.Parts.{loneVariable, loneRun, loneFunctor, variableOf, runOf, childrenOf};
-ghost use Rattle.applies.specs.Tests.{Asks, testR1, testF1, testF2, testF3, testF4, testDel1, oneShuffled, testDel2, testDel3, testD1, testD2, testD0, testE1, testE2, testE3, testE4, blanksIn, testE5, testE6, testE7};
+ghost use Rattle.applies.specs.Parts.{lone_variable, lone_run, lone_functor, variable_of, run_of, children_of};
+ghost use Rattle.applies.specs.Tests.{Asks, test_r1, test_f1, test_f2, test_f3, test_f4, test_del1, one_shuffled, test_del2, test_del3, test_d1, test_d2, test_d0, test_e1, test_e2, test_e3, test_e4, blanks_in, test_e5, test_e6, test_e7};
 
 use crate::counted::elsewhere;
 use crate::looks::{
@@ -29,14 +29,14 @@ use words::{same_part, stands};
 
 // R1: the same words.
 pub fn r1(k: &[u16], v: View) -> bool
-    ensures { Asks testR1 k.now v result }
+    ensures { Asks test_r1 k.now v result }
 {
     same_part(k, v.l.from, v.l.to, v.r.from, v.r.to)
 }
 
 // F1: x against a hedge that has x below a functor at its top.
 pub fn f1(k: &[u16], v: View) -> bool
-    ensures { Asks testF1 k.now v result }
+    ensures { Asks test_f1 k.now v result }
 {
     let l = v.l;
     let a = l.look;
@@ -46,7 +46,7 @@ pub fn f1(k: &[u16], v: View) -> bool
 
 // F2: p against a hedge that has a term and holds p.
 pub fn f2(k: &[u16], v: View) -> bool
-    ensures { Asks testF2 k.now v result }
+    ensures { Asks test_f2 k.now v result }
 {
     let l = v.l;
     let a = l.look;
@@ -57,7 +57,7 @@ pub fn f2(k: &[u16], v: View) -> bool
 
 // F3: single terms with different symbols.
 pub fn f3(k: &[u16], v: View) -> bool
-    ensures { Asks testF3 k.now v result }
+    ensures { Asks test_f3 k.now v result }
 {
     let l = v.l;
     let r = v.r;
@@ -73,7 +73,7 @@ pub fn f3(k: &[u16], v: View) -> bool
 
 // F4: nothing against a hedge that has a term.
 pub fn f4(k: &[u16], v: View) -> bool
-    ensures { Asks testF4 k.now v result }
+    ensures { Asks test_f4 k.now v result }
 {
     let l = v.l;
     let a = l.look;
@@ -83,7 +83,7 @@ pub fn f4(k: &[u16], v: View) -> bool
 
 // Del1: the same hedge variable in front of both.
 pub fn del1(k: &[u16], v: View) -> bool
-    ensures { Asks testDel1 k.now v result }
+    ensures { Asks test_del1 k.now v result }
 {
     let l = v.l;
     let r = v.r;
@@ -96,7 +96,7 @@ pub fn del1(k: &[u16], v: View) -> bool
 
 // Single terms with one and the same symbol, an unordered one.
 fn shuffled(k: &[u16], v: View, signature: Signature) -> bool
-    ensures { Asks (oneShuffled signature) k.now v result }
+    ensures { Asks (one_shuffled signature) k.now v result }
 {
     let l = v.l;
     let r = v.r;
@@ -113,7 +113,7 @@ fn shuffled(k: &[u16], v: View, signature: Signature) -> bool
 
 // Of single terms, the children share an element.
 fn children_shared(k: &[u16], v: View) -> bool
-    ensures { (before behind : Conj) (l r : Hedge) → Sees k.now v before l r behind → loneFunctor (look_of l) ≡ true → loneFunctor (look_of r) ≡ true → result ≡ is_some (struck (childrenOf l) (childrenOf r)) }
+    ensures { (before behind : Conj) (l r : Hedge) → Sees k.now v before l r behind → lone_functor (look_of l) ≡ true → lone_functor (look_of r) ≡ true → result ≡ is_some (struck (children_of l) (children_of r)) }
 {
     let c = inner(k, v.l.from, v.l.to);
     let d = inner(k, v.r.from, v.r.to);
@@ -123,7 +123,7 @@ fn children_shared(k: &[u16], v: View) -> bool
 
 // Of a single term, the children are terms.
 pub fn child_terms(k: &[u16], from: usize) -> bool
-    ensures { (h : Hedge) (beyond : List ℕ) → Stands k.now from h beyond → loneFunctor (look_of h) ≡ true → result ≡ allTerms (childrenOf h) }
+    ensures { (h : Hedge) (beyond : List ℕ) → Stands k.now from h beyond → lone_functor (look_of h) ≡ true → result ≡ all_terms (children_of h) }
 {
     let c = inner(k, from, from);
     let terms = all_terms(k, c.from);
@@ -132,7 +132,7 @@ pub fn child_terms(k: &[u16], from: usize) -> bool
 
 // Del2: single terms with one unordered symbol, whose children share an element.
 pub fn del2(k: &[u16], v: View, signature: Signature) -> bool
-    ensures { Asks (testDel2 signature) k.now v result }
+    ensures { Asks (test_del2 signature) k.now v result }
 {
     let one = shuffled(k, v, signature);
     and(one, children_shared(k, v))
@@ -140,7 +140,7 @@ pub fn del2(k: &[u16], v: View, signature: Signature) -> bool
 
 // Del3: p against a hedge that has p behind another element.
 pub fn del3(k: &[u16], v: View) -> bool
-    ensures { Asks testDel3 k.now v result }
+    ensures { Asks test_del3 k.now v result }
 {
     let l = v.l;
     let a = l.look;
@@ -150,7 +150,7 @@ pub fn del3(k: &[u16], v: View) -> bool
 
 // D1: single terms with one unordered symbol, whose children share no element; on the right they are terms.
 pub fn d1(k: &[u16], v: View, signature: Signature) -> bool
-    ensures { Asks (testD1 signature) k.now v result }
+    ensures { Asks (test_d1 signature) k.now v result }
 {
     let one = shuffled(k, v, signature);
     let terms = child_terms(k, v.r.from);
@@ -160,7 +160,7 @@ pub fn d1(k: &[u16], v: View, signature: Signature) -> bool
 
 // D2: terms in front of both, and something behind one of them.
 pub fn d2(k: &[u16], v: View) -> bool
-    ensures { Asks testD2 k.now v result }
+    ensures { Asks test_d2 k.now v result }
 {
     let l = v.l;
     let r = v.r;
@@ -172,7 +172,7 @@ pub fn d2(k: &[u16], v: View) -> bool
 
 // D0: single terms with the same functor, whose children stay in order.
 pub fn d0(k: &[u16], v: View, signature: Signature) -> bool
-    ensures { Asks (testD0 signature) k.now v result }
+    ensures { Asks (test_d0 signature) k.now v result }
 {
     let l = v.l;
     let r = v.r;
@@ -186,7 +186,7 @@ pub fn d0(k: &[u16], v: View, signature: Signature) -> bool
 // Where the right side is one term variable, it is in the others too.
 fn variable_too(k: &[u16], table: &[u16; TABLE], v: View) -> bool
     requires { table.now ≡ afresh k.now }
-    ensures { Asks (λ K l r. not (loneVariable (look_of r)) || inConj (tv (variableOf (look_of r))) K) k.now v result }
+    ensures { Asks (λ K l r. not (lone_variable (look_of r)) || in_conj (tv (variable_of (look_of r))) K) k.now v result }
 {
     let r = v.r;
     let b = r.look;
@@ -198,7 +198,7 @@ fn variable_too(k: &[u16], table: &[u16; TABLE], v: View) -> bool
 // E1: x against a term without it, and the variables elsewhere too.
 pub fn e1(k: &[u16], table: &[u16; TABLE], v: View) -> bool
     requires { table.now ≡ afresh k.now }
-    ensures { Asks testE1 k.now v result }
+    ensures { Asks test_e1 k.now v result }
 {
     let l = v.l;
     let r = v.r;
@@ -214,7 +214,7 @@ pub fn e1(k: &[u16], table: &[u16; TABLE], v: View) -> bool
 // Where the right side is one hedge variable, it is in the others too.
 fn run_too(k: &[u16], table: &[u16; TABLE], v: View) -> bool
     requires { table.now ≡ afresh k.now }
-    ensures { Asks (λ K l r. not (loneRun (look_of r)) || inConj (hv (runOf (look_of r))) K) k.now v result }
+    ensures { Asks (λ K l r. not (lone_run (look_of r)) || in_conj (hv (run_of (look_of r))) K) k.now v result }
 {
     let r = v.r;
     let b = r.look;
@@ -226,7 +226,7 @@ fn run_too(k: &[u16], table: &[u16; TABLE], v: View) -> bool
 // E2: p against a hedge without it, and the variables elsewhere too.
 pub fn e2(k: &[u16], table: &[u16; TABLE], v: View) -> bool
     requires { table.now ≡ afresh k.now }
-    ensures { Asks testE2 k.now v result }
+    ensures { Asks test_e2 k.now v result }
 {
     let l = v.l;
     let a = l.look;
@@ -238,7 +238,7 @@ pub fn e2(k: &[u16], table: &[u16; TABLE], v: View) -> bool
 
 // E3: p and more against terms alone, without p.
 pub fn e3(k: &[u16], v: View) -> bool
-    ensures { Asks testE3 k.now v result }
+    ensures { Asks test_e3 k.now v result }
 {
     let l = v.l;
     let a = l.look;
@@ -250,7 +250,7 @@ pub fn e3(k: &[u16], v: View) -> bool
 
 // E4: p and more against terms up to one that holds p.
 pub fn e4(k: &[u16], v: View) -> bool
-    ensures { Asks testE4 k.now v result }
+    ensures { Asks test_e4 k.now v result }
 {
     let l = v.l;
     let a = l.look;
@@ -262,7 +262,7 @@ pub fn e4(k: &[u16], v: View) -> bool
 // The function variable of the left side is in the others, and that of the right side too.
 fn blanks_elsewhere(k: &[u16], table: &[u16; TABLE], v: View) -> bool
     requires { table.now ≡ afresh k.now }
-    ensures { Asks blanksIn k.now v result }
+    ensures { Asks blanks_in k.now v result }
 {
     let l = v.l;
     let r = v.r;
@@ -277,7 +277,7 @@ fn blanks_elsewhere(k: &[u16], table: &[u16; TABLE], v: View) -> bool
 // E5: X() against F(), another functor, and the variables elsewhere too.
 pub fn e5(k: &[u16], table: &[u16; TABLE], v: View) -> bool
     requires { table.now ≡ afresh k.now }
-    ensures { Asks testE5 k.now v result }
+    ensures { Asks test_e5 k.now v result }
 {
     let l = v.l;
     let r = v.r;
@@ -293,7 +293,7 @@ pub fn e5(k: &[u16], table: &[u16; TABLE], v: View) -> bool
 
 // E6: X(..) against F(..), another functor, not both without children.
 pub fn e6(k: &[u16], v: View) -> bool
-    ensures { Asks testE6 k.now v result }
+    ensures { Asks test_e6 k.now v result }
 {
     let l = v.l;
     let r = v.r;
@@ -311,7 +311,7 @@ pub fn e6(k: &[u16], v: View) -> bool
 
 // E7: X(..) against X(..) with other words, where some symbol is unordered.
 pub fn e7(k: &[u16], v: View, signature: Signature) -> bool
-    ensures { Asks (testE7 signature) k.now v result }
+    ensures { Asks (test_e7 signature) k.now v result }
 {
     let l = v.l;
     let r = v.r;

@@ -2,12 +2,12 @@
 ghost use Rattle.std.specs.Prelude.{◌<◌, ◌≡◌, ◌++◌, length};
 ghost use Rattle.language.specs.Kinds.{pick};
 ghost use Rattle.language.specs.Trees.{Hedge, Expr, Literal, eqn, Conj};
-ghost use Rattle.rules.specs.Ranks.{eqnAnswer, memAnswer};
+ghost use Rattle.rules.specs.Ranks.{eqn_answer, mem_answer};
 ghost use Rattle.rules.specs.Solved.{is_some};
 ghost use Rattle.views.specs.Standing.{LiteralAt, SomeLiteral};
 ghost use Rattle.views.specs.Views.{Sees, Shows};
 ghost use Rattle.counts.specs.Tables.{afresh};
-ghost use Rattle.applies.specs.Answers.{answersAt};
+ghost use Rattle.applies.specs.Answers.{answers_at};
 
 mod counted;
 mod equation;
@@ -35,7 +35,7 @@ fn equation_applies(
     signature: Signature,
 ) -> bool
     requires { table.now ≡ afresh k.now }
-    ensures { (before behind : Conj) (l r : Hedge) → Sees k.now v before l r behind → result ≡ is_some (eqnAnswer signature rank (before ++ behind) l r) }
+    ensures { (before behind : Conj) (l r : Hedge) → Sees k.now v before l r behind → result ≡ is_some (eqn_answer signature rank (before ++ behind) l r) }
 {
     match rank {
         AT_R1 => r1(k, v),
@@ -62,7 +62,7 @@ fn equation_applies(
 
 // The rule of that place applies to the membership.
 fn membership_applies(rank: usize, k: &[u16], s: Shape, signature: Signature) -> bool
-    ensures { (before : Conj) (h : Hedge) (R : Expr) (behind : Conj) → Shows k.now s before h R behind → result ≡ is_some (memAnswer signature rank (before ++ behind) h R) }
+    ensures { (before : Conj) (h : Hedge) (R : Expr) (behind : Conj) → Shows k.now s before h R behind → result ≡ is_some (mem_answer signature rank (before ++ behind) h R) }
 {
     match rank {
         AT_R2 => r2(k, s),
@@ -108,7 +108,7 @@ pub fn literal_applies(
     requires at_in_bounds { at < length k.now }
     requires some_literal { SomeLiteral k.now at }
     requires table_value { table.now ≡ afresh k.now }
-    ensures { (before : Conj) (l : Literal) (behind : Conj) → LiteralAt k.now at before l behind → result ≡ answersAt signature rank swap (before ++ behind) l }
+    ensures { (before : Conj) (l : Literal) (behind : Conj) → LiteralAt k.now at before l behind → result ≡ answers_at signature rank swap (before ++ behind) l }
 {
     if k[at] == 5000 {
         return equation_applies(rank, k, table, seen(k, at, swap), signature);

@@ -1,6 +1,6 @@
 // What a test reads off a look, a name and the first word of an expression.
 ghost use Rattle.std.specs.Prelude.{◌≡◌};
-ghost use Rattle.applies.specs.Parts.{is_empty, isTerm, isRun, isLast, is_bare, single as singleTerm, loneVariable, loneRun, loneFunctor, variableOf, runOf, nameIn, isSymbol, symbol_of, blankOf, isBlank, isNamed, same_name, keepsName, formWord, symbolIn};
+ghost use Rattle.applies.specs.Parts.{is_empty, is_term, is_run, is_last, is_bare, single as single_term, lone_variable, lone_run, lone_functor, variable_of, run_of, name_in, is_symbol, symbol_of, blank_of, is_blank, is_named, same_name, keeps_name, form_word, symbol_in};
 
 use language::{
     FunVar, HedgeVar, Kind, Name, Signature, Sym, TermVar, any_unordered, is_unordered,
@@ -21,7 +21,7 @@ pub fn is_empty(look: Look) -> bool
 
 // It begins with a term.
 pub fn is_term(look: Look) -> bool
-    ensures { result ≡ isTerm look }
+    ensures { result ≡ is_term look }
 {
     match look {
         Look::Empty => false,
@@ -33,7 +33,7 @@ pub fn is_term(look: Look) -> bool
 
 // It begins with a hedge variable.
 pub fn is_run(look: Look) -> bool
-    ensures { result ≡ isRun look }
+    ensures { result ≡ is_run look }
 {
     match look {
         Look::Empty => false,
@@ -45,7 +45,7 @@ pub fn is_run(look: Look) -> bool
 
 // Nothing follows the first element.
 pub fn is_last(look: Look) -> bool
-    ensures { result ≡ isLast look }
+    ensures { result ≡ is_last look }
 {
     match look {
         Look::Empty => true,
@@ -69,7 +69,7 @@ pub fn is_bare(look: Look) -> bool
 
 // One term.
 pub fn single(look: Look) -> bool
-    ensures { result ≡ singleTerm look }
+    ensures { result ≡ single_term look }
 {
     match look {
         Look::Empty => false,
@@ -81,7 +81,7 @@ pub fn single(look: Look) -> bool
 
 // One term variable.
 pub fn lone_variable(look: Look) -> bool
-    ensures { result ≡ loneVariable look }
+    ensures { result ≡ lone_variable look }
 {
     match look {
         Look::Empty => false,
@@ -93,7 +93,7 @@ pub fn lone_variable(look: Look) -> bool
 
 // One hedge variable.
 pub fn lone_run(look: Look) -> bool
-    ensures { result ≡ loneRun look }
+    ensures { result ≡ lone_run look }
 {
     match look {
         Look::Empty => false,
@@ -105,7 +105,7 @@ pub fn lone_run(look: Look) -> bool
 
 // One F(H).
 pub fn lone_functor(look: Look) -> bool
-    ensures { result ≡ loneFunctor look }
+    ensures { result ≡ lone_functor look }
 {
     match look {
         Look::Empty => false,
@@ -117,7 +117,7 @@ pub fn lone_functor(look: Look) -> bool
 
 // The term variable that it begins with.
 pub fn variable_of(look: Look) -> TermVar
-    ensures { result ≡ variableOf look }
+    ensures { result ≡ variable_of look }
 {
     match look {
         Look::Empty => TermVar(0),
@@ -129,7 +129,7 @@ pub fn variable_of(look: Look) -> TermVar
 
 // The hedge variable that it begins with.
 pub fn run_of(look: Look) -> HedgeVar
-    ensures { result ≡ runOf look }
+    ensures { result ≡ run_of look }
 {
     match look {
         Look::Empty => HedgeVar(0),
@@ -141,7 +141,7 @@ pub fn run_of(look: Look) -> HedgeVar
 
 // The name that it begins with.
 pub fn name_in(look: Look) -> Name
-    ensures { result ≡ nameIn look }
+    ensures { result ≡ name_in look }
 {
     match look {
         Look::Empty => Name::Symbol(Sym(0)),
@@ -153,7 +153,7 @@ pub fn name_in(look: Look) -> Name
 
 // The name is a symbol.
 pub fn is_symbol(name: Name) -> bool
-    ensures { result ≡ isSymbol name }
+    ensures { result ≡ is_symbol name }
 {
     match name {
         Name::Symbol(_) => true,
@@ -173,7 +173,7 @@ pub fn symbol_of(name: Name) -> Sym
 
 // The function variable.
 pub fn blank_of(name: Name) -> FunVar
-    ensures { result ≡ blankOf name }
+    ensures { result ≡ blank_of name }
 {
     match name {
         Name::Symbol(_) => FunVar(0),
@@ -183,7 +183,7 @@ pub fn blank_of(name: Name) -> FunVar
 
 // The name is that function variable.
 pub fn is_blank(x: FunVar, name: Name) -> bool
-    ensures { result ≡ isBlank x name }
+    ensures { result ≡ is_blank x name }
 {
     match name {
         Name::Symbol(_) => false,
@@ -193,7 +193,7 @@ pub fn is_blank(x: FunVar, name: Name) -> bool
 
 // And that symbol.
 fn is_named(f: Sym, name: Name) -> bool
-    ensures { result ≡ isNamed f name }
+    ensures { result ≡ is_named f name }
 {
     match name {
         Name::Symbol(g) => f.0 == g.0,
@@ -213,7 +213,7 @@ pub fn same_name(a: Name, b: Name) -> bool
 
 // Its children stay in order.
 pub fn keeps_order(signature: Signature, name: Name) -> bool
-    ensures { result ≡ keepsName signature name }
+    ensures { result ≡ keeps_name signature name }
 {
     match name {
         Name::Symbol(f) => {
@@ -229,7 +229,7 @@ pub fn keeps_order(signature: Signature, name: Name) -> bool
 
 // The word that an expression begins with, and the first of the symbols' for any of them; 0 for a word that begins none.
 pub fn form_word(first: Kind) -> usize
-    ensures { result ≡ formWord first }
+    ensures { result ≡ form_word first }
 {
     match first {
         Kind::Eps => 7000,
@@ -243,7 +243,7 @@ pub fn form_word(first: Kind) -> usize
 
 // The symbol that an expression begins with.
 pub fn symbol_in(first: Kind) -> Sym
-    ensures { result ≡ symbolIn first }
+    ensures { result ≡ symbol_in first }
 {
     match first {
         Kind::Symbol(g) => g,

@@ -1,7 +1,7 @@
 // Whether a rule of memberships applies: a test for each, over what the search looks at.
 ghost use Rattle.std.specs.Prelude.{◌≡◌};
-ghost use Rattle.applies.specs.Parts.{formWord, symbolIn};
-ghost use Rattle.applies.specs.Tests.{AsksIn, singleIn, testR2, testF5, testF6, testF7, testM1, testM2, testM3, testM7, testM10, testM11, testM12};
+ghost use Rattle.applies.specs.Parts.{form_word, symbol_in};
+ghost use Rattle.applies.specs.Tests.{AsksIn, single_in, test_r2, test_f5, test_f6, test_f7, test_m1, test_m2, test_m3, test_m7, test_m10, test_m11, test_m12};
 
 use crate::equation::child_terms;
 use crate::looks::{
@@ -16,7 +16,7 @@ use views::Shape;
 
 // What the expression begins with.
 fn form_of(s: Shape) -> usize
-    ensures { result ≡ formWord s.first }
+    ensures { result ≡ form_word s.first }
 {
     let first = s.first;
     form_word(first)
@@ -24,7 +24,7 @@ fn form_of(s: Shape) -> usize
 
 // The symbol that it begins with.
 fn symbol_at(s: Shape) -> Sym
-    ensures { result ≡ symbolIn s.first }
+    ensures { result ≡ symbol_in s.first }
 {
     let first = s.first;
     symbol_in(first)
@@ -32,7 +32,7 @@ fn symbol_at(s: Shape) -> Sym
 
 // R2: nothing, in an expression that has the empty hedge.
 pub fn r2(k: &[u16], s: Shape) -> bool
-    ensures { AsksIn testR2 k.now s result }
+    ensures { AsksIn test_r2 k.now s result }
 {
     let h = s.h;
     let a = h.look;
@@ -42,7 +42,7 @@ pub fn r2(k: &[u16], s: Shape) -> bool
 
 // F5: f(H) in g(R), another symbol.
 pub fn f5(k: &[u16], s: Shape) -> bool
-    ensures { AsksIn testF5 k.now s result }
+    ensures { AsksIn test_f5 k.now s result }
 {
     let h = s.h;
     let a = h.look;
@@ -55,7 +55,7 @@ pub fn f5(k: &[u16], s: Shape) -> bool
 
 // F6: nothing, in an expression without the empty hedge.
 pub fn f6(k: &[u16], s: Shape) -> bool
-    ensures { AsksIn testF6 k.now s result }
+    ensures { AsksIn test_f6 k.now s result }
 {
     let h = s.h;
     let a = h.look;
@@ -66,7 +66,7 @@ pub fn f6(k: &[u16], s: Shape) -> bool
 
 // F7: a hedge that has a term, in eps.
 pub fn f7(k: &[u16], s: Shape) -> bool
-    ensures { AsksIn testF7 k.now s result }
+    ensures { AsksIn test_f7 k.now s result }
 {
     let terms = has_term(k, s.h.from);
     and(terms, form_of(s) == 7000)
@@ -74,7 +74,7 @@ pub fn f7(k: &[u16], s: Shape) -> bool
 
 // M1: hedge variables alone, in eps.
 pub fn m1(k: &[u16], s: Shape) -> bool
-    ensures { AsksIn testM1 k.now s result }
+    ensures { AsksIn test_m1 k.now s result }
 {
     let h = s.h;
     let a = h.look;
@@ -85,7 +85,7 @@ pub fn m1(k: &[u16], s: Shape) -> bool
 
 // M2: a term and more, in what is not eps.
 pub fn m2(k: &[u16], s: Shape) -> bool
-    ensures { AsksIn testM2 k.now s result }
+    ensures { AsksIn test_m2 k.now s result }
 {
     let h = s.h;
     let a = h.look;
@@ -95,7 +95,7 @@ pub fn m2(k: &[u16], s: Shape) -> bool
 
 // M3: p and more, in g(R).
 pub fn m3(k: &[u16], s: Shape) -> bool
-    ensures { AsksIn testM3 k.now s result }
+    ensures { AsksIn test_m3 k.now s result }
 {
     let h = s.h;
     let a = h.look;
@@ -105,7 +105,7 @@ pub fn m3(k: &[u16], s: Shape) -> bool
 
 // M4, M5, M6: one term in an expression that begins with the word x.
 pub fn single_in(k: &[u16], s: Shape, x: usize) -> bool
-    ensures { AsksIn (singleIn x) k.now s result }
+    ensures { AsksIn (single_in x) k.now s result }
 {
     let h = s.h;
     let a = h.look;
@@ -114,7 +114,7 @@ pub fn single_in(k: &[u16], s: Shape, x: usize) -> bool
 
 // M7: a hedge that begins with p, in a choice.
 pub fn m7(k: &[u16], s: Shape) -> bool
-    ensures { AsksIn testM7 k.now s result }
+    ensures { AsksIn test_m7 k.now s result }
 {
     let h = s.h;
     let a = h.look;
@@ -123,7 +123,7 @@ pub fn m7(k: &[u16], s: Shape) -> bool
 
 // M10: X(H) in g(R).
 pub fn m10(k: &[u16], s: Shape) -> bool
-    ensures { AsksIn testM10 k.now s result }
+    ensures { AsksIn test_m10 k.now s result }
 {
     let h = s.h;
     let a = h.look;
@@ -133,7 +133,7 @@ pub fn m10(k: &[u16], s: Shape) -> bool
 
 // M11: f(H) in f(R), f ordered.
 pub fn m11(k: &[u16], s: Shape, signature: Signature) -> bool
-    ensures { AsksIn (testM11 signature) k.now s result }
+    ensures { AsksIn (test_m11 signature) k.now s result }
 {
     let h = s.h;
     let a = h.look;
@@ -147,7 +147,7 @@ pub fn m11(k: &[u16], s: Shape, signature: Signature) -> bool
 
 // M12: f(T) in f(R), f unordered.
 pub fn m12(k: &[u16], s: Shape, signature: Signature) -> bool
-    ensures { AsksIn (testM12 signature) k.now s result }
+    ensures { AsksIn (test_m12 signature) k.now s result }
 {
     let h = s.h;
     let a = h.look;

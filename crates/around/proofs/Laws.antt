@@ -19,40 +19,40 @@ use Rattle.outcomes.specs.declared.Outcome.{Outcome}
 use Rattle.outcomes.specs.declared.Solved.{Solved}
 use Rattle.around.specs.declared.Ran.{Ran}
 use Rattle.around.specs.declared.Ran.TheVariants.{Done, Stopped}
-use Rattle.around.specs.Told.{verdictFor, refusedBy, toldBy}
+use Rattle.around.specs.Told.{verdict_for, refused_by, told_by}
 use Rattle.around.specs.Ready.{readied}
 use Rattle.around.specs.Rooms.{Settles}
 
 -- ---- before
 
 module _ (work answer : ℕ) (a : Asked) where
-  abbrev checkedBy : Bool → Bool → Checked
-  checkedBy x y = elim x [ true ↦ Refused ShortSlice | false ↦ elim y [ true ↦ Refused ShortSlice | false ↦ checked a ] ]
+  abbrev checked_by : Bool → Bool → Checked
+  checked_by x y = elim x [ true ↦ Refused ShortSlice | false ↦ elim y [ true ↦ Refused ShortSlice | false ↦ checked a ] ]
 
   pub short-work : work < desk.room → Refused ShortSlice ≡ readied work answer a
   unfolding readied
-  short-work h = sym (ap (λ x. checkedBy x (ltb answer desk.room)) (lt-ltb work desk.room h))
+  short-work h = sym (ap (λ x. checked_by x (ltb answer desk.room)) (lt-ltb work desk.room h))
 
   pub short-answer : desk.room ≤ work → answer < desk.room → Refused ShortSlice ≡ readied work answer a
   unfolding readied
-  short-answer h i = sym (ap (λ x. checkedBy x (ltb answer desk.room)) (le-ltb work desk.room h) ∙ ap (λ y. checkedBy false y) (lt-ltb answer desk.room i))
+  short-answer h i = sym (ap (λ x. checked_by x (ltb answer desk.room)) (le-ltb work desk.room h) ∙ ap (λ y. checked_by false y) (lt-ltb answer desk.room i))
 
   pub both_long : desk.room ≤ work → desk.room ≤ answer → checked a ≡ readied work answer a
   unfolding readied
-  both_long h i = sym (ap (λ x. checkedBy x (ltb answer desk.room)) (le-ltb work desk.room h) ∙ ap (λ y. checkedBy false y) (le-ltb answer desk.room i))
+  both_long h i = sym (ap (λ x. checked_by x (ltb answer desk.room)) (le-ltb work desk.room h) ∙ ap (λ y. checked_by false y) (le-ltb answer desk.room i))
 
 -- ---- what is told
 
 module _ (r : Ran) (answer : List ℕ) where
-  pub told-done : (n : ℕ) (t : Tally) (o : Outcome) → r ≡ Done n t → o ≡ verdictFor t.lines t.«open»
-      → (record { outcome = o; lines = t.lines; «open» = t.«open»; steps = n }, answer) ≡ toldBy r answer
-  unfolding toldBy
+  pub told-done : (n : ℕ) (t : Tally) (o : Outcome) → r ≡ Done n t → o ≡ verdict_for t.lines t.«open»
+      → (record { outcome = o; lines = t.lines; «open» = t.«open»; steps = n }, answer) ≡ told_by r answer
+  unfolding told_by
   told-done n t o er eo =
-      ap (λ o. (record { outcome = o; lines = t.lines; «open» = t.«open»; steps = n }, answer)) eo ∙ sym (ap (λ r. toldBy r answer) er)
+      ap (λ o. (record { outcome = o; lines = t.lines; «open» = t.«open»; steps = n }, answer)) eo ∙ sym (ap (λ r. told_by r answer) er)
 
-  pub told-stopped : (x : Refusal) (wiped : List ℕ) (s : Solved) → r ≡ Stopped x → wiped ≡ overwritten desk (zeros desk) answer → s ≡ refusedBy x → (s, wiped) ≡ toldBy r answer
-  unfolding toldBy
-  told-stopped x wiped s er ew es = ap (λ s. (s, wiped)) es ∙ ap (λ w. (refusedBy x, w)) ew ∙ sym (ap (λ r. toldBy r answer) er)
+  pub told-stopped : (x : Refusal) (wiped : List ℕ) (s : Solved) → r ≡ Stopped x → wiped ≡ overwritten desk (zeros desk) answer → s ≡ refused_by x → (s, wiped) ≡ told_by r answer
+  unfolding told_by
+  told-stopped x wiped s er ew es = ap (λ s. (s, wiped)) es ∙ ap (λ w. (refused_by x, w)) ew ∙ sym (ap (λ r. told_by r answer) er)
 
 -- ---- the room of a trail
 

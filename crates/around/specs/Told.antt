@@ -11,13 +11,13 @@ use Rattle.around.specs.declared.Ran.{Ran}
 use Rattle.around.specs.declared.Ran.TheVariants.{Done, Stopped}
 
 -- the verdict on so many lines, of which so many are open
-abbrev pub verdictFor : ℕ → ℕ → Outcome
-verdictFor lines opens = pick (eqb lines 0) NoLine (pick (ltb 0 opens) SomeOpen AllSolved)
+abbrev pub verdict_for : ℕ → ℕ → Outcome
+verdict_for lines opens = pick (eqb lines 0) NoLine (pick (ltb 0 opens) SomeOpen AllSolved)
 
-abbrev pub refusedBy : Refusal → Solved
-refusedBy r = record { outcome = Refused r; lines = 0; «open» = 0; steps = 0 }
+abbrev pub refused_by : Refusal → Solved
+refused_by r = record { outcome = Refused r; lines = 0; «open» = 0; steps = 0 }
 
 -- what comes back, and the answer slice: after a refusal it is cleared
-unfoldable pub toldBy : Ran → List ℕ → Solved × List ℕ
-toldBy (Done n t) answer = (record { outcome = verdictFor t.lines t.«open»; lines = t.lines; «open» = t.«open»; steps = n }, answer)
-toldBy (Stopped e) answer = (refusedBy e, overwritten desk (zeros desk) answer)
+unfoldable pub told_by : Ran → List ℕ → Solved × List ℕ
+told_by (Done n t) answer = (record { outcome = verdict_for t.lines t.«open»; lines = t.lines; «open» = t.«open»; steps = n }, answer)
+told_by (Stopped e) answer = (refused_by e, overwritten desk (zeros desk) answer)

@@ -1,8 +1,8 @@
 // What comes before a run and after it.
 ghost use Rattle.std.specs.Prelude.{◌≤◌, ◌≡◌, length, replicate};
 ghost use Rattle.language.specs.Limits.{desk};
-ghost use Rattle.language.specs.Question.{readQuestion};
-ghost use Rattle.around.specs.Told.{refusedBy, verdictFor, toldBy};
+ghost use Rattle.language.specs.Question.{read_question};
+ghost use Rattle.around.specs.Told.{refused_by, verdict_for, told_by};
 ghost use Rattle.around.specs.Ready.{readied};
 ghost use Rattle.around.specs.Rooms.{Settles};
 
@@ -22,7 +22,7 @@ pub enum Ran {
 
 // A refusal reports 0 for all three.
 pub fn refused(r: Refusal) -> Solved
-    ensures { result ≡ refusedBy r }
+    ensures { result ≡ refused_by r }
 {
     Solved {
         outcome: Outcome::Refused(r),
@@ -34,7 +34,7 @@ pub fn refused(r: Refusal) -> Solved
 
 // None, all solved, some open.
 fn verdict_of(t: Tally) -> Outcome
-    ensures { result ≡ verdictFor t.lines t.«open» }
+    ensures { result ≡ verdict_for t.lines t.«open» }
 {
     if t.lines == 0 {
         return Outcome::NoLine;
@@ -48,7 +48,7 @@ fn verdict_of(t: Tally) -> Outcome
 // What a run that came to this is told as. After a refusal the answer slice is cleared.
 pub fn tell(ran: Ran, answer: &mut [u16]) -> Solved
     requires { desk.room ≤ length answer.old }
-    ensures { (result, answer.new) ≡ toldBy ran answer.old }
+    ensures { (result, answer.new) ≡ told_by ran answer.old }
 {
     match ran {
         Ran::Done(steps, t) => {
@@ -69,7 +69,7 @@ pub fn tell(ran: Ran, answer: &mut [u16]) -> Solved
 
 // Whether a run can begin, with slices of so many words.
 pub fn ready(question: &[u16], work: usize, answer: usize) -> Checked
-    ensures { result ≡ readied work answer (readQuestion desk question.now) }
+    ensures { result ≡ readied work answer (read_question desk question.now) }
 {
     if work < ROOM {
         return Checked::Refused(Refusal::ShortSlice);

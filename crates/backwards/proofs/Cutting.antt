@@ -10,17 +10,17 @@ use lib.ListN.{length, take, drop, get_or, length-append}
 use Rattle.language.specs.Kinds.{pick}
 use Rattle.language.specs.Between.{between}
 use Rattle.language.specs.Trees.{symbol, fvar, Expr}
-use Rattle.language.specs.Writing.{exprWords}
+use Rattle.language.specs.Writing.{expr_words}
 use Rattle.language.proofs.Offsets.{between_cons}
-use Rattle.grammar.specs.Tokens.{Token, one, run, functor, equals, comma, opens, closes, plus, times, nameByte, blank, beginsName, Tokens, puts, renamed, nameToken, letter, marked, starOr, byte, tokens}
+use Rattle.grammar.specs.Tokens.{Token, one, run, functor, equals, comma, opens, closes, plus, times, name_byte, blank, begins_name, Tokens, puts, renamed, name_token, letter, marked, star_or, byte, tokens}
 use Rattle.grammar.specs.Grammar.{choice, Means, lines_of, ahead}
-use Rattle.texts.specs.Numbering.{Naming, nameExpr}
-use Rattle.lexing.specs.Bytes.{line, others, nameFrom, nameLength}
+use Rattle.texts.specs.Numbering.{Naming, name_expr}
+use Rattle.lexing.specs.Bytes.{line, others, name_from, name_length}
 use Rattle.lexing.specs.Pieces.{here}
 use Rattle.lexing.proofs.Laws.{line-go, others-go, begins-line, standing, name-read}
-use Rattle.flat.specs.Filling.{operandOn, turns, nothing}
+use Rattle.flat.specs.Filling.{operand_on, turns, nothing}
 use Rattle.flat.proofs.Filling as Filling
-use Rattle.backwards.specs.Backward.{one-if, owedIn, taken, backwards, weight}
+use Rattle.backwards.specs.Backward.{one-if, owed_in, taken, backwards, weight}
 use Rattle.backwards.proofs.Plain.{Plain, plain-part}
 use Rattle.backwards.proofs.Reading.{NoEnd, read_back, all-taken, puts-some}
 use Rattle.backwards.proofs.Weight.{length-operand}
@@ -69,16 +69,16 @@ renamed-joins f (some (times ∷ ts)) (some us) s = refl
 
 letter-joins : (b : ℕ) (n : Bool) (a o : Tokens) → (n ≡ true → Some a) → letter b n (joins a o) ≡ joins (letter b n a) o
 unfolding letter
-letter-joins b true a o s = renamed-joins (λ n. nameToken (b + 256 * n)) a o (s refl)
-letter-joins b false a o s = puts-joins (nameToken b) a o
+letter-joins b true a o s = renamed-joins (λ n. name_token (b + 256 * n)) a o (s refl)
+letter-joins b false a o s = puts-joins (name_token b) a o
 
 marked-joins : (f : ℕ → Token) (n : Bool) (a o : Tokens) → (n ≡ true → Some a) → marked f n (joins a o) ≡ joins (marked f n a) o
 unfolding marked
 marked-joins f true a o s = renamed-joins f a o (s refl)
 marked-joins f false a o s = refl
 
-star-joins : (n : Bool) (a o : Tokens) → (n ≡ true → Some a) → starOr n (joins a o) ≡ joins (starOr n a) o
-unfolding starOr
+star-joins : (n : Bool) (a o : Tokens) → (n ≡ true → Some a) → star_or n (joins a o) ≡ joins (star_or n a) o
+unfolding star_or
 star-joins true a o s = renamed-joins (λ n. run (record { 0 = n })) a o (s refl)
 star-joins false a o s = puts-joins times a o
 
@@ -89,10 +89,10 @@ pick-joins false x y x' y' o e f = f
 byte-joins : (b : ℕ) (n : Bool) (a o : Tokens) → (n ≡ true → Some a) → byte b n (joins a o) ≡ joins (byte b n a) o
 unfolding byte
 byte-joins b n a o s =
-    pick-joins (nameByte b) _ _ (letter b n a) _ o (letter-joins b n a o s)
+    pick-joins (name_byte b) _ _ (letter b n a) _ o (letter-joins b n a o s)
     (pick-joins (blank b) _ _ a _ o refl
     (pick-joins (eqb b 63) _ _ (marked (λ n. one (record { 0 = n })) n a) _ o (marked-joins (λ n. one (record { 0 = n })) n a o s)
-    (pick-joins (eqb b 42) _ _ (starOr n a) _ o (star-joins n a o s)
+    (pick-joins (eqb b 42) _ _ (star_or n a) _ o (star-joins n a o s)
     (pick-joins (eqb b 37) _ _ (marked (λ n. functor (fvar (record { 0 = n }))) n a) _ o (marked-joins (λ n. functor (fvar (record { 0 = n }))) n a o s)
     (pick-joins (eqb b 61) _ _ (puts equals a) _ o (puts-joins equals a o)
     (pick-joins (eqb b 44) _ _ (puts comma a) _ o (puts-joins comma a o)
@@ -119,21 +119,21 @@ some-renamed f (some (closes ∷ ts)) = tt
 some-renamed f (some (plus ∷ ts)) = tt
 some-renamed f (some (times ∷ ts)) = tt
 
-name-some : (bs : List ℕ) → beginsName bs ≡ true → Some (tokens bs)
+name-some : (bs : List ℕ) → begins_name bs ≡ true → Some (tokens bs)
 unfolding tokens byte letter
 name-some [] e = absurd (let z : ◌≡◌ {A = ℕ} 0 1 = cc in omega arith)
-name-some (b ∷ bs) e = on (beginsName bs)
+name-some (b ∷ bs) e = on (begins_name bs)
   where
     on : (n : Bool) → Some (byte b n (tokens bs))
-    on true = rw e (some-renamed (λ n. nameToken (b + 256 * n)) (tokens bs))
-    on false = rw e (some-puts (nameToken b) (tokens bs))
+    on true = rw e (some-renamed (λ n. name_token (b + 256 * n)) (tokens bs))
+    on false = rw e (some-puts (name_token b) (tokens bs))
 
-begins-++ : (p r : List ℕ) → beginsName r ≡ false → beginsName (p ++ r) ≡ beginsName p
+begins-++ : (p r : List ℕ) → begins_name r ≡ false → begins_name (p ++ r) ≡ begins_name p
 begins-++ [] r e = e
 begins-++ (b ∷ p) r e = refl
 
 -- The tokens of some bytes and of those behind them, where no name goes on.
-pub tokens-++ : (p r : List ℕ) → beginsName r ≡ false → tokens (p ++ r) ≡ joins (tokens p) (tokens r)
+pub tokens-++ : (p r : List ℕ) → begins_name r ≡ false → tokens (p ++ r) ≡ joins (tokens p) (tokens r)
 unfolding tokens
 tokens-++ [] r e = alone (tokens r)
   where
@@ -142,7 +142,7 @@ tokens-++ [] r e = alone (tokens r)
     alone (some ts) = refl
 tokens-++ (b ∷ p) r e =
     ap₂ (byte b) (begins-++ p r e) (tokens-++ p r e)
-    ∙ byte-joins b (beginsName p) (tokens p) (tokens r) (name-some p)
+    ∙ byte-joins b (begins_name p) (tokens p) (tokens r) (name-some p)
 
 -- ---- no end of a line between two places
 
@@ -234,18 +234,18 @@ Over (plus ∷ ts) = ⊥
 Over (times ∷ ts) = ⊥
 
 -- where a literal ends, no name begins
-pub no-name-over : (bs : List ℕ) (us : List Token) → tokens (line bs) ≡ some us → Over us → beginsName bs ≡ false
-no-name-over bs us e o = on (beginsName bs) refl
+pub no-name-over : (bs : List ℕ) (us : List Token) → tokens (line bs) ≡ some us → Over us → begins_name bs ≡ false
+no-name-over bs us e o = on (begins_name bs) refl
   where
-    on : (t : Bool) → beginsName bs ≡ t → t ≡ false
-    on true f = let w = puts-some (nameToken (nameFrom bs)) (tokens (line (drop (nameLength bs) bs))) us (sym (name-read bs f) ∙ e) in absurd (subst Over w.2 o)
+    on : (t : Bool) → begins_name bs ≡ t → t ≡ false
+    on true f = let w = puts-some (name_token (name_from bs)) (tokens (line (drop (name_length bs) bs))) us (sym (name-read bs f) ∙ e) in absurd (subst Over w.2 o)
     on false f = refl
 
 -- An expression from one place to another: its words, and as many of them as are written and owed.
 pub record Stands (ρ : Naming) (text : List ℕ) (at to : ℕ) (R : Expr) : Type 0 where
-  pub ends : beginsName (drop to text) ≡ false
-  pub words : operandOn (taken ρ (between at to text) (backwards ρ (between at to text) nothing)) ≡ exprWords (nameExpr ρ R)
-  pub heavy : weight (taken ρ (between at to text) (backwards ρ (between at to text) nothing)) ≡ length (exprWords (nameExpr ρ R))
+  pub ends : begins_name (drop to text) ≡ false
+  pub words : operand_on (taken ρ (between at to text) (backwards ρ (between at to text) nothing)) ≡ expr_words (name_expr ρ R)
+  pub heavy : weight (taken ρ (between at to text) (backwards ρ (between at to text) nothing)) ≡ length (expr_words (name_expr ρ R))
 
 pub stands : (ρ : Naming) (text : List ℕ) (at to : ℕ) → at ≤ to → to ≤ length text → others (drop at text) ≡ others (drop to text)
     → {R : Expr} {ts us : List Token} → here text at ≡ some ts → here text to ≡ some us → Means choice R ts us → Over us → Stands ρ text at to R
@@ -263,16 +263,16 @@ stands ρ text at to low high same {R} {ts} {us} e d m o =
     let r = read_back ρ nothing q ps n (ap tokens (line-none q n) ∙ t) p in
     let f = all-taken ρ nothing q ps r in
     let k = w.2 nothing refl refl refl tt in
-    let z = k.0 ∙ nothing-behind (exprWords (nameExpr ρ R)) in
+    let z = k.0 ∙ nothing-behind (expr_words (name_expr ρ R)) in
     let g = turns ρ ps nothing in
     let lo = length-operand g in
     let lz = ap length z in
     let it = ap one-if k.1.0 in
-    let ow = ap owedIn k.1.2 in
+    let ow = ap owed_in k.1.2 in
     record {
       ends = b;
-      words = ap operandOn f ∙ z;
-      heavy = ap weight f ∙ (let y : length g.words + (g.stars + one-if g.operand + one-if g.item) + owedIn g.owed ≡ length (exprWords (nameExpr ρ R)) = omega arith in y);
+      words = ap operand_on f ∙ z;
+      heavy = ap weight f ∙ (let y : length g.words + (g.stars + one-if g.operand + one-if g.item) + owed_in g.owed ≡ length (expr_words (name_expr ρ R)) = omega arith in y);
     }
   where
     nothing-behind : (l : List ℕ) → l ++ [] ≡ l

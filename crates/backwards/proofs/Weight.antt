@@ -10,10 +10,10 @@ use Rattle.language.specs.Kinds.{pick}
 use Rattle.language.specs.Trees.{symbol, fvar}
 use Rattle.grammar.specs.Tokens.{Token, one, run, functor, equals, comma, opens, closes, plus, times}
 use Rattle.texts.specs.Numbering.{Naming}
-use Rattle.flat.specs.Filling.{Frame, Filled, starsOn, operandOn, itemOn, owes, enclosed, released, turn, turns, nothing}
-use Rattle.backwards.specs.Backward.{one-if, owedIn, weight}
+use Rattle.flat.specs.Filling.{Frame, Filled, stars_on, operand_on, item_on, owes, enclosed, released, turn, turns, nothing}
+use Rattle.backwards.specs.Backward.{one-if, owed_in, weight}
 
-pub length-stars : (n : ℕ) (ws : List ℕ) → length (starsOn n ws) ≡ n + length ws
+pub length-stars : (n : ℕ) (ws : List ℕ) → length (stars_on n ws) ≡ n + length ws
 length-stars zero ws = omega arith
 length-stars (suc n) ws = let i = length-stars n (7003 ∷ ws) in omega arith
 
@@ -21,28 +21,28 @@ pub length-if : (b : Bool) (w : ℕ) (ws : List ℕ) → length (pick b (w ∷ w
 length-if true w ws = omega arith
 length-if false w ws = omega arith
 
-pub length-operand : (f : Filled) → length (operandOn f) ≡ length f.words + (f.stars + one-if f.operand)
-length-operand f = let a = length-if f.operand 7002 (starsOn f.stars f.words) in let b = length-stars f.stars f.words in omega arith
+pub length-operand : (f : Filled) → length (operand_on f) ≡ length f.words + (f.stars + one-if f.operand)
+length-operand f = let a = length-if f.operand 7002 (stars_on f.stars f.words) in let b = length-stars f.stars f.words in omega arith
 
-pub length-item : (f : Filled) → length (itemOn f) ≡ length f.words + (f.stars + one-if f.operand + one-if f.item)
-length-item f = let a = length-if f.item 7001 (operandOn f) in let b = length-operand f in omega arith
+pub length-item : (f : Filled) → length (item_on f) ≡ length f.words + (f.stars + one-if f.operand + one-if f.item)
+length-item f = let a = length-if f.item 7001 (operand_on f) in let b = length-operand f in omega arith
 
 -- behind a bracket that closes nothing is owed yet
 abbrev pub Tidy : Filled → Type 0
 Tidy f = f.bare ≡ true → f.stars + one-if f.operand + one-if f.item ≡ 0
 
-enclosed-weight : (s : ℕ) (o i : Bool) (d : ℕ) (gs : List Frame) → s + one-if o + one-if i + owedIn gs ≡ owedIn (pick (owes s o i) (record { depth = d; stars = s; operand = o; item = i } ∷ gs) gs)
+enclosed-weight : (s : ℕ) (o i : Bool) (d : ℕ) (gs : List Frame) → s + one-if o + one-if i + owed_in gs ≡ owed_in (pick (owes s o i) (record { depth = d; stars = s; operand = o; item = i } ∷ gs) gs)
 enclosed-weight (suc s) o i d gs = refl
 enclosed-weight zero true i d gs = refl
 enclosed-weight zero false true d gs = refl
 enclosed-weight zero false false d gs = omega arith
 
-pub released-weight : (ws : List ℕ) (d : ℕ) (gs : List Frame) → weight (released ws d gs) ≡ length ws + owedIn gs
+pub released-weight : (ws : List ℕ) (d : ℕ) (gs : List Frame) → weight (released ws d gs) ≡ length ws + owed_in gs
 unfolding weight
 released-weight ws d [] = omega arith
 released-weight ws d (g ∷ gs) = on (eqb g.depth d) refl
   where
-    on : (b : Bool) → eqb g.depth d ≡ b → weight (released ws d (g ∷ gs)) ≡ length ws + (g.stars + one-if g.operand + one-if g.item + owedIn gs)
+    on : (b : Bool) → eqb g.depth d ≡ b → weight (released ws d (g ∷ gs)) ≡ length ws + (g.stars + one-if g.operand + one-if g.item + owed_in gs)
     on true e = rw e (omega arith)
     on false e = rw e (omega arith)
 
@@ -64,7 +64,7 @@ abbrev pub Heavy : List Frame → Type 0
 Heavy [] = Unit {0}
 Heavy (g ∷ gs) = (1 ≤ g.stars + one-if g.operand + one-if g.item) × Heavy gs
 
-pub few-frames : (gs : List Frame) → Heavy gs → length gs ≤ owedIn gs
+pub few-frames : (gs : List Frame) → Heavy gs → length gs ≤ owed_in gs
 few-frames [] h = omega arith
 few-frames (g ∷ gs) h = let i = few-frames gs h.1 in let a = h.0 in omega arith
 
@@ -93,9 +93,9 @@ module _ (ρ : Naming) where
   heavier comma f y = let l = length-item f in omega arith
   heavier opens f y = on f.bare refl
     where
-      on : (b : Bool) → f.bare ≡ b → weight f ≤ weight (released (pick b (7000 ∷ f.words) (itemOn f)) (f.depth - 1) f.owed)
+      on : (b : Bool) → f.bare ≡ b → weight f ≤ weight (released (pick b (7000 ∷ f.words) (item_on f)) (f.depth - 1) f.owed)
       on true e = let l = released-weight (7000 ∷ f.words) (f.depth - 1) f.owed in let z = y e in omega arith
-      on false e = let l = released-weight (itemOn f) (f.depth - 1) f.owed in let z = length-item f in omega arith
+      on false e = let l = released-weight (item_on f) (f.depth - 1) f.owed in let z = length-item f in omega arith
   heavier closes f y = let l = enclosed-weight f.stars f.operand f.item f.depth f.owed in omega arith
   heavier plus f y = let l = length-operand f in omega arith
   heavier times f y = omega arith
@@ -108,7 +108,7 @@ module _ (ρ : Naming) where
   tidy (functor (fvar X)) f y = y
   tidy equals f y = y
   tidy comma f y = λ e. absurd (let z : ◌≡◌ {A = ℕ} 0 1 = cc in omega arith)
-  tidy opens f y = λ e. absurd (let n = released-bare (pick f.bare (7000 ∷ f.words) (itemOn f)) (f.depth - 1) f.owed in let z : ◌≡◌ {A = ℕ} 0 1 = cc in omega arith)
+  tidy opens f y = λ e. absurd (let n = released-bare (pick f.bare (7000 ∷ f.words) (item_on f)) (f.depth - 1) f.owed in let z : ◌≡◌ {A = ℕ} 0 1 = cc in omega arith)
   tidy closes f y = λ e. refl
   tidy plus f y = λ e. absurd (let z : ◌≡◌ {A = ℕ} 0 1 = cc in omega arith)
   tidy times f y = λ e. absurd (let z : ◌≡◌ {A = ℕ} 0 1 = cc in omega arith)
@@ -130,7 +130,7 @@ module _ (ρ : Naming) where
   heavy (functor (fvar X)) f h = h
   heavy equals f h = h
   heavy comma f h = h
-  heavy opens f h = heavy-out (pick f.bare (7000 ∷ f.words) (itemOn f)) (f.depth - 1) f.owed h
+  heavy opens f h = heavy-out (pick f.bare (7000 ∷ f.words) (item_on f)) (f.depth - 1) f.owed h
   heavy closes f h = heavy-in f.stars f.operand f.item f.depth f.owed h
   heavy plus f h = h
   heavy times f h = h

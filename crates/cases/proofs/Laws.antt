@@ -7,28 +7,28 @@ use native.Mathlib.Omega.{arith}
 use lib.ListN.{length, get_or, drop, length-drop, drop_of_length-le}
 use lib.Seq.{drop-cons}
 use borrow.Author.Tests.{eq-eqb, ne_eqb}
-use Rattle.cases.specs.Lines.{fromLineEnd, Ends}
+use Rattle.cases.specs.Lines.{from_line_end, Ends}
 
 module _ (text : List ℕ) (at : ℕ) where
   pub record Along (i : ℕ) : Type 0 where
     pub on : at ≤ i
-    pub same : fromLineEnd (drop i text) ≡ fromLineEnd (drop at text)
+    pub same : from_line_end (drop i text) ≡ from_line_end (drop at text)
 
   pub starts : Along at
   starts = record { on = omega arith; same = refl }
 
   module _ {i : ℕ} (a : Along i) where
     pub passes : i < length text → (get_or text i 0 ≡ 10 → ⊥) → Along (i + 1)
-    unfolding fromLineEnd
+    unfolding from_line_end
     passes p n = record {
       on = let z = a.on in omega arith;
-      same = ap (λ k. fromLineEnd (drop k text)) (add-one i) ∙ sym (ap fromLineEnd (drop-cons text i 0 p) ∙ rw (ne_eqb (get_or text i 0) 10 n)) ∙ a.same;
+      same = ap (λ k. from_line_end (drop k text)) (add-one i) ∙ sym (ap from_line_end (drop-cons text i 0 p) ∙ rw (ne_eqb (get_or text i 0) 10 n)) ∙ a.same;
     }
 
     pub ends-here : i < length text → get_or text i 0 ≡ 10 → Ends text at i
-    unfolding fromLineEnd
+    unfolding from_line_end
     ends-here p e =
-        let here : fromLineEnd (drop i text) ≡ drop i text = ap fromLineEnd (drop-cons text i 0 p) ∙ (rw (eq-eqb (get_or text i 0) 10 e)) ∙ sym (drop-cons text i 0 p) in
+        let here : from_line_end (drop i text) ≡ drop i text = ap from_line_end (drop-cons text i 0 p) ∙ (rw (eq-eqb (get_or text i 0) 10 e)) ∙ sym (drop-cons text i 0 p) in
         record {
           place = let z = ap length (sym a.same ∙ here) ∙ length-drop i text in omega (arith, z);
           inside = omega arith;
@@ -36,9 +36,9 @@ module _ (text : List ℕ) (at : ℕ) where
         }
 
     pub ends_last : length text ≤ i → Ends text at (length text)
-    unfolding fromLineEnd
+    unfolding from_line_end
     ends_last p =
-        let none : fromLineEnd (drop i text) ≡ [] = ap fromLineEnd (drop_of_length-le text p) in
+        let none : from_line_end (drop i text) ≡ [] = ap from_line_end (drop_of_length-le text p) in
         record {
           place = let z = ap length (sym a.same ∙ none) in omega (arith, z);
           inside = omega arith;

@@ -8,14 +8,14 @@ use lib.ListN.{length, get_or, set, length-set}
 use borrow.Author.Tests.{eqb-true, eqb-false}
 use Rattle.language.specs.Kinds.{pick}
 use Rattle.language.specs.Limits.{desk}
-use Rattle.language.specs.Fine.{fineExpr}
+use Rattle.language.specs.Fine.{fine_expr}
 use Rattle.language.specs.Trees.{Expr, cat}
-use Rattle.language.specs.Writing.{exprWords}
+use Rattle.language.specs.Writing.{expr_words}
 use Rattle.rules.specs.Expressions.{nullable}
 use Rattle.expressions.specs.declared.Part.{Part}
 use Rattle.expressions.specs.Standing.{Here, Parted}
 use Rattle.expressions.proofs.Standing.{second-of, by-eps, by-cat, by-alt, by-star, by_over, past_end, is-alt}
-use Rattle.walk.specs.Spots.{inLeft, inRight, inFirst, inSecond, firsts}
+use Rattle.walk.specs.Spots.{in_left, in_right, in_first, in_second, firsts}
 use Rattle.clash.specs.Marks.{places_of, marked, Begun}
 use Rattle.clash.proofs.Marking.{marked-++, places-++, places-left, places-right, places-first, places-second, places-star}
 
@@ -37,14 +37,14 @@ open-cat false c e t = absurd (subst T (sym e ∙ t) tt)
 -- the places of what a concatenation begins with
 only-left : (at : ℕ) (A B : Expr) → nullable A ≡ false → places_of at (firsts (cat A B)) ≡ places_of (at + 1) (firsts A)
 only-left at A B n =
-    places-++ at (map (λ p. inLeft p B) (firsts A)) (pick (nullable A) (map (inRight A) (firsts B)) [])
-    ∙ ap₂ ◌++◌ (places-left at (firsts A) B) (ap (λ b. places_of at (pick b (map (inRight A) (firsts B)) [])) n)
+    places-++ at (map (λ p. in_left p B) (firsts A)) (pick (nullable A) (map (in_right A) (firsts B)) [])
+    ∙ ap₂ ◌++◌ (places-left at (firsts A) B) (ap (λ b. places_of at (pick b (map (in_right A) (firsts B)) [])) n)
     ∙ append-nil (places_of (at + 1) (firsts A))
 
-left-right : (at : ℕ) (A B : Expr) → nullable A ≡ true → places_of at (firsts (cat A B)) ≡ places_of (at + 1) (firsts A) ++ places_of (at + 1 + length (exprWords A)) (firsts B)
+left-right : (at : ℕ) (A B : Expr) → nullable A ≡ true → places_of at (firsts (cat A B)) ≡ places_of (at + 1) (firsts A) ++ places_of (at + 1 + length (expr_words A)) (firsts B)
 left-right at A B n =
-    places-++ at (map (λ p. inLeft p B) (firsts A)) (pick (nullable A) (map (inRight A) (firsts B)) [])
-    ∙ ap₂ ◌++◌ (places-left at (firsts A) B) (ap (λ b. places_of at (pick b (map (inRight A) (firsts B)) [])) n ∙ places-right at (firsts B) A)
+    places-++ at (map (λ p. in_left p B) (firsts A)) (pick (nullable A) (map (in_right A) (firsts B)) [])
+    ∙ ap₂ ◌++◌ (places-left at (firsts A) B) (ap (λ b. places_of at (pick b (map (in_right A) (firsts B)) [])) n ∙ places-right at (firsts B) A)
 
 -- the marks of what stands here
 abbrev Marks : ℕ → List Bool → List Bool → Expr → List ℕ → Type 0
@@ -70,7 +70,7 @@ module _ {k : List ℕ} {at : ℕ} {old new : List Bool} where
     pub begun-shut : Begun k (at + 1) old new → pick p.null false (eqb (get_or k at 0) 7001) ≡ true → Begun k at old new
     begun-shut b t = record { long = b.long; each = by-cat (Marks at old new) (shut-cat p.null (get_or k at 0) t).1 here }
       where
-        here : (A B : Expr) (w : List ℕ) → Here k (at + 1) A (exprWords B ++ w) → fineExpr desk B → Marks at old new (cat A B) w
+        here : (A B : Expr) (w : List ℕ) → Here k (at + 1) A (expr_words B ++ w) → fine_expr desk B → Marks at old new (cat A B) w
         here A B w h o =
             let n : nullable A ≡ false = sym (a.each A _ h).null ∙ (shut-cat p.null (get_or k at 0) t).0 in
             b.each A _ h ∙ ap (λ l. marked l old) (sym (only-left at A B n))
@@ -80,14 +80,14 @@ module _ {k : List ℕ} {at : ℕ} {old new : List Bool} where
         → pick p.null false (eqb (get_or k at 0) 7001) ≡ false → Begun k p.end middle new → Begun k at old new
     begun-both {middle} n0 lo n3 b t d = record { long = d.long ∙ b.long; each = λ R w h. go (eqb (get_or k at 0) 7001) refl R w h }
       where
-        both : (A B : Expr) (w : List ℕ) → Here k (at + 1) A (exprWords B ++ w) → fineExpr desk B
-            → new ≡ marked (places_of (at + 1) (firsts A) ++ places_of (at + 1 + length (exprWords A)) (firsts B)) old
+        both : (A B : Expr) (w : List ℕ) → Here k (at + 1) A (expr_words B ++ w) → fine_expr desk B
+            → new ≡ marked (places_of (at + 1) (firsts A) ++ places_of (at + 1 + length (expr_words A)) (firsts B)) old
         both A B w h o =
             let e = (a.each A _ h).end in
             d.each B w (second-of h o e)
             ∙ ap (λ m. marked (places_of m (firsts B)) middle) e
-            ∙ ap (marked (places_of (at + 1 + length (exprWords A)) (firsts B))) (b.each A _ h)
-            ∙ sym (marked-++ (places_of (at + 1) (firsts A)) (places_of (at + 1 + length (exprWords A)) (firsts B)) old)
+            ∙ ap (marked (places_of (at + 1 + length (expr_words A)) (firsts B))) (b.each A _ h)
+            ∙ sym (marked-++ (places_of (at + 1) (firsts A)) (places_of (at + 1 + length (expr_words A)) (firsts B)) old)
 
         go : (c : Bool) → eqb (get_or k at 0) 7001 ≡ c → (R : Expr) (w : List ℕ) → Here k at R w → Marks at old new R w
         go true e R w h = by-cat (Marks at old new) (eqb-true (get_or k at 0) 7001 e) (λ A B w h o.
@@ -96,4 +96,4 @@ module _ {k : List ℕ} {at : ℕ} {old new : List Bool} where
         go false e R w h =
             by-alt (Marks at old new) (is-alt h n0 (eqb-false (get_or k at 0) 7001 e) n3 lo) (λ A B w h o.
             both A B w h o
-            ∙ ap (λ l. marked l old) (sym (places-++ at (map (λ p. inFirst p B) (firsts A)) (map (inSecond A) (firsts B)) ∙ ap₂ ◌++◌ (places-first at (firsts A) B) (places-second at (firsts B) A)))) R w h
+            ∙ ap (λ l. marked l old) (sym (places-++ at (map (λ p. in_first p B) (firsts A)) (map (in_second A) (firsts B)) ∙ ap₂ ◌++◌ (places-first at (firsts A) B) (places-second at (firsts B) A)))) R w h

@@ -9,24 +9,24 @@ use lib.ListN.{length, get_or, set, length-set}
 use lib.Seq.{get_or-set_same, get_or-set_other}
 use native.Mathlib.Decide.{ℕ_discrete}
 use lib.Dec.{T, eqb, eqb→eq, eqb_refl}
-use Rattle.language.specs.Limits.{walkedPairs}
-use Rattle.clash.specs.Chains.{chainOf, chainAt, Chained, IsPair, Apart, Tested, Found, stops}
+use Rattle.language.specs.Limits.{walked_pairs}
+use Rattle.clash.specs.Chains.{chain_of, chain_at, Chained, IsPair, Apart, Tested, Found, stops}
 
-pub chain-lt : (a b : ℕ) → chainOf a b < 4093
-unfolding chainOf
+pub chain-lt : (a b : ℕ) → chain_of a b < 4093
+unfolding chain_of
 chain-lt a b = mod-lt (a * 769 + b) (zero-lt-suc 4092)
 
 pub record Below (left right : List ℕ) (n a b h x : ℕ) : Type 0 where
-  pub chain : h ≡ chainOf a b
+  pub chain : h ≡ chain_of a b
   pub fits : x ≤ n
-  pub kind : (i : ℕ) → x ≡ suc i → chainAt left right i ≡ h
+  pub kind : (i : ℕ) → x ≡ suc i → chain_at left right i ≡ h
   pub left_over : (j : ℕ) → j < n → IsPair left right a b j → j < x
 
-is-chain : {left right : List ℕ} {a b i : ℕ} → IsPair left right a b i → chainAt left right i ≡ chainOf a b
+is-chain : {left right : List ℕ} {a b i : ℕ} → IsPair left right a b i → chain_at left right i ≡ chain_of a b
 is-chain s = rw (s.one, s.other)
 
 module _ {left right links heads : List ℕ} {n a b : ℕ} (C : Chained left right links heads n) where
-  pub starts : (h x : ℕ) → h ≡ chainOf a b → x ≡ get_or heads h 0 → Below left right n a b h x
+  pub starts : (h x : ℕ) → h ≡ chain_of a b → x ≡ get_or heads h 0 → Below left right n a b h x
   starts h x e d =
       record {
         chain = e;
@@ -87,7 +87,7 @@ tested-none n = record { yes = λ t. false≢true t; not = λ f s. n s.one }
 -- ---- as the code's facts have them
 
 module _ {left right links heads : List ℕ} {n a b h x : ℕ} where
-  pub in-room : Chained left right links heads n → Below left right n a b h x → (x ≡ 0 → ⊥) → x - 1 ≤ walkedPairs
+  pub in-room : Chained left right links heads n → Below left right n a b h x → (x ≡ 0 → ⊥) → x - 1 ≤ walked_pairs
   in-room C B z = let p = C.few in let q = B.fits in omega arith
 
   pub in_array : Chained left right links heads n → Below left right n a b h x → (x ≡ 0 → ⊥) → x - 1 < stops
@@ -102,7 +102,7 @@ hit B z t e = met B z (t.yes e)
 
 -- ---- one pair more
 
-module _ {left right links heads : List ℕ} {n : ℕ} (a b : ℕ) (C : Chained left right links heads n) (u : n ≤ walkedPairs) (f : Found left right n a b 0) where
+module _ {left right links heads : List ℕ} {n : ℕ} (a b : ℕ) (C : Chained left right links heads n) (u : n ≤ walked_pairs) (f : Found left right n a b 0) where
   x : n < length left
   x = let e = C.lefts in omega arith
 
@@ -119,7 +119,7 @@ module _ {left right links heads : List ℕ} {n : ℕ} (a b : ℕ) (C : Chained 
   right' = set right n b
 
   abbrev h : ℕ
-  h = chainOf a b
+  h = chain_of a b
 
   abbrev links' : List ℕ
   links' = set links n (get_or heads h 0)
@@ -128,10 +128,10 @@ module _ {left right links heads : List ℕ} {n : ℕ} (a b : ℕ) (C : Chained 
   heads' = set heads h (n + 1)
 
   -- the chains of the others are as before, and the new pair's is h
-  old : (j : ℕ) → j < n → chainAt left' right' j ≡ chainAt left right j
+  old : (j : ℕ) → j < n → chain_at left' right' j ≡ chain_at left right j
   old j l = rw (get_or-set_other left n j a 0 (omega arith), get_or-set_other right n j b 0 (omega arith))
 
-  new : chainAt left' right' n ≡ h
+  new : chain_at left' right' n ≡ h
   new = rw (get_or-set_same left n a 0 x, get_or-set_same right n b 0 y)
 
   room : h < length heads
@@ -149,18 +149,18 @@ module _ {left right links heads : List ℕ} {n : ℕ} (a b : ℕ) (C : Chained 
   link-other : (i : ℕ) → i < n → get_or links' i 0 ≡ get_or links i 0
   link-other i l = get_or-set_other links n i (get_or heads h 0) 0 (omega arith)
 
-  head-past' : (j : ℕ) → j < n + 1 → j < get_or heads' (chainAt left' right' j) 0
+  head-past' : (j : ℕ) → j < n + 1 → j < get_or heads' (chain_at left' right' j) 0
   head-past' j l = go (ℕ_discrete j n)
     where
-      other : j < n → Dec (chainAt left right j ≡ h) → j < get_or heads' (chainAt left right j) 0
-      other m (yes e) = let d : get_or heads' (chainAt left right j) 0 ≡ n + 1 = ap (λ k. get_or heads' k 0) e ∙ head-h in omega arith
-      other m (no ne) = let d = head-other (chainAt left right j) ne in let p = C.head-past j m in omega arith
+      other : j < n → Dec (chain_at left right j ≡ h) → j < get_or heads' (chain_at left right j) 0
+      other m (yes e) = let d : get_or heads' (chain_at left right j) 0 ≡ n + 1 = ap (λ k. get_or heads' k 0) e ∙ head-h in omega arith
+      other m (no ne) = let d = head-other (chain_at left right j) ne in let p = C.head-past j m in omega arith
 
-      go : Dec (j ≡ n) → j < get_or heads' (chainAt left' right' j) 0
-      go (yes e) = let d : get_or heads' (chainAt left' right' j) 0 ≡ n + 1 = ap (λ k. get_or heads' k 0) (ap (chainAt left' right') e ∙ new) ∙ head-h in omega arith
+      go : Dec (j ≡ n) → j < get_or heads' (chain_at left' right' j) 0
+      go (yes e) = let d : get_or heads' (chain_at left' right' j) 0 ≡ n + 1 = ap (λ k. get_or heads' k 0) (ap (chain_at left' right') e ∙ new) ∙ head-h in omega arith
       go (no ne) =
           let m : j < n = omega arith in
-          subst (λ k. j < get_or heads' k 0) (sym (old j m)) (other m (ℕ_discrete (chainAt left right j) h))
+          subst (λ k. j < get_or heads' k 0) (sym (old j m)) (other m (ℕ_discrete (chain_at left right j) h))
 
   head-in' : (k : ℕ) → get_or heads' k 0 ≤ n + 1
   head-in' k = go (ℕ_discrete k h)
@@ -169,28 +169,28 @@ module _ {left right links heads : List ℕ} {n : ℕ} (a b : ℕ) (C : Chained 
       go (yes e) = let d : get_or heads' k 0 ≡ n + 1 = ap (λ k. get_or heads' k 0) e ∙ head-h in omega arith
       go (no ne) = let d = head-other k ne in let p = C.head_in k in omega arith
 
-  head-chain' : (k i : ℕ) → get_or heads' k 0 ≡ suc i → chainAt left' right' i ≡ k
+  head-chain' : (k i : ℕ) → get_or heads' k 0 ≡ suc i → chain_at left' right' i ≡ k
   head-chain' k i f = go (ℕ_discrete k h)
     where
-      go : Dec (k ≡ h) → chainAt left' right' i ≡ k
+      go : Dec (k ≡ h) → chain_at left' right' i ≡ k
       go (yes e) =
           let d : get_or heads' k 0 ≡ n + 1 = ap (λ k. get_or heads' k 0) e ∙ head-h in
           let g : i ≡ n = omega arith in
-          ap (chainAt left' right') g ∙ new ∙ sym e
+          ap (chain_at left' right') g ∙ new ∙ sym e
       go (no ne) =
           let d = head-other k ne in
           let p = C.head_in k in
           let m : i < n = omega arith in
           old i m ∙ C.head-chain k i (sym d ∙ f)
 
-  link-past' : (i j : ℕ) → i < n + 1 → j < i → chainAt left' right' j ≡ chainAt left' right' i → j < get_or links' i 0
+  link-past' : (i j : ℕ) → i < n + 1 → j < i → chain_at left' right' j ≡ chain_at left' right' i → j < get_or links' i 0
   link-past' i j l m e = go (ℕ_discrete i n)
     where
       go : Dec (i ≡ n) → j < get_or links' i 0
       go (yes g) =
           let p : j < n = omega arith in
           let d : get_or links' i 0 ≡ get_or heads h 0 = ap (λ i. get_or links' i 0) g ∙ link-n in
-          let c : chainAt left right j ≡ h = sym (old j p) ∙ e ∙ ap (chainAt left' right') g ∙ new in
+          let c : chain_at left right j ≡ h = sym (old j p) ∙ e ∙ ap (chain_at left' right') g ∙ new in
           let q : j < get_or heads h 0 = subst (λ k. j < get_or heads k 0) c (C.head-past j p) in
           omega arith
       go (no ne) =
@@ -206,15 +206,15 @@ module _ {left right links heads : List ℕ} {n : ℕ} (a b : ℕ) (C : Chained 
       go (yes g) = let d : get_or links' i 0 ≡ get_or heads h 0 = ap (λ i. get_or links' i 0) g ∙ link-n in let p = C.head_in h in omega arith
       go (no ne) = let p : i < n = omega arith in let d = link-other i p in let q = C.link-in i p in omega arith
 
-  link-chain' : (i j : ℕ) → i < n + 1 → get_or links' i 0 ≡ suc j → chainAt left' right' j ≡ chainAt left' right' i
+  link-chain' : (i j : ℕ) → i < n + 1 → get_or links' i 0 ≡ suc j → chain_at left' right' j ≡ chain_at left' right' i
   link-chain' i j l f = go (ℕ_discrete i n)
     where
-      go : Dec (i ≡ n) → chainAt left' right' j ≡ chainAt left' right' i
+      go : Dec (i ≡ n) → chain_at left' right' j ≡ chain_at left' right' i
       go (yes g) =
           let d : get_or links' i 0 ≡ get_or heads h 0 = ap (λ i. get_or links' i 0) g ∙ link-n in
           let p = C.head_in h in
           let m : j < n = omega arith in
-          old j m ∙ C.head-chain h j (sym d ∙ f) ∙ sym new ∙ ap (chainAt left' right') (sym g)
+          old j m ∙ C.head-chain h j (sym d ∙ f) ∙ sym new ∙ ap (chain_at left' right') (sym g)
       go (no ne) =
           let p : i < n = omega arith in
           let d = link-other i p in
@@ -267,6 +267,6 @@ module _ {left right links heads : List ℕ} {n : ℕ} (a b : ℕ) (C : Chained 
         link-chain = link-chain';
       }
 
-pub added-at : {left right links heads : List ℕ} {n k r : ℕ} (a b : ℕ) → Chained left right links heads n → n ≤ walkedPairs → Found left right n a b 0
-    → k ≡ chainOf a b → r ≡ n + 1 → Chained (set left n a) (set right n b) (set links n (get_or heads k 0)) (set heads k r) (n + 1)
+pub added-at : {left right links heads : List ℕ} {n k r : ℕ} (a b : ℕ) → Chained left right links heads n → n ≤ walked_pairs → Found left right n a b 0
+    → k ≡ chain_of a b → r ≡ n + 1 → Chained (set left n a) (set right n b) (set links n (get_or heads k 0)) (set heads k r) (n + 1)
 added-at {left} {right} {links} {heads} {n} a b C u f e d = rw (e, d) (added a b C u f)

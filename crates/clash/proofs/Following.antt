@@ -11,7 +11,7 @@ use Rattle.expressions.specs.declared.Part.{Part}
 use Rattle.expressions.specs.Standing.{Here, Parted}
 use Rattle.walk.specs.Spots.{Spot, whole, inner_at, firsts, nexts}
 use Rattle.walk.proofs.Continuations.{firsts-of, nexts-of, first-monomials, next-monomials}
-use Rattle.charts.specs.Levels.{place_of, onTop, sought, Leveled}
+use Rattle.charts.specs.Levels.{place_of, on_top, sought, Leveled}
 use Rattle.charts.proofs.Places.{sought-top}
 use Rattle.state_classes.specs.States.{Spotted, Means, itself, inside, after}
 use Rattle.state_classes.proofs.Meanings.{Stands, spot-inside, spotted-place, spotted-stands, spotted-beside, spotted-inside}
@@ -31,7 +31,7 @@ followed-even {k} {at} {s} {x} {old} {new} {q} z d b a = record { long = b.long;
         record { level = y; spots = firsts X; nexts = next-first at R X y f; marks = b.each X w g ∙ ap (λ m. marked (places_of m (firsts X)) old) e; null = (a.each X w g).null }
 
     go : (R : Expr) (w : List ℕ) → Here k at R w → (X : Expr) → Means at R s X → FollowedBy at R X old new q.null
-    go R w h X (itself e i) = rw i (from R R at (omega arith) (w, h) (λ q v. inl (refl, subst (λ A. sought at A (place_of at q) ≡ onTop q) v (sought-top at q))))
+    go R w h X (itself e i) = rw i (from R R at (omega arith) (w, h) (λ q v. inl (refl, subst (λ A. sought at A (place_of at q) ≡ on_top q) v (sought-top at q))))
     go R w h X (inside j l p t e i) =
         rw i (from R (inner_at p) (j + 1) (omega arith) (subst (λ m. Stands k (m + 1) (inner_at p)) (spotted-place at R j l p t) (spot-inside k l p (spotted-stands at R j l p t k (w, h)))) (spotted-inside at R j l p t))
     go R w h X (after j l p t e i) = absurd (omega arith)

@@ -8,10 +8,10 @@ use native.Mathlib.Omega.{arith}
 use native.Mathlib.Decide.{dec_lt, ℕ_discrete}
 use lib.ListN.{length, get_or, set}
 use lib.Seq.{get_or-set_same, get_or-set_other}
-use Rattle.language.specs.Limits.{walkedPairs}
+use Rattle.language.specs.Limits.{walked_pairs}
 use Rattle.language.specs.declared.Sym.{Sym}
 use Rattle.language.specs.Trees.{Expr}
-use Rattle.language.specs.Writing.{exprWords}
+use Rattle.language.specs.Writing.{expr_words}
 use Rattle.rules.specs.Expressions.{nullable, Monomial}
 use Rattle.rules.specs.Walk.{Pair, onward}
 use Rattle.walk.specs.Reach.{Twins, Reach}
@@ -38,7 +38,7 @@ module _ {at : ℕ} {R : Expr} {j : ℕ} {m : Monomial} (t : Takes at R j m) whe
   takes-after : Means at R (2 * j + 1) m.rest
   takes-after = after j t.level t.spot t.spotted (omega arith) (ap (λ m. m.rest) t.is)
 
-  takes_low : j < at + length (exprWords R)
+  takes_low : j < at + length (expr_words R)
   takes_low = place-to at R j t.level t.spot t.spotted
 
   takes-word : (k w : List ℕ) → Here k at R w → get_or k j 0 ≡ 3000 + m.name.0
@@ -47,10 +47,10 @@ module _ {at : ℕ} {R : Expr} {j : ℕ} {m : Monomial} (t : Takes at R j m) whe
       ∙ spot-word k t.level t.spot (spotted-stands at R j t.level t.spot t.spotted k (w, h))
       ∙ ap (λ m. 3000 + m.name.0) (sym t.is)
 
-  first-inside : {k w classes : List ℕ} {end : ℕ} → Here k at R w → end ≡ at + length (exprWords R) → Tabled k at (2 * end + 1) classes → FirstState at R (get_or classes (2 * j + 2) 0) m.inner
+  first-inside : {k w classes : List ℕ} {end : ℕ} → Here k at R w → end ≡ at + length (expr_words R) → Tabled k at (2 * end + 1) classes → FirstState at R (get_or classes (2 * j + 2) 0) m.inner
   first-inside {w = w} h e c = let l = takes_low in c.each R w h (2 * j + 2) (omega arith) m.inner takes-inside
 
-  first-after : {k w classes : List ℕ} {end : ℕ} → Here k at R w → end ≡ at + length (exprWords R) → Tabled k at (2 * end + 1) classes → FirstState at R (get_or classes (2 * j + 1) 0) m.rest
+  first-after : {k w classes : List ℕ} {end : ℕ} → Here k at R w → end ≡ at + length (expr_words R) → Tabled k at (2 * end + 1) classes → FirstState at R (get_or classes (2 * j + 1) 0) m.rest
   first-after {w = w} h e c = let l = takes_low in c.each R w h (2 * j + 1) (omega arith) m.rest takes-after
 
 one_name : (f g : Sym) → f.0 ≡ g.0 → f ≡ g
@@ -143,7 +143,7 @@ module _ {k classes : List ℕ} {at : Places} {a b : ℕ} {left right left' righ
             let (q, u, v) = twin-stop st p ps qs x.count y.count read_one read-two (get_or left' i 0) (get_or right' i 0) (g.new i (omega arith) l) in
             (q, u, reach-on R S p q h v)
 
-    listed-on : m ≤ walkedPairs → (q : Pair) → Memᴰ q (onward p) → Lists at R S left' right' (m) q
+    listed-on : m ≤ walked_pairs → (q : Pair) → Memᴰ q (onward p) → Lists at R S left' right' (m) q
     listed-on l q h =
         let (c, d, t, u) = twin-listed st p ps qs x.count y.count read_one read-two q h in
         let (i, z, w) = g.there l c d t in
@@ -170,7 +170,7 @@ pub record Walks (k classes : List ℕ) (at : Places) (left₀ right₀ left rig
   pub some : 1 ≤ n
   pub kept : Kept left₀ right₀ 1 left right
   pub walked : (R S : Expr) → Stand k classes at R S → Walked at R S left₀ right₀ 1 → Walked at R S left right n
-  pub on : (R S : Expr) → Stand k classes at R S → Walked at R S left₀ right₀ 1 → n ≤ walkedPairs → (j : ℕ) → j < i → (p : Pair) → Stop at R S (get_or left j 0) (get_or right j 0) p
+  pub on : (R S : Expr) → Stand k classes at R S → Walked at R S left₀ right₀ 1 → n ≤ walked_pairs → (j : ℕ) → j < i → (p : Pair) → Stop at R S (get_or left j 0) (get_or right j 0) p
       → (q : Pair) → Memᴰ q (onward p) → Lists at R S left right n q
   pub null : (R S : Expr) → Stand k classes at R S → Walked at R S left₀ right₀ 1 → (j : ℕ) → j < i → (p : Pair) → Stop at R S (get_or left j 0) (get_or right j 0) p
       → get_or empty j false ≡ (nullable p.0 && nullable p.1)
@@ -212,7 +212,7 @@ module _ {k classes : List ℕ} {at : Places} {left₀ right₀ left right left'
         null = λ R S st v j h p s. null R S st v j h p s (ℕ_discrete j i);
       }
     where
-      on : (R S : Expr) → Stand k classes at R S → Walked at R S left₀ right₀ 1 → r.count ≤ walkedPairs → (j : ℕ) → j < i + 1 → (p : Pair)
+      on : (R S : Expr) → Stand k classes at R S → Walked at R S left₀ right₀ 1 → r.count ≤ walked_pairs → (j : ℕ) → j < i + 1 → (p : Pair)
           → Stop at R S (get_or left' j 0) (get_or right' j 0) p → (q : Pair) → Memᴰ q (onward p) → Dec (j ≡ i) → Lists at R S left' right' r.count q
       on R S st v z j h p s q m (yes e) = g.on R S st p (here R S j e s) z q m
       on R S st v z j h p s q m (no e) =
@@ -229,7 +229,7 @@ module _ {k classes : List ℕ} {at : Places} {left₀ right₀ left right left'
 
 -- too many, or all
 module _ {k classes : List ℕ} {at : Places} {left₀ right₀ left right : List ℕ} {empty : List Bool} {n i : ℕ} (w : Walks k classes at left₀ right₀ left right empty n i) where
-  pub gone_long : walkedPairs < n → Gone k classes at left₀ right₀ left right empty n
+  pub gone_long : walked_pairs < n → Gone k classes at left₀ right₀ left right empty n
   gone_long h =
       record {
         kept = w.kept;

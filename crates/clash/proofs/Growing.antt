@@ -7,7 +7,7 @@ use native.Mathlib.Omega.{arith}
 use native.Mathlib.Decide.{dec_lt, ℕ_discrete}
 use lib.ListN.{get_or, set}
 use lib.Seq.{get_or-set_same, get_or-set_other}
-use Rattle.language.specs.Limits.{walkedPairs}
+use Rattle.language.specs.Limits.{walked_pairs}
 use Rattle.clash.specs.Chains.{Chained, Found, Kept, Grown, Met}
 use Rattle.clash.specs.Walking.{Twin, TwinWith, TwinOf}
 
@@ -16,7 +16,7 @@ same_kept = record { lefts = λ i h. refl; rights = λ i h. refl }
 
 -- ---- one pair
 
-pub met-full : {left right : List ℕ} {n a b : ℕ} → walkedPairs < n → Met left right n a b left right n
+pub met-full : {left right : List ℕ} {n a b : ℕ} → walked_pairs < n → Met left right n a b left right n
 met-full h = record { more = omega arith; kept = same_kept; new = λ i l m. absurd (omega arith); there = λ l. absurd (omega arith) }
 
 pub met-old : {left right : List ℕ} {n a b r : ℕ} → Found left right n a b r → (r ≡ 0 → ⊥) → Met left right n a b left right n
@@ -30,7 +30,7 @@ met-old {left} {right} {n} {a} {b} {r} f z =
           (r - 1, h, record { one = s.one ∙ sym e.0; other = s.other ∙ sym e.1 });
     }
 
-module _ {left right links heads : List ℕ} {n : ℕ} (a b : ℕ) (C : Chained left right links heads n) (u : n ≤ walkedPairs) where
+module _ {left right links heads : List ℕ} {n : ℕ} (a b : ℕ) (C : Chained left right links heads n) (u : n ≤ walked_pairs) where
   abbrev left' : List ℕ
   left' = set left n a
 
@@ -58,7 +58,7 @@ module _ {left right links heads : List ℕ} {n : ℕ} (a b : ℕ) (C : Chained 
         there = λ l x y e. (n, omega arith, record { one = left-new ∙ sym e.0; other = right_new ∙ sym e.1 });
       }
 
-pub met-add : {left right links heads left' right' : List ℕ} {n a b : ℕ} → Chained left right links heads n → n ≤ walkedPairs
+pub met-add : {left right links heads left' right' : List ℕ} {n a b : ℕ} → Chained left right links heads n → n ≤ walked_pairs
     → left' ≡ set left n a → right' ≡ set right n b → Met left right n a b left' right' (n + 1)
 met-add {a = a} {b = b} C u d e = rw (d, e) (met-new a b C u)
 

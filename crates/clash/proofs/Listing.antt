@@ -10,7 +10,7 @@ use lib.ListN.{length, get_or, set, length-set}
 use lib.Seq.{get_or-set_same, get_or-set_other}
 use Rattle.language.specs.Limits.{desk}
 use Rattle.language.specs.Trees.{Expr}
-use Rattle.language.specs.Writing.{exprWords}
+use Rattle.language.specs.Writing.{expr_words}
 use Rattle.rules.specs.Expressions.{Monomial, linear}
 use Rattle.walk.specs.Spots.{Spot, monomial}
 use Rattle.walk.proofs.Members.{in_map, of_map}
@@ -57,7 +57,7 @@ in-marked (p ∷ ps) f i e = elim (in-marked ps (set f p true) i e) [
 
 module _ (k : List ℕ) (at end s : ℕ) (marks : List Bool) (list : List ℕ) (n : ℕ) (null : Bool) (blank : List Bool)
     (clear : (i : ℕ) → get_or blank i false ≡ false) (room : length blank ≡ desk.question) (short : end ≤ desk.question) where
-  reads_of : (R X : Expr) → end ≡ at + length (exprWords R) → FollowedBy at R X blank marks null → Collected marks at end list n → Reads at R X list n
+  reads_of : (R X : Expr) → end ≡ at + length (expr_words R) → FollowedBy at R X blank marks null → Collected marks at end list n → Reads at R X list n
   reads_of R X e f c =
       record {
         sound = λ i l. sound i l (in-marked places blank (get_or list i 0) (ap (λ m. get_or m (get_or list i 0) false) (sym f.marks) ∙ c.sound i l));

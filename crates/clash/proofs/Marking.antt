@@ -6,8 +6,8 @@ use mathlib.Core.List.{List, [], ◌∷◌, ◌++◌, map}
 use lib.ListN.{length, set, length-set}
 use Rattle.language.specs.Kinds.{pick}
 use Rattle.language.specs.Trees.{Expr}
-use Rattle.language.specs.Writing.{exprWords}
-use Rattle.walk.specs.Spots.{Spot, inLeft, inRight, inFirst, inSecond, inStar}
+use Rattle.language.specs.Writing.{expr_words}
+use Rattle.walk.specs.Spots.{Spot, in_left, in_right, in_first, in_second, in_star}
 use Rattle.charts.specs.Levels.{place_of}
 use Rattle.clash.specs.Marks.{places_of, marked}
 
@@ -33,17 +33,17 @@ through at m f e [] = refl
 through at m f e (p ∷ ps) = ap (λ n. n ∷ places_of at (map f ps)) (e p) ∙ ap (λ l. place_of m p ∷ l) (through at m f e ps)
 
 module _ (at : ℕ) (ps : List Spot) where
-  pub places-left : (b : Expr) → places_of at (map (λ p. inLeft p b) ps) ≡ places_of (at + 1) ps
-  places-left b = through at (at + 1) (λ p. inLeft p b) (λ p. refl) ps
+  pub places-left : (b : Expr) → places_of at (map (λ p. in_left p b) ps) ≡ places_of (at + 1) ps
+  places-left b = through at (at + 1) (λ p. in_left p b) (λ p. refl) ps
 
-  pub places-right : (a : Expr) → places_of at (map (inRight a) ps) ≡ places_of (at + 1 + length (exprWords a)) ps
-  places-right a = through at (at + 1 + length (exprWords a)) (inRight a) (λ p. refl) ps
+  pub places-right : (a : Expr) → places_of at (map (in_right a) ps) ≡ places_of (at + 1 + length (expr_words a)) ps
+  places-right a = through at (at + 1 + length (expr_words a)) (in_right a) (λ p. refl) ps
 
-  pub places-first : (b : Expr) → places_of at (map (λ p. inFirst p b) ps) ≡ places_of (at + 1) ps
-  places-first b = through at (at + 1) (λ p. inFirst p b) (λ p. refl) ps
+  pub places-first : (b : Expr) → places_of at (map (λ p. in_first p b) ps) ≡ places_of (at + 1) ps
+  places-first b = through at (at + 1) (λ p. in_first p b) (λ p. refl) ps
 
-  pub places-second : (a : Expr) → places_of at (map (inSecond a) ps) ≡ places_of (at + 1 + length (exprWords a)) ps
-  places-second a = through at (at + 1 + length (exprWords a)) (inSecond a) (λ p. refl) ps
+  pub places-second : (a : Expr) → places_of at (map (in_second a) ps) ≡ places_of (at + 1 + length (expr_words a)) ps
+  places-second a = through at (at + 1 + length (expr_words a)) (in_second a) (λ p. refl) ps
 
-  pub places-star : places_of at (map inStar ps) ≡ places_of (at + 1) ps
-  places-star = through at (at + 1) inStar (λ p. refl) ps
+  pub places-star : places_of at (map in_star ps) ≡ places_of (at + 1) ps
+  places-star = through at (at + 1) in_star (λ p. refl) ps

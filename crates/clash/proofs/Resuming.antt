@@ -9,18 +9,18 @@ use lib.Dec.{T, eqb, leb}
 use lib.ListN.{length, get_or}
 use borrow.Author.Tests.{eqb-true, eqb-false, leb-true, leb-false, ne_eqb}
 use Rattle.language.specs.Limits.{desk}
-use Rattle.language.specs.Fine.{fineExpr}
+use Rattle.language.specs.Fine.{fine_expr}
 use Rattle.language.specs.Kinds.{pick}
 use Rattle.language.specs.Trees.{Expr, cat, star}
-use Rattle.language.specs.Writing.{exprWords}
-use Rattle.rules.specs.Looks.{isEps}
+use Rattle.language.specs.Writing.{expr_words}
+use Rattle.rules.specs.Looks.{is_eps}
 use Rattle.rules.specs.Expressions.{nullable}
 use Rattle.rules.proofs.Tests.{true-test}
-use Rattle.rules.proofs.Looks.{isEps-is}
+use Rattle.rules.proofs.Looks.{is_eps-is}
 use Rattle.expressions.specs.declared.Part.{Part}
 use Rattle.expressions.specs.Standing.{Here, Parted}
 use Rattle.expressions.proofs.Standing.{second-of, cases, by-eps, by-cat, by-alt, by-star, by_over, past_end, is-alt}
-use Rattle.walk.specs.Spots.{Spot, inLeft, inRight, inStar, whole, behind, rest_at, firsts, nexts}
+use Rattle.walk.specs.Spots.{Spot, in_left, in_right, in_star, whole, behind, rest_at, firsts, nexts}
 use Rattle.charts.specs.Levels.{place_of}
 use Rattle.state_classes.proofs.Spots.{eps-spot, over-spot, star-spot, cat-spot, alt-spot, not_first, not-second}
 use Rattle.clash.specs.Marks.{places_of, marked, Begun, Resumed}
@@ -29,15 +29,15 @@ use Rattle.clash.proofs.Marking.{marked-++, places-++, places-pick, places-left,
 -- ---- an expression behind what is left
 
 nullable-behind : (b C : Expr) → nullable (behind b C) ≡ (nullable C && nullable b)
-nullable-behind b C = go (isEps b) refl (isEps C) refl
+nullable-behind b C = go (is_eps b) refl (is_eps C) refl
   where
     right : (n : Bool) → n ≡ (n && true)
     right true = refl
     right false = refl
 
-    go : (t : Bool) → isEps b ≡ t → (u : Bool) → isEps C ≡ u → nullable (pick t C (pick u b (cat C b))) ≡ (nullable C && nullable b)
-    go true e u d = rw (isEps-is b (true-test (isEps b) e)) (right (nullable C))
-    go false e true d = rw (isEps-is C (true-test (isEps C) d)) refl
+    go : (t : Bool) → is_eps b ≡ t → (u : Bool) → is_eps C ≡ u → nullable (pick t C (pick u b (cat C b))) ≡ (nullable C && nullable b)
+    go true e u d = rw (is_eps-is b (true-test (is_eps b) e)) (right (nullable C))
+    go false e true d = rw (is_eps-is C (true-test (is_eps C) d)) refl
     go false e false d = refl
 
 -- ---- the marks
@@ -76,18 +76,18 @@ module _ {k : List ℕ} {at p : ℕ} {old : List Bool} where
 
 -- ---- places of what can be read next
 
-places-again : (at : ℕ) (t : Spot) (b : Bool) → nullable (rest_at t) ≡ b → places_of at (nexts (inStar t)) ≡ places_of (at + 1) (nexts t) ++ pick b (places_of (at + 1) (firsts (whole t))) []
+places-again : (at : ℕ) (t : Spot) (b : Bool) → nullable (rest_at t) ≡ b → places_of at (nexts (in_star t)) ≡ places_of (at + 1) (nexts t) ++ pick b (places_of (at + 1) (firsts (whole t))) []
 places-again at t b e =
-    places-++ at (map inStar (nexts t)) (pick (nullable (rest_at t)) (map inStar (firsts (whole t))) [])
+    places-++ at (map in_star (nexts t)) (pick (nullable (rest_at t)) (map in_star (firsts (whole t))) [])
     ∙ ap₂ ◌++◌ (places-star at (nexts t))
-    (ap (λ c. places_of at (pick c (map inStar (firsts (whole t))) [])) e ∙ places-pick at b (map inStar (firsts (whole t))) ∙ ap (λ l. pick b l []) (places-star at (firsts (whole t))))
+    (ap (λ c. places_of at (pick c (map in_star (firsts (whole t))) [])) e ∙ places-pick at b (map in_star (firsts (whole t))) ∙ ap (λ l. pick b l []) (places-star at (firsts (whole t))))
 
 places-on : (at : ℕ) (t : Spot) (B : Expr) (b : Bool) → nullable (rest_at t) ≡ b
-    → places_of at (nexts (inLeft t B)) ≡ places_of (at + 1) (nexts t) ++ pick b (places_of (at + 1 + length (exprWords (whole t))) (firsts B)) []
+    → places_of at (nexts (in_left t B)) ≡ places_of (at + 1) (nexts t) ++ pick b (places_of (at + 1 + length (expr_words (whole t))) (firsts B)) []
 places-on at t B b e =
-    places-++ at (map (λ q. inLeft q B) (nexts t)) (pick (nullable (rest_at t)) (map (inRight (whole t)) (firsts B)) [])
+    places-++ at (map (λ q. in_left q B) (nexts t)) (pick (nullable (rest_at t)) (map (in_right (whole t)) (firsts B)) [])
     ∙ ap₂ ◌++◌ (places-left at (nexts t) B)
-    (ap (λ c. places_of at (pick c (map (inRight (whole t)) (firsts B)) [])) e ∙ places-pick at b (map (inRight (whole t)) (firsts B)) ∙ ap (λ l. pick b l []) (places-right at (firsts B) (whole t)))
+    (ap (λ c. places_of at (pick c (map (in_right (whole t)) (firsts B)) [])) e ∙ places-pick at b (map (in_right (whole t)) (firsts B)) ∙ ap (λ l. pick b l []) (places-right at (firsts B) (whole t)))
 
 -- marks on these and, behind them, on the others
 both : (old : List Bool) {middle new : List Bool} (ps qs rs : List ℕ) → middle ≡ marked ps old → new ≡ marked qs middle → rs ≡ ps ++ qs → new ≡ marked rs old
@@ -99,11 +99,11 @@ alone old ps rs e c = e ∙ ap (λ l. marked l old) (sym (c ∙ append-nil ps))
 -- ---- by the parts
 
 module _ (k : List ℕ) (at p : ℕ) (old new : List Bool) {q : Part} (a : Parted k (at + 1) q) where
-  length-of : (t : Spot) {A : Expr} → whole t ≡ A → length (exprWords (whole t)) ≡ length (exprWords A)
-  length-of t e = ap (λ X. length (exprWords X)) e
+  length-of : (t : Spot) {A : Expr} → whole t ≡ A → length (expr_words (whole t)) ≡ length (expr_words A)
+  length-of t e = ap (λ X. length (expr_words X)) e
 
-  second-told : {r : Bool} {A : Expr} (B : Expr) (w : List ℕ) → Resumed k q.end p old new r → Here k (at + 1) A (exprWords B ++ w) → fineExpr desk B → (t : Spot) → whole t ≡ B
-      → place_of (at + 1 + length (exprWords A)) t ≡ p → (new ≡ marked (places_of (at + 1 + length (exprWords A)) (nexts t)) old) × (r ≡ nullable (rest_at t))
+  second-told : {r : Bool} {A : Expr} (B : Expr) (w : List ℕ) → Resumed k q.end p old new r → Here k (at + 1) A (expr_words B ++ w) → fine_expr desk B → (t : Spot) → whole t ≡ B
+      → place_of (at + 1 + length (expr_words A)) t ≡ p → (new ≡ marked (places_of (at + 1 + length (expr_words A)) (nexts t)) old) × (r ≡ nullable (rest_at t))
   second-told {A = A} B w d h o t f x =
       let e = (a.each A _ h).end in
       let (m, n) = of_part d (second-of h o e) t f (ap (λ j. place_of j t) e ∙ x) in
@@ -147,14 +147,14 @@ module _ (k : List ℕ) (at p : ℕ) (old new : List Bool) {q : Part} (a : Parte
           → Begun k q.end middle new → Parted k q.end b → Resumed k at p old new b.null
       resumed-cat {middle} {b} n2 n3 d g u = by-each (g.long ∙ d.long) (λ R w h. by-cat (Of at p old new b.null) (is-cat h n0 n2 n3 lo) spot R w h)
         where
-          spot : (A B : Expr) (w : List ℕ) → Here k (at + 1) A (exprWords B ++ w) → fineExpr desk B → Of at p old new b.null (cat A B) w
+          spot : (A B : Expr) (w : List ℕ) → Here k (at + 1) A (expr_words B ++ w) → fine_expr desk B → Of at p old new b.null (cat A B) w
           spot A B w h o s c = elim (cat-spot s A B c) [
             | inl (t, f, y) ↦ subst (Told at p old new b.null) (sym y) (λ x.
                 let (m, n) = of_part d h t f x in
                 let e = (a.each A _ h).end in
-                let l : q.end ≡ at + 1 + length (exprWords (whole t)) = let z = length-of t f in omega arith in
+                let l : q.end ≡ at + 1 + length (expr_words (whole t)) = let z = length-of t f in omega arith in
                 let v = second-of h o e in (
-                  both old (places_of (at + 1) (nexts t)) (places_of (at + 1 + length (exprWords (whole t))) (firsts B)) (places_of at (nexts (inLeft t B))) m
+                  both old (places_of (at + 1) (nexts t)) (places_of (at + 1 + length (expr_words (whole t))) (firsts B)) (places_of at (nexts (in_left t B))) m
                       (g.each B w v ∙ ap (λ j. marked (places_of j (firsts B)) middle) l) (places-on at t B true (sym n)),
                   (u.each B w v).null ∙ sym (nullable-behind B (rest_at t) ∙ ap (λ z. z && nullable B) (sym n)),
                 ))
@@ -171,12 +171,12 @@ module _ (k : List ℕ) (at p : ℕ) (old new : List Bool) {q : Part} (a : Parte
               let (t, f, y) = star-spot s A c in
               subst (Told at p old new false) (sym y) (λ x.
               let (m, n) = of_part d h t f x in
-              (alone old (places_of (at + 1) (nexts t)) (places_of at (nexts (inStar t))) m (places-again at t false (sym n)), sym (nullable-behind (star (whole t)) (rest_at t) ∙ ap (λ z. z && true) (sym n))))) R w h
+              (alone old (places_of (at + 1) (nexts t)) (places_of at (nexts (in_star t))) m (places-again at t false (sym n)), sym (nullable-behind (star (whole t)) (rest_at t) ∙ ap (λ z. z && true) (sym n))))) R w h
           go false e R w h =
               by-cat (Of at p old new false) (is-cat h n0 n2 (eqb-false (get_or k at 0) 7003 e) lo) (λ A B w h o s c. elim (cat-spot s A B c) [
                 | inl (t, f, y) ↦ subst (Told at p old new false) (sym y) (λ x.
                     let (m, n) = of_part d h t f x in
-                    (alone old (places_of (at + 1) (nexts t)) (places_of at (nexts (inLeft t B))) m (places-on at t B false (sym n)), sym (nullable-behind B (rest_at t) ∙ ap (λ z. z && nullable B) (sym n))))
+                    (alone old (places_of (at + 1) (nexts t)) (places_of at (nexts (in_left t B))) m (places-on at t B false (sym n)), sym (nullable-behind B (rest_at t) ∙ ap (λ z. z && nullable B) (sym n))))
                 | inr (t, f, y) ↦ subst (Told at p old new false) (sym y) (λ x. not-second k at p a h t x (before (eqb-false (get_or k at 0) 7003 e)))
               ]) R w h
 
@@ -187,7 +187,7 @@ resumed-star {k} {at} {p} {old} {middle} {new} z d g =
     let (t, f, y) = star-spot s A c in
     subst (Told at p old new true) (sym y) (λ x.
     let (m, n) = of_part d h t f x in (
-      both old (places_of (at + 1) (nexts t)) (places_of (at + 1) (firsts (whole t))) (places_of at (nexts (inStar t))) m
+      both old (places_of (at + 1) (nexts t)) (places_of (at + 1) (firsts (whole t))) (places_of at (nexts (in_star t))) m
           (g.each A w h ∙ ap (λ X. marked (places_of (at + 1) (firsts X)) middle) (sym f)) (places-again at t true (sym n)),
       sym (nullable-behind (star (whole t)) (rest_at t) ∙ ap (λ z. z && true) (sym n)),
     ))))

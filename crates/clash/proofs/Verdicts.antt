@@ -10,11 +10,11 @@ use borrow.Author.Tests.{le-ltb}
 use lib.Dec.{T}
 use lib.ListN.{length, get_or, set, replicate, length-replicate}
 use lib.Seq.{get_or-set_same}
-use Rattle.language.specs.Limits.{walkedPairs}
+use Rattle.language.specs.Limits.{walked_pairs}
 use Rattle.language.specs.Kinds.{pick}
 use Rattle.language.specs.Trees.{Expr}
 use Rattle.rules.specs.Expressions.{nullable}
-use Rattle.rules.specs.Walk.{Pair, onward, longWalk, commonHedge, commonTerm}
+use Rattle.rules.specs.Walk.{Pair, onward, long_walk, common_hedge, common_term}
 use Rattle.rules.proofs.Tests.{test-true, and_parts, and_both, true-test}
 use Rattle.walk.specs.Reach.{Reach, start, Once, Shares, empty, SharesTerm}
 use Rattle.walk.proofs.Onward.{in-onward}
@@ -29,11 +29,11 @@ use Rattle.state_classes.specs.Classes.{FirstState, Tabled, KeptTo}
 use Rattle.expressions.specs.declared.Part.{Part}
 use Rattle.expressions.specs.Standing.{Here, Parted}
 use Rattle.expressions.proofs.Standing.{past_end}
-use Rattle.language.specs.Writing.{exprWords}
+use Rattle.language.specs.Writing.{expr_words}
 use Rattle.clash.specs.Chains.{Chained, Found, stops}
 use Rattle.clash.specs.Walking.{Stand, Stop, Lists, Walked, Gone}
 use Rattle.clash.specs.Sweeping.{Says, Flagged, TwinsFlagged, Settled, FirstShares}
-use Rattle.clash.specs.Judging.{verdictOf}
+use Rattle.clash.specs.Judging.{verdict_of}
 use Rattle.state_classes.proofs.Classing.{place-from, state-from}
 use Rattle.clash.proofs.Going.{stop-at, first_one}
 use Rattle.state_classes.proofs.Peeling.{differ}
@@ -138,11 +138,11 @@ module _ {at : Places} {R S : Expr} {left right links heads : List ℕ} {n : ℕ
       reach : (q : Pair) → At q n → Reach R S q
       reach q r = let (p, s, h) = w.each r.place r.low in subst (Reach R S) (stop-one s r.stop) h
 
-  pub verdict-long : (term : Bool) → walkedPairs < n → verdictOf term R S ≡ Long
-  unfolding verdictOf
+  pub verdict-long : (term : Bool) → walked_pairs < n → verdict_of term R S ≡ Long
+  unfolding verdict_of
   verdict-long term l =
-      ap (λ b. elim b [ true ↦ Long | false ↦ elim (pick term (commonTerm R S) (commonHedge R S)) [ true ↦ verdict.Shares | false ↦ Clashes ] ])
-      (too_long R S walkedPairs all all_listed (subst (λ m. walkedPairs < m) (sym (rows_long n (itself-le n))) l))
+      ap (λ b. elim b [ true ↦ Long | false ↦ elim (pick term (common_term R S) (common_hedge R S)) [ true ↦ verdict.Shares | false ↦ Clashes ] ])
+      (too_long R S walked_pairs all all_listed (subst (λ m. walked_pairs < m) (sym (rows_long n (itself-le n))) l))
 
   -- ---- nothing is left out
 
@@ -160,13 +160,13 @@ module _ {at : Places} {R S : Expr} {left right links heads : List ℕ} {n : ℕ
     all_whole : Whole R S all
     all_whole = record { first = at_rows n (itself-le n) (R, S) (record { place = 0; low = some; stop = first-at }); on = on-all }
 
-    not-long : n ≤ walkedPairs → longWalk walkedPairs R S ≡ false
-    not-long l = long-by-number R S walkedPairs all all_listed all_whole ∙ le-ltb walkedPairs (length all) (let z = rows_long n (itself-le n) in omega arith)
+    not-long : n ≤ walked_pairs → long_walk walked_pairs R S ≡ false
+    not-long l = long-by-number R S walked_pairs all all_listed all_whole ∙ le-ltb walked_pairs (length all) (let z = rows_long n (itself-le n) in omega arith)
 
-    pub verdict-by : (term b : Bool) → n ≤ walkedPairs → pick term (commonTerm R S) (commonHedge R S) ≡ b → verdictOf term R S ≡ elim b [ true ↦ verdict.Shares | false ↦ Clashes ]
-    unfolding verdictOf
+    pub verdict-by : (term b : Bool) → n ≤ walked_pairs → pick term (common_term R S) (common_hedge R S) ≡ b → verdict_of term R S ≡ elim b [ true ↦ verdict.Shares | false ↦ Clashes ]
+    unfolding verdict_of
     verdict-by term b l h =
-        ap (λ b. elim b [ true ↦ Long | false ↦ elim (pick term (commonTerm R S) (commonHedge R S)) [ true ↦ verdict.Shares | false ↦ Clashes ] ]) (not-long l)
+        ap (λ b. elim b [ true ↦ Long | false ↦ elim (pick term (common_term R S) (common_hedge R S)) [ true ↦ verdict.Shares | false ↦ Clashes ] ]) (not-long l)
         ∙ ap (λ b. elim b [ true ↦ verdict.Shares | false ↦ Clashes ]) h
 
     -- ---- what is marked
@@ -215,15 +215,15 @@ module _ {at : Places} {R S : Expr} {left right links heads : List ℕ} {n : ℕ
               absurd (C.apart 0 f.place l f.low (record { one = first_one f.stop.one first-at.one; other = first_one f.stop.two first-at.two }))
           go (no l) = let z : f.place ≡ 0 = omega arith in sym (ap (λ i. get_or marks i false) z) ∙ f.mark
 
-      hedge-shared : (b : Bool) → get_or marks 0 false ≡ b → commonHedge R S ≡ b
+      hedge-shared : (b : Bool) → get_or marks 0 false ≡ b → common_hedge R S ≡ b
       hedge-shared true h =
-          (test-true (commonHedge R S)).0
+          (test-true (common_hedge R S)).0
           ((hedge-exact R S).1 ((shares-flag (R, S) first-in).1 (record { place = 0; low = some; stop = first-at; mark = h })))
-      hedge-shared false h = go (commonHedge R S) refl
+      hedge-shared false h = go (common_hedge R S) refl
         where
-          go : (b : Bool) → commonHedge R S ≡ b → b ≡ false
+          go : (b : Bool) → common_hedge R S ≡ b → b ≡ false
           go false c = refl
-          go true c = differ (sym (first-mark ((shares-flag (R, S) first-in).0 ((hedge-exact R S).0 (true-test (commonHedge R S) c)))) ∙ h)
+          go true c = differ (sym (first-mark ((shares-flag (R, S) first-in).0 ((hedge-exact R S).0 (true-test (common_hedge R S) c)))) ∙ h)
 
       -- a term
       term-flags : SharesTerm (R, S) → TwinsFlagged at R S left right n marks empties (R, S)
@@ -246,15 +246,15 @@ module _ {at : Places} {R S : Expr} {left right links heads : List ℕ} {n : ℕ
           let (x, y) = both-null f.after.place f.after.low (f.one.rest, f.other.rest) f.after.stop f.after.mark in
           record { monomial = f.one; twin = f.other; twins = f.twins; inside = (shares-flag (f.one.inner, f.other.inner) i).1 f.inside; ends = x; twin-ends = y }
 
-      term-shared : (b : Bool) → Says (TwinsFlagged at R S left right n marks empties (R, S)) b → commonTerm R S ≡ b
-      term-shared true h = (test-true (commonTerm R S)).0 ((term-exact R S).1 (flags-term (h.yes refl)))
-      term-shared false h = go (commonTerm R S) refl
+      term-shared : (b : Bool) → Says (TwinsFlagged at R S left right n marks empties (R, S)) b → common_term R S ≡ b
+      term-shared true h = (test-true (common_term R S)).0 ((term-exact R S).1 (flags-term (h.yes refl)))
+      term-shared false h = go (common_term R S) refl
         where
-          go : (b : Bool) → commonTerm R S ≡ b → b ≡ false
+          go : (b : Bool) → common_term R S ≡ b → b ≡ false
           go false c = refl
-          go true c = absurd (h.not refl (term-flags ((term-exact R S).0 (true-test (commonTerm R S) c))))
+          go true c = absurd (h.not refl (term-flags ((term-exact R S).0 (true-test (common_term R S) c))))
 
-      pub shared-by : (term b : Bool) → FirstShares k classes at left right n marks empties term b → pick term (commonTerm R S) (commonHedge R S) ≡ b
+      pub shared-by : (term b : Bool) → FirstShares k classes at left right n marks empties term b → pick term (common_term R S) (common_hedge R S) ≡ b
       shared-by true b f = term-shared b ((f.by-term refl).each R S st (R, S) first-at)
       shared-by false b f = hedge-shared b (sym (f.by-hedge refl))
 
@@ -262,11 +262,11 @@ module _ {at : Places} {R S : Expr} {left right links heads : List ℕ} {n : ℕ
 
 module _ {k classes : List ℕ} {at : Places} {left₁ right₁ left right links heads : List ℕ} {empties : List Bool} {n : ℕ} (e : get_or left₁ 0 0 ≡ 2 * at.at) (d : get_or right₁ 0 0 ≡ 2 * at.other)
     (g : Gone k classes at left₁ right₁ left right empties n) (C : Chained left right links heads n) (term : Bool) where
-  pub judged-long : walkedPairs < n → (R S : Expr) → Stand k classes at R S → Long ≡ verdictOf term R S
+  pub judged-long : walked_pairs < n → (R S : Expr) → Stand k classes at R S → Long ≡ verdict_of term R S
   judged-long l R S st = sym (verdict-long C (g.walked R S st (first-walked e d)) term l)
 
-  pub judged : (b : Bool) {marks : List Bool} → n ≤ walkedPairs → Settled k classes at left right n empties marks → FirstShares k classes at left right n marks empties term b
-      → (R S : Expr) → Stand k classes at R S → elim b [ true ↦ verdict.Shares | false ↦ Clashes ] ≡ verdictOf term R S
+  pub judged : (b : Bool) {marks : List Bool} → n ≤ walked_pairs → Settled k classes at left right n empties marks → FirstShares k classes at left right n marks empties term b
+      → (R S : Expr) → Stand k classes at R S → elim b [ true ↦ verdict.Shares | false ↦ Clashes ] ≡ verdict_of term R S
   judged b {marks} l s f R S st =
       let v : Walked at R S left₁ right₁ 1 = first-walked e d in
       let w = g.walked R S st v in
@@ -313,7 +313,7 @@ here-low {k} {at} {R} {w} h = go (dec_le (length k) at)
     go (yes l) = past_end (λ R w. at ≤ length k) l R w h
     go (no l) = omega arith
 
-pub part-bounds : {k : List ℕ} {at : ℕ} {R : Expr} {w : List ℕ} {p : Part} → Here k at R w → Parted k at p → (p.end ≡ at + length (exprWords R)) × (p.end ≤ length k)
+pub part-bounds : {k : List ℕ} {at : ℕ} {R : Expr} {w : List ℕ} {p : Part} → Here k at R w → Parted k at p → (p.end ≡ at + length (expr_words R)) × (p.end ≤ length k)
 part-bounds {R = R} {w} h p = ((p.each R w h).end, p.within (here-low h))
 
 pub tabled-kept : {k old new : List ℕ} {at to m : ℕ} → to ≤ m → KeptTo m old new → Tabled k at to old → Tabled k at to new

@@ -1,17 +1,17 @@
 -- The pairs met so far, in the order they were met, chained by a sum of their two numbers. Heads and links hold a place plus one; 0 ends a chain.
 use Rattle.std.specs.Prelude.{ℕ, suc, ◌+◌, ◌*◌, ◌%◌, ◌<◌, ◌≤◌, ◌≡◌, Bool, true, false, List, length, get_or}
-use Rattle.language.specs.Limits.{walkedPairs}
+use Rattle.language.specs.Limits.{walked_pairs}
 
 -- room for as many pairs as a walk may reach, and for the one that is too many
 abbrev pub stops : ℕ
-stops = walkedPairs + 1
+stops = walked_pairs + 1
 
 -- which chain
-unfoldable pub chainOf : ℕ → ℕ → ℕ
-chainOf a b = (a * 769 + b) % 4093
+unfoldable pub chain_of : ℕ → ℕ → ℕ
+chain_of a b = (a * 769 + b) % 4093
 
-abbrev pub chainAt : List ℕ → List ℕ → ℕ → ℕ
-chainAt left right i = chainOf (get_or left i 0) (get_or right i 0)
+abbrev pub chain_at : List ℕ → List ℕ → ℕ → ℕ
+chain_at left right i = chain_of (get_or left i 0) (get_or right i 0)
 
 pub record IsPair (left right : List ℕ) (a b i : ℕ) : Type 0 where
   pub one : get_or left i 0 ≡ a
@@ -29,12 +29,12 @@ pub record Chained (left right links heads : List ℕ) (n : ℕ) : Type 0 where
   pub linked : length links ≡ stops
   pub room : length heads ≡ 4093
   pub apart : Apart left right n
-  pub head-past : (j : ℕ) → j < n → j < get_or heads (chainAt left right j) 0
+  pub head-past : (j : ℕ) → j < n → j < get_or heads (chain_at left right j) 0
   pub head_in : (h : ℕ) → get_or heads h 0 ≤ n
-  pub head-chain : (h i : ℕ) → get_or heads h 0 ≡ suc i → chainAt left right i ≡ h
-  pub link-past : (i j : ℕ) → i < n → j < i → chainAt left right j ≡ chainAt left right i → j < get_or links i 0
+  pub head-chain : (h i : ℕ) → get_or heads h 0 ≡ suc i → chain_at left right i ≡ h
+  pub link-past : (i j : ℕ) → i < n → j < i → chain_at left right j ≡ chain_at left right i → j < get_or links i 0
   pub link-in : (i : ℕ) → i < n → get_or links i 0 ≤ i
-  pub link-chain : (i j : ℕ) → i < n → get_or links i 0 ≡ suc j → chainAt left right j ≡ chainAt left right i
+  pub link-chain : (i j : ℕ) → i < n → get_or links i 0 ≡ suc j → chain_at left right j ≡ chain_at left right i
 
 -- whether it is
 pub record Tested (left right : List ℕ) (a b i : ℕ) (r : Bool) : Type 0 where
@@ -62,7 +62,7 @@ pub record Grown (T : ℕ → ℕ → Type 0) (left right : List ℕ) (n : ℕ) 
   pub more : n ≤ m
   pub kept : Kept left right n left' right'
   pub new : (i : ℕ) → n ≤ i → i < m → T (get_or left' i 0) (get_or right' i 0)
-  pub there : m ≤ walkedPairs → (a b : ℕ) → T a b → Among left' right' m a b
+  pub there : m ≤ walked_pairs → (a b : ℕ) → T a b → Among left' right' m a b
 
 -- just that pair
 abbrev pub Just : ℕ → ℕ → ℕ → ℕ → Type 0

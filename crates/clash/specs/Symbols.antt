@@ -3,7 +3,7 @@ use Rattle.std.specs.Prelude.{ℕ, ◌+◌, ◌<◌, ◌≤◌, ◌≡◌, Bool,
 use mathlib.Core.List.{List, Memᴰ}
 use Rattle.language.specs.Limits.{desk}
 use Rattle.language.specs.Trees.{Expr}
-use Rattle.language.specs.Writing.{exprWords}
+use Rattle.language.specs.Writing.{expr_words}
 use Rattle.rules.specs.Expressions.{nullable, Monomial, linear}
 use Rattle.expressions.specs.Standing.{Here}
 use Rattle.walk.specs.Spots.{Spot, monomial}
@@ -37,5 +37,5 @@ pub record Reads (at : ℕ) (R X : Expr) (list : List ℕ) (n : ℕ) : Type 0 wh
 -- of whatever the state s means
 pub record Symboled (k : List ℕ) (at end s : ℕ) (list : List ℕ) (r : Symbols) : Type 0 where
   pub listed : Listed (length k) list r.count
-  pub reads : (R : Expr) (w : List ℕ) → Here k at R w → end ≡ at + length (exprWords R) → (X : Expr) → Means at R s X → Reads at R X list r.count
+  pub reads : (R : Expr) (w : List ℕ) → Here k at R w → end ≡ at + length (expr_words R) → (X : Expr) → Means at R s X → Reads at R X list r.count
   pub null : (R : Expr) (w : List ℕ) → Here k at R w → (X : Expr) → Means at R s X → r.null ≡ nullable X

@@ -1,9 +1,9 @@
 -- What a walk lists, in the words: pairs of states, each the first of those that mean the same.
 use Rattle.std.specs.Prelude.{ℕ, ◌+◌, ◌*◌, ◌<◌, ◌≤◌, ◌≡◌, ◌⊎◌, Bool, false, ◌&&◌, length, get_or}
 use mathlib.Core.List.{List, Memᴰ}
-use Rattle.language.specs.Limits.{desk, walkedPairs}
+use Rattle.language.specs.Limits.{desk, walked_pairs}
 use Rattle.language.specs.Trees.{Expr}
-use Rattle.language.specs.Writing.{exprWords}
+use Rattle.language.specs.Writing.{expr_words}
 use Rattle.rules.specs.Expressions.{nullable}
 use Rattle.rules.specs.Walk.{Pair, onward}
 use Rattle.walk.specs.Reach.{Reach}
@@ -46,10 +46,10 @@ pub record Bounds (at : Places) (long : ℕ) : Type 0 where
 pub record Stand (k classes : List ℕ) (at : Places) (R S : Expr) : Type 0 where
   pub beyond : List ℕ
   pub one : Here k at.at R beyond
-  pub one_end : at.end ≡ at.at + length (exprWords R)
+  pub one_end : at.end ≡ at.at + length (expr_words R)
   pub further : List ℕ
   pub two : Here k at.other S further
-  pub two-end : at.last ≡ at.other + length (exprWords S)
+  pub two-end : at.last ≡ at.other + length (expr_words S)
   pub one-classes : Tabled k at.at (2 * at.end + 1) classes
   pub two-classes : Tabled k at.other (2 * at.last + 1) classes
 
@@ -73,7 +73,7 @@ pub record Went (k classes : List ℕ) (at : Places) (a b : ℕ) (left right : L
   pub more : n ≤ r.count
   pub kept : Kept left right n left' right'
   pub walked : (R S : Expr) → Stand k classes at R S → (p : Pair) → Stop at R S a b p → Reach R S p → Walked at R S left right n → Walked at R S left' right' r.count
-  pub on : (R S : Expr) → Stand k classes at R S → (p : Pair) → Stop at R S a b p → r.count ≤ walkedPairs → (q : Pair) → Memᴰ q (onward p) → Lists at R S left' right' r.count q
+  pub on : (R S : Expr) → Stand k classes at R S → (p : Pair) → Stop at R S a b p → r.count ≤ walked_pairs → (q : Pair) → Memᴰ q (onward p) → Lists at R S left' right' r.count q
   pub null : (R S : Expr) → Stand k classes at R S → (p : Pair) → Stop at R S a b p → r.null ≡ (nullable p.0 && nullable p.1)
 
 -- from the first pair on: all that is reached, unless it is too much, and in which of them the empty hedge is
@@ -81,7 +81,7 @@ pub record Gone (k classes : List ℕ) (at : Places) (left right left' right' : 
   pub kept : Kept left right 1 left' right'
   pub some : 1 ≤ n
   pub walked : (R S : Expr) → Stand k classes at R S → Walked at R S left right 1 → Walked at R S left' right' n
-  pub on : (R S : Expr) → Stand k classes at R S → Walked at R S left right 1 → n ≤ walkedPairs → (i : ℕ) → i < n → (p : Pair) → Stop at R S (get_or left' i 0) (get_or right' i 0) p
+  pub on : (R S : Expr) → Stand k classes at R S → Walked at R S left right 1 → n ≤ walked_pairs → (i : ℕ) → i < n → (p : Pair) → Stop at R S (get_or left' i 0) (get_or right' i 0) p
       → (q : Pair) → Memᴰ q (onward p) → Lists at R S left' right' n q
-  pub null : (R S : Expr) → Stand k classes at R S → Walked at R S left right 1 → n ≤ walkedPairs → (i : ℕ) → i < n → (p : Pair) → Stop at R S (get_or left' i 0) (get_or right' i 0) p
+  pub null : (R S : Expr) → Stand k classes at R S → Walked at R S left right 1 → n ≤ walked_pairs → (i : ℕ) → i < n → (p : Pair) → Stop at R S (get_or left' i 0) (get_or right' i 0) p
       → get_or empty i false ≡ (nullable p.0 && nullable p.1)

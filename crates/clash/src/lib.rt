@@ -14,7 +14,7 @@ ghost use Rattle.charts.specs.Charted.{ChartedFrom};
 ghost use Rattle.clash.specs.Chains.{Chained};
 ghost use Rattle.clash.specs.Walking.{Bounds, Stand};
 ghost use Rattle.clash.specs.Sweeping.{FirstShares};
-ghost use Rattle.clash.specs.Judging.{verdictOf, Two};
+ghost use Rattle.clash.specs.Judging.{verdict_of, Two};
 
 use crate::pairs::{CHAINS, STOPS, add, narrow};
 use crate::sweeps::{leads_from, settle};
@@ -68,7 +68,7 @@ fn judge_classed(
     term: bool,
 ) -> Verdict
     requires { ChartedFrom 0 k.now ends.now nulls.now × Bounds at (length k.now) }
-    ensures { (R S : Expr) → Stand k.now classes.now at R S → result ≡ verdictOf term R S }
+    ensures { (R S : Expr) → Stand k.now classes.now at R S → result ≡ verdict_of term R S }
 {
     let mut left = [0; STOPS];
     let mut right = [0; STOPS];
@@ -101,7 +101,7 @@ fn judge_classed(
 pub fn judge(k: &[u16], at: usize, other: usize, term: bool) -> Verdict
     requires k_len_bound { length k.now ≤ desk.question }
     requires two { Two k.now at other }
-    ensures { (R S : Expr) (w v : List ℕ) → Here k.now at R w → Here k.now other S v → result ≡ verdictOf term R S }
+    ensures { (R S : Expr) (w v : List ℕ) → Here k.now at R w → Here k.now other S v → result ≡ verdict_of term R S }
 {
     let mut ends = [0; QUESTION];
     let mut nulls = [false; QUESTION];

@@ -1,8 +1,8 @@
 // The pairs of states that a walk has met, in the order in which it met them. A pair is looked for only among those of its chain, by a number made of
 // its two states. Heads and links hold a place plus one; 0 ends a chain.
 ghost use Rattle.std.specs.Prelude.{◌≡◌, ◌+◌, ◌<◌, ◌≤◌, set};
-ghost use Rattle.language.specs.Limits.{walkedPairs};
-ghost use Rattle.clash.specs.Chains.{chainOf, Chained, Tested, Found, Met};
+ghost use Rattle.language.specs.Limits.{walked_pairs};
+ghost use Rattle.clash.specs.Chains.{chain_of, Chained, Tested, Found, Met};
 
 use language::limits::PAIRS;
 use language::wide;
@@ -15,7 +15,7 @@ pub(crate) const CHAINS: usize = 4093;
 
 // Which chain a pair is in.
 fn chain_of(a: u16, b: u16) -> usize
-    ensures value { result ≡ chainOf a b }
+    ensures value { result ≡ chain_of a b }
     ensures upper_bound { result < 4093 }
 {
     (a as usize * 769 + b as usize) % 4093
@@ -23,7 +23,7 @@ fn chain_of(a: u16, b: u16) -> usize
 
 // Whether the pair stands at i.
 fn stands(left: &[u16; STOPS], right: &[u16; STOPS], i: usize, a: u16, b: u16) -> bool
-    requires { i ≤ walkedPairs }
+    requires { i ≤ walked_pairs }
     ensures { Tested left.now right.now a b i result }
 {
     if left[i] == a {
@@ -74,7 +74,7 @@ pub(crate) fn add(
     b: u16,
 )
     requires chained { Chained left.old right.old links.old heads.old n }
-    requires n_le_walked_pairs { (n ≤ walkedPairs) × Found left.old right.old n a b 0 }
+    requires n_le_walked_pairs { (n ≤ walked_pairs) × Found left.old right.old n a b 0 }
     ensures left_after { left.new ≡ set left.old n a }
     ensures right_after { right.new ≡ set right.old n b }
     ensures chained_2 { Chained left.new right.new links.new heads.new (n + 1) }

@@ -6,15 +6,15 @@ use Rattle.language.specs.declared.Kind.TheVariants as kind
 use Rattle.language.specs.declared.Refusal.TheVariants.{LongWalk}
 use Rattle.language.specs.Limits.{desk}
 use Rattle.language.specs.Kinds.{pick, kind_of}
-use Rattle.language.specs.Trees.{Hedge, ε, tvar, hvar, node, Expr, Literal, eqn, mem, Conj, isUnordered}
-use Rattle.language.specs.Writing.{exprWords, literalWords}
+use Rattle.language.specs.Trees.{Hedge, ε, tvar, hvar, node, Expr, Literal, eqn, mem, Conj, is_unordered}
+use Rattle.language.specs.Writing.{expr_words, literal_words}
 use Rattle.rules.specs.Looks.{empty}
 use Rattle.rules.specs.Reply.{Reply, nothing, results, stops}
 use Rattle.rules.specs.Clash.{mentions}
 use Rattle.expressions.specs.Standing.{Here}
 use Rattle.clash.specs.declared.Verdict.{Verdict}
 use Rattle.clash.specs.declared.Verdict.TheVariants.{Shares, Clashes, Long}
-use Rattle.clash.specs.Judging.{verdictOf}
+use Rattle.clash.specs.Judging.{verdict_of}
 use Rattle.clashes.specs.declared.Lone.{Lone}
 use Rattle.clashes.specs.declared.Lone.TheVariants.{Nothing, Term, Run}
 use Rattle.clashes.specs.declared.Clashing.{Clashing}
@@ -22,97 +22,97 @@ use Rattle.clashes.specs.declared.Clashing.TheVariants.{Nowhere, At, Stopped}
 
 -- ---- an unordered symbol among words
 
-abbrev pub kindUnordered : Signature → Kind → Bool
-kindUnordered σ kind.End = false
-kindUnordered σ (kind.Term x) = false
-kindUnordered σ (kind.Run p) = false
-kindUnordered σ (kind.Symbol f) = isUnordered σ f
-kindUnordered σ (kind.Function X) = false
-kindUnordered σ kind.Equation = false
-kindUnordered σ kind.Membership = false
-kindUnordered σ kind.Eps = false
-kindUnordered σ kind.Cat = false
-kindUnordered σ kind.Alt = false
-kindUnordered σ kind.Star = false
-kindUnordered σ kind.Other = false
+abbrev pub kind_unordered : Signature → Kind → Bool
+kind_unordered σ kind.End = false
+kind_unordered σ (kind.Term x) = false
+kind_unordered σ (kind.Run p) = false
+kind_unordered σ (kind.Symbol f) = is_unordered σ f
+kind_unordered σ (kind.Function X) = false
+kind_unordered σ kind.Equation = false
+kind_unordered σ kind.Membership = false
+kind_unordered σ kind.Eps = false
+kind_unordered σ kind.Cat = false
+kind_unordered σ kind.Alt = false
+kind_unordered σ kind.Star = false
+kind_unordered σ kind.Other = false
 
-abbrev pub someUnordered : Signature → List ℕ → Bool
-someUnordered σ [] = false
-someUnordered σ (w ∷ ws) = kindUnordered σ (kind_of desk w) || someUnordered σ ws
+abbrev pub some_unordered : Signature → List ℕ → Bool
+some_unordered σ [] = false
+some_unordered σ (w ∷ ws) = kind_unordered σ (kind_of desk w) || some_unordered σ ws
 
 -- ---- the lone variable of a test
 
-abbrev pub loneIn : Hedge → Lone
-loneIn ε = Nothing
-loneIn (tvar x r) = pick (empty r) (Term x) Nothing
-loneIn (hvar p r) = pick (empty r) (Run p) Nothing
-loneIn (node f c r) = Nothing
+abbrev pub lone_in : Hedge → Lone
+lone_in ε = Nothing
+lone_in (tvar x r) = pick (empty r) (Term x) Nothing
+lone_in (hvar p r) = pick (empty r) (Run p) Nothing
+lone_in (node f c r) = Nothing
 
-abbrev pub loneOf : Literal → Lone
-loneOf (eqn l r) = Nothing
-loneOf (mem h R) = loneIn h
+abbrev pub lone_of : Literal → Lone
+lone_of (eqn l r) = Nothing
+lone_of (mem h R) = lone_in h
 
 -- as the kind of a word says
-abbrev pub loneKind : Kind → Lone
-loneKind kind.End = Nothing
-loneKind (kind.Term x) = Term x
-loneKind (kind.Run p) = Run p
-loneKind (kind.Symbol f) = Nothing
-loneKind (kind.Function X) = Nothing
-loneKind kind.Equation = Nothing
-loneKind kind.Membership = Nothing
-loneKind kind.Eps = Nothing
-loneKind kind.Cat = Nothing
-loneKind kind.Alt = Nothing
-loneKind kind.Star = Nothing
-loneKind kind.Other = Nothing
+abbrev pub lone_kind : Kind → Lone
+lone_kind kind.End = Nothing
+lone_kind (kind.Term x) = Term x
+lone_kind (kind.Run p) = Run p
+lone_kind (kind.Symbol f) = Nothing
+lone_kind (kind.Function X) = Nothing
+lone_kind kind.Equation = Nothing
+lone_kind kind.Membership = Nothing
+lone_kind kind.Eps = Nothing
+lone_kind kind.Cat = Nothing
+lone_kind kind.Alt = Nothing
+lone_kind kind.Star = Nothing
+lone_kind kind.Other = Nothing
 
-abbrev pub isTerm : Lone → Bool
-isTerm Nothing = false
-isTerm (Term x) = true
-isTerm (Run p) = false
+abbrev pub is_term : Lone → Bool
+is_term Nothing = false
+is_term (Term x) = true
+is_term (Run p) = false
 
 -- both are one variable
-abbrev pub sameLone : Lone → Lone → Bool
-sameLone Nothing b = false
-sameLone (Term x) Nothing = false
-sameLone (Term x) (Term y) = eqb x.0 y.0
-sameLone (Term x) (Run q) = false
-sameLone (Run p) Nothing = false
-sameLone (Run p) (Term y) = false
-sameLone (Run p) (Run q) = eqb p.0 q.0
+abbrev pub same_lone : Lone → Lone → Bool
+same_lone Nothing b = false
+same_lone (Term x) Nothing = false
+same_lone (Term x) (Term y) = eqb x.0 y.0
+same_lone (Term x) (Run q) = false
+same_lone (Run p) Nothing = false
+same_lone (Run p) (Term y) = false
+same_lone (Run p) (Run q) = eqb p.0 q.0
 
 -- ---- two tests
 
 -- "Pairs that mention an unordered symbol are passed over"
 unfoldable pub test_of : Signature → Bool → Expr → Expr → Verdict
-test_of σ term R S = pick (mentions (isUnordered σ) R || mentions (isUnordered σ) S) Shares (verdictOf term R S)
+test_of σ term R S = pick (mentions (is_unordered σ) R || mentions (is_unordered σ) S) Shares (verdict_of term R S)
 
 -- of the expressions that stand from `at` to `end` and from `other` to `last`
 pub record Tested (k : List ℕ) (at end other last : ℕ) (term : Bool) (σ : Signature) (r : Verdict) : Type 0 where
-  pub each : (R S : Expr) (w v : List ℕ) → Here k at R w → Here k other S v → end ≡ at + length (exprWords R) → last ≡ other + length (exprWords S) → r ≡ test_of σ term R S
+  pub each : (R S : Expr) (w v : List ℕ) → Here k at R w → Here k other S v → end ≡ at + length (expr_words R) → last ≡ other + length (expr_words S) → r ≡ test_of σ term R S
 
 -- ---- a test and those behind it
 
-abbrev pub thenOf : Verdict → Verdict → Verdict
-thenOf Shares b = b
-thenOf Clashes b = Clashes
-thenOf Long b = Long
+abbrev pub then_of : Verdict → Verdict → Verdict
+then_of Shares b = b
+then_of Clashes b = Clashes
+then_of Long b = Long
 
 -- "in the order of their literals, until one clashes"
-abbrev pub behindOf : Signature → Lone → Expr → Conj → Verdict
-behindOf σ x R [] = Shares
-behindOf σ x R (eqn l r ∷ k) = behindOf σ x R k
-behindOf σ x R (mem h S ∷ k) = pick (sameLone x (loneIn h)) (thenOf (test_of σ (isTerm x) R S) (behindOf σ x R k)) (behindOf σ x R k)
+abbrev pub behind_of : Signature → Lone → Expr → Conj → Verdict
+behind_of σ x R [] = Shares
+behind_of σ x R (eqn l r ∷ k) = behind_of σ x R k
+behind_of σ x R (mem h S ∷ k) = pick (same_lone x (lone_in h)) (then_of (test_of σ (is_term x) R S) (behind_of σ x R k)) (behind_of σ x R k)
 
-abbrev pub replyOf : Signature → Literal → Conj → Verdict
-replyOf σ (eqn l r) behind = Shares
-replyOf σ (mem h R) behind = behindOf σ (loneIn h) R behind
+abbrev pub reply_of : Signature → Literal → Conj → Verdict
+reply_of σ (eqn l r) behind = Shares
+reply_of σ (mem h R) behind = behind_of σ (lone_in h) R behind
 
 -- the first literal that clashes with a later one, `at` being the place of the first
-abbrev pub firstClash : Signature → ℕ → Conj → Clashing
-firstClash σ at [] = Nowhere
-firstClash σ at (l ∷ k) = elim (replyOf σ l k) [ Shares ↦ firstClash σ (at + length (literalWords l)) k | Clashes ↦ At at | Long ↦ Stopped ]
+abbrev pub first_clash : Signature → ℕ → Conj → Clashing
+first_clash σ at [] = Nowhere
+first_clash σ at (l ∷ k) = elim (reply_of σ l k) [ Shares ↦ first_clash σ (at + length (literal_words l)) k | Clashes ↦ At at | Long ↦ Stopped ]
 
 -- what the rule comes to at such a literal
 abbrev pub answer_of : Verdict → Reply (List Conj)

@@ -4,11 +4,11 @@ ghost use Rattle.std.proofs.Math.Seq.{slice};
 ghost use Rattle.language.specs.Limits.{desk};
 ghost use Rattle.language.specs.Kinds.{kind_of};
 ghost use Rattle.language.specs.Trees.{Literal, Conj};
-ghost use Rattle.language.specs.Writing.{conjWords};
-ghost use Rattle.language.specs.Fine.{fineConj};
+ghost use Rattle.language.specs.Writing.{conj_words};
+ghost use Rattle.language.specs.Fine.{fine_conj};
 ghost use Rattle.views.specs.Standing.{LiteralAt, SomeLiteral, Conjunction};
 ghost use Rattle.clash.specs.Judging.{Two};
-ghost use Rattle.clashes.specs.Pairs.{kindUnordered, someUnordered, loneOf, loneKind, isTerm, sameLone, Tested, replyOf, firstClash};
+ghost use Rattle.clashes.specs.Pairs.{kind_unordered, some_unordered, lone_of, lone_kind, is_term, same_lone, Tested, reply_of, first_clash};
 
 use clash::{Verdict, judge};
 use language::{HedgeVar, Kind, Signature, TermVar, classify, is_unordered};
@@ -19,7 +19,7 @@ const BEFORE_TEST: usize = 3;
 
 // Whether a word is that of an unordered symbol.
 fn unordered_word(x: u16, s: Signature) -> bool
-    ensures { result ≡ kindUnordered s (kind_of desk x) }
+    ensures { result ≡ kind_unordered s (kind_of desk x) }
 {
     match classify(x) {
         Kind::Symbol(f) => is_unordered(s, f),
@@ -30,7 +30,7 @@ fn unordered_word(x: u16, s: Signature) -> bool
 // Whether an unordered symbol stands among the words from one place to another.
 fn mentions(k: &[u16], from: usize, to: usize, s: Signature) -> bool
     requires { to ≤ length k.now }
-    ensures { result ≡ someUnordered s (slice from to k.now) }
+    ensures { result ≡ some_unordered s (slice from to k.now) }
 {
     let mut i = from;
     while i < to {
@@ -51,7 +51,7 @@ enum Lone {
 }
 
 fn lone_word(x: u16) -> Lone
-    ensures { result ≡ loneKind (kind_of desk x) }
+    ensures { result ≡ lone_kind (kind_of desk x) }
 {
     match classify(x) {
         Kind::Term(y) => Lone::Term(y),
@@ -63,7 +63,7 @@ fn lone_word(x: u16) -> Lone
 // Of the literal at a place.
 fn lone_at(k: &[u16], at: usize) -> Lone
     requires { at < length k.now }
-    ensures { (before : Conj) (l : Literal) (behind : Conj) → LiteralAt k.now at before l behind → result ≡ loneOf l }
+    ensures { (before : Conj) (l : Literal) (behind : Conj) → LiteralAt k.now at before l behind → result ≡ lone_of l }
 {
     if k[at] == 5000 {
         return Lone::Nothing;
@@ -75,7 +75,7 @@ fn lone_at(k: &[u16], at: usize) -> Lone
 }
 
 fn is_term(x: Lone) -> bool
-    ensures { result ≡ isTerm x }
+    ensures { result ≡ is_term x }
 {
     match x {
         Lone::Nothing => false,
@@ -85,7 +85,7 @@ fn is_term(x: Lone) -> bool
 }
 
 fn same_lone(a: Lone, b: Lone) -> bool
-    ensures { result ≡ sameLone a b }
+    ensures { result ≡ same_lone a b }
 {
     match a {
         Lone::Nothing => false,
@@ -129,7 +129,7 @@ fn test_pair(
 pub fn test_behind(k: &[u16], at: usize, s: Signature) -> Verdict
     requires at_in_bounds { (at < length k.now) × (length k.now ≤ desk.question) }
     requires some_literal { SomeLiteral k.now at }
-    ensures { (before : Conj) (l : Literal) (behind : Conj) → LiteralAt k.now at before l behind → result ≡ replyOf s l behind }
+    ensures { (before : Conj) (l : Literal) (behind : Conj) → LiteralAt k.now at before l behind → result ≡ reply_of s l behind }
 {
     let x = lone_at(k, at);
     let term = is_term(x);
@@ -162,7 +162,7 @@ pub enum Clashing {
 pub fn first_clash(k: &[u16], s: Signature) -> Clashing
     requires k_len_bound { length k.now ≤ desk.question }
     requires conjunction { Conjunction k.now }
-    ensures { (c : Conj) → fineConj desk c → k.now ≡ conjWords c → result ≡ firstClash s 0 c }
+    ensures { (c : Conj) → fine_conj desk c → k.now ≡ conj_words c → result ≡ first_clash s 0 c }
 {
     let mut i = 0;
     while i < k.len() {

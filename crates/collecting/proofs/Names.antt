@@ -6,18 +6,18 @@ use mathlib.Core.List.{List, [], ◌∷◌, ◌++◌, append_assoc}
 use Rattle.language.specs.Trees.{Functor, symbol, fvar, Hedge, ε, tvar, hvar, node, Expr, eps, cat, alt, star, over, Literal, eqn, mem, Conj}
 use Rattle.grammar.specs.Tokens.{Token, functor, opens}
 use Rattle.grammar.specs.Grammar.{Place, begins, follows, inside, Spells, empty, full, ends, more, alone, brackets, part, parts, leaf, tree, Level, atom, starred, choice, listed, within, Means, single, under, group, once, again, only, either, last, then, no-listed, some-listed, Says, equal, member, Literals, final, another, Line, asks_nothing, asks}
-use Rattle.texts.specs.Numbering.{Class, symbols, terms, hedges, functions, at_s, atT, atH, atX, atF, inHedge, inExpr, inLiteral, inConj}
-use Rattle.collecting.specs.Collecting.{namesIn}
+use Rattle.texts.specs.Numbering.{Class, symbols, terms, hedges, functions, at_s, at_t, at_h, at_x, at_f, in_hedge, in_expr, in_literal, in_conj}
+use Rattle.collecting.specs.Collecting.{names_in}
 
 module _ (κ : Class) where
-  by-functor : (f : Functor) (ts : List Token) → namesIn κ false (functor f ∷ ts) ≡ atF κ f (namesIn κ true ts)
+  by-functor : (f : Functor) (ts : List Token) → names_in κ false (functor f ∷ ts) ≡ at_f κ f (names_in κ true ts)
   by-functor (symbol f) ts = refl
   by-functor (fvar X) ts = refl
 
   abbrev Side : Place → Hedge → List Token → List Token → Type 0
-  Side (begins b) h ts us = namesIn κ false ts ≡ inHedge κ h (namesIn κ true us)
-  Side (follows b) h ts us = namesIn κ true ts ≡ inHedge κ h (namesIn κ true us)
-  Side inside h ts us = namesIn κ false ts ≡ inHedge κ h (namesIn κ true us)
+  Side (begins b) h ts us = names_in κ false ts ≡ in_hedge κ h (names_in κ true us)
+  Side (follows b) h ts us = names_in κ true ts ≡ in_hedge κ h (names_in κ true us)
+  Side inside h ts us = names_in κ false ts ≡ in_hedge κ h (names_in κ true us)
 
   side : {p : Place} {h : Hedge} {ts us : List Token} → Spells p h ts us → Side p h ts us
   side empty = refl
@@ -26,44 +26,44 @@ module _ (κ : Class) where
   side (more s) = side s
   side alone = refl
   side (brackets s) = side s
-  side (part {b} {x} s) = ap (atT κ x.0) (side s)
-  side (parts {b} {p} s) = ap (atH κ p.0) (side s)
-  side (leaf {b} {f} {r} {ts} s) = by-functor f ts ∙ ap (atF κ f) (side s)
-  side (tree {b} {f} {c} {r} {ts} s t) = by-functor f (opens ∷ ts) ∙ ap (atF κ f) (side s ∙ ap (inHedge κ c) (side t))
+  side (part {b} {x} s) = ap (at_t κ x.0) (side s)
+  side (parts {b} {p} s) = ap (at_h κ p.0) (side s)
+  side (leaf {b} {f} {r} {ts} s) = by-functor f ts ∙ ap (at_f κ f) (side s)
+  side (tree {b} {f} {c} {r} {ts} s t) = by-functor f (opens ∷ ts) ∙ ap (at_f κ f) (side s ∙ ap (in_hedge κ c) (side t))
 
   -- no name stands first
   abbrev Quiet : List Token → Type 0
-  Quiet ts = namesIn κ true ts ≡ namesIn κ false ts
+  Quiet ts = names_in κ true ts ≡ names_in κ false ts
 
   abbrev Shape : Level → Expr → List Token → List Token → Type 0
-  Shape atom R ts us = Quiet us → namesIn κ false ts ≡ inExpr κ R (namesIn κ false us)
-  Shape starred R ts us = Quiet us → namesIn κ false ts ≡ inExpr κ R (namesIn κ false us)
-  Shape choice R ts us = Quiet us → namesIn κ false ts ≡ inExpr κ R (namesIn κ false us)
-  Shape listed R ts us = namesIn κ false ts ≡ inExpr κ R (namesIn κ true us)
-  Shape within R ts us = namesIn κ false ts ≡ inExpr κ R (namesIn κ true us)
+  Shape atom R ts us = Quiet us → names_in κ false ts ≡ in_expr κ R (names_in κ false us)
+  Shape starred R ts us = Quiet us → names_in κ false ts ≡ in_expr κ R (names_in κ false us)
+  Shape choice R ts us = Quiet us → names_in κ false ts ≡ in_expr κ R (names_in κ false us)
+  Shape listed R ts us = names_in κ false ts ≡ in_expr κ R (names_in κ true us)
+  Shape within R ts us = names_in κ false ts ≡ in_expr κ R (names_in κ true us)
 
   shape : {l : Level} {R : Expr} {ts us : List Token} → Means l R ts us → Shape l R ts us
   shape (single {f} {ts}) = λ q. ap (at_s κ f.0) q
-  shape (under {f} {R} m) = λ q. ap (at_s κ f.0) (shape m ∙ ap (inExpr κ R) q)
-  shape (group {R} m) = λ q. shape m ∙ ap (inExpr κ R) q
+  shape (under {f} {R} m) = λ q. ap (at_s κ f.0) (shape m ∙ ap (in_expr κ R) q)
+  shape (group {R} m) = λ q. shape m ∙ ap (in_expr κ R) q
   shape (once m) = shape m
   shape (again m) = λ q. shape m refl
   shape (only m) = shape m
-  shape (either {a} m n) = λ q. shape m refl ∙ ap (inExpr κ a) (shape n q)
+  shape (either {a} m n) = λ q. shape m refl ∙ ap (in_expr κ a) (shape n q)
   shape (last m) = shape m refl
-  shape (then {a} m n) = shape m refl ∙ ap (inExpr κ a) (shape n)
+  shape (then {a} m n) = shape m refl ∙ ap (in_expr κ a) (shape n)
   shape no-listed = refl
   shape (some-listed m) = shape m
 
-  says : {l : Literal} {ts us : List Token} → Says l ts us → Quiet us → namesIn κ false ts ≡ inLiteral κ l (namesIn κ false us)
-  says (equal {l} {r} s t) q = side s ∙ ap (inHedge κ l) (side t ∙ ap (inHedge κ r) q)
-  says (member {h} s m) q = side s ∙ ap (inHedge κ h) (shape m q)
+  says : {l : Literal} {ts us : List Token} → Says l ts us → Quiet us → names_in κ false ts ≡ in_literal κ l (names_in κ false us)
+  says (equal {l} {r} s t) q = side s ∙ ap (in_hedge κ l) (side t ∙ ap (in_hedge κ r) q)
+  says (member {h} s m) q = side s ∙ ap (in_hedge κ h) (shape m q)
 
-  literals : {k : Conj} {ts : List Token} → Literals k ts → namesIn κ false ts ≡ inConj κ k []
+  literals : {k : Conj} {ts : List Token} → Literals k ts → names_in κ false ts ≡ in_conj κ k []
   literals (final s) = says s refl
-  literals (another {l} s t) = says s refl ∙ ap (inLiteral κ l) (literals t)
+  literals (another {l} s t) = says s refl ∙ ap (in_literal κ l) (literals t)
 
-  pub names-in-line : {k : Conj} {ts : List Token} → Line k ts → namesIn κ false ts ≡ inConj κ k []
+  pub names-in-line : {k : Conj} {ts : List Token} → Line k ts → names_in κ false ts ≡ in_conj κ k []
   names-in-line asks_nothing = refl
   names-in-line (asks t) = literals t
 
@@ -78,57 +78,57 @@ module _ (κ : Class) where
       on hedges = refl
       on functions = refl
 
-  at-t : (n : ℕ) (l k : List ℕ) → atT κ n (l ++ k) ≡ atT κ n l ++ k
+  at-t : (n : ℕ) (l k : List ℕ) → at_t κ n (l ++ k) ≡ at_t κ n l ++ k
   at-t n l k = on κ
     where
-      on : (c : Class) → atT c n (l ++ k) ≡ atT c n l ++ k
+      on : (c : Class) → at_t c n (l ++ k) ≡ at_t c n l ++ k
       on symbols = refl
       on terms = refl
       on hedges = refl
       on functions = refl
 
-  at-h : (n : ℕ) (l k : List ℕ) → atH κ n (l ++ k) ≡ atH κ n l ++ k
+  at-h : (n : ℕ) (l k : List ℕ) → at_h κ n (l ++ k) ≡ at_h κ n l ++ k
   at-h n l k = on κ
     where
-      on : (c : Class) → atH c n (l ++ k) ≡ atH c n l ++ k
+      on : (c : Class) → at_h c n (l ++ k) ≡ at_h c n l ++ k
       on symbols = refl
       on terms = refl
       on hedges = refl
       on functions = refl
 
-  at_x : (n : ℕ) (l k : List ℕ) → atX κ n (l ++ k) ≡ atX κ n l ++ k
-  at_x n l k = on κ
+  at_x_lem : (n : ℕ) (l k : List ℕ) → at_x κ n (l ++ k) ≡ at_x κ n l ++ k
+  at_x_lem n l k = on κ
     where
-      on : (c : Class) → atX c n (l ++ k) ≡ atX c n l ++ k
+      on : (c : Class) → at_x c n (l ++ k) ≡ at_x c n l ++ k
       on symbols = refl
       on terms = refl
       on hedges = refl
       on functions = refl
 
-  at_f : (f : Functor) (l k : List ℕ) → atF κ f (l ++ k) ≡ atF κ f l ++ k
-  at_f (symbol f) l k = at-s f.0 l k
-  at_f (fvar X) l k = at_x X.0 l k
+  at_f_lem : (f : Functor) (l k : List ℕ) → at_f κ f (l ++ k) ≡ at_f κ f l ++ k
+  at_f_lem (symbol f) l k = at-s f.0 l k
+  at_f_lem (fvar X) l k = at_x_lem X.0 l k
 
   both_behind : (A B : List ℕ → List ℕ) → ((m : List ℕ) → A m ≡ A [] ++ m) → ((m : List ℕ) → B m ≡ B [] ++ m) → (k : List ℕ) → A (B k) ≡ A (B []) ++ k
   both_behind A B a b k = a (B k) ∙ ap (λ l. A [] ++ l) (b k) ∙ sym (append_assoc (A []) (B []) k) ∙ ap (λ l. l ++ k) (sym (a (B [])))
 
-  hedge-behind : (h : Hedge) (k : List ℕ) → inHedge κ h k ≡ inHedge κ h [] ++ k
+  hedge-behind : (h : Hedge) (k : List ℕ) → in_hedge κ h k ≡ in_hedge κ h [] ++ k
   hedge-behind ε k = refl
-  hedge-behind (tvar x r) k = ap (atT κ x.0) (hedge-behind r k) ∙ at-t x.0 (inHedge κ r []) k
-  hedge-behind (hvar p r) k = ap (atH κ p.0) (hedge-behind r k) ∙ at-h p.0 (inHedge κ r []) k
-  hedge-behind (node f a r) k = ap (atF κ f) (both_behind (inHedge κ a) (inHedge κ r) (hedge-behind a) (hedge-behind r) k) ∙ at_f f (inHedge κ a (inHedge κ r [])) k
+  hedge-behind (tvar x r) k = ap (at_t κ x.0) (hedge-behind r k) ∙ at-t x.0 (in_hedge κ r []) k
+  hedge-behind (hvar p r) k = ap (at_h κ p.0) (hedge-behind r k) ∙ at-h p.0 (in_hedge κ r []) k
+  hedge-behind (node f a r) k = ap (at_f κ f) (both_behind (in_hedge κ a) (in_hedge κ r) (hedge-behind a) (hedge-behind r) k) ∙ at_f_lem f (in_hedge κ a (in_hedge κ r [])) k
 
-  expr-behind : (R : Expr) (k : List ℕ) → inExpr κ R k ≡ inExpr κ R [] ++ k
+  expr-behind : (R : Expr) (k : List ℕ) → in_expr κ R k ≡ in_expr κ R [] ++ k
   expr-behind eps k = refl
-  expr-behind (cat a b) k = both_behind (inExpr κ a) (inExpr κ b) (expr-behind a) (expr-behind b) k
-  expr-behind (alt a b) k = both_behind (inExpr κ a) (inExpr κ b) (expr-behind a) (expr-behind b) k
+  expr-behind (cat a b) k = both_behind (in_expr κ a) (in_expr κ b) (expr-behind a) (expr-behind b) k
+  expr-behind (alt a b) k = both_behind (in_expr κ a) (in_expr κ b) (expr-behind a) (expr-behind b) k
   expr-behind (star a) k = expr-behind a k
-  expr-behind (over f a) k = ap (at_s κ f.0) (expr-behind a k) ∙ at-s f.0 (inExpr κ a []) k
+  expr-behind (over f a) k = ap (at_s κ f.0) (expr-behind a k) ∙ at-s f.0 (in_expr κ a []) k
 
-  literal-behind : (l : Literal) (k : List ℕ) → inLiteral κ l k ≡ inLiteral κ l [] ++ k
-  literal-behind (eqn l r) k = both_behind (inHedge κ l) (inHedge κ r) (hedge-behind l) (hedge-behind r) k
-  literal-behind (mem h R) k = both_behind (inHedge κ h) (inExpr κ R) (hedge-behind h) (expr-behind R) k
+  literal-behind : (l : Literal) (k : List ℕ) → in_literal κ l k ≡ in_literal κ l [] ++ k
+  literal-behind (eqn l r) k = both_behind (in_hedge κ l) (in_hedge κ r) (hedge-behind l) (hedge-behind r) k
+  literal-behind (mem h R) k = both_behind (in_hedge κ h) (in_expr κ R) (hedge-behind h) (expr-behind R) k
 
-  pub conj-behind : (j : Conj) (k : List ℕ) → inConj κ j k ≡ inConj κ j [] ++ k
+  pub conj-behind : (j : Conj) (k : List ℕ) → in_conj κ j k ≡ in_conj κ j [] ++ k
   conj-behind [] k = refl
-  conj-behind (l ∷ j) k = both_behind (inLiteral κ l) (inConj κ j) (literal-behind l) (conj-behind j) k
+  conj-behind (l ∷ j) k = both_behind (in_literal κ l) (in_conj κ j) (literal-behind l) (conj-behind j) k

@@ -16,18 +16,18 @@ use Rattle.language.specs.Trees.{Conj}
 use Rattle.language.proofs.Offsets.{length-between}
 use Rattle.grammar.specs.Tokens.{Token, Tokens, puts, tokens}
 use Rattle.grammar.specs.Grammar.{Lines, no_line, blank, line, lines_of, ahead}
-use Rattle.texts.specs.Numbering.{Class, symbols, terms, hedges, functions, at_s, atT, atH, atX, inAll}
+use Rattle.texts.specs.Numbering.{Class, symbols, terms, hedges, functions, at_s, at_t, at_h, at_x, in_all}
 use Rattle.lexing.specs.declared.Mark.{Mark}
 use Rattle.lexing.specs.declared.Mark.TheVariants.{End, Bad, Symbol, One, Run, Function, Equals, Comma, Opens, Closes, Plus, Times}
 use Rattle.lexing.specs.declared.Piece.{Piece}
-use Rattle.lexing.specs.Bytes.{others, nameFrom, sortOf}
+use Rattle.lexing.specs.Bytes.{others, name_from, sort_of}
 use Rattle.lexing.specs.Bytes as Bytes
 use Rattle.lexing.specs.Pieces.{here, front, next_of, Next}
 use Rattle.lexing.proofs.Laws.{standing}
 use Rattle.lexing.proofs.Pieces.{next-law}
-use Rattle.text_names.specs.Shelves.{name_at, listed, width, shelfOf, Shelf, Shelves, entering, enterAll, Entered, enterOn}
+use Rattle.text_names.specs.Shelves.{name_at, listed, width, shelf_of, Shelf, Shelves, entering, enter_all, Entered, enter_on}
 use Rattle.text_names.proofs.Shelving.{enter-law}
-use Rattle.collecting.specs.Collecting.{namesIn, own, behind, shelfAt, tookOn, LineOn, line-ends, line-goes, LinesOn, last_line, one_more, Took, LineTaken, Taken}
+use Rattle.collecting.specs.Collecting.{names_in, own, behind, shelf_at, took_on, LineOn, line-ends, line-goes, LinesOn, last_line, one_more, Took, LineTaken, Taken}
 use Rattle.collecting.proofs.Names.{names-in-line, conj-behind}
 
 module _ (L : Limits) (text : List ℕ) where
@@ -60,62 +60,62 @@ module _ (L : Limits) (text : List ℕ) where
 
   module _ (names : List ℕ) (s : Shelves L names) (at : ℕ) where
     module _ (names' : List ℕ) where
-      keeps : (base : ℕ) → Entered L text names base at names' → (c : Class) → ((i : ℕ) → shelfOf L c ≤ i → i < shelfOf L c + width L → get_or names' i 0 ≡ get_or names i 0)
-          → Shelf L names' (shelfOf L c) × (listed text names' (shelfOf L c) ≡ listed text names (shelfOf L c))
+      keeps : (base : ℕ) → Entered L text names base at names' → (c : Class) → ((i : ℕ) → shelf_of L c ≤ i → i < shelf_of L c + width L → get_or names' i 0 ≡ get_or names i 0)
+          → Shelf L names' (shelf_of L c) × (listed text names' (shelf_of L c) ≡ listed text names (shelf_of L c))
       keeps base e c f =
           let w = (s c).within in
           let l = e.len in
-          let k = f (shelfOf L c) (omega arith) (omega arith) in
+          let k = f (shelf_of L c) (omega arith) (omega arith) in
           let few = (s c).few in
-          (record { within = omega arith; few = subst (λ n. n ≤ L.each + 1) (sym k) few }, listed_same names names' (shelfOf L c) (s c) e.len f)
+          (record { within = omega arith; few = subst (λ n. n ≤ L.each + 1) (sym k) few }, listed_same names names' (shelf_of L c) (s c) e.len f)
 
-      new : (c : Class) → Entered L text names (shelfOf L c) at names' → Shelf L names' (shelfOf L c)
+      new : (c : Class) → Entered L text names (shelf_of L c) at names' → Shelf L names' (shelf_of L c)
       new c e = let w = (s c).within in let l = e.len in record { within = omega arith; few = e.few }
 
       -- the shelf of each class, where one of them has a name more
-      module _ (to : Class) (e : Entered L text names (shelfOf L to) at names') where
-        lower : (c : Class) → shelfOf L c + width L ≤ shelfOf L to → Shelf L names' (shelfOf L c) × (listed text names' (shelfOf L c) ≡ listed text names (shelfOf L c))
-        lower c p = keeps (shelfOf L to) e c (λ i q r. e.low i (omega arith))
+      module _ (to : Class) (e : Entered L text names (shelf_of L to) at names') where
+        lower : (c : Class) → shelf_of L c + width L ≤ shelf_of L to → Shelf L names' (shelf_of L c) × (listed text names' (shelf_of L c) ≡ listed text names (shelf_of L c))
+        lower c p = keeps (shelf_of L to) e c (λ i q r. e.low i (omega arith))
 
-        higher : (c : Class) → shelfOf L to + width L ≤ shelfOf L c → Shelf L names' (shelfOf L c) × (listed text names' (shelfOf L c) ≡ listed text names (shelfOf L c))
-        higher c p = keeps (shelfOf L to) e c (λ i q r. e.high i (omega arith))
+        higher : (c : Class) → shelf_of L to + width L ≤ shelf_of L c → Shelf L names' (shelf_of L c) × (listed text names' (shelf_of L c) ≡ listed text names (shelf_of L c))
+        higher c p = keeps (shelf_of L to) e c (λ i q r. e.high i (omega arith))
 
       abbrev One' : Class → Mark → Bool → Type 0
-      One' c m b = Shelf L names' (shelfOf L c) × (listed text names' (shelfOf L c) ≡ enterAll L (listed text names (shelfOf L c)) (own c b m (name_at text at)))
+      One' c m b = Shelf L names' (shelf_of L c) × (listed text names' (shelf_of L c) ≡ enter_all L (listed text names (shelf_of L c)) (own c b m (name_at text at)))
 
-      took : (m : Mark) (b : Bool) → names' ≡ tookOn L text names m b at → length names' ≡ length names → ((c : Class) → One' c m b) → Took L text names m b at names'
+      took : (m : Mark) (b : Bool) → names' ≡ took_on L text names m b at → length names' ≡ length names → ((c : Class) → One' c m b) → Took L text names m b at names'
       took m b o l f = record { on = o; len = l; shelves = λ c. (f c).0; each = λ c. (f c).1 }
 
-      by-term : (b : Bool) → Entered L text names (shelfOf L terms) at names' → (c : Class) → One' c One b
-      unfolding enterAll
+      by-term : (b : Bool) → Entered L text names (shelf_of L terms) at names' → (c : Class) → One' c One b
+      unfolding enter_all
       by-term b e symbols = higher terms e symbols (omega arith)
       by-term b e terms = (new terms e, e.here)
       by-term b e hedges = higher terms e hedges (omega arith)
       by-term b e functions = higher terms e functions (omega arith)
 
-      by-run : (b : Bool) → Entered L text names (shelfOf L hedges) at names' → (c : Class) → One' c Run b
-      unfolding enterAll
+      by-run : (b : Bool) → Entered L text names (shelf_of L hedges) at names' → (c : Class) → One' c Run b
+      unfolding enter_all
       by-run b e symbols = higher hedges e symbols (omega arith)
       by-run b e terms = lower hedges e terms (omega arith)
       by-run b e hedges = (new hedges e, e.here)
       by-run b e functions = higher hedges e functions (omega arith)
 
-      by-symbol : Entered L text names (shelfOf L symbols) at names' → (c : Class) → One' c Symbol false
-      unfolding enterAll
+      by-symbol : Entered L text names (shelf_of L symbols) at names' → (c : Class) → One' c Symbol false
+      unfolding enter_all
       by-symbol e symbols = (new symbols e, e.here)
       by-symbol e terms = lower symbols e terms (omega arith)
       by-symbol e hedges = lower symbols e hedges (omega arith)
       by-symbol e functions = higher symbols e functions (omega arith)
 
-      by-function : (b : Bool) → Entered L text names (shelfOf L functions) at names' → (c : Class) → One' c Function b
-      unfolding enterAll
+      by-function : (b : Bool) → Entered L text names (shelf_of L functions) at names' → (c : Class) → One' c Function b
+      unfolding enter_all
       by-function b e symbols = lower functions e symbols (omega arith)
       by-function b e terms = lower functions e terms (omega arith)
       by-function b e hedges = lower functions e hedges (omega arith)
       by-function b e functions = (new functions e, e.here)
 
       -- a name entered on the shelf of its mark
-      taken-on : (m : Mark) (b : Bool) → names' ≡ tookOn L text names m b at → shelfAt L m b < 4 * width L → Entered L text names (shelfAt L m b) at names' → Took L text names m b at names'
+      taken-on : (m : Mark) (b : Bool) → names' ≡ took_on L text names m b at → shelf_at L m b < 4 * width L → Entered L text names (shelf_at L m b) at names' → Took L text names m b at names'
       taken-on End b o p e = absurd (omega arith)
       taken-on Bad b o p e = absurd (omega arith)
       taken-on Symbol true o p e = absurd (omega arith)
@@ -130,24 +130,24 @@ module _ (L : Limits) (text : List ℕ) where
       taken-on Plus b o p e = absurd (omega arith)
       taken-on Times b o p e = absurd (omega arith)
 
-      taken_at : {m : Mark} {b : Bool} {x : ℕ} → names' ≡ tookOn L text names m b at → x ≡ shelfAt L m b → x < 4 * width L → Entered L text names x at names' → Took L text names m b at names'
+      taken_at : {m : Mark} {b : Bool} {x : ℕ} → names' ≡ took_on L text names m b at → x ≡ shelf_at L m b → x < 4 * width L → Entered L text names x at names' → Took L text names m b at names'
       taken_at {m} {b} {x} o e p t = taken-on m b o (subst (λ n. n < 4 * width L) e p) (subst (λ n. Entered L text names n at names') e t)
 
     -- and none
-    nothing-new : (m : Mark) (b : Bool) → names ≡ tookOn L text names m b at → ((c : Class) → own c b m (name_at text at) ≡ []) → Took L text names m b at names
-    unfolding enterAll
-    nothing-new m b o f = record { on = o; len = refl; shelves = s; each = λ c. sym (ap (enterAll L (listed text names (shelfOf L c))) (f c)) }
+    nothing-new : (m : Mark) (b : Bool) → names ≡ took_on L text names m b at → ((c : Class) → own c b m (name_at text at) ≡ []) → Took L text names m b at names
+    unfolding enter_all
+    nothing-new m b o f = record { on = o; len = refl; shelves = s; each = λ c. sym (ap (enter_all L (listed text names (shelf_of L c))) (f c)) }
 
     -- what the code does is what it says, either way
-    on_none : (m : Mark) (b : Bool) → 4 * width L ≤ shelfAt L m b → names ≡ tookOn L text names m b at
-    unfolding tookOn
-    on_none m b p = sym (ap (λ z. pick z (enterOn L text names (shelfAt L m b) at) names) (le-ltb (shelfAt L m b) (4 * width L) p))
+    on_none : (m : Mark) (b : Bool) → 4 * width L ≤ shelf_at L m b → names ≡ took_on L text names m b at
+    unfolding took_on
+    on_none m b p = sym (ap (λ z. pick z (enter_on L text names (shelf_at L m b) at) names) (le-ltb (shelf_at L m b) (4 * width L) p))
 
-    on-shelves : (m : Mark) (b : Bool) → shelfAt L m b < 4 * width L → enterOn L text names (shelfAt L m b) at ≡ tookOn L text names m b at
-    unfolding tookOn
-    on-shelves m b p = sym (ap (λ z. pick z (enterOn L text names (shelfAt L m b) at) names) (lt-ltb (shelfAt L m b) (4 * width L) p))
+    on-shelves : (m : Mark) (b : Bool) → shelf_at L m b < 4 * width L → enter_on L text names (shelf_at L m b) at ≡ took_on L text names m b at
+    unfolding took_on
+    on-shelves m b p = sym (ap (λ z. pick z (enter_on L text names (shelf_at L m b) at) names) (lt-ltb (shelf_at L m b) (4 * width L) p))
 
-    not-taken-on : (m : Mark) (b : Bool) → names ≡ tookOn L text names m b at → 4 * width L ≤ shelfAt L m b → Took L text names m b at names
+    not-taken-on : (m : Mark) (b : Bool) → names ≡ took_on L text names m b at → 4 * width L ≤ shelf_at L m b → Took L text names m b at names
     not-taken-on End b o p = nothing-new End b o (λ c. refl)
     not-taken-on Bad b o p = nothing-new Bad b o (λ c. refl)
     not-taken-on Symbol true o p = nothing-new Symbol true o (λ c. refl)
@@ -162,10 +162,10 @@ module _ (L : Limits) (text : List ℕ) where
     not-taken-on Plus b o p = nothing-new Plus b o (λ c. refl)
     not-taken-on Times b o p = nothing-new Times b o (λ c. refl)
 
-    pub not_taken : {m : Mark} {b : Bool} {x : ℕ} → x ≡ shelfAt L m b → 4 * width L ≤ x → Took L text names m b at names
+    pub not_taken : {m : Mark} {b : Bool} {x : ℕ} → x ≡ shelf_at L m b → 4 * width L ≤ x → Took L text names m b at names
     not_taken {m} {b} e p = let q = subst (λ n. 4 * width L ≤ n) e p in not-taken-on m b (on_none m b q) q
 
-    on-shelf : (m : Mark) (b : Bool) → shelfAt L m b < 4 * width L → Shelf L names (shelfAt L m b)
+    on-shelf : (m : Mark) (b : Bool) → shelf_at L m b < 4 * width L → Shelf L names (shelf_at L m b)
     on-shelf End b p = absurd (omega arith)
     on-shelf Bad b p = absurd (omega arith)
     on-shelf Symbol true p = absurd (omega arith)
@@ -180,16 +180,16 @@ module _ (L : Limits) (text : List ℕ) where
     on-shelf Plus b p = absurd (omega arith)
     on-shelf Times b p = absurd (omega arith)
 
-    pub its-shelf : (m : Mark) (b : Bool) {x : ℕ} → x ≡ shelfAt L m b → x < 4 * width L → Shelf L names x
+    pub its-shelf : (m : Mark) (b : Bool) {x : ℕ} → x ≡ shelf_at L m b → x < 4 * width L → Shelf L names x
     its-shelf m b e p = subst (Shelf L names) (sym e) (on-shelf m b (subst (λ n. n < 4 * width L) e p))
 
-    pub taken : {m : Mark} {b : Bool} {x : ℕ} {names' : List ℕ} → x ≡ shelfAt L m b → x < 4 * width L → names' ≡ enterOn L text names x at → Took L text names m b at names'
-    taken {m} {b} {x} {names'} e p t = taken_at names' (t ∙ ap (λ n. enterOn L text names n at) e ∙ on-shelves m b (subst (λ n. n < 4 * width L) e p)) e p (subst (Entered L text names x at) (sym t) (enter-law L text names x at (its-shelf m b e p)))
+    pub taken : {m : Mark} {b : Bool} {x : ℕ} {names' : List ℕ} → x ≡ shelf_at L m b → x < 4 * width L → names' ≡ enter_on L text names x at → Took L text names m b at names'
+    taken {m} {b} {x} {names'} e p t = taken_at names' (t ∙ ap (λ n. enter_on L text names n at) e ∙ on-shelves m b (subst (λ n. n < 4 * width L) e p)) e p (subst (Entered L text names x at) (sym t) (enter-law L text names x at (its-shelf m b e p)))
 
   -- ---- a line
 
-  all-++ : (t l k : List ℕ) → enterAll L (enterAll L t l) k ≡ enterAll L t (l ++ k)
-  unfolding enterAll
+  all-++ : (t l k : List ℕ) → enter_all L (enter_all L t l) k ≡ enter_all L t (l ++ k)
+  unfolding enter_all
   all-++ t [] k = refl
   all-++ t (n ∷ l) k = all-++ (entering L n t) l k
 
@@ -201,10 +201,10 @@ module _ (L : Limits) (text : List ℕ) where
   puts-some t none ts e = none-some e
   puts-some t (some us) ts e = (us, refl, (let z : ts ≡ t ∷ us = cc in z))
 
-  own_first : (c : Class) (b : Bool) (m : Mark) (n : ℕ) (o : Tokens) (ts : List Token) → (sortOf m ≡ 0 → ⊥) → front m n o ≡ some ts → (us : List Token) × (o ≡ some us) × (namesIn c b ts ≡ own c b m n ++ namesIn c (behind m b) us)
+  own_first : (c : Class) (b : Bool) (m : Mark) (n : ℕ) (o : Tokens) (ts : List Token) → (sort_of m ≡ 0 → ⊥) → front m n o ≡ some ts → (us : List Token) × (o ≡ some us) × (names_in c b ts ≡ own c b m n ++ names_in c (behind m b) us)
   own_first c b End n o ts s e = absurd (s refl)
   own_first c b Bad n o ts s e = absurd (s refl)
-  own_first c b Symbol n o ts s e = let w = puts-some _ o ts e in (w.0, w.1, ap (namesIn c b) w.2 ∙ by_bit b w.0)
+  own_first c b Symbol n o ts s e = let w = puts-some _ o ts e in (w.0, w.1, ap (names_in c b) w.2 ∙ by_bit b w.0)
     where
       at-s : (c : Class) (k : List ℕ) → at_s c n k ≡ at_s c n [] ++ k
       at-s symbols k = refl
@@ -212,39 +212,39 @@ module _ (L : Limits) (text : List ℕ) where
       at-s hedges k = refl
       at-s functions k = refl
 
-      by_bit : (b : Bool) (us : List Token) → pick b (namesIn c false us) (at_s c n (namesIn c true us)) ≡ pick b [] (at_s c n []) ++ namesIn c (not b) us
+      by_bit : (b : Bool) (us : List Token) → pick b (names_in c false us) (at_s c n (names_in c true us)) ≡ pick b [] (at_s c n []) ++ names_in c (not b) us
       by_bit true us = refl
-      by_bit false us = at-s c (namesIn c true us)
-  own_first c b One n o ts s e = let w = puts-some _ o ts e in (w.0, w.1, ap (namesIn c b) w.2 ∙ at-t c (namesIn c true w.0))
+      by_bit false us = at-s c (names_in c true us)
+  own_first c b One n o ts s e = let w = puts-some _ o ts e in (w.0, w.1, ap (names_in c b) w.2 ∙ at-t c (names_in c true w.0))
     where
-      at-t : (c : Class) (k : List ℕ) → atT c n k ≡ atT c n [] ++ k
+      at-t : (c : Class) (k : List ℕ) → at_t c n k ≡ at_t c n [] ++ k
       at-t symbols k = refl
       at-t terms k = refl
       at-t hedges k = refl
       at-t functions k = refl
-  own_first c b Run n o ts s e = let w = puts-some _ o ts e in (w.0, w.1, ap (namesIn c b) w.2 ∙ at-h c (namesIn c true w.0))
+  own_first c b Run n o ts s e = let w = puts-some _ o ts e in (w.0, w.1, ap (names_in c b) w.2 ∙ at-h c (names_in c true w.0))
     where
-      at-h : (c : Class) (k : List ℕ) → atH c n k ≡ atH c n [] ++ k
+      at-h : (c : Class) (k : List ℕ) → at_h c n k ≡ at_h c n [] ++ k
       at-h symbols k = refl
       at-h terms k = refl
       at-h hedges k = refl
       at-h functions k = refl
-  own_first c b Function n o ts s e = let w = puts-some _ o ts e in (w.0, w.1, ap (namesIn c b) w.2 ∙ at_x c (namesIn c true w.0))
+  own_first c b Function n o ts s e = let w = puts-some _ o ts e in (w.0, w.1, ap (names_in c b) w.2 ∙ at_x_lem c (names_in c true w.0))
     where
-      at_x : (c : Class) (k : List ℕ) → atX c n k ≡ atX c n [] ++ k
-      at_x symbols k = refl
-      at_x terms k = refl
-      at_x hedges k = refl
-      at_x functions k = refl
-  own_first c b Equals n o ts s e = let w = puts-some _ o ts e in (w.0, w.1, ap (namesIn c b) w.2)
-  own_first c b Comma n o ts s e = let w = puts-some _ o ts e in (w.0, w.1, ap (namesIn c b) w.2)
-  own_first c b Opens n o ts s e = let w = puts-some _ o ts e in (w.0, w.1, ap (namesIn c b) w.2)
-  own_first c b Closes n o ts s e = let w = puts-some _ o ts e in (w.0, w.1, ap (namesIn c b) w.2)
-  own_first c b Plus n o ts s e = let w = puts-some _ o ts e in (w.0, w.1, ap (namesIn c b) w.2)
-  own_first c b Times n o ts s e = let w = puts-some _ o ts e in (w.0, w.1, ap (namesIn c b) w.2)
+      at_x_lem : (c : Class) (k : List ℕ) → at_x c n k ≡ at_x c n [] ++ k
+      at_x_lem symbols k = refl
+      at_x_lem terms k = refl
+      at_x_lem hedges k = refl
+      at_x_lem functions k = refl
+  own_first c b Equals n o ts s e = let w = puts-some _ o ts e in (w.0, w.1, ap (names_in c b) w.2)
+  own_first c b Comma n o ts s e = let w = puts-some _ o ts e in (w.0, w.1, ap (names_in c b) w.2)
+  own_first c b Opens n o ts s e = let w = puts-some _ o ts e in (w.0, w.1, ap (names_in c b) w.2)
+  own_first c b Closes n o ts s e = let w = puts-some _ o ts e in (w.0, w.1, ap (names_in c b) w.2)
+  own_first c b Plus n o ts s e = let w = puts-some _ o ts e in (w.0, w.1, ap (names_in c b) w.2)
+  own_first c b Times n o ts s e = let w = puts-some _ o ts e in (w.0, w.1, ap (names_in c b) w.2)
 
-  no-tokens : (c : Class) (b : Bool) (m : Mark) (n : ℕ) (o : Tokens) (ts : List Token) → sortOf m ≡ 0 → front m n o ≡ some ts → (m ≡ End) × (namesIn c b ts ≡ [])
-  no-tokens c b End n o ts s e = (refl, ap (namesIn c b) (let z : ts ≡ [] = cc in z))
+  no-tokens : (c : Class) (b : Bool) (m : Mark) (n : ℕ) (o : Tokens) (ts : List Token) → sort_of m ≡ 0 → front m n o ≡ some ts → (m ≡ End) × (names_in c b ts ≡ [])
+  no-tokens c b End n o ts s e = (refl, ap (names_in c b) (let z : ts ≡ [] = cc in z))
   no-tokens c b Bad n o ts s e = none-some e
   no-tokens c b Symbol n o ts s e = absurd (omega arith)
   no-tokens c b One n o ts s e = absurd (omega arith)
@@ -260,17 +260,17 @@ module _ (L : Limits) (text : List ℕ) where
   same_some : {o : Tokens} {us vs : List Token} → o ≡ some us → o ≡ some vs → us ≡ vs
   same_some e f = cc
 
-  step-lives : (names' names'' : List ℕ) (b b' : Bool) (m : Mark) (x : ℕ) (o : Tokens) (vs : List Token) → (sortOf m ≡ 0 → ⊥) → front m x o ≡ some vs
-      → ((c : Class) → listed text names'' (shelfOf L c) ≡ enterAll L (listed text names' (shelfOf L c)) (own c b m x)) → b' ≡ behind m b
-      → (us : List Token) × (o ≡ some us) × ((c : Class) → enterAll L (listed text names'' (shelfOf L c)) (namesIn c b' us) ≡ enterAll L (listed text names' (shelfOf L c)) (namesIn c b vs))
+  step-lives : (names' names'' : List ℕ) (b b' : Bool) (m : Mark) (x : ℕ) (o : Tokens) (vs : List Token) → (sort_of m ≡ 0 → ⊥) → front m x o ≡ some vs
+      → ((c : Class) → listed text names'' (shelf_of L c) ≡ enter_all L (listed text names' (shelf_of L c)) (own c b m x)) → b' ≡ behind m b
+      → (us : List Token) × (o ≡ some us) × ((c : Class) → enter_all L (listed text names'' (shelf_of L c)) (names_in c b' us) ≡ enter_all L (listed text names' (shelf_of L c)) (names_in c b vs))
   step-lives names' names'' b b' m x o vs s e t f =
       let w = own_first terms b m x o vs s e in (
         w.0,
         w.1,
         (λ c.
-            ap₂ (λ k d. enterAll L k (namesIn c d w.0)) (t c) f
-            ∙ all-++ (listed text names' (shelfOf L c)) (own c b m x) (namesIn c (behind m b) w.0)
-            ∙ ap (enterAll L (listed text names' (shelfOf L c))) (ap (λ k. own c b m x ++ namesIn c (behind m b) k) (same_some w.1 (own_first c b m x o vs s e).1) ∙ sym (own_first c b m x o vs s e).2)),
+            ap₂ (λ k d. enter_all L k (names_in c d w.0)) (t c) f
+            ∙ all-++ (listed text names' (shelf_of L c)) (own c b m x) (names_in c (behind m b) w.0)
+            ∙ ap (enter_all L (listed text names' (shelf_of L c))) (ap (λ k. own c b m x ++ names_in c (behind m b) k) (same_some w.1 (own_first c b m x o vs s e).1) ∙ sym (own_first c b m x o vs s e).2)),
       )
 
   -- with what is still to come, the shelves are as they are to be
@@ -282,7 +282,7 @@ module _ (L : Limits) (text : List ℕ) where
     pub shelves : Shelves L names'
     pub same : others (drop at text) ≡ others (drop i text)
     pub lives : (ts : List Token) → here text at ≡ some ts → (us : List Token) × (here text i ≡ some us)
-        × ((c : Class) → enterAll L (listed text names' (shelfOf L c)) (namesIn c b us) ≡ enterAll L (listed text names (shelfOf L c)) (namesIn c false ts))
+        × ((c : Class) → enter_all L (listed text names' (shelf_of L c)) (names_in c b us) ≡ enter_all L (listed text names (shelf_of L c)) (names_in c false ts))
 
   module _ (names : List ℕ) (at : ℕ) where
     pub going-starts : at ≤ length text → Shelves L names → Going names at names at false
@@ -292,27 +292,27 @@ module _ (L : Limits) (text : List ℕ) where
       n : Next text i p
       n = subst (Next text i) (sym e₀) (next-law text i g.high)
 
-      pub going-ends : {x : ℕ} → x ≡ sortOf p.mark → x ≡ 0 → LineTaken L text names at p.to names'
-      unfolding enterAll
+      pub going-ends : {x : ℕ} → x ≡ sort_of p.mark → x ≡ 0 → LineTaken L text names at p.to names'
+      unfolding enter_all
       going-ends d z = record {
-        on = g.on names' p.to (subst (λ q. LineOn L text names' i b names' q.to) (sym e₀) (line-ends (ap (λ q. sortOf q.mark) (sym e₀) ∙ sym d ∙ z)));
+        on = g.on names' p.to (subst (λ q. LineOn L text names' i b names' q.to) (sym e₀) (line-ends (ap (λ q. sort_of q.mark) (sym e₀) ∙ sym d ∙ z)));
         low = let u = g.low in let v = n.low in let w = n.through in omega arith;
         high = n.high;
         len = g.len;
         shelves = g.shelves;
         same = g.same ∙ n.same;
-        ends = λ ts e q. let l = g.lives ts e in n.ends (no-tokens terms b p.mark (nameFrom (drop p.from text)) (here text p.to) l.0 (sym d ∙ z) (sym n.reads ∙ l.1)).0 q;
-        each = λ ts e c. let l = g.lives ts e in ap (enterAll L (listed text names' (shelfOf L c))) (sym (no-tokens c b p.mark (nameFrom (drop p.from text)) (here text p.to) l.0 (sym d ∙ z) (sym n.reads ∙ l.1)).1) ∙ l.2 c;
+        ends = λ ts e q. let l = g.lives ts e in n.ends (no-tokens terms b p.mark (name_from (drop p.from text)) (here text p.to) l.0 (sym d ∙ z) (sym n.reads ∙ l.1)).0 q;
+        each = λ ts e c. let l = g.lives ts e in ap (enter_all L (listed text names' (shelf_of L c))) (sym (no-tokens c b p.mark (name_from (drop p.from text)) (here text p.to) l.0 (sym d ∙ z) (sym n.reads ∙ l.1)).1) ∙ l.2 c;
       }
 
-      pub going_less : {x : ℕ} → x ≡ sortOf p.mark → (x ≡ 0 → ⊥) → length text - p.to < length text - i
+      pub going_less : {x : ℕ} → x ≡ sort_of p.mark → (x ≡ 0 → ⊥) → length text - p.to < length text - i
       going_less d z = let m = n.moves (λ y. z (d ∙ y)) in let h = n.high in omega arith
 
-      pub going_on : {x : ℕ} → x ≡ sortOf p.mark → (x ≡ 0 → ⊥) → {names'' : List ℕ} → Took L text names' p.mark b p.from names'' → {b' : Bool} → b' ≡ behind p.mark b → Going names at names'' p.to b'
+      pub going_on : {x : ℕ} → x ≡ sort_of p.mark → (x ≡ 0 → ⊥) → {names'' : List ℕ} → Took L text names' p.mark b p.from names'' → {b' : Bool} → b' ≡ behind p.mark b → Going names at names'' p.to b'
       going_on d z {names''} t {b'} f = record {
-        on = λ k r l. g.on k r (line-goes (λ y. z (d ∙ ap (λ q. sortOf q.mark) e₀ ∙ y))
-            (subst (λ q. LineOn L text (tookOn L text names' q.mark b q.from) q.to (behind q.mark b) k r) e₀
-            (subst (λ v. LineOn L text (tookOn L text names' p.mark b p.from) p.to v k r) f (subst (λ v. LineOn L text v p.to b' k r) t.on l))));
+        on = λ k r l. g.on k r (line-goes (λ y. z (d ∙ ap (λ q. sort_of q.mark) e₀ ∙ y))
+            (subst (λ q. LineOn L text (took_on L text names' q.mark b q.from) q.to (behind q.mark b) k r) e₀
+            (subst (λ v. LineOn L text (took_on L text names' p.mark b p.from) p.to v k r) f (subst (λ v. LineOn L text v p.to b' k r) t.on l))));
         low = let u = g.low in let v = n.low in let w = n.through in omega arith;
         high = n.high;
         len = t.len ∙ g.len;
@@ -345,9 +345,9 @@ module _ (L : Limits) (text : List ℕ) where
 
   -- the first line of some lines, and its names
   first-line : (ks : List Conj) (l : List ℕ) (ls : List (List ℕ)) → Lines ks (l ∷ ls)
-      → (ts : List Token) × (tokens l ≡ some ts) × (js : List Conj) × Lines js ls × ((c : Class) → inAll c ks ≡ namesIn c false ts ++ inAll c js)
+      → (ts : List Token) × (tokens l ≡ some ts) × (js : List Conj) × Lines js ls × ((c : Class) → in_all c ks ≡ names_in c false ts ++ in_all c js)
   first-line ks l ls (blank e d) = ([], e, ks, d, (λ c. refl))
-  first-line (k ∷ ks) l ls (line {ts = ts} e f d) = (ts, e, ks, d, (λ c. conj-behind c k (inAll c ks) ∙ ap (λ m. m ++ inAll c ks) (sym (names-in-line c f))))
+  first-line (k ∷ ks) l ls (line {ts = ts} e f d) = (ts, e, ks, d, (λ c. conj-behind c k (in_all c ks) ∙ ap (λ m. m ++ in_all c ks) (sym (names-in-line c f))))
 
   none_left : (ks : List Conj) → Lines ks [] → ks ≡ []
   none_left [] no_line = refl
@@ -357,7 +357,7 @@ module _ (L : Limits) (text : List ℕ) where
     pub high : at ≤ length text
     pub len : length names' ≡ length names
     pub shelves : Shelves L names'
-    pub lives : (ks : List Conj) → Lines ks (lines_of text) → (js : List Conj) × Lines js (lines_of (drop at text)) × ((c : Class) → enterAll L (listed text names' (shelfOf L c)) (inAll c js) ≡ enterAll L (listed text names (shelfOf L c)) (inAll c ks))
+    pub lives : (ks : List Conj) → Lines ks (lines_of text) → (js : List Conj) × Lines js (lines_of (drop at text)) × ((c : Class) → enter_all L (listed text names' (shelf_of L c)) (in_all c js) ≡ enter_all L (listed text names (shelf_of L c)) (in_all c ks))
 
   module _ (names : List ℕ) where
     pub text-starts : Shelves L names → GoingOn names names 0
@@ -366,7 +366,7 @@ module _ (L : Limits) (text : List ℕ) where
     module _ {names' : List ℕ} {at : ℕ} (g : GoingOn names names' at) {names'' : List ℕ} {r : ℕ} (t : LineTaken L text names' at r names'') where
       -- the line just read, of the lines that are left
       one_line : (js : List Conj) → Lines js (lines_of (drop at text))
-          → (ts : List Token) × (here text at ≡ some ts) × (is : List Conj) × Lines is (others (drop r text)) × ((c : Class) → enterAll L (listed text names'' (shelfOf L c)) (inAll c is) ≡ enterAll L (listed text names' (shelfOf L c)) (inAll c js))
+          → (ts : List Token) × (here text at ≡ some ts) × (is : List Conj) × Lines is (others (drop r text)) × ((c : Class) → enter_all L (listed text names'' (shelf_of L c)) (in_all c is) ≡ enter_all L (listed text names' (shelf_of L c)) (in_all c js))
       one_line js d =
           let f = first-line js (Bytes.line (drop at text)) (others (drop at text)) (subst (Lines js) (lines_split (drop at text)) d) in (
             f.0,
@@ -374,13 +374,13 @@ module _ (L : Limits) (text : List ℕ) where
             f.2,
             subst (Lines f.2) t.same f.3,
             (λ c.
-                ap (λ l. enterAll L l (inAll c f.2)) (t.each f.0 f.1 c)
-                ∙ all-++ (listed text names' (shelfOf L c)) (namesIn c false f.0) (inAll c f.2)
-                ∙ ap (enterAll L (listed text names' (shelfOf L c))) (sym (f.4 c))),
+                ap (λ l. enter_all L l (in_all c f.2)) (t.each f.0 f.1 c)
+                ∙ all-++ (listed text names' (shelf_of L c)) (names_in c false f.0) (in_all c f.2)
+                ∙ ap (enter_all L (listed text names' (shelf_of L c))) (sym (f.4 c))),
           )
 
       pub text-ends : length text ≤ r → Taken L text names names''
-      unfolding enterAll
+      unfolding enter_all
       text-ends p = record {
         on = g.on names'' (last_line t.on p);
         len = t.len ∙ g.len;
@@ -389,7 +389,7 @@ module _ (L : Limits) (text : List ℕ) where
             let l = g.lives ks d in
             let o = one_line l.0 l.1 in
             let z : o.2 ≡ [] = none_left o.2 (subst (Lines o.2) (ap others (drop_of_length-le text p) ∙ no-others) o.3) in
-            ap (λ is. enterAll L (listed text names'' (shelfOf L c)) (inAll c is)) (sym z) ∙ o.4 c ∙ l.2 c;
+            ap (λ is. enter_all L (listed text names'' (shelf_of L c)) (in_all c is)) (sym z) ∙ o.4 c ∙ l.2 c;
       }
 
       pub text-on : r < length text → GoingOn names names'' (r + 1)

@@ -4,7 +4,7 @@ ghost use Rattle.std.specs.Prelude.{◌≤◌, ◌≡◌, length};
 ghost use Rattle.language.specs.Limits.{desk};
 ghost use Rattle.lexing.specs.declared.Mark.TheVariants.{Symbol};
 ghost use Rattle.text_names.specs.Shelves.{Shelves};
-ghost use Rattle.collecting.specs.Collecting.{behind, shelfAt, Took, LineTaken, Taken};
+ghost use Rattle.collecting.specs.Collecting.{behind, shelf_at, Took, LineTaken, Taken};
 
 use lexing::{Mark, next, sort};
 use text_names::{WIDTH, enter};
@@ -14,13 +14,13 @@ pub const ALL: usize = 4 * WIDTH;
 
 // The shelf of a name that stands directly behind an element or not: there it is the word `in`.
 fn symbol_shelf(after: bool) -> usize
-    ensures { result ≡ shelfAt desk Symbol after }
+    ensures { result ≡ shelf_at desk Symbol after }
 {
     if after { ALL } else { 2 * WIDTH }
 }
 
 fn shelf(mark: Mark, after: bool) -> usize
-    ensures { result ≡ shelfAt desk mark after }
+    ensures { result ≡ shelf_at desk mark after }
 {
     match mark {
         Mark::End => ALL,

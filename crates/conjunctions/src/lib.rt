@@ -1,8 +1,8 @@
 // The conjunctions of a question, each of which is to be exactly literals.
 ghost use Rattle.std.specs.Prelude.{◌≡◌, true, ◌+◌};
 ghost use Rattle.language.specs.Limits.{desk};
-ghost use Rattle.language.specs.Reading.{readConj};
-ghost use Rattle.language.specs.Question.{laidOut, parts, read_all};
+ghost use Rattle.language.specs.Reading.{read_conj};
+ghost use Rattle.language.specs.Question.{laid_out, parts, read_all};
 ghost use Rattle.trees.specs.Places.{placed};
 
 use language::wide;
@@ -10,7 +10,7 @@ use trees::{Read, read_literal};
 
 // A conjunction: literals, to the last word.
 fn read_conj(w: &[u16]) -> Read
-    ensures { result ≡ placed 0 (readConj desk w.now) }
+    ensures { result ≡ placed 0 (read_conj desk w.now) }
 {
     let mut i = 0;
     while i < w.len() {
@@ -25,7 +25,7 @@ fn read_conj(w: &[u16]) -> Read
 // The parts of a question with `n` conjunctions, each of which is to be exactly literals: the end of the last, or the place of the first word that
 // cannot go on.
 pub fn read_all(w: &[u16], n: u16) -> Read
-    requires { laidOut 5 n w.now ≡ true }
+    requires { laid_out 5 n w.now ≡ true }
     ensures { result ≡ placed (6 + n) (read_all desk (parts 5 n w.now)) }
 {
     let stop = wide(n) + 6;

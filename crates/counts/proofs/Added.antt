@@ -10,7 +10,7 @@ use lib.Seq.{slice, get_or-set_same, get_or-set_other, ext_get_or}
 use borrow.Author.Tests.{eqb-true, eqb-false, eq-eqb, ne_eqb, lt-ltb, le-ltb, ltb-true, ltb-false}
 use Rattle.language.specs.Kinds.{pick}
 use Rattle.words.proofs.Parts.{part-cons, part_none}
-use Rattle.counts.specs.Tables.{times, table, countAt, oneIn, oneOut, added, removed, afresh}
+use Rattle.counts.specs.Tables.{times, table, count_at, one_in, one_out, added, removed, afresh}
 use Rattle.counts.proofs.Times.{times-append}
 
 -- ---- one word
@@ -42,49 +42,49 @@ module _ (t : List ℕ) (x n : ℕ) where
 pub length-added : (ws t : List ℕ) → length (added ws t) ≡ length t
 unfolding added
 length-added [] t = refl
-length-added (x ∷ ws) t = length-added ws (oneIn x t) ∙ put-length t x (get_or t x 0 + 1)
+length-added (x ∷ ws) t = length-added ws (one_in x t) ∙ put-length t x (get_or t x 0 + 1)
 
 pub length_removed : (ws t : List ℕ) → length (removed ws t) ≡ length t
 unfolding removed
 length_removed [] t = refl
-length_removed (x ∷ ws) t = length_removed ws (oneOut x t) ∙ put-length t x (get_or t x 0 - 1)
+length_removed (x ∷ ws) t = length_removed ws (one_out x t) ∙ put-length t x (get_or t x 0 - 1)
 
 module _ (y : ℕ) (h : y < table) where
-  in_one : (x : ℕ) (t : List ℕ) → length t ≡ table → get_or (oneIn x t) y 0 ≡ get_or t y 0 + pick (eqb x y) 1 0
+  in_one : (x : ℕ) (t : List ℕ) → length t ≡ table → get_or (one_in x t) y 0 ≡ get_or t y 0 + pick (eqb x y) 1 0
   in_one x t e = go (eqb x y) refl
     where
-      go : (b : Bool) → eqb x y ≡ b → get_or (oneIn x t) y 0 ≡ get_or t y 0 + pick b 1 0
+      go : (b : Bool) → eqb x y ≡ b → get_or (one_in x t) y 0 ≡ get_or t y 0 + pick b 1 0
       go true d =
           let z = eqb-true x y d in
-          let s : get_or (oneIn x t) x 0 ≡ get_or t x 0 + 1 = put_same t x (get_or t x 0 + 1) (omega arith) e in
-          ap (λ n. get_or (oneIn x t) n 0) (sym z) ∙ s ∙ ap (λ n. get_or t n 0 + 1) z
+          let s : get_or (one_in x t) x 0 ≡ get_or t x 0 + 1 = put_same t x (get_or t x 0 + 1) (omega arith) e in
+          ap (λ n. get_or (one_in x t) n 0) (sym z) ∙ s ∙ ap (λ n. get_or t n 0 + 1) z
       go false d = let s = put_other t x (get_or t x 0 + 1) y d in omega arith
 
-  out_one : (x : ℕ) (t : List ℕ) → length t ≡ table → get_or (oneOut x t) y 0 ≡ get_or t y 0 - pick (eqb x y) 1 0
+  out_one : (x : ℕ) (t : List ℕ) → length t ≡ table → get_or (one_out x t) y 0 ≡ get_or t y 0 - pick (eqb x y) 1 0
   out_one x t e = go (eqb x y) refl
     where
-      go : (b : Bool) → eqb x y ≡ b → get_or (oneOut x t) y 0 ≡ get_or t y 0 - pick b 1 0
+      go : (b : Bool) → eqb x y ≡ b → get_or (one_out x t) y 0 ≡ get_or t y 0 - pick b 1 0
       go true d =
           let z = eqb-true x y d in
-          let s : get_or (oneOut x t) x 0 ≡ get_or t x 0 - 1 = put_same t x (get_or t x 0 - 1) (omega arith) e in
-          ap (λ n. get_or (oneOut x t) n 0) (sym z) ∙ s ∙ ap (λ n. get_or t n 0 - 1) z
+          let s : get_or (one_out x t) x 0 ≡ get_or t x 0 - 1 = put_same t x (get_or t x 0 - 1) (omega arith) e in
+          ap (λ n. get_or (one_out x t) n 0) (sym z) ∙ s ∙ ap (λ n. get_or t n 0 - 1) z
       go false d = let s = put_other t x (get_or t x 0 - 1) y d in omega arith
 
   pub at_added : (ws t : List ℕ) → length t ≡ table → get_or (added ws t) y 0 ≡ get_or t y 0 + times y ws
   unfolding added
   at_added [] t e = omega arith
   at_added (x ∷ ws) t e =
-      let a = at_added ws (oneIn x t) (put-length t x (get_or t x 0 + 1) ∙ e) in
+      let a = at_added ws (one_in x t) (put-length t x (get_or t x 0 + 1) ∙ e) in
       let b = in_one x t e in
-      let g : get_or (added ws (oneIn x t)) y 0 ≡ get_or t y 0 + (pick (eqb x y) 1 0 + times y ws) = omega arith in g
+      let g : get_or (added ws (one_in x t)) y 0 ≡ get_or t y 0 + (pick (eqb x y) 1 0 + times y ws) = omega arith in g
 
   pub at-removed : (ws t : List ℕ) → length t ≡ table → get_or (removed ws t) y 0 ≡ get_or t y 0 - times y ws
   unfolding removed
   at-removed [] t e = omega arith
   at-removed (x ∷ ws) t e =
-      let a = at-removed ws (oneOut x t) (put-length t x (get_or t x 0 - 1) ∙ e) in
+      let a = at-removed ws (one_out x t) (put-length t x (get_or t x 0 - 1) ∙ e) in
       let b = out_one x t e in
-      let g : get_or (removed ws (oneOut x t)) y 0 ≡ get_or t y 0 - (pick (eqb x y) 1 0 + times y ws) = omega arith in g
+      let g : get_or (removed ws (one_out x t)) y 0 ≡ get_or t y 0 - (pick (eqb x y) 1 0 + times y ws) = omega arith in g
 
 -- ---- taken afresh
 
@@ -130,33 +130,33 @@ kept a old new b = ext_get_or 0 _ _ (long ∙ sym (length-afresh (a ++ (new ++ b
 
 -- ---- the tests of the code
 
-pub past-in : (x : ℕ) (t : List ℕ) → table ≤ x → t ≡ oneIn x t
+pub past-in : (x : ℕ) (t : List ℕ) → table ≤ x → t ≡ one_in x t
 past-in x t h = sym (ap (λ b. pick b (set t x (get_or t x 0 + 1)) t) (le-ltb x table h))
 
-pub past-out : (x : ℕ) (t : List ℕ) → table ≤ x → t ≡ oneOut x t
+pub past-out : (x : ℕ) (t : List ℕ) → table ≤ x → t ≡ one_out x t
 past-out x t h = sym (ap (λ b. pick b (set t x (get_or t x 0 - 1)) t) (le-ltb x table h))
 
-pub within_in : (x : ℕ) (t : List ℕ) → x < table → set t x (get_or t x 0 + 1) ≡ oneIn x t
+pub within_in : (x : ℕ) (t : List ℕ) → x < table → set t x (get_or t x 0 + 1) ≡ one_in x t
 within_in x t h = sym (ap (λ b. pick b (set t x (get_or t x 0 + 1)) t) (lt-ltb x table h))
 
-pub within-out : (x : ℕ) (t : List ℕ) → x < table → set t x (get_or t x 0 - 1) ≡ oneOut x t
+pub within-out : (x : ℕ) (t : List ℕ) → x < table → set t x (get_or t x 0 - 1) ≡ one_out x t
 within-out x t h = sym (ap (λ b. pick b (set t x (get_or t x 0 - 1)) t) (lt-ltb x table h))
 
-pub counted : (x : ℕ) (t : List ℕ) → x < table → get_or t x 0 ≡ countAt t x
+pub counted : (x : ℕ) (t : List ℕ) → x < table → get_or t x 0 ≡ count_at t x
 counted x t h = sym (ap (λ b. pick b (get_or t x 0) 0) (lt-ltb x table h))
 
-pub uncounted : (x : ℕ) (t : List ℕ) → table ≤ x → countAt t x ≡ 0
+pub uncounted : (x : ℕ) (t : List ℕ) → table ≤ x → count_at t x ≡ 0
 uncounted x t h = ap (λ b. pick b (get_or t x 0) 0) (le-ltb x table h)
 
 -- ---- one turn of a loop
 
-pub added-on : (k t : List ℕ) (i to x : ℕ) → i < to → to ≤ length k → x ≡ get_or k i 0 → added (slice (i + 1) to k) (oneIn x t) ≡ added (slice i to k) t
+pub added-on : (k t : List ℕ) (i to x : ℕ) → i < to → to ≤ length k → x ≡ get_or k i 0 → added (slice (i + 1) to k) (one_in x t) ≡ added (slice i to k) t
 unfolding added
-added-on k t i to x p q e = ap (λ y. added (slice (i + 1) to k) (oneIn y t)) e ∙ sym (ap (λ ws. added ws t) (part-cons k i to p (omega arith)))
+added-on k t i to x p q e = ap (λ y. added (slice (i + 1) to k) (one_in y t)) e ∙ sym (ap (λ ws. added ws t) (part-cons k i to p (omega arith)))
 
-pub removed-on : (k t : List ℕ) (i to x : ℕ) → i < to → to ≤ length k → x ≡ get_or k i 0 → removed (slice (i + 1) to k) (oneOut x t) ≡ removed (slice i to k) t
+pub removed-on : (k t : List ℕ) (i to x : ℕ) → i < to → to ≤ length k → x ≡ get_or k i 0 → removed (slice (i + 1) to k) (one_out x t) ≡ removed (slice i to k) t
 unfolding removed
-removed-on k t i to x p q e = ap (λ y. removed (slice (i + 1) to k) (oneOut y t)) e ∙ sym (ap (λ ws. removed ws t) (part-cons k i to p (omega arith)))
+removed-on k t i to x p q e = ap (λ y. removed (slice (i + 1) to k) (one_out y t)) e ∙ sym (ap (λ ws. removed ws t) (part-cons k i to p (omega arith)))
 
 pub added_none : (k t : List ℕ) (i to : ℕ) → to ≤ i → t ≡ added (slice i to k) t
 unfolding added
@@ -166,21 +166,21 @@ pub removed-none : (k t : List ℕ) (i to : ℕ) → to ≤ i → t ≡ removed 
 unfolding removed
 removed-none k t i to p = sym (ap (λ ws. removed ws t) (part_none k i to p))
 
-pub length-in : (x : ℕ) (t : List ℕ) → length (oneIn x t) ≡ length t
+pub length-in : (x : ℕ) (t : List ℕ) → length (one_in x t) ≡ length t
 length-in x t = put-length t x (get_or t x 0 + 1)
 
-pub length-out : (x : ℕ) (t : List ℕ) → length (oneOut x t) ≡ length t
+pub length-out : (x : ℕ) (t : List ℕ) → length (one_out x t) ≡ length t
 length-out x t = put-length t x (get_or t x 0 - 1)
 
 -- a number more at one place at most
-pub in-at-most : (x : ℕ) (t : List ℕ) → length t ≡ table → (y : ℕ) → get_or (oneIn x t) y 0 ≤ get_or t y 0 + 1
+pub in-at-most : (x : ℕ) (t : List ℕ) → length t ≡ table → (y : ℕ) → get_or (one_in x t) y 0 ≤ get_or t y 0 + 1
 in-at-most x t e y = go (eqb x y) refl (ltb x table) refl
   where
-    go : (b : Bool) → eqb x y ≡ b → (d : Bool) → ltb x table ≡ d → get_or (oneIn x t) y 0 ≤ get_or t y 0 + 1
+    go : (b : Bool) → eqb x y ≡ b → (d : Bool) → ltb x table ≡ d → get_or (one_in x t) y 0 ≤ get_or t y 0 + 1
     go true p true q =
         let z = eqb-true x y p in
-        let s : get_or (oneIn x t) x 0 ≡ get_or t x 0 + 1 = put_same t x (get_or t x 0 + 1) (ltb-true x table q) e in
-        let r = ap (λ n. get_or (oneIn x t) n 0) (sym z) ∙ s ∙ ap (λ n. get_or t n 0 + 1) z in omega arith
+        let s : get_or (one_in x t) x 0 ≡ get_or t x 0 + 1 = put_same t x (get_or t x 0 + 1) (ltb-true x table q) e in
+        let r = ap (λ n. get_or (one_in x t) n 0) (sym z) ∙ s ∙ ap (λ n. get_or t n 0 + 1) z in omega arith
     go true p false q = let r = ap (λ s. get_or s y 0) (past-in x t (ltb-false x table q)) in omega arith
     go false p d q = let s = put_other t x (get_or t x 0 + 1) y p in omega arith
 
@@ -195,7 +195,7 @@ one_at e = ap one e
 
 -- what is left to count out
 pub out-left : (k t : List ℕ) (i to x : ℕ) → i < to → to ≤ length k → x ≡ get_or k i 0 → length t ≡ table
-    → ((y : ℕ) → y < table → times y (slice i to k) ≤ get_or t y 0) → (y : ℕ) → y < table → times y (slice (i + 1) to k) ≤ get_or (oneOut x t) y 0
+    → ((y : ℕ) → y < table → times y (slice i to k) ≤ get_or t y 0) → (y : ℕ) → y < table → times y (slice (i + 1) to k) ≤ get_or (one_out x t) y 0
 out-left k t i to x p q e d f y h =
     let a = out_one y h x t d in
     let b : times y (slice i to k) ≡ pick (eqb (get_or k i 0) y) 1 0 + times y (slice (i + 1) to k) = ap (times y) (part-cons k i to p (omega arith)) in

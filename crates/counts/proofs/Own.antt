@@ -12,28 +12,28 @@ use Rattle.language.specs.Kinds.{pick}
 use Rattle.language.specs.declared.TermVar.{TermVar}
 use Rattle.language.specs.declared.HedgeVar.{HedgeVar}
 use Rattle.language.specs.declared.FunVar.{FunVar}
-use Rattle.language.specs.Trees.{fvar, Hedge, ε, tvar, hvar, node, eps, Literal, eqn, mem, Conj, Var, tv, hv, fv, holds, inConj}
-use Rattle.language.specs.Writing.{conjWords}
-use Rattle.language.specs.Fine.{fineConj}
-use Rattle.views.specs.Variables.{variableWord, fineVar}
+use Rattle.language.specs.Trees.{fvar, Hedge, ε, tvar, hvar, node, eps, Literal, eqn, mem, Conj, Var, tv, hv, fv, holds, in_conj}
+use Rattle.language.specs.Writing.{conj_words}
+use Rattle.language.specs.Fine.{fine_conj}
+use Rattle.views.specs.Variables.{variable_word, fine_var}
 use Rattle.views.specs.Standing.{LiteralAt}
 use Rattle.views.proofs.Words.{words_append}
 use Rattle.rules.proofs.FineParts.{fine-append}
-use Rattle.counts.specs.Counts.{countHedge, countConj}
-use Rattle.counts.specs.Tables.{table, countAt, afresh, Tallied, Beside}
+use Rattle.counts.specs.Counts.{count_hedge, count_conj}
+use Rattle.counts.specs.Tables.{table, count_at, afresh, Tallied, Beside}
 use Rattle.counts.proofs.Times.{times-conj, count-append, some-conj, some-hedge, none_of, more-than-one, just-one}
 use Rattle.counts.proofs.Added.{counted, at-afresh}
 
 pub record Own (v : Var) (l r : Hedge) : Type 0 where
-  pub once : countHedge v l + countHedge v r ≡ 1
+  pub once : count_hedge v l + count_hedge v r ≡ 1
 
-pub among-others : {t : List ℕ} {K : Conj} {l r : Hedge} (v : Var) → Beside t K l r → fineVar desk v → Own v l r → {x : ℕ} → x ≡ variableWord v → ltb 1 (countAt t x) ≡ inConj v K
+pub among-others : {t : List ℕ} {K : Conj} {l r : Hedge} (v : Var) → Beside t K l r → fine_var desk v → Own v l r → {x : ℕ} → x ≡ variable_word v → ltb 1 (count_at t x) ≡ in_conj v K
 among-others {t} {K} {l} {r} v b f o {x} e =
-    ap (λ y. ltb 1 (countAt t y)) e ∙ more-than-one (countAt t (variableWord v)) (some-conj v K) (let p = b.count v f in let q = o.once in omega arith)
+    ap (λ y. ltb 1 (count_at t y)) e ∙ more-than-one (count_at t (variable_word v)) (some-conj v K) (let p = b.count v f in let q = o.once in omega arith)
 
 -- ---- variables that are there once
 
-not-held : (v : Var) (h : Hedge) → holds v h ≡ false → countHedge v h ≡ 0
+not-held : (v : Var) (h : Hedge) → holds v h ≡ false → count_hedge v h ≡ 0
 not-held v h e = none_of (some-hedge v h) e
 
 bit : {b : Bool} (c : Bool) → b ≡ c → ◌≡◌ {A = ℕ} (pick b 1 0) (pick c 1 0)
@@ -53,8 +53,8 @@ pub own-turned : {v : Var} {l r : Hedge} → Own v l r → Own v r l
 own-turned {v} {l} {r} o = record { once = let q = o.once in omega arith }
 
 -- nor anywhere else exactly if it is counted once
-pub nowhere-else : {t : List ℕ} {K : Conj} {l r : Hedge} (v : Var) → Beside t K l r → fineVar desk v → countHedge v l ≡ 1 → eqb (countAt t (variableWord v)) 1 ≡ not (holds v r || inConj v K)
-nowhere-else {t} {K} {l} {r} v b f o = just-one (countAt t (variableWord v)) (some-conj v (mem r eps ∷ K)) (let p = b.count v f in omega arith)
+pub nowhere-else : {t : List ℕ} {K : Conj} {l r : Hedge} (v : Var) → Beside t K l r → fine_var desk v → count_hedge v l ≡ 1 → eqb (count_at t (variable_word v)) 1 ≡ not (holds v r || in_conj v K)
+nowhere-else {t} {K} {l} {r} v b f o = just-one (count_at t (variable_word v)) (some-conj v (mem r eps ∷ K)) (let p = b.count v f in omega arith)
 
 -- ---- from the table of a conjunction to an equation in it
 
@@ -65,19 +65,19 @@ pub beside-turned : {t : List ℕ} {K : Conj} {l r : Hedge} → Beside t K l r �
 beside-turned b = record { count = λ v f. let a = b.count v f in omega arith }
 
 -- a variable's word has a place in the table
-pub low : (v : Var) → fineVar desk v → variableWord v < table
+pub low : (v : Var) → fine_var desk v → variable_word v < table
 low (tv x) g = omega arith
 low (hv p) g = omega arith
 low (fv X) g = omega arith
 
 -- words counted afresh count every variable
-pub tallied : (c : Conj) → fineConj desk c → (t : List ℕ) → t ≡ afresh (conjWords c) → Tallied t c
-tallied c f t e = record { count = λ v g. sym (counted (variableWord v) t (low v g)) ∙ ap (λ s. get_or s (variableWord v) 0) e ∙ at-afresh (variableWord v) (low v g) (conjWords c) ∙ times-conj v g c f }
+pub tallied : (c : Conj) → fine_conj desk c → (t : List ℕ) → t ≡ afresh (conj_words c) → Tallied t c
+tallied c f t e = record { count = λ v g. sym (counted (variable_word v) t (low v g)) ∙ ap (λ s. get_or s (variable_word v) 0) e ∙ at-afresh (variable_word v) (low v g) (conj_words c) ∙ times-conj v g c f }
 
 -- the table of a conjunction's words counts every variable of it, wherever a literal stands
 pub counted-here : {k : List ℕ} {at : ℕ} {before : Conj} {l : Literal} {behind : Conj} {t : List ℕ} → LiteralAt k at before l behind → t ≡ afresh k → Tallied t (before ++ (l ∷ behind))
 counted-here {before = before} {l} {behind} {t} p e =
-    tallied (before ++ (l ∷ behind)) (fine-append desk before (l ∷ behind) p.fineBefore (p.fine, p.fineBehind)) t (e ∙ ap afresh (p.words ∙ sym (words_append before (l ∷ behind))))
+    tallied (before ++ (l ∷ behind)) (fine-append desk before (l ∷ behind) p.fine_before (p.fine, p.fine_behind)) t (e ∙ ap afresh (p.words ∙ sym (words_append before (l ∷ behind))))
 
 pub beside-here : {k : List ℕ} {at : ℕ} {before : Conj} {l r : Hedge} {behind : Conj} {t : List ℕ} → LiteralAt k at before (eqn l r) behind → t ≡ afresh k → Beside t (before ++ behind) l r
 beside-here {before = before} {l} {r} {behind} p e = beside before l r behind (counted-here p e)

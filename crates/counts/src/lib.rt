@@ -1,7 +1,7 @@
 // A table of how often each word stands among others, up to the last word of a variable: a variable's count is kept at the place of its word.
 ghost use Rattle.std.specs.Prelude.{ℕ, ◌+◌, ◌-◌, ◌≤◌, ◌<◌, ◌≡◌, eqb, ltb, length, get_or};
 ghost use Rattle.std.proofs.Math.Seq.{slice};
-ghost use Rattle.counts.specs.Tables.{times, table, countAt, oneIn, oneOut, added, removed};
+ghost use Rattle.counts.specs.Tables.{times, table, count_at, one_in, one_out, added, removed};
 
 use language::limits::LAST_FUNCTION;
 use language::wide;
@@ -12,7 +12,7 @@ pub const TABLE: usize = LAST_FUNCTION as usize + 1;
 // A word counted in.
 fn one_in(x: usize, t: &mut [u16; TABLE])
     requires { get_or t.old x 0 + 1 < 65536 }
-    ensures { t.new ≡ oneIn x t.old }
+    ensures { t.new ≡ one_in x t.old }
 {
     if TABLE <= x {
         return;
@@ -23,7 +23,7 @@ fn one_in(x: usize, t: &mut [u16; TABLE])
 // A word counted out.
 fn one_out(x: usize, t: &mut [u16; TABLE])
     requires { x < table → 1 ≤ get_or t.old x 0 }
-    ensures { t.new ≡ oneOut x t.old }
+    ensures { t.new ≡ one_out x t.old }
 {
     if TABLE <= x {
         return;
@@ -57,7 +57,7 @@ pub fn count_out(k: &[u16], from: usize, to: usize, t: &mut [u16; TABLE])
 
 // Whether a word is counted more than once.
 pub fn repeated(t: &[u16; TABLE], x: usize) -> bool
-    ensures { result ≡ ltb 1 (countAt t.now x) }
+    ensures { result ≡ ltb 1 (count_at t.now x) }
 {
     if x < TABLE {
         return 1 < t[x];
@@ -67,7 +67,7 @@ pub fn repeated(t: &[u16; TABLE], x: usize) -> bool
 
 // Whether a word is counted once.
 pub fn once(t: &[u16; TABLE], x: usize) -> bool
-    ensures { result ≡ eqb (countAt t.now x) 1 }
+    ensures { result ≡ eqb (count_at t.now x) 1 }
 {
     if x < TABLE {
         return t[x] == 1;

@@ -2,7 +2,7 @@
 use Rattle.std.specs.Prelude.{ℕ, ◌+◌, ◌*◌, ◌<◌, ◌≤◌, ◌≡◌, Bool, true, List, length}
 use Rattle.language.specs.Limits.{desk}
 use Rattle.language.specs.Trees.{Literal, Conj}
-use Rattle.rules.specs.Places.{noRule}
+use Rattle.rules.specs.Places.{no_rule}
 use Rattle.views.specs.Standing.{LiteralAt}
 use Rattle.search.specs.declared.Best.{Best}
 use Rattle.noting.specs.Noting as noting
@@ -18,7 +18,7 @@ Below Told told n = 6 * n + 6 ≤ length told
 -- there is room for the steps made, and this one is a rule's
 abbrev pub Roomy : Course → Best → ℕ → List ℕ → Type 0
 Roomy First b made out = Unit {0}
-Roomy Noted b made out = (3 * made ≤ length out) × (b.rank < noRule)
+Roomy Noted b made out = (3 * made ≤ length out) × (b.rank < no_rule)
 Roomy Told b made out = Unit {0}
 
 abbrev pub NotedStep : List ℕ → Best → ℕ → Course → List ℕ → Bool → List ℕ → Type 0

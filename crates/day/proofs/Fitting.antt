@@ -7,7 +7,7 @@ use lib.Dec.{ltb}
 use Rattle.language.specs.declared.Refusal.TheVariants.{ShortSlice}
 use Rattle.language.specs.Limits.{desk}
 use Rattle.language.specs.Question.{Asked}
-use Rattle.rules.specs.Answer.{unread, solvingOf, solving}
+use Rattle.rules.specs.Answer.{unread, solving_of, solving}
 use Rattle.word_bytes.specs.Bytes.{fitting}
 use Rattle.word_bytes.proofs.Fitting.{fitting-question}
 
@@ -18,6 +18,6 @@ fitting-solving work answer ws =
     (λ (a : Asked).
     elim (ltb work desk.room) [
       | true ↦ unread ShortSlice
-      | false ↦ elim (ltb answer desk.room) [ true ↦ unread ShortSlice | false ↦ solvingOf desk a ]
+      | false ↦ elim (ltb answer desk.room) [ true ↦ unread ShortSlice | false ↦ solving_of desk a ]
     ])
     (fitting-question ws)

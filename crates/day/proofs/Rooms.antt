@@ -11,18 +11,18 @@ use borrow.Author.Tests.{le-leb, lt-leb}
 use Rattle.language.specs.Limits.{desk}
 use Rattle.language.proofs.Offsets.{parts-length}
 use Rattle.language.proofs.Stores.{sets-append}
-use Rattle.meaning.specs.Values.{offsetsOf, joined}
+use Rattle.meaning.specs.Values.{offsets_of, joined}
 use Rattle.rules.specs.Answer.{solving}
 use Rattle.lines.proofs.WrittenTable.{length-offsets}
 use Rattle.slices.proofs.Still.{set-sets}
 use Rattle.answers.proofs.Rows.{joined-more, offsets-more}
 use Rattle.word_bytes.specs.Bytes.{bytes_of}
-use Rattle.word_bytes.proofs.Pairs.{length-bytesOf}
+use Rattle.word_bytes.proofs.Pairs.{length-bytes_of}
 use Rattle.word_bytes.proofs.Pairs as pairs
-use Rattle.sheets.specs.Layout.{doubled, undoubled, parts_at, count_of, sheetOffsets, sheetWords, sheetParts}
-use Rattle.sheets.specs.Day.{answerPart, answersOf}
+use Rattle.sheets.specs.Layout.{doubled, undoubled, parts_at, count_of, sheet_offsets, sheet_words, sheet_parts}
+use Rattle.sheets.specs.Day.{answer_part, answers_of}
 use Rattle.sheets.proofs.RoundTrip.{length-doubled, length-sheet}
-use Rattle.handing.specs.Handed.{wordBytes}
+use Rattle.handing.specs.Handed.{word_bytes}
 use Rattle.day.specs.Written.{written, most, Placed, Ended}
 use Rattle.day.proofs.Headers.{no}
 use Rattle.day.proofs.Cuts.{length-undoubled}
@@ -65,7 +65,7 @@ two-words old i n new e = e
 pub word-then : (old mid new : List ℕ) (at w : ℕ) (ws : List ℕ) → mid ≡ sets old (2 * at) (bytes_of (w ∷ [])) → new ≡ sets mid (2 * (at + 1)) (bytes_of ws) → new ≡ sets old (2 * at) (bytes_of (w ∷ ws))
 word-then old mid new at w ws e f =
     f ∙ ap (λ l. sets l (2 * (at + 1)) (bytes_of ws)) e
-    ∙ ap (λ m. sets (sets old (2 * at) (bytes_of (w ∷ []))) m (bytes_of ws)) (let z : 2 * (at + 1) ≡ 2 * at + length (bytes_of (w ∷ [])) = omega (arith, length-bytesOf (w ∷ [])) in z)
+    ∙ ap (λ m. sets (sets old (2 * at) (bytes_of (w ∷ []))) m (bytes_of ws)) (let z : 2 * (at + 1) ≡ 2 * at + length (bytes_of (w ∷ [])) = omega (arith, length-bytes_of (w ∷ [])) in z)
     ∙ sym (sets-append (bytes_of (w ∷ [])) (bytes_of ws) old (2 * at)) ∙ ap (sets old (2 * at)) (sym (bytes-append (w ∷ []) ws))
 
 pub placed-with : (old mid new : List ℕ) (i at w : ℕ) (ws : List ℕ) → mid ≡ sets old (2 * at) (bytes_of (w ∷ ws)) → new ≡ sets mid (2 * (2 * (i + 1) + 1)) (bytes_of (doubled ((at + 1 + length ws) ∷ [])))
@@ -78,10 +78,10 @@ placed-with old mid new i at w ws f g =
 
 module _ (n : ℕ) (old : List ℕ) where
   abbrev head : List (List ℕ) → List ℕ
-  head ps = n ∷ doubled (offsetsOf (parts_at n) ps)
+  head ps = n ∷ doubled (offsets_of (parts_at n) ps)
 
   length-head : (ps : List (List ℕ)) → length (bytes_of (head ps)) ≡ 4 * length ps + 6
-  length-head ps = omega (arith, length-bytesOf (head ps), length-doubled (offsetsOf (parts_at n) ps), length-offsets (parts_at n) ps)
+  length-head ps = omega (arith, length-bytes_of (head ps), length-doubled (offsets_of (parts_at n) ps), length-offsets (parts_at n) ps)
 
   pub begun : (mid new : List ℕ) (m : ℕ) → m ≡ n → mid ≡ sets old 0 (bytes_of (n ∷ [])) → new ≡ sets mid 2 (bytes_of (doubled ((2 * m + 3) ∷ []))) → new ≡ written n old []
   unfolding written bytes_of doubled
@@ -101,9 +101,9 @@ module _ (n : ℕ) (old : List ℕ) where
       let x : List ℕ = sets old 0 (bytes_of (head ps)) in
       let o : List ℕ = bytes_of (doubled (next ∷ [])) in
       let y : List ℕ = bytes_of (joined (ps ++ (p ∷ []))) in
-      let lo : length o ≡ 4 = omega (arith, length-bytesOf (doubled (next ∷ [])), length-doubled (next ∷ [])) in
+      let lo : length o ≡ 4 = omega (arith, length-bytes_of (doubled (next ∷ [])), length-doubled (next ∷ [])) in
       let lh = length-head ps in
-      let lj = length-bytesOf (joined ps) in
+      let lj = length-bytes_of (joined ps) in
       let body : sets (sets x (2 * parts_at n) (bytes_of (joined ps))) (2 * at) (bytes_of p) ≡ sets x (2 * parts_at n) y =
       ap (λ m. sets (sets x (2 * parts_at n) (bytes_of (joined ps))) m (bytes_of p)) (let z : 2 * at ≡ 2 * parts_at n + length (bytes_of (joined ps)) = omega arith in z)
       ∙ sym (sets-append (bytes_of (joined ps)) (bytes_of p) x (2 * parts_at n))
@@ -111,7 +111,7 @@ module _ (n : ℕ) (old : List ℕ) where
       let place : 2 * (2 * (i + 1) + 1) ≡ 0 + length (bytes_of (head ps)) = omega arith in
       let more : bytes_of (head ps) ++ o ≡ bytes_of (head (ps ++ (p ∷ []))) =
       sym (bytes-append (head ps) (doubled (next ∷ [])))
-      ∙ ap (λ l. bytes_of (n ∷ l)) (sym (doubled-append (offsetsOf (parts_at n) ps) (next ∷ [])) ∙ ap doubled (ap (λ m. offsetsOf (parts_at n) ps ++ (m ∷ [])) (let z : next ≡ parts_at n + length (joined ps) + length p = omega arith in z) ∙ sym (offsets-more (parts_at n) ps p))) in
+      ∙ ap (λ l. bytes_of (n ∷ l)) (sym (doubled-append (offsets_of (parts_at n) ps) (next ∷ [])) ∙ ap doubled (ap (λ m. offsets_of (parts_at n) ps ++ (m ∷ [])) (let z : next ≡ parts_at n + length (joined ps) + length p = omega arith in z) ∙ sym (offsets-more (parts_at n) ps p))) in
       f ∙ ap (λ l. sets l (2 * (2 * (i + 1) + 1)) o) body
       ∙ sets-before x (2 * (2 * (i + 1) + 1)) o (2 * parts_at n) y (omega arith)
       ∙ ap (λ l. sets l (2 * parts_at n) y) (ap (λ m. sets x m o) place ∙ sym (sets-append (bytes_of (head ps)) o old 0) ∙ ap (sets old 0) more)
@@ -124,18 +124,18 @@ module _ (n : ℕ) (old : List ℕ) where
   pub past-written : (ps : List (List ℕ)) (k : ℕ) → length ps ≤ n → 2 * (parts_at n + length (joined ps)) ≤ k → drop k (written n old ps) ≡ drop k old
   unfolding written
   past-written ps k few h =
-      drop-sets k (sets old 0 (bytes_of (head ps))) (2 * parts_at n) (bytes_of (joined ps)) (omega (arith, length-bytesOf (joined ps)))
+      drop-sets k (sets old 0 (bytes_of (head ps))) (2 * parts_at n) (bytes_of (joined ps)) (omega (arith, length-bytes_of (joined ps)))
       ∙ drop-sets k old 0 (bytes_of (head ps)) (omega (arith, length-head ps))
 
-  row : (ps : List (List ℕ)) → length ps ≡ n → head ps ++ joined ps ≡ sheetWords ps
-  unfolding sheetWords
-  row ps size = ap (λ m. m ∷ (doubled (offsetsOf (parts_at m) ps) ++ joined ps)) (sym size)
+  row : (ps : List (List ℕ)) → length ps ≡ n → head ps ++ joined ps ≡ sheet_words ps
+  unfolding sheet_words
+  row ps size = ap (λ m. m ∷ (doubled (offsets_of (parts_at m) ps) ++ joined ps)) (sym size)
 
-  pub all_there : (ps : List (List ℕ)) → length ps ≡ n → 2 * length (sheetWords ps) ≤ length old → written n old ps ≡ bytes_of (sheetWords ps) ++ drop (2 * length (sheetWords ps)) old
+  pub all_there : (ps : List (List ℕ)) → length ps ≡ n → 2 * length (sheet_words ps) ≤ length old → written n old ps ≡ bytes_of (sheet_words ps) ++ drop (2 * length (sheet_words ps)) old
   unfolding written
   all_there ps size h =
       ap (λ m. sets (sets old 0 (bytes_of (head ps))) m (bytes_of (joined ps))) (let z : 2 * parts_at n ≡ 0 + length (bytes_of (head ps)) = omega (arith, length-head ps) in z)
-      ∙ sym (sets-append (bytes_of (head ps)) (bytes_of (joined ps)) old 0) ∙ ap (sets old 0) (sym (bytes-append (head ps) (joined ps)) ∙ ap bytes_of (row ps size)) ∙ pairs.written old (sheetWords ps) h
+      ∙ sym (sets-append (bytes_of (head ps)) (bytes_of (joined ps)) old 0) ∙ ap (sets old 0) (sym (bytes-append (head ps) (joined ps)) ∙ ap bytes_of (row ps size)) ∙ pairs.written old (sheet_words ps) h
 
 -- ---- turn by turn
 
@@ -183,17 +183,17 @@ module _ (n : ℕ) (ps : List (List ℕ)) (size : length ps ≡ n) (old : List �
         let s = length-sheet ps in
         let fit = h.fits in
         record {
-          fits = sym (lt-leb (length (sheetWords ps)) (length old / 2) (omega arith));
+          fits = sym (lt-leb (length (sheet_words ps)) (length old / 2) (omega arith));
           long = ap length h.list ∙ length-written n old (take i ps);
           whole = λ z. absurd (no z);
-          last = ap (drop (wordBytes old)) h.list ∙ past-written n old (take i ps) (wordBytes old) (omega (arith, length-take-le i ps (omega arith))) (omega arith);
+          last = ap (drop (word_bytes old)) h.list ∙ past-written n old (take i ps) (word_bytes old) (omega (arith, length-take-le i ps (omega arith))) (omega arith);
         }
 
   -- no room for the table
   pub none-placed : length old / 2 < parts_at n → Ended ps old false old
   none-placed f =
       let s = length-sheet ps in
-      record { fits = sym (lt-leb (length (sheetWords ps)) (length old / 2) (omega arith)); long = refl; whole = λ z. absurd (no z); last = refl }
+      record { fits = sym (lt-leb (length (sheet_words ps)) (length old / 2) (omega arith)); long = refl; whole = λ z. absurd (no z); last = refl }
 
   pub placed-all : (i at : ℕ) (room : List ℕ) → Placed n ps old i at room → i ≡ n → Ended ps old true room
   placed-all i at room h e =
@@ -203,10 +203,10 @@ module _ (n : ℕ) (ps : List (List ℕ)) (size : length ps ≡ n) (old : List �
       let fit = h.fits in
       let list : room ≡ written n old ps = h.list ∙ ap (written n old) all in
       record {
-        fits = sym (le-leb (length (sheetWords ps)) (length old / 2) (omega arith));
+        fits = sym (le-leb (length (sheet_words ps)) (length old / 2) (omega arith));
         long = ap length list ∙ length-written n old ps;
         whole = λ z. list ∙ all_there n old ps size (omega arith);
-        last = ap (drop (wordBytes old)) list ∙ past-written n old ps (wordBytes old) (omega arith) (omega arith);
+        last = ap (drop (word_bytes old)) list ∙ past-written n old ps (word_bytes old) (omega arith) (omega arith);
       }
 
   -- from a room that was begun
@@ -215,29 +215,29 @@ module _ (n : ℕ) (ps : List (List ℕ)) (size : length ps ≡ n) (old : List �
       let size-mid : length mid ≡ length old = ap length e ∙ length-written n old [] in
       let past : (k : ℕ) → 2 * parts_at n ≤ k → drop k mid ≡ drop k old = λ k g. ap (drop k) e ∙ past-written n old [] k (omega arith) (omega arith) in
       let s = length-sheet ps in
-      let bytes : wordBytes mid ≡ wordBytes old = ap (λ m. 2 * (m / 2)) size-mid in
+      let bytes : word_bytes mid ≡ word_bytes old = ap (λ m. 2 * (m / 2)) size-mid in
       record {
-        fits = d.fits ∙ ap (λ m. leb (length (sheetWords ps)) (m / 2)) size-mid;
+        fits = d.fits ∙ ap (λ m. leb (length (sheet_words ps)) (m / 2)) size-mid;
         long = d.long ∙ size-mid;
-        whole = λ z. d.whole z ∙ ap (λ l. bytes_of (sheetWords ps) ++ l) (past (2 * length (sheetWords ps)) (omega arith));
-        last = ap (λ m. drop m new) (sym bytes) ∙ d.last ∙ ap (λ m. drop m mid) bytes ∙ past (wordBytes old) (omega arith);
+        whole = λ z. d.whole z ∙ ap (λ l. bytes_of (sheet_words ps) ++ l) (past (2 * length (sheet_words ps)) (omega arith));
+        last = ap (λ m. drop m new) (sym bytes) ∙ d.last ∙ ap (λ m. drop m mid) bytes ∙ past (word_bytes old) (omega arith);
       }
 
 -- ---- as many answers as questions
 
-questions-count : (ws : List ℕ) → length (sheetParts ws) ≡ count_of ws
-unfolding sheetParts sheetOffsets undoubled
-questions-count ws = parts-length (parts_at (count_of ws)) (drop 1 (sheetOffsets (count_of ws) ws)) (drop (parts_at (count_of ws)) ws) ∙ length-undoubled (count_of ws) (drop 2 (drop 1 ws))
+questions-count : (ws : List ℕ) → length (sheet_parts ws) ≡ count_of ws
+unfolding sheet_parts sheet_offsets undoubled
+questions-count ws = parts-length (parts_at (count_of ws)) (drop 1 (sheet_offsets (count_of ws) ws)) (drop (parts_at (count_of ws)) ws) ∙ length-undoubled (count_of ws) (drop 2 (drop 1 ws))
 
-pub answers-count : (work answer : ℕ) (ws : List ℕ) → length (answersOf desk work answer (sheetParts ws)) ≡ count_of ws
-unfolding answersOf
-answers-count work answer ws = length-map (sheetParts ws) (λ (q : List ℕ). answerPart desk (solving desk work answer q)) ∙ questions-count ws
+pub answers-count : (work answer : ℕ) (ws : List ℕ) → length (answers_of desk work answer (sheet_parts ws)) ≡ count_of ws
+unfolding answers_of
+answers-count work answer ws = length-map (sheet_parts ws) (λ (q : List ℕ). answer_part desk (solving desk work answer q)) ∙ questions-count ws
 
-answer_at : (work answer : ℕ) (qs : List (List ℕ)) (i : ℕ) → i < length qs → answerPart desk (solving desk work answer (get_or qs i [])) ≡ get_or (answersOf desk work answer qs) i []
-unfolding answersOf
+answer_at : (work answer : ℕ) (qs : List (List ℕ)) (i : ℕ) → i < length qs → answer_part desk (solving desk work answer (get_or qs i [])) ≡ get_or (answers_of desk work answer qs) i []
+unfolding answers_of
 answer_at work answer [] i h = absurd (omega arith)
 answer_at work answer (q ∷ qs) ℕ.zero h = refl
 answer_at work answer (q ∷ qs) (suc i) h = answer_at work answer qs i (omega arith)
 
-pub answer-of : (work answer : ℕ) (ws : List ℕ) (i : ℕ) → i < count_of ws → answerPart desk (solving desk work answer (get_or (sheetParts ws) i [])) ≡ get_or (answersOf desk work answer (sheetParts ws)) i []
-answer-of work answer ws i h = answer_at work answer (sheetParts ws) i (omega (arith, questions-count ws))
+pub answer-of : (work answer : ℕ) (ws : List ℕ) (i : ℕ) → i < count_of ws → answer_part desk (solving desk work answer (get_or (sheet_parts ws) i [])) ≡ get_or (answers_of desk work answer (sheet_parts ws)) i []
+answer-of work answer ws i h = answer_at work answer (sheet_parts ws) i (omega (arith, questions-count ws))

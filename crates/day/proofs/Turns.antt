@@ -9,14 +9,14 @@ use lib.Seq.{sets, length-take-le}
 use Rattle.language.specs.Limits.{desk}
 use Rattle.rules.specs.Answer.{solving}
 use Rattle.word_bytes.specs.Bytes.{words_in, words_of, bytes_of}
-use Rattle.sheets.specs.Layout.{doubled, parts_at, count_of, sheetLaid, sheetParts}
-use Rattle.sheets.specs.Day.{answerPart, answersOf}
+use Rattle.sheets.specs.Layout.{doubled, parts_at, count_of, sheet_laid, sheet_parts}
+use Rattle.sheets.specs.Day.{answer_part, answers_of}
 use Rattle.day.specs.Written.{written, Placed, Ended}
 use Rattle.day.proofs.Cuts.{held}
 use Rattle.day.proofs.Rooms.{length-written, begun-again, answers-count, answer-of, placed-none, placed-long, placed-more, placed-full, placed-all, none-placed, ended-begun}
 
 -- how many questions there are
-pub counted : (bs : List ℕ) → sheetLaid desk (words_in bs) ≡ true → (n : ℕ) → n ≡ get_or (words_of bs) 0 0 → n ≡ count_of (words_in bs)
+pub counted : (bs : List ℕ) → sheet_laid desk (words_in bs) ≡ true → (n : ℕ) → n ≡ get_or (words_of bs) 0 0 → n ≡ count_of (words_in bs)
 counted bs l n e = e ∙ ap count_of (sym (held bs l))
 
 -- a room that was begun is as long as it was, and may be begun again
@@ -25,9 +25,9 @@ begun-there n old new e = (ap length e ∙ length-written n old [], e ∙ sym (b
 
 module _ (bs : List ℕ) (n : ℕ) (is : n ≡ count_of (words_in bs)) (w a : ℕ) (old : List ℕ) where
   abbrev parts : List (List ℕ)
-  parts = answersOf desk w a (sheetParts (words_in bs))
+  parts = answers_of desk w a (sheet_parts (words_in bs))
 
-  size : length (answersOf desk w a (sheetParts (words_in bs))) ≡ n
+  size : length (answers_of desk w a (sheet_parts (words_in bs))) ≡ n
   size = answers-count w a (words_in bs) ∙ sym is
 
   pub none_yet : 2 * parts_at n ≤ length old → old ≡ written n old [] → (at : ℕ) → at ≡ parts_at n → Placed n parts old 0 at old
@@ -50,10 +50,10 @@ module _ (bs : List ℕ) (n : ℕ) (is : n ≡ count_of (words_in bs)) (w a : �
     behind-table = omega (arith, h.end)
 
     module _ (w' a' : ℕ) (kw : w' ≡ w) (ka : a' ≡ a) (number len : ℕ) (answer : List ℕ) (short : len ≤ desk.room) (inside : len ≤ length answer)
-        (said : number ∷ take len answer ≡ answerPart desk (solving desk w' a' (get_or (sheetParts (words_in bs)) i []))) where
-      part-is : number ∷ take len answer ≡ get_or (answersOf desk w a (sheetParts (words_in bs))) i []
+        (said : number ∷ take len answer ≡ answer_part desk (solving desk w' a' (get_or (sheet_parts (words_in bs)) i []))) where
+      part-is : number ∷ take len answer ≡ get_or (answers_of desk w a (sheet_parts (words_in bs))) i []
       part-is =
-          said ∙ ap₂ (λ (x y : ℕ). answerPart desk (solving desk x y (get_or (sheetParts (words_in bs)) i []))) kw ka
+          said ∙ ap₂ (λ (x y : ℕ). answer_part desk (solving desk x y (get_or (sheet_parts (words_in bs)) i []))) kw ka
           ∙ answer-of w a (words_in bs) i (omega arith)
 
       part_length : length (number ∷ take len answer) ≡ suc len

@@ -2,14 +2,14 @@
 use Rattle.std.specs.Prelude.{ℕ, ◌+◌, ◌*◌, ◌/◌, ◌≤◌, ◌≡◌, Bool, true, List, ◌∷◌, ◌++◌, leb, length, take, drop}
 use Rattle.std.proofs.lemmas.List.Edits.{sets}
 use Rattle.language.specs.Limits.{desk}
-use Rattle.meaning.specs.Values.{offsetsOf, joined}
+use Rattle.meaning.specs.Values.{offsets_of, joined}
 use Rattle.word_bytes.specs.Bytes.{bytes_of}
-use Rattle.sheets.specs.Layout.{doubled, parts_at, sheetWords}
-use Rattle.handing.specs.Handed.{wordBytes}
+use Rattle.sheets.specs.Layout.{doubled, parts_at, sheet_words}
+use Rattle.handing.specs.Handed.{word_bytes}
 
 -- n, the offset of each part and the end of the last, and the parts, in a room that held `old`
 unfoldable pub written : ℕ → List ℕ → List (List ℕ) → List ℕ
-written n old ps = sets (sets old 0 (bytes_of (n ∷ doubled (offsetsOf (parts_at n) ps)))) (2 * parts_at n) (bytes_of (joined ps))
+written n old ps = sets (sets old 0 (bytes_of (n ∷ doubled (offsets_of (parts_at n) ps)))) (2 * parts_at n) (bytes_of (joined ps))
 
 -- the most words that a part has: a number and an answer
 abbrev pub most : ℕ
@@ -24,10 +24,10 @@ pub record Placed (n : ℕ) (ps : List (List ℕ)) (old : List ℕ) (i at : ℕ)
 
 -- all parts are written, or they do not fit the room, whose last byte alone is then known
 pub record Ended (ps : List (List ℕ)) (old : List ℕ) (r : Bool) (new : List ℕ) : Type 0 where
-  pub fits : r ≡ leb (length (sheetWords ps)) (length old / 2)
+  pub fits : r ≡ leb (length (sheet_words ps)) (length old / 2)
   pub long : length new ≡ length old
-  pub whole : r ≡ true → new ≡ bytes_of (sheetWords ps) ++ drop (2 * length (sheetWords ps)) old
-  pub last : drop (wordBytes old) new ≡ drop (wordBytes old) old
+  pub whole : r ≡ true → new ≡ bytes_of (sheet_words ps) ++ drop (2 * length (sheet_words ps)) old
+  pub last : drop (word_bytes old) new ≡ drop (word_bytes old) old
 
 -- a slice that held `old` is as long as it was, and so are the words past the room
 pub record Kept (old new : List ℕ) : Type 0 where

@@ -4,11 +4,11 @@ ghost use Rattle.std.proofs.lemmas.List.Edits.{sets};
 ghost use Rattle.language.specs.Limits.{desk};
 ghost use Rattle.language.specs.Kinds.{pick};
 ghost use Rattle.rules.specs.Answer.{solving};
-ghost use Rattle.outcomes.specs.Numbers.{checkedNumbers};
+ghost use Rattle.outcomes.specs.Numbers.{checked_numbers};
 ghost use Rattle.word_bytes.specs.Bytes.{words_in, words_of, bytes_of};
-ghost use Rattle.sheets.specs.Layout.{doubled, undoubled, parts_at, count_of, tableLaid, sheetLaid, sheetParts};
-ghost use Rattle.sheets.specs.Day.{answerPart, answersOf, day};
-ghost use Rattle.day.specs.Leaves.{dayNumbers, roomLeaves, sliceLeaves};
+ghost use Rattle.sheets.specs.Layout.{doubled, undoubled, parts_at, count_of, table_laid, sheet_laid, sheet_parts};
+ghost use Rattle.sheets.specs.Day.{answer_part, answers_of, day};
+ghost use Rattle.day.specs.Leaves.{day_numbers, room_leaves, slice_leaves};
 ghost use Rattle.day.specs.Written.{written, Ended, Kept};
 ghost use Rattle.language.specs.Question.{rising};
 
@@ -52,7 +52,7 @@ fn rises(sheet: &[u8], n: usize) -> bool
 // The offsets, for n questions.
 fn table(sheet: &[u8], n: usize) -> bool
     requires { n ≤ 65535 }
-    ensures { result ≡ tableLaid n (words_of sheet.now) }
+    ensures { result ≡ table_laid n (words_of sheet.now) }
 {
     let start = 2 * n + 3;
     if sheet.len() / 2 < start {
@@ -66,7 +66,7 @@ fn table(sheet: &[u8], n: usize) -> bool
 
 // Whether the header is one: 22 where it is not.
 fn laid(sheet: &[u8]) -> bool
-    ensures { result ≡ sheetLaid desk (words_in sheet.now) }
+    ensures { result ≡ sheet_laid desk (words_in sheet.now) }
 {
     if sheet.len() % 2 != 0 {
         return false;
@@ -104,7 +104,7 @@ pub struct Part {
 // Solves one question by itself.
 fn solve_one(question: &[u8], work: &mut [u16], answer: &mut [u16]) -> Part
     requires { (desk.room ≤ length work.old) × (desk.room ≤ length answer.old) }
-    ensures len_le_room { (result.len ≤ desk.room) × (result.len ≤ length answer.new) × (result.number ∷ take result.len answer.new ≡ answerPart desk (solving desk (length work.old) (length answer.old) (words_in question.now))) }
+    ensures len_le_room { (result.len ≤ desk.room) × (result.len ≤ length answer.new) × (result.number ∷ take result.len answer.new ≡ answer_part desk (solving desk (length work.old) (length answer.old) (words_in question.now))) }
     ensures kept { Kept work.old work.new × Kept answer.old answer.new }
 {
     let mut words = [0u16; QUESTION];
@@ -118,8 +118,8 @@ fn solve_one(question: &[u8], work: &mut [u16], answer: &mut [u16]) -> Part
 
 // Solves the question of that number, from 0.
 fn solve_part(sheet: &[u8], i: usize, work: &mut [u16], answer: &mut [u16]) -> Part
-    requires { (sheetLaid desk (words_in sheet.now) ≡ true) × (i < count_of (words_in sheet.now)) × (desk.room ≤ length work.old) × (desk.room ≤ length answer.old) }
-    ensures len_le_room { (result.len ≤ desk.room) × (result.len ≤ length answer.new) × (result.number ∷ take result.len answer.new ≡ answerPart desk (solving desk (length work.old) (length answer.old) (get_or (sheetParts (words_in sheet.now)) i []))) }
+    requires { (sheet_laid desk (words_in sheet.now) ≡ true) × (i < count_of (words_in sheet.now)) × (desk.room ≤ length work.old) × (desk.room ≤ length answer.old) }
+    ensures len_le_room { (result.len ≤ desk.room) × (result.len ≤ length answer.new) × (result.number ∷ take result.len answer.new ≡ answer_part desk (solving desk (length work.old) (length answer.old) (get_or (sheet_parts (words_in sheet.now)) i []))) }
     ensures kept { Kept work.old work.new × Kept answer.old answer.new }
 {
     let from = offset(sheet, i);
@@ -185,8 +185,8 @@ fn answer_all(
     answer: &mut [u16],
     room: &mut [u8],
 ) -> bool
-    requires { (sheetLaid desk (words_in sheet.now) ≡ true) × (count ≡ count_of (words_in sheet.now)) × (desk.room ≤ length work.old) × (desk.room ≤ length answer.old) × (2 * parts_at count ≤ length room.old) × (room.old ≡ written count room.old []) }
-    ensures { Ended (answersOf desk (length work.old) (length answer.old) (sheetParts (words_in sheet.now))) room.old result room.new × Kept work.old work.new × Kept answer.old answer.new }
+    requires { (sheet_laid desk (words_in sheet.now) ≡ true) × (count ≡ count_of (words_in sheet.now)) × (desk.room ≤ length work.old) × (desk.room ≤ length answer.old) × (2 * parts_at count ≤ length room.old) × (room.old ≡ written count room.old []) }
+    ensures { Ended (answers_of desk (length work.old) (length answer.old) (sheet_parts (words_in sheet.now))) room.old result room.new × Kept work.old work.new × Kept answer.old answer.new }
 {
     let n = wide(count);
     let mut at = 2 * n + 3;
@@ -207,8 +207,8 @@ fn answer_all(
 
 // The answers, where the table fits at least.
 fn answer_day(sheet: &[u8], work: &mut [u16], answer: &mut [u16], room: &mut [u8]) -> bool
-    requires { (sheetLaid desk (words_in sheet.now) ≡ true) × (desk.room ≤ length work.old) × (desk.room ≤ length answer.old) }
-    ensures { Ended (answersOf desk (length work.old) (length answer.old) (sheetParts (words_in sheet.now))) room.old result room.new × Kept work.old work.new × Kept answer.old answer.new }
+    requires { (sheet_laid desk (words_in sheet.now) ≡ true) × (desk.room ≤ length work.old) × (desk.room ≤ length answer.old) }
+    ensures { Ended (answers_of desk (length work.old) (length answer.old) (sheet_parts (words_in sheet.now))) room.old result room.new × Kept work.old work.new × Kept answer.old answer.new }
 {
     let n = word_at(sheet, 0);
     if room.len() / 2 < 2 * wide(n) + 3 {
@@ -220,8 +220,8 @@ fn answer_day(sheet: &[u8], work: &mut [u16], answer: &mut [u16], room: &mut [u8
 
 // Answers a day's sheet: what comes back, and what the room and the two lent slices then hold, is what `day` says of them.
 pub fn solve_day(sheet: &[u8], work: &mut [u16], answer: &mut [u16], room: &mut [u8]) -> Checked
-    ensures result_value { checkedNumbers result ≡ dayNumbers (day desk (length work.old) (length answer.old) (length room.old / 2) (words_in sheet.now)) }
-    ensures room_after { (room.new ≡ roomLeaves (day desk (length work.old) (length answer.old) (length room.old / 2) (words_in sheet.now)) room.old) × (work.new ≡ sliceLeaves (day desk (length work.old) (length answer.old) (length room.old / 2) (words_in sheet.now)) work.old) × (answer.new ≡ sliceLeaves (day desk (length work.old) (length answer.old) (length room.old / 2) (words_in sheet.now)) answer.old) }
+    ensures result_value { checked_numbers result ≡ day_numbers (day desk (length work.old) (length answer.old) (length room.old / 2) (words_in sheet.now)) }
+    ensures room_after { (room.new ≡ room_leaves (day desk (length work.old) (length answer.old) (length room.old / 2) (words_in sheet.now)) room.old) × (work.new ≡ slice_leaves (day desk (length work.old) (length answer.old) (length room.old / 2) (words_in sheet.now)) work.old) × (answer.new ≡ slice_leaves (day desk (length work.old) (length answer.old) (length room.old / 2) (words_in sheet.now)) answer.old) }
 {
     if work.len() < ROOM {
         return Checked::Refused(Refusal::ShortSlice);

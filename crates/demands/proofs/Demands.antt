@@ -12,23 +12,23 @@ use Rattle.language.specs.Limits.{desk}
 use Rattle.language.specs.Mistakes.{RightPlace}
 use Rattle.language.specs.Numbers.{number_of}
 use Rattle.language.specs.Trees.{Question}
-use Rattle.language.specs.Question.{asks, readQuestion}
+use Rattle.language.specs.Question.{asks, read_question}
 use Rattle.meaning.specs.Meaning.{Filling, MeetsQuestion}
 use Rattle.rules.specs.Each.{Each}
 use Rattle.lines.specs.Matching.{Matching}
 use Rattle.outcomes.specs.declared.Outcome.TheVariants.{Refused, NoLine}
-use Rattle.outcomes.specs.Numbers.{SolveNumbers, outcomeNumber, solvedNumbers, shownNumbers}
+use Rattle.outcomes.specs.Numbers.{SolveNumbers, outcome_number, solved_numbers, shown_numbers}
 use Rattle.outcomes.specs.declared.Tried.TheVariants as tried
 use Rattle.outcomes.specs.declared.Shown.TheVariants.{Shows, Denied}
 use Rattle.word_bytes.specs.Bytes.{words_of, words_in}
-use Rattle.host.specs.Numbers.{asksOld}
+use Rattle.host.specs.Numbers.{asks_old}
 use Rattle.demands.specs.Solves.{Solve}
 use Rattle.demands.specs.Tries.{Try}
 use Rattle.demands.specs.Examples.{Example}
 use Rattle.demands.specs.HostCalls.{DeskSolve, DeskTry, DeskExample, DeskPlace, DeskDay}
-use Rattle.demands.specs.Answers.{Line, nthLine}
-use Rattle.demands.specs.Promises.{Promised, Answered, exampleWords, RoomShows, Told}
-use Rattle.demands.specs.Before.{solvedBefore, exhibitedBefore, TriedBefore}
+use Rattle.demands.specs.Answers.{Line, nth_line}
+use Rattle.demands.specs.Promises.{Promised, Answered, example_words, RoomShows, Told}
+use Rattle.demands.specs.Before.{solved_before, exhibited_before, TriedBefore}
 use Rattle.demands.specs.Table.{SolveFault, TryFault, First}
 use Rattle.demands.specs.Tells.{SolvingNumber, SolveTells, TryTells, ExampleTells, TryAgrees}
 use Rattle.demands.specs.HostTells.{DeskSolveTells, DeskTryTells, DeskTryAgrees, BytesTold, DeskExampleTells, DeskPlaceTells}
@@ -84,16 +84,16 @@ example-place = places.example-right
 
 -- Where the number is 0, the lines read off the answer's words are those of the published rules, in their order, with their marks, after as many
 -- steps (`by-rules`); any filling meets the question exactly when it meets one of them (`exact`); and what comes back is what they say.
-pub solve-answers : (c : Solve) → outcomeNumber c.returned.outcome ≡ 0 → Answered c.question c.answerLeft c.returned
+pub solve-answers : (c : Solve) → outcome_number c.returned.outcome ≡ 0 → Answered c.question c.answer_left c.returned
 solve-answers c z = (solving.solves c z).answered.answered
 
 -- "none" is a promise: where it comes back, no filling meets the question.
-pub none-is-none : (c : Solve) → c.returned.outcome ≡ NoLine → (asked : Question) × (readQuestion desk c.question ≡ asks asked) × ((ρ : Filling) → ¬ MeetsQuestion ρ asked)
+pub none-is-none : (c : Solve) → c.returned.outcome ≡ NoLine → (asked : Question) × (read_question desk c.question ≡ asks asked) × ((ρ : Filling) → ¬ MeetsQuestion ρ asked)
 none-is-none = solving.none
 
 -- If within each alternative every equation has a side without blanks, and each blank of a shape test also stands in an equation of that
 -- alternative, the count of open lines that comes back is 0.
-pub matching-none-open : (c : Solve) → ((asked : Question) → readQuestion desk c.question ≡ asks asked → Each Matching asked.alternatives) → c.returned.«open» ≡ 0
+pub matching-none-open : (c : Solve) → ((asked : Question) → read_question desk c.question ≡ asks asked → Each Matching asked.alternatives) → c.returned.«open» ≡ 0
 matching-none-open = solving.none_open
 
 -- Two answers to one question have the same lines, whoever gave them.
@@ -105,36 +105,36 @@ one_answer = between.one_answer
 -- A question whose first word is a number of symbols alone is solved as before there were unordered symbols: the same comes back, and the same words
 -- stand in the slices;
 pub solve-as-before : (c : Solve) → get_or c.question 0 0 < 256
-    → ◌≡◌ {A = SolveNumbers × List ℕ × List ℕ} (solvedNumbers c.returned, c.workLeft, c.answerLeft) (solvedBefore c.question c.work c.answer)
+    → ◌≡◌ {A = SolveNumbers × List ℕ × List ℕ} (solved_numbers c.returned, c.work_left, c.answer_left) (solved_before c.question c.work c.answer)
 solve-as-before = was.solve-before
 
 -- a line's example is as before;
 pub example-as-before : (c : Example) → get_or c.question 0 0 < 256
-    → ◌≡◌ {A = (ℕ × ℕ × ℕ) × List ℕ × List ℕ × List ℕ} (shownNumbers c.returned, c.workLeft, c.answerLeft, c.room_left) (exhibitedBefore c.line c.oldSheets c.question c.work c.answer c.room)
+    → ◌≡◌ {A = (ℕ × ℕ × ℕ) × List ℕ × List ℕ × List ℕ} (shown_numbers c.returned, c.work_left, c.answer_left, c.room_left) (exhibited_before c.line c.old_sheets c.question c.work c.answer c.room)
 example-as-before = was.example-before
 
 -- and yes and no are those of the meaning in which the same is equal.
-pub try-as-before : (t : Try) → get_or t.question 0 0 < 256 → (q : Question) → readQuestion desk t.question ≡ asks q → TriedBefore t q
+pub try-as-before : (t : Try) → get_or t.question 0 0 < 256 → (q : Question) → read_question desk t.question ≡ asks q → TriedBefore t q
 try-as-before = was.try-before
 
 -- ---- demand 3, of an example
 
 -- A length comes back only for a settled line, and then the room's words are read back as a filling that meets that very line;
 pub shows-only-so : (c : Example) (m : ℕ) → c.returned ≡ Shows m
-    → (p : Promised c.question c.answerLeft) × (k : Line) × (nthLine c.line p.lines ≡ some k) × (k.mark ≡ 1) × RoomShows c.oldSheets p.asked.counts k m c.room c.room_left
+    → (p : Promised c.question c.answer_left) × (k : Line) × (nth_line c.line p.lines ≡ some k) × (k.mark ≡ 1) × RoomShows c.old_sheets p.asked.counts k m c.room c.room_left
 shows-only-so = showing.shows-so
 
 -- and 16 only where the line's example is longer than the room lent or than a filling may be.
 pub long-only-so : (c : Example) → c.returned ≡ Denied LongExample
-    → (p : Promised c.question c.answerLeft) × (k : Line) × (nthLine c.line p.lines ≡ some k) × (k.mark ≡ 1)
-    × ((desk.filling < length (exampleWords c.oldSheets p.asked.counts k)) ⊎ (length c.room < length (exampleWords c.oldSheets p.asked.counts k)))
+    → (p : Promised c.question c.answer_left) × (k : Line) × (nth_line c.line p.lines ≡ some k) × (k.mark ≡ 1)
+    × ((desk.filling < length (example_words c.old_sheets p.asked.counts k)) ⊎ (length c.room < length (example_words c.old_sheets p.asked.counts k)))
 long-only-so = showing.long-so
 
 -- After solve has answered, the lines that it left decide what the example tells of the same question, in slices that are long enough: a settled
 -- line is shown, or its example is too long (16).
-pub example-follows : (s : Solve) → outcomeNumber s.returned.outcome ≡ 0 → (c : Example) → s.question ≡ c.question
-    → desk.room ≤ length c.work → desk.room ≤ length c.answer → (p : Promised s.question s.answerLeft)
-    → Told c.oldSheets p.asked.counts c.room (nthLine c.line p.lines) c.returned c.room_left
+pub example-follows : (s : Solve) → outcome_number s.returned.outcome ≡ 0 → (c : Example) → s.question ≡ c.question
+    → desk.room ≤ length c.work → desk.room ≤ length c.answer → (p : Promised s.question s.answer_left)
+    → Told c.old_sheets p.asked.counts c.room (nth_line c.line p.lines) c.returned c.room_left
 example-follows = showing.follows
 
 -- ---- demand 3, of a filling that is tried
@@ -155,7 +155,7 @@ pub desk-solve-tells : (c : DeskSolve) → DeskSolveTells c
 desk-solve-tells = hosting.solve-tells
 
 -- Where it is 0, the words of the answer's bytes keep demands 2 and 3.
-pub desk-solve-promises : (c : DeskSolve) → c.number ≡ 0 → Promised (words_in c.question) (words_of c.answerLeft)
+pub desk-solve-promises : (c : DeskSolve) → c.number ≡ 0 → Promised (words_in c.question) (words_of c.answer_left)
 desk-solve-promises = hosting.solve-promises
 
 -- 101 is yes, 100 is no, and all else is a number of the table, exactly when the table says so;
@@ -171,8 +171,8 @@ pub desk-example-tells : (c : DeskExample) → DeskExampleTells c
 desk-example-tells = hosting.example-tells
 
 -- and the lines in the bytes that desk_solve left decide what desk_example tells: 14, 15, 16, or 100 and a length, with a filling in the room that meets that very line.
-pub desk-example-follows : (s : DeskSolve) → s.number ≡ 0 → (c : DeskExample) → s.question ≡ c.question → (p : Promised (words_in s.question) (words_of s.answerLeft))
-    → BytesTold (asksOld c.old) p.asked.counts (nthLine c.line p.lines) c.room c.number c.room_left
+pub desk-example-follows : (s : DeskSolve) → s.number ≡ 0 → (c : DeskExample) → s.question ≡ c.question → (p : Promised (words_in s.question) (words_of s.answer_left))
+    → BytesTold (asks_old c.old) p.asked.counts (nth_line c.line p.lines) c.room c.number c.room_left
 desk-example-follows = hosting.example-follows
 
 -- desk_place gives the place of the question's first fault, by the table's order, and 0 where it has none.

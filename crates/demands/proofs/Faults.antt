@@ -15,8 +15,8 @@ use Rattle.language.specs.Kinds.{pick}
 use Rattle.language.specs.Numbers.{number_of, place_of}
 use Rattle.language.specs.Trees.{Conj, Counts}
 use Rattle.language.specs.Reading.{Got, got, stop}
-use Rattle.language.specs.Undeclared.{undeclaredAt}
-use Rattle.language.specs.Question.{Asked, asks, refuses, readQuestion, countsOf, alternativesOf, body_at, lengthFits, countsFit, laidOut, parts, read_all, declaredQ}
+use Rattle.language.specs.Undeclared.{undeclared_at}
+use Rattle.language.specs.Question.{Asked, asks, refuses, read_question, counts_of, alternatives_of, body_at, length_fits, counts_fit, laid_out, parts, read_all, declared_q}
 use Rattle.language.proofs.Bools.{both_true}
 use Rattle.demands.specs.Table.{OutOfRange, QuestionFault, bad-length, bad-count, bad-offset, not-literals, undeclared, First}
 
@@ -34,16 +34,16 @@ over-bound a b e = leb-false a b e
 within-bound : (a b : ℕ) → leb a b ≡ true → b < a → ⊥
 within-bound a b e l = let p : a ≤ b = leb-true a b e in omega arith
 
-length-off : (ws : List ℕ) → lengthFits desk ws ≡ false → (length ws < 6) ⊎ (desk.question < length ws)
-unfolding lengthFits
+length-off : (ws : List ℕ) → length_fits desk ws ≡ false → (length ws < 6) ⊎ (desk.question < length ws)
+unfolding length_fits
 length-off ws e = go (either-false (leb 6 (length ws)) (leb (length ws) desk.question) e)
   where
     go : (leb 6 (length ws) ≡ false) ⊎ (leb (length ws) desk.question ≡ false) → (length ws < 6) ⊎ (desk.question < length ws)
     go (inl f) = inl (over-bound 6 (length ws) f)
     go (inr f) = inr (over-bound (length ws) desk.question f)
 
-length-on : (ws : List ℕ) → lengthFits desk ws ≡ true → (length ws < 6) ⊎ (desk.question < length ws) → ⊥
-unfolding lengthFits
+length-on : (ws : List ℕ) → length_fits desk ws ≡ true → (length ws < 6) ⊎ (desk.question < length ws) → ⊥
+unfolding length_fits
 length-on ws e (inl l) = within-bound 6 (length ws) (both_true (leb 6 (length ws)) (leb (length ws) desk.question) e).0 l
 length-on ws e (inr l) = within-bound (length ws) desk.question (both_true (leb 6 (length ws)) (leb (length ws) desk.question) e).1 l
 
@@ -64,8 +64,8 @@ module _ (n : Counts) (c : ℕ) where
   abbrev t₅ : Bool
   t₅ = t₄ && leb n.functions desk.each
 
-  count-off : countsFit desk n c ≡ false → OutOfRange n c
-  unfolding countsFit
+  count-off : counts_fit desk n c ≡ false → OutOfRange n c
+  unfolding counts_fit
   count-off e = go₆ (either-false t₅ (leb c desk.alternatives) e)
     where
       go₂ : (leb 1 n.symbols ≡ false) ⊎ (leb n.symbols desk.each ≡ false) → OutOfRange n c
@@ -92,8 +92,8 @@ module _ (n : Counts) (c : ℕ) where
       go₆ (inl e) = go₅ (either-false t₄ (leb n.functions desk.each) e)
       go₆ (inr f) = inr (inr (inr (inr (inr (inr (over-bound c desk.alternatives f))))))
 
-  count-on : countsFit desk n c ≡ true → OutOfRange n c → ⊥
-  unfolding countsFit
+  count-on : counts_fit desk n c ≡ true → OutOfRange n c → ⊥
+  unfolding counts_fit
   count-on e =
       let (e₅, f) = both_true t₅ (leb c desk.alternatives) e in
       let (e₄, x) = both_true t₄ (leb n.functions desk.each) e₅ in
@@ -127,7 +127,7 @@ module _ (ws : List ℕ) where
   from-2 d (not-literals n e _) = let z = ap number_of e in omega arith
   from-2 d (undeclared e _ _ _ _) = let z = ap number_of e in omega arith
 
-  module _ (l : lengthFits desk ws ≡ true) where
+  module _ (l : length_fits desk ws ≡ true) where
     from-3 : (d : Refusal) → Fault d → 3 ≤ number_of d
     from-3 d (bad-length e o) = absurd (length-on ws l o)
     from-3 d (bad-count e _) = let z = ap number_of e in omega arith
@@ -135,15 +135,15 @@ module _ (ws : List ℕ) where
     from-3 d (not-literals n e _) = let z = ap number_of e in omega arith
     from-3 d (undeclared e _ _ _ _) = let z = ap number_of e in omega arith
 
-    module _ (c : countsFit desk (countsOf ws) (alternativesOf ws) ≡ true) where
+    module _ (c : counts_fit desk (counts_of ws) (alternatives_of ws) ≡ true) where
       from-4 : (d : Refusal) → Fault d → 4 ≤ number_of d
       from-4 d (bad-length e o) = absurd (length-on ws l o)
-      from-4 d (bad-count e o) = absurd (count-on (countsOf ws) (alternativesOf ws) c o)
+      from-4 d (bad-count e o) = absurd (count-on (counts_of ws) (alternatives_of ws) c o)
       from-4 d (bad-offset e _) = let z = ap number_of e in omega arith
       from-4 d (not-literals n e _) = let z = ap number_of e in omega arith
       from-4 d (undeclared e _ _ _ _) = let z = ap number_of e in omega arith
 
-      module _ (o : laidOut 5 (alternativesOf ws) ws ≡ true) where
+      module _ (o : laid_out 5 (alternatives_of ws) ws ≡ true) where
         no_bool : {A : Type 0} {b : Bool} → b ≡ true → b ≡ false → A
         no_bool p q = absurd (let z : ◌≡◌ {A = ℕ} 0 1 = cc in omega arith)
 
@@ -152,22 +152,22 @@ module _ (ws : List ℕ) where
 
         from-5 : (d : Refusal) → Fault d → 5 ≤ number_of d
         from-5 d (bad-length e x) = absurd (length-on ws l x)
-        from-5 d (bad-count e x) = absurd (count-on (countsOf ws) (alternativesOf ws) c x)
+        from-5 d (bad-count e x) = absurd (count-on (counts_of ws) (alternatives_of ws) c x)
         from-5 d (bad-offset e x) = no_bool o x
         from-5 d (not-literals n e _) = let z = ap number_of e in omega arith
         from-5 d (undeclared e _ _ _ _) = let z = ap number_of e in omega arith
 
-        module _ (ks : List Conj) (k : ℕ) (r : read_all desk (parts 5 (alternativesOf ws) ws) ≡ got ks k) where
+        module _ (ks : List Conj) (k : ℕ) (r : read_all desk (parts 5 (alternatives_of ws) ws) ≡ got ks k) where
           from-6 : (d : Refusal) → Fault d → 6 ≤ number_of d
           from-6 d (bad-length e x) = absurd (length-on ws l x)
-          from-6 d (bad-count e x) = absurd (count-on (countsOf ws) (alternativesOf ws) c x)
+          from-6 d (bad-count e x) = absurd (count-on (counts_of ws) (alternatives_of ws) c x)
           from-6 d (bad-offset e x) = no_bool o x
           from-6 d (not-literals n e x) = no-reading r x
           from-6 d (undeclared e _ _ _ _) = let z = ap number_of e in omega arith
 
-          none_left : declaredQ (countsOf ws) ks ≡ true → (d : Refusal) → Fault d → ⊥
+          none_left : declared_q (counts_of ws) ks ≡ true → (d : Refusal) → Fault d → ⊥
           none_left u d (bad-length e x) = length-on ws l x
-          none_left u d (bad-count e x) = count-on (countsOf ws) (alternativesOf ws) c x
+          none_left u d (bad-count e x) = count-on (counts_of ws) (alternatives_of ws) c x
           none_left u d (bad-offset e x) = no_bool o x
           none_left u d (not-literals n e x) = no-reading r x
           none_left u d (undeclared e js j x y) = let z : ks ≡ js = same r x in no_bool u (rw z y)
@@ -185,49 +185,49 @@ module _ (ws : List ℕ) where
 
   -- the place of an undeclared number
   abbrev missing : ℕ
-  missing = body_at ws + undeclaredAt desk (countsOf ws) (drop (body_at ws) ws)
+  missing = body_at ws + undeclared_at desk (counts_of ws) (drop (body_at ws) ws)
 
   -- what each test leads to
   abbrev at-declared : List Conj → Bool → Asked
-  at-declared ks b = elim b [ false ↦ refuses (Undeclared missing) | true ↦ asks (record { counts = countsOf ws; alternatives = ks }) ]
+  at-declared ks b = elim b [ false ↦ refuses (Undeclared missing) | true ↦ asks (record { counts = counts_of ws; alternatives = ks }) ]
 
   abbrev at_read : Got (List Conj) → Asked
-  at_read g = elim g [ stop n ↦ refuses (NotLiterals (body_at ws + n)) | got ks n ↦ at-declared ks (declaredQ (countsOf ws) ks) ]
+  at_read g = elim g [ stop n ↦ refuses (NotLiterals (body_at ws + n)) | got ks n ↦ at-declared ks (declared_q (counts_of ws) ks) ]
 
   abbrev at-laid : Bool → Asked
-  at-laid b = elim b [ false ↦ refuses BadOffset | true ↦ at_read (read_all desk (parts 5 (alternativesOf ws) ws)) ]
+  at-laid b = elim b [ false ↦ refuses BadOffset | true ↦ at_read (read_all desk (parts 5 (alternatives_of ws) ws)) ]
 
   abbrev at-counts : Bool → Asked
-  at-counts b = elim b [ false ↦ refuses CountRange | true ↦ at-laid (laidOut 5 (alternativesOf ws) ws) ]
+  at-counts b = elim b [ false ↦ refuses CountRange | true ↦ at-laid (laid_out 5 (alternatives_of ws) ws) ]
 
   abbrev at_length : Bool → Asked
-  at_length b = elim b [ false ↦ refuses QuestionLength | true ↦ at-counts (countsFit desk (countsOf ws) (alternativesOf ws)) ]
+  at_length b = elim b [ false ↦ refuses QuestionLength | true ↦ at-counts (counts_fit desk (counts_of ws) (alternatives_of ws)) ]
 
-  pub question-judged : Judged (readQuestion desk ws)
-  unfolding readQuestion
-  question-judged = on-length (lengthFits desk ws) refl
+  pub question-judged : Judged (read_question desk ws)
+  unfolding read_question
+  question-judged = on-length (length_fits desk ws) refl
     where
-      on-declared : (l : lengthFits desk ws ≡ true) (c : countsFit desk (countsOf ws) (alternativesOf ws) ≡ true) (o : laidOut 5 (alternativesOf ws) ws ≡ true) (ks : List Conj) (k : ℕ)
-          → read_all desk (parts 5 (alternativesOf ws) ws) ≡ got ks k → (b : Bool) → declaredQ (countsOf ws) ks ≡ b → Judged (at-declared ks b)
+      on-declared : (l : length_fits desk ws ≡ true) (c : counts_fit desk (counts_of ws) (alternatives_of ws) ≡ true) (o : laid_out 5 (alternatives_of ws) ws ≡ true) (ks : List Conj) (k : ℕ)
+          → read_all desk (parts 5 (alternatives_of ws) ws) ≡ got ks k → (b : Bool) → declared_q (counts_of ws) ks ≡ b → Judged (at-declared ks b)
       on-declared l c o ks k r false d = first_of (Undeclared missing) (undeclared refl ks k r d) (from-6 l c o ks k r)
       on-declared l c o ks k r true d = none_left l c o ks k r d
 
-      on_read : (l : lengthFits desk ws ≡ true) (c : countsFit desk (countsOf ws) (alternativesOf ws) ≡ true) (o : laidOut 5 (alternativesOf ws) ws ≡ true)
-          → (g : Got (List Conj)) → read_all desk (parts 5 (alternativesOf ws) ws) ≡ g → Judged (at_read g)
+      on_read : (l : length_fits desk ws ≡ true) (c : counts_fit desk (counts_of ws) (alternatives_of ws) ≡ true) (o : laid_out 5 (alternatives_of ws) ws ≡ true)
+          → (g : Got (List Conj)) → read_all desk (parts 5 (alternatives_of ws) ws) ≡ g → Judged (at_read g)
       on_read l c o (stop n) r = first_of (NotLiterals (body_at ws + n)) (not-literals n refl r) (from-5 l c o)
-      on_read l c o (got ks k) r = on-declared l c o ks k r (declaredQ (countsOf ws) ks) refl
+      on_read l c o (got ks k) r = on-declared l c o ks k r (declared_q (counts_of ws) ks) refl
 
-      on-laid : (l : lengthFits desk ws ≡ true) (c : countsFit desk (countsOf ws) (alternativesOf ws) ≡ true) (b : Bool) → laidOut 5 (alternativesOf ws) ws ≡ b → Judged (at-laid b)
+      on-laid : (l : length_fits desk ws ≡ true) (c : counts_fit desk (counts_of ws) (alternatives_of ws) ≡ true) (b : Bool) → laid_out 5 (alternatives_of ws) ws ≡ b → Judged (at-laid b)
       on-laid l c false o = first_of BadOffset (bad-offset refl o) (from-4 l c)
-      on-laid l c true o = on_read l c o (read_all desk (parts 5 (alternativesOf ws) ws)) refl
+      on-laid l c true o = on_read l c o (read_all desk (parts 5 (alternatives_of ws) ws)) refl
 
-      on-counts : (l : lengthFits desk ws ≡ true) (b : Bool) → countsFit desk (countsOf ws) (alternativesOf ws) ≡ b → Judged (at-counts b)
-      on-counts l false c = first_of CountRange (bad-count refl (count-off (countsOf ws) (alternativesOf ws) c)) (from-3 l)
-      on-counts l true c = on-laid l c (laidOut 5 (alternativesOf ws) ws) refl
+      on-counts : (l : length_fits desk ws ≡ true) (b : Bool) → counts_fit desk (counts_of ws) (alternatives_of ws) ≡ b → Judged (at-counts b)
+      on-counts l false c = first_of CountRange (bad-count refl (count-off (counts_of ws) (alternatives_of ws) c)) (from-3 l)
+      on-counts l true c = on-laid l c (laid_out 5 (alternatives_of ws) ws) refl
 
-      on-length : (b : Bool) → lengthFits desk ws ≡ b → Judged (at_length b)
+      on-length : (b : Bool) → length_fits desk ws ≡ b → Judged (at_length b)
       on-length false l = first_of QuestionLength (bad-length refl (length-off ws l)) from-2
-      on-length true l = on-counts l (countsFit desk (countsOf ws) (alternativesOf ws)) refl
+      on-length true l = on-counts l (counts_fit desk (counts_of ws) (alternatives_of ws)) refl
 
   -- ---- a number has one place
 
@@ -235,12 +235,12 @@ module _ (ws : List ℕ) where
   stopped (stop n) = n
   stopped (got ks n) = 0
 
-  abbrev pub placeFor : ℕ → ℕ
-  placeFor n = pick (eqb n 5) (body_at ws + stopped (read_all desk (parts 5 (alternativesOf ws) ws))) (pick (eqb n 6) missing 0)
+  abbrev pub place_for : ℕ → ℕ
+  place_for n = pick (eqb n 5) (body_at ws + stopped (read_all desk (parts 5 (alternatives_of ws) ws))) (pick (eqb n 6) missing 0)
 
-  pub fault-place : (d : Refusal) → QuestionFault ws d → place_of d ≡ placeFor (number_of d)
-  fault-place d (bad-length e _) = ap place_of e ∙ sym (ap (λ r. placeFor (number_of r)) e)
-  fault-place d (bad-count e _) = ap place_of e ∙ sym (ap (λ r. placeFor (number_of r)) e)
-  fault-place d (bad-offset e _) = ap place_of e ∙ sym (ap (λ r. placeFor (number_of r)) e)
-  fault-place d (not-literals n e r) = ap place_of e ∙ ap (λ g. body_at ws + stopped g) (sym r) ∙ sym (ap (λ r. placeFor (number_of r)) e)
-  fault-place d (undeclared e _ _ _ _) = ap place_of e ∙ sym (ap (λ r. placeFor (number_of r)) e)
+  pub fault-place : (d : Refusal) → QuestionFault ws d → place_of d ≡ place_for (number_of d)
+  fault-place d (bad-length e _) = ap place_of e ∙ sym (ap (λ r. place_for (number_of r)) e)
+  fault-place d (bad-count e _) = ap place_of e ∙ sym (ap (λ r. place_for (number_of r)) e)
+  fault-place d (bad-offset e _) = ap place_of e ∙ sym (ap (λ r. place_for (number_of r)) e)
+  fault-place d (not-literals n e r) = ap place_of e ∙ ap (λ g. body_at ws + stopped g) (sym r) ∙ sym (ap (λ r. place_for (number_of r)) e)
+  fault-place d (undeclared e _ _ _ _) = ap place_of e ∙ sym (ap (λ r. place_for (number_of r)) e)

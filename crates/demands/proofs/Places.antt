@@ -12,15 +12,15 @@ use Rattle.language.specs.declared.Refusal.TheVariants.{ShortSlice, QuestionLeng
 use Rattle.language.specs.Limits.{desk}
 use Rattle.language.specs.Numbers.{number_of, place_of}
 use Rattle.language.specs.Trees.{signature, Question}
-use Rattle.language.specs.Question.{Asked, asks, refuses, askedPlace, readQuestion}
+use Rattle.language.specs.Question.{Asked, asks, refuses, asked_place, read_question}
 use Rattle.language.specs.Mistakes.{RightPlace}
 use Rattle.language.proofs.Mistakes.{place-right}
 use Rattle.meaning.specs.Meaning.{Filling}
-use Rattle.meaning.specs.Values.{Given, gives, readFilling}
+use Rattle.meaning.specs.Values.{Given, gives, read_filling}
 use Rattle.meaning.specs.Values as values
 use Rattle.rules.specs.Run.{Outcome, finished, refused, run}
-use Rattle.rules.specs.Answer.{Solving, answered, unread, given-up, ran, solvingOf, solving, verdictOf}
-use Rattle.rules.specs.Calls.{Trying, decides, tooLong, tryingWith, tryingOf, trying, line_at}
+use Rattle.rules.specs.Answer.{Solving, answered, unread, given-up, ran, solving_of, solving, verdict_of}
+use Rattle.rules.specs.Calls.{Trying, decides, too_long, trying_with, trying_of, trying, line_at}
 use Rattle.rules.specs.Calls as calls
 use Rattle.rules.proofs.Stopping.{RunStopsBy, run-stops-by}
 use Rattle.language.specs.Question as question
@@ -32,7 +32,7 @@ use Rattle.outcomes.specs.declared.Shown.TheVariants.{Denied}
 use Rattle.solver.specs.Leaves.{leaves}
 use Rattle.trying.specs.Outcome.{Outcome as Tries}
 use Rattle.word_bytes.specs.Bytes.{words_in}
-use Rattle.try_host.specs.Host.{placeBytes}
+use Rattle.try_host.specs.Host.{place_bytes}
 use Rattle.demands.specs.Solves.{Solve}
 use Rattle.demands.specs.Tries.{Try}
 use Rattle.demands.specs.Examples.{Example}
@@ -92,13 +92,13 @@ module _ (ws : List ℕ) where
 
   solving-right : (work answer : ℕ) → SolvesRight (solving desk work answer ws)
   unfolding solving
-  solving-right work answer = short (ltb work desk.room) _ (short (ltb answer desk.room) _ (on (readQuestion desk ws) refl))
+  solving-right work answer = short (ltb work desk.room) _ (short (ltb answer desk.room) _ (on (read_question desk ws) refl))
     where
       short : (b : Bool) (s : Solving) → SolvesRight s → SolvesRight (elim b [ true ↦ unread ShortSlice | false ↦ s ])
       short true s h = none_right ShortSlice (λ e. omega arith) (λ e. omega arith)
       short false s h = h
 
-      on : (a : Asked) → readQuestion desk ws ≡ a → SolvesRight (solvingOf desk a)
+      on : (a : Asked) → read_question desk ws ≡ a → SolvesRight (solving_of desk a)
       on (asks q) e =
           run-right (run desk (signature q.counts) q.alternatives)
           (run-stops-by (RightPlace desk ws) (none_right LongResult (λ e. omega arith) (λ e. omega arith)) (none_right LongWaiting (λ e. omega arith) (λ e. omega arith))
@@ -114,7 +114,7 @@ module _ (ws : List ℕ) where
 
   trying-right : (work : ℕ) (fs : List ℕ) → TriesRight (trying desk work ws fs)
   unfolding trying
-  trying-right work fs = short (ltb work desk.room) _ (on (readQuestion desk ws) refl)
+  trying-right work fs = short (ltb work desk.room) _ (on (read_question desk ws) refl)
     where
       short : (b : Bool) (t : Trying) → TriesRight t → TriesRight (elim b [ true ↦ calls.unread ShortSlice | false ↦ t ])
       short true t h = none_right ShortSlice (λ e. omega arith) (λ e. omega arith)
@@ -124,13 +124,13 @@ module _ (ws : List ℕ) where
       on-size q ρ true = none_right LongLiteral (λ e. omega arith) (λ e. omega arith)
       on-size q ρ false = tt
 
-      on-given : (q : Question) (g : Given) → Given-as q.counts fs g → TriesRight (tryingWith desk q g)
-      on-given q (gives ρ) s = on-size q ρ (tooLong desk ρ q.alternatives)
+      on-given : (q : Question) (g : Given) → Given-as q.counts fs g → TriesRight (trying_with desk q g)
+      on-given q (gives ρ) s = on-size q ρ (too_long desk ρ q.alternatives)
       on-given q (values.refuses r) (inl s) = subst (RightPlace desk ws) (sym s.0) (none_right FillingLayout (λ e. omega arith) (λ e. omega arith))
       on-given q (values.refuses r) (inr s) = subst (RightPlace desk ws) (sym s.0) (none_right FillingValue (λ e. omega arith) (λ e. omega arith))
 
-      on : (a : Asked) → readQuestion desk ws ≡ a → TriesRight (tryingOf desk a fs)
-      on (asks q) e = on-given q (readFilling desk q.counts fs) (given-as q.counts fs)
+      on : (a : Asked) → read_question desk ws ≡ a → TriesRight (trying_of desk a fs)
+      on (asks q) e = on-given q (read_filling desk q.counts fs) (given-as q.counts fs)
       on (refuses r) e = place-right desk ws r e
 
 -- ---- any call
@@ -143,12 +143,12 @@ solve-right c e d = by (solving desk (length c.work) (length c.answer) c.questio
   where
     -- the refusal that solving came to
     one : (v : Solving) (r : Refusal) → (leaves v c.work c.answer).0.outcome ≡ Refused r
-        → ◌≡◌ {A = SolveLeft} (c.returned, c.workLeft, c.answerLeft) (leaves v c.work c.answer) → r ≡ e
+        → ◌≡◌ {A = SolveLeft} (c.returned, c.work_left, c.answer_left) (leaves v c.work c.answer) → r ≡ e
     one v r i f = let z : c.returned.outcome ≡ Refused r = ap (λ (x : SolveLeft). x.0.outcome) f ∙ i in cc
 
-    by : (v : Solving) → ◌≡◌ {A = SolveLeft} (c.returned, c.workLeft, c.answerLeft) (leaves v c.work c.answer) → SolvesRight c.question v
+    by : (v : Solving) → ◌≡◌ {A = SolveLeft} (c.returned, c.work_left, c.answer_left) (leaves v c.work c.answer) → SolvesRight c.question v
         → RightPlace desk c.question e
-    by (answered ls n) f h = no-verdict (verdictOf ls) e (sym (ap (λ (x : SolveLeft). x.0.outcome) f) ∙ d)
+    by (answered ls n) f h = no-verdict (verdict_of ls) e (sym (ap (λ (x : SolveLeft). x.0.outcome) f) ∙ d)
     by (unread r) f h = subst (RightPlace desk c.question) (one (unread r) r refl f) h
     by (given-up r) f h = subst (RightPlace desk c.question) (one (given-up r) r refl f) h
 
@@ -158,7 +158,7 @@ try-right t e d = by (trying desk (length t.work) t.question t.filling) (try-sai
     one : {r : Refusal} {o : Tried} → o ≡ tried.Refused r → o ≡ tried.Refused e → r ≡ e
     one p q = cc
 
-    by : (v : Trying) → Tries v t.returned t.work t.workLeft → TriesRight t.question v → RightPlace desk t.question e
+    by : (v : Trying) → Tries v t.returned t.work t.work_left → TriesRight t.question v → RightPlace desk t.question e
     by (decides q ρ) o h = not-tried t e o.0 d
     by (calls.unread r) o h = subst (RightPlace desk t.question) (one o.0 d) h
     by (calls.given-up r) o h = subst (RightPlace desk t.question) (one o.0 d) h
@@ -169,18 +169,18 @@ example-right c e d = by (solving desk (length c.work) (length c.answer) c.quest
     one : {r : Refusal} → c.returned ≡ Denied r → r ≡ e
     one p = cc
 
-    by : (v : Solving) → ◌≡◌ {A = Left} (c.returned, c.workLeft, c.answerLeft, c.room_left) (left c v) → SolvesRight c.question v → RightPlace desk c.question e
+    by : (v : Solving) → ◌≡◌ {A = Left} (c.returned, c.work_left, c.answer_left, c.room_left) (left c v) → SolvesRight c.question v → RightPlace desk c.question e
     by (answered ls n) f h =
-        let p = late-number c.oldSheets (question.countsOf c.question) (length c.room) e (line_at c.line ls) (sym (ap (λ (x : Left). x.0) f) ∙ d) in
+        let p = late-number c.old_sheets (question.counts_of c.question) (length c.room) e (line_at c.line ls) (sym (ap (λ (x : Left). x.0) f) ∙ d) in
         let l = p.0 in
         none_right c.question e (λ z. omega arith) (λ z. omega arith)
     by (unread r) f h = subst (RightPlace desk c.question) (one (ap (λ (x : Left). x.0) f)) h
     by (given-up r) f h = subst (RightPlace desk c.question) (one (ap (λ (x : Left). x.0) f)) h
 
 pub place-tells : (c : DeskPlace) → DeskPlaceTells c
-unfolding placeBytes
-place-tells c = by (readQuestion desk (words_in c.question)) refl (question-judged (words_in c.question))
+unfolding place_bytes
+place-tells c = by (read_question desk (words_in c.question)) refl (question-judged (words_in c.question))
   where
-    by : (a : Asked) → readQuestion desk (words_in c.question) ≡ a → Judged (words_in c.question) a → DeskPlaceTells c
-    by (asks q) e j = faultless j (c.said ∙ ap askedPlace e)
-    by (refuses r) e j = faulty r j (place-right desk (words_in c.question) r e) (c.said ∙ ap askedPlace e)
+    by : (a : Asked) → read_question desk (words_in c.question) ≡ a → Judged (words_in c.question) a → DeskPlaceTells c
+    by (asks q) e j = faultless j (c.said ∙ ap asked_place e)
+    by (refuses r) e j = faulty r j (place-right desk (words_in c.question) r e) (c.said ∙ ap asked_place e)

@@ -13,7 +13,7 @@ use Rattle.language.specs.Limits.{Limits}
 use Rattle.language.specs.Trees.{Conj}
 use Rattle.rules.specs.Reply.{Reply, nothing, results, stops}
 use Rattle.rules.specs.Step.{step}
-use Rattle.rules.specs.Run.{Numbered, all_of, numbered, anyLong, waitingSize, linesFit, Outcome, refused, checked, lined, turn, run_from, run_by, run}
+use Rattle.rules.specs.Run.{Numbered, all_of, numbered, any_long, waiting_size, lines_fit, Outcome, refused, checked, lined, turn, run_from, run_by, run}
 use Rattle.rules.proofs.Stopping.{StopsBy, IsLongWalk, step-stops}
 use Rattle.demands.specs.Runs.{Reached, begins, rests, steps, Stops, long-result, long-waiting, no-line-fits, no-step-left, long-walk}
 
@@ -33,11 +33,11 @@ module _ (L : Limits) (σ : Signature) (alternatives : List Conj) where
   turn-walk go made ls k w e = ap (λ m. elim m as (λ _. Outcome) [ results ks ↦ go ls ks (all_of k.number ks ++ w) | nothing ↦ lined L (ls ++ (k ∷ [])) (λ ms. turn L (step σ) go made ms w) | stops r ↦ refused r ]) e
 
   turn-lined : (go : List Numbered → List Conj → List Numbered → Outcome) (made : ℕ) (ls : List Numbered) (k : Numbered) (w : List Numbered) → step σ k.literals ≡ nothing
-      → (b : Bool) → linesFit L (ls ++ (k ∷ [])) ≡ b → turn L (step σ) go made ls (k ∷ w) ≡ elim b [ true ↦ turn L (step σ) go made (ls ++ (k ∷ [])) w | false ↦ refused LineRoom ]
+      → (b : Bool) → lines_fit L (ls ++ (k ∷ [])) ≡ b → turn L (step σ) go made ls (k ∷ w) ≡ elim b [ true ↦ turn L (step σ) go made (ls ++ (k ∷ [])) w | false ↦ refused LineRoom ]
   turn-lined go made ls k w e b f =
       turn-rests go made ls k w e ∙ ap (λ t. elim t as (λ _. Outcome) [ true ↦ turn L (step σ) go made (ls ++ (k ∷ [])) w | false ↦ refused LineRoom ]) f
 
-  from-rests : (left made : ℕ) (ls : List Numbered) (k : Numbered) (w : List Numbered) → step σ k.literals ≡ nothing → (b : Bool) → linesFit L (ls ++ (k ∷ [])) ≡ b
+  from-rests : (left made : ℕ) (ls : List Numbered) (k : Numbered) (w : List Numbered) → step σ k.literals ≡ nothing → (b : Bool) → lines_fit L (ls ++ (k ∷ [])) ≡ b
       → run_from L (step σ) left made ls (k ∷ w) ≡ elim b [ true ↦ run_from L (step σ) left made (ls ++ (k ∷ [])) w | false ↦ refused LineRoom ]
   unfolding run_from
   from-rests zero made ls k w e b f = turn-lined (λ _ _ _. refused StepLimit) made ls k w e b f
@@ -57,10 +57,10 @@ module _ (L : Limits) (σ : Signature) (alternatives : List Conj) where
   from-walk zero made ls k w e = turn-walk (λ _ _ _. refused StepLimit) made ls k w e
   from-walk (suc left) made ls k w e = turn-walk (λ ms ks v. checked L ks v (run_from L (step σ) left (suc made) ms)) made ls k w e
 
-  checks : (ks : List Conj) (w : List Numbered) (go : List Numbered → Outcome) (a b : Bool) → anyLong L ks ≡ a → ltb L.room (waitingSize w) ≡ b
+  checks : (ks : List Conj) (w : List Numbered) (go : List Numbered → Outcome) (a b : Bool) → any_long L ks ≡ a → ltb L.room (waiting_size w) ≡ b
       → checked L ks w go ≡ elim a [ true ↦ refused LongResult | false ↦ elim b [ true ↦ refused LongWaiting | false ↦ go w ] ]
   checks ks w go a b e f =
-      ap (λ t. elim t as (λ _. Outcome) [ true ↦ refused LongResult | false ↦ elim (ltb L.room (waitingSize w)) [ true ↦ refused LongWaiting | false ↦ go w ] ]) e
+      ap (λ t. elim t as (λ _. Outcome) [ true ↦ refused LongResult | false ↦ elim (ltb L.room (waiting_size w)) [ true ↦ refused LongWaiting | false ↦ go w ] ]) e
       ∙ ap (λ t. elim a as (λ _. Outcome) [ true ↦ refused LongResult | false ↦ elim t [ true ↦ refused LongWaiting | false ↦ go w ] ]) f
 
   reached-run : {made left : ℕ} {ls w : List Numbered} → Reached L σ alternatives made left ls w → run L σ alternatives ≡ run_from L (step σ) left made ls w
@@ -68,15 +68,15 @@ module _ (L : Limits) (σ : Signature) (alternatives : List Conj) where
   reached-run begins = refl
   reached-run (rests {made = made} {left = left} {lines = ls} k w r e f) = reached-run r ∙ from-rests left made ls k w e true f
   reached-run (steps {made = made} {left = left} {lines = ls} k ks w r e f p) =
-      reached-run r ∙ from-steps left made ls k ks w e ∙ checks ks (all_of k.number ks ++ w) (run_from L (step σ) left (suc made) ls) false false f (le-ltb L.room (waitingSize (all_of k.number ks ++ w)) p)
+      reached-run r ∙ from-steps left made ls k ks w e ∙ checks ks (all_of k.number ks ++ w) (run_from L (step σ) left (suc made) ls) false false f (le-ltb L.room (waiting_size (all_of k.number ks ++ w)) p)
 
   -- ---- what stops it is what it is refused for
 
   pub stopped-run : {e : Refusal} → Stops L σ alternatives e → run L σ alternatives ≡ refused e
   stopped-run (long-result i {made = made} {left = left} {lines = ls} k ks w r s a) =
-      reached-run r ∙ from-steps left made ls k ks w s ∙ checks ks (all_of k.number ks ++ w) (run_from L (step σ) left (suc made) ls) true (ltb L.room (waitingSize (all_of k.number ks ++ w))) a refl ∙ ap refused (sym i)
+      reached-run r ∙ from-steps left made ls k ks w s ∙ checks ks (all_of k.number ks ++ w) (run_from L (step σ) left (suc made) ls) true (ltb L.room (waiting_size (all_of k.number ks ++ w))) a refl ∙ ap refused (sym i)
   stopped-run (long-waiting i {made = made} {left = left} {lines = ls} k ks w r s a p) =
-      reached-run r ∙ from-steps left made ls k ks w s ∙ checks ks (all_of k.number ks ++ w) (run_from L (step σ) left (suc made) ls) false true a (lt-ltb L.room (waitingSize (all_of k.number ks ++ w)) p) ∙ ap refused (sym i)
+      reached-run r ∙ from-steps left made ls k ks w s ∙ checks ks (all_of k.number ks ++ w) (run_from L (step σ) left (suc made) ls) false true a (lt-ltb L.room (waiting_size (all_of k.number ks ++ w)) p) ∙ ap refused (sym i)
   stopped-run (no-line-fits i {made = made} {left = left} {lines = ls} k w r s f) = reached-run r ∙ from-rests left made ls k w s false f ∙ ap refused (sym i)
   stopped-run (no-step-left i {made = made} {lines = ls} k ks w r s) = reached-run r ∙ from-none-left made ls k ks w s ∙ ap refused (sym i)
   stopped-run (long-walk i {made = made} {left = left} {lines = ls} k w r s) = reached-run r ∙ from-walk left made ls k w s ∙ ap refused (sym i)
@@ -99,33 +99,33 @@ module _ (L : Limits) (σ : Signature) (alternatives : List Conj) where
         Rest : Type 0
         Rest = turn L (step σ) go made (ls ++ (k ∷ [])) w ≡ refused e → Stopped
 
-        line : step σ k.literals ≡ nothing → (b : Bool) → linesFit L (ls ++ (k ∷ [])) ≡ b → elim b [ true ↦ turn L (step σ) go made (ls ++ (k ∷ [])) w | false ↦ refused LineRoom ] ≡ refused e
-            → (linesFit L (ls ++ (k ∷ [])) ≡ true → Rest) → Stopped
+        line : step σ k.literals ≡ nothing → (b : Bool) → lines_fit L (ls ++ (k ∷ [])) ≡ b → elim b [ true ↦ turn L (step σ) go made (ls ++ (k ∷ [])) w | false ↦ refused LineRoom ] ≡ refused e
+            → (lines_fit L (ls ++ (k ∷ [])) ≡ true → Rest) → Stopped
         line s true f d more = more f d
         line s false f d more = no-line-fits (refused-is d) k w r s f
 
         taken : (m : Reply (List Conj)) → step σ k.literals ≡ m → StopsBy IsLongWalk m
             → elim m [ results ks ↦ go ls ks (all_of k.number ks ++ w) | nothing ↦ lined L (ls ++ (k ∷ [])) (λ ms. turn L (step σ) go made ms w) | stops r ↦ refused r ] ≡ refused e
-            → (step σ k.literals ≡ nothing → linesFit L (ls ++ (k ∷ [])) ≡ true → Rest) → Stopped
+            → (step σ k.literals ≡ nothing → lines_fit L (ls ++ (k ∷ [])) ≡ true → Rest) → Stopped
         taken (stops own) s is d more = long-walk (refused-is d ∙ is) k w r (s ∙ ap stops is)
         taken (results ks) s is d more = on ls k ks w r s d
-        taken nothing s is d more = line s (linesFit L (ls ++ (k ∷ []))) refl d (more s)
+        taken nothing s is d more = line s (lines_fit L (ls ++ (k ∷ []))) refl d (more s)
 
     from-stops : (left made : ℕ) (ls w : List Numbered) → Reached L σ alternatives made left ls w → run_from L (step σ) left made ls w ≡ refused e → Stopped
     unfolding run_from
     from-stops zero made ls w r d = turn-stops made 0 (λ _ _ _. refused StepLimit) (λ ls k ks w r s d. no-step-left (refused-is d) k ks w r s) ls w r d
     from-stops (suc left) made ls w r d =
         turn-stops made (suc left) (λ ms ks v. checked L ks v (run_from L (step σ) left (suc made) ms))
-        (λ ls k ks w r s d. on_step ls k ks w r s (anyLong L ks) refl (ltb L.room (waitingSize (all_of k.number ks ++ w))) refl d (λ a b. from-stops left (suc made) ls (all_of k.number ks ++ w) (steps k ks w r s a b)))
+        (λ ls k ks w r s d. on_step ls k ks w r s (any_long L ks) refl (ltb L.room (waiting_size (all_of k.number ks ++ w))) refl d (λ a b. from-stops left (suc made) ls (all_of k.number ks ++ w) (steps k ks w r s a b)))
         ls w r d
       where
         on_step : (ls : List Numbered) (k : Numbered) (ks : List Conj) (w : List Numbered) → Reached L σ alternatives made (suc left) ls (k ∷ w) → step σ k.literals ≡ results ks
-            → (a : Bool) → anyLong L ks ≡ a → (b : Bool) → ltb L.room (waitingSize (all_of k.number ks ++ w)) ≡ b
+            → (a : Bool) → any_long L ks ≡ a → (b : Bool) → ltb L.room (waiting_size (all_of k.number ks ++ w)) ≡ b
             → elim a [ true ↦ refused LongResult | false ↦ elim b [ true ↦ refused LongWaiting | false ↦ run_from L (step σ) left (suc made) ls (all_of k.number ks ++ w) ] ] ≡ refused e
-            → (anyLong L ks ≡ false → waitingSize (all_of k.number ks ++ w) ≤ L.room → run_from L (step σ) left (suc made) ls (all_of k.number ks ++ w) ≡ refused e → Stopped) → Stopped
+            → (any_long L ks ≡ false → waiting_size (all_of k.number ks ++ w) ≤ L.room → run_from L (step σ) left (suc made) ls (all_of k.number ks ++ w) ≡ refused e → Stopped) → Stopped
         on_step ls k ks w r s true p b q d more = long-result (refused-is d) k ks w r s p
-        on_step ls k ks w r s false p true q d more = long-waiting (refused-is d) k ks w r s p (ltb-true L.room (waitingSize (all_of k.number ks ++ w)) q)
-        on_step ls k ks w r s false p false q d more = more p (ltb-false L.room (waitingSize (all_of k.number ks ++ w)) q) d
+        on_step ls k ks w r s false p true q d more = long-waiting (refused-is d) k ks w r s p (ltb-true L.room (waiting_size (all_of k.number ks ++ w)) q)
+        on_step ls k ks w r s false p false q d more = more p (ltb-false L.room (waiting_size (all_of k.number ks ++ w)) q) d
 
     pub refused-stops : run L σ alternatives ≡ refused e → Stopped
     unfolding run run_by

@@ -18,11 +18,11 @@ use Rattle.demands.specs.Solves.{Solve}
 use Rattle.demands.specs.Tries.{Try}
 use Rattle.demands.specs.Examples.{Example}
 
-pub solve-said : (c : Solve) → ◌≡◌ {A = Solved × List ℕ × List ℕ} (c.returned, c.workLeft, c.answerLeft) (leaves (solving desk (length c.work) (length c.answer) c.question) c.work c.answer)
-solve-said c = leaves-told (c.returned, c.workLeft, c.answerLeft) (solving desk (length c.work) (length c.answer) c.question) c.work c.answer c.said
+pub solve-said : (c : Solve) → ◌≡◌ {A = Solved × List ℕ × List ℕ} (c.returned, c.work_left, c.answer_left) (leaves (solving desk (length c.work) (length c.answer) c.question) c.work c.answer)
+solve-said c = leaves-told (c.returned, c.work_left, c.answer_left) (solving desk (length c.work) (length c.answer) c.question) c.work c.answer c.said
 
-pub try-said : (t : Try) → Outcome (trying desk (length t.work) t.question t.filling) t.returned t.work t.workLeft
-try-said t = outcome-told (trying desk (length t.work) t.question t.filling) t.returned t.work t.workLeft t.said
+pub try-said : (t : Try) → Outcome (trying desk (length t.work) t.question t.filling) t.returned t.work t.work_left
+try-said t = outcome-told (trying desk (length t.work) t.question t.filling) t.returned t.work t.work_left t.said
 
-pub example-said : (c : Example) → ◌≡◌ {A = Shown × List ℕ × List ℕ × List ℕ} (c.returned, c.workLeft, c.answerLeft, c.room_left) (exhibits c.line c.oldSheets c.question c.work c.answer c.room)
-example-said c = exhibits-told (c.returned, c.workLeft, c.answerLeft, c.room_left) c.line c.oldSheets c.question c.work c.answer c.room c.said
+pub example-said : (c : Example) → ◌≡◌ {A = Shown × List ℕ × List ℕ × List ℕ} (c.returned, c.work_left, c.answer_left, c.room_left) (exhibits c.line c.old_sheets c.question c.work c.answer c.room)
+example-said c = exhibits-told (c.returned, c.work_left, c.answer_left, c.room_left) c.line c.old_sheets c.question c.work c.answer c.room c.said

@@ -13,36 +13,36 @@ use Rattle.language.specs.declared.Refusal.TheVariants.{NoSuchLine, OpenLine, Lo
 use Rattle.language.specs.Numbers.{number_of}
 use Rattle.language.specs.Limits.{desk}
 use Rattle.language.specs.Trees.{Counts}
-use Rattle.language.specs.Question.{countsOf}
-use Rattle.meaning.specs.Values.{fillingWords}
+use Rattle.language.specs.Question.{counts_of}
+use Rattle.meaning.specs.Values.{filling_words}
 use Rattle.rules.specs.Solved.{solved}
-use Rattle.rules.specs.Example.{defaultSymbol, example}
+use Rattle.rules.specs.Example.{default_symbol, example}
 use Rattle.rules.specs.Run.{Numbered}
-use Rattle.rules.specs.Answer.{Solving, answered, unread, given-up, solving, answerWords, zeros, overwritten}
-use Rattle.rules.specs.Calls.{line_at, shows, denied, fitted, shown, showingOf, showing}
+use Rattle.rules.specs.Answer.{Solving, answered, unread, given-up, solving, answer_words, zeros, overwritten}
+use Rattle.rules.specs.Calls.{line_at, shows, denied, fitted, shown, showing_of, showing}
 use Rattle.exact.proofs.Declared.{read-declared}
-use Rattle.outcomes.specs.Numbers.{outcomeNumber}
+use Rattle.outcomes.specs.Numbers.{outcome_number}
 use Rattle.solver.specs.Leaves.{leaves}
 use Rattle.outcomes.specs.declared.Shown.{Shown}
 use Rattle.outcomes.specs.declared.Shown.TheVariants.{Shows, Denied}
-use Rattle.line_example.specs.Shown.{result_of, roomOf}
+use Rattle.line_example.specs.Shown.{result_of, room_of}
 use Rattle.example.specs.Exhibits.{exhibits}
 use Rattle.answer_example.specs.Answers.{Answer}
 use Rattle.host.proofs.Refusals.{InRange, in-range}
 use Rattle.demands.specs.Solves.{Solve}
 use Rattle.demands.specs.Examples.{Example}
-use Rattle.demands.specs.Answers.{Line, numberedOf, nthLine}
-use Rattle.demands.specs.Promises.{Promised, exampleWords, RoomShows, Told, missing, is_open, too_long, shown as is-shown}
-use Rattle.demands.specs.Columns.{leftIn}
+use Rattle.demands.specs.Answers.{Line, numbered_of, nth_line}
+use Rattle.demands.specs.Promises.{Promised, example_words, RoomShows, Told, missing, is_open, too_long, shown as is-shown}
+use Rattle.demands.specs.Columns.{left_in}
 use Rattle.demands.specs.Table.{SolveFault, First}
 use Rattle.demands.specs.Tells.{SolvingNumber, ExampleTells, refuses, told}
 use Rattle.demands.proofs.Said.{example-said}
-use Rattle.demands.proofs.Reading.{asLine, numbered-back}
+use Rattle.demands.proofs.Reading.{as_line, numbered-back}
 use Rattle.demands.proofs.Promising.{From, promise, tell}
 use Rattle.demands.proofs.Between.{stands, one_answer, long-enough}
 use Rattle.demands.proofs.Columns.{early-column, late-column}
 use Rattle.demands.proofs.Numbers.{first_one}
-use Rattle.demands.proofs.Faults.{placeFor}
+use Rattle.demands.proofs.Faults.{place_for}
 use Rattle.demands.proofs.Judging.{SolveJudged, solve-judged, solve-place}
 use Rattle.demands.proofs.Solving.{solves}
 
@@ -51,16 +51,16 @@ abbrev pub Left : Type 0
 Left = Shown × List ℕ × List ℕ × List ℕ
 
 -- where there is an answer, a refusal has a number from 14 to 16
-pub late-number : (oldSheets : Bool) (n : Counts) (room : ℕ) (e : Refusal) (o : Option Numbered) → result_of (shown desk oldSheets n room o) ≡ Denied e → (14 ≤ number_of e) × (number_of e ≤ 16)
-late-number oldSheets n room e none d = let z : NoSuchLine ≡ e = cc in let y = ap number_of z in (omega arith, omega arith)
-late-number oldSheets n room e (some k) d = go (solved k.literals) d
+pub late-number : (old_sheets : Bool) (n : Counts) (room : ℕ) (e : Refusal) (o : Option Numbered) → result_of (shown desk old_sheets n room o) ≡ Denied e → (14 ≤ number_of e) × (number_of e ≤ 16)
+late-number old_sheets n room e none d = let z : NoSuchLine ≡ e = cc in let y = ap number_of z in (omega arith, omega arith)
+late-number old_sheets n room e (some k) d = go (solved k.literals) d
   where
     at_room : (ws : List ℕ) (b : Bool) → result_of (elim b [ true ↦ denied LongExample | false ↦ shows ws ]) ≡ Denied e → (14 ≤ number_of e) × (number_of e ≤ 16)
     at_room ws true d = let z : LongExample ≡ e = cc in let y = ap number_of z in (omega arith, omega arith)
     at_room ws false d = absurd (let z : ◌≡◌ {A = ℕ} 0 1 = cc in omega arith)
 
-    go : (b : Bool) → result_of (elim b [ true ↦ fitted desk room (fillingWords n (example (defaultSymbol oldSheets n) k.literals)) | false ↦ denied OpenLine ]) ≡ Denied e → (14 ≤ number_of e) × (number_of e ≤ 16)
-    go true d = at_room (fillingWords n (example (defaultSymbol oldSheets n) k.literals)) (ltb desk.filling (length (fillingWords n (example (defaultSymbol oldSheets n) k.literals))) || ltb room (length (fillingWords n (example (defaultSymbol oldSheets n) k.literals)))) d
+    go : (b : Bool) → result_of (elim b [ true ↦ fitted desk room (filling_words n (example (default_symbol old_sheets n) k.literals)) | false ↦ denied OpenLine ]) ≡ Denied e → (14 ≤ number_of e) × (number_of e ≤ 16)
+    go true d = at_room (filling_words n (example (default_symbol old_sheets n) k.literals)) (ltb desk.filling (length (filling_words n (example (default_symbol old_sheets n) k.literals))) || ltb room (length (filling_words n (example (default_symbol old_sheets n) k.literals)))) d
     go false d = let z : OpenLine ≡ e = cc in let y = ap number_of z in (omega arith, omega arith)
 
 -- and is none of solving's
@@ -70,16 +70,16 @@ of-line l h (inr p) = omega arith
 
 module _ (c : Example) where
   abbrev pub came : Left
-  came = (c.returned, c.workLeft, c.answerLeft, c.room_left)
+  came = (c.returned, c.work_left, c.answer_left, c.room_left)
 
   abbrev pub comes : Solving
   comes = solving desk (length c.work) (length c.answer) c.question
 
   abbrev pub left : Solving → Left
   left v =
-      let s = showingOf desk c.oldSheets (countsOf c.question) (length c.room) c.line v in
+      let s = showing_of desk c.old_sheets (counts_of c.question) (length c.room) c.line v in
       let l = leaves v c.work c.answer in
-      (result_of s, l.1, l.2, roomOf s c.room)
+      (result_of s, l.1, l.2, room_of s c.room)
 
   pub says : came ≡ left comes
   unfolding exhibits showing
@@ -87,23 +87,23 @@ module _ (c : Example) where
 
   -- an answer, and what is told of the line
   record TellsFrom (ls : List Numbered) (n : ℕ) : Type 0 where
-    from : From c.question c.answerLeft ls n
-    tells : Told c.oldSheets from.promised.asked.counts c.room (nthLine c.line from.promised.lines) c.returned c.room_left
+    from : From c.question c.answer_left ls n
+    tells : Told c.old_sheets from.promised.asked.counts c.room (nth_line c.line from.promised.lines) c.returned c.room_left
 
   tells-from : (ls : List Numbered) (n : ℕ) → comes ≡ answered ls n → came ≡ left (answered ls n) → TellsFrom ls n
   tells-from ls n d e =
-      let there : Answer c.answerLeft ls = subst (λ w. Answer w ls) (sym (ap (λ (x : Left). x.2) e)) (stands (length c.work) (length c.answer) c.question c.answer ls n d) in
-      let f = promise (length c.work) (length c.answer) c.question ls n d c.answerLeft there in
+      let there : Answer c.answer_left ls = subst (λ w. Answer w ls) (sym (ap (λ (x : Left). x.2) e)) (stands (length c.work) (length c.answer) c.question c.answer ls n d) in
+      let f = promise (length c.work) (length c.answer) c.question ls n d c.answer_left there in
       let p = f.promised in
       let counts = (read-declared desk c.question p.asked p.question-read).0 in
-      let l = nthLine c.line (map asLine ls) in
-      let t = tell (length c.work) (length c.answer) c.question ls n d c.oldSheets c.line c.room in
+      let l = nth_line c.line (map as_line ls) in
+      let t = tell (length c.work) (length c.answer) c.question ls n d c.old_sheets c.line c.room in
       record {
         from = f;
         tells =
             rw (f.lines, counts)
-            (subst (λ r. Told c.oldSheets (countsOf c.question) c.room l r c.room_left) (sym (ap (λ (x : Left). x.0) e))
-            (subst (Told c.oldSheets (countsOf c.question) c.room l (result_of (shown desk c.oldSheets (countsOf c.question) (length c.room) (line_at c.line ls))))
+            (subst (λ r. Told c.old_sheets (counts_of c.question) c.room l r c.room_left) (sym (ap (λ (x : Left). x.0) e))
+            (subst (Told c.old_sheets (counts_of c.question) c.room l (result_of (shown desk c.old_sheets (counts_of c.question) (length c.room) (line_at c.line ls))))
             (sym (ap (λ (x : Left). x.3) e)) t));
       }
 
@@ -114,17 +114,17 @@ module _ (c : Example) where
       by (unread r) d e =
           let b : InRange (unread r) = subst InRange d (in-range desk _ _ _) in
           let u = early-column r b.1 in
-          refuses r (ap (λ (x : Left). x.0) e) (b.0, inl (let h = b.1 in omega arith)) (ap (λ (x : Left). x.1) e ∙ sym (ap (λ k. leftIn k (overwritten desk (zeros desk) c.work) c.work) u))
-          (ap (λ (x : Left). x.2) e ∙ sym (ap (λ k. leftIn k (overwritten desk (zeros desk) c.answer) c.answer) u)) (ap (λ (x : Left). x.3) e)
+          refuses r (ap (λ (x : Left). x.0) e) (b.0, inl (let h = b.1 in omega arith)) (ap (λ (x : Left). x.1) e ∙ sym (ap (λ k. left_in k (overwritten desk (zeros desk) c.work) c.work) u))
+          (ap (λ (x : Left). x.2) e ∙ sym (ap (λ k. left_in k (overwritten desk (zeros desk) c.answer) c.answer) u)) (ap (λ (x : Left). x.3) e)
       by (given-up r) d e =
           let b : InRange (given-up r) = subst InRange d (in-range desk _ _ _) in
           let u = late-column r b.0 b.1 in
-          refuses r (ap (λ (x : Left). x.0) e) (let h = b.0 in omega arith, b.1) (ap (λ (x : Left). x.1) e ∙ sym (ap (λ k. leftIn k (overwritten desk (zeros desk) c.work) c.work) u))
-          (ap (λ (x : Left). x.2) e ∙ sym (ap (λ k. leftIn k (overwritten desk (zeros desk) c.answer) c.answer) u)) (ap (λ (x : Left). x.3) e)
+          refuses r (ap (λ (x : Left). x.0) e) (let h = b.0 in omega arith, b.1) (ap (λ (x : Left). x.1) e ∙ sym (ap (λ k. left_in k (overwritten desk (zeros desk) c.work) c.work) u))
+          (ap (λ (x : Left). x.2) e ∙ sym (ap (λ k. left_in k (overwritten desk (zeros desk) c.answer) c.answer) u)) (ap (λ (x : Left). x.3) e)
       by (answered ls n) d e =
           let t = tells-from ls n d e in
           told t.from.promised t.tells (ap (λ (x : Left). x.1) e)
-          (ap (λ (x : Left). x.2) e ∙ ap (λ ks. overwritten desk (answerWords desk ks) c.answer) (sym (ap numberedOf t.from.lines ∙ numbered-back ls)))
+          (ap (λ (x : Left). x.2) e ∙ ap (λ ks. overwritten desk (answer_words desk ks) c.answer) (sym (ap numbered_of t.from.lines ∙ numbered-back ls)))
 
   -- 1 to 10 and 21 come back exactly when the table says so, as from solving
   pub example-given : (e : Refusal) → SolvingNumber (number_of e) → (c.returned ≡ Denied e) ↔ First (SolveFault (length c.work) (length c.answer) c.question) e
@@ -136,22 +136,22 @@ module _ (c : Example) where
       by : (v : Solving) → came ≡ left v → SolveJudged (length c.work) (length c.answer) c.question v
           → (c.returned ≡ Denied e) ↔ First (SolveFault (length c.work) (length c.answer) c.question) e
       by (answered ls n) f j = (
-        λ d. absurd (let p = late-number c.oldSheets (countsOf c.question) (length c.room) e (line_at c.line ls) (sym (ap (λ (x : Left). x.0) f) ∙ d) in of-line p.0 p.1 few),
+        λ d. absurd (let p = late-number c.old_sheets (counts_of c.question) (length c.room) e (line_at c.line ls) (sym (ap (λ (x : Left). x.0) f) ∙ d) in of-line p.0 p.1 few),
         λ g. absurd (j e g.here),
       )
-      by (unread r) f j = let is = ap (λ (x : Left). x.0) f in (λ d. rw (← same is d) j, λ g. is ∙ ap Denied (first_one (SolveFault (length c.work) (length c.answer) c.question) (placeFor c.question) (solve-place (length c.work) (length c.answer) c.question) r e j g))
-      by (given-up r) f j = let is = ap (λ (x : Left). x.0) f in (λ d. rw (← same is d) j, λ g. is ∙ ap Denied (first_one (SolveFault (length c.work) (length c.answer) c.question) (placeFor c.question) (solve-place (length c.work) (length c.answer) c.question) r e j g))
+      by (unread r) f j = let is = ap (λ (x : Left). x.0) f in (λ d. rw (← same is d) j, λ g. is ∙ ap Denied (first_one (SolveFault (length c.work) (length c.answer) c.question) (place_for c.question) (solve-place (length c.work) (length c.answer) c.question) r e j g))
+      by (given-up r) f j = let is = ap (λ (x : Left). x.0) f in (λ d. rw (← same is d) j, λ g. is ∙ ap Denied (first_one (SolveFault (length c.work) (length c.answer) c.question) (place_for c.question) (solve-place (length c.work) (length c.answer) c.question) r e j g))
 
   -- a length comes back only with a filling of so many words that meets the line asked for,
   pub shows-so : (m : ℕ) → c.returned ≡ Shows m
-      → (p : Promised c.question c.answerLeft) × (k : Line) × (nthLine c.line p.lines ≡ some k) × (k.mark ≡ 1) × RoomShows c.oldSheets p.asked.counts k m c.room c.room_left
+      → (p : Promised c.question c.answer_left) × (k : Line) × (nth_line c.line p.lines ≡ some k) × (k.mark ≡ 1) × RoomShows c.old_sheets p.asked.counts k m c.room c.room_left
   shows-so m e = by tells
     where
       no : {A : Type 0} {r : Refusal} → c.returned ≡ Denied r → A
       no d = absurd (let z : ◌≡◌ {A = ℕ} 0 1 = cc in omega arith)
 
       by : ExampleTells c
-          → (p : Promised c.question c.answerLeft) × (k : Line) × (nthLine c.line p.lines ≡ some k) × (k.mark ≡ 1) × RoomShows c.oldSheets p.asked.counts k m c.room c.room_left
+          → (p : Promised c.question c.answer_left) × (k : Line) × (nth_line c.line p.lines ≡ some k) × (k.mark ≡ 1) × RoomShows c.old_sheets p.asked.counts k m c.room c.room_left
       by (refuses r d _ _ _ _) = no d
       by (told p (missing _ d _) _ _) = no d
       by (told p (is_open _ _ _ d _) _ _) = no d
@@ -160,13 +160,13 @@ module _ (c : Example) where
 
   -- and 16 only where the line is settled and its example is longer than the room lent or than a filling may be
   pub long-so : c.returned ≡ Denied LongExample
-      → (p : Promised c.question c.answerLeft) × (k : Line) × (nthLine c.line p.lines ≡ some k) × (k.mark ≡ 1)
-      × ((desk.filling < length (exampleWords c.oldSheets p.asked.counts k)) ⊎ (length c.room < length (exampleWords c.oldSheets p.asked.counts k)))
+      → (p : Promised c.question c.answer_left) × (k : Line) × (nth_line c.line p.lines ≡ some k) × (k.mark ≡ 1)
+      × ((desk.filling < length (example_words c.old_sheets p.asked.counts k)) ⊎ (length c.room < length (example_words c.old_sheets p.asked.counts k)))
   long-so e = by tells
     where
       by : ExampleTells c
-          → (p : Promised c.question c.answerLeft) × (k : Line) × (nthLine c.line p.lines ≡ some k) × (k.mark ≡ 1)
-          × ((desk.filling < length (exampleWords c.oldSheets p.asked.counts k)) ⊎ (length c.room < length (exampleWords c.oldSheets p.asked.counts k)))
+          → (p : Promised c.question c.answer_left) × (k : Line) × (nth_line c.line p.lines ≡ some k) × (k.mark ≡ 1)
+          × ((desk.filling < length (example_words c.old_sheets p.asked.counts k)) ⊎ (length c.room < length (example_words c.old_sheets p.asked.counts k)))
       by (refuses r d b _ _ _) = absurd (let z : r ≡ LongExample = cc in let y = ap number_of z in of-line {n = number_of r} (omega arith) (omega arith) b.1)
       by (told p (missing _ d _) _ _) = absurd (let z : ◌≡◌ {A = ℕ} 0 1 = cc in omega arith)
       by (told p (is_open _ _ _ d _) _ _) = absurd (let z : ◌≡◌ {A = ℕ} 0 1 = cc in omega arith)
@@ -174,9 +174,9 @@ module _ (c : Example) where
       by (told p (is-shown _ _ _ _ _ _ _ d _) _ _) = absurd (let z : ◌≡◌ {A = ℕ} 0 1 = cc in omega arith)
 
 -- the lines that solve left decide what the example tells
-pub follows : (s : Solve) (z : outcomeNumber s.returned.outcome ≡ 0) (c : Example) → s.question ≡ c.question
-    → desk.room ≤ length c.work → desk.room ≤ length c.answer → (p : Promised s.question s.answerLeft)
-    → Told c.oldSheets p.asked.counts c.room (nthLine c.line p.lines) c.returned c.room_left
+pub follows : (s : Solve) (z : outcome_number s.returned.outcome ≡ 0) (c : Example) → s.question ≡ c.question
+    → desk.room ≤ length c.work → desk.room ≤ length c.answer → (p : Promised s.question s.answer_left)
+    → Told c.old_sheets p.asked.counts c.room (nth_line c.line p.lines) c.returned c.room_left
 follows s z c same x y p =
     let v = solves s z in
     let d : comes c ≡ answered v.ls v.n =

@@ -14,11 +14,11 @@ use Rattle.language.specs.declared.Refusal.TheVariants.{ShortSlice, LongLiteral}
 use Rattle.language.specs.declared.Signature.{Signature}
 use Rattle.language.specs.Limits.{desk}
 use Rattle.language.specs.Trees.{signature, Question}
-use Rattle.language.specs.Question.{asks, readQuestion}
+use Rattle.language.specs.Question.{asks, read_question}
 use Rattle.meaning.specs.Meaning.{Filling, MeetsQuestion}
-use Rattle.meaning.specs.Values.{Given, gives, readFilling}
+use Rattle.meaning.specs.Values.{Given, gives, read_filling}
 use Rattle.meaning.specs.Values as values
-use Rattle.rules.specs.Calls.{Trying, decides, tooLong, tryingWith, tryingOf, trying}
+use Rattle.rules.specs.Calls.{Trying, decides, too_long, trying_with, trying_of, trying}
 use Rattle.rules.specs.Calls as calls
 use Rattle.outcomes.specs.declared.Tried.{Tried}
 use Rattle.outcomes.specs.declared.Tried.TheVariants as tried
@@ -26,7 +26,7 @@ use Rattle.trying.specs.Outcome.{Answers, Outcome}
 use Rattle.outcomes.specs.declared.Shown.TheVariants.{Shows}
 use Rattle.demands.specs.Tries.{Try}
 use Rattle.demands.specs.Examples.{Example}
-use Rattle.demands.specs.Answers.{Line, MeetsLine, MeetsLines, nthLine}
+use Rattle.demands.specs.Answers.{Line, MeetsLine, MeetsLines, nth_line}
 use Rattle.demands.specs.Promises.{Promised}
 use Rattle.demands.specs.Tells.{TryAgrees}
 use Rattle.demands.proofs.Said.{try-said}
@@ -44,23 +44,23 @@ not-refused (inr d) f = absurd (let z : ◌≡◌ {A = ℕ} 0 1 = cc in omega ar
 module _ (q : Question) (fs w w' : List ℕ) (r : Tried) (d : Decided r) where
   -- the words are read as a filling, and the answer is what the meaning says of it
   abbrev pub Decides : Type 0
-  Decides = (ρ : Filling) × (readFilling desk q.counts fs ≡ gives ρ) × Answers (MeetsQuestion ρ q) r
+  Decides = (ρ : Filling) × (read_filling desk q.counts fs ≡ gives ρ) × Answers (MeetsQuestion ρ q) r
 
-  by_size : (ρ : Filling) → readFilling desk q.counts fs ≡ gives ρ → (b : Bool) → Outcome (elim b [ true ↦ calls.given-up LongLiteral | false ↦ decides q ρ ]) r w w' → Decides
+  by_size : (ρ : Filling) → read_filling desk q.counts fs ≡ gives ρ → (b : Bool) → Outcome (elim b [ true ↦ calls.given-up LongLiteral | false ↦ decides q ρ ]) r w w' → Decides
   by_size ρ g true o = not-refused d o.0
   by_size ρ g false o = (ρ, g, o.0)
 
-  by-given : (g : Given) → readFilling desk q.counts fs ≡ g → Outcome (tryingWith desk q g) r w w' → Decides
-  by-given (gives ρ) e o = by_size ρ e (tooLong desk ρ q.alternatives) o
+  by-given : (g : Given) → read_filling desk q.counts fs ≡ g → Outcome (trying_with desk q g) r w w' → Decides
+  by-given (gives ρ) e o = by_size ρ e (too_long desk ρ q.alternatives) o
   by-given (values.refuses x) e o = not-refused d o.0
 
-  pub decided-so : (ws : List ℕ) (work : ℕ) → readQuestion desk ws ≡ asks q → Outcome (trying desk work ws fs) r w w' → Decides
+  pub decided-so : (ws : List ℕ) (work : ℕ) → read_question desk ws ≡ asks q → Outcome (trying desk work ws fs) r w w' → Decides
   unfolding trying
   decided-so ws work asked o = go (ltb work desk.room) o
     where
-      go : (b : Bool) → Outcome (elim b [ true ↦ calls.unread ShortSlice | false ↦ tryingOf desk (readQuestion desk ws) fs ]) r w w' → Decides
+      go : (b : Bool) → Outcome (elim b [ true ↦ calls.unread ShortSlice | false ↦ trying_of desk (read_question desk ws) fs ]) r w w' → Decides
       go true x = not-refused d x.0
-      go false x = by-given (readFilling desk q.counts fs) refl (subst (λ a. Outcome (tryingOf desk a fs) r w w') asked x)
+      go false x = by-given (read_filling desk q.counts fs) refl (subst (λ a. Outcome (trying_of desk a fs) r w w') asked x)
 
 pub yes-meets : {P : Type 0} {r : Tried} → r ≡ tried.Yes → Answers P r → P
 yes-meets e (inl a) = a.1
@@ -73,8 +73,8 @@ no-meets e (inr a) = a.1
 -- yes and no are what the lines say that any call of solve left
 pub agrees : (t : Try) {q answer : List ℕ} → t.question ≡ q → (p : Promised q answer) → TryAgrees p t.filling t.returned
 agrees t same p =
-    let found : (d : Decided t.returned) → Decides p.asked t.filling t.work t.workLeft t.returned d =
-    λ d. decided-so p.asked t.filling t.work t.workLeft t.returned d t.question (length t.work) (ap (readQuestion desk) same ∙ p.question-read) (try-said t) in
+    let found : (d : Decided t.returned) → Decides p.asked t.filling t.work t.work_left t.returned d =
+    λ d. decided-so p.asked t.filling t.work t.work_left t.returned d t.question (length t.work) (ap (read_question desk) same ∙ p.question-read) (try-said t) in
     record {
       yes = λ e. let (ρ, read, a) = found (inl e) in (ρ, read, (p.exact.same ρ).0 (yes-meets e a));
       no = λ e. let (ρ, read, a) = found (inr e) in (ρ, read, λ m. no-meets e a ((p.exact.same ρ).1 m));
@@ -83,14 +83,14 @@ agrees t same p =
 -- ---- what an example showed
 
 -- what meets the line of a number meets one of the lines
-pub line-met : (σ : Signature) (ρ : Filling) (i : ℕ) (ls : List Line) (l : Line) → nthLine i ls ≡ some l → MeetsLine σ ρ l → MeetsLines σ ρ ls
+pub line-met : (σ : Signature) (ρ : Filling) (i : ℕ) (ls : List Line) (l : Line) → nth_line i ls ≡ some l → MeetsLine σ ρ l → MeetsLines σ ρ ls
 line-met σ ρ i [] l e m = absurd (let z : ◌≡◌ {A = ℕ} 0 1 = cc in omega arith)
 line-met σ ρ ℕ.zero (k ∷ ls) l e m = let d : k ≡ l = cc in inl (rw d m)
 line-met σ ρ (ℕ.suc i) (k ∷ ls) l e m = inr (line-met σ ρ i ls l e m)
 
 module _ (t : Try) where
   abbrev TriedAs : Trying → Type 0
-  TriedAs x = Outcome x t.returned t.work t.workLeft
+  TriedAs x = Outcome x t.returned t.work t.work_left
 
   pub shown-tried : (c : Example) (m : ℕ) → c.returned ≡ Shows m → t.question ≡ c.question → t.filling ≡ take m c.room_left → desk.room ≤ length t.work
       → (t.returned ≡ tried.Yes) ⊎ (t.returned ≡ tried.Refused LongLiteral)
@@ -99,12 +99,12 @@ module _ (t : Try) where
       let (p, k, there, _, s) = shows-so c m e in
       let ρ = s.filling in
       let met = (p.exact.same ρ).1 (line-met (signature p.asked.counts) ρ c.line p.lines k there s.meets) in
-      let asked = ap (readQuestion desk) same ∙ p.question-read in
-      let read = ap (readFilling desk p.asked.counts) words ∙ s.read in
-      by p.asked ρ met (tooLong desk ρ p.asked.alternatives)
-      (subst (λ g. TriedAs (tryingWith desk p.asked g)) read
-      (subst (λ a. TriedAs (tryingOf desk a t.filling)) asked
-      (subst (λ b. TriedAs (elim b as (λ _. Trying) [ true ↦ calls.unread ShortSlice | false ↦ tryingOf desk (readQuestion desk t.question) t.filling ]))
+      let asked = ap (read_question desk) same ∙ p.question-read in
+      let read = ap (read_filling desk p.asked.counts) words ∙ s.read in
+      by p.asked ρ met (too_long desk ρ p.asked.alternatives)
+      (subst (λ g. TriedAs (trying_with desk p.asked g)) read
+      (subst (λ a. TriedAs (trying_of desk a t.filling)) asked
+      (subst (λ b. TriedAs (elim b as (λ _. Trying) [ true ↦ calls.unread ShortSlice | false ↦ trying_of desk (read_question desk t.question) t.filling ]))
       (le-ltb (length t.work) desk.room long) (try-said t))))
     where
       by : (q : Question) (ρ : Filling) → MeetsQuestion ρ q → (b : Bool) → TriedAs (elim b [ true ↦ calls.given-up LongLiteral | false ↦ decides q ρ ])

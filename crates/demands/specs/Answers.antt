@@ -6,7 +6,7 @@ use Rattle.language.specs.Limits.{Limits}
 use Rattle.language.specs.Kinds.{pick}
 use Rattle.language.specs.Trees.{Conj}
 use Rattle.language.specs.Between.{between}
-use Rattle.language.specs.Reading.{Got, got, stop, readConj}
+use Rattle.language.specs.Reading.{Got, got, stop, read_conj}
 use Rattle.meaning.specs.Meaning.{Filling, MeetsAll}
 use Rattle.rules.specs.Run.{Numbered}
 
@@ -16,37 +16,37 @@ pub record Line : Type 0 where
   pub number : ℕ
   pub literals : Conj
 
-abbrev pub numberedOf : List Line → List Numbered
-numberedOf [] = []
-numberedOf (l ∷ ls) = record { number = l.number; literals = l.literals } ∷ numberedOf ls
+abbrev pub numbered_of : List Line → List Numbered
+numbered_of [] = []
+numbered_of (l ∷ ls) = record { number = l.number; literals = l.literals } ∷ numbered_of ls
 
 -- the mark and the number, and the literals if they are read
 abbrev pub marked : ℕ → ℕ → Got Conj → Option Line
 marked m a (got k n) = some (record { mark = m; number = a; literals = k })
 marked m a (stop n) = none
 
-abbrev pub readLine : Limits → List ℕ → Option Line
-readLine L [] = none
-readLine L (m ∷ []) = none
-readLine L (m ∷ a ∷ ws) = marked m a (readConj L ws)
+abbrev pub read_line : Limits → List ℕ → Option Line
+read_line L [] = none
+read_line L (m ∷ []) = none
+read_line L (m ∷ a ∷ ws) = marked m a (read_conj L ws)
 
 -- "the offset of each line and the end of the last": the words of line i, from its offset to the next
-abbrev pub lineIn : List ℕ → ℕ → List ℕ
-lineIn ws i = between (get_or ws (i + 2) 0) (get_or ws (i + 3) 0) ws
+abbrev pub line_in : List ℕ → ℕ → List ℕ
+line_in ws i = between (get_or ws (i + 2) 0) (get_or ws (i + 3) 0) ws
 
-abbrev pub withLine : Option Line → Option (List Line) → Option (List Line)
-withLine none ls = none
-withLine (some l) none = none
-withLine (some l) (some ls) = some (l ∷ ls)
+abbrev pub with_line : Option Line → Option (List Line) → Option (List Line)
+with_line none ls = none
+with_line (some l) none = none
+with_line (some l) (some ls) = some (l ∷ ls)
 
 -- n lines, from line i on
-abbrev pub readLines : Limits → List ℕ → ℕ → ℕ → Option (List Line)
-readLines L ws i zero = some []
-readLines L ws i (suc n) = withLine (readLine L (lineIn ws i)) (readLines L ws (suc i) n)
+abbrev pub read_lines : Limits → List ℕ → ℕ → ℕ → Option (List Line)
+read_lines L ws i zero = some []
+read_lines L ws i (suc n) = with_line (read_line L (line_in ws i)) (read_lines L ws (suc i) n)
 
 -- "Word 0: lines"
-unfoldable pub readAnswer : Limits → List ℕ → Option (List Line)
-readAnswer L ws = readLines L ws 0 (get_or ws 0 0)
+unfoldable pub read_answer : Limits → List ℕ → Option (List Line)
+read_answer L ws = read_lines L ws 0 (get_or ws 0 0)
 
 -- ---- what is said of lines, by the question's signature
 
@@ -64,9 +64,9 @@ MeetsLinesOf σ ρ n [] = ⊥
 MeetsLinesOf σ ρ n (l ∷ ls) = ((l.number ≡ n) × MeetsLine σ ρ l) ⊎ MeetsLinesOf σ ρ n ls
 
 -- the line at a place among them, from 0
-abbrev pub nthLine : ℕ → List Line → Option Line
-nthLine i [] = none
-nthLine i (l ∷ ls) = elim i [ ℕ.zero ↦ some l | ℕ.suc j ↦ nthLine j ls ]
+abbrev pub nth_line : ℕ → List Line → Option Line
+nth_line i [] = none
+nth_line i (l ∷ ls) = elim i [ ℕ.zero ↦ some l | ℕ.suc j ↦ nth_line j ls ]
 
 -- how many are marked open
 abbrev pub opens : List Line → ℕ

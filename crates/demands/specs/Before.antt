@@ -2,32 +2,32 @@
 use Rattle.std.specs.Prelude.{ℕ, ◌≡◌, ◌⊎◌, Bool, List, [], ◌∷◌, length}
 use Rattle.language.specs.Limits.{desk}
 use Rattle.language.specs.Trees.{Literal, eqn, mem, Conj, Question}
-use Rattle.language.specs.Question.{countsOf}
+use Rattle.language.specs.Question.{counts_of}
 use Rattle.meaning.specs.Meaning.{Filling, fill}
 use Rattle.meaning.specs.Plain.{PlainMember}
-use Rattle.meaning.specs.Values.{gives, readFilling}
+use Rattle.meaning.specs.Values.{gives, read_filling}
 use Rattle.rules.specs.Answer.{Solving}
-use Rattle.rules.specs.Ordered.{orderedSolving}
-use Rattle.rules.specs.Calls.{showingOf}
+use Rattle.rules.specs.Ordered.{ordered_solving}
+use Rattle.rules.specs.Calls.{showing_of}
 use Rattle.outcomes.specs.Numbers.{SolveNumbers}
 use Rattle.outcomes.specs.declared.Tried.TheVariants.{Yes, No}
-use Rattle.solver.specs.Leaves.{leaves, toldLeaves}
-use Rattle.line_example.specs.Shown.{numbersOf, roomOf}
+use Rattle.solver.specs.Leaves.{leaves, told_leaves}
+use Rattle.line_example.specs.Shown.{numbers_of, room_of}
 use Rattle.demands.specs.Tries.{Try}
 
 -- solving: the numbers that come back, and the two slices
-abbrev pub solvedBefore : List ℕ → List ℕ → List ℕ → SolveNumbers × List ℕ × List ℕ
-solvedBefore question work answer = toldLeaves (orderedSolving desk (length work) (length answer) question) work answer
+abbrev pub solved_before : List ℕ → List ℕ → List ℕ → SolveNumbers × List ℕ × List ℕ
+solved_before question work answer = told_leaves (ordered_solving desk (length work) (length answer) question) work answer
 
 -- an example, by what solving comes to: the numbers that come back, the two slices and the room
-abbrev pub exhibitedBy : Solving → ℕ → Bool → List ℕ → List ℕ → List ℕ → List ℕ → (ℕ × ℕ × ℕ) × List ℕ × List ℕ × List ℕ
-exhibitedBy v line oldSheets question work answer room =
-    let s = showingOf desk oldSheets (countsOf question) (length room) line v in
+abbrev pub exhibited_by : Solving → ℕ → Bool → List ℕ → List ℕ → List ℕ → List ℕ → (ℕ × ℕ × ℕ) × List ℕ × List ℕ × List ℕ
+exhibited_by v line old_sheets question work answer room =
+    let s = showing_of desk old_sheets (counts_of question) (length room) line v in
     let l = leaves v work answer in
-    (numbersOf s, l.1, l.2, roomOf s room)
+    (numbers_of s, l.1, l.2, room_of s room)
 
-abbrev pub exhibitedBefore : ℕ → Bool → List ℕ → List ℕ → List ℕ → List ℕ → (ℕ × ℕ × ℕ) × List ℕ × List ℕ × List ℕ
-exhibitedBefore line oldSheets question work answer room = exhibitedBy (orderedSolving desk (length work) (length answer) question) line oldSheets question work answer room
+abbrev pub exhibited_before : ℕ → Bool → List ℕ → List ℕ → List ℕ → List ℕ → (ℕ × ℕ × ℕ) × List ℕ × List ℕ × List ℕ
+exhibited_before line old_sheets question work answer room = exhibited_by (ordered_solving desk (length work) (length answer) question) line old_sheets question work answer room
 
 -- a filling: "both sides become the same" is equality, and a member is one in the plain sense
 abbrev pub PlainMeets : Filling → Literal → Type 0
@@ -43,5 +43,5 @@ PlainMeetsOne ρ [] = ⊥
 PlainMeetsOne ρ (k ∷ ks) = PlainMeetsAll ρ k ⊎ PlainMeetsOne ρ ks
 
 pub record TriedBefore (t : Try) (q : Question) : Type 0 where
-  pub yes : t.returned ≡ Yes → (ρ : Filling) × (readFilling desk q.counts t.filling ≡ gives ρ) × PlainMeetsOne ρ q.alternatives
-  pub no : t.returned ≡ No → (ρ : Filling) × (readFilling desk q.counts t.filling ≡ gives ρ) × (PlainMeetsOne ρ q.alternatives → ⊥)
+  pub yes : t.returned ≡ Yes → (ρ : Filling) × (read_filling desk q.counts t.filling ≡ gives ρ) × PlainMeetsOne ρ q.alternatives
+  pub no : t.returned ≡ No → (ρ : Filling) × (read_filling desk q.counts t.filling ≡ gives ρ) × (PlainMeetsOne ρ q.alternatives → ⊥)

@@ -39,7 +39,7 @@ column TrailRoom = zeroed
 
 -- What a slice that held `old` holds after a refusal, if solving leaves `solved` in it. '"Zeros" covers the first' 16,384 'words; later words of a
 -- longer slice stay.'
-abbrev pub leftIn : Column → List ℕ → List ℕ → List ℕ
-leftIn unchanged solved old = old
-leftIn zeroed solved old = overwritten desk (zeros desk) old
-leftIn as-solved solved old = solved
+abbrev pub left_in : Column → List ℕ → List ℕ → List ℕ
+left_in unchanged solved old = old
+left_in zeroed solved old = overwritten desk (zeros desk) old
+left_in as-solved solved old = solved

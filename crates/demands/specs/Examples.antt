@@ -1,8 +1,8 @@
 -- A call example(question, line, old, work, answer, room) that came back: nothing is known of it but what its contract says.
 use Rattle.std.specs.Prelude.{ℕ, ◌≡◌, Bool, List}
 use Rattle.outcomes.specs.declared.Shown.{Shown}
-use Rattle.outcomes.specs.Numbers.{shownNumbers}
-use Rattle.example.specs.Exhibits.{toldExhibits}
+use Rattle.outcomes.specs.Numbers.{shown_numbers}
+use Rattle.example.specs.Exhibits.{told_exhibits}
 use Rattle.example.proofs.example as example
 use Rattle.demands.specs.Calls.{Call}
 
@@ -10,28 +10,28 @@ use Rattle.demands.specs.Calls.{Call}
 pub record Example : Type 0 where
   pub question : List ℕ
   pub line : ℕ
-  pub oldSheets : Bool
+  pub old_sheets : Bool
   pub work : List ℕ
   pub answer : List ℕ
   pub room : List ℕ
   pub returned : Shown
-  pub workLeft : List ℕ
-  pub answerLeft : List ℕ
+  pub work_left : List ℕ
+  pub answer_left : List ℕ
   pub room_left : List ℕ
-  pub said : ◌≡◌ {A = (ℕ × ℕ × ℕ) × List ℕ × List ℕ × List ℕ} (shownNumbers returned, workLeft, answerLeft, room_left) (toldExhibits line oldSheets question work answer room)
+  pub said : ◌≡◌ {A = (ℕ × ℕ × ℕ) × List ℕ × List ℕ × List ℕ} (shown_numbers returned, work_left, answer_left, room_left) (told_exhibits line old_sheets question work answer room)
 
 -- any outcome that the contract itself allows is one
 abbrev pub allowed : Call example.ended example.Reads.Pre example.Reads.Post → Example
 allowed c = record {
   question = c.arguments.0.now;
   line = c.arguments.1.0;
-  oldSheets = c.arguments.1.1.0;
+  old_sheets = c.arguments.1.1.0;
   work = c.arguments.1.1.1.0.now;
   answer = c.arguments.1.1.1.1.0.now;
   room = c.arguments.1.1.1.1.1.0.now;
   returned = c.outcome.0;
-  workLeft = c.outcome.1.1.1.1.0;
-  answerLeft = c.outcome.1.1.1.1.1.0;
+  work_left = c.outcome.1.1.1.1.0;
+  answer_left = c.outcome.1.1.1.1.1.0;
   room_left = c.outcome.1.1.1.1.1.1.0;
   said = c.said;
 }

@@ -2,9 +2,9 @@
 -- desk_day(sheet, room).
 use Rattle.std.specs.Prelude.{ℕ, ◌≡◌, List, length}
 use Rattle.language.specs.Limits.{desk}
-use Rattle.host.specs.Host.{solvingBytes, solveNumber, solveLeaves, showingBytes, showNumber, showLeaves, dayBytes}
-use Rattle.try_host.specs.Host.{tryingBytes, TryNumber, placeBytes}
-use Rattle.day.specs.Leaves.{dayNumber, roomLeaves}
+use Rattle.host.specs.Host.{solving_bytes, solve_number, solve_leaves, showing_bytes, show_number, show_leaves, day_bytes}
+use Rattle.try_host.specs.Host.{trying_bytes, TryNumber, place_bytes}
+use Rattle.day.specs.Leaves.{day_number, room_leaves}
 use Rattle.host.proofs.desk_solve as desk-solve
 use Rattle.try_host.proofs.desk_try as desk-try
 use Rattle.host.proofs.desk_example as desk-example
@@ -18,12 +18,12 @@ pub record DeskSolve : Type 0 where
   pub question : List ℕ
   pub answer : List ℕ
   pub number : ℕ
-  pub answerLeft : List ℕ
-  pub said : (number ≡ solveNumber (solvingBytes desk (length answer) question)) × (answerLeft ≡ solveLeaves desk (solvingBytes desk (length answer) question) answer)
+  pub answer_left : List ℕ
+  pub said : (number ≡ solve_number (solving_bytes desk (length answer) question)) × (answer_left ≡ solve_leaves desk (solving_bytes desk (length answer) question) answer)
 
 -- any outcome that the contract itself allows is one; so below
 abbrev pub solve-allowed : Call desk-solve.ended desk-solve.Reads.Pre desk-solve.Reads.Post → DeskSolve
-solve-allowed c = record { question = c.arguments.0.now; answer = c.arguments.1.0.now; number = c.outcome.0; answerLeft = c.outcome.1.1.0; said = c.said }
+solve-allowed c = record { question = c.arguments.0.now; answer = c.arguments.1.0.now; number = c.outcome.0; answer_left = c.outcome.1.1.0; said = c.said }
 
 -- ---- desk_try
 
@@ -31,7 +31,7 @@ pub record DeskTry : Type 0 where
   pub question : List ℕ
   pub filling : List ℕ
   pub number : ℕ
-  pub said : TryNumber (tryingBytes desk question filling) number
+  pub said : TryNumber (trying_bytes desk question filling) number
 
 abbrev pub try-allowed : Call desk-try.ended desk-try.Reads.Pre desk-try.Reads.Post → DeskTry
 try-allowed c = record { question = c.arguments.0.now; filling = c.arguments.1.0.now; number = c.outcome.0; said = c.said }
@@ -45,7 +45,7 @@ pub record DeskExample : Type 0 where
   pub room : List ℕ
   pub number : ℕ
   pub room_left : List ℕ
-  pub said : (number ≡ showNumber (showingBytes desk (length room) line old question)) × (room_left ≡ showLeaves (showingBytes desk (length room) line old question) room)
+  pub said : (number ≡ show_number (showing_bytes desk (length room) line old question)) × (room_left ≡ show_leaves (showing_bytes desk (length room) line old question) room)
 
 abbrev pub example-allowed : Call desk-example.ended desk-example.Reads.Pre desk-example.Reads.Post → DeskExample
 example-allowed c = record {
@@ -63,7 +63,7 @@ example-allowed c = record {
 pub record DeskPlace : Type 0 where
   pub question : List ℕ
   pub number : ℕ
-  pub said : number ≡ placeBytes desk question
+  pub said : number ≡ place_bytes desk question
 
 abbrev pub place-allowed : Call desk-place.ended desk-place.Reads.Pre desk-place.Reads.Post → DeskPlace
 place-allowed c = record { question = c.arguments.0.now; number = c.outcome.0; said = c.said }
@@ -75,7 +75,7 @@ pub record DeskDay : Type 0 where
   pub room : List ℕ
   pub number : ℕ
   pub room_left : List ℕ
-  pub said : (number ≡ dayNumber (dayBytes desk (length room) sheet)) × (room_left ≡ roomLeaves (dayBytes desk (length room) sheet) room)
+  pub said : (number ≡ day_number (day_bytes desk (length room) sheet)) × (room_left ≡ room_leaves (day_bytes desk (length room) sheet) room)
 
 abbrev pub day-allowed : Call desk-day.ended desk-day.Reads.Pre desk-day.Reads.Post → DeskDay
 day-allowed c = record { sheet = c.arguments.0.now; room = c.arguments.1.0.now; number = c.outcome.0; room_left = c.outcome.1.1.0; said = c.said }

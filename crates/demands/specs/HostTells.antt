@@ -7,32 +7,32 @@ use Rattle.language.specs.Mistakes.{RightPlace}
 use Rattle.language.specs.Numbers.{number_of, place_of}
 use Rattle.language.specs.Trees.{Counts, signature}
 use Rattle.meaning.specs.Meaning.{Filling}
-use Rattle.meaning.specs.Values.{gives, readFilling}
-use Rattle.rules.specs.Answer.{answerWords, zeros}
+use Rattle.meaning.specs.Values.{gives, read_filling}
+use Rattle.rules.specs.Answer.{answer_words, zeros}
 use Rattle.outcomes.specs.declared.Shown.{Shown}
 use Rattle.outcomes.specs.declared.Shown.TheVariants.{Shows, Denied}
 use Rattle.word_bytes.specs.Bytes.{words_of, bytes_of, words_in}
-use Rattle.host.specs.Numbers.{asksOld}
+use Rattle.host.specs.Numbers.{asks_old}
 use Rattle.demands.specs.Columns.{Column, unchanged, zeroed, as-solved, column}
 use Rattle.demands.specs.HostCalls.{DeskSolve, DeskTry, DeskExample, DeskPlace}
-use Rattle.demands.specs.Answers.{Line, numberedOf, MeetsLines, nthLine}
+use Rattle.demands.specs.Answers.{Line, numbered_of, MeetsLines, nth_line}
 use Rattle.demands.specs.Promises.{Promised, Told}
 use Rattle.demands.specs.Table.{QuestionFault, SolveFault, TryFault, First}
 use Rattle.demands.specs.Tells.{SolvingNumber}
 
 -- the same column, in bytes
-abbrev pub leftInBytes : Column → List ℕ → List ℕ → List ℕ
-leftInBytes unchanged solved old = old
-leftInBytes zeroed solved old = bytes_of (zeros desk) ++ drop (2 * desk.room) old
-leftInBytes as-solved solved old = solved
+abbrev pub left_in_bytes : Column → List ℕ → List ℕ → List ℕ
+left_in_bytes unchanged solved old = old
+left_in_bytes zeroed solved old = bytes_of (zeros desk) ++ drop (2 * desk.room) old
+left_in_bytes as-solved solved old = solved
 
 -- "It gets back the refusal number, or 0." The answer slice has half as many words as bytes, so that "an answer under 16,384 bytes is 1"; an odd
 -- count of question bytes holds no words, so that it is 2.
 pub data DeskSolveTells (c : DeskSolve) : Type 0 where
   refuses : (e : Refusal) → c.number ≡ number_of e → SolvingNumber (number_of e) → First (SolveFault desk.room (length c.answer / 2) (words_in c.question)) e
-      → c.answerLeft ≡ leftInBytes (column e) c.answer c.answer → DeskSolveTells c
-  answers : c.number ≡ 0 → (p : Promised (words_in c.question) (words_of c.answerLeft))
-      → c.answerLeft ≡ bytes_of (answerWords desk (numberedOf p.lines)) ++ drop (2 * desk.room) c.answer → DeskSolveTells c
+      → c.answer_left ≡ left_in_bytes (column e) c.answer c.answer → DeskSolveTells c
+  answers : c.number ≡ 0 → (p : Promised (words_in c.question) (words_of c.answer_left))
+      → c.answer_left ≡ bytes_of (answer_words desk (numbered_of p.lines)) ++ drop (2 * desk.room) c.answer → DeskSolveTells c
 
 -- 100 is no, 101 is yes, and below stand the refusals
 pub data DeskTryTells (t : DeskTry) : Type 0 where
@@ -41,25 +41,25 @@ pub data DeskTryTells (t : DeskTry) : Type 0 where
 
 -- 101 and 100 are what the lines say of the filling that these bytes are
 pub record DeskTryAgrees {question answer : List ℕ} (p : Promised question answer) (filling : List ℕ) (number : ℕ) : Type 0 where
-  pub yes : number ≡ 101 → (ρ : Filling) × (readFilling desk p.asked.counts (words_in filling) ≡ gives ρ) × MeetsLines (signature p.asked.counts) ρ p.lines
-  pub no : number ≡ 100 → (ρ : Filling) × (readFilling desk p.asked.counts (words_in filling) ≡ gives ρ) × (MeetsLines (signature p.asked.counts) ρ p.lines → ⊥)
+  pub yes : number ≡ 101 → (ρ : Filling) × (read_filling desk p.asked.counts (words_in filling) ≡ gives ρ) × MeetsLines (signature p.asked.counts) ρ p.lines
+  pub no : number ≡ 100 → (ρ : Filling) × (read_filling desk p.asked.counts (words_in filling) ≡ gives ρ) × (MeetsLines (signature p.asked.counts) ρ p.lines → ⊥)
 
 -- "100 and the filling's length in words, and below stand the refusals"
-abbrev pub hostNumber : Shown → ℕ
-hostNumber (Shows m) = 100 + m
-hostNumber (Denied r) = number_of r
+abbrev pub host_number : Shown → ℕ
+host_number (Shows m) = 100 + m
+host_number (Denied r) = number_of r
 
 -- what desk_example tells, by the line that is read off an answer's bytes
-pub record BytesTold (oldSheets : Bool) (n : Counts) (l : Option Line) (old : List ℕ) (number : ℕ) (new : List ℕ) : Type 0 where
+pub record BytesTold (old_sheets : Bool) (n : Counts) (l : Option Line) (old : List ℕ) (number : ℕ) (new : List ℕ) : Type 0 where
   pub result : Shown
-  pub is : number ≡ hostNumber result
-  pub tells : Told oldSheets n (words_of old) l result (words_of new)
+  pub is : number ≡ host_number result
+  pub tells : Told old_sheets n (words_of old) l result (words_of new)
 
 -- The refusals of solving leave the room alone; and else there is an answer to the question, whose line of that number decides.
 pub data DeskExampleTells (c : DeskExample) : Type 0 where
   refuses : (e : Refusal) → c.number ≡ number_of e → SolvingNumber (number_of e) → First (SolveFault desk.room desk.room (words_in c.question)) e
       → c.room_left ≡ c.room → DeskExampleTells c
-  told : (answer : List ℕ) (p : Promised (words_in c.question) answer) → BytesTold (asksOld c.old) p.asked.counts (nthLine c.line p.lines) c.room c.number c.room_left
+  told : (answer : List ℕ) (p : Promised (words_in c.question) answer) → BytesTold (asks_old c.old) p.asked.counts (nth_line c.line p.lines) c.room c.number c.room_left
       → DeskExampleTells c
 
 -- Where the question has a fault, the place of the first; and where it has none, 0.

@@ -3,8 +3,8 @@ use Rattle.std.specs.Prelude.{ℕ, ◌≡◌, List, length}
 use Rattle.language.specs.Limits.{desk}
 use Rattle.rules.specs.Answer.{solving}
 use Rattle.outcomes.specs.declared.Solved.{Solved}
-use Rattle.outcomes.specs.Numbers.{SolveNumbers, solvedNumbers}
-use Rattle.solver.specs.Leaves.{toldLeaves}
+use Rattle.outcomes.specs.Numbers.{SolveNumbers, solved_numbers}
+use Rattle.solver.specs.Leaves.{told_leaves}
 use Rattle.solver.proofs.solve as solve
 use Rattle.demands.specs.Calls.{Call}
 
@@ -14,9 +14,9 @@ pub record Solve : Type 0 where
   pub work : List ℕ
   pub answer : List ℕ
   pub returned : Solved
-  pub workLeft : List ℕ
-  pub answerLeft : List ℕ
-  pub said : ◌≡◌ {A = SolveNumbers × List ℕ × List ℕ} (solvedNumbers returned, workLeft, answerLeft) (toldLeaves (solving desk (length work) (length answer) question) work answer)
+  pub work_left : List ℕ
+  pub answer_left : List ℕ
+  pub said : ◌≡◌ {A = SolveNumbers × List ℕ × List ℕ} (solved_numbers returned, work_left, answer_left) (told_leaves (solving desk (length work) (length answer) question) work answer)
 
 -- Any outcome that the contract itself allows is one: were the contract another, this would be refused.
 abbrev pub allowed : Call solve.ended solve.Reads.Pre solve.Reads.Post → Solve
@@ -25,7 +25,7 @@ allowed c = record {
   work = c.arguments.1.0.now;
   answer = c.arguments.1.1.0.now;
   returned = c.outcome.0;
-  workLeft = c.outcome.1.1.0;
-  answerLeft = c.outcome.1.1.1.0;
+  work_left = c.outcome.1.1.0;
+  answer_left = c.outcome.1.1.1.0;
   said = c.said;
 }

@@ -13,8 +13,8 @@ pub record Try : Type 0 where
   pub filling : List ℕ
   pub work : List ℕ
   pub returned : Tried
-  pub workLeft : List ℕ
-  pub said : ToldOutcome (trying desk (length work) question filling) returned work workLeft
+  pub work_left : List ℕ
+  pub said : ToldOutcome (trying desk (length work) question filling) returned work work_left
 
 -- any outcome that the contract itself allows is one
 abbrev pub allowed : Call try-filling.ended try-filling.Reads.Pre try-filling.Reads.Post → Try
@@ -23,6 +23,6 @@ allowed c = record {
   filling = c.arguments.1.0.now;
   work = c.arguments.1.1.0.now;
   returned = c.outcome.0;
-  workLeft = c.outcome.1.1.1.0;
+  work_left = c.outcome.1.1.1.0;
   said = c.said;
 }

@@ -4,8 +4,8 @@ ghost use Rattle.language.specs.declared.HedgeVar.{HedgeVar};
 ghost use Rattle.language.specs.Trees.{Hedge, hvar};
 ghost use Rattle.views.specs.Looks.{look_of};
 ghost use Rattle.rules.specs.Rules.{E3, E4, Del3};
-ghost use Rattle.plans.specs.Slots.{dropPlan};
-ghost use Rattle.equation_recipes.specs.Recipes.{eliminated, e1Plan, e5Plan, e6Plan, e7Plan, cutPlan, e3Plan, e4Plan, del3Plan, spot_of};
+ghost use Rattle.plans.specs.Slots.{drop_plan};
+ghost use Rattle.equation_recipes.specs.Recipes.{eliminated, e1_plan, e5_plan, e6_plan, e7_plan, cut_plan, e3_plan, e4_plan, del3_plan, spot_of};
 ghost use Rattle.equation_recipes.specs.Planned.{Is, Planning, RuleApplies, Further};
 
 use finds::{all_terms, up_to};
@@ -41,7 +41,7 @@ fn eliminate(v: View, until: usize, cut: usize) -> Plan
 
 // t stands for x, or H for p.
 fn plan_e1(k: &[u16], v: View) -> Plan
-    ensures { result ≡ e1Plan k.now v }
+    ensures { result ≡ e1_plan k.now v }
 {
     let l = v.l;
     let r = v.r;
@@ -51,7 +51,7 @@ fn plan_e1(k: &[u16], v: View) -> Plan
 
 // F stands for X.
 fn plan_e5(k: &[u16], v: View) -> Plan
-    ensures { result ≡ e5Plan k.now v }
+    ensures { result ≡ e5_plan k.now v }
 {
     let l = v.l;
     let r = v.r;
@@ -62,7 +62,7 @@ fn plan_e5(k: &[u16], v: View) -> Plan
 
 // X() = F(), F(H1) = F(H2), and F stands for X in all others.
 fn plan_e6(k: &[u16], v: View) -> Plan
-    ensures { result ≡ e6Plan k.now v }
+    ensures { result ≡ e6_plan k.now v }
 {
     let l = v.l;
     let r = v.r;
@@ -94,7 +94,7 @@ fn plan_e6(k: &[u16], v: View) -> Plan
 
 // X() = f(), f(H1) = f(H2) for each symbol f, which stands for X in all others.
 fn plan_e7(k: &[u16], v: View, symbols: u16) -> Plan
-    ensures { result ≡ e7Plan k.now v symbols }
+    ensures { result ≡ e7_plan k.now v symbols }
 {
     let l = v.l;
     let r = v.r;
@@ -125,7 +125,7 @@ fn plan_e7(k: &[u16], v: View, symbols: u16) -> Plan
 
 // p = T1, H = (T2,..) for each of so many cuts, and T1 stands for p in all others.
 fn cut_by(v: View, cuts: usize) -> Plan
-    ensures { result ≡ cutPlan v cuts }
+    ensures { result ≡ cut_plan v cuts }
 {
     let l = v.l;
     let r = v.r;
@@ -156,7 +156,7 @@ fn cut_by(v: View, cuts: usize) -> Plan
 
 // A cut behind each term of T, and one before them.
 fn plan_e3(k: &[u16], v: View) -> Plan
-    ensures { Is E3 k.now v (λ l r. e3Plan v r) result }
+    ensures { Is E3 k.now v (λ l r. e3_plan v r) result }
 {
     let r = v.r;
     let terms = all_terms(k, r.from);
@@ -178,7 +178,7 @@ fn run_of(look: Look) -> HedgeVar
 
 // A cut behind each term of T up to the one that holds p, and one before them.
 fn plan_e4(k: &[u16], v: View) -> Plan
-    ensures { Is E4 k.now v (e4Plan v) result }
+    ensures { Is E4 k.now v (e4_plan v) result }
 {
     let l = v.l;
     let r = v.r;
@@ -191,7 +191,7 @@ fn plan_e4(k: &[u16], v: View) -> Plan
 
 // The hedge variable at the place i is struck, and what stands around it is empty.
 fn strike(k: &[u16], v: View, i: usize) -> Plan
-    ensures { result ≡ del3Plan k.now v i }
+    ensures { result ≡ del3_plan k.now v i }
 {
     let r = v.r;
     let behind = inner(k, i, r.to);
@@ -222,7 +222,7 @@ fn strike(k: &[u16], v: View, i: usize) -> Plan
 
 // H1 = ε, H2 = ε.
 fn plan_del3(k: &[u16], v: View) -> Plan
-    ensures { Is Del3 k.now v (λ l r. del3Plan k.now v (spot_of v l r)) result }
+    ensures { Is Del3 k.now v (λ l r. del3_plan k.now v (spot_of v l r)) result }
 {
     let l = v.l;
     let r = v.r;
@@ -234,7 +234,7 @@ fn plan_del3(k: &[u16], v: View) -> Plan
 
 // No result.
 fn plan_drop() -> Plan
-    ensures { result ≡ dropPlan }
+    ensures { result ≡ drop_plan }
 {
     let none = Piece::Copy(0, 0);
     let first = few(none, none, none, none, none, 0, 0, 0);

@@ -10,8 +10,8 @@ use Rattle.language.specs.declared.Signature.{Signature}
 use Rattle.language.specs.Trees.{Expr, eps, cat, alt, star, over, Literal, eqn, mem, Conj, Var}
 use Rattle.rules.specs.Substitution.{put_c}
 use Rattle.rules.specs.Reply.{PairRule}
-use Rattle.rules.specs.Rules.{Branch, plain, elims, Answer, Rule, onEqn, onMem, onPair}
-use Rattle.rules.specs.Step.{place, placed, resultsAt}
+use Rattle.rules.specs.Rules.{Branch, plain, elims, Answer, Rule, on_eqn, on_mem, on_pair}
+use Rattle.rules.specs.Step.{place, placed, results_at}
 use Rattle.rules.specs.Each.{Each}
 use Rattle.rules.specs.Sides.{AtSides}
 use Rattle.rules.proofs.Each.{each_map, each-imp}
@@ -21,7 +21,7 @@ use Rattle.rules.proofs.Folding.{Struck, here, further}
 use Rattle.exact.specs.Made.{MadeE, MadeL, MadeC}
 use Rattle.exact.proofs.Made.{made-++}
 use Rattle.exact.proofs.MadeByRules.{MadeBranch, MadeAnswer, MakesEqn, MakesMem}
-use Rattle.ends.specs.Measure.{occL, occC, own, ownC, settled, hedgesL, hedges, restL, rest, Below}
+use Rattle.ends.specs.Measure.{occ_l, occ_c, own, own_c, settled, hedges_l, hedges, rest_l, rest, Below}
 use Rattle.ends.proofs.Sums.{occ-++, own-++, hedges-++, rest-++, owns-once, literal-weighs}
 use Rattle.ends.proofs.Putting.{Apart, apart, made-apart-all, put-keeps-all, own-stays, clear-all}
 use Rattle.ends.proofs.Falls.{LeftAlone, Lighter, Settles, Vanishes, Falls, FallsEqn, FallsMem, falls-swapped}
@@ -36,14 +36,14 @@ module _ (σ : Signature) (before : Conj) (l : Literal) (behind : Conj) where
   abbrev whole : Conj
   whole = before ++ (l ∷ behind)
 
-  occ-whole : (v : Var) → (occC v whole ≡ occL v l + occC v K) × (occC v K ≡ occC v before + occC v behind)
+  occ-whole : (v : Var) → (occ_c v whole ≡ occ_l v l + occ_c v K) × (occ_c v K ≡ occ_c v before + occ_c v behind)
   occ-whole v = let x = occ-++ v before (l ∷ behind) in let y = occ-++ v before behind in (omega arith, y)
 
-  own-whole : (v : Var) → (ownC v whole ≡ own v l + ownC v K) × (ownC v K ≡ ownC v before + ownC v behind)
+  own-whole : (v : Var) → (own_c v whole ≡ own v l + own_c v K) × (own_c v K ≡ own_c v before + own_c v behind)
   own-whole v = let x = own-++ v before (l ∷ behind) in let y = own-++ v before behind in (omega arith, y)
 
   -- a settled variable does not stand in the literal
-  not-here : (v : Var) → LeftAlone K l → settled whole v ≡ true → (occL v l ≡ 0) × (own v l ≡ 0)
+  not-here : (v : Var) → LeftAlone K l → settled whole v ≡ true → (occ_l v l ≡ 0) × (own v l ≡ 0)
   not-here v a e =
       let (x, y) = settled_is whole v e in
       let p = (occ-whole v).0 in let q = (own-whole v).0 in let r = owns-once v K in
@@ -51,9 +51,9 @@ module _ (σ : Signature) (before : Conj) (l : Literal) (behind : Conj) where
 
   -- what stands for the literal is made of other variables
   abbrev Others : Branch → Type 0
-  Others b = (v : Var) → occL v l ≡ 0 → MadeBranch σ (Apart v) (λ _ _ _. tt) b
+  Others b = (v : Var) → occ_l v l ≡ 0 → MadeBranch σ (Apart v) (λ _ _ _. tt) b
 
-  none-there : (v : Var) (k : Conj) → MadeC (Apart v) k → (occC v k ≡ 0) × (ownC v k ≡ 0)
+  none-there : (v : Var) (k : Conj) → MadeC (Apart v) k → (occ_c v k ≡ 0) × (own_c v k ≡ 0)
   none-there v k m = let x = made-apart-all v k m in let y = owns-once v k in (x, omega arith)
 
   stays : (b : Branch) → Falls K l b → Others b → (v : Var) → settled whole v ≡ true → settled (place before behind b) v ≡ true
@@ -79,12 +79,12 @@ module _ (σ : Signature) (before : Conj) (l : Literal) (behind : Conj) where
       let z₁ = put-keeps-all v s leaves made.2 before in let z₂ = put-keeps-all v s leaves made.2 ls in let z₃ = put-keeps-all v s leaves made.2 behind in
       let w₁ = own-stays v s leaves made.2 f.1.1 before in let w₃ = own-stays v s leaves made.2 f.1.1 behind in
       let all = owns-once v (k₁ ++ (es ++ (k₂ ++ k₃))) in
-      let o₁ = let i = p.0 in let j = p.1 in let r : occC v (k₁ ++ (es ++ (k₂ ++ k₃))) ≡ 1 = omega arith in r in
+      let o₁ = let i = p.0 in let j = p.1 in let r : occ_c v (k₁ ++ (es ++ (k₂ ++ k₃))) ≡ 1 = omega arith in r in
       is-settled (k₁ ++ (es ++ (k₂ ++ k₃))) v o₁ (let i = q.0 in let j = q.1 in omega arith)
 
   -- ---- below
 
-  module _ (vs : List Var) (inVs : MadeL (In vs) l) where
+  module _ (vs : List Var) (in_vs : MadeL (In vs) l) where
     plain-lighter : (ls : Conj) → Lighter ls l → (hedges (before ++ (ls ++ behind)) < hedges whole) ⊎ ((hedges (before ++ (ls ++ behind)) ≤ hedges whole) × (rest (before ++ (ls ++ behind)) < rest whole))
     plain-lighter ls h =
         let a = hedges-++ before (ls ++ behind) in let b = hedges-++ ls behind in let c = hedges-++ before (l ∷ behind) in
@@ -106,7 +106,7 @@ module _ (σ : Signature) (before : Conj) (l : Literal) (behind : Conj) where
     below (elims es ls s) f o = go f.2
       where
         go : Settles K l es s ⊎ Vanishes l es ls s → Below vs (place before behind (elims es ls s)) whole
-        go (inl t) = inl (unsettled-fewer (place before behind (elims es ls s)) whole (stays (elims es ls s) f o) vs t.v (in-literal vs t.v l inVs t.there) (was_loose es s t) now)
+        go (inl t) = inl (unsettled-fewer (place before behind (elims es ls s)) whole (stays (elims es ls s) f o) vs t.v (in-literal vs t.v l in_vs t.there) (was_loose es s t) now)
           where
             now : settled (place before behind (elims es ls s)) t.v ≡ true
             now =
@@ -128,22 +128,22 @@ module _ (σ : Signature) (before : Conj) (l : Literal) (behind : Conj) where
 
     -- ---- what a rule of one literal answers
 
-    at_literal : (w : Answer) → Answers (Each (Falls K l)) w → ((v : Var) → occL v l ≡ 0 → MadeAnswer σ (Apart v) (λ _ _ _. tt) w)
+    at_literal : (w : Answer) → Answers (Each (Falls K l)) w → ((v : Var) → occ_l v l ≡ 0 → MadeAnswer σ (Apart v) (λ _ _ _. tt) w)
         → Gives (Each (λ j. Below vs j whole)) (placed before behind w)
     at_literal none f o = tt
     at_literal (some bs) f o = go bs f.given (λ v e. (o v e).given)
       where
-        go : (bs : List Branch) → Each (Falls K l) bs → ((v : Var) → occL v l ≡ 0 → Each (MadeBranch σ (Apart v) (λ _ _ _. tt)) bs) → Each (λ j. Below vs j whole) (map (place before behind) bs)
+        go : (bs : List Branch) → Each (Falls K l) bs → ((v : Var) → occ_l v l ≡ 0 → Each (MadeBranch σ (Apart v) (λ _ _ _. tt)) bs) → Each (λ j. Below vs j whole) (map (place before behind) bs)
         go [] f o = tt
         go (b ∷ bs) f o = (below b f.0 (λ v e. (o v e).0), go bs f.1 (λ v e. (o v e).1))
 
 -- ---- a literal that stands twice
 
-struck-occ : {l : Literal} {k j : Conj} (v : Var) → Struck l k j → (occC v k ≡ occL v l + occC v j) × (ownC v k ≡ own v l + ownC v j)
+struck-occ : {l : Literal} {k j : Conj} (v : Var) → Struck l k j → (occ_c v k ≡ occ_l v l + occ_c v j) × (own_c v k ≡ own v l + own_c v j)
 struck-occ v here = (refl, refl)
 struck-occ v (further s) = let (x, y) = struck-occ v s in (omega arith, omega arith)
 
-struck-weight : {l : Literal} {k j : Conj} → Struck l k j → (hedges k ≡ hedgesL l + hedges j) × (rest k ≡ restL l + rest j)
+struck-weight : {l : Literal} {k j : Conj} → Struck l k j → (hedges k ≡ hedges_l l + hedges j) × (rest k ≡ rest_l l + rest j)
 struck-weight here = (refl, refl)
 struck-weight (further s) = let (x, y) = struck-weight s in (omega arith, omega arith)
 
@@ -171,9 +171,9 @@ module _ (σ : Signature) (vs : List Var) where
   FallsPair rule = (before : Conj) (l : Literal) (behind : Conj) → Gives (Each (λ (k : Conj). Below vs (before ++ k) (before ++ (l ∷ behind)))) (rule l behind)
 
   abbrev pub RuleFalls : Rule → Type 0
-  RuleFalls (onEqn rule) = FallsEqn rule × ((v : Var) → MakesEqn σ (Apart v) (λ _ _ _. tt) rule)
-  RuleFalls (onMem rule) = FallsMem rule × ((v : Var) → MakesMem σ (Apart v) (λ _ _ _. tt) rule)
-  RuleFalls (onPair rule) = FallsPair rule
+  RuleFalls (on_eqn rule) = FallsEqn rule × ((v : Var) → MakesEqn σ (Apart v) (λ _ _ _. tt) rule)
+  RuleFalls (on_mem rule) = FallsMem rule × ((v : Var) → MakesMem σ (Apart v) (λ _ _ _. tt) rule)
+  RuleFalls (on_pair rule) = FallsPair rule
 
   -- where all variables are among these, each result is below
   abbrev pub Falling : Conj → List Conj → Type 0
@@ -188,7 +188,7 @@ module _ (σ : Signature) (vs : List Var) where
 
   on-each-side : (rule : Rule) → RuleFalls rule → (before : Conj) (l : Literal) (behind : Conj) → MadeC (In vs) (before ++ (l ∷ behind))
       → OnSides (Each (λ j. Below vs j (before ++ (l ∷ behind)))) before behind rule l
-  on-each-side (onEqn rule) p before (eqn l r) behind m =
+  on-each-side (on_eqn rule) p before (eqn l r) behind m =
       let n = ((made-++ (In vs) before (eqn l r ∷ behind)).0 m).1.0 in (
         at_literal σ before (eqn l r) behind vs n (rule (before ++ behind) l r) (p.0 (before ++ behind) l r) (λ v e. p.1 v (before ++ behind) l r (apart v l (omega arith)) (apart v r (omega arith))),
         at_literal σ before (eqn l r) behind vs n (rule (before ++ behind) r l) (swapped (rule (before ++ behind) r l) (p.0 (before ++ behind) r l))
@@ -198,12 +198,12 @@ module _ (σ : Signature) (vs : List Var) where
       swapped : (w : Answer) → Answers (Each (Falls (before ++ behind) (eqn r l))) w → Answers (Each (Falls (before ++ behind) (eqn l r))) w
       swapped none a = record { given = tt }
       swapped (some bs) a = record { given = each-imp (Falls (before ++ behind) (eqn r l)) (Falls (before ++ behind) (eqn l r)) (falls-swapped (before ++ behind) l r) bs a.given }
-  on-each-side (onEqn rule) p before (mem h R) behind m = tt
-  on-each-side (onMem rule) p before (eqn l r) behind m = tt
-  on-each-side (onMem rule) p before (mem h R) behind m =
+  on-each-side (on_eqn rule) p before (mem h R) behind m = tt
+  on-each-side (on_mem rule) p before (eqn l r) behind m = tt
+  on-each-side (on_mem rule) p before (mem h R) behind m =
       at_literal σ before (mem h R) behind vs ((made-++ (In vs) before (mem h R ∷ behind)).0 m).1.0 (rule (before ++ behind) h R) (p.0 (before ++ behind) h R)
       (λ v e. p.1 v (before ++ behind) h R (apart v h e) (apart-expr v R))
-  on-each-side (onPair rule) p before l behind m =
+  on-each-side (on_pair rule) p before l behind m =
       gives-each (Each (λ j. Below vs j (before ++ (l ∷ behind)))) (map (λ (k : Conj). before ++ k)) (rule l behind)
       (gives-imp (Each (λ (k : Conj). Below vs (before ++ k) (before ++ (l ∷ behind)))) _ (rule l behind)
       (λ ks q. each_map (λ (k : Conj). Below vs (before ++ k) (before ++ (l ∷ behind))) (λ j. Below vs j (before ++ (l ∷ behind))) (λ (k : Conj). before ++ k) (λ k b. b) ks q)
@@ -211,5 +211,5 @@ module _ (σ : Signature) (vs : List Var) where
 
   pub rule-falls : (rule : Rule) → RuleFalls rule → AtSides Falling rule
   rule-falls rule p swap before l behind ks e m =
-      gives-results (Each (λ j. Below vs j (before ++ (l ∷ behind)))) (resultsAt swap rule before l behind) ks
+      gives-results (Each (λ j. Below vs j (before ++ (l ∷ behind)))) (results_at swap rule before l behind) ks
       (on_sides (Each (λ j. Below vs j (before ++ (l ∷ behind)))) before behind rule l (on-each-side rule p before l behind m) swap) e

@@ -6,20 +6,20 @@ use mathlib.Core.List.{List, [], ◌∷◌, Memᴰ}
 use native.Mathlib.Omega.{arith}
 use lib.Dec.{eqb}
 use borrow.Author.Tests.{eqb-true}
-use Rattle.language.specs.Trees.{Functor, symbol, fvar, Hedge, ε, tvar, hvar, node, Literal, eqn, mem, Conj, Var, tv, hv, fv, eqV}
-use Rattle.rules.proofs.Names.{eqV-is}
+use Rattle.language.specs.Trees.{Functor, symbol, fvar, Hedge, ε, tvar, hvar, node, Literal, eqn, mem, Conj, Var, tv, hv, fv, eq_v}
+use Rattle.rules.proofs.Names.{eq_v-is}
 use Rattle.rules.proofs.Tests.{and_parts, true-test, test-true}
-use Rattle.exact.specs.Made.{Name, aSymbol, aVariable, MadeF, Made, MadeL}
-use Rattle.ends.specs.Measure.{one, occF, occ, occL, occC, ownC, settled, unsettled}
+use Rattle.exact.specs.Made.{Name, a_symbol, a_variable, MadeF, Made, MadeL}
+use Rattle.ends.specs.Measure.{one, occ_f, occ, occ_l, occ_c, own_c, settled, unsettled}
 
 -- ---- settled
 
-pub settled_is : (k : Conj) (v : Var) → settled k v ≡ true → (occC v k ≡ 1) × (ownC v k ≡ 1)
+pub settled_is : (k : Conj) (v : Var) → settled k v ≡ true → (occ_c v k ≡ 1) × (own_c v k ≡ 1)
 settled_is k v e =
-    let (a, b) = and_parts (eqb (occC v k) 1) (eqb (ownC v k) 1) (true-test (settled k v) e) in
-    (eqb-true (occC v k) 1 ((test-true (eqb (occC v k) 1)).0 a), eqb-true (ownC v k) 1 ((test-true (eqb (ownC v k) 1)).0 b))
+    let (a, b) = and_parts (eqb (occ_c v k) 1) (eqb (own_c v k) 1) (true-test (settled k v) e) in
+    (eqb-true (occ_c v k) 1 ((test-true (eqb (occ_c v k) 1)).0 a), eqb-true (own_c v k) 1 ((test-true (eqb (own_c v k) 1)).0 b))
 
-pub is-settled : (k : Conj) (v : Var) → occC v k ≡ 1 → ownC v k ≡ 1 → settled k v ≡ true
+pub is-settled : (k : Conj) (v : Var) → occ_c v k ≡ 1 → own_c v k ≡ 1 → settled k v ≡ true
 is-settled k v a b = rw (a, b) refl
 
 -- ---- counted
@@ -49,18 +49,18 @@ module _ (j k : Conj) (stays : (v : Var) → settled k v ≡ true → settled j 
 -- ---- all variables are among these
 
 abbrev pub In : List Var → Name → Type 0
-In vs (aSymbol f) = Unit {0}
-In vs (aVariable v) = Memᴰ v vs
+In vs (a_symbol f) = Unit {0}
+In vs (a_variable v) = Memᴰ v vs
 
 module _ (vs : List Var) (v : Var) where
-  there : {A : Type 0} (w : Var) → Memᴰ w vs → (one (eqV v w) ≡ 0 → A) → (Memᴰ v vs → A) → A
-  there {A} w m f g = go (eqV v w) refl
+  there : {A : Type 0} (w : Var) → Memᴰ w vs → (one (eq_v v w) ≡ 0 → A) → (Memᴰ v vs → A) → A
+  there {A} w m f g = go (eq_v v w) refl
     where
-      go : (b : Bool) → eqV v w ≡ b → A
-      go true e = g (subst (λ u. Memᴰ u vs) (sym (eqV-is v w (true-test (eqV v w) e))) m)
+      go : (b : Bool) → eq_v v w ≡ b → A
+      go true e = g (subst (λ u. Memᴰ u vs) (sym (eq_v-is v w (true-test (eq_v v w) e))) m)
       go false e = f (ap one e)
 
-  in-functor : (f : Functor) → MadeF (In vs) f → 1 ≤ occF v f → Memᴰ v vs
+  in-functor : (f : Functor) → MadeF (In vs) f → 1 ≤ occ_f v f → Memᴰ v vs
   in-functor (symbol f) m h = absurd (omega arith)
   in-functor (fvar X) m h = there (fv X) m (λ e. absurd (omega arith)) (λ i. i)
 
@@ -73,8 +73,8 @@ module _ (vs : List Var) (v : Var) where
   in-hedge (tvar x r) m h = there (tv x) m.0 (λ e. in-hedge r m.1 (omega arith)) (λ i. i)
   in-hedge (hvar p r) m h = there (hv p) m.0 (λ e. in-hedge r m.1 (omega arith)) (λ i. i)
   in-hedge (node f c r) m h =
-      some_of (occF v f) (occ v c + occ v r) h (in-functor f m.0) (λ n. some_of (occ v c) (occ v r) n (in-hedge c m.1) (in-hedge r m.2))
+      some_of (occ_f v f) (occ v c + occ v r) h (in-functor f m.0) (λ n. some_of (occ v c) (occ v r) n (in-hedge c m.1) (in-hedge r m.2))
 
-  pub in-literal : (l : Literal) → MadeL (In vs) l → 1 ≤ occL v l → Memᴰ v vs
+  pub in-literal : (l : Literal) → MadeL (In vs) l → 1 ≤ occ_l v l → Memᴰ v vs
   in-literal (eqn l r) m h = some_of (occ v l) (occ v r) h (in-hedge l m.0) (in-hedge r m.1)
   in-literal (mem h R) m n = in-hedge h m.0 n

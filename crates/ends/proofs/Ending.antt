@@ -7,35 +7,35 @@ use native.Mathlib.Omega.{arith}
 use Rattle.language.specs.declared.Signature.{Signature}
 use Rattle.language.specs.Trees.{Functor, symbol, fvar, Hedge, ε, tvar, hvar, node, Expr, eps, cat, alt, star, over, Literal, eqn, mem, Conj, Var, tv, hv, fv}
 use Rattle.rules.specs.Reply.{Reply, nothing, results, stops}
-use Rattle.rules.specs.Step.{Spot, ruleAt, each, Found, first}
+use Rattle.rules.specs.Step.{Spot, rule_at, each, Found, first}
 use Rattle.rules.specs.Each.{Each}
 use Rattle.rules.specs.Run.{Numbered, all_of}
 use Rattle.rules.proofs.Each.{each_in}
-use Rattle.rules.proofs.Steps.{gives-results, Kept, ruleAt-is, first-named}
+use Rattle.rules.proofs.Steps.{gives-results, Kept, rule_at-is, first-named}
 use Rattle.rules.proofs.Stopping.{StopsBy, by-each, at_first, Fold-stops}
 use Rattle.exact.specs.Made.{Name, MadeF, Made, MadeE, MadeC}
 use Rattle.ends.specs.Measure.{unsettled, hedges, rest, Below}
-use Rattle.ends.specs.Unlimited.{FreeClash, freeRules, freeStepAt, freeStep, Goes, done, line, made, Ends, ends}
+use Rattle.ends.specs.Unlimited.{FreeClash, free_rules, free_step_at, free_step, Goes, done, line, made, Ends, ends}
 use Rattle.ends.proofs.Counting.{In}
 use Rattle.ends.proofs.AtPlaces.{Falling}
 use Rattle.ends.proofs.EveryRule.{Drops, free-drops, every-rule-falls, every-rule-makes}
 
 -- ---- the variables of a conjunction
 
-abbrev namesF : Functor → List Var
-namesF (symbol f) = []
-namesF (fvar X) = fv X ∷ []
+abbrev names_f : Functor → List Var
+names_f (symbol f) = []
+names_f (fvar X) = fv X ∷ []
 
 abbrev names : Hedge → List Var
 names ε = []
 names (tvar x r) = tv x ∷ names r
 names (hvar p r) = hv p ∷ names r
-names (node f c r) = namesF f ++ (names c ++ names r)
+names (node f c r) = names_f f ++ (names c ++ names r)
 
-abbrev namesC : Conj → List Var
-namesC [] = []
-namesC (eqn l r ∷ k) = names l ++ (names r ++ namesC k)
-namesC (mem h R ∷ k) = names h ++ namesC k
+abbrev names_c : Conj → List Var
+names_c [] = []
+names_c (eqn l r ∷ k) = names l ++ (names r ++ names_c k)
+names_c (mem h R ∷ k) = names h ++ names_c k
 
 left_in : {A : Type 0} {x : A} (xs ys : List A) → Memᴰ x xs → Memᴰ x (xs ++ ys)
 left_in (y ∷ xs) ys (Memᴰ.head e) = Memᴰ.head e
@@ -57,7 +57,7 @@ in-expr vs (star a) = in-expr vs a
 in-expr vs (over f a) = (tt, in-expr vs a)
 
 module _ (vs : List Var) where
-  names-functor : (f : Functor) → Within (namesF f) vs → MadeF (In vs) f
+  names-functor : (f : Functor) → Within (names_f f) vs → MadeF (In vs) f
   names-functor (symbol f) h = tt
   names-functor (fvar X) h = h (fv X) (Memᴰ.head refl)
 
@@ -66,18 +66,18 @@ module _ (vs : List Var) where
   names-hedge (tvar x r) h = (h (tv x) (Memᴰ.head refl), names-hedge r (λ v m. h v (Memᴰ.tail m)))
   names-hedge (hvar p r) h = (h (hv p) (Memᴰ.head refl), names-hedge r (λ v m. h v (Memᴰ.tail m)))
   names-hedge (node f c r) h = (
-    names-functor f (λ v m. h v (left_in (namesF f) (names c ++ names r) m)),
-    names-hedge c (λ v m. h v (right-in (namesF f) (names c ++ names r) (left_in (names c) (names r) m))),
-    names-hedge r (λ v m. h v (right-in (namesF f) (names c ++ names r) (right-in (names c) (names r) m))),
+    names-functor f (λ v m. h v (left_in (names_f f) (names c ++ names r) m)),
+    names-hedge c (λ v m. h v (right-in (names_f f) (names c ++ names r) (left_in (names c) (names r) m))),
+    names-hedge r (λ v m. h v (right-in (names_f f) (names c ++ names r) (right-in (names c) (names r) m))),
   )
 
-  names-all : (k : Conj) → Within (namesC k) vs → MadeC (In vs) k
+  names-all : (k : Conj) → Within (names_c k) vs → MadeC (In vs) k
   names-all [] h = tt
   names-all (eqn l r ∷ k) h = (
-    (names-hedge l (λ v m. h v (left_in (names l) (names r ++ namesC k) m)), names-hedge r (λ v m. h v (right-in (names l) (names r ++ namesC k) (left_in (names r) (namesC k) m)))),
-    names-all k (λ v m. h v (right-in (names l) (names r ++ namesC k) (right-in (names r) (namesC k) m))),
+    (names-hedge l (λ v m. h v (left_in (names l) (names r ++ names_c k) m)), names-hedge r (λ v m. h v (right-in (names l) (names r ++ names_c k) (left_in (names r) (names_c k) m)))),
+    names-all k (λ v m. h v (right-in (names l) (names r ++ names_c k) (right-in (names r) (names_c k) m))),
   )
-  names-all (mem h R ∷ k) n = ((names-hedge h (λ v m. n v (left_in (names h) (namesC k) m)), in-expr vs R), names-all k (λ v m. n v (right-in (names h) (namesC k) m)))
+  names-all (mem h R ∷ k) n = ((names-hedge h (λ v m. n v (left_in (names h) (names_c k) m)), in-expr vs R), names-all k (λ v m. n v (right-in (names h) (names_c k) m)))
 
 -- ---- no way on for ever
 
@@ -86,16 +86,16 @@ module _ (σ : Signature) (vs : List Var) where
   known = In vs
 
   -- a step, wherever it is made
-  falls : (s : Spot) (k : Conj) (ks : List Conj) → freeStepAt σ s k ≡ results ks → Falling σ vs k ks
-  unfolding freeStepAt
+  falls : (s : Spot) (k : Conj) (ks : List Conj) → free_step_at σ s k ≡ results ks → Falling σ vs k ks
+  unfolding free_step_at
   falls s k ks e =
-      gives-results (Falling σ vs k) _ ks (ruleAt-is (Falling σ vs) s.swapped s.literal s.rule (freeRules σ) (every-rule-falls σ vs) k) e
+      gives-results (Falling σ vs k) _ ks (rule_at-is (Falling σ vs) s.swapped s.literal s.rule (free_rules σ) (every-rule-falls σ vs) k) e
 
-  keeps : (s : Spot) (k : Conj) (ks : List Conj) → freeStepAt σ s k ≡ results ks → Kept (MadeC (In vs)) k ks
-  unfolding freeStepAt
+  keeps : (s : Spot) (k : Conj) (ks : List Conj) → free_step_at σ s k ≡ results ks → Kept (MadeC (In vs)) k ks
+  unfolding free_step_at
   keeps s k ks e =
       gives-results (Kept (MadeC (In vs)) k) _ ks
-      (ruleAt-is (Kept (MadeC (In vs))) s.swapped s.literal s.rule (freeRules σ) (every-rule-makes σ (In vs) (λ _ _ _. tt)) k) e
+      (rule_at-is (Kept (MadeC (In vs))) s.swapped s.literal s.rule (free_rules σ) (every-rule-makes σ (In vs) (λ _ _ _. tt)) k) e
 
   abbrev All : Conj → Type 0
   All = MadeC (In vs)
@@ -124,13 +124,13 @@ module _ (σ : Signature) (vs : List Var) where
 
 -- Whatever rule is chosen wherever it applies, and whatever is chosen after it, there is no way on for ever.
 pub every-way-ends : (σ : Signature) (k : Conj) → Ends σ k
-every-way-ends σ k = by-unsettled σ (namesC k) (suc (unsettled (namesC k) k)) k (names-all (namesC k) k (λ v m. m)) (omega arith)
+every-way-ends σ k = by-unsettled σ (names_c k) (suc (unsettled (names_c k) k)) k (names-all (names_c k) k (λ v m. m)) (omega arith)
 
 -- ---- the run without limits
 
-never-stops : (σ : Signature) (k : Conj) → StopsBy (λ _. ⊥) (freeStep σ k)
-unfolding freeStep
-never-stops σ k = by-each (λ _. ⊥) _ (first 0 (freeRules σ) k) (at_first (λ _. ⊥) 0 (freeRules σ) (Fold-stops (λ _. ⊥), (free-stops, tt)) k)
+never-stops : (σ : Signature) (k : Conj) → StopsBy (λ _. ⊥) (free_step σ k)
+unfolding free_step
+never-stops σ k = by-each (λ _. ⊥) _ (first 0 (free_rules σ) k) (at_first (λ _. ⊥) 0 (free_rules σ) (Fold-stops (λ _. ⊥), (free-stops, tt)) k)
   where
     free-stops : (l : Literal) (behind : Conj) → StopsBy (λ _. ⊥) (FreeClash σ l behind)
     free-stops l behind = go (FreeClash σ l behind) (free-drops σ l behind)
@@ -141,17 +141,17 @@ never-stops σ k = by-each (λ _. ⊥) _ (first 0 (freeRules σ) k) (at_first (�
         go (stops r) d = d
 
 -- a step is the step at some place
-step-somewhere : (σ : Signature) (k : Conj) (ks : List Conj) → freeStep σ k ≡ results ks → (s : Spot) × (freeStepAt σ s k ≡ results ks)
-unfolding freeStep freeStepAt
-step-somewhere σ k ks e = named (first 0 (freeRules σ) k) refl e
+step-somewhere : (σ : Signature) (k : Conj) (ks : List Conj) → free_step σ k ≡ results ks → (s : Spot) × (free_step_at σ s k ≡ results ks)
+unfolding free_step free_step_at
+step-somewhere σ k ks e = named (first 0 (free_rules σ) k) refl e
   where
     same : {A : Type 0} {x y : A} → ◌≡◌ {A = Reply A} (results x) (results y) → x ≡ y
     same e = cc
 
-    named : (m : Found) → first 0 (freeRules σ) k ≡ m → each (λ (f : Spot × List Conj). f.1) m ≡ results ks
-        → (s : Spot) × (ruleAt s.swapped s.literal s.rule (freeRules σ) k ≡ results ks)
+    named : (m : Found) → first 0 (free_rules σ) k ≡ m → each (λ (f : Spot × List Conj). f.1) m ≡ results ks
+        → (s : Spot) × (rule_at s.swapped s.literal s.rule (free_rules σ) k ≡ results ks)
     named nothing d e = let z : ◌≡◌ {A = ℕ} 0 1 = cc in absurd (omega arith)
-    named (results f) d e = (f.0, first-named (freeRules σ) k f.0 ks (d ∙ ap (λ (c : List Conj). results (f.0, c)) (same e)))
+    named (results f) d e = (f.0, first-named (free_rules σ) k f.0 ks (d ∙ ap (λ (c : List Conj). results (f.0, c)) (same e)))
     named (stops r) d e = let z : ◌≡◌ {A = ℕ} 0 1 = cc in absurd (omega arith)
 
 steps-are : (σ : Signature) (w ls : List Numbered) (n m : ℕ) → n ≡ m → Goes σ w ls n → Goes σ w ls m
@@ -182,10 +182,10 @@ all-somewhere σ n (k ∷ ks) h =
     record { lines = a.lines ++ b.lines; steps = a.steps + b.steps; goes = goes-++ σ a.goes _ b.lines b.steps b.goes }
 
 one-somewhere : (σ : Signature) (n : ℕ) {k : Conj} → Ends σ k → Somewhere σ (record { number = n; literals = k } ∷ [])
-one-somewhere σ n {k} (ends f) = go (freeStep σ k) refl (never-stops σ k) (λ s ks e j i. one-somewhere σ n (f s ks e j i))
+one-somewhere σ n {k} (ends f) = go (free_step σ k) refl (never-stops σ k) (λ s ks e j i. one-somewhere σ n (f s ks e j i))
   where
-    go : (m : Reply (List Conj)) → freeStep σ k ≡ m → StopsBy (λ _. ⊥) m
-        → ((s : Spot) (ks : List Conj) → freeStepAt σ s k ≡ results ks → (j : Conj) → Memᴰ j ks → Somewhere σ (record { number = n; literals = j } ∷ []))
+    go : (m : Reply (List Conj)) → free_step σ k ≡ m → StopsBy (λ _. ⊥) m
+        → ((s : Spot) (ks : List Conj) → free_step_at σ s k ≡ results ks → (j : Conj) → Memᴰ j ks → Somewhere σ (record { number = n; literals = j } ∷ []))
         → Somewhere σ (record { number = n; literals = k } ∷ [])
     go nothing e p ih = record { lines = record { number = n; literals = k } ∷ []; steps = 0; goes = line (record { number = n; literals = k }) e done }
     go (results ks) e p ih =
@@ -221,7 +221,7 @@ goes-once σ {ms = ms} (made p k w ks e f) (made q j v js d g) =
     let (a, b) = goes-once σ f (waits-are σ (all_of k.number js ++ w) (all_of k.number ks ++ w) ms q (ap (λ x. all_of k.number x ++ w) (same-results (sym d ∙ e))) g) in (a, ap suc b)
 
 -- no rule applies to a line
-pub goes-rest : (σ : Signature) {w ls : List Numbered} {n : ℕ} → Goes σ w ls n → Each (λ (k : Numbered). freeStep σ k.literals ≡ nothing) ls
+pub goes-rest : (σ : Signature) {w ls : List Numbered} {n : ℕ} → Goes σ w ls n → Each (λ (k : Numbered). free_step σ k.literals ≡ nothing) ls
 goes-rest σ done = tt
 goes-rest σ (line k e f) = (e, goes-rest σ f)
 goes-rest σ (made n k w ks e f) = goes-rest σ f

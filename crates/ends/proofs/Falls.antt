@@ -9,10 +9,10 @@ use native.Mathlib.Omega.{arith}
 use lib.Dec.{T}
 use Rattle.language.specs.declared.HedgeVar.{HedgeVar}
 use Rattle.language.specs.Kinds.{pick}
-use Rattle.language.specs.Trees.{Functor, symbol, fvar, Hedge, ε, tvar, hvar, node, Expr, Literal, eqn, mem, Conj, ◌⧺◌, same_words, Var, tv, hv, fv, eqV, inFunctor, holds}
+use Rattle.language.specs.Trees.{Functor, symbol, fvar, Hedge, ε, tvar, hvar, node, Expr, Literal, eqn, mem, Conj, ◌⧺◌, same_words, Var, tv, hv, fv, eq_v, in_functor, holds}
 use Rattle.rules.specs.Looks.{empty, onto, up_to}
-use Rattle.rules.specs.Elements.{without, orStruck, struck, width, orders}
-use Rattle.rules.specs.Solved.{given, isTerm, isFunctor, variable}
+use Rattle.rules.specs.Elements.{without, or_struck, struck, width, orders}
+use Rattle.rules.specs.Solved.{given, is_term, is_functor, variable}
 use Rattle.rules.specs.Substitution.{Subst, put_c}
 use Rattle.rules.specs.Rules.{Branch, plain, elims, EqRule, InRule}
 use Rattle.rules.specs.Each.{Each}
@@ -20,7 +20,7 @@ use Rattle.rules.proofs.Answers.{Where, where-map, Answers}
 use Rattle.rules.proofs.Looks.{empty-is}
 use Rattle.rules.proofs.Elements.{orders-by}
 use Rattle.rules.proofs.Tests.{and_parts, true-test, test-true, picks}
-use Rattle.ends.specs.Measure.{one, occF, occ, occL, occC, is, own, ownC, places, odd', hedgesL, hedges, restL, rest}
+use Rattle.ends.specs.Measure.{one, occ_f, occ, occ_l, occ_c, is, own, own_c, places, odd', hedges_l, hedges, rest_l, rest}
 use Rattle.ends.proofs.Sums.{places-⧺, own-swapped, occ-swapped, rest-swapped}
 use Rattle.ends.proofs.Putting.{Leaves, OneTerm, Clears}
 
@@ -28,29 +28,29 @@ use Rattle.ends.proofs.Putting.{Leaves, OneTerm, Clears}
 
 -- a variable that a side of it is, alone, stands somewhere else too
 abbrev pub LeftAlone : Conj → Literal → Type 0
-LeftAlone K l = (v : Var) → (own v l ≡ 0) ⊎ (2 ≤ occL v l + occC v K)
+LeftAlone K l = (v : Var) → (own v l ≡ 0) ⊎ (2 ≤ occ_l v l + occ_c v K)
 
 abbrev pub Lighter : Conj → Literal → Type 0
-Lighter ls l = (hedges ls < hedgesL l) ⊎ ((hedges ls ≤ hedgesL l) × (rest ls < restL l))
+Lighter ls l = (hedges ls < hedges_l l) ⊎ ((hedges ls ≤ hedges_l l) × (rest ls < rest_l l))
 
 -- a variable that was not settled has its equation now, and stands nowhere else
 pub record Settles (K : Conj) (l : Literal) (es : Conj) (s : Subst) : Type 0 where
   pub v : Var
-  pub there : 1 ≤ occL v l
-  pub loose : (own v l < occL v l) ⊎ (1 ≤ occC v K)
-  pub once : occC v es ≡ 1
-  pub alone : ownC v es ≡ 1
+  pub there : 1 ≤ occ_l v l
+  pub loose : (own v l < occ_l v l) ⊎ (1 ≤ occ_c v K)
+  pub once : occ_c v es ≡ 1
+  pub alone : own_c v es ≡ 1
   pub clears : Clears v s
 
 -- a membership is gone, and none of the others has grown
 pub record Vanishes (l : Literal) (es ls : Conj) (s : Subst) : Type 0 where
   pub equations : hedges es ≡ 0
   pub nothing-else : ls ≡ []
-  pub weighed : 0 < hedgesL l
+  pub weighed : 0 < hedges_l l
   pub shorter : (k : Conj) → hedges (put_c s k) ≤ hedges k
 
 abbrev pub Minds : Literal → Subst → Type 0
-Minds l s = ((v : Var) → occL v l ≡ 0 → Leaves v s) × OneTerm s
+Minds l s = ((v : Var) → occ_l v l ≡ 0 → Leaves v s) × OneTerm s
 
 abbrev pub Falls : Conj → Literal → Branch → Type 0
 Falls K l (plain ls) = LeftAlone K l × Lighter ls l
@@ -101,53 +101,53 @@ and_no false = refl
 no-given : (v w : Var) (b : Bool) → b ≡ false → is v (given b w) ≡ 0
 no-given v w b e = rw e refl
 
-term-width : (r : Hedge) → isTerm r ≡ true → width r ≡ 1
+term-width : (r : Hedge) → is_term r ≡ true → width r ≡ 1
 term-width ε e = absurd (let z : ◌≡◌ {A = ℕ} 0 1 = cc in omega arith)
 term-width (tvar x r) e = rw (empty-is r (true-test (empty r) e)) refl
 term-width (hvar p r) e = absurd (let z : ◌≡◌ {A = ℕ} 0 1 = cc in omega arith)
 term-width (node f c r) e = rw (empty-is r (true-test (empty r) e)) refl
 
-functor-term : (r : Hedge) → T (isFunctor r) → isTerm r ≡ true
+functor-term : (r : Hedge) → T (is_functor r) → is_term r ≡ true
 functor-term ε t = absurd t
 functor-term (tvar x r) t = absurd t
 functor-term (hvar p r) t = absurd t
 functor-term (node f c r) t = (test-true (empty r)).0 (and_parts (empty c) (empty r) t).1
 
-abbrev pub isRun : Hedge → Bool
-isRun ε = false
-isRun (tvar x r) = false
-isRun (hvar p r) = true
-isRun (node f c r) = false
+abbrev pub is_run : Hedge → Bool
+is_run ε = false
+is_run (tvar x r) = false
+is_run (hvar p r) = true
+is_run (node f c r) = false
 
 -- one that begins with a term is alone only against a single term, and is one
-pub alone-term : (v : Var) (l r : Hedge) → isRun l ≡ false → (is v (variable l r) ≡ 0) ⊎ ((width l ≡ 1) × (isTerm r ≡ true))
+pub alone-term : (v : Var) (l r : Hedge) → is_run l ≡ false → (is v (variable l r) ≡ 0) ⊎ ((width l ≡ 1) × (is_term r ≡ true))
 alone-term v ε r e = inl refl
-alone-term v (tvar x s) r e = go (empty s && isTerm r) refl
+alone-term v (tvar x s) r e = go (empty s && is_term r) refl
   where
-    go : (b : Bool) → (empty s && isTerm r) ≡ b → (is v (given b (tv x)) ≡ 0) ⊎ ((width (tvar x s) ≡ 1) × (isTerm r ≡ true))
-    go true d = let (a, c) = and_parts (empty s) (isTerm r) (true-test (empty s && isTerm r) d) in inr (rw (empty-is s a) refl, (test-true (isTerm r)).0 c)
+    go : (b : Bool) → (empty s && is_term r) ≡ b → (is v (given b (tv x)) ≡ 0) ⊎ ((width (tvar x s) ≡ 1) × (is_term r ≡ true))
+    go true d = let (a, c) = and_parts (empty s) (is_term r) (true-test (empty s && is_term r) d) in inr (rw (empty-is s a) refl, (test-true (is_term r)).0 c)
     go false d = inl refl
 alone-term v (hvar p s) r e = absurd (let z : ◌≡◌ {A = ℕ} 0 1 = cc in omega arith)
 alone-term v (node (symbol f) c s) r e = inl refl
-alone-term v (node (fvar X) c s) r e = go (empty c && empty s && isFunctor r) refl
+alone-term v (node (fvar X) c s) r e = go (empty c && empty s && is_functor r) refl
   where
-    go : (b : Bool) → (empty c && empty s && isFunctor r) ≡ b → (is v (given b (fv X)) ≡ 0) ⊎ ((width (node (fvar X) c s) ≡ 1) × (isTerm r ≡ true))
+    go : (b : Bool) → (empty c && empty s && is_functor r) ≡ b → (is v (given b (fv X)) ≡ 0) ⊎ ((width (node (fvar X) c s) ≡ 1) × (is_term r ≡ true))
     go true d =
-        let (a, g) = and_parts (empty c && empty s) (isFunctor r) (true-test (empty c && empty s && isFunctor r) d) in
+        let (a, g) = and_parts (empty c && empty s) (is_functor r) (true-test (empty c && empty s && is_functor r) d) in
         inr (rw (empty-is s (and_parts (empty c) (empty s) a).1) refl, functor-term r g)
     go false d = inl refl
 
 -- where one that begins with a term stands against something else than a single term, no variable is it
-pub faces : (v : Var) (l r : Hedge) → isRun l ≡ false → isTerm r ≡ false → is v (variable l r) ≡ 0
+pub faces : (v : Var) (l r : Hedge) → is_run l ≡ false → is_term r ≡ false → is v (variable l r) ≡ 0
 faces v l r e d = elim (alone-term v l r e) [ inl z ↦ z | inr z ↦ absurd (let y : ◌≡◌ {A = ℕ} 0 1 = let x = z.1 in cc in omega arith) ]
 
 -- a side that a variable is has one place
 pub one_place : (v : Var) (l r : Hedge) → (is v (variable l r) ≡ 0) ⊎ (places l ≡ 1)
 one_place v ε r = inl refl
-one_place v (tvar x s) r = go (empty s && isTerm r) refl
+one_place v (tvar x s) r = go (empty s && is_term r) refl
   where
-    go : (b : Bool) → (empty s && isTerm r) ≡ b → (is v (given b (tv x)) ≡ 0) ⊎ (places (tvar x s) ≡ 1)
-    go true d = inr (rw (empty-is s (and_parts (empty s) (isTerm r) (true-test (empty s && isTerm r) d)).0) refl)
+    go : (b : Bool) → (empty s && is_term r) ≡ b → (is v (given b (tv x)) ≡ 0) ⊎ (places (tvar x s) ≡ 1)
+    go true d = inr (rw (empty-is s (and_parts (empty s) (is_term r) (true-test (empty s && is_term r) d)).0) refl)
     go false d = inl refl
 one_place v (hvar p s) r = go (empty s) refl
   where
@@ -155,18 +155,18 @@ one_place v (hvar p s) r = go (empty s) refl
     go true d = inr (rw (empty-is s (true-test (empty s) d)) refl)
     go false d = inl refl
 one_place v (node (symbol f) c s) r = inl refl
-one_place v (node (fvar X) c s) r = go (empty c && empty s && isFunctor r) refl
+one_place v (node (fvar X) c s) r = go (empty c && empty s && is_functor r) refl
   where
-    go : (b : Bool) → (empty c && empty s && isFunctor r) ≡ b → (is v (given b (fv X)) ≡ 0) ⊎ (places (node (fvar X) c s) ≡ 1)
+    go : (b : Bool) → (empty c && empty s && is_functor r) ≡ b → (is v (given b (fv X)) ≡ 0) ⊎ (places (node (fvar X) c s) ≡ 1)
     go true d =
-        let a = (and_parts (empty c && empty s) (isFunctor r) (true-test (empty c && empty s && isFunctor r) d)).0 in
+        let a = (and_parts (empty c && empty s) (is_functor r) (true-test (empty c && empty s && is_functor r) d)).0 in
         let (x, y) = and_parts (empty c) (empty s) a in
         inr (rw (empty-is c x, empty-is s y) refl)
     go false d = inl refl
 
-one-functor : (v : Var) (f : Functor) → occF v f ≤ 1
+one-functor : (v : Var) (f : Functor) → occ_f v f ≤ 1
 one-functor v (symbol f) = omega arith
-one-functor v (fvar X) = go (eqV v (fv X))
+one-functor v (fvar X) = go (eq_v v (fv X))
   where
     go : (b : Bool) → one b ≤ 1
     go true = omega arith
@@ -179,8 +179,8 @@ one-small false = omega arith
 -- no variable stands more often than there are places
 pub occ-places : (v : Var) (h : Hedge) → occ v h ≤ places h
 occ-places v ε = omega arith
-occ-places v (tvar x r) = let y = one-small (eqV v (tv x)) in let z = occ-places v r in omega arith
-occ-places v (hvar p r) = let y = one-small (eqV v (hv p)) in let z = occ-places v r in omega arith
+occ-places v (tvar x r) = let y = one-small (eq_v v (tv x)) in let z = occ-places v r in omega arith
+occ-places v (hvar p r) = let y = one-small (eq_v v (hv p)) in let z = occ-places v r in omega arith
 occ-places v (node f c r) = let x = one-functor v f in let y = occ-places v c in let z = occ-places v r in omega arith
 
 -- ---- weights of equations
@@ -206,7 +206,7 @@ abbrev Fewer : Hedge → Hedge → Hedge × Hedge → Type 0
 Fewer h k a = (places a.0 < places h) × (places a.1 < places k)
 
 struck-one : (r k h : Hedge) (q : Hedge → Hedge) (m : Option (Hedge × Hedge)) (o : Option Hedge) → places r < places h
-    → ((a : Hedge) → places a < places r → places (q a) < places h) → Where (Fewer r k) m → Where (λ b. places b < places k) o → Where (Fewer h k) (orStruck r o (onto q m))
+    → ((a : Hedge) → places a < places r → places (q a) < places h) → Where (Fewer r k) m → Where (λ b. places b < places k) o → Where (Fewer h k) (or_struck r o (onto q m))
 struck-one r k h q m none l f p w = where-map (Fewer h k) _ m (λ a t. (f a.0 t.0, t.1)) p
 struck-one r k h q m (some b) l f p w = (l, w)
 
@@ -231,13 +231,13 @@ orders-places = orders-by (λ h k. places k ≡ places h) refl λ h a k d e.
     )
 
 -- p is not in T, where (T, t, H2) is cut before the first term that holds it
-pub upTo-before : (p : HedgeVar) (h : Hedge) → Where (λ a. holds (hv p) a.0 ≡ false) (up_to p h)
-upTo-before p ε = tt
-upTo-before p (tvar x r) = where-map (λ a. holds (hv p) a.0 ≡ false) _ (up_to p r) (λ a e. e) (upTo-before p r)
-upTo-before p (hvar q r) = tt
-upTo-before p (node f c r) = go (holds (hv p) c) refl (upTo-before p r)
+pub up_to-before : (p : HedgeVar) (h : Hedge) → Where (λ a. holds (hv p) a.0 ≡ false) (up_to p h)
+up_to-before p ε = tt
+up_to-before p (tvar x r) = where-map (λ a. holds (hv p) a.0 ≡ false) _ (up_to p r) (λ a e. e) (up_to-before p r)
+up_to-before p (hvar q r) = tt
+up_to-before p (node f c r) = go (holds (hv p) c) refl (up_to-before p r)
   where
-    no-functor : (f : Functor) → inFunctor (hv p) f ≡ false
+    no-functor : (f : Functor) → in_functor (hv p) f ≡ false
     no-functor (symbol f) = refl
     no-functor (fvar X) = refl
 

@@ -6,14 +6,14 @@ use mathlib.Core.Bool.{Bool, true, false}
 use native.Mathlib.Omega.{arith}
 use Rattle.language.specs.declared.Signature.{Signature}
 use Rattle.language.specs.Trees.{symbol, fvar, Hedge, ε, tvar, hvar, node, Expr, cat, alt, star, mem, Conj, ◌⧺◌, Var, fv, holds}
-use Rattle.rules.specs.Looks.{empty, firstTerm, firstRun, loneTerm, loneNode, asSymbol, asBlank, asCat, asAlt, asStar, asOver}
+use Rattle.rules.specs.Looks.{empty, first_term, first_run, lone_term, lone_node, as_symbol, as_blank, as_cat, as_alt, as_star, as_over}
 use Rattle.rules.specs.Elements.{orders}
 use Rattle.rules.specs.Expressions.{Monomial, linear}
-use Rattle.rules.specs.Rules.{vanish, monomialResult, orderMember}
+use Rattle.rules.specs.Rules.{vanish, monomial_result, order_member}
 use Rattle.rules.specs.Rules as rules
 use Rattle.rules.proofs.Each.{each_map, each_all}
 use Rattle.rules.proofs.Answers.{look, test, answers}
-use Rattle.rules.proofs.Looks.{loneNode-is, firstRun-is, asSymbol-is, asBlank-is, asCat-is, asAlt-is, asStar-is, asOver-is}
+use Rattle.rules.proofs.Looks.{lone_node-is, first_run-is, as_symbol-is, as_blank-is, as_cat-is, as_alt-is, as_star-is, as_over-is}
 use Rattle.ends.specs.Measure.{one, occ, places, odd, hedges}
 use Rattle.ends.proofs.Sums.{places-⧺, odd-on, odd-apart, expr-weighs, holds-counted, places-some}
 use Rattle.ends.proofs.Putting.{emptied-leaves, emptied-lighter}
@@ -62,8 +62,8 @@ M1-falls K h R = test _ λ _ n. test _ λ _ _. test _ λ _ _. answers (
 
 pub M2-falls : FallsMem rules.M2
 M2-falls K h R =
-    look (firstTerm h) (first-is h) λ a p. test _ λ _ n. test _ λ _ _.
-    answers (each_map (λ (m : Monomial). Unit {0}) (Falls K (mem h R)) (monomialResult a.0 a.1)
+    look (first_term h) (first-is h) λ a p. test _ λ _ n. test _ λ _ _.
+    answers (each_map (λ (m : Monomial). Unit {0}) (Falls K (mem h R)) (monomial_result a.0 a.1)
     (λ m _. (
       free K h R,
       inl (
@@ -75,7 +75,7 @@ M2-falls K h R =
 
 pub M3-falls : FallsMem rules.M3
 M3-falls K h R =
-    look (firstRun h) (firstRun-is h) λ a d. test _ λ _ n. look (asOver R) (asOver-is R) λ g e.
+    look (first_run h) (first_run-is h) λ a d. test _ λ _ n. look (as_over R) (as_over-is R) λ g e.
     rw d
     (let w = places-some a.1 (not-true _ n) in
     let y = odd-on 1 (suc (places a.1)) (omega arith) in
@@ -83,26 +83,26 @@ M3-falls K h R =
     answers ((free K (hvar a.0 a.1) R, inl (omega arith)), ((free K (hvar a.0 a.1) R, inl (omega arith)), tt)))
 
 pub M4-falls : FallsMem rules.M4
-M4-falls K h R = look (loneTerm h) (term_is h) λ t d. look (asStar R) (asStar-is R) λ S e.
+M4-falls K h R = look (lone_term h) (term_is h) λ t d. look (as_star R) (as_star-is R) λ S e.
     rw (d.0, e) (answers ((free K t (star S), inr (omega arith, omega arith)), tt))
 
 pub M5-falls : FallsMem rules.M5
-M5-falls K h R = look (loneTerm h) (term_is h) λ t d. look (asCat R) (asCat-is R) λ S e.
+M5-falls K h R = look (lone_term h) (term_is h) λ t d. look (as_cat R) (as_cat-is R) λ S e.
     rw (d.0, e) (answers ((free K t (cat S.0 S.1), inr (omega arith, omega arith)), ((free K t (cat S.0 S.1), inr (omega arith, omega arith)), tt)))
 
 pub M6-falls : FallsMem rules.M6
-M6-falls K h R = look (loneTerm h) (term_is h) λ t d. look (asAlt R) (asAlt-is R) λ S e.
+M6-falls K h R = look (lone_term h) (term_is h) λ t d. look (as_alt R) (as_alt-is R) λ S e.
     rw (d.0, e) (let x = expr-weighs S.0 in let y = expr-weighs S.1 in
     answers ((free K t (alt S.0 S.1), inr (omega arith, omega arith)), ((free K t (alt S.0 S.1), inr (omega arith, omega arith)), tt)))
 
 pub M7-falls : FallsMem rules.M7
-M7-falls K h R = look (firstRun h) (firstRun-is h) λ a d. look (asAlt R) (asAlt-is R) λ S e.
+M7-falls K h R = look (first_run h) (first_run-is h) λ a d. look (as_alt R) (as_alt-is R) λ S e.
     rw e (let x = expr-weighs S.0 in let y = expr-weighs S.1 in
     answers ((free K h (alt S.0 S.1), inr (omega arith, omega arith)), ((free K h (alt S.0 S.1), inr (omega arith, omega arith)), tt)))
 
 pub M10-falls : FallsMem rules.M10
 M10-falls K h R =
-    look (loneNode h) (loneNode-is h) λ a d. look (asBlank a.0) (asBlank-is a.0) λ X s. look (asOver R) (asOver-is R) λ g e.
+    look (lone_node h) (lone_node-is h) λ a d. look (as_blank a.0) (as_blank-is a.0) λ X s. look (as_over R) (as_over-is R) λ g e.
     rw (d, s) (answers (
       (
         free K (node (fvar X) a.1 ε) R,
@@ -114,13 +114,13 @@ M10-falls K h R =
 
 pub M11-falls : (σ : Signature) → FallsMem (rules.M11 σ)
 M11-falls σ K h R =
-    look (loneNode h) (loneNode-is h) λ a d. look (asSymbol a.0) (asSymbol-is a.0) λ f s. look (asOver R) (asOver-is R) λ g e.
+    look (lone_node h) (lone_node-is h) λ a d. look (as_symbol a.0) (as_symbol-is a.0) λ f s. look (as_over R) (as_over-is R) λ g e.
     test _ λ _ _. test _ λ _ _.
     rw d (answers ((free K (node a.0 a.1 ε) R, inl (let z = odd-on (places a.1) (suc (places a.1 + 0)) (omega arith) in omega arith)), tt))
 
 pub M12-falls : (σ : Signature) → FallsMem (rules.M12 σ)
 M12-falls σ K h R =
-    look (loneNode h) (loneNode-is h) λ a d. look (asSymbol a.0) (asSymbol-is a.0) λ f s. look (asOver R) (asOver-is R) λ g e.
+    look (lone_node h) (lone_node-is h) λ a d. look (as_symbol a.0) (as_symbol-is a.0) λ f s. look (as_over R) (as_over-is R) λ g e.
     test _ λ _ _. test _ λ _ _. test _ λ _ _.
-    rw d (answers (each_map (λ k. places k ≡ places a.1) (Falls K (mem (node a.0 a.1 ε) R)) (orderMember g.1)
+    rw d (answers (each_map (λ k. places k ≡ places a.1) (Falls K (mem (node a.0 a.1 ε) R)) (order_member g.1)
     (λ k w. (free K (node a.0 a.1 ε) R, inl (let z = odd-on (places k) (suc (places a.1 + 0)) (omega arith) in omega arith))) (orders a.1) (orders-places a.1)))

@@ -10,19 +10,19 @@ use Rattle.language.specs.declared.HedgeVar.{HedgeVar}
 use Rattle.language.specs.declared.FunVar.{FunVar}
 use Rattle.language.specs.declared.Sym.{Sym}
 use Rattle.language.specs.declared.Signature.{Signature}
-use Rattle.language.specs.Trees.{Functor, symbol, fvar, Hedge, ε, tvar, hvar, node, eqn, mem, Conj, eqT, eqH, eqX, eqS, eq_f, Var, tv, hv, fv, inFunctor, holds, inConj}
+use Rattle.language.specs.Trees.{Functor, symbol, fvar, Hedge, ε, tvar, hvar, node, eqn, mem, Conj, eq_t, eq_h, eq_x, eq_s, eq_f, Var, tv, hv, fv, in_functor, holds, in_conj}
 use Rattle.meaning.proofs.Same.{none-unordered, any-unordered-none}
 use Rattle.rules.specs.Reply.{nothing}
 use Rattle.rules.specs.Step.{step}
-use Rattle.rules.specs.Looks.{empty, hasTerm, loneH}
-use Rattle.rules.specs.Solved.{is_some, or_else, variable, alone, solvedLiteral, solvedFrom, solved}
-use Rattle.rules.specs.Rules.{keepsOrder}
+use Rattle.rules.specs.Looks.{empty, has_term, lone_h}
+use Rattle.rules.specs.Solved.{is_some, or_else, variable, alone, solved_literal, solved_from, solved}
+use Rattle.rules.specs.Rules.{keeps_order}
 use Rattle.rules.proofs.Looks.{empty-is}
-use Rattle.rules.proofs.Names.{eqT-is, eqH-is, eqX-is, eqV-self}
+use Rattle.rules.proofs.Names.{eq_t-is, eq_h-is, eq_x-is, eq_v-self}
 use Rattle.rules.proofs.Tests.{or_left, and_parts, and_both, test-true}
 use Rattle.lines.proofs.Quiet.{at_literal, QuietEqn, quiet-eqn}
 use Rattle.lines.proofs.Settled.{found, passes, must, both-alone, given-alone}
-use Rattle.ends.specs.Last.{last, lastRuns}
+use Rattle.ends.specs.Last.{last, last_runs}
 
 -- one of the two sides is a variable that stands nowhere else
 abbrev Either : Conj → Hedge → Hedge → Type 0
@@ -52,14 +52,14 @@ never : {A : Type 0} {x : A} → ◌≡◌ {A = Option A} (some x) none → ⊥
 never e = some-ne-none _ e
 
 -- the side is v, which stands neither in the other nor elsewhere
-solves : (K : Conj) (l r : Hedge) (v : Var) → variable l r ≡ some v → ¬ T (holds v r) → ¬ T (inConj v K) → T (is_some (alone K r (variable l r)))
-solves K l r v e n m = rw e (given-alone (holds v r) (inConj v K) (v, r) n m)
+solves : (K : Conj) (l r : Hedge) (v : Var) → variable l r ≡ some v → ¬ T (holds v r) → ¬ T (in_conj v K) → T (is_some (alone K r (variable l r)))
+solves K l r v e n m = rw e (given-alone (holds v r) (in_conj v K) (v, r) n m)
 
 module _ (σ : Signature) (ordered : σ.unordered ≡ 0) (K : Conj) where
   -- ---- a hedge variable
 
   -- against what begins with a term, or is nothing: F2, or E2
-  run-term : (p : HedgeVar) (r : Hedge) → (T (holds (hv p) r) → T (hasTerm r)) → loneH r ≡ none → QuietEqn σ K (hvar p ε) r → Either K (hvar p ε) r
+  run-term : (p : HedgeVar) (r : Hedge) → (T (holds (hv p) r) → T (has_term r)) → lone_h r ≡ none → QuietEqn σ K (hvar p ε) r → Either K (hvar p ε) r
   run-term p r h e q =
       dec (holds (hv p) r)
       (λ t. absurd (never (passes _ _ (passes _ _ (found _ _ q.f2) (h t)) t)))
@@ -67,17 +67,17 @@ module _ (σ : Signature) (ordered : σ.unordered ≡ 0) (K : Conj) where
 
   run-run : (p o : HedgeVar) → QuietEqn σ K (hvar p ε) (hvar o ε) → Either K (hvar p ε) (hvar o ε)
   run-run p o q =
-      dec (eqH p o)
-      (λ t. absurd (never (passes _ _ q.r1 (and_both (eqH p o) true t tt))))
+      dec (eq_h p o)
+      (λ t. absurd (never (passes _ _ q.r1 (and_both (eq_h p o) true t tt))))
       (λ n.
-      dec (inConj (hv p) K)
+      dec (in_conj (hv p) K)
       (λ t.
-      inr (solves K (hvar o ε) (hvar p ε) (hv o) refl (or-none (eqH o p) (λ d. n (subst (λ x. T (eqH p x)) (sym (eqH-is o p d)) (self-H p))))
-      λ d. never (passes _ _ (passes _ _ (passes _ _ (found _ _ q.e2) (no (eqH p o || false) (or-none (eqH p o) n))) t) d)))
-      (λ m. inl (solves K (hvar p ε) (hvar o ε) (hv p) refl (or-none (eqH p o) n) m)))
+      inr (solves K (hvar o ε) (hvar p ε) (hv o) refl (or-none (eq_h o p) (λ d. n (subst (λ x. T (eq_h p x)) (sym (eq_h-is o p d)) (self-H p))))
+      λ d. never (passes _ _ (passes _ _ (passes _ _ (found _ _ q.e2) (no (eq_h p o || false) (or-none (eq_h p o) n))) t) d)))
+      (λ m. inl (solves K (hvar p ε) (hvar o ε) (hv p) refl (or-none (eq_h p o) n) m)))
     where
-      self-H : (p : HedgeVar) → T (eqH p p)
-      self-H p = eqV-self (hv p)
+      self-H : (p : HedgeVar) → T (eq_h p p)
+      self-H p = eq_v-self (hv p)
 
   run-any : (p : HedgeVar) (r : Hedge) → T (last r) → QuietEqn σ K (hvar p ε) r → Either K (hvar p ε) r
   run-any p ε t q = run-term p ε (λ z. z) refl q
@@ -89,16 +89,16 @@ module _ (σ : Signature) (ordered : σ.unordered ≡ 0) (K : Conj) where
 
   term-term : (x y : TermVar) → QuietEqn σ K (tvar x ε) (tvar y ε) → Either K (tvar x ε) (tvar y ε)
   term-term x y q =
-      dec (eqT x y)
-      (λ t. absurd (never (passes _ _ q.r1 (and_both (eqT x y) true t tt))))
+      dec (eq_t x y)
+      (λ t. absurd (never (passes _ _ q.r1 (and_both (eq_t x y) true t tt))))
       (λ n.
-      dec (inConj (tv x) K)
+      dec (in_conj (tv x) K)
       (λ t.
-      inr (solves K (tvar y ε) (tvar x ε) (tv y) refl (or-none (eqT y x) (λ d. n (subst (λ z. T (eqT x z)) (sym (eqT-is y x d)) (eqV-self (tv x)))))
-      λ d. never (passes _ _ (passes _ _ (passes _ _ (found _ _ (found _ _ q.e1)) (no (eqT x y || false) (or-none (eqT x y) n))) t) d)))
-      (λ m. inl (solves K (tvar x ε) (tvar y ε) (tv x) refl (or-none (eqT x y) n) m)))
+      inr (solves K (tvar y ε) (tvar x ε) (tv y) refl (or-none (eq_t y x) (λ d. n (subst (λ z. T (eq_t x z)) (sym (eq_t-is y x d)) (eq_v-self (tv x)))))
+      λ d. never (passes _ _ (passes _ _ (passes _ _ (found _ _ (found _ _ q.e1)) (no (eq_t x y || false) (or-none (eq_t x y) n))) t) d)))
+      (λ m. inl (solves K (tvar x ε) (tvar y ε) (tv x) refl (or-none (eq_t x y) n) m)))
 
-  no-functor : (x : TermVar) (f : Functor) → inFunctor (tv x) f ≡ false
+  no-functor : (x : TermVar) (f : Functor) → in_functor (tv x) f ≡ false
   no-functor x (symbol f) = refl
   no-functor x (fvar X) = refl
 
@@ -112,7 +112,7 @@ module _ (σ : Signature) (ordered : σ.unordered ≡ 0) (K : Conj) where
 
   -- ---- two functors
 
-  keeps : (f : Functor) → T (keepsOrder σ f)
+  keeps : (f : Functor) → T (keeps_order σ f)
   keeps (symbol f) = subst T (sym (ap not (none-unordered σ ordered f))) tt
   keeps (fvar X) = subst T (sym (ap not (any-unordered-none σ ordered))) tt
 
@@ -130,18 +130,18 @@ module _ (σ : Signature) (ordered : σ.unordered ≡ 0) (K : Conj) where
   name-symbol X g q = inl (solves K (node (fvar X) ε ε) (node (symbol g) ε ε) (fv X) refl (λ t. t)
       λ t. never (passes _ _ (passes _ _ (passes _ _ (passes _ _ (passes _ _ (found _ _ (found _ _ (found _ _ q.e5))) tt) tt) tt) t) tt))
 
-  name-name : (X Y : FunVar) → ¬ T (eqX X Y) → QuietEqn σ K (node (fvar X) ε ε) (node (fvar Y) ε ε) → Either K (node (fvar X) ε ε) (node (fvar Y) ε ε)
+  name-name : (X Y : FunVar) → ¬ T (eq_x X Y) → QuietEqn σ K (node (fvar X) ε ε) (node (fvar Y) ε ε) → Either K (node (fvar X) ε ε) (node (fvar Y) ε ε)
   name-name X Y n q =
-      dec (inConj (fv X) K)
+      dec (in_conj (fv X) K)
       (λ t.
       inr (solves K (node (fvar Y) ε ε) (node (fvar X) ε ε) (fv Y) refl
-      (λ d. n (subst (λ z. T (eqX X z)) (sym (eqX-is Y X (or-of (eqX Y X) (or-of (eqX Y X || false) d)))) (eqV-self (fv X))))
-      λ d. never (passes _ _ (passes _ _ (passes _ _ (passes _ _ (passes _ _ (found _ _ (found _ _ (found _ _ q.e5))) tt) tt) (no (eqX X Y) n)) t) d)))
-      (λ m. inl (solves K (node (fvar X) ε ε) (node (fvar Y) ε ε) (fv X) refl (λ d. n (or-of (eqX X Y) (or-of (eqX X Y || false) d))) m))
+      (λ d. n (subst (λ z. T (eq_x X z)) (sym (eq_x-is Y X (or-of (eq_x Y X) (or-of (eq_x Y X || false) d)))) (eq_v-self (fv X))))
+      λ d. never (passes _ _ (passes _ _ (passes _ _ (passes _ _ (passes _ _ (found _ _ (found _ _ (found _ _ q.e5))) tt) tt) (no (eq_x X Y) n)) t) d)))
+      (λ m. inl (solves K (node (fvar X) ε ε) (node (fvar Y) ε ε) (fv X) refl (λ d. n (or-of (eq_x X Y) (or-of (eq_x X Y || false) d))) m))
 
   node-node : (f g : Functor) (c d : Hedge) → QuietEqn σ K (node f c ε) (node g d ε) → QuietEqn σ K (node g d ε) (node f c ε) → Either K (node f c ε) (node g d ε)
   node-node (symbol f) (symbol g) c d q q' =
-      absurd (never (passes _ _ (found _ _ (found _ _ (found _ _ (found _ _ q.f3)))) (no (eqS f g) (differ (symbol f) (symbol g) c d q))))
+      absurd (never (passes _ _ (found _ _ (found _ _ (found _ _ (found _ _ q.f3)))) (no (eq_s f g) (differ (symbol f) (symbol g) c d q))))
   node-node (fvar X) (symbol g) c d q q' =
       let (a, b) = no-children X (symbol g) c d (λ t. t) q in rw (a, b) (name-symbol X g (rw (a, b) at q))
   node-node (symbol f) (fvar Y) c d q q' =
@@ -186,17 +186,17 @@ or-else none k (inr t) = t
 or-else (some a) k o = tt
 
 module _ (σ : Signature) (ordered : σ.unordered ≡ 0) where
-  solved-from : (before behind : Conj) → T (lastRuns behind) → step σ (before ++ behind) ≡ nothing → T (solvedFrom before behind)
+  solved-from : (before behind : Conj) → T (last_runs behind) → step σ (before ++ behind) ≡ nothing → T (solved_from before behind)
   solved-from before [] t e = tt
   solved-from before (eqn l r ∷ behind) t e =
-      let (a, b) = and_parts (last l && last r) (lastRuns behind) t in
+      let (a, b) = and_parts (last l && last r) (last_runs behind) t in
       let (c, d) = and_parts (last l) (last r) a in
       let (q, q') = quiet-eqn σ (before ++ behind) l r (at_literal σ before behind (eqn l r) e) in
-      and_both (solvedLiteral (before ++ behind) (eqn l r)) (solvedFrom (before ++ (eqn l r ∷ [])) behind)
+      and_both (solved_literal (before ++ behind) (eqn l r)) (solved_from (before ++ (eqn l r ∷ [])) behind)
       (or-else (alone (before ++ behind) r (variable l r)) (λ _. alone (before ++ behind) l (variable r l)) (either σ ordered (before ++ behind) l r c d q q'))
       (solved-from (before ++ (eqn l r ∷ [])) behind b (rw append_assoc e))
   solved-from before (mem h R ∷ behind) t e = absurd t
 
-  pub last-solved : (k : Conj) → T (lastRuns k) → step σ k ≡ nothing → solved k ≡ true
+  pub last-solved : (k : Conj) → T (last_runs k) → step σ k ≡ nothing → solved k ≡ true
   unfolding solved
-  last-solved k t e = (test-true (solvedFrom [] k)).0 (solved-from [] k t e)
+  last-solved k t e = (test-true (solved_from [] k)).0 (solved-from [] k t e)

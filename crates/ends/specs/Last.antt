@@ -10,10 +10,10 @@ last (hvar p r) = empty r
 last (node f c r) = last c && last r
 
 -- an equation of such sides; no membership is
-abbrev pub lastLiteral : Literal → Bool
-lastLiteral (eqn l r) = last l && last r
-lastLiteral (mem h R) = false
+abbrev pub last_literal : Literal → Bool
+last_literal (eqn l r) = last l && last r
+last_literal (mem h R) = false
 
-abbrev pub lastRuns : Conj → Bool
-lastRuns [] = true
-lastRuns (l ∷ k) = lastLiteral l && lastRuns k
+abbrev pub last_runs : Conj → Bool
+last_runs [] = true
+last_runs (l ∷ k) = last_literal l && last_runs k

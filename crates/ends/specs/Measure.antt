@@ -1,7 +1,7 @@
 -- What falls with every step: how many variables are not settled, then the weight of the memberships' hedges, then that of expressions and equations.
 use Rattle.std.specs.Prelude.{ℕ, zero, suc, ◌+◌, ◌≤◌, ◌<◌, ◌⊎◌, Bool, true, false, ◌&&◌, not, List, [], ◌∷◌, eqb}
 use Rattle.std.proofs.Math.Option.{Option, none, some}
-use Rattle.language.specs.Trees.{Functor, symbol, fvar, Hedge, ε, tvar, hvar, node, Expr, eps, cat, alt, star, over, Literal, eqn, mem, Conj, Var, tv, hv, fv, eqV}
+use Rattle.language.specs.Trees.{Functor, symbol, fvar, Hedge, ε, tvar, hvar, node, Expr, eps, cat, alt, star, over, Literal, eqn, mem, Conj, Var, tv, hv, fv, eq_v}
 use Rattle.rules.specs.Solved.{variable}
 
 abbrev pub one : Bool → ℕ
@@ -11,40 +11,40 @@ one false = 0
 -- ---- where a variable stands
 
 -- how often it stands in a hedge, in both sides of equations, in the left sides of memberships
-abbrev pub occF : Var → Functor → ℕ
-occF v (symbol f) = 0
-occF v (fvar X) = one (eqV v (fv X))
+abbrev pub occ_f : Var → Functor → ℕ
+occ_f v (symbol f) = 0
+occ_f v (fvar X) = one (eq_v v (fv X))
 
 abbrev pub occ : Var → Hedge → ℕ
 occ v ε = 0
-occ v (tvar x r) = one (eqV v (tv x)) + occ v r
-occ v (hvar p r) = one (eqV v (hv p)) + occ v r
-occ v (node f c r) = occF v f + (occ v c + occ v r)
+occ v (tvar x r) = one (eq_v v (tv x)) + occ v r
+occ v (hvar p r) = one (eq_v v (hv p)) + occ v r
+occ v (node f c r) = occ_f v f + (occ v c + occ v r)
 
-abbrev pub occL : Var → Literal → ℕ
-occL v (eqn l r) = occ v l + occ v r
-occL v (mem h R) = occ v h
+abbrev pub occ_l : Var → Literal → ℕ
+occ_l v (eqn l r) = occ v l + occ v r
+occ_l v (mem h R) = occ v h
 
-abbrev pub occC : Var → Conj → ℕ
-occC v [] = 0
-occC v (l ∷ k) = occL v l + occC v k
+abbrev pub occ_c : Var → Conj → ℕ
+occ_c v [] = 0
+occ_c v (l ∷ k) = occ_l v l + occ_c v k
 
 -- how many sides of equations it is, alone, against what a solved variable can stand against
 abbrev pub is : Var → Option Var → ℕ
 is v none = 0
-is v (some w) = one (eqV v w)
+is v (some w) = one (eq_v v w)
 
 abbrev pub own : Var → Literal → ℕ
 own v (eqn l r) = is v (variable l r) + is v (variable r l)
 own v (mem h R) = 0
 
-abbrev pub ownC : Var → Conj → ℕ
-ownC v [] = 0
-ownC v (l ∷ k) = own v l + ownC v k
+abbrev pub own_c : Var → Conj → ℕ
+own_c v [] = 0
+own_c v (l ∷ k) = own v l + own_c v k
 
 -- it stands once, and there it is a side of an equation, alone
 abbrev pub settled : Conj → Var → Bool
-settled k v = eqb (occC v k) 1 && eqb (ownC v k) 1
+settled k v = eqb (occ_c v k) 1 && eqb (own_c v k) 1
 
 -- how many of these are not settled
 abbrev pub unsettled : List Var → Conj → ℕ
@@ -78,22 +78,22 @@ odd' zero = 1
 odd' (suc n) = suc (n + n)
 
 -- the memberships' hedges
-abbrev pub hedgesL : Literal → ℕ
-hedgesL (eqn l r) = 0
-hedgesL (mem h R) = odd (places h)
+abbrev pub hedges_l : Literal → ℕ
+hedges_l (eqn l r) = 0
+hedges_l (mem h R) = odd (places h)
 
 abbrev pub hedges : Conj → ℕ
 hedges [] = 0
-hedges (l ∷ k) = hedgesL l + hedges k
+hedges (l ∷ k) = hedges_l l + hedges k
 
 -- the memberships' expressions, and the equations
-abbrev pub restL : Literal → ℕ
-restL (eqn l r) = odd' (places l + places r)
-restL (mem h R) = constructors R
+abbrev pub rest_l : Literal → ℕ
+rest_l (eqn l r) = odd' (places l + places r)
+rest_l (mem h R) = constructors R
 
 abbrev pub rest : Conj → ℕ
 rest [] = 0
-rest (l ∷ k) = restL l + rest k
+rest (l ∷ k) = rest_l l + rest k
 
 -- ---- less
 

@@ -4,15 +4,15 @@ use Rattle.language.specs.declared.Signature.{Signature}
 use Rattle.language.specs.Trees.{Conj, Var}
 use Rattle.rules.specs.Reply.{Reply, nothing, results, stops}
 use Rattle.ends.specs.Measure.{unsettled, hedges, rest}
-use Rattle.ends.specs.Unlimited.{freeStep}
+use Rattle.ends.specs.Unlimited.{free_step}
 
 pub record Measured : Type 0 where
-  pub unsettledVariables : ℕ
-  pub hedgesWeight : ℕ
-  pub restWeight : ℕ
+  pub unsettled_variables : ℕ
+  pub hedges_weight : ℕ
+  pub rest_weight : ℕ
 
 abbrev pub measured : List Var → Conj → Measured
-measured vs k = record { unsettledVariables = unsettled vs k; hedgesWeight = hedges k; restWeight = rest k }
+measured vs k = record { unsettled_variables = unsettled vs k; hedges_weight = hedges k; rest_weight = rest k }
 
 abbrev pub onward : Reply (List Conj) → (Conj → List Measured) → List Measured
 onward nothing go = []
@@ -24,4 +24,4 @@ onward (results (k ∷ j ∷ ks)) go = []
 -- of the conjunction and of what becomes of it, so many at most
 abbrev pub measures : ℕ → Signature → List Var → Conj → List Measured
 measures zero σ vs k = []
-measures (suc n) σ vs k = measured vs k ∷ onward (freeStep σ k) (measures n σ vs)
+measures (suc n) σ vs k = measured vs k ∷ onward (free_step σ k) (measures n σ vs)

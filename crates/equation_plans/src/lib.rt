@@ -3,7 +3,7 @@
 ghost use Rattle.std.specs.Prelude.{◌≡◌};
 ghost use Rattle.language.specs.declared.Signature.{Signature};
 ghost use Rattle.rules.specs.Rules.{D1};
-ghost use Rattle.equation_recipes.specs.Recipes.{r1Plan, equated, del1Plan, struckOut, del2Plan, d0Plan, reordered, d1Plan, d2Plan};
+ghost use Rattle.equation_recipes.specs.Recipes.{r1_plan, equated, del1_plan, struck_out, del2_plan, d0_plan, reordered, d1_plan, d2_plan};
 ghost use Rattle.equation_recipes.specs.Planned.{Is, Planning, RuleApplies};
 
 use elimination_plans::plan_elimination;
@@ -17,7 +17,7 @@ use views::View;
 
 // The literal is removed.
 fn plan_r1(v: View) -> Plan
-    ensures { result ≡ r1Plan v }
+    ensures { result ≡ r1_plan v }
 {
     let none = Piece::Copy(0, 0);
     let first = few(
@@ -60,7 +60,7 @@ fn equate(v: View, from: usize, to: usize, start: usize, end: usize) -> Plan
 
 // The hedge variable is struck from both sides.
 fn plan_del1(v: View) -> Plan
-    ensures { result ≡ del1Plan v }
+    ensures { result ≡ del1_plan v }
 {
     let l = v.l;
     let r = v.r;
@@ -69,7 +69,7 @@ fn plan_del1(v: View) -> Plan
 
 // Children are equal.
 fn plan_d0(k: &[u16], v: View) -> Plan
-    ensures { result ≡ d0Plan k.now v }
+    ensures { result ≡ d0_plan k.now v }
 {
     let l = v.l;
     let r = v.r;
@@ -80,7 +80,7 @@ fn plan_d0(k: &[u16], v: View) -> Plan
 
 // The element that stands at those places is struck from both sides.
 fn strike_out(v: View, s: Spots) -> Plan
-    ensures { result ≡ struckOut v s }
+    ensures { result ≡ struck_out v s }
 {
     let l = v.l;
     let r = v.r;
@@ -111,7 +111,7 @@ fn strike_out(v: View, s: Spots) -> Plan
 
 // The first element that the children share is struck.
 fn plan_del2(k: &[u16], v: View) -> Plan
-    ensures { result ≡ del2Plan k.now v }
+    ensures { result ≡ del2_plan k.now v }
 {
     let l = v.l;
     let r = v.r;
@@ -152,7 +152,7 @@ fn reorder(v: View, left: Within, right: Within, n: usize) -> Plan
 
 // The terms of T are counted.
 fn plan_d1(k: &[u16], v: View) -> Plan
-    ensures { (σ : Signature) → Is (D1 σ) k.now v (λ l r. d1Plan k.now v r) result }
+    ensures { (σ : Signature) → Is (D1 σ) k.now v (λ l r. d1_plan k.now v r) result }
 {
     let l = v.l;
     let r = v.r;
@@ -164,7 +164,7 @@ fn plan_d1(k: &[u16], v: View) -> Plan
 
 // t1 = t2, H1 = H2.
 fn plan_d2(v: View) -> Plan
-    ensures { result ≡ d2Plan v }
+    ensures { result ≡ d2_plan v }
 {
     let l = v.l;
     let r = v.r;

@@ -7,11 +7,11 @@ use lib.ListN.{length, drop, length-append}
 use lib.Seq.{slice}
 use Rattle.language.specs.Limits.{desk}
 use Rattle.language.specs.Trees.{Hedge, ε, tvar, hvar, node, ◌⧺◌}
-use Rattle.language.specs.Writing.{hedgeWords}
-use Rattle.language.specs.Fine.{fineHedge}
+use Rattle.language.specs.Writing.{hedge_words}
+use Rattle.language.specs.Fine.{fine_hedge}
 use Rattle.rules.specs.Looks.{cuts}
-use Rattle.views.specs.Looks.{head, tail, bodyWords}
-use Rattle.words.specs.Spans.{elementEnd, places}
+use Rattle.views.specs.Looks.{head, tail, body_words}
+use Rattle.words.specs.Spans.{element_end, places}
 use Rattle.views.specs.Views.{Sided}
 use Rattle.views.specs.declared.Side.{Side}
 use Rattle.views.specs.Standing.{Stands}
@@ -24,44 +24,44 @@ use Rattle.views.proofs.Spans.{element_place}
 
 -- (T, rest) stands from b to `to`; the cut of T into c.0 and c.1 is at the place i
 pub record Cut (k : List ℕ) (b to : ℕ) (rest : Hedge) (i : ℕ) (c : Hedge × Hedge) : Type 0 where
-  pub before : slice b i k ≡ bodyWords c.0
-  pub behind : slice i to k ≡ hedgeWords (c.1 ⧺ rest)
-  pub fineBefore : fineHedge desk c.0
-  pub fineBehind : fineHedge desk (c.1 ⧺ rest)
+  pub before : slice b i k ≡ body_words c.0
+  pub behind : slice i to k ≡ hedge_words (c.1 ⧺ rest)
+  pub fine_before : fine_hedge desk c.0
+  pub fine_behind : fine_hedge desk (c.1 ⧺ rest)
 
 -- from b on stand (done, g), and i is the place between the two
 record Seam (k : List ℕ) (b to : ℕ) (beyond : List ℕ) (i : ℕ) (done g : Hedge) : Type 0 where
-  pub fineDone : fineHedge desk done
-  pub fine : fineHedge desk g
-  pub start : drop b k ≡ bodyWords done ++ (hedgeWords g ++ beyond)
-  pub place : i ≡ b + length (bodyWords done)
-  pub end : to ≡ i + length (hedgeWords g)
+  pub fine_done : fine_hedge desk done
+  pub fine : fine_hedge desk g
+  pub start : drop b k ≡ body_words done ++ (hedge_words g ++ beyond)
+  pub place : i ≡ b + length (body_words done)
+  pub end : to ≡ i + length (hedge_words g)
 
 module _ {k : List ℕ} {b to : ℕ} {beyond : List ℕ} {i : ℕ} {done g : Hedge} (s : Seam k b to beyond i done g) where
-  seam-here : drop i k ≡ hedgeWords g ++ beyond
-  seam-here = drop_of k b i (bodyWords done) (hedgeWords g ++ beyond) s.start s.place
+  seam-here : drop i k ≡ hedge_words g ++ beyond
+  seam-here = drop_of k b i (body_words done) (hedge_words g ++ beyond) s.start s.place
 
-  seam-next : Seam k b to beyond (elementEnd k i) (done ⧺ head g) (tail g)
+  seam-next : Seam k b to beyond (element_end k i) (done ⧺ head g) (tail g)
   seam-next =
       let e = element_place k i g beyond s.fine seam-here in
-      let l = ap length (body-join done (head g)) ∙ length-append (bodyWords done) (bodyWords (head g)) in
-      let m = ap length (words-split g) ∙ length-append (bodyWords (head g)) (hedgeWords (tail g)) in
+      let l = ap length (body-join done (head g)) ∙ length-append (body_words done) (body_words (head g)) in
+      let m = ap length (words-split g) ∙ length-append (body_words (head g)) (hedge_words (tail g)) in
       let p = s.place in
       let q = s.end in
       record {
-        fineDone = fine-join done (head g) s.fineDone (fine-head g s.fine);
+        fine_done = fine-join done (head g) s.fine_done (fine-head g s.fine);
         fine = fine-tail g s.fine;
-        start = s.start ∙ ap (λ w. bodyWords done ++ (w ++ beyond)) (words-split g) ∙ simp (body-join, append_assoc);
+        start = s.start ∙ ap (λ w. body_words done ++ (w ++ beyond)) (words-split g) ∙ simp (body-join, append_assoc);
         place = omega arith;
         end = omega arith;
       }
 
 seam-cut : {k : List ℕ} {b to : ℕ} {beyond : List ℕ} {i : ℕ} {done : Hedge} (h rest : Hedge) → Seam k b to beyond i done (h ⧺ rest) → Cut k b to rest i (done, h)
 seam-cut {k} {b} {to} {beyond} {i} {done} h rest s = record {
-  before = part_of k b i (bodyWords done) (hedgeWords (h ⧺ rest) ++ beyond) s.start s.place;
-  behind = part_of k i to (hedgeWords (h ⧺ rest)) beyond (seam-here s) s.end;
-  fineBefore = s.fineDone;
-  fineBehind = s.fine;
+  before = part_of k b i (body_words done) (hedge_words (h ⧺ rest) ++ beyond) s.start s.place;
+  behind = part_of k i to (hedge_words (h ⧺ rest)) beyond (seam-here s) s.end;
+  fine_before = s.fine_done;
+  fine_behind = s.fine;
 }
 
 -- ---- all cuts
@@ -84,18 +84,18 @@ module _ {A : Type 0} (k : List ℕ) (b to : ℕ) (rest : Hedge) (beyond : List 
   from : (h done : Hedge) (i : ℕ) → Seam k b to beyond i done (h ⧺ rest) → map at (places (suc (size h)) k i) ≡ map (λ (c : Hedge × Hedge). of (done ⧺ c.0, c.1)) (cuts h)
   unfolding places
   from ε done i s = ap (λ a. a ∷ []) (fit i (done, ε) (seam-cut ε rest s) ∙ ap (λ d. of (d, ε)) (sym (join-nil done)))
-  from (tvar x r) done i s = one_more done (tvar x ε) r (tvar x r) i (elementEnd k i) s (from r (done ⧺ tvar x ε) (elementEnd k i) (seam-next s))
-  from (hvar p r) done i s = one_more done (hvar p ε) r (hvar p r) i (elementEnd k i) s (from r (done ⧺ hvar p ε) (elementEnd k i) (seam-next s))
-  from (node f c r) done i s = one_more done (node f c ε) r (node f c r) i (elementEnd k i) s (from r (done ⧺ node f c ε) (elementEnd k i) (seam-next s))
+  from (tvar x r) done i s = one_more done (tvar x ε) r (tvar x r) i (element_end k i) s (from r (done ⧺ tvar x ε) (element_end k i) (seam-next s))
+  from (hvar p r) done i s = one_more done (hvar p ε) r (hvar p r) i (element_end k i) s (from r (done ⧺ hvar p ε) (element_end k i) (seam-next s))
+  from (node f c r) done i s = one_more done (node f c ε) r (node f c r) i (element_end k i) s (from r (done ⧺ node f c ε) (element_end k i) (seam-next s))
 
   -- what is made at each place is what is made of each cut
-  pub cuts-places : (T : Hedge) → Stands k b (T ⧺ rest) beyond → to ≡ b + length (hedgeWords (T ⧺ rest)) → map at (places (suc (size T)) k b) ≡ map of (cuts T)
-  cuts-places T s e = from T ε b (record { fineDone = tt; fine = s.fine; start = s.here; place = omega arith; end = e })
+  pub cuts-places : (T : Hedge) → Stands k b (T ⧺ rest) beyond → to ≡ b + length (hedge_words (T ⧺ rest)) → map at (places (suc (size T)) k b) ≡ map of (cuts T)
+  cuts-places T s e = from T ε b (record { fine_done = tt; fine = s.fine; start = s.here; place = omega arith; end = e })
 
 -- the same of a side whose hedge is (T, rest)
 pub side-cuts : {A : Type 0} {k : List ℕ} {s : Side} {h : Hedge} → Sided k s h → (T rest : Hedge) → h ≡ T ⧺ rest → (at : ℕ → A) (of : Hedge × Hedge → A) → ((i : ℕ) (c : Hedge × Hedge) → Cut k s.from s.to rest i c → at i ≡ of c)
     → map at (places (suc (size T)) k s.from) ≡ map of (cuts T)
 side-cuts {A} {k} {s} {h} v T rest e at of fit =
     cuts-places k s.from s.to rest v.beyond at of fit T
-    (record { fine = rw e at v.fine; here = v.here ∙ ap (λ g. hedgeWords g ++ v.beyond) e })
-    (v.to ∙ ap (λ g. s.from + length (hedgeWords g)) e)
+    (record { fine = rw e at v.fine; here = v.here ∙ ap (λ g. hedge_words g ++ v.beyond) e })
+    (v.to ∙ ap (λ g. s.from + length (hedge_words g)) e)

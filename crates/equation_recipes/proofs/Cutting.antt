@@ -8,20 +8,20 @@ use lib.ListN.{length, length-drop, length-append}
 use Rattle.language.specs.declared.HedgeVar.{HedgeVar}
 use Rattle.language.specs.Limits.{desk}
 use Rattle.language.specs.Trees.{Hedge, ε, hvar, eqn, Conj, ◌⧺◌}
-use Rattle.language.specs.Writing.{hedgeWords, conjWords}
-use Rattle.language.specs.Fine.{fineHedge}
-use Rattle.rules.specs.Looks.{firstRun, loneH, allTerms, up_to, inside, cuts}
-use Rattle.rules.specs.Rules.{plain, cutResult, Del3, E3, E4}
+use Rattle.language.specs.Writing.{hedge_words, conj_words}
+use Rattle.language.specs.Fine.{fine_hedge}
+use Rattle.rules.specs.Looks.{first_run, lone_h, all_terms, up_to, inside, cuts}
+use Rattle.rules.specs.Rules.{plain, cut_result, Del3, E3, E4}
 use Rattle.rules.specs.Step.{place}
 use Rattle.rules.proofs.Tests.{test-true}
 use Rattle.rules.proofs.Answers.{look, test, answers}
-use Rattle.rules.proofs.Looks.{firstRun-is, loneH-is}
+use Rattle.rules.proofs.Looks.{first_run-is, lone_h-is}
 use Rattle.plans.specs.declared.Recipe.{Recipe}
 use Rattle.views.specs.declared.View.{View}
-use Rattle.views.specs.Looks.{head, tail, bodyWords}
+use Rattle.views.specs.Looks.{head, tail, body_words}
 use Rattle.views.specs.Views.{Sided, Sees}
-use Rattle.plans.specs.Results.{made, numbered, resultsOf}
-use Rattle.plans.specs.Sizes.{placedWords}
+use Rattle.plans.specs.Results.{made, numbered, results_of}
+use Rattle.plans.specs.Sizes.{placed_words}
 use Rattle.finds.specs.declared.Terms.{Terms}
 use Rattle.finds.specs.declared.Found.{Found}
 use Rattle.finds.specs.declared.Spot.{Spot}
@@ -31,103 +31,103 @@ use Rattle.views.proofs.Words.{words-body, words-join, words_append, join-nil}
 use Rattle.views.proofs.Sides.{side-stands, side-head, side-tail, sees-before, sees-behind}
 use Rattle.plans.proofs.Places.{forth-within}
 use Rattle.equation_recipes.proofs.Cuts.{Cut, side-cuts}
-use Rattle.equation_recipes.proofs.Joins.{upTo-whole, inside-whole, inside-before, inside-behind}
+use Rattle.equation_recipes.proofs.Joins.{up_to-whole, inside-whole, inside-before, inside-behind}
 use Rattle.plans.proofs.Planned.{answered, planned, it-found, one-result}
 use Rattle.plans.proofs.Replaced.{acts-hedge, put-conj, put-hedge}
-use Rattle.equation_recipes.specs.Recipes.{cutPlan, e3Plan, e4Plan, del3Plan, ahead, termsAhead, hedgeAhead, spot_of}
+use Rattle.equation_recipes.specs.Recipes.{cut_plan, e3_plan, e4_plan, del3_plan, ahead, terms_ahead, hedge_ahead, spot_of}
 use Rattle.equation_recipes.specs.Planned.{Is}
 use Rattle.equation_recipes.proofs.Plain.{Makes}
 
 -- ---- p = T1, H = (T2, rest) for a cut
 
-abbrev pub cutRecipe : View → Recipe
-cutRecipe v = (cutPlan v 0).first
+abbrev pub cut_recipe : View → Recipe
+cut_recipe v = (cut_plan v 0).first
 
 module _ {k : List ℕ} {v : View} {before behind : Conj} {l r : Hedge} (w : Sees k v before l r behind) (p : HedgeVar) (h rest : Hedge) (e : l ≡ hvar p h) where
-  cut-words : (i : ℕ) (c : Hedge × Hedge) → Cut k v.r.from v.r.to rest i c → made k (cutRecipe v) i ≡ conjWords (place before behind (cutResult p h rest c))
+  cut-words : (i : ℕ) (c : Hedge × Hedge) → Cut k v.r.from v.r.to rest i c → made k (cut_recipe v) i ≡ conj_words (place before behind (cut_result p h rest c))
   unfolding numbered
   cut-words i c t =
-      let fine = subst (fineHedge desk) e w.left.fine in
+      let fine = subst (fine_hedge desk) e w.left.fine in
       let a = acts-hedge p c.0 fine.0 in
-      let eu = side-head w.left ∙ ap (λ (h : Hedge). bodyWords (head h)) e in
-      let x = put-conj a k (cutRecipe v) i eu t.before 0 v.at before w.fineBefore (sees-before w) in
-      let y = put-conj a k (cutRecipe v) i eu t.before v.end v.len behind w.fineBehind (sees-behind w) in
-      let z = put-hedge a k (cutRecipe v) i eu t.before v.l.rest v.l.to h fine.1 (side-tail w.left ∙ ap (λ (h : Hedge). hedgeWords (tail h)) e) in
-      let u = put-hedge a k (cutRecipe v) i eu t.before i v.r.to (c.1 ⧺ rest) t.fineBehind t.behind in
+      let eu = side-head w.left ∙ ap (λ (h : Hedge). body_words (head h)) e in
+      let x = put-conj a k (cut_recipe v) i eu t.before 0 v.at before w.fine_before (sees-before w) in
+      let y = put-conj a k (cut_recipe v) i eu t.before v.end v.len behind w.fine_behind (sees-behind w) in
+      let z = put-hedge a k (cut_recipe v) i eu t.before v.l.rest v.l.to h fine.1 (side-tail w.left ∙ ap (λ (h : Hedge). hedge_words (tail h)) e) in
+      let u = put-hedge a k (cut_recipe v) i eu t.before i v.r.to (c.1 ⧺ rest) t.fine_behind t.behind in
       simp (x, y, z, u, eu, t.before, words_append, words-body c.0, append_assoc, append-nil)
 
-  cut-results : (T : Hedge) → r ≡ T ⧺ rest → resultsOf k (cutPlan v (suc (size T))) ≡ placedWords before behind (map (cutResult p h rest) (cuts T))
-  unfolding resultsOf placedWords
+  cut-results : (T : Hedge) → r ≡ T ⧺ rest → results_of k (cut_plan v (suc (size T))) ≡ placed_words before behind (map (cut_result p h rest) (cuts T))
+  unfolding results_of placed_words
   cut-results T d =
-      side-cuts w.right T rest d (made k (cutRecipe v)) (λ c. conjWords (place before behind (cutResult p h rest c))) cut-words
-      ∙ sym (map-map (λ b. conjWords (place before behind b)) (cutResult p h rest) (cuts T))
+      side-cuts w.right T rest d (made k (cut_recipe v)) (λ c. conj_words (place before behind (cut_result p h rest c))) cut-words
+      ∙ sym (map-map (λ b. conj_words (place before behind b)) (cut_result p h rest) (cuts T))
 
 -- ---- E3
 
-pub e3-plans : (k : List ℕ) (v : View) → Makes E3 k v (λ l r. e3Plan v r)
+pub e3-plans : (k : List ℕ) (v : View) → Makes E3 k v (λ l r. e3_plan v r)
 e3-plans k v before behind l r w = planned
-    (look (firstRun l) (firstRun-is l) λ a p. test _ λ _ _. test _ λ _ _. test _ λ _ _. answers (cut-results w a.0 a.1 ε p r (sym (join-nil r))))
+    (look (first_run l) (first_run-is l) λ a p. test _ λ _ _. test _ λ _ _. test _ λ _ _. answers (cut-results w a.0 a.1 ε p r (sym (join-nil r))))
 
 -- the terms that are counted are those of the side
-pub e3-is : (k : List ℕ) (v : View) (t : Terms) → ((h : Hedge) (beyond : List ℕ) → Stands k v.r.from h beyond → Counted t h) → Is E3 k v (λ l r. e3Plan v r) (cutPlan v (t.count + 1))
-e3-is k v t count l r a = answered (λ _. cutPlan v (t.count + 1) ≡ e3Plan v r)
-    (look (firstRun l) (firstRun-is l) λ _ _. test _ λ _ _. test _ λ _ all. test _ λ _ _.
+pub e3-is : (k : List ℕ) (v : View) (t : Terms) → ((h : Hedge) (beyond : List ℕ) → Stands k v.r.from h beyond → Counted t h) → Is E3 k v (λ l r. e3_plan v r) (cut_plan v (t.count + 1))
+e3-is k v t count l r a = answered (λ _. cut_plan v (t.count + 1) ≡ e3_plan v r)
+    (look (first_run l) (first_run-is l) λ _ _. test _ λ _ _. test _ λ _ all. test _ λ _ _.
     answers
     (let m = count r _ (side-stands a.seen.right) in
-    let q = m.count (m.all ∙ (test-true (allTerms r)).0 all) in
-    let n : t.count + 1 ≡ suc (size r) = omega arith in ap (cutPlan v) n))
+    let q = m.count (m.all ∙ (test-true (all_terms r)).0 all) in
+    let n : t.count + 1 ≡ suc (size r) = omega arith in ap (cut_plan v) n))
     a.results a.answer
 
 -- ---- E4
 
 -- what is found in a side that begins with p
-terms-ahead : (p : HedgeVar) {h l : Hedge} (r : Hedge) {b : Hedge × Hedge} → l ≡ hvar p h → up_to p r ≡ some b → termsAhead l r ≡ b.0
-terms-ahead p r e f = ap (λ (m : Hedge). termsAhead m r) e ∙ ap ahead f
+terms-ahead : (p : HedgeVar) {h l : Hedge} (r : Hedge) {b : Hedge × Hedge} → l ≡ hvar p h → up_to p r ≡ some b → terms_ahead l r ≡ b.0
+terms-ahead p r e f = ap (λ (m : Hedge). terms_ahead m r) e ∙ ap ahead f
 
-pub e4-plans : (k : List ℕ) (v : View) → Makes E4 k v (e4Plan v)
+pub e4-plans : (k : List ℕ) (v : View) → Makes E4 k v (e4_plan v)
 e4-plans k v before behind l r w = planned
-    (look (firstRun l) (firstRun-is l) λ a p. test _ λ _ _. look (up_to a.0 r) (it-found (up_to a.0 r)) λ b f.
+    (look (first_run l) (first_run-is l) λ a p. test _ λ _ _. look (up_to a.0 r) (it-found (up_to a.0 r)) λ b f.
     answers
-    (ap (λ (T : Hedge). resultsOf k (cutPlan v (suc (size T)))) (terms-ahead a.0 r p f)
-    ∙ cut-results w a.0 a.1 b.1 p b.0 (upTo-whole a.0 r b.0 b.1 f)))
+    (ap (λ (T : Hedge). results_of k (cut_plan v (suc (size T)))) (terms-ahead a.0 r p f)
+    ∙ cut-results w a.0 a.1 b.1 p b.0 (up_to-whole a.0 r b.0 b.1 f)))
 
-pub e4-is : (k : List ℕ) (v : View) (t : Found) → ((p : HedgeVar) (H h : Hedge) → Sided k v.l (hvar p H) → Sided k v.r h → Ahead p t h) → Is E4 k v (e4Plan v) (cutPlan v (t.count + 1))
-e4-is k v t found l r a = answered (λ _. cutPlan v (t.count + 1) ≡ e4Plan v l r)
-    (look (firstRun l) (firstRun-is l) λ b p. test _ λ _ _. look (up_to b.0 r) (it-found (up_to b.0 r)) λ c f.
+pub e4-is : (k : List ℕ) (v : View) (t : Found) → ((p : HedgeVar) (H h : Hedge) → Sided k v.l (hvar p H) → Sided k v.r h → Ahead p t h) → Is E4 k v (e4_plan v) (cut_plan v (t.count + 1))
+e4-is k v t found l r a = answered (λ _. cut_plan v (t.count + 1) ≡ e4_plan v l r)
+    (look (first_run l) (first_run-is l) λ b p. test _ λ _ _. look (up_to b.0 r) (it-found (up_to b.0 r)) λ c f.
     answers
     (let q = (found b.0 b.1 r (subst (Sided k v.l) p a.seen.left) a.seen.right).count c.0 c.1 f in
     let s = ap size (terms-ahead b.0 r p f) in
-    let n : t.count + 1 ≡ suc (size (termsAhead l r)) = omega arith in ap (cutPlan v) n))
+    let n : t.count + 1 ≡ suc (size (terms_ahead l r)) = omega arith in ap (cut_plan v) n))
     a.results a.answer
 
 -- ---- Del3
 
-hedge-ahead : (p : HedgeVar) {h l : Hedge} (r : Hedge) {b : Hedge × Hedge} → l ≡ hvar p h → inside p r ≡ some b → hedgeAhead l r ≡ b.0
-hedge-ahead p r e f = ap (λ (m : Hedge). hedgeAhead m r) e ∙ ap ahead f
+hedge-ahead : (p : HedgeVar) {h l : Hedge} (r : Hedge) {b : Hedge × Hedge} → l ≡ hvar p h → inside p r ≡ some b → hedge_ahead l r ≡ b.0
+hedge-ahead p r e f = ap (λ (m : Hedge). hedge_ahead m r) e ∙ ap ahead f
 
 -- p stands within the words
-spot-below : {k : List ℕ} {h : Hedge} (v : View) (s : Sided k v.r h) (p : HedgeVar) (a b : Hedge) → inside p h ≡ some (a, b) → (i : ℕ) → i ≡ v.r.from + length (bodyWords a) → i < length k
+spot-below : {k : List ℕ} {h : Hedge} (v : View) (s : Sided k v.r h) (p : HedgeVar) (a b : Hedge) → inside p h ≡ some (a, b) → (i : ℕ) → i ≡ v.r.from + length (body_words a) → i < length k
 spot-below {k} {h} v s p a b e i q =
-    let m = ap length (ap hedgeWords (inside-whole p h a b e) ∙ words-join a (hvar p b)) ∙ length-append (bodyWords a) ((2000 + p.0) ∷ hedgeWords b) in
-    omega (arith, ap length s.here, length-drop v.r.from k, length-append (hedgeWords h) s.beyond)
+    let m = ap length (ap hedge_words (inside-whole p h a b e) ∙ words-join a (hvar p b)) ∙ length-append (body_words a) ((2000 + p.0) ∷ hedge_words b) in
+    omega (arith, ap length s.here, length-drop v.r.from k, length-append (hedge_words h) s.beyond)
 
-pub del3-plans : (k : List ℕ) (v : View) → Makes Del3 k v (λ l r. del3Plan k v (spot_of v l r))
+pub del3-plans : (k : List ℕ) (v : View) → Makes Del3 k v (λ l r. del3_plan k v (spot_of v l r))
 unfolding numbered
 del3-plans k v before behind l r w = planned
-    (look (loneH l) (loneH-is l) λ p q. look (inside p r) (it-found (inside p r)) λ a f.
+    (look (lone_h l) (lone_h-is l) λ p q. look (inside p r) (it-found (inside p r)) λ a f.
     answers
-    (let i : spot_of v l r ≡ v.r.from + length (bodyWords a.0) = ap (λ (h : Hedge). v.r.from + length (bodyWords h)) (hedge-ahead p r q f) in
+    (let i : spot_of v l r ≡ v.r.from + length (body_words a.0) = ap (λ (h : Hedge). v.r.from + length (body_words h)) (hedge-ahead p r q f) in
     let x = inside-before p (side-stands w.right) w.right.to f i in
     let y = inside-behind p (side-stands w.right) w.right.to f i in
     let n = forth-within (length k) (spot_of v l r) (spot-below v w.right p a.0 a.1 f (spot_of v l r) i) in
-    one-result k before behind (del3Plan k v (spot_of v l r)).first (del3Plan k v (spot_of v l r)).first 0 (plain (eqn a.0 ε ∷ eqn a.1 ε ∷ []))
+    one-result k before behind (del3_plan k v (spot_of v l r)).first (del3_plan k v (spot_of v l r)).first 0 (plain (eqn a.0 ε ∷ eqn a.1 ε ∷ []))
     (simp (n, x, y, sees-before w, sees-behind w, words_append, words-body a.0, append_assoc, append-nil))))
 
 pub del3-is : (k : List ℕ) (v : View) (t : Spot) → ((p : HedgeVar) (h : Hedge) → Sided k v.l (hvar p ε) → Sided k v.r h → Spotted p v.r.from t h)
-    → Is Del3 k v (λ l r. del3Plan k v (spot_of v l r)) (del3Plan k v t.place)
-del3-is k v t spot l r a = answered (λ _. del3Plan k v t.place ≡ del3Plan k v (spot_of v l r))
-    (look (loneH l) (loneH-is l) λ p q. look (inside p r) (it-found (inside p r)) λ b f.
+    → Is Del3 k v (λ l r. del3_plan k v (spot_of v l r)) (del3_plan k v t.place)
+del3-is k v t spot l r a = answered (λ _. del3_plan k v t.place ≡ del3_plan k v (spot_of v l r))
+    (look (lone_h l) (lone_h-is l) λ p q. look (inside p r) (it-found (inside p r)) λ b f.
     answers
-    (ap (del3Plan k v)
-    ((spot p r (subst (Sided k v.l) q a.seen.left) a.seen.right).place b.0 b.1 f ∙ ap (λ (h : Hedge). v.r.from + length (bodyWords h)) (sym (hedge-ahead p r q f)))))
+    (ap (del3_plan k v)
+    ((spot p r (subst (Sided k v.l) q a.seen.left) a.seen.right).place b.0 b.1 f ∙ ap (λ (h : Hedge). v.r.from + length (body_words h)) (sym (hedge-ahead p r q f)))))
     a.results a.answer

@@ -12,9 +12,9 @@ use borrow.Author.Tests.{eqb-true}
 use Rattle.language.specs.declared.HedgeVar.{HedgeVar}
 use Rattle.language.specs.Kinds.{pick}
 use Rattle.language.specs.Trees.{Hedge, ε, tvar, hvar, node, ◌⧺◌, hv, holds}
-use Rattle.language.specs.Writing.{hedgeWords}
+use Rattle.language.specs.Writing.{hedge_words}
 use Rattle.rules.specs.Looks.{onto, around, inside, up_to}
-use Rattle.views.specs.Looks.{bodyWords}
+use Rattle.views.specs.Looks.{body_words}
 use Rattle.views.specs.Standing.{Stands}
 use Rattle.words.proofs.Parts.{part_of, drop_of}
 use Rattle.views.proofs.Words.{words-join}
@@ -38,13 +38,13 @@ joins-either glue h false a b m e j x y d = j x y d
 
 -- ---- the terms up to one that holds q
 
-pub upTo-whole : (q : HedgeVar) (h T rest : Hedge) → up_to q h ≡ some (T, rest) → h ≡ T ⧺ rest
-upTo-whole q ε = λ a b e. absurd (let y : ◌≡◌ {A = ℕ} 0 1 = cc in omega arith)
-upTo-whole q (tvar x r) = joins-onto (λ a b. a ⧺ b) (tvar x ε) r (up_to q r) (λ a b. refl) (upTo-whole q r)
-upTo-whole q (hvar p r) = λ a b e. absurd (let y : ◌≡◌ {A = ℕ} 0 1 = cc in omega arith)
-upTo-whole q (node f c r) =
+pub up_to-whole : (q : HedgeVar) (h T rest : Hedge) → up_to q h ≡ some (T, rest) → h ≡ T ⧺ rest
+up_to-whole q ε = λ a b e. absurd (let y : ◌≡◌ {A = ℕ} 0 1 = cc in omega arith)
+up_to-whole q (tvar x r) = joins-onto (λ a b. a ⧺ b) (tvar x ε) r (up_to q r) (λ a b. refl) (up_to-whole q r)
+up_to-whole q (hvar p r) = λ a b e. absurd (let y : ◌≡◌ {A = ℕ} 0 1 = cc in omega arith)
+up_to-whole q (node f c r) =
     joins-either (λ a b. a ⧺ b) (node f c r) (holds (hv q) c) ε (node f c r) (onto (node f c) (up_to q r)) (λ _. refl)
-    (joins-onto (λ a b. a ⧺ b) (node f c ε) r (up_to q r) (λ a b. refl) (upTo-whole q r))
+    (joins-onto (λ a b. a ⧺ b) (node f c ε) r (up_to q r) (λ a b. refl) (up_to-whole q r))
 
 -- ---- what stands around q
 
@@ -63,19 +63,19 @@ inside-whole q (hvar p r) = joins-onto (λ a b. a ⧺ hvar q b) (hvar p ε) r (a
 inside-whole q (node f c r) = joins-onto (λ a b. a ⧺ hvar q b) (node f c ε) r (around q r) (λ a b. refl) (around-whole q r)
 
 -- the words before q, and those behind it to the end of the hedge
-module _ {k : List ℕ} {at i to : ℕ} (q : HedgeVar) {h : Hedge} {beyond : List ℕ} (s : Stands k at h beyond) (t : to ≡ at + length (hedgeWords h)) {a b : Hedge} (e : inside q h ≡ some (a, b)) (p : i ≡ at + length (bodyWords a)) where
-  words : hedgeWords h ≡ bodyWords a ++ ((2000 + q.0) ∷ hedgeWords b)
-  words = ap hedgeWords (inside-whole q h a b e) ∙ words-join a (hvar q b)
+module _ {k : List ℕ} {at i to : ℕ} (q : HedgeVar) {h : Hedge} {beyond : List ℕ} (s : Stands k at h beyond) (t : to ≡ at + length (hedge_words h)) {a b : Hedge} (e : inside q h ≡ some (a, b)) (p : i ≡ at + length (body_words a)) where
+  words : hedge_words h ≡ body_words a ++ ((2000 + q.0) ∷ hedge_words b)
+  words = ap hedge_words (inside-whole q h a b e) ∙ words-join a (hvar q b)
 
-  here : drop at k ≡ bodyWords a ++ ((2000 + q.0) ∷ (hedgeWords b ++ beyond))
-  here = s.here ∙ ap (λ w. w ++ beyond) words ∙ append_assoc (bodyWords a) ((2000 + q.0) ∷ hedgeWords b) beyond
+  here : drop at k ≡ body_words a ++ ((2000 + q.0) ∷ (hedge_words b ++ beyond))
+  here = s.here ∙ ap (λ w. w ++ beyond) words ∙ append_assoc (body_words a) ((2000 + q.0) ∷ hedge_words b) beyond
 
-  pub inside-before : slice at i k ≡ bodyWords a
-  inside-before = part_of k at i (bodyWords a) ((2000 + q.0) ∷ (hedgeWords b ++ beyond)) here p
+  pub inside-before : slice at i k ≡ body_words a
+  inside-before = part_of k at i (body_words a) ((2000 + q.0) ∷ (hedge_words b ++ beyond)) here p
 
-  pub inside-behind : slice (i + 1) to k ≡ hedgeWords b
+  pub inside-behind : slice (i + 1) to k ≡ hedge_words b
   inside-behind =
-      let m = drop_of k at i (bodyWords a) ((2000 + q.0) ∷ (hedgeWords b ++ beyond)) here p in
-      let n = drop_of k i (i + 1) ((2000 + q.0) ∷ []) (hedgeWords b ++ beyond) m refl in
-      let l = ap length words ∙ length-append (bodyWords a) ((2000 + q.0) ∷ hedgeWords b) in
-      part_of k (i + 1) to (hedgeWords b) beyond n (omega arith)
+      let m = drop_of k at i (body_words a) ((2000 + q.0) ∷ (hedge_words b ++ beyond)) here p in
+      let n = drop_of k i (i + 1) ((2000 + q.0) ∷ []) (hedge_words b ++ beyond) m refl in
+      let l = ap length words ∙ length-append (body_words a) ((2000 + q.0) ∷ hedge_words b) in
+      part_of k (i + 1) to (hedge_words b) beyond n (omega arith)

@@ -5,9 +5,9 @@ use mathlib.Core.List.{List, [], ◌∷◌, ◌++◌, append_assoc, append-nil}
 use Rattle.language.specs.declared.Signature.{Signature}
 use Rattle.language.specs.Trees.{Hedge, ε, tvar, hvar, node, eqn, Conj}
 use Rattle.rules.specs.Rules.{plain, EqRule, R1, Del1, D2, D0}
-use Rattle.rules.specs.Looks.{firstTerm, firstRun, loneNode}
+use Rattle.rules.specs.Looks.{first_term, first_run, lone_node}
 use Rattle.rules.proofs.Answers.{Where, look, test, answers}
-use Rattle.rules.proofs.Looks.{loneNode-is}
+use Rattle.rules.proofs.Looks.{lone_node-is}
 use Rattle.plans.specs.declared.Plan.{Plan}
 use Rattle.views.specs.declared.View.{View}
 use Rattle.views.specs.Looks.{head, tail}
@@ -18,7 +18,7 @@ use Rattle.views.proofs.Sides.{side-head, side-tail, sees-before, sees-behind}
 use Rattle.plans.specs.Planned.{Planned}
 use Rattle.plans.proofs.Planned.{planned, one-result}
 use Rattle.plans.proofs.Sides.{side-children, side-forth}
-use Rattle.equation_recipes.specs.Recipes.{r1Plan, del1Plan, d2Plan, d0Plan}
+use Rattle.equation_recipes.specs.Recipes.{r1_plan, del1_plan, d2_plan, d0_plan}
 
 -- at every equation that the view shows, the plan makes what the rule answers
 abbrev pub Makes : EqRule → List ℕ → View → (Hedge → Hedge → Plan) → Type 0
@@ -26,38 +26,38 @@ Makes rule k v plan = (before behind : Conj) (l r : Hedge) → Sees k v before l
 
 -- ---- R1
 
-pub r1-plans : (k : List ℕ) (v : View) → Makes R1 k v (λ l r. r1Plan v)
+pub r1-plans : (k : List ℕ) (v : View) → Makes R1 k v (λ l r. r1_plan v)
 unfolding numbered
-r1-plans k v before behind l r w = planned (test _ λ _ _. answers (one-result k before behind (r1Plan v).first (r1Plan v).first 0 (plain []) (simp (sees-before w, sees-behind w, words_append, append-nil))))
+r1-plans k v before behind l r w = planned (test _ λ _ _. answers (one-result k before behind (r1_plan v).first (r1_plan v).first 0 (plain []) (simp (sees-before w, sees-behind w, words_append, append-nil))))
 
 -- ---- Del1
 
-tail-of-run : (h : Hedge) → Where (λ a. a.1 ≡ tail h) (firstRun h)
+tail-of-run : (h : Hedge) → Where (λ a. a.1 ≡ tail h) (first_run h)
 tail-of-run ε = tt
 tail-of-run (tvar x r) = tt
 tail-of-run (hvar p r) = refl
 tail-of-run (node f c r) = tt
 
-pub del1-plans : (k : List ℕ) (v : View) → Makes Del1 k v (λ l r. del1Plan v)
+pub del1-plans : (k : List ℕ) (v : View) → Makes Del1 k v (λ l r. del1_plan v)
 unfolding numbered
 del1-plans k v before behind l r w = planned
-    (look (firstRun l) (tail-of-run l) λ a p. look (firstRun r) (tail-of-run r) λ b q. test _ λ _ _.
-    answers (one-result k before behind (del1Plan v).first (del1Plan v).first 0 (plain (eqn a.1 b.1 ∷ []))
+    (look (first_run l) (tail-of-run l) λ a p. look (first_run r) (tail-of-run r) λ b q. test _ λ _ _.
+    answers (one-result k before behind (del1_plan v).first (del1_plan v).first 0 (plain (eqn a.1 b.1 ∷ []))
     (simp (p, q, sees-before w, sees-behind w, side-tail w.left, side-tail w.right, words_append, append_assoc, append-nil))))
 
 -- ---- D2
 
-parts-of-term : (h : Hedge) → Where (λ a. (a.0 ≡ head h) × (a.1 ≡ tail h)) (firstTerm h)
+parts-of-term : (h : Hedge) → Where (λ a. (a.0 ≡ head h) × (a.1 ≡ tail h)) (first_term h)
 parts-of-term ε = tt
 parts-of-term (tvar x r) = (refl, refl)
 parts-of-term (hvar p r) = tt
 parts-of-term (node f c r) = (refl, refl)
 
-pub d2-plans : (k : List ℕ) (v : View) → Makes D2 k v (λ l r. d2Plan v)
+pub d2-plans : (k : List ℕ) (v : View) → Makes D2 k v (λ l r. d2_plan v)
 unfolding numbered
 d2-plans k v before behind l r w = planned
-    (look (firstTerm l) (parts-of-term l) λ a p. look (firstTerm r) (parts-of-term r) λ b q. test _ λ _ _.
-    answers (one-result k before behind (d2Plan v).first (d2Plan v).first 0 (plain (eqn a.0 b.0 ∷ eqn a.1 b.1 ∷ []))
+    (look (first_term l) (parts-of-term l) λ a p. look (first_term r) (parts-of-term r) λ b q. test _ λ _ _.
+    answers (one-result k before behind (d2_plan v).first (d2_plan v).first 0 (plain (eqn a.0 b.0 ∷ eqn a.1 b.1 ∷ []))
     (simp (
       p.0,
       p.1,
@@ -78,9 +78,9 @@ d2-plans k v before behind l r w = planned
 
 -- ---- D0
 
-pub d0-plans : (σ : Signature) (k : List ℕ) (v : View) → Makes (D0 σ) k v (λ l r. d0Plan k v)
+pub d0-plans : (σ : Signature) (k : List ℕ) (v : View) → Makes (D0 σ) k v (λ l r. d0_plan k v)
 unfolding numbered
 d0-plans σ k v before behind l r w = planned
-    (look (loneNode l) (loneNode-is l) λ a p. look (loneNode r) (loneNode-is r) λ b q. test _ λ _ _. test _ λ _ _.
-    answers (one-result k before behind (d0Plan k v).first (d0Plan k v).first 0 (plain (eqn a.1 b.1 ∷ []))
+    (look (lone_node l) (lone_node-is l) λ a p. look (lone_node r) (lone_node-is r) λ b q. test _ λ _ _. test _ λ _ _.
+    answers (one-result k before behind (d0_plan k v).first (d0_plan k v).first 0 (plain (eqn a.1 b.1 ∷ []))
     (simp (side-forth w.left, side-forth w.right, sees-before w, sees-behind w, side-children a.0 a.1 w.left p, side-children b.0 b.1 w.right q, words_append, append_assoc, append-nil))))

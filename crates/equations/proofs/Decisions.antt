@@ -6,16 +6,16 @@ use mathlib.Core.Bool.{Bool, true, false, not, ◌&&◌, ◌||◌, and-true, and
 use mathlib.Core.Option.{Option, none, some}
 use Rattle.language.specs.declared.Signature.{Signature}
 use Rattle.language.specs.Kinds.{pick}
-use Rattle.language.specs.Trees.{symbol, fvar, Hedge, ε, tvar, hvar, node, Conj, isUnordered, anyUnordered, eqT, eqH, eqS, eqX, same_words, tv, hv, fv, holds, inConj}
+use Rattle.language.specs.Trees.{symbol, fvar, Hedge, ε, tvar, hvar, node, Conj, is_unordered, any_unordered, eq_t, eq_h, eq_s, eq_x, same_words, tv, hv, fv, holds, in_conj}
 use Rattle.language.specs.declared.HedgeVar.{HedgeVar}
-use Rattle.rules.specs.Looks.{empty, hasTerm, allTerms, under, onto, around, inside, up_to, lone}
+use Rattle.rules.specs.Looks.{empty, has_term, all_terms, under, onto, around, inside, up_to, lone}
 use Rattle.rules.specs.Elements.{struck}
 use Rattle.rules.specs.Rules.{◌>>=◌, too}
 use Rattle.rules.specs.Solved.{is_some}
-use Rattle.rules.specs.Places.{atR1, atF1, atF2, atF3, atDel1, atDel2, atDel3, atD1, atD2, atD0, atE1, atE2, atE3, atE4, atE5, atE6, atE7, noRule}
-use Rattle.rules.specs.Ranks.{eqnRank}
+use Rattle.rules.specs.Places.{at_r1, at_f1, at_f2, at_f3, at_del1, at_del2, at_del3, at_d1, at_d2, at_d0, at_e1, at_e2, at_e3, at_e4, at_e5, at_e6, at_e7, no_rule}
+use Rattle.rules.specs.Ranks.{eqn_rank}
 use Rattle.plans.proofs.Ranking.{check-on, lone-on, none-on, bind-on, pick-suc, pick-not}
-use Rattle.equations.specs.Rank.{runHere, rank_of}
+use Rattle.equations.specs.Rank.{run_here, rank_of}
 
 -- what stands inside is held
 onto-on : (q : Hedge → Hedge) (m : Option (Hedge × Hedge)) → is_some (onto q m) ≡ is_some m
@@ -41,14 +41,14 @@ or-held false b i e = e
 around-held : (p : HedgeVar) (r : Hedge) → Held (is_some (around p r)) (holds (hv p) r)
 around-held p ε = refl
 around-held p (tvar y t) = rw (onto-on (tvar y) (around p t)) (around-held p t)
-around-held p (hvar q t) = rw (pick-on (eqH p q) (ε, t) (onto (hvar q) (around p t)), onto-on (hvar q) (around p t)) (or-held (eqH p q) (holds (hv p) t) (is_some (around p t)) (around-held p t))
+around-held p (hvar q t) = rw (pick-on (eq_h p q) (ε, t) (onto (hvar q) (around p t)), onto-on (hvar q) (around p t)) (or-held (eq_h p q) (holds (hv p) t) (is_some (around p t)) (around-held p t))
 around-held p (node (symbol g) d t) = rw (onto-on (node (symbol g) d) (around p t)) (more (holds (hv p) d) (holds (hv p) t) (is_some (around p t)) (around-held p t))
 around-held p (node (fvar Y) d t) = rw (onto-on (node (fvar Y) d) (around p t)) (more (holds (hv p) d) (holds (hv p) t) (is_some (around p t)) (around-held p t))
 
 inside-held : (p : HedgeVar) (r : Hedge) → Held (is_some (inside p r)) (holds (hv p) r)
 inside-held p ε = refl
 inside-held p (tvar y t) = rw (onto-on (tvar y) (around p t)) (around-held p t)
-inside-held p (hvar q t) = rw (onto-on (hvar q) (around p t)) (more (eqH p q) (holds (hv p) t) (is_some (around p t)) (around-held p t))
+inside-held p (hvar q t) = rw (onto-on (hvar q) (around p t)) (more (eq_h p q) (holds (hv p) t) (is_some (around p t)) (around-held p t))
 inside-held p (node (symbol g) d t) = rw (onto-on (node (symbol g) d) (around p t)) (more (holds (hv p) d) (holds (hv p) t) (is_some (around p t)) (around-held p t))
 inside-held p (node (fvar Y) d t) = rw (onto-on (node (fvar Y) d) (around p t)) (more (holds (hv p) d) (holds (hv p) t) (is_some (around p t)) (around-held p t))
 
@@ -128,7 +128,7 @@ blanks-order removed part same next bind every rest true false c d q k w m u h =
 blanks-order removed part same next bind every rest false t c d q k w m u h = refl
 
 -- the rule's own test of a hedge variable on the right, where there is one
-run-too : (K : Conj) (o : Option HedgeVar) → too hv o K ≡ runHere (λ v. inConj v K) o
+run-too : (K : Conj) (o : Option HedgeVar) → too hv o K ≡ run_here (λ v. in_conj v K) o
 run-too K none = refl
 run-too K (some q) = refl
 
@@ -146,30 +146,30 @@ ends_same (tvar x s) t = never (same_words (tvar x s) t)
 ends_same (hvar p s) t = never (same_words (hvar p s) t)
 ends_same (node f c s) t = never (same_words (node f c s) t)
 
-pub rank-law : (σ : Signature) (K : Conj) (l r : Hedge) → eqnRank σ K l r ≡ rank_of σ K l r
-unfolding eqnRank ◌>>=◌
+pub rank-law : (σ : Signature) (K : Conj) (l r : Hedge) → eqn_rank σ K l r ≡ rank_of σ K l r
+unfolding eqn_rank ◌>>=◌
 rank-law σ K ε ε = simp (check-on, lone-on, bind-on, and-true, and-false, pick-suc)
 rank-law σ K ε (tvar y t) = simp (check-on, lone-on, bind-on, and-true, and-false, pick-suc)
 rank-law σ K ε (hvar q t) = simp (check-on, lone-on, bind-on, and-true, and-false, pick-suc)
 rank-law σ K ε (node (symbol g) d t) = simp (check-on, lone-on, bind-on, and-true, and-false, pick-suc)
 rank-law σ K ε (node (fvar Y) d t) = simp (check-on, lone-on, bind-on, and-true, and-false, pick-suc)
 rank-law σ K (tvar x s) ε = simp (check-on, lone-on, bind-on, and-true, and-false, pick-suc)
-rank-law σ K (tvar x s) (tvar y t) = simp (check-on, lone-on, bind-on, and-true, and-false, pick-suc) (ap (λ z. pick (eqT x y && same_words s t) atR1 (pick (empty s && under (tv x) t) atF1 z)) (var-order atD2 atE1 noRule (empty s) (empty t) (eqT x y) (inConj (tv x) K && inConj (tv y) K)))
+rank-law σ K (tvar x s) (tvar y t) = simp (check-on, lone-on, bind-on, and-true, and-false, pick-suc) (ap (λ z. pick (eq_t x y && same_words s t) at_r1 (pick (empty s && under (tv x) t) at_f1 z)) (var-order at_d2 at_e1 no_rule (empty s) (empty t) (eq_t x y) (in_conj (tv x) K && in_conj (tv y) K)))
 rank-law σ K (tvar x s) (hvar q t) = simp (check-on, lone-on, bind-on, and-true, and-false, pick-suc)
-rank-law σ K (tvar x s) (node (symbol g) d t) = simp (check-on, lone-on, bind-on, and-true, and-false, pick-suc) (node-order atF1 atD2 atE1 noRule (empty s) (empty t) (holds (tv x) d) (under (tv x) t) (inConj (tv x) K))
-rank-law σ K (tvar x s) (node (fvar Y) d t) = simp (check-on, lone-on, bind-on, and-true, and-false, pick-suc) (node-order atF1 atD2 atE1 noRule (empty s) (empty t) (holds (tv x) d) (under (tv x) t) (inConj (tv x) K))
-rank-law σ K (hvar p s) ε = simp (check-on, lone-on, bind-on, and-true, and-false, pick-suc) (empty-order atE2 atE3 noRule (empty s) (inConj (hv p) K))
-rank-law σ K (hvar p s) (tvar y t) = simp (check-on, lone-on, bind-on, and-true, and-false, pick-suc) (run-order atF2 atDel3 atE2 atE3 atE4 noRule (empty s) (holds (hv p) (tvar y t)) (is_some (inside p (tvar y t))) (inConj (hv p) K) (allTerms t) (is_some (up_to p (tvar y t))) (inside-held p (tvar y t)))
-rank-law σ K (hvar p s) (hvar q t) = simp (check-on, lone-on, bind-on, and-true, and-false, pick-suc, run-too) (runs-order atF2 atDel3 atR1 atDel1 atE2 noRule (eqH p q) (same_words s t) (empty s) (hasTerm t) (holds (hv p) t) (is_some (inside p (hvar q t))) (inConj (hv p) K && runHere (λ v. inConj v K) (lone q t)) (inside-held p (hvar q t)))
-rank-law σ K (hvar p s) (node (symbol g) d t) = simp (check-on, lone-on, bind-on, and-true, and-false, pick-suc) (run-order atF2 atDel3 atE2 atE3 atE4 noRule (empty s) (holds (hv p) (node (symbol g) d t)) (is_some (inside p (node (symbol g) d t))) (inConj (hv p) K) (allTerms t) (is_some (up_to p (node (symbol g) d t))) (inside-held p (node (symbol g) d t)))
-rank-law σ K (hvar p s) (node (fvar Y) d t) = simp (check-on, lone-on, bind-on, and-true, and-false, pick-suc) (run-order atF2 atDel3 atE2 atE3 atE4 noRule (empty s) (holds (hv p) (node (fvar Y) d t)) (is_some (inside p (node (fvar Y) d t))) (inConj (hv p) K) (allTerms t) (is_some (up_to p (node (fvar Y) d t))) (inside-held p (node (fvar Y) d t)))
+rank-law σ K (tvar x s) (node (symbol g) d t) = simp (check-on, lone-on, bind-on, and-true, and-false, pick-suc) (node-order at_f1 at_d2 at_e1 no_rule (empty s) (empty t) (holds (tv x) d) (under (tv x) t) (in_conj (tv x) K))
+rank-law σ K (tvar x s) (node (fvar Y) d t) = simp (check-on, lone-on, bind-on, and-true, and-false, pick-suc) (node-order at_f1 at_d2 at_e1 no_rule (empty s) (empty t) (holds (tv x) d) (under (tv x) t) (in_conj (tv x) K))
+rank-law σ K (hvar p s) ε = simp (check-on, lone-on, bind-on, and-true, and-false, pick-suc) (empty-order at_e2 at_e3 no_rule (empty s) (in_conj (hv p) K))
+rank-law σ K (hvar p s) (tvar y t) = simp (check-on, lone-on, bind-on, and-true, and-false, pick-suc) (run-order at_f2 at_del3 at_e2 at_e3 at_e4 no_rule (empty s) (holds (hv p) (tvar y t)) (is_some (inside p (tvar y t))) (in_conj (hv p) K) (all_terms t) (is_some (up_to p (tvar y t))) (inside-held p (tvar y t)))
+rank-law σ K (hvar p s) (hvar q t) = simp (check-on, lone-on, bind-on, and-true, and-false, pick-suc, run-too) (runs-order at_f2 at_del3 at_r1 at_del1 at_e2 no_rule (eq_h p q) (same_words s t) (empty s) (has_term t) (holds (hv p) t) (is_some (inside p (hvar q t))) (in_conj (hv p) K && run_here (λ v. in_conj v K) (lone q t)) (inside-held p (hvar q t)))
+rank-law σ K (hvar p s) (node (symbol g) d t) = simp (check-on, lone-on, bind-on, and-true, and-false, pick-suc) (run-order at_f2 at_del3 at_e2 at_e3 at_e4 no_rule (empty s) (holds (hv p) (node (symbol g) d t)) (is_some (inside p (node (symbol g) d t))) (in_conj (hv p) K) (all_terms t) (is_some (up_to p (node (symbol g) d t))) (inside-held p (node (symbol g) d t)))
+rank-law σ K (hvar p s) (node (fvar Y) d t) = simp (check-on, lone-on, bind-on, and-true, and-false, pick-suc) (run-order at_f2 at_del3 at_e2 at_e3 at_e4 no_rule (empty s) (holds (hv p) (node (fvar Y) d t)) (is_some (inside p (node (fvar Y) d t))) (in_conj (hv p) K) (all_terms t) (is_some (up_to p (node (fvar Y) d t))) (inside-held p (node (fvar Y) d t)))
 rank-law σ K (node (symbol f) c s) ε = simp (check-on, lone-on, bind-on, and-true, and-false, pick-suc)
-rank-law σ K (node (symbol f) c s) (tvar y t) = simp (check-on, lone-on, bind-on, and-true, and-false, pick-suc) (pick-not (empty s && empty t) atD2 noRule)
+rank-law σ K (node (symbol f) c s) (tvar y t) = simp (check-on, lone-on, bind-on, and-true, and-false, pick-suc) (pick-not (empty s && empty t) at_d2 no_rule)
 rank-law σ K (node (symbol f) c s) (hvar q t) = simp (check-on, lone-on, bind-on, and-true, and-false, pick-suc)
-rank-law σ K (node (symbol f) c s) (node (symbol g) d t) = simp (check-on, lone-on, bind-on, none-on, and-true, and-false, pick-suc) (ap (λ z. pick (eqS f g && same_words c d && same_words s t) atR1 z) (symbols-order atF3 atDel2 atD1 atD2 atD0 noRule (empty s) (empty t) (eqS f g) (isUnordered σ f) (is_some (struck c d)) (allTerms d)))
-rank-law σ K (node (symbol f) c s) (node (fvar Y) d t) = simp (check-on, lone-on, bind-on, and-true, and-false, pick-suc) (pick-not (empty s && empty t) atD2 noRule)
+rank-law σ K (node (symbol f) c s) (node (symbol g) d t) = simp (check-on, lone-on, bind-on, none-on, and-true, and-false, pick-suc) (ap (λ z. pick (eq_s f g && same_words c d && same_words s t) at_r1 z) (symbols-order at_f3 at_del2 at_d1 at_d2 at_d0 no_rule (empty s) (empty t) (eq_s f g) (is_unordered σ f) (is_some (struck c d)) (all_terms d)))
+rank-law σ K (node (symbol f) c s) (node (fvar Y) d t) = simp (check-on, lone-on, bind-on, and-true, and-false, pick-suc) (pick-not (empty s && empty t) at_d2 no_rule)
 rank-law σ K (node (fvar X) c s) ε = simp (check-on, lone-on, bind-on, and-true, and-false, pick-suc)
-rank-law σ K (node (fvar X) c s) (tvar y t) = simp (check-on, lone-on, bind-on, and-true, and-false, pick-suc) (pick-not (empty s && empty t) atD2 noRule)
+rank-law σ K (node (fvar X) c s) (tvar y t) = simp (check-on, lone-on, bind-on, and-true, and-false, pick-suc) (pick-not (empty s && empty t) at_d2 no_rule)
 rank-law σ K (node (fvar X) c s) (hvar q t) = simp (check-on, lone-on, bind-on, and-true, and-false, pick-suc)
-rank-law σ K (node (fvar X) c s) (node (symbol g) d t) = simp (check-on, lone-on, bind-on, and-true, and-false, pick-suc) (blank-order atD2 atE6 atE5 noRule (empty s) (empty t) (empty c) (empty d) (inConj (fv X) K))
-rank-law σ K (node (fvar X) c s) (node (fvar Y) d t) = simp (check-on, lone-on, bind-on, and-true, and-false, pick-suc) (blanks-order atR1 atD2 atD0 atE6 atE5 atE7 noRule (empty s) (empty t) (empty c) (empty d) (eqX X Y) (inConj (fv X) K && inConj (fv Y) K) (same_words c d) (same_words s t) (anyUnordered σ) (ends_same s t))
+rank-law σ K (node (fvar X) c s) (node (symbol g) d t) = simp (check-on, lone-on, bind-on, and-true, and-false, pick-suc) (blank-order at_d2 at_e6 at_e5 no_rule (empty s) (empty t) (empty c) (empty d) (in_conj (fv X) K))
+rank-law σ K (node (fvar X) c s) (node (fvar Y) d t) = simp (check-on, lone-on, bind-on, and-true, and-false, pick-suc) (blanks-order at_r1 at_d2 at_d0 at_e6 at_e5 at_e7 no_rule (empty s) (empty t) (empty c) (empty d) (eq_x X Y) (in_conj (fv X) K && in_conj (fv Y) K) (same_words c d) (same_words s t) (any_unordered σ) (ends_same s t))

@@ -4,11 +4,11 @@ use Rattle.language.specs.declared.Signature.{Signature}
 use Rattle.language.specs.Trees.{Hedge, ε, tvar, hvar, node, Conj}
 use Rattle.views.specs.declared.View.{View}
 use Rattle.views.specs.Views.{Sees}
-use Rattle.equations.specs.Rank.{apartRank}
+use Rattle.equations.specs.Rank.{apart_rank}
 
 -- n is the rank of the equation that the view shows, where every variable occurs elsewhere too
 abbrev pub RanksBy : Signature → List ℕ → View → Hedge → Hedge → ℕ → Type 0
-RanksBy σ k v l r n = (before behind : Conj) → Sees k v before l r behind → n ≡ apartRank σ l r
+RanksBy σ k v l r n = (before behind : Conj) → Sees k v before l r behind → n ≡ apart_rank σ l r
 
 -- it is so whatever symbols are unordered
 abbrev pub Ranks : List ℕ → View → Hedge → Hedge → ℕ → Type 0

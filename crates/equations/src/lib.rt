@@ -2,7 +2,7 @@
 ghost use Rattle.std.specs.Prelude.{◌≡◌};
 ghost use Rattle.language.specs.Trees.{Hedge, Conj};
 ghost use Rattle.views.specs.Views.{Sees, EquationAt};
-ghost use Rattle.equations.specs.Rank.{apartRank};
+ghost use Rattle.equations.specs.Rank.{apart_rank};
 
 mod functors;
 mod runs;
@@ -17,7 +17,7 @@ use views::{Look, Side, View};
 // The place of the first rule in the list, or NO_RULE where none applies. What it hangs on in the other literals is asked by the caller.
 pub fn rank_apart(k: &[u16], v: View, signature: Signature) -> usize
     requires { EquationAt k.now v }
-    ensures { (before behind : Conj) (l r : Hedge) → Sees k.now v before l r behind → result ≡ apartRank signature l r }
+    ensures { (before behind : Conj) (l r : Hedge) → Sees k.now v before l r behind → result ≡ apart_rank signature l r }
 {
     let l = v.l;
     let look = l.look;

@@ -3,7 +3,7 @@ ghost use Rattle.std.specs.Prelude.{◌<◌, ◌≡◌, true, not, ◌&&◌};
 ghost use Rattle.language.specs.Limits.{desk};
 ghost use Rattle.language.specs.declared.HedgeVar.{HedgeVar};
 ghost use Rattle.language.specs.Trees.{Hedge, hvar, Conj, hv, holds};
-ghost use Rattle.rules.specs.Looks.{empty, allTerms};
+ghost use Rattle.rules.specs.Looks.{empty, all_terms};
 ghost use Rattle.views.specs.Views.{Sees};
 ghost use Rattle.equations.specs.Rank.{lonely, leading, everywhere};
 ghost use Rattle.equations.specs.Ranked.{Ranks, Begins};
@@ -35,7 +35,7 @@ fn rank_lonely(k: &[u16], v: View, p: HedgeVar) -> usize
 
 // Whether terms alone stand there, and p in none of them.
 fn free_terms(k: &[u16], v: View, p: HedgeVar) -> bool
-    ensures { (before behind : Conj) (l r : Hedge) → Sees k.now v before l r behind → p.0 < desk.each → result ≡ (allTerms r && not (holds (hv p) r)) }
+    ensures { (before behind : Conj) (l r : Hedge) → Sees k.now v before l r behind → p.0 < desk.each → result ≡ (all_terms r && not (holds (hv p) r)) }
 {
     let r = v.r;
     let terms = all_terms(k, r.from);

@@ -2,9 +2,9 @@
 ghost use Rattle.std.specs.Prelude.{ℕ, ◌<◌, ◌≡◌, ◌&&◌, List};
 ghost use Rattle.language.specs.Limits.{desk};
 ghost use Rattle.language.specs.Kinds.{pick};
-ghost use Rattle.language.specs.Trees.{Functor, Hedge, ε, tvar, node, eqT, tv};
+ghost use Rattle.language.specs.Trees.{Functor, Hedge, ε, tvar, node, eq_t, tv};
 ghost use Rattle.rules.specs.Looks.{empty, under as below};
-ghost use Rattle.rules.specs.Places.{atE1, noRule};
+ghost use Rattle.rules.specs.Places.{at_e1, no_rule};
 ghost use Rattle.views.specs.Standing.{Stands};
 ghost use Rattle.equations.specs.Ranked.{Ranks};
 
@@ -46,7 +46,7 @@ fn hidden(k: &[u16], lone: bool, at: usize, x: TermVar) -> bool
 
 // E1: two lone variables.
 fn rank_variables(x: TermVar, z: TermVar) -> usize
-    ensures { result ≡ pick (eqT x z) noRule atE1 }
+    ensures { result ≡ pick (eq_t x z) no_rule at_e1 }
 {
     if x.0 == z.0 {
         return NO_RULE;

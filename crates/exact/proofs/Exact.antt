@@ -8,20 +8,20 @@ use mathlib.Core.Bool.{Bool, true, false}
 use mathlib.Core.List.{List, [], ◌∷◌, ◌++◌, map, Memᴰ}
 use mathlib.Core.Option.{some}
 use Rattle.language.specs.declared.Sym.{Sym}
-use Rattle.language.specs.Limits.{Limits, walkedPairs}
+use Rattle.language.specs.Limits.{Limits, walked_pairs}
 use Rattle.language.specs.declared.Signature.{Signature}
-use Rattle.language.specs.Trees.{Hedge, Expr, Literal, mem, Conj, isUnordered, Var, Counts, signature, Question}
-use Rattle.language.specs.Question.{asks, declaredC, countsOf, readQuestion}
+use Rattle.language.specs.Trees.{Hedge, Expr, Literal, mem, Conj, is_unordered, Var, Counts, signature, Question}
+use Rattle.language.specs.Question.{asks, declared_c, counts_of, read_question}
 use Rattle.meaning.specs.Complete.{Complete, nil, tree}
 use Rattle.meaning.specs.Meaning.{Filling, Member, MeetsAll, MeetsOne, MeetsQuestion}
 use Rattle.rules.specs.Expressions.{nullable, linear}
 use Rattle.rules.specs.Reply.{nothing, results}
-use Rattle.rules.specs.Solved.{loneVar}
-use Rattle.rules.specs.Walk.{Pair, reached, longWalk}
+use Rattle.rules.specs.Solved.{lone_var}
+use Rattle.rules.specs.Walk.{Pair, reached, long_walk}
 use Rattle.rules.specs.Clash.{mentions, agree}
 use Rattle.rules.specs.Rules.{Rule, Fold, Clash, rules}
-use Rattle.rules.specs.Places.{atClash}
-use Rattle.rules.specs.Step.{resultsAt, Spot, stepAt, search, step}
+use Rattle.rules.specs.Places.{at_clash}
+use Rattle.rules.specs.Step.{results_at, Spot, step_at, search, step}
 use Rattle.rules.specs.Run.{Numbered, EachLine, unnumbered, finished, run}
 use Rattle.rules.specs.Answer.{answered, solving}
 use Rattle.rules.specs.Each.{Each, Some}
@@ -60,7 +60,7 @@ linear-form = linear-exact
 
 -- "mentions no unordered symbol and no term (or hedge, for a hedge variable) lies in both": of two expressions that mention none the test of the rule says
 -- that something does exactly where it does.
-pub agreement : (σ : Signature) (v : Var) (R S : Expr) → mentions (isUnordered σ) R ≡ false → mentions (isUnordered σ) S ≡ false → (agree v R S ≡ true) ↔ InBoth σ v R S
+pub agreement : (σ : Signature) (v : Var) (R S : Expr) → mentions (is_unordered σ) R ≡ false → mentions (is_unordered σ) S ≡ false → (agree v R S ≡ true) ↔ InBoth σ v R S
 agreement σ v R S o r = Iff.trans (Iff.symm (test-true (agree v R S))) (agree-exact σ R S o r v)
 
 -- "The walk for two expressions starts from that pair; from each pair it goes on": it ends with the pairs that are reached and no others,
@@ -72,15 +72,15 @@ pub walk-once : (R S : Expr) → Once (reached R S)
 walk-once = reached-once
 
 -- "21 when a walk reaches more than 4,096 different pairs, different by their words": whatever the limit is, the walk is too long exactly where it does.
-pub walk-too-long : (limit : ℕ) (R S : Expr) → (longWalk limit R S ≡ true) ↔ ReachesMore limit R S
-walk-too-long limit R S = Iff.trans (Iff.symm (test-true (longWalk limit R S))) (long-exact R S limit)
+pub walk-too-long : (limit : ℕ) (R S : Expr) → (long_walk limit R S ≡ true) ↔ ReachesMore limit R S
+walk-too-long limit R S = Iff.trans (Iff.symm (test-true (long_walk limit R S))) (long-exact R S limit)
 
 -- ---- rules and steps
 
 -- "the first rule below that applies to any literal, .. the earliest literal, .. the written side first, then swapped": but wherever any
 -- rule applies, first or not, earliest or not, swapped or not, a filling meets the conjunction exactly when it meets one of the results.
 pub rule-exact : (σ : Signature) (rule : Rule) → Memᴰ rule (rules σ) → (swap : Bool) (before : Conj) (l : Literal) (behind : Conj) (ks : List Conj)
-    → resultsAt swap rule before l behind ≡ results ks → (ρ : Filling) → MeetsAll σ ρ (before ++ (l ∷ behind)) ↔ MeetsOne σ ρ ks
+    → results_at swap rule before l behind ≡ results ks → (ρ : Filling) → MeetsAll σ ρ (before ++ (l ∷ behind)) ↔ MeetsOne σ ρ ks
 rule-exact σ rule i = each_in (AtSides (SameFillings σ)) (each-rule-exact σ) i
 
 -- the same of the whole table of rules at once
@@ -88,18 +88,18 @@ pub rules_exact : (σ : Signature) → Each (AtSides (SameFillings σ)) (rules �
 rules_exact = each-rule-exact
 
 -- So a step at whatever place is named, first or not: a filling meets the conjunction exactly when it meets one of the results;
-pub named-step-exact : (σ : Signature) (s : Spot) (k : Conj) (ks : List Conj) → stepAt σ s k ≡ results ks → (ρ : Filling) → MeetsAll σ ρ k ↔ MeetsOne σ ρ ks
+pub named-step-exact : (σ : Signature) (s : Spot) (k : Conj) (ks : List Conj) → step_at σ s k ≡ results ks → (ρ : Filling) → MeetsAll σ ρ k ↔ MeetsOne σ ρ ks
 named-step-exact σ = named-at-sides (SameFillings σ) σ (each-rule-exact σ)
 
 -- and the place that the search names is one at which the step is as it was found.
-pub found-is-named : (σ : Signature) (k : Conj) (s : Spot) (ks : List Conj) → search σ k ≡ results (s, ks) → stepAt σ s k ≡ results ks
+pub found-is-named : (σ : Signature) (k : Conj) (s : Spot) (ks : List Conj) → search σ k ≡ results (s, ks) → step_at σ s k ≡ results ks
 found-is-named = search-named
 
 -- "where one variable, alone, has two memberships, the conjunction is dropped exactly if .. no term (or hedge ..) lies in both. Only pairs are looked at,
 -- in the order of their literals, until one clashes": what the clash comes to at a test of a lone variable says which literal behind it came first, one
 -- with which nothing is shared or one whose walk is too long, and that those before it, or all, were passed.
-pub clash-exact : (σ : Signature) (h : Hedge) (R : Expr) (behind : Conj) (v : Var) → loneVar h ≡ some v → Says walkedPairs σ v R behind (Clash σ (mem h R) behind)
-clash-exact = clash-says walkedPairs
+pub clash-exact : (σ : Signature) (h : Hedge) (R : Expr) (behind : Conj) (v : Var) → lone_var h ≡ some v → Says walked_pairs σ v R behind (Clash σ (mem h R) behind)
+clash-exact = clash-says walked_pairs
 
 -- "That is one step": a filling meets the conjunction exactly when it meets one of the step's results.
 pub step-exact : (σ : Signature) (k : Conj) (ks : List Conj) → step σ k ≡ results ks → (ρ : Filling) → MeetsAll σ ρ k ↔ MeetsOne σ ρ ks
@@ -138,7 +138,7 @@ pub lines-agree : (σ : Signature) (L : Limits) (w : List Conj) (ls : List Numbe
 lines-agree σ L w ls n e =
     each-imp (λ (k : Numbered). Each (Idle k.literals) (rules σ)) (λ (k : Numbered). Agreed σ k.literals)
     (λ k q before h R behind v d l. idle-agrees σ h R behind v l (each-nothing (map (λ (c : Conj). before ++ c)) (Clash σ (mem h R) behind)
-    (each_at (Idle k.literals) (rules σ) atClash q refl false before (mem h R) behind d))) ls
+    (each_at (Idle k.literals) (rules σ) at_clash q refl false before (mem h R) behind d))) ls
     (lines-idle σ L w ls n e)
 
 -- "Waiting conjunctions stand in order": what every step keeps and every waiting conjunction has, every line has.
@@ -151,21 +151,21 @@ lines-inherit = lines_keep
 -- "a filling meets alternative n exactly when it meets a line numbered n": an answer is of a question that was read, and its lines are by their
 -- numbers those of the question's alternatives.
 pub answer-numbered : (L : Limits) (work answer : ℕ) (ws : List ℕ) (ls : List Numbered) (s : ℕ) → solving L work answer ws ≡ answered ls s
-    → (q : Question) × (readQuestion L ws ≡ asks q) × ((ρ : Filling) (n : ℕ) → MeetsAt (signature q.counts) ρ n q.alternatives ↔ MeetsNumbered (signature q.counts) ρ n ls)
+    → (q : Question) × (read_question L ws ≡ asks q) × ((ρ : Filling) (n : ℕ) → MeetsAt (signature q.counts) ρ n q.alternatives ↔ MeetsNumbered (signature q.counts) ρ n ls)
 answer-numbered L work answer ws ls s e =
     let (q, asked, ran) = answered-run L work answer ws ls s e in
     (q, asked, run-numbered (signature q.counts) L q.alternatives ls s ran)
 
 -- "A conjunction needs all its literals, a question one conjunction": so a filling meets the question exactly when it meets a line.
 pub answer-exact : (L : Limits) (work answer : ℕ) (ws : List ℕ) (ls : List Numbered) (n : ℕ) → solving L work answer ws ≡ answered ls n
-    → (q : Question) × (readQuestion L ws ≡ asks q) × ((ρ : Filling) → MeetsQuestion ρ q ↔ MeetsOne (signature q.counts) ρ (unnumbered ls))
+    → (q : Question) × (read_question L ws ≡ asks q) × ((ρ : Filling) → MeetsQuestion ρ q ↔ MeetsOne (signature q.counts) ρ (unnumbered ls))
 answer-exact L work answer ws ls n e =
     let (q, asked, same) = answer-numbered L work answer ws ls n e in
     (q, asked, λ ρ. whatever-number (signature q.counts) ρ q.alternatives ls (same ρ))
 
 -- 'Answering "none" always breaks 3': "none" is said only rightly, for where there is no line, no filling meets the question.
 pub none-is-none : (L : Limits) (work answer : ℕ) (ws : List ℕ) (n : ℕ) → solving L work answer ws ≡ answered [] n
-    → (q : Question) × (readQuestion L ws ≡ asks q) × ((ρ : Filling) → ¬ MeetsQuestion ρ q)
+    → (q : Question) × (read_question L ws ≡ asks q) × ((ρ : Filling) → ¬ MeetsQuestion ρ q)
 none-is-none L work answer ws n e = let (q, asked, same) = answer-exact L work answer ws [] n e in (q, asked, λ ρ m. (same ρ).0 m)
 
 -- ---- what lines are made of
@@ -177,12 +177,12 @@ step-names = step-made
 
 -- "6: an undeclared number": where every alternative is declared, so is every line.
 pub lines-all-declared : (c : Counts) (L : Limits) (w : List Conj) (ls : List Numbered) (n : ℕ) → run L (signature c) w ≡ finished ls n
-    → Each (λ k. declaredC c k ≡ true) w → EachLine (λ k. declaredC c k ≡ true) ls
+    → Each (λ k. declared_c c k ≡ true) w → EachLine (λ k. declared_c c k ≡ true) ls
 lines-all-declared = lines-declared
 
 -- every line of an answer is declared by the counts in the question's words
 pub answer-declared : (L : Limits) (work answer : ℕ) (ws : List ℕ) (ls : List Numbered) (n : ℕ) → solving L work answer ws ≡ answered ls n
-    → EachLine (λ k. declaredC (countsOf ws) k ≡ true) ls
+    → EachLine (λ k. declared_c (counts_of ws) k ≡ true) ls
 answer-declared L work answer ws ls n e =
     let (q, asked, ran) = answered-run L work answer ws ls n e in
     let (counts, declared) = read-declared L ws q asked in

@@ -5,34 +5,34 @@ use mathlib.Core.List.{List, ◌∷◌, ◌++◌, map}
 use mathlib.Core.Option.{none, some}
 use lib.Dec.{T}
 use Rattle.language.specs.declared.HedgeVar.{HedgeVar}
-use Rattle.language.specs.Limits.{walkedPairs}
+use Rattle.language.specs.Limits.{walked_pairs}
 use Rattle.language.specs.declared.Sym.{Sym}
 use Rattle.language.specs.declared.Signature.{Signature}
-use Rattle.language.specs.Trees.{symbol, Hedge, ε, tvar, hvar, node, Expr, Literal, eqn, mem, Conj, isUnordered, anyUnordered, hv}
-use Rattle.rules.specs.Looks.{firstTerm, firstRun, loneTerm, loneT, loneH, loneNode, asSymbol, asBlank, inside, up_to, cuts, asCat, asAlt, asStar, asOver}
+use Rattle.language.specs.Trees.{symbol, Hedge, ε, tvar, hvar, node, Expr, Literal, eqn, mem, Conj, is_unordered, any_unordered, hv}
+use Rattle.rules.specs.Looks.{first_term, first_run, lone_term, lone_t, lone_h, lone_node, as_symbol, as_blank, inside, up_to, cuts, as_cat, as_alt, as_star, as_over}
 use Rattle.rules.specs.Elements.{struck, orders}
 use Rattle.rules.specs.Substitution.{put_c}
 use Rattle.rules.specs.Expressions.{linear}
 use Rattle.rules.specs.Reply.{results, PairRule}
-use Rattle.rules.specs.Rules.{Branch, plain, elims, Answer, EqRule, InRule, Rule, onEqn, onMem, onPair, cutResult, orderResult, everySymbol, namedResult, vanish, monomialResult, orderMember}
+use Rattle.rules.specs.Rules.{Branch, plain, elims, Answer, EqRule, InRule, Rule, on_eqn, on_mem, on_pair, cut_result, order_result, every_symbol, named_result, vanish, monomial_result, order_member}
 use Rattle.rules.specs.Rules as rules
 use Rattle.rules.specs.Step.{place, placed, step}
 use Rattle.rules.specs.Each.{Each}
 use Rattle.rules.specs.Sides.{AtSides}
 use Rattle.rules.proofs.Each.{◌also◌, each_map, each-imp}
 use Rattle.rules.proofs.Answers.{Answers, look, test, answers}
-use Rattle.rules.proofs.Looks.{loneT-is, loneH-is, loneNode-is, loneTerm-is, firstTerm-is, firstRun-is, asSymbol-is, asBlank-is, inside_is, upTo-is, asCat-is, asAlt-is, asStar-is, asOver-is, CutOf, cuts-join}
+use Rattle.rules.proofs.Looks.{lone_t-is, lone_h-is, lone_node-is, lone_term-is, first_term-is, first_run-is, as_symbol-is, as_blank-is, inside_is, up_to-is, as_cat-is, as_alt-is, as_star-is, as_over-is, CutOf, cuts-join}
 use Rattle.rules.proofs.Elements.{struck-is, without-keeps, orders-keep}
 use Rattle.rules.proofs.Symbols.{each-symbol}
 use Rattle.rules.proofs.Steps.{Gives, OnSides, Kept, kept-at-sides, gives-behind, step-at-sides}
 use Rattle.rules.proofs.Folding.{Struck, here, further, fold_is}
 use Rattle.rules.proofs.Clashing.{drops-gives, clash-drops}
-use Rattle.exact.specs.Made.{Name, aSymbol, aVariable, Made, MadeE, MadeL, MadeC}
-use Rattle.exact.proofs.Made.{made-⧺, made-++, Puts, putC-made, setT-made, setH-made, setF-made, emptied-made, MadeMonomial, linear-made}
+use Rattle.exact.specs.Made.{Name, a_symbol, a_variable, Made, MadeE, MadeL, MadeC}
+use Rattle.exact.proofs.Made.{made-⧺, made-++, Puts, put_c-made, set_t-made, set_h-made, set_f-made, emptied-made, MadeMonomial, linear-made}
 
 -- E7 writes declared symbols, whether they were there before or not: where some symbol is unordered, each declared one is as A says
 abbrev pub Known : Signature → (Name → Type 0) → Type 0
-Known σ A = T (anyUnordered σ) → (f : Sym) → f.0 < σ.symbols → A (aSymbol f)
+Known σ A = T (any_unordered σ) → (f : Sym) → f.0 < σ.symbols → A (a_symbol f)
 
 module _ (σ : Signature) (A : Name → Type 0) (known : Known σ A) where
   abbrev pub MadeBranch : Branch → Type 0
@@ -57,33 +57,33 @@ module _ (σ : Signature) (A : Name → Type 0) (known : Known σ A) where
   R1-makes K l r a b = test _ λ _ _. answers (tt, tt)
 
   F1-makes : MakesEqn rules.F1
-  F1-makes K l r a b = look (loneT l) (loneT-is l) λ x p. test _ λ _ _. answers tt
+  F1-makes K l r a b = look (lone_t l) (lone_t-is l) λ x p. test _ λ _ _. answers tt
 
   F2-makes : MakesEqn rules.F2
-  F2-makes K l r a b = look (loneH l) (loneH-is l) λ p e. test _ λ _ _. test _ λ _ _. answers tt
+  F2-makes K l r a b = look (lone_h l) (lone_h-is l) λ p e. test _ λ _ _. test _ λ _ _. answers tt
 
   F3-makes : MakesEqn rules.F3
   F3-makes K l r a b =
-      look (loneNode l) (loneNode-is l) λ c p. look (loneNode r) (loneNode-is r) λ d q.
-      look (asSymbol c.0) (asSymbol-is c.0) λ f s. look (asSymbol d.0) (asSymbol-is d.0) λ g t. test _ λ _ _. answers tt
+      look (lone_node l) (lone_node-is l) λ c p. look (lone_node r) (lone_node-is r) λ d q.
+      look (as_symbol c.0) (as_symbol-is c.0) λ f s. look (as_symbol d.0) (as_symbol-is d.0) λ g t. test _ λ _ _. answers tt
 
   F4-makes : MakesEqn rules.F4
   F4-makes K l r a b = test _ λ _ _. test _ λ _ _. answers tt
 
   Del1-makes : MakesEqn rules.Del1
   Del1-makes K l r a b =
-      look (firstRun l) (firstRun-is l) λ c p. look (firstRun r) (firstRun-is r) λ d q.
+      look (first_run l) (first_run-is l) λ c p. look (first_run r) (first_run-is r) λ d q.
       test _ λ _ _. let m = rw p at a in let n = rw q at b in answers (((m.1, n.1), tt), tt)
 
   Del3-makes : MakesEqn rules.Del3
   Del3-makes K l r a b =
-      look (loneH l) (loneH-is l) λ p d. look (inside p r) (inside_is p r) λ c e.
+      look (lone_h l) (lone_h-is l) λ p d. look (inside p r) (inside_is p r) λ c e.
       let (m, n) = (made-⧺ A c.0 (hvar p c.1)).0 (rw e at b) in
       answers (((m, tt), ((n.1, tt), tt)), tt)
 
   D2-makes : MakesEqn rules.D2
   D2-makes K l r a b =
-      look (firstTerm l) (firstTerm-is l) λ c p. look (firstTerm r) (firstTerm-is r) λ d q.
+      look (first_term l) (first_term-is l) λ c p. look (first_term r) (first_term-is r) λ d q.
       test _ λ _ _.
       let m = (made-⧺ A c.0 c.1).0 (rw p.0 at a) in
       let n = (made-⧺ A d.0 d.1).0 (rw q.0 at b) in
@@ -91,13 +91,13 @@ module _ (σ : Signature) (A : Name → Type 0) (known : Known σ A) where
 
   D0-makes : MakesEqn (rules.D0 σ)
   D0-makes K l r a b =
-      look (loneNode l) (loneNode-is l) λ c p. look (loneNode r) (loneNode-is r) λ d q.
+      look (lone_node l) (lone_node-is l) λ c p. look (lone_node r) (lone_node-is r) λ d q.
       test _ λ _ _. test _ λ _ _. let m = rw p at a in let n = rw q at b in answers (((m.1, n.1), tt), tt)
 
   Del2-makes : MakesEqn (rules.Del2 σ)
   Del2-makes K l r a b =
-      look (loneNode l) (loneNode-is l) λ c p. look (loneNode r) (loneNode-is r) λ d q.
-      look (asSymbol c.0) (asSymbol-is c.0) λ f s. look (asSymbol d.0) (asSymbol-is d.0) λ g t.
+      look (lone_node l) (lone_node-is l) λ c p. look (lone_node r) (lone_node-is r) λ d q.
+      look (as_symbol c.0) (as_symbol-is c.0) λ f s. look (as_symbol d.0) (as_symbol-is d.0) λ g t.
       test _ λ _ _. test _ λ _ _.
       look (struck c.1 d.1) (struck-is c.1 d.1) λ k w.
       let m = rw (p, s) at a in let n = rw q at b in
@@ -110,71 +110,71 @@ module _ (σ : Signature) (A : Name → Type 0) (known : Known σ A) where
 
   D1-makes : MakesEqn (rules.D1 σ)
   D1-makes K l r a b =
-      look (loneNode l) (loneNode-is l) λ c p. look (loneNode r) (loneNode-is r) λ d q.
-      look (asSymbol c.0) (asSymbol-is c.0) λ f s. look (asSymbol d.0) (asSymbol-is d.0) λ g t.
+      look (lone_node l) (lone_node-is l) λ c p. look (lone_node r) (lone_node-is r) λ d q.
+      look (as_symbol c.0) (as_symbol-is c.0) λ f s. look (as_symbol d.0) (as_symbol-is d.0) λ g t.
       test _ λ _ _. test _ λ _ _. test _ λ _ _. test _ λ _ _.
       let m = rw p at a in let n = rw q at b in
-      answers (each_map (Made A) MadeBranch (orderResult c.1) (λ e k. ((m.1, k), tt)) (orders d.1) (orders-made d.1 n.1))
+      answers (each_map (Made A) MadeBranch (order_result c.1) (λ e k. ((m.1, k), tt)) (orders d.1) (orders-made d.1 n.1))
 
   E1-makes : MakesEqn rules.E1
   E1-makes K l r a b =
-      look (loneT l) (loneT-is l) λ x p. look (loneTerm r) (loneTerm-is r) λ t q.
+      look (lone_t l) (lone_t-is l) λ x p. look (lone_term r) (lone_term-is r) λ t q.
       test _ λ _ _. test _ λ _ _. test _ λ _ _.
       let m = rw p at a in let n = rw q.0 at b in
-      answers ((((m, n), tt), tt, setT-made A x t n), tt)
+      answers ((((m, n), tt), tt, set_t-made A x t n), tt)
 
   E2-makes : MakesEqn rules.E2
   E2-makes K l r a b =
-      look (loneH l) (loneH-is l) λ p e.
+      look (lone_h l) (lone_h-is l) λ p e.
       test _ λ _ _. test _ λ _ _. test _ λ _ _.
-      let m = rw e at a in answers ((((m, b), tt), tt, setH-made A p r b), tt)
+      let m = rw e at a in answers ((((m, b), tt), tt, set_h-made A p r b), tt)
 
-  cuts-made : (p : HedgeVar) (h rest t : Hedge) → A (aVariable (hv p)) → Made A h → Made A rest → Made A t → Each MadeBranch (map (cutResult p h rest) (cuts t))
-  cuts-made p h rest t a b c d = each_map (CutOf t) MadeBranch (cutResult p h rest) one (cuts t) (cuts-join t)
+  cuts-made : (p : HedgeVar) (h rest t : Hedge) → A (a_variable (hv p)) → Made A h → Made A rest → Made A t → Each MadeBranch (map (cut_result p h rest) (cuts t))
+  cuts-made p h rest t a b c d = each_map (CutOf t) MadeBranch (cut_result p h rest) one (cuts t) (cuts-join t)
     where
-      one : (k : Hedge × Hedge) → CutOf t k → MadeBranch (cutResult p h rest k)
+      one : (k : Hedge × Hedge) → CutOf t k → MadeBranch (cut_result p h rest k)
       one k e =
           let (m, n) = (made-⧺ A k.0 k.1).0 (rw e d) in
-          ((((a, tt), m), tt), ((b, (made-⧺ A k.1 rest).1 (n, c)), tt), setH-made A p k.0 m)
+          ((((a, tt), m), tt), ((b, (made-⧺ A k.1 rest).1 (n, c)), tt), set_h-made A p k.0 m)
 
   E3-makes : MakesEqn rules.E3
   E3-makes K l r a b =
-      look (firstRun l) (firstRun-is l) λ c e.
+      look (first_run l) (first_run-is l) λ c e.
       test _ λ _ _. test _ λ _ _. test _ λ _ _.
       let m = rw e at a in answers (cuts-made c.0 c.1 ε r m.0 m.1 tt b)
 
   E4-makes : MakesEqn rules.E4
   E4-makes K l r a b =
-      look (firstRun l) (firstRun-is l) λ c e.
+      look (first_run l) (first_run-is l) λ c e.
       test _ λ _ _.
-      look (up_to c.0 r) (upTo-is c.0 r) λ d u.
+      look (up_to c.0 r) (up_to-is c.0 r) λ d u.
       let m = rw e at a in
       let n = (made-⧺ A d.0 d.1).0 (rw u.whole at b) in
       answers (cuts-made c.0 c.1 d.1 d.0 m.0 m.1 n.1 n.0)
 
   E5-makes : MakesEqn rules.E5
   E5-makes K l r a b =
-      look (loneNode l) (loneNode-is l) λ c p. look (asBlank c.0) (asBlank-is c.0) λ X s. look (loneNode r) (loneNode-is r) λ d q.
+      look (lone_node l) (lone_node-is l) λ c p. look (as_blank c.0) (as_blank-is c.0) λ X s. look (lone_node r) (lone_node-is r) λ d q.
       test _ λ _ _. test _ λ _ _. test _ λ _ _. test _ λ _ _. test _ λ _ _.
       let m = rw (p, s) at a in let n = rw q at b in
-      answers (((((m.0, tt, tt), (n.0, tt, tt)), tt), tt, setF-made A X d.0 n.0), tt)
+      answers (((((m.0, tt, tt), (n.0, tt, tt)), tt), tt, set_f-made A X d.0 n.0), tt)
 
   E6-makes : MakesEqn rules.E6
   E6-makes K l r a b =
-      look (loneNode l) (loneNode-is l) λ c p. look (asBlank c.0) (asBlank-is c.0) λ X s. look (loneNode r) (loneNode-is r) λ d q.
+      look (lone_node l) (lone_node-is l) λ c p. look (as_blank c.0) (as_blank-is c.0) λ X s. look (lone_node r) (lone_node-is r) λ d q.
       test _ λ _ _. test _ λ _ _.
       let m = rw (p, s) at a in let n = rw q at b in
-      answers (((((m.0, tt, tt), (n.0, tt, tt)), tt), (((n.0, m.1, tt), (n.0, n.1, tt)), tt), setF-made A X d.0 n.0), tt)
+      answers (((((m.0, tt, tt), (n.0, tt, tt)), tt), (((n.0, m.1, tt), (n.0, n.1, tt)), tt), set_f-made A X d.0 n.0), tt)
 
   E7-makes : MakesEqn (rules.E7 σ)
   E7-makes K l r a b =
-      look (loneNode l) (loneNode-is l) λ c p. look (asBlank c.0) (asBlank-is c.0) λ X s.
-      look (loneNode r) (loneNode-is r) λ d q. look (asBlank d.0) (asBlank-is d.0) λ Y t.
+      look (lone_node l) (lone_node-is l) λ c p. look (as_blank c.0) (as_blank-is c.0) λ X s.
+      look (lone_node r) (lone_node-is r) λ d q. look (as_blank d.0) (as_blank-is d.0) λ Y t.
       test _ λ _ _. test _ λ _ _. test _ λ _ u.
       let m = rw (p, s) at a in let n = rw q at b in
-      answers (each_map (λ f. A (aSymbol f)) MadeBranch (namedResult X c.1 d.1)
-      (λ f k. ((((m.0, tt, tt), (k, tt, tt)), tt), (((k, m.1, tt), (k, n.1, tt)), tt), setF-made A X (symbol f) k)) (everySymbol σ)
-      (each-symbol σ (λ f. A (aSymbol f)) (known u)))
+      answers (each_map (λ f. A (a_symbol f)) MadeBranch (named_result X c.1 d.1)
+      (λ f k. ((((m.0, tt, tt), (k, tt, tt)), tt), (((k, m.1, tt), (k, n.1, tt)), tt), set_f-made A X (symbol f) k)) (every_symbol σ)
+      (each-symbol σ (λ f. A (a_symbol f)) (known u)))
 
   -- ---- memberships
 
@@ -183,7 +183,7 @@ module _ (σ : Signature) (A : Name → Type 0) (known : Known σ A) where
 
   F5-makes : MakesMem rules.F5
   F5-makes K h R a b =
-      look (loneNode h) (loneNode-is h) λ c p. look (asSymbol c.0) (asSymbol-is c.0) λ f s. look (asOver R) (asOver-is R) λ g q.
+      look (lone_node h) (lone_node-is h) λ c p. look (as_symbol c.0) (as_symbol-is c.0) λ f s. look (as_over R) (as_over-is R) λ g q.
       test _ λ _ _. answers tt
 
   F6-makes : MakesMem rules.F6
@@ -203,56 +203,56 @@ module _ (σ : Signature) (A : Name → Type 0) (known : Known σ A) where
 
   M2-makes : MakesMem rules.M2
   M2-makes K h R a b =
-      look (firstTerm h) (firstTerm-is h) λ c p.
+      look (first_term h) (first_term-is h) λ c p.
       test _ λ _ _. test _ λ _ _.
       let n = (made-⧺ A c.0 c.1).0 (rw p.0 at a) in
-      answers (each_map (MadeMonomial A) MadeBranch (monomialResult c.0 c.1) (λ m k. ((n.0, (k.0, k.1)), ((n.1, k.2), tt))) (linear R) (linear-made A R b))
+      answers (each_map (MadeMonomial A) MadeBranch (monomial_result c.0 c.1) (λ m k. ((n.0, (k.0, k.1)), ((n.1, k.2), tt))) (linear R) (linear-made A R b))
 
   M3-makes : MakesMem rules.M3
   M3-makes K h R a b =
-      look (firstRun h) (firstRun-is h) λ c e.
+      look (first_run h) (first_run-is h) λ c e.
       test _ λ _ _.
-      look (asOver R) (asOver-is R) λ g q.
+      look (as_over R) (as_over-is R) λ g q.
       let m = rw e at a in
       answers (((((m.0, tt), b), ((m.1, tt), tt))), (((((m.0, tt), tt), ((m.1, b), tt))), tt))
 
   M4-makes : MakesMem rules.M4
   M4-makes K h R a b =
-      look (loneTerm h) (loneTerm-is h) λ t p. look (asStar R) (asStar-is R) λ S q.
+      look (lone_term h) (lone_term-is h) λ t p. look (as_star R) (as_star-is R) λ S q.
       let m = rw p.0 at a in let n = rw q at b in answers (((m, n), tt), tt)
 
   M5-makes : MakesMem rules.M5
   M5-makes K h R a b =
-      look (loneTerm h) (loneTerm-is h) λ t p. look (asCat R) (asCat-is R) λ S q.
+      look (lone_term h) (lone_term-is h) λ t p. look (as_cat R) (as_cat-is R) λ S q.
       let m = rw p.0 at a in let n = rw q at b in answers (((m, n.0), ((tt, n.1), tt)), (((tt, n.0), ((m, n.1), tt)), tt))
 
   M6-makes : MakesMem rules.M6
   M6-makes K h R a b =
-      look (loneTerm h) (loneTerm-is h) λ t p. look (asAlt R) (asAlt-is R) λ S q.
+      look (lone_term h) (lone_term-is h) λ t p. look (as_alt R) (as_alt-is R) λ S q.
       let m = rw p.0 at a in let n = rw q at b in answers (((m, n.0), tt), (((m, n.1), tt), tt))
 
   M7-makes : MakesMem rules.M7
   M7-makes K h R a b =
-      look (firstRun h) (firstRun-is h) λ c e. look (asAlt R) (asAlt-is R) λ S q.
+      look (first_run h) (first_run-is h) λ c e. look (as_alt R) (as_alt-is R) λ S q.
       let n = rw q at b in answers (((a, n.0), tt), (((a, n.1), tt), tt))
 
   M10-makes : MakesMem rules.M10
   M10-makes K h R a b =
-      look (loneNode h) (loneNode-is h) λ c p. look (asBlank c.0) (asBlank-is c.0) λ X s. look (asOver R) (asOver-is R) λ g q.
+      look (lone_node h) (lone_node-is h) λ c p. look (as_blank c.0) (as_blank-is c.0) λ X s. look (as_over R) (as_over-is R) λ g q.
       let m = rw (p, s) at a in let n = rw q at b in
-      answers (((((m.0, tt, tt), (n.0, tt, tt)), tt), (((n.0, m.1, tt), b), tt), setF-made A X (symbol g.0) n.0), tt)
+      answers (((((m.0, tt, tt), (n.0, tt, tt)), tt), (((n.0, m.1, tt), b), tt), set_f-made A X (symbol g.0) n.0), tt)
 
   M11-makes : MakesMem (rules.M11 σ)
   M11-makes K h R a b =
-      look (loneNode h) (loneNode-is h) λ c p. look (asSymbol c.0) (asSymbol-is c.0) λ f s. look (asOver R) (asOver-is R) λ g q.
+      look (lone_node h) (lone_node-is h) λ c p. look (as_symbol c.0) (as_symbol-is c.0) λ f s. look (as_over R) (as_over-is R) λ g q.
       test _ λ _ _. test _ λ _ _. let m = rw p at a in let n = rw q at b in answers (((m.1, n.1), tt), tt)
 
   M12-makes : MakesMem (rules.M12 σ)
   M12-makes K h R a b =
-      look (loneNode h) (loneNode-is h) λ c p. look (asSymbol c.0) (asSymbol-is c.0) λ f s. look (asOver R) (asOver-is R) λ g q.
+      look (lone_node h) (lone_node-is h) λ c p. look (as_symbol c.0) (as_symbol-is c.0) λ f s. look (as_over R) (as_over-is R) λ g q.
       test _ λ _ _. test _ λ _ _. test _ λ _ _.
       let m = rw p at a in let n = rw q at b in
-      answers (each_map (Made A) MadeBranch (orderMember g.1) (λ e k. ((k, n.1), tt)) (orders c.1) (orders-made c.1 m.1))
+      answers (each_map (Made A) MadeBranch (order_member g.1) (λ e k. ((k, n.1), tt)) (orders c.1) (orders-made c.1 m.1))
 
   -- ---- two literals
 
@@ -264,7 +264,7 @@ module _ (σ : Signature) (A : Name → Type 0) (known : Known σ A) where
   Fold-makes l behind m n = fold_is (Each (MadeC A)) l behind λ k s. ((m, struck-made s n), tt)
 
   Clash-makes : MakesPair (rules.Clash σ)
-  Clash-makes l behind m n = drops-gives (Each (MadeC A)) (rules.Clash σ l behind) tt (clash-drops walkedPairs (isUnordered σ) l behind)
+  Clash-makes l behind m n = drops-gives (Each (MadeC A)) (rules.Clash σ l behind) tt (clash-drops walked_pairs (is_unordered σ) l behind)
 
   -- ---- at a place
 
@@ -272,12 +272,12 @@ module _ (σ : Signature) (A : Name → Type 0) (known : Known σ A) where
   place-made before behind (plain ls) m n p = (made-++ A before _).1 (m, (made-++ A ls behind).1 (p, n))
   place-made before behind (elims es ls s) m n p =
       (made-++ A (put_c s before) _).1
-      (putC-made A s p.2 before m, (made-++ A es _).1 (p.0, (made-++ A (put_c s ls) _).1 (putC-made A s p.2 ls p.1, putC-made A s p.2 behind n)))
+      (put_c-made A s p.2 before m, (made-++ A es _).1 (p.0, (made-++ A (put_c s ls) _).1 (put_c-made A s p.2 ls p.1, put_c-made A s p.2 behind n)))
 
   abbrev pub RuleMakes : Rule → Type 0
-  RuleMakes (onEqn rule) = MakesEqn rule
-  RuleMakes (onMem rule) = MakesMem rule
-  RuleMakes (onPair rule) = MakesPair rule
+  RuleMakes (on_eqn rule) = MakesEqn rule
+  RuleMakes (on_mem rule) = MakesMem rule
+  RuleMakes (on_pair rule) = MakesPair rule
 
   at-literal-made : (before behind : Conj) (w : Answer) → MadeC A before → MadeC A behind → MadeAnswer w → Gives (Each (MadeC A)) (placed before behind w)
   at-literal-made before behind none m n p = tt
@@ -285,14 +285,14 @@ module _ (σ : Signature) (A : Name → Type 0) (known : Known σ A) where
 
   sides-make : (rule : Rule) → RuleMakes rule → (before : Conj) (l : Literal) (behind : Conj) → MadeC A before → MadeL A l → MadeC A behind
       → OnSides (Each (MadeC A)) before behind rule l
-  sides-make (onEqn rule) p before (eqn l r) behind m (n, o) k = (
+  sides-make (on_eqn rule) p before (eqn l r) behind m (n, o) k = (
     at-literal-made before behind (rule (before ++ behind) l r) m k (p (before ++ behind) l r n o),
     at-literal-made before behind (rule (before ++ behind) r l) m k (p (before ++ behind) r l o n),
   )
-  sides-make (onEqn rule) p before (mem h R) behind m n k = tt
-  sides-make (onMem rule) p before (eqn l r) behind m n k = tt
-  sides-make (onMem rule) p before (mem h R) behind m n k = at-literal-made before behind (rule (before ++ behind) h R) m k (p (before ++ behind) h R n.0 n.1)
-  sides-make (onPair rule) p before l behind m n k =
+  sides-make (on_eqn rule) p before (mem h R) behind m n k = tt
+  sides-make (on_mem rule) p before (eqn l r) behind m n k = tt
+  sides-make (on_mem rule) p before (mem h R) behind m n k = at-literal-made before behind (rule (before ++ behind) h R) m k (p (before ++ behind) h R n.0 n.1)
+  sides-make (on_pair rule) p before l behind m n k =
       gives-behind (MadeC A) (MadeC A) before (rule l behind) (λ j q. (made-++ A before j).1 (m, q)) (p l behind n k)
 
   rule-makes : (rule : Rule) → RuleMakes rule → AtSides (Kept (MadeC A)) rule

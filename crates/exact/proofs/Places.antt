@@ -3,21 +3,21 @@ use mathlib.Core.Logic.Iff
 use mathlib.Core.Logic.{inl, inr, ◌↔◌}
 use mathlib.Core.List.{List, [], ◌∷◌, ◌++◌, map}
 use mathlib.Core.Option.{none, some}
-use Rattle.language.specs.Limits.{walkedPairs}
+use Rattle.language.specs.Limits.{walked_pairs}
 use Rattle.language.specs.declared.Signature.{Signature}
 use Rattle.language.specs.Trees.{Hedge, Literal, eqn, mem, Conj}
 use Rattle.meaning.specs.Meaning.{Filling, MeetsAll, MeetsOne}
 use Rattle.meaning.proofs.Same.{same-sym}
 use Rattle.rules.specs.Substitution.{put_c}
 use Rattle.rules.specs.Reply.{Reply}
-use Rattle.rules.specs.Rules.{Branch, plain, elims, Answer, Rule, onEqn, onMem, onPair, rules}
+use Rattle.rules.specs.Rules.{Branch, plain, elims, Answer, Rule, on_eqn, on_mem, on_pair, rules}
 use Rattle.rules.specs.Step.{each, place, placed}
 use Rattle.rules.specs.Each.{Each, Some}
 use Rattle.rules.specs.Sides.{AtSides}
 use Rattle.rules.proofs.Each.{◌also◌, each-imp, some-map, some_same}
 use Rattle.rules.proofs.Steps.{Gives, gives-each, gives-imp, OnSides, at-sides}
 use Rattle.exact.specs.Places.{SameFillings}
-use Rattle.exact.proofs.Fillings.{putC-meets, putE-meets, all_named, each-++-all, all-++, one-some}
+use Rattle.exact.proofs.Fillings.{put_c-meets, put_e-meets, all_named, each-++-all, all-++, one-some}
 use Rattle.exact.proofs.Answers.{MeetsBranch, MeetsBranches, Faithful, ExactAnswer}
 use Rattle.exact.proofs.Equations.{ExactEqn, R1-exact, F1-exact, F2-exact, F3-exact, F4-exact, Del1-exact, Del2-exact, Del3-exact, D1-exact, D2-exact, D0-exact, E1-exact, E2-exact, E3-exact, E4-exact, E5-exact, E6-exact, E7-exact}
 use Rattle.exact.proofs.Memberships.{ExactMem, R2-exact, F5-exact, F6-exact, F7-exact, M1-exact, M2-exact, M3-exact, M4-exact, M5-exact, M6-exact, M7-exact, M10-exact, M11-exact, M12-exact}
@@ -40,12 +40,12 @@ module _ (σ : Signature) where
         let (d, e) = (each-++-all σ ρ es _).0 c in
         let (g, h) = (each-++-all σ ρ (put_c s ls) _).0 e in
         let r = f ρ d in
-        ((putC-meets σ ρ s r before).0 a, (d, (putE-meets σ ρ s r ls).0 g), (putC-meets σ ρ s r behind).0 h),
+        ((put_c-meets σ ρ s r before).0 a, (d, (put_e-meets σ ρ s r ls).0 g), (put_c-meets σ ρ s r behind).0 h),
     λ m.
         let r = f ρ m.1.0 in
         (all-++ σ ρ (put_c s before) _).1 (
-          (putC-meets σ ρ s r before).1 m.0,
-          (each-++-all σ ρ es _).1 (m.1.0, (each-++-all σ ρ (put_c s ls) _).1 ((putE-meets σ ρ s r ls).1 m.1.1, (putC-meets σ ρ s r behind).1 m.2)),
+          (put_c-meets σ ρ s r before).1 m.0,
+          (each-++-all σ ρ es _).1 (m.1.0, (each-++-all σ ρ (put_c s ls) _).1 ((put_e-meets σ ρ s r ls).1 m.1.1, (put_c-meets σ ρ s r behind).1 m.2)),
         ),
   )
 
@@ -101,9 +101,9 @@ module _ (σ : Signature) where
   -- ---- a rule at a place, its sides as written or swapped
 
   abbrev RuleExact : Rule → Type 0
-  RuleExact (onEqn rule) = ExactEqn σ rule
-  RuleExact (onMem rule) = ExactMem σ rule
-  RuleExact (onPair rule) = ExactPair σ rule
+  RuleExact (on_eqn rule) = ExactEqn σ rule
+  RuleExact (on_mem rule) = ExactMem σ rule
+  RuleExact (on_pair rule) = ExactPair σ rule
 
   exchanged : (l r : Hedge) (w : Answer) → ExactAnswer σ (eqn r l) w → ExactAnswer σ (eqn l r) w
   exchanged l r none p = record { given = tt }
@@ -111,14 +111,14 @@ module _ (σ : Signature) where
       record { given = record { same = λ ρ n. Iff.trans (λ e. same-sym σ _ _ e, λ e. same-sym σ _ _ e) (p.given.same ρ n); faithful = p.given.faithful } }
 
   sides-exact : (rule : Rule) → RuleExact rule → (before : Conj) (l : Literal) (behind : Conj) → OnSides (SameFillings σ (before ++ (l ∷ behind))) before behind rule l
-  sides-exact (onEqn rule) p before (eqn l r) behind = (
+  sides-exact (on_eqn rule) p before (eqn l r) behind = (
     at_literal before behind (eqn l r) (rule (before ++ behind) l r) (p (before ++ behind) l r),
     at_literal before behind (eqn l r) (rule (before ++ behind) r l) (exchanged l r (rule (before ++ behind) r l) (p (before ++ behind) r l)),
   )
-  sides-exact (onEqn rule) p before (mem h R) behind = tt
-  sides-exact (onMem rule) p before (eqn l r) behind = tt
-  sides-exact (onMem rule) p before (mem h R) behind = at_literal before behind (mem h R) (rule (before ++ behind) h R) (p (before ++ behind) h R)
-  sides-exact (onPair rule) p before l behind = at_pair before behind l (rule l behind) (p l behind)
+  sides-exact (on_eqn rule) p before (mem h R) behind = tt
+  sides-exact (on_mem rule) p before (eqn l r) behind = tt
+  sides-exact (on_mem rule) p before (mem h R) behind = at_literal before behind (mem h R) (rule (before ++ behind) h R) (p (before ++ behind) h R)
+  sides-exact (on_pair rule) p before l behind = at_pair before behind l (rule l behind) (p l behind)
 
   rule-exact : (rule : Rule) → RuleExact rule → AtSides (SameFillings σ) rule
   rule-exact rule p = at-sides (SameFillings σ) rule (sides-exact rule p)
@@ -134,5 +134,5 @@ module _ (σ : Signature) where
       also D1-exact σ also D2-exact σ also D0-exact σ
       also E1-exact σ also E2-exact σ also E3-exact σ also E4-exact σ also E5-exact σ also E6-exact σ also E7-exact σ
       also M1-exact σ also M2-exact σ also M3-exact σ also M4-exact σ also M5-exact σ also M6-exact σ also M7-exact σ also M10-exact σ also M11-exact σ also M12-exact σ
-      also Clash-exact walkedPairs σ
+      also Clash-exact walked_pairs σ
       also tt)

@@ -8,7 +8,7 @@ use mathlib.Core.List.{Memᴰ}
 use lib.Dec.{T}
 use Rattle.language.specs.declared.Sym.{Sym}
 use Rattle.language.specs.declared.Signature.{Signature}
-use Rattle.language.specs.Trees.{Expr, eps, cat, alt, star, over, isUnordered, Var, tv, hv, fv}
+use Rattle.language.specs.Trees.{Expr, eps, cat, alt, star, over, is_unordered, Var, tv, hv, fv}
 use Rattle.meaning.specs.Complete.{Complete, nil, tree}
 use Rattle.meaning.specs.Meaning.{Member}
 use Rattle.meaning.proofs.Same.{same_refl, same-symbol}
@@ -22,7 +22,7 @@ use Rattle.walk.specs.Reach.{Twins, Shares, empty, more, SharesTerm}
 use Rattle.walk.proofs.Members.{some_in, in_some}
 use Rattle.walk.proofs.Sharing.{hedge-exact, term-exact}
 use Rattle.exact.specs.Monomials.{Takes}
-use Rattle.exact.specs.Made.{Name, aSymbol, aVariable, MadeE}
+use Rattle.exact.specs.Made.{Name, a_symbol, a_variable, MadeE}
 use Rattle.exact.specs.Clashes.{InBoth}
 use Rattle.exact.proofs.Expressions.{nullable-exact, linear-exact}
 use Rattle.exact.proofs.Made.{MadeMonomial, linear-made}
@@ -44,19 +44,19 @@ module _ (σ : Signature) where
 
   -- a symbol that is ordered; of a variable nothing is said
   abbrev Ordered : Name → Type 0
-  Ordered (aSymbol f) = isUnordered σ f ≡ false
-  Ordered (aVariable v) = Unit {0}
+  Ordered (a_symbol f) = is_unordered σ f ≡ false
+  Ordered (a_variable v) = Unit {0}
 
-  ordered : (R : Expr) → mentions (isUnordered σ) R ≡ false → MadeE Ordered R
+  ordered : (R : Expr) → mentions (is_unordered σ) R ≡ false → MadeE Ordered R
   ordered eps e = tt
-  ordered (cat a b) e = let (x, y) = neither (mentions (isUnordered σ) a) (mentions (isUnordered σ) b) e in (ordered a x, ordered b y)
-  ordered (alt a b) e = let (x, y) = neither (mentions (isUnordered σ) a) (mentions (isUnordered σ) b) e in (ordered a x, ordered b y)
+  ordered (cat a b) e = let (x, y) = neither (mentions (is_unordered σ) a) (mentions (is_unordered σ) b) e in (ordered a x, ordered b y)
+  ordered (alt a b) e = let (x, y) = neither (mentions (is_unordered σ) a) (mentions (is_unordered σ) b) e in (ordered a x, ordered b y)
   ordered (star a) e = ordered a e
-  ordered (over f a) e = let (x, y) = neither (isUnordered σ f) (mentions (isUnordered σ) a) e in (x, ordered a y)
+  ordered (over f a) e = let (x, y) = neither (is_unordered σ f) (mentions (is_unordered σ) a) e in (x, ordered a y)
 
   -- a term over an ordered symbol is in f(R) only with its children in R
-  inside : (f g : Sym) (c : Complete) (R : Expr) → isUnordered σ g ≡ false → Member σ (over g R) (tree f c nil) → (f ≡ g) × Member σ R c
-  inside f g c R o m = let e = same-symbol σ f g c m.0 nil nil m.1 in (e, (member-over σ g c R (not_test (isUnordered σ g) o)).0 (rw e at m))
+  inside : (f g : Sym) (c : Complete) (R : Expr) → is_unordered σ g ≡ false → Member σ (over g R) (tree f c nil) → (f ≡ g) × Member σ R c
+  inside f g c R o m = let e = same-symbol σ f g c m.0 nil nil m.1 in (e, (member-over σ g c R (not_test (is_unordered σ g) o)).0 (rw e at m))
 
   -- a monomial of R that takes the hedge
   record Taken (R : Expr) (f : Sym) (c g : Complete) : Type 0 where
@@ -87,7 +87,7 @@ module _ (σ : Signature) where
       (shares (x.monomial.inner, y.monomial.inner) c x.inner-ordered y.inner-ordered x.children y.children)
       (shares (x.monomial.rest, y.monomial.rest) g x.rest-ordered y.rest-ordered x.follows y.follows)
 
-  module _ (R S : Expr) (o : mentions (isUnordered σ) R ≡ false) (r : mentions (isUnordered σ) S ≡ false) where
+  module _ (R S : Expr) (o : mentions (is_unordered σ) R ≡ false) (r : mentions (is_unordered σ) S ≡ false) where
     shared-hedge : Shares (R, S) ↔ ((g : Complete) × Member σ R g × Member σ S g)
     shared-hedge = (λ s. lies s, λ b. let (g, x, y) = b in shares (R, S) g (ordered R o) (ordered S r) x y)
 

@@ -5,14 +5,14 @@ use mathlib.Core.Bool.{Bool}
 use mathlib.Core.List.{List}
 use lib.ListN.{length}
 use Rattle.language.specs.Limits.{desk}
-use Rattle.language.specs.Question.{countsOf}
+use Rattle.language.specs.Question.{counts_of}
 use Rattle.rules.specs.Answer.{Solving, solving}
-use Rattle.rules.specs.Calls.{Showing, shows, denied, showingOf, showing}
+use Rattle.rules.specs.Calls.{Showing, shows, denied, showing_of, showing}
 use Rattle.outcomes.specs.declared.Shown.{Shown}
-use Rattle.outcomes.specs.Numbers.{shownNumbers}
+use Rattle.outcomes.specs.Numbers.{shown_numbers}
 use Rattle.outcomes.proofs.Apart.{shown-apart}
-use Rattle.line_example.specs.Shown.{numbersOf, result_of}
-use Rattle.example.specs.Exhibits.{exhibits, toldExhibits, exhibited, toldExhibited}
+use Rattle.line_example.specs.Shown.{numbers_of, result_of}
+use Rattle.example.specs.Exhibits.{exhibits, told_exhibits, exhibited, told_exhibited}
 
 abbrev Left : Type 0
 Left = Shown × List ℕ × List ℕ × List ℕ
@@ -21,30 +21,30 @@ abbrev Told : Type 0
 Told = (ℕ × ℕ × ℕ) × List ℕ × List ℕ × List ℕ
 
 abbrev told : Left → Told
-told t = (shownNumbers t.0, t.1, t.2, t.3)
+told t = (shown_numbers t.0, t.1, t.2, t.3)
 
-result-told : (s : Showing) → numbersOf s ≡ shownNumbers (result_of s)
+result-told : (s : Showing) → numbers_of s ≡ shown_numbers (result_of s)
 result-told (shows ws) = refl
 result-told (denied r) = refl
 
 -- by what a run came to
-module _ (v : Solving) (t : Left) (line : ℕ) (oldSheets : Bool) (question work answer room : List ℕ) where
-  both_ways : toldExhibited v line oldSheets question work answer room ≡ told (exhibited v line oldSheets question work answer room)
+module _ (v : Solving) (t : Left) (line : ℕ) (old_sheets : Bool) (question work answer room : List ℕ) where
+  both_ways : told_exhibited v line old_sheets question work answer room ≡ told (exhibited v line old_sheets question work answer room)
   both_ways =
-      let l = exhibited v line oldSheets question work answer room in
-      ap (λ n. (n, l.1, l.2, l.3)) (result-told (showingOf desk oldSheets (countsOf question) (length room) line v))
+      let l = exhibited v line old_sheets question work answer room in
+      ap (λ n. (n, l.1, l.2, l.3)) (result-told (showing_of desk old_sheets (counts_of question) (length room) line v))
 
-  pub told-exhibited : t ≡ exhibited v line oldSheets question work answer room → told t ≡ toldExhibited v line oldSheets question work answer room
+  pub told-exhibited : t ≡ exhibited v line old_sheets question work answer room → told t ≡ told_exhibited v line old_sheets question work answer room
   told-exhibited e = ap told e ∙ sym both_ways
 
-  pub exhibited-told : told t ≡ toldExhibited v line oldSheets question work answer room → t ≡ exhibited v line oldSheets question work answer room
+  pub exhibited-told : told t ≡ told_exhibited v line old_sheets question work answer room → t ≡ exhibited v line old_sheets question work answer room
   exhibited-told e =
-      let l = exhibited v line oldSheets question work answer room in
+      let l = exhibited v line old_sheets question work answer room in
       let d : told t ≡ told l = e ∙ both_ways in
       ap (λ x. (x, t.1, t.2, t.3)) (shown-apart t.0 l.0 (ap (λ (x : Told). x.0) d)) ∙ ap (λ (x : Told). (l.0, x.1, x.2, x.3)) d
 
 -- and where the question is solved
-pub exhibits-told : (t : Left) (line : ℕ) (oldSheets : Bool) (question work answer room : List ℕ)
-    → told t ≡ toldExhibits line oldSheets question work answer room → t ≡ exhibits line oldSheets question work answer room
-unfolding exhibits toldExhibits showing
-exhibits-told t line oldSheets question work answer room e = exhibited-told (solving desk (length work) (length answer) question) t line oldSheets question work answer room e
+pub exhibits-told : (t : Left) (line : ℕ) (old_sheets : Bool) (question work answer room : List ℕ)
+    → told t ≡ told_exhibits line old_sheets question work answer room → t ≡ exhibits line old_sheets question work answer room
+unfolding exhibits told_exhibits showing
+exhibits-told t line old_sheets question work answer room e = exhibited-told (solving desk (length work) (length answer) question) t line old_sheets question work answer room e

@@ -1,7 +1,7 @@
 // The example of a line of a question, which is solved anew.
 ghost use Rattle.std.specs.Prelude.{◌≤◌, ◌≡◌, length};
-ghost use Rattle.outcomes.specs.Numbers.{shownNumbers};
-ghost use Rattle.example.specs.Exhibits.{toldExhibits, toldOver};
+ghost use Rattle.outcomes.specs.Numbers.{shown_numbers};
+ghost use Rattle.example.specs.Exhibits.{told_exhibits, told_over};
 
 use answer_example::show_line;
 use language::limits::ROOM;
@@ -19,7 +19,7 @@ pub fn example(
     answer: &mut [u16],
     room: &mut [u16],
 ) -> Shown
-    ensures { (shownNumbers result, work.new, answer.new, room.new) ≡ toldExhibits line old question.now work.old answer.old room.old }
+    ensures { (shown_numbers result, work.new, answer.new, room.new) ≡ told_exhibits line old question.now work.old answer.old room.old }
 {
     let s = solve(question, work, answer);
     let outcome = s.outcome;
@@ -32,7 +32,7 @@ pub fn example(
 // The same for the question that the first n words are. The example is written over it, in as many words as m; work and answer slice are the call's own.
 pub fn example_over(words: &mut [u16], n: usize, line: usize, old: bool, m: usize) -> Shown
     requires { (n ≤ length words.old) × (m ≤ length words.old) }
-    ensures { (shownNumbers result, words.new) ≡ toldOver n m line old words.old }
+    ensures { (shown_numbers result, words.new) ≡ told_over n m line old words.old }
 {
     let mut answer = [0; ROOM];
     let s = solve_cleared(&words[..n], &mut answer);

@@ -11,12 +11,12 @@ use Rattle.language.specs.Limits.{Limits}
 use Rattle.language.specs.Kinds.{pick}
 use Rattle.texts.specs.Numbering.{symbols}
 use Rattle.text_names.specs.Shelves.{name_at, numbering}
-use Rattle.flat.specs.Filling.{starsOn}
+use Rattle.flat.specs.Filling.{stars_on}
 use Rattle.grammar.specs.Tokens.{comma, plus}
 use Rattle.backwards.specs.Backward.{one-if}
 use Rattle.backwards.proofs.Weight.{length-stars, length-if}
 use Rattle.expression_words.specs.declared.Fill.{Fill}
-use Rattle.expression_words.specs.Seen.{seen, framesIn, Laid, operandIn, itemIn, owing, Turned, insideIn, insideOwed, Named}
+use Rattle.expression_words.specs.Seen.{seen, frames_in, Laid, operand_in, item_in, owing, Turned, inside_in, inside_owed, Named}
 
 set_before : (room : List ℕ) (at w : ℕ) → 1 ≤ at → at ≤ length room → drop (at - 1) (set room (at - 1) w) ≡ w ∷ drop at room
 set_before room at w p q =
@@ -43,7 +43,7 @@ pub record Starring (room : List ℕ) (at stars : ℕ) (to left : ℕ) (room' : 
   pub enough : left ≤ to
   pub high : to ≤ length room
   pub len : length room' ≡ length room
-  pub lives : starsOn left (drop to room') ≡ starsOn stars (drop at room)
+  pub lives : stars_on left (drop to room') ≡ stars_on stars (drop at room)
 
 pub stars-start : {room : List ℕ} {at stars : ℕ} → stars ≤ at → at ≤ length room → Starring room at stars at stars room
 stars-start p q = record { enough = p; high = q; len = refl; lives = refl }
@@ -57,16 +57,16 @@ stars-on {room} {at} {stars} {to} {left} {room'} g p = record {
       let a = g.enough in
       let b = g.high in
       let l = g.len in
-      ap (starsOn (left - 1)) (set_before room' to 7003 (omega arith) (omega arith))
-      ∙ ap (λ k. starsOn k (drop to room')) (let z : suc (left - 1) ≡ left = omega arith in z)
+      ap (stars_on (left - 1)) (set_before room' to 7003 (omega arith) (omega arith))
+      ∙ ap (λ k. stars_on k (drop to room')) (let z : suc (left - 1) ≡ left = omega arith in z)
       ∙ g.lives;
 }
 
-pub stars-end : {room : List ℕ} {at stars to left : ℕ} {room' : List ℕ} → Starring room at stars to left room' → left ≤ 0 → Laid room (starsOn stars (drop at room)) to room'
+pub stars-end : {room : List ℕ} {at stars to left : ℕ} {room' : List ℕ} → Starring room at stars to left room' → left ≤ 0 → Laid room (stars_on stars (drop at room)) to room'
 stars-end {room} {at} {stars} {to} {left} {room'} g p = record {
   high = g.high;
   len = g.len;
-  words = ap (λ k. starsOn k (drop to room')) (let z : 0 ≡ left = omega arith in z) ∙ g.lives;
+  words = ap (λ k. stars_on k (drop to room')) (let z : 0 ≡ left = omega arith in z) ∙ g.lives;
 }
 
 -- ---- one behind the other
@@ -83,51 +83,51 @@ laid_then {room} {vs} {room'} {room''} {a} {r} b w l m = record {
 }
 
 -- room for one word more behind stars; behind an operand
-pub stars-leave : {room room' : List ℕ} {at a : ℕ} (n : ℕ) (b : Bool) → at ≤ length room → Laid room (starsOn n (drop at room)) a room' → n + one-if b ≤ at → one-if b ≤ a
+pub stars-leave : {room room' : List ℕ} {at a : ℕ} (n : ℕ) (b : Bool) → at ≤ length room → Laid room (stars_on n (drop at room)) a room' → n + one-if b ≤ at → one-if b ≤ a
 stars-leave {room} {room'} {at} {a} n b h l p = let q = laid-place l in let k = length-stars n (drop at room) in let d = length-drop at room in omega arith
 
-pub operand-leaves : (s : Fill) {room room' : List ℕ} {a : ℕ} → s.at ≤ length room → Laid room (operandIn s room) a room' → owing s ≤ s.at → one-if s.item ≤ a
+pub operand-leaves : (s : Fill) {room room' : List ℕ} {a : ℕ} → s.at ≤ length room → Laid room (operand_in s room) a room' → owing s ≤ s.at → one-if s.item ≤ a
 operand-leaves s {room} {room'} {a} h l p =
     let q = laid-place l in
-    let i = length-if s.operand 7002 (starsOn s.stars (drop s.at room)) in
+    let i = length-if s.operand 7002 (stars_on s.stars (drop s.at room)) in
     let k = length-stars s.stars (drop s.at room) in
     let d = length-drop s.at room in
     omega arith
 
 -- ---- tokens that only write words
 
-pub comma-turned : (s : Fill) {room room' : List ℕ} {a : ℕ} → Laid room (itemIn s room) a room'
+pub comma-turned : (s : Fill) {room room' : List ℕ} {a : ℕ} → Laid room (item_in s room) a room'
     → Turned comma s room (record { at = a; stars = 0; operand = false; item = true; functor = false; bare = false; depth = s.depth; frames = s.frames }) room'
 unfolding seen
 comma-turned s {room} {room'} {a} l = record {
   high = l.high;
   len = l.len;
   frames = refl;
-  same = λ ρ depths owed. ap (λ ws. record { words = ws; stars = 0; operand = false; item = true; functor = false; bare = false; depth = s.depth; owed = framesIn depths owed s.frames }) l.words;
+  same = λ ρ depths owed. ap (λ ws. record { words = ws; stars = 0; operand = false; item = true; functor = false; bare = false; depth = s.depth; owed = frames_in depths owed s.frames }) l.words;
 }
 
-pub plus-turned : (s : Fill) {room room' : List ℕ} {a : ℕ} → Laid room (operandIn s room) a room'
+pub plus-turned : (s : Fill) {room room' : List ℕ} {a : ℕ} → Laid room (operand_in s room) a room'
     → Turned plus s room (record { at = a; stars = 0; operand = true; item = s.item; functor = false; bare = false; depth = s.depth; frames = s.frames }) room'
 unfolding seen
 plus-turned s {room} {room'} {a} l = record {
   high = l.high;
   len = l.len;
   frames = refl;
-  same = λ ρ depths owed. ap (λ ws. record { words = ws; stars = 0; operand = true; item = s.item; functor = false; bare = false; depth = s.depth; owed = framesIn depths owed s.frames }) l.words;
+  same = λ ρ depths owed. ap (λ ws. record { words = ws; stars = 0; operand = true; item = s.item; functor = false; bare = false; depth = s.depth; owed = frames_in depths owed s.frames }) l.words;
 }
 
 -- ---- brackets that open
 
-pub inside-bare : (s : Fill) {room room' : List ℕ} {r : ℕ} → s.bare ≡ true → Laid room (pick true (7000 ∷ drop s.at room) (drop s.at room)) r room' → Laid room (insideIn s room) r room'
-inside-bare s {room} {room'} {r} e l = record { high = l.high; len = l.len; words = l.words ∙ sym (ap (λ b. pick b (7000 ∷ drop s.at room) (itemIn s room)) e) }
+pub inside-bare : (s : Fill) {room room' : List ℕ} {r : ℕ} → s.bare ≡ true → Laid room (pick true (7000 ∷ drop s.at room) (drop s.at room)) r room' → Laid room (inside_in s room) r room'
+inside-bare s {room} {room'} {r} e l = record { high = l.high; len = l.len; words = l.words ∙ sym (ap (λ b. pick b (7000 ∷ drop s.at room) (item_in s room)) e) }
 
-pub inside-items : (s : Fill) {room room' : List ℕ} {r : ℕ} → s.bare ≡ false → Laid room (itemIn s room) r room' → Laid room (insideIn s room) r room'
-inside-items s {room} {room'} {r} e l = record { high = l.high; len = l.len; words = l.words ∙ sym (ap (λ b. pick b (7000 ∷ drop s.at room) (itemIn s room)) e) }
+pub inside-items : (s : Fill) {room room' : List ℕ} {r : ℕ} → s.bare ≡ false → Laid room (item_in s room) r room' → Laid room (inside_in s room) r room'
+inside-items s {room} {room'} {r} e l = record { high = l.high; len = l.len; words = l.words ∙ sym (ap (λ b. pick b (7000 ∷ drop s.at room) (item_in s room)) e) }
 
-pub owed-bare : (s : Fill) → s.bare ≡ true → insideOwed s ≤ s.at → 1 ≤ s.at
+pub owed-bare : (s : Fill) → s.bare ≡ true → inside_owed s ≤ s.at → 1 ≤ s.at
 owed-bare s e p = subst (λ b. pick b 1 (owing s) ≤ s.at) e p
 
-pub owed-items : (s : Fill) → s.bare ≡ false → insideOwed s ≤ s.at → owing s ≤ s.at
+pub owed-items : (s : Fill) → s.bare ≡ false → inside_owed s ≤ s.at → owing s ≤ s.at
 owed-items s e p = subst (λ b. pick b 1 (owing s) ≤ s.at) e p
 
 -- ---- a name
@@ -149,7 +149,7 @@ name-turned L text names at s {room} {room'} {room''} {a} {r} {w} l e m =
       high = k.high;
       len = k.len;
       frames = refl;
-      same = λ depths owed. ap (λ ws. record { words = ws; stars = s.stars; operand = s.operand; item = s.item; functor = false; bare = false; depth = s.depth; owed = framesIn depths owed s.frames })
+      same = λ depths owed. ap (λ ws. record { words = ws; stars = s.stars; operand = s.operand; item = s.item; functor = false; bare = false; depth = s.depth; owed = frames_in depths owed s.frames })
           (k.words ∙ ap₂ (λ x us. x ∷ us) e (flip s.functor));
     }
   where

@@ -10,12 +10,12 @@ use borrow.Author.Tests.{eqb-true}
 use Rattle.language.specs.Kinds.{pick}
 use Rattle.language.specs.Between.{between}
 use Rattle.language.proofs.Offsets.{between_cons}
-use Rattle.grammar.specs.Tokens.{Token, comma, opens, closes, plus, times, nameByte, blank, beginsName, nameToken}
+use Rattle.grammar.specs.Tokens.{Token, comma, opens, closes, plus, times, name_byte, blank, begins_name, name_token}
 use Rattle.texts.specs.Numbering.{Naming}
 use Rattle.lexing.specs.declared.Mark.{Mark}
 use Rattle.lexing.specs.declared.Mark.TheVariants.{End, Bad, Symbol, One, Run, Function, Equals, Comma, Opens, Closes, Plus, Times}
-use Rattle.lexing.specs.Bytes.{nameFrom, mark_of}
-use Rattle.flat.specs.Filling.{Frame, Filled, itemOn, enclosed, released, turn, nothing}
+use Rattle.lexing.specs.Bytes.{name_from, mark_of}
+use Rattle.flat.specs.Filling.{Frame, Filled, item_on, enclosed, released, turn, nothing}
 use Rattle.backwards.specs.Backward.{taken, marked, backwards, weight}
 use Rattle.backwards.proofs.Weight.{Tidy, Heavy, heavier, tidy, heavy}
 use Rattle.expression_words.specs.Seen.{part, whole}
@@ -42,10 +42,10 @@ module _ (ρ : Naming) where
   good_turn t f = record { grows = λ y. heavier ρ t f y; tidied = λ y. tidy ρ t f y; heavies = λ h. heavy ρ t f h }
 
   pub good-taken : (bs : List ℕ) (f : Filled) → Good f (taken ρ bs f)
-  good-taken bs f = on (beginsName bs)
+  good-taken bs f = on (begins_name bs)
     where
-      on : (b : Bool) → Good f (pick b (turn ρ (nameToken (nameFrom bs)) f) f)
-      on true = good_turn (nameToken (nameFrom bs)) f
+      on : (b : Bool) → Good f (pick b (turn ρ (name_token (name_from bs)) f) f)
+      on true = good_turn (name_token (name_from bs)) f
       on false = good-same f
 
   pub good-marked : (m : Mark) (f : Filled) → Good f (marked ρ m f)
@@ -73,9 +73,9 @@ module _ (ρ : Naming) where
       on false e = rw e
 
   pub depth-taken : (bs : List ℕ) (f : Filled) → (taken ρ bs f).depth ≡ f.depth
-  depth-taken bs f = on (beginsName bs)
+  depth-taken bs f = on (begins_name bs)
     where
-      on : (b : Bool) → (pick b (turn ρ (nameToken (nameFrom bs)) f) f).depth ≡ f.depth
+      on : (b : Bool) → (pick b (turn ρ (name_token (name_from bs)) f) f).depth ≡ f.depth
       on true = refl
       on false = refl
 
@@ -89,15 +89,15 @@ module _ (ρ : Naming) where
   depth-marked Function f = omega arith
   depth-marked Equals f = omega arith
   depth-marked Comma f = omega arith
-  depth-marked Opens f = let z = released-depth (pick f.bare (7000 ∷ f.words) (itemOn f)) (f.depth - 1) f.owed in omega arith
+  depth-marked Opens f = let z = released-depth (pick f.bare (7000 ∷ f.words) (item_on f)) (f.depth - 1) f.owed in omega arith
   depth-marked Closes f = omega arith
   depth-marked Plus f = omega arith
   depth-marked Times f = omega arith
 
   -- ---- byte by byte
 
-  blank-bad : (b : ℕ) → nameByte b ≡ false → blank b ≡ true → mark_of b ≡ Bad
-  unfolding blank mark_of nameByte
+  blank-bad : (b : ℕ) → name_byte b ≡ false → blank b ≡ true → mark_of b ≡ Bad
+  unfolding blank mark_of name_byte
   blank-bad b n e = on (eqb b 32) refl (eqb b 9) refl (eqb b 13) refl
     where
       bad : (k : ℕ) → b ≡ k → mark_of k ≡ Bad → mark_of b ≡ Bad
@@ -126,24 +126,24 @@ module _ (ρ : Naming) where
     unfolding backwards
     part_end = ap (λ n. backwards ρ (take n (drop to text)) nothing) (let z : to - to ≡ 0 = omega arith in z)
 
-    pub part-name : (i : ℕ) → i < to → nameByte (get_or text i 0) ≡ true → part ρ text i to ≡ part ρ text (i + 1) to
+    pub part-name : (i : ℕ) → i < to → name_byte (get_or text i 0) ≡ true → part ρ text i to ≡ part ρ text (i + 1) to
     unfolding backwards
     part-name i p e = ap (λ bs. backwards ρ bs nothing) (between_cons i to text p high) ∙ rw e
 
-    pub part-mark : (i : ℕ) → i < to → nameByte (get_or text i 0) ≡ false → part ρ text i to ≡ marked ρ (mark_of (get_or text i 0)) (taken ρ (between (i + 1) to text) (part ρ text (i + 1) to))
+    pub part-mark : (i : ℕ) → i < to → name_byte (get_or text i 0) ≡ false → part ρ text i to ≡ marked ρ (mark_of (get_or text i 0)) (taken ρ (between (i + 1) to text) (part ρ text (i + 1) to))
     unfolding backwards
     part-mark i p e = ap (λ bs. backwards ρ bs nothing) (between_cons i to text p high) ∙ on (blank (get_or text i 0)) refl
       where
         on : (t : Bool) → blank (get_or text i 0) ≡ t
-            → pick (nameByte (get_or text i 0)) (part ρ text (i + 1) to) (pick (blank (get_or text i 0)) (taken ρ (rest (i + 1)) (part ρ text (i + 1) to)) (marked ρ (mark_of (get_or text i 0)) (taken ρ (rest (i + 1)) (part ρ text (i + 1) to))))
+            → pick (name_byte (get_or text i 0)) (part ρ text (i + 1) to) (pick (blank (get_or text i 0)) (taken ρ (rest (i + 1)) (part ρ text (i + 1) to)) (marked ρ (mark_of (get_or text i 0)) (taken ρ (rest (i + 1)) (part ρ text (i + 1) to))))
             ≡ marked ρ (mark_of (get_or text i 0)) (taken ρ (rest (i + 1)) (part ρ text (i + 1) to))
         on true f = rw (e, f) (sym (ap (λ m. marked ρ m (taken ρ (rest (i + 1)) (part ρ text (i + 1) to))) (blank-bad (get_or text i 0) e f)))
         on false f = rw (e, f)
 
     one_byte : (i : ℕ) → i < to → Good (part ρ text (i + 1) to) (part ρ text i to) × ((part ρ text i to).depth ≤ (part ρ text (i + 1) to).depth + 1)
-    one_byte i p = on (nameByte (get_or text i 0)) refl
+    one_byte i p = on (name_byte (get_or text i 0)) refl
       where
-        on : (t : Bool) → nameByte (get_or text i 0) ≡ t → Good (part ρ text (i + 1) to) (part ρ text i to) × ((part ρ text i to).depth ≤ (part ρ text (i + 1) to).depth + 1)
+        on : (t : Bool) → name_byte (get_or text i 0) ≡ t → Good (part ρ text (i + 1) to) (part ρ text i to) × ((part ρ text i to).depth ≤ (part ρ text (i + 1) to).depth + 1)
         on true e = subst (λ f. Good (part ρ text (i + 1) to) f × (f.depth ≤ (part ρ text (i + 1) to).depth + 1)) (sym (part-name i p e)) (good-same (part ρ text (i + 1) to), omega arith)
         on false e =
             subst (λ f. Good (part ρ text (i + 1) to) f × (f.depth ≤ (part ρ text (i + 1) to).depth + 1)) (sym (part-mark i p e)) (

@@ -11,48 +11,48 @@ use Rattle.language.specs.Limits.{Limits}
 use Rattle.language.specs.Kinds.{pick}
 use Rattle.language.specs.Between.{between}
 use Rattle.language.proofs.Offsets.{between_cons}
-use Rattle.grammar.specs.Tokens.{nameByte, beginsName, nameToken}
+use Rattle.grammar.specs.Tokens.{name_byte, begins_name, name_token}
 use Rattle.texts.specs.Numbering.{Naming}
 use Rattle.lexing.specs.declared.Mark.{Mark}
 use Rattle.lexing.specs.declared.Mark.TheVariants.{Opens}
-use Rattle.lexing.specs.Bytes.{nameFrom, mark_of}
+use Rattle.lexing.specs.Bytes.{name_from, mark_of}
 use Rattle.text_names.specs.Shelves.{numbering, Shelves}
-use Rattle.flat.specs.Filling.{operandOn, itemOn, released, turn}
-use Rattle.backwards.specs.Backward.{one-if, owedIn, taken, marked, weight}
+use Rattle.flat.specs.Filling.{operand_on, item_on, released, turn}
+use Rattle.backwards.specs.Backward.{one-if, owed_in, taken, marked, weight}
 use Rattle.backwards.proofs.Weight.{Tidy, Heavy, few-frames, released-weight, length-item}
 use Rattle.expression_words.specs.declared.Fill.{Fill}
-use Rattle.expression_words.specs.Seen.{code_of, framesIn, seen, owing, insideOwed, operandIn, Laid, Space, Marked, Named, NameSpace, NameTaken, part, whole, Expression}
+use Rattle.expression_words.specs.Seen.{code_of, frames_in, seen, owing, inside_owed, operand_in, Laid, Space, Marked, Named, NameSpace, NameTaken, part, whole, Expression}
 use Rattle.expression_words.proofs.Laying.{laid-place}
 use Rattle.expression_words.proofs.Parts.{part-name, part-mark, part_end, part-tidy, part-whole, depth-taken, good-taken, good-marked}
 
 -- ---- what the weight of a state says of its places
 
-length-frames : (ds cs : List ℕ) (k : ℕ) → length (framesIn ds cs k) ≡ k
+length-frames : (ds cs : List ℕ) (k : ℕ) → length (frames_in ds cs k) ≡ k
 length-frames ds cs zero = refl
 length-frames ds cs (suc k) = ap suc (length-frames ds cs k)
 
-owing-fits : (s : Fill) (room ds cs : List ℕ) → s.at ≤ length room → weight (seen s room ds cs) ≤ length room → (owing s + owedIn (framesIn ds cs s.frames) ≤ s.at)
+owing-fits : (s : Fill) (room ds cs : List ℕ) → s.at ≤ length room → weight (seen s room ds cs) ≤ length room → (owing s + owed_in (frames_in ds cs s.frames) ≤ s.at)
 unfolding seen weight
 owing-fits s room ds cs h w = let d = length-drop s.at room in omega arith
 
-opens-fits : (ρ : Naming) (s : Fill) (room ds cs : List ℕ) → s.at ≤ length room → weight (marked ρ Opens (seen s room ds cs)) ≤ length room → insideOwed s ≤ s.at
+opens-fits : (ρ : Naming) (s : Fill) (room ds cs : List ℕ) → s.at ≤ length room → weight (marked ρ Opens (seen s room ds cs)) ≤ length room → inside_owed s ≤ s.at
 unfolding seen
 opens-fits ρ s room ds cs h w = on s.bare refl
   where
     on : (b : Bool) → s.bare ≡ b → pick b 1 (owing s) ≤ s.at
     on true e =
-        let z = released-weight (7000 ∷ drop s.at room) (s.depth - 1) (framesIn ds cs s.frames) in
-        let y = subst (λ b. weight (released (pick b (7000 ∷ drop s.at room) (itemOn (seen s room ds cs))) (s.depth - 1) (framesIn ds cs s.frames)) ≤ length room) e w in
+        let z = released-weight (7000 ∷ drop s.at room) (s.depth - 1) (frames_in ds cs s.frames) in
+        let y = subst (λ b. weight (released (pick b (7000 ∷ drop s.at room) (item_on (seen s room ds cs))) (s.depth - 1) (frames_in ds cs s.frames)) ≤ length room) e w in
         let d = length-drop s.at room in
         omega arith
     on false e =
-        let z = released-weight (itemOn (seen s room ds cs)) (s.depth - 1) (framesIn ds cs s.frames) in
-        let y = subst (λ b. weight (released (pick b (7000 ∷ drop s.at room) (itemOn (seen s room ds cs))) (s.depth - 1) (framesIn ds cs s.frames)) ≤ length room) e w in
+        let z = released-weight (item_on (seen s room ds cs)) (s.depth - 1) (frames_in ds cs s.frames) in
+        let y = subst (λ b. weight (released (pick b (7000 ∷ drop s.at room) (item_on (seen s room ds cs))) (s.depth - 1) (frames_in ds cs s.frames)) ≤ length room) e w in
         let l = length-item (seen s room ds cs) in
         let d = length-drop s.at room in
         omega arith
 
-name-fits : (ρ : Naming) (n : ℕ) (s : Fill) (room ds cs : List ℕ) → s.at ≤ length room → weight (turn ρ (nameToken n) (seen s room ds cs)) ≤ length room → one-if (not s.functor) + 1 ≤ s.at
+name-fits : (ρ : Naming) (n : ℕ) (s : Fill) (room ds cs : List ℕ) → s.at ≤ length room → weight (turn ρ (name_token n) (seen s room ds cs)) ≤ length room → one-if (not s.functor) + 1 ≤ s.at
 unfolding seen weight
 name-fits ρ n s room ds cs h w = on s.functor refl
   where
@@ -71,26 +71,26 @@ code-owing s n = on s.stars s.operand s.item n
 
 -- ---- the name that stands first
 
-name-in-part : (text : List ℕ) (to : ℕ) → to ≤ length text → beginsName (drop to text) ≡ false → (k at : ℕ) → at + k ≡ to → nameFrom (between at to text) ≡ nameFrom (drop at text)
-unfolding nameFrom
+name-in-part : (text : List ℕ) (to : ℕ) → to ≤ length text → begins_name (drop to text) ≡ false → (k at : ℕ) → at + k ≡ to → name_from (between at to text) ≡ name_from (drop at text)
+unfolding name_from
 name-in-part text to h e zero at p =
-    ap (λ n. nameFrom (take n (drop at text))) (let z : to - at ≡ 0 = omega arith in z)
-    ∙ sym (ap (λ n. nameFrom (drop n text)) (let z : at ≡ to = omega arith in z) ∙ none (drop to text) e)
+    ap (λ n. name_from (take n (drop at text))) (let z : to - at ≡ 0 = omega arith in z)
+    ∙ sym (ap (λ n. name_from (drop n text)) (let z : at ≡ to = omega arith in z) ∙ none (drop to text) e)
   where
-    none : (bs : List ℕ) → beginsName bs ≡ false → nameFrom bs ≡ 0
+    none : (bs : List ℕ) → begins_name bs ≡ false → name_from bs ≡ 0
     none [] e = refl
     none (b ∷ bs) e = rw e
 name-in-part text to h e (suc k) at p =
-    ap nameFrom (between_cons at to text (omega arith) h)
-    ∙ ap (λ n. pick (nameByte (get_or text at 0)) (get_or text at 0 + 256 * n) 0) (name-in-part text to h e k (at + 1) (omega arith))
-    ∙ ap (λ n. pick (nameByte (get_or text at 0)) (get_or text at 0 + 256 * nameFrom (drop n text)) 0) (let z : at + 1 ≡ suc at = omega arith in z)
-    ∙ sym (ap nameFrom (drop-cons text at 0 (omega arith)))
+    ap name_from (between_cons at to text (omega arith) h)
+    ∙ ap (λ n. pick (name_byte (get_or text at 0)) (get_or text at 0 + 256 * n) 0) (name-in-part text to h e k (at + 1) (omega arith))
+    ∙ ap (λ n. pick (name_byte (get_or text at 0)) (get_or text at 0 + 256 * name_from (drop n text)) 0) (let z : at + 1 ≡ suc at = omega arith in z)
+    ∙ sym (ap name_from (drop-cons text at 0 (omega arith)))
 
-begins-here : (text : List ℕ) (at to : ℕ) → at < to → to ≤ length text → beginsName (between at to text) ≡ nameByte (get_or text at 0)
-begins-here text at to p h = ap beginsName (between_cons at to text p h)
+begins-here : (text : List ℕ) (at to : ℕ) → at < to → to ≤ length text → begins_name (between at to text) ≡ name_byte (get_or text at 0)
+begins-here text at to p h = ap begins_name (between_cons at to text p h)
 
-begins-none : (text : List ℕ) (at to : ℕ) → at ≡ to → beginsName (between at to text) ≡ false
-begins-none text at to e = ap (λ n. beginsName (take n (drop at text))) (let z : to - at ≡ 0 = omega arith in z)
+begins-none : (text : List ℕ) (at to : ℕ) → at ≡ to → begins_name (between at to text) ≡ false
+begins-none text at to e = ap (λ n. begins_name (take n (drop at text))) (let z : to - at ≡ 0 = omega arith in z)
 
 module _ {L : Limits} {text names : List ℕ} {at to : ℕ} {s : Fill} {room : List ℕ} (n : NameSpace L text names at to s room) where
   pub none-taken : at ≡ to → NameTaken L text names at to s room s room
@@ -98,26 +98,26 @@ module _ {L : Limits} {text names : List ℕ} {at to : ℕ} {s : Fill} {room : L
     high = n.place;
     len = refl;
     frames = refl;
-    same = λ ds cs. sym (ap (λ b. pick b (turn (numbering L text names) (nameToken (nameFrom (between at to text))) (seen s room ds cs)) (seen s room ds cs)) (begins-none text at to e));
+    same = λ ds cs. sym (ap (λ b. pick b (turn (numbering L text names) (name_token (name_from (between at to text))) (seen s room ds cs)) (seen s room ds cs)) (begins-none text at to e));
   }
 
-  pub other-taken : (at ≡ to → ⊥) → {b : Bool} → b ≡ nameByte (get_or text at 0) → b ≡ false → NameTaken L text names at to s room s room
+  pub other-taken : (at ≡ to → ⊥) → {b : Bool} → b ≡ name_byte (get_or text at 0) → b ≡ false → NameTaken L text names at to s room s room
   other-taken z {b} e f = record {
     high = n.place;
     len = refl;
     frames = refl;
     same = λ ds cs.
         let l = n.low in
-        sym (ap (λ b. pick b (turn (numbering L text names) (nameToken (nameFrom (between at to text))) (seen s room ds cs)) (seen s room ds cs)) (begins-here text at to (omega arith) n.high ∙ sym e ∙ f));
+        sym (ap (λ b. pick b (turn (numbering L text names) (name_token (name_from (between at to text))) (seen s room ds cs)) (seen s room ds cs)) (begins-here text at to (omega arith) n.high ∙ sym e ∙ f));
   }
 
   pub within : (at ≡ to → ⊥) → at < length text
   within z = let l = n.low in let h = n.high in omega arith
 
-  pub name-space : (at ≡ to → ⊥) → {b : Bool} → b ≡ nameByte (get_or text at 0) → b ≡ true → one-if (not s.functor) + 1 ≤ s.at
+  pub name-space : (at ≡ to → ⊥) → {b : Bool} → b ≡ name_byte (get_or text at 0) → b ≡ true → one-if (not s.functor) + 1 ≤ s.at
   name-space z {b} e f = let l = n.low in n.enough (begins-here text at to (omega arith) n.high ∙ sym e ∙ f)
 
-  pub name-taken : (at ≡ to → ⊥) → {b : Bool} → b ≡ nameByte (get_or text at 0) → b ≡ true → {r : Fill} {room' : List ℕ} → Named L text names at s room r room' → NameTaken L text names at to s room r room'
+  pub name-taken : (at ≡ to → ⊥) → {b : Bool} → b ≡ name_byte (get_or text at 0) → b ≡ true → {r : Fill} {room' : List ℕ} → Named L text names at s room r room' → NameTaken L text names at to s room r room'
   name-taken z {b} e f {r} {room'} d = record {
     high = d.high;
     len = d.len;
@@ -125,8 +125,8 @@ module _ {L : Limits} {text names : List ℕ} {at to : ℕ} {s : Fill} {room : L
     same = λ ds cs.
         let l = n.low in
         d.same ds cs
-        ∙ ap (λ k. turn (numbering L text names) (nameToken k) (seen s room ds cs)) (sym (name-in-part text to n.high n.ends (to - at) at (omega arith)))
-        ∙ sym (ap (λ b. pick b (turn (numbering L text names) (nameToken (nameFrom (between at to text))) (seen s room ds cs)) (seen s room ds cs)) (begins-here text at to (omega arith) n.high ∙ sym e ∙ f));
+        ∙ ap (λ k. turn (numbering L text names) (name_token k) (seen s room ds cs)) (sym (name-in-part text to n.high n.ends (to - at) at (omega arith)))
+        ∙ sym (ap (λ b. pick b (turn (numbering L text names) (name_token (name_from (between at to text))) (seen s room ds cs)) (seen s room ds cs)) (begins-here text at to (omega arith) n.high ∙ sym e ∙ f));
   }
 
 -- ---- the loop
@@ -180,7 +180,7 @@ module _ (L : Limits) (text names : List ℕ) (at to : ℕ) (room₀ ds₀ cs₀
     weight-here = let a = part-whole ρ text to e.high at i g.low g.high in let b = e.fits in let l = g.len in omega arith
 
     -- a name at the place where the loop stands
-    weight-taken : (j : ℕ) → at ≤ j → j < i → i ≡ j + 1 → nameByte (get_or text j 0) ≡ false → weight (taken ρ (between i to text) (part ρ text i to)) ≤ length room
+    weight-taken : (j : ℕ) → at ≤ j → j < i → i ≡ j + 1 → name_byte (get_or text j 0) ≡ false → weight (taken ρ (between i to text) (part ρ text i to)) ≤ length room
     weight-taken j p q z f =
         let h = g.high in
         let w = part-whole ρ text to e.high at j p (omega arith) in
@@ -203,9 +203,9 @@ module _ (L : Limits) (text names : List ℕ) (at to : ℕ) (room₀ ds₀ cs₀
       ends = e.ends;
       shelves = g.shelves;
       place = g.place;
-      enough = λ b. name-fits ρ (nameFrom (between i to text)) s room ds cs g.place
-          (subst (λ f. weight (turn ρ (nameToken (nameFrom (between i to text))) f) ≤ length room) (sym g.same)
-          (subst (λ b. weight (pick b (turn ρ (nameToken (nameFrom (between i to text))) (part ρ text i to)) (part ρ text i to)) ≤ length room) b w));
+      enough = λ b. name-fits ρ (name_from (between i to text)) s room ds cs g.place
+          (subst (λ f. weight (turn ρ (name_token (name_from (between i to text))) f) ≤ length room) (sym g.same)
+          (subst (λ b. weight (pick b (turn ρ (name_token (name_from (between i to text))) (part ρ text i to)) (part ρ text i to)) ≤ length room) b w));
     }
 
     -- behind the loop: the name that stands first
@@ -216,7 +216,7 @@ module _ (L : Limits) (text names : List ℕ) (at to : ℕ) (room₀ ds₀ cs₀
       all_seen : seen r room' ds cs ≡ whole ρ text at to
       all_seen = t.same ds cs ∙ ap (taken ρ (between at to text)) (g.same ∙ ap (λ k. part ρ text k to) (let l = g.low in let z : i ≡ at = omega arith in z))
 
-      operand-seen : (x : Fill) (rm : List ℕ) → operandIn x rm ≡ operandOn (seen x rm ds cs)
+      operand-seen : (x : Fill) (rm : List ℕ) → operand_in x rm ≡ operand_on (seen x rm ds cs)
       unfolding seen
       operand-seen x rm = refl
 
@@ -230,9 +230,9 @@ module _ (L : Limits) (text names : List ℕ) (at to : ℕ) (room₀ ds₀ cs₀
           let o = owing-fits r room' ds cs (omega arith) (omega arith) in
           (omega arith, omega arith)
 
-      pub all_laid : {k : ℕ} {room'' : List ℕ} → Laid room' (operandIn r room') k room'' → (room'' ≡ operandOn (whole (numbering L text names) text at to)) × (length ds ≡ length ds₀) × (length cs ≡ length cs₀)
+      pub all_laid : {k : ℕ} {room'' : List ℕ} → Laid room' (operand_in r room') k room'' → (room'' ≡ operand_on (whole (numbering L text names) text at to)) × (length ds ≡ length ds₀) × (length cs ≡ length cs₀)
       all_laid {k} {room''} l =
-          let o = operand-seen r room' ∙ ap operandOn all_seen in
+          let o = operand-seen r room' ∙ ap operand_on all_seen in
           let q = laid-place l in
           let a = ap length o in
           let b = e.long in
@@ -253,7 +253,7 @@ module _ (L : Limits) (text names : List ℕ) (at to : ℕ) (room₀ ds₀ cs₀
       back_one : i ≡ i - 1 + 1
       back_one = omega arith
 
-      pub name-byte : {b : Bool} → b ≡ nameByte (get_or text (i - 1) 0) → not b ≡ false → Going (i - 1) s room ds cs
+      pub name-byte : {b : Bool} → b ≡ name_byte (get_or text (i - 1) 0) → not b ≡ false → Going (i - 1) s room ds cs
       name-byte {b} q f = record {
         shelves = g.shelves;
         expression = g.expression;
@@ -269,8 +269,8 @@ module _ (L : Limits) (text names : List ℕ) (at to : ℕ) (room₀ ds₀ cs₀
         same = g.same ∙ ap (λ k. part ρ text k to) back_one ∙ sym (part-name ρ text to e.high (i - 1) (let h = g.high in omega arith) (sym q ∙ not-false b f));
       }
 
-      module _ {b : Bool} (q : b ≡ nameByte (get_or text (i - 1) 0)) (f : not b ≡ true) where
-        no_name : nameByte (get_or text (i - 1) 0) ≡ false
+      module _ {b : Bool} (q : b ≡ name_byte (get_or text (i - 1) 0)) (f : not b ≡ true) where
+        no_name : name_byte (get_or text (i - 1) 0) ≡ false
         no_name = sym q ∙ not-true b f
 
         pub name-behind : NameSpace L text names i to s room
@@ -290,8 +290,8 @@ module _ (L : Limits) (text names : List ℕ) (at to : ℕ) (room₀ ds₀ cs₀
               let n = t.len in
               let wt : weight (seen r room' ds cs) ≤ length room' = let x = ap weight seen-behind in let y = weight-taken (i - 1) (omega arith) (omega arith) back_one no_name in omega arith in
               let o = owing-fits r room' ds cs (omega arith) wt in
-              let hv : Heavy (framesIn ds cs r.frames) = frames-heavy in
-              let ff = few-frames (framesIn ds cs r.frames) hv in
+              let hv : Heavy (frames_in ds cs r.frames) = frames-heavy in
+              let ff = few-frames (frames_in ds cs r.frames) hv in
               let lf = length-frames ds cs r.frames in
               let lr = g.len in
               let l₁ = g.len-ds in
@@ -309,7 +309,7 @@ module _ (L : Limits) (text names : List ℕ) (at to : ℕ) (room₀ ds₀ cs₀
                 another = λ c. let w = code-owing r c in (omega arith, omega arith);
               }
             where
-              frames-heavy : Heavy (framesIn ds cs r.frames)
+              frames-heavy : Heavy (frames_in ds cs r.frames)
               frames-heavy = subst (λ x. Heavy x.owed) (sym seen-behind) ((good-taken ρ (between i to text) (part ρ text i to)).heavies (part-tidy ρ text to e.high i g.high).1)
 
               opened : m ≡ mark_of (get_or text (i - 1) 0) → m ≡ Opens → weight (marked ρ Opens (seen r room' ds cs)) ≤ length room'

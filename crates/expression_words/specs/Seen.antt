@@ -4,12 +4,12 @@ use Rattle.std.specs.Prelude.{ℕ, zero, suc, ◌+◌, ◌-◌, ◌*◌, ◌/◌
 use Rattle.language.specs.Limits.{Limits}
 use Rattle.language.specs.Kinds.{pick}
 use Rattle.language.specs.Between.{between}
-use Rattle.grammar.specs.Tokens.{Token, beginsName, nameToken}
+use Rattle.grammar.specs.Tokens.{Token, begins_name, name_token}
 use Rattle.text_names.specs.Shelves.{name_at, numbering, Shelves}
 use Rattle.texts.specs.Numbering.{Naming}
 use Rattle.lexing.specs.declared.Mark.{Mark}
 use Rattle.lexing.specs.declared.Mark.TheVariants.{Opens}
-use Rattle.flat.specs.Filling.{Frame, Filled, starsOn, operandOn, enclosed, released, turn, nothing}
+use Rattle.flat.specs.Filling.{Frame, Filled, stars_on, operand_on, enclosed, released, turn, nothing}
 use Rattle.backwards.specs.Backward.{one-if, taken, marked, backwards, weight}
 use Rattle.expression_words.specs.declared.Fill.{Fill}
 
@@ -21,9 +21,9 @@ abbrev pub frame_of : ℕ → ℕ → Frame
 frame_of d c = record { depth = d; stars = c / 4; operand = eqb (c / 2 % 2) 1; item = eqb (c % 2) 1 }
 
 -- the first so many of the rows, the last first
-abbrev pub framesIn : List ℕ → List ℕ → ℕ → List Frame
-framesIn depths owed zero = []
-framesIn depths owed (suc k) = frame_of (get_or depths k 0) (get_or owed k 0) ∷ framesIn depths owed k
+abbrev pub frames_in : List ℕ → List ℕ → ℕ → List Frame
+frames_in depths owed zero = []
+frames_in depths owed (suc k) = frame_of (get_or depths k 0) (get_or owed k 0) ∷ frames_in depths owed k
 
 unfoldable pub seen : Fill → List ℕ → List ℕ → List ℕ → Filled
 seen s room depths owed = record {
@@ -34,7 +34,7 @@ seen s room depths owed = record {
   functor = s.functor;
   bare = s.bare;
   depth = s.depth;
-  owed = framesIn depths owed s.frames;
+  owed = frames_in depths owed s.frames;
 }
 
 -- ---- words written before those that are there
@@ -44,11 +44,11 @@ pub record Laid (room vs : List ℕ) (r : ℕ) (room' : List ℕ) : Type 0 where
   pub len : length room' ≡ length room
   pub words : drop r room' ≡ vs
 
-abbrev pub operandIn : Fill → List ℕ → List ℕ
-operandIn s room = pick s.operand (7002 ∷ starsOn s.stars (drop s.at room)) (starsOn s.stars (drop s.at room))
+abbrev pub operand_in : Fill → List ℕ → List ℕ
+operand_in s room = pick s.operand (7002 ∷ stars_on s.stars (drop s.at room)) (stars_on s.stars (drop s.at room))
 
-abbrev pub itemIn : Fill → List ℕ → List ℕ
-itemIn s room = pick s.item (7001 ∷ operandIn s room) (operandIn s room)
+abbrev pub item_in : Fill → List ℕ → List ℕ
+item_in s room = pick s.item (7001 ∷ operand_in s room) (operand_in s room)
 
 -- how many words are owed
 abbrev pub owing : Fill → ℕ
@@ -85,29 +85,29 @@ whole ρ text at to = taken ρ (between at to text) (part ρ text at to)
 pub record Expression (ρ : Naming) (text : List ℕ) (at to : ℕ) (room : List ℕ) : Type 0 where
   pub low : at ≤ to
   pub high : to ≤ length text
-  pub ends : beginsName (drop to text) ≡ false
+  pub ends : begins_name (drop to text) ≡ false
   pub fits : weight (whole ρ text at to) ≤ length room
-  pub long : length (operandOn (whole ρ text at to)) ≡ length room
+  pub long : length (operand_on (whole ρ text at to)) ≡ length room
 
 -- ---- brackets
 
 -- what stands in brackets that open here: eps where nothing does, else its items
-abbrev pub insideIn : Fill → List ℕ → List ℕ
-insideIn s room = pick s.bare (7000 ∷ drop s.at room) (itemIn s room)
+abbrev pub inside_in : Fill → List ℕ → List ℕ
+inside_in s room = pick s.bare (7000 ∷ drop s.at room) (item_in s room)
 
-abbrev pub insideOwed : Fill → ℕ
-insideOwed s = pick s.bare 1 (owing s)
+abbrev pub inside_owed : Fill → ℕ
+inside_owed s = pick s.bare 1 (owing s)
 
-abbrev pub starredOf : Fill → Fill
-starredOf s = record { at = s.at; stars = s.stars + 1; operand = s.operand; item = s.item; functor = false; bare = false; depth = s.depth; frames = s.frames }
+abbrev pub starred_of : Fill → Fill
+starred_of s = record { at = s.at; stars = s.stars + 1; operand = s.operand; item = s.item; functor = false; bare = false; depth = s.depth; frames = s.frames }
 
-abbrev pub freeOf : ℕ → ℕ → ℕ → Fill
-freeOf at depth frames = record { at = at; stars = 0; operand = false; item = false; functor = true; bare = false; depth = depth; frames = frames }
+abbrev pub free_of : ℕ → ℕ → ℕ → Fill
+free_of at depth frames = record { at = at; stars = 0; operand = false; item = false; functor = true; bare = false; depth = depth; frames = frames }
 
 -- out of brackets: what was owed before them is owed again
 pub record Released (s : Fill) (at : ℕ) (depths owed : List ℕ) (r : Fill) : Type 0 where
   pub place : r.at ≡ at
-  pub same : (room : List ℕ) → seen r room depths owed ≡ released (drop at room) (s.depth - 1) (framesIn depths owed s.frames)
+  pub same : (room : List ℕ) → seen r room depths owed ≡ released (drop at room) (s.depth - 1) (frames_in depths owed s.frames)
 
 -- into brackets: what is owed is kept aside
 pub record Enclosed (s : Fill) (depths owed : List ℕ) (r : Fill) (depths' owed' : List ℕ) : Type 0 where
@@ -121,7 +121,7 @@ pub record Space (L : Limits) (m : Mark) (s : Fill) (room depths owed : List ℕ
   pub high : s.at ≤ length room
   pub short : length room ≤ L.question + 1
   pub enough : owing s ≤ s.at
-  pub inside : m ≡ Opens → insideOwed s ≤ s.at
+  pub inside : m ≡ Opens → inside_owed s ≤ s.at
   pub depth : s.depth < most
   pub few : (s.frames ≤ length depths) × (s.frames ≤ length owed)
   pub another : (code_of s.stars s.operand s.item ≡ 0 → ⊥) → (s.frames < length depths) × (s.frames < length owed)
@@ -131,16 +131,16 @@ pub record Named (L : Limits) (text names : List ℕ) (at : ℕ) (s : Fill) (roo
   pub high : r.at ≤ length room
   pub len : length room' ≡ length room
   pub frames : r.frames ≡ s.frames
-  pub same : (depths owed : List ℕ) → seen r room' depths owed ≡ turn (numbering L text names) (nameToken (name_at text at)) (seen s room depths owed)
+  pub same : (depths owed : List ℕ) → seen r room' depths owed ≡ turn (numbering L text names) (name_token (name_at text at)) (seen s room depths owed)
 
 -- the name that stands first of the bytes between two places
 pub record NameSpace (L : Limits) (text names : List ℕ) (at to : ℕ) (s : Fill) (room : List ℕ) : Type 0 where
   pub low : at ≤ to
   pub high : to ≤ length text
-  pub ends : beginsName (drop to text) ≡ false
+  pub ends : begins_name (drop to text) ≡ false
   pub shelves : Shelves L names
   pub place : s.at ≤ length room
-  pub enough : beginsName (between at to text) ≡ true → one-if (not s.functor) + 1 ≤ s.at
+  pub enough : begins_name (between at to text) ≡ true → one-if (not s.functor) + 1 ≤ s.at
 
 pub record NameTaken (L : Limits) (text names : List ℕ) (at to : ℕ) (s : Fill) (room : List ℕ) (r : Fill) (room' : List ℕ) : Type 0 where
   pub high : r.at ≤ length room

@@ -5,9 +5,9 @@ ghost use Rattle.language.specs.Limits.{desk};
 ghost use Rattle.language.specs.Kinds.{pick};
 ghost use Rattle.grammar.specs.Tokens.{comma, plus};
 ghost use Rattle.text_names.specs.Shelves.{numbering, Shelves};
-ghost use Rattle.flat.specs.Filling.{starsOn, operandOn};
+ghost use Rattle.flat.specs.Filling.{stars_on, operand_on};
 ghost use Rattle.backwards.specs.Backward.{one-if};
-ghost use Rattle.expression_words.specs.Seen.{code_of, Laid, operandIn, itemIn, owing, Turned, insideIn, insideOwed, starredOf, freeOf, Released, Enclosed, Marked, Space, Named, NameSpace, NameTaken, Expression, whole};
+ghost use Rattle.expression_words.specs.Seen.{code_of, Laid, operand_in, item_in, owing, Turned, inside_in, inside_owed, starred_of, free_of, Released, Enclosed, Marked, Space, Named, NameSpace, NameTaken, Expression, whole};
 
 use language::limits::QUESTION;
 use language::wide;
@@ -44,7 +44,7 @@ fn put_if(room: &mut [u16], at: usize, yes: bool, w: u16) -> usize
 // So many stars.
 fn put_stars(room: &mut [u16], at: usize, stars: usize) -> usize
     requires { (stars ≤ at) × (at ≤ length room.old) }
-    ensures { Laid room.old (starsOn stars (drop at room.old)) result room.new }
+    ensures { Laid room.old (stars_on stars (drop at room.old)) result room.new }
 {
     let mut to = at;
     let mut left = stars;
@@ -59,7 +59,7 @@ fn put_stars(room: &mut [u16], at: usize, stars: usize) -> usize
 // What ends an operand.
 fn put_operand(room: &mut [u16], s: Fill) -> usize
     requires { (s.stars + one-if s.operand ≤ s.at) × (s.at ≤ length room.old) }
-    ensures { Laid room.old (operandIn s room.old) result room.new }
+    ensures { Laid room.old (operand_in s room.old) result room.new }
 {
     let at = put_stars(room, s.at, s.stars);
     put_if(room, at, s.operand, 7002)
@@ -68,7 +68,7 @@ fn put_operand(room: &mut [u16], s: Fill) -> usize
 // What ends an item.
 fn put_item(room: &mut [u16], s: Fill) -> usize
     requires { (owing s ≤ s.at) × (s.at ≤ length room.old) }
-    ensures { Laid room.old (itemIn s room.old) result room.new }
+    ensures { Laid room.old (item_in s room.old) result room.new }
 {
     let at = put_operand(room, s);
     put_if(room, at, s.item, 7001)
@@ -113,7 +113,7 @@ fn on_plus(room: &mut [u16], s: Fill) -> Fill
 // A star: one more is owed.
 fn on_times(s: Fill) -> Fill
     requires { s.stars ≤ desk.question + 1 }
-    ensures { result ≡ starredOf s }
+    ensures { result ≡ starred_of s }
 {
     Fill {
         at: s.at,
@@ -179,8 +179,8 @@ fn on_closes(s: Fill, depths: &mut [usize], owed: &mut [u16], most: usize) -> Fi
 
 // What stands in brackets that open here.
 fn put_inside(room: &mut [u16], s: Fill) -> usize
-    requires { (insideOwed s ≤ s.at) × (s.at ≤ length room.old) }
-    ensures { Laid room.old (insideIn s room.old) result room.new }
+    requires { (inside_owed s ≤ s.at) × (s.at ≤ length room.old) }
+    ensures { Laid room.old (inside_in s room.old) result room.new }
 {
     if s.bare {
         return put_if(room, s.at, true, 7000);
@@ -200,7 +200,7 @@ fn outer(depth: usize) -> usize
 
 // Nothing is owed before a bracket that opens.
 fn unowed(at: usize, depth: usize, frames: usize) -> Fill
-    ensures { result ≡ freeOf at depth frames }
+    ensures { result ≡ free_of at depth frames }
 {
     Fill {
         at: at,
@@ -243,7 +243,7 @@ fn out(s: Fill, at: usize, depths: &[usize], owed: &[u16]) -> Fill
 
 // A bracket that opens: what stands in it ends, and what is owed before it is owed again.
 fn on_opens(room: &mut [u16], s: Fill, depths: &[usize], owed: &[u16]) -> Fill
-    requires { (insideOwed s ≤ s.at) × (s.at ≤ length room.old) × (s.frames ≤ length depths.now) × (s.frames ≤ length owed.now) }
+    requires { (inside_owed s ≤ s.at) × (s.at ≤ length room.old) × (s.frames ≤ length depths.now) × (s.frames ≤ length owed.now) }
     ensures { Marked Opens s room.old depths.now owed.now result room.new depths.now owed.now }
 {
     let at = put_inside(room, s);
@@ -323,7 +323,7 @@ fn write_with(
     owed: &mut [u16],
 )
     requires { Shelves desk names.now × Expression (numbering desk text.now names.now) text.now at to room.old × (length room.old ≤ desk.question + 1) × (length room.old ≤ length depths.old) × (length room.old ≤ length owed.old) }
-    ensures { (room.new ≡ operandOn (whole (numbering desk text.now names.now) text.now at to)) × (length depths.new ≡ length depths.old) × (length owed.new ≡ length owed.old) }
+    ensures { (room.new ≡ operand_on (whole (numbering desk text.now names.now) text.now at to)) × (length depths.new ≡ length depths.old) × (length owed.new ≡ length owed.old) }
 {
     let mut i = to;
     let mut s = Fill {
@@ -352,7 +352,7 @@ fn write_with(
 // The same, with rows of its own.
 pub fn write_expression(text: &[u8], names: &[usize], at: usize, to: usize, room: &mut [u16])
     requires { Shelves desk names.now × Expression (numbering desk text.now names.now) text.now at to room.old × (length room.old ≤ desk.question + 1) }
-    ensures { room.new ≡ operandOn (whole (numbering desk text.now names.now) text.now at to) }
+    ensures { room.new ≡ operand_on (whole (numbering desk text.now names.now) text.now at to) }
 {
     let mut depths = [0usize; QUESTION + 1];
     let mut owed = [0u16; QUESTION + 1];

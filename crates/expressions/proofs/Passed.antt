@@ -5,7 +5,7 @@ use mathlib.Core.Bool.{Bool, true, false, ◌&&◌, ◌||◌}
 use mathlib.Core.List.{List}
 use native.Mathlib.Omega.{arith}
 use lib.ListN.{length, get_or, length-append}
-use Rattle.language.specs.Writing.{exprWords}
+use Rattle.language.specs.Writing.{expr_words}
 use Rattle.rules.specs.Expressions.{nullable}
 use Rattle.expressions.specs.declared.Part.{Part}
 use Rattle.expressions.specs.Standing.{PartOf, Parted}
@@ -54,7 +54,7 @@ module _ {k : List ℕ} {at : ℕ} where
           each = by-cat _ z (λ A B w h o.
               let l = a.each A _ h in
               let r = b.each B w (second-of h o l.end) in
-              let s = length-append (exprWords A) (exprWords B) in
+              let s = length-append (expr_words A) (expr_words B) in
               let y = l.end in
               let x = r.end in
               record { end = omega arith; null = e ∙ ap (λ n. n && q.null) l.null ∙ ap (λ n. nullable A && n) r.null; bare = refl });
@@ -70,7 +70,7 @@ module _ {k : List ℕ} {at : ℕ} where
           each = λ R v g. by-alt (λ R v. PartOf at R (record { end = q.end; null = n; bare = false })) (is-alt g n0 n1 n3 lo) (λ A B w h o.
               let l = a.each A _ h in
               let r = b.each B w (second-of h o l.end) in
-              let s = length-append (exprWords A) (exprWords B) in
+              let s = length-append (expr_words A) (expr_words B) in
               let y = l.end in
               let x = r.end in
               record { end = omega arith; null = e ∙ ap (λ n. n || q.null) l.null ∙ ap (λ n. nullable A || n) r.null; bare = refl }) R v g;

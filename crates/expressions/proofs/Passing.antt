@@ -10,7 +10,7 @@ use lib.Seq.{drop-drop, get_or-drop}
 use borrow.Author.Tests.{eq-eqb, ne_eqb, le-leb, lt-leb}
 use Rattle.words.proofs.Parts.{drop_here}
 use Rattle.expressions.specs.declared.Part.{Part}
-use Rattle.expressions.specs.Passing.{asks, reach, nullBy, nulls, part_at}
+use Rattle.expressions.specs.Passing.{asks, reach, null_by, nulls, part_at}
 
 -- ---- by the word
 
@@ -32,24 +32,24 @@ module _ (x : ℕ) where
   asks_two a b h = rw (ne_eqb x 7000 a, ne_eqb x 7003 b, lt-leb x 6999 (omega arith))
 
   module _ (a b : Bool) where
-    null-eps : x ≡ 7000 → nullBy x a b ≡ true
-    unfolding nullBy
+    null-eps : x ≡ 7000 → null_by x a b ≡ true
+    unfolding null_by
     null-eps e = rw (eq-eqb x 7000 e)
 
-    pub null-star : x ≡ 7003 → nullBy x a b ≡ true
-    unfolding nullBy
+    pub null-star : x ≡ 7003 → null_by x a b ≡ true
+    unfolding null_by
     null-star e = rw (ne_eqb x 7000 (omega arith), eq-eqb x 7003 e)
 
-    pub null-over : x < 7000 → nullBy x a b ≡ false
-    unfolding nullBy
+    pub null-over : x < 7000 → null_by x a b ≡ false
+    unfolding null_by
     null-over h = rw (ne_eqb x 7000 (omega arith), ne_eqb x 7003 (omega arith), le-leb x 6999 (omega arith))
 
-    pub null-cat : x ≡ 7001 → nullBy x a b ≡ (a && b)
-    unfolding nullBy
+    pub null-cat : x ≡ 7001 → null_by x a b ≡ (a && b)
+    unfolding null_by
     null-cat e = rw (ne_eqb x 7000 (omega arith), ne_eqb x 7003 (omega arith), lt-leb x 6999 (omega arith), eq-eqb x 7001 e)
 
-    pub null-alt : (x ≡ 7000 → ⊥) → (x ≡ 7001 → ⊥) → (x ≡ 7003 → ⊥) → 7000 ≤ x → nullBy x a b ≡ (a || b)
-    unfolding nullBy
+    pub null-alt : (x ≡ 7000 → ⊥) → (x ≡ 7001 → ⊥) → (x ≡ 7003 → ⊥) → 7000 ≤ x → null_by x a b ≡ (a || b)
+    unfolding null_by
     null-alt n0 n1 n3 h = rw (ne_eqb x 7000 n0, ne_eqb x 7003 n3, lt-leb x 6999 (omega arith), ne_eqb x 7001 n1)
 
 -- ---- expressions in a row
@@ -102,13 +102,13 @@ module _ (k : List ℕ) (at : ℕ) where
     rest = drop (at + 1) k
 
     -- by the first word
-    part_by : part_at k at ≡ part (at + suc (reach (asks (get_or k at 0)) rest)) (nullBy (get_or k at 0) (get_or (nulls rest) 0 false) (get_or (nulls rest) 1 false)) (eqb (get_or k at 0) 7000)
+    part_by : part_at k at ≡ part (at + suc (reach (asks (get_or k at 0)) rest)) (null_by (get_or k at 0) (get_or (nulls rest) 0 false) (get_or (nulls rest) 1 false)) (eqb (get_or k at 0) 7000)
     unfolding part_at reach nulls
     part_by =
         let e : 0 + asks (get_or k at 0) ≡ asks (get_or k at 0) = omega arith in
-        ap (λ ws. part (at + reach 1 ws) (get_or (nulls ws) 0 false) (eqb (get_or k at 0) 7000)) (drop_here k at i) ∙ ap (λ n. part (at + suc (reach n rest)) (nullBy (get_or k at 0) (get_or (nulls rest) 0 false) (get_or (nulls rest) 1 false)) (eqb (get_or k at 0) 7000)) e
+        ap (λ ws. part (at + reach 1 ws) (get_or (nulls ws) 0 false) (eqb (get_or k at 0) 7000)) (drop_here k at i) ∙ ap (λ n. part (at + suc (reach n rest)) (null_by (get_or k at 0) (get_or (nulls rest) 0 false) (get_or (nulls rest) 1 false)) (eqb (get_or k at 0) 7000)) e
 
-    part-from : {e : ℕ} {n b : Bool} → at + suc (reach (asks (get_or k at 0)) rest) ≡ e → nullBy (get_or k at 0) (get_or (nulls rest) 0 false) (get_or (nulls rest) 1 false) ≡ n → eqb (get_or k at 0) 7000 ≡ b → part e n b ≡ part_at k at
+    part-from : {e : ℕ} {n b : Bool} → at + suc (reach (asks (get_or k at 0)) rest) ≡ e → null_by (get_or k at 0) (get_or (nulls rest) 0 false) (get_or (nulls rest) 1 false) ≡ n → eqb (get_or k at 0) 7000 ≡ b → part e n b ≡ part_at k at
     part-from x y z = sym (part_by ∙ same-part x y z)
 
     pub part-eps : get_or k at 0 ≡ 7000 → record { end = at + 1; null = true; bare = true } ≡ part_at k at
@@ -126,7 +126,7 @@ module _ (k : List ℕ) (at : ℕ) where
       first-null = ap (λ (r : Part). r.null) a
 
       -- one expression follows
-      pub part-one : {n : Bool} → asks (get_or k at 0) ≡ 1 → ((a b : Bool) → nullBy (get_or k at 0) a b ≡ n) → record { end = p.end; null = n; bare = false } ≡ part_at k at
+      pub part-one : {n : Bool} → asks (get_or k at 0) ≡ 1 → ((a b : Bool) → null_by (get_or k at 0) a b ≡ n) → record { end = p.end; null = n; bare = false } ≡ part_at k at
       part-one {n} o u =
           let r : at + suc (reach (asks (get_or k at 0)) rest) ≡ p.end = let b = ap (λ n. reach n rest) o in let c = first-end in omega arith in
           part-from r (u _ _) (ne_eqb (get_or k at 0) 7000 nz)
@@ -144,8 +144,8 @@ module _ (k : List ℕ) (at : ℕ) where
         unfolding part_at
         second-null = ap (λ (r : Part). r.null) b ∙ ap (λ ws. get_or (nulls ws) 0 false) next ∙ ap (λ l. get_or l 0 false) (nulls-more 1 rest) ∙ get_or-drop 1 (nulls rest) 0 false
 
-        pub part-two : {n : Bool} → asks (get_or k at 0) ≡ 2 → n ≡ nullBy (get_or k at 0) p.null q.null → record { end = q.end; null = n; bare = false } ≡ part_at k at
+        pub part-two : {n : Bool} → asks (get_or k at 0) ≡ 2 → n ≡ null_by (get_or k at 0) p.null q.null → record { end = q.end; null = n; bare = false } ≡ part_at k at
         part-two {n} o u =
             let r : at + suc (reach (asks (get_or k at 0)) rest) ≡ q.end = let c = ap (λ n. reach n rest) o in let d = reach-more 1 1 rest in let f = first-end in let g = second-end in omega arith in
-            let v : nullBy (get_or k at 0) (get_or (nulls rest) 0 false) (get_or (nulls rest) 1 false) ≡ n = sym (u ∙ ap (λ b. nullBy (get_or k at 0) b q.null) first-null ∙ ap (nullBy (get_or k at 0) (get_or (nulls rest) 0 false)) second-null) in
+            let v : null_by (get_or k at 0) (get_or (nulls rest) 0 false) (get_or (nulls rest) 1 false) ≡ n = sym (u ∙ ap (λ b. null_by (get_or k at 0) b q.null) first-null ∙ ap (null_by (get_or k at 0) (get_or (nulls rest) 0 false)) second-null) in
             part-from r v (ne_eqb (get_or k at 0) 7000 nz)

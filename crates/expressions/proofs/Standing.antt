@@ -9,8 +9,8 @@ use lib.Seq.{slice, drop-cons}
 use Rattle.language.specs.Limits.{desk}
 use Rattle.language.specs.declared.Sym.{Sym}
 use Rattle.language.specs.Trees.{Expr, eps, cat, alt, star, over}
-use Rattle.language.specs.Writing.{exprWords}
-use Rattle.language.specs.Fine.{fineExpr}
+use Rattle.language.specs.Writing.{expr_words}
+use Rattle.language.specs.Fine.{fine_expr}
 use Rattle.words.proofs.Parts.{part_of, drop_of}
 use Rattle.expressions.specs.Standing.{Here}
 
@@ -26,25 +26,25 @@ module _ (k : List ℕ) (at : ℕ) {x : ℕ} {t : List ℕ} (h : drop at k ≡ x
   tail_of = let i = inside in rw add-one (cc (drop-cons k at 0 i))
 
 -- the words of an expression that stands at a place
-pub words-here : {k : List ℕ} {at m : ℕ} {R : Expr} {beyond : List ℕ} → Here k at R beyond → m ≡ at + length (exprWords R)
-    → slice at m k ≡ exprWords R
-words-here {k} {at} {m} {R} {beyond} h d = part_of k at m (exprWords R) beyond h.words d
+pub words-here : {k : List ℕ} {at m : ℕ} {R : Expr} {beyond : List ℕ} → Here k at R beyond → m ≡ at + length (expr_words R)
+    → slice at m k ≡ expr_words R
+words-here {k} {at} {m} {R} {beyond} h d = part_of k at m (expr_words R) beyond h.words d
 
 -- two expressions in a row
-pub first_of : (k : List ℕ) (at x : ℕ) (a b : Expr) (beyond : List ℕ) → fineExpr desk a → drop at k ≡ (x ∷ (exprWords a ++ exprWords b)) ++ beyond
-    → Here k (at + 1) a (exprWords b ++ beyond)
-first_of k at x a b beyond f e = record { fine = f; words = tail_of k at e ∙ append_assoc (exprWords a) (exprWords b) beyond }
+pub first_of : (k : List ℕ) (at x : ℕ) (a b : Expr) (beyond : List ℕ) → fine_expr desk a → drop at k ≡ (x ∷ (expr_words a ++ expr_words b)) ++ beyond
+    → Here k (at + 1) a (expr_words b ++ beyond)
+first_of k at x a b beyond f e = record { fine = f; words = tail_of k at e ∙ append_assoc (expr_words a) (expr_words b) beyond }
 
-pub second-of : {k : List ℕ} {at m : ℕ} {a b : Expr} {beyond : List ℕ} → Here k at a (exprWords b ++ beyond) → fineExpr desk b
-    → m ≡ at + length (exprWords a) → Here k m b beyond
+pub second-of : {k : List ℕ} {at m : ℕ} {a b : Expr} {beyond : List ℕ} → Here k at a (expr_words b ++ beyond) → fine_expr desk b
+    → m ≡ at + length (expr_words a) → Here k m b beyond
 second-of {k} {at} {m} {a} {b} {beyond} h f d =
-    record { fine = f; words = drop_of k at m (exprWords a) (exprWords b ++ beyond) h.words d }
+    record { fine = f; words = drop_of k at m (expr_words a) (expr_words b ++ beyond) h.words d }
 
 -- by cases on the expression that stands at `at`: each case has the word there, and what stands after it
 pub cases : {k : List ℕ} {at : ℕ} (P : Expr → List ℕ → Type 0)
     → (get_or k at 0 ≡ 7000 → (w : List ℕ) → P eps w)
-    → (get_or k at 0 ≡ 7001 → (a b : Expr) (w : List ℕ) → Here k (at + 1) a (exprWords b ++ w) → fineExpr desk b → P (cat a b) w)
-    → (get_or k at 0 ≡ 7002 → (a b : Expr) (w : List ℕ) → Here k (at + 1) a (exprWords b ++ w) → fineExpr desk b → P (alt a b) w)
+    → (get_or k at 0 ≡ 7001 → (a b : Expr) (w : List ℕ) → Here k (at + 1) a (expr_words b ++ w) → fine_expr desk b → P (cat a b) w)
+    → (get_or k at 0 ≡ 7002 → (a b : Expr) (w : List ℕ) → Here k (at + 1) a (expr_words b ++ w) → fine_expr desk b → P (alt a b) w)
     → (get_or k at 0 ≡ 7003 → (a : Expr) (w : List ℕ) → Here k (at + 1) a w → P (star a) w)
     → ((f : Sym) → get_or k at 0 ≡ 3000 + f.0 → f.0 < desk.each → (a : Expr) (w : List ℕ) → Here k (at + 1) a w → P (over f a) w)
     → (R : Expr) (w : List ℕ) → Here k at R w → P R w
@@ -62,13 +62,13 @@ module _ {k : List ℕ} {at : ℕ} (P : Expr → List ℕ → Type 0) where
       cases P (λ _. t) (λ y a b w h o. absurd (omega arith)) (λ y a b w h o. absurd (omega arith))
       (λ y a w h. absurd (omega arith)) (λ f y u a w h. absurd (omega arith))
 
-  pub by-cat : get_or k at 0 ≡ 7001 → ((a b : Expr) (w : List ℕ) → Here k (at + 1) a (exprWords b ++ w) → fineExpr desk b → P (cat a b) w)
+  pub by-cat : get_or k at 0 ≡ 7001 → ((a b : Expr) (w : List ℕ) → Here k (at + 1) a (expr_words b ++ w) → fine_expr desk b → P (cat a b) w)
       → (R : Expr) (w : List ℕ) → Here k at R w → P R w
   by-cat z t =
       cases P (λ y w. absurd (omega arith)) (λ _. t) (λ y a b w h o. absurd (omega arith))
       (λ y a w h. absurd (omega arith)) (λ f y u a w h. absurd (omega arith))
 
-  pub by-alt : get_or k at 0 ≡ 7002 → ((a b : Expr) (w : List ℕ) → Here k (at + 1) a (exprWords b ++ w) → fineExpr desk b → P (alt a b) w)
+  pub by-alt : get_or k at 0 ≡ 7002 → ((a b : Expr) (w : List ℕ) → Here k (at + 1) a (expr_words b ++ w) → fine_expr desk b → P (alt a b) w)
       → (R : Expr) (w : List ℕ) → Here k at R w → P R w
   by-alt z t =
       cases P (λ y w. absurd (omega arith)) (λ y a b w h o. absurd (omega arith)) (λ _. t)

@@ -14,13 +14,13 @@ reach zero (x ∷ ws) = 0
 reach (suc n) (x ∷ ws) = suc (reach (n + asks x) ws)
 
 -- by its first word and the expressions that follow it
-unfoldable pub nullBy : ℕ → Bool → Bool → Bool
-nullBy x a b = pick (eqb x 7000 || eqb x 7003) true (pick (leb x 6999) false (pick (eqb x 7001) (a && b) (a || b)))
+unfoldable pub null_by : ℕ → Bool → Bool → Bool
+null_by x a b = pick (eqb x 7000 || eqb x 7003) true (pick (leb x 6999) false (pick (eqb x 7001) (a && b) (a || b)))
 
 -- which of the expressions in a row are nullable; one that breaks off is not
 unfoldable pub nulls : List ℕ → List Bool
 nulls [] = []
-nulls (x ∷ ws) = nullBy x (get_or (nulls ws) 0 false) (get_or (nulls ws) 1 false) ∷ drop (asks x) (nulls ws)
+nulls (x ∷ ws) = null_by x (get_or (nulls ws) 0 false) (get_or (nulls ws) 1 false) ∷ drop (asks x) (nulls ws)
 
 unfoldable pub part_at : List ℕ → ℕ → Part
 part_at k at = record { end = at + reach 1 (drop at k); null = get_or (nulls (drop at k)) 0 false; bare = eqb (get_or k at 0) 7000 }

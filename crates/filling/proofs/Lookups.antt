@@ -16,7 +16,7 @@ use Rattle.language.specs.Limits.{desk}
 use Rattle.language.specs.Kinds.{kind_of}
 use Rattle.language.proofs.Arms.{Among, each-kind}
 use Rattle.language.specs.Between.{between}
-use Rattle.filling.specs.Showing.{body_at, name_at, termSize, TermEnd, shownOn, shown, HasValue, ShowsOn, Shows}
+use Rattle.filling.specs.Showing.{body_at, name_at, term_size, TermEnd, shown_on, shown, HasValue, ShowsOn, Shows}
 
 module _ (t h : ℕ) (fs ws : List ℕ) (at : ℕ) (k : Kind) (e : k ≡ kind_of desk (get_or ws at 0)) where
   -- what the filling has for it
@@ -33,7 +33,7 @@ module _ (t h : ℕ) (fs ws : List ℕ) (at : ℕ) (k : Kind) (e : k ≡ kind_of
   has-name {x} g p s = has (Function x) g p s
 
   -- and how it is shown
-  shown-here : (j : Kind) → k ≡ j → shownOn t h fs (drop at ws) j ≡ shown t h fs (drop at ws)
+  shown-here : (j : Kind) → k ≡ j → shown_on t h fs (drop at ws) j ≡ shown t h fs (drop at ws)
   unfolding shown
   shown-here j g = rw (get_or-drop at ws 0 0, add-zero at, ← e, g)
 
@@ -48,12 +48,12 @@ module _ (t h : ℕ) (fs ws : List ℕ) (at : ℕ) (k : Kind) (e : k ≡ kind_of
 
   pub shown-symbol : {f : Sym} {to : ℕ} → k ≡ Symbol f → TermEnd ws at to → between at to ws ≡ shown t h fs (drop at ws)
   shown-symbol {f} {to} g s =
-      let z : to - at ≡ termSize (drop at ws) = omega (arith, s.size) in
+      let z : to - at ≡ term_size (drop at ws) = omega (arith, s.size) in
       ap (λ n. take n (drop at ws)) z ∙ shown-here (Symbol f) g
 
   pub shown-other : Among (0 ∷ 5 ∷ 6 ∷ 7 ∷ 8 ∷ 9 ∷ 10 ∷ 11 ∷ []) k → between at (at + 1) ws ≡ shown t h fs (drop at ws)
   shown-other o =
       let z : at + 1 - at ≡ 1 = omega arith in
       ap (λ n. take n (drop at ws)) z
-      ∙ each-kind (0 ∷ 5 ∷ 6 ∷ 7 ∷ 8 ∷ 9 ∷ 10 ∷ 11 ∷ []) (λ j. take 1 (drop at ws) ≡ shownOn t h fs (drop at ws) j) refl tt tt tt tt refl refl refl refl refl refl refl k o
+      ∙ each-kind (0 ∷ 5 ∷ 6 ∷ 7 ∷ 8 ∷ 9 ∷ 10 ∷ 11 ∷ []) (λ j. take 1 (drop at ws) ≡ shown_on t h fs (drop at ws) j) refl tt tt tt tt refl refl refl refl refl refl refl k o
       ∙ shown-here k refl

@@ -14,7 +14,7 @@ use Rattle.language.specs.declared.Sym.{Sym}
 use Rattle.language.specs.Limits.{desk}
 use Rattle.language.specs.Kinds.{kind_of}
 use Rattle.language.proofs.Arms.{Among, each-kind}
-use Rattle.filling.specs.Showing.{more, closesOn, closes, orOne, termSize, TermEnd}
+use Rattle.filling.specs.Showing.{more, closes_on, closes, or_one, term_size, TermEnd}
 
 -- At i, with so many hedges to close: what is still to come makes up the term's words.
 pub record Closing (ws : List ℕ) (at depth i : ℕ) : Type 0 where
@@ -22,11 +22,11 @@ pub record Closing (ws : List ℕ) (at depth i : ℕ) : Type 0 where
   pub inside : i ≤ length ws
   pub some-depth : 0 < depth
   pub few : depth ≤ i
-  pub same : orOne (i - at) (closes depth (drop i ws)) ≡ termSize (drop at ws)
+  pub same : or_one (i - at) (closes depth (drop i ws)) ≡ term_size (drop at ws)
 
 module _ {ws : List ℕ} {at : ℕ} where
   pub closing-starts : at < length ws → Closing ws at 1 (at + 1)
-  unfolding termSize
+  unfolding term_size
   closing-starts p = record {
     on = omega arith;
     inside = omega arith;
@@ -36,21 +36,21 @@ module _ {ws : List ℕ} {at : ℕ} where
   }
 
   module _ {depth i : ℕ} (c : Closing ws at depth i) where
-    closes_here : i < length ws → (k : Kind) → k ≡ kind_of desk (get_or ws i 0) → closes depth (drop i ws) ≡ closesOn depth k (λ d. closes d (drop (i + 1) ws))
+    closes_here : i < length ws → (k : Kind) → k ≡ kind_of desk (get_or ws i 0) → closes depth (drop i ws) ≡ closes_on depth k (λ d. closes d (drop (i + 1) ws))
     unfolding closes
     closes_here p k e = rw (add-one, e, drop-cons ws i 0 p)
 
-    further : (o : Option ℕ) → orOne (i - at) (more o) ≡ orOne (i + 1 - at) o
+    further : (o : Option ℕ) → or_one (i - at) (more o) ≡ or_one (i + 1 - at) o
     further none = refl
     further (some k) = omega (arith, c.on)
 
     alone : closes depth (drop i ws) ≡ none → TermEnd ws at (at + 1)
-    alone e = record { size = ap (λ n. at + n) (sym (ap (orOne (i - at)) e) ∙ c.same); on = omega arith; inside = omega (arith, c.on, c.inside) }
+    alone e = record { size = ap (λ n. at + n) (sym (ap (or_one (i - at)) e) ∙ c.same); on = omega arith; inside = omega (arith, c.on, c.inside) }
 
     pub closing-done : i < length ws → (k : Kind) → k ≡ kind_of desk (get_or ws i 0) → k ≡ End → depth ≡ 1 → TermEnd ws at (i + 1)
     closing-done p k e g d =
         let one : closes depth (drop i ws) ≡ some 1 = closes_here p End (sym g ∙ e) ∙ rw (eq-eqb depth 1 d) in
-        let size : i - at + 1 ≡ termSize (drop at ws) = sym (ap (orOne (i - at)) one) ∙ c.same in
+        let size : i - at + 1 ≡ term_size (drop at ws) = sym (ap (or_one (i - at)) one) ∙ c.same in
         record { size = omega (arith, c.on); on = omega (arith, c.on); inside = omega arith }
 
     pub closing-less : i < length ws → (k : Kind) → k ≡ kind_of desk (get_or ws i 0) → k ≡ End → (depth ≡ 1 → ⊥) → Closing ws at (depth - 1) (i + 1)
@@ -61,7 +61,7 @@ module _ {ws : List ℕ} {at : ℕ} where
       few = omega (arith, c.few);
       same =
           let less : closes depth (drop i ws) ≡ more (closes (depth - 1) (drop (i + 1) ws)) = closes_here p End (sym g ∙ e) ∙ rw (ne_eqb depth 1 d) in
-          sym (further (closes (depth - 1) (drop (i + 1) ws))) ∙ ap (orOne (i - at)) (sym less) ∙ c.same;
+          sym (further (closes (depth - 1) (drop (i + 1) ws))) ∙ ap (or_one (i - at)) (sym less) ∙ c.same;
     }
 
     pub closing-more : {f : Sym} → i < length ws → (k : Kind) → k ≡ kind_of desk (get_or ws i 0) → k ≡ Symbol f → Closing ws at (depth + 1) (i + 1)
@@ -70,13 +70,13 @@ module _ {ws : List ℕ} {at : ℕ} where
       inside = omega arith;
       some-depth = omega arith;
       few = omega (arith, c.few);
-      same = sym (further (closes (depth + 1) (drop (i + 1) ws))) ∙ ap (orOne (i - at)) (sym (closes_here p (Symbol f) (sym g ∙ e))) ∙ c.same;
+      same = sym (further (closes (depth + 1) (drop (i + 1) ws))) ∙ ap (or_one (i - at)) (sym (closes_here p (Symbol f) (sym g ∙ e))) ∙ c.same;
     }
 
     pub closing-stops : i < length ws → (k : Kind) → k ≡ kind_of desk (get_or ws i 0) → Among (1 ∷ 2 ∷ 4 ∷ 5 ∷ 6 ∷ 7 ∷ 8 ∷ 9 ∷ 10 ∷ 11 ∷ []) k → TermEnd ws at (at + 1)
     closing-stops p k e o =
         alone (closes_here p k e
-        ∙ each-kind (1 ∷ 2 ∷ 4 ∷ 5 ∷ 6 ∷ 7 ∷ 8 ∷ 9 ∷ 10 ∷ 11 ∷ []) (λ k. closesOn depth k (λ d. closes d (drop (i + 1) ws)) ≡ none)
+        ∙ each-kind (1 ∷ 2 ∷ 4 ∷ 5 ∷ 6 ∷ 7 ∷ 8 ∷ 9 ∷ 10 ∷ 11 ∷ []) (λ k. closes_on depth k (λ d. closes d (drop (i + 1) ws)) ≡ none)
         tt (λ x. refl) (λ x. refl) tt (λ x. refl) refl refl refl refl refl refl refl k o)
 
     pub closing-past : length ws ≤ i → TermEnd ws at (at + 1)

@@ -11,7 +11,7 @@ use Rattle.language.specs.Kinds.{kind_of}
 use Rattle.language.proofs.Stores.{sets-append}
 use Rattle.slices.specs.Written.{Wrote}
 use Rattle.slices.proofs.Parts.{part-whole}
-use Rattle.filling.specs.Showing.{shown, stepOn, filled, Written}
+use Rattle.filling.specs.Showing.{shown, step_on, filled, Written}
 use Rattle.filling.proofs.Filled.{First, first-at}
 
 module _ (t h : ℕ) (fs : List ℕ) where
@@ -26,13 +26,13 @@ module _ (t h : ℕ) (fs : List ℕ) where
   writing-starts ws room start = record { inside = omega arith; len = refl; place = refl; same = refl }
 
   module _ {ws room : List ℕ} {start at to : ℕ} {room' : List ℕ} (c : Writing ws room start at to room') (p : at < length ws) {v : List ℕ} (e : v ≡ shown t h fs (drop at ws)) where
-    it : {k : ℕ} → k ≡ stepOn (length v) (kind_of desk (get_or ws at 0)) → First t h fs (drop at ws) v k
+    it : {k : ℕ} → k ≡ step_on (length v) (kind_of desk (get_or ws at 0)) → First t h fs (drop at ws) v k
     it g = rw (g, e) (first-at t h fs ws at (length (shown t h fs (drop at ws))) p refl)
 
     pub writing-fits : start + length (filled t h fs ws) ≤ length room → to + length (slice 0 (length v) v) ≤ length room'
-    writing-fits q = omega (arith, ap length (part-whole v), c.place, c.len, ap length (it refl).rest, length-append v (filled t h fs (drop (stepOn (length v) (kind_of desk (get_or ws at 0))) (drop at ws))))
+    writing-fits q = omega (arith, ap length (part-whole v), c.place, c.len, ap length (it refl).rest, length-append v (filled t h fs (drop (step_on (length v) (kind_of desk (get_or ws at 0))) (drop at ws))))
 
-    pub writing-on : {k to'' : ℕ} {room'' : List ℕ} → Wrote room' to (slice 0 (length v) v) room'' to'' → k ≡ stepOn (length v) (kind_of desk (get_or ws at 0)) → Writing ws room start (at + k) to'' room'' × (0 < k)
+    pub writing-on : {k to'' : ℕ} {room'' : List ℕ} → Wrote room' to (slice 0 (length v) v) room'' to'' → k ≡ step_on (length v) (kind_of desk (get_or ws at 0)) → Writing ws room start (at + k) to'' room'' × (0 < k)
     writing-on {k} {to''} {room''} o g =
         let f = it g in
         let w : room'' ≡ sets room' to v = o.list ∙ ap (sets room' to) (part-whole v) in

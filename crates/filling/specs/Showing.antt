@@ -32,92 +32,92 @@ more none = none
 more (some k) = some (suc k)
 
 -- one word of those that are to close `depth` hedges
-abbrev pub closesOn : ℕ → Kind → (ℕ → Option ℕ) → Option ℕ
-closesOn depth End rest = pick (eqb depth 1) (some 1) (more (rest (depth - 1)))
-closesOn depth (Symbol f) rest = more (rest (depth + 1))
-closesOn depth (Term x) rest = none
-closesOn depth (Run p) rest = none
-closesOn depth (Function X) rest = none
-closesOn depth Equation rest = none
-closesOn depth Membership rest = none
-closesOn depth Eps rest = none
-closesOn depth Cat rest = none
-closesOn depth Alt rest = none
-closesOn depth Star rest = none
-closesOn depth Other rest = none
+abbrev pub closes_on : ℕ → Kind → (ℕ → Option ℕ) → Option ℕ
+closes_on depth End rest = pick (eqb depth 1) (some 1) (more (rest (depth - 1)))
+closes_on depth (Symbol f) rest = more (rest (depth + 1))
+closes_on depth (Term x) rest = none
+closes_on depth (Run p) rest = none
+closes_on depth (Function X) rest = none
+closes_on depth Equation rest = none
+closes_on depth Membership rest = none
+closes_on depth Eps rest = none
+closes_on depth Cat rest = none
+closes_on depth Alt rest = none
+closes_on depth Star rest = none
+closes_on depth Other rest = none
 
 -- how many words close so many hedges; none where a variable comes first
 unfoldable pub closes : ℕ → List ℕ → Option ℕ
 closes depth [] = none
-closes depth (w ∷ ws) = closesOn depth (kind_of desk w) (λ d. closes d ws)
+closes depth (w ∷ ws) = closes_on depth (kind_of desk w) (λ d. closes d ws)
 
-abbrev pub orOne : ℕ → Option ℕ → ℕ
-orOne n none = 1
-orOne n (some k) = n + k
+abbrev pub or_one : ℕ → Option ℕ → ℕ
+or_one n none = 1
+or_one n (some k) = n + k
 
 -- a symbol's words: those of its term where that has no variable, and else its own word
-unfoldable pub termSize : List ℕ → ℕ
-termSize ws = orOne 1 (closes 1 (drop 1 ws))
+unfoldable pub term_size : List ℕ → ℕ
+term_size ws = or_one 1 (closes 1 (drop 1 ws))
 
 -- r is the place after what a symbol at `at` stands for
 pub record TermEnd (ws : List ℕ) (at r : ℕ) : Type 0 where
-  pub size : r ≡ at + termSize (drop at ws)
+  pub size : r ≡ at + term_size (drop at ws)
   pub on : at < r
   pub inside : r ≤ length ws
 
 -- ---- how the first of some words is shown, t and h being the numbers of term and of hedge variables
 
-abbrev pub shownOn : ℕ → ℕ → List ℕ → List ℕ → Kind → List ℕ
-shownOn t h fs ws (Term x) = body_at fs x.0
-shownOn t h fs ws (Run p) = body_at fs (t + p.0)
-shownOn t h fs ws (Function X) = name_at fs (t + h + X.0)
-shownOn t h fs ws (Symbol f) = take (termSize ws) ws
-shownOn t h fs ws End = take 1 ws
-shownOn t h fs ws Equation = take 1 ws
-shownOn t h fs ws Membership = take 1 ws
-shownOn t h fs ws Eps = take 1 ws
-shownOn t h fs ws Cat = take 1 ws
-shownOn t h fs ws Alt = take 1 ws
-shownOn t h fs ws Star = take 1 ws
-shownOn t h fs ws Other = take 1 ws
+abbrev pub shown_on : ℕ → ℕ → List ℕ → List ℕ → Kind → List ℕ
+shown_on t h fs ws (Term x) = body_at fs x.0
+shown_on t h fs ws (Run p) = body_at fs (t + p.0)
+shown_on t h fs ws (Function X) = name_at fs (t + h + X.0)
+shown_on t h fs ws (Symbol f) = take (term_size ws) ws
+shown_on t h fs ws End = take 1 ws
+shown_on t h fs ws Equation = take 1 ws
+shown_on t h fs ws Membership = take 1 ws
+shown_on t h fs ws Eps = take 1 ws
+shown_on t h fs ws Cat = take 1 ws
+shown_on t h fs ws Alt = take 1 ws
+shown_on t h fs ws Star = take 1 ws
+shown_on t h fs ws Other = take 1 ws
 
 unfoldable pub shown : ℕ → ℕ → List ℕ → List ℕ → List ℕ
-shown t h fs ws = shownOn t h fs ws (kind_of desk (get_or ws 0 0))
+shown t h fs ws = shown_on t h fs ws (kind_of desk (get_or ws 0 0))
 
 -- how many words are shown so, from how many words they became: those of a symbol are its own
-abbrev pub stepOn : ℕ → Kind → ℕ
-stepOn n (Symbol f) = n
-stepOn n (Term x) = 1
-stepOn n (Run p) = 1
-stepOn n (Function X) = 1
-stepOn n End = 1
-stepOn n Equation = 1
-stepOn n Membership = 1
-stepOn n Eps = 1
-stepOn n Cat = 1
-stepOn n Alt = 1
-stepOn n Star = 1
-stepOn n Other = 1
+abbrev pub step_on : ℕ → Kind → ℕ
+step_on n (Symbol f) = n
+step_on n (Term x) = 1
+step_on n (Run p) = 1
+step_on n (Function X) = 1
+step_on n End = 1
+step_on n Equation = 1
+step_on n Membership = 1
+step_on n Eps = 1
+step_on n Cat = 1
+step_on n Alt = 1
+step_on n Star = 1
+step_on n Other = 1
 
 -- ---- what words become: each variable its value, any other word itself
 
-abbrev pub wordOn : ℕ → ℕ → List ℕ → ℕ → Kind → List ℕ
-wordOn t h fs w (Term x) = body_at fs x.0
-wordOn t h fs w (Run p) = body_at fs (t + p.0)
-wordOn t h fs w (Function X) = name_at fs (t + h + X.0)
-wordOn t h fs w (Symbol f) = w ∷ []
-wordOn t h fs w End = w ∷ []
-wordOn t h fs w Equation = w ∷ []
-wordOn t h fs w Membership = w ∷ []
-wordOn t h fs w Eps = w ∷ []
-wordOn t h fs w Cat = w ∷ []
-wordOn t h fs w Alt = w ∷ []
-wordOn t h fs w Star = w ∷ []
-wordOn t h fs w Other = w ∷ []
+abbrev pub word_on : ℕ → ℕ → List ℕ → ℕ → Kind → List ℕ
+word_on t h fs w (Term x) = body_at fs x.0
+word_on t h fs w (Run p) = body_at fs (t + p.0)
+word_on t h fs w (Function X) = name_at fs (t + h + X.0)
+word_on t h fs w (Symbol f) = w ∷ []
+word_on t h fs w End = w ∷ []
+word_on t h fs w Equation = w ∷ []
+word_on t h fs w Membership = w ∷ []
+word_on t h fs w Eps = w ∷ []
+word_on t h fs w Cat = w ∷ []
+word_on t h fs w Alt = w ∷ []
+word_on t h fs w Star = w ∷ []
+word_on t h fs w Other = w ∷ []
 
 unfoldable pub filled : ℕ → ℕ → List ℕ → List ℕ → List ℕ
 filled t h fs [] = []
-filled t h fs (w ∷ ws) = wordOn t h fs w (kind_of desk w) ++ filled t h fs ws
+filled t h fs (w ∷ ws) = word_on t h fs w (kind_of desk w) ++ filled t h fs ws
 
 -- ---- what showing asks of the filling
 

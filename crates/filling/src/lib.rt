@@ -1,6 +1,6 @@
 // A filling in words: how each word of the question is shown under it, and what the words of a hedge become.
 ghost use Rattle.std.specs.Prelude.{◌≡◌, ◌+◌, ◌≤◌, ◌<◌, length, drop};
-ghost use Rattle.filling.specs.Showing.{body_at, name_at, TermEnd, shown, stepOn, filled, HasValue, Shows, Written};
+ghost use Rattle.filling.specs.Showing.{body_at, name_at, TermEnd, shown, step_on, filled, HasValue, Shows, Written};
 ghost use Rattle.language.specs.Limits.{desk};
 ghost use Rattle.language.specs.Kinds.{kind_of};
 
@@ -92,7 +92,7 @@ fn lookup<'a>(
 
 // How many words of the question the value stands for that was shown for a word, in so many words.
 fn step(word: u16, shown: usize) -> usize
-    ensures { result ≡ stepOn shown (kind_of desk word) }
+    ensures { result ≡ step_on shown (kind_of desk word) }
 {
     match classify(word) {
         Kind::Symbol(_) => shown,

@@ -6,7 +6,7 @@ use mathlib.Core.List.{List}
 use native.Mathlib.Decide.{dec_lt}
 use native.Mathlib.Numerals.{add-one}
 use native.Mathlib.Omega.{arith}
-use Rattle.words.specs.Spans.{elementEnd}
+use Rattle.words.specs.Spans.{element_end}
 use Rattle.finds.specs.Places.{nth, Walked}
 
 module _ (k : List ℕ) (at : ℕ) (stop : ℕ → Bool) where
@@ -25,10 +25,10 @@ module _ {k : List ℕ} {at : ℕ} {stop : ℕ → Bool} where
   unfolding nth
   gone-start = record { place = refl; before = λ m h. absurd (omega arith) }
 
-  pub gone-on : {n i e : ℕ} → stop i ≡ false → e ≡ elementEnd k i → Gone k at stop n i → Gone k at stop (n + 1) e
+  pub gone-on : {n i e : ℕ} → stop i ≡ false → e ≡ element_end k i → Gone k at stop n i → Gone k at stop (n + 1) e
   unfolding nth
   gone-on {n} {i} {e} s d g = record {
-    place = d ∙ ap (elementEnd k) g.place ∙ ap (nth k at) (sym (add-one n));
+    place = d ∙ ap (element_end k) g.place ∙ ap (nth k at) (sym (add-one n));
     before = λ m h. go m (dec_lt m n) h;
   }
     where
@@ -42,7 +42,7 @@ module _ {k : List ℕ} {at : ℕ} {stop : ℕ → Bool} where
   pub going_start : Going k at stop at
   going_start = record { count = 0; gone = gone-start }
 
-  pub going_on : {i e : ℕ} → stop i ≡ false → e ≡ elementEnd k i → Going k at stop i → Going k at stop e
+  pub going_on : {i e : ℕ} → stop i ≡ false → e ≡ element_end k i → Going k at stop i → Going k at stop e
   going_on s d g = record { count = g.count + 1; gone = gone-on s d g.gone }
 
   pub going_end : {A : Type 0} {told : ℕ → ℕ → A} {i : ℕ} {r : A} → stop i ≡ true → ((n : ℕ) → r ≡ told n i) → Going k at stop i → Walked k at stop told r

@@ -11,14 +11,14 @@ use borrow.Author.Tests.{eq-eqb, ne_eqb}
 use Rattle.language.specs.declared.HedgeVar.{HedgeVar}
 use Rattle.language.specs.Limits.{desk}
 use Rattle.language.specs.Kinds.{pick}
-use Rattle.language.specs.Trees.{Functor, symbol, fvar, Hedge, ε, tvar, hvar, node, ◌⧺◌, Var, hv, inFunctor, holds}
-use Rattle.language.specs.Writing.{hedgeWords}
-use Rattle.language.specs.Fine.{fineHedge}
+use Rattle.language.specs.Trees.{Functor, symbol, fvar, Hedge, ε, tvar, hvar, node, ◌⧺◌, Var, hv, in_functor, holds}
+use Rattle.language.specs.Writing.{hedge_words}
+use Rattle.language.specs.Fine.{fine_hedge}
 use Rattle.rules.specs.Looks.{under, onto, around, inside, up_to}
 use Rattle.rules.specs.Solved.{is_some}
-use Rattle.views.specs.Looks.{head, tail, bodyWords}
-use Rattle.words.specs.Spans.{member, elementEnd}
-use Rattle.views.specs.Variables.{variableWord, fineVar}
+use Rattle.views.specs.Looks.{head, tail, body_words}
+use Rattle.words.specs.Spans.{member, element_end}
+use Rattle.views.specs.Variables.{variable_word, fine_var}
 use Rattle.views.specs.Standing.{Stands}
 use Rattle.finds.specs.Walks.{size, Ahead, Spotted}
 use Rattle.words.proofs.Parts.{part_none, part_of}
@@ -26,7 +26,7 @@ use Rattle.views.proofs.Words.{join-nil, join-assoc, fine-head, first_word}
 use Rattle.views.proofs.Spans.{stands_word, stands-split, stands-place}
 use Rattle.views.proofs.Looks.{stands-children}
 use Rattle.views.proofs.Members.{member-hedge, member-body}
-use Rattle.finds.proofs.Walks.{beginsTerm, Passed}
+use Rattle.finds.proofs.Walks.{begins_term, Passed}
 
 -- ---- a variable below a functor at the top
 
@@ -43,15 +43,15 @@ under_split v (hvar p r) = refl
 under_split v (node f c r) = refl
 
 -- the words of the first element but its first
-below-part : {k : List ℕ} {i e : ℕ} (v : Var) (h : Hedge) {beyond : List ℕ} → fineVar desk v → Stands k i h beyond → e ≡ elementEnd k i → member (variableWord v) (slice (i + 1) e k) ≡ below v h
-below-part {k} {i} {e} v ε f s d = ap (member (variableWord v)) (part_none k (i + 1) e (let a = stands-place s in omega arith))
-below-part {k} {i} {e} v (tvar x r) f s d = ap (member (variableWord v)) (part_none k (i + 1) e (let a = stands-place s in omega arith))
-below-part {k} {i} {e} v (hvar p r) f s d = ap (member (variableWord v)) (part_none k (i + 1) e (let a = stands-place s in omega arith))
+below-part : {k : List ℕ} {i e : ℕ} (v : Var) (h : Hedge) {beyond : List ℕ} → fine_var desk v → Stands k i h beyond → e ≡ element_end k i → member (variable_word v) (slice (i + 1) e k) ≡ below v h
+below-part {k} {i} {e} v ε f s d = ap (member (variable_word v)) (part_none k (i + 1) e (let a = stands-place s in omega arith))
+below-part {k} {i} {e} v (tvar x r) f s d = ap (member (variable_word v)) (part_none k (i + 1) e (let a = stands-place s in omega arith))
+below-part {k} {i} {e} v (hvar p r) f s d = ap (member (variable_word v)) (part_none k (i + 1) e (let a = stands-place s in omega arith))
 below-part {k} {i} {e} v (node g c r) {beyond} f s d =
-    ap (member (variableWord v)) (part_of k (i + 1) e (hedgeWords c) (hedgeWords r ++ beyond) (stands-children s).here (let a = stands-place s in let l = ap length (append-nil (hedgeWords c)) in omega arith))
+    ap (member (variable_word v)) (part_of k (i + 1) e (hedge_words c) (hedge_words r ++ beyond) (stands-children s).here (let a = stands-place s in let l = ap length (append-nil (hedge_words c)) in omega arith))
     ∙ member-hedge v f c s.fine.1
 
-module _ {k : List ℕ} {i e x : ℕ} (v : Var) (h : Hedge) {beyond : List ℕ} {b : Bool} (f : fineVar desk v) (w : x ≡ variableWord v) (s : Stands k i h beyond) (d : e ≡ elementEnd k i) (m : b ≡ member x (slice (i + 1) e k)) where
+module _ {k : List ℕ} {i e x : ℕ} (v : Var) (h : Hedge) {beyond : List ℕ} {b : Bool} (f : fine_var desk v) (w : x ≡ variable_word v) (s : Stands k i h beyond) (d : e ≡ element_end k i) (m : b ≡ member x (slice (i + 1) e k)) where
   seen : b ≡ below v h
   seen = m ∙ ap (λ y. member y (slice (i + 1) e k)) w ∙ below-part v h f s d
 
@@ -96,37 +96,37 @@ same-pair e = ap first e
 
 -- ---- the terms up to one that holds q
 
-head-part : {k : List ℕ} {i e x : ℕ} {q : HedgeVar} {h : Hedge} {beyond : List ℕ} {b : Bool} → fineVar desk (hv q) → x ≡ variableWord (hv q) → Stands k i h beyond → e ≡ elementEnd k i → b ≡ member x (slice i e k) → b ≡ holds (hv q) (head h)
+head-part : {k : List ℕ} {i e x : ℕ} {q : HedgeVar} {h : Hedge} {beyond : List ℕ} {b : Bool} → fine_var desk (hv q) → x ≡ variable_word (hv q) → Stands k i h beyond → e ≡ element_end k i → b ≡ member x (slice i e k) → b ≡ holds (hv q) (head h)
 head-part {k} {i} {e} {x} {q} {h} {beyond} {b} f w s d m =
-    m ∙ ap (λ y. member y (slice i e k)) w ∙ ap (member (variableWord (hv q))) (part_of k i e (bodyWords (head h)) (hedgeWords (tail h) ++ beyond) (stands-split s) (d ∙ stands-place s))
+    m ∙ ap (λ y. member y (slice i e k)) w ∙ ap (member (variable_word (hv q))) (part_of k i e (body_words (head h)) (hedge_words (tail h) ++ beyond) (stands-split s) (d ∙ stands-place s))
     ∙ member-body (hv q) f (head h) (fine-head h s.fine)
 
-no-functor : (q : HedgeVar) (f : Functor) → inFunctor (hv q) f ≡ false
+no-functor : (q : HedgeVar) (f : Functor) → in_functor (hv q) f ≡ false
 no-functor q (symbol g) = refl
 no-functor q (fvar X) = refl
 
 head-node : (q : HedgeVar) (f : Functor) (c r : Hedge) → holds (hv q) (head (node f c r)) ≡ holds (hv q) c
-head-node q f c r = or-false (inFunctor (hv q) f || holds (hv q) c) ∙ ap (λ b. b || holds (hv q) c) (no-functor q f)
+head-node q f c r = or-false (in_functor (hv q) f || holds (hv q) c) ∙ ap (λ b. b || holds (hv q) c) (no-functor q f)
 
-upTo-on : (q : HedgeVar) (h : Hedge) → beginsTerm h ≡ true → holds (hv q) (head h) ≡ false → up_to q h ≡ onto (λ g. head h ⧺ g) (up_to q (tail h))
-upTo-on q ε e d = absurd (let y : ◌≡◌ {A = ℕ} 0 1 = cc in omega arith)
-upTo-on q (tvar x r) e d = refl
-upTo-on q (hvar p r) e d = absurd (let y : ◌≡◌ {A = ℕ} 0 1 = cc in omega arith)
-upTo-on q (node f c r) e d = ap (λ b. pick b (some (ε, node f c r)) (onto (node f c) (up_to q r))) (sym (head-node q f c r) ∙ d)
+up_to-on : (q : HedgeVar) (h : Hedge) → begins_term h ≡ true → holds (hv q) (head h) ≡ false → up_to q h ≡ onto (λ g. head h ⧺ g) (up_to q (tail h))
+up_to-on q ε e d = absurd (let y : ◌≡◌ {A = ℕ} 0 1 = cc in omega arith)
+up_to-on q (tvar x r) e d = refl
+up_to-on q (hvar p r) e d = absurd (let y : ◌≡◌ {A = ℕ} 0 1 = cc in omega arith)
+up_to-on q (node f c r) e d = ap (λ b. pick b (some (ε, node f c r)) (onto (node f c) (up_to q r))) (sym (head-node q f c r) ∙ d)
 
-upTo-found : (q : HedgeVar) (h : Hedge) → beginsTerm h ≡ true → holds (hv q) (head h) ≡ true → up_to q h ≡ some (ε, h)
-upTo-found q ε e d = absurd (let y : ◌≡◌ {A = ℕ} 0 1 = cc in omega arith)
-upTo-found q (tvar x r) e d = absurd (let y : ◌≡◌ {A = ℕ} 0 1 = cc in omega arith)
-upTo-found q (hvar p r) e d = absurd (let y : ◌≡◌ {A = ℕ} 0 1 = cc in omega arith)
-upTo-found q (node f c r) e d = ap (λ b. pick b (some (ε, node f c r)) (onto (node f c) (up_to q r))) (sym (head-node q f c r) ∙ d)
+up_to-found : (q : HedgeVar) (h : Hedge) → begins_term h ≡ true → holds (hv q) (head h) ≡ true → up_to q h ≡ some (ε, h)
+up_to-found q ε e d = absurd (let y : ◌≡◌ {A = ℕ} 0 1 = cc in omega arith)
+up_to-found q (tvar x r) e d = absurd (let y : ◌≡◌ {A = ℕ} 0 1 = cc in omega arith)
+up_to-found q (hvar p r) e d = absurd (let y : ◌≡◌ {A = ℕ} 0 1 = cc in omega arith)
+up_to-found q (node f c r) e d = ap (λ b. pick b (some (ε, node f c r)) (onto (node f c) (up_to q r))) (sym (head-node q f c r) ∙ d)
 
-upTo-none : (q : HedgeVar) (h : Hedge) → beginsTerm h ≡ false → up_to q h ≡ none
-upTo-none q ε e = refl
-upTo-none q (tvar x r) e = absurd (let y : ◌≡◌ {A = ℕ} 0 1 = cc in omega arith)
-upTo-none q (hvar p r) e = refl
-upTo-none q (node f c r) e = absurd (let y : ◌≡◌ {A = ℕ} 0 1 = cc in omega arith)
+up_to-none : (q : HedgeVar) (h : Hedge) → begins_term h ≡ false → up_to q h ≡ none
+up_to-none q ε e = refl
+up_to-none q (tvar x r) e = absurd (let y : ◌≡◌ {A = ℕ} 0 1 = cc in omega arith)
+up_to-none q (hvar p r) e = refl
+up_to-none q (node f c r) e = absurd (let y : ◌≡◌ {A = ℕ} 0 1 = cc in omega arith)
 
-size-head : (h : Hedge) → beginsTerm h ≡ true → size (head h) ≡ 1
+size-head : (h : Hedge) → begins_term h ≡ true → size (head h) ≡ 1
 size-head ε e = absurd (let y : ◌≡◌ {A = ℕ} 0 1 = cc in omega arith)
 size-head (tvar x r) e = refl
 size-head (hvar p r) e = refl
@@ -140,23 +140,23 @@ pub record Without (q : HedgeVar) (n : ℕ) (h done left : Hedge) : Type 0 where
 pub without-start : {q : HedgeVar} {h : Hedge} → Without q 0 h ε h
 without-start {q} {h} = record { same = onto-none (up_to q h); count = refl }
 
-module _ {k : List ℕ} {i e x n : ℕ} {q : HedgeVar} {h : Hedge} {beyond : List ℕ} {b : Bool} (f : fineVar desk (hv q)) (w : x ≡ variableWord (hv q)) (d : e ≡ elementEnd k i) (m : b ≡ member x (slice i e k)) where
-  pub without_on : {done left : Hedge} → b ≡ false → Stands k i left beyond → beginsTerm left ≡ true → Without q n h done left → Without q (n + 1) h (done ⧺ head left) (tail left)
+module _ {k : List ℕ} {i e x n : ℕ} {q : HedgeVar} {h : Hedge} {beyond : List ℕ} {b : Bool} (f : fine_var desk (hv q)) (w : x ≡ variable_word (hv q)) (d : e ≡ element_end k i) (m : b ≡ member x (slice i e k)) where
+  pub without_on : {done left : Hedge} → b ≡ false → Stands k i left beyond → begins_term left ≡ true → Without q n h done left → Without q (n + 1) h (done ⧺ head left) (tail left)
   without_on {done} {left} y s t p = record {
     same =
-        p.same ∙ ap (onto (λ g. done ⧺ g)) (upTo-on q left t (sym (head-part f w s d m) ∙ y))
+        p.same ∙ ap (onto (λ g. done ⧺ g)) (up_to-on q left t (sym (head-part f w s d m) ∙ y))
         ∙ onto-join done (head left) (up_to q (tail left));
     count = let a = size-join done (head left) in let c = size-head left t in let z = p.count in omega arith;
   }
 
-  pub without-found : {done left : Hedge} → b ≡ true → Stands k i left beyond → beginsTerm left ≡ true → Without q n h done left → Ahead q (record { found = true; count = n }) h
+  pub without-found : {done left : Hedge} → b ≡ true → Stands k i left beyond → begins_term left ≡ true → Without q n h done left → Ahead q (record { found = true; count = n }) h
   without-found {done} {left} y s t p =
-      let z : up_to q h ≡ some (done ⧺ ε, left) = p.same ∙ ap (onto (λ g. done ⧺ g)) (upTo-found q left t (sym (head-part f w s d m) ∙ y)) in
+      let z : up_to q h ≡ some (done ⧺ ε, left) = p.same ∙ ap (onto (λ g. done ⧺ g)) (up_to-found q left t (sym (head-part f w s d m) ∙ y)) in
       record { found = sym (ap is_some z); count = λ T rest u. p.count ∙ ap size (sym (join-nil done) ∙ same-pair (sym z ∙ u)) }
 
-pub without_end : {n : ℕ} {q : HedgeVar} {h done left : Hedge} → beginsTerm left ≡ false → Without q n h done left → Ahead q (record { found = false; count = 0 }) h
+pub without_end : {n : ℕ} {q : HedgeVar} {h done left : Hedge} → begins_term left ≡ false → Without q n h done left → Ahead q (record { found = false; count = 0 }) h
 without_end {n} {q} {h} {done} {left} t p =
-    let z : up_to q h ≡ none = p.same ∙ ap (onto (λ g. done ⧺ g)) (upTo-none q left t) in
+    let z : up_to q h ≡ none = p.same ∙ ap (onto (λ g. done ⧺ g)) (up_to-none q left t) in
     record { found = sym (ap is_some z); count = λ T rest u. absurd (let y : ◌≡◌ {A = ℕ} 0 1 = cc in omega arith) }
 
 -- ---- q behind another element
@@ -173,7 +173,7 @@ around-on q (tvar x r) a b = refl
 around-on q (hvar p r) a b = ap (λ c. pick c (some (ε, r)) (onto (hvar p) (around q r))) (ne_eqb q.0 p.0 (λ e. b (ap (λ n. 2000 + n) (sym e))))
 around-on q (node f c r) a b = refl
 
-around_here : (q : HedgeVar) (h : Hedge) → fineVar desk (hv q) → fineHedge desk h → first_word h ≡ 2000 + q.0 → around q h ≡ some (ε, tail h)
+around_here : (q : HedgeVar) (h : Hedge) → fine_var desk (hv q) → fine_hedge desk h → first_word h ≡ 2000 + q.0 → around q h ≡ some (ε, tail h)
 around_here q ε g f e = absurd (omega arith)
 around_here q (tvar x r) g f e = absurd (let w : 1000 + x.0 ≡ 2000 + q.0 = e in let z = f.0 in omega arith)
 around_here q (hvar p r) g f e = ap (λ c. pick c (some (ε, r)) (onto (hvar p) (around q r))) (eq-eqb q.0 p.0 (let w : 2000 + p.0 ≡ 2000 + q.0 = e in omega arith))
@@ -194,7 +194,7 @@ pub record Behind (q : HedgeVar) (h done left : Hedge) : Type 0 where
 pub behind-start : {q : HedgeVar} {h : Hedge} → Behind q h (head h) (tail h)
 behind-start {q} {h} = record { same = inside-split q h }
 
-module _ {k : List ℕ} {i x y : ℕ} {q : HedgeVar} {h : Hedge} {beyond : List ℕ} (w : y ≡ variableWord (hv q)) (e : x ≡ get_or k i 0) where
+module _ {k : List ℕ} {i x y : ℕ} {q : HedgeVar} {h : Hedge} {beyond : List ℕ} (w : y ≡ variable_word (hv q)) (e : x ≡ get_or k i 0) where
   pub behind-on : {done left : Hedge} → (x ≡ 0 → ⊥) → (x ≡ y → ⊥) → Stands k i left beyond → Behind q h done left → Behind q h (done ⧺ head left) (tail left)
   behind-on {done} {left} a b s p = record {
     same =
@@ -202,10 +202,10 @@ module _ {k : List ℕ} {i x y : ℕ} {q : HedgeVar} {h : Hedge} {beyond : List 
         ∙ onto-join done (head left) (around q (tail left));
   }
 
-  pub behind-found : {at : ℕ} → fineVar desk (hv q) → x ≡ y → (p : Passed k at i beyond (Behind q h)) → Spotted q at (record { found = true; place = i }) h
+  pub behind-found : {at : ℕ} → fine_var desk (hv q) → x ≡ y → (p : Passed k at i beyond (Behind q h)) → Spotted q at (record { found = true; place = i }) h
   behind-found {at} f b p =
       let z : inside q h ≡ some (p.done ⧺ ε, tail p.left) = p.keeps.same ∙ ap (onto (λ g. p.done ⧺ g)) (around_here q p.left f p.here.fine (sym (stands_word p.here) ∙ sym e ∙ b ∙ w)) in
-      record { found = sym (ap is_some z); place = λ a c u. p.place ∙ ap (λ g. at + length (bodyWords g)) (sym (join-nil p.done) ∙ same-pair (sym z ∙ u)) }
+      record { found = sym (ap is_some z); place = λ a c u. p.place ∙ ap (λ g. at + length (body_words g)) (sym (join-nil p.done) ∙ same-pair (sym z ∙ u)) }
 
   pub behind-end : {at : ℕ} → x ≡ 0 → (p : Passed k at i beyond (Behind q h)) → Spotted q at (record { found = false; place = 0 }) h
   behind-end {at} b p =

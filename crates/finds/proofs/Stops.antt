@@ -8,12 +8,12 @@ use lib.ListN.{get_or}
 use lib.Seq.{slice}
 use borrow.Author.Tests.{eq-eqb, ne_eqb}
 use Rattle.language.specs.Kinds.{pick}
-use Rattle.words.specs.Spans.{member, elementEnd}
+use Rattle.words.specs.Spans.{member, element_end}
 use Rattle.finds.specs.declared.Terms.{Terms}
 use Rattle.finds.specs.declared.Found.{Found}
 use Rattle.finds.specs.declared.Spot.{Spot}
-use Rattle.finds.specs.Walks.{termWord, runWord}
-use Rattle.finds.specs.Places.{runsEnd, HasTerm, termsEnd, AllTerms, belowEnd, Under, freeEnd, UpTo, othersEnd, Inside}
+use Rattle.finds.specs.Walks.{term_word, run_word}
+use Rattle.finds.specs.Places.{runs_end, HasTerm, terms_end, AllTerms, below_end, Under, free_end, UpTo, others_end, Inside}
 use Rattle.finds.proofs.Firsts.{Gone, gone-on, gone-end, Going, going_on, going_end}
 
 or-first : (a b : Bool) → a ≡ true → (a || b) ≡ true
@@ -37,73 +37,73 @@ module _ (k : List ℕ) (i : ℕ) {x : ℕ} (q : x ≡ get_or k i 0) where
   over z = ap (λ y. eqb y 0) (sym q) ∙ eq-eqb x 0 z
 
   -- ---- past hedge variables, past terms
-  pub runs_on : {at : ℕ} {b : Bool} {e : ℕ} → b ≡ runWord x → b ≡ true → e ≡ elementEnd k i → Going k at (runsEnd k) i → Going k at (runsEnd k) e
-  unfolding runsEnd
-  runs_on r t d g = going_on (ap not (test runWord r t)) d g
+  pub runs_on : {at : ℕ} {b : Bool} {e : ℕ} → b ≡ run_word x → b ≡ true → e ≡ element_end k i → Going k at (runs_end k) i → Going k at (runs_end k) e
+  unfolding runs_end
+  runs_on r t d g = going_on (ap not (test run_word r t)) d g
 
-  pub runs-end : {at : ℕ} {b : Bool} → b ≡ runWord x → b ≡ false → Going k at (runsEnd k) i → HasTerm k at (not (eqb x 0))
-  unfolding runsEnd
-  runs-end r t g = going_end (ap not (test runWord r t)) (λ n. ap (λ y. not (eqb y 0)) q) g
+  pub runs-end : {at : ℕ} {b : Bool} → b ≡ run_word x → b ≡ false → Going k at (runs_end k) i → HasTerm k at (not (eqb x 0))
+  unfolding runs_end
+  runs-end r t g = going_end (ap not (test run_word r t)) (λ n. ap (λ y. not (eqb y 0)) q) g
 
-  pub terms-on : {at : ℕ} {b : Bool} {n e : ℕ} → b ≡ termWord x → b ≡ true → e ≡ elementEnd k i → Gone k at (termsEnd k) n i → Gone k at (termsEnd k) (n + 1) e
-  unfolding termsEnd
-  terms-on r t d g = gone-on (ap not (test termWord r t)) d g
+  pub terms-on : {at : ℕ} {b : Bool} {n e : ℕ} → b ≡ term_word x → b ≡ true → e ≡ element_end k i → Gone k at (terms_end k) n i → Gone k at (terms_end k) (n + 1) e
+  unfolding terms_end
+  terms-on r t d g = gone-on (ap not (test term_word r t)) d g
 
-  pub terms-end : {at : ℕ} {b : Bool} {n : ℕ} → b ≡ termWord x → b ≡ false → Gone k at (termsEnd k) n i → AllTerms k at (record { all = eqb x 0; count = n })
-  unfolding termsEnd
-  terms-end {at} {b} {n} r t g = gone-end (ap not (test termWord r t)) (ap (counted n) q) g
+  pub terms-end : {at : ℕ} {b : Bool} {n : ℕ} → b ≡ term_word x → b ≡ false → Gone k at (terms_end k) n i → AllTerms k at (record { all = eqb x 0; count = n })
+  unfolding terms_end
+  terms-end {at} {b} {n} r t g = gone-end (ap not (test term_word r t)) (ap (counted n) q) g
 
   -- ---- up to an element that has a word
   module _ (v : ℕ) where
-    module _ {e : ℕ} {b : Bool} (nz : x ≡ 0 → ⊥) (d : e ≡ elementEnd k i) (m : b ≡ member v (slice (i + 1) e k)) where
-      below-test : {c : Bool} → b ≡ c → belowEnd v k i ≡ c
-      unfolding belowEnd
-      below-test t = or-second (eqb (get_or k i 0) 0) (member v (slice (i + 1) (elementEnd k i) k)) (more nz) (ap (λ j. member v (slice (i + 1) j k)) (sym d) ∙ sym m ∙ t)
+    module _ {e : ℕ} {b : Bool} (nz : x ≡ 0 → ⊥) (d : e ≡ element_end k i) (m : b ≡ member v (slice (i + 1) e k)) where
+      below-test : {c : Bool} → b ≡ c → below_end v k i ≡ c
+      unfolding below_end
+      below-test t = or-second (eqb (get_or k i 0) 0) (member v (slice (i + 1) (element_end k i) k)) (more nz) (ap (λ j. member v (slice (i + 1) j k)) (sym d) ∙ sym m ∙ t)
 
-      pub below_on : {at : ℕ} → b ≡ false → Going k at (belowEnd v k) i → Going k at (belowEnd v k) e
+      pub below_on : {at : ℕ} → b ≡ false → Going k at (below_end v k) i → Going k at (below_end v k) e
       below_on t g = going_on (below-test t) d g
 
-      pub below-found : {at : ℕ} → b ≡ true → Going k at (belowEnd v k) i → Under k at v true
+      pub below-found : {at : ℕ} → b ≡ true → Going k at (below_end v k) i → Under k at v true
       below-found t g = going_end (below-test t) (λ n. sym (ap not (more nz))) g
 
-    pub below_none : {at : ℕ} → x ≡ 0 → Going k at (belowEnd v k) i → Under k at v false
-    unfolding belowEnd
-    below_none z g = going_end (or-first (eqb (get_or k i 0) 0) (member v (slice (i + 1) (elementEnd k i) k)) (over z)) (λ n. sym (ap not (over z))) g
+    pub below_none : {at : ℕ} → x ≡ 0 → Going k at (below_end v k) i → Under k at v false
+    unfolding below_end
+    below_none z g = going_end (or-first (eqb (get_or k i 0) 0) (member v (slice (i + 1) (element_end k i) k)) (over z)) (λ n. sym (ap not (over z))) g
 
-  module _ (p n : ℕ) {a : Bool} (r : a ≡ termWord x) where
+  module _ (p n : ℕ) {a : Bool} (r : a ≡ term_word x) where
     abbrev found : Bool → Found
     found c = pick c (record { found = true; count = n }) (record { found = false; count = 0 })
 
-    module _ {e : ℕ} {b : Bool} (t : a ≡ true) (d : e ≡ elementEnd k i) (m : b ≡ member p (slice i e k)) where
-      free-test : {c : Bool} → b ≡ c → freeEnd p k i ≡ c
-      unfolding freeEnd
-      free-test u = or-second (not (termWord (get_or k i 0))) (member p (slice i (elementEnd k i) k)) (ap not (test termWord r t)) (ap (λ j. member p (slice i j k)) (sym d) ∙ sym m ∙ u)
+    module _ {e : ℕ} {b : Bool} (t : a ≡ true) (d : e ≡ element_end k i) (m : b ≡ member p (slice i e k)) where
+      free-test : {c : Bool} → b ≡ c → free_end p k i ≡ c
+      unfolding free_end
+      free-test u = or-second (not (term_word (get_or k i 0))) (member p (slice i (element_end k i) k)) (ap not (test term_word r t)) (ap (λ j. member p (slice i j k)) (sym d) ∙ sym m ∙ u)
 
-      pub free_on : {at : ℕ} → b ≡ false → Gone k at (freeEnd p k) n i → Gone k at (freeEnd p k) (n + 1) e
+      pub free_on : {at : ℕ} → b ≡ false → Gone k at (free_end p k) n i → Gone k at (free_end p k) (n + 1) e
       free_on u g = gone-on (free-test u) d g
 
-      pub free-found : {at : ℕ} → b ≡ true → Gone k at (freeEnd p k) n i → UpTo k at p (record { found = true; count = n })
-      free-found u g = gone-end (free-test u) (sym (ap found (test termWord r t))) g
+      pub free-found : {at : ℕ} → b ≡ true → Gone k at (free_end p k) n i → UpTo k at p (record { found = true; count = n })
+      free-found u g = gone-end (free-test u) (sym (ap found (test term_word r t))) g
 
-    pub free-end : {at : ℕ} → a ≡ false → Gone k at (freeEnd p k) n i → UpTo k at p (record { found = false; count = 0 })
-    unfolding freeEnd
-    free-end t g = gone-end (or-first (not (termWord (get_or k i 0))) (member p (slice i (elementEnd k i) k)) (ap not (test termWord r t))) (sym (ap found (test termWord r t))) g
+    pub free-end : {at : ℕ} → a ≡ false → Gone k at (free_end p k) n i → UpTo k at p (record { found = false; count = 0 })
+    unfolding free_end
+    free-end t g = gone-end (or-first (not (term_word (get_or k i 0))) (member p (slice i (element_end k i) k)) (ap not (test term_word r t))) (sym (ap found (test term_word r t))) g
 
   -- ---- up to an element that is a word
   abbrev spot : Bool → Spot
   spot c = pick c (record { found = false; place = 0 }) (record { found = true; place = i })
 
   module _ (at p : ℕ) where
-    others-test : (x ≡ 0 → ⊥) → {c : Bool} → eqb x p ≡ c → othersEnd p k i ≡ c
-    unfolding othersEnd
+    others-test : (x ≡ 0 → ⊥) → {c : Bool} → eqb x p ≡ c → others_end p k i ≡ c
+    unfolding others_end
     others-test nz t = or-second (eqb (get_or k i 0) 0) (eqb (get_or k i 0) p) (more nz) (ap (λ y. eqb y p) (sym q) ∙ t)
 
-    pub others-on : {e : ℕ} → (x ≡ 0 → ⊥) → (x ≡ p → ⊥) → e ≡ elementEnd k i → Going k (elementEnd k at) (othersEnd p k) i → Going k (elementEnd k at) (othersEnd p k) e
+    pub others-on : {e : ℕ} → (x ≡ 0 → ⊥) → (x ≡ p → ⊥) → e ≡ element_end k i → Going k (element_end k at) (others_end p k) i → Going k (element_end k at) (others_end p k) e
     others-on nz ne d g = going_on (others-test nz (ne_eqb x p ne)) d g
 
-    pub others-found : (x ≡ 0 → ⊥) → x ≡ p → Going k (elementEnd k at) (othersEnd p k) i → Inside k at p (record { found = true; place = i })
+    pub others-found : (x ≡ 0 → ⊥) → x ≡ p → Going k (element_end k at) (others_end p k) i → Inside k at p (record { found = true; place = i })
     others-found nz e g = going_end (others-test nz (eq-eqb x p e)) (λ n. sym (ap spot (more nz))) g
 
-    pub others-none : x ≡ 0 → Going k (elementEnd k at) (othersEnd p k) i → Inside k at p (record { found = false; place = 0 })
-    unfolding othersEnd
+    pub others-none : x ≡ 0 → Going k (element_end k at) (others_end p k) i → Inside k at p (record { found = false; place = 0 })
+    unfolding others_end
     others-none z g = going_end (or-first (eqb (get_or k i 0) 0) (eqb (get_or k i 0) p) (over z)) (λ n. sym (ap spot (over z))) g

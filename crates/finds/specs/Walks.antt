@@ -7,47 +7,47 @@ use Rattle.language.specs.declared.Kind.TheVariants.{End, Term, Run, Symbol, Fun
 use Rattle.language.specs.Limits.{desk}
 use Rattle.language.specs.Kinds.{kind_of}
 use Rattle.language.specs.Trees.{Hedge, ε, tvar, hvar, node}
-use Rattle.rules.specs.Looks.{allTerms, up_to, inside}
+use Rattle.rules.specs.Looks.{all_terms, up_to, inside}
 use Rattle.rules.specs.Solved.{is_some}
-use Rattle.views.specs.Looks.{bodyWords}
+use Rattle.views.specs.Looks.{body_words}
 use Rattle.finds.specs.declared.Terms.{Terms}
 use Rattle.finds.specs.declared.Found.{Found}
 use Rattle.finds.specs.declared.Spot.{Spot}
 
 -- a word that begins a term, and one that is a hedge variable's
-abbrev pub beginsBy : Kind → Bool
-beginsBy End = false
-beginsBy (Term x) = true
-beginsBy (Run p) = false
-beginsBy (Symbol f) = true
-beginsBy (Function X) = true
-beginsBy Equation = false
-beginsBy Membership = false
-beginsBy Eps = false
-beginsBy Cat = false
-beginsBy Alt = false
-beginsBy Star = false
-beginsBy Other = false
+abbrev pub begins_by : Kind → Bool
+begins_by End = false
+begins_by (Term x) = true
+begins_by (Run p) = false
+begins_by (Symbol f) = true
+begins_by (Function X) = true
+begins_by Equation = false
+begins_by Membership = false
+begins_by Eps = false
+begins_by Cat = false
+begins_by Alt = false
+begins_by Star = false
+begins_by Other = false
 
-unfoldable pub termWord : ℕ → Bool
-termWord x = beginsBy (kind_of desk x)
+unfoldable pub term_word : ℕ → Bool
+term_word x = begins_by (kind_of desk x)
 
-abbrev pub runsBy : Kind → Bool
-runsBy End = false
-runsBy (Term x) = false
-runsBy (Run p) = true
-runsBy (Symbol f) = false
-runsBy (Function X) = false
-runsBy Equation = false
-runsBy Membership = false
-runsBy Eps = false
-runsBy Cat = false
-runsBy Alt = false
-runsBy Star = false
-runsBy Other = false
+abbrev pub runs_by : Kind → Bool
+runs_by End = false
+runs_by (Term x) = false
+runs_by (Run p) = true
+runs_by (Symbol f) = false
+runs_by (Function X) = false
+runs_by Equation = false
+runs_by Membership = false
+runs_by Eps = false
+runs_by Cat = false
+runs_by Alt = false
+runs_by Star = false
+runs_by Other = false
 
-unfoldable pub runWord : ℕ → Bool
-runWord x = runsBy (kind_of desk x)
+unfoldable pub run_word : ℕ → Bool
+run_word x = runs_by (kind_of desk x)
 
 -- the number of elements
 abbrev pub size : Hedge → ℕ
@@ -58,7 +58,7 @@ size (node f c r) = suc (size r)
 
 -- whether h is terms alone, and how many
 pub record Counted (t : Terms) (h : Hedge) : Type 0 where
-  pub all : t.all ≡ allTerms h
+  pub all : t.all ≡ all_terms h
   pub count : t.all ≡ true → t.count ≡ size h
 
 -- whether there is a first term that holds p, and how many terms stand before it
@@ -69,4 +69,4 @@ pub record Ahead (p : HedgeVar) (t : Found) (h : Hedge) : Type 0 where
 -- whether p stands at the top behind another element, and the place of the first such p in a hedge that stands at `at`
 pub record Spotted (p : HedgeVar) (at : ℕ) (t : Spot) (h : Hedge) : Type 0 where
   pub found : t.found ≡ is_some (inside p h)
-  pub place : (a b : Hedge) → inside p h ≡ some (a, b) → t.place ≡ at + length (bodyWords a)
+  pub place : (a b : Hedge) → inside p h ≡ some (a, b) → t.place ≡ at + length (body_words a)

@@ -4,9 +4,9 @@ ghost use Rattle.std.specs.Prelude.{ℕ, ◌+◌, ◌≤◌, ◌<◌, ◌≡◌,
 ghost use Rattle.language.specs.declared.HedgeVar.{HedgeVar};
 ghost use Rattle.language.specs.Limits.{desk};
 ghost use Rattle.language.specs.Trees.{Hedge, hv};
-ghost use Rattle.views.specs.Variables.{variableWord, fineVar};
+ghost use Rattle.views.specs.Variables.{variable_word, fine_var};
 ghost use Rattle.views.specs.Standing.{Stands};
-ghost use Rattle.finds.specs.Walks.{termWord, Counted, Ahead};
+ghost use Rattle.finds.specs.Walks.{term_word, Counted, Ahead};
 ghost use Rattle.finds.specs.Places.{AllTerms, UpTo};
 
 use language::{HedgeVar, Kind, classify, run_word};
@@ -35,7 +35,7 @@ pub struct Spot {
 }
 
 fn is_term(x: u16) -> bool
-    ensures { result ≡ termWord x }
+    ensures { result ≡ term_word x }
 {
     match classify(x) {
         Kind::Term(_) | Kind::Symbol(_) | Kind::Function(_) => true,
@@ -63,7 +63,7 @@ pub fn all_terms(k: &[u16], at: usize) -> Terms
 
 // Whether terms stand up to one that holds the hedge variable whose word is p, and how many before it.
 fn up_to_word(k: &[u16], at: usize, p: usize) -> Found
-    ensures { ((q : HedgeVar) (h : Hedge) (beyond : List ℕ) → fineVar desk (hv q) → p ≡ variableWord (hv q) → Stands k.now at h beyond → Ahead q result h) × (result.count ≤ length k.now) × UpTo k.now at p result }
+    ensures { ((q : HedgeVar) (h : Hedge) (beyond : List ℕ) → fine_var desk (hv q) → p ≡ variable_word (hv q) → Stands k.now at h beyond → Ahead q result h) × (result.count ≤ length k.now) × UpTo k.now at p result }
 {
     let mut i = at;
     let mut n: usize = 0;

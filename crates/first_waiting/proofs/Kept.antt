@@ -148,7 +148,7 @@ module _ {k w : List ℕ} {from to old n front back : ℕ} (f : Follows k w from
   shares = record {
     few = let z = length-take-le old k fits in let z₄ = few in omega arith;
     less = let z = length-slice from to w within in let z₁ = size in let z₅ = less in omega arith;
-    inFront = ap (take front) new-words ∙ take_at before (come ++ behind) front long ∙ sym (ap (take front) old-words ∙ take_at before (gone ++ behind) front long);
+    in_front = ap (take front) new-words ∙ take_at before (come ++ behind) front long ∙ sym (ap (take front) old-words ∙ take_at before (gone ++ behind) front long);
     behind = last-words (slice from to w) before come behind back new-words last ∙ sym (last-words (take old k) before gone behind back old-words last);
   }
     where

@@ -5,13 +5,13 @@ ghost use Rattle.std.proofs.Math.Seq.{slice};
 ghost use Rattle.std.proofs.lemmas.List.Edits.{sets};
 ghost use Rattle.language.specs.Limits.{desk};
 ghost use Rattle.language.specs.Trees.{Conj};
-ghost use Rattle.language.specs.Writing.{conjWords};
-ghost use Rattle.language.specs.Fine.{fineConj};
-ghost use Rattle.frames.specs.Frames.{frame, framedLength};
+ghost use Rattle.language.specs.Writing.{conj_words};
+ghost use Rattle.language.specs.Fine.{fine_conj};
+ghost use Rattle.frames.specs.Frames.{frame, framed_length};
 ghost use Rattle.counts.specs.Tables.{afresh};
 ghost use Rattle.views.specs.Standing.{Conjunction};
 ghost use Rattle.notes.specs.Rows.{rows_of, Noted};
-ghost use Rattle.kept_notes.specs.Renewal.{rowRoom, Shares};
+ghost use Rattle.kept_notes.specs.Renewal.{row_room, Shares};
 ghost use Rattle.first_waiting.specs.Parts.{Alike, AlikeBack, Digits, EightSame};
 
 use counts::{TABLE, count_in, count_out};
@@ -122,12 +122,12 @@ struct Taken {
 
 // The words of the conjunction that waits first, in the place of `old` words of k, of which the table has the counts.
 fn take_words(work: &[u16], at: usize, k: &mut [u16], old: usize, table: &mut [u16; TABLE]) -> Taken
-    requires at_in_bounds { (at + frame + framedLength work.now at ≤ length work.now) × (framedLength work.now at ≤ length k.old) × (old ≤ length k.old) × (length k.old ≤ desk.question) }
+    requires at_in_bounds { (at + frame + framed_length work.now at ≤ length work.now) × (framed_length work.now at ≤ length k.old) × (old ≤ length k.old) × (length k.old ≤ desk.question) }
     requires table_value { table.old ≡ afresh (take old k.old) }
-    ensures len_value { result.len ≡ framedLength work.now at }
-    ensures k_after { k.new ≡ sets k.old 0 (slice (at + frame) (at + frame + framedLength work.now at) work.now) }
-    ensures table_after { table.new ≡ afresh (slice (at + frame) (at + frame + framedLength work.now at) work.now) }
-    ensures shares { Shares (slice (at + frame) (at + frame + framedLength work.now at) work.now) (take old k.old) result.front result.back }
+    ensures len_value { result.len ≡ framed_length work.now at }
+    ensures k_after { k.new ≡ sets k.old 0 (slice (at + frame) (at + frame + framed_length work.now at) work.now) }
+    ensures table_after { table.new ≡ afresh (slice (at + frame) (at + frame + framed_length work.now at) work.now) }
+    ensures shares { Shares (slice (at + frame) (at + frame + framed_length work.now at) work.now) (take old k.old) result.front result.back }
 {
     let n = read_frame(work, at);
     let from = at + FRAME;
@@ -164,14 +164,14 @@ pub fn take_first(
     m: usize,
     s: Signature,
 ) -> First
-    requires at_in_bounds { (at + frame + framedLength work.now at ≤ length work.now) × (framedLength work.now at ≤ length k.old) × (old ≤ length k.old) × (length k.old ≤ desk.question) }
+    requires at_in_bounds { (at + frame + framed_length work.now at ≤ length work.now) × (framed_length work.now at ≤ length k.old) × (old ≤ length k.old) × (length k.old ≤ desk.question) }
     requires table_value { table.old ≡ afresh (take old k.old) }
-    requires noted { Noted s (take old k.old) rows.old m × (length rows.old ≡ rowRoom) }
-    requires conjunction { Conjunction (slice (at + frame) (at + frame + framedLength work.now at) work.now) }
-    ensures len_value { result.len ≡ framedLength work.now at }
-    ensures k_after { k.new ≡ sets k.old 0 (slice (at + frame) (at + frame + framedLength work.now at) work.now) }
-    ensures table_after { table.new ≡ afresh (slice (at + frame) (at + frame + framedLength work.now at) work.now) }
-    ensures literals_value { (c : Conj) → fineConj desk c → slice (at + frame) (at + frame + framedLength work.now at) work.now ≡ conjWords c → (result.literals ≡ length c) × (rows.new ≡ rows_of s c ++ drop (5 * length c) rows.old) }
+    requires noted { Noted s (take old k.old) rows.old m × (length rows.old ≡ row_room) }
+    requires conjunction { Conjunction (slice (at + frame) (at + frame + framed_length work.now at) work.now) }
+    ensures len_value { result.len ≡ framed_length work.now at }
+    ensures k_after { k.new ≡ sets k.old 0 (slice (at + frame) (at + frame + framed_length work.now at) work.now) }
+    ensures table_after { table.new ≡ afresh (slice (at + frame) (at + frame + framed_length work.now at) work.now) }
+    ensures literals_value { (c : Conj) → fine_conj desk c → slice (at + frame) (at + frame + framed_length work.now at) work.now ≡ conj_words c → (result.literals ≡ length c) × (rows.new ≡ rows_of s c ++ drop (5 * length c) rows.old) }
 {
     let kept = take_words(work, at, k, old, table);
     let n = kept.len;

@@ -8,15 +8,15 @@ use borrow.Author.Tests.{eq-eqb, ne_eqb}
 use Rattle.language.specs.Kinds.{pick}
 use Rattle.language.specs.declared.Sym.{Sym}
 use Rattle.language.specs.Trees.{symbol, Expr, eps, cat, alt, star, over}
-use Rattle.language.specs.Writing.{exprWords}
+use Rattle.language.specs.Writing.{expr_words}
 use Rattle.grammar.specs.Tokens.{Token, functor, comma, opens, closes, plus, times}
 use Rattle.grammar.specs.Grammar.{Level, atom, starred, choice, listed, within, Means, single, under, group, once, again, only, either, last, then, no-listed, some-listed}
-use Rattle.texts.specs.Numbering.{symbols, Naming, nameExpr}
-use Rattle.flat.specs.Filling.{Frame, Filled, starsOn, operandOn, itemOn, owes, enclosed, released, turn, turns, nothing}
+use Rattle.texts.specs.Numbering.{symbols, Naming, name_expr}
+use Rattle.flat.specs.Filling.{Frame, Filled, stars_on, operand_on, item_on, owes, enclosed, released, turn, turns, nothing}
 
 module _ (ρ : Naming) where
   abbrev words : Expr → List ℕ
-  words R = exprWords (nameExpr ρ R)
+  words R = expr_words (name_expr ρ R)
 
   turns-++ : (ps qs : List Token) (f : Filled) → turns ρ (ps ++ qs) f ≡ turns ρ ps (turns ρ qs f)
   turns-++ [] qs f = refl
@@ -68,16 +68,16 @@ module _ (ρ : Naming) where
 
   abbrev Starred : Expr → List Token → Type 0
   Starred R ps = (f : Filled) → f.functor ≡ false → Below f.owed f.depth
-      → (starsOn (turns ρ ps f).stars (turns ρ ps f).words ≡ starsOn f.stars (words R ++ f.words)) × ((turns ρ ps f).operand ≡ f.operand) × Kept f (turns ρ ps f)
+      → (stars_on (turns ρ ps f).stars (turns ρ ps f).words ≡ stars_on f.stars (words R ++ f.words)) × ((turns ρ ps f).operand ≡ f.operand) × Kept f (turns ρ ps f)
 
   abbrev Choice : Expr → List Token → Type 0
   Choice R ps = (f : Filled) → f.functor ≡ false → f.stars ≡ 0 → f.operand ≡ false → Below f.owed f.depth
-      → (operandOn (turns ρ ps f) ≡ words R ++ f.words) × Kept f (turns ρ ps f)
+      → (operand_on (turns ρ ps f) ≡ words R ++ f.words) × Kept f (turns ρ ps f)
 
   -- the bracket that closes is the last of these
   abbrev Listed : Expr → List Token → Type 0
   Listed R ps = (f : Filled) → Below f.owed f.depth
-      → (itemOn (turns ρ ps f) ≡ words R ++ f.words) × ((turns ρ ps f).depth ≡ suc f.depth) × ((turns ρ ps f).owed ≡ (enclosed f).owed) × ((turns ρ ps f).bare ≡ false)
+      → (item_on (turns ρ ps f) ≡ words R ++ f.words) × ((turns ρ ps f).depth ≡ suc f.depth) × ((turns ρ ps f).owed ≡ (enclosed f).owed) × ((turns ρ ps f).bare ≡ false)
 
   -- and the bracket that opens comes before them
   abbrev Within : Expr → List Token → Type 0
@@ -107,20 +107,20 @@ module _ (ρ : Naming) where
       (ap (λ g. g.words) z, ap (λ g. g.stars) z, ap (λ g. g.operand) z, (ap (λ g. g.item) z, ap (λ g. g.depth) z, ap (λ g. g.owed) z, ap (λ g. g.bare) z))
 
   by-once : (R : Expr) (ps : List Token) → Atom R ps → Starred R ps
-  by-once R ps w f e b = let z = w f e b in (ap₂ starsOn z.1 z.0, z.2, z.3)
+  by-once R ps w f e b = let z = w f e b in (ap₂ stars_on z.1 z.0, z.2, z.3)
 
   by-again : (R : Expr) (ps : List Token) → Starred R ps → Starred (star R) (ps ++ (times ∷ []))
   by-again R ps w f e b =
       let q = turns-++ ps (times ∷ []) f in
       let z = w (turn ρ times f) refl b in
       let k = z.2 in
-      (ap (λ g. starsOn g.stars g.words) q ∙ z.0, ap (λ g. g.operand) q ∙ z.1, (ap (λ g. g.item) q ∙ k.0, ap (λ g. g.depth) q ∙ k.1, ap (λ g. g.owed) q ∙ k.2, ap (λ g. g.bare) q ∙ k.3))
+      (ap (λ g. stars_on g.stars g.words) q ∙ z.0, ap (λ g. g.operand) q ∙ z.1, (ap (λ g. g.item) q ∙ k.0, ap (λ g. g.depth) q ∙ k.1, ap (λ g. g.owed) q ∙ k.2, ap (λ g. g.bare) q ∙ k.3))
 
   by_only : (R : Expr) (ps : List Token) → Starred R ps → Choice R ps
   by_only R ps w f e n o b =
       let z = w f e b in
-      let s = z.0 ∙ ap (λ n. starsOn n (words R ++ f.words)) n in
-      (ap (λ t. pick t (7002 ∷ starsOn (turns ρ ps f).stars (turns ρ ps f).words) (starsOn (turns ρ ps f).stars (turns ρ ps f).words)) (z.1 ∙ o) ∙ s, z.2)
+      let s = z.0 ∙ ap (λ n. stars_on n (words R ++ f.words)) n in
+      (ap (λ t. pick t (7002 ∷ stars_on (turns ρ ps f).stars (turns ρ ps f).words) (stars_on (turns ρ ps f).stars (turns ρ ps f).words)) (z.1 ∙ o) ∙ s, z.2)
 
   by-either : (a c : Expr) (ps qs : List Token) → Starred a ps → Choice c qs → Choice (alt a c) (ps ++ (plus ∷ qs))
   by-either a c ps qs v w f e n o b =
@@ -131,8 +131,8 @@ module _ (ρ : Naming) where
       let g = turn ρ plus h in
       let z = v g refl (subst (λ l. Below l h.depth) (sym k.2) (subst (Below f.owed) (sym k.1) b)) in
       let m = z.2 in
-      let s : starsOn (turns ρ ps g).stars (turns ρ ps g).words ≡ words a ++ (words c ++ f.words) = z.0 ∙ ap (λ l. words a ++ l) y.0 in (
-        ap operandOn q ∙ ap (λ t. pick t (7002 ∷ starsOn (turns ρ ps g).stars (turns ρ ps g).words) (starsOn (turns ρ ps g).stars (turns ρ ps g).words)) z.1 ∙ ap (λ l. 7002 ∷ l) (s ∙ sym (append_assoc (words a) (words c) f.words)),
+      let s : stars_on (turns ρ ps g).stars (turns ρ ps g).words ≡ words a ++ (words c ++ f.words) = z.0 ∙ ap (λ l. words a ++ l) y.0 in (
+        ap operand_on q ∙ ap (λ t. pick t (7002 ∷ stars_on (turns ρ ps g).stars (turns ρ ps g).words) (stars_on (turns ρ ps g).stars (turns ρ ps g).words)) z.1 ∙ ap (λ l. 7002 ∷ l) (s ∙ sym (append_assoc (words a) (words c) f.words)),
         (ap (λ u. u.item) q ∙ m.0 ∙ k.0, ap (λ u. u.depth) q ∙ m.1 ∙ k.1, ap (λ u. u.owed) q ∙ m.2 ∙ k.2, ap (λ u. u.bare) q ∙ m.3),
       )
 
@@ -143,7 +143,7 @@ module _ (ρ : Naming) where
       let g = turn ρ closes f in
       let z = w g refl refl refl (below-inner f.stars f.operand f.item f.depth f.owed b) in
       let k = z.1 in
-      (ap itemOn q ∙ ap (λ t. pick t (7001 ∷ operandOn (turns ρ ps g)) (operandOn (turns ρ ps g))) k.0 ∙ z.0, ap (λ u. u.depth) q ∙ k.1, ap (λ u. u.owed) q ∙ k.2, ap (λ u. u.bare) q ∙ k.3)
+      (ap item_on q ∙ ap (λ t. pick t (7001 ∷ operand_on (turns ρ ps g)) (operand_on (turns ρ ps g))) k.0 ∙ z.0, ap (λ u. u.depth) q ∙ k.1, ap (λ u. u.owed) q ∙ k.2, ap (λ u. u.bare) q ∙ k.3)
 
   by-then : (a c : Expr) (ps qs : List Token) → Choice a ps → Listed c qs → Listed (cat a c) (ps ++ (comma ∷ qs))
   by-then a c ps qs v w f b =
@@ -153,8 +153,8 @@ module _ (ρ : Naming) where
       let g = turn ρ comma h in
       let z = v g refl refl refl (subst (λ l. Below l h.depth) (sym y.2) (subst (Below (enclosed f).owed) (sym y.1) (inner_below f b))) in
       let k = z.1 in
-      let s : operandOn (turns ρ ps g) ≡ words a ++ (words c ++ f.words) = z.0 ∙ ap (λ l. words a ++ l) y.0 in (
-        ap itemOn q ∙ ap (λ t. pick t (7001 ∷ operandOn (turns ρ ps g)) (operandOn (turns ρ ps g))) k.0 ∙ ap (λ l. 7001 ∷ l) (s ∙ sym (append_assoc (words a) (words c) f.words)),
+      let s : operand_on (turns ρ ps g) ≡ words a ++ (words c ++ f.words) = z.0 ∙ ap (λ l. words a ++ l) y.0 in (
+        ap item_on q ∙ ap (λ t. pick t (7001 ∷ operand_on (turns ρ ps g)) (operand_on (turns ρ ps g))) k.0 ∙ ap (λ l. 7001 ∷ l) (s ∙ sym (append_assoc (words a) (words c) f.words)),
         ap (λ u. u.depth) q ∙ k.1 ∙ y.1,
         ap (λ u. u.owed) q ∙ k.2 ∙ y.2,
         ap (λ u. u.bare) q ∙ k.3,
@@ -173,7 +173,7 @@ module _ (ρ : Naming) where
   by-some R ps w f b =
       let z = w f b in
       let g = turns ρ ps f in
-      ap (λ t. released (pick t (7000 ∷ g.words) (itemOn g)) (g.depth - 1) g.owed) z.3
+      ap (λ t. released (pick t (7000 ∷ g.words) (item_on g)) (g.depth - 1) g.owed) z.3
       ∙ ap (λ l. released l (g.depth - 1) g.owed) z.0
       ∙ released-as f g (words R ++ f.words) b z.1 z.2
 
@@ -196,7 +196,7 @@ module _ (ρ : Naming) where
   part (some-listed {R} m) = let w = part m in (w.0, w.1, by-some R w.0 w.2)
 
   -- The tokens of an expression, read backwards from nothing, leave its words.
-  pub filled : {R : Expr} {ts us : List Token} → Means choice R ts us → (ps : List Token) × (ts ≡ ps ++ us) × (operandOn (turns ρ ps nothing) ≡ exprWords (nameExpr ρ R))
+  pub filled : {R : Expr} {ts us : List Token} → Means choice R ts us → (ps : List Token) × (ts ≡ ps ++ us) × (operand_on (turns ρ ps nothing) ≡ expr_words (name_expr ρ R))
   filled {R} m =
       let w = part m in
       (w.0, w.1, (w.2 nothing refl refl refl tt).0 ∙ nothing-behind (words R))

@@ -6,13 +6,13 @@ use mathlib.Core.List.{List, [], ◌∷◌, ◌++◌}
 use lib.ListN.{length, length-append}
 use Rattle.language.specs.declared.Sym.{Sym}
 use Rattle.language.specs.Trees.{Functor, symbol, fvar, Expr, eps, cat, alt, star, over}
-use Rattle.language.specs.Writing.{exprWords}
+use Rattle.language.specs.Writing.{expr_words}
 use Rattle.grammar.specs.Tokens.{Token, one, run, functor, equals, comma, opens, closes, plus, times}
 use Rattle.grammar.specs.Grammar.{Level, atom, starred, choice, listed, within, Means, single, under, group, once, again, only, either, last, then, no-listed, some-listed}
 use Rattle.texts.specs.Parsing.{Res, got, stop}
 use Rattle.flat.specs.declared.State.{State}
 use Rattle.flat.specs.declared.State.TheVariants.{Opened, Wanted, Named, Ready}
-use Rattle.flat.specs.Flat.{add, end_at, scan, flatExpr}
+use Rattle.flat.specs.Flat.{add, end_at, scan, flat_expr}
 use Rattle.texts.proofs.Hedges.{Calm}
 use Rattle.texts.proofs.Expressions.{Ends, ends-calm}
 
@@ -21,10 +21,10 @@ add-add n m (got k us) = ap (λ z. got z us) (omega arith)
 add-add n m stop = refl
 
 abbrev pub size : Expr → ℕ
-size R = length (exprWords R)
+size R = length (expr_words R)
 
-size-two : (a b : Expr) → length (exprWords a ++ exprWords b) ≡ size a + size b
-size-two a b = length-append (exprWords a) (exprWords b)
+size-two : (a b : Expr) → length (expr_words a ++ expr_words b) ≡ size a + size b
+size-two a b = length-append (expr_words a) (expr_words b)
 
 -- a symbol by itself is two words
 named-calm : (d : ℕ) (ts : List Token) → Calm ts → scan Named d ts ≡ add 1 (scan Ready d ts)
@@ -67,7 +67,7 @@ over-counts f R x y e = ap (add 1) e ∙ add-add 1 (size R) y ∙ ap (λ m. add 
 star-counts : (R : Expr) (x y : Res ℕ) → x ≡ add (size R) (add 1 y) → x ≡ add (size (star R)) y
 star-counts R x y e = e ∙ add-add (size R) 1 y ∙ ap (λ m. add m y) (omega arith)
 
-both-counts : (a b : Expr) (n : ℕ) (x y z : Res ℕ) → n ≡ suc (length (exprWords a ++ exprWords b)) → x ≡ add (size a) (add 1 y) → y ≡ add (size b) z → x ≡ add n z
+both-counts : (a b : Expr) (n : ℕ) (x y z : Res ℕ) → n ≡ suc (length (expr_words a ++ expr_words b)) → x ≡ add (size a) (add 1 y) → y ≡ add (size b) z → x ≡ add n z
 both-counts a b n x y z e p q =
     p ∙ ap (λ r. add (size a) (add 1 r)) q ∙ ap (add (size a)) (add-add 1 (size b) z) ∙ add-add (size a) (1 + size b) z
     ∙ ap (λ m. add m z) (let s = size-two a b in let w : size a + (1 + size b) ≡ n = omega arith in w)
@@ -215,7 +215,7 @@ top-good ts (got n us) w = (w.0, subst (Means choice w.0 ts) w.3 w.2)
 top-good ts stop w = tt
 
 -- The loop finds an expression exactly where the grammar spells one.
-pub flat-expr-spelt : (ts us : List Token) (n : ℕ) → flatExpr ts ≡ got n us → (R : Expr) × Means choice R ts us
+pub flat-expr-spelt : (ts us : List Token) (n : ℕ) → flat_expr ts ≡ got n us → (R : Expr) × Means choice R ts us
 flat-expr-spelt ts us n e = subst (GoodExpr ts) e (top-good ts (scan Wanted 0 ts) (flat_good ts Wanted 0))
 
 ready-ends : (us : List Token) → Ends us → scan Ready 0 us ≡ got 0 us
@@ -230,5 +230,5 @@ ready-ends (closes ∷ ts) c = refl
 ready-ends (plus ∷ ts) c = absurd c
 ready-ends (times ∷ ts) c = absurd c
 
-pub flat-expr-read : {R : Expr} {ts us : List Token} → Means choice R ts us → Ends us → flatExpr ts ≡ got (size R) us
+pub flat-expr-read : {R : Expr} {ts us : List Token} → Means choice R ts us → Ends us → flat_expr ts ≡ got (size R) us
 flat-expr-read {R} {ts} {us} m c = (counts m (ends-calm us c) 0).0 ∙ ap (add (size R)) (ready-ends us c) ∙ ap (λ n. got n us) (let z : size R + 0 ≡ size R = omega arith in z)

@@ -26,16 +26,16 @@ pub record Filled : Type 0 where
   pub depth : ℕ
   pub owed : List Frame
 
-abbrev pub starsOn : ℕ → List ℕ → List ℕ
-starsOn zero ws = ws
-starsOn (suc n) ws = starsOn n (7003 ∷ ws)
+abbrev pub stars_on : ℕ → List ℕ → List ℕ
+stars_on zero ws = ws
+stars_on (suc n) ws = stars_on n (7003 ∷ ws)
 
 -- the words with what ends an operand, and an item
-abbrev pub operandOn : Filled → List ℕ
-operandOn f = pick f.operand (7002 ∷ starsOn f.stars f.words) (starsOn f.stars f.words)
+abbrev pub operand_on : Filled → List ℕ
+operand_on f = pick f.operand (7002 ∷ stars_on f.stars f.words) (stars_on f.stars f.words)
 
-abbrev pub itemOn : Filled → List ℕ
-itemOn f = pick f.item (7001 ∷ operandOn f) (operandOn f)
+abbrev pub item_on : Filled → List ℕ
+item_on f = pick f.item (7001 ∷ operand_on f) (operand_on f)
 
 -- something is owed
 abbrev pub owes : ℕ → Bool → Bool → Bool
@@ -64,21 +64,21 @@ released ws d [] = record { words = ws; stars = 0; operand = false; item = false
 released ws d (g ∷ gs) = back ws d g gs (g ∷ gs) (eqb g.depth d)
 
 -- a symbol without brackets is one over eps
-abbrev pub leafOn : Filled → List ℕ
-leafOn f = pick f.functor f.words (7000 ∷ f.words)
+abbrev pub leaf_on : Filled → List ℕ
+leaf_on f = pick f.functor f.words (7000 ∷ f.words)
 
 abbrev pub named : ℕ → Filled → Filled
-named w f = record { words = w ∷ leafOn f; stars = f.stars; operand = f.operand; item = f.item; functor = false; bare = false; depth = f.depth; owed = f.owed }
+named w f = record { words = w ∷ leaf_on f; stars = f.stars; operand = f.operand; item = f.item; functor = false; bare = false; depth = f.depth; owed = f.owed }
 
 abbrev pub turn : Naming → Token → Filled → Filled
 turn ρ (one x) f = f
 turn ρ (run p) f = f
 turn ρ (functor g) f = elim g [ symbol s ↦ named (3000 + ρ symbols s.0) f | fvar X ↦ f ]
 turn ρ equals f = f
-turn ρ comma f = record { words = itemOn f; stars = 0; operand = false; item = true; functor = false; bare = false; depth = f.depth; owed = f.owed }
-turn ρ opens f = released (pick f.bare (7000 ∷ f.words) (itemOn f)) (f.depth - 1) f.owed
+turn ρ comma f = record { words = item_on f; stars = 0; operand = false; item = true; functor = false; bare = false; depth = f.depth; owed = f.owed }
+turn ρ opens f = released (pick f.bare (7000 ∷ f.words) (item_on f)) (f.depth - 1) f.owed
 turn ρ closes f = enclosed f
-turn ρ plus f = record { words = operandOn f; stars = 0; operand = true; item = f.item; functor = false; bare = false; depth = f.depth; owed = f.owed }
+turn ρ plus f = record { words = operand_on f; stars = 0; operand = true; item = f.item; functor = false; bare = false; depth = f.depth; owed = f.owed }
 turn ρ times f = record { words = f.words; stars = suc f.stars; operand = f.operand; item = f.item; functor = false; bare = false; depth = f.depth; owed = f.owed }
 
 -- these tokens, the last first

@@ -11,20 +11,20 @@ use lib.ListN.{length, take, drop, length-append}
 use lib.Seq.{take-append-add, drop-append-add, drop-append_seam}
 use Rattle.language.specs.Limits.{desk}
 use Rattle.language.specs.Kinds.{pick}
-use Rattle.language.specs.Trees.{Literal, Conj, sameLiteral}
-use Rattle.language.specs.Writing.{literalWords, conjWords}
-use Rattle.language.specs.Fine.{fineConj}
+use Rattle.language.specs.Trees.{Literal, Conj, same_literal}
+use Rattle.language.specs.Writing.{literal_words, conj_words}
+use Rattle.language.specs.Fine.{fine_conj}
 use Rattle.rules.specs.Reply.{Reply, nothing, results}
-use Rattle.rules.specs.Rules.{strike, folded, Fold, onPair}
-use Rattle.rules.specs.Step.{orNext, each, found, earliest}
+use Rattle.rules.specs.Rules.{strike, folded, Fold, on_pair}
+use Rattle.rules.specs.Step.{or_next, each, found, earliest}
 use Rattle.rules.proofs.FineParts.{fine-append}
-use Rattle.words.specs.Places.{untilLiteral}
+use Rattle.words.specs.Places.{until_literal}
 use Rattle.views.specs.Standing.{LiteralAt}
 use Rattle.views.proofs.Words.{words_append}
 use Rattle.views.proofs.Seen.{literal-next}
 use Rattle.views.proofs.LiteralWalks.{literal-some, stands_here}
 use Rattle.notes.proofs.Walks.{literal-within}
-use Rattle.folding.specs.Twice.{again, untilSame, firstTwice, Once}
+use Rattle.folding.specs.Twice.{again, until_same, first_twice, Once}
 use Rattle.folding.proofs.Same.{same-is}
 use Rattle.folding.proofs.Twice.{or-false, cut}
 
@@ -33,7 +33,7 @@ use Rattle.folding.proofs.Twice.{or-false, cut}
 pub strike-none : (l : Literal) (k : Conj) → again l k ≡ false → strike l k ≡ none
 strike-none l [] e = refl
 strike-none l (m ∷ k) e =
-    let p = or-false (sameLiteral l m) (again l k) e in
+    let p = or-false (same_literal l m) (again l k) e in
     ap (λ b. pick b (some k) (Option.map (λ (c : Conj). m ∷ c) (strike l k))) p.0 ∙ ap (Option.map (λ (c : Conj). m ∷ c)) (strike-none l k p.1)
 
 pub fold-none : (l : Literal) (k : Conj) → again l k ≡ false → Fold l k ≡ nothing
@@ -43,32 +43,32 @@ fold-none l k e = ap (folded l) (strike-none l k e)
 pub record Struck (l : Literal) (k : Conj) (s : Option Conj) (n : ℕ) : Type 0 where
   pub left : Conj
   pub is : s ≡ some left
-  pub words : take n (conjWords k) ++ drop (n + length (literalWords l)) (conjWords k) ≡ conjWords left
+  pub words : take n (conj_words k) ++ drop (n + length (literal_words l)) (conj_words k) ≡ conj_words left
 
-pub strike-some : (l : Literal) (k : Conj) → again l k ≡ true → Struck l k (strike l k) (untilSame l k)
+pub strike-some : (l : Literal) (k : Conj) → again l k ≡ true → Struck l k (strike l k) (until_same l k)
 strike-some l [] e = absurd (false≢true e)
-strike-some l (m ∷ k) e = go (sameLiteral l m) refl e (strike-some l k)
+strike-some l (m ∷ k) e = go (same_literal l m) refl e (strike-some l k)
   where
-    go : (b : Bool) → sameLiteral l m ≡ b → (b || again l k) ≡ true → (again l k ≡ true → Struck l k (strike l k) (untilSame l k))
-        → Struck l (m ∷ k) (pick b (some k) (Option.map (λ (c : Conj). m ∷ c) (strike l k))) (pick b 0 (length (literalWords m) + untilSame l k))
+    go : (b : Bool) → same_literal l m ≡ b → (b || again l k) ≡ true → (again l k ≡ true → Struck l k (strike l k) (until_same l k))
+        → Struck l (m ∷ k) (pick b (some k) (Option.map (λ (c : Conj). m ∷ c) (strike l k))) (pick b 0 (length (literal_words m) + until_same l k))
     go true d e ih = record {
       left = k;
       is = refl;
       words =
-          let n : 0 + length (literalWords l) ≡ length (literalWords l) = omega arith in
-          ap (λ n. drop n (literalWords m ++ conjWords k)) (n ∙ ap (λ x. length (literalWords x)) (same-is l m d)) ∙ drop-append_seam (literalWords m) (conjWords k);
+          let n : 0 + length (literal_words l) ≡ length (literal_words l) = omega arith in
+          ap (λ n. drop n (literal_words m ++ conj_words k)) (n ∙ ap (λ x. length (literal_words x)) (same-is l m d)) ∙ drop-append_seam (literal_words m) (conj_words k);
     }
     go false d e ih =
         let r = ih e in
-        let n : length (literalWords m) + untilSame l k + length (literalWords l) ≡ length (literalWords m) + (untilSame l k + length (literalWords l)) = omega arith in
+        let n : length (literal_words m) + until_same l k + length (literal_words l) ≡ length (literal_words m) + (until_same l k + length (literal_words l)) = omega arith in
         record {
           left = m ∷ r.left;
           is = ap (Option.map (λ (c : Conj). m ∷ c)) r.is;
           words =
-              ap₂ ◌++◌ (take-append-add (literalWords m) (conjWords k) (untilSame l k))
-              (ap (λ j. drop j (literalWords m ++ conjWords k)) n ∙ drop-append-add (literalWords m) (conjWords k) (untilSame l k + length (literalWords l)))
-              ∙ append_assoc (literalWords m) (take (untilSame l k) (conjWords k)) (drop (untilSame l k + length (literalWords l)) (conjWords k))
-              ∙ ap (λ w. literalWords m ++ w) r.words;
+              ap₂ ◌++◌ (take-append-add (literal_words m) (conj_words k) (until_same l k))
+              (ap (λ j. drop j (literal_words m ++ conj_words k)) n ∙ drop-append-add (literal_words m) (conj_words k) (until_same l k + length (literal_words l)))
+              ∙ append_assoc (literal_words m) (take (until_same l k) (conj_words k)) (drop (until_same l k + length (literal_words l)) (conj_words k))
+              ∙ ap (λ w. literal_words m ++ w) r.words;
         }
 
 -- where the fold applies, the literal stands there again, and this is its one result
@@ -85,16 +85,16 @@ fold-some l k ks e = go (again l k) refl
 -- ---- the earliest literal
 
 -- at none of the first literals
-pass : (n i j : ℕ) (before mid rest : Conj) → j ≡ i + length mid → Once mid rest → earliest n (onPair Fold) i before (mid ++ rest) ≡ earliest n (onPair Fold) j (before ++ mid) rest
-pass n i j before [] rest d o = ap₂ (λ i k. earliest n (onPair Fold) i k rest) (omega arith) (sym (append-nil before))
+pass : (n i j : ℕ) (before mid rest : Conj) → j ≡ i + length mid → Once mid rest → earliest n (on_pair Fold) i before (mid ++ rest) ≡ earliest n (on_pair Fold) j (before ++ mid) rest
+pass n i j before [] rest d o = ap₂ (λ i k. earliest n (on_pair Fold) i k rest) (omega arith) (sym (append-nil before))
 pass n i j before (l ∷ mid) rest d o =
     ap
     (λ r.
-    orNext (found n i false (each (map (λ (k : Conj). before ++ k)) r))
-    (λ _. orNext (found n i true nothing) (λ _. earliest n (onPair Fold) (suc i) (before ++ (l ∷ [])) (mid ++ rest))))
+    or_next (found n i false (each (map (λ (k : Conj). before ++ k)) r))
+    (λ _. or_next (found n i true nothing) (λ _. earliest n (on_pair Fold) (suc i) (before ++ (l ∷ [])) (mid ++ rest))))
     (fold-none l (mid ++ rest) o.0)
     ∙ pass n (suc i) j (before ++ (l ∷ [])) mid rest (omega arith) o.1
-    ∙ ap (λ k. earliest n (onPair Fold) j k rest) (append_assoc before (l ∷ []) mid)
+    ∙ ap (λ k. earliest n (on_pair Fold) j k rest) (append_assoc before (l ∷ []) mid)
 
 -- the literal l that stands there again, the earliest, and what the fold makes of the conjunction
 pub record FoldAt (c : Conj) (at : ℕ) : Type 0 where
@@ -102,7 +102,7 @@ pub record FoldAt (c : Conj) (at : ℕ) : Type 0 where
   pub l : Literal
   pub behind : Conj
   pub whole : c ≡ before ++ (l ∷ behind)
-  pub place : at ≡ length (conjWords before)
+  pub place : at ≡ length (conj_words before)
   pub twice : again l behind ≡ true
   pub once : Once before (l ∷ behind)
 
@@ -114,17 +114,17 @@ abbrev pub fold_of : {c : Conj} {at : ℕ} → FoldAt c at → Conj
 fold_of f = f.before ++ (f.l ∷ left_of f)
 
 pub data Folding (c : Conj) (at : ℕ) : Type 0 where
-  nowhere : at ≡ length (conjWords c) → Once c [] → Folding c at
-  somewhere : at < length (conjWords c) → FoldAt c at → Folding c at
+  nowhere : at ≡ length (conj_words c) → Once c [] → Folding c at
+  somewhere : at < length (conj_words c) → FoldAt c at → Folding c at
 
-pub twice-splits : (c : Conj) → Folding c (firstTwice c)
+pub twice-splits : (c : Conj) → Folding c (first_twice c)
 twice-splits [] = nowhere refl tt
 twice-splits (l ∷ k) = go (again l k) refl (twice-splits k)
   where
-    n : length (literalWords l ++ conjWords k) ≡ length (literalWords l) + length (conjWords k)
-    n = length-append (literalWords l) (conjWords k)
+    n : length (literal_words l ++ conj_words k) ≡ length (literal_words l) + length (conj_words k)
+    n = length-append (literal_words l) (conj_words k)
 
-    go : (b : Bool) → again l k ≡ b → Folding k (firstTwice k) → Folding (l ∷ k) (pick b 0 (length (literalWords l) + firstTwice k))
+    go : (b : Bool) → again l k ≡ b → Folding k (first_twice k) → Folding (l ∷ k) (pick b 0 (length (literal_words l) + first_twice k))
     go true e s = somewhere (let y = n in let z = literal-some l in omega arith) (record { before = []; l = l; behind = k; whole = refl; place = refl; twice = e; once = tt })
     go false e (nowhere d o) = nowhere (let y = n in omega arith) (ap (again l) (append-nil k) ∙ e, o)
     go false e (somewhere h f) =
@@ -134,37 +134,37 @@ twice-splits (l ∷ k) = go (again l k) refl (twice-splits k)
           l = f.l;
           behind = f.behind;
           whole = ap (λ c. l ∷ c) f.whole;
-          place = let z = f.place in let y = length-append (literalWords l) (conjWords f.before) in omega arith;
+          place = let z = f.place in let y = length-append (literal_words l) (conj_words f.before) in omega arith;
           twice = f.twice;
           once = (ap (again l) (sym f.whole) ∙ e, f.once);
         })
 
 -- the same by the place that is found
-pub found_none : (c : Conj) (at : ℕ) → at ≡ firstTwice c → length (conjWords c) ≤ at → Once c []
+pub found_none : (c : Conj) (at : ℕ) → at ≡ first_twice c → length (conj_words c) ≤ at → Once c []
 found_none c at e h = go (twice-splits c)
   where
-    go : Folding c (firstTwice c) → Once c []
+    go : Folding c (first_twice c) → Once c []
     go (nowhere d o) = o
     go (somewhere p f) = absurd (omega arith)
 
-pub found_at : (c : Conj) (at : ℕ) → at ≡ firstTwice c → at < length (conjWords c) → FoldAt c at
+pub found_at : (c : Conj) (at : ℕ) → at ≡ first_twice c → at < length (conj_words c) → FoldAt c at
 found_at c at e h = go (twice-splits c)
   where
-    go : Folding c (firstTwice c) → FoldAt c at
+    go : Folding c (first_twice c) → FoldAt c at
     go (nowhere d o) = absurd (omega arith)
     go (somewhere p f) = subst (FoldAt c) (sym e) f
 
-pub fold-nowhere : (n : ℕ) (c : Conj) → Once c [] → earliest n (onPair Fold) 0 [] c ≡ nothing
-fold-nowhere n c o = ap (earliest n (onPair Fold) 0 []) (sym (append-nil c)) ∙ pass n 0 (length c) [] c [] (omega arith) o
+pub fold-nowhere : (n : ℕ) (c : Conj) → Once c [] → earliest n (on_pair Fold) 0 [] c ≡ nothing
+fold-nowhere n c o = ap (earliest n (on_pair Fold) 0 []) (sym (append-nil c)) ∙ pass n 0 (length c) [] c [] (omega arith) o
 
 pub fold-found : (n : ℕ) (c : Conj) (at : ℕ) (f : FoldAt c at)
-    → earliest n (onPair Fold) 0 [] c ≡ results (record { rule = n; literal = length f.before; swapped = false }, fold_of f ∷ [])
+    → earliest n (on_pair Fold) 0 [] c ≡ results (record { rule = n; literal = length f.before; swapped = false }, fold_of f ∷ [])
 fold-found n c at f =
-    ap (earliest n (onPair Fold) 0 []) f.whole ∙ pass n 0 (length f.before) [] f.before (f.l ∷ f.behind) (omega arith) f.once
+    ap (earliest n (on_pair Fold) 0 []) f.whole ∙ pass n 0 (length f.before) [] f.before (f.l ∷ f.behind) (omega arith) f.once
     ∙ ap
     (λ w.
-    orNext (found n (length f.before) false (each (map (λ (k : Conj). f.before ++ k)) (folded f.l w)))
-    (λ _. orNext (found n (length f.before) true nothing) (λ _. earliest n (onPair Fold) (suc (length f.before)) (f.before ++ (f.l ∷ [])) f.behind)))
+    or_next (found n (length f.before) false (each (map (λ (k : Conj). f.before ++ k)) (folded f.l w)))
+    (λ _. or_next (found n (length f.before) true nothing) (λ _. earliest n (on_pair Fold) (suc (length f.before)) (f.before ++ (f.l ∷ [])) f.behind)))
     (strike-some f.l f.behind f.twice).is
 
 -- ---- in the words
@@ -175,11 +175,11 @@ pub record LaterAt (k : List ℕ) (from : ℕ) (l : Literal) : Type 0 where
   pub behind : Conj
   pub stands : LiteralAt k from before l behind
 
-pub fold-stands : (k : List ℕ) (c : Conj) → fineConj desk c → k ≡ conjWords c → (at : ℕ) (f : FoldAt c at) → LiteralAt k at f.before f.l f.behind
+pub fold-stands : (k : List ℕ) (c : Conj) → fine_conj desk c → k ≡ conj_words c → (at : ℕ) (f : FoldAt c at) → LiteralAt k at f.before f.l f.behind
 fold-stands k c fine words at f = stands_here k c fine words at f.before f.l f.behind f.whole f.place
 
 module _ {k : List ℕ} {at : ℕ} {before : Conj} {l : Literal} {behind : Conj} (s : LiteralAt k at before l behind) (twice : again l behind ≡ true) where
-  module _ (from : ℕ) (d : from ≡ at + length (literalWords l) + untilSame l behind) where
+  module _ (from : ℕ) (d : from ≡ at + length (literal_words l) + until_same l behind) where
     pub fold-later : LaterAt k from l
     fold-later =
         let x = cut l behind twice in
@@ -187,18 +187,18 @@ module _ {k : List ℕ} {at : ℕ} {before : Conj} {l : Literal} {behind : Conj}
           before = before ++ (l ∷ x.before);
           behind = x.behind;
           stands =
-              stands_here k (before ++ (l ∷ behind)) (fine-append desk before (l ∷ behind) s.fineBefore (s.fine, s.fineBehind)) (s.words ∙ sym (words_append before (l ∷ behind))) from
+              stands_here k (before ++ (l ∷ behind)) (fine-append desk before (l ∷ behind) s.fine_before (s.fine, s.fine_behind)) (s.words ∙ sym (words_append before (l ∷ behind))) from
               (before ++ (l ∷ x.before)) l x.behind
               (ap (λ b. before ++ (l ∷ b)) x.whole ∙ sym (append_assoc before (l ∷ x.before) (l ∷ x.behind)))
-              (let a = ap length (words_append before (l ∷ x.before)) ∙ length-append (conjWords before) (literalWords l ++ conjWords x.before) in
-              let b = length-append (literalWords l) (conjWords x.before) in
+              (let a = ap length (words_append before (l ∷ x.before)) ∙ length-append (conj_words before) (literal_words l ++ conj_words x.before) in
+              let b = length-append (literal_words l) (conj_words x.before) in
               let p = s.place in
               let q = x.place in
               omega arith);
         }
 
-    module _ (to : ℕ) (e : to ≡ from + 1 + untilLiteral (drop (from + 1) k)) where
-      ends : to ≡ from + length (literalWords l)
+    module _ (to : ℕ) (e : to ≡ from + 1 + until_literal (drop (from + 1) k)) where
+      ends : to ≡ from + length (literal_words l)
       ends = e ∙ literal-next fold-later.stands
 
       -- the two literals stand one behind the other within the words
@@ -209,12 +209,12 @@ module _ {k : List ℕ} {at : ℕ} {before : Conj} {l : Literal} {behind : Conj}
           (omega arith, omega arith, literal-within fold-later.stands to ends)
 
       -- the words without those of the later one
-      pub fold_words : take from k ++ drop to k ≡ conjWords (before ++ (l ∷ (strike-some l behind twice).left))
+      pub fold_words : take from k ++ drop to k ≡ conj_words (before ++ (l ∷ (strike-some l behind twice).left))
       fold_words =
-          let ws = conjWords before in
-          let us = literalWords l in
-          let vs = conjWords behind in
-          let u = untilSame l behind in
+          let ws = conj_words before in
+          let us = literal_words l in
+          let vs = conj_words behind in
+          let u = until_same l behind in
           let w = s.words in
           let p = s.place in
           let y = ends in

@@ -7,12 +7,12 @@ use lib.ListN.{length}
 use lib.Seq.{slice}
 use borrow.Author.Tests.{eq-eqb}
 use Rattle.language.specs.Limits.{desk}
-use Rattle.language.specs.Trees.{Functor, symbol, fvar, Hedge, ε, tvar, hvar, node, Expr, eps, cat, alt, star, over, Literal, eqn, mem, Conj, eq_f, same_words, sameExpr, sameLiteral}
-use Rattle.language.specs.Writing.{literalWords}
-use Rattle.language.specs.Fine.{fineLiteral}
+use Rattle.language.specs.Trees.{Functor, symbol, fvar, Hedge, ε, tvar, hvar, node, Expr, eps, cat, alt, star, over, Literal, eqn, mem, Conj, eq_f, same_words, same_expr, same_literal}
+use Rattle.language.specs.Writing.{literal_words}
+use Rattle.language.specs.Fine.{fine_literal}
 use Rattle.language.proofs.Laws.{literals-read}
 use Rattle.rules.proofs.Tests.{true-test}
-use Rattle.rules.proofs.Names.{sameLiteral-is}
+use Rattle.rules.proofs.Names.{same_literal-is}
 use Rattle.words.specs.Places.{same_list}
 use Rattle.words.proofs.Parts.{part_of}
 use Rattle.words.proofs.Same.{list-refl, list-is}
@@ -31,28 +31,28 @@ same-hedge (tvar x r) = rw (eq-eqb x.0 x.0 refl) (same-hedge r)
 same-hedge (hvar p r) = rw (eq-eqb p.0 p.0 refl) (same-hedge r)
 same-hedge (node f c r) = rw (same-functor f, same-hedge c) (same-hedge r)
 
-same-expr : (R : Expr) → sameExpr R R ≡ true
+same-expr : (R : Expr) → same_expr R R ≡ true
 same-expr eps = refl
 same-expr (cat a b) = rw (same-expr a) (same-expr b)
 same-expr (alt a b) = rw (same-expr a) (same-expr b)
 same-expr (star a) = same-expr a
 same-expr (over f a) = rw (eq-eqb f.0 f.0 refl) (same-expr a)
 
-pub same_refl : (l : Literal) → sameLiteral l l ≡ true
+pub same_refl : (l : Literal) → same_literal l l ≡ true
 same_refl (eqn l r) = rw (same-hedge l) (same-hedge r)
 same_refl (mem h R) = rw (same-hedge h) (same-expr R)
 
-pub same-is : (l m : Literal) → sameLiteral l m ≡ true → l ≡ m
-same-is l m e = sameLiteral-is l m (true-test (sameLiteral l m) e)
+pub same-is : (l m : Literal) → same_literal l m ≡ true → l ≡ m
+same-is l m e = same_literal-is l m (true-test (same_literal l m) e)
 
 -- either test, where the literals are equal
-same_of : (l m : Literal) → l ≡ m → sameLiteral l m ≡ true
-same_of l m e = ap (sameLiteral l) (sym e) ∙ same_refl l
+same_of : (l m : Literal) → l ≡ m → same_literal l m ≡ true
+same_of l m e = ap (same_literal l) (sym e) ∙ same_refl l
 
-pub same-sym : (l m : Literal) → sameLiteral l m ≡ sameLiteral m l
-same-sym l m = go (sameLiteral l m) (sameLiteral m l) refl refl
+pub same-sym : (l m : Literal) → same_literal l m ≡ same_literal m l
+same-sym l m = go (same_literal l m) (same_literal m l) refl refl
   where
-    go : (a b : Bool) → sameLiteral l m ≡ a → sameLiteral m l ≡ b → a ≡ b
+    go : (a b : Bool) → same_literal l m ≡ a → same_literal m l ≡ b → a ≡ b
     go true true d e = refl
     go true false d e = sym (same_of m l (sym (same-is l m d))) ∙ e
     go false true d e = sym d ∙ same_of l m (sym (same-is m l e))
@@ -61,24 +61,24 @@ same-sym l m = go (sameLiteral l m) (sameLiteral m l) refl refl
 -- ---- the test of their words
 
 -- a test that says of two literals that they are equal
-tested : (l m : Literal) (t : Bool) → (t ≡ true → l ≡ m) → (l ≡ m → t ≡ true) → t ≡ sameLiteral l m
-tested l m t f g = go t (sameLiteral l m) refl refl
+tested : (l m : Literal) (t : Bool) → (t ≡ true → l ≡ m) → (l ≡ m → t ≡ true) → t ≡ same_literal l m
+tested l m t f g = go t (same_literal l m) refl refl
   where
-    go : (a b : Bool) → t ≡ a → sameLiteral l m ≡ b → a ≡ b
+    go : (a b : Bool) → t ≡ a → same_literal l m ≡ b → a ≡ b
     go true true d e = refl
     go true false d e = sym (same_of l m (f d)) ∙ e
     go false true d e = sym d ∙ g (same-is l m e)
     go false false d e = refl
 
-module _ (l m : Literal) (f : fineLiteral desk l) (g : fineLiteral desk m) where
-  one : (us vs : List ℕ) → literalWords l ++ us ≡ literalWords m ++ vs → l ≡ m
+module _ (l m : Literal) (f : fine_literal desk l) (g : fine_literal desk m) where
+  one : (us vs : List ℕ) → literal_words l ++ us ≡ literal_words m ++ vs → l ≡ m
   one us vs e = ((literals-read desk).one-reading l m us vs f g e).0
 
-  pub same-words : same_list (literalWords l) (literalWords m) ≡ sameLiteral l m
+  pub same-words : same_list (literal_words l) (literal_words m) ≡ same_literal l m
   same-words =
-      tested l m _ (λ e. one [] [] (ap (λ ws. ws ++ []) (list-is (literalWords l) (literalWords m) e)))
-      (λ e. ap (λ x. same_list (literalWords l) (literalWords x)) (sym e) ∙ list-refl (literalWords l))
+      tested l m _ (λ e. one [] [] (ap (λ ws. ws ++ []) (list-is (literal_words l) (literal_words m) e)))
+      (λ e. ap (λ x. same_list (literal_words l) (literal_words x)) (sym e) ∙ list-refl (literal_words l))
 
-module _ {k : List ℕ} {at : ℕ} {before : Conj} {l : Literal} {behind : Conj} (s : LiteralAt k at before l behind) (end : ℕ) (d : end ≡ at + length (literalWords l)) where
-  pub literal-words : slice at end k ≡ literalWords l
-  literal-words = part_of k at end (literalWords l) _ (literal-here s) d
+module _ {k : List ℕ} {at : ℕ} {before : Conj} {l : Literal} {behind : Conj} (s : LiteralAt k at before l behind) (end : ℕ) (d : end ≡ at + length (literal_words l)) where
+  pub literal-words : slice at end k ≡ literal_words l
+  literal-words = part_of k at end (literal_words l) _ (literal-here s) d

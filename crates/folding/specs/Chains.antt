@@ -4,7 +4,7 @@ use Rattle.std.specs.Prelude.{ℕ, suc, ◌+◌, ◌%◌, ◌≤◌, ◌<◌, �
 use Rattle.std.proofs.Math.Seq.{slice}
 use Rattle.words.specs.Places.{same_list}
 use Rattle.notes.specs.declared.Note.{Note}
-use Rattle.notes.specs.Rows.{mostNotes, noteAt}
+use Rattle.notes.specs.Rows.{most_notes, note_at}
 
 -- ---- what is in a chain
 
@@ -16,7 +16,7 @@ pub data Held (next : List ℕ) : ℕ → ℕ → Type 0 where
 -- all numbers are below i, and along a chain they fall; there is a chain for each remainder, and room for each literal
 pub record Falls (heads next : List ℕ) (i : ℕ) : Type 0 where
   pub chains : length heads ≡ 256
-  pub room : length next ≡ mostNotes
+  pub room : length next ≡ most_notes
   pub low : (h : ℕ) → get_or heads h 0 ≤ i
   pub falls : (s : ℕ) → get_or next s 0 ≤ s
 
@@ -26,21 +26,21 @@ head_of heads n = get_or heads (n.sum % 256) 0
 -- ---- which literal has the same words
 
 -- the literal of the number q, which is below `best`, has the words from `at` on, whose note is n
-abbrev pub alikeBelow : List ℕ → List ℕ → List ℕ → ℕ → ℕ → Note → ℕ → Bool
-alikeBelow k rows places best at n q =
+abbrev pub alike_below : List ℕ → List ℕ → List ℕ → ℕ → ℕ → Note → ℕ → Bool
+alike_below k rows places best at n q =
     ltb q best
-    && (eqb (noteAt rows q).sum n.sum
-    && (eqb (noteAt rows q).len n.len && same_list (slice at (at + n.len) k) (slice (get_or places q 0) (get_or places q 0 + n.len) k)))
+    && (eqb (note_at rows q).sum n.sum
+    && (eqb (note_at rows q).len n.len && same_list (slice at (at + n.len) k) (slice (get_or places q 0) (get_or places q 0 + n.len) k)))
 
 -- the number r in the chain is that of such a literal; or none is, and r is `best`
 pub data Sought (k rows places next : List ℕ) (first best at : ℕ) (n : Note) (r : ℕ) : Type 0 where
-  met : Held next first r → alikeBelow k rows places best at n r ≡ true → Sought k rows places next first best at n r
-  unmet : r ≡ best → ((q : ℕ) → Held next first q → alikeBelow k rows places best at n q ≡ false) → Sought k rows places next first best at n r
+  met : Held next first r → alike_below k rows places best at n r ≡ true → Sought k rows places next first best at n r
+  unmet : r ≡ best → ((q : ℕ) → Held next first q → alike_below k rows places best at n q ≡ false) → Sought k rows places next first best at n r
 
 -- the same, in the chain of the literal of the number i; where r is not below m, i becomes its first
 pub data TakenIn (k rows places heads next : List ℕ) (i at best m r : ℕ) (heads' next' : List ℕ) : Type 0 where
-  found : Sought k rows places next (head_of heads (noteAt rows i)) best at (noteAt rows i) r → r < m → heads' ≡ heads → next' ≡ next
+  found : Sought k rows places next (head_of heads (note_at rows i)) best at (note_at rows i) r → r < m → heads' ≡ heads → next' ≡ next
       → TakenIn k rows places heads next i at best m r heads' next'
-  new : Sought k rows places next (head_of heads (noteAt rows i)) best at (noteAt rows i) r → m ≤ r
-      → heads' ≡ set heads ((noteAt rows i).sum % 256) (i + 1) → next' ≡ set next i (head_of heads (noteAt rows i))
+  new : Sought k rows places next (head_of heads (note_at rows i)) best at (note_at rows i) r → m ≤ r
+      → heads' ≡ set heads ((note_at rows i).sum % 256) (i + 1) → next' ≡ set next i (head_of heads (note_at rows i))
       → TakenIn k rows places heads next i at best m r heads' next'

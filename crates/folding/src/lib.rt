@@ -3,13 +3,13 @@ ghost use Rattle.std.specs.Prelude.{ℕ, ◌+◌, ◌≤◌, ◌<◌, ◌≡◌,
 ghost use Rattle.std.proofs.Math.Seq.{slice};
 ghost use Rattle.language.specs.Limits.{desk};
 ghost use Rattle.language.specs.Trees.{Literal, Conj};
-ghost use Rattle.language.specs.Writing.{literalWords, conjWords};
-ghost use Rattle.language.specs.Fine.{fineConj};
+ghost use Rattle.language.specs.Writing.{literal_words, conj_words};
+ghost use Rattle.language.specs.Fine.{fine_conj};
 ghost use Rattle.words.specs.Places.{same_list};
 ghost use Rattle.views.specs.Standing.{LiteralAt, SomeLiteral};
-ghost use Rattle.notes.specs.Rows.{mostNotes, SomeNoted};
-ghost use Rattle.folding.specs.Twice.{untilSame, firstTwice};
-ghost use Rattle.folding.specs.Chains.{alikeBelow, Falls, Sought, TakenIn};
+ghost use Rattle.notes.specs.Rows.{most_notes, SomeNoted};
+ghost use Rattle.folding.specs.Twice.{until_same, first_twice};
+ghost use Rattle.folding.specs.Chains.{alike_below, Falls, Sought, TakenIn};
 
 use language::wide;
 use notes::{NOTES, Note, ROWS, len_of, note_of};
@@ -46,8 +46,8 @@ fn alike(
     n: Note,
     q: usize,
 ) -> bool
-    requires { (at ≤ desk.question) × (q < mostNotes) }
-    ensures { result ≡ alikeBelow k.now rows.now places.now best at n q }
+    requires { (at ≤ desk.question) × (q < most_notes) }
+    ensures { result ≡ alike_below k.now rows.now places.now best at n q }
 {
     if best <= q {
         return false;
@@ -73,7 +73,7 @@ fn seek(
     at: usize,
     n: Note,
 ) -> usize
-    requires { (at ≤ desk.question) × (first ≤ mostNotes) × ((s : ℕ) → get_or next.now s 0 ≤ s) }
+    requires { (at ≤ desk.question) × (first ≤ most_notes) × ((s : ℕ) → get_or next.now s 0 ≤ s) }
     ensures { Sought k.now rows.now places.now next.now first best at n result }
 {
     let mut p = first;
@@ -100,7 +100,7 @@ fn take_in(
     best: usize,
     m: usize,
 ) -> usize
-    requires { (at ≤ desk.question) × (i < mostNotes) × Falls heads.old next.old i }
+    requires { (at ≤ desk.question) × (i < most_notes) × Falls heads.old next.old i }
     ensures { TakenIn k.now rows.now places.now heads.old next.old i at best m result heads.new next.new }
 {
     let n = note_of(rows, i);
@@ -119,7 +119,7 @@ fn take_in(
 pub fn first_twice(k: &[u16], rows: &[u16; ROWS], m: usize) -> usize
     requires k_len_bound { length k.now ≤ desk.question }
     requires some_noted { SomeNoted k.now rows.now m }
-    ensures { (c : Conj) → fineConj desk c → k.now ≡ conjWords c → result ≡ firstTwice c }
+    ensures { (c : Conj) → fine_conj desk c → k.now ≡ conj_words c → result ≡ first_twice c }
 {
     if m < 2 {
         return k.len();
@@ -147,7 +147,7 @@ pub fn first_twice(k: &[u16], rows: &[u16; ROWS], m: usize) -> usize
 pub fn later_equal(k: &[u16], at: usize) -> usize
     requires at_in_bounds { at < length k.now }
     requires some_literal { SomeLiteral k.now at }
-    ensures { (before : Conj) (l : Literal) (behind : Conj) → LiteralAt k.now at before l behind → result ≡ at + length (literalWords l) + untilSame l behind }
+    ensures { (before : Conj) (l : Literal) (behind : Conj) → LiteralAt k.now at before l behind → result ≡ at + length (literal_words l) + until_same l behind }
 {
     let end = next_literal(k, at);
     let mut j = end;

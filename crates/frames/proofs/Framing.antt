@@ -5,7 +5,7 @@ use mathlib.Core.Path.{◌≡◌, refl, sym, ap, ◌∙◌}
 use mathlib.Core.List.{List, [], ◌∷◌, ◌++◌, append_assoc, map-append}
 use lib.ListN.{length, set}
 use lib.Seq.{sets}
-use Rattle.frames.specs.Frames.{frame_of, Block, framed, allWith, inFrames}
+use Rattle.frames.specs.Frames.{frame_of, Block, framed, all_with, in_frames}
 
 pub frame-stored : (l : List ℕ) (at n number : ℕ) → set (set l at n) (at + 1) number ≡ sets l at (frame_of n number)
 frame-stored l at n number = ap (λ i. set (set l at n) i number) (add-one at)
@@ -17,5 +17,5 @@ framed-append (x ∷ xs) ys =
     ∙ ap (λ l. length x.words ∷ x.number ∷ l) (sym (append_assoc x.words (framed xs) (framed ys)))
 
 -- those of one alternative
-pub frames-append : (number : ℕ) (us vs : List (List ℕ)) → inFrames number (us ++ vs) ≡ inFrames number us ++ inFrames number vs
-frames-append number us vs = ap framed (map-append (λ w. record { number = number; words = w }) us vs) ∙ framed-append (allWith number us) (allWith number vs)
+pub frames-append : (number : ℕ) (us vs : List (List ℕ)) → in_frames number (us ++ vs) ≡ in_frames number us ++ in_frames number vs
+frames-append number us vs = ap framed (map-append (λ w. record { number = number; words = w }) us vs) ∙ framed-append (all_with number us) (all_with number vs)

@@ -10,8 +10,8 @@ abbrev pub frame_of : ℕ → ℕ → List ℕ
 frame_of n number = n ∷ number ∷ []
 
 -- words with their frame before them
-abbrev pub inFrame : ℕ → List ℕ → List ℕ
-inFrame number w = frame_of (length w) number ++ w
+abbrev pub in_frame : ℕ → List ℕ → List ℕ
+in_frame number w = frame_of (length w) number ++ w
 
 -- the words of a conjunction, and the number of the alternative that it descends from
 pub record Block : Type 0 where
@@ -21,18 +21,18 @@ pub record Block : Type 0 where
 -- several, one after the other
 abbrev pub framed : List Block → List ℕ
 framed [] = []
-framed (b ∷ bs) = inFrame b.number b.words ++ framed bs
+framed (b ∷ bs) = in_frame b.number b.words ++ framed bs
 
 -- several of one alternative
-abbrev pub allWith : ℕ → List (List ℕ) → List Block
-allWith number ws = map (λ w. record { number = number; words = w }) ws
+abbrev pub all_with : ℕ → List (List ℕ) → List Block
+all_with number ws = map (λ w. record { number = number; words = w }) ws
 
-abbrev pub inFrames : ℕ → List (List ℕ) → List ℕ
-inFrames number ws = framed (allWith number ws)
+abbrev pub in_frames : ℕ → List (List ℕ) → List ℕ
+in_frames number ws = framed (all_with number ws)
 
 -- how many words follow the frame at a place, and the number that it has
-abbrev pub framedLength : List ℕ → ℕ → ℕ
-framedLength ws at = get_or ws at 0
+abbrev pub framed_length : List ℕ → ℕ → ℕ
+framed_length ws at = get_or ws at 0
 
-abbrev pub framedNumber : List ℕ → ℕ → ℕ
-framedNumber ws at = get_or ws (at + 1) 0
+abbrev pub framed_number : List ℕ → ℕ → ℕ
+framed_number ws at = get_or ws (at + 1) 0

@@ -1,7 +1,7 @@
 // The frame of a waiting conjunction: the words that stand before its own. They are written and read here alone.
 ghost use Rattle.std.specs.Prelude.{◌≡◌, ◌<◌, ◌≤◌, ◌+◌, length};
 ghost use Rattle.std.proofs.lemmas.List.Edits.{sets};
-ghost use Rattle.frames.specs.Frames.{frame, frame_of, framedLength, framedNumber};
+ghost use Rattle.frames.specs.Frames.{frame, frame_of, framed_length, framed_number};
 
 use language::wide;
 
@@ -20,7 +20,7 @@ pub fn write_frame(out: &mut [u16], at: usize, n: usize, number: u16)
 // How many words stand after the frame at a place.
 pub fn read_frame(work: &[u16], at: usize) -> usize
     requires { at + frame ≤ length work.now }
-    ensures { result ≡ framedLength work.now at }
+    ensures { result ≡ framed_length work.now at }
 {
     wide(work[at])
 }
@@ -28,7 +28,7 @@ pub fn read_frame(work: &[u16], at: usize) -> usize
 // The number of the alternative that those words descend from.
 pub fn read_number(work: &[u16], at: usize) -> u16
     requires { at + frame ≤ length work.now }
-    ensures { result ≡ framedNumber work.now at }
+    ensures { result ≡ framed_number work.now at }
 {
     work[at + 1]
 }

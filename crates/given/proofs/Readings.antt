@@ -11,38 +11,38 @@ use borrow.Author.Tests.{le-leb, lt-leb, eq-eqb, ne_eqb}
 use Rattle.language.specs.declared.Refusal.TheVariants.{FillingLayout, FillingValue}
 use Rattle.language.specs.Limits.{desk}
 use Rattle.language.specs.Trees.{Counts}
-use Rattle.language.specs.Question.{laidOut, parts}
+use Rattle.language.specs.Question.{laid_out, parts}
 use Rattle.language.proofs.Offsets.{laid-short}
 use Rattle.meaning.specs.Complete.{Complete}
-use Rattle.meaning.specs.Values.{variables, forms, values_of, filling, Given, gives, refuses, readFilling}
+use Rattle.meaning.specs.Values.{variables, forms, values_of, filling, Given, gives, refuses, read_filling}
 use Rattle.outcomes.specs.declared.Checked.TheVariants.{Fine, Refused}
-use Rattle.given.specs.Checking.{is_some, allOfForm, given}
+use Rattle.given.specs.Checking.{is_some, all_of_form, given}
 
 module _ (n : Counts) (ws : List ℕ) where
   abbrev layout : Bool
-  layout = leb (length ws) desk.filling && eqb (get_or ws 0 0) (variables n) && laidOut 1 (variables n) ws
+  layout = leb (length ws) desk.filling && eqb (get_or ws 0 0) (variables n) && laid_out 1 (variables n) ws
 
-  refused : layout ≡ false → readFilling desk n ws ≡ refuses FillingLayout
-  unfolding readFilling
-  refused e = rw (readFilling, e)
+  refused : layout ≡ false → read_filling desk n ws ≡ refuses FillingLayout
+  unfolding read_filling
+  refused e = rw (read_filling, e)
 
-  bad-layout : layout ≡ false → Refused FillingLayout ≡ given (readFilling desk n ws)
+  bad-layout : layout ≡ false → Refused FillingLayout ≡ given (read_filling desk n ws)
   unfolding given
   bad-layout e = ap given (sym (refused e))
 
-  pub too_long : desk.filling < length ws → Refused FillingLayout ≡ given (readFilling desk n ws)
+  pub too_long : desk.filling < length ws → Refused FillingLayout ≡ given (read_filling desk n ws)
   too_long p = bad-layout (rw (lt-leb (length ws) desk.filling p))
 
-  pub not-laid : (m : ℕ) → m ≡ variables n → laidOut 1 m ws ≡ false → Refused FillingLayout ≡ given (readFilling desk n ws)
-  not-laid m q e = bad-layout (ap (λ b. (leb (length ws) desk.filling && eqb (get_or ws 0 0) (variables n)) && b) (ap (λ m. laidOut 1 m ws) (sym q) ∙ e) ∙ and-false (leb (length ws) desk.filling && eqb (get_or ws 0 0) (variables n)))
+  pub not-laid : (m : ℕ) → m ≡ variables n → laid_out 1 m ws ≡ false → Refused FillingLayout ≡ given (read_filling desk n ws)
+  not-laid m q e = bad-layout (ap (λ b. (leb (length ws) desk.filling && eqb (get_or ws 0 0) (variables n)) && b) (ap (λ m. laid_out 1 m ws) (sym q) ∙ e) ∙ and-false (leb (length ws) desk.filling && eqb (get_or ws 0 0) (variables n)))
 
-  pub no_words : length ws < 1 → Refused FillingLayout ≡ given (readFilling desk n ws)
+  pub no_words : length ws < 1 → Refused FillingLayout ≡ given (read_filling desk n ws)
   no_words p = not-laid (variables n) refl (laid-short 1 (variables n) ws (omega arith))
 
-  pub other-count : (get_or ws 0 0 ≡ variables n → ⊥) → length ws ≤ desk.filling → Refused FillingLayout ≡ given (readFilling desk n ws)
+  pub other-count : (get_or ws 0 0 ≡ variables n → ⊥) → length ws ≤ desk.filling → Refused FillingLayout ≡ given (read_filling desk n ws)
   other-count p q = bad-layout (rw (le-leb (length ws) desk.filling q, ne_eqb (get_or ws 0 0) (variables n) p))
 
-  module _ (m : ℕ) (i : m ≡ variables n) (q : length ws ≤ desk.filling) (p : get_or ws 0 0 ≡ m) (l : laidOut 1 m ws ≡ true) where
+  module _ (m : ℕ) (i : m ≡ variables n) (q : length ws ≤ desk.filling) (p : get_or ws 0 0 ≡ m) (l : laid_out 1 m ws ≡ true) where
     good-layout : layout ≡ true
     good-layout = rw (le-leb (length ws) desk.filling q, eq-eqb (get_or ws 0 0) (variables n) (p ∙ i), ← i, l)
 
@@ -50,9 +50,9 @@ module _ (n : Counts) (ws : List ℕ) where
     abbrev outcome : Option (List Complete) → Given
     outcome o = elim o [ none ↦ refuses FillingValue | some vs ↦ gives (filling n vs) ]
 
-    to_values : readFilling desk n ws ≡ outcome (values_of desk n (forms n) (parts 1 (variables n) ws))
-    unfolding readFilling
-    to_values = rw (readFilling, good-layout)
+    to_values : read_filling desk n ws ≡ outcome (values_of desk n (forms n) (parts 1 (variables n) ws))
+    unfolding read_filling
+    to_values = rw (read_filling, good-layout)
 
     bad : (o : Option (List Complete)) → is_some o ≡ false → Refused FillingValue ≡ given (outcome o)
     unfolding given
@@ -64,10 +64,10 @@ module _ (n : Counts) (ws : List ℕ) where
     good none e = absurd (let z : ◌≡◌ {A = ℕ} 0 1 = cc in omega arith)
     good (some vs) e = refl
 
-    pub bad-value : (b : Bool) → b ≡ allOfForm n ws → b ≡ false → Refused FillingValue ≡ given (readFilling desk n ws)
-    unfolding allOfForm
+    pub bad-value : (b : Bool) → b ≡ all_of_form n ws → b ≡ false → Refused FillingValue ≡ given (read_filling desk n ws)
+    unfolding all_of_form
     bad-value b e f = bad (values_of desk n (forms n) (parts 1 (variables n) ws)) (sym e ∙ f) ∙ ap given (sym to_values)
 
-    pub good-values : (b : Bool) → b ≡ allOfForm n ws → b ≡ true → Fine ≡ given (readFilling desk n ws)
-    unfolding allOfForm
+    pub good-values : (b : Bool) → b ≡ all_of_form n ws → b ≡ true → Fine ≡ given (read_filling desk n ws)
+    unfolding all_of_form
     good-values b e f = good (values_of desk n (forms n) (parts 1 (variables n) ws)) (sym e ∙ f) ∙ ap given (sym to_values)

@@ -2,10 +2,10 @@
 ghost use Rattle.std.specs.Prelude.{◌≡◌, true, ◌+◌, ◌<◌};
 ghost use Rattle.language.specs.Limits.{desk};
 ghost use Rattle.language.specs.Kinds.{kind_of};
-ghost use Rattle.language.specs.Question.{laidOut, countsFit};
-ghost use Rattle.meaning.specs.Values.{variables, readFilling};
-ghost use Rattle.header.specs.Heading.{countsIn};
-ghost use Rattle.given.specs.Checking.{plainOn, plainWords, ofForm, formAt, Judged, OneTerm, allOfForm, given};
+ghost use Rattle.language.specs.Question.{laid_out, counts_fit};
+ghost use Rattle.meaning.specs.Values.{variables, read_filling};
+ghost use Rattle.header.specs.Heading.{counts_in};
+ghost use Rattle.given.specs.Checking.{plain_on, plain_words, of_form, form_at, Judged, OneTerm, all_of_form, given};
 
 use header::Header;
 use language::limits::FILLING;
@@ -15,7 +15,7 @@ use trees::Read;
 
 // No variable, and a symbol only if it is declared.
 fn is_plain_word(word: u16, symbols: u16) -> bool
-    ensures { result ≡ plainOn symbols (kind_of desk word) }
+    ensures { result ≡ plain_on symbols (kind_of desk word) }
 {
     match classify(word) {
         Kind::End => true,
@@ -25,7 +25,7 @@ fn is_plain_word(word: u16, symbols: u16) -> bool
 }
 
 fn is_plain(words: &[u16], symbols: u16) -> bool
-    ensures { result ≡ plainWords symbols words.now }
+    ensures { result ≡ plain_words symbols words.now }
 {
     let mut i: usize = 0;
     while i < words.len() {
@@ -39,7 +39,7 @@ fn is_plain(words: &[u16], symbols: u16) -> bool
 
 // A hedge and its 0, without variables, all of whose symbols are declared.
 fn is_complete(h: Header, value: &[u16]) -> bool
-    ensures { Judged (countsIn h) value.now result }
+    ensures { Judged (counts_in h) value.now result }
 {
     match trees::read_hedge(value, 0) {
         Read::Next(end) => {
@@ -67,7 +67,7 @@ fn is_term(value: &[u16]) -> bool
 
 // Whether the value numbered i has the form that its variable takes.
 fn value_fits(h: Header, value: &[u16], i: usize) -> bool
-    ensures { result ≡ ofForm (countsIn h) (formAt (countsIn h) i) value.now }
+    ensures { result ≡ of_form (counts_in h) (form_at (counts_in h) i) value.now }
 {
     if !is_complete(h, value) {
         return false;
@@ -83,9 +83,9 @@ fn value_fits(h: Header, value: &[u16], i: usize) -> bool
 }
 
 fn values_fit(h: Header, filling: &[u16], n: u16) -> bool
-    requires n_value { n ≡ variables (countsIn h) }
-    requires filling_value { laidOut 1 n filling.now ≡ true }
-    ensures { result ≡ allOfForm (countsIn h) filling.now }
+    requires n_value { n ≡ variables (counts_in h) }
+    requires filling_value { laid_out 1 n filling.now ≡ true }
+    ensures { result ≡ all_of_form (counts_in h) filling.now }
 {
     let stop = wide(n) + 2;
     let mut from = stop;
@@ -102,16 +102,16 @@ fn values_fit(h: Header, filling: &[u16], n: u16) -> bool
 }
 
 fn count_variables(h: Header) -> u16
-    requires { countsFit desk (countsIn h) h.alternatives ≡ true }
-    ensures { result ≡ variables (countsIn h) }
+    requires { counts_fit desk (counts_in h) h.alternatives ≡ true }
+    ensures { result ≡ variables (counts_in h) }
 {
     h.terms + (h.hedges + h.functions)
 }
 
 // Whether these words are a filling for a question with this header, or which of 11 and 12 is given.
 pub fn read_filling(h: Header, filling: &[u16]) -> Checked
-    requires { countsFit desk (countsIn h) h.alternatives ≡ true }
-    ensures { result ≡ given (readFilling desk (countsIn h) filling.now) }
+    requires { counts_fit desk (counts_in h) h.alternatives ≡ true }
+    ensures { result ≡ given (read_filling desk (counts_in h) filling.now) }
 {
     if FILLING < filling.len() {
         return Checked::Refused(Refusal::FillingLayout);

@@ -57,12 +57,12 @@ pub data Means : Level → Expr → List Token → List Token → Type 0 where
   some-listed : {R : Expr} {ts us : List Token} → Means listed R ts us → Means within R ts us
 
 -- the word `in`, which may be a name too
-abbrev pub inSym : Sym
-inSym = record { 0 = name_of (105 ∷ 110 ∷ []) }
+abbrev pub in_sym : Sym
+in_sym = record { 0 = name_of (105 ∷ 110 ∷ []) }
 
 pub data Says : Literal → List Token → List Token → Type 0 where
   equal : {l r : Hedge} {ts us vs : List Token} → Spells (begins false) l ts (equals ∷ us) → Spells (begins false) r us vs → Says (eqn l r) ts vs
-  member : {h : Hedge} {R : Expr} {ts us vs : List Token} → Spells (begins false) h ts (functor (symbol inSym) ∷ us) → Means choice R us vs → Says (mem h R) ts vs
+  member : {h : Hedge} {R : Expr} {ts us vs : List Token} → Spells (begins false) h ts (functor (symbol in_sym) ∷ us) → Means choice R us vs → Says (mem h R) ts vs
 
 -- literals with commas between them, to the end of the line
 pub data Literals : Conj → List Token → Type 0 where

@@ -11,7 +11,7 @@ use Rattle.language.specs.declared.Refusal.{Refusal}
 use Rattle.language.specs.Numbers.{number_of}
 use Rattle.language.proofs.Numbering.{each_number}
 use Rattle.word_bytes.specs.Bytes.{bytes_of}
-use Rattle.handing.specs.Handed.{used, numberOr, wordBytes, keepsBytes, answerOut, trailOut}
+use Rattle.handing.specs.Handed.{used, number_or, word_bytes, keeps_bytes, answer_out, trail_out}
 
 module _ (most lent : ℕ) where
   pub used_all : lent ≤ most → used most lent ≡ lent
@@ -23,53 +23,53 @@ module _ (most lent : ℕ) where
   used-most h = simp (lt-leb _ _ h)
 
 module _ (number value : ℕ) where
-  pub number-value : number ≡ 0 → numberOr number value ≡ 100 + value
-  unfolding numberOr
+  pub number-value : number ≡ 0 → number_or number value ≡ 100 + value
+  unfolding number_or
   number-value h = simp (eq-eqb _ _ h)
 
-  pub number-refusal : (number ≡ 0 → ⊥) → numberOr number value ≡ number
-  unfolding numberOr
+  pub number-refusal : (number ≡ 0 → ⊥) → number_or number value ≡ number
+  unfolding number_or
   number-refusal h = simp (ne_eqb _ _ h)
 
-pub number-refused : (r : Refusal) (value : ℕ) → numberOr (number_of r) value ≡ number_of r
+pub number-refused : (r : Refusal) (value : ℕ) → number_or (number_of r) value ≡ number_of r
 number-refused r value = let n = each_number r in number-refusal (number_of r) value (λ z. omega arith)
 
-pub number-as : {k number value n v : ℕ} → k ≡ numberOr number value → number ≡ n → value ≡ v → k ≡ numberOr n v
-number-as {value = value} {n = n} e p q = e ∙ ap (λ x. numberOr x value) p ∙ ap (numberOr n) q
+pub number-as : {k number value n v : ℕ} → k ≡ number_or number value → number ≡ n → value ≡ v → k ≡ number_or n v
+number-as {value = value} {n = n} e p q = e ∙ ap (λ x. number_or x value) p ∙ ap (number_or n) q
 
 module _ (number : ℕ) where
-  pub keeps-none : number ≡ 0 → keepsBytes number ≡ false
-  unfolding keepsBytes
+  pub keeps-none : number ≡ 0 → keeps_bytes number ≡ false
+  unfolding keeps_bytes
   keeps-none h = simp (eq-eqb _ _ h)
 
-  pub keeps-early : (number ≡ 0 → ⊥) → number ≤ 6 → keepsBytes number ≡ true
-  unfolding keepsBytes
+  pub keeps-early : (number ≡ 0 → ⊥) → number ≤ 6 → keeps_bytes number ≡ true
+  unfolding keeps_bytes
   keeps-early h l = simp (ne_eqb _ _ h, le-leb _ _ l)
 
-  pub keeps-late : 6 < number → keepsBytes number ≡ false
-  unfolding keepsBytes
+  pub keeps-late : 6 < number → keeps_bytes number ≡ false
+  unfolding keeps_bytes
   keeps-late l = simp (ne_eqb number 0 (λ z. omega arith), lt-leb _ _ l)
 
 -- what is written, by the number
 
 module _ (k : ℕ) (own a : List ℕ) where
-  pub answer-kept : keepsBytes k ≡ true → answerOut k own a ≡ a
-  unfolding answerOut
+  pub answer-kept : keeps_bytes k ≡ true → answer_out k own a ≡ a
+  unfolding answer_out
   answer-kept h = simp h
 
-  pub answer-put : keepsBytes k ≡ false → answerOut k own a ≡ sets a 0 (bytes_of own)
-  unfolding answerOut
+  pub answer-put : keeps_bytes k ≡ false → answer_out k own a ≡ sets a 0 (bytes_of own)
+  unfolding answer_out
   answer-put h = simp h
 
 module _ (k steps : ℕ) (own b : List ℕ) where
-  pub trail-kept : keepsBytes k ≡ true → trailOut k steps own b ≡ b
-  unfolding trailOut
+  pub trail-kept : keeps_bytes k ≡ true → trail_out k steps own b ≡ b
+  unfolding trail_out
   trail-kept h = simp h
 
-  pub trail-put : keepsBytes k ≡ false → k ≡ 0 → trailOut k steps own b ≡ sets b 0 (bytes_of (take (3 * steps) own))
-  unfolding trailOut
+  pub trail-put : keeps_bytes k ≡ false → k ≡ 0 → trail_out k steps own b ≡ sets b 0 (bytes_of (take (3 * steps) own))
+  unfolding trail_out
   trail-put h z = simp (h, eq-eqb _ _ z)
 
-  pub trail-cleared : keepsBytes k ≡ false → (k ≡ 0 → ⊥) → trailOut k steps own b ≡ replicate (wordBytes b) 0 ++ drop (wordBytes b) b
-  unfolding trailOut
+  pub trail-cleared : keeps_bytes k ≡ false → (k ≡ 0 → ⊥) → trail_out k steps own b ≡ replicate (word_bytes b) 0 ++ drop (word_bytes b) b
+  unfolding trail_out
   trail-cleared h z = simp (h, ne_eqb _ _ z)

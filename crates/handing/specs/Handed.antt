@@ -9,22 +9,22 @@ unfoldable pub used : ℕ → ℕ → ℕ
 used most lent = pick (leb lent most) lent most
 
 -- the refusal's number, or 100 and the value
-unfoldable pub numberOr : ℕ → ℕ → ℕ
-numberOr number value = pick (eqb number 0) (100 + value) number
+unfoldable pub number_or : ℕ → ℕ → ℕ
+number_or number value = pick (eqb number 0) (100 + value) number
 
 -- the bytes of a room's words; an odd last byte is none of them
-abbrev pub wordBytes : List ℕ → ℕ
-wordBytes bytes = 2 * (length bytes / 2)
+abbrev pub word_bytes : List ℕ → ℕ
+word_bytes bytes = 2 * (length bytes / 2)
 
 -- "1 to 6 ..: unchanged"
-unfoldable pub keepsBytes : ℕ → Bool
-keepsBytes number = pick (eqb number 0) false (leb number 6)
+unfoldable pub keeps_bytes : ℕ → Bool
+keeps_bytes number = pick (eqb number 0) false (leb number 6)
 
 -- the answer's bytes, from the desk's own answer slice
-unfoldable pub answerOut : ℕ → List ℕ → List ℕ → List ℕ
-answerOut number own answer = pick (keepsBytes number) answer (sets answer 0 (bytes_of own))
+unfoldable pub answer_out : ℕ → List ℕ → List ℕ → List ℕ
+answer_out number own answer = pick (keeps_bytes number) answer (sets answer 0 (bytes_of own))
 
 -- the bytes of the trail's room, from the desk's own trail of so many steps: zeros after a refusal that changes bytes
-unfoldable pub trailOut : ℕ → ℕ → List ℕ → List ℕ → List ℕ
-trailOut number steps own trail =
-    pick (keepsBytes number) trail (pick (eqb number 0) (sets trail 0 (bytes_of (take (3 * steps) own))) (replicate (wordBytes trail) 0 ++ drop (wordBytes trail) trail))
+unfoldable pub trail_out : ℕ → ℕ → List ℕ → List ℕ → List ℕ
+trail_out number steps own trail =
+    pick (keeps_bytes number) trail (pick (eqb number 0) (sets trail 0 (bytes_of (take (3 * steps) own))) (replicate (word_bytes trail) 0 ++ drop (word_bytes trail) trail))

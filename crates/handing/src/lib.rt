@@ -1,7 +1,7 @@
 // What the calls for C hand to their host: a number, and the bytes lent, by the number that came back from the calls on words.
 ghost use Rattle.std.specs.Prelude.{◌*◌, ◌≤◌, ◌≡◌, ◌++◌, length, drop, replicate};
-ghost use Rattle.outcomes.specs.Numbers.{outcomeNumber};
-ghost use Rattle.handing.specs.Handed.{used, numberOr, wordBytes, keepsBytes, answerOut, trailOut};
+ghost use Rattle.outcomes.specs.Numbers.{outcome_number};
+ghost use Rattle.handing.specs.Handed.{used, number_or, word_bytes, keeps_bytes, answer_out, trail_out};
 
 use outcomes::{Solved, outcome_number};
 use word_bytes::write_words;
@@ -15,7 +15,7 @@ pub fn most(limit: usize, n: usize) -> usize
 
 // The refusal's number, or 0.
 pub fn solved_number(s: Solved) -> u16
-    ensures { result ≡ outcomeNumber s.outcome }
+    ensures { result ≡ outcome_number s.outcome }
 {
     let outcome = s.outcome;
     outcome_number(outcome)
@@ -23,7 +23,7 @@ pub fn solved_number(s: Solved) -> u16
 
 // The refusal's number, or 100 and the value.
 pub fn told(number: u16, value: u16) -> u32
-    ensures { result ≡ numberOr number value }
+    ensures { result ≡ number_or number value }
 {
     if number == 0 {
         return 100 + value as u32;
@@ -33,7 +33,7 @@ pub fn told(number: u16, value: u16) -> u32
 
 // 1 to 6 leave all bytes as they are.
 fn keeps_bytes(number: u16) -> bool
-    ensures { result ≡ keepsBytes number }
+    ensures { result ≡ keeps_bytes number }
 {
     if number == 0 {
         return false;
@@ -44,7 +44,7 @@ fn keeps_bytes(number: u16) -> bool
 // The answer's bytes after a call of that number, from the desk's own answer slice.
 pub fn put_answer(number: u16, own: &[u16], answer: &mut [u8])
     requires { 2 * length own.now ≤ length answer.old }
-    ensures { answer.new ≡ answerOut number own.now answer.old }
+    ensures { answer.new ≡ answer_out number own.now answer.old }
 {
     if keeps_bytes(number) {
         return;
@@ -54,7 +54,7 @@ pub fn put_answer(number: u16, own: &[u16], answer: &mut [u8])
 
 // Zeros in every word.
 pub fn clear_words(room: &mut [u8])
-    ensures { room.new ≡ replicate (wordBytes room.old) 0 ++ drop (wordBytes room.old) room.old }
+    ensures { room.new ≡ replicate (word_bytes room.old) 0 ++ drop (word_bytes room.old) room.old }
 {
     let end = 2 * (room.len() / 2);
     let mut i = 0;
@@ -67,7 +67,7 @@ pub fn clear_words(room: &mut [u8])
 // The trail's bytes after a call of that number and so many steps, from the desk's own trail: zeros after a refusal that changes bytes.
 pub fn put_trail(number: u16, steps: usize, own: &[u16], trail: &mut [u8])
     requires { (3 * steps ≤ length own.now) × (2 * length own.now ≤ length trail.old) }
-    ensures { trail.new ≡ trailOut number steps own.now trail.old }
+    ensures { trail.new ≡ trail_out number steps own.now trail.old }
 {
     if keeps_bytes(number) {
         return;

@@ -1,9 +1,9 @@
 // The first words of a question, and the table of offsets of a question or a filling.
 ghost use Rattle.std.specs.Prelude.{◌≡◌, ◌≤◌, length};
 ghost use Rattle.language.specs.Trees.{signature};
-ghost use Rattle.language.specs.Question.{rising, laidOut, countsOf};
+ghost use Rattle.language.specs.Question.{rising, laid_out, counts_of};
 ghost use Rattle.language.specs.Between.{between};
-ghost use Rattle.header.specs.Heading.{headerOf};
+ghost use Rattle.header.specs.Heading.{header_of};
 
 use language::{Signature, wide};
 
@@ -27,7 +27,7 @@ fn rises(w: &[u16], at: usize, stop: usize, from: usize) -> bool
 
 // Whether the table of offsets of `n` parts, after `head` words, is as it should be.
 pub fn laid_out(w: &[u16], head: u16, n: u16) -> bool
-    ensures { result ≡ laidOut head n w.now }
+    ensures { result ≡ laid_out head n w.now }
 {
     let at = wide(head);
     let first = at + wide(n) + 1;
@@ -53,7 +53,7 @@ pub struct Header {
 
 pub fn read_header(w: &[u16]) -> Header
     requires { 5 ≤ length w.now }
-    ensures { result ≡ headerOf w.now }
+    ensures { result ≡ header_of w.now }
 {
     Header {
         symbols: w[0] % 256,
@@ -68,7 +68,7 @@ pub fn read_header(w: &[u16]) -> Header
 // The signature that a question's header declares.
 pub fn signature_of(question: &[u16]) -> Signature
     requires { 5 ≤ length question.now }
-    ensures { result ≡ signature (countsOf question.now) }
+    ensures { result ≡ signature (counts_of question.now) }
 {
     let h = read_header(question);
     Signature {

@@ -7,11 +7,11 @@ use lib.ListN.{length, drop, drop_of_length-le}
 use Rattle.language.specs.Limits.{desk}
 use Rattle.rules.specs.Answer.{Solving, answered, unread, given-up, solving}
 use Rattle.outcomes.specs.Numbers.{SolveNumbers}
-use Rattle.running.specs.Leaves.{toldLeaves, toldAnswer}
+use Rattle.running.specs.Leaves.{told_leaves, told_answer}
 use Rattle.running.proofs.Told.{some-work}
 use Rattle.word_bytes.specs.Bytes.{words_in, fitting}
-use Rattle.handing.specs.Handed.{answerOut}
-use Rattle.host.specs.Host.{solvingBytes, solveNumber, solveLeaves}
+use Rattle.handing.specs.Handed.{answer_out}
+use Rattle.host.specs.Host.{solving_bytes, solve_number, solve_leaves}
 use Rattle.host.proofs.Refusals.{InRange, in-range, in_order}
 use Rattle.host.proofs.Solves.{Own, same, answer-told}
 
@@ -22,8 +22,8 @@ none-behind ws own e = ap (λ (l : List ℕ). ws ++ l) (drop_of_length-le own {i
 abbrev Told : Type 0
 Told = SolveNumbers × List ℕ × List ℕ
 
-pub read_off : (s : Solving) (r : SolveNumbers) (w o w' o' : List ℕ) → length o ≡ desk.room → (r, w', o') ≡ toldLeaves s w o → (r.number ≡ solveNumber s) × Own s o'
-unfolding solveNumber
+pub read_off : (s : Solving) (r : SolveNumbers) (w o w' o' : List ℕ) → length o ≡ desk.room → (r, w', o') ≡ told_leaves s w o → (r.number ≡ solve_number s) × Own s o'
+unfolding solve_number
 read_off (answered ls n) r w o w' o' n8 e = (ap (λ (t : Told). t.0.number) e, ap (λ (t : Told). t.2) e ∙ none-behind _ o n8)
 read_off (unread x) r w o w' o' n8 e = (ap (λ (t : Told). t.0.number) e, tt)
 read_off (given-up x) r w o w' o' n8 e = (ap (λ (t : Told). t.0.number) e, ap (λ (t : Told). t.2) e ∙ none-behind _ o n8)
@@ -31,20 +31,20 @@ read_off (given-up x) r w o w' o' n8 e = (ap (λ (t : Told). t.0.number) e, ap (
 module _ (q a : List ℕ) (room : 2 * desk.room ≤ length a)
     (ws o o' : List ℕ) (r : SolveNumbers) (k : ℕ)
     (lent : ws ≡ fitting desk.question (words_in q)) (own : length o ≡ desk.room)
-    (solved : (r, o') ≡ toldAnswer (solving desk desk.room (length o) ws) o)
+    (solved : (r, o') ≡ told_answer (solving desk desk.room (length o) ws) o)
     (number : k ≡ r.number) where
   abbrev comes : Solving
-  comes = solvingBytes desk (length a) q
+  comes = solving_bytes desk (length a) q
 
   comes-to : solving desk desk.room (length o) ws ≡ comes
   comes-to = rw (own, lent) (same q a room)
 
-  told : (r.number ≡ solveNumber comes) × Own comes o'
-  told = read_off comes r [] o _ o' own (some-work comes r o o' (solved ∙ ap (λ (s : Solving). toldAnswer s o) comes-to))
+  told : (r.number ≡ solve_number comes) × Own comes o'
+  told = read_off comes r [] o _ o' own (some-work comes r o o' (solved ∙ ap (λ (s : Solving). told_answer s o) comes-to))
 
   some_number : InRange comes
-  unfolding solvingBytes
+  unfolding solving_bytes
   some_number = in-range desk desk.room (length a / 2) (words_in q)
 
-  pub solved-told : (a' : List ℕ) → length o' ≡ desk.room → a' ≡ answerOut k o' a → (k ≡ solveNumber comes) × (a' ≡ solveLeaves desk comes a)
+  pub solved-told : (a' : List ℕ) → length o' ≡ desk.room → a' ≡ answer_out k o' a → (k ≡ solve_number comes) × (a' ≡ solve_leaves desk comes a)
   solved-told a' long e = (number ∙ told.0, e ∙ answer-told a o' room long comes (in_order comes some_number) k (number ∙ told.0) told.1)

@@ -12,13 +12,13 @@ use Rattle.language.specs.declared.Refusal.TheVariants.{QuestionLength, LongExam
 use Rattle.language.specs.Kinds.{pick}
 use Rattle.language.specs.Limits.{desk}
 use Rattle.language.specs.Trees.{Counts}
-use Rattle.language.specs.Question.{Asked, refuses, readQuestion, countsOf}
-use Rattle.meaning.specs.Values.{fillingWords}
+use Rattle.language.specs.Question.{Asked, refuses, read_question, counts_of}
+use Rattle.meaning.specs.Values.{filling_words}
 use Rattle.rules.specs.Solved.{solved}
-use Rattle.rules.specs.Example.{defaultSymbol, example}
+use Rattle.rules.specs.Example.{default_symbol, example}
 use Rattle.rules.specs.Run.{Numbered}
-use Rattle.rules.specs.Answer.{Solving, answered, unread, given-up, solvingOf, solving}
-use Rattle.rules.specs.Calls.{Showing, shows, denied, line_at, fitted, shown, showingOf, showing}
+use Rattle.rules.specs.Answer.{Solving, answered, unread, given-up, solving_of, solving}
+use Rattle.rules.specs.Calls.{Showing, shows, denied, line_at, fitted, shown, showing_of, showing}
 use Rattle.word_bytes.specs.Bytes.{fitting}
 use Rattle.word_bytes.proofs.Fitting.{long-question, no-question}
 use Rattle.handing.specs.Handed.{used}
@@ -41,20 +41,20 @@ fitted-used room ws = go (leb room desk.filling) refl where
 shown-used : (old : Bool) (n : Counts) (room : ℕ) (o : Option Numbered) → shown desk old n (used desk.filling room) o ≡ shown desk old n room o
 shown-used old n room none = refl
 shown-used old n room (some k) =
-    ap (λ (s : Showing). elim (solved k.literals) [ true ↦ s | false ↦ denied OpenLine ]) (fitted-used room (fillingWords n (example (defaultSymbol old n) k.literals)))
+    ap (λ (s : Showing). elim (solved k.literals) [ true ↦ s | false ↦ denied OpenLine ]) (fitted-used room (filling_words n (example (default_symbol old n) k.literals)))
 
-pub showing-used : (old : Bool) (n : Counts) (room line : ℕ) (s : Solving) → showingOf desk old n (used desk.filling room) line s ≡ showingOf desk old n room line s
+pub showing-used : (old : Bool) (n : Counts) (room line : ℕ) (s : Solving) → showing_of desk old n (used desk.filling room) line s ≡ showing_of desk old n room line s
 showing-used old n room line (answered ls steps) = shown-used old n room (line_at line ls)
 showing-used old n room line (unread r) = refl
 showing-used old n room line (given-up r) = refl
 
-refused-showing : (old : Bool) (room line : ℕ) (ws : List ℕ) → readQuestion desk ws ≡ refuses QuestionLength → showing desk old desk.room desk.room room line ws ≡ denied QuestionLength
+refused-showing : (old : Bool) (room line : ℕ) (ws : List ℕ) → read_question desk ws ≡ refuses QuestionLength → showing desk old desk.room desk.room room line ws ≡ denied QuestionLength
 unfolding showing solving
-refused-showing old room line ws e = ap (λ (a : Asked). showingOf desk old (countsOf ws) room line (solvingOf desk a)) e
+refused-showing old room line ws e = ap (λ (a : Asked). showing_of desk old (counts_of ws) room line (solving_of desk a)) e
 
 pub fitting-showing : (old : Bool) (room line : ℕ) (ws : List ℕ) → showing desk old desk.room desk.room (used desk.filling room) line (fitting desk.question ws) ≡ showing desk old desk.room desk.room room line ws
 unfolding fitting showing
 fitting-showing old room line ws = go (leb (length ws) desk.question) refl where
   go : (b : Bool) → leb (length ws) desk.question ≡ b → showing desk old desk.room desk.room (used desk.filling room) line (pick b ws []) ≡ showing desk old desk.room desk.room room line ws
-  go true e = showing-used old (countsOf ws) room line (solving desk desk.room desk.room ws)
+  go true e = showing-used old (counts_of ws) room line (solving desk desk.room desk.room ws)
   go false e = refused-showing old _ line [] no-question ∙ sym (refused-showing old room line ws (long-question ws (leb-false _ _ e)))

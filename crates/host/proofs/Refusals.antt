@@ -11,9 +11,9 @@ use Rattle.language.specs.Limits.{Limits}
 use Rattle.language.specs.Numbers.{number_of}
 use Rattle.language.specs.Trees.{Conj, signature}
 use Rattle.language.specs.Reading.{Got, got, stop}
-use Rattle.language.specs.Question.{Asked, asks, refuses, readQuestion, lengthFits, countsFit, laidOut, read_all, parts, declaredQ, countsOf, alternativesOf}
+use Rattle.language.specs.Question.{Asked, asks, refuses, read_question, length_fits, counts_fit, laid_out, read_all, parts, declared_q, counts_of, alternatives_of}
 use Rattle.rules.specs.Run.{Outcome, finished, refused, run}
-use Rattle.rules.specs.Answer.{Solving, answered, unread, given-up, ran, solvingOf, solving}
+use Rattle.rules.specs.Answer.{Solving, answered, unread, given-up, ran, solving_of, solving}
 use Rattle.rules.proofs.Stopping.{RunStopsBy, run-stops-by}
 
 abbrev pub Between : ℕ → ℕ → Refusal → Type 0
@@ -33,14 +33,14 @@ read : (o : Got (List Conj)) (at : ℕ → ℕ) (go : List Conj → Asked) → (
 read (stop n) at go h = (lit≤ tt, lit≤ tt)
 read (got ks n) at go h = h ks
 
-pub early : (L : Limits) (ws : List ℕ) → Early (readQuestion L ws)
-unfolding readQuestion
+pub early : (L : Limits) (ws : List ℕ) → Early (read_question L ws)
+unfolding read_question
 early L ws =
-    tested (lengthFits L ws) QuestionLength _ (lit≤ tt, lit≤ tt)
-    (tested (countsFit L (countsOf ws) (alternativesOf ws)) CountRange _ (lit≤ tt, lit≤ tt)
-    (tested (laidOut 5 (alternativesOf ws) ws) BadOffset _ (lit≤ tt, lit≤ tt)
-    (read (read_all L (parts 5 (alternativesOf ws) ws)) _ _
-    (λ ks. tested (declaredQ (countsOf ws) ks) _ _ (lit≤ tt, lit≤ tt) tt))))
+    tested (length_fits L ws) QuestionLength _ (lit≤ tt, lit≤ tt)
+    (tested (counts_fit L (counts_of ws) (alternatives_of ws)) CountRange _ (lit≤ tt, lit≤ tt)
+    (tested (laid_out 5 (alternatives_of ws) ws) BadOffset _ (lit≤ tt, lit≤ tt)
+    (read (read_all L (parts 5 (alternatives_of ws) ws)) _ _
+    (λ ks. tested (declared_q (counts_of ws) ks) _ _ (lit≤ tt, lit≤ tt) tt))))
 
 -- ---- solving
 
@@ -69,7 +69,7 @@ range-run : (o : Outcome) → RunStopsBy Late o → InRange (ran o)
 range-run (finished ls n) h = tt
 range-run (refused r) h = h
 
-range-asked : (L : Limits) (a : Asked) → Early a → InRange (solvingOf L a)
+range-asked : (L : Limits) (a : Asked) → Early a → InRange (solving_of L a)
 range-asked L (asks q) h =
     range-run (run L (signature q.counts) q.alternatives)
     (run-stops-by Late (lit≤ tt, inl (lit≤ tt)) (lit≤ tt, inl (lit≤ tt)) (lit≤ tt, inl (lit≤ tt)) (lit≤ tt, inl (lit≤ tt)) (lit≤ tt, inr refl) L (signature q.counts) q.alternatives)
@@ -82,4 +82,4 @@ range-tested false s h = h
 pub in-range : (L : Limits) (work answer : ℕ) (ws : List ℕ) → InRange (solving L work answer ws)
 unfolding solving
 in-range L work answer ws =
-    range-tested (ltb work L.room) _ (range-tested (ltb answer L.room) _ (range-asked L (readQuestion L ws) (early L ws)))
+    range-tested (ltb work L.room) _ (range-tested (ltb answer L.room) _ (range-asked L (read_question L ws) (early L ws)))

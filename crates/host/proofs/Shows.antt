@@ -12,20 +12,20 @@ use borrow.Author.Tests.{ltb-false}
 use Rattle.language.specs.declared.Refusal.TheVariants.{OpenLine, LongExample}
 use Rattle.language.specs.Limits.{desk}
 use Rattle.language.specs.Trees.{Counts}
-use Rattle.language.specs.Question.{countsOf}
-use Rattle.meaning.specs.Values.{fillingWords}
+use Rattle.language.specs.Question.{counts_of}
+use Rattle.meaning.specs.Values.{filling_words}
 use Rattle.rules.specs.Solved.{solved}
-use Rattle.rules.specs.Example.{defaultSymbol, example}
+use Rattle.rules.specs.Example.{default_symbol, example}
 use Rattle.rules.specs.Run.{Numbered}
 use Rattle.rules.specs.Answer.{Solving, answered, unread, given-up, solving}
-use Rattle.rules.specs.Calls.{Showing, shows, denied, line_at, fitted, shown, showingOf, showing}
-use Rattle.line_example.specs.Shown.{numbersOf, roomOf}
-use Rattle.example.specs.Exhibits.{toldOver}
+use Rattle.rules.specs.Calls.{Showing, shows, denied, line_at, fitted, shown, showing_of, showing}
+use Rattle.line_example.specs.Shown.{numbers_of, room_of}
+use Rattle.example.specs.Exhibits.{told_over}
 use Rattle.word_bytes.specs.Bytes.{bytes_of, words_in, fitting}
-use Rattle.handing.specs.Handed.{used, numberOr}
+use Rattle.handing.specs.Handed.{used, number_or}
 use Rattle.handing.proofs.Handed.{number-value, number-refused}
-use Rattle.host.specs.Numbers.{asksOld}
-use Rattle.host.specs.Host.{showingBytes, showNumber, showLeaves}
+use Rattle.host.specs.Numbers.{asks_old}
+use Rattle.host.specs.Host.{showing_bytes, show_number, show_leaves}
 use Rattle.word_bytes.proofs.Pairs.{written}
 use Rattle.host.proofs.Fitting.{fitting-showing}
 
@@ -48,30 +48,30 @@ fits_line false room s h = tt
 
 fits-shown : (old : Bool) (n : Counts) (room : ℕ) (o : Option Numbered) → Fits room (shown desk old n room o)
 fits-shown old n room none = tt
-fits-shown old n room (some k) = fits_line (solved k.literals) room _ (fits-fitted room (fillingWords n (example (defaultSymbol old n) k.literals)))
+fits-shown old n room (some k) = fits_line (solved k.literals) room _ (fits-fitted room (filling_words n (example (default_symbol old n) k.literals)))
 
-pub fits-solved : (old : Bool) (n : Counts) (room line : ℕ) (s : Solving) → Fits room (showingOf desk old n room line s)
+pub fits-solved : (old : Bool) (n : Counts) (room line : ℕ) (s : Solving) → Fits room (showing_of desk old n room line s)
 fits-solved old n room line (answered ls steps) = fits-shown old n room (line_at line ls)
 fits-solved old n room line (unread r) = tt
 fits-solved old n room line (given-up r) = tt
 
 pub fits : (old : Bool) (work answer room line : ℕ) (ws : List ℕ) → Fits room (showing desk old work answer room line ws)
 unfolding showing
-fits old work answer room line ws = fits-solved old (countsOf ws) room line (solving desk work answer ws)
+fits old work answer room line ws = fits-solved old (counts_of ws) room line (solving desk work answer ws)
 
 -- ---- the number
 
-abbrev shownTold : ℕ × ℕ × ℕ → ℕ
-shownTold n = numberOr n.0 n.2
+abbrev shown_told : ℕ × ℕ × ℕ → ℕ
+shown_told n = number_or n.0 n.2
 
-pub told : (s : Showing) (k : ℕ) (r : ℕ × ℕ × ℕ) → r ≡ numbersOf s → k ≡ shownTold r → k ≡ showNumber s
-unfolding showNumber
-told (shows ws) k r e f = f ∙ ap shownTold e ∙ number-value 0 (length ws) refl
-told (denied x) k r e f = f ∙ ap shownTold e ∙ number-refused x 0
+pub told : (s : Showing) (k : ℕ) (r : ℕ × ℕ × ℕ) → r ≡ numbers_of s → k ≡ shown_told r → k ≡ show_number s
+unfolding show_number
+told (shows ws) k r e f = f ∙ ap shown_told e ∙ number-value 0 (length ws) refl
+told (denied x) k r e f = f ∙ ap shown_told e ∙ number-refused x 0
 
 -- ---- the room
 
-pub within : (s : Showing) (room : ℕ) → Fits room s → (numbersOf s).2 ≤ room
+pub within : (s : Showing) (room : ℕ) → Fits room s → (numbers_of s).2 ≤ room
 within (shows ws) room h = h.1
 within (denied x) room h = omega arith
 
@@ -80,9 +80,9 @@ unfolding bytes_of
 none_written own bytes = refl
 
 -- a refusal has no words to write
-pub writes : (s : Showing) (own own' bytes bytes' : List ℕ) → Fits (length own) s → 2 * length own ≤ length bytes → own' ≡ roomOf s own
-    → bytes' ≡ sets bytes 0 (bytes_of (take (numbersOf s).2 own')) → bytes' ≡ showLeaves s bytes
-unfolding showLeaves
+pub writes : (s : Showing) (own own' bytes bytes' : List ℕ) → Fits (length own) s → 2 * length own ≤ length bytes → own' ≡ room_of s own
+    → bytes' ≡ sets bytes 0 (bytes_of (take (numbers_of s).2 own')) → bytes' ≡ show_leaves s bytes
+unfolding show_leaves
 writes (shows ws) own own' bytes bytes' h room eo eb =
     let t : take (length ws) own' ≡ ws = ap (take (length ws)) eo ∙ take_at ws (drop (length ws) own) (length ws) refl in
     let m = h.1 in
@@ -90,43 +90,43 @@ writes (shows ws) own own' bytes bytes' h room eo eb =
 writes (denied x) own own' bytes bytes' h room eo eb = eb ∙ none_written own' bytes
 
 -- what stands behind the room does not matter
-in-front : (s : Showing) (own behind : List ℕ) → take (numbersOf s).2 (roomOf s own ++ behind) ≡ take (numbersOf s).2 (roomOf s own)
+in-front : (s : Showing) (own behind : List ℕ) → take (numbers_of s).2 (room_of s own ++ behind) ≡ take (numbers_of s).2 (room_of s own)
 in-front (shows ws) own behind = take-append-le (length ws) (ws ++ drop (length ws) own) behind (let n = length-append ws (drop (length ws) own) in omega arith)
 in-front (denied x) own behind = refl
 
 -- ---- the return
 
-module _ (words words' : List ℕ) (n m line : ℕ) (old : Bool) (r : ℕ × ℕ × ℕ) (e : (r, words') ≡ toldOver n m line old words) where
+module _ (words words' : List ℕ) (n m line : ℕ) (old : Bool) (r : ℕ × ℕ × ℕ) (e : (r, words') ≡ told_over n m line old words) where
   abbrev comes : Showing
   comes = showing desk old desk.room desk.room m line (take n words)
 
-  result : r ≡ numbersOf comes
-  unfolding toldOver
+  result : r ≡ numbers_of comes
+  unfolding told_over
   result = ap (λ (t : (ℕ × ℕ × ℕ) × List ℕ). t.0) e
 
-  left : words' ≡ roomOf comes (take m words) ++ drop m words
-  unfolding toldOver
+  left : words' ≡ room_of comes (take m words) ++ drop m words
+  unfolding told_over
   left = ap (λ (t : (ℕ × ℕ × ℕ) × List ℕ). t.1) e
 
   pub example-within : (k : ℕ) → k ≡ r.2 → k ≤ m
   example-within k f =
-      let h : (numbersOf comes).2 ≤ m = within comes m (fits old desk.room desk.room m line (take n words)) in
-      let g : k ≡ (numbersOf comes).2 = f ∙ ap (λ (n : ℕ × ℕ × ℕ). n.2) result in
+      let h : (numbers_of comes).2 ≤ m = within comes m (fits old desk.room desk.room m line (take n words)) in
+      let g : k ≡ (numbers_of comes).2 = f ∙ ap (λ (n : ℕ × ℕ × ℕ). n.2) result in
       omega arith
 
-  pub shown-line : (number k : ℕ) (bytes bytes' : List ℕ) → m ≤ length words → number ≡ shownTold r → k ≡ r.2 → 2 * m ≤ length bytes
-      → bytes' ≡ sets bytes 0 (bytes_of (take k words')) → (number ≡ showNumber comes) × (bytes' ≡ showLeaves comes bytes)
+  pub shown-line : (number k : ℕ) (bytes bytes' : List ℕ) → m ≤ length words → number ≡ shown_told r → k ≡ r.2 → 2 * m ≤ length bytes
+      → bytes' ≡ sets bytes 0 (bytes_of (take k words')) → (number ≡ show_number comes) × (bytes' ≡ show_leaves comes bytes)
   shown-line number k bytes bytes' inside f g room eb =
       let own : List ℕ = take m words in
       let long : length own ≡ m = length-take-le m words inside in (
         told comes number r result f,
-        writes comes own (roomOf comes own) bytes bytes' (subst (λ (i : ℕ). Fits i comes) (sym long) (fits old desk.room desk.room m line (take n words))) (omega arith) refl
+        writes comes own (room_of comes own) bytes bytes' (subst (λ (i : ℕ). Fits i comes) (sym long) (fits old desk.room desk.room m line (take n words))) (omega arith) refl
             (eb ∙ ap (λ (i : ℕ). sets bytes 0 (bytes_of (take i words'))) (g ∙ ap (λ (n : ℕ × ℕ × ℕ). n.2) result)
-            ∙ ap (λ (l : List ℕ). sets bytes 0 (bytes_of l)) (ap (take (numbersOf comes).2) left ∙ in-front comes own (drop m words))),
+            ∙ ap (λ (l : List ℕ). sets bytes 0 (bytes_of l)) (ap (take (numbers_of comes).2) left ∙ in-front comes own (drop m words))),
       )
 
 -- the words lent come to what the bytes come to
-pub bytes-show : (q ws bytes : List ℕ) (line old room : ℕ) (flag : Bool) → flag ≡ asksOld old → ws ≡ fitting desk.question (words_in q) → room ≡ used desk.filling (length bytes / 2)
-    → showing desk flag desk.room desk.room room line ws ≡ showingBytes desk (length bytes) line old q
-unfolding showingBytes
-bytes-show q ws bytes line old room flag ef ew er = rw (ef, ew, er) (fitting-showing (asksOld old) (length bytes / 2) line (words_in q))
+pub bytes-show : (q ws bytes : List ℕ) (line old room : ℕ) (flag : Bool) → flag ≡ asks_old old → ws ≡ fitting desk.question (words_in q) → room ≡ used desk.filling (length bytes / 2)
+    → showing desk flag desk.room desk.room room line ws ≡ showing_bytes desk (length bytes) line old q
+unfolding showing_bytes
+bytes-show q ws bytes line old room flag ef ew er = rw (ef, ew, er) (fitting-showing (asks_old old) (length bytes / 2) line (words_in q))

@@ -2,5 +2,5 @@
 use Rattle.std.specs.Prelude.{ℕ, Bool, not, eqb}
 
 -- a number that is not 0 asks for old training sheets
-abbrev pub asksOld : ℕ → Bool
-asksOld n = not (eqb n 0)
+abbrev pub asks_old : ℕ → Bool
+asks_old n = not (eqb n 0)

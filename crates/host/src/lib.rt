@@ -2,9 +2,9 @@
 // the desk's own, cleared where they are made and not once more.
 ghost use Rattle.std.specs.Prelude.{◌*◌, ◌≤◌, ◌≡◌, length, take};
 ghost use Rattle.language.specs.Limits.{desk};
-ghost use Rattle.host.specs.Host.{solvingBytes, solveNumber, solveLeaves, showingBytes, showNumber, showLeaves, dayBytes};
+ghost use Rattle.host.specs.Host.{solving_bytes, solve_number, solve_leaves, showing_bytes, show_number, show_leaves, day_bytes};
 ghost use Rattle.rules.specs.Calls.{showing};
-ghost use Rattle.day.specs.Leaves.{dayNumber, roomLeaves};
+ghost use Rattle.day.specs.Leaves.{day_number, room_leaves};
 
 use bools::truth;
 use day::solve_day;
@@ -18,8 +18,8 @@ use word_bytes::{take_words, write_words};
 // Solves a question: the refusal's number, or 0.
 #[unsafe(no_mangle)]
 pub extern "C" fn desk_solve(question: &[u8], answer: &mut [u8]) -> u32
-    ensures value { result ≡ solveNumber (solvingBytes desk (length answer.old) question.now) }
-    ensures answer_after { answer.new ≡ solveLeaves desk (solvingBytes desk (length answer.old) question.now) answer.old }
+    ensures value { result ≡ solve_number (solving_bytes desk (length answer.old) question.now) }
+    ensures answer_after { answer.new ≡ solve_leaves desk (solving_bytes desk (length answer.old) question.now) answer.old }
 {
     if answer.len() < ANSWER_BYTES {
         return 1;
@@ -35,8 +35,8 @@ pub extern "C" fn desk_solve(question: &[u8], answer: &mut [u8]) -> u32
 // The example of a line of the question that the first n words are, over it, and then in the bytes lent.
 fn show(words: &mut [u16], n: usize, line: usize, old: bool, m: usize, room: &mut [u8]) -> u32
     requires { (n ≤ length words.old) × (m ≤ length words.old) × (m ≤ desk.filling) × (2 * m ≤ length room.old) }
-    ensures value { result ≡ showNumber (showing desk old desk.room desk.room m line (take n words.old)) }
-    ensures room_after { room.new ≡ showLeaves (showing desk old desk.room desk.room m line (take n words.old)) room.old }
+    ensures value { result ≡ show_number (showing desk old desk.room desk.room m line (take n words.old)) }
+    ensures room_after { room.new ≡ show_leaves (showing desk old desk.room desk.room m line (take n words.old)) room.old }
 {
     let s = example_over(words, n, line, old, m);
     let k = shown_length(s);
@@ -49,8 +49,8 @@ fn show(words: &mut [u16], n: usize, line: usize, old: bool, m: usize, room: &mu
 // is 0, and else symbol 0.
 #[unsafe(no_mangle)]
 pub extern "C" fn desk_example(question: &[u8], line: u32, old: u32, room: &mut [u8]) -> u32
-    ensures value { result ≡ showNumber (showingBytes desk (length room.old) line old question.now) }
-    ensures room_after { room.new ≡ showLeaves (showingBytes desk (length room.old) line old question.now) room.old }
+    ensures value { result ≡ show_number (showing_bytes desk (length room.old) line old question.now) }
+    ensures room_after { room.new ≡ show_leaves (showing_bytes desk (length room.old) line old question.now) room.old }
 {
     let mut words = [0u16; QUESTION];
     let n = take_words(question, &mut words);
@@ -61,8 +61,8 @@ pub extern "C" fn desk_example(question: &[u8], line: u32, old: u32, room: &mut 
 // Answers a day's sheet: the refusal's number, or 0.
 #[unsafe(no_mangle)]
 pub extern "C" fn desk_day(sheet: &[u8], room: &mut [u8]) -> u32
-    ensures value { result ≡ dayNumber (dayBytes desk (length room.old) sheet.now) }
-    ensures room_after { room.new ≡ roomLeaves (dayBytes desk (length room.old) sheet.now) room.old }
+    ensures value { result ≡ day_number (day_bytes desk (length room.old) sheet.now) }
+    ensures room_after { room.new ≡ room_leaves (day_bytes desk (length room.old) sheet.now) room.old }
 {
     let mut own_work = [0u16; ROOM];
     let mut own_answer = [0u16; ROOM];

@@ -2,7 +2,7 @@
 ghost use Rattle.std.specs.Prelude.{◌+◌, ◌≤◌, ◌<◌, ◌≡◌, length};
 ghost use Rattle.slices.specs.Written.{Wrote};
 ghost use Rattle.words.specs.Spans.{places};
-ghost use Rattle.orders.specs.Orders.{drop_at, inOrder, elementsAt, ordered, plenty};
+ghost use Rattle.orders.specs.Orders.{drop_at, in_order, elements_at, ordered, plenty};
 ghost use Rattle.orders.specs.Agreeing.{Agree};
 
 use orders::count_orders;
@@ -47,8 +47,8 @@ fn without(ps: Places, d: usize) -> Places
 
 // n elements, eight at most, in their order of that number.
 fn write_few(k: &[u16], all: Places, n: usize, number: usize, out: &mut [u16], at: usize) -> usize
-    requires { (length all.at ≡ 8) × (n ≤ 8) × (at + length (elementsAt k.now (inOrder n number all.at)) ≤ length out.old) }
-    ensures { Wrote out.old at (elementsAt k.now (inOrder n number all.at)) out.new result }
+    requires { (length all.at ≡ 8) × (n ≤ 8) × (at + length (elements_at k.now (in_order n number all.at)) ≤ length out.old) }
+    ensures { Wrote out.old at (elements_at k.now (in_order n number all.at)) out.new result }
 {
     let mut ps = all;
     let mut m = n;

@@ -9,8 +9,8 @@ use lib.ListN.{length, take, drop, length-append, length-drop, take-append-drop}
 use lib.Seq.{take-append-le, drop-append-le, take-append_seam, drop-append_seam}
 use Rattle.language.specs.Limits.{desk}
 use Rattle.language.specs.Trees.{Literal, Conj}
-use Rattle.language.specs.Writing.{literalWords, conjWords}
-use Rattle.language.specs.Fine.{fineLiteral, fineConj}
+use Rattle.language.specs.Writing.{literal_words, conj_words}
+use Rattle.language.specs.Fine.{fine_literal, fine_conj}
 use Rattle.language.proofs.Laws.{literals-read, conjunctions-read}
 use Rattle.rules.proofs.FineParts.{fine-split}
 use Rattle.views.proofs.LiteralWalks.{literal-some}
@@ -29,14 +29,14 @@ module _ (xs ys us vs : List ℕ) (e : xs ++ ys ≡ us ++ vs) (h : length xs ≤
 pub record Begins (a c : Conj) (rest : List ℕ) : Type 0 where
   pub more : Conj
   pub whole : c ≡ a ++ more
-  pub words : conjWords more ≡ rest
+  pub words : conj_words more ≡ rest
 
-pub begins : (a c : Conj) (rest : List ℕ) → fineConj desk a → fineConj desk c → conjWords c ≡ conjWords a ++ rest → Begins a c rest
+pub begins : (a c : Conj) (rest : List ℕ) → fine_conj desk a → fine_conj desk c → conj_words c ≡ conj_words a ++ rest → Begins a c rest
 begins [] c rest f g e = record { more = c; whole = refl; words = e }
 begins (l ∷ a) [] rest f g e =
-    absurd (let z = ap length e in let y = length-append (literalWords l ++ conjWords a) rest in let x = length-append (literalWords l) (conjWords a) in let w = literal-some l in omega arith)
+    absurd (let z = ap length e in let y = length-append (literal_words l ++ conj_words a) rest in let x = length-append (literal_words l) (conj_words a) in let w = literal-some l in omega arith)
 begins (l ∷ a) (m ∷ c) rest f g e =
-    let one = (literals-read desk).one-reading m l (conjWords c) (conjWords a ++ rest) g.0 f.0 (e ∙ append_assoc (literalWords l) (conjWords a) rest) in
+    let one = (literals-read desk).one-reading m l (conj_words c) (conj_words a ++ rest) g.0 f.0 (e ∙ append_assoc (literal_words l) (conj_words a) rest) in
     let b = begins a c rest f.1 g.1 one.1 in
     record { more = b.more; whole = ap (λ n. n ∷ c) one.0 ∙ ap (λ d. l ∷ d) b.whole; words = b.words }
 
@@ -44,62 +44,62 @@ begins (l ∷ a) (m ∷ c) rest f g e =
 pub record Ends (c : Conj) (start : List ℕ) (b : Conj) : Type 0 where
   pub less : Conj
   pub whole : c ≡ less ++ b
-  pub words : conjWords less ≡ start
+  pub words : conj_words less ≡ start
 
 -- no conjunction begins within a literal
-within : (l : Literal) (c b : Conj) (x : ℕ) (xs : List ℕ) → fineLiteral desk l → (x ∷ xs) ++ conjWords b ≡ literalWords l ++ conjWords c → length (x ∷ xs) < length (literalWords l) → ⊥
+within : (l : Literal) (c b : Conj) (x : ℕ) (xs : List ℕ) → fine_literal desk l → (x ∷ xs) ++ conj_words b ≡ literal_words l ++ conj_words c → length (x ∷ xs) < length (literal_words l) → ⊥
 within l c b x xs f e h =
-    let first = begins-marked (l ∷ c) x (xs ++ conjWords b) (sym e) in
+    let first = begins-marked (l ∷ c) x (xs ++ conj_words b) (sym e) in
     let one = marks-literal l f in
-    let parts = ap marks (shorter (x ∷ xs) (conjWords b) (literalWords l) (conjWords c) e (omega arith)) ∙ marks-append (x ∷ xs) (drop (length (x ∷ xs)) (literalWords l)) in
-    go (drop (length (x ∷ xs)) (literalWords l)) (length-drop (length (x ∷ xs)) (literalWords l)) (rest_of (x ∷ xs) (conjWords b) (literalWords l) (conjWords c) e (omega arith)) (omega arith)
+    let parts = ap marks (shorter (x ∷ xs) (conj_words b) (literal_words l) (conj_words c) e (omega arith)) ∙ marks-append (x ∷ xs) (drop (length (x ∷ xs)) (literal_words l)) in
+    go (drop (length (x ∷ xs)) (literal_words l)) (length-drop (length (x ∷ xs)) (literal_words l)) (rest_of (x ∷ xs) (conj_words b) (literal_words l) (conj_words c) e (omega arith)) (omega arith)
   where
-    go : (ys : List ℕ) → length ys ≡ length (literalWords l) - length (x ∷ xs) → conjWords b ≡ ys ++ conjWords c → marks ys ≡ 0 → ⊥
+    go : (ys : List ℕ) → length ys ≡ length (literal_words l) - length (x ∷ xs) → conj_words b ≡ ys ++ conj_words c → marks ys ≡ 0 → ⊥
     go [] s d m = omega arith
-    go (y ∷ ys) s d m = let z = begins-marked b y (ys ++ conjWords c) d in omega arith
+    go (y ∷ ys) s d m = let z = begins-marked b y (ys ++ conj_words c) d in omega arith
 
 -- a literal that lies in the words before
-one_more : (l : Literal) (c : Conj) (start : List ℕ) (b : Conj) → literalWords l ++ conjWords c ≡ start ++ conjWords b → length (literalWords l) ≤ length start → Ends c (drop (length (literalWords l)) start) b → Ends (l ∷ c) start b
+one_more : (l : Literal) (c : Conj) (start : List ℕ) (b : Conj) → literal_words l ++ conj_words c ≡ start ++ conj_words b → length (literal_words l) ≤ length start → Ends c (drop (length (literal_words l)) start) b → Ends (l ∷ c) start b
 one_more l c start b e h i = record {
   less = l ∷ i.less;
   whole = ap (λ d. l ∷ d) i.whole;
-  words = ap (λ ws. literalWords l ++ ws) i.words ∙ sym (shorter (literalWords l) (conjWords c) start (conjWords b) e h);
+  words = ap (λ ws. literal_words l ++ ws) i.words ∙ sym (shorter (literal_words l) (conj_words c) start (conj_words b) e h);
 }
 
 -- by whether the words before end within the first literal, where c ends as b does behind that literal
-by_first : (l : Literal) (c : Conj) (start : List ℕ) (b : Conj) → fineConj desk (l ∷ c) → fineConj desk b → literalWords l ++ conjWords c ≡ start ++ conjWords b
-    → (length (literalWords l) ≤ length start → Ends c (drop (length (literalWords l)) start) b) → Ends (l ∷ c) start b
+by_first : (l : Literal) (c : Conj) (start : List ℕ) (b : Conj) → fine_conj desk (l ∷ c) → fine_conj desk b → literal_words l ++ conj_words c ≡ start ++ conj_words b
+    → (length (literal_words l) ≤ length start → Ends c (drop (length (literal_words l)) start) b) → Ends (l ∷ c) start b
 by_first l c [] b f g e r = record { less = []; whole = (conjunctions-read desk).one-reading (l ∷ c) b f g e; words = refl }
-by_first l c (x ∷ xs) b f g e r = go (dec_lt (length (x ∷ xs)) (length (literalWords l)))
+by_first l c (x ∷ xs) b f g e r = go (dec_lt (length (x ∷ xs)) (length (literal_words l)))
   where
-    go : Dec (length (x ∷ xs) < length (literalWords l)) → Ends (l ∷ c) (x ∷ xs) b
+    go : Dec (length (x ∷ xs) < length (literal_words l)) → Ends (l ∷ c) (x ∷ xs) b
     go (yes h) = absurd (within l c b x xs f.0 (sym e) h)
-    go (no n) = let h : length (literalWords l) ≤ length (x ∷ xs) = omega (arith, n) in one_more l c (x ∷ xs) b e h (r h)
+    go (no n) = let h : length (literal_words l) ≤ length (x ∷ xs) = omega (arith, n) in one_more l c (x ∷ xs) b e h (r h)
 
-by-none : (start : List ℕ) (b : Conj) → fineConj desk b → [] ≡ start ++ conjWords b → Ends [] start b
+by-none : (start : List ℕ) (b : Conj) → fine_conj desk b → [] ≡ start ++ conj_words b → Ends [] start b
 by-none [] b g e = record { less = []; whole = (conjunctions-read desk).one-reading [] b tt g e; words = refl }
 by-none (x ∷ xs) b g e = absurd (let z = ap length e in omega arith)
 
-pub ends : (c : Conj) (start : List ℕ) (b : Conj) → fineConj desk c → fineConj desk b → conjWords c ≡ start ++ conjWords b → Ends c start b
+pub ends : (c : Conj) (start : List ℕ) (b : Conj) → fine_conj desk c → fine_conj desk b → conj_words c ≡ start ++ conj_words b → Ends c start b
 ends [] start b f g e = by-none start b g e
 ends (l ∷ c) start b f g e =
-    by_first l c start b f g e (λ h. ends c (drop (length (literalWords l)) start) b f.1 g (rest_of (literalWords l) (conjWords c) start (conjWords b) e h))
+    by_first l c start b f g e (λ h. ends c (drop (length (literal_words l)) start) b f.1 g (rest_of (literal_words l) (conj_words c) start (conj_words b) e h))
 
 -- literals in front and behind stay, and others stand between them
 pub record Between (c a : Conj) (words : List ℕ) (b : Conj) : Type 0 where
   pub part : Conj
-  pub fine : fineConj desk part
+  pub fine : fine_conj desk part
   pub whole : c ≡ a ++ (part ++ b)
-  pub same : conjWords part ≡ words
+  pub same : conj_words part ≡ words
 
-pub between : (c a : Conj) (words : List ℕ) (b : Conj) → fineConj desk c → fineConj desk a → fineConj desk b → conjWords c ≡ conjWords a ++ (words ++ conjWords b) → Between c a words b
+pub between : (c a : Conj) (words : List ℕ) (b : Conj) → fine_conj desk c → fine_conj desk a → fine_conj desk b → conj_words c ≡ conj_words a ++ (words ++ conj_words b) → Between c a words b
 between c a words b f g h e =
-    let i = begins a c (words ++ conjWords b) g f e in
-    let fine = (fine-split desk a i.more (subst (fineConj desk) i.whole f)).1 in
+    let i = begins a c (words ++ conj_words b) g f e in
+    let fine = (fine-split desk a i.more (subst (fine_conj desk) i.whole f)).1 in
     let j = ends i.more words b fine h i.words in
     record {
       part = j.less;
-      fine = (fine-split desk j.less b (subst (fineConj desk) j.whole fine)).0;
+      fine = (fine-split desk j.less b (subst (fine_conj desk) j.whole fine)).0;
       whole = i.whole ∙ ap (λ d. a ++ d) j.whole;
       same = j.words;
     }

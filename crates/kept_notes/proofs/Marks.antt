@@ -12,8 +12,8 @@ use borrow.Author.Tests.{ne_eqb}
 use Rattle.language.specs.Limits.{desk}
 use Rattle.language.specs.Kinds.{pick}
 use Rattle.language.specs.Trees.{Functor, symbol, fvar, Hedge, ε, tvar, hvar, node, Expr, eps, cat, alt, star, over, Literal, eqn, mem, Conj}
-use Rattle.language.specs.Writing.{functorWord, hedgeWords, exprWords, literalWords, conjWords}
-use Rattle.language.specs.Fine.{fineFunctor, fineHedge, fineExpr, fineLiteral, fineConj}
+use Rattle.language.specs.Writing.{functor_word, hedge_words, expr_words, literal_words, conj_words}
+use Rattle.language.specs.Fine.{fine_functor, fine_hedge, fine_expr, fine_literal, fine_conj}
 use Rattle.kept_notes.specs.Renewal.{marked, marks}
 
 -- ---- the test of a word
@@ -53,11 +53,11 @@ marks-append (u ∷ us) vs = let e = marks-append us vs in omega arith
 plain : (x : ℕ) → x < 5000 → marked x ≡ 0
 plain x h = sym (no-mark x (λ e. omega arith) (λ e. omega arith))
 
-marks-functor : (f : Functor) → fineFunctor desk f → marked (functorWord f) ≡ 0
+marks-functor : (f : Functor) → fine_functor desk f → marked (functor_word f) ≡ 0
 marks-functor (symbol f) h = plain (3000 + f.0) (omega arith)
 marks-functor (fvar X) h = plain (4000 + X.0) (omega arith)
 
-marks-hedge : (h : Hedge) → fineHedge desk h → marks (hedgeWords h) ≡ 0
+marks-hedge : (h : Hedge) → fine_hedge desk h → marks (hedge_words h) ≡ 0
 marks-hedge ε f = refl
 marks-hedge (tvar x r) f = let a = plain (1000 + x.0) (omega arith) in let b = marks-hedge r f.1 in omega arith
 marks-hedge (hvar p r) f = let a = plain (2000 + p.0) (omega arith) in let b = marks-hedge r f.1 in omega arith
@@ -65,26 +65,26 @@ marks-hedge (node g c r) f =
     let a = marks-functor g f.0 in
     let b = marks-hedge c f.1 in
     let d = marks-hedge r f.2 in
-    let e = marks-append (hedgeWords c) (hedgeWords r) in
+    let e = marks-append (hedge_words c) (hedge_words r) in
     omega arith
 
-marks-expr : (R : Expr) → fineExpr desk R → marks (exprWords R) ≡ 0
+marks-expr : (R : Expr) → fine_expr desk R → marks (expr_words R) ≡ 0
 marks-expr eps f = refl
-marks-expr (cat a b) f = let d = marks-expr a f.0 in let e = marks-expr b f.1 in let z = marks-append (exprWords a) (exprWords b) in omega arith
-marks-expr (alt a b) f = let d = marks-expr a f.0 in let e = marks-expr b f.1 in let z = marks-append (exprWords a) (exprWords b) in omega arith
+marks-expr (cat a b) f = let d = marks-expr a f.0 in let e = marks-expr b f.1 in let z = marks-append (expr_words a) (expr_words b) in omega arith
+marks-expr (alt a b) f = let d = marks-expr a f.0 in let e = marks-expr b f.1 in let z = marks-append (expr_words a) (expr_words b) in omega arith
 marks-expr (star a) f = let d = marks-expr a f in omega arith
 marks-expr (over g a) f = let d = plain (3000 + g.0) (omega arith) in let e = marks-expr a f.1 in omega arith
 
-pub marks-literal : (l : Literal) → fineLiteral desk l → marks (literalWords l) ≡ 1
-marks-literal (eqn l r) f = let a = marks-hedge l f.0 in let b = marks-hedge r f.1 in let z = marks-append (hedgeWords l) (hedgeWords r) in omega arith
-marks-literal (mem h R) f = let a = marks-hedge h f.0 in let b = marks-expr R f.1 in let z = marks-append (hedgeWords h) (exprWords R) in omega arith
+pub marks-literal : (l : Literal) → fine_literal desk l → marks (literal_words l) ≡ 1
+marks-literal (eqn l r) f = let a = marks-hedge l f.0 in let b = marks-hedge r f.1 in let z = marks-append (hedge_words l) (hedge_words r) in omega arith
+marks-literal (mem h R) f = let a = marks-hedge h f.0 in let b = marks-expr R f.1 in let z = marks-append (hedge_words h) (expr_words R) in omega arith
 
-pub marks-conj : (c : Conj) → fineConj desk c → marks (conjWords c) ≡ length c
+pub marks-conj : (c : Conj) → fine_conj desk c → marks (conj_words c) ≡ length c
 marks-conj [] f = refl
-marks-conj (l ∷ c) f = let a = marks-literal l f.0 in let b = marks-conj c f.1 in let z = marks-append (literalWords l) (conjWords c) in omega arith
+marks-conj (l ∷ c) f = let a = marks-literal l f.0 in let b = marks-conj c f.1 in let z = marks-append (literal_words l) (conj_words c) in omega arith
 
 -- a conjunction begins with a mark
-pub begins-marked : (c : Conj) (x : ℕ) (ws : List ℕ) → conjWords c ≡ x ∷ ws → marked x ≡ 1
+pub begins-marked : (c : Conj) (x : ℕ) (ws : List ℕ) → conj_words c ≡ x ∷ ws → marked x ≡ 1
 begins-marked [] x ws e = absurd (let z : ◌≡◌ {A = ℕ} 0 1 = cc in omega arith)
 begins-marked (eqn l r ∷ c) x ws e = sym (first-mark x (sym (ap (λ s. get_or s 0 0) e)))
 begins-marked (mem h R ∷ c) x ws e = ap marked (sym (ap (λ s. get_or s 0 0) e))

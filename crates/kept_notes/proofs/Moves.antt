@@ -6,7 +6,7 @@ use mathlib.Core.Bool.{Bool, true, false}
 use mathlib.Core.List.{List, [], ◌∷◌, ◌++◌}
 use lib.ListN.{length, get_or, set, take, drop, length-append, take-append-drop}
 use lib.Seq.{slice, slice-cons, slice_empty, length-slice, sets, sets-eq, get_or-set_other, take-take, take-suc, drop-append-le, length-take-le}
-use Rattle.kept_notes.specs.Renewal.{sideWord}
+use Rattle.kept_notes.specs.Renewal.{side_word}
 use Rattle.language.proofs.Stores.{sets-append}
 use Rattle.slices.proofs.Still.{set-sets}
 
@@ -105,11 +105,11 @@ row-stored l at a b c d e =
 
 -- its second number
 
-pub side-taken : (rank : ℕ) (swap : Bool) → swap ≡ true → 2 * rank + 1 ≡ sideWord rank swap
-side-taken rank swap e = ap (sideWord rank) (sym e)
+pub side-taken : (rank : ℕ) (swap : Bool) → swap ≡ true → 2 * rank + 1 ≡ side_word rank swap
+side-taken rank swap e = ap (side_word rank) (sym e)
 
-pub side_left : (rank : ℕ) (swap : Bool) → swap ≡ false → 2 * rank ≡ sideWord rank swap
-side_left rank swap e = let z : 2 * rank + 0 ≡ 2 * rank = omega arith in sym z ∙ ap (sideWord rank) (sym e)
+pub side_left : (rank : ℕ) (swap : Bool) → swap ≡ false → 2 * rank ≡ side_word rank swap
+side_left rank swap e = let z : 2 * rank + 0 ≡ 2 * rank = omega arith in sym z ∙ ap (side_word rank) (sym e)
 
 -- ---- two runs of stores
 

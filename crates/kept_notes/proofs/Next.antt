@@ -7,15 +7,15 @@ use lib.ListN.{length, drop, length-append, length-drop}
 use Rattle.language.specs.declared.Signature.{Signature}
 use Rattle.language.specs.Limits.{desk}
 use Rattle.language.specs.Trees.{Conj}
-use Rattle.language.specs.Writing.{conjWords}
-use Rattle.language.specs.Fine.{fineConj}
+use Rattle.language.specs.Writing.{conj_words}
+use Rattle.language.specs.Fine.{fine_conj}
 use Rattle.views.specs.Standing.{Conjunction}
 use Rattle.notes.specs.Rows.{rows_of, Noted}
 use Rattle.notes.proofs.Rows.{length-rows, conj-long}
-use Rattle.kept_notes.specs.Renewal.{rowRoom}
+use Rattle.kept_notes.specs.Renewal.{row_room}
 
-pub noted-next : {σ : Signature} {k new : List ℕ} {n : ℕ} (old : List ℕ) → Conjunction k → length k ≤ desk.question → length old ≡ rowRoom
-    → ((c : Conj) → fineConj desk c → k ≡ conjWords c → (n ≡ length c) × (new ≡ rows_of σ c ++ drop (5 * length c) old)) → Noted σ k new n × (length new ≡ rowRoom)
+pub noted-next : {σ : Signature} {k new : List ℕ} {n : ℕ} (old : List ℕ) → Conjunction k → length k ≤ desk.question → length old ≡ row_room
+    → ((c : Conj) → fine_conj desk c → k ≡ conj_words c → (n ≡ length c) × (new ≡ rows_of σ c ++ drop (5 * length c) old)) → Noted σ k new n × (length new ≡ row_room)
 noted-next {σ} {k} {new} {n} old c h room e = (
   record {
     conj = c.conj;
@@ -31,7 +31,7 @@ noted-next {σ} {k} {new} {n} old c h room e = (
     left : (n ≡ length c.conj) × (new ≡ rows_of σ c.conj ++ drop (5 * length c.conj) old)
     left = e c.conj c.fine c.words
 
-    long : length new ≡ rowRoom
+    long : length new ≡ row_room
     long =
         let z = ap length left.1 ∙ length-append (rows_of σ c.conj) (drop (5 * length c.conj) old) in
         let y = length-rows σ c.conj in

@@ -8,12 +8,12 @@ use lib.Seq.{slice, sets}
 use Rattle.language.specs.declared.Signature.{Signature}
 use Rattle.language.specs.Limits.{desk}
 use Rattle.language.specs.Trees.{Literal, Conj}
-use Rattle.language.specs.Writing.{literalWords, conjWords}
-use Rattle.language.specs.Fine.{fineConj}
+use Rattle.language.specs.Writing.{literal_words, conj_words}
+use Rattle.language.specs.Fine.{fine_conj}
 use Rattle.language.proofs.Stores.{sets-append}
 use Rattle.rules.proofs.FineParts.{fine-split}
 use Rattle.words.proofs.Parts.{drop_of, part_of}
-use Rattle.rules.specs.Places.{noRule}
+use Rattle.rules.specs.Places.{no_rule}
 use Rattle.views.specs.Standing.{LiteralAt, SomeLiteral}
 use Rattle.views.proofs.Words.{words_append}
 use Rattle.views.proofs.LiteralWalks.{stands_here, literal-some}
@@ -30,11 +30,11 @@ pub record Noting (σ : Signature) (k : List ℕ) (from to number : ℕ) (old ne
   pub done : Conj
   pub rest : Conj
   pub behind : Conj
-  pub fine : fineConj desk ((before ++ done) ++ (rest ++ behind))
-  pub words : k ≡ conjWords ((before ++ done) ++ (rest ++ behind))
-  pub start : from ≡ length (conjWords before)
-  pub here : i ≡ from + length (conjWords done)
-  pub end : to ≡ i + length (conjWords rest)
+  pub fine : fine_conj desk ((before ++ done) ++ (rest ++ behind))
+  pub words : k ≡ conj_words ((before ++ done) ++ (rest ++ behind))
+  pub start : from ≡ length (conj_words before)
+  pub here : i ≡ from + length (conj_words done)
+  pub end : to ≡ i + length (conj_words rest)
   pub count : number ≡ length before
   pub nth : t ≡ number + length done
   pub rows : new ≡ sets old (5 * number) (rows_of σ done)
@@ -45,8 +45,8 @@ none-noted σ k from to number rows p = record {
   done = [];
   rest = p.part;
   behind = p.behind;
-  fine = subst (λ c. fineConj desk (c ++ (p.part ++ p.behind))) (sym (append-nil p.before)) p.fine;
-  words = p.words ∙ ap (λ c. conjWords (c ++ (p.part ++ p.behind))) (sym (append-nil p.before));
+  fine = subst (λ c. fine_conj desk (c ++ (p.part ++ p.behind))) (sym (append-nil p.before)) p.fine;
+  words = p.words ∙ ap (λ c. conj_words (c ++ (p.part ++ p.behind))) (sym (append-nil p.before));
   start = p.start;
   here = omega arith;
   end = p.end;
@@ -56,24 +56,24 @@ none-noted σ k from to number rows p = record {
 }
 
 module _ {σ : Signature} {k : List ℕ} {from to number : ℕ} {old new : List ℕ} {i t : ℕ} (w : Noting σ k from to number old new i t) where
-  place : i ≡ length (conjWords (w.before ++ w.done))
-  place = let z = ap length (words_append w.before w.done) ∙ length-append (conjWords w.before) (conjWords w.done) in let x = w.start in let y = w.here in omega arith
+  place : i ≡ length (conj_words (w.before ++ w.done))
+  place = let z = ap length (words_append w.before w.done) ∙ length-append (conj_words w.before) (conj_words w.done) in let x = w.start in let y = w.here in omega arith
 
   -- what is shown of the literal that stands here
   noting-here : (Q : Type 0) → i < to → ((l : Literal) (rest : Conj) → w.rest ≡ l ∷ rest → LiteralAt k i (w.before ++ w.done) l (rest ++ w.behind) → Q) → Q
   noting-here Q h f = go w.rest refl
     where
       go : (rest : Conj) → w.rest ≡ rest → Q
-      go [] e = absurd (let z = ap (λ c. length (conjWords c)) e in let y = w.end in omega arith)
+      go [] e = absurd (let z = ap (λ c. length (conj_words c)) e in let y = w.end in omega arith)
       go (l ∷ rest) e = f l rest e (stands_here k ((w.before ++ w.done) ++ (w.rest ++ w.behind)) w.fine w.words i (w.before ++ w.done) l (rest ++ w.behind) (ap (λ c. (w.before ++ w.done) ++ (c ++ w.behind)) e) place)
 
   pub noting-literal : i < to → SomeLiteral k i
   noting-literal h = noting-here (SomeLiteral k i) h (λ l rest e s. record { before = w.before ++ w.done; l = l; behind = rest ++ w.behind; stands = s })
 
-  sizes : length k ≡ length (conjWords (w.before ++ w.done)) + (length (conjWords w.rest) + length (conjWords w.behind))
+  sizes : length k ≡ length (conj_words (w.before ++ w.done)) + (length (conj_words w.rest) + length (conj_words w.behind))
   sizes =
-      ap length (w.words ∙ words_append (w.before ++ w.done) (w.rest ++ w.behind)) ∙ length-append (conjWords (w.before ++ w.done)) (conjWords (w.rest ++ w.behind))
-      ∙ ap (λ n. length (conjWords (w.before ++ w.done)) + n) (ap length (words_append w.rest w.behind) ∙ length-append (conjWords w.rest) (conjWords w.behind))
+      ap length (w.words ∙ words_append (w.before ++ w.done) (w.rest ++ w.behind)) ∙ length-append (conj_words (w.before ++ w.done)) (conj_words (w.rest ++ w.behind))
+      ∙ ap (λ n. length (conj_words (w.before ++ w.done)) + n) (ap length (words_append w.rest w.behind) ∙ length-append (conj_words w.rest) (conj_words w.behind))
 
   pub noting-within : to ≤ length k
   noting-within = let z = sizes in let p = place in let e = w.end in omega arith
@@ -85,14 +85,14 @@ module _ {σ : Signature} {k : List ℕ} {from to number : ℕ} {old new : List 
       let z = place in let x = noting-within in let c = w.count in let d = w.nth in omega arith
 
   module _ (h : i < to) (n : Note) (note : (before : Conj) (l : Literal) (behind : Conj) → LiteralAt k i before l behind → n ≡ note_of σ l) where
-    pub noting-low : n.rank ≤ noRule
-    noting-low = noting-here (n.rank ≤ noRule) h (λ l rest e s. let r = ap (λ (m : Note). m.rank) (note _ l _ s) in let z = rank-low σ l in omega arith)
+    pub noting-low : n.rank ≤ no_rule
+    noting-low = noting-here (n.rank ≤ no_rule) h (λ l rest e s. let r = ap (λ (m : Note). m.rank) (note _ l _ s) in let z = rank-low σ l in omega arith)
 
     pub noting-long : (0 < n.len) × (i + n.len ≤ to)
     noting-long = noting-here ((0 < n.len) × (i + n.len ≤ to)) h (λ l rest e s.
         let len = ap (λ (m : Note). m.len) (note _ l _ s) ∙ note-len σ l in
         let some = literal-some l in
-        let all = ap (λ c. length (conjWords c)) e ∙ length-append (literalWords l) (conjWords rest) in
+        let all = ap (λ c. length (conj_words c)) e ∙ length-append (literal_words l) (conj_words rest) in
         let end = w.end in
         (omega arith, omega arith))
 
@@ -102,9 +102,9 @@ module _ {σ : Signature} {k : List ℕ} {from to number : ℕ} {old new : List 
         next : (l : Literal) (rest : Conj) → w.rest ≡ l ∷ rest → n ≡ note_of σ l → Noting σ k from to number old new' (i + x) (t + 1)
         next l rest e m =
             let len = ap (λ (m : Note). m.len) m ∙ note-len σ l in
-            let all = ap (λ c. length (conjWords c)) e ∙ length-append (literalWords l) (conjWords rest) in
-            let more = ap length (words_append w.done (l ∷ [])) ∙ length-append (conjWords w.done) (conjWords (l ∷ [])) in
-            let own = ap length (append-nil (literalWords l)) in
+            let all = ap (λ c. length (conj_words c)) e ∙ length-append (literal_words l) (conj_words rest) in
+            let more = ap length (words_append w.done (l ∷ [])) ∙ length-append (conj_words w.done) (conj_words (l ∷ [])) in
+            let own = ap length (append-nil (literal_words l)) in
             let end = w.end in
             let here = w.here in
             let nth = w.nth in
@@ -116,8 +116,8 @@ module _ {σ : Signature} {k : List ℕ} {from to number : ℕ} {old new : List 
               done = w.done ++ (l ∷ []);
               rest = rest;
               behind = w.behind;
-              fine = subst (fineConj desk) whole w.fine;
-              words = w.words ∙ ap conjWords whole;
+              fine = subst (fine_conj desk) whole w.fine;
+              words = w.words ∙ ap conj_words whole;
               start = w.start;
               here = omega arith;
               end = omega arith;
@@ -131,15 +131,15 @@ module _ {σ : Signature} {k : List ℕ} {from to number : ℕ} {old new : List 
             }
 
   -- the words of what is noted
-  so_far : slice from i k ≡ conjWords w.done
+  so_far : slice from i k ≡ conj_words w.done
   so_far =
-      part_of k from i (conjWords w.done) (conjWords (w.rest ++ w.behind))
-      (drop_of k 0 from (conjWords w.before) (conjWords w.done ++ conjWords (w.rest ++ w.behind)) whole (let z = w.start in omega arith)) w.here
+      part_of k from i (conj_words w.done) (conj_words (w.rest ++ w.behind))
+      (drop_of k 0 from (conj_words w.before) (conj_words w.done ++ conj_words (w.rest ++ w.behind)) whole (let z = w.start in omega arith)) w.here
     where
-      whole : k ≡ conjWords w.before ++ (conjWords w.done ++ conjWords (w.rest ++ w.behind))
+      whole : k ≡ conj_words w.before ++ (conj_words w.done ++ conj_words (w.rest ++ w.behind))
       whole =
-          w.words ∙ words_append (w.before ++ w.done) (w.rest ++ w.behind) ∙ ap (λ ws. ws ++ conjWords (w.rest ++ w.behind)) (words_append w.before w.done)
-          ∙ append_assoc (conjWords w.before) (conjWords w.done) (conjWords (w.rest ++ w.behind))
+          w.words ∙ words_append (w.before ++ w.done) (w.rest ++ w.behind) ∙ ap (λ ws. ws ++ conj_words (w.rest ++ w.behind)) (words_append w.before w.done)
+          ∙ append_assoc (conj_words w.before) (conj_words w.done) (conj_words (w.rest ++ w.behind))
 
   pub all_noted : to ≤ i → PartNoted σ k from to number old new
   all_noted h = record { part = w.done; fine = (fine-split desk w.before w.done (fine-split desk (w.before ++ w.done) (w.rest ++ w.behind) w.fine).0).1; words = (let e = w.end in let z : to ≡ i = omega arith in ap (λ n. slice from n k) z ∙ so_far); rows = w.rows }

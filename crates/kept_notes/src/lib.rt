@@ -5,12 +5,12 @@ ghost use Rattle.std.proofs.Math.Seq.{slice};
 ghost use Rattle.std.proofs.lemmas.List.Edits.{sets};
 ghost use Rattle.language.specs.Limits.{desk};
 ghost use Rattle.language.specs.Trees.{Conj};
-ghost use Rattle.language.specs.Writing.{conjWords};
-ghost use Rattle.language.specs.Fine.{fineConj};
+ghost use Rattle.language.specs.Writing.{conj_words};
+ghost use Rattle.language.specs.Fine.{fine_conj};
 ghost use Rattle.views.specs.Standing.{Conjunction};
-ghost use Rattle.rules.specs.Places.{noRule};
-ghost use Rattle.notes.specs.Rows.{mostNotes, row_of, rows_of};
-ghost use Rattle.kept_notes.specs.Renewal.{rowRoom, marked, marks, lens, sideWord, NotedBefore, Part, PartNoted};
+ghost use Rattle.rules.specs.Places.{no_rule};
+ghost use Rattle.notes.specs.Rows.{most_notes, row_of, rows_of};
+ghost use Rattle.kept_notes.specs.Renewal.{row_room, marked, marks, lens, side_word, NotedBefore, Part, PartNoted};
 
 use language::{Signature, wide};
 use literal_notes::note_at;
@@ -18,15 +18,15 @@ use notes::{Note, ROW, ROWS, len_of};
 
 // A rank and the side that it is seen from, as one number.
 fn with_side(rank: u16, swap: bool) -> u16
-    requires { rank ≤ noRule }
-    ensures { result ≡ sideWord rank swap }
+    requires { rank ≤ no_rule }
+    ensures { result ≡ side_word rank swap }
 {
     if swap { 2 * rank + 1 } else { 2 * rank }
 }
 
 // A note in its row.
 fn put_note(rows: &mut [u16; ROWS], i: usize, n: Note)
-    requires { (i < mostNotes) × (n.rank ≤ noRule) }
+    requires { (i < most_notes) × (n.rank ≤ no_rule) }
     ensures { rows.new ≡ sets rows.old (5 * i) (row_of n) }
 {
     let at = ROW * i;
@@ -40,7 +40,7 @@ fn put_note(rows: &mut [u16; ROWS], i: usize, n: Note)
 
 // The numbers from..to moved up so far, the last first.
 fn move_up(rows: &mut [u16; ROWS], from: usize, to: usize, far: usize)
-    requires { (from ≤ to) × (to + far ≤ rowRoom) × (length rows.old ≡ rowRoom) }
+    requires { (from ≤ to) × (to + far ≤ row_room) × (length rows.old ≡ row_room) }
     ensures { rows.new ≡ sets rows.old (from + far) (slice from to rows.old) }
 {
     let mut i = to;
@@ -52,7 +52,7 @@ fn move_up(rows: &mut [u16; ROWS], from: usize, to: usize, far: usize)
 
 // The numbers from..to moved down so far, the first first.
 fn move_down(rows: &mut [u16; ROWS], from: usize, to: usize, far: usize)
-    requires { (from ≤ to) × (to ≤ rowRoom) × (far ≤ from) × (length rows.old ≡ rowRoom) }
+    requires { (from ≤ to) × (to ≤ row_room) × (far ≤ from) × (length rows.old ≡ row_room) }
     ensures { rows.new ≡ sets rows.old (from - far) (slice from to rows.old) }
 {
     let mut i = from;
@@ -64,7 +64,7 @@ fn move_down(rows: &mut [u16; ROWS], from: usize, to: usize, far: usize)
 
 // The rows from..m moved so that they begin at the row `to`.
 fn shift(rows: &mut [u16; ROWS], from: usize, m: usize, to: usize)
-    requires { (from ≤ m) × (m ≤ mostNotes) × (to + m ≤ from + mostNotes) × (length rows.old ≡ rowRoom) }
+    requires { (from ≤ m) × (m ≤ most_notes) × (to + m ≤ from + most_notes) × (length rows.old ≡ row_room) }
     ensures { rows.new ≡ sets rows.old (5 * to) (slice (5 * from) (5 * m) rows.old) }
 {
     if from < to {
@@ -85,7 +85,7 @@ struct Stretch {
 
 // The first of m literals that lie within so many words.
 fn within_front(rows: &[u16; ROWS], m: usize, front: usize) -> Stretch
-    requires { (m ≤ mostNotes) × (front ≤ desk.question) }
+    requires { (m ≤ most_notes) × (front ≤ desk.question) }
     ensures { (result.literals ≤ m) × (result.words ≤ front) × (result.words ≡ lens rows.now 0 result.literals) }
 {
     let mut i = 0;
@@ -103,7 +103,7 @@ fn within_front(rows: &[u16; ROWS], m: usize, front: usize) -> Stretch
 
 // The last of m literals, at most so many, that lie within so many words.
 fn within_back(rows: &[u16; ROWS], m: usize, most: usize, back: usize) -> Stretch
-    requires { (most ≤ m) × (m ≤ mostNotes) × (back ≤ desk.question) }
+    requires { (most ≤ m) × (m ≤ most_notes) × (back ≤ desk.question) }
     ensures { (result.literals ≤ most) × (result.words ≤ back) × (result.words ≡ lens rows.now (m - result.literals) result.literals) }
 {
     let mut i = 0;
@@ -172,7 +172,7 @@ pub fn renew(
     requires k_len_bound { length k.now ≤ desk.question }
     requires conjunction { Conjunction k.now }
     requires noted_before { NotedBefore s k.now front back rows.old m }
-    ensures { (c : Conj) → fineConj desk c → k.now ≡ conjWords c → (result ≡ length c) × (rows.new ≡ rows_of s c ++ drop (5 * length c) rows.old) }
+    ensures { (c : Conj) → fine_conj desk c → k.now ≡ conj_words c → (result ≡ length c) × (rows.new ≡ rows_of s c ++ drop (5 * length c) rows.old) }
 {
     let a = within_front(rows, m, front);
     let f = a.literals;

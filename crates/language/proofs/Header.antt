@@ -7,14 +7,14 @@ use native.Mathlib.Omega.{arith}
 use lib.Dec.{leb}
 use lib.ListN.{get_or}
 use borrow.Author.Tests.{leb-true, leb-false, le-leb, lt-leb}
-use Rattle.language.specs.Question.{countsOf}
+use Rattle.language.specs.Question.{counts_of}
 
 -- "symbols + 256 times u"
-pub first-word : (s u : ℕ) (ws : List ℕ) → s < 256 → ((countsOf ((s + 256 * u) ∷ ws)).symbols ≡ s) × ((countsOf ((s + 256 * u) ∷ ws)).unordered ≡ u)
+pub first-word : (s u : ℕ) (ws : List ℕ) → s < 256 → ((counts_of ((s + 256 * u) ∷ ws)).symbols ≡ s) × ((counts_of ((s + 256 * u) ∷ ws)).unordered ≡ u)
 first-word s u ws b = (omega arith, omega arith)
 
 -- a question as it was written before there were unordered symbols
-pub first-word-before : (ws : List ℕ) → get_or ws 0 0 < 256 → ((countsOf ws).symbols ≡ get_or ws 0 0) × ((countsOf ws).unordered ≡ 0)
+pub first-word-before : (ws : List ℕ) → get_or ws 0 0 < 256 → ((counts_of ws).symbols ≡ get_or ws 0 0) × ((counts_of ws).unordered ≡ 0)
 first-word-before ws b = (omega arith, omega arith)
 
 -- of so many symbols f is one of the last u: counted from f to the end, or from the first on

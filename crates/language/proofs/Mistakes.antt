@@ -15,11 +15,11 @@ use Rattle.language.specs.Limits.{Limits}
 use Rattle.language.specs.Kinds.{pick}
 use Rattle.language.specs.Numbers.{number_of, place_of}
 use Rattle.language.specs.Trees.{Conj, Counts}
-use Rattle.language.specs.Reading.{Got, got, stop, readConj}
-use Rattle.language.specs.Question.{laidOut, parts, countsOf, alternativesOf, lengthFits, countsFit, declaredQ, withConj, read_all, body_at, refuses, readQuestion}
+use Rattle.language.specs.Reading.{Got, got, stop, read_conj}
+use Rattle.language.specs.Question.{laid_out, parts, counts_of, alternatives_of, length_fits, counts_fit, declared_q, with_conj, read_all, body_at, refuses, read_question}
 use Rattle.language.specs.Between.{between}
-use Rattle.language.specs.Undeclared.{declaredWord, declaredWords, undeclaredAt}
-use Rattle.language.specs.Mistakes.{AreLiterals, Continue, alternativeAt, BrokenAt, UndeclaredIn, RightPlace}
+use Rattle.language.specs.Undeclared.{declared_word, declared_words, undeclared_at}
+use Rattle.language.specs.Mistakes.{AreLiterals, Continue, alternative_at, BrokenAt, UndeclaredIn, RightPlace}
 use Rattle.language.proofs.Laws.{conjunctions-read}
 use Rattle.language.proofs.Offsets.{length-between, part-is, lengths, table-count, table-part, table-offset}
 use Rattle.language.proofs.Alternatives.{question-declared}
@@ -31,20 +31,20 @@ record Halted (L : Limits) (ps : List (List ℕ)) (n : ℕ) : Type 0 where
   part : ℕ
   more : ℕ
   there : part < length ps
-  stops : readConj L (get_or ps part []) ≡ stop more
+  stops : read_conj L (get_or ps part []) ≡ stop more
   sum : n ≡ lengths (take part ps) + more
   before : (i : ℕ) → i < part → AreLiterals L (get_or ps i [])
 
 module _ (L : Limits) where
   halted : (ps : List (List ℕ)) (n : ℕ) → read_all L ps ≡ stop n → Halted L ps n
   halted [] n e = absurd (let z : ◌≡◌ {A = ℕ} 0 1 = cc in omega arith)
-  halted (p ∷ ps) n e = on (readConj L p) refl (read_all L ps) (halted ps) e
+  halted (p ∷ ps) n e = on (read_conj L p) refl (read_all L ps) (halted ps) e
     where
-      behind-first : (k : Conj) (m : ℕ) → readConj L p ≡ got k m → (r : ℕ) → ((i : ℕ) → i < r → AreLiterals L (get_or ps i [])) → (i : ℕ) → i < suc r → AreLiterals L (get_or (p ∷ ps) i [])
+      behind-first : (k : Conj) (m : ℕ) → read_conj L p ≡ got k m → (r : ℕ) → ((i : ℕ) → i < r → AreLiterals L (get_or ps i [])) → (i : ℕ) → i < suc r → AreLiterals L (get_or (p ∷ ps) i [])
       behind-first k m i r h zero q = let f = (conjunctions-read L).found p k m i in record { literals = k; fine = f.0; words = f.2 }
       behind-first k m i r h (suc j) q = h j (omega arith)
 
-      on : (g : Got Conj) → readConj L p ≡ g → (o : Got (List Conj)) → ((j : ℕ) → o ≡ stop j → Halted L ps j) → withConj g o ≡ stop n → Halted L (p ∷ ps) n
+      on : (g : Got Conj) → read_conj L p ≡ g → (o : Got (List Conj)) → ((j : ℕ) → o ≡ stop j → Halted L ps j) → with_conj g o ≡ stop n → Halted L (p ∷ ps) n
       on (got k m) i (got js j) h e = absurd (let z : ◌≡◌ {A = ℕ} 0 1 = cc in omega arith)
       on (got k m) i (stop j) h e =
           let f = (conjunctions-read L).found p k m i in
@@ -64,13 +64,13 @@ module _ (L : Limits) where
 -- ---- 5
 
 module _ (L : Limits) where
-  no_words : {A : Type 0} (ws : List ℕ) (n : ℕ) → readConj L ws ≡ stop n → AreLiterals L ws → A
+  no_words : {A : Type 0} (ws : List ℕ) (n : ℕ) → read_conj L ws ≡ stop n → AreLiterals L ws → A
   no_words ws n e a =
-      let b = ap (readConj L) a.words ∙ (conjunctions-read L).read_back a.literals a.fine in
+      let b = ap (read_conj L) a.words ∙ (conjunctions-read L).read_back a.literals a.fine in
       absurd (let z : ◌≡◌ {A = ℕ} 0 1 = cc in omega arith)
 
   -- a part whose reading stops
-  module _ (ws : List ℕ) (from to more : ℕ) (low : from ≤ to) (high : to ≤ length ws) (e : readConj L (between from to ws) ≡ stop more) where
+  module _ (ws : List ℕ) (from to more : ℕ) (low : from ≤ to) (high : to ≤ length ws) (e : read_conj L (between from to ws) ≡ stop more) where
     within : from + more ≤ to
     within = omega (arith, ((conjunctions-read L).goes_on (between from to ws) more e).0, length-between from to ws high)
 
@@ -89,14 +89,14 @@ module _ (L : Limits) where
     part-no-further : (at : ℕ) → at ≡ from + more → at < to → ¬ Continue L (between from (at + 1) ws)
     part-no-further at p q c =
         no_words (between from (at + 1) ws ++ c.rest) more
-        (ap (λ us. readConj L (us ++ c.rest)) (up_to (at + 1) (suc more) (omega arith) (omega arith))
+        (ap (λ us. read_conj L (us ++ c.rest)) (up_to (at + 1) (suc more) (omega arith) (omega arith))
         ∙ (conjunctions-read L).no-further (between from to ws) more e (omega (arith, length-between from to ws high)) c.rest)
         c.complete
 
-  module _ (ws : List ℕ) (laid : laidOut 5 (alternativesOf ws) ws ≡ true) where
-    broken : (n at : ℕ) → read_all L (parts 5 (alternativesOf ws) ws) ≡ stop n → at ≡ body_at ws + n → BrokenAt L ws at
+  module _ (ws : List ℕ) (laid : laid_out 5 (alternatives_of ws) ws ≡ true) where
+    broken : (n at : ℕ) → read_all L (parts 5 (alternatives_of ws) ws) ≡ stop n → at ≡ body_at ws + n → BrokenAt L ws at
     broken n at e a =
-        let c = alternativesOf ws in
+        let c = alternatives_of ws in
         let ps = parts 5 c ws in
         let h = halted L ps n e in
         let i = h.part in
@@ -104,7 +104,7 @@ module _ (L : Limits) where
         let p = table-part 5 c ws laid i (5 + i) (6 + i) there refl (omega arith) in
         let from = get_or ws (5 + i) 0 in
         let to = get_or ws (6 + i) 0 in
-        let stops : readConj L (between from to ws) ≡ stop h.more = ap (readConj L) (sym (part-is p)) ∙ h.stops in
+        let stops : read_conj L (between from to ws) ≡ stop h.more = ap (read_conj L) (sym (part-is p)) ∙ h.stops in
         let place : at ≡ from + h.more = omega (arith, a, h.sum, table-offset 5 c ws laid i (5 + i) (omega arith) refl) in
         record {
           alternative = i;
@@ -124,80 +124,80 @@ module _ (L : Limits) (n : Counts) where
   -- the first of words that are not all declared
   record First (ws : List ℕ) (at : ℕ) : Type 0 where
     inside : at < length ws
-    before : (i : ℕ) → i < at → declaredWord L n (get_or ws i 0) ≡ true
-    here : declaredWord L n (get_or ws at 0) ≡ false
+    before : (i : ℕ) → i < at → declared_word L n (get_or ws i 0) ≡ true
+    here : declared_word L n (get_or ws at 0) ≡ false
 
-  first : (ws : List ℕ) → declaredWords L n ws ≡ false → First ws (undeclaredAt L n ws)
-  unfolding declaredWords undeclaredAt
+  first : (ws : List ℕ) → declared_words L n ws ≡ false → First ws (undeclared_at L n ws)
+  unfolding declared_words undeclared_at
   first [] e = absurd (let z : ◌≡◌ {A = ℕ} 0 1 = cc in omega arith)
-  first (w ∷ ws) e = on (first ws) (declaredWord L n w) refl e
+  first (w ∷ ws) e = on (first ws) (declared_word L n w) refl e
     where
-      later : declaredWord L n w ≡ true → First ws (undeclaredAt L n ws) → (i : ℕ) → i < suc (undeclaredAt L n ws) → declaredWord L n (get_or (w ∷ ws) i 0) ≡ true
+      later : declared_word L n w ≡ true → First ws (undeclared_at L n ws) → (i : ℕ) → i < suc (undeclared_at L n ws) → declared_word L n (get_or (w ∷ ws) i 0) ≡ true
       later d f zero q = d
       later d f (suc i) q = f.before i (omega arith)
 
-      on : (declaredWords L n ws ≡ false → First ws (undeclaredAt L n ws)) → (b : Bool) → declaredWord L n w ≡ b → (b && declaredWords L n ws) ≡ false
-          → First (w ∷ ws) (pick b (suc (undeclaredAt L n ws)) 0)
+      on : (declared_words L n ws ≡ false → First ws (undeclared_at L n ws)) → (b : Bool) → declared_word L n w ≡ b → (b && declared_words L n ws) ≡ false
+          → First (w ∷ ws) (pick b (suc (undeclared_at L n ws)) 0)
       on h true d e = let f = h e in record { inside = omega (arith, f.inside); before = later d f; here = f.here }
       on h false d e = record { inside = omega arith; before = λ i q. absurd (omega arith); here = d }
 
-module _ (L : Limits) (ws : List ℕ) (laid : laidOut 5 (alternativesOf ws) ws ≡ true) where
-  undeclared : (ks : List Conj) (m at : ℕ) → read_all L (parts 5 (alternativesOf ws) ws) ≡ got ks m → declaredQ (countsOf ws) ks ≡ false
-      → at ≡ body_at ws + undeclaredAt L (countsOf ws) (drop (body_at ws) ws) → UndeclaredIn L ws at
+module _ (L : Limits) (ws : List ℕ) (laid : laid_out 5 (alternatives_of ws) ws ≡ true) where
+  undeclared : (ks : List Conj) (m at : ℕ) → read_all L (parts 5 (alternatives_of ws) ws) ≡ got ks m → declared_q (counts_of ws) ks ≡ false
+      → at ≡ body_at ws + undeclared_at L (counts_of ws) (drop (body_at ws) ws) → UndeclaredIn L ws at
   undeclared ks m at r d a =
-      let n = countsOf ws in
+      let n = counts_of ws in
       let body = body_at ws in
-      let j = undeclaredAt L n (drop body ws) in
-      let same : 5 + alternativesOf ws + 1 ≡ body = omega arith in
-      let f = first L n (drop body ws) (ap (λ b. declaredWords L n (drop b ws)) (sym same) ∙ question-declared L (alternativesOf ws) ws laid n ks m r ∙ d) in
+      let j = undeclared_at L n (drop body ws) in
+      let same : 5 + alternatives_of ws + 1 ≡ body = omega arith in
+      let f = first L n (drop body ws) (ap (λ b. declared_words L n (drop b ws)) (sym same) ∙ question-declared L (alternatives_of ws) ws laid n ks m r ∙ d) in
       record {
         low = omega arith;
         high = omega (arith, f.inside, length-drop body ws);
         before = λ i p q.
-            ap (λ k. declaredWord L n (get_or ws k 0)) (let z : i ≡ body + (i - body) = omega arith in z)
-            ∙ ap (declaredWord L n) (sym (get_or-drop body ws (i - body) 0)) ∙ f.before (i - body) (omega arith);
-        here = ap (λ k. declaredWord L n (get_or ws k 0)) a ∙ ap (declaredWord L n) (sym (get_or-drop body ws j 0)) ∙ f.here;
+            ap (λ k. declared_word L n (get_or ws k 0)) (let z : i ≡ body + (i - body) = omega arith in z)
+            ∙ ap (declared_word L n) (sym (get_or-drop body ws (i - body) 0)) ∙ f.before (i - body) (omega arith);
+        here = ap (λ k. declared_word L n (get_or ws k 0)) a ∙ ap (declared_word L n) (sym (get_or-drop body ws j 0)) ∙ f.here;
       }
 
 -- ---- every refusal
 
 module _ (L : Limits) (ws : List ℕ) where
   -- The place of a refusal is the right one.
-  pub place-right : (r : Refusal) → readQuestion L ws ≡ refuses r → RightPlace L ws r
-  place-right r e = on-length (lengthFits L ws) refl
+  pub place-right : (r : Refusal) → read_question L ws ≡ refuses r → RightPlace L ws r
+  place-right r e = on-length (length_fits L ws) refl
     where
       -- it is this one
-      is : (s : Refusal) → readQuestion L ws ≡ refuses s → RightPlace L ws s → RightPlace L ws r
+      is : (s : Refusal) → read_question L ws ≡ refuses s → RightPlace L ws s → RightPlace L ws r
       is s f h = subst (RightPlace L ws) (let z : s ≡ r = cc in z) h
 
       -- one that has no place
-      none : (s : Refusal) → readQuestion L ws ≡ refuses s → place_of s ≡ 0 → ¬ (number_of s ≡ 5) → ¬ (number_of s ≡ 6) → RightPlace L ws r
+      none : (s : Refusal) → read_question L ws ≡ refuses s → place_of s ≡ 0 → ¬ (number_of s ≡ 5) → ¬ (number_of s ≡ 6) → RightPlace L ws r
       none s f p n m = is s f (record { five = λ z. absurd (n z); six = λ z. absurd (m z); others = λ _ _. p })
 
-      on-declared : (l : lengthFits L ws ≡ true) (c : countsFit L (countsOf ws) (alternativesOf ws) ≡ true) (o : laidOut 5 (alternativesOf ws) ws ≡ true) (ks : List Conj) (m : ℕ)
-          → read_all L (parts 5 (alternativesOf ws) ws) ≡ got ks m → (b : Bool) → declaredQ (countsOf ws) ks ≡ b → RightPlace L ws r
+      on-declared : (l : length_fits L ws ≡ true) (c : counts_fit L (counts_of ws) (alternatives_of ws) ≡ true) (o : laid_out 5 (alternatives_of ws) ws ≡ true) (ks : List Conj) (m : ℕ)
+          → read_all L (parts 5 (alternatives_of ws) ws) ≡ got ks m → (b : Bool) → declared_q (counts_of ws) ks ≡ b → RightPlace L ws r
       on-declared l c o ks m g false d =
           is _ (not-declared L ws l c o ks m g d)
           (record { five = λ z. absurd (omega arith); six = λ _. undeclared L ws o ks m _ g d refl; others = λ _ z. absurd (z refl) })
       on-declared l c o ks m g true d = let f = asked L ws l c o ks m g d in absurd (let z : ◌≡◌ {A = ℕ} 0 1 = cc in omega arith)
 
-      on_read : (l : lengthFits L ws ≡ true) (c : countsFit L (countsOf ws) (alternativesOf ws) ≡ true) (o : laidOut 5 (alternativesOf ws) ws ≡ true)
-          → (g : Got (List Conj)) → read_all L (parts 5 (alternativesOf ws) ws) ≡ g → RightPlace L ws r
+      on_read : (l : length_fits L ws ≡ true) (c : counts_fit L (counts_of ws) (alternatives_of ws) ≡ true) (o : laid_out 5 (alternatives_of ws) ws ≡ true)
+          → (g : Got (List Conj)) → read_all L (parts 5 (alternatives_of ws) ws) ≡ g → RightPlace L ws r
       on_read l c o (stop m) g =
           is _ (bad-literals L ws l c o m g) (record { five = λ _. broken L ws o m _ g refl; six = λ z. absurd (omega arith); others = λ z _. absurd (z refl) })
-      on_read l c o (got ks m) g = on-declared l c o ks m g (declaredQ (countsOf ws) ks) refl
+      on_read l c o (got ks m) g = on-declared l c o ks m g (declared_q (counts_of ws) ks) refl
 
-      on-laid : (l : lengthFits L ws ≡ true) (c : countsFit L (countsOf ws) (alternativesOf ws) ≡ true) (b : Bool) → laidOut 5 (alternativesOf ws) ws ≡ b → RightPlace L ws r
+      on-laid : (l : length_fits L ws ≡ true) (c : counts_fit L (counts_of ws) (alternatives_of ws) ≡ true) (b : Bool) → laid_out 5 (alternatives_of ws) ws ≡ b → RightPlace L ws r
       on-laid l c false o = none BadOffset (bad-offset L ws l c o) refl (λ z. omega arith) (λ z. omega arith)
-      on-laid l c true o = on_read l c o (read_all L (parts 5 (alternativesOf ws) ws)) refl
+      on-laid l c true o = on_read l c o (read_all L (parts 5 (alternatives_of ws) ws)) refl
 
-      on-counts : (l : lengthFits L ws ≡ true) (b : Bool) → countsFit L (countsOf ws) (alternativesOf ws) ≡ b → RightPlace L ws r
+      on-counts : (l : length_fits L ws ≡ true) (b : Bool) → counts_fit L (counts_of ws) (alternatives_of ws) ≡ b → RightPlace L ws r
       on-counts l false c = none CountRange (bad-counts L ws l c) refl (λ z. omega arith) (λ z. omega arith)
-      on-counts l true c = on-laid l c (laidOut 5 (alternativesOf ws) ws) refl
+      on-counts l true c = on-laid l c (laid_out 5 (alternatives_of ws) ws) refl
 
-      on-length : (b : Bool) → lengthFits L ws ≡ b → RightPlace L ws r
+      on-length : (b : Bool) → length_fits L ws ≡ b → RightPlace L ws r
       on-length false l = none QuestionLength (bad-length L ws l) refl (λ z. omega arith) (λ z. omega arith)
-      on-length true l = on-counts l (countsFit L (countsOf ws) (alternativesOf ws)) refl
+      on-length true l = on-counts l (counts_fit L (counts_of ws) (alternatives_of ws)) refl
 
 -- ---- there is no other such place
 
@@ -236,14 +236,14 @@ between-shorter L ws from n to p c =
 
 module _ (L : Limits) (ws : List ℕ) where
   -- an alternative that has such a place is no literals
-  never-whole : (at : ℕ) (b : BrokenAt L ws at) → ¬ AreLiterals L (alternativeAt b.alternative ws)
+  never-whole : (at : ℕ) (b : BrokenAt L ws at) → ¬ AreLiterals L (alternative_at b.alternative ws)
   never-whole at b a =
       let from = get_or ws (5 + b.alternative) 0 in
       let to = get_or ws (6 + b.alternative) 0 in
       elim (le-cases at to b.high) [
         | inl p ↦
             b.no-further p
-            (subst (Continue L) (take-take (at + 1 - from) (to - from) (drop from ws) (omega arith)) (beginning L (alternativeAt b.alternative ws) (at + 1 - from) a))
+            (subst (Continue L) (take-take (at + 1 - from) (to - from) (drop from ws) (omega arith)) (beginning L (alternative_at b.alternative ws) (at + 1 - from) a))
         | inr p ↦ b.breaks-off p a
       ]
 

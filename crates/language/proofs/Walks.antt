@@ -5,7 +5,7 @@ use mathlib.Core.List.{List, [], ◌∷◌}
 use Prim.Native.Nat.{ℕ, suc, ◌+◌, ◌-◌, ◌<◌, ◌≤◌}
 use native.Mathlib.Omega.{arith}
 use lib.ListN.{length, drop, get_or, drop_of_length-le}
-use Rattle.language.specs.Question.{laidOut, parts}
+use Rattle.language.specs.Question.{laid_out, parts}
 use Rattle.language.specs.Between.{between}
 use Rattle.language.proofs.Offsets.{laid-length, laid-begins, Part, table-count, table-part}
 
@@ -13,13 +13,13 @@ use Rattle.language.proofs.Offsets.{laid-length, laid-begins, Part, table-count,
 module _ {A : Type 0} (result : ℕ → ℕ → List (List ℕ) → A) (head n : ℕ) (ws : List ℕ) where
   -- the next part begins at `from` and ends at the offset that stands at `at`; those from it on decide
   pub record Walk (at from : ℕ) : Type 0 where
-    pub laid : laidOut head n ws ≡ true
+    pub laid : laid_out head n ws ≡ true
     pub low : head + 1 ≤ at
     pub high : at ≤ head + n + 1
     pub start : from ≡ get_or ws (at - 1) 0
     pub left : result (at - (head + 1)) from (drop (at - (head + 1)) (parts head n ws)) ≡ result 0 (head + n + 1) (parts head n ws)
 
-  pub walk-starts : (at from : ℕ) → laidOut head n ws ≡ true → at ≡ head + 1 → from ≡ head + n + 1 → Walk at from
+  pub walk-starts : (at from : ℕ) → laid_out head n ws ≡ true → at ≡ head + 1 → from ≡ head + n + 1 → Walk at from
   walk-starts at from l a f = record {
     laid = l;
     low = omega arith;

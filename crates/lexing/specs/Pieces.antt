@@ -3,11 +3,11 @@ use Rattle.std.specs.Prelude.{ℕ, ◌+◌, ◌≤◌, ◌<◌, ◌≡◌, false
 use Rattle.std.proofs.Math.Option.{none, some}
 use Rattle.language.specs.Kinds.{pick}
 use Rattle.language.specs.Trees.{fvar}
-use Rattle.grammar.specs.Tokens.{blank, one, run, functor, equals, comma, opens, closes, plus, times, Tokens, puts, nameToken, tokens}
+use Rattle.grammar.specs.Tokens.{blank, one, run, functor, equals, comma, opens, closes, plus, times, Tokens, puts, name_token, tokens}
 use Rattle.lexing.specs.declared.Mark.{Mark}
 use Rattle.lexing.specs.declared.Mark.TheVariants.{End, Bad, Symbol, One, Run, Function, Equals, Comma, Opens, Closes, Plus, Times}
 use Rattle.lexing.specs.declared.Piece.{Piece}
-use Rattle.lexing.specs.Bytes.{line, others, nameFrom, nameLength, blanks, mark_of, sortOf, alone}
+use Rattle.lexing.specs.Bytes.{line, others, name_from, name_length, blanks, mark_of, sort_of, alone}
 
 -- the tokens of the line from a place on
 abbrev pub here : List ℕ → ℕ → Tokens
@@ -17,7 +17,7 @@ here text at = tokens (line (drop at text))
 abbrev pub front : Mark → ℕ → Tokens → Tokens
 front End n ts = some []
 front Bad n ts = none
-front Symbol n ts = puts (nameToken n) ts
+front Symbol n ts = puts (name_token n) ts
 front One n ts = puts (one (record { 0 = n })) ts
 front Run n ts = puts (run (record { 0 = n })) ts
 front Function n ts = puts (functor (fvar (record { 0 = n }))) ts
@@ -32,15 +32,15 @@ abbrev pub piece : Mark → ℕ → ℕ → Piece
 piece m from to = record { mark = m; from = from; to = to }
 
 -- a mark whose name would begin at this place
-unfoldable pub markedOf : List ℕ → Mark → ℕ → Piece
-markedOf text m at = piece (pick (eqb (nameLength (drop at text)) 0) (alone m) m) at (at + nameLength (drop at text))
+unfoldable pub marked_of : List ℕ → Mark → ℕ → Piece
+marked_of text m at = piece (pick (eqb (name_length (drop at text)) 0) (alone m) m) at (at + name_length (drop at text))
 
 -- the token that this mark begins
 unfoldable pub piece_of : List ℕ → Mark → ℕ → Piece
 piece_of text m i =
-    pick (eqb (sortOf m) 0) (piece Bad i i)
-    (pick (eqb (sortOf m) 1) (piece m i (i + nameLength (drop i text)))
-    (pick (eqb (sortOf m) 2) (markedOf text m (i + 1)) (piece m i (i + 1))))
+    pick (eqb (sort_of m) 0) (piece Bad i i)
+    (pick (eqb (sort_of m) 1) (piece m i (i + name_length (drop i text)))
+    (pick (eqb (sort_of m) 2) (marked_of text m (i + 1)) (piece m i (i + 1))))
 
 -- the first token of the line from a place on, or the end of the line
 unfoldable pub at_byte : List ℕ → ℕ → Piece
@@ -63,10 +63,10 @@ pub record Next (text : List ℕ) (at : ℕ) (r : Piece) : Type 0 where
   pub low : at ≤ r.from
   pub through : r.from ≤ r.to
   pub high : r.to ≤ length text
-  pub reads : here text at ≡ front r.mark (nameFrom (drop r.from text)) (here text r.to)
+  pub reads : here text at ≡ front r.mark (name_from (drop r.from text)) (here text r.to)
   -- no end of a line is passed
   pub same : others (drop at text) ≡ others (drop r.to text)
   -- a token has bytes
-  pub moves : (sortOf r.mark ≡ 0 → ⊥) → at < r.to
+  pub moves : (sort_of r.mark ≡ 0 → ⊥) → at < r.to
   -- an end is that of the line or of the text
   pub ends : r.mark ≡ End → r.to < length text → get_or text r.to 0 ≡ 10

@@ -1,10 +1,10 @@
 // The tokens of a text, one after the other, where they stand: a name is kept as the place where it begins.
 ghost use Rattle.std.specs.Prelude.{◌+◌, ◌≤◌, ◌<◌, ◌≡◌, length, drop};
 ghost use Rattle.language.specs.Kinds.{pick};
-ghost use Rattle.grammar.specs.Tokens.{nameByte, blank};
+ghost use Rattle.grammar.specs.Tokens.{name_byte, blank};
 ghost use Rattle.lexing.specs.declared.Mark.TheVariants.{Bad, Symbol};
-ghost use Rattle.lexing.specs.Bytes.{nameLength, blanks, mark_of, sortOf, alone};
-ghost use Rattle.lexing.specs.Pieces.{markedOf, piece_of, next_of};
+ghost use Rattle.lexing.specs.Bytes.{name_length, blanks, mark_of, sort_of, alone};
+ghost use Rattle.lexing.specs.Pieces.{marked_of, piece_of, next_of};
 
 // What a token is: the end of a line, no token; a name, ?name, *name, %name; = , ( ) + *.
 #[derive(Drop)]
@@ -33,7 +33,7 @@ pub struct Piece {
 
 // A letter or a digit.
 pub fn is_name_byte(b: u8) -> bool
-    ensures { result ≡ nameByte b }
+    ensures { result ≡ name_byte b }
 {
     if b < 48 {
         return false;
@@ -67,7 +67,7 @@ fn is_blank(b: u8) -> bool
 
 // A byte that is no character of the grammar's own: of a name, or of nothing.
 fn letter(b: u8) -> Mark
-    ensures { result ≡ pick (nameByte b) Symbol Bad }
+    ensures { result ≡ pick (name_byte b) Symbol Bad }
 {
     if is_name_byte(b) {
         return Mark::Symbol;
@@ -93,7 +93,7 @@ pub fn mark_of(b: u8) -> Mark
 }
 
 pub fn sort(mark: Mark) -> u8
-    ensures { result ≡ sortOf mark }
+    ensures { result ≡ sort_of mark }
 {
     match mark {
         Mark::End => 0,
@@ -133,7 +133,7 @@ fn without_name(mark: Mark) -> Mark
 // The place after the letters and digits that stand from `at` on.
 fn name_end(text: &[u8], at: usize) -> usize
     requires { at ≤ length text.now }
-    ensures { result ≡ at + nameLength (drop at text.now) }
+    ensures { result ≡ at + name_length (drop at text.now) }
 {
     let mut i = at;
     while i < text.len() {
@@ -163,7 +163,7 @@ fn skip(text: &[u8], at: usize) -> usize
 // A mark whose name would begin at `at`.
 fn marked(text: &[u8], mark: Mark, at: usize) -> Piece
     requires { at ≤ length text.now }
-    ensures { result ≡ markedOf text.now mark at }
+    ensures { result ≡ marked_of text.now mark at }
 {
     let to = name_end(text, at);
     if to == at {

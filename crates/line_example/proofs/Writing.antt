@@ -12,52 +12,52 @@ use Rattle.language.specs.declared.Refusal.TheVariants.{LongExample}
 use Rattle.language.specs.declared.Sym.{Sym}
 use Rattle.language.specs.Limits.{desk}
 use Rattle.language.specs.Trees.{Conj, Counts, Var, tv, hv, fv}
-use Rattle.meaning.specs.Values.{variables, joined, offsetsOf, fillingWords}
+use Rattle.meaning.specs.Values.{variables, joined, offsets_of, filling_words}
 use Rattle.rules.specs.Example.{example}
 use Rattle.rules.specs.Calls.{Showing, shows, denied, fitted}
 use Rattle.samples.specs.Laid.{Laid}
 use Rattle.samples.proofs.Laid.{laid-row, laid_as}
 use Rattle.values.specs.Lines.{Line}
 use Rattle.values.specs.Values.{Settled}
-use Rattle.line_example.specs.Rows.{Makes, valuesBy, starts, KindLength, KindStarts, KindWritten}
+use Rattle.line_example.specs.Rows.{Makes, values_by, starts, KindLength, KindStarts, KindWritten}
 use Rattle.line_example.specs.declared.sorts.Sort.TheVariants.{Terms, Runs, Functions}
 use Rattle.line_example.specs.declared.sorts.Row.{Row}
 use Rattle.outcomes.specs.declared.Shown.TheVariants.{Shows, Denied}
-use Rattle.line_example.specs.Shown.{result_of, roomOf}
+use Rattle.line_example.specs.Shown.{result_of, room_of}
 use Rattle.line_example.specs.Fillings.{values_of, table_of, Counted, FillingLength, TableWritten, ValuesWritten, LineShown}
 use Rattle.line_example.proofs.Tables.{joined-row, starts-row, offsets-starts, length-offsets, length-values}
 use Rattle.line_example.proofs.Examples.{filling-words}
 
 -- ---- the three kinds
 
-abbrev aTerm : ℕ → Var
-aTerm x = tv (record { 0 = x })
+abbrev a_term : ℕ → Var
+a_term x = tv (record { 0 = x })
 
-abbrev aHedge : ℕ → Var
-aHedge p = hv (record { 0 = p })
+abbrev a_hedge : ℕ → Var
+a_hedge p = hv (record { 0 = p })
 
-abbrev aName : ℕ → Var
-aName X = fv (record { 0 = X })
+abbrev a_name : ℕ → Var
+a_name X = fv (record { 0 = X })
 
-make-terms : (count : ℕ) → count ≤ desk.each → Makes aTerm Terms count
+make-terms : (count : ℕ) → count ≤ desk.each → Makes a_term Terms count
 make-terms count l j i = record { fine = omega arith; is = refl }
 
-make-hedges : (count : ℕ) → count ≤ desk.each → Makes aHedge Runs count
+make-hedges : (count : ℕ) → count ≤ desk.each → Makes a_hedge Runs count
 make-hedges count l j i = record { fine = omega arith; is = refl }
 
-make-names : (count : ℕ) → count ≤ desk.each → Makes aName Functions count
+make-names : (count : ℕ) → count ≤ desk.each → Makes a_name Functions count
 make-names count l j i = record { fine = omega arith; is = refl }
 
 -- ---- by the numbers that the code has
 
 abbrev T : Sym → Conj → ℕ → List (List ℕ)
-T any c count = valuesBy any c aTerm 0 count
+T any c count = values_by any c a_term 0 count
 
 abbrev H : Sym → Conj → ℕ → List (List ℕ)
-H any c count = valuesBy any c aHedge 0 count
+H any c count = values_by any c a_hedge 0 count
 
 abbrev F : Sym → Conj → ℕ → List (List ℕ)
-F any c count = valuesBy any c aName 0 count
+F any c count = values_by any c a_name 0 count
 
 module _ {terms hedges functions : ℕ} (any : Sym) (c : Conj) (n : Counts) (q : Counted n terms hedges functions) where
   values-are : values_of any c n ≡ T any c terms ++ (H any c hedges ++ F any c functions)
@@ -78,9 +78,9 @@ module _ {terms hedges functions : ℕ} (any : Sym) (c : Conj) (n : Counts) (q :
   count-are : length (values_of any c n) ≡ terms + (hedges + functions)
   count-are =
       ap length values-are ∙ length-append (T any c terms) (H any c hedges ++ F any c functions) ∙ ap (λ i. length (T any c terms) + i) (length-append (H any c hedges) (F any c functions))
-      ∙ ap (λ i. i + (length (H any c hedges) + length (F any c functions))) (length-values any c aTerm terms)
-      ∙ ap (λ i. terms + (i + length (F any c functions))) (length-values any c aHedge hedges)
-      ∙ ap (λ i. terms + (hedges + i)) (length-values any c aName functions)
+      ∙ ap (λ i. i + (length (H any c hedges) + length (F any c functions))) (length-values any c a_term terms)
+      ∙ ap (λ i. terms + (i + length (F any c functions))) (length-values any c a_hedge hedges)
+      ∙ ap (λ i. terms + (hedges + i)) (length-values any c a_name functions)
 
   variables-are : variables n ≡ terms + (hedges + functions)
   variables-are = let a = q.terms in let b = q.hedges in let d = q.functions in omega arith
@@ -93,7 +93,7 @@ module _ {terms hedges functions : ℕ} (any : Sym) (c : Conj) (n : Counts) (q :
       ++ (starts (at + length (joined (T any c terms)) + length (joined (H any c hedges))) (F any c functions) ++ ((at + length (joined (values_of any c n))) ∷ []))))
   unfolding table_of
   table-are at e =
-      ap (λ l. variables n ∷ l) (ap (λ i. offsetsOf i (values_of any c n)) (sym e) ∙ offsets-starts at (values_of any c n)
+      ap (λ l. variables n ∷ l) (ap (λ i. offsets_of i (values_of any c n)) (sym e) ∙ offsets-starts at (values_of any c n)
       ∙ ap (λ l. l ++ ((at + length (joined (values_of any c n))) ∷ [])) (ap (starts at) values-are ∙ starts-row at (T any c terms) (H any c hedges ++ F any c functions)
       ∙ ap (λ l. starts at (T any c terms) ++ l) (starts-row (at + length (joined (T any c terms))) (H any c hedges) (F any c functions)))
       ∙ append_assoc (starts at (T any c terms)) _ _
@@ -107,9 +107,9 @@ module _ {k : List ℕ} {terms hedges functions : ℕ} (ts : terms ≤ desk.each
   filling-length {a} {b} {d} A B D = record {
     few = let x = A.few in let y = B.few in let z = D.few in omega arith;
     each = λ any c n s t q.
-        let x = A.each any c aTerm s t (make-terms terms ts) in
-        let y = B.each any c aHedge s t (make-hedges hedges hs) in
-        let z = D.each any c aName s t (make-names functions fs) in
+        let x = A.each any c a_term s t (make-terms terms ts) in
+        let y = B.each any c a_hedge s t (make-hedges hedges hs) in
+        let z = D.each any c a_name s t (make-names functions fs) in
         let u = size-are any c n q in
         let v = table-length any c n q in
         omega arith;
@@ -121,8 +121,8 @@ module _ {k : List ℕ} {terms hedges functions : ℕ} (ts : terms ≤ desk.each
       → ValuesWritten k terms hedges functions any old at new e
   values-written {any} A B D = record {
     each = λ c n s t q. laid_as (sym (joined-are any c n q))
-        (laid-row (joined (T any c terms)) (joined (H any c hedges) ++ joined (F any c functions)) (A.each c aTerm s t (make-terms terms ts))
-        (laid-row (joined (H any c hedges)) (joined (F any c functions)) (B.each c aHedge s t (make-hedges hedges hs)) (D.each c aName s t (make-names functions fs))));
+        (laid-row (joined (T any c terms)) (joined (H any c hedges) ++ joined (F any c functions)) (A.each c a_term s t (make-terms terms ts))
+        (laid-row (joined (H any c hedges)) (joined (F any c functions)) (B.each c a_hedge s t (make-hedges hedges hs)) (D.each c a_name s t (make-names functions fs))));
   }
 
   pub table-written : {old zero one two three new : List ℕ} {x y m e : ℕ} {r u v : Row} → (terms + hedges + functions < 65536 → x ≡ terms + hedges + functions) → Laid old 0 (x ∷ []) zero m
@@ -134,18 +134,18 @@ module _ {k : List ℕ} {terms hedges functions : ℕ} (ts : terms ≤ desk.each
         let at = terms + hedges + functions + 2 in
         let w = variables-are any c n q in
         let p = size-are any c n q in
-        let a = A.next any c aTerm s t (make-terms terms ts) in
-        let b = B.next any c aHedge s t (make-hedges hedges hs) in
-        let d = D.next any c aName s t (make-names functions fs) in
+        let a = A.next any c a_term s t (make-terms terms ts) in
+        let b = B.next any c a_hedge s t (make-hedges hedges hs) in
+        let d = D.next any c a_name s t (make-names functions fs) in
         let x-is : x ≡ variables n = X (omega arith) ∙ omega arith in
         let y-is : y ≡ at + length (joined (values_of any c n)) = Y (omega arith) ∙ omega arith in
         let r-is : r.next ≡ at + length (joined (T any c terms)) = a in
         let u-is : u.next ≡ at + length (joined (T any c terms)) + length (joined (H any c hedges)) = omega arith in
         laid_as (sym (table-are any c n q at (omega arith)))
         (laid-row (variables n ∷ []) _ (laid_as (ap (λ i. i ∷ []) x-is) l)
-        (laid-row (starts at (T any c terms)) _ (A.each any c aTerm s t (make-terms terms ts) (omega arith))
-        (laid-row (starts (at + length (joined (T any c terms))) (H any c hedges)) _ (laid_as (ap (λ i. starts i (H any c hedges)) r-is) (B.each any c aHedge s t (make-hedges hedges hs) (omega arith)))
-        (laid-row (starts (at + length (joined (T any c terms)) + length (joined (H any c hedges))) (F any c functions)) _ (laid_as (ap (λ i. starts i (F any c functions)) u-is) (D.each any c aName s t (make-names functions fs) (omega arith)))
+        (laid-row (starts at (T any c terms)) _ (A.each any c a_term s t (make-terms terms ts) (omega arith))
+        (laid-row (starts (at + length (joined (T any c terms))) (H any c hedges)) _ (laid_as (ap (λ i. starts i (H any c hedges)) r-is) (B.each any c a_hedge s t (make-hedges hedges hs) (omega arith)))
+        (laid-row (starts (at + length (joined (T any c terms)) + length (joined (H any c hedges))) (F any c functions)) _ (laid_as (ap (λ i. starts i (F any c functions)) u-is) (D.each any c a_name s t (make-names functions fs) (omega arith)))
         (laid_as (ap (λ i. i ∷ []) y-is) z)))));
   }
 
@@ -171,13 +171,13 @@ has_room room ws i j =
     ∙ ap (by ws) (le-ltb room (length ws) j)
 
 module _ {k : List ℕ} {terms hedges functions r : ℕ} (m : FillingLength k terms hedges functions r) where
-  length-is : (any : Sym) (c : Conj) (n : Counts) → Line k c → Settled c → Counted n terms hedges functions → r ≡ length (fillingWords n (example any c))
+  length-is : (any : Sym) (c : Conj) (n : Counts) → Line k c → Settled c → Counted n terms hedges functions → r ≡ length (filling_words n (example any c))
   length-is any c n s t q = m.each any c n s t q ∙ sym (ap length (filling-words any c t n) ∙ length-append (table_of any c n) (joined (values_of any c n)))
 
   refused : {any : Sym} {old : List ℕ} → ((ws : List ℕ) → r ≡ length ws → fitted desk (length old) ws ≡ denied LongExample) → LineShown k terms hedges functions any old old (Denied LongExample)
   refused {any} {old} f = record {
-    result = λ c n s t q. ap result_of (sym (f (fillingWords n (example any c)) (length-is any c n s t q)));
-    room = λ c n s t q. ap (λ z. roomOf z old) (sym (f (fillingWords n (example any c)) (length-is any c n s t q)));
+    result = λ c n s t q. ap result_of (sym (f (filling_words n (example any c)) (length-is any c n s t q)));
+    room = λ c n s t q. ap (λ z. room_of z old) (sym (f (filling_words n (example any c)) (length-is any c n s t q)));
   }
 
   pub shown-long : {any : Sym} {old : List ℕ} → desk.filling < r → LineShown k terms hedges functions any old old (Denied LongExample)
@@ -191,15 +191,15 @@ module _ {k : List ℕ} {terms hedges functions r : ℕ} (m : FillingLength k te
   shown-all {any} {old} {mid} {new} i j a b = record {
     result = λ c n s t q.
         let z = length-is any c n s t q in
-        ap Shows z ∙ ap result_of (sym (has_room (length old) (fillingWords n (example any c)) (omega arith) (omega arith)));
+        ap Shows z ∙ ap result_of (sym (has_room (length old) (filling_words n (example any c)) (omega arith) (omega arith)));
     room = λ c n s t q.
         let z = length-is any c n s t q in
-        let ws = fillingWords n (example any c) in
+        let ws = filling_words n (example any c) in
         let y = m.each any c n s t q in
         let w = size-all c n s t q in
         let l = laid_as (sym (filling-words any c t n)) (laid-row (table_of any c n) (joined (values_of any c n)) (a.each any c n s t q (omega arith)) (b.each c n s t q)) in
         let o : 0 + length ws ≡ length ws = omega arith in
-        l.list ∙ sets-eq ws old 0 (omega arith) ∙ ap (λ i. ws ++ drop i old) o ∙ ap (λ v. roomOf v old) (sym (has_room (length old) ws (omega arith) (omega arith)));
+        l.list ∙ sets-eq ws old 0 (omega arith) ∙ ap (λ i. ws ++ drop i old) o ∙ ap (λ v. room_of v old) (sym (has_room (length old) ws (omega arith) (omega arith)));
   }
     where
       size-all : (c : Conj) (n : Counts) → Line k c → Settled c → Counted n terms hedges functions → length (table_of any c n) ≡ variables n + 2

@@ -6,9 +6,9 @@ use Rattle.outcomes.specs.declared.Shown.{Shown}
 use Rattle.outcomes.specs.declared.Shown.TheVariants.{Shows, Denied}
 
 -- the number of the table, 0 for a filling, the place of the mistake, and the filling's length
-abbrev pub numbersOf : Showing → ℕ × ℕ × ℕ
-numbersOf (shows ws) = (0, 0, length ws)
-numbersOf (denied r) = (number_of r, place_of r, 0)
+abbrev pub numbers_of : Showing → ℕ × ℕ × ℕ
+numbers_of (shows ws) = (0, 0, length ws)
+numbers_of (denied r) = (number_of r, place_of r, 0)
 
 -- the answer that has these numbers: the filling's length, or the refusal
 abbrev pub result_of : Showing → Shown
@@ -16,6 +16,6 @@ result_of (shows ws) = Shows (length ws)
 result_of (denied r) = Denied r
 
 -- the filling at the front and the rest unchanged, or all unchanged
-abbrev pub roomOf : Showing → List ℕ → List ℕ
-roomOf (shows ws) old = ws ++ drop (length ws) old
-roomOf (denied r) old = old
+abbrev pub room_of : Showing → List ℕ → List ℕ
+room_of (shows ws) old = ws ++ drop (length ws) old
+room_of (denied r) old = old

@@ -2,7 +2,7 @@
 ghost use Rattle.std.specs.Prelude.{◌+◌, ◌*◌, ◌≤◌, ◌<◌, ◌≡◌, length};
 ghost use Rattle.language.specs.Limits.{desk};
 ghost use Rattle.values.specs.Values.{SettledLine};
-ghost use Rattle.line_example.specs.Rows.{numberedOf, KindLength, KindStarts, KindWritten};
+ghost use Rattle.line_example.specs.Rows.{numbered_of, KindLength, KindStarts, KindWritten};
 
 use language::{FunVar, HedgeVar, Sym, TermVar};
 use samples::put;
@@ -34,7 +34,7 @@ pub enum Sort {
 
 // The variable of a kind with a number.
 fn numbered(of: Sort, j: usize) -> Variable
-    ensures { j < 65536 → result ≡ numberedOf of j }
+    ensures { j < 65536 → result ≡ numbered_of of j }
 {
     let n = short(j);
     match of {

@@ -10,17 +10,17 @@ use lib.ListN.{length, take, drop, set, length-append, length-drop, drop_of_leng
 use lib.Seq.{sets, slice, length-sets, sets-eq, drop_at, length-take-le, drop-set-lt}
 use Rattle.language.specs.Kinds.{pick}
 use Rattle.language.specs.Limits.{desk}
-use Rattle.frames.specs.Frames.{frame, frame_of, inFrames}
+use Rattle.frames.specs.Frames.{frame, frame_of, in_frames}
 use Rattle.frames.proofs.Framing.{frames-append}
-use Rattle.plans.specs.Sizes.{Short, grown, sizedFrom, sized}
+use Rattle.plans.specs.Sizes.{Short, grown, sized_from, sized}
 use Rattle.plans.specs.declared.Size.{Size}
 use Rattle.plans.specs.declared.Size.TheVariants.{Fits, Over}
 use Rattle.slices.specs.Written.{Wrote}
 use Rattle.slices.proofs.Still.{wrote_as}
 use Rattle.linear_form.specs.declared.adding.Kept.{Kept}
 use Rattle.linear_form.specs.declared.adding.Spot.{Spot}
-use Rattle.monomials.specs.Loose.{Loose, firstWords, restWords, opening}
-use Rattle.linear_form.specs.Rows.{frontWords, backWords, rowWords, keptLength, lengthBy, resultLength, resultWords, counted, tallied, Holds, Rowed}
+use Rattle.monomials.specs.Loose.{Loose, first_words, rest_words, opening}
+use Rattle.linear_form.specs.Rows.{front_words, back_words, row_words, kept_length, length_by, result_length, result_words, counted, tallied, Holds, Rowed}
 use Rattle.linear_form.specs.Walks.{Keeps, Added}
 use Rattle.linear_form.proofs.Rows.{row_of, length-by}
 use Rattle.linear_form.proofs.Written.{wrote-append}
@@ -35,11 +35,11 @@ tallied-over : (ws : List (List ℕ)) → tallied Over ws ≡ Over
 tallied-over [] = refl
 tallied-over (w ∷ ws) = tallied-over ws
 
-tallied-if : (b : Bool) (n : ℕ) (ws : List (List ℕ)) → tallied (Fits n) ws ≡ sizedFrom n ws → tallied (pick b (Fits n) Over) ws ≡ pick b (sizedFrom n ws) Over
+tallied-if : (b : Bool) (n : ℕ) (ws : List (List ℕ)) → tallied (Fits n) ws ≡ sized_from n ws → tallied (pick b (Fits n) Over) ws ≡ pick b (sized_from n ws) Over
 tallied-if true n ws e = e
 tallied-if false n ws e = tallied-over ws
 
-tallied-from : (n : ℕ) (ws : List (List ℕ)) → tallied (Fits n) ws ≡ sizedFrom n ws
+tallied-from : (n : ℕ) (ws : List (List ℕ)) → tallied (Fits n) ws ≡ sized_from n ws
 tallied-from n [] = refl
 tallied-from n (w ∷ ws) = tallied-if (leb (length w) desk.question) (grown n (length w)) ws (tallied-from (grown n (length w)) ws)
 
@@ -109,10 +109,10 @@ added-append {number} {us} {vs} {ws} {r₀} {o₀} {t₀} {r₁} {o₁} {t₁} {
       keeps = keeps_on (omega arith) a.keeps b.keeps;
       wrote = λ h q s r.
           let f = frames-append number us vs in
-          let l = ap length f ∙ length-append (inFrames number us) (inFrames number vs) in
+          let l = ap length f ∙ length-append (in_frames number us) (in_frames number vs) in
           let x = short-append us vs s in
           let u = a.wrote h q x.0 (omega arith) in
-          let n = ap length u.list ∙ length-sets o₀ t₀ (inFrames number us) in
+          let n = ap length u.list ∙ length-sets o₀ t₀ (in_frames number us) in
           let e = u.end in
           let k = a.keeps.long in
           wrote_as f (wrote-append u (b.wrote (a.keeps.holds ws (omega arith) h) (omega arith) x.1 (omega arith)));
@@ -129,35 +129,35 @@ added-inner l k f a =
 
 -- ---- one
 
-row-length : (k : List ℕ) (s : Kept) (p : Spot) (m : Loose) → frontWords k s p ++ (restWords m ++ backWords k s) ≡ rowWords k s m → p.parts ≡ m.parts → p.words ≡ length m.words
-    → resultLength k s p ≡ length (rowWords k s m)
-unfolding resultLength
+row-length : (k : List ℕ) (s : Kept) (p : Spot) (m : Loose) → front_words k s p ++ (rest_words m ++ back_words k s) ≡ row_words k s m → p.parts ≡ m.parts → p.words ≡ length m.words
+    → result_length k s p ≡ length (row_words k s m)
+unfolding result_length
 row-length k s p m r c w =
-    let a = length-append (frontWords k s p) (restWords m ++ backWords k s) in
-    let b = length-append (restWords m) (backWords k s) in
+    let a = length-append (front_words k s p) (rest_words m ++ back_words k s) in
+    let b = length-append (rest_words m) (back_words k s) in
     let d = length-append (opening m.parts) m.words in
     let f = ap (λ n. length (opening n)) c in
     let g = ap length r in
     omega arith
 
-pub tallied-one : (k : List ℕ) (s : Kept) (p : Spot) (size : Size) {one : ℕ} (m : Loose) → one ≡ lengthBy k (keptLength k s) p → slice p.place p.past k ≡ firstWords m
-    → p.parts ≡ m.parts → p.words ≡ length m.words → counted size one ≡ tallied size (rowWords k s m ∷ [])
+pub tallied-one : (k : List ℕ) (s : Kept) (p : Spot) (size : Size) {one : ℕ} (m : Loose) → one ≡ length_by k (kept_length k s) p → slice p.place p.past k ≡ first_words m
+    → p.parts ≡ m.parts → p.words ≡ length m.words → counted size one ≡ tallied size (row_words k s m ∷ [])
 tallied-one k s p size m h e c w = ap (counted size) (h ∙ sym (length-by k s p) ∙ row-length k s p m (row_of k s p m e) c w)
 
 pub added-one : {k : List ℕ} {s : Kept} {p : Spot} {rest out : List ℕ} {t : ℕ} {out' : List ℕ} {r : ℕ} (m : Loose) → Rowed k s p rest out t out' r
-    → slice p.place p.past k ≡ firstWords m → p.parts ≡ m.parts → p.words ≡ length m.words → Added s.number (rowWords k s m ∷ []) m.words rest out t rest out' r
-unfolding resultWords
+    → slice p.place p.past k ≡ first_words m → p.parts ≡ m.parts → p.words ≡ length m.words → Added s.number (row_words k s m ∷ []) m.words rest out t rest out' r
+unfolding result_words
 added-one {k} {s} {p} {rest} {out} {t} {out'} {r} m a e c w =
     let row = row_of k s p m e in
     let n = row-length k s p m row c w in
     record {
       keeps = keeps-all (length m.words) rest;
       wrote = λ h q x y.
-          let z = length-append (rowWords k s m) [] in
+          let z = length-append (row_words k s m) [] in
           let v = x.0 in
-          let words : inFrames s.number (rowWords k s m ∷ []) ≡ resultLength k s p ∷ s.number ∷ (frontWords k s p ++ ((opening p.parts ++ m.words) ++ backWords k s)) =
-          ap (λ l. length (rowWords k s m) ∷ s.number ∷ l) (append-nil (rowWords k s m)) ∙ ap (λ n. n ∷ s.number ∷ rowWords k s m) (sym n) ∙ ap (λ l. resultLength k s p ∷ s.number ∷ l) (sym row)
-          ∙ ap (λ n. resultLength k s p ∷ s.number ∷ (frontWords k s p ++ ((opening n ++ m.words) ++ backWords k s))) (sym c) in
+          let words : in_frames s.number (row_words k s m ∷ []) ≡ result_length k s p ∷ s.number ∷ (front_words k s p ++ ((opening p.parts ++ m.words) ++ back_words k s)) =
+          ap (λ l. length (row_words k s m) ∷ s.number ∷ l) (append-nil (row_words k s m)) ∙ ap (λ n. n ∷ s.number ∷ row_words k s m) (sym n) ∙ ap (λ l. result_length k s p ∷ s.number ∷ l) (sym row)
+          ∙ ap (λ n. result_length k s p ∷ s.number ∷ (front_words k s p ++ ((opening n ++ m.words) ++ back_words k s))) (sym c) in
           wrote_as words (a.wrote m.words (sym w) h q (omega arith) (omega arith));
     }
 
@@ -173,19 +173,19 @@ module _ {size : Size} {l n : ℕ} (e : size ≡ Fits n) where
   pub counted-more : {m : ℕ} → l ≤ desk.question → m ≡ grown n l → Fits m ≡ counted size l
   counted-more h g = sym (ap (λ s. counted s l) e ∙ ap (λ b. pick b (Fits (grown n l)) Over) (le-leb l desk.question h) ∙ ap Fits (sym g))
 
-words-length : (k : List ℕ) (s : Kept) (p : Spot) (ws : List ℕ) → length ws ≡ p.words → length (resultWords k s p ws) ≡ resultLength k s p
-unfolding resultWords resultLength
+words-length : (k : List ℕ) (s : Kept) (p : Spot) (ws : List ℕ) → length ws ≡ p.words → length (result_words k s p ws) ≡ result_length k s p
+unfolding result_words result_length
 words-length k s p ws l =
-    let a = length-append (frontWords k s p) ((opening p.parts ++ ws) ++ backWords k s) in
-    let b = length-append (opening p.parts ++ ws) (backWords k s) in
+    let a = length-append (front_words k s p) ((opening p.parts ++ ws) ++ back_words k s) in
+    let b = length-append (opening p.parts ++ ws) (back_words k s) in
     let d = length-append (opening p.parts) ws in
     omega arith
 
-words-fewer : (k : List ℕ) (s : Kept) (p : Spot) → p.words ≤ resultLength k s p
-unfolding resultLength
+words-fewer : (k : List ℕ) (s : Kept) (p : Spot) → p.words ≤ result_length k s p
+unfolding result_length
 words-fewer k s p = omega arith
 
-module _ {k : List ℕ} {s : Kept} {p : Spot} {rest out : List ℕ} {t one : ℕ} (fit : t ≤ length out) (e : one ≡ resultLength k s p) where
+module _ {k : List ℕ} {s : Kept} {p : Spot} {rest out : List ℕ} {t one : ℕ} (fit : t ≤ length out) (e : one ≡ result_length k s p) where
   pub rowed-long : desk.question < one → Rowed k s p rest out t out t
   rowed-long h = record { room = fit; wrote = λ ws l d q x y. absurd (omega arith) }
 
@@ -196,7 +196,7 @@ module _ {k : List ℕ} {s : Kept} {p : Spot} {rest out : List ℕ} {t one : ℕ
   rowed-full h = record { room = fit; wrote = λ ws l d q x y. absurd (omega arith) }
 
   pub rowed-more : {out' : List ℕ} {end : ℕ} → p.words ≤ length rest → length out' ≡ length out → t + frame + one ≤ length out
-      → Wrote out t (frame_of (resultLength k s p) s.number ++ resultWords k s p (drop (length rest - p.words) rest)) out' end → Rowed k s p rest out t out' end
+      → Wrote out t (frame_of (result_length k s p) s.number ++ result_words k s p (drop (length rest - p.words) rest)) out' end → Rowed k s p rest out t out' end
   rowed-more {out'} {end} f n y w =
       let d = length-drop (length rest - p.words) rest in
       let l = words-length k s p (drop (length rest - p.words) rest) (omega arith) in
@@ -205,5 +205,5 @@ module _ {k : List ℕ} {s : Kept} {p : Spot} {rest out : List ℕ} {t one : ℕ
         room = omega arith;
         wrote = λ ws l d q x z.
             let v : drop (length rest - p.words) rest ≡ ws = ap (λ m. drop (length rest - m) rest) (sym l) ∙ d.last (omega arith) in
-            subst (λ ws. Wrote out t (frame_of (resultLength k s p) s.number ++ resultWords k s p ws) out' end) v w;
+            subst (λ ws. Wrote out t (frame_of (result_length k s p) s.number ++ result_words k s p ws) out' end) v w;
       }

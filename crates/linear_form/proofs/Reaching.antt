@@ -6,8 +6,8 @@ use native.Mathlib.Omega.{arith}
 use lib.ListN.{length, get_or, drop, length-append, drop_of_length-le}
 use Rattle.language.specs.Limits.{desk}
 use Rattle.language.specs.Trees.{Expr, eps, cat, alt, star, over}
-use Rattle.language.specs.Writing.{exprWords}
-use Rattle.language.specs.Fine.{fineExpr}
+use Rattle.language.specs.Writing.{expr_words}
+use Rattle.language.specs.Fine.{fine_expr}
 use Rattle.words.proofs.Parts.{drop_here}
 use Rattle.expressions.specs.Passing.{asks, reach}
 use Rattle.linear_form.specs.Charted.{Past}
@@ -29,23 +29,23 @@ reach_step n k i nz h =
 
 -- that R is one of the expressions that are still to come
 abbrev Counts : Expr → Type 0
-Counts R = (n : ℕ) (w : List ℕ) → reach (suc n) (exprWords R ++ w) ≡ length (exprWords R) + reach n w
+Counts R = (n : ℕ) (w : List ℕ) → reach (suc n) (expr_words R ++ w) ≡ length (expr_words R) + reach n w
 
-count-two : (x : ℕ) (a b : Expr) → asks x ≡ 2 → Counts a → Counts b → (n : ℕ) (w : List ℕ) → reach (suc n) ((x ∷ (exprWords a ++ exprWords b)) ++ w) ≡ suc (length (exprWords a ++ exprWords b)) + reach n w
+count-two : (x : ℕ) (a b : Expr) → asks x ≡ 2 → Counts a → Counts b → (n : ℕ) (w : List ℕ) → reach (suc n) ((x ∷ (expr_words a ++ expr_words b)) ++ w) ≡ suc (length (expr_words a ++ expr_words b)) + reach n w
 count-two x a b e f g n w =
     let d : n + asks x ≡ suc (suc n) = omega arith in
-    let p = f (suc n) (exprWords b ++ w) in
+    let p = f (suc n) (expr_words b ++ w) in
     let q = g n w in
-    let l = length-append (exprWords a) (exprWords b) in
-    reach-suc n (suc (suc n)) x ((exprWords a ++ exprWords b) ++ w) d ∙ ap (λ ws. suc (reach (suc (suc n)) ws)) (append_assoc (exprWords a) (exprWords b) w) ∙ omega arith
+    let l = length-append (expr_words a) (expr_words b) in
+    reach-suc n (suc (suc n)) x ((expr_words a ++ expr_words b) ++ w) d ∙ ap (λ ws. suc (reach (suc (suc n)) ws)) (append_assoc (expr_words a) (expr_words b) w) ∙ omega arith
 
-count-one : (x : ℕ) (a : Expr) → asks x ≡ 1 → Counts a → (n : ℕ) (w : List ℕ) → reach (suc n) ((x ∷ exprWords a) ++ w) ≡ suc (length (exprWords a)) + reach n w
+count-one : (x : ℕ) (a : Expr) → asks x ≡ 1 → Counts a → (n : ℕ) (w : List ℕ) → reach (suc n) ((x ∷ expr_words a) ++ w) ≡ suc (length (expr_words a)) + reach n w
 count-one x a e f n w =
     let d : n + asks x ≡ suc n = omega arith in
     let p = f n w in
-    reach-suc n (suc n) x (exprWords a ++ w) d ∙ omega arith
+    reach-suc n (suc n) x (expr_words a ++ w) d ∙ omega arith
 
-counts : (R : Expr) → fineExpr desk R → Counts R
+counts : (R : Expr) → fine_expr desk R → Counts R
 counts eps f n w =
     let e : n + asks 7000 ≡ n = let a = asks_none 7000 refl in omega arith in
     let p = reach-suc n n 7000 w e in

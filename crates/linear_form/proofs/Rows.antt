@@ -7,12 +7,12 @@ use lib.ListN.{length, length-append}
 use lib.Seq.{slice}
 use Rattle.language.specs.Limits.{desk}
 use Rattle.language.specs.Trees.{Hedge, Expr, over, mem, Conj}
-use Rattle.language.specs.Writing.{conjWords}
-use Rattle.rules.specs.Rules.{monomialResult}
+use Rattle.language.specs.Writing.{conj_words}
+use Rattle.rules.specs.Rules.{monomial_result}
 use Rattle.rules.specs.Expressions.{Monomial, linear}
 use Rattle.rules.specs.Step.{place}
 use Rattle.views.specs.Looks.{head, tail}
-use Rattle.plans.specs.Sizes.{placedWords, monomialWords}
+use Rattle.plans.specs.Sizes.{placed_words, monomial_words}
 use Rattle.views.specs.Views.{Shows}
 use Rattle.views.specs.declared.Shape.{Shape}
 use Rattle.views.proofs.Words.{words-body, words_append}
@@ -20,14 +20,14 @@ use Rattle.views.proofs.Sides.{side-head, side-tail, shows-before, shows-behind}
 use Rattle.slices.proofs.Parts.{part-short}
 use Rattle.linear_form.specs.declared.adding.Kept.{Kept}
 use Rattle.linear_form.specs.declared.adding.Spot.{Spot}
-use Rattle.monomials.specs.Loose.{Loose, firstWords, restWords, opening, met}
-use Rattle.linear_form.specs.Rows.{keptOf, frontWords, backWords, rowWords, keptLength, lengthBy, resultLength, Bounded}
+use Rattle.monomials.specs.Loose.{Loose, first_words, rest_words, opening, met}
+use Rattle.linear_form.specs.Rows.{kept_of, front_words, back_words, row_words, kept_length, length_by, result_length, Bounded}
 use Rattle.linear_form.proofs.Rests.{opening-short}
 use Rattle.monomials.proofs.Linear.{Fits, rest_of, pairs, results_same}
 
-pub front_length : (k : List ℕ) (s : Kept) (p : Spot) → length (frontWords k s p)
+pub front_length : (k : List ℕ) (s : Kept) (p : Spot) → length (front_words k s p)
     ≡ length (slice 0 s.at k) + length (slice s.from s.rest k) + length (slice p.place p.past k) + length (slice s.rest s.to k) + 3
-unfolding frontWords
+unfolding front_words
 front_length k s p =
     let d = slice s.rest s.to k in
     let c = length-append (slice p.place p.past k) (6000 ∷ d) in
@@ -45,8 +45,8 @@ parts-short k s h =
     let d = part-short k s.end s.len in
     omega arith
 
-pub kept-short : (k : List ℕ) (s : Kept) → length k ≤ desk.question → keptLength k s ≤ 4 * desk.question + 3
-unfolding keptLength
+pub kept-short : (k : List ℕ) (s : Kept) → length k ≤ desk.question → kept_length k s ≤ 4 * desk.question + 3
+unfolding kept_length
 kept-short k s h = let p = parts-short k s h in omega arith
 
 pub row-short : (k : List ℕ) (p : Spot) → length k ≤ desk.question → Bounded p
@@ -58,30 +58,30 @@ row-short k p h b =
     let e = b.short in
     omega arith
 
-pub length-by : (k : List ℕ) (s : Kept) (p : Spot) → resultLength k s p ≡ lengthBy k (keptLength k s) p
-unfolding resultLength lengthBy keptLength backWords
+pub length-by : (k : List ℕ) (s : Kept) (p : Spot) → result_length k s p ≡ length_by k (kept_length k s) p
+unfolding result_length length_by kept_length back_words
 length-by k s p = let l = front_length k s p in omega arith
 
-pub length-as : (k : List ℕ) (s : Kept) (p : Spot) {kept one : ℕ} → kept ≡ keptLength k s → one ≡ lengthBy k kept p → one ≡ resultLength k s p
-length-as k s p q e = e ∙ ap (λ n. lengthBy k n p) q ∙ sym (length-by k s p)
+pub length-as : (k : List ℕ) (s : Kept) (p : Spot) {kept one : ℕ} → kept ≡ kept_length k s → one ≡ length_by k kept p → one ≡ result_length k s p
+length-as k s p q e = e ∙ ap (λ n. length_by k n p) q ∙ sym (length-by k s p)
 
 seven : (a b c d e : List ℕ) → (a ++ (6000 ∷ (b ++ (0 ∷ (c ++ (6000 ∷ d)))))) ++ e ≡ a ++ (6000 ∷ (b ++ (0 ∷ (c ++ (6000 ∷ (d ++ e))))))
 seven a b c d e = simp append_assoc
 
 -- a row, where the first term stands in the words
-pub row_of : (k : List ℕ) (s : Kept) (p : Spot) (m : Loose) → slice p.place p.past k ≡ firstWords m → frontWords k s p ++ (restWords m ++ backWords k s) ≡ rowWords k s m
-unfolding rowWords frontWords
+pub row_of : (k : List ℕ) (s : Kept) (p : Spot) (m : Loose) → slice p.place p.past k ≡ first_words m → front_words k s p ++ (rest_words m ++ back_words k s) ≡ row_words k s m
+unfolding row_words front_words
 row_of k s p m e =
-    seven (slice 0 s.at k) (slice s.from s.rest k) (slice p.place p.past k) (slice s.rest s.to k) (restWords m ++ backWords k s)
-    ∙ ap (λ c. slice 0 s.at k ++ (6000 ∷ (slice s.from s.rest k ++ (0 ∷ (c ++ (6000 ∷ (slice s.rest s.to k ++ (restWords m ++ backWords k s)))))))) e
+    seven (slice 0 s.at k) (slice s.from s.rest k) (slice p.place p.past k) (slice s.rest s.to k) (rest_words m ++ back_words k s)
+    ∙ ap (λ c. slice 0 s.at k ++ (6000 ∷ (slice s.from s.rest k ++ (0 ∷ (c ++ (6000 ∷ (slice s.rest s.to k ++ (rest_words m ++ back_words k s)))))))) e
 
 module _ {k : List ℕ} {s : Shape} {before : Conj} {h : Hedge} {R : Expr} {behind : Conj} (v : Shows k s before h R behind) where
-  row : (number : ℕ) (m : Monomial) (n : Loose) → Fits m n → conjWords (place before behind (monomialResult (head h) (tail h) m)) ≡ rowWords k (keptOf s number) n
-  unfolding rowWords backWords
+  row : (number : ℕ) (m : Monomial) (n : Loose) → Fits m n → conj_words (place before behind (monomial_result (head h) (tail h) m)) ≡ row_words k (kept_of s number) n
+  unfolding row_words back_words
   row number m n f =
       rw (shows-before v, side-head v.hedge, side-tail v.hedge, shows-behind v, words_append before (mem (head h) (over m.name m.inner) ∷ mem (tail h) m.rest ∷ behind), words-body (head h), ← rest_of f, ← f.name, ← f.inner)
       (simp append_assoc)
 
-  pub rows : (number : ℕ) → monomialWords before h R behind ≡ map (rowWords k (keptOf s number)) (met R 0 [])
-  unfolding monomialWords placedWords
-  rows number = map-map (λ b. conjWords (place before behind b)) (monomialResult (head h) (tail h)) (linear R) ∙ results_same (λ m. conjWords (place before behind (monomialResult (head h) (tail h) m))) (rowWords k (keptOf s number)) (row number) (pairs R)
+  pub rows : (number : ℕ) → monomial_words before h R behind ≡ map (row_words k (kept_of s number)) (met R 0 [])
+  unfolding monomial_words placed_words
+  rows number = map-map (λ b. conj_words (place before behind b)) (monomial_result (head h) (tail h)) (linear R) ∙ results_same (λ m. conj_words (place before behind (monomial_result (head h) (tail h) m))) (row_words k (kept_of s number)) (row number) (pairs R)

@@ -8,10 +8,10 @@ use native.Mathlib.Omega.{arith}
 use lib.ListN.{length, get_or, length-append}
 use Rattle.language.specs.Kinds.{pick}
 use Rattle.language.specs.Trees.{Expr, cat, star, over}
-use Rattle.language.specs.Writing.{exprWords, conjWords}
-use Rattle.rules.specs.Looks.{isEps}
+use Rattle.language.specs.Writing.{expr_words, conj_words}
+use Rattle.rules.specs.Looks.{is_eps}
 use Rattle.rules.specs.Expressions.{nullable}
-use Rattle.plans.specs.Sizes.{monomialWords}
+use Rattle.plans.specs.Sizes.{monomial_words}
 use Rattle.views.specs.declared.Shape.{Shape}
 use Rattle.plans.specs.declared.Size.{Size}
 use Rattle.plans.specs.declared.Size.TheVariants.{Fits}
@@ -21,7 +21,7 @@ use Rattle.linear_form.specs.declared.Counted.{Counted}
 use Rattle.expressions.specs.Standing.{Here}
 use Rattle.linear_form.specs.Charted.{Past}
 use Rattle.monomials.specs.Loose.{met}
-use Rattle.linear_form.specs.Rows.{keptOf, rowWords, keptLength, lengthBy, counted, tallied, Sized}
+use Rattle.linear_form.specs.Rows.{kept_of, row_words, kept_length, length_by, counted, tallied, Sized}
 use Rattle.linear_form.specs.Walks.{Handed, closes, joined, TalliesOver, Tallies}
 use Rattle.expressions.proofs.Standing.{second-of, words-here, by-eps, by-cat, by-alt, by-star, by_over, past_end, is-alt}
 use Rattle.linear_form.proofs.Rows.{rows}
@@ -41,16 +41,16 @@ module _ {k : List ℕ} {kept at : ℕ} {o : Outside} {size : Size} where
   tallies-eps z = record { each = λ s R w ws q g l. by-eps (λ R w. TalliesOver k s R o.parts ws size (record { null = true; size = size })) z (λ w. record { null = refl; size = refl }) R w g }
 
 module _ {k : List ℕ} {kept at : ℕ} {o : Outside} {size : Size} {mid : ℕ} (m : Past k (at + 1) mid) where
-  pub tallies-over : {one : ℕ} {more : Size} → get_or k at 0 < 7000 → one ≡ lengthBy k kept (record { place = at; past = mid; parts = o.parts; words = o.words })
+  pub tallies-over : {one : ℕ} {more : Size} → get_or k at 0 < 7000 → one ≡ length_by k kept (record { place = at; past = mid; parts = o.parts; words = o.words })
       → more ≡ counted size one → Tallies k kept at o size (record { null = false; size = more })
   tallies-over {one} {more} z a e =
       record {
         each = λ s R w ws q g l. by_over (λ R w. Here k at R w → TalliesOver k s R o.parts ws size (record { null = false; size = more })) z (λ f y u A w h g.
             let n = m.each A w h in
-            let x : mid ≡ at + length (exprWords (over f A)) = omega arith in
+            let x : mid ≡ at + length (expr_words (over f A)) = omega arith in
             record {
               null = refl;
-              size = e ∙ tallied-one k s (record { place = at; past = mid; parts = o.parts; words = o.words }) size (record { name = f; inner = A; parts = o.parts; words = ws }) (a ∙ ap (λ n. lengthBy k n (record { place = at; past = mid; parts = o.parts; words = o.words })) q) (words-here g x) refl (sym l);
+              size = e ∙ tallied-one k s (record { place = at; past = mid; parts = o.parts; words = o.words }) size (record { name = f; inner = A; parts = o.parts; words = ws }) (a ∙ ap (λ n. length_by k n (record { place = at; past = mid; parts = o.parts; words = o.words })) q) (words-here g x) refl (sym l);
             }) R w g g;
       }
 
@@ -61,22 +61,22 @@ module _ {k : List ℕ} {kept at : ℕ} {o : Outside} {size : Size} {mid : ℕ} 
         record {
           each = λ s R w ws q g l. by-star (λ R w. Here k at R w → TalliesOver k s R o.parts ws size (record { null = true; size = a.size })) z (λ A w h g.
               let n = m.each A w h in
-              let x : mid ≡ at + length (exprWords (star A)) = omega arith in
+              let x : mid ≡ at + length (expr_words (star A)) = omega arith in
               let c = (p.star z).parts in
               let d = (p.star z).words in
-              let v = length-append (exprWords (star A)) ws in
+              let v = length-append (expr_words (star A)) ws in
               let f : suc o.parts ≡ i.parts = omega arith in
-              let y = b.each s A w (exprWords (star A) ++ ws) q h (omega arith) in
-              record { null = refl; size = y.size ∙ ap (λ n. tallied size (map (rowWords k s) (met A n (exprWords (star A) ++ ws)))) (sym f) }) R w g g;
+              let y = b.each s A w (expr_words (star A) ++ ws) q h (omega arith) in
+              record { null = refl; size = y.size ∙ ap (λ n. tallied size (map (row_words k s) (met A n (expr_words (star A) ++ ws)))) (sym f) }) R w g g;
         }
 
     -- of a concatenation
-    module _ (z : get_or k at 0 ≡ 7001) {s : Kept} (q : kept ≡ keptLength k s) (A B : Expr) (w ws : List ℕ) (h : Here k (at + 1) A (exprWords B ++ w)) (g : Here k mid B w) (l : length ws ≡ o.words) where
-      first-tallied : TalliesOver k s A (pick (isEps B) o.parts (suc o.parts)) (pick (isEps B) ws (exprWords B ++ ws)) size a
+    module _ (z : get_or k at 0 ≡ 7001) {s : Kept} (q : kept ≡ kept_length k s) (A B : Expr) (w ws : List ℕ) (h : Here k (at + 1) A (expr_words B ++ w)) (g : Here k mid B w) (l : length ws ≡ o.words) where
+      first-tallied : TalliesOver k s A (pick (is_eps B) o.parts (suc o.parts)) (pick (is_eps B) ws (expr_words B ++ ws)) size a
       first-tallied =
           let t = p.cat z in
           let c = t.enclosed.each B w ws g (t.past.each B w g) l in
-          subst (λ n. TalliesOver k s A n (pick (isEps B) ws (exprWords B ++ ws)) size a) c.parts (b.each s A (exprWords B ++ w) (pick (isEps B) ws (exprWords B ++ ws)) q h c.words)
+          subst (λ n. TalliesOver k s A n (pick (is_eps B) ws (expr_words B ++ ws)) size a) c.parts (b.each s A (expr_words B ++ w) (pick (is_eps B) ws (expr_words B ++ ws)) q h c.words)
 
     tallies-shut : get_or k at 0 ≡ 7001 → a.null ≡ false → Tallies k kept at o size a
     tallies-shut z n =
@@ -85,7 +85,7 @@ module _ {k : List ℕ} {kept at : ℕ} {o : Outside} {size : Size} {mid : ℕ} 
               let g = second-of h f (m.each A _ h) in
               let c = first-tallied z q A B w ws h g l in
               let y : nullable A ≡ false = sym c.null ∙ n in
-              let e : map (rowWords k s) (met (cat A B) o.parts ws) ≡ map (rowWords k s) (met A (pick (isEps B) o.parts (suc o.parts)) (pick (isEps B) ws (exprWords B ++ ws))) = rw (y, append-nil) in
+              let e : map (row_words k s) (met (cat A B) o.parts ws) ≡ map (row_words k s) (met A (pick (is_eps B) o.parts (suc o.parts)) (pick (is_eps B) ws (expr_words B ++ ws))) = rw (y, append-nil) in
               record { null = n ∙ ap (λ b. b && nullable B) (sym y); size = c.size ∙ ap (tallied size) (sym e) }) R w g;
         }
 
@@ -97,9 +97,9 @@ module _ {k : List ℕ} {kept at : ℕ} {o : Outside} {size : Size} {mid : ℕ} 
               let c = first-tallied z q A B w ws h g l in
               let t = v.each s B w ws q g l in
               let y : nullable A ≡ true = sym c.null ∙ n in
-              let us = map (rowWords k s) (met A (pick (isEps B) o.parts (suc o.parts)) (pick (isEps B) ws (exprWords B ++ ws))) in
-              let vs = map (rowWords k s) (met B o.parts ws) in
-              let r : map (rowWords k s) (met (cat A B) o.parts ws) ≡ map (rowWords k s) (met A (pick (isEps B) o.parts (suc o.parts)) (pick (isEps B) ws (exprWords B ++ ws))) ++ map (rowWords k s) (met B o.parts ws) = rw (y, map-append) in
+              let us = map (row_words k s) (met A (pick (is_eps B) o.parts (suc o.parts)) (pick (is_eps B) ws (expr_words B ++ ws))) in
+              let vs = map (row_words k s) (met B o.parts ws) in
+              let r : map (row_words k s) (met (cat A B) o.parts ws) ≡ map (row_words k s) (met A (pick (is_eps B) o.parts (suc o.parts)) (pick (is_eps B) ws (expr_words B ++ ws))) ++ map (row_words k s) (met B o.parts ws) = rw (y, map-append) in
               record { null = e ∙ t.null ∙ ap (λ b. b && nullable B) (sym y); size = tallied-two size us vs c.size t.size ∙ ap (tallied size) (sym r) }) R w g;
         }
 
@@ -113,7 +113,7 @@ module _ {k : List ℕ} {kept at : ℕ} {o : Outside} {size : Size} {mid : ℕ} 
               let y = v.each s B w ws q (second-of h f (m.each A _ h)) l in
               record {
                 null = e ∙ ap (λ u. u || d.null) x.null ∙ ap (λ u. nullable A || u) y.null;
-                size = tallied-two size (map (rowWords k s) (met A o.parts ws)) (map (rowWords k s) (met B o.parts ws)) x.size y.size ∙ ap (tallied size) (sym (map-append (rowWords k s) (met A o.parts ws) (met B o.parts ws)));
+                size = tallied-two size (map (row_words k s) (met A o.parts ws)) (map (row_words k s) (met B o.parts ws)) x.size y.size ∙ ap (tallied size) (sym (map-append (row_words k s) (met A o.parts ws) (met B o.parts ws)));
               }) R w g;
         }
 
@@ -132,11 +132,11 @@ module _ {k : List ℕ} {kept at : ℕ} {o : Outside} {size : Size} {mid : ℕ} 
 
 -- ---- the whole, with nothing outside
 
-pub tally-sizes : {k : List ℕ} (s : Shape) {t : Kept} {kept : ℕ} {r : Counted} → t ≡ keptOf s 0 → kept ≡ keptLength k t → Tallies k kept s.expr (record { parts = 0; words = 0 }) (Fits 0) r → Sized k s r.size
+pub tally-sizes : {k : List ℕ} (s : Shape) {t : Kept} {kept : ℕ} {r : Counted} → t ≡ kept_of s 0 → kept ≡ kept_length k t → Tallies k kept s.expr (record { parts = 0; words = 0 }) (Fits 0) r → Sized k s r.size
 tally-sizes {k} s {t} {kept} {r} e q w =
     record {
       each = λ before h R behind v.
-          (w.each t R (conjWords behind) [] q (record { fine = v.fine; words = v.here }) refl).size
-          ∙ ap (tallied (Fits 0)) (sym (rows v 0 ∙ ap (λ t. map (rowWords k t) (met R 0 [])) (sym e)))
-          ∙ tallied-all (monomialWords before h R behind);
+          (w.each t R (conj_words behind) [] q (record { fine = v.fine; words = v.here }) refl).size
+          ∙ ap (tallied (Fits 0)) (sym (rows v 0 ∙ ap (λ t. map (row_words k t) (met R 0 [])) (sym e)))
+          ∙ tallied-all (monomial_words before h R behind);
     }

@@ -10,10 +10,10 @@ use lib.Seq.{slice, length-slice}
 use Rattle.language.specs.Kinds.{pick}
 use Rattle.language.specs.Limits.{desk}
 use Rattle.language.specs.Trees.{Hedge, Expr, Conj, star, over}
-use Rattle.language.specs.Writing.{exprWords, conjWords}
-use Rattle.rules.specs.Looks.{isEps}
+use Rattle.language.specs.Writing.{expr_words, conj_words}
+use Rattle.rules.specs.Looks.{is_eps}
 use Rattle.rules.specs.Expressions.{nullable}
-use Rattle.plans.specs.Sizes.{monomialWords}
+use Rattle.plans.specs.Sizes.{monomial_words}
 use Rattle.views.specs.Views.{Shows}
 use Rattle.views.specs.declared.Shape.{Shape}
 use Rattle.slices.specs.Written.{Wrote}
@@ -23,7 +23,7 @@ use Rattle.linear_form.specs.declared.Walked.{Walked}
 use Rattle.expressions.specs.Standing.{Here}
 use Rattle.linear_form.specs.Charted.{Past}
 use Rattle.monomials.specs.Loose.{met}
-use Rattle.linear_form.specs.Rows.{keptOf, rowWords, Holds, Rowed, Written}
+use Rattle.linear_form.specs.Rows.{kept_of, row_words, Holds, Rowed, Written}
 use Rattle.linear_form.specs.Walks.{Keeps, Widened, EnclosedBy, Enclosed, Handed, closes, joined, Added, WalksOver, Walks}
 use Rattle.expressions.proofs.Standing.{second-of, words-here, cases, by-eps, by-cat, by-alt, by-star, by_over, past_end, is-alt}
 use Rattle.linear_form.proofs.Rows.{rows}
@@ -58,8 +58,8 @@ widened_more {k} {from} {until} {o} {rest} {rest'} f u h w =
 
 -- ---- what the first part of a concatenation gets from outside
 
-enclosed-not : {B : Expr} {ws : List ℕ} {o : Outside} {rest rest' : List ℕ} {r : Outside} → isEps B ≡ false → r.parts ≡ suc o.parts
-    → length (exprWords B ++ ws) ≡ r.words → (Holds rest ws → Holds rest' (exprWords B ++ ws)) → EnclosedBy B ws o rest rest' r
+enclosed-not : {B : Expr} {ws : List ℕ} {o : Outside} {rest rest' : List ℕ} {r : Outside} → is_eps B ≡ false → r.parts ≡ suc o.parts
+    → length (expr_words B ++ ws) ≡ r.words → (Holds rest ws → Holds rest' (expr_words B ++ ws)) → EnclosedBy B ws o rest rest' r
 enclosed-not {B} e p w h = record { parts = rw e p; words = rw e w; held = λ x. rw e (h x) }
 
 pub enclosed-bare : {k : List ℕ} {from until : ℕ} {o : Outside} {rest : List ℕ} → get_or k from 0 ≡ 7000 → Enclosed k from until o rest rest o
@@ -73,9 +73,9 @@ enclosed-bare {k} {from} {until} {o} {rest} z =
     }
 
 -- an expression whose first word is another is not eps
-not-eps : {k : List ℕ} {at : ℕ} {R : Expr} {w : List ℕ} → (get_or k at 0 ≡ 7000 → ⊥) → Here k at R w → isEps R ≡ false
+not-eps : {k : List ℕ} {at : ℕ} {R : Expr} {w : List ℕ} → (get_or k at 0 ≡ 7000 → ⊥) → Here k at R w → is_eps R ≡ false
 not-eps {k} {at} {R} {w} n g =
-    cases (λ R w. isEps R ≡ false) (λ y w. absurd (n y)) (λ y a b w h o. refl) (λ y a b w h o. refl) (λ y a w h. refl) (λ f y u a w h. refl) R w g
+    cases (λ R w. is_eps R ≡ false) (λ y w. absurd (n y)) (λ y a b w h o. refl) (λ y a b w h o. refl) (λ y a w h. refl) (λ f y u a w h. refl) R w g
 
 pub enclosed-more : {k : List ℕ} {from until : ℕ} {o : Outside} {rest rest' : List ℕ} {r : Outside} → (get_or k from 0 ≡ 7000 → ⊥) → from ≤ until
     → Widened k from until o rest rest' r → Enclosed k from until o rest rest' r
@@ -90,7 +90,7 @@ enclosed-more {k} {from} {until} {o} {rest} {rest'} {r} n le a =
       each = λ B v ws g u l.
           let e = not-eps n g in
           let s = words-here g u in
-          let x = length-append (exprWords B) ws in
+          let x = length-append (expr_words B) ws in
           enclosed-not e (omega arith) (omega arith) (λ h. subst (λ l. Holds rest' (l ++ ws)) s (a.held ws l h));
     }
 
@@ -116,14 +116,14 @@ handed-alt n m = record { few = omega arith; short = omega arith; star = λ y. a
 -- ---- the first part of a concatenation
 
 first-added : {k : List ℕ} {s : Kept} {o : Outside} {r₀ o₀ : List ℕ} {t : ℕ} {x mid end : ℕ} {i : Outside} {r₁ r₂ o₂ : List ℕ} {a : Walked}
-    → Past k mid end → Enclosed k mid end o r₀ r₁ i → Walks k s x i r₁ o₀ t r₂ o₂ a → (A B : Expr) (w ws : List ℕ) → Here k x A (exprWords B ++ w) → Here k mid B w → length ws ≡ o.words
-    → Added s.number (map (rowWords k s) (met A (pick (isEps B) o.parts (suc o.parts)) (pick (isEps B) ws (exprWords B ++ ws)))) ws r₀ o₀ t r₂ o₂ a.to
+    → Past k mid end → Enclosed k mid end o r₀ r₁ i → Walks k s x i r₁ o₀ t r₂ o₂ a → (A B : Expr) (w ws : List ℕ) → Here k x A (expr_words B ++ w) → Here k mid B w → length ws ≡ o.words
+    → Added s.number (map (row_words k s) (met A (pick (is_eps B) o.parts (suc o.parts)) (pick (is_eps B) ws (expr_words B ++ ws)))) ws r₀ o₀ t r₂ o₂ a.to
 first-added {k} {s} e p b A B w ws h g l =
     let c = p.each B w ws g (e.each B w g) l in
-    let q = b.each A (exprWords B ++ w) (pick (isEps B) ws (exprWords B ++ ws)) h c.words in
+    let q = b.each A (expr_words B ++ w) (pick (is_eps B) ws (expr_words B ++ ws)) h c.words in
     let d = p.less in
     let f = c.words in
-    added-inner (omega arith) (rw l p.keeps) c.held (added-same (ap (λ n. map (rowWords k s) (met A n (pick (isEps B) ws (exprWords B ++ ws)))) (sym c.parts)) q.added)
+    added-inner (omega arith) (rw l p.keeps) c.held (added-same (ap (λ n. map (row_words k s) (met A n (pick (is_eps B) ws (expr_words B ++ ws)))) (sym c.parts)) q.added)
 
 -- ---- by the word
 
@@ -146,7 +146,7 @@ module _ {k : List ℕ} {s : Kept} {at : ℕ} {o : Outside} {r₀ o₀ : List �
         room = a.room;
         each = λ R w ws g l. by_over (λ R w. Here k at R w → WalksOver k s R o.parts ws r₀ o₀ t r₀ o₁ (record { null = false; to = t₁ })) z (λ f y u A w h g.
             let n = m.each A w h in
-            let x : mid ≡ at + length (exprWords (over f A)) = omega arith in
+            let x : mid ≡ at + length (expr_words (over f A)) = omega arith in
             record { null = refl; added = added-one (record { name = f; inner = A; parts = o.parts; words = ws }) a (words-here g x) refl (sym l) }) R w g g;
       }
 
@@ -157,16 +157,16 @@ module _ {k : List ℕ} {s : Kept} {at : ℕ} {o : Outside} {r₀ o₀ : List �
         room = b.room;
         each = λ R w ws g l. by-star (λ R w. Here k at R w → WalksOver k s R o.parts ws r₀ o₀ t r₂ o₂ (record { null = true; to = a.to })) z (λ A w h g.
             let n = m.each A w h in
-            let x : mid ≡ at + length (exprWords (star A)) = omega arith in
+            let x : mid ≡ at + length (expr_words (star A)) = omega arith in
             let y = words-here g x in
             let c = p.parts in
             let d = p.words in
-            let v = length-append (exprWords (star A)) ws in
+            let v = length-append (expr_words (star A)) ws in
             let f : suc o.parts ≡ i.parts = omega arith in
-            let q = b.each A w (exprWords (star A) ++ ws) h (omega arith) in
+            let q = b.each A w (expr_words (star A) ++ ws) h (omega arith) in
             record {
               null = refl;
-              added = added-inner (omega arith) (rw l p.keeps) (λ e. subst (λ l. Holds r₁ (l ++ ws)) y (p.held ws l e)) (added-same (ap (λ n. map (rowWords k s) (met A n (exprWords (star A) ++ ws))) f) q.added);
+              added = added-inner (omega arith) (rw l p.keeps) (λ e. subst (λ l. Holds r₁ (l ++ ws)) y (p.held ws l e)) (added-same (ap (λ n. map (row_words k s) (met A n (expr_words (star A) ++ ws))) f) q.added);
             }) R w g g;
       }
 
@@ -179,7 +179,7 @@ module _ {k : List ℕ} {s : Kept} {at : ℕ} {o : Outside} {r₀ o₀ : List �
           each = λ R w ws g l. by-cat (λ R w. WalksOver k s R o.parts ws r₀ o₀ t r₂ o₂ a) z (λ A B w h f.
               let g = second-of h f (m.each A _ h) in
               let c = p.each B w ws g (e.each B w g) l in
-              let q = b.each A (exprWords B ++ w) (pick (isEps B) ws (exprWords B ++ ws)) h c.words in
+              let q = b.each A (expr_words B ++ w) (pick (is_eps B) ws (expr_words B ++ ws)) h c.words in
               let y : nullable A ≡ false = sym q.null ∙ n in
               record { null = n ∙ ap (λ b. b && nullable B) (sym y); added = added-same (rw (y, append-nil)) (first-added e p b A B w ws h g l) }) R w g;
         }
@@ -192,7 +192,7 @@ module _ {k : List ℕ} {s : Kept} {at : ℕ} {o : Outside} {r₀ o₀ : List �
           each = λ R w ws g l. by-cat (λ R w. WalksOver k s R o.parts ws r₀ o₀ t r₃ o₃ (record { null = u; to = c.to })) z (λ A B w h f.
               let g = second-of h f (m.each A _ h) in
               let c = p.each B w ws g (e.each B w g) l in
-              let q = b.each A (exprWords B ++ w) (pick (isEps B) ws (exprWords B ++ ws)) h c.words in
+              let q = b.each A (expr_words B ++ w) (pick (is_eps B) ws (expr_words B ++ ws)) h c.words in
               let v = d.each B w ws g l in
               let y : nullable A ≡ true = sym q.null ∙ n in
               record {
@@ -213,7 +213,7 @@ module _ {k : List ℕ} {s : Kept} {at : ℕ} {o : Outside} {r₀ o₀ : List �
             let y = d.each B w ws (second-of h f (m.each A _ h)) l in
             record {
               null = e ∙ ap (λ u. u || b.null) x.null ∙ ap (λ u. nullable A || u) y.null;
-              added = added-same (map-append (rowWords k s) (met A o.parts ws) (met B o.parts ws)) (added-append x.added y.added);
+              added = added-same (map-append (row_words k s) (met A o.parts ws) (met B o.parts ws)) (added-append x.added y.added);
             }) R w g;
       }
 
@@ -242,12 +242,12 @@ module _ {k : List ℕ} {s : Kept} {at : ℕ} {o : Outside} {r₀ o₀ : List �
 
 -- ---- the whole, with nothing outside
 
-module _ {k : List ℕ} (s : Shape) (number : ℕ) {t : Kept} {rest out : List ℕ} {at : ℕ} {rest' out' : List ℕ} {r : Walked} (e : t ≡ keptOf s number)
+module _ {k : List ℕ} (s : Shape) (number : ℕ) {t : Kept} {rest out : List ℕ} {at : ℕ} {rest' out' : List ℕ} {r : Walked} (e : t ≡ kept_of s number)
     (w : Walks k t s.expr (record { parts = 0; words = 0 }) rest out at rest' out' r) where
-  all-added : {before : Conj} {h : Hedge} {R : Expr} {behind : Conj} → Shows k s before h R behind → Added number (monomialWords before h R behind) [] rest out at rest' out' r.to
+  all-added : {before : Conj} {h : Hedge} {R : Expr} {behind : Conj} → Shows k s before h R behind → Added number (monomial_words before h R behind) [] rest out at rest' out' r.to
   all-added {before = before} {h = h} {R = R} {behind = behind} v =
-      subst (λ n. Added n (monomialWords before h R behind) [] rest out at rest' out' r.to) (ap (λ (t : Kept). t.number) e)
-      (added-same (rows v number ∙ ap (λ t. map (rowWords k t) (met R 0 [])) (sym e)) (w.each R (conjWords behind) [] (record { fine = v.fine; words = v.here }) refl).added)
+      subst (λ n. Added n (monomial_words before h R behind) [] rest out at rest' out' r.to) (ap (λ (t : Kept). t.number) e)
+      (added-same (rows v number ∙ ap (λ t. map (row_words k t) (met R 0 [])) (sym e)) (w.each R (conj_words behind) [] (record { fine = v.fine; words = v.here }) refl).added)
 
   pub walk-writes : desk.question ≤ length rest → Written k s number out at out' r.to
   walk-writes q = record { each = λ before h R behind v d. (all-added v).wrote (holds-none rest) q d.short d.room }

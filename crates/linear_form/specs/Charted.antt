@@ -1,7 +1,7 @@
 -- The place after each expression, kept for all places.
 use Rattle.std.specs.Prelude.{ℕ, ◌+◌, ◌<◌, ◌≤◌, ◌≡◌, List, length, drop, get_or}
 use Rattle.language.specs.Trees.{Expr}
-use Rattle.language.specs.Writing.{exprWords}
+use Rattle.language.specs.Writing.{expr_words}
 use Rattle.expressions.specs.Passing.{reach}
 use Rattle.expressions.specs.Standing.{Here}
 
@@ -19,4 +19,4 @@ pub record Past (k : List ℕ) (at e : ℕ) : Type 0 where
   pub after : at ≤ e
   pub within : at ≤ length k → e ≤ length k
   pub is : e ≡ at + reach 1 (drop at k)
-  pub each : (R : Expr) (beyond : List ℕ) → Here k at R beyond → e ≡ at + length (exprWords R)
+  pub each : (R : Expr) (beyond : List ℕ) → Here k at R beyond → e ≡ at + length (expr_words R)

@@ -4,7 +4,7 @@ ghost use Rattle.frames.specs.Frames.{frame, frame_of};
 ghost use Rattle.language.specs.Limits.{desk};
 ghost use Rattle.slices.specs.Written.{Wrote};
 ghost use Rattle.monomials.specs.Loose.{opening};
-ghost use Rattle.linear_form.specs.Rows.{keptOf, frontWords, keptLength, lengthBy, resultLength, resultWords, Bounded, counted, Rowed};
+ghost use Rattle.linear_form.specs.Rows.{kept_of, front_words, kept_length, length_by, result_length, result_words, Bounded, counted, Rowed};
 
 use frames::{FRAME, write_frame};
 use language::limits::QUESTION;
@@ -35,7 +35,7 @@ pub struct Spot {
 }
 
 pub(crate) fn keeping(s: Shape, number: u16) -> Kept
-    ensures { result ≡ keptOf s number }
+    ensures { result ≡ kept_of s number }
 {
     let h = s.h;
     Kept {
@@ -52,7 +52,7 @@ pub(crate) fn keeping(s: Shape, number: u16) -> Kept
 // How many words every result keeps of the conjunction, those between the parts among them.
 pub(crate) fn kept_len(k: &[u16], s: Kept) -> usize
     requires { length k.now ≤ desk.question }
-    ensures { result ≡ keptLength k.now s }
+    ensures { result ≡ kept_length k.now s }
 {
     let a = part_len(k, 0, s.at);
     let b = part_len(k, s.from, s.rest);
@@ -71,7 +71,7 @@ fn opening_len(parts: usize) -> usize
 // How long a result is that keeps so many words.
 pub(crate) fn result_len(k: &[u16], kept: usize, p: Spot) -> usize
     requires { (length k.now ≤ desk.question) × (kept ≤ 4 * desk.question + 3) × Bounded p }
-    ensures { result ≡ lengthBy k.now kept p }
+    ensures { result ≡ length_by k.now kept p }
 {
     let a = part_len(k, p.place, p.past);
     let b = opening_len(p.parts);
@@ -124,8 +124,8 @@ fn put(out: &mut [u16], at: usize, x: u16) -> usize
 
 // What stands before the rest in a result. It is written part by part and not by a recipe, which would stand in each frame of the recursion.
 fn write_front(k: &[u16], s: Kept, p: Spot, out: &mut [u16], at: usize) -> usize
-    requires { at + length (frontWords k.now s p) ≤ length out.old }
-    ensures { Wrote out.old at (frontWords k.now s p) out.new result }
+    requires { at + length (front_words k.now s p) ≤ length out.old }
+    ensures { Wrote out.old at (front_words k.now s p) out.new result }
 {
     let a = copy(k, 0, s.at, out, at);
     let b = put(out, a, 6000);
@@ -146,8 +146,8 @@ fn write_row(
     out: &mut [u16],
     at: usize,
 ) -> usize
-    requires { (p.words ≤ length rest.now) × (one ≡ resultLength k.now s p) × (one ≤ desk.question) × (at + frame + one ≤ length out.old) }
-    ensures { Wrote out.old at (frame_of (resultLength k.now s p) s.number ++ resultWords k.now s p (drop (length rest.now - p.words) rest.now)) out.new result }
+    requires { (p.words ≤ length rest.now) × (one ≡ result_length k.now s p) × (one ≤ desk.question) × (at + frame + one ≤ length out.old) }
+    ensures { Wrote out.old at (frame_of (result_length k.now s p) s.number ++ result_words k.now s p (drop (length rest.now - p.words) rest.now)) out.new result }
 {
     write_frame(out, at, one, s.number);
     let a = write_front(k, s, p, out, at + FRAME);

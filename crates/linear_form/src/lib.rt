@@ -10,7 +10,7 @@ ghost use Rattle.std.specs.Prelude.{◌≡◌, ◌≤◌, ◌<◌, ◌+◌, ◌*
 ghost use Rattle.language.specs.Limits.{desk};
 ghost use Rattle.linear_form.specs.Charted.{ChartedAt, Past};
 ghost use Rattle.language.specs.Trees.{Hedge, Expr, mem, Conj};
-ghost use Rattle.plans.specs.Sizes.{monomialWords};
+ghost use Rattle.plans.specs.Sizes.{monomial_words};
 ghost use Rattle.taking.specs.Taking.{Took};
 ghost use Rattle.views.specs.Standing.{LiteralAt};
 ghost use Rattle.views.specs.Views.{MembershipAt};
@@ -262,7 +262,7 @@ pub fn step_monomials(
 ) -> Stepped
     requires k_len_bound { (length k.now ≤ desk.question) × (literal < length k.now) × (next ≤ length out.old) × (next ≤ desk.room) }
     requires some_membership { SomeMembership k.now literal }
-    ensures { (before : Conj) (h : Hedge) (R : Expr) (behind : Conj) → LiteralAt k.now literal before (mem h R) behind → Took number (monomialWords before h R behind) out.old next result out.new }
+    ensures { (before : Conj) (h : Hedge) (R : Expr) (behind : Conj) → LiteralAt k.now literal before (mem h R) behind → Took number (monomial_words before h R behind) out.old next result out.new }
 {
     let s = show_membership(k, literal);
     let mut ends = [0; QUESTION];

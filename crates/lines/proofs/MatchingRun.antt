@@ -9,18 +9,18 @@ use Rattle.language.specs.Limits.{Limits}
 use Rattle.language.specs.declared.Signature.{Signature}
 use Rattle.language.specs.Trees.{Literal, eqn, mem, Conj}
 use Rattle.rules.specs.Reply.{nothing, results}
-use Rattle.rules.specs.Rules.{Answer, Rule, onEqn, onMem, onPair, rules}
+use Rattle.rules.specs.Rules.{Answer, Rule, on_eqn, on_mem, on_pair, rules}
 use Rattle.rules.specs.Step.{place, placed, step}
 use Rattle.rules.specs.Solved.{solved}
 use Rattle.rules.specs.Run.{Numbered, EachLine, finished, run}
-use Rattle.rules.specs.Answer.{countOpen}
+use Rattle.rules.specs.Answer.{count_open}
 use Rattle.rules.specs.Each.{Each}
 use Rattle.rules.specs.Sides.{AtSides}
 use Rattle.rules.proofs.Tests.{and_parts}
 use Rattle.rules.proofs.Each.{◌also◌, each_map, each-imp}
 use Rattle.rules.proofs.Steps.{Gives, OnSides, kept-at-sides, gives-behind, step-at-sides}
 use Rattle.rules.proofs.Invariant.{lines_keep, lines_rest}
-use Rattle.lines.specs.Matching.{ground, groundSide, groundSides, Matching, KeepsMatching}
+use Rattle.lines.specs.Matching.{ground, ground_side, ground_sides, Matching, KeepsMatching}
 use Rattle.lines.proofs.Tests.{or-exchanged}
 use Rattle.lines.proofs.Places.{sides-parts}
 use Rattle.lines.proofs.Fitting.{Fits, FitAnswer, exchanged, fit-placed}
@@ -34,26 +34,26 @@ use Rattle.lines.proofs.Unopened.{matching-solved}
 -- ---- a rule at a literal
 
 abbrev RuleStays : Rule → Type 0
-RuleStays (onEqn rule) = StaysEqn rule
-RuleStays (onMem rule) = StaysMem rule
-RuleStays (onPair rule) = StaysPair rule
+RuleStays (on_eqn rule) = StaysEqn rule
+RuleStays (on_mem rule) = StaysMem rule
+RuleStays (on_pair rule) = StaysPair rule
 
 at_literal : (before behind : Conj) (l : Literal) (w : Answer) → Matching (before ++ (l ∷ behind)) → FitAnswer l w → Gives (Each Matching) (placed before behind w)
 at_literal before behind l none m p = tt
 at_literal before behind l (some bs) m p = each_map (Fits l) Matching (place before behind) (λ b f. fit-placed before behind l b f m) bs p.given
 
 -- the written side, or swapped
-sides-stay : (rule : Rule) → RuleStays rule → (before : Conj) (l : Literal) (behind : Conj) → T (groundSide l) → Matching (before ++ (l ∷ behind))
+sides-stay : (rule : Rule) → RuleStays rule → (before : Conj) (l : Literal) (behind : Conj) → T (ground_side l) → Matching (before ++ (l ∷ behind))
     → OnSides (Each Matching) before behind rule l
-sides-stay (onEqn rule) p before (eqn l r) behind t m = (
+sides-stay (on_eqn rule) p before (eqn l r) behind t m = (
   at_literal before behind (eqn l r) (rule (before ++ behind) l r) m (p (before ++ behind) l r t),
   at_literal before behind (eqn l r) (rule (before ++ behind) r l) m
       (exchanged l r (rule (before ++ behind) r l) (p (before ++ behind) r l (or-exchanged (ground l) (ground r) t))),
 )
-sides-stay (onEqn rule) p before (mem h R) behind t m = tt
-sides-stay (onMem rule) p before (eqn l r) behind t m = tt
-sides-stay (onMem rule) p before (mem h R) behind t m = at_literal before behind (mem h R) (rule (before ++ behind) h R) m (p (before ++ behind) h R)
-sides-stay (onPair rule) p before l behind t m = gives-behind (Keeps [] (l ∷ behind)) Matching before (rule l behind) kept (p l behind)
+sides-stay (on_eqn rule) p before (mem h R) behind t m = tt
+sides-stay (on_mem rule) p before (eqn l r) behind t m = tt
+sides-stay (on_mem rule) p before (mem h R) behind t m = at_literal before behind (mem h R) (rule (before ++ behind) h R) m (p (before ++ behind) h R)
+sides-stay (on_pair rule) p before l behind t m = gives-behind (Keeps [] (l ∷ behind)) Matching before (rule l behind) kept (p l behind)
   where
     kept : (k : Conj) → Keeps [] (l ∷ behind) k → Matching (before ++ k)
     kept k c =
@@ -61,7 +61,7 @@ sides-stay (onPair rule) p before l behind t m = gives-behind (Keeps [] (l ∷ b
 
 rule-stays : (rule : Rule) → RuleStays rule → AtSides KeepsMatching rule
 rule-stays rule p = kept-at-sides Matching rule λ before l behind m.
-    sides-stay rule p before l behind (and_parts (groundSide l) (groundSides behind) (sides-parts before (l ∷ behind) m.sides).1).0 m
+    sides-stay rule p before l behind (and_parts (ground_side l) (ground_sides behind) (sides-parts before (l ∷ behind) m.sides).1).0 m
 
 -- each rule, at whatever literal and on whatever side it applies
 pub each-rule-stays : (σ : Signature) → Each (AtSides KeepsMatching) (rules σ)
@@ -87,7 +87,7 @@ each-solved : (σ : Signature) (ls : List Numbered) → EachLine Matching ls →
 each-solved σ [] m q = tt
 each-solved σ (k ∷ ls) m q = (matching-solved σ k.literals m.0 q.0, each-solved σ ls m.1 q.1)
 
-pub none_open : (ls : List Numbered) → EachLine (λ k. solved k ≡ true) ls → countOpen ls ≡ 0
+pub none_open : (ls : List Numbered) → EachLine (λ k. solved k ≡ true) ls → count_open ls ≡ 0
 none_open [] s = refl
 none_open (k ∷ ls) s = rw s.0 (none_open ls s.1)
 

@@ -1,9 +1,9 @@
 -- The rules of two literals keep the matching fragment.
 use mathlib.Core.Logic.{inl, inr}
 use mathlib.Core.List.{[], ◌∷◌}
-use Rattle.language.specs.Limits.{walkedPairs}
+use Rattle.language.specs.Limits.{walked_pairs}
 use Rattle.language.specs.declared.Signature.{Signature}
-use Rattle.language.specs.Trees.{Literal, Conj, isUnordered}
+use Rattle.language.specs.Trees.{Literal, Conj, is_unordered}
 use Rattle.rules.specs.Reply.{PairRule}
 use Rattle.rules.specs.Rules.{Fold, Clash}
 use Rattle.rules.specs.Each.{Each}
@@ -33,4 +33,4 @@ Fold-stays l behind = fold_is (Each (Keeps [] (l ∷ behind))) l behind λ k s. 
 )
 
 pub Clash-stays : (σ : Signature) → StaysPair (Clash σ)
-Clash-stays σ l behind = drops-gives (Each (Keeps [] (l ∷ behind))) (Clash σ l behind) tt (clash-drops walkedPairs (isUnordered σ) l behind)
+Clash-stays σ l behind = drops-gives (Each (Keeps [] (l ∷ behind))) (Clash σ l behind) tt (clash-drops walked_pairs (is_unordered σ) l behind)

@@ -8,7 +8,7 @@ use native.Mathlib.Omega.{arith}
 use Rattle.language.specs.declared.Signature.{Signature}
 use Rattle.language.specs.Trees.{Hedge, Expr, Literal, eqn, mem, Conj}
 use Rattle.rules.specs.Reply.{nothing}
-use Rattle.rules.specs.Rules.{Answer, Rule, onEqn, onMem, onPair, rules, R1, R2, F1, F2, F3, F4, F5, F6, F7, Del2, D1, D2, D0, E1, E2, E3, E5, E6, M2, M4, M5, M6, M11, M12}
+use Rattle.rules.specs.Rules.{Answer, Rule, on_eqn, on_mem, on_pair, rules, R1, R2, F1, F2, F3, F4, F5, F6, F7, Del2, D1, D2, D0, E1, E2, E3, E5, E6, M2, M4, M5, M6, M11, M12}
 use Rattle.rules.specs.Step.{placed, step}
 use Rattle.rules.specs.Each.{Each}
 use Rattle.rules.specs.Sides.{Idle}
@@ -17,11 +17,11 @@ use Rattle.rules.proofs.Steps.{step-none}
 
 -- the rule does not apply to l among K, neither for an equation's written side nor swapped
 abbrev pub Silent : Conj → Literal → Rule → Type 0
-Silent K (eqn l r) (onEqn rule) = (rule K l r ≡ none) × (rule K r l ≡ none)
-Silent K (mem h R) (onEqn rule) = Unit {0}
-Silent K (eqn l r) (onMem rule) = Unit {0}
-Silent K (mem h R) (onMem rule) = rule K h R ≡ none
-Silent K l (onPair rule) = Unit {0}
+Silent K (eqn l r) (on_eqn rule) = (rule K l r ≡ none) × (rule K r l ≡ none)
+Silent K (mem h R) (on_eqn rule) = Unit {0}
+Silent K (eqn l r) (on_mem rule) = Unit {0}
+Silent K (mem h R) (on_mem rule) = rule K h R ≡ none
+Silent K l (on_pair rule) = Unit {0}
 
 -- none of the rules applies to l among K
 abbrev pub NoRule : Signature → Conj → Literal → Type 0
@@ -32,13 +32,13 @@ placed-nothing before behind none e = refl
 placed-nothing before behind (some bs) e = let z : ◌≡◌ {A = ℕ} 0 1 = cc in absurd (omega arith)
 
 idle-silent : (before behind : Conj) (l : Literal) (rule : Rule) → Idle (before ++ (l ∷ behind)) rule → Silent (before ++ behind) l rule
-idle-silent before behind (eqn l r) (onEqn rule) i =
+idle-silent before behind (eqn l r) (on_eqn rule) i =
     (placed-nothing before behind (rule (before ++ behind) l r) (i false before (eqn l r) behind refl), placed-nothing before behind (rule (before ++ behind) r l) (i true before (eqn l r) behind refl))
-idle-silent before behind (mem h R) (onEqn rule) i = tt
-idle-silent before behind (eqn l r) (onMem rule) i = tt
-idle-silent before behind (mem h R) (onMem rule) i = placed-nothing before behind (rule (before ++ behind) h R) (i false before (mem h R) behind refl)
-idle-silent before behind (eqn l r) (onPair rule) i = tt
-idle-silent before behind (mem h R) (onPair rule) i = tt
+idle-silent before behind (mem h R) (on_eqn rule) i = tt
+idle-silent before behind (eqn l r) (on_mem rule) i = tt
+idle-silent before behind (mem h R) (on_mem rule) i = placed-nothing before behind (rule (before ++ behind) h R) (i false before (mem h R) behind refl)
+idle-silent before behind (eqn l r) (on_pair rule) i = tt
+idle-silent before behind (mem h R) (on_pair rule) i = tt
 
 pub at_literal : (σ : Signature) (before behind : Conj) (l : Literal) → step σ (before ++ (l ∷ behind)) ≡ nothing → NoRule σ (before ++ behind) l
 at_literal σ before behind l e =

@@ -13,14 +13,14 @@ use Rattle.language.specs.declared.Refusal.TheVariants.{QuestionLength, CountRan
 use Rattle.language.specs.Limits.{Limits}
 use Rattle.language.specs.declared.Signature.{Signature}
 use Rattle.language.specs.Trees.{Conj, Counts, Question}
-use Rattle.language.specs.Question.{countsOf, alternativesOf, lengthFits, countsFit, laidOut, parts, read_all, declaredQ, asks, readQuestion}
+use Rattle.language.specs.Question.{counts_of, alternatives_of, length_fits, counts_fit, laid_out, parts, read_all, declared_q, asks, read_question}
 use Rattle.meaning.specs.Meaning.{Filling, MeetsAll, MeetsOne}
-use Rattle.meaning.specs.Values.{fillingWords}
+use Rattle.meaning.specs.Values.{filling_words}
 use Rattle.rules.specs.Solved.{solved}
 use Rattle.rules.specs.Run.{Numbered, EachLine, unnumbered}
 use Rattle.rules.specs.Answer.{Solving, answered, unread, given-up, solving}
-use Rattle.rules.specs.Example.{defaultSymbol, example}
-use Rattle.rules.specs.Calls.{line_at, Showing, shows, denied, fitted, shown, showingOf, showing}
+use Rattle.rules.specs.Example.{default_symbol, example}
+use Rattle.rules.specs.Calls.{line_at, Showing, shows, denied, fitted, shown, showing_of, showing}
 use Rattle.rules.proofs.Tests.{test-true}
 use Rattle.exact.proofs.Declared.{Asks, passes, reads}
 use Rattle.lines.specs.Fillings.{WordsMeet}
@@ -49,7 +49,7 @@ pub record Shows (L : Limits) (old : Bool) (n : Counts) (room line : ℕ) (s : S
   pub was-answered : s ≡ answered lines steps
   pub there : line_at line lines ≡ some (record { number = number; literals = literals })
   pub is-solved : solved literals ≡ true
-  pub written : fs ≡ fillingWords n (example (defaultSymbol old n) literals)
+  pub written : fs ≡ filling_words n (example (default_symbol old n) literals)
   pub fits : length fs ≤ L.filling
   pub fits-room : length fs ≤ room
 
@@ -68,8 +68,8 @@ module _ (L : Limits) (old : Bool) (n : Counts) (room line : ℕ) (fs : List ℕ
   of-line : (ls : List Numbered) (m : ℕ) (l : Option Numbered) → line_at line ls ≡ l → shown L old n room l ≡ shows fs → Shows L old n room line (answered ls m) fs
   of-line ls m none d e = absurd (let z : ◌≡◌ {A = ℕ} 0 1 = cc in omega arith)
   of-line ls m (some k) d e =
-      let (s, f) = open-denied (solved k.literals) (fitted L room (fillingWords n (example (defaultSymbol old n) k.literals))) e in
-      let (a, b, w) = fit (ltb L.filling (length (fillingWords n (example (defaultSymbol old n) k.literals)))) (ltb room (length (fillingWords n (example (defaultSymbol old n) k.literals)))) (fillingWords n (example (defaultSymbol old n) k.literals)) f in
+      let (s, f) = open-denied (solved k.literals) (fitted L room (filling_words n (example (default_symbol old n) k.literals))) e in
+      let (a, b, w) = fit (ltb L.filling (length (filling_words n (example (default_symbol old n) k.literals)))) (ltb room (length (filling_words n (example (default_symbol old n) k.literals)))) (filling_words n (example (default_symbol old n) k.literals)) f in
       record {
         lines = ls;
         steps = m;
@@ -79,38 +79,38 @@ module _ (L : Limits) (old : Bool) (n : Counts) (room line : ℕ) (fs : List ℕ
         there = d;
         is-solved = s;
         written = cc;
-        fits = rw w at (ltb-false L.filling (length (fillingWords n (example (defaultSymbol old n) k.literals))) a);
-        fits-room = rw w at (ltb-false room (length (fillingWords n (example (defaultSymbol old n) k.literals))) b);
+        fits = rw w at (ltb-false L.filling (length (filling_words n (example (default_symbol old n) k.literals))) a);
+        fits-room = rw w at (ltb-false room (length (filling_words n (example (default_symbol old n) k.literals))) b);
       }
 
-  pub of-solving : (s : Solving) → showingOf L old n room line s ≡ shows fs → Shows L old n room line s fs
+  pub of-solving : (s : Solving) → showing_of L old n room line s ≡ shows fs → Shows L old n room line s fs
   of-solving (answered ls m) e = of-line ls m (line_at line ls) refl e
   of-solving (unread r) e = absurd (let z : ◌≡◌ {A = ℕ} 0 1 = cc in omega arith)
   of-solving (given-up r) e = absurd (let z : ◌≡◌ {A = ℕ} 0 1 = cc in omega arith)
 
 pub shown-is : (L : Limits) (old : Bool) (work answer room line : ℕ) (ws fs : List ℕ) → showing L old work answer room line ws ≡ shows fs
-    → Shows L old (countsOf ws) room line (solving L work answer ws) fs
+    → Shows L old (counts_of ws) room line (solving L work answer ws) fs
 unfolding showing
-shown-is L old work answer room line ws fs e = of-solving L old (countsOf ws) room line fs (solving L work answer ws) e
+shown-is L old work answer room line ws fs e = of-solving L old (counts_of ws) room line fs (solving L work answer ws) e
 
 -- the words shown are those of the example by the question's own counts
 pub words-meet : (L : Limits) (old : Bool) (n m : Counts) (fs : List ℕ) (k : Conj) (w : List Conj) → n ≡ m
-    → fs ≡ fillingWords m (example (defaultSymbol old m) k) → length fs ≤ L.filling
-    → (length (fillingWords n (example (defaultSymbol old n) k)) ≤ L.filling → WordsMeet L n (fillingWords n (example (defaultSymbol old n) k)) w)
+    → fs ≡ filling_words m (example (default_symbol old m) k) → length fs ≤ L.filling
+    → (length (filling_words n (example (default_symbol old n) k)) ≤ L.filling → WordsMeet L n (filling_words n (example (default_symbol old n) k)) w)
     → WordsMeet L n fs w
 words-meet L old n m fs k w c e s h = rw (e, ← c) (h (rw (e, ← c) at s))
 
 -- ---- the counts of a question that is read
 
-asked-counts : (L : Limits) (ws : List ℕ) → Asks (λ q. countsFit L (countsOf ws) (alternativesOf ws) ≡ true) (readQuestion L ws)
-unfolding readQuestion
+asked-counts : (L : Limits) (ws : List ℕ) → Asks (λ q. counts_fit L (counts_of ws) (alternatives_of ws) ≡ true) (read_question L ws)
+unfolding read_question
 asked-counts L ws =
-    let Fit : Question → Type 0 = λ q. countsFit L (countsOf ws) (alternativesOf ws) ≡ true in
-    passes Fit (lengthFits L ws) QuestionLength _ λ _.
-    passes Fit (countsFit L (countsOf ws) (alternativesOf ws)) CountRange _ λ t.
-    passes Fit (laidOut 5 (alternativesOf ws) ws) BadOffset _ λ _.
-    reads Fit (read_all L (parts 5 (alternativesOf ws) ws)) _ _ λ ks.
-    passes Fit (declaredQ (countsOf ws) ks) _ _ λ _. (test-true (countsFit L (countsOf ws) (alternativesOf ws))).0 t
+    let Fit : Question → Type 0 = λ q. counts_fit L (counts_of ws) (alternatives_of ws) ≡ true in
+    passes Fit (length_fits L ws) QuestionLength _ λ _.
+    passes Fit (counts_fit L (counts_of ws) (alternatives_of ws)) CountRange _ λ t.
+    passes Fit (laid_out 5 (alternatives_of ws) ws) BadOffset _ λ _.
+    reads Fit (read_all L (parts 5 (alternatives_of ws) ws)) _ _ λ ks.
+    passes Fit (declared_q (counts_of ws) ks) _ _ λ _. (test-true (counts_fit L (counts_of ws) (alternatives_of ws))).0 t
 
-pub read-counts : (L : Limits) (ws : List ℕ) (q : Question) → readQuestion L ws ≡ asks q → countsFit L (countsOf ws) (alternativesOf ws) ≡ true
+pub read-counts : (L : Limits) (ws : List ℕ) (q : Question) → read_question L ws ≡ asks q → counts_fit L (counts_of ws) (alternatives_of ws) ≡ true
 read-counts L ws q e = rw e at (asked-counts L ws)

@@ -8,19 +8,19 @@ use native.Mathlib.Omega.{arith}
 use borrow.Author.Tests.{le-ltb}
 use lib.Dec.{ltb}
 use lib.ListN.{length}
-use Rattle.language.specs.Limits.{Limits, desk, firstDesk, Within}
+use Rattle.language.specs.Limits.{Limits, desk, first_desk, Within}
 use Rattle.language.proofs.Wider.{first-within}
 use Rattle.language.specs.Trees.{Counts}
-use Rattle.language.specs.Question.{countsOf}
-use Rattle.meaning.specs.Values.{fillingWords}
+use Rattle.language.specs.Question.{counts_of}
+use Rattle.meaning.specs.Values.{filling_words}
 use Rattle.rules.specs.Solved.{solved}
 use Rattle.rules.specs.Run.{Numbered}
-use Rattle.rules.specs.Example.{defaultSymbol, example}
+use Rattle.rules.specs.Example.{default_symbol, example}
 use Rattle.rules.specs.Calls.{shows, fitted, shown, showing}
 use Rattle.exact.proofs.Wider.{solving-wider}
 use Rattle.lines.proofs.Shown.{shown-is}
 
-fits : (M : Limits) (old : Bool) (n : Counts) (room : ℕ) (k : Numbered) (fs : List ℕ) → solved k.literals ≡ true → fs ≡ fillingWords n (example (defaultSymbol old n) k.literals)
+fits : (M : Limits) (old : Bool) (n : Counts) (room : ℕ) (k : Numbered) (fs : List ℕ) → solved k.literals ≡ true → fs ≡ filling_words n (example (default_symbol old n) k.literals)
     → ltb M.filling (length fs) ≡ false → ltb room (length fs) ≡ false → shown M old n room (some k) ≡ shows fs
 fits M old n room k fs s w f g = rw (shown, s, ← w, fitted, f, g) (ap shows (sym w))
 
@@ -34,10 +34,10 @@ showing-wider L M i old work answer work' answer' room line ws fs e p q =
     let b = i.filling in
     let f = le-ltb M.filling (length fs) (omega arith) in
     let g = le-ltb room (length fs) s.fits-room in
-    rw (showing, more, s.there) (fits M old (countsOf ws) room (record { number = s.number; literals = s.literals }) fs s.is-solved s.written f g)
+    rw (showing, more, s.there) (fits M old (counts_of ws) room (record { number = s.number; literals = s.literals }) fs s.is-solved s.written f g)
 
 -- ---- the first desk and the one of "Bigger sheets"
 
-pub shown-still : (old : Bool) (work answer work' answer' room line : ℕ) (ws fs : List ℕ) → showing firstDesk old work answer room line ws ≡ shows fs
+pub shown-still : (old : Bool) (work answer work' answer' room line : ℕ) (ws fs : List ℕ) → showing first_desk old work answer room line ws ≡ shows fs
     → desk.room ≤ work' → desk.room ≤ answer' → showing desk old work' answer' room line ws ≡ shows fs
-shown-still = showing-wider firstDesk desk first-within
+shown-still = showing-wider first_desk desk first-within

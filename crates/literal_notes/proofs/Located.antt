@@ -6,22 +6,22 @@ use mathlib.Core.List.{List, ◌++◌}
 use lib.ListN.{length, get_or}
 use Rattle.language.specs.declared.Signature.{Signature}
 use Rattle.language.specs.Trees.{Hedge, Expr, eqn, mem, Conj}
-use Rattle.rules.specs.Places.{noRule}
-use Rattle.rules.specs.Ranks.{memRank}
+use Rattle.rules.specs.Places.{no_rule}
+use Rattle.rules.specs.Ranks.{mem_rank}
 use Rattle.views.specs.declared.View.{View}
 use Rattle.views.specs.declared.Shape.{Shape}
-use Rattle.views.specs.Places.{viewAt, shape_at}
+use Rattle.views.specs.Places.{view_at, shape_at}
 use Rattle.views.specs.Standing.{LiteralAt, SomeLiteral}
 use Rattle.views.specs.Views.{Sees, Shows, EquationAt, MembershipAt}
 use Rattle.views.proofs.LiteralWalks.{at-equation, at-membership}
-use Rattle.equations.specs.Rank.{apartRank}
+use Rattle.equations.specs.Rank.{apart_rank}
 use Rattle.memberships.proofs.Decisions.{rank-law}
 use Rattle.notes.proofs.Ranked.{apart_low, member-low}
 use Rattle.literal_notes.proofs.Measured.{view-ends, shape-ends, fits}
 
 module _ (k : List ℕ) (at : ℕ) (m : SomeLiteral k at) where
   -- an equation's words, and a membership's, lie within the words
-  pub view-fits : (v : View) → get_or k at 0 ≡ 5000 → ((before : Conj) (l r : Hedge) (behind : Conj) → LiteralAt k at before (eqn l r) behind → Sees k v before l r behind) → v ≡ viewAt k at
+  pub view-fits : (v : View) → get_or k at 0 ≡ 5000 → ((before : Conj) (l r : Hedge) (behind : Conj) → LiteralAt k at before (eqn l r) behind → Sees k v before l r behind) → v ≡ view_at k at
       → (at + 2 < v.end) × (v.end ≤ length k)
   view-fits v e f d =
       at-equation k at (λ before l behind. (at + 2 < v.end) × (v.end ≤ length k)) e
@@ -34,10 +34,10 @@ module _ (k : List ℕ) (at : ℕ) (m : SomeLiteral k at) where
       (λ before h R behind p. fits p (shape-ends at (f before h R behind p) d)) m.before m.l m.behind m.stands
 
 -- ranks are small
-pub view-low : (σ : Signature) {k : List ℕ} {v : View} (n : ℕ) → EquationAt k v → ((before behind : Conj) (l r : Hedge) → Sees k v before l r behind → n ≡ apartRank σ l r) → n ≤ noRule
+pub view-low : (σ : Signature) {k : List ℕ} {v : View} (n : ℕ) → EquationAt k v → ((before behind : Conj) (l r : Hedge) → Sees k v before l r behind → n ≡ apart_rank σ l r) → n ≤ no_rule
 view-low σ n m f = let e = f m.before m.behind m.l m.r m.sees in let h = apart_low σ m.l m.r in omega arith
 
-pub shape-low : (σ : Signature) {k : List ℕ} {v : Shape} (n : ℕ) → MembershipAt k v → ((before : Conj) (h : Hedge) (R : Expr) (behind : Conj) → Shows k v before h R behind → n ≡ memRank σ (before ++ behind) h R) → n ≤ noRule
+pub shape-low : (σ : Signature) {k : List ℕ} {v : Shape} (n : ℕ) → MembershipAt k v → ((before : Conj) (h : Hedge) (R : Expr) (behind : Conj) → Shows k v before h R behind → n ≡ mem_rank σ (before ++ behind) h R) → n ≤ no_rule
 shape-low σ n m f =
     let e = f m.before m.h m.R m.behind m.shows in
     let d = rank-law σ (m.before ++ m.behind) m.h m.R in

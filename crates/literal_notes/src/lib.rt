@@ -3,8 +3,8 @@ ghost use Rattle.std.specs.Prelude.{ℕ, ◌+◌, ◌-◌, ◌≤◌, ◌<◌, �
 ghost use Rattle.std.proofs.Math.Seq.{slice};
 ghost use Rattle.language.specs.Limits.{desk};
 ghost use Rattle.language.specs.Trees.{Functor, Hedge, Literal, Conj};
-ghost use Rattle.language.specs.Writing.{functorWord};
-ghost use Rattle.rules.specs.Places.{noRule};
+ghost use Rattle.language.specs.Writing.{functor_word};
+ghost use Rattle.rules.specs.Places.{no_rule};
 ghost use Rattle.views.specs.Looks.{name_of, look_of};
 ghost use Rattle.views.specs.Standing.{Stands, LiteralAt, SomeLiteral};
 ghost use Rattle.views.specs.Views.{Sees, EquationAt};
@@ -67,7 +67,7 @@ fn asks(rank: usize) -> bool
 
 // The word of a functor that is a variable, or else `own`.
 fn blank_or(name: Name, word: u16, own: u16) -> u16
-    ensures { (F : Functor) → name ≡ name_of F → word ≡ functorWord F → result ≡ noted.blankOr F own }
+    ensures { (F : Functor) → name ≡ name_of F → word ≡ functor_word F → result ≡ noted.blank_or F own }
 {
     match name {
         Name::Symbol(_) => own,
@@ -78,7 +78,7 @@ fn blank_or(name: Name, word: u16, own: u16) -> u16
 // The second word asked for: that of the other side, which stands at `from`, where it is one variable of the rule's kind, and else `own` again.
 fn second_asked(k: &[u16], from: usize, look: Look, rank: usize, own: u16) -> u16
     requires { from < length k.now }
-    ensures { (h : Hedge) (beyond : List ℕ) → Stands k.now from h beyond → look ≡ look_of h → result ≡ noted.secondWord rank own h }
+    ensures { (h : Hedge) (beyond : List ℕ) → Stands k.now from h beyond → look ≡ look_of h → result ≡ noted.second_word rank own h }
 {
     match look {
         Look::Empty => own,
@@ -94,9 +94,9 @@ fn second_asked(k: &[u16], from: usize, look: Look, rank: usize, own: u16) -> u1
 
 // The note of the equation of a view, from its left side, whose first rule has that rank where every variable occurs elsewhere too.
 fn note_side(k: &[u16], v: View, rank: usize, swap: bool, m: Size) -> Note
-    requires rank_le_no_rule { rank ≤ noRule }
+    requires rank_le_no_rule { rank ≤ no_rule }
     requires equation_at { EquationAt k.now v }
-    ensures { (before behind : Conj) (l r : Hedge) → Sees k.now v before l r behind → result ≡ noted.sideNote rank m.len m.sum l r swap }
+    ensures { (before behind : Conj) (l r : Hedge) → Sees k.now v before l r behind → result ≡ noted.side_note rank m.len m.sum l r swap }
 {
     if asks(rank) {
         let l = v.l;

@@ -2,17 +2,17 @@
 ghost use Rattle.std.specs.Prelude.{◌≤◌, ◌<◌, ◌≡◌, length};
 ghost use Rattle.language.specs.Limits.{desk};
 ghost use Rattle.language.specs.Trees.{Literal, Conj};
-ghost use Rattle.language.specs.Writing.{conjWords};
-ghost use Rattle.language.specs.Fine.{fineConj};
+ghost use Rattle.language.specs.Writing.{conj_words};
+ghost use Rattle.language.specs.Fine.{fine_conj};
 ghost use Rattle.views.specs.Standing.{LiteralAt, SomeLiteral, Conjunction};
-ghost use Rattle.literals.specs.Places.{wordsBefore};
+ghost use Rattle.literals.specs.Places.{words_before};
 
 use words::next_literal;
 
 // The place of the literal of that number; the length, where there is none.
 pub fn literal_place(k: &[u16], number: usize) -> usize
     requires { Conjunction k.now }
-    ensures { (c : Conj) → fineConj desk c → k.now ≡ conjWords c → result ≡ wordsBefore number c }
+    ensures { (c : Conj) → fine_conj desk c → k.now ≡ conj_words c → result ≡ words_before number c }
 {
     let mut i = 0;
     let mut left = number;

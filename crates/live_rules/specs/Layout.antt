@@ -13,20 +13,20 @@ abbrev pub actions : ℕ
 actions = 3
 
 -- "up to 32"
-abbrev pub mostRules : ℕ
-mostRules = 32
+abbrev pub most_rules : ℕ
+most_rules = 32
 
 -- ---- a sheet that is written
 
-abbrev pub ruleWords : Rule → List ℕ
-ruleWords r = r.action ∷ (length r.pattern ∷ r.pattern)
+abbrev pub rule_words : Rule → List ℕ
+rule_words r = r.action ∷ (length r.pattern ∷ r.pattern)
 
-abbrev pub rulesWords : List Rule → List ℕ
-rulesWords [] = []
-rulesWords (r ∷ rs) = ruleWords r ++ rulesWords rs
+abbrev pub rules_words : List Rule → List ℕ
+rules_words [] = []
+rules_words (r ∷ rs) = rule_words r ++ rules_words rs
 
-abbrev pub sheetWords : ℕ → List Rule → List ℕ
-sheetWords word rs = word ∷ (length rs ∷ rulesWords rs)
+abbrev pub sheet_words : ℕ → List Rule → List ℕ
+sheet_words word rs = word ∷ (length rs ∷ rules_words rs)
 
 -- ---- and that is read
 
@@ -37,32 +37,32 @@ abbrev pub count_of : List ℕ → ℕ
 count_of ws = get_or ws 1 0
 
 -- where the first rule stands
-abbrev pub rulesAt : ℕ
-rulesAt = 2
+abbrev pub rules_at : ℕ
+rules_at = 2
 
 -- the place behind the rule at a place
-abbrev pub ruleEnd : List ℕ → ℕ → ℕ
-ruleEnd ws at = at + 2 + get_or ws (at + 1) 0
+abbrev pub rule_end : List ℕ → ℕ → ℕ
+rule_end ws at = at + 2 + get_or ws (at + 1) 0
 
-abbrev pub ruleAt : List ℕ → ℕ → Rule
-ruleAt ws at = record { action = get_or ws at 0; pattern = between (at + 2) (ruleEnd ws at) ws }
+abbrev pub rule_at : List ℕ → ℕ → Rule
+rule_at ws at = record { action = get_or ws at 0; pattern = between (at + 2) (rule_end ws at) ws }
 
 -- a rule stands there, with one of the actions and all of its pattern
-abbrev pub ruleFits : List ℕ → ℕ → Bool
-ruleFits ws at = leb (at + 2) (length ws) && ltb (get_or ws at 0) actions && leb (ruleEnd ws at) (length ws)
+abbrev pub rule_fits : List ℕ → ℕ → Bool
+rule_fits ws at = leb (at + 2) (length ws) && ltb (get_or ws at 0) actions && leb (rule_end ws at) (length ws)
 
 -- n rules from a place on, and nothing behind them
-unfoldable pub rulesLaid : ℕ → ℕ → List ℕ → Bool
-rulesLaid zero at ws = eqb at (length ws)
-rulesLaid (suc n) at ws = ruleFits ws at && rulesLaid n (ruleEnd ws at) ws
+unfoldable pub rules_laid : ℕ → ℕ → List ℕ → Bool
+rules_laid zero at ws = eqb at (length ws)
+rules_laid (suc n) at ws = rule_fits ws at && rules_laid n (rule_end ws at) ws
 
-unfoldable pub rulesFrom : ℕ → ℕ → List ℕ → List Rule
-rulesFrom zero at ws = []
-rulesFrom (suc n) at ws = ruleAt ws at ∷ rulesFrom n (ruleEnd ws at) ws
+unfoldable pub rules_from : ℕ → ℕ → List ℕ → List Rule
+rules_from zero at ws = []
+rules_from (suc n) at ws = rule_at ws at ∷ rules_from n (rule_end ws at) ws
 
-abbrev pub rulesIn : List ℕ → List Rule
-rulesIn ws = rulesFrom (count_of ws) rulesAt ws
+abbrev pub rules_in : List ℕ → List Rule
+rules_in ws = rules_from (count_of ws) rules_at ws
 
 -- "24 more than 32 rules", 4 for words that are no sheet, as for offsets that are none, and else 0
-unfoldable pub sheetNumber : List ℕ → ℕ
-sheetNumber ws = pick (ltb (length ws) rulesAt) 4 (pick (ltb mostRules (count_of ws)) 24 (pick (rulesLaid (count_of ws) rulesAt ws) 0 4))
+unfoldable pub sheet_number : List ℕ → ℕ
+sheet_number ws = pick (ltb (length ws) rules_at) 4 (pick (ltb most_rules (count_of ws)) 24 (pick (rules_laid (count_of ws) rules_at ws) 0 4))

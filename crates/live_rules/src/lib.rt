@@ -1,7 +1,7 @@
 // A sheet of live rules in bytes: whether it is one, and where its rules stand.
 ghost use Rattle.std.specs.Prelude.{◌+◌, ◌*◌, ◌/◌, ◌≤◌, ◌≡◌, length};
 ghost use Rattle.word_bytes.specs.Bytes.{words_of, words_in};
-ghost use Rattle.live_rules.specs.Layout.{ruleEnd, ruleFits, rulesLaid, sheetNumber};
+ghost use Rattle.live_rules.specs.Layout.{rule_end, rule_fits, rules_laid, sheet_number};
 
 use language::wide;
 use word_bytes::word_at;
@@ -15,7 +15,7 @@ pub const ACTIONS: u16 = 3;
 // The place behind the rule at a place.
 pub fn rule_end(sheet: &[u8], at: usize) -> usize
     requires { 2 * (at + 2) ≤ length sheet.now }
-    ensures { result ≡ ruleEnd (words_of sheet.now) at }
+    ensures { result ≡ rule_end (words_of sheet.now) at }
 {
     at + 2 + wide(word_at(sheet, at + 1))
 }
@@ -23,7 +23,7 @@ pub fn rule_end(sheet: &[u8], at: usize) -> usize
 // Whether a rule stands at a place, with all of its pattern.
 fn rule_fits(sheet: &[u8], at: usize) -> bool
     requires { at ≤ length sheet.now / 2 }
-    ensures { result ≡ ruleFits (words_of sheet.now) at }
+    ensures { result ≡ rule_fits (words_of sheet.now) at }
 {
     let end = sheet.len() / 2;
     if end < at + 2 {
@@ -38,7 +38,7 @@ fn rule_fits(sheet: &[u8], at: usize) -> bool
 // Whether so many rules stand behind the header, and nothing behind them.
 fn laid(sheet: &[u8], n: usize) -> bool
     requires { 4 ≤ length sheet.now }
-    ensures { result ≡ rulesLaid n 2 (words_of sheet.now) }
+    ensures { result ≡ rules_laid n 2 (words_of sheet.now) }
 {
     let mut at: usize = 2;
     let mut i: usize = 0;
@@ -54,7 +54,7 @@ fn laid(sheet: &[u8], n: usize) -> bool
 
 // Whether these bytes are a sheet of live rules: 24 for too many rules, 4 where they are none, and else 0.
 pub fn sheet_number(sheet: &[u8]) -> u32
-    ensures { result ≡ sheetNumber (words_in sheet.now) }
+    ensures { result ≡ sheet_number (words_in sheet.now) }
 {
     if sheet.len() % 2 != 0 {
         return 4;

@@ -7,7 +7,7 @@ use mathlib.Core.Bool.{Bool, true, false, not}
 use lib.Dec.{T}
 use Rattle.language.specs.declared.Sym.{Sym}
 use Rattle.language.specs.declared.Signature.{Signature}
-use Rattle.language.specs.Trees.{isUnordered, Expr, over}
+use Rattle.language.specs.Trees.{is_unordered, Expr, over}
 use Rattle.meaning.specs.Complete.{Complete, nil, tree, ◌·◌, Draws, Shuffled, Arranged, Same}
 use Rattle.meaning.specs.Meaning.{Member}
 use Rattle.meaning.proofs.Shuffles.{shuffled-refl, shuffled-trans, shuffled-sym, shuffled-front, arranged-refl}
@@ -16,19 +16,19 @@ use Rattle.meaning.proofs.Same.{Under, same_refl, turned, same-sym, same-shuffle
 module _ (σ : Signature) where
   -- ---- under an ordered symbol
 
-  under-ordered : (f : Sym) (c d : Complete) → T (not (isUnordered σ f)) → Under σ f c d ↔ Same σ c d
-  under-ordered f c d t = (λ u. go (isUnordered σ f) t u.0 u.1 u.2, λ m. (d, arranged-refl (isUnordered σ f) d, m))
+  under-ordered : (f : Sym) (c d : Complete) → T (not (is_unordered σ f)) → Under σ f c d ↔ Same σ c d
+  under-ordered f c d t = (λ u. go (is_unordered σ f) t u.0 u.1 u.2, λ m. (d, arranged-refl (is_unordered σ f) d, m))
     where
       go : (b : Bool) → T (not b) → (e : Complete) → Arranged b d e → Same σ c e → Same σ c d
       go true t e a m = absurd t
       go false t e a m = rw a m
 
   -- terms that are the same have the same children
-  pub same-children : (f : Sym) (c d : Complete) → T (not (isUnordered σ f)) → Same σ (tree f c nil) (tree f d nil) ↔ Same σ c d
+  pub same-children : (f : Sym) (c d : Complete) → T (not (is_unordered σ f)) → Same σ (tree f c nil) (tree f d nil) ↔ Same σ c d
   same-children f c d t = Iff.trans (same-term σ f c d) (under-ordered f c d t)
 
   -- f over c is in f(R) exactly where c is in R
-  pub member-over : (f : Sym) (c : Complete) (R : Expr) → T (not (isUnordered σ f)) → Member σ (over f R) (tree f c nil) ↔ Member σ R c
+  pub member-over : (f : Sym) (c : Complete) (R : Expr) → T (not (is_unordered σ f)) → Member σ (over f R) (tree f c nil) ↔ Member σ R c
   member-over f c R t = (
     λ m. member-same σ R m.0 c (same-sym σ c m.0 ((same-children f c m.0 t).0 m.1)) m.2,
     λ m. (c, same_refl σ (tree f c nil), m),
@@ -40,15 +40,15 @@ module _ (σ : Signature) where
   abbrev pub Alike : Complete → Complete → Type 0
   Alike c d = (e : Complete) × Shuffled d e × Same σ c e
 
-  under-unordered : (f : Sym) (c d : Complete) → T (isUnordered σ f) → Under σ f c d ↔ Alike c d
-  under-unordered f c d t = go (isUnordered σ f) t
+  under-unordered : (f : Sym) (c d : Complete) → T (is_unordered σ f) → Under σ f c d ↔ Alike c d
+  under-unordered f c d t = go (is_unordered σ f) t
     where
       go : (b : Bool) → T b → ((e : Complete) × Arranged b d e × Same σ c e) ↔ Alike c d
       go true t = (λ u. u, λ u. u)
       go false t = absurd t
 
   -- terms that are the same have children that are alike
-  pub alike-children : (f : Sym) (c d : Complete) → T (isUnordered σ f) → Same σ (tree f c nil) (tree f d nil) ↔ Alike c d
+  pub alike-children : (f : Sym) (c d : Complete) → T (is_unordered σ f) → Same σ (tree f c nil) (tree f d nil) ↔ Alike c d
   alike-children f c d t = Iff.trans (same-term σ f c d) (under-unordered f c d t)
 
   pub alike-sym : (c d : Complete) → Alike c d → Alike d c
@@ -85,7 +85,7 @@ module _ (σ : Signature) where
       )
 
   -- f over c is in f(R) exactly where c in some order is in R
-  pub member_alike : (f : Sym) (c : Complete) (R : Expr) → T (isUnordered σ f) → Member σ (over f R) (tree f c nil) ↔ ((e : Complete) × Shuffled c e × Member σ R e)
+  pub member_alike : (f : Sym) (c : Complete) (R : Expr) → T (is_unordered σ f) → Member σ (over f R) (tree f c nil) ↔ ((e : Complete) × Shuffled c e × Member σ R e)
   member_alike f c R t = (
     λ m. let (e, s, n) = alike-sym c m.0 ((alike-children f c m.0 t).0 m.1) in (e, s, member-same σ R m.0 e n m.2),
     λ m. (m.0, (alike-children f c m.0 t).1 (c, shuffled-sym c m.0 m.1, same_refl σ c), m.2),

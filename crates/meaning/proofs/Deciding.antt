@@ -10,9 +10,9 @@ use lib.Dec.{T, eqb→eq, eqb_refl}
 use Rattle.language.specs.declared.Sym.{Sym}
 use Rattle.language.specs.Kinds.{pick}
 use Rattle.language.specs.declared.Signature.{Signature}
-use Rattle.language.specs.Trees.{isUnordered, eqS}
+use Rattle.language.specs.Trees.{is_unordered, eq_s}
 use Rattle.meaning.specs.Complete.{Complete, nil, tree, Draws, Shuffled, Arranged, Same}
-use Rattle.meaning.specs.Deciding.{isNil, takeOut, sameUpTo, sameTest}
+use Rattle.meaning.specs.Deciding.{is_nil, take_out, same_up_to, same_test}
 use Rattle.meaning.proofs.Shuffles.{shuffled-refl}
 use Rattle.meaning.proofs.Same.{Under, same_refl}
 use Rattle.meaning.proofs.Alike.{Alike, alike-sym, alike-trans, alike-tail}
@@ -23,9 +23,9 @@ data Taken (P : Sym → Complete → Type 0) (h : Complete) : Option Complete �
   nowhere : ((f : Sym) (c k : Complete) → Draws f c h k → ¬ P f c) → Taken P h none
 
 module _ (P : Sym → Complete → Type 0) (fits : Sym → Complete → Bool) (says : (f : Sym) (c : Complete) → T (fits f c) ↔ P f c) where
-  taken : (h : Complete) → Taken P h (takeOut true fits h)
+  taken : (h : Complete) → Taken P h (take_out true fits h)
   taken nil = nowhere (λ f c k d. absurd d)
-  taken (tree f c r) = here (fits f c) (says f c) (takeOut true fits r) (taken r)
+  taken (tree f c r) = here (fits f c) (says f c) (take_out true fits r) (taken r)
     where
       under : (m : Option Complete) → Taken P r m → ¬ P f c → Taken P (tree f c r) (map (tree f c) m)
       under none (nowhere n) z = nowhere λ g d k w. elim w [ inl e ↦ (let e₁ : g ≡ f = cc in let e₂ : d ≡ c = cc in rw (e₁, e₂) z) | inr x ↦ n g d x.0 x.2 ]
@@ -40,7 +40,7 @@ both : {P Q : Type 0} (a b : Bool) → T a ↔ P → T b ↔ Q → T (a && b) �
 both true b p q = (λ t. (p.0 tt, q.0 t), λ m. q.1 m.1)
 both false b p q = (λ t. absurd t, λ m. p.1 m.0)
 
-symbols : (f g : Sym) → T (eqS f g) ↔ (f ≡ g)
+symbols : (f g : Sym) → T (eq_s f g) ↔ (f ≡ g)
 symbols f g = (λ t. ap (λ n. record { 0 = n }) (eqb→eq f.0 g.0 t), λ e. rw e (eqb_refl g.0))
 
 module _ (σ : Signature) where
@@ -61,11 +61,11 @@ module _ (σ : Signature) where
   same-as x y = (λ (e, a, m). rw a m, λ m. (y, refl, m))
 
   -- the first tree of all
-  first : (f : Sym) (c r h : Complete) (t : Complete → Bool) → ((d : Complete) → T (sameUpTo σ c (isUnordered σ f) d) ↔ Under σ f c d) → ((k : Complete) → T (t k) ↔ Upto false r k)
-      → T (elim (takeOut false (λ g d. eqS f g && sameUpTo σ c (isUnordered σ f) d) h) [ none ↦ false | some k ↦ t k ]) ↔ Upto false (tree f c r) h
+  first : (f : Sym) (c r h : Complete) (t : Complete → Bool) → ((d : Complete) → T (same_up_to σ c (is_unordered σ f) d) ↔ Under σ f c d) → ((k : Complete) → T (t k) ↔ Upto false r k)
+      → T (elim (take_out false (λ g d. eq_s f g && same_up_to σ c (is_unordered σ f) d) h) [ none ↦ false | some k ↦ t k ]) ↔ Upto false (tree f c r) h
   unfolding Same
   first f c r nil t u n = (λ z. absurd z, λ (e, a, m). absurd (rw (← a) at m))
-  first f c r (tree g d s) t u n = go (eqS f g && sameUpTo σ c (isUnordered σ f) d) (both (eqS f g) (sameUpTo σ c (isUnordered σ f) d) (symbols f g) (u d))
+  first f c r (tree g d s) t u n = go (eq_s f g && same_up_to σ c (is_unordered σ f) d) (both (eq_s f g) (same_up_to σ c (is_unordered σ f) d) (symbols f g) (u d))
     where
       go : (b : Bool) → T b ↔ ((f ≡ g) × Under σ f c d) → T (elim (pick b (some s) none) [ none ↦ false | some k ↦ t k ]) ↔ Upto false (tree f c r) (tree g d s)
       go true b = (
@@ -85,7 +85,7 @@ module _ (σ : Signature) where
       none-fits (nil, s, m) = m
       none-fits (tree g d e, (k, w, s), m) = z g d k w (m.0, m.1)
 
-  nothing : (b : Bool) (h : Complete) → T (isNil h) ↔ Upto b nil h
+  nothing : (b : Bool) (h : Complete) → T (is_nil h) ↔ Upto b nil h
   unfolding Same
   nothing true nil = (λ t. (nil, refl, tt), λ m. tt)
   nothing false nil = (λ t. (nil, refl, tt), λ m. tt)
@@ -96,15 +96,15 @@ module _ (σ : Signature) where
       none_left (tree g d e) a m = m
   nothing false (tree f c r) = (λ z. absurd z, λ (e, a, m). absurd (rw (← a) at m))
 
-  decides : (c : Complete) (b : Bool) (h : Complete) → T (sameUpTo σ c b h) ↔ Upto b c h
+  decides : (c : Complete) (b : Bool) (h : Complete) → T (same_up_to σ c b h) ↔ Upto b c h
   decides nil b h = nothing b h
   decides (tree f c r) true h =
-      any f c r h (sameUpTo σ r true) (decides r true) (takeOut true (λ g d. eqS f g && sameUpTo σ c (isUnordered σ f) d) h)
-      (taken (λ g d. (f ≡ g) × Under σ f c d) (λ g d. eqS f g && sameUpTo σ c (isUnordered σ f) d)
-      (λ g d. both (eqS f g) (sameUpTo σ c (isUnordered σ f) d) (symbols f g) (decides c (isUnordered σ f) d)) h)
-  decides (tree f c r) false h = first f c r h (sameUpTo σ r false) (decides c (isUnordered σ f)) (decides r false)
+      any f c r h (same_up_to σ r true) (decides r true) (take_out true (λ g d. eq_s f g && same_up_to σ c (is_unordered σ f) d) h)
+      (taken (λ g d. (f ≡ g) × Under σ f c d) (λ g d. eq_s f g && same_up_to σ c (is_unordered σ f) d)
+      (λ g d. both (eq_s f g) (same_up_to σ c (is_unordered σ f) d) (symbols f g) (decides c (is_unordered σ f) d)) h)
+  decides (tree f c r) false h = first f c r h (same_up_to σ r false) (decides c (is_unordered σ f)) (decides r false)
 
   -- The test says that two complete hedges are the same exactly where they are.
-  pub same-decided : (g h : Complete) → T (sameTest σ g h) ↔ Same σ g h
-  unfolding sameTest
+  pub same-decided : (g h : Complete) → T (same_test σ g h) ↔ Same σ g h
+  unfolding same_test
   same-decided g h = let d = decides g false h in (λ t. let (e, a, m) = d.0 t in rw a m, λ m. d.1 (h, refl, m))

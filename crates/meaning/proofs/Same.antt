@@ -11,8 +11,8 @@ use lib.Dec.{T, leb, ltb, leb→le, ltb→lt}
 use borrow.Author.Tests.{ltb-false}
 use Rattle.language.specs.declared.Sym.{Sym}
 use Rattle.language.specs.declared.Signature.{Signature}
-use Rattle.language.specs.Trees.{isUnordered, anyUnordered, Expr, eps, cat, alt, star, over}
-use Rattle.meaning.specs.Complete.{Complete, nil, tree, ◌·◌, Draws, Shuffled, Arranged, Same, completeWords}
+use Rattle.language.specs.Trees.{is_unordered, any_unordered, Expr, eps, cat, alt, star, over}
+use Rattle.meaning.specs.Complete.{Complete, nil, tree, ◌·◌, Draws, Shuffled, Arranged, Same, complete_words}
 use Rattle.meaning.specs.Meaning.{Filling, Named, Many, stop, more, Member}
 use Rattle.meaning.proofs.Complete.{nil≢tree, nil-parts, trees, trees-·, trees-none, words-apart}
 use Rattle.meaning.proofs.Shuffles.{shuffled-before, arranged-refl, arranged-trans, arranged-trees}
@@ -20,14 +20,14 @@ use Rattle.meaning.proofs.Shuffles.{shuffled-before, arranged-refl, arranged-tra
 module _ (σ : Signature) where
   -- the children c and d under f: those of the second, in any order where f is unordered, are the same as those of the first
   abbrev pub Under : Sym → Complete → Complete → Type 0
-  Under f c d = (e : Complete) × Arranged (isUnordered σ f) d e × Same σ c e
+  Under f c d = (e : Complete) × Arranged (is_unordered σ f) d e × Same σ c e
 
   -- ---- reflexive
 
   pub same_refl : (g : Complete) → Same σ g g
   unfolding Same
   same_refl nil = tt
-  same_refl (tree f c r) = (refl, (c, arranged-refl (isUnordered σ f) c, same_refl c), same_refl r)
+  same_refl (tree f c r) = (refl, (c, arranged-refl (is_unordered σ f) c, same_refl c), same_refl r)
 
   -- what is equal is the same
   pub same-≡ : (g h : Complete) → g ≡ h → Same σ g h
@@ -59,13 +59,13 @@ module _ (σ : Signature) where
   turned false (tree f y c) nil d m a = absurd m
   turned true (tree f y c) (tree g x e) d (q, (z, s, p), n) (r, w, t) =
       let (k, t', n') = turned true c e r n t in
-      let u = turned (isUnordered σ f) y z x p s in
+      let u = turned (is_unordered σ f) y z x p s in
       let w' : Draws f x d r = rw q w in
       let (h, o, i) = put_back f x y d r k w' n' u in
       (h, shuffled-before f y c h k o t', i)
   turned false (tree f y c) (tree g x e) d (q, (z, s, p), n) a =
       let (k, t', n') = turned false c e e n refl in
-      let u = turned (isUnordered σ f) y z x p s in
+      let u = turned (is_unordered σ f) y z x p s in
       (tree f y c, refl, rw (a, ← q, t') (refl, u, n'))
 
   pub same-sym : (g h : Complete) → Same σ g h → Same σ h g
@@ -106,9 +106,9 @@ module _ (σ : Signature) where
   same-trans (tree f c g) nil k m n = absurd m
   same-trans (tree f c g) (tree f' d h) nil m n = absurd n
   same-trans (tree f c g) (tree f' d h) (tree f'' e k) (p, (x, a, q), m) (p', (y, a', q'), n) =
-      let b : Arranged (isUnordered σ f) e y = rw p a' in
-      let (z, o, i) = same-arranged (isUnordered σ f) d y x q' a in
-      (p ∙ p', (z, arranged-trans (isUnordered σ f) e y z b o, same-trans c x z q i), same-trans g h k m n)
+      let b : Arranged (is_unordered σ f) e y = rw p a' in
+      let (z, o, i) = same-arranged (is_unordered σ f) d y x q' a in
+      (p ∙ p', (z, arranged-trans (is_unordered σ f) e y z b o, same-trans c x z q i), same-trans g h k m n)
 
   -- ---- nothing, and a first term
 
@@ -139,7 +139,7 @@ module _ (σ : Signature) where
   -- the same children under one symbol, and the same behind
   pub same-tree : (f : Sym) (c d r s : Complete) → Same σ c d → Same σ r s → Same σ (tree f c r) (tree f d s)
   unfolding Same
-  same-tree f c d r s m n = (refl, (d, arranged-refl (isUnordered σ f) d, m), n)
+  same-tree f c d r s m n = (refl, (d, arranged-refl (is_unordered σ f) d, m), n)
 
   -- ---- in a row
 
@@ -182,7 +182,7 @@ module _ (σ : Signature) where
   same-trees nil nil m = refl
   same-trees nil (tree f c h) m = absurd m
   same-trees (tree f c g) nil m = absurd m
-  same-trees (tree f c g) (tree f' d h) (e, (x, a, p), m) = omega (arith, arranged-trees (isUnordered σ f) d x a, same-trees c x p, same-trees g h m)
+  same-trees (tree f c g) (tree f' d h) (e, (x, a, p), m) = omega (arith, arranged-trees (is_unordered σ f) d x a, same-trees c x p, same-trees g h m)
 
   -- u is the same as v, u, w in a row: v and w are empty
   pub same-around : (u v w : Complete) → Same σ (u · nil) (v · (u · w)) → (v ≡ nil) × (w ≡ nil)
@@ -212,13 +212,13 @@ module _ (σ : Signature) where
   -- ---- where no symbol is unordered
 
   -- the test says so
-  pub none_any : anyUnordered σ ≡ false → σ.unordered ≡ 0
-  unfolding anyUnordered
+  pub none_any : any_unordered σ ≡ false → σ.unordered ≡ 0
+  unfolding any_unordered
   none_any e = omega (arith, ltb-false 0 σ.unordered e)
 
   module _ (none : σ.unordered ≡ 0) where
-    pub none-unordered : (f : Sym) → isUnordered σ f ≡ false
-    unfolding isUnordered
+    pub none-unordered : (f : Sym) → is_unordered σ f ≡ false
+    unfolding is_unordered
     none-unordered f = at_both (ltb f.0 σ.symbols) (leb σ.symbols (f.0 + σ.unordered)) (ltb→lt f.0 σ.symbols) (leb→le σ.symbols (f.0 + σ.unordered))
       where
         at_both : (a b : Bool) → (T a → f.0 < σ.symbols) → (T b → σ.symbols ≤ f.0 + σ.unordered) → (a && b) ≡ false
@@ -226,8 +226,8 @@ module _ (σ : Signature) where
         at_both true false p q = refl
         at_both false b p q = refl
 
-    pub any-unordered-none : anyUnordered σ ≡ false
-    unfolding anyUnordered
+    pub any-unordered-none : any_unordered σ ≡ false
+    unfolding any_unordered
     any-unordered-none = rw none
 
     -- then every filling is one of these symbols
@@ -244,12 +244,12 @@ module _ (σ : Signature) where
     equal nil (tree f d h) m = absurd m
     equal (tree f c g) nil m = absurd m
     equal (tree f c g) (tree f' d h) (e, (x, a, p), m) =
-        let e₁ = equal c x p in let e₂ = equal g h m in let e₃ = as-it-stands (isUnordered σ f) (none-unordered f) d x a in cc
+        let e₁ = equal c x p in let e₂ = equal g h m in let e₃ = as-it-stands (is_unordered σ f) (none-unordered f) d x a in cc
 
     -- the same is equal
     pub same-is-equal : (g h : Complete) → Same σ g h ↔ (g ≡ h)
     same-is-equal g h = (equal g h, same-≡ g h)
 
     -- so it is the same words
-    pub same-words : (g h : Complete) → Same σ g h ↔ (completeWords g ≡ completeWords h)
-    same-words g h = Iff.trans (same-is-equal g h) (λ m. ap completeWords m, words-apart g h)
+    pub same-words : (g h : Complete) → Same σ g h ↔ (complete_words g ≡ complete_words h)
+    same-words g h = Iff.trans (same-is-equal g h) (λ m. ap complete_words m, words-apart g h)

@@ -10,17 +10,17 @@ use Rattle.language.specs.declared.Sym.{Sym}
 use Rattle.language.specs.declared.Refusal.TheVariants.{FillingLayout, FillingValue}
 use Rattle.language.specs.Limits.{Limits}
 use Rattle.language.specs.Trees.{symbol, fvar, Hedge, ε, tvar, hvar, node, Counts, signature}
-use Rattle.language.specs.Reading.{Got, got, stop, readHedge}
-use Rattle.language.specs.Question.{laidOut, parts, declaredS, declared}
+use Rattle.language.specs.Reading.{Got, got, stop, read_hedge}
+use Rattle.language.specs.Question.{laid_out, parts, declared_s, declared}
 use Rattle.meaning.specs.Complete.{Complete, nil}
 use Rattle.meaning.specs.Meaning.{Filling, Named}
-use Rattle.meaning.specs.Values.{withNode, complete, Form, forms, variables, fits, fitting, value_of, withValue, values_of, rootOf, filling, Given, gives, refuses, readFilling}
+use Rattle.meaning.specs.Values.{with_node, complete, Form, forms, variables, fits, fitting, value_of, with_value, values_of, root_of, filling, Given, gives, refuses, read_filling}
 
 -- where there is a symbol
 module _ (n : Counts) (some-symbol : 0 < n.symbols) where
   -- the first symbol is declared; of nothing it is symbol 0
   abbrev Rooted : Complete → Type 0
-  Rooted g = T (ltb (rootOf g).0 n.symbols)
+  Rooted g = T (ltb (root_of g).0 n.symbols)
 
   abbrev RootedValue : Option Complete → Type 0
   RootedValue none = Unit {0}
@@ -37,7 +37,7 @@ module _ (n : Counts) (some-symbol : 0 < n.symbols) where
   nothing-rooted : Rooted nil
   nothing-rooted = lt→ltb 0 n.symbols some-symbol
 
-  node-rooted : (f : Sym) (a b : Option Complete) → T (declaredS n f) → RootedValue (withNode f a b)
+  node-rooted : (f : Sym) (a b : Option Complete) → T (declared_s n f) → RootedValue (with_node f a b)
   node-rooted f none b s = tt
   node-rooted f (some c) none s = tt
   node-rooted f (some c) (some r) s = s
@@ -51,7 +51,7 @@ module _ (n : Counts) (some-symbol : 0 < n.symbols) where
   complete-rooted (tvar x r) t = tt
   complete-rooted (hvar p r) t = tt
   complete-rooted (node (symbol f) c r) t =
-      node-rooted f (complete c) (complete r) (first_part (declaredS n f) (declared n c) (first_part (declaredS n f && declared n c) (declared n r) t))
+      node-rooted f (complete c) (complete r) (first_part (declared_s n f) (declared n c) (first_part (declared_s n f && declared n c) (declared n r) t))
   complete-rooted (node (fvar X) c r) t = tt
 
   fitting-rooted : (form : Form) (m : Option Complete) → RootedValue m → RootedValue (fitting form m)
@@ -75,12 +75,12 @@ module _ (n : Counts) (some-symbol : 0 < n.symbols) where
   values-rooted L [] wss = tt
   values-rooted L (form ∷ fs) [] = tt
   values-rooted L (form ∷ fs) (ws ∷ wss) =
-      with_value (value_of n form (length ws) (readHedge L ws)) (values_of L n fs wss) (value-rooted form (length ws) (readHedge L ws)) (values-rooted L fs wss)
+      with_value_lem (value_of n form (length ws) (read_hedge L ws)) (values_of L n fs wss) (value-rooted form (length ws) (read_hedge L ws)) (values-rooted L fs wss)
     where
-      with_value : (a : Option Complete) (b : Option (List Complete)) → RootedValue a → RootedAll b → RootedAll (withValue a b)
-      with_value none b p q = tt
-      with_value (some v) none p q = tt
-      with_value (some v) (some vs) p q = (p, q)
+      with_value_lem : (a : Option Complete) (b : Option (List Complete)) → RootedValue a → RootedAll b → RootedAll (with_value a b)
+      with_value_lem none b p q = tt
+      with_value_lem (some v) none p q = tt
+      with_value_lem (some v) (some vs) p q = (p, q)
 
   rooted-at : (vs : List Complete) → RootedValues vs → (i : ℕ) → Rooted (get_or vs i nil)
   rooted-at [] p i = nothing-rooted
@@ -91,9 +91,9 @@ module _ (n : Counts) (some-symbol : 0 < n.symbols) where
   GivesNamed (gives ρ) = Named (signature n) ρ
   GivesNamed (refuses r) = Unit {0}
 
-  given-named : (L : Limits) (ws : List ℕ) → GivesNamed (readFilling L n ws)
-  unfolding readFilling
-  given-named L ws = laid (leb (length ws) L.filling && eqb (get_or ws 0 0) (variables n) && laidOut 1 (variables n) ws)
+  given-named : (L : Limits) (ws : List ℕ) → GivesNamed (read_filling L n ws)
+  unfolding read_filling
+  given-named L ws = laid (leb (length ws) L.filling && eqb (get_or ws 0 0) (variables n) && laid_out 1 (variables n) ws)
     where
       values : (m : Option (List Complete)) → RootedAll m → GivesNamed (elim m [ none ↦ refuses FillingValue | some vs ↦ gives (filling n vs) ])
       values none p = tt
@@ -107,5 +107,5 @@ module _ (n : Counts) (some-symbol : 0 < n.symbols) where
       laid true = values (values_of L n (forms n) (parts 1 (variables n) ws)) (values-rooted L (forms n) (parts 1 (variables n) ws))
 
   -- so it is a filling of these symbols
-  pub read_named : (L : Limits) (ws : List ℕ) (ρ : Filling) → readFilling L n ws ≡ gives ρ → Named (signature n) ρ
+  pub read_named : (L : Limits) (ws : List ℕ) (ρ : Filling) → read_filling L n ws ≡ gives ρ → Named (signature n) ρ
   read_named L ws ρ e = rw e at (given-named L ws)

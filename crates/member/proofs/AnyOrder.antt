@@ -20,7 +20,7 @@ use Rattle.meaning.proofs.Same.{same-sym, same-nil, nil-no-tree, same_first}
 use Rattle.rules.specs.Each.{Some}
 use Rattle.rules.proofs.Each.{some-++, some-map, some-imp}
 use Rattle.rules.proofs.Tests.{or_cases, or_left, or_right}
-use Rattle.member.specs.AnyOrder.{left, left_of, some, breadth, shortest, shortestOf}
+use Rattle.member.specs.AnyOrder.{left, left_of, some, breadth, shortest, shortest_of}
 
 -- ---- in some order, with something beside
 
@@ -290,9 +290,9 @@ module _ (σ : Signature) where
   member-short (star a) g m = omega arith
   member-short (over f a) g (c, s, m) = omega (arith, same-breadth g (tree f c nil) s)
 
-  row-short : (rs : List Expr) (g : Complete) → Row σ rs g → shortestOf rs ≤ breadth g
+  row-short : (rs : List Expr) (g : Complete) → Row σ rs g → shortest_of rs ≤ breadth g
   row-short [] g m = omega arith
   row-short (R ∷ rs) g (u, v, e, m, n) = omega (arith, member-short R u m, row-short rs v n, breadth-· u v, ap breadth e)
 
-  pub order-short : (rs : List Expr) (g : Complete) → InSomeOrder σ rs g → shortestOf rs ≤ breadth g
+  pub order-short : (rs : List Expr) (g : Complete) → InSomeOrder σ rs g → shortest_of rs ≤ breadth g
   order-short rs g (e, s, m) = omega (arith, row-short rs e m, shuffled-breadth g e s)

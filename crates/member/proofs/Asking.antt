@@ -12,19 +12,19 @@ use lib.Seq.{get_or-set_same, get_or-set_other, get_or-append-add}
 use borrow.Author.Tests.{eq-eqb, ne_eqb, leb-true, leb-false}
 use Rattle.language.specs.declared.Sym.{Sym}
 use Rattle.language.specs.declared.Signature.{Signature}
-use Rattle.language.specs.Trees.{Expr, isUnordered, anyUnordered}
+use Rattle.language.specs.Trees.{Expr, is_unordered, any_unordered}
 use Rattle.meaning.specs.Complete.{Complete, nil, tree}
 use Rattle.meaning.proofs.Same.{none_any, none-unordered}
 use Rattle.rules.proofs.Tests.{test-true}
-use Rattle.any_order.specs.Places.{sizeE, At, at-eps, at-cat, at-alt, at-star, at-over, Expression}
+use Rattle.any_order.specs.Places.{size_e, At, at-eps, at-cat, at-alt, at-star, at-over, Expression}
 use Rattle.any_order.specs.Sharing.{Good, none}
 use Rattle.any_order.proofs.Ranges.{not-both}
 use Rattle.any_order.proofs.Determined.{same_test}
 use Rattle.member.specs.declared.Seen.{Seen}
 use Rattle.member.specs.declared.Fitted.{Fitted}
-use Rattle.member.specs.Marks.{tests, ofTerm}
+use Rattle.member.specs.Marks.{tests, of_term}
 use Rattle.member.specs.Leaves.{Fits, Terms}
-use Rattle.passing.specs.Places.{sizeC, Holds, Term, Skipped, Beside}
+use Rattle.passing.specs.Places.{size_c, Holds, Term, Skipped, Beside}
 use Rattle.member.specs.Places.{Looked, Accepted}
 use Rattle.member.specs.Gathering.{row_of, Lists, Spared, Symbol, Scene, Spacious, Lent, Gathered, Answered, FittedAll, Shuffles, Noted}
 use Rattle.member.proofs.Decides.{tests-decide, shuffled}
@@ -57,7 +57,7 @@ term-some t z = omega (arith, word t.here)
 pub next-far : {h : List ℕ} {j n : ℕ} → Skipped h (j + 1) n → Term h j → (j + 2 ≤ n) × (j < length h)
 next-far s t = (omega (arith, s.each t.c (child t.here), some_size t.c), holds-lt t.here)
   where
-    some_size : (g : Complete) → 1 ≤ sizeC g
+    some_size : (g : Complete) → 1 ≤ size_c g
     some_size nil = omega arith
     some_size (tree f c r) = omega arith
 
@@ -72,19 +72,19 @@ module _ {σ : Signature} {h : List ℕ} {j : ℕ} {w : List ℕ} {top : ℕ} wh
   lent-children l n = record { room = λ t. go (l.room t) }
     where
       go : Spacious h j w top → Spacious h (j + 1) w top
-      go s = by-tree (λ g. top + 2 * sizeC g ≤ length w → Spacious h (j + 1) w top) n (λ f c r v x y z. record { g = c; here = x; room = omega arith; bounded = s.bounded }) s.g s.here s.room
+      go s = by-tree (λ g. top + 2 * size_c g ≤ length w → Spacious h (j + 1) w top) n (λ f c r v x y z. record { g = c; here = x; room = omega arith; bounded = s.bounded }) s.g s.here s.room
 
   pub lent-rest : {n : ℕ} → Lent σ h j w top → (get_or h j 0 ≡ 0 → ⊥) → Skipped h (j + 1) n → Lent σ h n w top
   lent-rest {n} l z k = record { room = λ t. go (l.room t) }
     where
       go : Spacious h j w top → Spacious h n w top
-      go s = by-tree (λ g. top + 2 * sizeC g ≤ length w → Spacious h n w top) z
+      go s = by-tree (λ g. top + 2 * size_c g ≤ length w → Spacious h n w top) z
           (λ f c r v x y u. record { g = r; here = rw (k.each c x) y; room = omega arith; bounded = s.bounded }) s.g s.here s.room
 
-unordered-any : (σ : Signature) (f : Sym) → isUnordered σ f ≡ true → T (anyUnordered σ)
-unordered-any σ f e = go (anyUnordered σ) refl
+unordered-any : (σ : Signature) (f : Sym) → is_unordered σ f ≡ true → T (any_unordered σ)
+unordered-any σ f e = go (any_unordered σ) refl
   where
-    go : (b : Bool) → anyUnordered σ ≡ b → T b
+    go : (b : Bool) → any_unordered σ ≡ b → T b
     go true d = tt
     go false d = absurd (not-both e (none-unordered σ (none_any σ d) f))
 
@@ -94,17 +94,17 @@ same-sym : (f : Sym) (n : ℕ) → n ≡ f.0 → ◌≡◌ {A = Sym} (record { 0
 same-sym f n e = ap (λ x. record { 0 = x }) e
 
 -- whether the symbol is unordered, by its word
-its-kind : (σ : Signature) (h : List ℕ) (j : ℕ) (f : Sym) (c rest : Complete) (x : ℕ) (b : Bool) → x ≡ get_or h j 0 → b ≡ isUnordered σ (record { 0 = x - 3000 }) → Holds h j (tree f c rest) → isUnordered σ f ≡ b
-its-kind σ h j f c rest x b q u t = ap (isUnordered σ) (sym (same-sym f (x - 3000) (omega (arith, word t)))) ∙ sym u
+its-kind : (σ : Signature) (h : List ℕ) (j : ℕ) (f : Sym) (c rest : Complete) (x : ℕ) (b : Bool) → x ≡ get_or h j 0 → b ≡ is_unordered σ (record { 0 = x - 3000 }) → Holds h j (tree f c rest) → is_unordered σ f ≡ b
+its-kind σ h j f c rest x b q u t = ap (is_unordered σ) (sym (same-sym f (x - 3000) (omega (arith, word t)))) ∙ sym u
 
-in-some-order : (σ : Signature) (at : ℕ) (c : Complete) (S : Expr) (r : Bool) → (r ≡ true) ↔ Terms (Fits σ S at) (Good S at) c none → r ≡ (tests σ c).anyOrder (S ∷ [])
+in-some-order : (σ : Signature) (at : ℕ) (c : Complete) (S : Expr) (r : Bool) → (r ≡ true) ↔ Terms (Fits σ S at) (Good S at) c none → r ≡ (tests σ c).any_order (S ∷ [])
 in-some-order σ at c S r m =
     let s = shares σ S at c in
     let d = shuffled σ c (tests σ c) (tests-decide σ c) S in
-    let t = test-true ((tests σ c).anyOrder (S ∷ [])) in
-    same_test r ((tests σ c).anyOrder (S ∷ [])) m (λ e. s.0 (d.0 (t.1 e)), λ x. t.0 (d.1 (s.1 x)))
+    let t = test-true ((tests σ c).any_order (S ∷ [])) in
+    same_test r ((tests σ c).any_order (S ∷ [])) m (λ e. s.0 (d.0 (t.1 e)), λ x. t.0 (d.1 (s.1 x)))
 
-pub ask-gathers : (σ : Signature) (x : ℕ) {e h : List ℕ} {j : ℕ} {k : List Bool} {w : List ℕ} {top : ℕ} {b : Bool} → b ≡ isUnordered σ (record { 0 = x - 3000 }) → b ≡ true → Lent σ h j w top
+pub ask-gathers : (σ : Signature) (x : ℕ) {e h : List ℕ} {j : ℕ} {k : List Bool} {w : List ℕ} {top : ℕ} {b : Bool} → b ≡ is_unordered σ (record { 0 = x - 3000 }) → b ≡ true → Lent σ h j w top
     → Scene e h k → Gathered e h j w top top
 ask-gathers σ x u z l s =
     let r = l.room (unordered-any σ (record { 0 = x - 3000 }) (sym u ∙ z)) in
@@ -128,7 +128,7 @@ module _ {σ : Signature} {e : List ℕ} {p : ℕ} {h : List ℕ} {j : ℕ} wher
     each = λ g S f c rest x y. rw (ne_eqb g.0 f.0 (λ d. n (omega (arith, symbol-word x, word y)))) refl;
   }
 
-  module _ {k k' : List Bool} {w w' : List ℕ} {top : ℕ} {b y : Bool} (q : get_or e p 0 ≡ get_or h j 0) (u : b ≡ isUnordered σ (record { 0 = get_or e p 0 - 3000 })) where
+  module _ {k k' : List Bool} {w w' : List ℕ} {top : ℕ} {b y : Bool} (q : get_or e p 0 ≡ get_or h j 0) (u : b ≡ is_unordered σ (record { 0 = get_or e p 0 - 3000 })) where
     pub ask-in-order : b ≡ false → Accepted σ e (p + 1) h (j + 1) k k' y → Spared w w' top → Answered σ e p h j k k' w w' top y
     ask-in-order z a s = record {
       spared = s;
@@ -136,7 +136,7 @@ module _ {σ : Signature} {e : List ℕ} {p : ℕ} {h : List ℕ} {j : ℕ} wher
       beside = λ g S x. a.beside S (under x);
       each = λ g S f c rest x t.
           let d : eqb g.0 f.0 ≡ true = eq-eqb g.0 f.0 (omega (arith, symbol-word x, word t)) in
-          let o : isUnordered σ f ≡ false = its-kind σ h j f c rest (get_or e p 0) b q u t ∙ z in
+          let o : is_unordered σ f ≡ false = its-kind σ h j f c rest (get_or e p 0) b q u t ∙ z in
           rw (d, o) (a.each S c (under x) (child t));
     }
 
@@ -147,7 +147,7 @@ module _ {σ : Signature} {e : List ℕ} {p : ℕ} {h : List ℕ} {j : ℕ} wher
       beside = λ g S x. a.beside S (under x);
       each = λ g S f c rest x t.
           let d : eqb g.0 f.0 ≡ true = eq-eqb g.0 f.0 (omega (arith, symbol-word x, word t)) in
-          let o : isUnordered σ f ≡ true = its-kind σ h j f c rest (get_or e p 0) b q u t ∙ z in
+          let o : is_unordered σ f ≡ true = its-kind σ h j f c rest (get_or e p 0) b q u t ∙ z in
           rw (d, o) (in-some-order σ (p + 1) c S y (a.each S c [] (under x) (child t) refl));
     }
 
@@ -217,9 +217,9 @@ module _ {σ : Signature} {e : List ℕ} {at : ℕ} {h : List ℕ} {j : ℕ} {k 
   fit-eps v z = record {
     spared = spared-refl;
     beside = beside-refl;
-    sized = by-eps (λ R. at + 1 ≡ at + sizeE R) v refl;
+    sized = by-eps (λ R. at + 1 ≡ at + size_e R) v refl;
     within = (omega arith, z);
-    each = λ R f c rest x y n. by-eps (λ R. Lists w t (row_of (ofTerm σ f (tests σ c)) R at) t) v lists-none R x;
+    each = λ R f c rest x y n. by-eps (λ R. Lists w t (row_of (of_term σ f (tests σ c)) R at) t) v lists-none R x;
   }
 
   module _ {k' : List Bool} {w' : List ℕ} {s : Seen} {y : Bool} (v : get_or e at 0 < 7000) (p : Expression e at) (l : Looked e (at + 1) s) (a : Answered σ e at h j k k' w w' t y) (z : t ≤ cap) where
@@ -230,8 +230,8 @@ module _ {σ : Signature} {e : List ℕ} {at : ℕ} {h : List ℕ} {j : ℕ} {k 
         let u = (l.each q.S (under q.here)).0 in
         beside-wide b (omega arith) (omega arith)
 
-    its-size : (R : Expr) → At e at R → s.end ≡ at + sizeE R
-    its-size = by-symbol (λ R. s.end ≡ at + sizeE R) v (λ g S x. omega (arith, (l.each S (under x)).0))
+    its-size : (R : Expr) → At e at R → s.end ≡ at + size_e R
+    its-size = by-symbol (λ R. s.end ≡ at + size_e R) v (λ g S x. omega (arith, (l.each S (under x)).0))
 
     fit_none : y ≡ false → FittedAll σ e at h j k k' w w' t cap (record { end = s.end; top = t; full = false })
     fit_none n = record {
@@ -239,8 +239,8 @@ module _ {σ : Signature} {e : List ℕ} {at : ℕ} {h : List ℕ} {j : ℕ} {k 
       beside = its-beside;
       sized = its-size;
       within = (omega arith, z);
-      each = λ R f c rest x d m. by-symbol (λ R. Lists w' t (row_of (ofTerm σ f (tests σ c)) R at) t) v
-          (λ g S u. let i : ofTerm σ f (tests σ c) g S ≡ false = sym (a.each g S f c rest u d) ∙ n in rw i lists-none) R x;
+      each = λ R f c rest x d m. by-symbol (λ R. Lists w' t (row_of (of_term σ f (tests σ c)) R at) t) v
+          (λ g S u. let i : of_term σ f (tests σ c) g S ≡ false = sym (a.each g S f c rest u d) ∙ n in rw i lists-none) R x;
     }
 
     fit-full : FittedAll σ e at h j k k' w w' t cap (record { end = s.end; top = t; full = true })
@@ -252,8 +252,8 @@ module _ {σ : Signature} {e : List ℕ} {at : ℕ} {h : List ℕ} {j : ℕ} {k 
       beside = its-beside;
       sized = its-size;
       within = (omega arith, omega arith);
-      each = λ R f c rest x d' m. by-symbol (λ R. Lists w₂ t (row_of (ofTerm σ f (tests σ c)) R at) (t + 1)) v
-          (λ g S u. let i : ofTerm σ f (tests σ c) g S ≡ true = sym (a.each g S f c rest u d') ∙ n in rw i (lists-one w' (omega (arith, a.spared.len)) d)) R x;
+      each = λ R f c rest x d' m. by-symbol (λ R. Lists w₂ t (row_of (of_term σ f (tests σ c)) R at) (t + 1)) v
+          (λ g S u. let i : of_term σ f (tests σ c) g S ≡ true = sym (a.each g S f c rest u d') ∙ n in rw i (lists-one w' (omega (arith, a.spared.len)) d)) R x;
     }
 
     -- whichever it is
@@ -269,9 +269,9 @@ module _ {σ : Signature} {e : List ℕ} {at : ℕ} {h : List ℕ} {j : ℕ} {k 
   fit-star {k'} {w'} {r} v p a = record {
     spared = a.spared;
     beside = let q = first p (omega arith) in let u = a.sized q.R q.here in beside-wide a.beside (omega arith) (omega arith);
-    sized = by-star (λ R. r.end ≡ at + sizeE R) v (λ A x. omega (arith, a.sized A x));
+    sized = by-star (λ R. r.end ≡ at + size_e R) v (λ A x. omega (arith, a.sized A x));
     within = a.within;
-    each = λ R f c rest x y n. by-star (λ R. Lists w' t (row_of (ofTerm σ f (tests σ c)) R at) r.top) v (λ A u. a.each A f c rest u y n) R x;
+    each = λ R f c rest x y n. by-star (λ R. Lists w' t (row_of (of_term σ f (tests σ c)) R at) r.top) v (λ A u. a.each A f c rest u y n) R x;
   }
 
   -- 7001 and 7002
@@ -289,14 +289,14 @@ module _ {σ : Signature} {e : List ℕ} {at : ℕ} {h : List ℕ} {j : ℕ} {k 
     each = λ R f c rest v g n. rows v f c rest g n;
   }
     where
-      whole : {R : Expr} → At e at R → (a.end ≤ b.end) × (b.end ≡ at + sizeE R)
+      whole : {R : Expr} → At e at R → (a.end ≤ b.end) × (b.end ≡ at + size_e R)
       whole (at-eps l w) = absurd (n0 w)
       whole (at-cat {a = A} {b = B} l w u v) = let q = x.sized A u in let r = y.sized B (rw q v) in (omega arith, omega arith)
       whole (at-alt {a = A} {b = B} l w u v) = let q = x.sized A u in let r = y.sized B (rw q v) in (omega arith, omega arith)
       whole (at-star l w u) = absurd (n3 w)
       whole (at-over l w u v) = absurd (omega arith)
 
-      rows : {R : Expr} → At e at R → (f : Sym) (c rest : Complete) → Holds h j (tree f c rest) → o ≡ false → Lists w₂ t (row_of (ofTerm σ f (tests σ c)) R at) b.top
+      rows : {R : Expr} → At e at R → (f : Sym) (c rest : Complete) → Holds h j (tree f c rest) → o ≡ false → Lists w₂ t (row_of (of_term σ f (tests σ c)) R at) b.top
       rows (at-eps l w) f c rest g n = absurd (n0 w)
       rows (at-cat {a = A} {b = B} l w u v) f c rest g n =
           let (n₁, n₂) = or-false a.full b.full o z n in

@@ -14,14 +14,14 @@ use Rattle.meaning.specs.Complete.{Complete, tree}
 use Rattle.rules.specs.Each.{Each}
 use Rattle.rules.proofs.Each.{each-++}
 use Rattle.rules.proofs.Tests.{test-true}
-use Rattle.any_order.specs.Places.{sizeE, At, at-eps, at-cat, at-alt, at-star, at-over, Expression}
+use Rattle.any_order.specs.Places.{size_e, At, at-eps, at-cat, at-alt, at-star, at-over, Expression}
 use Rattle.any_order.specs.Sharing.{bump, Kind, In, Rest, Good, none, Recorded, Records}
 use Rattle.any_order.proofs.Ranges.{not-both}
 use Rattle.member.specs.declared.Seen.{Seen}
 use Rattle.member.specs.declared.Tried.{Tried}
-use Rattle.member.specs.Marks.{tests, ofTerm}
+use Rattle.member.specs.Marks.{tests, of_term}
 use Rattle.member.specs.Leaves.{Fits, Terms}
-use Rattle.passing.specs.Places.{sizeC, Holds, Skipped, Beside}
+use Rattle.passing.specs.Places.{size_c, Holds, Skipped, Beside}
 use Rattle.member.specs.Places.{Looked}
 use Rattle.member.specs.Gathering.{Spared, Inner, Gathered, Answered, Shuffles, ShufflesBy}
 use Rattle.member.proofs.Decides.{tests-decide, of-term→, of-term←}
@@ -46,17 +46,17 @@ module _ {e : List ℕ} {at q : ℕ} where
   pub inner_first : Inner e at q → (get_or e q 0 ≡ 7000 → ⊥) → Inner e at (q + 1)
   inner_first i n = go i.there i.high
     where
-      go : {S : Expr} → At e q S → q + sizeE S ≤ at + sizeE i.R → Inner e at (q + 1)
+      go : {S : Expr} → At e q S → q + size_e S ≤ at + size_e i.R → Inner e at (q + 1)
       go (at-eps l w) u = absurd (n w)
       go (at-cat {a = a} l w x y) u = record { R = i.R; here = i.here; S = a; there = x; low = omega (arith, i.low); high = omega arith }
       go (at-alt {a = a} l w x y) u = record { R = i.R; here = i.here; S = a; there = x; low = omega (arith, i.low); high = omega arith }
       go (at-star {a = a} l w x) u = record { R = i.R; here = i.here; S = a; there = x; low = omega (arith, i.low); high = omega arith }
       go (at-over {a = a} l w v x) u = record { R = i.R; here = i.here; S = a; there = x; low = omega (arith, i.low); high = omega arith }
 
-  pub inner-second : {n : ℕ} → Inner e at q → (get_or e q 0 ≡ 7000 → ⊥) → 7000 ≤ get_or e q 0 → (get_or e q 0 ≡ 7003 → ⊥) → ((R : Expr) → At e (q + 1) R → n ≡ q + 1 + sizeE R) → Inner e at n
+  pub inner-second : {n : ℕ} → Inner e at q → (get_or e q 0 ≡ 7000 → ⊥) → 7000 ≤ get_or e q 0 → (get_or e q 0 ≡ 7003 → ⊥) → ((R : Expr) → At e (q + 1) R → n ≡ q + 1 + size_e R) → Inner e at n
   inner-second {n} i n0 lo n3 z = go i.there i.high
     where
-      go : {S : Expr} → At e q S → q + sizeE S ≤ at + sizeE i.R → Inner e at n
+      go : {S : Expr} → At e q S → q + size_e S ≤ at + size_e i.R → Inner e at n
       go (at-eps l w) u = absurd (n0 w)
       go (at-cat {a = a} {b = b} l w x y) u = let d = z a x in record { R = i.R; here = i.here; S = b; there = rw d y; low = omega (arith, i.low); high = omega arith }
       go (at-alt {a = a} {b = b} l w x y) u = let d = z a x in record { R = i.R; here = i.here; S = b; there = rw d y; low = omega (arith, i.low); high = omega arith }
@@ -85,13 +85,13 @@ gathered-one {e} {at} {q} {h} {j} {w} {base} {top} {next} {w₁} {w₂} i g n sk
     (records-snoc w₂ base g.ks top (record { times = 1; places = q ∷ [] }) (top + 3) (records-same w w₂ base g.ks top (λ p lo hi. sp.low p hi) g.records) (single w₁ top q s (gathered-six g n).0 d) (omega arith))
     (each-++ (λ (k : Kind). Each (λ p. p < length e) k.places) g.ks (record { times = 1; places = q ∷ [] } ∷ []) g.within ((at_lt i.there, tt), tt))
     (total-snoc g.ks (record { times = 1; places = q ∷ [] }))
-    (λ u c r z. let rr : top + 2 * sizeC (tree u c r) ≤ length w = rw z at g.room in omega (arith, some_words c))
+    (λ u c r z. let rr : top + 2 * size_c (tree u c r) ≤ length w = rw z at g.room in omega (arith, some_words c))
   where
     sp : Spared w w₂ top
     sp = rw d (spared-set (set (set w₁ top 1) (top + 1) 1) (top + 2) q (spared-set (set w₁ top 1) (top + 1) 1 (spared-set w₁ top 1 s (omega arith) refl) (omega arith) refl) (omega arith) refl)
 
 crowd-beside : {σ : Signature} {e : List ℕ} {at q : ℕ} {h : List ℕ} {j : ℕ} {k k₁ : List Bool} {w w₁ : List ℕ} {top : ℕ} {y : Bool} → get_or e q 0 < 7000 → Inner e at q
-    → Answered σ e q h j k k₁ w w₁ top y → (R : Expr) → At e at R → Beside k k₁ at (at + sizeE R)
+    → Answered σ e q h j k k₁ w w₁ top y → (R : Expr) → At e at R → Beside k k₁ at (at + size_e R)
 crowd-beside v i a R x =
     let o = symbol-at (inner-expression i) v in
     let b = a.beside o.g o.S o.here in
@@ -99,8 +99,8 @@ crowd-beside v i a R x =
     let u = at_size o.here i.there in
     beside-wide b (omega (arith, i.low)) (omega (arith, i.high))
 
-crowd-size : {e : List ℕ} {q : ℕ} {s : Seen} → get_or e q 0 < 7000 → Looked e (q + 1) s → (S : Expr) → At e q S → s.end ≡ q + sizeE S
-crowd-size {q = q} {s = s} v l = by-symbol (λ S. s.end ≡ q + sizeE S) v (λ g S x. omega (arith, (l.each S (under x)).0))
+crowd-size : {e : List ℕ} {q : ℕ} {s : Seen} → get_or e q 0 < 7000 → Looked e (q + 1) s → (S : Expr) → At e q S → s.end ≡ q + size_e S
+crowd-size {q = q} {s = s} v l = by-symbol (λ S. s.end ≡ q + size_e S) v (λ g S x. omega (arith, (l.each S (under x)).0))
 
 module _ {σ : Signature} {e : List ℕ} {at q : ℕ} {h : List ℕ} {j : ℕ} {k : List Bool} {w : List ℕ} {base top : ℕ} where
   pub crowd-eps : get_or e q 0 ≡ 7000 → ShufflesBy σ e at q h j k k w w base top (record { end = q + 1; yes = false })
@@ -108,7 +108,7 @@ module _ {σ : Signature} {e : List ℕ} {at q : ℕ} {h : List ℕ} {j : ℕ} {
     spared = spared-refl;
     len = refl;
     beside = λ R x. beside-refl;
-    sized = λ _. by-eps (λ S. q + 1 ≡ q + sizeE S) v refl;
+    sized = λ _. by-eps (λ S. q + 1 ≡ q + size_e S) v refl;
     each = λ R S f c g ks x y hh rec. by-eps (λ S. (false ≡ true) ↔ ((p : ℕ) × Fits σ S q f c p × Rest (λ d. Terms (Fits σ R at) (Good R at) g (bump d p)) ks none)) v
         (λ t. absurd (not-both t refl), λ (p, (g', S', z, m), s). absurd z) S y;
   }
@@ -123,7 +123,7 @@ module _ {σ : Signature} {e : List ℕ} {at q : ℕ} {h : List ℕ} {j : ℕ} {
       each = λ R S f c g ks x y hh rec. by-symbol (λ S. (false ≡ true) ↔ ((p : ℕ) × Fits σ S q f c p × Rest (λ d. Terms (Fits σ R at) (Good R at) g (bump d p)) ks none)) v
           (λ g' S' u. (
             λ t. absurd (not-both t refl),
-            λ (p, (g'', S'', (e₁, e₂, e₃), m), r). absurd (not-both ((test-true (ofTerm σ f (tests σ c) g' S')).0 (of-term← σ f c (tests σ c) (tests-decide σ c) g' S' (rw (e₂, e₃) m))) (sym (a.each g' S' f c g u hh) ∙ n)),
+            λ (p, (g'', S'', (e₁, e₂, e₃), m), r). absurd (not-both ((test-true (of_term σ f (tests σ c) g' S')).0 (of-term← σ f c (tests σ c) (tests-decide σ c) g' S' (rw (e₂, e₃) m))) (sym (a.each g' S' f c g u hh) ∙ n)),
           )) S y;
     }
 
@@ -137,7 +137,7 @@ module _ {σ : Signature} {e : List ℕ} {at q : ℕ} {h : List ℕ} {j : ℕ} {
       sized = λ _. crowd-size v l;
       each = λ R S f c g ks x y hh rec. by-symbol (λ S. (r ≡ true) ↔ ((p : ℕ) × Fits σ S q f c p × Rest (λ d. Terms (Fits σ R at) (Good R at) g (bump d p)) ks none)) v
           (λ g' S' u.
-          let yes = of-term→ σ f c (tests σ c) (tests-decide σ c) g' S' ((test-true (ofTerm σ f (tests σ c) g' S')).1 (sym (a.each g' S' f c g u hh) ∙ n)) in
+          let yes = of-term→ σ f c (tests σ c) (tests-decide σ c) g' S' ((test-true (of_term σ f (tests σ c) g' S')).1 (sym (a.each g' S' f c g u hh) ∙ n)) in
           let rest = m.each R g (ks ++ (record { times = 1; places = q ∷ [] } ∷ [])) x (rw (sk.each c (child hh)) (behind hh)) (single-records ks rec) in
           let one = iff-trans rest (snoc-rest (Terms (Fits σ R at) (Good R at) g) (q ∷ []) ks none) in
           let out = iff-trans one (rest_out (λ p. In p (q ∷ [])) (λ p d. Terms (Fits σ R at) (Good R at) g (bump d p)) ks none) in (
@@ -161,7 +161,7 @@ module _ {σ : Signature} {e : List ℕ} {at q : ℕ} {h : List ℕ} {j : ℕ} {
     spared = a.spared;
     len = a.len;
     beside = a.beside;
-    sized = λ n. by-star (λ S. r.end ≡ q + sizeE S) v (λ A x. omega (arith, a.sized n A x));
+    sized = λ n. by-star (λ S. r.end ≡ q + size_e S) v (λ A x. omega (arith, a.sized n A x));
     each = λ R S f c g ks x y hh rec. by-star (λ S. (r.yes ≡ true) ↔ ((p : ℕ) × Fits σ S q f c p × Rest (λ d. Terms (Fits σ R at) (Good R at) g (bump d p)) ks none)) v
         (λ A u. a.each R A f c g ks x u hh rec) S y;
   }
@@ -195,14 +195,14 @@ module _ {σ : Signature} {e : List ℕ} {at q : ℕ} {h : List ℕ} {j : ℕ} {
       each = λ R S f c g ks v u hh rec. go R f c g ks v hh rec u;
     }
       where
-        size : b.yes ≡ false → {S : Expr} → At e q S → b.end ≡ q + sizeE S
+        size : b.yes ≡ false → {S : Expr} → At e q S → b.end ≡ q + size_e S
         size n (at-eps l w) = absurd (n0 w)
         size n (at-cat {a = A} {b = B} l' w u v) = let d = x.sized z A u in omega (arith, y.sized n B (rw d v))
         size n (at-alt {a = A} {b = B} l' w u v) = let d = x.sized z A u in omega (arith, y.sized n B (rw d v))
         size n (at-star l w u) = absurd (n3 w)
         size n (at-over l w u v) = absurd (omega arith)
 
-        both : (A B : Expr) (R : Expr) (f : Sym) (c g : Complete) (ks : List Kind) → At e at R → Holds h j (tree f c g) → Records w base ks top → At e (q + 1) A → At e (q + 1 + sizeE A) B
+        both : (A B : Expr) (R : Expr) (f : Sym) (c g : Complete) (ks : List Kind) → At e at R → Holds h j (tree f c g) → Records w base ks top → At e (q + 1) A → At e (q + 1 + size_e A) B
             → (b.yes ≡ true) ↔ ((p : ℕ) × Fits σ (cat A B) q f c p × Rest (λ d. Terms (Fits σ R at) (Good R at) g (bump d p)) ks none)
         both A B R f c g ks r hh rec u v =
             let d = x.sized z A u in

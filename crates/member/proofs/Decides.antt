@@ -7,7 +7,7 @@ use lib.Dec.{T, leb, eqb→eq, eqb_refl, le→leb}
 use Rattle.language.specs.declared.Sym.{Sym}
 use Rattle.language.specs.Kinds.{pick}
 use Rattle.language.specs.declared.Signature.{Signature}
-use Rattle.language.specs.Trees.{Expr, eps, cat, alt, star, over, isUnordered, eqS}
+use Rattle.language.specs.Trees.{Expr, eps, cat, alt, star, over, is_unordered, eq_s}
 use Rattle.meaning.specs.Complete.{Complete, nil, tree, ◌·◌, Shuffled}
 use Rattle.meaning.specs.Meaning.{Many, stop, more, Member}
 use Rattle.meaning.proofs.Complete.{nil≢tree, nil-parts}
@@ -15,8 +15,8 @@ use Rattle.meaning.proofs.Shuffles.{shuffled-sym}
 use Rattle.meaning.proofs.Same.{same-nil, nil-no-tree, same-symbol, same_first}
 use Rattle.meaning.proofs.Alike.{member-over, member_alike}
 use Rattle.rules.specs.Expressions.{nullable}
-use Rattle.member.specs.AnyOrder.{left_of, allNullable, some, breadth, shortestOf}
-use Rattle.member.specs.Marks.{Marked, meps, mcat, malt, mstar, mover, bare, blank, final, shift, Tests, ofTerm, tests, accepts}
+use Rattle.member.specs.AnyOrder.{left_of, all_nullable, some, breadth, shortest_of}
+use Rattle.member.specs.Marks.{Marked, meps, mcat, malt, mstar, mover, bare, blank, final, shift, Tests, of_term, tests, accepts}
 use Rattle.member.proofs.AnyOrder.{Row, InSomeOrder, row_one, one-row, any_left, left-any, some_is, order-short}
 
 -- ---- tests
@@ -41,8 +41,8 @@ T-both : (a b : Bool) → T a → T b → T (a && b)
 T-both true b s t = t
 T-both false b s t = absurd s
 
-eqS-is : (f g : Sym) → T (eqS f g) → f ≡ g
-eqS-is f g t = ap (λ n. record { 0 = n }) (eqb→eq f.0 g.0 t)
+eq_s-is : (f g : Sym) → T (eq_s f g) → f ≡ g
+eq_s-is f g t = ap (λ n. record { 0 = n }) (eqb→eq f.0 g.0 t)
 
 -- ---- complete hedges
 
@@ -221,53 +221,53 @@ module _ (σ : Signature) where
   Left i m g = After m g ⊎ (T i × Member σ (bare m) g)
 
   -- nothing is left to read
-  row-nil : (rs : List Expr) → T (allNullable rs) ↔ Row σ rs nil
+  row-nil : (rs : List Expr) → T (all_nullable rs) ↔ Row σ rs nil
   row-nil [] = (λ t. refl, λ e. tt)
   row-nil (R ∷ rs) = (
-    λ t. let (a, b) = T_and (nullable R) (allNullable rs) t in (nil, nil, refl, null→ R a, (row-nil rs).0 b),
-    λ (u, v, e, m, n). let (p, q) = nil-parts u v e in T-both (nullable R) (allNullable rs) (null← R (rw p at m)) ((row-nil rs).1 (rw q at n)),
+    λ t. let (a, b) = T_and (nullable R) (all_nullable rs) t in (nil, nil, refl, null→ R a, (row-nil rs).0 b),
+    λ (u, v, e, m, n). let (p, q) = nil-parts u v e in T-both (nullable R) (all_nullable rs) (null← R (rw p at m)) ((row-nil rs).1 (rw q at n)),
   )
 
   -- what the tests say of a hedge
   pub record Decided (g : Complete) (t : Tests) : Type 0 where
-    pub inOrder : (i : Bool) (m : Marked) → T (t.inOrder i m) ↔ Left i m g
-    pub anyOrder : (rs : List Expr) → T (t.anyOrder rs) ↔ InSomeOrder σ rs g
+    pub in_order : (i : Bool) (m : Marked) → T (t.in_order i m) ↔ Left i m g
+    pub any_order : (rs : List Expr) → T (t.any_order rs) ↔ InSomeOrder σ rs g
 
-  read : (g : Complete) (t : Tests) → Decided g t → (R : Expr) → T (t.inOrder true (blank R)) ↔ Member σ R g
+  read : (g : Complete) (t : Tests) → Decided g t → (R : Expr) → T (t.in_order true (blank R)) ↔ Member σ R g
   read g t d R = (
-    λ x. elim ((d.inOrder true (blank R)).0 x) [ inl h ↦ absurd (blank_none R g h) | inr h ↦ rw (bare-blank R) at h.1 ],
-    λ m. (d.inOrder true (blank R)).1 (inr (tt, rw (bare-blank R) m)),
+    λ x. elim ((d.in_order true (blank R)).0 x) [ inl h ↦ absurd (blank_none R g h) | inr h ↦ rw (bare-blank R) at h.1 ],
+    λ m. (d.in_order true (blank R)).1 (inr (tt, rw (bare-blank R) m)),
   )
 
-  pub shuffled : (g : Complete) (t : Tests) → Decided g t → (R : Expr) → T (t.anyOrder (R ∷ [])) ↔ ((e : Complete) × Shuffled g e × Member σ R e)
+  pub shuffled : (g : Complete) (t : Tests) → Decided g t → (R : Expr) → T (t.any_order (R ∷ [])) ↔ ((e : Complete) × Shuffled g e × Member σ R e)
   shuffled g t d R = (
-    λ x. let (e, s, m) = (d.anyOrder (R ∷ [])).0 x in (e, s, one-row σ R e m),
-    λ (e, s, m). (d.anyOrder (R ∷ [])).1 (e, s, row_one σ R e m),
+    λ x. let (e, s, m) = (d.any_order (R ∷ [])).0 x in (e, s, one-row σ R e m),
+    λ (e, s, m). (d.any_order (R ∷ [])).1 (e, s, row_one σ R e m),
   )
 
   -- f over c is in f(R) exactly where the test says so
   under : (f : Sym) (c : Complete) (t : Tests) → Decided c t → (R : Expr)
-      → T (pick (isUnordered σ f) (t.anyOrder (R ∷ [])) (t.inOrder true (blank R))) ↔ Member σ (over f R) (tree f c nil)
-  under f c t d R = go (isUnordered σ f) (λ u. member_alike σ f c R u) (λ u. member-over σ f c R u)
+      → T (pick (is_unordered σ f) (t.any_order (R ∷ [])) (t.in_order true (blank R))) ↔ Member σ (over f R) (tree f c nil)
+  under f c t d R = go (is_unordered σ f) (λ u. member_alike σ f c R u) (λ u. member-over σ f c R u)
     where
       go : (b : Bool) → (T b → Member σ (over f R) (tree f c nil) ↔ ((e : Complete) × Shuffled c e × Member σ R e)) → (T (not b) → Member σ (over f R) (tree f c nil) ↔ Member σ R c)
-          → T (pick b (t.anyOrder (R ∷ [])) (t.inOrder true (blank R))) ↔ Member σ (over f R) (tree f c nil)
+          → T (pick b (t.any_order (R ∷ [])) (t.in_order true (blank R))) ↔ Member σ (over f R) (tree f c nil)
       go true any line = (λ x. (any tt).1 ((shuffled c t d R).0 x), λ m. (shuffled c t d R).1 ((any tt).0 m))
       go false any line = (λ x. (line tt).1 ((read c t d R).0 x), λ m. (read c t d R).1 ((line tt).0 m))
 
-  pub of-term→ : (f : Sym) (c : Complete) (t : Tests) → Decided c t → (g : Sym) (R : Expr) → T (ofTerm σ f t g R) → Member σ (over g R) (tree f c nil)
+  pub of-term→ : (f : Sym) (c : Complete) (t : Tests) → Decided c t → (g : Sym) (R : Expr) → T (of_term σ f t g R) → Member σ (over g R) (tree f c nil)
   of-term→ f c t d g R x =
-      let (s, y) = T_and (eqS g f) (pick (isUnordered σ f) (t.anyOrder (R ∷ [])) (t.inOrder true (blank R))) x in
-      rw (eqS-is g f s) ((under f c t d R).0 y)
+      let (s, y) = T_and (eq_s g f) (pick (is_unordered σ f) (t.any_order (R ∷ [])) (t.in_order true (blank R))) x in
+      rw (eq_s-is g f s) ((under f c t d R).0 y)
 
-  pub of-term← : (f : Sym) (c : Complete) (t : Tests) → Decided c t → (g : Sym) (R : Expr) → Member σ (over g R) (tree f c nil) → T (ofTerm σ f t g R)
+  pub of-term← : (f : Sym) (c : Complete) (t : Tests) → Decided c t → (g : Sym) (R : Expr) → Member σ (over g R) (tree f c nil) → T (of_term σ f t g R)
   of-term← f c t d g R m =
       let e = same-symbol σ f g c m.0 nil nil m.1 in
-      T-both (eqS g f) (pick (isUnordered σ f) (t.anyOrder (R ∷ [])) (t.inOrder true (blank R))) (rw (← e) (eqb_refl f.0)) ((under f c t d R).1 (rw (← e) at m))
+      T-both (eq_s g f) (pick (is_unordered σ f) (t.any_order (R ∷ [])) (t.in_order true (blank R))) (rw (← e) (eqb_refl f.0)) ((under f c t d R).1 (rw (← e) at m))
 
   nil-decided : Decided nil (tests σ nil)
   nil-decided = record {
-    inOrder = λ i m. (
+    in_order = λ i m. (
       λ t. elim (T-or (i && nullable (bare m)) (final m) t) [
         | inl s ↦ let (p, q) = T_and i (nullable (bare m)) s in inr (p, null→ (bare m) q)
         | inr s ↦ inl (final→ m s)
@@ -277,23 +277,23 @@ module _ (σ : Signature) where
         | inr h ↦ T-left (i && nullable (bare m)) (final m) (T-both i (nullable (bare m)) h.0 (null← (bare m) h.1))
       ],
     );
-    anyOrder = λ rs. (λ t. (nil, refl, (row-nil rs).0 t), λ (e, s, m). (row-nil rs).1 (rw (shuffled-sym nil e s) at m));
+    any_order = λ rs. (λ t. (nil, refl, (row-nil rs).0 t), λ (e, s, m). (row-nil rs).1 (rw (shuffled-sym nil e s) at m));
   }
 
   tree-decided : (f : Sym) (c r : Complete) (t u : Tests) → Decided c t → Decided r u
-      → Decided (tree f c r) (record { inOrder = λ i m. u.inOrder false (shift i (ofTerm σ f t) m); anyOrder = λ rs. leb (shortestOf rs) (breadth (tree f c r)) && some u.anyOrder (left_of (ofTerm σ f t) rs) })
+      → Decided (tree f c r) (record { in_order = λ i m. u.in_order false (shift i (of_term σ f t) m); any_order = λ rs. leb (shortest_of rs) (breadth (tree f c r)) && some u.any_order (left_of (of_term σ f t) rs) })
   tree-decided f c r t u d e =
-      let p = ofTerm σ f t in
+      let p = of_term σ f t in
       record {
-        inOrder = λ i m. (
-          λ x. elim ((e.inOrder false (shift i p m)).0 x) [ inl h ↦ sound p f c (of-term→ f c t d) i m r h | inr h ↦ absurd h.0 ],
-          λ l. (e.inOrder false (shift i p m)).1 (inl (elim l [ inl h ↦ goes_on p f c (of-term← f c t d) i m r h | inr h ↦ begins p f c (of-term← f c t d) i m r h.0 h.1 ])),
+        in_order = λ i m. (
+          λ x. elim ((e.in_order false (shift i p m)).0 x) [ inl h ↦ sound p f c (of-term→ f c t d) i m r h | inr h ↦ absurd h.0 ],
+          λ l. (e.in_order false (shift i p m)).1 (inl (elim l [ inl h ↦ goes_on p f c (of-term← f c t d) i m r h | inr h ↦ begins p f c (of-term← f c t d) i m r h.0 h.1 ])),
         );
-        anyOrder = λ rs.
-            let all = some_is u.anyOrder (λ q. InSomeOrder σ q r) e.anyOrder (left_of p rs) in
-            let enough = leb (shortestOf rs) (breadth (tree f c r)) in (
-              λ x. left-any σ p f c (of-term→ f c t d) rs r (all.0 (T_and enough (some u.anyOrder (left_of p rs)) x).1),
-              λ m. T-both enough (some u.anyOrder (left_of p rs)) (le→leb _ _ (order-short σ rs (tree f c r) m)) (all.1 (any_left σ p f c (of-term← f c t d) rs r m)),
+        any_order = λ rs.
+            let all = some_is u.any_order (λ q. InSomeOrder σ q r) e.any_order (left_of p rs) in
+            let enough = leb (shortest_of rs) (breadth (tree f c r)) in (
+              λ x. left-any σ p f c (of-term→ f c t d) rs r (all.0 (T_and enough (some u.any_order (left_of p rs)) x).1),
+              λ m. T-both enough (some u.any_order (left_of p rs)) (le→leb _ _ (order-short σ rs (tree f c r) m)) (all.1 (any_left σ p f c (of-term← f c t d) rs r m)),
             );
       }
 

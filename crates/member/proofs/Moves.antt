@@ -14,8 +14,8 @@ use Rattle.meaning.specs.Complete.{Complete, tree}
 use Rattle.rules.specs.Expressions.{nullable}
 use Rattle.member.specs.declared.Seen.{Seen}
 use Rattle.member.specs.declared.Step.{Step}
-use Rattle.member.specs.Marks.{Marked, mcat, malt, mstar, bare, final, shift, tests, ofTerm}
-use Rattle.any_order.specs.Places.{sizeE, At, Expression}
+use Rattle.member.specs.Marks.{Marked, mcat, malt, mstar, bare, final, shift, tests, of_term}
+use Rattle.any_order.specs.Places.{size_e, At, Expression}
 use Rattle.passing.specs.Places.{Holds, at-tree, Beside}
 use Rattle.member.specs.Places.{Kept, kept-eps, kept-cat, kept-alt, kept-star, kept-over, Looked, Shifted, Enters, Follows, Keeps, Together}
 use Rattle.member.proofs.Decides.{bare-shift}
@@ -26,7 +26,7 @@ use Rattle.member.specs.Gathering.{Answered}
 
 -- ---- what changes
 
-kept-beside : {k k' : List Bool} {at : ℕ} {M : Marked} → ((i : ℕ) → at ≤ i → i < at + sizeE (bare M) → get_or k' i false ≡ get_or k i false) → Kept k at M → Kept k' at M
+kept-beside : {k k' : List Bool} {at : ℕ} {M : Marked} → ((i : ℕ) → at ≤ i → i < at + size_e (bare M) → get_or k' i false ≡ get_or k i false) → Kept k at M → Kept k' at M
 kept-beside z kept-eps = kept-eps
 kept-beside {at = at} z (kept-cat q x y) =
     kept-cat (z at (omega arith) (omega arith) ∙ q) (kept-beside (λ i l u. z i (omega arith) (omega arith)) x) (kept-beside (λ i l u. z i (omega arith) (omega arith)) y)
@@ -45,10 +45,10 @@ word (at-tree l w p q) = w
 un-star : {k : List Bool} {at : ℕ} {A : Marked} → Kept k at (mstar A) → (get_or k at false ≡ final A) × Kept k (at + 1) A
 un-star (kept-star q x) = (q, x)
 
-un-cat : {k : List Bool} {at : ℕ} {A B : Marked} → Kept k at (mcat A B) → (get_or k at false ≡ final A) × Kept k (at + 1) A × Kept k (at + 1 + sizeE (bare A)) B
+un-cat : {k : List Bool} {at : ℕ} {A B : Marked} → Kept k at (mcat A B) → (get_or k at false ≡ final A) × Kept k (at + 1) A × Kept k (at + 1 + size_e (bare A)) B
 un-cat (kept-cat q x y) = (q, x, y)
 
-un-alt : {k : List Bool} {at : ℕ} {A B : Marked} → Kept k at (malt A B) → Kept k (at + 1) A × Kept k (at + 1 + sizeE (bare A)) B
+un-alt : {k : List Bool} {at : ℕ} {A B : Marked} → Kept k at (malt A B) → Kept k (at + 1) A × Kept k (at + 1 + size_e (bare A)) B
 un-alt (kept-alt x y) = (x, y)
 
 -- ---- what the parts are read with
@@ -97,7 +97,7 @@ module _ {σ : Signature} {e : List ℕ} {at : ℕ} {h : List ℕ} {j : ℕ} {k 
   sh-eps w = record {
     beside = beside-refl;
     sized = by-eps _ w (refl, refl);
-    each = λ M f c rst x kk hh. m-eps (λ M. (false ≡ final (shift m (ofTerm σ f (tests σ c)) M)) × Kept k at (shift m (ofTerm σ f (tests σ c)) M)) w (refl, kept-eps) M x;
+    each = λ M f c rst x kk hh. m-eps (λ M. (false ≡ final (shift m (of_term σ f (tests σ c)) M)) × Kept k at (shift m (of_term σ f (tests σ c)) M)) w (refl, kept-eps) M x;
   }
 
   -- a symbol: no term may stand here, it is another, or its children decide
@@ -105,7 +105,7 @@ module _ {σ : Signature} {e : List ℕ} {at : ℕ} {h : List ℕ} {j : ℕ} {k 
   sh-no w l z = record {
     beside = beside-refl;
     sized = by_over _ w (λ f v a x. (omega (arith, (l.each a x).0), refl));
-    each = λ M f c rst x kk hh. m-over (λ M. (false ≡ final (shift m (ofTerm σ f (tests σ c)) M)) × Kept k at (shift m (ofTerm σ f (tests σ c)) M)) w
+    each = λ M f c rst x kk hh. m-over (λ M. (false ≡ final (shift m (of_term σ f (tests σ c)) M)) × Kept k at (shift m (of_term σ f (tests σ c)) M)) w
         (λ b g v R y. (rw z, kept-over)) M x;
   }
 
@@ -118,7 +118,7 @@ module _ {σ : Signature} {e : List ℕ} {at : ℕ} {h : List ℕ} {j : ℕ} {k 
         let u = (l.each q.S (under q.here)).0 in
         beside-wide b (omega arith) (omega arith);
     sized = by_over _ w (λ f v a x. (omega (arith, (l.each a x).0), refl));
-    each = λ M f c rst x kk hh. m-symbol (λ M. (y ≡ final (shift m (ofTerm σ f (tests σ c)) M)) × Kept k' at (shift m (ofTerm σ f (tests σ c)) M)) w
+    each = λ M f c rst x kk hh. m-symbol (λ M. (y ≡ final (shift m (of_term σ f (tests σ c)) M)) × Kept k' at (shift m (of_term σ f (tests σ c)) M)) w
         (λ b g S t. (rw z (a.each g S f c rst t hh), kept-over)) M x;
   }
 
@@ -130,16 +130,16 @@ module _ {σ : Signature} {e : List ℕ} {at : ℕ} {h : List ℕ} {j : ℕ} {k 
         let u = (s.sized q.R q.here).0 in
         beside_trans (beside-wide s.beside (omega arith) (omega arith)) (beside-wide (beside-set a.fin e₁) (omega arith) (omega arith));
     sized = by-star _ w (λ b x. (omega (arith, (s.sized b x).0), refl));
-    each = λ M f c rst x kk hh. m-star (λ M. Kept k at M → (a.fin ≡ final (shift m (ofTerm σ f (tests σ c)) M)) × Kept k' at (shift m (ofTerm σ f (tests σ c)) M)) w
+    each = λ M f c rst x kk hh. m-star (λ M. Kept k at M → (a.fin ≡ final (shift m (of_term σ f (tests σ c)) M)) × Kept k' at (shift m (of_term σ f (tests σ c)) M)) w
         (λ A y kk.
         let (q, ka) = un-star kk in
         let u : i ≡ (m || final A) = cc in
         let (fa, ka₁) = s.each A f c rst y ka hh in
-        let fa' : a.fin ≡ final (shift (m || final A) (ofTerm σ f (tests σ c)) A) = rw u at fa in
-        let ka' : Kept k₁ (at + 1) (shift (m || final A) (ofTerm σ f (tests σ c)) A) = rw u at ka₁ in
+        let fa' : a.fin ≡ final (shift (m || final A) (of_term σ f (tests σ c)) A) = rw u at fa in
+        let ka' : Kept k₁ (at + 1) (shift (m || final A) (of_term σ f (tests σ c)) A) = rw u at ka₁ in
         let lt : at < length k₁ = omega (arith, at_lt p.here, s.beside.len) in
         let st : Beside k₁ k' at (at + 1) = beside-set a.fin e₁ in
-        (fa', kept-star {a = shift (m || final A) (ofTerm σ f (tests σ c)) A} (rw e₁ (get_or-set_same k₁ at a.fin false lt) ∙ fa') (kept-beside (λ n l r. st.high n l) ka')))
+        (fa', kept-star {a = shift (m || final A) (of_term σ f (tests σ c)) A} (rw e₁ (get_or-set_same k₁ at a.fin false lt) ∙ fa') (kept-beside (λ n l r. st.high n l) ka')))
         M x kk;
   }
 
@@ -154,7 +154,7 @@ module _ {σ : Signature} {e : List ℕ} {at : ℕ} {h : List ℕ} {j : ℕ} {k 
         beside_trans (beside_trans (beside-wide s.beside (omega arith) (omega arith)) (beside-wide (beside-set a.fin e₁) (omega arith) (omega arith))) (beside-wide t.beside (omega arith) (omega arith)))
         p.R p.here;
     sized = by-cat _ w (λ A B x y. let (z, n) = s.sized A x in let (z', n') = t.sized B (rw z y) in (omega arith, rw (q₁, n, n')));
-    each = λ M f c rst x kk hh. m-cat (λ M. Kept k at M → (v₃ ≡ final (shift m (ofTerm σ f (tests σ c)) M)) × Kept k' at (shift m (ofTerm σ f (tests σ c)) M)) w
+    each = λ M f c rst x kk hh. m-cat (λ M. Kept k at M → (v₃ ≡ final (shift m (of_term σ f (tests σ c)) M)) × Kept k' at (shift m (of_term σ f (tests σ c)) M)) w
         (λ A B y z kk.
         let (q, ka, kb) = un-cat kk in
         let (ea, na) = s.sized (bare A) y in
@@ -164,12 +164,12 @@ module _ {σ : Signature} {e : List ℕ} {at : ℕ} {h : List ℕ} {j : ℕ} {k 
         let kb₂ : Kept k₂ a.end B = rw ea (kept-beside (λ n l r. st.high n (omega arith) ∙ s.beside.high n (omega arith)) kb) in
         let nb = (t.sized (bare B) (rw ea z)).1 in
         let (fb, kb₁) = t.each B f c rst (rw ea z) kb₂ hh in
-        let fb' : b.fin ≡ final (shift (final A || (m && nullable (bare A))) (ofTerm σ f (tests σ c)) B) = rw u at fb in
-        let kb' : Kept k' (at + 1 + sizeE (bare A)) (shift (final A || (m && nullable (bare A))) (ofTerm σ f (tests σ c)) B) = rw (u, ea) at kb₁ in
+        let fb' : b.fin ≡ final (shift (final A || (m && nullable (bare A))) (of_term σ f (tests σ c)) B) = rw u at fb in
+        let kb' : Kept k' (at + 1 + size_e (bare A)) (shift (final A || (m && nullable (bare A))) (of_term σ f (tests σ c)) B) = rw (u, ea) at kb₁ in
         let lt : at < length k₁ = omega (arith, at_lt p.here, s.beside.len) in
-        let sz : sizeE (bare (shift m (ofTerm σ f (tests σ c)) A)) ≡ sizeE (bare A) = ap sizeE (bare-shift m (ofTerm σ f (tests σ c)) A) in (
-          rw (bare-shift (final A || (m && nullable (bare A))) (ofTerm σ f (tests σ c)) B) (cc),
-          kept-cat {a = shift m (ofTerm σ f (tests σ c)) A} {b = shift (final A || (m && nullable (bare A))) (ofTerm σ f (tests σ c)) B}
+        let sz : size_e (bare (shift m (of_term σ f (tests σ c)) A)) ≡ size_e (bare A) = ap size_e (bare-shift m (of_term σ f (tests σ c)) A) in (
+          rw (bare-shift (final A || (m && nullable (bare A))) (of_term σ f (tests σ c)) B) (cc),
+          kept-cat {a = shift m (of_term σ f (tests σ c)) A} {b = shift (final A || (m && nullable (bare A))) (of_term σ f (tests σ c)) B}
               (t.beside.low at (omega arith) ∙ rw e₁ (get_or-set_same k₁ at a.fin false lt) ∙ fa)
               (kept-beside (λ n l r. t.beside.low n (omega arith) ∙ st.high n l) ka₁)
               (rw sz kb'),
@@ -188,17 +188,17 @@ module _ {σ : Signature} {e : List ℕ} {at : ℕ} {h : List ℕ} {j : ℕ} {k 
         beside_trans (beside-wide s.beside (omega arith) (omega arith)) (beside-wide t.beside (omega arith) (omega arith)))
         p.R p.here;
     sized = by-alt _ w (λ A B x y. let (z, n) = s.sized A x in let (z', n') = t.sized B (rw z y) in (omega arith, rw (q₁, n, n')));
-    each = λ M f c rst x kk hh. m-alt (λ M. Kept k at M → (v₂ ≡ final (shift m (ofTerm σ f (tests σ c)) M)) × Kept k' at (shift m (ofTerm σ f (tests σ c)) M)) w
+    each = λ M f c rst x kk hh. m-alt (λ M. Kept k at M → (v₂ ≡ final (shift m (of_term σ f (tests σ c)) M)) × Kept k' at (shift m (of_term σ f (tests σ c)) M)) w
         (λ A B y z kk.
         let (ka, kb) = un-alt kk in
         let ea = (s.sized (bare A) y).0 in
         let (fa, ka₁) = s.each A f c rst y ka hh in
         let kb₂ : Kept k₁ a.end B = rw ea (kept-beside (λ n l r. s.beside.high n (omega arith)) kb) in
         let (fb, kb₁) = t.each B f c rst (rw ea z) kb₂ hh in
-        let kb' : Kept k' (at + 1 + sizeE (bare A)) (shift m (ofTerm σ f (tests σ c)) B) = rw ea at kb₁ in
-        let sz : sizeE (bare (shift m (ofTerm σ f (tests σ c)) A)) ≡ sizeE (bare A) = ap sizeE (bare-shift m (ofTerm σ f (tests σ c)) A) in (
+        let kb' : Kept k' (at + 1 + size_e (bare A)) (shift m (of_term σ f (tests σ c)) B) = rw ea at kb₁ in
+        let sz : size_e (bare (shift m (of_term σ f (tests σ c)) A)) ≡ size_e (bare A) = ap size_e (bare-shift m (of_term σ f (tests σ c)) A) in (
           cc,
-          kept-alt {a = shift m (ofTerm σ f (tests σ c)) A} {b = shift m (ofTerm σ f (tests σ c)) B}
+          kept-alt {a = shift m (of_term σ f (tests σ c)) A} {b = shift m (of_term σ f (tests σ c)) B}
               (kept-beside (λ n l r. t.beside.low n (omega arith)) ka₁)
               (rw sz kb'),
         ))
@@ -222,7 +222,7 @@ module _ {σ : Signature} {e : List ℕ} {at : ℕ} {h : List ℕ} {j : ℕ} {k 
           let w = is-alt p n₀ n₃ n₁ n in
           shifted_by refl refl (tg.other n) (sh-alt w p (shifted_by refl (en.other n₃) refl s) (shifted_by (kp.alt w) (fl.other n) refl t) refl refl)
 
-pub shifted_end : {σ : Signature} {e h : List ℕ} {at j : ℕ} {k k' : List Bool} {m : Bool} {a : Step} → Shifted σ e at h j k m k' a → (R : Expr) → At e at R → a.end ≡ at + sizeE R
+pub shifted_end : {σ : Signature} {e h : List ℕ} {at j : ℕ} {k k' : List Bool} {m : Bool} {a : Step} → Shifted σ e at h j k m k' a → (R : Expr) → At e at R → a.end ≡ at + size_e R
 shifted_end s R x = (s.sized R x).0
 
 pub shifted-falls : {σ : Signature} {e h : List ℕ} {at j t : ℕ} {k k' : List Bool} {m : Bool} {a : Step} → 100000000 * (length e - at) + 2 ≡ t → Shifted σ e (at + 1) h j k m k' a → Expression e at → (get_or e at 0 ≡ 7000 → ⊥) → 100000000 * (length e - a.end) + 2 < t

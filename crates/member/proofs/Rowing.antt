@@ -13,7 +13,7 @@ use Rattle.language.specs.declared.Sym.{Sym}
 use Rattle.language.specs.Kinds.{pick}
 use Rattle.language.specs.Trees.{Expr, eps, cat, alt, star, over}
 use Rattle.rules.proofs.Each.{some-++}
-use Rattle.any_order.specs.Places.{sizeE}
+use Rattle.any_order.specs.Places.{size_e}
 use Rattle.any_order.specs.Sharing.{In, Ascending}
 use Rattle.any_order.proofs.Placing.{in-at}
 use Rattle.member.specs.Leaves.{Leaf}
@@ -36,20 +36,20 @@ module _ (p : Sym → Expr → Bool) where
   pub row_in : (R : Expr) (at q : ℕ) → In q (row_of p R at) ↔ ((g : Sym) × (S : Expr) × Leaf R at q g S × T (p g S))
   row_in eps at q = (λ z. absurd z, λ (g, S, x, t). absurd x)
   row_in (cat a b) at q = (
-    λ i. elim ((some-++ (λ x. q ≡ x) (row_of p a (at + 1)) (row_of p b (at + 1 + sizeE a))).0 i) [
+    λ i. elim ((some-++ (λ x. q ≡ x) (row_of p a (at + 1)) (row_of p b (at + 1 + size_e a))).0 i) [
       | inl y ↦ let (g, S, x, t) = (row_in a (at + 1) q).0 y in (g, S, inl x, t)
-      | inr y ↦ let (g, S, x, t) = (row_in b (at + 1 + sizeE a) q).0 y in (g, S, inr x, t)
+      | inr y ↦ let (g, S, x, t) = (row_in b (at + 1 + size_e a) q).0 y in (g, S, inr x, t)
     ],
-    λ (g, S, x, t). (some-++ (λ x. q ≡ x) (row_of p a (at + 1)) (row_of p b (at + 1 + sizeE a))).1
-        (elim x [ inl y ↦ inl ((row_in a (at + 1) q).1 (g, S, y, t)) | inr y ↦ inr ((row_in b (at + 1 + sizeE a) q).1 (g, S, y, t)) ]),
+    λ (g, S, x, t). (some-++ (λ x. q ≡ x) (row_of p a (at + 1)) (row_of p b (at + 1 + size_e a))).1
+        (elim x [ inl y ↦ inl ((row_in a (at + 1) q).1 (g, S, y, t)) | inr y ↦ inr ((row_in b (at + 1 + size_e a) q).1 (g, S, y, t)) ]),
   )
   row_in (alt a b) at q = (
-    λ i. elim ((some-++ (λ x. q ≡ x) (row_of p a (at + 1)) (row_of p b (at + 1 + sizeE a))).0 i) [
+    λ i. elim ((some-++ (λ x. q ≡ x) (row_of p a (at + 1)) (row_of p b (at + 1 + size_e a))).0 i) [
       | inl y ↦ let (g, S, x, t) = (row_in a (at + 1) q).0 y in (g, S, inl x, t)
-      | inr y ↦ let (g, S, x, t) = (row_in b (at + 1 + sizeE a) q).0 y in (g, S, inr x, t)
+      | inr y ↦ let (g, S, x, t) = (row_in b (at + 1 + size_e a) q).0 y in (g, S, inr x, t)
     ],
-    λ (g, S, x, t). (some-++ (λ x. q ≡ x) (row_of p a (at + 1)) (row_of p b (at + 1 + sizeE a))).1
-        (elim x [ inl y ↦ inl ((row_in a (at + 1) q).1 (g, S, y, t)) | inr y ↦ inr ((row_in b (at + 1 + sizeE a) q).1 (g, S, y, t)) ]),
+    λ (g, S, x, t). (some-++ (λ x. q ≡ x) (row_of p a (at + 1)) (row_of p b (at + 1 + size_e a))).1
+        (elim x [ inl y ↦ inl ((row_in a (at + 1) q).1 (g, S, y, t)) | inr y ↦ inr ((row_in b (at + 1 + size_e a) q).1 (g, S, y, t)) ]),
   )
   row_in (star a) at q = row_in a (at + 1) q
   row_in (over g S) at q = (
@@ -57,7 +57,7 @@ module _ (p : Sym → Expr → Bool) where
     λ (g', S', (e, d, f), t). rw (e, d, f) (unpicked (p g' S') at t),
   )
 
-  pub row_within : (R : Expr) (at q : ℕ) → In q (row_of p R at) → (at ≤ q) × (q < at + sizeE R)
+  pub row_within : (R : Expr) (at q : ℕ) → In q (row_of p R at) → (at ≤ q) × (q < at + size_e R)
   row_within R at q i = let (g, S, x, t) = (row_in R at q).0 i in leaf-within R at q g S x
 
   ascending-++ : (xs ys : List ℕ) → Ascending xs → Ascending ys → ((x y : ℕ) → In x xs → In y ys → x ≤ y) → Ascending (xs ++ ys)
@@ -91,10 +91,10 @@ module _ (p : Sym → Expr → Bool) where
   pub row-ascending : (R : Expr) (at : ℕ) → Ascending (row_of p R at)
   row-ascending eps at = λ i j l u. absurd (omega arith)
   row-ascending (cat a b) at =
-      ascending-++ (row_of p a (at + 1)) (row_of p b (at + 1 + sizeE a)) (row-ascending a (at + 1)) (row-ascending b (at + 1 + sizeE a))
-      (λ x y i j. omega (arith, (row_within a (at + 1) x i).1, (row_within b (at + 1 + sizeE a) y j).0))
+      ascending-++ (row_of p a (at + 1)) (row_of p b (at + 1 + size_e a)) (row-ascending a (at + 1)) (row-ascending b (at + 1 + size_e a))
+      (λ x y i j. omega (arith, (row_within a (at + 1) x i).1, (row_within b (at + 1 + size_e a) y j).0))
   row-ascending (alt a b) at =
-      ascending-++ (row_of p a (at + 1)) (row_of p b (at + 1 + sizeE a)) (row-ascending a (at + 1)) (row-ascending b (at + 1 + sizeE a))
-      (λ x y i j. omega (arith, (row_within a (at + 1) x i).1, (row_within b (at + 1 + sizeE a) y j).0))
+      ascending-++ (row_of p a (at + 1)) (row_of p b (at + 1 + size_e a)) (row-ascending a (at + 1)) (row-ascending b (at + 1 + size_e a))
+      (λ x y i j. omega (arith, (row_within a (at + 1) x i).1, (row_within b (at + 1 + size_e a) y j).0))
   row-ascending (star a) at = row-ascending a (at + 1)
   row-ascending (over g S) at = ascending-one (p g S) at

@@ -11,8 +11,8 @@ use Rattle.meaning.specs.Complete.{Complete}
 use Rattle.rules.specs.Expressions.{nullable}
 use Rattle.member.specs.declared.Seen.{Seen}
 use Rattle.member.specs.declared.Step.{Step}
-use Rattle.member.specs.Marks.{Marked, bare, blank, final, shift, tests, accepts, ofTerm}
-use Rattle.any_order.specs.Places.{sizeE, At, Expression}
+use Rattle.member.specs.Marks.{Marked, bare, blank, final, shift, tests, accepts, of_term}
+use Rattle.any_order.specs.Places.{size_e, At, Expression}
 use Rattle.passing.specs.Places.{Holds, Hedge, Term, Skipped, Beside, Cleared}
 use Rattle.member.specs.Places.{Kept, kept-eps, kept-cat, kept-alt, kept-star, kept-over, Looked, Shifted, Accepted}
 use Rattle.member.specs.Gathering.{Spared, Lent}
@@ -28,7 +28,7 @@ final-blank (alt a b) = rw (final-blank a, final-blank b)
 final-blank (star a) = final-blank a
 final-blank (over f R) = refl
 
-kept-blank : {k : List Bool} {at : ℕ} (R : Expr) → ((i : ℕ) → at ≤ i → i < at + sizeE R → get_or k i false ≡ false) → Kept k at (blank R)
+kept-blank : {k : List Bool} {at : ℕ} (R : Expr) → ((i : ℕ) → at ≤ i → i < at + size_e R → get_or k i false ≡ false) → Kept k at (blank R)
 kept-blank eps z = kept-eps
 kept-blank {at = at} (cat a b) z =
     kept-cat {at = at} {a = blank a} {b = blank b} (rw (final-blank a) (z at (omega arith) (omega arith))) (kept-blank a (λ i l u. z i (omega arith) (omega arith)))
@@ -49,7 +49,7 @@ pub record Reached (σ : Signature) (at : ℕ) (h : List ℕ) (k : List Bool) (j
   pub bared : bare M ≡ R
   pub kept : Kept k at M
   pub here : Holds h j left
-  pub goes : (tests σ left).inOrder i M ≡ accepts σ R g
+  pub goes : (tests σ left).in_order i M ≡ accepts σ R g
   pub ends : fin ≡ ((i && nullable (bare M)) || final M)
 
 pub record Going (σ : Signature) (e : List ℕ) (at : ℕ) (h : List ℕ) (i : ℕ) (k₀ k : List Bool) (n j : ℕ) (first fin : Bool) : Type 0 where
@@ -80,20 +80,20 @@ module _ {σ : Signature} {e : List ℕ} {at : ℕ} {h : List ℕ} {i : ℕ} whe
   }
 
   module _ {k₀ k : List Bool} {n j : ℕ} {f b : Bool} where
-    pub goes_on : {k' : List Bool} {a : Step} {j' : ℕ} → Going σ e at h i k₀ k n j f b → (get_or h j 0 ≡ 0 → ⊥) → ((R : Expr) → At e at R → n ≡ at + sizeE R) → Expression e at
+    pub goes_on : {k' : List Bool} {a : Step} {j' : ℕ} → Going σ e at h i k₀ k n j f b → (get_or h j 0 ≡ 0 → ⊥) → ((R : Expr) → At e at R → n ≡ at + size_e R) → Expression e at
         → Shifted σ e at h j k f k' a → Skipped h (j + 1) j' → Going σ e at h i k₀ k' n j' false a.fin
     goes_on {k' = k'} {a = a} {j' = j'} go w nn p s t = record {
       stands = rest go.stands w t;
       beside = beside_trans go.beside (beside-wide s.beside (omega arith) (omega (arith, nn p.R p.here, (s.sized p.R p.here).0)));
       each = λ R g x y.
           let r = go.each R g x y in
-          by-tree (λ q. Holds h j q → (tests σ q).inOrder f r.M ≡ accepts σ R g → Reached σ at h k' j' false a.fin R g) w
+          by-tree (λ q. Holds h j q → (tests σ q).in_order f r.M ≡ accepts σ R g → Reached σ at h k' j' false a.fin R g) w
           (λ u c q v x' y' hh gg.
           let (fa, ka) = s.each r.M u c q (rw r.bared x) r.kept hh in
           record {
-            M = shift f (ofTerm σ u (tests σ c)) r.M;
+            M = shift f (of_term σ u (tests σ c)) r.M;
             left = q;
-            bared = bare-shift f (ofTerm σ u (tests σ c)) r.M ∙ r.bared;
+            bared = bare-shift f (of_term σ u (tests σ c)) r.M ∙ r.bared;
             kept = ka;
             here = rw (t.each c x') y';
             goes = gg;
@@ -102,13 +102,13 @@ module _ {σ : Signature} {e : List ℕ} {at : ℕ} {h : List ℕ} {i : ℕ} whe
           r.left r.here r.here r.goes;
     }
 
-    pub ended : {k₁ : List Bool} → Cleared k₁ k₀ at n → Going σ e at h i k₀ k n j f b → get_or h j 0 ≡ 0 → ((R : Expr) → At e at R → n ≡ at + sizeE R) → Accepted σ e at h i k₁ k b
+    pub ended : {k₁ : List Bool} → Cleared k₁ k₀ at n → Going σ e at h i k₀ k n j f b → get_or h j 0 ≡ 0 → ((R : Expr) → At e at R → n ≡ at + size_e R) → Accepted σ e at h i k₁ k b
     ended cl go w nn = record {
       len = go.beside.len ∙ cl.beside.len;
       beside = λ R x. let z = nn R x in beside-wide (beside_trans cl.beside go.beside) (omega arith) (omega arith);
       each = λ R g x y.
           let r = go.each R g x y in
-          by-nil (λ q. (tests σ q).inOrder f r.M ≡ accepts σ R g → b ≡ accepts σ R g) w (λ gg. r.ends ∙ gg) r.left r.here r.goes;
+          by-nil (λ q. (tests σ q).in_order f r.M ≡ accepts σ R g → b ≡ accepts σ R g) w (λ gg. r.ends ∙ gg) r.left r.here r.goes;
     }
 
 -- and what is lent beside the marks

@@ -14,7 +14,7 @@ use Rattle.meaning.proofs.Complete.{·-nil, ·-assoc}
 use Rattle.meaning.proofs.Shuffles.{shuffled-refl, shuffled-trans, shuffled-sym, shuffled-front}
 use Rattle.meaning.proofs.Same.{same-nil, nil-no-tree, same_first}
 use Rattle.rules.specs.Each.{Each}
-use Rattle.any_order.specs.Places.{sizeE}
+use Rattle.any_order.specs.Places.{size_e}
 use Rattle.any_order.specs.Sharing.{Counts, bump, Sums, Good, none}
 use Rattle.any_order.proofs.Shares.{Like, Respects, sums-within, good-like, bump-like, bump-swap, bump-same, bump-other}
 use Rattle.member.specs.Leaves.{Leaf, Fits, Terms}
@@ -23,12 +23,12 @@ use Rattle.member.proofs.AnyOrder.{shuffled-tree, shuffled-behind, shuffled-besi
 abbrev pub Fit : Type 1
 Fit = Sym → Complete → ℕ → Type 0
 
-pub leaf-within : (R : Expr) (at p : ℕ) (g : Sym) (S : Expr) → Leaf R at p g S → (at ≤ p) × (p < at + sizeE R)
+pub leaf-within : (R : Expr) (at p : ℕ) (g : Sym) (S : Expr) → Leaf R at p g S → (at ≤ p) × (p < at + size_e R)
 leaf-within eps at p g S x = absurd x
 leaf-within (cat a b) at p g S (inl x) = let (l, u) = leaf-within a (at + 1) p g S x in (omega arith, omega arith)
-leaf-within (cat a b) at p g S (inr x) = let (l, u) = leaf-within b (at + 1 + sizeE a) p g S x in (omega arith, omega arith)
+leaf-within (cat a b) at p g S (inr x) = let (l, u) = leaf-within b (at + 1 + size_e a) p g S x in (omega arith, omega arith)
 leaf-within (alt a b) at p g S (inl x) = let (l, u) = leaf-within a (at + 1) p g S x in (omega arith, omega arith)
-leaf-within (alt a b) at p g S (inr x) = let (l, u) = leaf-within b (at + 1 + sizeE a) p g S x in (omega arith, omega arith)
+leaf-within (alt a b) at p g S (inr x) = let (l, u) = leaf-within b (at + 1 + size_e a) p g S x in (omega arith, omega arith)
 leaf-within (star a) at p g S x = let (l, u) = leaf-within a (at + 1) p g S x in (omega arith, omega arith)
 leaf-within (over f a) at p g S (e, x, y) = (omega arith, omega arith)
 
@@ -114,9 +114,9 @@ record Put : Type 0 where
   pub d : Complete
   pub p : ℕ
 
-abbrev hedgeOf : List Put → Complete
-hedgeOf [] = nil
-hedgeOf (x ∷ L) = tree x.f x.d (hedgeOf L)
+abbrev hedge_of : List Put → Complete
+hedge_of [] = nil
+hedge_of (x ∷ L) = tree x.f x.d (hedge_of L)
 
 abbrev count : List Put → Counts
 count [] = none
@@ -124,7 +124,7 @@ count (x ∷ L) = bump (count L) x.p
 
 record Listed (F : Fit) (G : Counts → Type 0) (g : Complete) (c : Counts) : Type 0 where
   pub L : List Put
-  pub hedge : hedgeOf L ≡ g
+  pub hedge : hedge_of L ≡ g
   pub fits : Each (λ (t : Put). F t.f t.d t.p) L
   pub x : Counts
   pub good : G x
@@ -159,7 +159,7 @@ module _ (σ : Signature) where
     pub adds : Adds (Fits σ R at) e c x
     pub sums : Sums R at x n
 
-  fits-within : (R : Expr) (at : ℕ) (f : Sym) (d : Complete) (p : ℕ) → Fits σ R at f d p → (at ≤ p) × (p < at + sizeE R)
+  fits-within : (R : Expr) (at : ℕ) (f : Sym) (d : Complete) (p : ℕ) → Fits σ R at f d p → (at ≤ p) × (p < at + size_e R)
   fits-within R at f d p (g, S, x, m) = leaf-within R at p g S x
 
   many-added : (a : Expr) (at : ℕ) → ((e : Complete) → Member σ a e → (c : Counts) (n : ℕ) → Sums a at c n → Added a at e c (suc n))
@@ -174,32 +174,32 @@ module _ (σ : Signature) where
   added eps at e m c n s = record { x = c; adds = rw m (λ q. refl); sums = tt }
   added (cat a b) at e (u, v, d, m, k) c n (s, t) =
       let r = added a (at + 1) u m c n s in
-      let t' = sums-within b (at + 1 + sizeE a) c r.x n (λ q l h. adds-outside (Fits σ a (at + 1)) (at + 1) (at + 1 + sizeE a) (fits-within a (at + 1)) u c r.x r.adds q (inr l)) t in
-      let w = added b (at + 1 + sizeE a) v k r.x n t' in
+      let t' = sums-within b (at + 1 + size_e a) c r.x n (λ q l h. adds-outside (Fits σ a (at + 1)) (at + 1) (at + 1 + size_e a) (fits-within a (at + 1)) u c r.x r.adds q (inr l)) t in
+      let w = added b (at + 1 + size_e a) v k r.x n t' in
       let s' = sums-within a (at + 1) r.x w.x (suc n)
-      (λ q l h. adds-outside (Fits σ b (at + 1 + sizeE a)) (at + 1 + sizeE a) (at + 1 + sizeE a + sizeE b) (fits-within b (at + 1 + sizeE a)) v r.x w.x w.adds q (inl h)) r.sums in
+      (λ q l h. adds-outside (Fits σ b (at + 1 + size_e a)) (at + 1 + size_e a) (at + 1 + size_e a + size_e b) (fits-within b (at + 1 + size_e a)) v r.x w.x w.adds q (inl h)) r.sums in
       record {
         x = w.x;
         adds = rw d (adds-· (Fits σ (cat a b) at) u v c r.x w.x
             (adds-imp (Fits σ a (at + 1)) (Fits σ (cat a b) at) (λ f d p (g, S, x, y). (g, S, inl x, y)) u c r.x r.adds)
-            (adds-imp (Fits σ b (at + 1 + sizeE a)) (Fits σ (cat a b) at) (λ f d p (g, S, x, y). (g, S, inr x, y)) v r.x w.x w.adds));
+            (adds-imp (Fits σ b (at + 1 + size_e a)) (Fits σ (cat a b) at) (λ f d p (g, S, x, y). (g, S, inr x, y)) v r.x w.x w.adds));
         sums = (s', w.sums);
       }
   added (alt a b) at e (inl m) c n (i, j, z, s, t) =
       let r = added a (at + 1) e m c i s in
-      let t' = sums-within b (at + 1 + sizeE a) c r.x j (λ q l h. adds-outside (Fits σ a (at + 1)) (at + 1) (at + 1 + sizeE a) (fits-within a (at + 1)) e c r.x r.adds q (inr l)) t in
+      let t' = sums-within b (at + 1 + size_e a) c r.x j (λ q l h. adds-outside (Fits σ a (at + 1)) (at + 1) (at + 1 + size_e a) (fits-within a (at + 1)) e c r.x r.adds q (inr l)) t in
       record {
         x = r.x;
         adds = adds-imp (Fits σ a (at + 1)) (Fits σ (alt a b) at) (λ f d p (g, S, x, y). (g, S, inl x, y)) e c r.x r.adds;
         sums = (suc i, j, omega arith, r.sums, t');
       }
   added (alt a b) at e (inr m) c n (i, j, z, s, t) =
-      let r = added b (at + 1 + sizeE a) e m c j t in
+      let r = added b (at + 1 + size_e a) e m c j t in
       let s' = sums-within a (at + 1) c r.x i
-      (λ q l h. adds-outside (Fits σ b (at + 1 + sizeE a)) (at + 1 + sizeE a) (at + 1 + sizeE a + sizeE b) (fits-within b (at + 1 + sizeE a)) e c r.x r.adds q (inl h)) s in
+      (λ q l h. adds-outside (Fits σ b (at + 1 + size_e a)) (at + 1 + size_e a) (at + 1 + size_e a + size_e b) (fits-within b (at + 1 + size_e a)) e c r.x r.adds q (inl h)) s in
       record {
         x = r.x;
-        adds = adds-imp (Fits σ b (at + 1 + sizeE a)) (Fits σ (alt a b) at) (λ f d p (g, S, x, y). (g, S, inr x, y)) e c r.x r.adds;
+        adds = adds-imp (Fits σ b (at + 1 + size_e a)) (Fits σ (alt a b) at) (λ f d p (g, S, x, y). (g, S, inr x, y)) e c r.x r.adds;
         sums = (i, suc j, omega arith, s', r.sums);
       }
   added (star a) at e m c n (i, z, s) =
@@ -217,15 +217,15 @@ module _ (σ : Signature) where
 
   zero-sums : (R : Expr) (at : ℕ) → Sums R at none 0
   zero-sums eps at = tt
-  zero-sums (cat a b) at = (zero-sums a (at + 1), zero-sums b (at + 1 + sizeE a))
-  zero-sums (alt a b) at = (0, 0, refl, zero-sums a (at + 1), zero-sums b (at + 1 + sizeE a))
+  zero-sums (cat a b) at = (zero-sums a (at + 1), zero-sums b (at + 1 + size_e a))
+  zero-sums (alt a b) at = (0, 0, refl, zero-sums a (at + 1), zero-sums b (at + 1 + size_e a))
   zero-sums (star a) at = (0, (λ z. z), zero-sums a (at + 1))
   zero-sums (over g S) at = refl
 
   -- ---- placed terms in two parts
 
   abbrev Either : Expr → Expr → ℕ → Put → Type 0
-  Either a b at t = (g : Sym) × (S : Expr) × (Leaf a (at + 1) t.p g S ⊎ Leaf b (at + 1 + sizeE a) t.p g S) × Member σ (over g S) (tree t.f t.d nil)
+  Either a b at t = (g : Sym) × (S : Expr) × (Leaf a (at + 1) t.p g S ⊎ Leaf b (at + 1 + size_e a) t.p g S) × Member σ (over g S) (tree t.f t.d nil)
 
   abbrev All : Expr → ℕ → List Put → Type 0
   All R at L = Each (λ (t : Put). Fits σ R at t.f t.d t.p) L
@@ -233,37 +233,37 @@ module _ (σ : Signature) where
   record Parts (a b : Expr) (at : ℕ) (L : List Put) : Type 0 where
     pub A : List Put
     pub B : List Put
-    pub order : Shuffled (hedgeOf L) (hedgeOf A · hedgeOf B)
+    pub order : Shuffled (hedge_of L) (hedge_of A · hedge_of B)
     pub left : All a (at + 1) A
-    pub right : All b (at + 1 + sizeE a) B
-    pub low : (q : ℕ) → q < at + 1 + sizeE a → count A q ≡ count L q
-    pub high : (q : ℕ) → at + 1 + sizeE a ≤ q → count B q ≡ count L q
+    pub right : All b (at + 1 + size_e a) B
+    pub low : (q : ℕ) → q < at + 1 + size_e a → count A q ≡ count L q
+    pub high : (q : ℕ) → at + 1 + size_e a ≤ q → count B q ≡ count L q
 
   parts : (a b : Expr) (at : ℕ) (L : List Put) → Each (Either a b at) L → Parts a b at L
   parts a b at [] t = record { A = []; B = []; order = refl; left = tt; right = tt; low = λ q u. refl; high = λ q u. refl }
   parts a b at (x ∷ L) ((g, S, w, m), t) = go w (parts a b at L t)
     where
-      go : Leaf a (at + 1) x.p g S ⊎ Leaf b (at + 1 + sizeE a) x.p g S → Parts a b at L → Parts a b at (x ∷ L)
+      go : Leaf a (at + 1) x.p g S ⊎ Leaf b (at + 1 + size_e a) x.p g S → Parts a b at L → Parts a b at (x ∷ L)
       go (inl y) r =
           let (l, u) = leaf-within a (at + 1) x.p g S y in
           record {
             A = x ∷ r.A;
             B = r.B;
-            order = shuffled-tree x.f x.d (hedgeOf L) (hedgeOf r.A · hedgeOf r.B) r.order;
+            order = shuffled-tree x.f x.d (hedge_of L) (hedge_of r.A · hedge_of r.B) r.order;
             left = ((g, S, y, m), r.left);
             right = r.right;
             low = λ q z. rw (r.low q z) refl;
             high = λ q z. r.high q z ∙ sym (bump-other (count L) x.p q (λ e. omega arith));
           }
       go (inr y) r =
-          let (l, u) = leaf-within b (at + 1 + sizeE a) x.p g S y in
+          let (l, u) = leaf-within b (at + 1 + size_e a) x.p g S y in
           record {
             A = r.A;
             B = x ∷ r.B;
-            order = shuffled-trans (hedgeOf (x ∷ L)) (tree x.f x.d (hedgeOf r.A · hedgeOf r.B)) (hedgeOf r.A · tree x.f x.d (hedgeOf r.B))
-                (shuffled-tree x.f x.d (hedgeOf L) (hedgeOf r.A · hedgeOf r.B) r.order)
-                (shuffled-sym (hedgeOf r.A · tree x.f x.d (hedgeOf r.B)) (tree x.f x.d (hedgeOf r.A · hedgeOf r.B))
-                (shuffled-front (hedgeOf r.A) (tree x.f x.d nil) (hedgeOf r.B)));
+            order = shuffled-trans (hedge_of (x ∷ L)) (tree x.f x.d (hedge_of r.A · hedge_of r.B)) (hedge_of r.A · tree x.f x.d (hedge_of r.B))
+                (shuffled-tree x.f x.d (hedge_of L) (hedge_of r.A · hedge_of r.B) r.order)
+                (shuffled-sym (hedge_of r.A · tree x.f x.d (hedge_of r.B)) (tree x.f x.d (hedge_of r.A · hedge_of r.B))
+                (shuffled-front (hedge_of r.A) (tree x.f x.d nil) (hedge_of r.B)));
             left = r.left;
             right = ((g, S, y, m), r.right);
             low = λ q z. r.low q z ∙ sym (bump-other (count L) x.p q (λ e. omega arith));
@@ -296,13 +296,13 @@ module _ (σ : Signature) where
   alt-times a b (suc i) j x y (u, v, d, m, s) t =
       times-moved (Member σ (alt a b)) (suc (i + j)) (suc i + j) (x · y) (omega arith) (u, v · y, ap (λ z. z · y) d ∙ ·-assoc u v y, inl m, alt-times a b i j v y s t)
 
-  over-times : (g : Sym) (S : Expr) (at : ℕ) (L : List Put) → All (over g S) at L → Times (Member σ (over g S)) (count L at) (hedgeOf L)
+  over-times : (g : Sym) (S : Expr) (at : ℕ) (L : List Put) → All (over g S) at L → Times (Member σ (over g S)) (count L at) (hedge_of L)
   over-times g S at [] t = refl
   over-times g S at (x ∷ L) ((g', S', (e₁, e₂, e₃), m), t) =
       let z : suc (count L at) ≡ bump (count L) x.p at = rw e₁ (sym (bump-same (count L) at)) in
-      times-moved (Member σ (over g S)) (suc (count L at)) (count (x ∷ L) at) (hedgeOf (x ∷ L)) z (tree x.f x.d nil, hedgeOf L, refl, rw (e₂, e₃) m, over-times g S at L t)
+      times-moved (Member σ (over g S)) (suc (count L at)) (count (x ∷ L) at) (hedge_of (x ∷ L)) z (tree x.f x.d nil, hedge_of L, refl, rw (e₂, e₃) m, over-times g S at L t)
 
-  rows : (R : Expr) (at : ℕ) (L : List Put) (c : Counts) (n : ℕ) → All R at L → ((q : ℕ) → at ≤ q → q < at + sizeE R → c q ≡ count L q) → Sums R at c n → Row R n (hedgeOf L)
+  rows : (R : Expr) (at : ℕ) (L : List Put) (c : Counts) (n : ℕ) → All R at L → ((q : ℕ) → at ≤ q → q < at + size_e R → c q ≡ count L q) → Sums R at c n → Row R n (hedge_of L)
   rows eps at [] c n t h s = (nil, refl, empties n)
     where
       empties : (n : ℕ) → Times (Member σ eps) n nil
@@ -312,21 +312,21 @@ module _ (σ : Signature) where
   rows (cat a b) at L c n t h (s, u) =
       let r = parts a b at L t in
       let (x, o, v) = rows a (at + 1) r.A c n r.left (λ q l z. h q (omega arith) (omega arith) ∙ sym (r.low q z)) s in
-      let (y, p, w) = rows b (at + 1 + sizeE a) r.B c n r.right (λ q l z. h q (omega arith) (omega arith) ∙ sym (r.high q l)) u in
+      let (y, p, w) = rows b (at + 1 + size_e a) r.B c n r.right (λ q l z. h q (omega arith) (omega arith) ∙ sym (r.high q l)) u in
       let (e, k, d) = zipped a b n x y v w in (
         e,
-        shuffled-trans (hedgeOf L) (hedgeOf r.A · hedgeOf r.B) e r.order
-            (shuffled-trans (hedgeOf r.A · hedgeOf r.B) (x · hedgeOf r.B) e (shuffled-beside (hedgeOf r.A) x (hedgeOf r.B) o)
-            (shuffled-trans (x · hedgeOf r.B) (x · y) e (shuffled-behind x (hedgeOf r.B) y p) k)),
+        shuffled-trans (hedge_of L) (hedge_of r.A · hedge_of r.B) e r.order
+            (shuffled-trans (hedge_of r.A · hedge_of r.B) (x · hedge_of r.B) e (shuffled-beside (hedge_of r.A) x (hedge_of r.B) o)
+            (shuffled-trans (x · hedge_of r.B) (x · y) e (shuffled-behind x (hedge_of r.B) y p) k)),
         d,
       )
   rows (alt a b) at L c n t h (i, j, z, s, u) =
       let r = parts a b at L t in
       let (x, o, v) = rows a (at + 1) r.A c i r.left (λ q l z. h q (omega arith) (omega arith) ∙ sym (r.low q z)) s in
-      let (y, p, w) = rows b (at + 1 + sizeE a) r.B c j r.right (λ q l z. h q (omega arith) (omega arith) ∙ sym (r.high q l)) u in (
+      let (y, p, w) = rows b (at + 1 + size_e a) r.B c j r.right (λ q l z. h q (omega arith) (omega arith) ∙ sym (r.high q l)) u in (
         x · y,
-        shuffled-trans (hedgeOf L) (hedgeOf r.A · hedgeOf r.B) (x · y) r.order
-            (shuffled-trans (hedgeOf r.A · hedgeOf r.B) (x · hedgeOf r.B) (x · y) (shuffled-beside (hedgeOf r.A) x (hedgeOf r.B) o) (shuffled-behind x (hedgeOf r.B) y p)),
+        shuffled-trans (hedge_of L) (hedge_of r.A · hedge_of r.B) (x · y) r.order
+            (shuffled-trans (hedge_of r.A · hedge_of r.B) (x · hedge_of r.B) (x · y) (shuffled-beside (hedge_of r.A) x (hedge_of r.B) o) (shuffled-behind x (hedge_of r.B) y p)),
         times-moved (Member σ (alt a b)) (i + j) n (x · y) (sym z) (alt-times a b i j x y v w),
       )
   rows (star a) at L c n t h (i, z, s) =
@@ -334,7 +334,7 @@ module _ (σ : Signature) where
       (e, o, star-times (Member σ a) i n e z v)
   rows (over g S) at L c n t h s =
       let z : count L at ≡ n = sym (h at (omega arith) (omega arith)) ∙ s in
-      (hedgeOf L, shuffled-refl (hedgeOf L), times-moved (Member σ (over g S)) (count L at) n (hedgeOf L) z (over-times g S at L t))
+      (hedge_of L, shuffled-refl (hedge_of L), times-moved (Member σ (over g S)) (count L at) n (hedge_of L) z (over-times g S at L t))
 
   -- ---- both ways
 

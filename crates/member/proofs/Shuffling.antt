@@ -14,7 +14,7 @@ use Rattle.language.specs.Trees.{Expr}
 use Rattle.meaning.specs.Complete.{Complete, nil, tree}
 use Rattle.rules.specs.Each.{Each}
 use Rattle.rules.proofs.Each.{each-++}
-use Rattle.any_order.specs.Places.{sizeE, At, Expression}
+use Rattle.any_order.specs.Places.{size_e, At, Expression}
 use Rattle.any_order.specs.Sharing.{bump, Kind, In, Rest, Good, none, Recorded, Records, Ascending, total}
 use Rattle.any_order.specs.Searching.{Asked, Shared}
 use Rattle.any_order.proofs.Shares.{Respects, good-like}
@@ -22,9 +22,9 @@ use Rattle.any_order.proofs.Ranges.{not-both}
 use Rattle.member.specs.declared.Fitted.{Fitted}
 use Rattle.member.specs.declared.Joined.{Joined}
 use Rattle.member.specs.declared.Tried.{Tried}
-use Rattle.member.specs.Marks.{tests, ofTerm}
+use Rattle.member.specs.Marks.{tests, of_term}
 use Rattle.member.specs.Leaves.{Fits, Terms}
-use Rattle.passing.specs.Places.{sizeC, Holds, Hedge, Skipped, Beside}
+use Rattle.passing.specs.Places.{size_c, Holds, Hedge, Skipped, Beside}
 use Rattle.member.specs.Gathering.{row_of, Lists, Spared, Kinds, Spacious, Lent, Gathered, FittedAll, Shuffles, ShufflesBy, Raised, Found, Countable, Joins, Undone, Roomy}
 use Rattle.member.proofs.Decides.{tests-decide, of-term→, of-term←}
 use Rattle.member.proofs.Sharing.{terms-like}
@@ -37,18 +37,18 @@ use Rattle.member.proofs.Asking.{spared-refl, spared-trans, spared-less, spared-
 
 -- ---- the row of a term has the symbols that it can be
 
-fits-row : (σ : Signature) (R : Expr) (at : ℕ) (f : Sym) (c : Complete) (q : ℕ) → In q (row_of (ofTerm σ f (tests σ c)) R at) ↔ Fits σ R at f c q
+fits-row : (σ : Signature) (R : Expr) (at : ℕ) (f : Sym) (c : Complete) (q : ℕ) → In q (row_of (of_term σ f (tests σ c)) R at) ↔ Fits σ R at f c q
 fits-row σ R at f c q =
-    let r = row_in (ofTerm σ f (tests σ c)) R at q in (
+    let r = row_in (of_term σ f (tests σ c)) R at q in (
       λ i. let (g, S, x, t) = r.0 i in (g, S, x, of-term→ σ f c (tests σ c) (tests-decide σ c) g S t),
       λ (g, S, x, m). r.1 (g, S, x, of-term← σ f c (tests σ c) (tests-decide σ c) g S m),
     )
 
 -- one more term at the end is one more of its row
 one_more : (σ : Signature) (R : Expr) (at : ℕ) (f : Sym) (c rest : Complete) (ks : List Kind)
-    → Rest (One (row_of (ofTerm σ f (tests σ c)) R at) (Terms (Fits σ R at) (Good R at) rest)) ks none ↔ Rest (Terms (Fits σ R at) (Good R at) (tree f c rest)) ks none
+    → Rest (One (row_of (of_term σ f (tests σ c)) R at) (Terms (Fits σ R at) (Good R at) rest)) ks none ↔ Rest (Terms (Fits σ R at) (Good R at) (tree f c rest)) ks none
 one_more σ R at f c rest ks =
-    let L = row_of (ofTerm σ f (tests σ c)) R at in
+    let L = row_of (of_term σ f (tests σ c)) R at in
     let G = Terms (Fits σ R at) (Good R at) rest in (
       λ w. rest-imp (One L G) (Terms (Fits σ R at) (Good R at) (tree f c rest)) (λ d (q, i, x). (q, (fits-row σ R at f c q).0 i, x)) ks none w,
       λ w. rest-imp (Terms (Fits σ R at) (Good R at) (tree f c rest)) (One L G) (λ d (q, y, x). (q, (fits-row σ R at f c q).1 y, x)) ks none w,
@@ -83,7 +83,7 @@ module _ {σ : Signature} {e : List ℕ} {at : ℕ} {h : List ℕ} {j : ℕ} {k 
 
 -- ---- what is still to be gathered
 
-pub some_words : (g : Complete) → 1 ≤ sizeC g
+pub some_words : (g : Complete) → 1 ≤ size_c g
 some_words nil = omega arith
 some_words (tree f c r) = omega arith
 
@@ -122,18 +122,18 @@ module _ {e h : List ℕ} {j : ℕ} {w : List ℕ} {base top : ℕ} where
 
   -- room for six words more
   pub gathered-six : Gathered e h j w base top → (get_or h j 0 ≡ 0 → ⊥) → (top + 6 ≤ length w) × (length w < 65536)
-  gathered-six g n = (by-tree (λ x. top + 2 * sizeC x ≤ length w → top + 6 ≤ length w) n (λ f c r v x y z. omega (arith, some_words c, some_words r)) g.g g.here g.room, g.bounded)
+  gathered-six g n = (by-tree (λ x. top + 2 * size_c x ≤ length w → top + 6 ≤ length w) n (λ f c r v x y z. omega (arith, some_words c, some_words r)) g.g g.here g.room, g.bounded)
 
   pub gathered-lent : {σ : Signature} → Gathered e h j w base top → (get_or h j 0 ≡ 0 → ⊥) → Lent σ h (j + 1) w top
   gathered-lent g n = record {
-    room = λ _. by-tree (λ x. top + 2 * sizeC x ≤ length w → Spacious h (j + 1) w top) n
+    room = λ _. by-tree (λ x. top + 2 * size_c x ≤ length w → Spacious h (j + 1) w top) n
         (λ f c r v x y z. record { g = c; here = x; room = omega arith; bounded = g.bounded }) g.g g.here g.room;
   }
 
   module _ {stop cap : ℕ} (g : Gathered e h j w base top) (n : get_or h j 0 ≡ 0 → ⊥) (s : Skipped h j stop) (z : cap ≡ length w + 4 - 2 * (stop - j)) where
     -- how many words there are
     abbrev Size : Complete → Type 0
-    Size x = (top + 2 * sizeC x ≤ length w) × (stop ≡ j + sizeC x)
+    Size x = (top + 2 * size_c x ≤ length w) × (stop ≡ j + size_c x)
 
     size : Size g.g
     size = (g.room, s.each g.g g.here)
@@ -156,8 +156,8 @@ module _ {e h : List ℕ} {j : ℕ} {w : List ℕ} {base top : ℕ} where
   -- the next term
   pub gathered_next : {next : ℕ} {v : List ℕ} {t : ℕ} (g : Gathered e h j w base top) → (get_or h j 0 ≡ 0 → ⊥) → Skipped h (j + 1) next → length v ≡ length w
       → (ks : List Kind) → Records v base ks t → Each (λ (k : Kind). Each (λ p. p < length e) k.places) ks → total ks ≡ total g.ks + 1
-      → ((f : Sym) (c r : Complete) → g.g ≡ tree f c r → t + 2 * sizeC r ≤ length w) → Gathered e h next v base t
-  gathered_next {next} {v} {t} g n s l ks rec wi to room = by-tree (λ x. g.g ≡ x → total g.ks + sizeC x < 65536 → Gathered e h next v base t) n
+      → ((f : Sym) (c r : Complete) → g.g ≡ tree f c r → t + 2 * size_c r ≤ length w) → Gathered e h next v base t
+  gathered_next {next} {v} {t} g n s l ks rec wi to room = by-tree (λ x. g.g ≡ x → total g.ks + size_c x < 65536 → Gathered e h next v base t) n
       (λ f c r u x y z few. record {
         g = r;
         here = rw (s.each c x) y;
@@ -189,8 +189,8 @@ new-spared v top x s l =
     let b = spared-set v top 1 a (omega arith) refl in
     spared-set (set v top 1) (top + 1) x b (omega arith) refl
 
-within-row : (σ : Signature) (R : Expr) (e : List ℕ) (at : ℕ) (f : Sym) (c : Complete) → At e at R → Each (λ p. p < length e) (row_of (ofTerm σ f (tests σ c)) R at)
-within-row σ R e at f c x = go (row_of (ofTerm σ f (tests σ c)) R at) (λ q i. omega (arith, (row_within (ofTerm σ f (tests σ c)) R at q i).1, at-fits x))
+within-row : (σ : Signature) (R : Expr) (e : List ℕ) (at : ℕ) (f : Sym) (c : Complete) → At e at R → Each (λ p. p < length e) (row_of (of_term σ f (tests σ c)) R at)
+within-row σ R e at f c x = go (row_of (of_term σ f (tests σ c)) R at) (λ q i. omega (arith, (row_within (of_term σ f (tests σ c)) R at q i).1, at-fits x))
   where
     go : (L : List ℕ) → ((q : ℕ) → In q L → q < length e) → Each (λ p. p < length e) L
     go [] y = tt
@@ -204,7 +204,7 @@ terms-respect : (σ : Signature) (R : Expr) (at : ℕ) (g : Complete) → Respec
 terms-respect σ R at g = terms-like (Fits σ R at) (Good R at) (good-like R at) g
 
 fit-beside : {σ : Signature} {e : List ℕ} {at : ℕ} {h : List ℕ} {j : ℕ} {k k₁ : List Bool} {w w₁ : List ℕ} {t cap : ℕ} {f : Fitted} → FittedAll σ e at h j k k₁ w w₁ t cap f
-    → (R : Expr) → At e at R → Beside k k₁ at (at + sizeE R)
+    → (R : Expr) → At e at R → Beside k k₁ at (at + size_e R)
 fit-beside a R x = rw (a.sized R x) at a.beside
 
 records-fit : (w w₁ : List ℕ) (base top : ℕ) → Spared w w₁ (top + 2) → (ks : List Kind) → Records w base ks top → Records w₁ base ks top
@@ -225,9 +225,9 @@ module _ {σ : Signature} {e : List ℕ} {at : ℕ} {h : List ℕ} {j : ℕ} {w 
       where
         nothing : (R : Expr) → At e at R → (u : Sym) (c rest : Complete) → Holds h j (tree u c rest) → (ks : List Kind) → Rest (Terms (Fits σ R at) (Good R at) (tree u c rest)) ks none → ⊥
         nothing R x u c rest hh ks s =
-            let (q, i, v) = (rest_out (λ q. In q (row_of (ofTerm σ u (tests σ c)) R at)) (λ q d. Terms (Fits σ R at) (Good R at) rest (bump d q)) ks none).0 ((one_more σ R at u c rest ks).1 s) in
+            let (q, i, v) = (rest_out (λ q. In q (row_of (of_term σ u (tests σ c)) R at)) (λ q d. Terms (Fits σ R at) (Good R at) rest (bump d q)) ks none).0 ((one_more σ R at u c rest ks).1 s) in
             let l = a.each R u c rest x hh z in
-            empty-row (row_of (ofTerm σ u (tests σ c)) R at) q i (omega (arith, l.end))
+            empty-row (row_of (of_term σ u (tests σ c)) R at) q i (omega (arith, l.end))
           where
             empty-row : (L : List ℕ) (q : ℕ) → In q L → length L ≡ 0 → ⊥
             empty-row [] q i d = i
@@ -260,11 +260,11 @@ module _ {σ : Signature} {e : List ℕ} {at : ℕ} {h : List ℕ} {j : ℕ} {w 
         beside = λ R x. beside_trans (fit-beside a R x) (m.beside R x);
         each = λ R g ks x y rec. by-tree (λ g. Holds h j g → (r ≡ true) ↔ Rest (Terms (Fits σ R at) (Good R at) g) ks none) n
             (λ u c rest v x' y' hh.
-            let L = row_of (ofTerm σ u (tests σ c)) R at in
+            let L = row_of (of_term σ u (tests σ c)) R at in
             let w₃ = set (set w₁ top 1) (top + 1) (f.top - top - 2) in
             let l = a.each R u c rest x hh z in
             let rec₃ = records-same w w₃ base ks top (λ q lo hi. (new-spared w₁ top (f.top - top - 2) a.spared (omega arith)).low q hi) rec in
-            let recs = records-snoc w₃ base ks top (record { times = 1; places = L }) f.top rec₃ (new-recorded w₁ top f.top L l (row-ascending (ofTerm σ u (tests σ c)) R at) (omega (arith, a.spared.len))) l.end in
+            let recs = records-snoc w₃ base ks top (record { times = 1; places = L }) f.top rec₃ (new-recorded w₁ top f.top L l (row-ascending (of_term σ u (tests σ c)) R at) (omega (arith, a.spared.len))) l.end in
             iff-trans (m.each R rest (ks ++ (record { times = 1; places = L } ∷ [])) x (rw (s.each c x') y') recs)
             (iff-trans (snoc-rest (Terms (Fits σ R at) (Good R at) rest) L ks none) (one_more σ R at u c rest ks)))
             g y y;
@@ -286,7 +286,7 @@ module _ {σ : Signature} {e : List ℕ} {at : ℕ} {h : List ℕ} {j : ℕ} {w 
         beside = λ R x. beside_trans (fit-beside a R x) (m.beside R x);
         each = λ R g ks x y rec. by-tree (λ g. Holds h j g → (r ≡ true) ↔ Rest (Terms (Fits σ R at) (Good R at) g) ks none) n
             (λ u c rest v x' y' hh. with-found R ks x u c rest (records-fit w w₁ base top a.spared ks rec) (rw (s.each c x') y')
-            (fd.each ks (row_of (ofTerm σ u (tests σ c)) R at) (records-fit w w₁ base top a.spared ks rec) (a.each R u c rest x hh z))) g y y;
+            (fd.each ks (row_of (of_term σ u (tests σ c)) R at) (records-fit w w₁ base top a.spared ks rec) (a.each R u c rest x hh z))) g y y;
       }
         where
           back : (q : ℕ) → q < top → Dec (q ≡ o) → get_or (set w₂ o (get_or w₂ o 0 - 1)) q 0 ≡ get_or w q 0
@@ -300,10 +300,10 @@ module _ {σ : Signature} {e : List ℕ} {at : ℕ} {h : List ℕ} {j : ℕ} {w 
           back q u (no y) = get_or-set_other w₂ o q (get_or w₂ o 0 - 1) 0 y ∙ m.spared.low q u ∙ get_or-set_other w₁ o q (get_or w₁ o 0 + 1) 0 y ∙ a.spared.low q (omega arith)
 
           with-found : (R : Expr) (ks : List Kind) → At e at R → (u : Sym) (c rest : Complete) → Records w₁ base ks top → Holds h next rest
-              → (o ≡ top) ⊎ ((ks' : List Kind) × Raised ks base o (row_of (ofTerm σ u (tests σ c)) R at) ks') → (r ≡ true) ↔ Rest (Terms (Fits σ R at) (Good R at) (tree u c rest)) ks none
+              → (o ≡ top) ⊎ ((ks' : List Kind) × Raised ks base o (row_of (of_term σ u (tests σ c)) R at) ks') → (r ≡ true) ↔ Rest (Terms (Fits σ R at) (Good R at) (tree u c rest)) ks none
           with-found R ks x u c rest rec hr (inl y) = absurd (ne y)
           with-found R ks x u c rest rec hr (inr (ks', y)) =
-              let L = row_of (ofTerm σ u (tests σ c)) R at in
+              let L = row_of (of_term σ u (tests σ c)) R at in
               let recs = records-raised w₁ top ks base o L ks' rec (omega (arith, a.spared.len)) y in
               iff-trans (m.each R rest ks' x hr recs)
               (iff-trans (raised-rest (Terms (Fits σ R at) (Good R at) rest) (terms-respect σ R at rest) L ks base o ks' y none) (one_more σ R at u c rest ks))
@@ -321,10 +321,10 @@ module _ {σ : Signature} {e : List ℕ} {at : ℕ} {h : List ℕ} {j : ℕ} {w 
 
   module _ {k k₁ : List Bool} {w₁ : List ℕ} {stop cap next : ℕ} {f : Fitted} (p : Expression e at) (g : Gathered e h j w base top) (n : get_or h j 0 ≡ 0 → ⊥)
       (a : FittedAll σ e at h j k k₁ w w₁ (top + 2) cap f) (z : f.full ≡ false) (s : Skipped h (j + 1) next) (st : Skipped h j stop) (cz : cap ≡ length w + 4 - 2 * (stop - j)) where
-    room-left : (u : Sym) (c r : Complete) → g.g ≡ tree u c r → f.top + 2 * sizeC r ≤ length w
+    room-left : (u : Sym) (c r : Complete) → g.g ≡ tree u c r → f.top + 2 * size_c r ≤ length w
     room-left u c r d =
         let hh : Holds h j (tree u c r) = rw d at g.here in
-        let rr : top + 2 * sizeC (tree u c r) ≤ length w = rw d at g.room in
+        let rr : top + 2 * size_c (tree u c r) ≤ length w = rw d at g.room in
         omega (arith, st.each (tree u c r) hh, a.within.1, some_words c, cz)
 
     pub gathered-new : Gathered e h next (set (set w₁ top 1) (top + 1) (f.top - top - 2)) base f.top
@@ -332,13 +332,13 @@ module _ {σ : Signature} {e : List ℕ} {at : ℕ} {h : List ℕ} {j : ℕ} {w 
       where
         go : (u : Sym) (c r : Complete) → g.g ≡ tree u c r → Holds h j (tree u c r) → Gathered e h next (set (set w₁ top 1) (top + 1) (f.top - top - 2)) base f.top
         go u c r d hh =
-            let L = row_of (ofTerm σ u (tests σ c)) p.R at in
+            let L = row_of (of_term σ u (tests σ c)) p.R at in
             let w₃ = set (set w₁ top 1) (top + 1) (f.top - top - 2) in
             let l = a.each p.R u c r p.here hh z in
             let sp = new-spared w₁ top (f.top - top - 2) a.spared (omega arith) in
             let rec₃ = records-same w w₃ base g.ks top (λ q lo hi. sp.low q hi) g.records in
             let recs = records-snoc w₃ base g.ks top (record { times = 1; places = L }) f.top rec₃
-            (new-recorded w₁ top f.top L l (row-ascending (ofTerm σ u (tests σ c)) p.R at) (omega (arith, a.spared.len, (gathered-six g n).0))) l.end in
+            (new-recorded w₁ top f.top L l (row-ascending (of_term σ u (tests σ c)) p.R at) (omega (arith, a.spared.len, (gathered-six g n).0))) l.end in
             gathered_next g n s sp.len (g.ks ++ (record { times = 1; places = L } ∷ [])) recs
             (each-++ (λ (k : Kind). Each (λ q. q < length e) k.places) g.ks (record { times = 1; places = L } ∷ []) g.within (within-row σ p.R e at u c p.here, tt))
             (total-snoc g.ks (record { times = 1; places = L })) room-left
@@ -347,12 +347,12 @@ module _ {σ : Signature} {e : List ℕ} {at : ℕ} {h : List ℕ} {j : ℕ} {w 
     gathered-old {o} fd ne = by-tree (λ x. g.g ≡ x → Gathered e h next (set w₁ o (get_or w₁ o 0 + 1)) base top) n (λ u c r v x y d. go u c r d (rw d at g.here)) g.g g.here refl
       where
         go : (u : Sym) (c r : Complete) → g.g ≡ tree u c r → Holds h j (tree u c r) → Gathered e h next (set w₁ o (get_or w₁ o 0 + 1)) base top
-        go u c r d hh = with-found (fd.each g.ks (row_of (ofTerm σ u (tests σ c)) p.R at) (records-fit w w₁ base top a.spared g.ks g.records) (a.each p.R u c r p.here hh z))
+        go u c r d hh = with-found (fd.each g.ks (row_of (of_term σ u (tests σ c)) p.R at) (records-fit w w₁ base top a.spared g.ks g.records) (a.each p.R u c r p.here hh z))
           where
-            with-found : (o ≡ top) ⊎ ((ks' : List Kind) × Raised g.ks base o (row_of (ofTerm σ u (tests σ c)) p.R at) ks') → Gathered e h next (set w₁ o (get_or w₁ o 0 + 1)) base top
+            with-found : (o ≡ top) ⊎ ((ks' : List Kind) × Raised g.ks base o (row_of (of_term σ u (tests σ c)) p.R at) ks') → Gathered e h next (set w₁ o (get_or w₁ o 0 + 1)) base top
             with-found (inl y) = absurd (ne y)
             with-found (inr (ks', y)) =
-                let L = row_of (ofTerm σ u (tests σ c)) p.R at in
+                let L = row_of (of_term σ u (tests σ c)) p.R at in
                 gathered_next g n s (length-set w₁ o (get_or w₁ o 0 + 1) ∙ a.spared.len) ks'
                 (records-raised w₁ top g.ks base o L ks' (records-fit w w₁ base top a.spared g.ks g.records) (omega (arith, a.spared.len, (gathered-six g n).0)) y)
                 (raised-each (λ M. Each (λ q. q < length e) M) g.ks base o L ks' y g.within)
@@ -363,12 +363,12 @@ module _ {σ : Signature} {e : List ℕ} {at : ℕ} {h : List ℕ} {j : ℕ} {w 
     kind-few {o} fd ne = by-tree (λ x. g.g ≡ x → get_or w₁ o 0 + 1 < 65536) n (λ u c r v x y d. go u c r (rw d at g.here)) g.g g.here refl
       where
         go : (u : Sym) (c r : Complete) → Holds h j (tree u c r) → get_or w₁ o 0 + 1 < 65536
-        go u c r hh = with-found (fd.each g.ks (row_of (ofTerm σ u (tests σ c)) p.R at) (records-fit w w₁ base top a.spared g.ks g.records) (a.each p.R u c r p.here hh z))
+        go u c r hh = with-found (fd.each g.ks (row_of (of_term σ u (tests σ c)) p.R at) (records-fit w w₁ base top a.spared g.ks g.records) (a.each p.R u c r p.here hh z))
           where
-            with-found : (o ≡ top) ⊎ ((ks' : List Kind) × Raised g.ks base o (row_of (ofTerm σ u (tests σ c)) p.R at) ks') → get_or w₁ o 0 + 1 < 65536
+            with-found : (o ≡ top) ⊎ ((ks' : List Kind) × Raised g.ks base o (row_of (of_term σ u (tests σ c)) p.R at) ks') → get_or w₁ o 0 + 1 < 65536
             with-found (inl y) = absurd (ne y)
             with-found (inr (ks', y)) =
-                omega (arith, raised-times w₁ top g.ks base o (row_of (ofTerm σ u (tests σ c)) p.R at) ks' (records-fit w w₁ base top a.spared g.ks g.records) y, g.few, some_words g.g)
+                omega (arith, raised-times w₁ top g.ks base o (row_of (of_term σ u (tests σ c)) p.R at) ks' (records-fit w w₁ base top a.spared g.ks g.records) y, g.few, some_words g.g)
 
     pub kinds-countable : Countable w₁ base top f.top
     kinds-countable = record { few = λ o fd ne. kind-few fd ne }

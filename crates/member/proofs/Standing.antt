@@ -9,7 +9,7 @@ use Rattle.language.specs.declared.Sym.{Sym}
 use Rattle.language.specs.Trees.{Expr, eps, cat, alt, star, over}
 use Rattle.member.specs.declared.Seen.{Seen}
 use Rattle.member.specs.Marks.{Marked, meps, mcat, malt, mstar, mover, bare}
-use Rattle.any_order.specs.Places.{sizeE, At, at-eps, at-cat, at-alt, at-star, at-over, Expression}
+use Rattle.any_order.specs.Places.{size_e, At, at-eps, at-cat, at-alt, at-star, at-over, Expression}
 use Rattle.member.specs.Places.{Looked}
 use Rattle.member.specs.Gathering.{Symbol}
 use Rattle.any_order.proofs.Standing.{at_lt, at-fits, first, by-eps, by-cat, by-alt, by-star, by_over}
@@ -25,14 +25,14 @@ module _ {e : List ℕ} {at : ℕ} where
   m-eps P w x (mstar a) (at-star l v p) = absurd (omega arith)
   m-eps P w x (mover m f a) (at-over l v u p) = absurd (omega arith)
 
-  pub m-cat : (P : Marked → Type 0) → get_or e at 0 ≡ 7001 → ((a b : Marked) → At e (at + 1) (bare a) → At e (at + 1 + sizeE (bare a)) (bare b) → P (mcat a b)) → (M : Marked) → At e at (bare M) → P M
+  pub m-cat : (P : Marked → Type 0) → get_or e at 0 ≡ 7001 → ((a b : Marked) → At e (at + 1) (bare a) → At e (at + 1 + size_e (bare a)) (bare b) → P (mcat a b)) → (M : Marked) → At e at (bare M) → P M
   m-cat P w x meps (at-eps l v) = absurd (omega arith)
   m-cat P w x (mcat a b) (at-cat l v p q) = x a b p q
   m-cat P w x (malt a b) (at-alt l v p q) = absurd (omega arith)
   m-cat P w x (mstar a) (at-star l v p) = absurd (omega arith)
   m-cat P w x (mover m f a) (at-over l v u p) = absurd (omega arith)
 
-  pub m-alt : (P : Marked → Type 0) → get_or e at 0 ≡ 7002 → ((a b : Marked) → At e (at + 1) (bare a) → At e (at + 1 + sizeE (bare a)) (bare b) → P (malt a b)) → (M : Marked) → At e at (bare M) → P M
+  pub m-alt : (P : Marked → Type 0) → get_or e at 0 ≡ 7002 → ((a b : Marked) → At e (at + 1) (bare a) → At e (at + 1 + size_e (bare a)) (bare b) → P (malt a b)) → (M : Marked) → At e at (bare M) → P M
   m-alt P w x meps (at-eps l v) = absurd (omega arith)
   m-alt P w x (mcat a b) (at-cat l v p q) = absurd (omega arith)
   m-alt P w x (malt a b) (at-alt l v p q) = x a b p q
@@ -83,7 +83,7 @@ module _ {e : List ℕ} {at : ℕ} where
   pub under : {g : Sym} {S : Expr} → At e at (over g S) → At e (at + 1) S
   under (at-over l v u p) = p
 
-  pub looked-end : {s : Seen} → Looked e at s → (R : Expr) → At e at R → s.end ≡ at + sizeE R
+  pub looked-end : {s : Seen} → Looked e at s → (R : Expr) → At e at R → s.end ≡ at + size_e R
   looked-end l R x = (l.each R x).0
 
   -- the measure falls at the second
@@ -94,9 +94,9 @@ module _ {e : List ℕ} {at : ℕ} where
   looked-within l p le = let z = (l.each p.R p.here).0 in let f = at-fits p.here in (omega arith, omega arith)
 
 -- what stands at a place has one size
-pub at_size : {e : List ℕ} {at : ℕ} {R S : Expr} → At e at R → At e at S → sizeE R ≡ sizeE S
-at_size {S = S} (at-eps l v) y = by-eps (λ R. 1 ≡ sizeE R) v (omega arith) S y
-at_size {S = S} (at-cat {a = a} {b = b} l v p q) y = by-cat (λ R. 1 + sizeE a + sizeE b ≡ sizeE R) v (λ c d u w. let z = at_size p u in omega (arith, at_size {S = d} q (rw z w))) S y
-at_size {S = S} (at-alt {a = a} {b = b} l v p q) y = by-alt (λ R. 1 + sizeE a + sizeE b ≡ sizeE R) v (λ c d u w. let z = at_size p u in omega (arith, at_size {S = d} q (rw z w))) S y
-at_size {S = S} (at-star {a = a} l v p) y = by-star (λ R. 1 + sizeE a ≡ sizeE R) v (λ c u. omega (arith, at_size p u)) S y
-at_size {S = S} (at-over {a = a} l v n p) y = by_over (λ R. 1 + sizeE a ≡ sizeE R) (omega arith) (λ f w c u. omega (arith, at_size p u)) S y
+pub at_size : {e : List ℕ} {at : ℕ} {R S : Expr} → At e at R → At e at S → size_e R ≡ size_e S
+at_size {S = S} (at-eps l v) y = by-eps (λ R. 1 ≡ size_e R) v (omega arith) S y
+at_size {S = S} (at-cat {a = a} {b = b} l v p q) y = by-cat (λ R. 1 + size_e a + size_e b ≡ size_e R) v (λ c d u w. let z = at_size p u in omega (arith, at_size {S = d} q (rw z w))) S y
+at_size {S = S} (at-alt {a = a} {b = b} l v p q) y = by-alt (λ R. 1 + size_e a + size_e b ≡ size_e R) v (λ c d u w. let z = at_size p u in omega (arith, at_size {S = d} q (rw z w))) S y
+at_size {S = S} (at-star {a = a} l v p) y = by-star (λ R. 1 + size_e a ≡ size_e R) v (λ c u. omega (arith, at_size p u)) S y
+at_size {S = S} (at-over {a = a} l v n p) y = by_over (λ R. 1 + size_e a ≡ size_e R) (omega arith) (λ f w c u. omega (arith, at_size p u)) S y

@@ -21,9 +21,9 @@ left_of p [] = []
 left_of p (R ∷ rs) = map (λ (q : List Expr). q ++ rs) (left p R) ++ map (λ (q : List Expr). R ∷ q) (left_of p rs)
 
 -- ε is in each
-abbrev pub allNullable : List Expr → Bool
-allNullable [] = true
-allNullable (R ∷ rs) = nullable R && allNullable rs
+abbrev pub all_nullable : List Expr → Bool
+all_nullable [] = true
+all_nullable (R ∷ rs) = nullable R && all_nullable rs
 
 -- one of them passes
 abbrev pub some : {A : Type 0} → (A → Bool) → List A → Bool
@@ -45,6 +45,6 @@ shortest (alt a b) = pick (leb (shortest a) (shortest b)) (shortest a) (shortest
 shortest (star a) = 0
 shortest (over f a) = 1
 
-abbrev pub shortestOf : List Expr → ℕ
-shortestOf [] = 0
-shortestOf (R ∷ rs) = shortest R + shortestOf rs
+abbrev pub shortest_of : List Expr → ℕ
+shortest_of [] = 0
+shortest_of (R ∷ rs) = shortest R + shortest_of rs

@@ -4,23 +4,23 @@ use Rattle.language.specs.declared.Sym.{Sym}
 use Rattle.language.specs.declared.Signature.{Signature}
 use Rattle.language.specs.Limits.{desk}
 use Rattle.language.specs.Kinds.{pick}
-use Rattle.language.specs.Trees.{Expr, eps, cat, alt, star, over, anyUnordered}
+use Rattle.language.specs.Trees.{Expr, eps, cat, alt, star, over, any_unordered}
 use Rattle.meaning.specs.Complete.{Complete, tree}
 use Rattle.rules.specs.Each.{Each}
-use Rattle.any_order.specs.Places.{sizeE, At}
+use Rattle.any_order.specs.Places.{size_e, At}
 use Rattle.any_order.specs.Sharing.{bump, Kind, Rest, Good, none, Records, total}
 use Rattle.member.specs.declared.Fitted.{Fitted}
 use Rattle.member.specs.declared.Joined.{Joined}
 use Rattle.member.specs.declared.Tried.{Tried}
-use Rattle.member.specs.Marks.{tests, ofTerm}
+use Rattle.member.specs.Marks.{tests, of_term}
 use Rattle.member.specs.Leaves.{Fits, Terms}
-use Rattle.passing.specs.Places.{sizeC, Holds, Beside, Skipped}
+use Rattle.passing.specs.Places.{size_c, Holds, Beside, Skipped}
 
 -- the places of the symbols that a term can be, of which p says whether it is of g(S)
 abbrev pub row_of : (Sym → Expr → Bool) → Expr → ℕ → List ℕ
 row_of p eps at = []
-row_of p (cat a b) at = row_of p a (at + 1) ++ row_of p b (at + 1 + sizeE a)
-row_of p (alt a b) at = row_of p a (at + 1) ++ row_of p b (at + 1 + sizeE a)
+row_of p (cat a b) at = row_of p a (at + 1) ++ row_of p b (at + 1 + size_e a)
+row_of p (alt a b) at = row_of p a (at + 1) ++ row_of p b (at + 1 + size_e a)
 row_of p (star a) at = row_of p a (at + 1)
 row_of p (over g S) at = pick (p g S) (at ∷ []) []
 
@@ -49,7 +49,7 @@ pub record Inner (e : List ℕ) (at q : ℕ) : Type 0 where
   pub S : Expr
   pub there : At e q S
   pub low : at ≤ q
-  pub high : q + sizeE S ≤ at + sizeE R
+  pub high : q + size_e S ≤ at + size_e R
 
 pub record Kinds (w : List ℕ) (at top : ℕ) : Type 0 where
   pub ks : List Kind
@@ -66,12 +66,12 @@ pub record Scene (e h : List ℕ) (k : List Bool) : Type 0 where
 pub record Spacious (h : List ℕ) (j : ℕ) (w : List ℕ) (top : ℕ) : Type 0 where
   pub g : Complete
   pub here : Holds h j g
-  pub room : top + 2 * sizeC g ≤ length w
+  pub room : top + 2 * size_c g ≤ length w
   pub bounded : length w < 65536
 
 -- which is needed where some symbol is unordered
 pub record Lent (σ : Signature) (h : List ℕ) (j : ℕ) (w : List ℕ) (top : ℕ) : Type 0 where
-  pub room : T (anyUnordered σ) → Spacious h j w top
+  pub room : T (any_unordered σ) → Spacious h j w top
 
 -- kinds stand in w from `base` to `top`, and the hedge at j is still to be gathered
 pub record Gathered (e : List ℕ) (h : List ℕ) (j : ℕ) (w : List ℕ) (base top : ℕ) : Type 0 where
@@ -80,8 +80,8 @@ pub record Gathered (e : List ℕ) (h : List ℕ) (j : ℕ) (w : List ℕ) (base
   pub ks : List Kind
   pub records : Records w base ks top
   pub within : Each (λ (k : Kind). Each (λ p. p < length e) k.places) ks
-  pub few : total ks + sizeC g < 65536
-  pub room : top + 2 * sizeC g ≤ length w
+  pub few : total ks + size_c g < 65536
+  pub room : top + 2 * size_c g ≤ length w
   pub bounded : length w < 65536
 
 -- ---- and what they promise
@@ -90,30 +90,30 @@ pub record Gathered (e : List ℕ) (h : List ℕ) (j : ℕ) (w : List ℕ) (base
 pub record Answered (σ : Signature) (e : List ℕ) (p : ℕ) (h : List ℕ) (j : ℕ) (k k' : List Bool) (w w' : List ℕ) (top : ℕ) (r : Bool) : Type 0 where
   pub spared : Spared w w' top
   pub len : length k' ≡ length k
-  pub beside : (g : Sym) (S : Expr) → At e p (over g S) → Beside k k' (p + 1) (p + 1 + sizeE S)
-  pub each : (g : Sym) (S : Expr) (f : Sym) (c rest : Complete) → At e p (over g S) → Holds h j (tree f c rest) → r ≡ ofTerm σ f (tests σ c) g S
+  pub beside : (g : Sym) (S : Expr) → At e p (over g S) → Beside k k' (p + 1) (p + 1 + size_e S)
+  pub each : (g : Sym) (S : Expr) (f : Sym) (c rest : Complete) → At e p (over g S) → Holds h j (tree f c rest) → r ≡ of_term σ f (tests σ c) g S
 
 -- the places of the symbols that the term at j can be, written from t on, unless there was no room
 pub record FittedAll (σ : Signature) (e : List ℕ) (at : ℕ) (h : List ℕ) (j : ℕ) (k k' : List Bool) (w w' : List ℕ) (t cap : ℕ) (r : Fitted) : Type 0 where
   pub spared : Spared w w' t
   pub beside : Beside k k' at r.end
-  pub sized : (R : Expr) → At e at R → r.end ≡ at + sizeE R
+  pub sized : (R : Expr) → At e at R → r.end ≡ at + size_e R
   pub within : (t ≤ r.top) × (r.top ≤ cap)
-  pub each : (R : Expr) (f : Sym) (c rest : Complete) → At e at R → Holds h j (tree f c rest) → r.full ≡ false → Lists w' t (row_of (ofTerm σ f (tests σ c)) R at) r.top
+  pub each : (R : Expr) (f : Sym) (c rest : Complete) → At e at R → Holds h j (tree f c rest) → r.full ≡ false → Lists w' t (row_of (of_term σ f (tests σ c)) R at) r.top
 
 -- whether the hedge at j, with the terms of the kinds, is in some order a member
 pub record Shuffles (σ : Signature) (e : List ℕ) (at : ℕ) (h : List ℕ) (j : ℕ) (k k' : List Bool) (w w' : List ℕ) (base top : ℕ) (r : Bool) : Type 0 where
   pub spared : Spared w w' top
   pub len : length k' ≡ length k
-  pub beside : (R : Expr) → At e at R → Beside k k' at (at + sizeE R)
+  pub beside : (R : Expr) → At e at R → Beside k k' at (at + size_e R)
   pub each : (R : Expr) (g : Complete) (ks : List Kind) → At e at R → Holds h j g → Records w base ks top → (r ≡ true) ↔ Rest (Terms (Fits σ R at) (Good R at) g) ks none
 
 -- the same where the term at j is put on one of the symbols of the part at q
 pub record ShufflesBy (σ : Signature) (e : List ℕ) (at q : ℕ) (h : List ℕ) (j : ℕ) (k k' : List Bool) (w w' : List ℕ) (base top : ℕ) (r : Tried) : Type 0 where
   pub spared : Spared w w' top
   pub len : length k' ≡ length k
-  pub beside : (R : Expr) → At e at R → Beside k k' at (at + sizeE R)
-  pub sized : r.yes ≡ false → (S : Expr) → At e q S → r.end ≡ q + sizeE S
+  pub beside : (R : Expr) → At e at R → Beside k k' at (at + size_e R)
+  pub sized : r.yes ≡ false → (S : Expr) → At e q S → r.end ≡ q + size_e S
   pub each : (R S : Expr) (f : Sym) (c g : Complete) (ks : List Kind) → At e at R → At e q S → Holds h j (tree f c g) → Records w base ks top
       → (r.yes ≡ true) ↔ ((p : ℕ) × Fits σ S q f c p × Rest (λ d. Terms (Fits σ R at) (Good R at) g (bump d p)) ks none)
 

@@ -5,14 +5,14 @@ use Rattle.language.specs.declared.Signature.{Signature}
 use Rattle.language.specs.Trees.{Expr, eps, cat, alt, star, over}
 use Rattle.meaning.specs.Complete.{Complete, nil, tree}
 use Rattle.meaning.specs.Meaning.{Member}
-use Rattle.any_order.specs.Places.{sizeE}
+use Rattle.any_order.specs.Places.{size_e}
 use Rattle.any_order.specs.Sharing.{Counts, bump}
 
 -- g over S is at the place p one of the symbols of R, which stands at `at`, and in no other symbol
 abbrev pub Leaf : Expr → ℕ → ℕ → Sym → Expr → Type 0
 Leaf eps at p g S = ⊥
-Leaf (cat a b) at p g S = Leaf a (at + 1) p g S ⊎ Leaf b (at + 1 + sizeE a) p g S
-Leaf (alt a b) at p g S = Leaf a (at + 1) p g S ⊎ Leaf b (at + 1 + sizeE a) p g S
+Leaf (cat a b) at p g S = Leaf a (at + 1) p g S ⊎ Leaf b (at + 1 + size_e a) p g S
+Leaf (alt a b) at p g S = Leaf a (at + 1) p g S ⊎ Leaf b (at + 1 + size_e a) p g S
 Leaf (star a) at p g S = Leaf a (at + 1) p g S
 Leaf (over f a) at p g S = (p ≡ at) × (f ≡ g) × (a ≡ S)
 

@@ -4,10 +4,10 @@ use Rattle.std.specs.Prelude.{Bool, true, false, ◌&&◌, ◌||◌, List, [], �
 use Rattle.language.specs.declared.Sym.{Sym}
 use Rattle.language.specs.Kinds.{pick}
 use Rattle.language.specs.declared.Signature.{Signature}
-use Rattle.language.specs.Trees.{Expr, eps, cat, alt, star, over, isUnordered, eqS}
+use Rattle.language.specs.Trees.{Expr, eps, cat, alt, star, over, is_unordered, eq_s}
 use Rattle.meaning.specs.Complete.{Complete, nil, tree}
 use Rattle.rules.specs.Expressions.{nullable}
-use Rattle.member.specs.AnyOrder.{left_of, allNullable, some, breadth, shortestOf}
+use Rattle.member.specs.AnyOrder.{left_of, all_nullable, some, breadth, shortest_of}
 
 pub data Marked : Type 0 where
   meps : Marked
@@ -50,19 +50,19 @@ shift i p (mover m f R) = mover (i && p f R) f R
 
 -- a hedge read in its order by marks, and in any order by what is left
 pub record Tests : Type 0 where
-  pub inOrder : Bool → Marked → Bool
-  pub anyOrder : List Expr → Bool
+  pub in_order : Bool → Marked → Bool
+  pub any_order : List Expr → Bool
 
 -- whether a term is of g(R), by the tests of its children: its symbol is g, and R reads the children, in any order where it is unordered
-abbrev pub ofTerm : Signature → Sym → Tests → Sym → Expr → Bool
-ofTerm σ f c g R = eqS g f && pick (isUnordered σ f) (c.anyOrder (R ∷ [])) (c.inOrder true (blank R))
+abbrev pub of_term : Signature → Sym → Tests → Sym → Expr → Bool
+of_term σ f c g R = eq_s g f && pick (is_unordered σ f) (c.any_order (R ∷ [])) (c.in_order true (blank R))
 
 abbrev pub tests : Signature → Complete → Tests
-tests σ nil = record { inOrder = λ i m. (i && nullable (bare m)) || final m; anyOrder = λ rs. allNullable rs }
+tests σ nil = record { in_order = λ i m. (i && nullable (bare m)) || final m; any_order = λ rs. all_nullable rs }
 tests σ (tree f c r) = record {
-  inOrder = λ i m. (tests σ r).inOrder false (shift i (ofTerm σ f (tests σ c)) m);
-  anyOrder = λ rs. leb (shortestOf rs) (breadth (tree f c r)) && some (tests σ r).anyOrder (left_of (ofTerm σ f (tests σ c)) rs);
+  in_order = λ i m. (tests σ r).in_order false (shift i (of_term σ f (tests σ c)) m);
+  any_order = λ rs. leb (shortest_of rs) (breadth (tree f c r)) && some (tests σ r).any_order (left_of (of_term σ f (tests σ c)) rs);
 }
 
 abbrev pub accepts : Signature → Expr → Complete → Bool
-accepts σ R g = (tests σ g).inOrder true (blank R)
+accepts σ R g = (tests σ g).in_order true (blank R)

@@ -4,22 +4,22 @@ use Rattle.language.specs.declared.Sym.{Sym}
 use Rattle.language.specs.declared.Signature.{Signature}
 use Rattle.language.specs.Limits.{desk}
 use Rattle.language.specs.Trees.{Expr, cat, alt, star}
-use Rattle.language.specs.Writing.{exprWords}
-use Rattle.language.specs.Fine.{fineExpr}
+use Rattle.language.specs.Writing.{expr_words}
+use Rattle.language.specs.Fine.{fine_expr}
 use Rattle.meaning.specs.Complete.{Complete, tree}
 use Rattle.meaning.specs.Meaning.{Member}
 use Rattle.rules.specs.Expressions.{nullable}
 use Rattle.passing.specs.Places.{Holds, StandsC, Beside}
-use Rattle.any_order.specs.Places.{sizeE, At}
+use Rattle.any_order.specs.Places.{size_e, At}
 use Rattle.member.specs.declared.Seen.{Seen}
 use Rattle.member.specs.declared.Step.{Step}
-use Rattle.member.specs.Marks.{Marked, meps, mcat, malt, mstar, mover, bare, final, shift, accepts, tests, ofTerm}
+use Rattle.member.specs.Marks.{Marked, meps, mcat, malt, mstar, mover, bare, final, shift, accepts, tests, of_term}
 
 -- k has, at each concatenation and star of m, whether its first part may end here
 pub data Kept (k : List Bool) : ℕ → Marked → Type 0 where
   kept-eps : {at : ℕ} → Kept k at meps
-  kept-cat : {at : ℕ} {a b : Marked} → get_or k at false ≡ final a → Kept k (at + 1) a → Kept k (at + 1 + sizeE (bare a)) b → Kept k at (mcat a b)
-  kept-alt : {at : ℕ} {a b : Marked} → Kept k (at + 1) a → Kept k (at + 1 + sizeE (bare a)) b → Kept k at (malt a b)
+  kept-cat : {at : ℕ} {a b : Marked} → get_or k at false ≡ final a → Kept k (at + 1) a → Kept k (at + 1 + size_e (bare a)) b → Kept k at (mcat a b)
+  kept-alt : {at : ℕ} {a b : Marked} → Kept k (at + 1) a → Kept k (at + 1 + size_e (bare a)) b → Kept k at (malt a b)
   kept-star : {at : ℕ} {a : Marked} → get_or k at false ≡ final a → Kept k (at + 1) a → Kept k at (mstar a)
   kept-over : {at : ℕ} {f : Sym} {m : Bool} {R : Expr} → Kept k at (mover m f R)
 
@@ -27,13 +27,13 @@ pub data Kept (k : List Bool) : ℕ → Marked → Type 0 where
 
 -- the place after whatever expression stands there, and whether ε is in its language
 pub record Looked (e : List ℕ) (at : ℕ) (r : Seen) : Type 0 where
-  pub each : (R : Expr) → At e at R → (r.end ≡ at + sizeE R) × (r.null ≡ nullable R)
+  pub each : (R : Expr) → At e at R → (r.end ≡ at + size_e R) × (r.null ≡ nullable R)
 
 pub record Shifted (σ : Signature) (e : List ℕ) (at : ℕ) (h : List ℕ) (j : ℕ) (k : List Bool) (m : Bool) (k' : List Bool) (r : Step) : Type 0 where
   pub beside : Beside k k' at r.end
-  pub sized : (R : Expr) → At e at R → (r.end ≡ at + sizeE R) × (r.null ≡ nullable R)
+  pub sized : (R : Expr) → At e at R → (r.end ≡ at + size_e R) × (r.null ≡ nullable R)
   pub each : (M : Marked) (f : Sym) (c rest : Complete) → At e at (bare M) → Kept k at M → Holds h j (tree f c rest)
-      → (r.fin ≡ final (shift m (ofTerm σ f (tests σ c)) M)) × Kept k' at (shift m (ofTerm σ f (tests σ c)) M)
+      → (r.fin ≡ final (shift m (of_term σ f (tests σ c)) M)) × Kept k' at (shift m (of_term σ f (tests σ c)) M)
 
 -- what the two parts of a concatenation, a choice or a star are read with, and what is kept and returned of them, by the word that stands there
 pub record Enters (x : ℕ) (m old r : Bool) : Type 0 where
@@ -54,7 +54,7 @@ pub record Together (x : ℕ) (a b r : Step) : Type 0 where
 
 pub record Accepted (σ : Signature) (e : List ℕ) (at : ℕ) (h : List ℕ) (j : ℕ) (k k' : List Bool) (r : Bool) : Type 0 where
   pub len : length k' ≡ length k
-  pub beside : (R : Expr) → At e at R → Beside k k' at (at + sizeE R)
+  pub beside : (R : Expr) → At e at R → Beside k k' at (at + size_e R)
   pub each : (R : Expr) (g : Complete) → At e at R → Holds h j g → r ≡ accepts σ R g
 
 -- ---- the same in words
@@ -62,8 +62,8 @@ pub record Accepted (σ : Signature) (e : List ℕ) (at : ℕ) (h : List ℕ) (j
 -- These words are those of R, whose symbols have words of their own, and then others.
 pub record Stands (e : List ℕ) (at : ℕ) (R : Expr) : Type 0 where
   pub others : List ℕ
-  pub fine : fineExpr desk R
-  pub words : drop at e ≡ exprWords R ++ others
+  pub fine : fine_expr desk R
+  pub words : drop at e ≡ expr_words R ++ others
 
 -- an expression and a complete hedge stand there
 pub record Both (e : List ℕ) (at : ℕ) (h : List ℕ) (j : ℕ) : Type 0 where

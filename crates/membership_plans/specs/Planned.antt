@@ -4,13 +4,13 @@ use Rattle.std.proofs.Math.Option.{some}
 use Rattle.language.specs.declared.Signature.{Signature}
 use Rattle.language.specs.Trees.{Hedge, Expr, Conj}
 use Rattle.rules.specs.Rules.{Branch, InRule}
-use Rattle.rules.specs.Places.{atM2}
+use Rattle.rules.specs.Places.{at_m2}
 use Rattle.plans.specs.declared.Plan.{Plan}
 use Rattle.views.specs.declared.Shape.{Shape}
 use Rattle.views.specs.Views.{Shows}
-use Rattle.rules.specs.Ranks.{memAnswer}
+use Rattle.rules.specs.Ranks.{mem_answer}
 use Rattle.plans.specs.Planned.{Planned}
-use Rattle.membership_plans.specs.Recipes.{membershipPlan}
+use Rattle.membership_plans.specs.Recipes.{membership_plan}
 
 -- a membership of h in R stands where the shape says, and the rule applies to it
 pub record Applies (rule : InRule) (k : List ℕ) (s : Shape) (h : Hedge) (R : Expr) : Type 0 where
@@ -25,8 +25,8 @@ pub record RuleApplies (rank : ℕ) (k : List ℕ) (s : Shape) : Type 0 where
   pub σ : Signature
   pub h : Hedge
   pub R : Expr
-  pub applies : Applies (memAnswer σ rank) k s h R
-  pub other : rank ≡ atM2 → ⊥
+  pub applies : Applies (mem_answer σ rank) k s h R
+  pub other : rank ≡ at_m2 → ⊥
 
 -- wherever the rule applies, p is the plan that is said
 abbrev pub Is : InRule → List ℕ → Shape → (Hedge → Expr → Plan) → Plan → Type 0
@@ -34,5 +34,5 @@ Is rule k s plan p = (h : Hedge) (R : Expr) → Applies rule k s h R → p ≡ p
 
 -- the plan of the rule of a place in the list, at every membership that the shape shows, whichever symbols are unordered
 pub record Answered (rank : ℕ) (k : List ℕ) (s : Shape) (p : Plan) : Type 0 where
-  pub whole : (σ : Signature) → Is (memAnswer σ rank) k s (membershipPlan rank k s) p
-  pub results : (σ : Signature) (before : Conj) (h : Hedge) (R : Expr) (behind : Conj) → Shows k s before h R behind → Planned k p before behind (memAnswer σ rank (before ++ behind) h R)
+  pub whole : (σ : Signature) → Is (mem_answer σ rank) k s (membership_plan rank k s) p
+  pub results : (σ : Signature) (before : Conj) (h : Hedge) (R : Expr) (behind : Conj) → Shows k s before h R behind → Planned k p before behind (mem_answer σ rank (before ++ behind) h R)

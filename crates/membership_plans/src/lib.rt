@@ -2,8 +2,8 @@
 ghost use Rattle.std.specs.Prelude.{◌≡◌};
 ghost use Rattle.language.specs.declared.Signature.{Signature};
 ghost use Rattle.rules.specs.Rules.{M5, M6, M7, M12};
-ghost use Rattle.plans.specs.Slots.{dropPlan};
-ghost use Rattle.membership_plans.specs.Recipes.{r2Plan, m1Plan, m3First, m3Second, m3Plan, memberIn, m4Plan, m11Plan, reordered, m12Plan, m5First, m5Second, shared, halved, m10Plan, exprInner, mid_of};
+ghost use Rattle.plans.specs.Slots.{drop_plan};
+ghost use Rattle.membership_plans.specs.Recipes.{r2_plan, m1_plan, m3_first, m3_second, m3_plan, member_in, m4_plan, m11_plan, reordered, m12_plan, m5_first, m5_second, shared, halved, m10_plan, expr_inner, mid_of};
 ghost use Rattle.membership_plans.specs.Planned.{Is, Answered, RuleApplies};
 
 use finds::all_terms;
@@ -14,7 +14,7 @@ use views::Shape;
 
 // No result.
 fn plan_drop() -> Plan
-    ensures { result ≡ dropPlan }
+    ensures { result ≡ drop_plan }
 {
     let none = Piece::Copy(0, 0);
     let first = few(none, none, none, none, none, 0, 0, 0);
@@ -27,7 +27,7 @@ fn plan_drop() -> Plan
 
 // One membership: the hedge from..to in the expression start..end.
 fn member_in(s: Shape, from: usize, to: usize, start: usize, end: usize) -> Recipe
-    ensures { result ≡ memberIn s from to start end }
+    ensures { result ≡ member_in s from to start end }
 {
     few(
         Piece::Copy(0, s.at),
@@ -43,7 +43,7 @@ fn member_in(s: Shape, from: usize, to: usize, start: usize, end: usize) -> Reci
 
 // The literal is removed.
 fn plan_r2(s: Shape) -> Plan
-    ensures { result ≡ r2Plan s }
+    ensures { result ≡ r2_plan s }
 {
     let none = Piece::Copy(0, 0);
     let first = few(
@@ -65,7 +65,7 @@ fn plan_r2(s: Shape) -> Plan
 
 // p = ε for each place of a hedge variable, which vanishes everywhere else.
 fn plan_m1(k: &[u16], s: Shape) -> Plan
-    ensures { result ≡ m1Plan k.now s }
+    ensures { result ≡ m1_plan k.now s }
 {
     let h = s.h;
     let part = inner(k, h.from, h.to);
@@ -89,7 +89,7 @@ fn plan_m1(k: &[u16], s: Shape) -> Plan
 
 // p in f(R), H = ε.
 fn first_in(s: Shape) -> Recipe
-    ensures { result ≡ m3First s }
+    ensures { result ≡ m3_first s }
 {
     let h = s.h;
     let none = Piece::Copy(0, 0);
@@ -114,7 +114,7 @@ fn first_in(s: Shape) -> Recipe
 
 // p = ε, H in f(R).
 fn rest_in(s: Shape) -> Recipe
-    ensures { result ≡ m3Second s }
+    ensures { result ≡ m3_second s }
 {
     let h = s.h;
     let none = Piece::Copy(0, 0);
@@ -139,7 +139,7 @@ fn rest_in(s: Shape) -> Recipe
 
 // p in f(R), H = ε; or p = ε, H in f(R).
 fn plan_m3(s: Shape) -> Plan
-    ensures { result ≡ m3Plan s }
+    ensures { result ≡ m3_plan s }
 {
     let first = first_in(s);
     let second = rest_in(s);
@@ -152,7 +152,7 @@ fn plan_m3(s: Shape) -> Plan
 
 // t in R.
 fn plan_m4(k: &[u16], s: Shape) -> Plan
-    ensures { result ≡ m4Plan k.now s }
+    ensures { result ≡ m4_plan k.now s }
 {
     let h = s.h;
     let part = inner(k, s.expr, s.end);
@@ -166,7 +166,7 @@ fn plan_m4(k: &[u16], s: Shape) -> Plan
 
 // H in R.
 fn plan_m11(k: &[u16], s: Shape) -> Plan
-    ensures { result ≡ m11Plan k.now s }
+    ensures { result ≡ m11_plan k.now s }
 {
     let h = s.h;
     let children = inner(k, h.from, h.to);
@@ -210,7 +210,7 @@ fn reorder(s: Shape, children: Within, part: Within, n: usize) -> Plan
 
 // The terms of T are counted.
 fn plan_m12(k: &[u16], s: Shape) -> Plan
-    ensures { (σ : Signature) → Is (M12 σ) k.now s (λ h R. m12Plan k.now s h) result }
+    ensures { (σ : Signature) → Is (M12 σ) k.now s (λ h R. m12_plan k.now s h) result }
 {
     let h = s.h;
     let children = inner(k, h.from, h.to);
@@ -221,7 +221,7 @@ fn plan_m12(k: &[u16], s: Shape) -> Plan
 
 // t in R1, ε in R2.
 fn in_first(s: Shape, start: usize, mid: usize) -> Recipe
-    ensures { result ≡ m5First s start mid }
+    ensures { result ≡ m5_first s start mid }
 {
     let h = s.h;
     let none = Piece::Copy(0, 0);
@@ -246,7 +246,7 @@ fn in_first(s: Shape, start: usize, mid: usize) -> Recipe
 
 // ε in R1, t in R2.
 fn in_second(s: Shape, start: usize, mid: usize) -> Recipe
-    ensures { result ≡ m5Second s start mid }
+    ensures { result ≡ m5_second s start mid }
 {
     let h = s.h;
     let none = Piece::Copy(0, 0);
@@ -271,7 +271,7 @@ fn in_second(s: Shape, start: usize, mid: usize) -> Recipe
 
 // t in R1, ε in R2; or ε in R1, t in R2.
 fn plan_m5(k: &[u16], s: Shape) -> Plan
-    ensures { Is M5 k.now s (λ h R. shared s (exprInner k.now s).from (mid_of k.now s R)) result }
+    ensures { Is M5 k.now s (λ h R. shared s (expr_inner k.now s).from (mid_of k.now s R)) result }
 {
     let within = inner(k, s.expr, s.end);
     let part = expressions::pass(k, within.from);
@@ -286,7 +286,7 @@ fn plan_m5(k: &[u16], s: Shape) -> Plan
 
 // The hedge in R1; or in R2.
 fn halves(k: &[u16], s: Shape) -> Plan
-    ensures { Is M6 k.now s (λ h R. halved s (exprInner k.now s).from (mid_of k.now s R)) result × Is M7 k.now s (λ h R. halved s (exprInner k.now s).from (mid_of k.now s R)) result }
+    ensures { Is M6 k.now s (λ h R. halved s (expr_inner k.now s).from (mid_of k.now s R)) result × Is M7 k.now s (λ h R. halved s (expr_inner k.now s).from (mid_of k.now s R)) result }
 {
     let h = s.h;
     let within = inner(k, s.expr, s.end);
@@ -302,7 +302,7 @@ fn halves(k: &[u16], s: Shape) -> Plan
 
 // X() = f(), f(H) in f(R).
 fn plan_m10(k: &[u16], s: Shape) -> Plan
-    ensures { result ≡ m10Plan k.now s }
+    ensures { result ≡ m10_plan k.now s }
 {
     let h = s.h;
     let left = inner(k, h.from, h.to);

@@ -2,15 +2,15 @@
 ghost use Rattle.std.specs.Prelude.{ℕ, ◌≡◌, List, ◌++◌};
 ghost use Rattle.language.specs.Kinds.{pick};
 ghost use Rattle.language.specs.Trees.{Functor, Hedge, node, Expr, Conj};
-ghost use Rattle.rules.specs.Looks.{hasTerm, allTerms};
+ghost use Rattle.rules.specs.Looks.{has_term, all_terms};
 ghost use Rattle.rules.specs.Expressions.{nullable};
 ghost use Rattle.views.specs.Looks.{look_of};
 ghost use Rattle.views.specs.Views.{Shows, MembershipAt};
-ghost use Rattle.rules.specs.Ranks.{memRank};
+ghost use Rattle.rules.specs.Ranks.{mem_rank};
 ghost use Rattle.views.specs.Standing.{Stands};
 ghost use Rattle.expressions.specs.Standing.{Here};
-ghost use Rattle.rules.specs.Places.{atR2, atF6, atM2, atM12, noRule};
-ghost use Rattle.memberships.specs.Rank.{childTerms, overBy, singleBy, termBy, run_by};
+ghost use Rattle.rules.specs.Places.{at_r2, at_f6, at_m2, at_m12, no_rule};
+ghost use Rattle.memberships.specs.Rank.{child_terms, over_by, single_by, term_by, run_by};
 
 use language::{Kind, Name, Signature, Sym, is_unordered};
 use plans::inner;
@@ -22,7 +22,7 @@ use views::{Look, Shape};
 
 // ε in the expression at a place: R2, F6.
 fn rank_empty(k: &[u16], at: usize) -> usize
-    ensures { (R : Expr) (beyond : List ℕ) → Here k.now at R beyond → result ≡ pick (nullable R) atR2 atF6 }
+    ensures { (R : Expr) (beyond : List ℕ) → Here k.now at R beyond → result ≡ pick (nullable R) at_r2 at_f6 }
 {
     let p = expressions::pass(k, at);
     let null = p.null;
@@ -31,7 +31,7 @@ fn rank_empty(k: &[u16], at: usize) -> usize
 
 // A single term with an unordered symbol, in that symbol over an expression: M12.
 fn rank_shuffled(k: &[u16], from: usize) -> usize
-    ensures { (F : Functor) (c r : Hedge) (beyond : List ℕ) → Stands k.now from (node F c r) beyond → result ≡ pick (allTerms c) atM12 noRule }
+    ensures { (F : Functor) (c r : Hedge) (beyond : List ℕ) → Stands k.now from (node F c r) beyond → result ≡ pick (all_terms c) at_m12 no_rule }
 {
     let c = inner(k, from, from);
     let terms = finds::all_terms(k, c.from);
@@ -40,7 +40,7 @@ fn rank_shuffled(k: &[u16], from: usize) -> usize
 
 // A single F(H), which stands at `from`, in g(R): M10, M11, M12, F5.
 fn rank_over(k: &[u16], from: usize, signature: Signature, f: Name, g: Sym) -> usize
-    ensures { (F : Functor) (c r : Hedge) (beyond : List ℕ) → Stands k.now from (node F c r) beyond → result ≡ overBy signature (allTerms c) f g }
+    ensures { (F : Functor) (c r : Hedge) (beyond : List ℕ) → Stands k.now from (node F c r) beyond → result ≡ over_by signature (all_terms c) f g }
 {
     match f {
         Name::Symbol(a) => {
@@ -58,7 +58,7 @@ fn rank_over(k: &[u16], from: usize, signature: Signature, f: Name, g: Sym) -> u
 
 // A single term in g(R): as above, and no rule for a variable.
 fn rank_single(k: &[u16], from: usize, signature: Signature, look: Look, g: Sym) -> usize
-    ensures { (h : Hedge) (beyond : List ℕ) → Stands k.now from h beyond → look ≡ look_of h → result ≡ singleBy signature (childTerms h) look g }
+    ensures { (h : Hedge) (beyond : List ℕ) → Stands k.now from h beyond → look ≡ look_of h → result ≡ single_by signature (child_terms h) look g }
 {
     match look {
         Look::Empty => NO_RULE,
@@ -70,7 +70,7 @@ fn rank_single(k: &[u16], from: usize, signature: Signature, look: Look, g: Sym)
 
 // The rule for a single term, or M2 where more follows.
 fn or_more(last: bool, single: usize) -> usize
-    ensures { result ≡ pick last single atM2 }
+    ensures { result ≡ pick last single at_m2 }
 {
     if last { single } else { AT_M2 }
 }
@@ -84,7 +84,7 @@ fn rank_term(
     last: bool,
     first: Kind,
 ) -> usize
-    ensures { (h : Hedge) (beyond : List ℕ) → Stands k.now from h beyond → look ≡ look_of h → result ≡ termBy signature (childTerms h) look last first }
+    ensures { (h : Hedge) (beyond : List ℕ) → Stands k.now from h beyond → look ≡ look_of h → result ≡ term_by signature (child_terms h) look last first }
 {
     match first {
         Kind::Eps => AT_F7,
@@ -98,7 +98,7 @@ fn rank_term(
 
 // A hedge that begins with a hedge variable, in an expression that begins with `first`: F7, M1, M3, M7.
 fn rank_run(k: &[u16], from: usize, first: Kind, last: bool) -> usize
-    ensures { (h : Hedge) (beyond : List ℕ) → Stands k.now from h beyond → result ≡ run_by first last (hasTerm h) }
+    ensures { (h : Hedge) (beyond : List ℕ) → Stands k.now from h beyond → result ≡ run_by first last (has_term h) }
 {
     match first {
         Kind::Eps => {
@@ -121,7 +121,7 @@ fn rank_run(k: &[u16], from: usize, first: Kind, last: bool) -> usize
 // The place of the first rule in the list, or NO_RULE where none applies.
 pub fn rank_membership(k: &[u16], s: Shape, signature: Signature) -> usize
     requires { MembershipAt k.now s }
-    ensures { (before : Conj) (h : Hedge) (R : Expr) (behind : Conj) → Shows k.now s before h R behind → result ≡ memRank signature (before ++ behind) h R }
+    ensures { (before : Conj) (h : Hedge) (R : Expr) (behind : Conj) → Shows k.now s before h R behind → result ≡ mem_rank signature (before ++ behind) h R }
 {
     let h = s.h;
     let look = h.look;

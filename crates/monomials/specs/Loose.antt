@@ -4,8 +4,8 @@ use Rattle.std.specs.Prelude.{ℕ, zero, suc, ◌+◌, List, [], ◌∷◌, ◌+
 use Rattle.language.specs.declared.Sym.{Sym}
 use Rattle.language.specs.Kinds.{pick}
 use Rattle.language.specs.Trees.{Expr, eps, cat, alt, star, over}
-use Rattle.language.specs.Writing.{exprWords}
-use Rattle.rules.specs.Looks.{isEps}
+use Rattle.language.specs.Writing.{expr_words}
+use Rattle.rules.specs.Looks.{is_eps}
 use Rattle.rules.specs.Expressions.{nullable}
 
 -- f(R1), how many parts its rest has, and their words in a row
@@ -18,9 +18,9 @@ pub record Loose : Type 0 where
 -- the monomials of R in order; from outside of R each rest gets n parts, whose words in a row are ws
 abbrev pub met : Expr → ℕ → List ℕ → List Loose
 met eps n ws = []
-met (cat a b) n ws = met a (pick (isEps b) n (suc n)) (pick (isEps b) ws (exprWords b ++ ws)) ++ pick (nullable a) (met b n ws) []
+met (cat a b) n ws = met a (pick (is_eps b) n (suc n)) (pick (is_eps b) ws (expr_words b ++ ws)) ++ pick (nullable a) (met b n ws) []
 met (alt a b) n ws = met a n ws ++ met b n ws
-met (star a) n ws = met a (suc n) (exprWords (star a) ++ ws)
+met (star a) n ws = met a (suc n) (expr_words (star a) ++ ws)
 met (over f a) n ws = record { name = f; inner = a; parts = n; words = ws } ∷ []
 
 -- n words of concatenations
@@ -33,8 +33,8 @@ abbrev pub opening : ℕ → List ℕ
 opening zero = 7000 ∷ []
 opening (suc n) = joins n
 
-abbrev pub restWords : Loose → List ℕ
-restWords m = opening m.parts ++ m.words
+abbrev pub rest_words : Loose → List ℕ
+rest_words m = opening m.parts ++ m.words
 
-abbrev pub firstWords : Loose → List ℕ
-firstWords m = (3000 + m.name.0) ∷ exprWords m.inner
+abbrev pub first_words : Loose → List ℕ
+first_words m = (3000 + m.name.0) ∷ expr_words m.inner

@@ -12,14 +12,14 @@ use Rattle.language.specs.declared.Refusal.TheVariants.{LongResult, LongWaiting,
 use Rattle.language.specs.declared.Signature.{Signature}
 use Rattle.language.specs.Limits.{desk}
 use Rattle.language.specs.Trees.{Conj}
-use Rattle.language.specs.Writing.{literalWords, conjWords}
-use Rattle.language.specs.Fine.{fineConj}
+use Rattle.language.specs.Writing.{literal_words, conj_words}
+use Rattle.language.specs.Fine.{fine_conj}
 use Rattle.rules.specs.Reply.{Reply, nothing, results, stops}
-use Rattle.rules.specs.Run.{all_of, waitingSize}
+use Rattle.rules.specs.Run.{all_of, waiting_size}
 use Rattle.replay.specs.Replay.{Triple}
 use Rattle.plans.specs.Sizes.{sized}
 use Rattle.plans.specs.declared.Size.TheVariants.{Fits}
-use Rattle.taking.proofs.Sizing.{fits-exact, fits-past, over-anyLong, fits-anyLong}
+use Rattle.taking.proofs.Sizing.{fits-exact, fits-past, over-any_long, fits-any_long}
 use Rattle.views.specs.Standing.{LiteralAt}
 use Rattle.views.proofs.LiteralWalks.{stands_here, literal-some}
 use Rattle.search.specs.declared.Best.{Best}
@@ -29,13 +29,13 @@ use Rattle.taking.specs.declared.Stepped.TheVariants.{Long, Room, Done}
 use Rattle.taking.specs.Taking.{Took, long, room, done}
 use Rattle.telling.specs.declared.Chosen.{Chosen}
 use Rattle.telling.specs.declared.Chosen.TheVariants.{Step, Not}
-use Rattle.telling.specs.Telling.{namedReply, chosen_of, chosenBy, Applies}
+use Rattle.telling.specs.Telling.{named_reply, chosen_of, chosen_by, Applies}
 use Rattle.telling.specs.Telling as telling
 use Rattle.telling.proofs.Laws.{named-applies}
 use Rattle.named_steps.specs.declared.Stepping.{Stepping}
 use Rattle.named_steps.specs.declared.Stepping.TheVariants.{Made, Refused}
 use Rattle.named_steps.specs.Naming.{Naming, made, given-up, checked, replied, named_at}
-use Rattle.named_steps.specs.Leaves.{resultWords, Leaves, refuses, makes}
+use Rattle.named_steps.specs.Leaves.{result_words, Leaves, refuses, makes}
 
 -- ---- what was chosen
 
@@ -43,14 +43,14 @@ use Rattle.named_steps.specs.Leaves.{resultWords, Leaves, refuses, makes}
 pub record Chooses (σ : Signature) (c : Conj) (t : Triple) (b : Best) : Type 0 where
   pub ks : List Conj
   pub applies : Applies σ c b ks
-  pub reply : namedReply σ t c ≡ results ks
+  pub reply : named_reply σ t c ≡ results ks
 
-module _ (σ : Signature) (c : Conj) (t : Triple) (r : Chosen) (chosen : r ≡ chosenBy σ c t) where
+module _ (σ : Signature) (c : Conj) (t : Triple) (r : Chosen) (chosen : r ≡ chosen_by σ c t) where
   pub chosen-step : (b : Best) → r ≡ Step b → Chooses σ c t b
-  unfolding chosenBy
-  chosen-step b e = go (namedReply σ t c) refl chosen
+  unfolding chosen_by
+  chosen-step b e = go (named_reply σ t c) refl chosen
     where
-      go : (m : Reply (List Conj)) → namedReply σ t c ≡ m → r ≡ chosen_of (telling.named c t) m → Chooses σ c t b
+      go : (m : Reply (List Conj)) → named_reply σ t c ≡ m → r ≡ chosen_of (telling.named c t) m → Chooses σ c t b
       go nothing i d = absurd (let z : ◌≡◌ {A = ℕ} 0 1 = cc in omega arith)
       go (stops x) i d = absurd (let z : ◌≡◌ {A = ℕ} 0 1 = cc in omega arith)
       go (results ks) i d =
@@ -58,16 +58,16 @@ module _ (σ : Signature) (c : Conj) (t : Triple) (r : Chosen) (chosen : r ≡ c
           record { ks = ks; applies = subst (λ x. Applies σ c x ks) z (named-applies σ c t ks i); reply = i }
 
   pub chosen-not : (number : ℕ) (x : Refusal) → r ≡ Not x → named_at desk number σ t c ≡ given-up x
-  unfolding chosenBy
-  chosen-not number x e = go (namedReply σ t c) refl chosen
+  unfolding chosen_by
+  chosen-not number x e = go (named_reply σ t c) refl chosen
     where
-      go : (m : Reply (List Conj)) → namedReply σ t c ≡ m → r ≡ chosen_of (telling.named c t) m → named_at desk number σ t c ≡ given-up x
+      go : (m : Reply (List Conj)) → named_reply σ t c ≡ m → r ≡ chosen_of (telling.named c t) m → named_at desk number σ t c ≡ given-up x
       go nothing i d = ap (replied desk number) i ∙ ap given-up (let z : BadStep ≡ x = cc in z)
       go (stops y) i d = ap (replied desk number) i ∙ ap given-up (let z : y ≡ x = cc in z)
       go (results ks) i d = absurd (let z : ◌≡◌ {A = ℕ} 0 1 = cc in omega arith)
 
 -- the literal that it is made at
-module _ (σ : Signature) (k : List ℕ) (c : Conj) (fine : fineConj desk c) (words : k ≡ conjWords c) (t : Triple) (b : Best) (p : Chooses σ c t b) where
+module _ (σ : Signature) (k : List ℕ) (c : Conj) (fine : fine_conj desk c) (words : k ≡ conj_words c) (t : Triple) (b : Best) (p : Chooses σ c t b) where
   pub here : LiteralAt k b.at p.applies.before p.applies.l p.applies.behind
   here = stands_here k c fine words b.at p.applies.before p.applies.l p.applies.behind p.applies.whole p.applies.place
 
@@ -77,8 +77,8 @@ module _ (σ : Signature) (k : List ℕ) (c : Conj) (fine : fineConj desk c) (wo
   pub inside : b.at < length k
   inside =
       let x = ap length here.words in
-      let y = length-append (conjWords p.applies.before) (literalWords p.applies.l ++ conjWords p.applies.behind) in
-      let z = length-append (literalWords p.applies.l) (conjWords p.applies.behind) in
+      let y = length-append (conj_words p.applies.before) (literal_words p.applies.l ++ conj_words p.applies.behind) in
+      let z = length-append (literal_words p.applies.l) (conj_words p.applies.behind) in
       let v = literal-some p.applies.l in
       let q = p.applies.place in
       omega arith
@@ -86,55 +86,55 @@ module _ (σ : Signature) (k : List ℕ) (c : Conj) (fine : fineConj desk c) (wo
 -- ---- what taking it leaves
 
 -- results that wait alone take the words of their frames
-waiting-words : (number : ℕ) (ks : List Conj) → waitingSize (all_of number ks) ≡ length (resultWords number ks)
+waiting-words : (number : ℕ) (ks : List Conj) → waiting_size (all_of number ks) ≡ length (result_words number ks)
 waiting-words number [] = refl
 waiting-words number (k ∷ ks) =
     let a = waiting-words number ks in
-    let l = length-append (conjWords k) (resultWords number ks) in
+    let l = length-append (conj_words k) (result_words number ks) in
     omega arith
 
 -- 7 and 8 by two tests
-abbrev checkedBy : Bool → Bool → List Conj → Naming
-checkedBy a b ks = elim a [ true ↦ given-up LongResult | false ↦ elim b [ true ↦ given-up LongWaiting | false ↦ made ks ] ]
+abbrev checked_by : Bool → Bool → List Conj → Naming
+checked_by a b ks = elim a [ true ↦ given-up LongResult | false ↦ elim b [ true ↦ given-up LongWaiting | false ↦ made ks ] ]
 
-module _ (number : ℕ) (ks : List Conj) (old new : List ℕ) (r : Stepped) (took : Took number (map conjWords ks) old desk.room r new) where
+module _ (number : ℕ) (ks : List Conj) (old new : List ℕ) (r : Stepped) (took : Took number (map conj_words ks) old desk.room r new) where
   abbrev v : Naming
   v = checked desk number ks
 
   pub leaves-long : r ≡ Long → Leaves number v old (Refused LongResult) new
   leaves-long e = go took
     where
-      go : Took number (map conjWords ks) old desk.room r new → Leaves number v old (Refused LongResult) new
-      go (long d o y) = refuses LongResult refl (ap (λ a. checkedBy a (ltb desk.room (waitingSize (all_of number ks))) ks) (over-anyLong ks (map conjWords ks) refl o)) y
+      go : Took number (map conj_words ks) old desk.room r new → Leaves number v old (Refused LongResult) new
+      go (long d o y) = refuses LongResult refl (ap (λ a. checked_by a (ltb desk.room (waiting_size (all_of number ks))) ks) (over-any_long ks (map conj_words ks) refl o)) y
       go (room n d o i y) = absurd (let z : ◌≡◌ {A = ℕ} 0 1 = cc in omega arith)
       go (done n at d o i y) = absurd (let z : ◌≡◌ {A = ℕ} 0 1 = cc in omega arith)
 
   -- 7 does not hold
-  fits : (n : ℕ) → sized (map conjWords ks) ≡ Fits n → v ≡ checkedBy false (ltb desk.room (waitingSize (all_of number ks))) ks
-  fits n o = ap (λ a. checkedBy a (ltb desk.room (waitingSize (all_of number ks))) ks) (fits-anyLong ks (map conjWords ks) refl n o)
+  fits : (n : ℕ) → sized (map conj_words ks) ≡ Fits n → v ≡ checked_by false (ltb desk.room (waiting_size (all_of number ks))) ks
+  fits n o = ap (λ a. checked_by a (ltb desk.room (waiting_size (all_of number ks))) ks) (fits-any_long ks (map conj_words ks) refl n o)
 
   pub leaves-room : r ≡ Room → Leaves number v old (Refused LongWaiting) new
   leaves-room e = go took
     where
-      go : Took number (map conjWords ks) old desk.room r new → Leaves number v old (Refused LongWaiting) new
+      go : Took number (map conj_words ks) old desk.room r new → Leaves number v old (Refused LongWaiting) new
       go (long d o y) = absurd (let z : ◌≡◌ {A = ℕ} 0 1 = cc in omega arith)
       go (room n d o i y) =
-          let x = fits-past number (map conjWords ks) n o i in
+          let x = fits-past number (map conj_words ks) n o i in
           let w = waiting-words number ks in
-          refuses LongWaiting refl (fits n o ∙ ap (λ b. checkedBy false b ks) (lt-ltb desk.room (waitingSize (all_of number ks)) (omega arith))) y
+          refuses LongWaiting refl (fits n o ∙ ap (λ b. checked_by false b ks) (lt-ltb desk.room (waiting_size (all_of number ks)) (omega arith))) y
       go (done n at d o i y) = absurd (let z : ◌≡◌ {A = ℕ} 0 1 = cc in omega arith)
 
   pub leaves-done : (at : ℕ) → r ≡ Done at → Leaves number v old (Made at) new
   leaves-done at e = go took
     where
-      go : Took number (map conjWords ks) old desk.room r new → Leaves number v old (Made at) new
+      go : Took number (map conj_words ks) old desk.room r new → Leaves number v old (Made at) new
       go (long d o y) = absurd (let z : ◌≡◌ {A = ℕ} 0 1 = cc in omega arith)
       go (room n d o i y) = absurd (let z : ◌≡◌ {A = ℕ} 0 1 = cc in omega arith)
       go (done n a d o i y) =
           let j : a ≡ at = cc in
-          let x = fits-exact number (map conjWords ks) n o (omega arith) in
+          let x = fits-exact number (map conj_words ks) n o (omega arith) in
           let w = waiting-words number ks in
-          makes ks a (ap Made (sym j)) (fits n o ∙ ap (λ b. checkedBy false b ks) (le-ltb desk.room (waitingSize (all_of number ks)) (omega arith))) (omega arith) y
+          makes ks a (ap Made (sym j)) (fits n o ∙ ap (λ b. checked_by false b ks) (le-ltb desk.room (waiting_size (all_of number ks)) (omega arith))) (omega arith) y
 
 -- by the reply
 pub leaves-as : (number : ℕ) (v u : Naming) (old : List ℕ) (r : Stepping) (new : List ℕ) → v ≡ u → Leaves number u old r new → Leaves number v old r new

@@ -12,26 +12,26 @@ use Rattle.language.specs.declared.Refusal.TheVariants.{ShortSlice, CountRange}
 use Rattle.language.specs.declared.Signature.{Signature}
 use Rattle.language.specs.Limits.{Limits, desk}
 use Rattle.language.specs.Trees.{Conj, signature, Question}
-use Rattle.language.specs.Writing.{conjWords}
-use Rattle.language.specs.Fine.{fineConj}
-use Rattle.language.specs.Question.{asks, parts, countsOf, alternativesOf, readQuestion}
+use Rattle.language.specs.Writing.{conj_words}
+use Rattle.language.specs.Fine.{fine_conj}
+use Rattle.language.specs.Question.{asks, parts, counts_of, alternatives_of, read_question}
 use Rattle.language.specs.Between.{between}
-use Rattle.language.proofs.Alternatives.{allWords, read-all, parts_join}
+use Rattle.language.proofs.Alternatives.{all_words, read-all, parts_join}
 use Rattle.language.proofs.Asking.{passed, ranges, how-many, alternative}
 use Rattle.language.proofs.Offsets.{length-between, laid-length, laid-rises, parts-start}
 use Rattle.rules.specs.Answer.{zeros, overwritten}
 use Rattle.header.specs.declared.Header.{Header}
-use Rattle.header.specs.Heading.{headerOf}
-use Rattle.reader.specs.Checking.{checked, askedNumbers}
+use Rattle.header.specs.Heading.{header_of}
+use Rattle.reader.specs.Checking.{checked, asked_numbers}
 use Rattle.reader.proofs.Answers.{as-checked, question-asked, question-refused}
-use Rattle.outcomes.specs.Numbers.{checkedNumbers}
+use Rattle.outcomes.specs.Numbers.{checked_numbers}
 use Rattle.outcomes.specs.declared.Checked.{Checked}
 use Rattle.outcomes.specs.declared.Checked.TheVariants.{Fine, Refused}
 use Rattle.replay.specs.Replay.{Triple}
 use Rattle.named_steps.specs.declared.Stepping.{Stepping}
 use Rattle.named_steps.specs.declared.Stepping.TheVariants as stepping
-use Rattle.named_steps.specs.Naming.{Naming, unread, named_at, ofOne, namingOf, naming}
-use Rattle.named_steps.specs.Leaves.{resultWords, begins, roomOf, leaves, Leaves, makes}
+use Rattle.named_steps.specs.Naming.{Naming, unread, named_at, of_one, naming_of, naming}
+use Rattle.named_steps.specs.Leaves.{result_words, begins, room_of, leaves, Leaves, makes}
 use Rattle.named_steps.specs.Leaves as left
 
 -- ---- the conjunction
@@ -41,7 +41,7 @@ one_of [] e = absurd (omega arith)
 one_of (k ∷ []) e = refl
 one_of (k ∷ j ∷ ks) e = absurd (omega arith)
 
-not-one : (L : Limits) (number : ℕ) (σ : Signature) (t : Triple) (ks : List Conj) → (length ks ≡ 1 → ⊥) → ofOne L number σ t ks ≡ unread CountRange
+not-one : (L : Limits) (number : ℕ) (σ : Signature) (t : Triple) (ks : List Conj) → (length ks ≡ 1 → ⊥) → of_one L number σ t ks ≡ unread CountRange
 not-one L number σ t [] h = refl
 not-one L number σ t (k ∷ []) h = absurd (h refl)
 not-one L number σ t (k ∷ j ∷ ks) h = refl
@@ -53,63 +53,63 @@ all_of n ws e = ap (take n) (sym (append-nil ws)) ∙ take_at ws [] n e
 -- the words behind the header and the two offsets
 pub record One (ws : List ℕ) : Type 0 where
   pub conj : Conj
-  pub fine : fineConj desk conj
-  pub words : between 7 (length ws) ws ≡ conjWords conj
+  pub fine : fine_conj desk conj
+  pub words : between 7 (length ws) ws ≡ conj_words conj
   pub long : 7 ≤ length ws
   pub short : length (between 7 (length ws) ws) ≤ desk.question
-  pub asked : (number : ℕ) (t : Triple) → namingOf desk number t (readQuestion desk ws) ≡ named_at desk number (signature (countsOf ws)) t conj
+  pub asked : (number : ℕ) (t : Triple) → naming_of desk number t (read_question desk ws) ≡ named_at desk number (signature (counts_of ws)) t conj
 
-module _ (ws : List ℕ) (e : Fine ≡ checked (readQuestion desk ws)) where
+module _ (ws : List ℕ) (e : Fine ≡ checked (read_question desk ws)) where
   abbrev q : Question
   q = (question-asked ws e).0
 
-  abbrev is : readQuestion desk ws ≡ asks q
+  abbrev is : read_question desk ws ≡ asks q
   is = (question-asked ws e).1
 
   pub long-enough : 5 ≤ length ws
   long-enough = let r = (ranges desk ws q is).long in omega arith
 
-  pub of-none-or-more : (alternativesOf ws ≡ 1 → ⊥) → (number : ℕ) (t : Triple) → namingOf desk number t (readQuestion desk ws) ≡ unread CountRange
+  pub of-none-or-more : (alternatives_of ws ≡ 1 → ⊥) → (number : ℕ) (t : Triple) → naming_of desk number t (read_question desk ws) ≡ unread CountRange
   of-none-or-more h number t =
-      ap (namingOf desk number t) is ∙ not-one desk number (signature q.counts) t q.alternatives (λ z. h (sym (how-many desk ws q is) ∙ z))
+      ap (naming_of desk number t) is ∙ not-one desk number (signature q.counts) t q.alternatives (λ z. h (sym (how-many desk ws q is) ∙ z))
 
-  pub of_one : alternativesOf ws ≡ 1 → One ws
-  of_one h =
+  pub of_one_lem : alternatives_of ws ≡ 1 → One ws
+  of_one_lem h =
       let p = passed desk ws q is in
       let a = alternative desk ws q is 0 (omega arith) in
-      let l = laid-length 5 (alternativesOf ws) ws p.laid_out in
+      let l = laid-length 5 (alternatives_of ws) ws p.laid_out in
       let r = ranges desk ws q is in
       record {
         conj = get_or q.alternatives 0 [];
         fine = a.fine;
         words =
             all_of (length ws - 7) (drop 7 ws) (length-drop 7 ws)
-            ∙ let f = read-all desk (parts 5 (alternativesOf ws) ws) q.alternatives p.words p.read in
+            ∙ let f = read-all desk (parts 5 (alternatives_of ws) ws) q.alternatives p.words p.read in
             ap (λ n. drop (5 + n + 1) ws) (sym h)
-            ∙ sym (parts_join (5 + alternativesOf ws + 1) (between 6 (5 + alternativesOf ws + 1) ws) ws (laid-rises 5 (alternativesOf ws) ws p.laid_out))
-            ∙ ap allWords (sym (parts-start 5 (alternativesOf ws) ws p.laid_out) ∙ f.1)
-            ∙ ap (λ ks. allWords (map conjWords ks)) (one_of q.alternatives (how-many desk ws q is ∙ h))
-            ∙ append-nil (conjWords (get_or q.alternatives 0 []));
+            ∙ sym (parts_join (5 + alternatives_of ws + 1) (between 6 (5 + alternatives_of ws + 1) ws) ws (laid-rises 5 (alternatives_of ws) ws p.laid_out))
+            ∙ ap all_words (sym (parts-start 5 (alternatives_of ws) ws p.laid_out) ∙ f.1)
+            ∙ ap (λ ks. all_words (map conj_words ks)) (one_of q.alternatives (how-many desk ws q is ∙ h))
+            ∙ append-nil (conj_words (get_or q.alternatives 0 []));
         long = omega arith;
         short = let d = length-between 7 (length ws) ws (omega arith) in let s = r.short in omega arith;
         asked = λ number t.
-            ap (namingOf desk number t) is ∙ ap (ofOne desk number (signature q.counts) t) (one_of q.alternatives (how-many desk ws q is ∙ h))
+            ap (naming_of desk number t) is ∙ ap (of_one desk number (signature q.counts) t) (one_of q.alternatives (how-many desk ws q is ∙ h))
             ∙ ap (λ n. named_at desk number (signature n) t (get_or q.alternatives 0 [])) p.counts;
       }
 
 -- the same from what the calls said
-module _ (ws : List ℕ) (r : Checked) (n : checkedNumbers r ≡ askedNumbers (readQuestion desk ws)) (e : r ≡ Fine) where
-  pub was-fine : Fine ≡ checked (readQuestion desk ws)
-  was-fine = sym e ∙ as-checked r (readQuestion desk ws) n
+module _ (ws : List ℕ) (r : Checked) (n : checked_numbers r ≡ asked_numbers (read_question desk ws)) (e : r ≡ Fine) where
+  pub was-fine : Fine ≡ checked (read_question desk ws)
+  was-fine = sym e ∙ as-checked r (read_question desk ws) n
 
-  pub is_one : (h : Header) → h ≡ headerOf ws → h.alternatives ≡ 1 → One ws
-  is_one h d k = of_one ws was-fine (sym (ap (λ (h : Header). h.alternatives) d) ∙ k)
+  pub is_one : (h : Header) → h ≡ header_of ws → h.alternatives ≡ 1 → One ws
+  is_one h d k = of_one_lem ws was-fine (sym (ap (λ (h : Header). h.alternatives) d) ∙ k)
 
 -- ---- before the step
 
 module _ (number : ℕ) (t : Triple) (ws work : List ℕ) where
   abbrev by : Bool → Naming
-  by b = elim b [ true ↦ unread ShortSlice | false ↦ namingOf desk number t (readQuestion desk ws) ]
+  by b = elim b [ true ↦ unread ShortSlice | false ↦ naming_of desk number t (read_question desk ws) ]
 
   pub unread-leaves : (x : Refusal) → naming desk (length work) number t ws ≡ unread x → (stepping.Refused x, work) ≡ leaves number (naming desk (length work) number t ws) work
   unread-leaves x e = sym (ap (λ v. leaves number v work) e)
@@ -118,12 +118,12 @@ module _ (number : ℕ) (t : Triple) (ws work : List ℕ) where
   unfolding naming
   short-work h = ap by (lt-ltb (length work) desk.room h)
 
-  pub long-work : desk.room ≤ length work → naming desk (length work) number t ws ≡ namingOf desk number t (readQuestion desk ws)
+  pub long-work : desk.room ≤ length work → naming desk (length work) number t ws ≡ naming_of desk number t (read_question desk ws)
   unfolding naming
   long-work h = ap by (le-ltb (length work) desk.room h)
 
-  pub refused-unread : (x : Refusal) → Refused x ≡ checked (readQuestion desk ws) → namingOf desk number t (readQuestion desk ws) ≡ unread x
-  refused-unread x e = ap (namingOf desk number t) (question-refused ws x e)
+  pub refused-unread : (x : Refusal) → Refused x ≡ checked (read_question desk ws) → naming_of desk number t (read_question desk ws) ≡ unread x
+  refused-unread x e = ap (naming_of desk number t) (question-refused ws x e)
 
 -- ---- after the step, in a cleared room
 
@@ -142,7 +142,7 @@ zeros-before n at vs rest e =
     ∙ ap (λ us. replicate at 0 ++ vs ++ us) (drop_at (replicate n 0) rest (at + length vs) (length-replicate n 0 ∙ sym e))
     ∙ ap (λ m. replicate m 0 ++ vs ++ rest) (let z : at ≡ n - length vs = omega arith in z)
 
-room-kept : (work vs : List ℕ) (at : ℕ) → at + length vs ≡ desk.room → sets (cleared work) at vs ≡ overwritten desk (roomOf vs) work
+room-kept : (work vs : List ℕ) (at : ℕ) → at + length vs ≡ desk.room → sets (cleared work) at vs ≡ overwritten desk (room_of vs) work
 unfolding zeros
 room-kept work vs at e = zeros-before desk.room at vs (drop desk.room work) e
 
@@ -150,6 +150,6 @@ pub step-leaves : (number : ℕ) (v : Naming) (work : List ℕ) (r : Stepping) (
 step-leaves number v work r old new e (left.refuses x d i y) =
     ap (λ r. (r, new)) d ∙ ap (λ n. (stepping.Refused x, n)) (y ∙ e) ∙ sym (ap (λ v. leaves number v work) i)
 step-leaves number v work r old new e (makes ks at d i g y) =
-    let z : at ≡ begins (resultWords number ks) = omega arith in
-    ap (λ r. (r, new)) (d ∙ ap stepping.Made z) ∙ ap (λ n. (stepping.Made (begins (resultWords number ks)), n)) (y ∙ ap (λ o. sets o at (resultWords number ks)) e ∙ room-kept work (resultWords number ks) at g)
+    let z : at ≡ begins (result_words number ks) = omega arith in
+    ap (λ r. (r, new)) (d ∙ ap stepping.Made z) ∙ ap (λ n. (stepping.Made (begins (result_words number ks)), n)) (y ∙ ap (λ o. sets o at (result_words number ks)) e ∙ room-kept work (result_words number ks) at g)
     ∙ sym (ap (λ v. leaves number v work) i)

@@ -4,33 +4,33 @@ use Rattle.std.proofs.lemmas.List.Edits.{sets}
 use Rattle.language.specs.declared.Refusal.{Refusal}
 use Rattle.language.specs.Limits.{desk}
 use Rattle.language.specs.Trees.{Conj}
-use Rattle.language.specs.Writing.{conjWords}
+use Rattle.language.specs.Writing.{conj_words}
 use Rattle.rules.specs.Answer.{zeros, overwritten}
-use Rattle.frames.specs.Frames.{inFrames}
+use Rattle.frames.specs.Frames.{in_frames}
 use Rattle.named_steps.specs.Naming.{Naming, made, unread, given-up}
 use Rattle.named_steps.specs.declared.Stepping.{Stepping}
 use Rattle.named_steps.specs.declared.Stepping.TheVariants.{Made, Refused}
 
 -- the results in words, each with its length and the number before it
-abbrev pub resultWords : ℕ → List Conj → List ℕ
-resultWords number ks = inFrames number (map conjWords ks)
+abbrev pub result_words : ℕ → List Conj → List ℕ
+result_words number ks = in_frames number (map conj_words ks)
 
 -- where they begin, so that they end with the room
 abbrev pub begins : List ℕ → ℕ
 begins ws = desk.room - length ws
 
 -- the room: zeros, and then the results
-abbrev pub roomOf : List ℕ → List ℕ
-roomOf ws = replicate (begins ws) 0 ++ ws
+abbrev pub room_of : List ℕ → List ℕ
+room_of ws = replicate (begins ws) 0 ++ ws
 
 -- what comes back, and the work slice, which held `work`
 abbrev pub leaves : ℕ → Naming → List ℕ → Stepping × List ℕ
-leaves number (made ks) work = (Made (begins (resultWords number ks)), overwritten desk (roomOf (resultWords number ks)) work)
+leaves number (made ks) work = (Made (begins (result_words number ks)), overwritten desk (room_of (result_words number ks)) work)
 leaves number (unread r) work = (Refused r, work)
 leaves number (given-up r) work = (Refused r, overwritten desk (zeros desk) work)
 
 -- the same of a step in a slice whatever it holds: nothing is written, or the results alone
 pub data Leaves (number : ℕ) (v : Naming) (old : List ℕ) (r : Stepping) (new : List ℕ) : Type 0 where
   refuses : (x : Refusal) → r ≡ Refused x → v ≡ given-up x → new ≡ old → Leaves number v old r new
-  makes : (ks : List Conj) (at : ℕ) → r ≡ Made at → v ≡ made ks → at + length (resultWords number ks) ≡ desk.room → new ≡ sets old at (resultWords number ks)
+  makes : (ks : List Conj) (at : ℕ) → r ≡ Made at → v ≡ made ks → at + length (result_words number ks) ≡ desk.room → new ≡ sets old at (result_words number ks)
       → Leaves number v old r new

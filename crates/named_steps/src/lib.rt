@@ -2,8 +2,8 @@
 ghost use Rattle.std.specs.Prelude.{◌≤◌, ◌≡◌, length};
 ghost use Rattle.language.specs.Limits.{desk};
 ghost use Rattle.language.specs.Trees.{Conj};
-ghost use Rattle.language.specs.Writing.{conjWords};
-ghost use Rattle.language.specs.Fine.{fineConj};
+ghost use Rattle.language.specs.Writing.{conj_words};
+ghost use Rattle.language.specs.Fine.{fine_conj};
 ghost use Rattle.views.specs.Standing.{Conjunction};
 ghost use Rattle.telling.specs.Telling.{triple_of};
 ghost use Rattle.named_steps.specs.Naming.{named_at, naming};
@@ -38,7 +38,7 @@ fn make_step(
 ) -> Stepping
     requires k_len_bound { (length k.now ≤ desk.question) × (desk.room ≤ length work.old) }
     requires conjunction { Conjunction k.now }
-    ensures { (c : Conj) → fineConj desk c → k.now ≡ conjWords c → Leaves number (named_at desk number s (triple_of rule literal side) c) work.old result work.new }
+    ensures { (c : Conj) → fine_conj desk c → k.now ≡ conj_words c → Leaves number (named_at desk number s (triple_of rule literal side) c) work.old result work.new }
 {
     match named_step(k, rule, literal, side, s) {
         Chosen::Not(r) => Stepping::Refused(r),

@@ -1,7 +1,7 @@
 // A step that is named: whether the rule of a place in the list applies at a literal, as it is written or with its sides swapped.
 ghost use Rattle.std.specs.Prelude.{◌<◌, ◌≡◌, length};
 ghost use Rattle.language.specs.Trees.{Literal, Conj};
-ghost use Rattle.rules.specs.Places.{atClash};
+ghost use Rattle.rules.specs.Places.{at_clash};
 ghost use Rattle.views.specs.Standing.{LiteralAt, SomeLiteral};
 ghost use Rattle.counts.specs.Tables.{afresh};
 ghost use Rattle.naming.specs.Naming.{makes, named_at, Folds};
@@ -32,7 +32,7 @@ pub fn applies_at(
     swap: bool,
     s: Signature,
 ) -> bool
-    requires at_in_bounds { (at < length k.now) × (rank ≡ atClash → ⊥) }
+    requires at_in_bounds { (at < length k.now) × (rank ≡ at_clash → ⊥) }
     requires some_literal { SomeLiteral k.now at }
     requires table_value { table.now ≡ afresh k.now }
     ensures { (before : Conj) (l : Literal) (behind : Conj) → LiteralAt k.now at before l behind → result ≡ makes (named_at s swap rank before l behind) }

@@ -6,21 +6,21 @@ use mathlib.Core.List.{List}
 use lib.Dec.{eqb, ltb}
 use borrow.Author.Tests.{eq-eqb, ne_eqb}
 use Rattle.language.specs.Kinds.{pick}
-use Rattle.counts.specs.Tables.{countAt}
-use Rattle.rules.specs.Places.{noRule}
+use Rattle.counts.specs.Tables.{count_at}
+use Rattle.rules.specs.Places.{no_rule}
 use Rattle.notes.specs.declared.Note.{Note}
-use Rattle.notes.specs.Notes.{rankNoted}
+use Rattle.notes.specs.Notes.{rank_noted}
 
 module _ (n : Note) (table : List ℕ) where
-  pub asks_none : n.first ≡ 0 → n.rank ≡ rankNoted n table
+  pub asks_none : n.first ≡ 0 → n.rank ≡ rank_noted n table
   asks_none e = let t : eqb n.first 0 ≡ true = eq-eqb n.first 0 e in rw t
 
   module _ (i : n.first ≡ 0 → ⊥) where
-    pub both-there : ltb 1 (countAt table n.first) ≡ true → ltb 1 (countAt table n.second) ≡ true → n.rank ≡ rankNoted n table
+    pub both-there : ltb 1 (count_at table n.first) ≡ true → ltb 1 (count_at table n.second) ≡ true → n.rank ≡ rank_noted n table
     both-there a b = let t : eqb n.first 0 ≡ false = ne_eqb n.first 0 i in rw (t, a, b)
 
-    pub second-not : ltb 1 (countAt table n.first) ≡ true → ltb 1 (countAt table n.second) ≡ false → noRule ≡ rankNoted n table
+    pub second-not : ltb 1 (count_at table n.first) ≡ true → ltb 1 (count_at table n.second) ≡ false → no_rule ≡ rank_noted n table
     second-not a b = let t : eqb n.first 0 ≡ false = ne_eqb n.first 0 i in rw (t, a, b)
 
-    pub first-not : ltb 1 (countAt table n.first) ≡ false → noRule ≡ rankNoted n table
+    pub first-not : ltb 1 (count_at table n.first) ≡ false → no_rule ≡ rank_noted n table
     first-not a = let t : eqb n.first 0 ≡ false = ne_eqb n.first 0 i in rw (t, a)

@@ -4,12 +4,12 @@ use Rattle.std.specs.Prelude.{ℕ, ◌+◌, ◌*◌, ◌%◌, Bool, true, false,
 use Rattle.language.specs.declared.Signature.{Signature}
 use Rattle.language.specs.Kinds.{pick}
 use Rattle.language.specs.Trees.{Functor, symbol, fvar, Hedge, ε, tvar, hvar, node, Literal, eqn, mem}
-use Rattle.language.specs.Writing.{functorWord, literalWords}
+use Rattle.language.specs.Writing.{functor_word, literal_words}
 use Rattle.rules.specs.Looks.{empty}
-use Rattle.rules.specs.Places.{atE1, atE2, atE5, noRule}
-use Rattle.counts.specs.Tables.{countAt}
-use Rattle.equations.specs.Rank.{apartRank}
-use Rattle.memberships.specs.Rank.{rankIn}
+use Rattle.rules.specs.Places.{at_e1, at_e2, at_e5, no_rule}
+use Rattle.counts.specs.Tables.{count_at}
+use Rattle.equations.specs.Rank.{apart_rank}
+use Rattle.memberships.specs.Rank.{rank_in}
 use Rattle.notes.specs.declared.Note.{Note}
 
 -- ---- a number made of words: their sum, in which the two behind the mark weigh more
@@ -25,55 +25,55 @@ number_of ws = (total ws + 6 * get_or ws 1 0 + 30 * get_or ws 2 0) % 65536
 
 -- a rule that asks whether variables occur elsewhere
 abbrev pub asks : ℕ → Bool
-asks n = eqb n atE1 || (eqb n atE2 || eqb n atE5)
+asks n = eqb n at_e1 || (eqb n at_e2 || eqb n at_e5)
 
 -- the first word of a hedge
-abbrev pub headWord : Hedge → ℕ
-headWord ε = 0
-headWord (tvar x r) = 1000 + x.0
-headWord (hvar p r) = 2000 + p.0
-headWord (node f c r) = functorWord f
+abbrev pub head_word : Hedge → ℕ
+head_word ε = 0
+head_word (tvar x r) = 1000 + x.0
+head_word (hvar p r) = 2000 + p.0
+head_word (node f c r) = functor_word f
 
 -- the word of a function variable, or else `own`
-abbrev pub blankOr : Functor → ℕ → ℕ
-blankOr (symbol f) own = own
-blankOr (fvar X) own = 4000 + X.0
+abbrev pub blank_or : Functor → ℕ → ℕ
+blank_or (symbol f) own = own
+blank_or (fvar X) own = 4000 + X.0
 
 -- the second word asked for: that of the right side, where it is one variable of the rule's kind, and else that of the left side again
-abbrev pub secondWord : ℕ → ℕ → Hedge → ℕ
-secondWord n own ε = own
-secondWord n own (tvar y t) = pick (eqb n atE1) (1000 + y.0) own
-secondWord n own (hvar q t) = pick (empty t) (2000 + q.0) own
-secondWord n own (node f c t) = pick (eqb n atE5) (blankOr f own) own
+abbrev pub second_word : ℕ → ℕ → Hedge → ℕ
+second_word n own ε = own
+second_word n own (tvar y t) = pick (eqb n at_e1) (1000 + y.0) own
+second_word n own (hvar q t) = pick (empty t) (2000 + q.0) own
+second_word n own (node f c t) = pick (eqb n at_e5) (blank_or f own) own
 
 -- ---- the note
 
 -- of an equation of that rank, seen from the side l
-abbrev pub sideNote : ℕ → ℕ → ℕ → Hedge → Hedge → Bool → Note
-sideNote rank len sum l r swap =
+abbrev pub side_note : ℕ → ℕ → ℕ → Hedge → Hedge → Bool → Note
+side_note rank len sum l r swap =
     record {
       len = len;
       rank = rank;
       swap = swap;
-      first = pick (asks rank) (headWord l) 0;
-      second = pick (asks rank) (secondWord rank (headWord l) r) 0;
+      first = pick (asks rank) (head_word l) 0;
+      second = pick (asks rank) (second_word rank (head_word l) r) 0;
       sum = sum;
     }
 
 -- of an equation from the side of the lesser rank, the written one where they are equal
 unfoldable pub note_of : Signature → Literal → Note
 note_of σ (eqn l r) =
-    pick (ltb (apartRank σ r l) (apartRank σ l r))
-    (sideNote (apartRank σ r l) (length (literalWords (eqn l r))) (number_of (literalWords (eqn l r))) r l true)
-    (sideNote (apartRank σ l r) (length (literalWords (eqn l r))) (number_of (literalWords (eqn l r))) l r false)
+    pick (ltb (apart_rank σ r l) (apart_rank σ l r))
+    (side_note (apart_rank σ r l) (length (literal_words (eqn l r))) (number_of (literal_words (eqn l r))) r l true)
+    (side_note (apart_rank σ l r) (length (literal_words (eqn l r))) (number_of (literal_words (eqn l r))) l r false)
 note_of σ (mem h R) =
-    record { len = length (literalWords (mem h R)); rank = rankIn σ h R; swap = false; first = 0; second = 0; sum = number_of (literalWords (mem h R)) }
+    record { len = length (literal_words (mem h R)); rank = rank_in σ h R; swap = false; first = 0; second = 0; sum = number_of (literal_words (mem h R)) }
 
 -- ---- the rank by a note and the table of counts
 
 -- every variable asked for is counted more than once
 abbrev pub elsewhere : Note → List ℕ → Bool
-elsewhere n table = eqb n.first 0 || (ltb 1 (countAt table n.first) && ltb 1 (countAt table n.second))
+elsewhere n table = eqb n.first 0 || (ltb 1 (count_at table n.first) && ltb 1 (count_at table n.second))
 
-abbrev pub rankNoted : Note → List ℕ → ℕ
-rankNoted n table = pick (elsewhere n table) n.rank noRule
+abbrev pub rank_noted : Note → List ℕ → ℕ
+rank_noted n table = pick (elsewhere n table) n.rank no_rule

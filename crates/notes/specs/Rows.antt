@@ -4,14 +4,14 @@ use Rattle.language.specs.declared.Signature.{Signature}
 use Rattle.language.specs.Limits.{desk}
 use Rattle.language.specs.Kinds.{pick}
 use Rattle.language.specs.Trees.{Conj}
-use Rattle.language.specs.Writing.{conjWords}
-use Rattle.language.specs.Fine.{fineConj}
+use Rattle.language.specs.Writing.{conj_words}
+use Rattle.language.specs.Fine.{fine_conj}
 use Rattle.notes.specs.declared.Note.{Note}
 use Rattle.notes.specs.Notes.{note_of}
 
 -- so many rows there is room for: no literal has fewer than three words
-abbrev pub mostNotes : ℕ
-mostNotes = desk.question / 3 + 1
+abbrev pub most_notes : ℕ
+most_notes = desk.question / 3 + 1
 
 -- the numbers of a row: length, rank and side, the two words asked for, and the number made of the words
 abbrev pub row_of : Note → List ℕ
@@ -23,8 +23,8 @@ rows_of σ [] = []
 rows_of σ (l ∷ c) = row_of (note_of σ l) ++ rows_of σ c
 
 -- the row of a number, read back
-abbrev pub noteAt : List ℕ → ℕ → Note
-noteAt rows i =
+abbrev pub note_at : List ℕ → ℕ → Note
+note_at rows i =
     record {
       len = get_or rows (5 * i) 0;
       rank = get_or rows (5 * i + 1) 0 / 2;
@@ -37,8 +37,8 @@ noteAt rows i =
 -- the rows are those of the conjunction whose words are k: m of them, and then anything
 pub record Noted (σ : Signature) (k rows : List ℕ) (m : ℕ) : Type 0 where
   pub conj : Conj
-  pub fine : fineConj desk conj
-  pub words : k ≡ conjWords conj
+  pub fine : fine_conj desk conj
+  pub words : k ≡ conj_words conj
   pub count : m ≡ length conj
   pub beyond : List ℕ
   pub stands : rows ≡ rows_of σ conj ++ beyond

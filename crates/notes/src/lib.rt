@@ -1,7 +1,7 @@
 // The note of a literal: what it comes to by its words alone, kept from step to step; and the rank that it has by its note and the table of counts.
 ghost use Rattle.std.specs.Prelude.{◌*◌, ◌<◌, ◌≡◌, get_or};
-ghost use Rattle.notes.specs.Notes.{rankNoted};
-ghost use Rattle.notes.specs.Rows.{mostNotes, noteAt};
+ghost use Rattle.notes.specs.Notes.{rank_noted};
+ghost use Rattle.notes.specs.Rows.{most_notes, note_at};
 
 use counts::{TABLE, repeated};
 use language::limits::QUESTION;
@@ -30,8 +30,8 @@ pub const ROWS: usize = ROW * NOTES;
 
 // The note of a number.
 pub fn note_of(rows: &[u16; ROWS], i: usize) -> Note
-    requires { i < mostNotes }
-    ensures { result ≡ noteAt rows.now i }
+    requires { i < most_notes }
+    ensures { result ≡ note_at rows.now i }
 {
     let at = ROW * i;
     let both = rows[at + 1];
@@ -47,7 +47,7 @@ pub fn note_of(rows: &[u16; ROWS], i: usize) -> Note
 
 // How many words the literal of a number has.
 pub fn len_of(rows: &[u16; ROWS], i: usize) -> usize
-    requires { i < mostNotes }
+    requires { i < most_notes }
     ensures { result ≡ get_or rows.now (5 * i) 0 }
 {
     wide(rows[ROW * i])
@@ -55,7 +55,7 @@ pub fn len_of(rows: &[u16; ROWS], i: usize) -> usize
 
 // The rank of a literal by its note and the counts of all variables.
 pub fn rank_by(n: Note, table: &[u16; TABLE]) -> usize
-    ensures { result ≡ rankNoted n table.now }
+    ensures { result ≡ rank_noted n table.now }
 {
     if n.first == 0 {
         return wide(n.rank);

@@ -7,12 +7,12 @@ use lib.ListN.{length, drop, set, length-set, length-drop}
 use lib.Seq.{drop-drop}
 use Rattle.language.specs.Kinds.{pick}
 use Rattle.rules.specs.Step.{Spot}
-use Rattle.replay.specs.Trail.{spotWords, trailWords}
-use Rattle.noting.specs.Noting.{threeAt}
+use Rattle.replay.specs.Trail.{spot_words, trail_words}
+use Rattle.noting.specs.Noting.{three_at}
 
-trail_more : (t u : List Spot) → trailWords (t ++ u) ≡ trailWords t ++ trailWords u
+trail_more : (t u : List Spot) → trail_words (t ++ u) ≡ trail_words t ++ trail_words u
 trail_more [] u = refl
-trail_more (s ∷ t) u = ap (λ ws. spotWords s ++ ws) (trail_more t u)
+trail_more (s ∷ t) u = ap (λ ws. spot_words s ++ ws) (trail_more t u)
 
 -- a word that is set leaves the length
 pub within : (ws : List ℕ) (i x j : ℕ) → j < length ws → j < length (set ws i x)
@@ -29,7 +29,7 @@ three (x ∷ []) a b c h = absurd (omega arith)
 three (x ∷ y ∷ []) a b c h = absurd (omega arith)
 three (x ∷ y ∷ z ∷ ws) a b c h = refl
 
-three-behind : (us ws : List ℕ) (from a b c : ℕ) → from ≡ length us → 3 ≤ length ws → threeAt (us ++ ws) from a b c ≡ us ++ (a ∷ b ∷ c ∷ drop 3 ws)
+three-behind : (us ws : List ℕ) (from a b c : ℕ) → from ≡ length us → 3 ≤ length ws → three_at (us ++ ws) from a b c ≡ us ++ (a ∷ b ∷ c ∷ drop 3 ws)
 three-behind us ws from a b c e h =
     ap (λ m. set (set (set (us ++ ws) m a) (from + 1) b) (from + 2) c) (let z : from ≡ length us + 0 = omega arith in z)
     ∙ ap (λ v. set (set v (from + 1) b) (from + 2) c) (set-behind us ws 0 a)
@@ -40,16 +40,16 @@ three-behind us ws from a b c e h =
     ∙ ap (λ v. us ++ v) (three ws a b c h)
 
 -- so many steps are there, and behind them the room is as it was: so with one more
-pub noted_more : (done : List Spot) (s : Spot) (old trail : List ℕ) (made : ℕ) → length (trailWords done) ≡ 3 * made → 3 * made + 3 ≤ length old
-    → trail ≡ trailWords done ++ drop (3 * made) old
-    → threeAt trail (3 * made) s.rule s.literal (pick s.swapped 1 0) ≡ trailWords (done ++ (s ∷ [])) ++ drop (3 * suc made) old
+pub noted_more : (done : List Spot) (s : Spot) (old trail : List ℕ) (made : ℕ) → length (trail_words done) ≡ 3 * made → 3 * made + 3 ≤ length old
+    → trail ≡ trail_words done ++ drop (3 * made) old
+    → three_at trail (3 * made) s.rule s.literal (pick s.swapped 1 0) ≡ trail_words (done ++ (s ∷ [])) ++ drop (3 * suc made) old
 noted_more done s old trail made e h d =
-    ap (λ ws. threeAt ws (3 * made) s.rule s.literal (pick s.swapped 1 0)) d
-    ∙ three-behind (trailWords done) (drop (3 * made) old) (3 * made) s.rule s.literal (pick s.swapped 1 0) (sym e) (let z = length-drop (3 * made) old in omega arith)
-    ∙ ap (λ ws. trailWords done ++ (s.rule ∷ s.literal ∷ pick s.swapped 1 0 ∷ ws)) (drop-drop 3 (3 * made) old ∙ ap (λ n. drop n old) (let z : 3 * made + 3 ≡ 3 * suc made = omega arith in z))
-    ∙ sym (append_assoc (trailWords done) (spotWords s) (drop (3 * suc made) old))
+    ap (λ ws. three_at ws (3 * made) s.rule s.literal (pick s.swapped 1 0)) d
+    ∙ three-behind (trail_words done) (drop (3 * made) old) (3 * made) s.rule s.literal (pick s.swapped 1 0) (sym e) (let z = length-drop (3 * made) old in omega arith)
+    ∙ ap (λ ws. trail_words done ++ (s.rule ∷ s.literal ∷ pick s.swapped 1 0 ∷ ws)) (drop-drop 3 (3 * made) old ∙ ap (λ n. drop n old) (let z : 3 * made + 3 ≡ 3 * suc made = omega arith in z))
+    ∙ sym (append_assoc (trail_words done) (spot_words s) (drop (3 * suc made) old))
     ∙ ap (λ ws. ws ++ drop (3 * suc made) old) (sym (trail_more done (s ∷ [])))
 
-pub spot-length : (t : List Spot) → length (trailWords t) ≡ 3 * length t
+pub spot-length : (t : List Spot) → length (trail_words t) ≡ 3 * length t
 spot-length [] = refl
 spot-length (s ∷ t) = let z = spot-length t in omega arith

@@ -7,7 +7,7 @@ use native.Mathlib.Numerals.{add-one}
 use native.Mathlib.Omega.{arith}
 use lib.ListN.{length, get_or, set, length-set}
 use lib.Seq.{get_or-set_same, get_or-set_other}
-use Rattle.words.specs.Spans.{elementEnd, places}
+use Rattle.words.specs.Spans.{element_end, places}
 use Rattle.orders.specs.Agreeing.{Agree}
 use Rattle.orders.specs.Orders.{drop_at}
 use Rattle.orders.proofs.Orders.{drop-before, drop-behind}
@@ -24,11 +24,11 @@ pub filling-none : (k : List ℕ) (from n : ℕ) (at : List ℕ) → length at �
 filling-none k from n at e = record { size = e; done = λ m h. absurd (omega arith); left = λ m. let z : 0 + m ≡ m = omega arith in let y : n - 0 ≡ n = omega arith in rw (z, y) refl }
 
 module _ {k : List ℕ} {from n : ℕ} {at : List ℕ} {i p : ℕ} (f : Filling k from n at i p) where
-  filling-next : i < n → (m : ℕ) → get_or (places n k from) (i + m) 0 ≡ get_or (p ∷ places (n - (i + 1)) k (elementEnd k p)) m 0
+  filling-next : i < n → (m : ℕ) → get_or (places n k from) (i + m) 0 ≡ get_or (p ∷ places (n - (i + 1)) k (element_end k p)) m 0
   unfolding places
   filling-next h m = let e : n - i ≡ suc (n - (i + 1)) = omega arith in f.left m ∙ ap (λ r. get_or (places r k p) m 0) e
 
-  pub filling-one : i < n → n ≤ 8 → {e : ℕ} → e ≡ elementEnd k p → Filling k from n (set at i p) (i + 1) e
+  pub filling-one : i < n → n ≤ 8 → {e : ℕ} → e ≡ element_end k p → Filling k from n (set at i p) (i + 1) e
   filling-one h l {e} d = let s = f.size in record {
     size = length-set at i p ∙ f.size;
     done = λ m q. go m q (dec_lt m i);

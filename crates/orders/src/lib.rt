@@ -1,14 +1,14 @@
 // The orders of elements, by their numbers: how many there are, and how many words the elements are in each. What a number decides is said here; `in_order`
 // and `renaming` write it.
 ghost use Rattle.std.specs.Prelude.{◌≡◌, length};
-ghost use Rattle.orders.specs.Orders.{ordered, someOrders};
+ghost use Rattle.orders.specs.Orders.{ordered, some_orders};
 
 use slices::part_len;
 use spans::element_end;
 
 // How many orders n elements have, counted up to those of eight.
 pub fn count_orders(n: usize) -> usize
-    ensures { result ≡ someOrders n }
+    ensures { result ≡ some_orders n }
 {
     match n {
         0 => 1,

@@ -6,7 +6,7 @@ use Rattle.language.specs.declared.Refusal.{Refusal}
 use Rattle.language.specs.declared.Refusal.TheVariants.{ShortSlice, QuestionLength, CountRange, BadOffset, NotLiterals, Undeclared, LongResult, LongWaiting, LineRoom, StepLimit, FillingLayout, FillingValue, LongLiteral, NoSuchLine, OpenLine, LongExample, NotText, ManyNames, LongText, OtherNumbers, LongWalk, SheetLayout, LongAnswers, BadStep, ShortTrail, LongTrail, TrailRoom}
 use Rattle.language.specs.Kinds.{pick}
 use Rattle.language.specs.Numbers.{number_of, place_of}
-use Rattle.outcomes.specs.Numbers.{checkedNumbers, outcomeNumber, outcomePlace, outcomeValue, SolveNumbers, solvedNumbers, triedNumbers, shownNumbers}
+use Rattle.outcomes.specs.Numbers.{checked_numbers, outcome_number, outcome_place, outcome_value, SolveNumbers, solved_numbers, tried_numbers, shown_numbers}
 use Rattle.outcomes.specs.declared.Checked.{Checked}
 use Rattle.outcomes.specs.declared.Checked.TheVariants as checked
 use Rattle.outcomes.specs.declared.Outcome.{Outcome}
@@ -19,8 +19,8 @@ use Rattle.outcomes.specs.declared.Shown.TheVariants.{Shows, Denied}
 
 -- ---- refusals
 
-abbrev refusalOf : ℕ → ℕ → Refusal
-refusalOf n at =
+abbrev refusal_of : ℕ → ℕ → Refusal
+refusal_of n at =
     pick (eqb n 1) ShortSlice (pick (eqb n 2) QuestionLength (pick (eqb n 3) CountRange (pick (eqb n 4) BadOffset
     (pick (eqb n 5) (NotLiterals at) (pick (eqb n 6) (Undeclared at) (pick (eqb n 7) LongResult (pick (eqb n 8) LongWaiting
     (pick (eqb n 9) LineRoom (pick (eqb n 10) StepLimit (pick (eqb n 11) FillingLayout (pick (eqb n 12) FillingValue
@@ -31,7 +31,7 @@ refusalOf n at =
 
 -- `none` where the number is 0, and else the refusal of that number and place
 abbrev told : {A : Type 0} → A → (Refusal → A) → ℕ → ℕ → A
-told none refused n at = pick (eqb n 0) none (refused (refusalOf n at))
+told none refused n at = pick (eqb n 0) none (refused (refusal_of n at))
 
 told-refused : {A : Type 0} (none : A) (refused : Refusal → A) (r : Refusal) → told none refused (number_of r) (place_of r) ≡ refused r
 told-refused none refused ShortSlice = refl
@@ -67,57 +67,57 @@ refusals-apart r s e f = sym (told-refused r (λ x. x) r) ∙ ap₂ (told r (λ 
 
 -- ---- reading
 
-abbrev checkedBy : ℕ × ℕ → Checked
-checkedBy n = told checked.Fine checked.Refused n.0 n.1
+abbrev checked_by : ℕ × ℕ → Checked
+checked_by n = told checked.Fine checked.Refused n.0 n.1
 
-checked-back : (c : Checked) → checkedBy (checkedNumbers c) ≡ c
+checked-back : (c : Checked) → checked_by (checked_numbers c) ≡ c
 checked-back checked.Fine = refl
 checked-back (checked.Refused r) = told-refused checked.Fine checked.Refused r
 
-pub checked-apart : (c d : Checked) → checkedNumbers c ≡ checkedNumbers d → c ≡ d
-checked-apart c d e = sym (checked-back c) ∙ ap checkedBy e ∙ checked-back d
+pub checked-apart : (c d : Checked) → checked_numbers c ≡ checked_numbers d → c ≡ d
+checked-apart c d e = sym (checked-back c) ∙ ap checked_by e ∙ checked-back d
 
 -- ---- solving
 
-abbrev outcomeBy : ℕ → ℕ → ℕ → Outcome
-outcomeBy n at v = told (pick (eqb v 0) NoLine (pick (eqb v 1) AllSolved SomeOpen)) Refused n at
+abbrev outcome_by : ℕ → ℕ → ℕ → Outcome
+outcome_by n at v = told (pick (eqb v 0) NoLine (pick (eqb v 1) AllSolved SomeOpen)) Refused n at
 
-outcome-back : (o : Outcome) → outcomeBy (outcomeNumber o) (outcomePlace o) (outcomeValue o) ≡ o
+outcome-back : (o : Outcome) → outcome_by (outcome_number o) (outcome_place o) (outcome_value o) ≡ o
 outcome-back (Refused r) = told-refused NoLine Refused r
 outcome-back NoLine = refl
 outcome-back AllSolved = refl
 outcome-back SomeOpen = refl
 
-abbrev solvedBy : SolveNumbers → Solved
-solvedBy n = record { outcome = outcomeBy n.number n.place n.value; lines = n.lines; «open» = n.opened; steps = n.steps }
+abbrev solved_by : SolveNumbers → Solved
+solved_by n = record { outcome = outcome_by n.number n.place n.value; lines = n.lines; «open» = n.opened; steps = n.steps }
 
-solved-back : (s : Solved) → solvedBy (solvedNumbers s) ≡ s
+solved-back : (s : Solved) → solved_by (solved_numbers s) ≡ s
 solved-back s = ap (λ o. record { outcome = o; lines = s.lines; «open» = s.«open»; steps = s.steps }) (outcome-back s.outcome)
 
-pub solved-apart : (s t : Solved) → solvedNumbers s ≡ solvedNumbers t → s ≡ t
-solved-apart s t e = sym (solved-back s) ∙ ap solvedBy e ∙ solved-back t
+pub solved-apart : (s t : Solved) → solved_numbers s ≡ solved_numbers t → s ≡ t
+solved-apart s t e = sym (solved-back s) ∙ ap solved_by e ∙ solved-back t
 
 -- ---- trying a filling
 
-abbrev triedBy : ℕ × ℕ × ℕ → Tried
-triedBy n = told (pick (eqb n.2 0) tried.No tried.Yes) tried.Refused n.0 n.1
+abbrev tried_by : ℕ × ℕ × ℕ → Tried
+tried_by n = told (pick (eqb n.2 0) tried.No tried.Yes) tried.Refused n.0 n.1
 
-tried-back : (t : Tried) → triedBy (triedNumbers t) ≡ t
+tried-back : (t : Tried) → tried_by (tried_numbers t) ≡ t
 tried-back tried.Yes = refl
 tried-back tried.No = refl
 tried-back (tried.Refused r) = told-refused tried.No tried.Refused r
 
-pub tried-apart : (t u : Tried) → triedNumbers t ≡ triedNumbers u → t ≡ u
-tried-apart t u e = sym (tried-back t) ∙ ap triedBy e ∙ tried-back u
+pub tried-apart : (t u : Tried) → tried_numbers t ≡ tried_numbers u → t ≡ u
+tried-apart t u e = sym (tried-back t) ∙ ap tried_by e ∙ tried-back u
 
 -- ---- the example of a line
 
-abbrev shownBy : ℕ × ℕ × ℕ → Shown
-shownBy n = told (Shows n.2) Denied n.0 n.1
+abbrev shown_by : ℕ × ℕ × ℕ → Shown
+shown_by n = told (Shows n.2) Denied n.0 n.1
 
-shown-back : (s : Shown) → shownBy (shownNumbers s) ≡ s
+shown-back : (s : Shown) → shown_by (shown_numbers s) ≡ s
 shown-back (Shows n) = refl
 shown-back (Denied r) = told-refused (Shows 0) Denied r
 
-pub shown-apart : (s t : Shown) → shownNumbers s ≡ shownNumbers t → s ≡ t
-shown-apart s t e = sym (shown-back s) ∙ ap shownBy e ∙ shown-back t
+pub shown-apart : (s t : Shown) → shown_numbers s ≡ shown_numbers t → s ≡ t
+shown-apart s t e = sym (shown-back s) ∙ ap shown_by e ∙ shown-back t

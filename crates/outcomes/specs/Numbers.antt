@@ -14,37 +14,37 @@ use Rattle.outcomes.specs.declared.Shown.TheVariants.{Shows, Denied}
 
 -- ---- reading: it has no value
 
-abbrev pub checkedNumber : Checked → ℕ
-checkedNumber checked.Fine = 0
-checkedNumber (checked.Refused r) = number_of r
+abbrev pub checked_number : Checked → ℕ
+checked_number checked.Fine = 0
+checked_number (checked.Refused r) = number_of r
 
-abbrev pub checkedPlace : Checked → ℕ
-checkedPlace checked.Fine = 0
-checkedPlace (checked.Refused r) = place_of r
+abbrev pub checked_place : Checked → ℕ
+checked_place checked.Fine = 0
+checked_place (checked.Refused r) = place_of r
 
-abbrev pub checkedNumbers : Checked → ℕ × ℕ
-checkedNumbers c = (checkedNumber c, checkedPlace c)
+abbrev pub checked_numbers : Checked → ℕ × ℕ
+checked_numbers c = (checked_number c, checked_place c)
 
 -- ---- solving: "the refusal or (none, all solved, some open), lines, open lines and steps"
 
-abbrev pub outcomeNumber : Outcome → ℕ
-outcomeNumber (Refused r) = number_of r
-outcomeNumber NoLine = 0
-outcomeNumber AllSolved = 0
-outcomeNumber SomeOpen = 0
+abbrev pub outcome_number : Outcome → ℕ
+outcome_number (Refused r) = number_of r
+outcome_number NoLine = 0
+outcome_number AllSolved = 0
+outcome_number SomeOpen = 0
 
 -- 0 for no line, and else as the marks of lines are: 1 solved, 2 open
-abbrev pub outcomeValue : Outcome → ℕ
-outcomeValue (Refused r) = 0
-outcomeValue NoLine = 0
-outcomeValue AllSolved = 1
-outcomeValue SomeOpen = 2
+abbrev pub outcome_value : Outcome → ℕ
+outcome_value (Refused r) = 0
+outcome_value NoLine = 0
+outcome_value AllSolved = 1
+outcome_value SomeOpen = 2
 
-abbrev pub outcomePlace : Outcome → ℕ
-outcomePlace (Refused r) = place_of r
-outcomePlace NoLine = 0
-outcomePlace AllSolved = 0
-outcomePlace SomeOpen = 0
+abbrev pub outcome_place : Outcome → ℕ
+outcome_place (Refused r) = place_of r
+outcome_place NoLine = 0
+outcome_place AllSolved = 0
+outcome_place SomeOpen = 0
 
 pub record SolveNumbers : Type 0 where
   pub number : ℕ
@@ -54,11 +54,11 @@ pub record SolveNumbers : Type 0 where
   pub opened : ℕ
   pub steps : ℕ
 
-abbrev pub solvedNumbers : Solved → SolveNumbers
-solvedNumbers s = record {
-  number = outcomeNumber s.outcome;
-  place = outcomePlace s.outcome;
-  value = outcomeValue s.outcome;
+abbrev pub solved_numbers : Solved → SolveNumbers
+solved_numbers s = record {
+  number = outcome_number s.outcome;
+  place = outcome_place s.outcome;
+  value = outcome_value s.outcome;
   lines = s.lines;
   opened = s.«open»;
   steps = s.steps;
@@ -66,37 +66,37 @@ solvedNumbers s = record {
 
 -- ---- trying a filling: 1 is yes, 0 is no
 
-abbrev pub triedNumber : Tried → ℕ
-triedNumber tried.Yes = 0
-triedNumber tried.No = 0
-triedNumber (tried.Refused r) = number_of r
+abbrev pub tried_number : Tried → ℕ
+tried_number tried.Yes = 0
+tried_number tried.No = 0
+tried_number (tried.Refused r) = number_of r
 
-abbrev pub triedValue : Tried → ℕ
-triedValue tried.Yes = 1
-triedValue tried.No = 0
-triedValue (tried.Refused r) = 0
+abbrev pub tried_value : Tried → ℕ
+tried_value tried.Yes = 1
+tried_value tried.No = 0
+tried_value (tried.Refused r) = 0
 
-abbrev pub triedPlace : Tried → ℕ
-triedPlace tried.Yes = 0
-triedPlace tried.No = 0
-triedPlace (tried.Refused r) = place_of r
+abbrev pub tried_place : Tried → ℕ
+tried_place tried.Yes = 0
+tried_place tried.No = 0
+tried_place (tried.Refused r) = place_of r
 
-abbrev pub triedNumbers : Tried → ℕ × ℕ × ℕ
-triedNumbers t = (triedNumber t, triedPlace t, triedValue t)
+abbrev pub tried_numbers : Tried → ℕ × ℕ × ℕ
+tried_numbers t = (tried_number t, tried_place t, tried_value t)
 
 -- ---- the example of a line: the filling's length
 
-abbrev pub shownNumber : Shown → ℕ
-shownNumber (Shows n) = 0
-shownNumber (Denied r) = number_of r
+abbrev pub shown_number : Shown → ℕ
+shown_number (Shows n) = 0
+shown_number (Denied r) = number_of r
 
-abbrev pub shownLength : Shown → ℕ
-shownLength (Shows n) = n
-shownLength (Denied r) = 0
+abbrev pub shown_length : Shown → ℕ
+shown_length (Shows n) = n
+shown_length (Denied r) = 0
 
-abbrev pub shownPlace : Shown → ℕ
-shownPlace (Shows n) = 0
-shownPlace (Denied r) = place_of r
+abbrev pub shown_place : Shown → ℕ
+shown_place (Shows n) = 0
+shown_place (Denied r) = place_of r
 
-abbrev pub shownNumbers : Shown → ℕ × ℕ × ℕ
-shownNumbers s = (shownNumber s, shownPlace s, shownLength s)
+abbrev pub shown_numbers : Shown → ℕ × ℕ × ℕ
+shown_numbers s = (shown_number s, shown_place s, shown_length s)

@@ -1,6 +1,6 @@
 // What the calls answer with, and the numbers of each answer.
 ghost use Rattle.std.specs.Prelude.{◌≡◌};
-ghost use Rattle.outcomes.specs.Numbers.{checkedNumber, outcomeNumber, triedNumber, triedValue, shownNumber, shownLength};
+ghost use Rattle.outcomes.specs.Numbers.{checked_number, outcome_number, tried_number, tried_value, shown_number, shown_length};
 
 use language::Refusal;
 use refusals::number;
@@ -14,7 +14,7 @@ pub enum Checked {
 
 // The number that comes back for it: 0 for words that are not refused.
 pub fn verdict_number(verdict: Checked) -> u16
-    ensures { result ≡ checkedNumber verdict }
+    ensures { result ≡ checked_number verdict }
 {
     match verdict {
         Checked::Fine => 0,
@@ -42,7 +42,7 @@ pub struct Solved {
 
 // The number that comes back: the refusal's, or 0.
 pub fn outcome_number(outcome: Outcome) -> u16
-    ensures { result ≡ outcomeNumber outcome }
+    ensures { result ≡ outcome_number outcome }
 {
     match outcome {
         Outcome::Refused(r) => number(r),
@@ -62,7 +62,7 @@ pub enum Tried {
 
 // The number in the table, 0 for none.
 pub fn tried_number(tried: Tried) -> u16
-    ensures { result ≡ triedNumber tried }
+    ensures { result ≡ tried_number tried }
 {
     match tried {
         Tried::Yes => 0,
@@ -73,7 +73,7 @@ pub fn tried_number(tried: Tried) -> u16
 
 // 1 for yes, and else 0.
 pub fn tried_value(tried: Tried) -> u16
-    ensures { result ≡ triedValue tried }
+    ensures { result ≡ tried_value tried }
 {
     match tried {
         Tried::Yes => 1,
@@ -91,7 +91,7 @@ pub enum Shown {
 
 // The number that stands in the table, 0 for a filling.
 pub fn shown_number(shown: Shown) -> u16
-    ensures { result ≡ shownNumber shown }
+    ensures { result ≡ shown_number shown }
 {
     match shown {
         Shown::Shows(_) => 0,
@@ -101,7 +101,7 @@ pub fn shown_number(shown: Shown) -> u16
 
 // The filling's length, 0 for a refusal.
 pub fn shown_length(shown: Shown) -> usize
-    ensures { result ≡ shownLength shown }
+    ensures { result ≡ shown_length shown }
 {
     match shown {
         Shown::Shows(n) => n,

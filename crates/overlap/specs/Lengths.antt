@@ -2,16 +2,16 @@
 use Rattle.std.specs.Prelude.{ℕ, zero, suc, ◌+◌}
 
 -- of n rows
-unfoldable pub rowsLength : ℕ → ℕ → ℕ
-rowsLength size zero = 0
-rowsLength size (suc n) = size + 4 + rowsLength size n
+unfoldable pub rows_length : ℕ → ℕ → ℕ
+rows_length size zero = 0
+rows_length size (suc n) = size + 4 + rows_length size n
 
 -- how many pairs n rules have: the first with each later one, and then the pairs of these
-unfoldable pub pairCount : ℕ → ℕ
-pairCount zero = 0
-pairCount (suc n) = n + pairCount n
+unfoldable pub pair_count : ℕ → ℕ
+pair_count zero = 0
+pair_count (suc n) = n + pair_count n
 
 -- of all pairs of n rules: the first with each later one, and then the pairs of these
-unfoldable pub tableLength : ℕ → ℕ → ℕ
-tableLength size zero = 0
-tableLength size (suc n) = rowsLength size n + tableLength size n
+unfoldable pub table_length : ℕ → ℕ → ℕ
+table_length size zero = 0
+table_length size (suc n) = rows_length size n + table_length size n

@@ -2,11 +2,11 @@
 ghost use Rattle.std.specs.Prelude.{◌+◌, ◌*◌, ◌/◌, ◌≤◌, ◌<◌, ◌≡◌, true, map, length};
 ghost use Rattle.std.proofs.lemmas.List.Edits.{sets};
 ghost use Rattle.word_bytes.specs.Bytes.{words_of, words_in, bytes_of};
-ghost use Rattle.live_rules.specs.Layout.{Rule, mostRules, ruleEnd, ruleAt, rulesLaid, rulesFrom};
+ghost use Rattle.live_rules.specs.Layout.{Rule, most_rules, rule_end, rule_at, rules_laid, rules_from};
 ghost use Rattle.pairing.specs.Meeting.{meeting};
 ghost use Rattle.pairing.specs.Lent.{Told};
-ghost use Rattle.overlap.specs.Table.{wordFrom, pairsOf, rowWords, table, tableNumber, tableLeaves};
-ghost use Rattle.overlap.specs.Lengths.{rowsLength, pairCount, tableLength};
+ghost use Rattle.overlap.specs.Table.{word_from, pairs_of, row_words, table, table_number, table_leaves};
+ghost use Rattle.overlap.specs.Lengths.{rows_length, pair_count, table_length};
 
 use language::wide;
 use live_rules::{rule_end, sheet_number};
@@ -18,7 +18,7 @@ const HEAD: usize = 4;
 
 // A question's word 0; a number that is no word stands for more symbols than there are.
 fn first_word(n: u32) -> u16
-    ensures { result ≡ wordFrom n }
+    ensures { result ≡ word_from n }
 {
     if n < 65536 {
         return n as u16;
@@ -30,7 +30,7 @@ fn first_word(n: u32) -> u16
 // the room then holds; or the refusal's number.
 #[unsafe(no_mangle)]
 pub extern "C" fn overlap_pair(word_0: u32, first: &[u8], second: &[u8], room: &mut [u8]) -> u32
-    ensures { Told (meeting (length room.old / 2) (wordFrom word_0) (words_in first.now) (words_in second.now)) 0 room.old result room.new }
+    ensures { Told (meeting (length room.old / 2) (word_from word_0) (words_in first.now) (words_in second.now)) 0 room.old result room.new }
 {
     let size = room.len() / 2;
     meet(first_word(word_0), first, second, room, 0, size)
@@ -38,8 +38,8 @@ pub extern "C" fn overlap_pair(word_0: u32, first: &[u8], second: &[u8], room: &
 
 // The pattern of the rule at a place.
 fn pattern<'a>(sheet: &'a [u8], at: usize) -> &'a [u8]
-    requires { ruleEnd (words_of sheet.now) at ≤ length sheet.now / 2 }
-    ensures { words_in result.now ≡ (ruleAt (words_of sheet.now) at).pattern }
+    requires { rule_end (words_of sheet.now) at ≤ length sheet.now / 2 }
+    ensures { words_in result.now ≡ (rule_at (words_of sheet.now) at).pattern }
 {
     let end = rule_end(sheet, at);
     &sheet[2 * (at + 2)..2 * end]
@@ -47,8 +47,8 @@ fn pattern<'a>(sheet: &'a [u8], at: usize) -> &'a [u8]
 
 // The row of the rules at two places, from the word `to` on.
 fn row(word: u16, sheet: &[u8], i: usize, j: usize, size: usize, room: &mut [u8], to: usize)
-    requires { (ruleEnd (words_of sheet.now) i ≤ length sheet.now / 2) × (ruleEnd (words_of sheet.now) j ≤ length sheet.now / 2) × (2 * (to + (size + 4)) ≤ length room.old) }
-    ensures { room.new ≡ sets room.old (2 * to) (bytes_of (rowWords size word (ruleAt (words_of sheet.now) i, ruleAt (words_of sheet.now) j))) }
+    requires { (rule_end (words_of sheet.now) i ≤ length sheet.now / 2) × (rule_end (words_of sheet.now) j ≤ length sheet.now / 2) × (2 * (to + (size + 4)) ≤ length room.old) }
+    ensures { room.new ≡ sets room.old (2 * to) (bytes_of (row_words size word (rule_at (words_of sheet.now) i, rule_at (words_of sheet.now) j))) }
 {
     let n = meet(
         word,
@@ -77,8 +77,8 @@ fn rows(
     room: &mut [u8],
     to: usize,
 ) -> usize
-    requires { (ruleEnd (words_of sheet.now) i ≤ length sheet.now / 2) × (rulesLaid n from (words_of sheet.now) ≡ true) × (2 * (to + rowsLength size n) ≤ length room.old) }
-    ensures { (result ≡ to + rowsLength size n) × (room.new ≡ table size word (map (λ (s : Rule). (ruleAt (words_of sheet.now) i, s)) (rulesFrom n from (words_of sheet.now))) to room.old) }
+    requires { (rule_end (words_of sheet.now) i ≤ length sheet.now / 2) × (rules_laid n from (words_of sheet.now) ≡ true) × (2 * (to + rows_length size n) ≤ length room.old) }
+    ensures { (result ≡ to + rows_length size n) × (room.new ≡ table size word (map (λ (s : Rule). (rule_at (words_of sheet.now) i, s)) (rules_from n from (words_of sheet.now))) to room.old) }
 {
     let mut at = to;
     let mut j = from;
@@ -94,8 +94,8 @@ fn rows(
 
 // The rows of all pairs of the sheet's n rules.
 fn all_rows(word: u16, sheet: &[u8], n: usize, size: usize, room: &mut [u8])
-    requires { (rulesLaid n 2 (words_of sheet.now) ≡ true) × (2 * tableLength size n ≤ length room.old) }
-    ensures { room.new ≡ table size word (pairsOf (rulesFrom n 2 (words_of sheet.now))) 0 room.old }
+    requires { (rules_laid n 2 (words_of sheet.now) ≡ true) × (2 * table_length size n ≤ length room.old) }
+    ensures { room.new ≡ table size word (pairs_of (rules_from n 2 (words_of sheet.now))) 0 room.old }
 {
     let mut at: usize = 0;
     let mut i: usize = 2;
@@ -110,8 +110,8 @@ fn all_rows(word: u16, sheet: &[u8], n: usize, size: usize, room: &mut [u8])
 
 // How many pairs n rules have. Numbers of 32 bits: of 64 bits the loop becomes a product of 128 on the way to some processors.
 fn pair_count(n: u32) -> u32
-    requires { n ≤ mostRules }
-    ensures { (result ≡ pairCount n) × (result ≤ mostRules * mostRules) }
+    requires { n ≤ most_rules }
+    ensures { (result ≡ pair_count n) × (result ≤ most_rules * most_rules) }
 {
     let mut pairs: u32 = 0;
     let mut i: u32 = 0;
@@ -124,8 +124,8 @@ fn pair_count(n: u32) -> u32
 
 // How many words the rows of all pairs of n rules have.
 fn table_length(n: usize, size: usize) -> usize
-    requires { (n ≤ mostRules) × (size < 4294967296) }
-    ensures { result ≡ tableLength size n }
+    requires { (n ≤ most_rules) × (size < 4294967296) }
+    ensures { result ≡ table_length size n }
 {
     pair_count(n as u32) as usize * (size + HEAD)
 }
@@ -133,8 +133,8 @@ fn table_length(n: usize, size: usize) -> usize
 // The table of a sheet of live rules: the refusal's number, or 0. Each row has room for a report of `report` words.
 #[unsafe(no_mangle)]
 pub extern "C" fn overlap_sheet(sheet: &[u8], report: u32, room: &mut [u8]) -> u32
-    ensures value { result ≡ tableNumber report (words_in sheet.now) (length room.old / 2) }
-    ensures room_after { room.new ≡ tableLeaves report (words_in sheet.now) room.old }
+    ensures value { result ≡ table_number report (words_in sheet.now) (length room.old / 2) }
+    ensures room_after { room.new ≡ table_leaves report (words_in sheet.now) room.old }
 {
     let k = sheet_number(sheet);
     if k != 0 {

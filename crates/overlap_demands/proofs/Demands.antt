@@ -5,7 +5,7 @@ use mathlib.Core.Path.{◌≡◌}
 use mathlib.Core.List.{List}
 use lib.ListN.{length}
 use Rattle.meaning.specs.Complete.{Complete}
-use Rattle.live_rules.specs.Layout.{Rule, mostRules, sheetWords, rulesIn, sheetNumber}
+use Rattle.live_rules.specs.Layout.{Rule, most_rules, sheet_words, rules_in, sheet_number}
 use Rattle.live_rules.proofs.Back.{Acting}
 use Rattle.live_rules.proofs.Back as back
 use Rattle.overlap_demands.specs.Calls.{OverlapPair, OverlapSheet}
@@ -38,5 +38,5 @@ pub sheet-stays : (c : OverlapSheet) → (c.number ≡ 0 → ⊥) → c.room_lef
 sheet-stays = rows.room-untouched
 
 -- A sheet of at most 32 rules that is written as include/overlap.h says is one, and its rules are those that were written.
-pub sheet-back : (word : ℕ) (rs : List Rule) → Acting rs → length rs ≤ mostRules → (sheetNumber (sheetWords word rs) ≡ 0) × (rulesIn (sheetWords word rs) ≡ rs)
+pub sheet-back : (word : ℕ) (rs : List Rule) → Acting rs → length rs ≤ most_rules → (sheet_number (sheet_words word rs) ≡ 0) × (rules_in (sheet_words word rs) ≡ rs)
 sheet-back = back.sheet-back

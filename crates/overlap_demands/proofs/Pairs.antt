@@ -11,22 +11,22 @@ use lib.Seq.{sets, take_at, drop_at}
 use Rattle.language.specs.Limits.{desk}
 use Rattle.language.specs.Kinds.{pick}
 use Rattle.language.specs.Numbers.{number_of}
-use Rattle.language.specs.Question.{Asked, asks, refuses, readQuestion}
+use Rattle.language.specs.Question.{Asked, asks, refuses, read_question}
 use Rattle.language.proofs.Numbering.{each_number}
 use Rattle.word_bytes.specs.Bytes.{words_of, words_in, bytes_of}
-use Rattle.word_bytes.proofs.Pairs.{length-bytesOf, words-of-bytes, words-up-to, written}
+use Rattle.word_bytes.proofs.Pairs.{length-bytes_of, words-of-bytes, words-up-to, written}
 use Rattle.meaning.specs.Complete.{Complete}
 use Rattle.rules.specs.Run.{Numbered}
 use Rattle.rules.specs.Answer.{Solving, answered, unread, given-up, solving}
 use Rattle.rules.specs.Calls.{Showing, shows, denied, showing}
 use Rattle.filling.specs.Showing.{filled}
 use Rattle.patterns.specs.Blanks.{nothing, apart}
-use Rattle.patterns.specs.Terms.{oneTerm}
-use Rattle.patterns.specs.Pairs.{of_both, tooMany, pairWords}
-use Rattle.pairing.specs.Meeting.{Meeting, cannot, can, unsettled, refused, firstSettled, fits, reported, early, shownBy, meetingBy, meetingOf, meeting}
-use Rattle.pairing.specs.Lent.{meetingNumber, reportOf}
+use Rattle.patterns.specs.Terms.{one_term}
+use Rattle.patterns.specs.Pairs.{of_both, too_many, pair_words}
+use Rattle.pairing.specs.Meeting.{Meeting, cannot, can, unsettled, refused, first_settled, fits, reported, early, shown_by, meeting_by, meeting_of, meeting}
+use Rattle.pairing.specs.Lent.{meeting_number, report_of}
 use Rattle.pairing.proofs.Promises.{cannot-is-none, can-matches}
-use Rattle.overlap.specs.Table.{wordFrom}
+use Rattle.overlap.specs.Table.{word_from}
 use Rattle.overlap_demands.specs.Calls.{OverlapPair}
 use Rattle.overlap_demands.specs.Promises.{BothMatch, ReportIn}
 
@@ -34,13 +34,13 @@ use Rattle.overlap_demands.specs.Promises.{BothMatch, ReportIn}
 
 pub record Fair (room : ℕ) (m : Meeting) : Type 0 where
   pub low : (n : ℕ) → m ≡ refused n → n < 100
-  pub short : length (reportOf m) ≤ room
+  pub short : length (report_of m) ≤ room
 
 number-low : (room n : ℕ) → n < 100 → Fair room (refused n)
 number-low room n p = record { low = λ k e. let z : n ≡ k = cc in omega arith; short = omega arith }
 
 module _ (room word : ℕ) (ps qs : List ℕ) where
-  said-fair : (m : Meeting) → ((n : ℕ) → m ≡ refused n → ⊥) → length (reportOf m) ≤ room → Fair room m
+  said-fair : (m : Meeting) → ((n : ℕ) → m ≡ refused n → ⊥) → length (report_of m) ≤ room → Fair room m
   said-fair m never p = record { low = λ n e. absurd (never n e); short = p }
 
   fits-fair : (ws : List ℕ) → Fair room (fits room ws)
@@ -54,15 +54,15 @@ module _ (room word : ℕ) (ps qs : List ℕ) where
   shown-fair (shows fs) = fits-fair (filled (of_both word ps qs).terms (of_both word ps qs).hedges fs (apart nothing ps))
   shown-fair (denied r) = number-low room (number_of r) (let z = each_number r in omega (arith, z.1))
 
-  lines-fair : (ls : List Numbered) → Fair room (meetingBy room word ps qs ls)
+  lines-fair : (ls : List Numbered) → Fair room (meeting_by room word ps qs ls)
   lines-fair [] = said-fair cannot (λ n d. let z : ◌≡◌ {A = ℕ} 0 1 = cc in omega arith) (omega arith)
-  lines-fair (k ∷ ks) = on (eqb (firstSettled (k ∷ ks)) (length (k ∷ ks)))
+  lines-fair (k ∷ ks) = on (eqb (first_settled (k ∷ ks)) (length (k ∷ ks)))
     where
-      on : (b : Bool) → Fair room (pick b unsettled (shownBy room word ps qs (firstSettled (k ∷ ks))))
+      on : (b : Bool) → Fair room (pick b unsettled (shown_by room word ps qs (first_settled (k ∷ ks))))
       on true = said-fair unsettled (λ n d. let z : ◌≡◌ {A = ℕ} 0 1 = cc in omega arith) (omega arith)
-      on false = shown-fair (showing desk false desk.room desk.room desk.filling (firstSettled (k ∷ ks)) (pairWords word ps qs))
+      on false = shown-fair (showing desk false desk.room desk.room desk.filling (first_settled (k ∷ ks)) (pair_words word ps qs))
 
-  solved-fair : (v : Solving) → Fair room (meetingOf room word ps qs v)
+  solved-fair : (v : Solving) → Fair room (meeting_of room word ps qs v)
   solved-fair (answered ls n) = lines-fair ls
   solved-fair (unread r) = number-low room (number_of r) (let z = each_number r in omega (arith, z.1))
   solved-fair (given-up r) = number-low room (number_of r) (let z = each_number r in omega (arith, z.1))
@@ -77,28 +77,28 @@ module _ (room word : ℕ) (ps qs : List ℕ) where
 
   pub meeting-fair : Fair room (meeting room word ps qs)
   unfolding meeting
-  meeting-fair = on (tooMany (of_both word ps qs)) (oneTerm ps && oneTerm qs)
+  meeting-fair = on (too_many (of_both word ps qs)) (one_term ps && one_term qs)
     where
-      on : (b f : Bool) → Fair room (pick b (refused 25) (pick f (meetingOf room word ps qs (solving desk desk.room desk.room (pairWords word ps qs))) (refused (early (readQuestion desk (pairWords word ps qs))))))
+      on : (b f : Bool) → Fair room (pick b (refused 25) (pick f (meeting_of room word ps qs (solving desk desk.room desk.room (pair_words word ps qs))) (refused (early (read_question desk (pair_words word ps qs))))))
       on true f = number-low room 25 (omega arith)
-      on false true = solved-fair (solving desk desk.room desk.room (pairWords word ps qs))
-      on false false = number-low room (early (readQuestion desk (pairWords word ps qs))) (early-low (readQuestion desk (pairWords word ps qs)))
+      on false true = solved-fair (solving desk desk.room desk.room (pair_words word ps qs))
+      on false false = number-low room (early (read_question desk (pair_words word ps qs))) (early-low (read_question desk (pair_words word ps qs)))
 
 -- ---- what comes back
 
-is-cannot : (room : ℕ) (m : Meeting) → Fair room m → meetingNumber m ≡ 100 → m ≡ cannot
+is-cannot : (room : ℕ) (m : Meeting) → Fair room m → meeting_number m ≡ 100 → m ≡ cannot
 is-cannot room cannot f e = refl
 is-cannot room unsettled f e = absurd (let z : ◌≡◌ {A = ℕ} 101 100 = e in omega arith)
 is-cannot room (can ws) f e = absurd (omega arith)
 is-cannot room (refused n) f e = absurd (omega (arith, f.low n refl))
 
-is-can : (room : ℕ) (m : Meeting) → Fair room m → (n : ℕ) → meetingNumber m ≡ 200 + n → (ws : List ℕ) × (m ≡ can ws) × (length ws ≡ n)
+is-can : (room : ℕ) (m : Meeting) → Fair room m → (n : ℕ) → meeting_number m ≡ 200 + n → (ws : List ℕ) × (m ≡ can ws) × (length ws ≡ n)
 is-can room cannot f n e = absurd (omega arith)
 is-can room unsettled f n e = absurd (omega arith)
 is-can room (can ws) f n e = (ws, refl, omega arith)
 is-can room (refused k) f n e = absurd (omega (arith, f.low k refl))
 
-no-report : (room : ℕ) (m : Meeting) → Fair room m → meetingNumber m < 200 → reportOf m ≡ []
+no-report : (room : ℕ) (m : Meeting) → Fair room m → meeting_number m < 200 → report_of m ≡ []
 no-report room cannot f e = refl
 no-report room unsettled f e = refl
 no-report room (can ws) f e = absurd (omega arith)
@@ -109,22 +109,22 @@ module _ (c : OverlapPair) where
   size = length c.room / 2
 
   abbrev m : Meeting
-  m = meeting size (wordFrom c.word₀) (words_in c.first) (words_in c.second)
+  m = meeting size (word_from c.word₀) (words_in c.first) (words_in c.second)
 
   fair : Fair size m
-  fair = meeting-fair size (wordFrom c.word₀) (words_in c.first) (words_in c.second)
+  fair = meeting-fair size (word_from c.word₀) (words_in c.first) (words_in c.second)
 
   pub none-matches : c.number ≡ 100 → (report : Complete) → BothMatch c report → ⊥
   none-matches e report b =
-      cannot-is-none size (wordFrom c.word₀) (words_in c.first) (words_in c.second) (is-cannot size m fair (sym c.said.0 ∙ e)) report b.first b.second
+      cannot-is-none size (word_from c.word₀) (words_in c.first) (words_in c.second) (is-cannot size m fair (sym c.said.0 ∙ e)) report b.first b.second
 
   pub report-in : (n : ℕ) → c.number ≡ 200 + n → ReportIn c n
   report-in n e =
       let (ws, is, l) = is-can size m fair n (sym c.said.0 ∙ e) in
-      let x = can-matches size (wordFrom c.word₀) (words_in c.first) (words_in c.second) ws is in
-      let short : length ws ≤ size = subst (λ (m : Meeting). length (reportOf m) ≤ size) is fair.short in
-      let left : c.room_left ≡ bytes_of ws ++ drop (2 * length ws) c.room = c.said.1 ∙ ap (λ (m : Meeting). sets c.room 0 (bytes_of (reportOf m))) is ∙ written c.room ws (omega arith) in
-      let lb = length-bytesOf ws in
+      let x = can-matches size (word_from c.word₀) (words_in c.first) (words_in c.second) ws is in
+      let short : length ws ≤ size = subst (λ (m : Meeting). length (report_of m) ≤ size) is fair.short in
+      let left : c.room_left ≡ bytes_of ws ++ drop (2 * length ws) c.room = c.said.1 ∙ ap (λ (m : Meeting). sets c.room 0 (bytes_of (report_of m))) is ∙ written c.room ws (omega arith) in
+      let lb = length-bytes_of ws in
       let front : take n (words_of c.room_left) ≡ ws =
       ap (λ b. take n (words_of b)) left ∙ sym (words-up-to (bytes_of ws ++ drop (2 * length ws) c.room) n)
       ∙ ap words_of (take_at (bytes_of ws) (drop (2 * length ws) c.room) (2 * n) (omega arith)) ∙ words-of-bytes ws in

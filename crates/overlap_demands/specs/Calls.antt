@@ -3,7 +3,7 @@ use Rattle.std.specs.Prelude.{ℕ, ◌/◌, ◌≡◌, List, length}
 use Rattle.word_bytes.specs.Bytes.{words_in}
 use Rattle.pairing.specs.Meeting.{meeting}
 use Rattle.pairing.specs.Lent.{Told}
-use Rattle.overlap.specs.Table.{wordFrom, tableNumber, tableLeaves}
+use Rattle.overlap.specs.Table.{word_from, table_number, table_leaves}
 use Rattle.overlap.proofs.overlap_pair as overlap-pair
 use Rattle.overlap.proofs.overlap_sheet as overlap-sheet
 use Rattle.demands.specs.Calls.{Call}
@@ -15,7 +15,7 @@ pub record OverlapPair : Type 0 where
   pub room : List ℕ
   pub number : ℕ
   pub room_left : List ℕ
-  pub said : Told (meeting (length room / 2) (wordFrom word₀) (words_in first) (words_in second)) 0 room number room_left
+  pub said : Told (meeting (length room / 2) (word_from word₀) (words_in first) (words_in second)) 0 room number room_left
 
 -- any outcome that the contract itself allows is one; so below
 abbrev pub pair-allowed : Call overlap-pair.ended overlap-pair.Reads.Pre overlap-pair.Reads.Post → OverlapPair
@@ -35,7 +35,7 @@ pub record OverlapSheet : Type 0 where
   pub room : List ℕ
   pub number : ℕ
   pub room_left : List ℕ
-  pub said : (number ≡ tableNumber report (words_in sheet) (length room / 2)) × (room_left ≡ tableLeaves report (words_in sheet) room)
+  pub said : (number ≡ table_number report (words_in sheet) (length room / 2)) × (room_left ≡ table_leaves report (words_in sheet) room)
 
 abbrev pub sheet-allowed : Call overlap-sheet.ended overlap-sheet.Reads.Pre overlap-sheet.Reads.Post → OverlapSheet
 sheet-allowed c = record {

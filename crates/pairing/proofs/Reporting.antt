@@ -17,15 +17,15 @@ use Rattle.language.specs.Kinds.{pick, kind_of}
 use Rattle.language.specs.Numbers.{number_of}
 use Rattle.language.specs.Question.{Asked, asks, refuses}
 use Rattle.language.proofs.Stores.{sets-append}
-use Rattle.outcomes.specs.Numbers.{checkedNumbers, checkedNumber}
+use Rattle.outcomes.specs.Numbers.{checked_numbers, checked_number}
 use Rattle.outcomes.specs.declared.Checked.{Checked}
-use Rattle.reader.specs.Checking.{askedNumber, askedNumbers}
+use Rattle.reader.specs.Checking.{asked_number, asked_numbers}
 use Rattle.demands.proofs.Between.{not-zero}
-use Rattle.filling.specs.Showing.{offset, ending, wordOn, filled, ShowsOn, Shows, Written}
+use Rattle.filling.specs.Showing.{offset, ending, word_on, filled, ShowsOn, Shows, Written}
 use Rattle.word_bytes.specs.Bytes.{bytes_of}
-use Rattle.word_bytes.proofs.Pairs.{length-bytesOf}
+use Rattle.word_bytes.proofs.Pairs.{length-bytes_of}
 use Rattle.pairing.specs.Meeting.{fits, early}
-use Rattle.pairing.specs.Lent.{Told, markedFrom}
+use Rattle.pairing.specs.Lent.{Told, marked_from}
 
 -- ---- how many words
 
@@ -33,7 +33,7 @@ module _ (t h : ℕ) (fs : List ℕ) where
   part-few : (a e : ℕ) → length (between a e fs) ≤ length fs
   part-few a e = omega (arith, length-take (e - a) (drop a fs), length-drop a fs)
 
-  word-few : (w : ℕ) (k : Kind) → length (wordOn t h fs w k) ≤ length fs + 1
+  word-few : (w : ℕ) (k : Kind) → length (word_on t h fs w k) ≤ length fs + 1
   word-few w (Term x) = let z = part-few (offset fs x.0) (ending fs x.0 - 1) in omega arith
   word-few w (Run p) = let z = part-few (offset fs (t + p.0)) (ending fs (t + p.0) - 1) in omega arith
   word-few w (Function X) = let z = part-few (offset fs (t + h + X.0)) (offset fs (t + h + X.0) + 1) in omega arith
@@ -49,11 +49,11 @@ module _ (t h : ℕ) (fs : List ℕ) where
 
   pub one-few : (w : ℕ) → length (filled t h fs (w ∷ [])) ≤ length fs + 1
   unfolding filled
-  one-few w = let a = length-append (wordOn t h fs w (kind_of desk w)) [] in let b = word-few w (kind_of desk w) in omega arith
+  one-few w = let a = length-append (word_on t h fs w (kind_of desk w)) [] in let b = word-few w (kind_of desk w) in omega arith
 
   pub filled-cons : (w : ℕ) (ws : List ℕ) → filled t h fs (w ∷ ws) ≡ filled t h fs (w ∷ []) ++ filled t h fs ws
   unfolding filled
-  filled-cons w ws = ap (λ l. l ++ filled t h fs ws) (sym (append-nil (wordOn t h fs w (kind_of desk w))))
+  filled-cons w ws = ap (λ l. l ++ filled t h fs ws) (sym (append-nil (word_on t h fs w (kind_of desk w))))
 
   pub filled_none : filled t h fs [] ≡ []
   unfolding filled
@@ -136,7 +136,7 @@ module _ (t h : ℕ) (fs ws room : List ℕ) (at : ℕ) where
       writing-on new' en =
           let size : n ≡ length value = w.place ∙ zero-add (length value) in
           let lv = ap length held in
-          let lb = length-bytesOf value in
+          let lb = length-bytes_of value in
           let z : 2 * (to + n) ≡ 2 * to + length (bytes_of value) = omega arith in
           let e : sets new' (2 * (to + n)) (bytes_of rest) ≡ sets new (2 * to) (bytes_of (filled t h fs (drop i ws))) =
           (ap₂ (λ (l : List ℕ) (j : ℕ). sets l j (bytes_of rest)) (en ∙ ap (λ l. sets new (2 * to) (bytes_of l)) held) z
@@ -167,29 +167,29 @@ module _ (size : ℕ) (ws : List ℕ) (at : ℕ) (room : List ℕ) where
 
 -- ---- 2 or 3, and else 5
 
-module _ (a : Asked) (c : Checked) (e : checkedNumbers c ≡ askedNumbers a) (k : ℕ) (ek : k ≡ checkedNumber c) where
-  number : k ≡ askedNumber a
-  unfolding askedNumbers
+module _ (a : Asked) (c : Checked) (e : checked_numbers c ≡ asked_numbers a) (k : ℕ) (ek : k ≡ checked_number c) where
+  number : k ≡ asked_number a
+  unfolding asked_numbers
   number = ek ∙ ap (λ (x : ℕ × ℕ). x.0) e
 
   pub early-fine : k ≡ 0 → 5 ≡ early a
   early-fine z = on a (sym number ∙ z)
     where
-      on : (a : Asked) → askedNumber a ≡ 0 → 5 ≡ early a
+      on : (a : Asked) → asked_number a ≡ 0 → 5 ≡ early a
       on (asks q) d = refl
       on (refuses r) d = not-zero r d
 
   pub early-so : (k ≡ 0 → ⊥) → k ≤ 3 → (n : ℕ) → n ≡ k → n ≡ early a
   early-so z l n f = on a number
     where
-      on : (a : Asked) → k ≡ askedNumber a → n ≡ early a
+      on : (a : Asked) → k ≡ asked_number a → n ≡ early a
       on (asks q) d = absurd (z d)
       on (refuses r) d = f ∙ d ∙ sym (rw (le-leb (number_of r) 3 (omega arith)) refl)
 
   pub early-late : (k ≡ 0 → ⊥) → 3 < k → 5 ≡ early a
   early-late z l = on a number
     where
-      on : (a : Asked) → k ≡ askedNumber a → 5 ≡ early a
+      on : (a : Asked) → k ≡ asked_number a → 5 ≡ early a
       on (asks q) d = absurd (z d)
       on (refuses r) d = sym (rw (lt-leb (number_of r) 3 (omega arith)) refl)
 
@@ -199,19 +199,19 @@ module _ (ws : List ℕ) (i n : ℕ) (p : i < n) where
   abbrev mark : ℕ
   mark = get_or ws (get_or ws (i + 2) 0) 0
 
-  left : (j : ℕ) → j ≡ n - i - 1 → markedFrom ws i (n - i) ≡ pick (eqb mark 1) i (markedFrom ws (i + 1) j)
-  unfolding markedFrom
+  left : (j : ℕ) → j ≡ n - i - 1 → marked_from ws i (n - i) ≡ pick (eqb mark 1) i (marked_from ws (i + 1) j)
+  unfolding marked_from
   left j e = let z : n - i ≡ suc j = omega arith in rw (z, add-one i)
 
-  pub mark-here : mark ≡ 1 → i ≡ markedFrom ws i (n - i)
+  pub mark-here : mark ≡ 1 → i ≡ marked_from ws i (n - i)
   mark-here e = sym (left (n - i - 1) refl ∙ rw (eq-eqb mark 1 e) refl)
 
-  pub mark-not : (mark ≡ 1 → ⊥) → markedFrom ws (i + 1) (n - (i + 1)) ≡ markedFrom ws i (n - i)
+  pub mark-not : (mark ≡ 1 → ⊥) → marked_from ws (i + 1) (n - (i + 1)) ≡ marked_from ws i (n - i)
   mark-not e = sym (left (n - (i + 1)) (omega arith) ∙ rw (ne_eqb mark 1 e) refl)
 
-pub mark-end : (ws : List ℕ) (i n : ℕ) → n ≤ i → i ≡ markedFrom ws i (n - i)
-unfolding markedFrom
+pub mark-end : (ws : List ℕ) (i n : ℕ) → n ≤ i → i ≡ marked_from ws i (n - i)
+unfolding marked_from
 mark-end ws i n p = let z : n - i ≡ 0 = omega arith in rw z refl
 
-pub marks-start : (ws : List ℕ) (n : ℕ) → markedFrom ws 0 (n - 0) ≡ markedFrom ws 0 n
-marks-start ws n = let z : n - 0 ≡ n = omega arith in ap (markedFrom ws 0) z
+pub marks-start : (ws : List ℕ) (n : ℕ) → marked_from ws 0 (n - 0) ≡ marked_from ws 0 n
+marks-start ws n = let z : n - 0 ≡ n = omega arith in ap (marked_from ws 0) z

@@ -2,14 +2,14 @@
 use Rattle.std.specs.Prelude.{ℕ, ◌≤◌, ◌≡◌, true, false, ◌&&◌, List, length}
 use Rattle.language.specs.Limits.{desk}
 use Rattle.patterns.specs.declared.Pair.{Pair}
-use Rattle.patterns.specs.Terms.{oneTerm}
-use Rattle.patterns.specs.Pairs.{of_both, tooMany, pairWords}
+use Rattle.patterns.specs.Terms.{one_term}
+use Rattle.patterns.specs.Pairs.{of_both, too_many, pair_words}
 
 pub record Here (word : ℕ) (ps qs question : List ℕ) (p : Pair) : Type 0 where
-  pub words : question ≡ pairWords word ps qs
-  pub few : tooMany (of_both word ps qs) ≡ false
-  pub first : oneTerm ps ≡ true
-  pub second : oneTerm qs ≡ true
+  pub words : question ≡ pair_words word ps qs
+  pub few : too_many (of_both word ps qs) ≡ false
+  pub first : one_term ps ≡ true
+  pub second : one_term qs ≡ true
   pub size : p.first ≡ length ps
   pub terms : p.terms ≡ (of_both word ps qs).terms
   pub hedges : p.hedges ≡ (of_both word ps qs).hedges
@@ -23,9 +23,9 @@ pub record PairHere (question : List ℕ) (p : Pair) : Type 0 where
 
 -- the same of patterns that need not be one term
 pub record Known (word : ℕ) (ps qs question : List ℕ) (p : Pair) : Type 0 where
-  pub words : question ≡ pairWords word ps qs
-  pub few : tooMany (of_both word ps qs) ≡ false
-  pub fair : p.fair ≡ (oneTerm ps && oneTerm qs)
+  pub words : question ≡ pair_words word ps qs
+  pub few : too_many (of_both word ps qs) ≡ false
+  pub fair : p.fair ≡ (one_term ps && one_term qs)
   pub first : p.first ≡ length ps
   pub terms : p.terms ≡ (of_both word ps qs).terms
   pub hedges : p.hedges ≡ (of_both word ps qs).hedges

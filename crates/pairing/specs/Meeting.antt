@@ -5,15 +5,15 @@ use Rattle.language.specs.Limits.{desk}
 use Rattle.language.specs.Kinds.{pick}
 use Rattle.language.specs.Numbers.{number_of}
 use Rattle.language.specs.Trees.{Counts}
-use Rattle.language.specs.Question.{Asked, asks, refuses, readQuestion}
+use Rattle.language.specs.Question.{Asked, asks, refuses, read_question}
 use Rattle.rules.specs.Solved.{solved}
 use Rattle.rules.specs.Run.{Numbered}
 use Rattle.rules.specs.Answer.{Solving, answered, unread, given-up, solving}
 use Rattle.rules.specs.Calls.{Showing, shows, denied, showing}
 use Rattle.filling.specs.Showing.{filled}
 use Rattle.patterns.specs.Blanks.{nothing, apart}
-use Rattle.patterns.specs.Terms.{oneTerm}
-use Rattle.patterns.specs.Pairs.{of_both, tooMany, pairWords}
+use Rattle.patterns.specs.Terms.{one_term}
+use Rattle.patterns.specs.Pairs.{of_both, too_many, pair_words}
 
 -- "cannot meet", "can meet" with the words of a report, "not settled", or a refusal's number
 pub data Meeting : Type 0 where
@@ -23,9 +23,9 @@ pub data Meeting : Type 0 where
   refused : ℕ → Meeting
 
 -- how many lines stand before the first that is settled; all of them, where none is
-abbrev pub firstSettled : List Numbered → ℕ
-firstSettled [] = 0
-firstSettled (k ∷ ks) = pick (solved k.literals) 0 (suc (firstSettled ks))
+abbrev pub first_settled : List Numbered → ℕ
+first_settled [] = 0
+first_settled (k ∷ ks) = pick (solved k.literals) 0 (suc (first_settled ks))
 
 -- 16: "which a report longer than its room gives too"
 abbrev pub fits : ℕ → List ℕ → Meeting
@@ -44,25 +44,25 @@ early (refuses r) = pick (leb (number_of r) 3) (number_of r) (number_of (NotLite
 -- the room is in words, and `word` is the question's word 0
 module _ (room word : ℕ) (first second : List ℕ) where
   abbrev pub words : List ℕ
-  words = pairWords word first second
+  words = pair_words word first second
 
   -- "with a report that both match, the first pattern filled by the first settled line's example"
-  abbrev pub shownBy : ℕ → Meeting
-  shownBy line = reported room (of_both word first second) (apart nothing first) (showing desk false desk.room desk.room desk.filling line words)
+  abbrev pub shown_by : ℕ → Meeting
+  shown_by line = reported room (of_both word first second) (apart nothing first) (showing desk false desk.room desk.room desk.filling line words)
 
   -- '"cannot meet" when the solver has no line', '"not settled" when all lines are open'
-  abbrev pub meetingBy : List Numbered → Meeting
-  meetingBy [] = cannot
-  meetingBy (k ∷ ks) = pick (eqb (firstSettled (k ∷ ks)) (length (k ∷ ks))) unsettled (shownBy (firstSettled (k ∷ ks)))
+  abbrev pub meeting_by : List Numbered → Meeting
+  meeting_by [] = cannot
+  meeting_by (k ∷ ks) = pick (eqb (first_settled (k ∷ ks)) (length (k ∷ ks))) unsettled (shown_by (first_settled (k ∷ ks)))
 
   -- "otherwise the solver's own number for that pair"
-  abbrev pub meetingOf : Solving → Meeting
-  meetingOf (answered ls n) = meetingBy ls
-  meetingOf (unread r) = refused (number_of r)
-  meetingOf (given-up r) = refused (number_of r)
+  abbrev pub meeting_of : Solving → Meeting
+  meeting_of (answered ls n) = meeting_by ls
+  meeting_of (unread r) = refused (number_of r)
+  meeting_of (given-up r) = refused (number_of r)
 
   -- "25 two rules with more than" 128 "blanks of one kind together"
   unfoldable pub meeting : Meeting
   meeting =
-      pick (tooMany (of_both word first second)) (refused 25)
-      (pick (oneTerm first && oneTerm second) (meetingOf (solving desk desk.room desk.room words)) (refused (early (readQuestion desk words))))
+      pick (too_many (of_both word first second)) (refused 25)
+      (pick (one_term first && one_term second) (meeting_of (solving desk desk.room desk.room words)) (refused (early (read_question desk words))))

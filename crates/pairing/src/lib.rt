@@ -2,12 +2,12 @@
 ghost use Rattle.std.specs.Prelude.{ℕ, ◌+◌, ◌*◌, ◌≤◌, ◌<◌, ◌≡◌, false, List, eqb, length, get_or};
 ghost use Rattle.std.proofs.lemmas.List.Edits.{sets};
 ghost use Rattle.language.specs.Limits.{desk};
-ghost use Rattle.language.specs.Question.{readQuestion};
+ghost use Rattle.language.specs.Question.{read_question};
 ghost use Rattle.rules.specs.Answer.{solving};
 ghost use Rattle.filling.specs.Showing.{filled, Shows};
 ghost use Rattle.word_bytes.specs.Bytes.{words_in, bytes_of};
-ghost use Rattle.pairing.specs.Meeting.{fits, early, shownBy, meetingOf, meeting};
-ghost use Rattle.pairing.specs.Lent.{Told, markedFrom};
+ghost use Rattle.pairing.specs.Meeting.{fits, early, shown_by, meeting_of, meeting};
+ghost use Rattle.pairing.specs.Lent.{Told, marked_from};
 ghost use Rattle.pairing.specs.Here.{Here, PairHere, Known, PairKnown};
 
 use filling::{fill_in, filled_len};
@@ -34,7 +34,7 @@ fn settled(answer: &[u16], line: usize) -> bool
 // The first line of an answer that is marked settled; the number of lines where none is.
 fn first_settled(answer: &[u16], lines: usize) -> usize
     requires { lines < 65536 }
-    ensures { result ≡ markedFrom answer.now 0 lines }
+    ensures { result ≡ marked_from answer.now 0 lines }
 {
     let mut i: usize = 0;
     while i < lines {
@@ -104,7 +104,7 @@ fn report<'a>(
 
 // A pair whose patterns are not both one term: 2 or 3 of its question, and else 5.
 fn unfair(question: &[u16]) -> u32
-    ensures { result ≡ early (readQuestion desk question.now) }
+    ensures { result ≡ early (read_question desk question.now) }
 {
     let k = verdict_number(reader::read_question(question));
     if k == 0 {
@@ -128,7 +128,7 @@ fn show<'a>(
     size: usize,
 ) -> u32
     requires { PairHere question.now p × (length work.old ≡ desk.room) × (length answer.old ≡ desk.room) × (2 * (at + size) ≤ length room.old) }
-    ensures { (word : ℕ) (ps qs : List ℕ) → Here word ps qs question.now p → Told (shownBy size word ps qs line) at room.old result room.new }
+    ensures { (word : ℕ) (ps qs : List ℕ) → Here word ps qs question.now p → Told (shown_by size word ps qs line) at room.old result room.new }
 {
     let mut own = [0u16; FILLING];
     let s = example::example(question, line, false, work, answer, &mut own);
@@ -152,7 +152,7 @@ fn show<'a>(
 // What the solver's answer to a pair's question comes to. Its slices are the library's own.
 fn settle<'a>(question: &'a [u16], p: Pair, room: &mut [u8], at: usize, size: usize) -> u32
     requires { PairHere question.now p × (2 * (at + size) ≤ length room.old) }
-    ensures { (word : ℕ) (ps qs : List ℕ) → Here word ps qs question.now p → Told (meetingOf size word ps qs (solving desk desk.room desk.room question.now)) at room.old result room.new }
+    ensures { (word : ℕ) (ps qs : List ℕ) → Here word ps qs question.now p → Told (meeting_of size word ps qs (solving desk desk.room desk.room question.now)) at room.old result room.new }
 {
     let mut work = [0u16; ROOM];
     let mut answer = [0u16; ROOM];

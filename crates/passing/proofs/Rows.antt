@@ -8,16 +8,16 @@ use lib.ListN.{length, get_or}
 use borrow.Author.Tests.{eq-eqb, ne_eqb}
 use Rattle.language.specs.Kinds.{pick}
 use Rattle.meaning.specs.Complete.{Complete, nil, tree}
-use Rattle.passing.specs.Places.{sizeC, Holds, at-nil, at-tree, Hedge, Skipped}
+use Rattle.passing.specs.Places.{size_c, Holds, at-nil, at-tree, Hedge, Skipped}
 use Rattle.passing.proofs.Standing.{holds-lt, holds_fits}
 
 abbrev InRow : List ℕ → ℕ → List Complete → Type 0
 InRow h i [] = Unit {0}
-InRow h i (g ∷ gs) = Holds h i g × InRow h (i + sizeC g) gs
+InRow h i (g ∷ gs) = Holds h i g × InRow h (i + size_c g) gs
 
 abbrev total : List Complete → ℕ
 total [] = 0
-total (g ∷ gs) = sizeC g + total gs
+total (g ∷ gs) = size_c g + total gs
 
 -- `depth` hedges stand from i on, and end at n
 pub record Row (h : List ℕ) (i n depth : ℕ) : Type 0 where
@@ -26,13 +26,13 @@ pub record Row (h : List ℕ) (i n depth : ℕ) : Type 0 where
   pub stand : InRow h i gs
   pub ends : i + total gs ≡ n
 
-some_size : (g : Complete) → 0 < sizeC g
+some_size : (g : Complete) → 0 < size_c g
 some_size nil = omega arith
 some_size (tree f c r) = omega arith
 
 row_fits : (h : List ℕ) (i : ℕ) (gs : List Complete) → InRow h i gs → i ≤ length h → length gs + i ≤ length h
 row_fits h i [] s p = omega arith
-row_fits h i (g ∷ gs) s p = omega (arith, row_fits h (i + sizeC g) gs s.1 (holds_fits s.0), some_size g)
+row_fits h i (g ∷ gs) s p = omega (arith, row_fits h (i + size_c g) gs s.1 (holds_fits s.0), some_size g)
 
 module _ {h : List ℕ} {i n depth : ℕ} where
   pub row_lt : Row h i n depth → 0 < depth → i < length h
@@ -62,11 +62,11 @@ module _ {h : List ℕ} {i n depth : ℕ} where
           record { gs = gs; count = omega arith; stand = s; ends = omega arith }
       go (tree f u r ∷ gs) c (at-tree l v x y, s) e =
           let q : d ≡ depth + 1 = z ∙ rw (ne_eqb (get_or h i 0) 0 (omega arith)) in
-          let k : i + (1 + sizeC u + sizeC r) ≡ i + 1 + sizeC u + sizeC r = omega arith in
+          let k : i + (1 + size_c u + size_c r) ≡ i + 1 + size_c u + size_c r = omega arith in
           record { gs = u ∷ r ∷ gs; count = omega arith; stand = (x, (y, rw k at s)); ends = omega arith }
 
 -- the hedge alone
-pub row_one : {h : List ℕ} {j : ℕ} (g : Complete) → Holds h j g → Row h j (j + sizeC g) 1
+pub row_one : {h : List ℕ} {j : ℕ} (g : Complete) → Holds h j g → Row h j (j + size_c g) 1
 row_one g x = record { gs = g ∷ []; count = refl; stand = (x, tt); ends = omega arith }
 
 -- ---- passing the hedge that stands at j: at i, with so many hedges still to pass
@@ -74,13 +74,13 @@ row_one g x = record { gs = g ∷ []; count = refl; stand = (x, tt); ends = omeg
 pub record Passing (h : List ℕ) (j i depth : ℕ) : Type 0 where
   pub here : Hedge h j
   pub inside : i ≤ length h
-  pub row : (g : Complete) → Holds h j g → Row h i (j + sizeC g) depth
+  pub row : (g : Complete) → Holds h j g → Row h i (j + size_c g) depth
 
 pub passing-starts : {h : List ℕ} {j : ℕ} → Hedge h j → Passing h j j 1
 passing-starts p = record { here = p; inside = omega (arith, holds-lt p.here); row = row_one }
 
 module _ {h : List ℕ} {j i depth : ℕ} where
-  some-row : (p : Passing h j i depth) → Row h i (j + sizeC p.here.g) depth
+  some-row : (p : Passing h j i depth) → Row h i (j + size_c p.here.g) depth
   some-row p = p.row p.here.g p.here.here
 
   pub passing-lt : Passing h j i depth → 0 < depth → i < length h

@@ -6,13 +6,13 @@ use native.Mathlib.Omega.{arith}
 use lib.ListN.{length, get_or}
 use Rattle.language.specs.declared.Sym.{Sym}
 use Rattle.meaning.specs.Complete.{Complete, nil, tree}
-use Rattle.passing.specs.Places.{sizeC, Holds, at-nil, at-tree, Hedge, Term, Skipped}
+use Rattle.passing.specs.Places.{size_c, Holds, at-nil, at-tree, Hedge, Term, Skipped}
 
 pub holds-lt : {h : List ℕ} {j : ℕ} {g : Complete} → Holds h j g → j < length h
 holds-lt (at-nil l w) = l
 holds-lt (at-tree l w p q) = l
 
-pub holds_fits : {h : List ℕ} {j : ℕ} {g : Complete} → Holds h j g → j + sizeC g ≤ length h
+pub holds_fits : {h : List ℕ} {j : ℕ} {g : Complete} → Holds h j g → j + size_c g ≤ length h
 holds_fits (at-nil l w) = omega arith
 holds_fits (at-tree l w p q) = omega (arith, holds_fits q)
 
@@ -27,7 +27,7 @@ module _ {h : List ℕ} {j : ℕ} where
   by-nil P w x nil (at-nil l v) = x
   by-nil P w x (tree f c r) (at-tree l v p q) = absurd (omega arith)
 
-  pub by-tree : (P : Complete → Type 0) → (get_or h j 0 ≡ 0 → ⊥) → ((f : Sym) (c r : Complete) → get_or h j 0 ≡ 3000 + f.0 → Holds h (j + 1) c → Holds h (j + 1 + sizeC c) r → P (tree f c r)) → (g : Complete) → Holds h j g → P g
+  pub by-tree : (P : Complete → Type 0) → (get_or h j 0 ≡ 0 → ⊥) → ((f : Sym) (c r : Complete) → get_or h j 0 ≡ 3000 + f.0 → Holds h (j + 1) c → Holds h (j + 1 + size_c c) r → P (tree f c r)) → (g : Complete) → Holds h j g → P g
   by-tree P w x nil (at-nil l v) = absurd (w v)
   by-tree P w x (tree f c r) (at-tree l v p q) = x f c r v p q
 
@@ -55,7 +55,7 @@ word (at-tree l w p q) = w
 pub term-word : {h : List ℕ} {j : ℕ} → Term h j → 3000 ≤ get_or h j 0
 term-word p = omega (arith, word p.here)
 
-pub behind : {h : List ℕ} {j : ℕ} {f : Sym} {c r : Complete} → Holds h j (tree f c r) → Holds h (j + 1 + sizeC c) r
+pub behind : {h : List ℕ} {j : ℕ} {f : Sym} {c r : Complete} → Holds h j (tree f c r) → Holds h (j + 1 + size_c c) r
 behind (at-tree l w p q) = q
 
 pub children-of : {h : List ℕ} {j : ℕ} → Term h j → Hedge h (j + 1)

@@ -19,8 +19,8 @@ use Rattle.language.specs.Kinds.{pick, kind_of}
 use Rattle.language.proofs.Arms.{Among, each-kind}
 use Rattle.language.proofs.Words.{Is, term, run, function, is}
 use Rattle.patterns.specs.declared.Numbers.{Numbers}
-use Rattle.patterns.specs.Blanks.{among, before, noted, Blanks, noBlanks, notedOn, blanksFrom, blanksIn}
-use Rattle.patterns.specs.Tables.{atHedges, atFunctions, entry, Tabled, NotedAs, Noted}
+use Rattle.patterns.specs.Blanks.{among, before, noted, Blanks, no_blanks, noted_on, blanks_from, blanks_in}
+use Rattle.patterns.specs.Tables.{at_hedges, at_functions, entry, Tabled, NotedAs, Noted}
 
 -- ---- one more
 
@@ -214,7 +214,7 @@ in-self b = record { terms = λ x e. e; hedges = λ x e. e; functions = λ x e. 
 in_then : (a b c : Blanks) → In a b → In b c → In a c
 in_then a b c i j = record { terms = λ x e. j.terms x (i.terms x e); hedges = λ x e. j.hedges x (i.hedges x e); functions = λ x e. j.functions x (i.functions x e) }
 
-in-noted : (b : Blanks) (k : Kind) → In b (notedOn k b) × AmongOn (notedOn k b) k
+in-noted : (b : Blanks) (k : Kind) → In b (noted_on k b) × AmongOn (noted_on k b) k
 in-noted b (Term x) = (record { terms = λ y e. stays-noted y x.0 b.terms e; hedges = λ y e. e; functions = λ y e. e }, is-noted x.0 b.terms)
 in-noted b (Run x) = (record { terms = λ y e. e; hedges = λ y e. stays-noted y x.0 b.hedges e; functions = λ y e. e }, is-noted x.0 b.hedges)
 in-noted b (Function x) = (record { terms = λ y e. e; hedges = λ y e. e; functions = λ y e. stays-noted y x.0 b.functions e }, is-noted x.0 b.functions)
@@ -228,27 +228,27 @@ in-noted b Alt = (in-self b, tt)
 in-noted b Star = (in-self b, tt)
 in-noted b Other = (in-self b, tt)
 
-from_in : (b : Blanks) (ws : List ℕ) → In b (blanksFrom b ws) × AllIn (blanksFrom b ws) ws
-unfolding blanksFrom
+from_in : (b : Blanks) (ws : List ℕ) → In b (blanks_from b ws) × AllIn (blanks_from b ws) ws
+unfolding blanks_from
 from_in b [] = (in-self b, tt)
 from_in b (w ∷ ws) =
-    let c = notedOn (kind_of desk w) b in
+    let c = noted_on (kind_of desk w) b in
     let (i, a) = in-noted b (kind_of desk w) in
     let (j, rest) = from_in c ws in
     (in_then b c _ i j, (in_on c _ j (kind_of desk w) a, rest))
 
-pub blanks-in : (ws : List ℕ) → AllIn (blanksIn ws) ws
-blanks-in ws = (from_in noBlanks ws).1
+pub blanks-in : (ws : List ℕ) → AllIn (blanks_in ws) ws
+blanks-in ws = (from_in no_blanks ws).1
 
 -- ---- the blanks of words
 
-blanks-more : (b : Blanks) (ws : List ℕ) (w : ℕ) → blanksFrom b (ws ++ (w ∷ [])) ≡ notedOn (kind_of desk w) (blanksFrom b ws)
-unfolding blanksFrom
+blanks-more : (b : Blanks) (ws : List ℕ) (w : ℕ) → blanks_from b (ws ++ (w ∷ [])) ≡ noted_on (kind_of desk w) (blanks_from b ws)
+unfolding blanks_from
 blanks-more b [] w = refl
-blanks-more b (v ∷ ws) w = blanks-more (notedOn (kind_of desk v) b) ws w
+blanks-more b (v ∷ ws) w = blanks-more (noted_on (kind_of desk v) b) ws w
 
-pub none-noted : (t : List ℕ) → Tabled noBlanks t → Noted [] (record { terms = 0; hedges = 0; functions = 0 }) t
-unfolding blanksFrom
+pub none-noted : (t : List ℕ) → Tabled no_blanks t → Noted [] (record { terms = 0; hedges = 0; functions = 0 }) t
+unfolding blanks_from
 none-noted t e = record { table = e; terms = refl; hedges = refl; functions = refl }
 
 -- one more at most
@@ -261,10 +261,10 @@ one_more t place count r i e h = on (eqb (get_or t place 0) 0) e
 
 module _ (ws : List ℕ) (i : ℕ) (p : i < length ws) (r : Numbers) (t : List ℕ) (n : Noted (take i ws) r t) (k : Kind) (e : k ≡ kind_of desk (get_or ws i 0)) where
   abbrev b : Blanks
-  b = blanksIn (take i ws)
+  b = blanks_in (take i ws)
 
-  step : (j : Kind) → k ≡ j → blanksIn (take (i + 1) ws) ≡ notedOn j b
-  step j g = ap (λ m. blanksIn (take m ws)) (add-one i) ∙ ap blanksIn (take-suc ws i 0 p) ∙ blanks-more noBlanks (take i ws) (get_or ws i 0) ∙ ap (λ k. notedOn k b) (sym e ∙ g)
+  step : (j : Kind) → k ≡ j → blanks_in (take (i + 1) ws) ≡ noted_on j b
+  step j g = ap (λ m. blanks_in (take m ws)) (add-one i) ∙ ap blanks_in (take-suc ws i 0 p) ∙ blanks-more no_blanks (take i ws) (get_or ws i 0) ∙ ap (λ k. noted_on k b) (sym e ∙ g)
 
   range : (j : Kind) → k ≡ j → Is desk (get_or ws i 0) j
   range j g = subst (Is desk (get_or ws i 0)) (sym e ∙ g) (is desk (get_or ws i 0))
@@ -292,7 +292,7 @@ module _ (ws : List ℕ) (i : ℕ) (p : i < length ws) (r : Numbers) (t : List �
     abbrev Goes : Numbers → Type 0
     Goes r = Noted (take (i + 1) ws) r t'
 
-    goes : (j : Kind) (r : Numbers) → k ≡ j → NotedAs (notedOn j b) r t' → Goes r
+    goes : (j : Kind) (r : Numbers) → k ≡ j → NotedAs (noted_on j b) r t' → Goes r
     goes j r g = subst (λ b. NotedAs b r t') (sym (step j g))
 
     abbrev Count : ℕ → ℕ → Type 0
@@ -316,14 +316,14 @@ module _ (ws : List ℕ) (i : ℕ) (p : i < length ws) (r : Numbers) (t : List �
           functions = n.functions;
         })
 
-    pub run-noted : {x : HedgeVar} → k ≡ Run x → (place : ℕ) → place ≡ x.0 → Count (atHedges + place) r.hedges → Left (atHedges + place) r.hedges → Goes (record { terms = r.terms; hedges = m; functions = r.functions })
+    pub run-noted : {x : HedgeVar} → k ≡ Run x → (place : ℕ) → place ≡ x.0 → Count (at_hedges + place) r.hedges → Left (at_hedges + place) r.hedges → Goes (record { terms = r.terms; hedges = m; functions = r.functions })
     run-noted {x} g place d cm ct =
-        let em = subst (λ p. Count (atHedges + p) r.hedges) d cm in
-        let et = subst (λ p. Left (atHedges + p) r.hedges) d ct in
+        let em = subst (λ p. Count (at_hedges + p) r.hedges) d cm in
+        let et = subst (λ p. Left (at_hedges + p) r.hedges) d ct in
         let h = run-range g in
         let s = n.table.size in
-        let c = row-noted t (λ y. atHedges + y) x.0 r.hedges b.hedges n.table.hedges h (omega arith) (λ y e. omega arith) n.hedges m t' em et in
-        let stays = row_stays t (λ y. atHedges + y) x.0 r.hedges b.hedges n.table.hedges h (omega arith) (λ y e. omega arith) n.hedges m t' em et in
+        let c = row-noted t (λ y. at_hedges + y) x.0 r.hedges b.hedges n.table.hedges h (omega arith) (λ y e. omega arith) n.hedges m t' em et in
+        let stays = row_stays t (λ y. at_hedges + y) x.0 r.hedges b.hedges n.table.hedges h (omega arith) (λ y e. omega arith) n.hedges m t' em et in
         goes (Run x) _ g (record {
           table = record { size = c.2 ∙ s; terms = λ y q. stays _ (λ z. omega arith) ∙ n.table.terms y q; hedges = c.1; functions = λ y q. stays _ (λ z. omega arith) ∙ n.table.functions y q };
           terms = n.terms;
@@ -331,14 +331,14 @@ module _ (ws : List ℕ) (i : ℕ) (p : i < length ws) (r : Numbers) (t : List �
           functions = n.functions;
         })
 
-    pub function-noted : {x : FunVar} → k ≡ Function x → (place : ℕ) → place ≡ x.0 → Count (atFunctions + place) r.functions → Left (atFunctions + place) r.functions → Goes (record { terms = r.terms; hedges = r.hedges; functions = m })
+    pub function-noted : {x : FunVar} → k ≡ Function x → (place : ℕ) → place ≡ x.0 → Count (at_functions + place) r.functions → Left (at_functions + place) r.functions → Goes (record { terms = r.terms; hedges = r.hedges; functions = m })
     function-noted {x} g place d cm ct =
-        let em = subst (λ p. Count (atFunctions + p) r.functions) d cm in
-        let et = subst (λ p. Left (atFunctions + p) r.functions) d ct in
+        let em = subst (λ p. Count (at_functions + p) r.functions) d cm in
+        let et = subst (λ p. Left (at_functions + p) r.functions) d ct in
         let h = function-range g in
         let s = n.table.size in
-        let c = row-noted t (λ y. atFunctions + y) x.0 r.functions b.functions n.table.functions h (omega arith) (λ y e. omega arith) n.functions m t' em et in
-        let stays = row_stays t (λ y. atFunctions + y) x.0 r.functions b.functions n.table.functions h (omega arith) (λ y e. omega arith) n.functions m t' em et in
+        let c = row-noted t (λ y. at_functions + y) x.0 r.functions b.functions n.table.functions h (omega arith) (λ y e. omega arith) n.functions m t' em et in
+        let stays = row_stays t (λ y. at_functions + y) x.0 r.functions b.functions n.table.functions h (omega arith) (λ y e. omega arith) n.functions m t' em et in
         goes (Function x) _ g (record {
           table = record { size = c.2 ∙ s; terms = λ y q. stays _ (λ z. omega arith) ∙ n.table.terms y q; hedges = λ y q. stays _ (λ z. omega arith) ∙ n.table.hedges y q; functions = c.1 };
           terms = n.terms;
@@ -349,7 +349,7 @@ module _ (ws : List ℕ) (i : ℕ) (p : i < length ws) (r : Numbers) (t : List �
   pub other-noted : Among (0 ∷ 3 ∷ 5 ∷ 6 ∷ 7 ∷ 8 ∷ 9 ∷ 10 ∷ 11 ∷ []) k → Noted (take (i + 1) ws) r t
   other-noted o =
       subst (λ b. NotedAs b r t)
-      (sym (step k refl ∙ each-kind (0 ∷ 3 ∷ 5 ∷ 6 ∷ 7 ∷ 8 ∷ 9 ∷ 10 ∷ 11 ∷ []) (λ j. notedOn j b ≡ b) refl tt tt (λ f. refl) tt refl refl refl refl refl refl refl k o))
+      (sym (step k refl ∙ each-kind (0 ∷ 3 ∷ 5 ∷ 6 ∷ 7 ∷ 8 ∷ 9 ∷ 10 ∷ 11 ∷ []) (λ j. noted_on j b ≡ b) refl tt tt (λ f. refl) tt refl refl refl refl refl refl refl k o))
       n
 
 pub all_noted : (ws : List ℕ) (i : ℕ) (r : Numbers) (t : List ℕ) → length ws ≤ i → Noted (take i ws) r t → Noted ws r t

@@ -13,12 +13,12 @@ use Rattle.language.specs.declared.Kind.TheVariants.{End, Term, Run, Symbol, Fun
 use Rattle.language.specs.Limits.{desk}
 use Rattle.language.specs.Kinds.{pick, kind_of}
 use Rattle.language.specs.Trees.{Functor, symbol, fvar, Hedge, ε, tvar, hvar, node}
-use Rattle.language.specs.Writing.{functorWord, hedgeWords}
-use Rattle.language.specs.Fine.{fineFunctor, fineHedge}
+use Rattle.language.specs.Writing.{functor_word, hedge_words}
+use Rattle.language.specs.Fine.{fine_functor, fine_hedge}
 use Rattle.language.proofs.Words.{Is, is}
 use Rattle.language.proofs.Words as words
-use Rattle.rules.specs.Solved.{isTerm}
-use Rattle.patterns.specs.Terms.{goes, goesOn, closing, begins, oneTerm, Pattern}
+use Rattle.rules.specs.Solved.{is_term}
+use Rattle.patterns.specs.Terms.{goes, goes_on, closing, begins, one_term, Pattern}
 
 false≢true : {A : Type 0} → ◌≡◌ {A = Bool} false true → A
 false≢true e = absurd (let z : ◌≡◌ {A = ℕ} 0 1 = cc in omega arith)
@@ -29,24 +29,24 @@ abbrev Hedges : ℕ → Type 0
 Hedges zero = Unit {0}
 Hedges (suc n) = Hedge × Hedges n
 
-abbrev allWords : (n : ℕ) → Hedges n → List ℕ
-allWords zero hs = []
-allWords (suc n) hs = hedgeWords hs.0 ++ allWords n hs.1
+abbrev all_words : (n : ℕ) → Hedges n → List ℕ
+all_words zero hs = []
+all_words (suc n) hs = hedge_words hs.0 ++ all_words n hs.1
 
 abbrev AllFine : (n : ℕ) → Hedges n → Type 0
 AllFine zero hs = Unit {0}
-AllFine (suc n) hs = fineHedge desk hs.0 × AllFine n hs.1
+AllFine (suc n) hs = fine_hedge desk hs.0 × AllFine n hs.1
 
 pub record Closed (depth : ℕ) (ws : List ℕ) : Type 0 where
   pub hedges : Hedges depth
   pub fine : AllFine depth hedges
-  pub words : ws ≡ allWords depth hedges
+  pub words : ws ≡ all_words depth hedges
 
-name-over : (f : Functor) → fineFunctor desk f → (n : ℕ) (w : ℕ) (ws : List ℕ) → w ≡ functorWord f → Closed (suc (suc n)) ws → Closed (suc n) (w ∷ ws)
+name-over : (f : Functor) → fine_functor desk f → (n : ℕ) (w : ℕ) (ws : List ℕ) → w ≡ functor_word f → Closed (suc (suc n)) ws → Closed (suc n) (w ∷ ws)
 name-over f i n w ws e c = record {
   hedges = (node f c.hedges.0 c.hedges.1.0, c.hedges.1.1);
   fine = ((i, c.fine.0, c.fine.1.0), c.fine.1.1);
-  words = ap (λ v. v ∷ ws) e ∙ ap (λ l. functorWord f ∷ l) (c.words ∙ sym (append_assoc (hedgeWords c.hedges.0) (hedgeWords c.hedges.1.0) (allWords n c.hedges.1.1)));
+  words = ap (λ v. v ∷ ws) e ∙ ap (λ l. functor_word f ∷ l) (c.words ∙ sym (append_assoc (hedge_words c.hedges.0) (hedge_words c.hedges.1.0) (all_words n c.hedges.1.1)));
 }
 
 pub closed : (depth : ℕ) (ws : List ℕ) → closing depth ws ≡ true → Closed depth ws
@@ -54,9 +54,9 @@ unfolding closing
 closed zero [] e = record { hedges = tt; fine = tt; words = refl }
 closed zero (w ∷ ws) e = false≢true e
 closed (suc n) [] e = false≢true (sym (ne_eqb (suc n) 0 (λ z. omega arith)) ∙ e)
-closed (suc n) (w ∷ ws) e = on (kind_of desk w) (is desk w) (λ d. closed d ws) (ap (λ b. pick b false (goesOn (λ d. closing d ws) (goes (suc n) (kind_of desk w)))) (sym (ne_eqb (suc n) 0 (λ z. omega arith))) ∙ e)
+closed (suc n) (w ∷ ws) e = on (kind_of desk w) (is desk w) (λ d. closed d ws) (ap (λ b. pick b false (goes_on (λ d. closing d ws) (goes (suc n) (kind_of desk w)))) (sym (ne_eqb (suc n) 0 (λ z. omega arith))) ∙ e)
   where
-    on : (k : Kind) → Is desk w k → ((d : ℕ) → closing d ws ≡ true → Closed d ws) → goesOn (λ d. closing d ws) (goes (suc n) k) ≡ true → Closed (suc n) (w ∷ ws)
+    on : (k : Kind) → Is desk w k → ((d : ℕ) → closing d ws ≡ true → Closed d ws) → goes_on (λ d. closing d ws) (goes (suc n) k) ≡ true → Closed (suc n) (w ∷ ws)
     on End (words.end z) rest e =
         let d : suc n - 1 ≡ n = omega arith in
         let c = rest n (ap (λ d. closing d ws) (sym d) ∙ e) in
@@ -81,22 +81,22 @@ closed (suc n) (w ∷ ws) e = on (kind_of desk w) (is desk w) (λ d. closed d ws
 
 pub record Term-of (ws : List ℕ) : Type 0 where
   pub term : Hedge
-  pub one : isTerm term ≡ true
+  pub one : is_term term ≡ true
   pub pattern : Pattern ws term
 
 -- words that are one term are those of a tree that is one
-pub one-term : (ws : List ℕ) → oneTerm ws ≡ true → Term-of ws
-unfolding oneTerm
+pub one-term : (ws : List ℕ) → one_term ws ≡ true → Term-of ws
+unfolding one_term
 one-term [] e = false≢true e
 one-term (w ∷ ws) e = on (kind_of desk w) (is desk w) e
   where
-    over : (f : Functor) → fineFunctor desk f → isTerm (node f ε ε) ≡ true → w ≡ functorWord f → Closed 1 ws → ((c : Hedge) → isTerm (node f c ε) ≡ true) → Term-of (w ∷ ws)
+    over : (f : Functor) → fine_functor desk f → is_term (node f ε ε) ≡ true → w ≡ functor_word f → Closed 1 ws → ((c : Hedge) → is_term (node f c ε) ≡ true) → Term-of (w ∷ ws)
     over f i o z c t = record {
       term = node f c.hedges.0 ε;
       one = t c.hedges.0;
       pattern = record {
         fine = (i, c.fine.0, tt);
-        words = ap (λ l. l ++ (0 ∷ [])) (ap (λ v. v ∷ hedgeWords c.hedges.0) (sym z)) ∙ ap (λ l. w ∷ (l ++ (0 ∷ []))) (sym (c.words ∙ nothing-behind (hedgeWords c.hedges.0)));
+        words = ap (λ l. l ++ (0 ∷ [])) (ap (λ v. v ∷ hedge_words c.hedges.0) (sym z)) ∙ ap (λ l. w ∷ (l ++ (0 ∷ []))) (sym (c.words ∙ nothing-behind (hedge_words c.hedges.0)));
       };
     }
       where
@@ -104,7 +104,7 @@ one-term (w ∷ ws) e = on (kind_of desk w) (is desk w) e
         nothing-behind [] = refl
         nothing-behind (x ∷ l) = ap (λ l. x ∷ l) (nothing-behind l)
 
-    on : (k : Kind) → Is desk w k → goesOn (λ d. closing d ws) (begins k) ≡ true → Term-of (w ∷ ws)
+    on : (k : Kind) → Is desk w k → goes_on (λ d. closing d ws) (begins k) ≡ true → Term-of (w ∷ ws)
     on (Term x) (words.term y i z) e =
         let c = closed 0 ws e in
         record { term = tvar x ε; one = refl; pattern = record { fine = (i, tt); words = ap (λ v. v ∷ (0 ∷ [])) (sym z) ∙ ap (λ l. w ∷ (l ++ (0 ∷ []))) (sym c.words) } }
@@ -126,12 +126,12 @@ module _ (ws : List ℕ) (i depth : ℕ) (p : i < length ws) where
   abbrev left : ℕ → Bool
   left d = closing d (drop (suc i) ws)
 
-  turn : closing depth (drop i ws) ≡ pick (eqb depth 0) false (goesOn left (goes depth (kind_of desk (get_or ws i 0))))
+  turn : closing depth (drop i ws) ≡ pick (eqb depth 0) false (goes_on left (goes depth (kind_of desk (get_or ws i 0))))
   unfolding closing
   turn = ap (closing depth) (drop-cons ws i 0 p)
 
   pub over-early : depth ≡ 0 → false ≡ closing depth (drop i ws)
   over-early e = sym (turn ∙ rw (eq-eqb depth 0 e) refl)
 
-  pub goes_on : (depth ≡ 0 → ⊥) → (k : Kind) → k ≡ kind_of desk (get_or ws i 0) → goesOn left (goes depth k) ≡ closing depth (drop i ws)
-  goes_on n k e = ap (λ k. goesOn left (goes depth k)) e ∙ sym (turn ∙ rw (ne_eqb depth 0 n) refl)
+  pub goes_on_lem : (depth ≡ 0 → ⊥) → (k : Kind) → k ≡ kind_of desk (get_or ws i 0) → goes_on left (goes depth k) ≡ closing depth (drop i ws)
+  goes_on_lem n k e = ap (λ k. goes_on left (goes depth k)) e ∙ sym (turn ∙ rw (ne_eqb depth 0 n) refl)

@@ -18,27 +18,27 @@ use Rattle.language.proofs.Stores.{sets-append}
 use Rattle.patterns.specs.declared.Numbers.{Numbers}
 use Rattle.patterns.specs.declared.Asked.{Asked}
 use Rattle.patterns.specs.declared.Asked.TheVariants.{TooMany, TooLong, Asks}
-use Rattle.patterns.specs.Blanks.{before, Blanks, noBlanks, blanksIn, counted, nothing, numberedOn, numberedBy, apart}
-use Rattle.patterns.specs.Terms.{oneTerm}
-use Rattle.patterns.specs.Pairs.{of_both, tooMany, pairWords, asked, askedWords, askedLeaves}
-use Rattle.patterns.specs.Tables.{atHedges, atFunctions, Tabled, Noted, renumberedOn, renumberedBy, EnteredOn, Ready}
+use Rattle.patterns.specs.Blanks.{before, Blanks, no_blanks, blanks_in, counted, nothing, numbered_on, numbered_by, apart}
+use Rattle.patterns.specs.Terms.{one_term}
+use Rattle.patterns.specs.Pairs.{of_both, too_many, pair_words, asked, asked_words, asked_leaves}
+use Rattle.patterns.specs.Tables.{at_hedges, at_functions, Tabled, Noted, renumbered_on, renumbered_by, EnteredOn, Ready}
 use Rattle.patterns.proofs.Noting.{there, AmongOn, AllIn, all-at, blanks-in}
 use Rattle.patterns.proofs.Asking.{Few, few}
 
 -- an empty table
-pub none-tabled : Tabled noBlanks (replicate {A = ℕ} (3 * desk.each) 0)
+pub none-tabled : Tabled no_blanks (replicate {A = ℕ} (3 * desk.each) 0)
 none-tabled = record {
   size = length-replicate {A = ℕ} (3 * desk.each) 0;
   terms = λ x p. get_or-replicate {A = ℕ} (3 * desk.each) x 0 0 (omega arith);
-  hedges = λ x p. get_or-replicate {A = ℕ} (3 * desk.each) (atHedges + x) 0 0 (omega arith);
-  functions = λ x p. get_or-replicate {A = ℕ} (3 * desk.each) (atFunctions + x) 0 0 (omega arith);
+  hedges = λ x p. get_or-replicate {A = ℕ} (3 * desk.each) (at_hedges + x) 0 0 (omega arith);
+  functions = λ x p. get_or-replicate {A = ℕ} (3 * desk.each) (at_functions + x) 0 0 (omega arith);
 }
 
 -- ---- one pattern
 
 module _ (n : Numbers) (c : Counts) (et : n.terms ≡ c.terms) (eh : n.hedges ≡ c.hedges) (ef : n.functions ≡ c.functions) (b : Blanks) (t : List ℕ) (tab : Tabled b t) where
   abbrev On : ℕ → Kind → Type 0
-  On w k = renumberedOn n t w k ≡ numberedOn c b w k
+  On w k = renumbered_on n t w k ≡ numbered_on c b w k
 
   on-kind : (w : ℕ) (k : Kind) → Is desk w k → AmongOn b k → On w k
   on-kind w (Term x) (term y p d) a =
@@ -46,10 +46,10 @@ module _ (n : Numbers) (c : Counts) (et : n.terms ≡ c.terms) (eh : n.hedges �
       ap (λ v. 1000 + v) (let z : n.terms + get_or t x.0 0 - 1 ≡ c.terms + before x.0 b.terms = omega arith in z)
   on-kind w (Run x) (run y p d) a =
       let e = tab.hedges x.0 p ∙ (there x.0 b.hedges a).0 in
-      ap (λ v. 2000 + v) (let z : n.hedges + get_or t (atHedges + x.0) 0 - 1 ≡ c.hedges + before x.0 b.hedges = omega arith in z)
+      ap (λ v. 2000 + v) (let z : n.hedges + get_or t (at_hedges + x.0) 0 - 1 ≡ c.hedges + before x.0 b.hedges = omega arith in z)
   on-kind w (Function x) (function y p d) a =
       let e = tab.functions x.0 p ∙ (there x.0 b.functions a).0 in
-      ap (λ v. 4000 + v) (let z : n.functions + get_or t (atFunctions + x.0) 0 - 1 ≡ c.functions + before x.0 b.functions = omega arith in z)
+      ap (λ v. 4000 + v) (let z : n.functions + get_or t (at_functions + x.0) 0 - 1 ≡ c.functions + before x.0 b.functions = omega arith in z)
   on-kind w (Symbol f) i a = refl
   on-kind w End i a = refl
   on-kind w Equation i a = refl
@@ -60,11 +60,11 @@ module _ (n : Numbers) (c : Counts) (et : n.terms ≡ c.terms) (eh : n.hedges �
   on-kind w Star i a = refl
   on-kind w Other i a = refl
 
-  word-is : (w : ℕ) → AmongOn b (kind_of desk w) → renumberedBy n t w ≡ numberedBy c b w
-  unfolding renumberedBy numberedBy
+  word-is : (w : ℕ) → AmongOn b (kind_of desk w) → renumbered_by n t w ≡ numbered_by c b w
+  unfolding renumbered_by numbered_by
   word-is w a = on-kind w (kind_of desk w) (is desk w) a
 
-  pub words_are : (ws : List ℕ) → AllIn b ws → map (renumberedBy n t) ws ≡ map (numberedBy c b) ws
+  pub words_are : (ws : List ℕ) → AllIn b ws → map (renumbered_by n t) ws ≡ map (numbered_by c b) ws
   words_are [] a = refl
   words_are (w ∷ ws) a = ap₂ (λ v (l : List ℕ). v ∷ l) (word-is w a.0) (words_are ws a.1)
 
@@ -111,7 +111,7 @@ pieces q head u v at eh ea =
     let c : at ≡ 8 + length (u ++ (0 ∷ [])) = omega arith in
     sym (a ∙ ap (sets (sets q 0 head) 8) z ∙ b ∙ ap (λ i. sets (sets (sets q 0 head) 8 (u ++ (0 ∷ []))) i y) (sym c))
 
-module _ (word : ℕ) (ps qs : List ℕ) (n m : Numbers) (one other : List ℕ) (x : Noted ps n one) (y : Noted qs m other) (ok : tooMany (of_both word ps qs) ≡ false) where
+module _ (word : ℕ) (ps qs : List ℕ) (n m : Numbers) (one other : List ℕ) (x : Noted ps n one) (y : Noted qs m other) (ok : too_many (of_both word ps qs) ≡ false) where
   abbrev none : Numbers
   none = record { terms = 0; hedges = 0; functions = 0 }
 
@@ -128,25 +128,25 @@ module _ (word : ℕ) (ps qs : List ℕ) (n m : Numbers) (one other : List ℕ) 
   pub first-ready : Ready none one ps
   first-ready =
       let l = limits in
-      ready none nothing refl refl refl (blanksIn ps) one x.table (omega (arith, l.terms)) (omega (arith, l.hedges)) (omega (arith, l.functions)) ps (blanks-in ps)
+      ready none nothing refl refl refl (blanks_in ps) one x.table (omega (arith, l.terms)) (omega (arith, l.hedges)) (omega (arith, l.functions)) ps (blanks-in ps)
 
   pub second-ready : Ready n other qs
   second-ready =
       let l = limits in
-      ready n (counted word (blanksIn ps)) x.terms x.hedges x.functions (blanksIn qs) other y.table l.terms l.hedges l.functions qs (blanks-in qs)
+      ready n (counted word (blanks_in ps)) x.terms x.hedges x.functions (blanks_in qs) other y.table l.terms l.hedges l.functions qs (blanks-in qs)
 
   pub pair-written : (q a b c : List ℕ) (len at i j : ℕ) → i ≡ length ps → j ≡ length qs → len ≡ 10 + (i + j) → at ≡ 8 + i + 1
       → a ≡ sets q 0 (word ∷ (n.terms + m.terms) ∷ (n.hedges + m.hedges) ∷ (n.functions + m.functions) ∷ 1 ∷ 7 ∷ len ∷ 5000 ∷ [])
-      → b ≡ sets a 8 (map (renumberedBy none one) ps ++ (0 ∷ [])) → c ≡ sets b at (map (renumberedBy n other) qs ++ (0 ∷ []))
-      → c ≡ sets q 0 (pairWords word ps qs)
-  unfolding pairWords
+      → b ≡ sets a 8 (map (renumbered_by none one) ps ++ (0 ∷ [])) → c ≡ sets b at (map (renumbered_by n other) qs ++ (0 ∷ []))
+      → c ≡ sets q 0 (pair_words word ps qs)
+  unfolding pair_words
   pair-written q a b c len at i j ei ej el ea da db dc =
-      let u = words_are none nothing refl refl refl (blanksIn ps) one x.table ps (blanks-in ps) in
-      let v = words_are n (counted word (blanksIn ps)) x.terms x.hedges x.functions (blanksIn qs) other y.table qs (blanks-in qs) in
-      let lu = length-map ps (numberedBy nothing (blanksIn ps)) in
+      let u = words_are none nothing refl refl refl (blanks_in ps) one x.table ps (blanks-in ps) in
+      let v = words_are n (counted word (blanks_in ps)) x.terms x.hedges x.functions (blanks_in qs) other y.table qs (blanks-in qs) in
+      let lu = length-map ps (numbered_by nothing (blanks_in ps)) in
       let ln : len ≡ 10 + (length ps + length qs) = omega arith in
       dc ∙ rw (db, da, u, v, x.terms, x.hedges, x.functions, y.terms, y.hedges, y.functions, ln)
-      (pieces q (word ∷ _ ∷ _ ∷ _ ∷ 1 ∷ 7 ∷ (10 + (length ps + length qs)) ∷ 5000 ∷ []) (apart nothing ps) (apart (counted word (blanksIn ps)) qs) at refl (omega arith))
+      (pieces q (word ∷ _ ∷ _ ∷ _ ∷ 1 ∷ 7 ∷ (10 + (length ps + length qs)) ∷ 5000 ∷ []) (apart nothing ps) (apart (counted word (blanks_in ps)) qs) at refl (omega arith))
 
 -- ---- the answers
 
@@ -155,24 +155,24 @@ module _ (word : ℕ) (ps qs : List ℕ) where
   size = 10 + (length ps + length qs)
 
   abbrev Answers : Asked → List ℕ → List ℕ → Type 0
-  Answers r old new = (r ≡ asked word ps qs) × (new ≡ askedLeaves word ps qs old)
+  Answers r old new = (r ≡ asked word ps qs) × (new ≡ asked_leaves word ps qs old)
 
-  answers : (r : Asked) (old new : List ℕ) → r ≡ asked word ps qs → new ≡ sets old 0 (askedWords r (pairWords word ps qs)) → Answers r old new
-  unfolding askedLeaves
-  answers r old new e f = (e, f ∙ ap (λ r. sets old 0 (askedWords r (pairWords word ps qs))) e)
+  answers : (r : Asked) (old new : List ℕ) → r ≡ asked word ps qs → new ≡ sets old 0 (asked_words r (pair_words word ps qs)) → Answers r old new
+  unfolding asked_leaves
+  answers r old new e f = (e, f ∙ ap (λ r. sets old 0 (asked_words r (pair_words word ps qs))) e)
 
-  pub answers-many : tooMany (of_both word ps qs) ≡ true → (q : List ℕ) → Answers TooMany q q
+  pub answers-many : too_many (of_both word ps qs) ≡ true → (q : List ℕ) → Answers TooMany q q
   unfolding asked
   answers-many e q = answers TooMany q q (rw e refl) refl
 
-  module _ (ok : tooMany (of_both word ps qs) ≡ false) where
+  module _ (ok : too_many (of_both word ps qs) ≡ false) where
     pub answers-long : true ≡ ltb desk.question size → (q : List ℕ) → Answers TooLong q q
     unfolding asked
     answers-long e q = answers TooLong q q (rw (ok, sym e) refl) refl
 
     module _ (short : false ≡ ltb desk.question size) (n m : Numbers) (one other : List ℕ) (x : Noted ps n one) (y : Noted qs m other) where
       pub answers-asks : (len first terms hedges : ℕ) (a b fair : Bool) (q new : List ℕ) → first ≡ length ps → len ≡ 10 + (first + length qs) → terms ≡ n.terms + m.terms → hedges ≡ n.hedges + m.hedges
-          → fair ≡ (a && b) → a ≡ oneTerm ps → b ≡ oneTerm qs → new ≡ sets q 0 (pairWords word ps qs)
+          → fair ≡ (a && b) → a ≡ one_term ps → b ≡ one_term qs → new ≡ sets q 0 (pair_words word ps qs)
           → Answers (Asks (record { len = len; first = first; terms = terms; hedges = hedges; fair = fair })) q new
       unfolding asked
       answers-asks len first terms hedges a b fair q new ef el et eh ea fa fb en =
@@ -182,8 +182,8 @@ module _ (word : ℕ) (ps qs : List ℕ) where
 
 -- what the test says, of numbers that are those of the patterns
 pub test-is : (word : ℕ) (ps qs : List ℕ) (n m : Numbers) (one other : List ℕ) → Noted ps n one → Noted qs m other → (r : Bool)
-    → r ≡ (ltb desk.each (n.terms + m.terms) || ltb desk.each (n.hedges + m.hedges) || ltb desk.each (n.functions + m.functions)) → tooMany (of_both word ps qs) ≡ r
-unfolding tooMany
+    → r ≡ (ltb desk.each (n.terms + m.terms) || ltb desk.each (n.hedges + m.hedges) || ltb desk.each (n.functions + m.functions)) → too_many (of_both word ps qs) ≡ r
+unfolding too_many
 test-is word ps qs n m one other x y r e = sym (e ∙ rw (x.terms, x.hedges, x.functions, y.terms, y.hedges, y.functions) refl)
 
 -- ---- the returns, where u and v are the words of the bytes that are whole
@@ -197,17 +197,17 @@ module _ (word : ℕ) (ps qs u v : List ℕ) (eu : u ≡ ps) (ev : v ≡ qs) (n 
   both_equal P p = subst (P ps) ev (subst (λ l. P l v) eu p)
 
   pub ask-many : many ≡ true → (q : List ℕ) → Comes TooMany q q
-  ask-many t q = answers-many word ps qs (both_equal (λ a b. tooMany (of_both word a b) ≡ true) (test-is word u v n m one other x y many em ∙ t)) q
+  ask-many t q = answers-many word ps qs (both_equal (λ a b. too_many (of_both word a b) ≡ true) (test-is word u v n m one other x y many em ∙ t)) q
 
-  pub ask-few : many ≡ false → tooMany (of_both word u v) ≡ false
+  pub ask-few : many ≡ false → too_many (of_both word u v) ≡ false
   ask-few t = test-is word u v n m one other x y many em ∙ t
 
   pub ask-long : many ≡ false → (long : Bool) → long ≡ ltb desk.question (10 + (length u + length v)) → long ≡ true → (q : List ℕ) → Comes TooLong q q
   ask-long t long e l q =
-      answers-long word ps qs (both_equal (λ a b. tooMany (of_both word a b) ≡ false) (ask-few t)) (both_equal (λ a b. true ≡ ltb desk.question (10 + (length a + length b))) (sym l ∙ e)) q
+      answers-long word ps qs (both_equal (λ a b. too_many (of_both word a b) ≡ false) (ask-few t)) (both_equal (λ a b. true ≡ ltb desk.question (10 + (length a + length b))) (sym l ∙ e)) q
 
   pub ask-asks : many ≡ false → (long : Bool) → long ≡ ltb desk.question (10 + (length u + length v)) → long ≡ false
-      → (i j : ℕ) (a b fair : Bool) (q new : List ℕ) → i ≡ length u → j ≡ length v → fair ≡ (a && b) → a ≡ oneTerm u → b ≡ oneTerm v → new ≡ sets q 0 (pairWords word u v)
+      → (i j : ℕ) (a b fair : Bool) (q new : List ℕ) → i ≡ length u → j ≡ length v → fair ≡ (a && b) → a ≡ one_term u → b ≡ one_term v → new ≡ sets q 0 (pair_words word u v)
       → Comes (Asks (record { len = 10 + (i + j); first = i; terms = n.terms + m.terms; hedges = n.hedges + m.hedges; fair = fair })) q new
   ask-asks t long e l i j a b fair q new ei ej ef ea eb en =
       both_equal (λ ps qs. Answers word ps qs (Asks (record { len = 10 + (i + j); first = i; terms = n.terms + m.terms; hedges = n.hedges + m.hedges; fair = fair })) q new)

@@ -13,13 +13,13 @@ use Rattle.language.specs.declared.Kind.TheVariants.{End, Term, Run, Symbol, Fun
 use Rattle.language.specs.Limits.{desk}
 use Rattle.language.specs.Kinds.{pick, kind_of}
 use Rattle.language.specs.Trees.{Functor, symbol, fvar, Hedge, ε, tvar, hvar, node, Counts}
-use Rattle.language.specs.Writing.{functorWord, hedgeWords}
-use Rattle.language.specs.Fine.{fineFunctor, fineHedge}
+use Rattle.language.specs.Writing.{functor_word, hedge_words}
+use Rattle.language.specs.Fine.{fine_functor, fine_hedge}
 use Rattle.language.proofs.Words.{kind-end, kind-term, kind-run, kind-symbol, kind-function}
 use Rattle.meaning.specs.Complete.{tree, ◌·◌}
 use Rattle.meaning.specs.Meaning.{Filling, fill_f, fill}
-use Rattle.patterns.specs.Blanks.{among, before, Blanks, counted, nothing, numberedOn, numberedBy}
-use Rattle.patterns.specs.Renamed.{renamedF, renamed}
+use Rattle.patterns.specs.Blanks.{among, before, Blanks, counted, nothing, numbered_on, numbered_by}
+use Rattle.patterns.specs.Renamed.{renamed_f, renamed}
 use Rattle.patterns.proofs.Noting.{there, found_back, AmongOn, AllIn, all-parts}
 
 pub map-parts : (f : ℕ → ℕ) (us vs : List ℕ) → map f (us ++ vs) ≡ map f us ++ map f vs
@@ -29,20 +29,20 @@ map-parts f (u ∷ us) vs = ap (λ l. f u ∷ l) (map-parts f us vs)
 module _ (n : Counts) (b : Blanks) where
   -- ---- their words
 
-  on-kind : (w : ℕ) (k : Kind) → kind_of desk w ≡ k → numberedOn n b w k ≡ numberedBy n b w
-  unfolding numberedBy
-  on-kind w k e = ap (numberedOn n b w) (sym e)
+  on-kind : (w : ℕ) (k : Kind) → kind_of desk w ≡ k → numbered_on n b w k ≡ numbered_by n b w
+  unfolding numbered_by
+  on-kind w k e = ap (numbered_on n b w) (sym e)
 
-  functor-word : (f : Functor) → fineFunctor desk f → functorWord (renamedF n b f) ≡ numberedBy n b (functorWord f)
+  functor-word : (f : Functor) → fine_functor desk f → functor_word (renamed_f n b f) ≡ numbered_by n b (functor_word f)
   functor-word (symbol f) i = on-kind (3000 + f.0) (Symbol f) (kind-symbol desk f i)
   functor-word (fvar X) i = on-kind (4000 + X.0) (Function X) (kind-function desk X i)
 
-  pub renamed-words : (h : Hedge) → fineHedge desk h → hedgeWords (renamed n b h) ≡ map (numberedBy n b) (hedgeWords h)
+  pub renamed-words : (h : Hedge) → fine_hedge desk h → hedge_words (renamed n b h) ≡ map (numbered_by n b) (hedge_words h)
   renamed-words ε i = ap (λ w. w ∷ []) (on-kind 0 End (kind-end desk))
   renamed-words (tvar x r) i = ap₂ (λ w (l : List ℕ). w ∷ l) (on-kind (1000 + x.0) (Term x) (kind-term desk x i.0)) (renamed-words r i.1)
   renamed-words (hvar p r) i = ap₂ (λ w (l : List ℕ). w ∷ l) (on-kind (2000 + p.0) (Run p) (kind-run desk p i.0)) (renamed-words r i.1)
   renamed-words (node f c r) i =
-      ap₂ (λ w (l : List ℕ). w ∷ l) (functor-word f i.0) (ap₂ (λ (u v : List ℕ). u ++ v) (renamed-words c i.1) (renamed-words r i.2) ∙ sym (map-parts (numberedBy n b) (hedgeWords c) (hedgeWords r)))
+      ap₂ (λ w (l : List ℕ). w ∷ l) (functor-word f i.0) (ap₂ (λ (u v : List ℕ). u ++ v) (renamed-words c i.1) (renamed-words r i.2) ∙ sym (map-parts (numbered_by n b) (hedge_words c) (hedge_words r)))
 
   -- ---- every blank of a tree is one of those that are numbered
 
@@ -59,27 +59,27 @@ module _ (n : Counts) (b : Blanks) where
   as-kind : (w : ℕ) (k : Kind) → kind_of desk w ≡ k → AmongOn b (kind_of desk w) → AmongOn b k
   as-kind w k e a = rw e at a
 
-  held-functor : (f : Functor) → fineFunctor desk f → AmongOn b (kind_of desk (functorWord f)) → HeldF f
+  held-functor : (f : Functor) → fine_functor desk f → AmongOn b (kind_of desk (functor_word f)) → HeldF f
   held-functor (symbol f) i a = tt
   held-functor (fvar X) i a = as-kind (4000 + X.0) (Function X) (kind-function desk X i) a
 
-  pub held : (h : Hedge) → fineHedge desk h → AllIn b (hedgeWords h) → Held h
+  pub held : (h : Hedge) → fine_hedge desk h → AllIn b (hedge_words h) → Held h
   held ε i a = tt
   held (tvar x r) i a = (as-kind (1000 + x.0) (Term x) (kind-term desk x i.0) a.0, held r i.1 a.1)
   held (hvar p r) i a = (as-kind (2000 + p.0) (Run p) (kind-run desk p i.0) a.0, held r i.1 a.1)
   held (node f c r) i a =
-      let (u, v) = all-parts b (hedgeWords c) (hedgeWords r) a.1 in
+      let (u, v) = all-parts b (hedge_words c) (hedge_words r) a.1 in
       (held-functor f i.0 a.0, held c i.1 u, held r i.2 v)
 
   -- ---- so it is declared where as many are, and fine where these are not too many
 
   module _ (m : Counts) (t : n.terms + length b.terms ≤ m.terms) (h : n.hedges + length b.hedges ≤ m.hedges) (f : n.functions + length b.functions ≤ m.functions)
       (et : m.terms ≤ desk.each) (eh : m.hedges ≤ desk.each) (ef : m.functions ≤ desk.each) where
-    fine-functor : (g : Functor) → fineFunctor desk g → HeldF g → fineFunctor desk (renamedF n b g)
+    fine-functor : (g : Functor) → fine_functor desk g → HeldF g → fine_functor desk (renamed_f n b g)
     fine-functor (symbol g) i a = i
     fine-functor (fvar X) i a = let z = (there X.0 b.functions a).1 in omega arith
 
-    pub renamed-fine : (k : Hedge) → fineHedge desk k → Held k → fineHedge desk (renamed n b k)
+    pub renamed-fine : (k : Hedge) → fine_hedge desk k → Held k → fine_hedge desk (renamed n b k)
     renamed-fine ε i a = tt
     renamed-fine (tvar x r) i a = let z = (there x.0 b.terms a.0).1 in (omega arith, renamed-fine r i.1 a.1)
     renamed-fine (hvar p r) i a = let z = (there p.0 b.hedges a.0).1 in (omega arith, renamed-fine r i.1 a.1)
@@ -95,7 +95,7 @@ module _ (n : Counts) (b : Blanks) where
     name = λ X. ρ.name (record { 0 = n.functions + before X.0 b.functions });
   }
 
-  back-functor : (ρ : Filling) (f : Functor) → fill_f (back ρ) f ≡ fill_f ρ (renamedF n b f)
+  back-functor : (ρ : Filling) (f : Functor) → fill_f (back ρ) f ≡ fill_f ρ (renamed_f n b f)
   back-functor ρ (symbol f) = refl
   back-functor ρ (fvar X) = refl
 
@@ -134,7 +134,7 @@ module _ (word : ℕ) (a b : Blanks) (σ τ : Filling) where
   abbrev both : Filling
   both = joint a b σ τ
 
-  first-functor : (f : Functor) → HeldF nothing a f → fill_f both (renamedF nothing a f) ≡ fill_f σ f
+  first-functor : (f : Functor) → HeldF nothing a f → fill_f both (renamed_f nothing a f) ≡ fill_f σ f
   first-functor (symbol f) i = refl
   first-functor (fvar X) i = at_first (λ x. σ.name (record { 0 = x })) (λ x. τ.name (record { 0 = x })) a.functions b.functions X.0 i
 
@@ -145,7 +145,7 @@ module _ (word : ℕ) (a b : Blanks) (σ τ : Filling) where
   joint-first (hvar p r) i = rw (at_first (λ x. σ.run (record { 0 = x })) (λ x. τ.run (record { 0 = x })) a.hedges b.hedges p.0 i.0, joint-first r i.1)
   joint-first (node f c r) i = rw (first-functor f i.0, joint-first c i.1, joint-first r i.2)
 
-  second-functor : (f : Functor) → HeldF (counted word a) b f → fill_f both (renamedF (counted word a) b f) ≡ fill_f τ f
+  second-functor : (f : Functor) → HeldF (counted word a) b f → fill_f both (renamed_f (counted word a) b f) ≡ fill_f τ f
   second-functor (symbol f) i = refl
   second-functor (fvar X) i = at_second (λ x. σ.name (record { 0 = x })) (λ x. τ.name (record { 0 = x })) a.functions b.functions X.0 i
 

@@ -29,29 +29,29 @@ pub record Blanks : Type 0 where
   pub hedges : List ℕ
   pub functions : List ℕ
 
-abbrev pub noBlanks : Blanks
-noBlanks = record { terms = []; hedges = []; functions = [] }
+abbrev pub no_blanks : Blanks
+no_blanks = record { terms = []; hedges = []; functions = [] }
 
-abbrev pub notedOn : Kind → Blanks → Blanks
-notedOn (Term x) b = record { terms = noted x.0 b.terms; hedges = b.hedges; functions = b.functions }
-notedOn (Run p) b = record { terms = b.terms; hedges = noted p.0 b.hedges; functions = b.functions }
-notedOn (Function X) b = record { terms = b.terms; hedges = b.hedges; functions = noted X.0 b.functions }
-notedOn (Symbol f) b = b
-notedOn End b = b
-notedOn Equation b = b
-notedOn Membership b = b
-notedOn Eps b = b
-notedOn Cat b = b
-notedOn Alt b = b
-notedOn Star b = b
-notedOn Other b = b
+abbrev pub noted_on : Kind → Blanks → Blanks
+noted_on (Term x) b = record { terms = noted x.0 b.terms; hedges = b.hedges; functions = b.functions }
+noted_on (Run p) b = record { terms = b.terms; hedges = noted p.0 b.hedges; functions = b.functions }
+noted_on (Function X) b = record { terms = b.terms; hedges = b.hedges; functions = noted X.0 b.functions }
+noted_on (Symbol f) b = b
+noted_on End b = b
+noted_on Equation b = b
+noted_on Membership b = b
+noted_on Eps b = b
+noted_on Cat b = b
+noted_on Alt b = b
+noted_on Star b = b
+noted_on Other b = b
 
-unfoldable pub blanksFrom : Blanks → List ℕ → Blanks
-blanksFrom b [] = b
-blanksFrom b (w ∷ ws) = blanksFrom (notedOn (kind_of desk w) b) ws
+unfoldable pub blanks_from : Blanks → List ℕ → Blanks
+blanks_from b [] = b
+blanks_from b (w ∷ ws) = blanks_from (noted_on (kind_of desk w) b) ws
 
-abbrev pub blanksIn : List ℕ → Blanks
-blanksIn ws = blanksFrom noBlanks ws
+abbrev pub blanks_in : List ℕ → Blanks
+blanks_in ws = blanks_from no_blanks ws
 
 -- how many blanks of each kind there are; the symbols, and how many of these are unordered, are those of a question's word 0
 abbrev pub counted : ℕ → Blanks → Counts
@@ -66,22 +66,22 @@ nothing = record { symbols = 0; unordered = 0; terms = 0; hedges = 0; functions 
 -- ---- "Blanks of the two rules are kept apart by renumbering"
 
 -- a word with its blank numbered by b, behind as many as n has of its kind
-abbrev pub numberedOn : Counts → Blanks → ℕ → Kind → ℕ
-numberedOn n b w (Term x) = 1000 + (n.terms + before x.0 b.terms)
-numberedOn n b w (Run p) = 2000 + (n.hedges + before p.0 b.hedges)
-numberedOn n b w (Function X) = 4000 + (n.functions + before X.0 b.functions)
-numberedOn n b w (Symbol f) = w
-numberedOn n b w End = w
-numberedOn n b w Equation = w
-numberedOn n b w Membership = w
-numberedOn n b w Eps = w
-numberedOn n b w Cat = w
-numberedOn n b w Alt = w
-numberedOn n b w Star = w
-numberedOn n b w Other = w
+abbrev pub numbered_on : Counts → Blanks → ℕ → Kind → ℕ
+numbered_on n b w (Term x) = 1000 + (n.terms + before x.0 b.terms)
+numbered_on n b w (Run p) = 2000 + (n.hedges + before p.0 b.hedges)
+numbered_on n b w (Function X) = 4000 + (n.functions + before X.0 b.functions)
+numbered_on n b w (Symbol f) = w
+numbered_on n b w End = w
+numbered_on n b w Equation = w
+numbered_on n b w Membership = w
+numbered_on n b w Eps = w
+numbered_on n b w Cat = w
+numbered_on n b w Alt = w
+numbered_on n b w Star = w
+numbered_on n b w Other = w
 
-unfoldable pub numberedBy : Counts → Blanks → ℕ → ℕ
-numberedBy n b w = numberedOn n b w (kind_of desk w)
+unfoldable pub numbered_by : Counts → Blanks → ℕ → ℕ
+numbered_by n b w = numbered_on n b w (kind_of desk w)
 
 abbrev pub apart : Counts → List ℕ → List ℕ
-apart n ws = map (numberedBy n (blanksIn ws)) ws
+apart n ws = map (numbered_by n (blanks_in ws)) ws

@@ -6,37 +6,37 @@ use Rattle.language.specs.Kinds.{pick}
 use Rattle.language.specs.Trees.{Counts}
 use Rattle.patterns.specs.declared.Asked.{Asked}
 use Rattle.patterns.specs.declared.Asked.TheVariants.{TooMany, TooLong, Asks}
-use Rattle.patterns.specs.Blanks.{blanksIn, counted, together, nothing, apart}
-use Rattle.patterns.specs.Terms.{oneTerm}
+use Rattle.patterns.specs.Blanks.{blanks_in, counted, together, nothing, apart}
+use Rattle.patterns.specs.Terms.{one_term}
 
 -- what the pair's question declares; `word` is its word 0, as it is handed on
 abbrev pub of_both : ℕ → List ℕ → List ℕ → Counts
-of_both word first second = together (counted word (blanksIn first)) (counted 0 (blanksIn second))
+of_both word first second = together (counted word (blanks_in first)) (counted 0 (blanks_in second))
 
 -- "25 two rules with more than" 128 "blanks of one kind together"
-unfoldable pub tooMany : Counts → Bool
-tooMany n = ltb desk.each n.terms || ltb desk.each n.hedges || ltb desk.each n.functions
+unfoldable pub too_many : Counts → Bool
+too_many n = ltb desk.each n.terms || ltb desk.each n.hedges || ltb desk.each n.functions
 
 -- one conjunction of one equation: the first pattern, and the second, whose blanks are numbered behind the first's
-unfoldable pub pairWords : ℕ → List ℕ → List ℕ → List ℕ
-pairWords word first second =
+unfoldable pub pair_words : ℕ → List ℕ → List ℕ → List ℕ
+pair_words word first second =
     let n = of_both word first second in
     word ∷ n.terms ∷ n.hedges ∷ n.functions ∷ 1 ∷ 7 ∷ (10 + (length first + length second)) ∷ 5000
-    ∷ (apart nothing first ++ (0 ∷ (apart (counted word (blanksIn first)) second ++ (0 ∷ []))))
+    ∷ (apart nothing first ++ (0 ∷ (apart (counted word (blanks_in first)) second ++ (0 ∷ []))))
 
 -- ---- what writing it answers and leaves in the slice lent for it
 
 unfoldable pub asked : ℕ → List ℕ → List ℕ → Asked
 asked word first second =
     let n = of_both word first second in
-    pick (tooMany n) TooMany
+    pick (too_many n) TooMany
     (pick (ltb desk.question (10 + (length first + length second))) TooLong
-    (Asks (record { len = 10 + (length first + length second); first = length first; terms = n.terms; hedges = n.hedges; fair = oneTerm first && oneTerm second })))
+    (Asks (record { len = 10 + (length first + length second); first = length first; terms = n.terms; hedges = n.hedges; fair = one_term first && one_term second })))
 
-abbrev pub askedWords : Asked → List ℕ → List ℕ
-askedWords TooMany ws = []
-askedWords TooLong ws = []
-askedWords (Asks p) ws = ws
+abbrev pub asked_words : Asked → List ℕ → List ℕ
+asked_words TooMany ws = []
+asked_words TooLong ws = []
+asked_words (Asks p) ws = ws
 
-unfoldable pub askedLeaves : ℕ → List ℕ → List ℕ → List ℕ → List ℕ
-askedLeaves word first second slice = sets slice 0 (askedWords (asked word first second) (pairWords word first second))
+unfoldable pub asked_leaves : ℕ → List ℕ → List ℕ → List ℕ → List ℕ
+asked_leaves word first second slice = sets slice 0 (asked_words (asked word first second) (pair_words word first second))

@@ -6,17 +6,17 @@ use Rattle.language.specs.declared.Kind.TheVariants.{End, Term, Run, Symbol, Fun
 use Rattle.language.specs.Limits.{desk}
 use Rattle.language.specs.Kinds.{pick, kind_of}
 use Rattle.patterns.specs.declared.Numbers.{Numbers}
-use Rattle.patterns.specs.Blanks.{among, before, Blanks, blanksIn}
+use Rattle.patterns.specs.Blanks.{among, before, Blanks, blanks_in}
 
 -- where the places of each kind begin
-abbrev pub atTerms : ℕ
-atTerms = 0
+abbrev pub at_terms : ℕ
+at_terms = 0
 
-abbrev pub atHedges : ℕ
-atHedges = desk.each
+abbrev pub at_hedges : ℕ
+at_hedges = desk.each
 
-abbrev pub atFunctions : ℕ
-atFunctions = desk.each + desk.each
+abbrev pub at_functions : ℕ
+at_functions = desk.each + desk.each
 
 abbrev pub entry : ℕ → List ℕ → ℕ
 entry x xs = pick (among x xs) (suc (before x xs)) 0
@@ -24,8 +24,8 @@ entry x xs = pick (among x xs) (suc (before x xs)) 0
 pub record Tabled (b : Blanks) (t : List ℕ) : Type 0 where
   pub size : length t ≡ 3 * desk.each
   pub terms : (x : ℕ) → x < desk.each → get_or t x 0 ≡ entry x b.terms
-  pub hedges : (x : ℕ) → x < desk.each → get_or t (atHedges + x) 0 ≡ entry x b.hedges
-  pub functions : (x : ℕ) → x < desk.each → get_or t (atFunctions + x) 0 ≡ entry x b.functions
+  pub hedges : (x : ℕ) → x < desk.each → get_or t (at_hedges + x) 0 ≡ entry x b.hedges
+  pub functions : (x : ℕ) → x < desk.each → get_or t (at_functions + x) 0 ≡ entry x b.functions
 
 -- the table of these blanks, and how many there are of each kind
 pub record NotedAs (b : Blanks) (r : Numbers) (t : List ℕ) : Type 0 where
@@ -36,26 +36,26 @@ pub record NotedAs (b : Blanks) (r : Numbers) (t : List ℕ) : Type 0 where
 
 -- of all blanks among these words
 abbrev pub Noted : List ℕ → Numbers → List ℕ → Type 0
-Noted ws r t = NotedAs (blanksIn ws) r t
+Noted ws r t = NotedAs (blanks_in ws) r t
 
 -- ---- a word numbered by a table, behind as many as n has of its kind
 
-abbrev pub renumberedOn : Numbers → List ℕ → ℕ → Kind → ℕ
-renumberedOn n t w (Term x) = 1000 + (n.terms + get_or t x.0 0 - 1)
-renumberedOn n t w (Run p) = 2000 + (n.hedges + get_or t (atHedges + p.0) 0 - 1)
-renumberedOn n t w (Function X) = 4000 + (n.functions + get_or t (atFunctions + X.0) 0 - 1)
-renumberedOn n t w (Symbol f) = w
-renumberedOn n t w End = w
-renumberedOn n t w Equation = w
-renumberedOn n t w Membership = w
-renumberedOn n t w Eps = w
-renumberedOn n t w Cat = w
-renumberedOn n t w Alt = w
-renumberedOn n t w Star = w
-renumberedOn n t w Other = w
+abbrev pub renumbered_on : Numbers → List ℕ → ℕ → Kind → ℕ
+renumbered_on n t w (Term x) = 1000 + (n.terms + get_or t x.0 0 - 1)
+renumbered_on n t w (Run p) = 2000 + (n.hedges + get_or t (at_hedges + p.0) 0 - 1)
+renumbered_on n t w (Function X) = 4000 + (n.functions + get_or t (at_functions + X.0) 0 - 1)
+renumbered_on n t w (Symbol f) = w
+renumbered_on n t w End = w
+renumbered_on n t w Equation = w
+renumbered_on n t w Membership = w
+renumbered_on n t w Eps = w
+renumbered_on n t w Cat = w
+renumbered_on n t w Alt = w
+renumbered_on n t w Star = w
+renumbered_on n t w Other = w
 
-unfoldable pub renumberedBy : Numbers → List ℕ → ℕ → ℕ
-renumberedBy n t w = renumberedOn n t w (kind_of desk w)
+unfoldable pub renumbered_by : Numbers → List ℕ → ℕ → ℕ
+renumbered_by n t w = renumbered_on n t w (kind_of desk w)
 
 -- the place is within the table, it is not empty, and the number is one of a kind's
 pub record Entered (n : ℕ) (t : List ℕ) (place : ℕ) : Type 0 where
@@ -65,8 +65,8 @@ pub record Entered (n : ℕ) (t : List ℕ) (place : ℕ) : Type 0 where
 
 abbrev pub EnteredOn : Numbers → List ℕ → Kind → Type 0
 EnteredOn n t (Term x) = Entered n.terms t x.0
-EnteredOn n t (Run p) = Entered n.hedges t (atHedges + p.0)
-EnteredOn n t (Function X) = Entered n.functions t (atFunctions + X.0)
+EnteredOn n t (Run p) = Entered n.hedges t (at_hedges + p.0)
+EnteredOn n t (Function X) = Entered n.functions t (at_functions + X.0)
 EnteredOn n t (Symbol f) = Unit {0}
 EnteredOn n t End = Unit {0}
 EnteredOn n t Equation = Unit {0}

@@ -6,8 +6,8 @@ use Rattle.language.specs.Limits.{desk}
 use Rattle.language.specs.Kinds.{pick, kind_of}
 use Rattle.language.specs.declared.Signature.{Signature}
 use Rattle.language.specs.Trees.{Hedge}
-use Rattle.language.specs.Writing.{hedgeWords}
-use Rattle.language.specs.Fine.{fineHedge}
+use Rattle.language.specs.Writing.{hedge_words}
+use Rattle.language.specs.Fine.{fine_hedge}
 use Rattle.meaning.specs.Complete.{Complete, Same}
 use Rattle.meaning.specs.Meaning.{Filling, fill}
 
@@ -30,14 +30,14 @@ goes depth Alt = out
 goes depth Star = out
 goes depth Other = out
 
-abbrev pub goesOn : (ℕ → Bool) → Went → Bool
-goesOn rest (to depth) = rest depth
-goesOn rest out = false
+abbrev pub goes_on : (ℕ → Bool) → Went → Bool
+goes_on rest (to depth) = rest depth
+goes_on rest out = false
 
 -- the words close so many hedges, the last of them with the last word
 unfoldable pub closing : ℕ → List ℕ → Bool
 closing depth [] = eqb depth 0
-closing depth (w ∷ ws) = pick (eqb depth 0) false (goesOn (λ d. closing d ws) (goes depth (kind_of desk w)))
+closing depth (w ∷ ws) = pick (eqb depth 0) false (goes_on (λ d. closing d ws) (goes depth (kind_of desk w)))
 
 -- the first word of a term: a blank for a part is all of it, and a name is followed by its parts
 abbrev pub begins : Kind → Went
@@ -55,14 +55,14 @@ begins Star = out
 begins Other = out
 
 -- "a pattern (one term)"
-unfoldable pub oneTerm : List ℕ → Bool
-oneTerm [] = false
-oneTerm (w ∷ ws) = goesOn (λ d. closing d ws) (begins (kind_of desk w))
+unfoldable pub one_term : List ℕ → Bool
+one_term [] = false
+one_term (w ∷ ws) = goes_on (λ d. closing d ws) (begins (kind_of desk w))
 
 -- these words, and an end mark, are those of the hedge of that term
 pub record Pattern (ws : List ℕ) (h : Hedge) : Type 0 where
-  pub fine : fineHedge desk h
-  pub words : hedgeWords h ≡ ws ++ (0 ∷ [])
+  pub fine : fine_hedge desk h
+  pub words : hedge_words h ≡ ws ++ (0 ∷ [])
 
 -- A complete report matches a pattern if some filling makes the pattern the same report; which orders are the same, the signature says.
 pub record Matches (σ : Signature) (ws : List ℕ) (report : Complete) : Type 0 where

@@ -4,10 +4,10 @@ ghost use Rattle.std.proofs.lemmas.List.Edits.{sets};
 ghost use Rattle.language.specs.Limits.{desk};
 ghost use Rattle.language.specs.Kinds.{pick, kind_of};
 ghost use Rattle.word_bytes.specs.Bytes.{words_of, words_in};
-ghost use Rattle.patterns.specs.Blanks.{noBlanks};
-ghost use Rattle.patterns.specs.Terms.{closing, oneTerm};
-ghost use Rattle.patterns.specs.Pairs.{of_both, tooMany, pairWords, asked, askedLeaves};
-ghost use Rattle.patterns.specs.Tables.{Tabled, Noted, renumberedBy, Entered, EnteredOn, Ready};
+ghost use Rattle.patterns.specs.Blanks.{no_blanks};
+ghost use Rattle.patterns.specs.Terms.{closing, one_term};
+ghost use Rattle.patterns.specs.Pairs.{of_both, too_many, pair_words, asked, asked_leaves};
+ghost use Rattle.patterns.specs.Tables.{Tabled, Noted, renumbered_by, Entered, EnteredOn, Ready};
 
 use bools::{and, or};
 use language::limits::{PLACES, QUESTION};
@@ -70,7 +70,7 @@ fn note(table: &mut [usize], place: usize, count: usize) -> usize
 
 // The blanks of a pattern, each noted in the table once.
 fn number_blanks(bytes: &[u8], table: &mut [usize]) -> Numbers
-    requires { Tabled noBlanks table.old }
+    requires { Tabled no_blanks table.old }
     ensures { Noted (words_of bytes.now) result table.new }
 {
     let n = bytes.len() / 2;
@@ -121,7 +121,7 @@ fn closes(bytes: &[u8], at: usize, hedges: usize) -> bool
 
 // Whether a pattern is exactly one term.
 fn is_term(bytes: &[u8]) -> bool
-    ensures { result ≡ oneTerm (words_of bytes.now) }
+    ensures { result ≡ one_term (words_of bytes.now) }
 {
     if bytes.len() / 2 == 0 {
         return false;
@@ -152,7 +152,7 @@ fn number_at(table: &[usize], place: usize, n: usize) -> u16
 // A word with its blank numbered by the table, behind as many as n has of its kind.
 fn renumbered(word: u16, table: &[usize], n: Numbers) -> u16
     requires { EnteredOn n table.now (kind_of desk word) }
-    ensures { result ≡ renumberedBy n table.now word }
+    ensures { result ≡ renumbered_by n table.now word }
 {
     match classify(word) {
         Kind::Term(x) => short(term_word(TermVar(number_at(table, wide(x.0), n.terms)))),
@@ -170,7 +170,7 @@ fn renumbered(word: u16, table: &[usize], n: Numbers) -> u16
 fn write_apart(bytes: &[u8], table: &[usize], n: Numbers, question: &mut [u16], at: usize) -> usize
     requires ready { Ready n table.now (words_of bytes.now) }
     requires bytes_in_bounds { at + length bytes.now / 2 < length question.old }
-    ensures { (result ≡ at + length bytes.now / 2 + 1) × (question.new ≡ sets question.old at (map (renumberedBy n table.now) (words_of bytes.now) ++ (0 ∷ []))) }
+    ensures { (result ≡ at + length bytes.now / 2 + 1) × (question.new ≡ sets question.old at (map (renumbered_by n table.now) (words_of bytes.now) ++ (0 ∷ []))) }
 {
     let m = bytes.len() / 2;
     let mut i: usize = 0;
@@ -249,9 +249,9 @@ fn write_pair(
     question: &mut [u16],
 )
     requires noted { Noted (words_of first.now) n one.now × Noted (words_of second.now) m other.now }
-    requires second_value { tooMany (of_both word (words_of first.now) (words_of second.now)) ≡ false }
+    requires second_value { too_many (of_both word (words_of first.now) (words_of second.now)) ≡ false }
     requires second_bound { (10 + (length first.now / 2 + length second.now / 2) ≤ desk.question) × (desk.question ≤ length question.old) }
-    ensures { question.new ≡ sets question.old 0 (pairWords word (words_of first.now) (words_of second.now)) }
+    ensures { question.new ≡ sets question.old 0 (pair_words word (words_of first.now) (words_of second.now)) }
 {
     let len = 10 + (first.len() / 2 + second.len() / 2);
     write_head(
@@ -275,7 +275,7 @@ fn write_pair(
 pub fn ask(word: u16, first: &[u8], second: &[u8], question: &mut [u16]) -> Asked
     requires { desk.question ≤ length question.old }
     ensures value { result ≡ asked word (words_in first.now) (words_in second.now) }
-    ensures question_after { question.new ≡ askedLeaves word (words_in first.now) (words_in second.now) question.old }
+    ensures question_after { question.new ≡ asked_leaves word (words_in first.now) (words_in second.now) question.old }
 {
     let a = even(first);
     let b = even(second);

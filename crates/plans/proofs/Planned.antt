@@ -5,7 +5,7 @@ use mathlib.Core.Path.{◌≡◌, refl, ap, ◌∙◌, subst}
 use mathlib.Core.List.{List, [], ◌∷◌}
 use mathlib.Core.Option.{Option, none, some}
 use Rattle.language.specs.Trees.{Conj}
-use Rattle.language.specs.Writing.{conjWords}
+use Rattle.language.specs.Writing.{conj_words}
 use Rattle.rules.specs.Rules.{Branch, Answer}
 use Rattle.rules.specs.Step.{place}
 use Rattle.rules.proofs.Answers.{Where, Answers}
@@ -13,9 +13,9 @@ use Rattle.plans.specs.declared.Recipe.{Recipe}
 use Rattle.plans.specs.declared.Within.{Within}
 use Rattle.plans.specs.declared.Ways.TheVariants.{One}
 use Rattle.plans.specs.declared.Plan.{Plan}
-use Rattle.plans.specs.Results.{made, resultsOf}
-use Rattle.plans.specs.Sizes.{placedWords}
-use Rattle.plans.specs.Slots.{plan_of, dropPlan}
+use Rattle.plans.specs.Results.{made, results_of}
+use Rattle.plans.specs.Sizes.{placed_words}
+use Rattle.plans.specs.Slots.{plan_of, drop_plan}
 use Rattle.plans.specs.Planned.{Planned}
 
 -- where a rule answers, it answers as shown
@@ -26,8 +26,8 @@ answered P {a} s bs e = go a e s.given
     go none e s = absurd (let z : ◌≡◌ {A = ℕ} 0 1 = cc in omega arith)
     go (some cs) e s = let d : cs ≡ bs = cc in subst P d s
 
-pub planned : {k : List ℕ} {p : Plan} {before behind : Conj} {a : Answer} → Answers (λ bs. resultsOf k p ≡ placedWords before behind bs) a → Planned k p before behind a
-planned {k} {p} {before} {behind} s = record { results = answered (λ bs. resultsOf k p ≡ placedWords before behind bs) s }
+pub planned : {k : List ℕ} {p : Plan} {before behind : Conj} {a : Answer} → Answers (λ bs. results_of k p ≡ placed_words before behind bs) a → Planned k p before behind a
+planned {k} {p} {before} {behind} s = record { results = answered (λ bs. results_of k p ≡ placed_words before behind bs) s }
 
 -- a rule that does not answer
 pub not_there : {k : List ℕ} {p : Plan} {before behind : Conj} → Planned k p before behind none
@@ -43,11 +43,11 @@ pub by_parts : (plan : Within → Within → Plan) {p : Plan} {a b c d : Within}
 by_parts plan {b = b} {c = c} e f g = e ∙ ap (λ (x : Within). plan x b) f ∙ ap (plan c) g
 
 -- no result, and one
-pub nothing_left : (k : List ℕ) (before behind : Conj) → resultsOf k dropPlan ≡ placedWords before behind []
-unfolding resultsOf placedWords
+pub nothing_left : (k : List ℕ) (before behind : Conj) → results_of k drop_plan ≡ placed_words before behind []
+unfolding results_of placed_words
 nothing_left k before behind = refl
 
 pub one-result : (k : List ℕ) (before behind : Conj) (r q : Recipe) (cut : ℕ) (b : Branch)
-    → made k r cut ≡ conjWords (place before behind b) → resultsOf k (plan_of (One cut) r q) ≡ placedWords before behind (b ∷ [])
-unfolding resultsOf placedWords
+    → made k r cut ≡ conj_words (place before behind b) → results_of k (plan_of (One cut) r q) ≡ placed_words before behind (b ∷ [])
+unfolding results_of placed_words
 one-result k before behind r q cut b e = ap (λ w. w ∷ []) e

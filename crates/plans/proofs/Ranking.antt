@@ -7,12 +7,12 @@ use mathlib.Core.Option.{Option, none, some}
 use borrow.Author.Tests.{ne_eqb}
 use Rattle.language.specs.Kinds.{pick}
 use Rattle.language.specs.Trees.{Hedge, ε, tvar, hvar, node}
-use Rattle.rules.specs.Looks.{empty, lone, hasTerm, allRuns}
+use Rattle.rules.specs.Looks.{empty, lone, has_term, all_runs}
 use Rattle.rules.specs.Elements.{is_none}
 use Rattle.rules.specs.Rules.{Branch, Answer, ◌>>=◌, check}
 use Rattle.rules.specs.Solved.{is_some}
 use Rattle.plans.specs.declared.Plan.{Plan}
-use Rattle.plans.specs.Slots.{dropPlan, tabled}
+use Rattle.plans.specs.Slots.{drop_plan, tabled}
 
 pub check-on : (b : Bool) (f : Unit {0} → Answer) → is_some (check b >>= f) ≡ b && is_some (f tt)
 unfolding check ◌>>=◌
@@ -36,7 +36,7 @@ unfolding ◌>>=◌
 bind-on none g = refl
 bind-on (some a) g = refl
 
-pub runs-terms : (r : Hedge) → allRuns r ≡ not (hasTerm r)
+pub runs-terms : (r : Hedge) → all_runs r ≡ not (has_term r)
 runs-terms ε = refl
 runs-terms (tvar x r) = refl
 runs-terms (hvar p r) = runs-terms r
@@ -76,6 +76,6 @@ abbrev pub Apart : ℕ → List ℕ → Type 0
 Apart n [] = Unit {0}
 Apart n (m ∷ ms) = (n ≡ m → ⊥) × Apart n ms
 
-pub not-tabled : (n : ℕ) (ts : List (ℕ × Plan)) → Apart n (map (λ t. t.0) ts) → tabled n ts ≡ dropPlan
+pub not-tabled : (n : ℕ) (ts : List (ℕ × Plan)) → Apart n (map (λ t. t.0) ts) → tabled n ts ≡ drop_plan
 not-tabled n [] a = refl
 not-tabled n (t ∷ ts) a = ap (λ b. pick b t.1 (tabled n ts)) (ne_eqb n t.0 a.0) ∙ not-tabled n ts a.1

@@ -15,12 +15,12 @@ use Rattle.language.specs.declared.FunVar.{FunVar}
 use Rattle.language.specs.declared.Sym.{Sym}
 use Rattle.language.specs.Limits.{desk}
 use Rattle.language.specs.Kinds.{pick}
-use Rattle.language.specs.Trees.{Functor, symbol, fvar, Hedge, ε, tvar, hvar, node, Expr, eps, cat, alt, star, over, Literal, eqn, mem, Conj, eqX, hv, holds}
-use Rattle.language.specs.Writing.{functorWord, hedgeWords, exprWords, literalWords, conjWords}
-use Rattle.language.specs.Fine.{fineFunctor, fineHedge, fineExpr, fineLiteral, fineConj}
-use Rattle.rules.specs.Substitution.{Subst, keepT, keepH, set_t, setH, setF, emptied, put, put_f, putL, put_c}
-use Rattle.rules.specs.Looks.{allRuns}
-use Rattle.views.specs.Looks.{bodyWords}
+use Rattle.language.specs.Trees.{Functor, symbol, fvar, Hedge, ε, tvar, hvar, node, Expr, eps, cat, alt, star, over, Literal, eqn, mem, Conj, eq_x, hv, holds}
+use Rattle.language.specs.Writing.{functor_word, hedge_words, expr_words, literal_words, conj_words}
+use Rattle.language.specs.Fine.{fine_functor, fine_hedge, fine_expr, fine_literal, fine_conj}
+use Rattle.rules.specs.Substitution.{Subst, keep_t, keep_h, set_t, set_h, set_f, emptied, put, put_f, put_l, put_c}
+use Rattle.rules.specs.Looks.{all_runs}
+use Rattle.views.specs.Looks.{body_words}
 use Rattle.plans.specs.declared.Recipe.{Recipe}
 use Rattle.plans.specs.Results.{replaced, changed}
 use Rattle.words.specs.Spans.{member}
@@ -36,9 +36,9 @@ replaced-append old new (x ∷ a) b =
 
 -- the substitution s is: the words `new` for each of the words `old`
 pub record Acts (s : Subst) (old new : List ℕ) : Type 0 where
-  pub term : (x : TermVar) → x.0 < desk.each → pick (member (1000 + x.0) old) new ((1000 + x.0) ∷ []) ≡ bodyWords (s.term x)
-  pub hedge : (p : HedgeVar) → p.0 < desk.each → pick (member (2000 + p.0) old) new ((2000 + p.0) ∷ []) ≡ bodyWords (s.hedge p)
-  pub functor : (X : FunVar) → X.0 < desk.each → pick (member (4000 + X.0) old) new ((4000 + X.0) ∷ []) ≡ functorWord (s.functor X) ∷ []
+  pub term : (x : TermVar) → x.0 < desk.each → pick (member (1000 + x.0) old) new ((1000 + x.0) ∷ []) ≡ body_words (s.term x)
+  pub hedge : (p : HedgeVar) → p.0 < desk.each → pick (member (2000 + p.0) old) new ((2000 + p.0) ∷ []) ≡ body_words (s.hedge p)
+  pub functor : (X : FunVar) → X.0 < desk.each → pick (member (4000 + X.0) old) new ((4000 + X.0) ∷ []) ≡ functor_word (s.functor X) ∷ []
   -- and no other word is replaced
   pub low : (x : ℕ) → x < 1000 → member x old ≡ false
   pub middle : (x : ℕ) → 3000 ≤ x → x < 4000 → member x old ≡ false
@@ -54,31 +54,31 @@ module _ {s : Subst} {old new : List ℕ} (a : Acts s old new) where
   two : (ws xs : List ℕ) {vs ys : List ℕ} → replaced old new ws ≡ vs → replaced old new xs ≡ ys → replaced old new (ws ++ xs) ≡ vs ++ ys
   two ws xs {vs} {ys} e d = replaced-append old new ws xs ∙ ap (λ t. t ++ replaced old new xs) e ∙ ap (λ t. vs ++ t) d
 
-  pub replaced-functor : (f : Functor) → fineFunctor desk f → pick (member (functorWord f) old) new (functorWord f ∷ []) ≡ functorWord (put_f s f) ∷ []
+  pub replaced-functor : (f : Functor) → fine_functor desk f → pick (member (functor_word f) old) new (functor_word f ∷ []) ≡ functor_word (put_f s f) ∷ []
   replaced-functor (symbol f) h = ap (λ b. pick b new ((3000 + f.0) ∷ [])) (a.middle (3000 + f.0) (omega arith) (omega arith))
   replaced-functor (fvar X) h = a.functor X h
 
-  pub replaced-hedge : (h : Hedge) → fineHedge desk h → replaced old new (hedgeWords h) ≡ hedgeWords (put s h)
+  pub replaced-hedge : (h : Hedge) → fine_hedge desk h → replaced old new (hedge_words h) ≡ hedge_words (put s h)
   replaced-hedge ε f = kept 0 [] (a.low 0 (omega arith)) refl
-  replaced-hedge (tvar x r) f = one (1000 + x.0) (hedgeWords r) (a.term x f.0) (replaced-hedge r f.1) ∙ sym (words-join (s.term x) (put s r))
-  replaced-hedge (hvar p r) f = one (2000 + p.0) (hedgeWords r) (a.hedge p f.0) (replaced-hedge r f.1) ∙ sym (words-join (s.hedge p) (put s r))
+  replaced-hedge (tvar x r) f = one (1000 + x.0) (hedge_words r) (a.term x f.0) (replaced-hedge r f.1) ∙ sym (words-join (s.term x) (put s r))
+  replaced-hedge (hvar p r) f = one (2000 + p.0) (hedge_words r) (a.hedge p f.0) (replaced-hedge r f.1) ∙ sym (words-join (s.hedge p) (put s r))
   replaced-hedge (node g c r) f =
-      one (functorWord g) (hedgeWords c ++ hedgeWords r) (replaced-functor g f.0) (two (hedgeWords c) (hedgeWords r) (replaced-hedge c f.1) (replaced-hedge r f.2))
+      one (functor_word g) (hedge_words c ++ hedge_words r) (replaced-functor g f.0) (two (hedge_words c) (hedge_words r) (replaced-hedge c f.1) (replaced-hedge r f.2))
 
-  pub replaced-expr : (R : Expr) → fineExpr desk R → replaced old new (exprWords R) ≡ exprWords R
+  pub replaced-expr : (R : Expr) → fine_expr desk R → replaced old new (expr_words R) ≡ expr_words R
   replaced-expr eps f = kept 7000 [] (a.high 7000 (omega arith)) refl
-  replaced-expr (cat b d) f = kept 7001 (exprWords b ++ exprWords d) (a.high 7001 (omega arith)) (two (exprWords b) (exprWords d) (replaced-expr b f.0) (replaced-expr d f.1))
-  replaced-expr (alt b d) f = kept 7002 (exprWords b ++ exprWords d) (a.high 7002 (omega arith)) (two (exprWords b) (exprWords d) (replaced-expr b f.0) (replaced-expr d f.1))
-  replaced-expr (star b) f = kept 7003 (exprWords b) (a.high 7003 (omega arith)) (replaced-expr b f)
-  replaced-expr (over g b) f = kept (3000 + g.0) (exprWords b) (a.middle (3000 + g.0) (omega arith) (omega arith)) (replaced-expr b f.1)
+  replaced-expr (cat b d) f = kept 7001 (expr_words b ++ expr_words d) (a.high 7001 (omega arith)) (two (expr_words b) (expr_words d) (replaced-expr b f.0) (replaced-expr d f.1))
+  replaced-expr (alt b d) f = kept 7002 (expr_words b ++ expr_words d) (a.high 7002 (omega arith)) (two (expr_words b) (expr_words d) (replaced-expr b f.0) (replaced-expr d f.1))
+  replaced-expr (star b) f = kept 7003 (expr_words b) (a.high 7003 (omega arith)) (replaced-expr b f)
+  replaced-expr (over g b) f = kept (3000 + g.0) (expr_words b) (a.middle (3000 + g.0) (omega arith) (omega arith)) (replaced-expr b f.1)
 
-  pub replaced-literal : (l : Literal) → fineLiteral desk l → replaced old new (literalWords l) ≡ literalWords (putL s l)
-  replaced-literal (eqn l r) f = kept 5000 (hedgeWords l ++ hedgeWords r) (a.high 5000 (omega arith)) (two (hedgeWords l) (hedgeWords r) (replaced-hedge l f.0) (replaced-hedge r f.1))
-  replaced-literal (mem h R) f = kept 6000 (hedgeWords h ++ exprWords R) (a.high 6000 (omega arith)) (two (hedgeWords h) (exprWords R) (replaced-hedge h f.0) (replaced-expr R f.1))
+  pub replaced-literal : (l : Literal) → fine_literal desk l → replaced old new (literal_words l) ≡ literal_words (put_l s l)
+  replaced-literal (eqn l r) f = kept 5000 (hedge_words l ++ hedge_words r) (a.high 5000 (omega arith)) (two (hedge_words l) (hedge_words r) (replaced-hedge l f.0) (replaced-hedge r f.1))
+  replaced-literal (mem h R) f = kept 6000 (hedge_words h ++ expr_words R) (a.high 6000 (omega arith)) (two (hedge_words h) (expr_words R) (replaced-hedge h f.0) (replaced-expr R f.1))
 
-  pub replaced-conj : (k : Conj) → fineConj desk k → replaced old new (conjWords k) ≡ conjWords (put_c s k)
+  pub replaced-conj : (k : Conj) → fine_conj desk k → replaced old new (conj_words k) ≡ conj_words (put_c s k)
   replaced-conj [] f = refl
-  replaced-conj (l ∷ k) f = two (literalWords l) (conjWords k) (replaced-literal l f.0) (replaced-conj k f.1)
+  replaced-conj (l ∷ k) f = two (literal_words l) (conj_words k) (replaced-literal l f.0) (replaced-conj k f.1)
 
 -- ---- the substitutions of the rules
 
@@ -93,59 +93,59 @@ keep : (w : ℕ) (new : List ℕ) (x : ℕ) → (w ≡ x → ⊥) → pick (memb
 keep w new x e = ap (λ b. pick b new (x ∷ [])) (not_there w x e)
 
 -- x ↦ t
-pub acts-term : (x : TermVar) (t : Hedge) → x.0 < desk.each → Acts (set_t x t) ((1000 + x.0) ∷ []) (bodyWords t)
+pub acts-term : (x : TermVar) (t : Hedge) → x.0 < desk.each → Acts (set_t x t) ((1000 + x.0) ∷ []) (body_words t)
 acts-term x t f = record {
-  term = λ y g. ap (λ b. pick b (bodyWords t) ((1000 + y.0) ∷ [])) (alone (1000 + x.0) (1000 + y.0) (eqb-base 1000 x.0 y.0)) ∙ chosen (eqb x.0 y.0) y;
-  hedge = λ p g. keep (1000 + x.0) (bodyWords t) (2000 + p.0) (omega arith);
-  functor = λ X g. keep (1000 + x.0) (bodyWords t) (4000 + X.0) (omega arith);
+  term = λ y g. ap (λ b. pick b (body_words t) ((1000 + y.0) ∷ [])) (alone (1000 + x.0) (1000 + y.0) (eqb-base 1000 x.0 y.0)) ∙ chosen (eqb x.0 y.0) y;
+  hedge = λ p g. keep (1000 + x.0) (body_words t) (2000 + p.0) (omega arith);
+  functor = λ X g. keep (1000 + x.0) (body_words t) (4000 + X.0) (omega arith);
   low = λ y g. not_there (1000 + x.0) y (omega arith);
   middle = λ y g h. not_there (1000 + x.0) y (omega arith);
   high = λ y g. not_there (1000 + x.0) y (omega arith);
 }
   where
-    chosen : (b : Bool) (y : TermVar) → pick b (bodyWords t) ((1000 + y.0) ∷ []) ≡ bodyWords (pick b t (keepT y))
+    chosen : (b : Bool) (y : TermVar) → pick b (body_words t) ((1000 + y.0) ∷ []) ≡ body_words (pick b t (keep_t y))
     chosen true y = refl
     chosen false y = refl
 
 -- p ↦ h
-pub acts-hedge : (p : HedgeVar) (h : Hedge) → p.0 < desk.each → Acts (setH p h) ((2000 + p.0) ∷ []) (bodyWords h)
+pub acts-hedge : (p : HedgeVar) (h : Hedge) → p.0 < desk.each → Acts (set_h p h) ((2000 + p.0) ∷ []) (body_words h)
 acts-hedge p h f = record {
-  term = λ x g. keep (2000 + p.0) (bodyWords h) (1000 + x.0) (omega arith);
-  hedge = λ q g. ap (λ b. pick b (bodyWords h) ((2000 + q.0) ∷ [])) (alone (2000 + p.0) (2000 + q.0) (eqb-base 2000 p.0 q.0)) ∙ chosen (eqb p.0 q.0) q;
-  functor = λ X g. keep (2000 + p.0) (bodyWords h) (4000 + X.0) (omega arith);
+  term = λ x g. keep (2000 + p.0) (body_words h) (1000 + x.0) (omega arith);
+  hedge = λ q g. ap (λ b. pick b (body_words h) ((2000 + q.0) ∷ [])) (alone (2000 + p.0) (2000 + q.0) (eqb-base 2000 p.0 q.0)) ∙ chosen (eqb p.0 q.0) q;
+  functor = λ X g. keep (2000 + p.0) (body_words h) (4000 + X.0) (omega arith);
   low = λ y g. not_there (2000 + p.0) y (omega arith);
   middle = λ y g e. not_there (2000 + p.0) y (omega arith);
   high = λ y g. not_there (2000 + p.0) y (omega arith);
 }
   where
-    chosen : (b : Bool) (q : HedgeVar) → pick b (bodyWords h) ((2000 + q.0) ∷ []) ≡ bodyWords (pick b h (keepH q))
+    chosen : (b : Bool) (q : HedgeVar) → pick b (body_words h) ((2000 + q.0) ∷ []) ≡ body_words (pick b h (keep_h q))
     chosen true q = refl
     chosen false q = refl
 
 -- X ↦ F
-pub acts-functor : (X : FunVar) (F : Functor) → X.0 < desk.each → Acts (setF X F) ((4000 + X.0) ∷ []) (functorWord F ∷ [])
+pub acts-functor : (X : FunVar) (F : Functor) → X.0 < desk.each → Acts (set_f X F) ((4000 + X.0) ∷ []) (functor_word F ∷ [])
 acts-functor X F f = record {
-  term = λ x g. keep (4000 + X.0) (functorWord F ∷ []) (1000 + x.0) (omega arith);
-  hedge = λ p g. keep (4000 + X.0) (functorWord F ∷ []) (2000 + p.0) (omega arith);
-  functor = λ Y g. ap (λ b. pick b (functorWord F ∷ []) ((4000 + Y.0) ∷ [])) (alone (4000 + X.0) (4000 + Y.0) (eqb-base 4000 X.0 Y.0)) ∙ chosen (eqb X.0 Y.0) Y;
+  term = λ x g. keep (4000 + X.0) (functor_word F ∷ []) (1000 + x.0) (omega arith);
+  hedge = λ p g. keep (4000 + X.0) (functor_word F ∷ []) (2000 + p.0) (omega arith);
+  functor = λ Y g. ap (λ b. pick b (functor_word F ∷ []) ((4000 + Y.0) ∷ [])) (alone (4000 + X.0) (4000 + Y.0) (eqb-base 4000 X.0 Y.0)) ∙ chosen (eqb X.0 Y.0) Y;
   low = λ y g. not_there (4000 + X.0) y (omega arith);
   middle = λ y g e. not_there (4000 + X.0) y (omega arith);
   high = λ y g. not_there (4000 + X.0) y (omega arith);
 }
   where
-    chosen : (b : Bool) (Y : FunVar) → pick b (functorWord F ∷ []) ((4000 + Y.0) ∷ []) ≡ functorWord (pick b F (fvar Y)) ∷ []
+    chosen : (b : Bool) (Y : FunVar) → pick b (functor_word F ∷ []) ((4000 + Y.0) ∷ []) ≡ functor_word (pick b F (fvar Y)) ∷ []
     chosen true Y = refl
     chosen false Y = refl
 
 -- p ↦ ε for each p of a hedge of hedge variables: the words before its 0
-none-there : (h : Hedge) → fineHedge desk h → allRuns h ≡ true → (x : ℕ) → (x < 2000) ⊎ (3000 ≤ x) → member x (bodyWords h) ≡ false
+none-there : (h : Hedge) → fine_hedge desk h → all_runs h ≡ true → (x : ℕ) → (x < 2000) ⊎ (3000 ≤ x) → member x (body_words h) ≡ false
 none-there ε f a x o = refl
 none-there (tvar y r) f a x o = absurd (let z : ◌≡◌ {A = ℕ} 0 1 = cc in omega arith)
 none-there (hvar p r) f a x (inl o) = both-or (ne_eqb (2000 + p.0) x (omega arith)) (none-there r f.1 a x (inl o))
 none-there (hvar p r) f a x (inr o) = both-or (ne_eqb (2000 + p.0) x (omega arith)) (none-there r f.1 a x (inr o))
 none-there (node g c r) f a x o = absurd (let z : ◌≡◌ {A = ℕ} 0 1 = cc in omega arith)
 
-pub acts-emptied : (h : Hedge) → fineHedge desk h → allRuns h ≡ true → Acts (emptied h) (bodyWords h) []
+pub acts-emptied : (h : Hedge) → fine_hedge desk h → all_runs h ≡ true → Acts (emptied h) (body_words h) []
 acts-emptied h f a = record {
   term = λ x g. ap (λ b. pick b [] ((1000 + x.0) ∷ [])) (none-there h f a (1000 + x.0) (inl (omega arith)));
   hedge = λ p g. ap (λ b. pick b [] ((2000 + p.0) ∷ [])) (member-body (hv p) g h f) ∙ chosen (holds (hv p) h) p;
@@ -155,13 +155,13 @@ acts-emptied h f a = record {
   high = λ y g. none-there h f a y (inr (omega arith));
 }
   where
-    chosen : (b : Bool) (p : HedgeVar) → pick b [] ((2000 + p.0) ∷ []) ≡ bodyWords (pick b ε (keepH p))
+    chosen : (b : Bool) (p : HedgeVar) → pick b [] ((2000 + p.0) ∷ []) ≡ body_words (pick b ε (keep_h p))
     chosen true p = refl
     chosen false p = refl
 
 -- X ↦ F makes X to F
-pub set_self : (X : FunVar) (F : Functor) → (setF X F).functor X ≡ F
-set_self X F = go (eqX X X) (eqb_refl X.0)
+pub set_self : (X : FunVar) (F : Functor) → (set_f X F).functor X ≡ F
+set_self X F = go (eq_x X X) (eqb_refl X.0)
   where
     go : (b : Bool) → T b → pick b F (fvar X) ≡ F
     go true t = refl
@@ -174,10 +174,10 @@ module _ {s : Subst} {us rs : List ℕ} (a : Acts s us rs) (k : List ℕ) (r : R
   unfolding changed
   put-words ws = ap (λ u. replaced u (slice r.new cut k) ws) eu ∙ ap (λ n. replaced us n ws) er
 
-  pub put-conj : (f t : ℕ) (c : Conj) → fineConj desk c → slice f t k ≡ conjWords c → changed k r cut (slice f t k) ≡ conjWords (put_c s c)
+  pub put-conj : (f t : ℕ) (c : Conj) → fine_conj desk c → slice f t k ≡ conj_words c → changed k r cut (slice f t k) ≡ conj_words (put_c s c)
   put-conj f t c fine e = put-words (slice f t k) ∙ ap (replaced us rs) e ∙ replaced-conj a c fine
 
-  pub put-hedge : (f t : ℕ) (h : Hedge) → fineHedge desk h → slice f t k ≡ hedgeWords h → changed k r cut (slice f t k) ≡ hedgeWords (put s h)
+  pub put-hedge : (f t : ℕ) (h : Hedge) → fine_hedge desk h → slice f t k ≡ hedge_words h → changed k r cut (slice f t k) ≡ hedge_words (put s h)
   put-hedge f t h fine e = put-words (slice f t k) ∙ ap (replaced us rs) e ∙ replaced-hedge a h fine
 
 -- ---- a part with a symbol for a function variable
@@ -194,10 +194,10 @@ module _ (X : FunVar) (g : Sym) (fine : X.0 < desk.each) (k : List ℕ) (at : �
   named : (ws : List ℕ) → renamed (get_or k at 0) (3000 + g.0) ws ≡ replaced ((4000 + X.0) ∷ []) ((3000 + g.0) ∷ []) ws
   named ws = ap (λ x. renamed x (3000 + g.0) ws) e ∙ renamed-is (4000 + X.0) (3000 + g.0) ws
 
-  pub name-conj : (f t : ℕ) (c : Conj) → fineConj desk c → slice f t k ≡ conjWords c → renamed (get_or k at 0) (3000 + g.0) (slice f t k) ≡ conjWords (put_c (setF X (symbol g)) c)
+  pub name-conj : (f t : ℕ) (c : Conj) → fine_conj desk c → slice f t k ≡ conj_words c → renamed (get_or k at 0) (3000 + g.0) (slice f t k) ≡ conj_words (put_c (set_f X (symbol g)) c)
   name-conj f t c h d = named (slice f t k) ∙ ap (replaced ((4000 + X.0) ∷ []) ((3000 + g.0) ∷ [])) d ∙ replaced-conj (acts-functor X (symbol g) fine) c h
 
-  pub name-hedge : (f t : ℕ) (h : Hedge) → fineHedge desk h → slice f t k ≡ hedgeWords h → renamed (get_or k at 0) (3000 + g.0) (slice f t k) ≡ hedgeWords (put (setF X (symbol g)) h)
+  pub name-hedge : (f t : ℕ) (h : Hedge) → fine_hedge desk h → slice f t k ≡ hedge_words h → renamed (get_or k at 0) (3000 + g.0) (slice f t k) ≡ hedge_words (put (set_f X (symbol g)) h)
   name-hedge f t h i d = named (slice f t k) ∙ ap (replaced ((4000 + X.0) ∷ []) ((3000 + g.0) ∷ [])) d ∙ replaced-hedge (acts-functor X (symbol g) fine) h i
 
   -- the variable's own word

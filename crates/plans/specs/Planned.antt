@@ -4,8 +4,8 @@ use Rattle.std.proofs.Math.Option.{some}
 use Rattle.language.specs.Trees.{Conj}
 use Rattle.rules.specs.Rules.{Branch, Answer}
 use Rattle.plans.specs.declared.Plan.{Plan}
-use Rattle.plans.specs.Results.{resultsOf}
-use Rattle.plans.specs.Sizes.{placedWords}
+use Rattle.plans.specs.Results.{results_of}
+use Rattle.plans.specs.Sizes.{placed_words}
 
 pub record Planned (k : List ℕ) (p : Plan) (before behind : Conj) (a : Answer) : Type 0 where
-  pub results : (bs : List Branch) → a ≡ some bs → resultsOf k p ≡ placedWords before behind bs
+  pub results : (bs : List Branch) → a ≡ some bs → results_of k p ≡ placed_words before behind bs

@@ -5,23 +5,23 @@ use Rattle.language.specs.Limits.{desk}
 use Rattle.language.specs.Kinds.{pick}
 use Rattle.language.specs.Numbers.{number_of}
 use Rattle.language.specs.Trees.{Hedge, Expr, Conj}
-use Rattle.language.specs.Writing.{conjWords}
-use Rattle.rules.specs.Rules.{Branch, monomialResult}
+use Rattle.language.specs.Writing.{conj_words}
+use Rattle.rules.specs.Rules.{Branch, monomial_result}
 use Rattle.rules.specs.Expressions.{linear}
 use Rattle.rules.specs.Step.{place}
-use Rattle.frames.specs.Frames.{frame, inFrames}
+use Rattle.frames.specs.Frames.{frame, in_frames}
 use Rattle.views.specs.Looks.{head, tail}
 use Rattle.plans.specs.declared.Size.{Size}
 use Rattle.plans.specs.declared.Size.TheVariants.{Fits, Over}
 
 -- the number of the table for each case, 0 where no result is too long, and the value: how many words they are
-abbrev pub sizeNumber : Size → ℕ
-sizeNumber (Fits n) = 0
-sizeNumber Over = number_of LongResult
+abbrev pub size_number : Size → ℕ
+size_number (Fits n) = 0
+size_number Over = number_of LongResult
 
-abbrev pub sizeValue : Size → ℕ
-sizeValue (Fits n) = n
-sizeValue Over = 0
+abbrev pub size_value : Size → ℕ
+size_value (Fits n) = n
+size_value Over = 0
 
 -- none passes the limit of a conjunction
 abbrev pub Short : List (List ℕ) → Type 0
@@ -31,30 +31,30 @@ Short (w ∷ ws) = (length w ≤ desk.question) × Short ws
 -- none of the results, which get this number, is too long, there is room for them from `at` on, and they are no more than a lent slice holds
 pub record Ready (number : ℕ) (ws : List (List ℕ)) (out : List ℕ) (at : ℕ) : Type 0 where
   pub short : Short ws
-  pub room : at + length (inFrames number ws) ≤ length out
-  pub low : length (inFrames number ws) ≤ desk.room
+  pub room : at + length (in_frames number ws) ≤ length out
+  pub low : length (in_frames number ws) ≤ desk.room
 
 -- one more of l words; past a slice's room there is no need to count on
 abbrev pub grown : ℕ → ℕ → ℕ
 grown n l = pick (leb n desk.room) (n + frame + l) n
 
 -- m more of l words each
-abbrev pub grownBy : ℕ → ℕ → ℕ → ℕ
-grownBy zero n l = n
-grownBy (suc m) n l = grownBy m (grown n l) l
+abbrev pub grown_by : ℕ → ℕ → ℕ → ℕ
+grown_by zero n l = n
+grown_by (suc m) n l = grown_by m (grown n l) l
 
 -- n words and those of the results
-abbrev pub sizedFrom : ℕ → List (List ℕ) → Size
-sizedFrom n [] = Fits n
-sizedFrom n (w ∷ ws) = pick (leb (length w) desk.question) (sizedFrom (grown n (length w)) ws) Over
+abbrev pub sized_from : ℕ → List (List ℕ) → Size
+sized_from n [] = Fits n
+sized_from n (w ∷ ws) = pick (leb (length w) desk.question) (sized_from (grown n (length w)) ws) Over
 
 unfoldable pub sized : List (List ℕ) → Size
-sized ws = sizedFrom 0 ws
+sized ws = sized_from 0 ws
 
 -- the words of a rule's results, in place
-unfoldable pub placedWords : Conj → Conj → List Branch → List (List ℕ)
-placedWords before behind bs = map (λ b. conjWords (place before behind b)) bs
+unfoldable pub placed_words : Conj → Conj → List Branch → List (List ℕ)
+placed_words before behind bs = map (λ b. conj_words (place before behind b)) bs
 
 -- the words of M2's results: one for each monomial of R
-unfoldable pub monomialWords : Conj → Hedge → Expr → Conj → List (List ℕ)
-monomialWords before h R behind = placedWords before behind (map (monomialResult (head h) (tail h)) (linear R))
+unfoldable pub monomial_words : Conj → Hedge → Expr → Conj → List (List ℕ)
+monomial_words before h R behind = placed_words before behind (map (monomial_result (head h) (tail h)) (linear R))

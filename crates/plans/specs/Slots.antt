@@ -19,8 +19,8 @@ abbrev pub slot : Piece → Slot
 slot a = record { piece = a }
 
 -- twelve pieces; the words of old..until are replaced by those from `new` to the cut
-abbrev pub fullRecipe : Piece → Piece → Piece → Piece → Piece → Piece → Piece → Piece → Piece → Piece → Piece → Piece → ℕ → ℕ → ℕ → Recipe
-fullRecipe a b c d e f g h i j k l old until new =
+abbrev pub full_recipe : Piece → Piece → Piece → Piece → Piece → Piece → Piece → Piece → Piece → Piece → Piece → Piece → ℕ → ℕ → ℕ → Recipe
+full_recipe a b c d e f g h i j k l old until new =
     record {
       slots = slot a ∷ slot b ∷ slot c ∷ slot d ∷ slot e ∷ slot f ∷ slot g ∷ slot h ∷ slot i ∷ slot j ∷ slot k ∷ slot l ∷ [];
       old = old;
@@ -29,11 +29,11 @@ fullRecipe a b c d e f g h i j k l old until new =
     }
 
 -- five pieces
-abbrev pub fewRecipe : Piece → Piece → Piece → Piece → Piece → ℕ → ℕ → ℕ → Recipe
-fewRecipe a b c d e old until new = fullRecipe a b c d e nothing nothing nothing nothing nothing nothing nothing old until new
+abbrev pub few_recipe : Piece → Piece → Piece → Piece → Piece → ℕ → ℕ → ℕ → Recipe
+few_recipe a b c d e old until new = full_recipe a b c d e nothing nothing nothing nothing nothing nothing nothing old until new
 
-abbrev pub blankRecipe : Recipe
-blankRecipe = fewRecipe nothing nothing nothing nothing nothing 0 0 0
+abbrev pub blank_recipe : Recipe
+blank_recipe = few_recipe nothing nothing nothing nothing nothing 0 0 0
 
 abbrev pub plan_of : Ways → Recipe → Recipe → Plan
 plan_of ways first second = record { ways = ways; first = first; second = second }
@@ -43,25 +43,25 @@ abbrev pub single : Ways → Recipe → Plan
 single ways first = plan_of ways first first
 
 -- the plan of a rule that drops the conjunction
-abbrev pub dropPlan : Plan
-dropPlan = single Drop blankRecipe
+abbrev pub drop_plan : Plan
+drop_plan = single Drop blank_recipe
 
 -- the plan that a table has for a place in the list of rules; those that it does not have drop the conjunction
 abbrev pub tabled : ℕ → List (ℕ × Plan) → Plan
-tabled n [] = dropPlan
+tabled n [] = drop_plan
 tabled n (t ∷ ts) = pick (eqb n t.0) t.1 (tabled n ts)
 
 -- the next place, within n words
-unfoldable pub forthIn : ℕ → ℕ → ℕ
-forthIn n i = pick (ltb i n) (i + 1) i
+unfoldable pub forth_in : ℕ → ℕ → ℕ
+forth_in n i = pick (ltb i n) (i + 1) i
 
 -- a part of k without its first and its last word
 abbrev pub inner_of : List ℕ → ℕ → ℕ → Within
-inner_of k from to = record { from = forthIn (length k) from; to = to - 1 }
+inner_of k from to = record { from = forth_in (length k) from; to = to - 1 }
 
 -- the children of a single term
-abbrev pub childrenOf : Hedge → Hedge
-childrenOf ε = ε
-childrenOf (tvar x r) = ε
-childrenOf (hvar p r) = ε
-childrenOf (node f c r) = c
+abbrev pub children_of : Hedge → Hedge
+children_of ε = ε
+children_of (tvar x r) = ε
+children_of (hvar p r) = ε
+children_of (node f c r) = c

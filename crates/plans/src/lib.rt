@@ -1,8 +1,8 @@
 // How the results of a rule are described: by parts of a conjunction's words, copied or with words replaced.
 ghost use Rattle.std.specs.Prelude.{◌-◌, ◌≤◌, ◌≡◌, length};
 ghost use Rattle.language.specs.Limits.{desk};
-ghost use Rattle.plans.specs.Sizes.{grown, grownBy};
-ghost use Rattle.plans.specs.Slots.{forthIn, inner_of};
+ghost use Rattle.plans.specs.Sizes.{grown, grown_by};
+ghost use Rattle.plans.specs.Slots.{forth_in, inner_of};
 
 use frames::FRAME;
 use language::limits::ROOM;
@@ -71,7 +71,7 @@ pub struct Within {
 
 // The next place, within the words: past them a place need not have one.
 fn forth(k: &[u16], i: usize) -> usize
-    ensures { result ≡ forthIn (length k.now) i }
+    ensures { result ≡ forth_in (length k.now) i }
 {
     if i < k.len() { i + 1 } else { i }
 }
@@ -106,7 +106,7 @@ pub fn grow(n: usize, one: usize) -> usize
 // So many results of one length.
 pub fn grow_by(times: usize, one: usize) -> usize
     requires { one ≤ desk.question }
-    ensures { result ≡ grownBy times 0 one }
+    ensures { result ≡ grown_by times 0 one }
 {
     let mut n = 0;
     let mut left = times;

@@ -8,7 +8,7 @@ use borrow.Author.Tests.{leb-true, lt-ltb, le-ltb, le-leb, lt-leb, eq-eqb, ne_eq
 use Rattle.language.proofs.Bools.{both_true}
 use Rattle.prompt.specs.declared.Place.{Place}
 use Rattle.prompt.specs.declared.Mode.TheVariants.{Between, Number, Remark, Wrong}
-use Rattle.prompt.specs.Texts.{digit, gap, longer, afterWord, outside, inRemark, after}
+use Rattle.prompt.specs.Texts.{digit, gap, longer, after_word, outside, in_remark, after}
 
 module _ (b : ℕ) where
   pub low : b < 48 → false ≡ digit b
@@ -27,24 +27,24 @@ module _ (b : ℕ) where
   unfolding gap
   no_gap p q r s = rw (ne_eqb b 32 p, ne_eqb b 9 q, ne_eqb b 13 r, ne_eqb b 10 s)
 
-  pub follows-gap : gap b ≡ true → Between ≡ afterWord b
-  unfolding afterWord
+  pub follows-gap : gap b ≡ true → Between ≡ after_word b
+  unfolding after_word
   follows-gap e = rw e
 
-  pub follows-hash : gap b ≡ false → b ≡ 35 → Remark ≡ afterWord b
-  unfolding afterWord
+  pub follows-hash : gap b ≡ false → b ≡ 35 → Remark ≡ after_word b
+  unfolding after_word
   follows-hash e h = rw (e, eq-eqb b 35 h)
 
-  pub follows-other : gap b ≡ false → (b ≡ 35 → ⊥) → Wrong ≡ afterWord b
-  unfolding afterWord
+  pub follows-other : gap b ≡ false → (b ≡ 35 → ⊥) → Wrong ≡ after_word b
+  unfolding after_word
   follows-other e h = rw (e, ne_eqb b 35 h)
 
-  pub remark-ends : b ≡ 10 → Between ≡ inRemark b
-  unfolding inRemark
+  pub remark-ends : b ≡ 10 → Between ≡ in_remark b
+  unfolding in_remark
   remark-ends e = rw (eq-eqb b 10 e)
 
-  pub remark-goes-on : (b ≡ 10 → ⊥) → Remark ≡ inRemark b
-  unfolding inRemark
+  pub remark-goes-on : (b ≡ 10 → ⊥) → Remark ≡ in_remark b
+  unfolding in_remark
   remark-goes-on e = rw (ne_eqb b 10 e)
 
   module _ (here : Place) (from : ℕ) where
@@ -61,7 +61,7 @@ module _ (b : ℕ) where
     unfolding outside
     on-digit e = rw e
 
-    pub on-other : digit b ≡ false → afterWord b ≡ outside v b
+    pub on-other : digit b ≡ false → after_word b ≡ outside v b
     unfolding outside
     on-other e = rw e
 

@@ -13,7 +13,7 @@ use Rattle.language.proofs.Stores.{sets-append, set_past, sets-past}
 use Rattle.prompt.specs.declared.Mode.{Mode}
 use Rattle.prompt.specs.declared.Place.{Place}
 use Rattle.prompt.specs.declared.Mode.TheVariants.{Between, Number}
-use Rattle.prompt.specs.Texts.{digit, next, isWrong, begins, after, ended, behind, reads, readText}
+use Rattle.prompt.specs.Texts.{digit, next, is_wrong, begins, after, ended, behind, reads, read_text}
 use Rattle.prompt.specs.Parsed.{Put, Parsed}
 
 -- ---- one byte, in the mode that the code found
@@ -75,13 +75,13 @@ module _ (text room : List ℕ) where
     pub columns : here.column ≤ at + 1
     pub fits : n ≤ length room
     pub len : length room' ≡ length room
-    pub line : (reads mode here (drop at text)).line ≡ (readText text).line
-    pub column : (reads mode here (drop at text)).column ≡ (readText text).column
-    pub count : min (length room) (n + length (reads mode here (drop at text)).words) ≡ min (length room) (length (readText text).words)
-    pub words : sets room' n (reads mode here (drop at text)).words ≡ sets room 0 (readText text).words
+    pub line : (reads mode here (drop at text)).line ≡ (read_text text).line
+    pub column : (reads mode here (drop at text)).column ≡ (read_text text).column
+    pub count : min (length room) (n + length (reads mode here (drop at text)).words) ≡ min (length room) (length (read_text text).words)
+    pub words : sets room' n (reads mode here (drop at text)).words ≡ sets room 0 (read_text text).words
 
   pub starts : Going 0 0 (record { line = 1; column = 1; from = 1 }) Between room
-  unfolding readText
+  unfolding read_text
   starts = record { inside = omega arith; lines = omega arith; columns = omega arith; fits = omega arith; len = refl; line = refl; column = refl; count = ap (min (length room)) (omega arith); words = refl }
 
   module _ {at n : ℕ} {here : Place} {mode : Mode} {room' : List ℕ} (g : Going at n here mode room') where
@@ -93,7 +93,7 @@ module _ (text room : List ℕ) where
       standing : reads mode here (drop at text) ≡ reads mode here (b ∷ drop (at + 1) text)
       standing = ap (reads mode here) (drop-cons text at 0 p ∙ ap (λ k. b ∷ drop k text) (sym (add-one at)))
 
-      pub stops : {r : Bool} → r ≡ isWrong (next mode b) → r ≡ true → {from : ℕ} → from ≡ begins mode here → Parsed text room (record { words = n; line = here.line; column = from }) room'
+      pub stops : {r : Bool} → r ≡ is_wrong (next mode b) → r ≡ true → {from : ℕ} → from ≡ begins mode here → Parsed text room (record { words = n; line = here.line; column = from }) room'
       unfolding reads
       stops e t {from} f =
           let it : reads mode here (drop at text) ≡ record { words = []; line = here.line; column = begins mode here } = standing ∙ rw (sym e ∙ t) in
@@ -104,7 +104,7 @@ module _ (text room : List ℕ) where
             words = sym (ap (λ r. sets room' n r.words) it) ∙ g.words;
           }
 
-      pub goes_on : {r : Bool} → r ≡ isWrong (next mode b) → r ≡ false → {from m : ℕ} {room'' : List ℕ} → from ≡ begins mode here → Put room' n (ended mode b) m room'' → {there : Place} → there ≡ after here from b → {then : Mode} → then ≡ next mode b → Going (at + 1) m there then room''
+      pub goes_on : {r : Bool} → r ≡ is_wrong (next mode b) → r ≡ false → {from m : ℕ} {room'' : List ℕ} → from ≡ begins mode here → Put room' n (ended mode b) m room'' → {there : Place} → there ≡ after here from b → {then : Mode} → then ≡ next mode b → Going (at + 1) m there then room''
       unfolding reads
       goes_on {r} e t {from} {m} {room''} f u {there} h {then} i =
           let rest = reads (next mode b) (after here (begins mode here) b) (drop (at + 1) text) in

@@ -2,7 +2,7 @@
 use Rattle.std.specs.Prelude.{ℕ, ◌+◌, min, ◌≡◌, List, length}
 use Rattle.std.proofs.lemmas.List.Edits.{sets}
 use Rattle.prompt.specs.declared.Text.{Text}
-use Rattle.prompt.specs.Texts.{readText}
+use Rattle.prompt.specs.Texts.{read_text}
 
 -- these words put at n, and the place after them
 pub record Put (room : List ℕ) (n : ℕ) (ws : List ℕ) (r : ℕ) (room' : List ℕ) : Type 0 where
@@ -10,7 +10,7 @@ pub record Put (room : List ℕ) (n : ℕ) (ws : List ℕ) (r : ℕ) (room' : Li
   pub words : room' ≡ sets room n ws
 
 pub record Parsed (text room : List ℕ) (r : Text) (room' : List ℕ) : Type 0 where
-  pub count : r.words ≡ min (length room) (length (readText text).words)
-  pub line : r.line ≡ (readText text).line
-  pub column : r.column ≡ (readText text).column
-  pub words : room' ≡ sets room 0 (readText text).words
+  pub count : r.words ≡ min (length room) (length (read_text text).words)
+  pub line : r.line ≡ (read_text text).line
+  pub column : r.column ≡ (read_text text).column
+  pub words : room' ≡ sets room 0 (read_text text).words

@@ -20,27 +20,27 @@ unfoldable pub longer : ℕ → ℕ → Mode
 longer v b = pick (ltb (v * 10 + (b - 48)) 65536) (Number (v * 10 + (b - 48))) Wrong
 
 -- a blank, or a remark that # begins
-unfoldable pub afterWord : ℕ → Mode
-afterWord b = pick (gap b) Between (pick (eqb b 35) Remark Wrong)
+unfoldable pub after_word : ℕ → Mode
+after_word b = pick (gap b) Between (pick (eqb b 35) Remark Wrong)
 
 unfoldable pub outside : ℕ → ℕ → Mode
-outside v b = pick (digit b) (longer v b) (afterWord b)
+outside v b = pick (digit b) (longer v b) (after_word b)
 
 -- the end of the line ends it
-unfoldable pub inRemark : ℕ → Mode
-inRemark b = pick (eqb b 10) Between Remark
+unfoldable pub in_remark : ℕ → Mode
+in_remark b = pick (eqb b 10) Between Remark
 
 abbrev pub next : Mode → ℕ → Mode
 next Between b = outside 0 b
 next (Number v) b = outside v b
-next Remark b = inRemark b
+next Remark b = in_remark b
 next Wrong b = Wrong
 
-abbrev pub isWrong : Mode → Bool
-isWrong Between = false
-isWrong (Number v) = false
-isWrong Remark = false
-isWrong Wrong = true
+abbrev pub is_wrong : Mode → Bool
+is_wrong Between = false
+is_wrong (Number v) = false
+is_wrong Remark = false
+is_wrong Wrong = true
 
 -- the word that ends before this byte
 abbrev pub ended : Mode → ℕ → List ℕ
@@ -76,7 +76,7 @@ behind ws r = record { words = ws ++ r.words; line = r.line; column = r.column }
 -- from a byte at this place on; the end of the text ends its last word
 unfoldable pub reads : Mode → Place → List ℕ → Reading
 reads mode here [] = record { words = ended mode 10; line = 0; column = 0 }
-reads mode here (b ∷ bs) = pick (isWrong (next mode b)) (record { words = []; line = here.line; column = begins mode here }) (behind (ended mode b) (reads (next mode b) (after here (begins mode here) b) bs))
+reads mode here (b ∷ bs) = pick (is_wrong (next mode b)) (record { words = []; line = here.line; column = begins mode here }) (behind (ended mode b) (reads (next mode b) (after here (begins mode here) b) bs))
 
-unfoldable pub readText : List ℕ → Reading
-readText text = reads Between (record { line = 1; column = 1; from = 1 }) text
+unfoldable pub read_text : List ℕ → Reading
+read_text text = reads Between (record { line = 1; column = 1; from = 1 }) text

@@ -1,6 +1,6 @@
 // Words in decimal, as a person writes them: blanks and line ends between them, and from # to the end of a line a remark.
 ghost use Rattle.std.specs.Prelude.{◌<◌, ◌≤◌, ◌≡◌, [], ◌∷◌, length};
-ghost use Rattle.prompt.specs.Texts.{digit, gap, longer, afterWord, outside, inRemark, next, isWrong, begins, after, ended};
+ghost use Rattle.prompt.specs.Texts.{digit, gap, longer, after_word, outside, in_remark, next, is_wrong, begins, after, ended};
 ghost use Rattle.prompt.specs.declared.Mode.TheVariants.{Number};
 ghost use Rattle.prompt.specs.Parsed.{Put, Parsed};
 
@@ -75,7 +75,7 @@ fn with_digit(v: u16, b: u8) -> Mode
 }
 
 fn after_word(b: u8) -> Mode
-    ensures { result ≡ afterWord b }
+    ensures { result ≡ after_word b }
 {
     if is_gap(b) {
         return Mode::Between;
@@ -96,7 +96,7 @@ fn outside_remarks(v: u16, b: u8) -> Mode
 }
 
 fn inside_remark(b: u8) -> Mode
-    ensures { result ≡ inRemark b }
+    ensures { result ≡ in_remark b }
 {
     if b == b'\n' {
         return Mode::Between;
@@ -116,7 +116,7 @@ fn go_on(mode: Mode, b: u8) -> Mode
 }
 
 fn is_wrong(mode: Mode) -> bool
-    ensures { result ≡ isWrong mode }
+    ensures { result ≡ is_wrong mode }
 {
     match mode {
         Mode::Between => false,

@@ -12,36 +12,36 @@ use borrow.Author.Tests.{lt-ltb, le-ltb, ltb-false}
 use Rattle.language.specs.Limits.{Limits}
 use Rattle.text_names.specs.Shelves.{width}
 use Rattle.text_words.proofs.Stores.{sets-++}
-use Rattle.read_text.specs.Reads.{manyOf, oneAtLeast}
+use Rattle.read_text.specs.Reads.{many_of, one_at_least}
 
-pub some-already : (n : ℕ) → (n ≡ 0 → ⊥) → n ≡ oneAtLeast n
+pub some-already : (n : ℕ) → (n ≡ 0 → ⊥) → n ≡ one_at_least n
 some-already zero p = absurd (p refl)
 some-already (suc n) p = refl
 
 -- ---- too many
 
 module _ (L : Limits) (names : List ℕ) (many : ℕ) where
-  pub many-terms : L.each < get_or names 0 0 → true ≡ manyOf L names many
-  unfolding manyOf
+  pub many-terms : L.each < get_or names 0 0 → true ≡ many_of L names many
+  unfolding many_of
   many-terms p = rw (lt-ltb L.each (get_or names 0 0) p)
 
   module _ (a : get_or names 0 0 ≤ L.each) where
-    pub many-hedges : L.each < get_or names (width L) 0 → true ≡ manyOf L names many
-    unfolding manyOf
+    pub many-hedges : L.each < get_or names (width L) 0 → true ≡ many_of L names many
+    unfolding many_of
     many-hedges p = rw (le-ltb L.each (get_or names 0 0) a, lt-ltb L.each (get_or names (width L) 0) p)
 
     module _ (b : get_or names (width L) 0 ≤ L.each) where
-      pub many-symbols : L.each < get_or names (2 * width L) 0 → true ≡ manyOf L names many
-      unfolding manyOf
+      pub many-symbols : L.each < get_or names (2 * width L) 0 → true ≡ many_of L names many
+      unfolding many_of
       many-symbols p = rw (le-ltb L.each (get_or names 0 0) a, le-ltb L.each (get_or names (width L) 0) b, lt-ltb L.each (get_or names (2 * width L) 0) p)
 
       module _ (c : get_or names (2 * width L) 0 ≤ L.each) where
-        pub many-functions : L.each < get_or names (3 * width L) 0 → true ≡ manyOf L names many
-        unfolding manyOf
+        pub many-functions : L.each < get_or names (3 * width L) 0 → true ≡ many_of L names many
+        unfolding many_of
         many-functions p = rw (le-ltb L.each (get_or names 0 0) a, le-ltb L.each (get_or names (width L) 0) b, le-ltb L.each (get_or names (2 * width L) 0) c, lt-ltb L.each (get_or names (3 * width L) 0) p)
 
-        pub many-lines : get_or names (3 * width L) 0 ≤ L.each → ltb L.alternatives many ≡ manyOf L names many
-        unfolding manyOf
+        pub many-lines : get_or names (3 * width L) 0 ≤ L.each → ltb L.alternatives many ≡ many_of L names many
+        unfolding many_of
         many-lines d = rw (le-ltb L.each (get_or names 0 0) a, le-ltb L.each (get_or names (width L) 0) b, le-ltb L.each (get_or names (2 * width L) 0) c, le-ltb L.each (get_or names (3 * width L) 0) d)
 
 -- ---- words copied
@@ -84,8 +84,8 @@ pub record Few (L : Limits) (names : List ℕ) (many : ℕ) : Type 0 where
   pub function : get_or names (3 * width L) 0 ≤ L.each
   pub lines : many ≤ L.alternatives
 
-pub few-counts : (L : Limits) (names : List ℕ) (many : ℕ) → manyOf L names many ≡ false → Few L names many
-unfolding manyOf
+pub few-counts : (L : Limits) (names : List ℕ) (many : ℕ) → many_of L names many ≡ false → Few L names many
+unfolding many_of
 few-counts L names many e = on (ltb L.each (get_or names 0 0)) refl (ltb L.each (get_or names (width L) 0)) refl (ltb L.each (get_or names (2 * width L) 0)) refl (ltb L.each (get_or names (3 * width L) 0)) refl (ltb L.alternatives many) refl e
   where
     on : (a : Bool) → ltb L.each (get_or names 0 0) ≡ a → (b : Bool) → ltb L.each (get_or names (width L) 0) ≡ b → (c : Bool) → ltb L.each (get_or names (2 * width L) 0) ≡ c
@@ -103,6 +103,6 @@ few-counts L names many e = on (ltb L.each (get_or names 0 0)) refl (ltb L.each 
       lines = ltb-false L.alternatives many u;
     }
 
-pub least-few : (n m : ℕ) → n ≤ m → oneAtLeast n ≤ m + 1
+pub least-few : (n m : ℕ) → n ≤ m → one_at_least n ≤ m + 1
 least-few zero m p = omega arith
 least-few (suc n) m p = omega arith

@@ -12,26 +12,26 @@ reading_of (gives ws) = Given (length ws)
 reading_of (denies r) = Refused r
 
 -- "each leaves the room untouched"
-abbrev pub leftBy : Outcome → List ℕ → List ℕ
-leftBy (gives ws) room = sets room 0 ws
-leftBy (denies r) room = room
+abbrev pub left_by : Outcome → List ℕ → List ℕ
+left_by (gives ws) room = sets room 0 ws
+left_by (denies r) room = room
 
 -- more names of a class, or more lines, than a header can count
-unfoldable pub manyOf : Limits → List ℕ → ℕ → Bool
-manyOf L names many =
+unfoldable pub many_of : Limits → List ℕ → ℕ → Bool
+many_of L names many =
     ltb L.each (get_or names 0 0)
     || (ltb L.each (get_or names (width L) 0)
     || (ltb L.each (get_or names (2 * width L) 0)
     || (ltb L.each (get_or names (3 * width L) 0) || ltb L.alternatives many)))
 
-abbrev pub oneAtLeast : ℕ → ℕ
-oneAtLeast zero = 1
-oneAtLeast (suc n) = suc n
+abbrev pub one_at_least : ℕ → ℕ
+one_at_least zero = 1
+one_at_least (suc n) = suc n
 
 -- where the words of the conjunctions begin
 abbrev pub first_of : Limits → ℕ → ℕ
 first_of L many = 6 + min L.alternatives many
 
 -- the five counts, and the first offset
-abbrev pub headerOf : Limits → List ℕ → ℕ → List ℕ
-headerOf L names many = oneAtLeast (get_or names (2 * width L) 0) ∷ get_or names 0 0 ∷ get_or names (width L) 0 ∷ get_or names (3 * width L) 0 ∷ many ∷ (6 + many) ∷ []
+abbrev pub header_of : Limits → List ℕ → ℕ → List ℕ
+header_of L names many = one_at_least (get_or names (2 * width L) 0) ∷ get_or names 0 0 ∷ get_or names (width L) 0 ∷ get_or names (3 * width L) 0 ∷ many ∷ (6 + many) ∷ []

@@ -2,8 +2,8 @@
 ghost use Rattle.std.specs.Prelude.{◌+◌, ◌*◌, ◌≤◌, ◌<◌, ◌≡◌, false, length, take};
 ghost use Rattle.std.proofs.lemmas.List.Edits.{sets};
 ghost use Rattle.language.specs.Limits.{desk};
-ghost use Rattle.texts.specs.Outcomes.{readsText};
-ghost use Rattle.read_text.specs.Reads.{reading_of, leftBy, manyOf, oneAtLeast, headerOf, first_of};
+ghost use Rattle.texts.specs.Outcomes.{reads_text};
+ghost use Rattle.read_text.specs.Reads.{reading_of, left_by, many_of, one_at_least, header_of, first_of};
 
 use collecting::{ALL, collect};
 use language::Refusal;
@@ -25,7 +25,7 @@ pub enum Reading {
 // Whether there are more names of a class, or more lines, than a header can count.
 fn is_many(names: &[usize], many: usize) -> bool
     requires { 4 * (desk.each + 2) ≤ length names.now }
-    ensures { result ≡ manyOf desk names.now many }
+    ensures { result ≡ many_of desk names.now many }
 {
     if PLACES < names[0] {
         return true;
@@ -44,7 +44,7 @@ fn is_many(names: &[usize], many: usize) -> bool
 
 // One symbol is declared where none appears.
 fn at_least_one(n: usize) -> usize
-    ensures { result ≡ oneAtLeast n }
+    ensures { result ≡ one_at_least n }
 {
     if n == 0 {
         return 1;
@@ -64,8 +64,8 @@ fn first_word(many: usize) -> usize
 
 // The five counts, and the first offset.
 fn write_header(names: &[usize], many: usize, words: &mut [u16])
-    requires { (4 * (desk.each + 2) ≤ length names.now) × (manyOf desk names.now many ≡ false) }
-    ensures { words.new ≡ sets words.old 0 (headerOf desk names.now many) }
+    requires { (4 * (desk.each + 2) ≤ length names.now) × (many_of desk names.now many ≡ false) }
+    ensures { words.new ≡ sets words.old 0 (header_of desk names.now many) }
 {
     let s = at_least_one(names[2 * WIDTH]);
     put_head(words, 0, s as u16);
@@ -90,8 +90,8 @@ fn copy(words: &[u16], n: usize, room: &mut [u16])
 
 // The words of the question that a text is, in the room lent.
 pub fn read_text(text: &[u8], room: &mut [u16]) -> Reading
-    ensures value { result ≡ reading_of (readsText desk (length room.old) text.now) }
-    ensures room_after { room.new ≡ leftBy (readsText desk (length room.old) text.now) room.old }
+    ensures value { result ≡ reading_of (reads_text desk (length room.old) text.now) }
+    ensures room_after { room.new ≡ left_by (reads_text desk (length room.old) text.now) room.old }
 {
     let v = survey(text);
     if !v.ok {

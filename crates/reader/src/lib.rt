@@ -1,10 +1,10 @@
 // Reading a question's words: its header, its offsets, its conjunctions, and which of the refusals 2 to 6 is given.
 ghost use Rattle.std.specs.Prelude.{◌≡◌};
 ghost use Rattle.language.specs.Limits.{desk};
-ghost use Rattle.language.specs.Question.{countsFit, readQuestion};
-ghost use Rattle.header.specs.Heading.{countsIn};
-ghost use Rattle.outcomes.specs.Numbers.{checkedNumbers};
-ghost use Rattle.reader.specs.Checking.{askedNumbers};
+ghost use Rattle.language.specs.Question.{counts_fit, read_question};
+ghost use Rattle.header.specs.Heading.{counts_in};
+ghost use Rattle.outcomes.specs.Numbers.{checked_numbers};
+ghost use Rattle.reader.specs.Checking.{asked_numbers};
 
 use conjunctions::read_all;
 use header::{Header, laid_out, read_header};
@@ -16,7 +16,7 @@ use undeclared::{Scan, find_undeclared};
 
 // Whether the counts are in range.
 fn counts_fit(h: Header) -> bool
-    ensures { result ≡ countsFit desk (countsIn h) h.alternatives }
+    ensures { result ≡ counts_fit desk (counts_in h) h.alternatives }
 {
     if h.symbols < 1 {
         return false;
@@ -41,7 +41,7 @@ fn counts_fit(h: Header) -> bool
 
 // Whether a question can be worked on, or which of 2 to 6 is given, and at which place: in their order, each over the whole question.
 pub fn read_question(question: &[u16]) -> Checked
-    ensures { checkedNumbers result ≡ askedNumbers (readQuestion desk question.now) }
+    ensures { checked_numbers result ≡ asked_numbers (read_question desk question.now) }
 {
     if question.len() < 6 {
         return Checked::Refused(Refusal::QuestionLength);

@@ -1,6 +1,6 @@
 // A recipe put together from its pieces.
 ghost use Rattle.std.specs.Prelude.{◌≡◌};
-ghost use Rattle.plans.specs.Slots.{fullRecipe, fewRecipe};
+ghost use Rattle.plans.specs.Slots.{full_recipe, few_recipe};
 
 use plans::{Piece, Recipe, Slot};
 
@@ -22,7 +22,7 @@ pub fn full(
     until: usize,
     new: usize,
 ) -> Recipe
-    ensures { result ≡ fullRecipe a b c d e f g h i j k l old until new }
+    ensures { result ≡ full_recipe a b c d e f g h i j k l old until new }
 {
     let slots = [
         Slot { piece: a },
@@ -57,7 +57,7 @@ pub fn few(
     until: usize,
     new: usize,
 ) -> Recipe
-    ensures { result ≡ fewRecipe a b c d e old until new }
+    ensures { result ≡ few_recipe a b c d e old until new }
 {
     let none = Piece::Copy(0, 0);
     full(

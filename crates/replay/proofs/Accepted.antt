@@ -14,22 +14,22 @@ use Rattle.language.specs.Limits.{Limits}
 use Rattle.language.specs.Kinds.{pick}
 use Rattle.language.specs.Trees.{Conj}
 use Rattle.rules.specs.Reply.{Reply, nothing, results, stops}
-use Rattle.rules.specs.Step.{Spot, each, Found, search, stepAt, step}
-use Rattle.rules.specs.Run.{Numbered, all_of, numbered, anyLong, waitingSize, linesFit, Outcome, finished, refused, checked, lined, turn, run_from, run_by, run}
+use Rattle.rules.specs.Step.{Spot, each, Found, search, step_at, step}
+use Rattle.rules.specs.Run.{Numbered, all_of, numbered, any_long, waiting_size, lines_fit, Outcome, finished, refused, checked, lined, turn, run_from, run_by, run}
 use Rattle.rules.proofs.Steps.{search-named}
-use Rattle.replay.specs.Trail.{traced, trailFrom, trail, trailWords}
-use Rattle.replay.specs.Replay.{Triple, triples, leftOver, spot_of, retraced, at, replayFrom, replay}
+use Rattle.replay.specs.Trail.{traced, trail_from, trail, trail_words}
+use Rattle.replay.specs.Replay.{Triple, triples, left_over, spot_of, retraced, at, replay_from, replay}
 
 -- ---- in words and back
 
 abbrev triple_of : Spot → Triple
 triple_of s = record { rule = s.rule; literal = s.literal; side = pick s.swapped 1 0 }
 
-pub triples-back : (t : List Spot) → triples (trailWords t) ≡ map triple_of t
+pub triples-back : (t : List Spot) → triples (trail_words t) ≡ map triple_of t
 triples-back [] = refl
 triples-back (s ∷ t) = ap (λ ts. triple_of s ∷ ts) (triples-back t)
 
-pub none_over : (t : List Spot) → leftOver (trailWords t) ≡ false
+pub none_over : (t : List Spot) → left_over (trail_words t) ≡ false
 none_over [] = refl
 none_over (s ∷ t) = none_over t
 
@@ -48,32 +48,32 @@ differ e = let z : ◌≡◌ {A = ℕ} 0 1 = cc in absurd (omega arith)
 module _ (σ : Signature) (L : Limits) where
   -- a conjunction to which no rule applies is passed, whatever the trail is
   retraced-line : (go : List Numbered → Numbered → List Numbered → Outcome) (end : List Numbered → Outcome) (k : Numbered) (ls w : List Numbered)
-      → step σ k.literals ≡ nothing → linesFit L (ls ++ (k ∷ [])) ≡ true → retraced L σ go end ls (k ∷ w) ≡ retraced L σ go end (ls ++ (k ∷ [])) w
+      → step σ k.literals ≡ nothing → lines_fit L (ls ++ (k ∷ [])) ≡ true → retraced L σ go end ls (k ∷ w) ≡ retraced L σ go end (ls ++ (k ∷ [])) w
   retraced-line go end k ls w e f =
       ap {B = Outcome} (λ m. elim m [ results ks ↦ go ls k w | nothing ↦ lined L (ls ++ (k ∷ [])) (λ more. retraced L σ go end more w) | stops r ↦ refused r ]) e
       ∙ ap {B = Outcome} (λ b. elim b [ true ↦ retraced L σ go end (ls ++ (k ∷ [])) w | false ↦ refused LineRoom ]) f
 
-  pub replay-line : (over : Bool) (n : ℕ) (ts : List Triple) (k : Numbered) (ls w : List Numbered) → step σ k.literals ≡ nothing → linesFit L (ls ++ (k ∷ [])) ≡ true
-      → replayFrom L σ over n ts ls (k ∷ w) ≡ replayFrom L σ over n ts (ls ++ (k ∷ [])) w
-  unfolding replayFrom
+  pub replay-line : (over : Bool) (n : ℕ) (ts : List Triple) (k : Numbered) (ls w : List Numbered) → step σ k.literals ≡ nothing → lines_fit L (ls ++ (k ∷ [])) ≡ true
+      → replay_from L σ over n ts ls (k ∷ w) ≡ replay_from L σ over n ts (ls ++ (k ∷ [])) w
+  unfolding replay_from
   replay-line over n [] k ls w e f = retraced-line _ _ k ls w e f
   replay-line over n (t ∷ ts) k ls w e f = retraced-line _ _ k ls w e f
 
-  pub replay-step : (over : Bool) (n : ℕ) (s : Spot) (ts : List Triple) (k : Numbered) (ls w : List Numbered) (ks : List Conj) → step σ k.literals ≡ results ks → stepAt σ s k.literals ≡ results ks
-      → replayFrom L σ over n (triple_of s ∷ ts) ls (k ∷ w) ≡ checked L ks (all_of k.number ks ++ w) (replayFrom L σ over (suc n) ts ls)
-  unfolding replayFrom
+  pub replay-step : (over : Bool) (n : ℕ) (s : Spot) (ts : List Triple) (k : Numbered) (ls w : List Numbered) (ks : List Conj) → step σ k.literals ≡ results ks → step_at σ s k.literals ≡ results ks
+      → replay_from L σ over n (triple_of s ∷ ts) ls (k ∷ w) ≡ checked L ks (all_of k.number ks ++ w) (replay_from L σ over (suc n) ts ls)
+  unfolding replay_from
   replay-step over n s ts k ls w ks e d =
       ap {B = Outcome} (λ m. elim m [
-        | results js ↦ at L σ (spot_of (triple_of s)) k w (replayFrom L σ over (suc n) ts ls)
-        | nothing ↦ lined L (ls ++ (k ∷ [])) (λ more. retraced L σ (λ more k wait. at L σ (spot_of (triple_of s)) k wait (replayFrom L σ over (suc n) ts more)) (λ _. refused LongTrail) more w)
+        | results js ↦ at L σ (spot_of (triple_of s)) k w (replay_from L σ over (suc n) ts ls)
+        | nothing ↦ lined L (ls ++ (k ∷ [])) (λ more. retraced L σ (λ more k wait. at L σ (spot_of (triple_of s)) k wait (replay_from L σ over (suc n) ts more)) (λ _. refused LongTrail) more w)
         | stops r ↦ refused r
       ]) e
-      ∙ ap (λ o. at L σ o k w (replayFrom L σ over (suc n) ts ls)) (spot_back s)
-      ∙ ap {B = Outcome} (λ m. elim m [ results js ↦ checked L js (all_of k.number js ++ w) (replayFrom L σ over (suc n) ts ls) | nothing ↦ refused BadStep | stops r ↦ refused r ]) d
+      ∙ ap (λ o. at L σ o k w (replay_from L σ over (suc n) ts ls)) (spot_back s)
+      ∙ ap {B = Outcome} (λ m. elim m [ results js ↦ checked L js (all_of k.number js ++ w) (replay_from L σ over (suc n) ts ls) | nothing ↦ refused BadStep | stops r ↦ refused r ]) d
 
   passed : (go go' : List Numbered → Outcome) (ks : List Conj) (w ms : List Numbered) (m : ℕ) → checked L ks w go ≡ finished ms m → (go w ≡ finished ms m → go' w ≡ finished ms m)
       → checked L ks w go' ≡ finished ms m
-  passed go go' ks w ms m e h = at' (anyLong L ks) (ltb L.room (waitingSize w)) e
+  passed go go' ks w ms m e h = at' (any_long L ks) (ltb L.room (waiting_size w)) e
     where
       at' : (a b : Bool) → elim a [ true ↦ refused LongResult | false ↦ elim b [ true ↦ refused LongWaiting | false ↦ go w ] ] ≡ finished ms m
           → elim a [ true ↦ refused LongResult | false ↦ elim b [ true ↦ refused LongWaiting | false ↦ go' w ] ] ≡ finished ms m
@@ -95,26 +95,26 @@ module _ (σ : Signature) (L : Limits) where
   -- with `left` steps left
   abbrev pub After : ℕ → Type 0
   After d = (n : ℕ) (ls w ms : List Numbered) (m : ℕ) → run_from L (step σ) d n ls w ≡ finished ms m
-      → (replayFrom L σ false n (map triple_of (trailFrom σ d w)) ls w ≡ finished ms m) × (m ≡ n + length (trailFrom σ d w))
+      → (replay_from L σ false n (map triple_of (trail_from σ d w)) ls w ≡ finished ms m) × (m ≡ n + length (trail_from σ d w))
 
   none_left : (n : ℕ) (w ls ms : List Numbered) (m : ℕ) → turn L (step σ) (λ _ _ _. refused StepLimit) n ls w ≡ finished ms m
-      → (replayFrom L σ false n [] ls w ≡ finished ms m) × (m ≡ n + 0)
-  unfolding replayFrom
+      → (replay_from L σ false n [] ls w ≡ finished ms m) × (m ≡ n + 0)
+  unfolding replay_from
   none_left n [] ls ms m e = (e, let z : n ≡ m = cc in omega arith)
   none_left n (k ∷ w) ls ms m e = go (step σ k.literals) refl e (none_left n w (ls ++ (k ∷ [])) ms m)
     where
       go : (r : Reply (List Conj)) → step σ k.literals ≡ r
           → elim r [ results ks ↦ refused StepLimit | nothing ↦ lined L (ls ++ (k ∷ [])) (λ more. turn L (step σ) (λ _ _ _. refused StepLimit) n more w) | stops r ↦ refused r ] ≡ finished ms m
-          → (turn L (step σ) (λ _ _ _. refused StepLimit) n (ls ++ (k ∷ [])) w ≡ finished ms m → (replayFrom L σ false n [] (ls ++ (k ∷ [])) w ≡ finished ms m) × (m ≡ n + 0))
-          → (replayFrom L σ false n [] ls (k ∷ w) ≡ finished ms m) × (m ≡ n + 0)
+          → (turn L (step σ) (λ _ _ _. refused StepLimit) n (ls ++ (k ∷ [])) w ≡ finished ms m → (replay_from L σ false n [] (ls ++ (k ∷ [])) w ≡ finished ms m) × (m ≡ n + 0))
+          → (replay_from L σ false n [] ls (k ∷ w) ≡ finished ms m) × (m ≡ n + 0)
       go nothing d e h =
-          let (f, g) = fitted (linesFit L (ls ++ (k ∷ []))) _ ms m e in
+          let (f, g) = fitted (lines_fit L (ls ++ (k ∷ []))) _ ms m e in
           let (a, b) = h g in (replay-line false n [] k ls w d f ∙ a, b)
       go (results ks) d e h = differ e
       go (stops r) d e h = differ e
 
   unchecked : (go : List Numbered → Outcome) (ks : List Conj) (w ms : List Numbered) (m : ℕ) → checked L ks w go ≡ finished ms m → go w ≡ finished ms m
-  unchecked go ks w ms m e = at' (anyLong L ks) (ltb L.room (waitingSize w)) e
+  unchecked go ks w ms m e = at' (any_long L ks) (ltb L.room (waiting_size w)) e
     where
       at' : (a b : Bool) → elim a [ true ↦ refused LongResult | false ↦ elim b [ true ↦ refused LongWaiting | false ↦ go w ] ] ≡ finished ms m → go w ≡ finished ms m
       at' true b e = differ e
@@ -134,29 +134,29 @@ module _ (σ : Signature) (L : Limits) where
       ]
 
   abbrev places : ℕ → Numbered → List Numbered → Found → List Spot
-  places d k w f = elim f [ results s ↦ s.0 ∷ trailFrom σ d (all_of k.number s.1 ++ w) | nothing ↦ traced σ (trailFrom σ d) w | stops r ↦ [] ]
+  places d k w f = elim f [ results s ↦ s.0 ∷ trail_from σ d (all_of k.number s.1 ++ w) | nothing ↦ traced σ (trail_from σ d) w | stops r ↦ [] ]
 
   abbrev Accepts : ℕ → List Spot → List Numbered → List Numbered → List Numbered → ℕ → Type 0
-  Accepts n t ls w ms m = (replayFrom L σ false n (map triple_of t) ls w ≡ finished ms m) × (m ≡ n + length t)
+  Accepts n t ls w ms m = (replay_from L σ false n (map triple_of t) ls w ≡ finished ms m) × (m ≡ n + length t)
 
   one-turn : (d : ℕ) → After d → (n : ℕ) (k : Numbered) (w ls ms : List Numbered) (m : ℕ) (f : Found) → search σ k.literals ≡ f
       → Turned d n ls k w (each (λ (f : Spot × List Conj). f.1) f) ≡ finished ms m
-      → (Going d n (ls ++ (k ∷ [])) w ≡ finished ms m → Accepts n (traced σ (trailFrom σ d) w) (ls ++ (k ∷ [])) w ms m)
+      → (Going d n (ls ++ (k ∷ [])) w ≡ finished ms m → Accepts n (traced σ (trail_from σ d) w) (ls ++ (k ∷ [])) w ms m)
       → Accepts n (places d k w f) ls (k ∷ w) ms m
   one-turn d after n k w ls ms m nothing q e h =
-      let (f, g) = fitted (linesFit L (ls ++ (k ∷ []))) _ ms m e in
-      let (a, b) = h g in (replay-line false n (map triple_of (traced σ (trailFrom σ d) w)) k ls w (found-step k.literals nothing q) f ∙ a, b)
+      let (f, g) = fitted (lines_fit L (ls ++ (k ∷ []))) _ ms m e in
+      let (a, b) = h g in (replay-line false n (map triple_of (traced σ (trail_from σ d) w)) k ls w (found-step k.literals nothing q) f ∙ a, b)
   one-turn d after n k w ls ms m (results (s, ks)) q e h =
       let v = all_of k.number ks ++ w in
       let (a, b) = after (suc n) ls v ms m (unchecked (run_from L (step σ) d (suc n) ls) ks v ms m e) in (
-        replay-step false n s (map triple_of (trailFrom σ d v)) k ls w ks (found-step k.literals (results (s, ks)) q) (search-named σ k.literals s ks q)
-            ∙ passed (run_from L (step σ) d (suc n) ls) (replayFrom L σ false (suc n) (map triple_of (trailFrom σ d v)) ls) ks v ms m e (λ _. a),
+        replay-step false n s (map triple_of (trail_from σ d v)) k ls w ks (found-step k.literals (results (s, ks)) q) (search-named σ k.literals s ks q)
+            ∙ passed (run_from L (step σ) d (suc n) ls) (replay_from L σ false (suc n) (map triple_of (trail_from σ d v)) ls) ks v ms m e (λ _. a),
         omega arith,
       )
   one-turn d after n k w ls ms m (stops r) q e h = differ e
 
-  some_left : (d : ℕ) → After d → (n : ℕ) (w ls ms : List Numbered) (m : ℕ) → Going d n ls w ≡ finished ms m → Accepts n (traced σ (trailFrom σ d) w) ls w ms m
-  unfolding replayFrom step
+  some_left : (d : ℕ) → After d → (n : ℕ) (w ls ms : List Numbered) (m : ℕ) → Going d n ls w ≡ finished ms m → Accepts n (traced σ (trail_from σ d) w) ls w ms m
+  unfolding replay_from step
   some_left d after n [] ls ms m e = (e, let z : n ≡ m = cc in omega arith)
   some_left d after n (k ∷ w) ls ms m e = one-turn d after n k w ls ms m (search σ k.literals) refl e (some_left d after n w (ls ++ (k ∷ [])) ms m)
 
@@ -166,12 +166,12 @@ module _ (σ : Signature) (L : Limits) where
   from-anywhere (suc d) n ls w ms m e = some_left d (from-anywhere d) n w ls ms m e
 
 -- "The trail of every answered solve is accepted and gives the same lines",
-pub trail-accepted : (L : Limits) (σ : Signature) (w : List Conj) (ls : List Numbered) (n : ℕ) → run L σ w ≡ finished ls n → replay L σ false (trailWords (trail L σ w)) w ≡ finished ls n
+pub trail-accepted : (L : Limits) (σ : Signature) (w : List Conj) (ls : List Numbered) (n : ℕ) → run L σ w ≡ finished ls n → replay L σ false (trail_words (trail L σ w)) w ≡ finished ls n
 unfolding run run_by trail replay
 trail-accepted L σ w ls n e =
-    let t = trailFrom σ L.steps (numbered 0 w) in
-    ap (λ over. replayFrom L σ over 0 (triples (trailWords t)) [] (numbered 0 w)) (none_over t)
-    ∙ ap (λ ts. replayFrom L σ false 0 ts [] (numbered 0 w)) (triples-back t) ∙ (from-anywhere σ L L.steps 0 [] (numbered 0 w) ls n e).0
+    let t = trail_from σ L.steps (numbered 0 w) in
+    ap (λ over. replay_from L σ over 0 (triples (trail_words t)) [] (numbered 0 w)) (none_over t)
+    ∙ ap (λ ts. replay_from L σ false 0 ts [] (numbered 0 w)) (triples-back t) ∙ (from-anywhere σ L L.steps 0 [] (numbered 0 w) ls n e).0
 
 -- it has a place for each step,
 pub trail-long : (L : Limits) (σ : Signature) (w : List Conj) (ls : List Numbered) (n : ℕ) → run L σ w ≡ finished ls n → length (trail L σ w) ≡ n
@@ -179,6 +179,6 @@ unfolding run run_by trail
 trail-long L σ w ls n e = let z = (from-anywhere σ L L.steps 0 [] (numbered 0 w) ls n e).1 in omega arith
 
 -- so that its words are three a step.
-pub three-words : (t : List Spot) → length (trailWords t) ≡ 3 * length t
+pub three-words : (t : List Spot) → length (trail_words t) ≡ 3 * length t
 three-words [] = refl
 three-words (s ∷ t) = let z = three-words t in omega arith

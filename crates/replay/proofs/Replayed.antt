@@ -18,7 +18,7 @@ use Rattle.rules.proofs.Each.{each-++}
 use Rattle.exact.specs.Numbers.{MeetsAt, MeetsNumbered}
 use Rattle.exact.proofs.Exact.{named-step-exact}
 use Rattle.exact.proofs.Run.{in_place, numbered-at, whatever-number}
-use Rattle.replay.specs.Trail.{trail, trailWords}
+use Rattle.replay.specs.Trail.{trail, trail_words}
 use Rattle.replay.specs.Replay.{replay}
 use Rattle.replay.proofs.Along.{along}
 use Rattle.replay.proofs.Accepted.{trail-accepted, trail-long}
@@ -46,5 +46,5 @@ replay-rests σ L half trail w ls s e =
 
 -- "The trail of every answered solve is accepted and gives the same lines", in the same steps, three words each.
 pub own-trail : (L : Limits) (σ : Signature) (w : List Conj) (ls : List Numbered) (n : ℕ) → run L σ w ≡ finished ls n
-    → (replay L σ false (trailWords (trail L σ w)) w ≡ finished ls n) × (length (trail L σ w) ≡ n)
+    → (replay L σ false (trail_words (trail L σ w)) w ≡ finished ls n) × (length (trail L σ w) ≡ n)
 own-trail L σ w ls n e = (trail-accepted L σ w ls n e, trail-long L σ w ls n e)

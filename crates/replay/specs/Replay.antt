@@ -8,7 +8,7 @@ use Rattle.language.specs.Limits.{Limits}
 use Rattle.language.specs.Kinds.{pick}
 use Rattle.language.specs.Trees.{Conj}
 use Rattle.rules.specs.Reply.{nothing, results, stops}
-use Rattle.rules.specs.Step.{Spot, stepAt, step}
+use Rattle.rules.specs.Step.{Spot, step_at, step}
 use Rattle.rules.specs.Run.{Numbered, all_of, numbered, Outcome, finished, refused, checked, lined}
 
 -- ---- a trail in words
@@ -26,11 +26,11 @@ triples (a ∷ []) = []
 triples (a ∷ b ∷ []) = []
 triples (a ∷ b ∷ c ∷ ws) = record { rule = a; literal = b; side = c } ∷ triples ws
 
-abbrev pub leftOver : List ℕ → Bool
-leftOver [] = false
-leftOver (a ∷ []) = true
-leftOver (a ∷ b ∷ []) = true
-leftOver (a ∷ b ∷ c ∷ ws) = leftOver ws
+abbrev pub left_over : List ℕ → Bool
+left_over [] = false
+left_over (a ∷ []) = true
+left_over (a ∷ b ∷ []) = true
+left_over (a ∷ b ∷ c ∷ ws) = left_over ws
 
 -- the place that it names; "a third word that is neither 0 nor 1" names none
 abbrev pub spot_of : Triple → Option Spot
@@ -54,18 +54,18 @@ retraced L σ go end lines (k ∷ waiting) =
 abbrev pub at : Limits → Signature → Option Spot → Numbered → List Numbered → (List Numbered → Outcome) → Outcome
 at L σ none k waiting go = refused BadStep
 at L σ (some s) k waiting go =
-    elim (stepAt σ s k.literals) [
+    elim (step_at σ s k.literals) [
       | results ks ↦ checked L ks (all_of k.number ks ++ waiting) go
       | nothing ↦ refused BadStep
       | stops refusal ↦ refused refusal
     ]
 
 -- "27 trail ends early or within a step; 28 trail goes on after the end"
-unfoldable pub replayFrom : Limits → Signature → Bool → ℕ → List Triple → List Numbered → List Numbered → Outcome
-replayFrom L σ over made [] lines waiting = retraced L σ (λ _ _ _. refused ShortTrail) (λ more. pick over (refused LongTrail) (finished more made)) lines waiting
-replayFrom L σ over made (t ∷ ts) lines waiting =
-    retraced L σ (λ more k wait. at L σ (spot_of t) k wait (replayFrom L σ over (suc made) ts more)) (λ _. refused LongTrail) lines waiting
+unfoldable pub replay_from : Limits → Signature → Bool → ℕ → List Triple → List Numbered → List Numbered → Outcome
+replay_from L σ over made [] lines waiting = retraced L σ (λ _ _ _. refused ShortTrail) (λ more. pick over (refused LongTrail) (finished more made)) lines waiting
+replay_from L σ over made (t ∷ ts) lines waiting =
+    retraced L σ (λ more k wait. at L σ (spot_of t) k wait (replay_from L σ over (suc made) ts more)) (λ _. refused LongTrail) lines waiting
 
 -- a trail in words, behind which half a word may stand, as bytes can have it; on the alternatives
 unfoldable pub replay : Limits → Signature → Bool → List ℕ → List Conj → Outcome
-replay L σ half trail alternatives = replayFrom L σ (half || leftOver trail) 0 (triples trail) [] (numbered 0 alternatives)
+replay L σ half trail alternatives = replay_from L σ (half || left_over trail) 0 (triples trail) [] (numbered 0 alternatives)

@@ -7,7 +7,7 @@ use Rattle.language.specs.Kinds.{pick}
 use Rattle.language.specs.Trees.{Conj}
 use Rattle.rules.specs.Reply.{nothing, results, stops}
 use Rattle.rules.specs.Step.{Spot, search, step}
-use Rattle.rules.specs.Run.{Numbered, all_of, numbered, anyLong, waitingSize, Outcome, refused, turn}
+use Rattle.rules.specs.Run.{Numbered, all_of, numbered, any_long, waiting_size, Outcome, refused, turn}
 
 -- ---- places
 
@@ -21,42 +21,42 @@ traced σ go (k ∷ w) =
       | stops r ↦ []
     ]
 
-abbrev pub trailFrom : Signature → ℕ → List Numbered → List Spot
-trailFrom σ zero w = []
-trailFrom σ (suc d) w = traced σ (trailFrom σ d) w
+abbrev pub trail_from : Signature → ℕ → List Numbered → List Spot
+trail_from σ zero w = []
+trail_from σ (suc d) w = traced σ (trail_from σ d) w
 
 -- of the desk's run
 unfoldable pub trail : Limits → Signature → List Conj → List Spot
-trail L σ w = trailFrom σ L.steps (numbered 0 w)
+trail L σ w = trail_from σ L.steps (numbered 0 w)
 
 -- ---- words
 
-abbrev pub spotWords : Spot → List ℕ
-spotWords s = s.rule ∷ s.literal ∷ pick s.swapped 1 0 ∷ []
+abbrev pub spot_words : Spot → List ℕ
+spot_words s = s.rule ∷ s.literal ∷ pick s.swapped 1 0 ∷ []
 
-abbrev pub trailWords : List Spot → List ℕ
-trailWords [] = []
-trailWords (s ∷ t) = spotWords s ++ trailWords t
+abbrev pub trail_words : List Spot → List ℕ
+trail_words [] = []
+trail_words (s ∷ t) = spot_words s ++ trail_words t
 
 -- ---- solving with a trail
 
 -- in a step: 7, 8, "29 when the trail passes the room lent for it, checked after 8 in a step"
 abbrev pub written : Limits → ℕ → ℕ → List Conj → List Numbered → (List Numbered → Outcome) → Outcome
 written L room made ks w go =
-    elim (anyLong L ks) [
+    elim (any_long L ks) [
       | true ↦ refused LongResult
       | false ↦
-          elim (ltb L.room (waitingSize w)) [
+          elim (ltb L.room (waiting_size w)) [
             | true ↦ refused LongWaiting
             | false ↦ elim (ltb room (3 * suc made)) [ true ↦ refused TrailRoom | false ↦ go w ]
           ]
     ]
 
 -- as `run_from`, with so many words of room for the trail
-unfoldable pub runWriting : Limits → Signature → ℕ → ℕ → ℕ → List Numbered → List Numbered → Outcome
-runWriting L σ room zero made lines waiting = turn L (step σ) (λ _ _ _. refused StepLimit) made lines waiting
-runWriting L σ room (suc left) made lines waiting =
-    turn L (step σ) (λ more ks wait. written L room made ks wait (runWriting L σ room left (suc made) more)) made lines waiting
+unfoldable pub run_writing : Limits → Signature → ℕ → ℕ → ℕ → List Numbered → List Numbered → Outcome
+run_writing L σ room zero made lines waiting = turn L (step σ) (λ _ _ _. refused StepLimit) made lines waiting
+run_writing L σ room (suc left) made lines waiting =
+    turn L (step σ) (λ more ks wait. written L room made ks wait (run_writing L σ room left (suc made) more)) made lines waiting
 
-unfoldable pub runTrail : Limits → Signature → ℕ → List Conj → Outcome
-runTrail L σ room alternatives = runWriting L σ room L.steps 0 [] (numbered 0 alternatives)
+unfoldable pub run_trail : Limits → Signature → ℕ → List Conj → Outcome
+run_trail L σ room alternatives = run_writing L σ room L.steps 0 [] (numbered 0 alternatives)

@@ -6,7 +6,7 @@ use native.Mathlib.Omega.{arith}
 use lib.ListN.{length, get_or, length-append}
 use lib.Seq.{slice}
 use Rattle.language.specs.Limits.{desk}
-use Rattle.plans.specs.Results.{changed, pieceWords, slot_at, piecesFrom}
+use Rattle.plans.specs.Results.{changed, piece_words, slot_at, pieces_from}
 use Rattle.plans.specs.declared.Piece.{Piece}
 use Rattle.plans.specs.declared.Piece.TheVariants.{Word, Copy, Put, ToCut, PutFromCut, Each, Ordered, Named}
 use Rattle.plans.specs.declared.Slot.{Slot}
@@ -23,12 +23,12 @@ abbrev pub whole : List Slot → Swap → Recipe
 whole slots s = record { slots = slots; old = s.old; until = s.until; new = s.new }
 
 -- a recipe's substitution
-abbrev pub swapOf : Recipe → Swap
-swapOf r = record { old = r.old; until = r.until; new = r.new }
+abbrev pub swap_of : Recipe → Swap
+swap_of r = record { old = r.old; until = r.until; new = r.new }
 
 module _ (k : List ℕ) (r : Recipe) (cut nth : ℕ) where
   -- a piece does not depend on the other pieces
-  pub piece-bare : (p : Piece) → pieceWords k r cut nth p ≡ pieceWords k (bare (swapOf r)) cut nth p
+  pub piece-bare : (p : Piece) → piece_words k r cut nth p ≡ piece_words k (bare (swap_of r)) cut nth p
   unfolding changed
   piece-bare (Word x) = refl
   piece-bare (Copy a b) = refl
@@ -41,24 +41,24 @@ module _ (k : List ℕ) (r : Recipe) (cut nth : ℕ) where
 
   -- the pieces from the i-th on
   abbrev pub from : ℕ → List ℕ
-  from i = piecesFrom (12 - i) i k r cut nth
+  from i = pieces_from (12 - i) i k r cut nth
 
   module _ (i : ℕ) where
-    pub made-step : i < 12 → Split (from i) (pieceWords k r cut nth (slot_at r i)) (from (i + 1))
-    made-step h = let e : 12 - i ≡ suc (12 - (i + 1)) = omega arith in record { eq = ap (λ n. piecesFrom n i k r cut nth) e }
+    pub made-step : i < 12 → Split (from i) (piece_words k r cut nth (slot_at r i)) (from (i + 1))
+    made-step h = let e : 12 - i ≡ suc (12 - (i + 1)) = omega arith in record { eq = ap (λ n. pieces_from n i k r cut nth) e }
 
     -- the same, of the piece by itself
-    pub bare_step : i < 12 → Split (from i) (pieceWords k (bare (swapOf r)) cut nth (slot_at r i)) (from (i + 1))
+    pub bare_step : i < 12 → Split (from i) (piece_words k (bare (swap_of r)) cut nth (slot_at r i)) (from (i + 1))
     bare_step h = record { eq = (made-step h).eq ∙ ap (λ ws. ws ++ from (i + 1)) (piece-bare (slot_at r i)) }
 
     pub made_none : 12 ≤ i → from i ≡ []
-    made_none h = let e : 12 - i ≡ 0 = omega arith in ap (λ n. piecesFrom n i k r cut nth) e
+    made_none h = let e : 12 - i ≡ 0 = omega arith in ap (λ n. pieces_from n i k r cut nth) e
 
-    pub made-length : i < 12 → (n : ℕ) → n ≡ length (pieceWords k (bare (swapOf r)) cut nth (slot_at r i)) → length (from i) ≡ n + length (from (i + 1))
-    made-length h n e = ap length (bare_step h).eq ∙ length-append (pieceWords k (bare (swapOf r)) cut nth (slot_at r i)) (from (i + 1)) ∙ ap (λ m. m + length (from (i + 1))) (sym e)
+    pub made-length : i < 12 → (n : ℕ) → n ≡ length (piece_words k (bare (swap_of r)) cut nth (slot_at r i)) → length (from i) ≡ n + length (from (i + 1))
+    made-length h n e = ap length (bare_step h).eq ∙ length-append (piece_words k (bare (swap_of r)) cut nth (slot_at r i)) (from (i + 1)) ∙ ap (λ m. m + length (from (i + 1))) (sym e)
 
   -- a piece is bounded, so that sums fit
-  pub piece-short : (p : Piece) → length k ≤ desk.question → length (pieceWords k r cut nth p) ≤ desk.question * desk.question
+  pub piece-short : (p : Piece) → length k ≤ desk.question → length (piece_words k r cut nth p) ≤ desk.question * desk.question
   unfolding changed
   piece-short (Word x) h = omega arith
   piece-short (Copy a b) h = let z = part-short k a b in omega arith

@@ -16,7 +16,7 @@ use Rattle.language.specs.Kinds.{kind_of}
 use Rattle.language.proofs.Words.{Is, end, term, run, symbol, function, equation, membership, eps, cat, alt, star, other, is}
 use Rattle.language.proofs.Arms.{Among, each-kind}
 use Rattle.words.specs.Spans.{member}
-use Rattle.results.specs.Marked.{markedBy, marked, Marked}
+use Rattle.results.specs.Marked.{marked_by, marked, Marked}
 
 -- ---- what the kind of a word says of its mark
 
@@ -30,12 +30,12 @@ variable x p e = go (subst (Is desk x) e (is desk x))
 module _ (s : List Bool) (x : ℕ) {k : Kind} (e : k ≡ kind_of desk x) where
   pub marked-run : (p : HedgeVar) → k ≡ Run p → get_or s p.0 false ≡ marked s x
   unfolding marked
-  marked-run p g = ap (markedBy s) (sym g ∙ e)
+  marked-run p g = ap (marked_by s) (sym g ∙ e)
 
   pub marked-none : Among (0 ∷ 1 ∷ 3 ∷ 4 ∷ 5 ∷ 6 ∷ 7 ∷ 8 ∷ 9 ∷ 10 ∷ 11 ∷ []) k → false ≡ marked s x
   unfolding marked
   marked-none o =
-      each-kind (0 ∷ 1 ∷ 3 ∷ 4 ∷ 5 ∷ 6 ∷ 7 ∷ 8 ∷ 9 ∷ 10 ∷ 11 ∷ []) (λ j. false ≡ markedBy s j) refl (λ v. refl) tt (λ v. refl) (λ v. refl) refl refl refl refl refl refl refl k o ∙ ap (markedBy s) e
+      each-kind (0 ∷ 1 ∷ 3 ∷ 4 ∷ 5 ∷ 6 ∷ 7 ∷ 8 ∷ 9 ∷ 10 ∷ 11 ∷ []) (λ j. false ≡ marked_by s j) refl (λ v. refl) tt (λ v. refl) (λ v. refl) refl refl refl refl refl refl refl k o ∙ ap (marked_by s) e
 
 pub in_place : (x : ℕ) {k : Kind} → k ≡ kind_of desk x → (p : HedgeVar) → k ≡ Run p → p.0 < desk.each
 in_place x e p g = (variable x p (sym e ∙ g)).0
@@ -48,7 +48,7 @@ mark-word s y p l k x = go (eqb y x) refl
     here : (p.0 < desk.each) × (y ≡ 2000 + p.0)
     here = variable y p k
 
-    apart : {j : Kind} → Is desk x j → (y ≡ x → ⊥) → markedBy (set s p.0 true) j ≡ markedBy s j
+    apart : {j : Kind} → Is desk x j → (y ≡ x → ⊥) → marked_by (set s p.0 true) j ≡ marked_by s j
     apart (run q b f) ne = get_or-set_other s p.0 q.0 true false (λ same. let h = here.1 in ne (omega arith))
     apart (end f) ne = refl
     apart (term v b f) ne = refl
@@ -62,9 +62,9 @@ mark-word s y p l k x = go (eqb y x) refl
     apart (star f) ne = refl
     apart other ne = refl
 
-    go : (b : Bool) → eqb y x ≡ b → markedBy (set s p.0 true) (kind_of desk x) ≡ (b || markedBy s (kind_of desk x))
+    go : (b : Bool) → eqb y x ≡ b → marked_by (set s p.0 true) (kind_of desk x) ≡ (b || marked_by s (kind_of desk x))
     go true e =
-        ap (markedBy (set s p.0 true)) (ap (kind_of desk) (sym (eqb-true y x e)) ∙ k)
+        ap (marked_by (set s p.0 true)) (ap (kind_of desk) (sym (eqb-true y x e)) ∙ k)
         ∙ get_or-set_same s p.0 true false (subst (λ n. p.0 < n) (sym l) here.0)
     go false e = apart (is desk x) (eqb-false y x e)
 
@@ -94,7 +94,7 @@ pub none-marked : (s : List Bool) (all : List ℕ) → length s ≡ desk.each �
 unfolding marked
 none-marked s all l e = record { size = l; told = λ x. ap (λ b. b || member x all) (none x) }
   where
-    by_kind : (k : Kind) → markedBy s k ≡ false
+    by_kind : (k : Kind) → marked_by s k ≡ false
     by_kind (Run p) = blank-at s e p.0
     by_kind End = refl
     by_kind (Term v) = refl

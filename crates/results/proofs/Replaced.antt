@@ -8,7 +8,7 @@ use lib.ListN.{length, get_or, length-append}
 use lib.Seq.{slice}
 use Rattle.language.specs.Limits.{desk}
 use Rattle.language.specs.Kinds.{pick}
-use Rattle.plans.specs.Results.{replaced, emptyEach}
+use Rattle.plans.specs.Results.{replaced, empty_each}
 use Rattle.words.specs.Spans.{member}
 use Rattle.slices.specs.Written.{Within}
 use Rattle.results.specs.Marked.{swapped}
@@ -47,11 +47,11 @@ module _ {k : List ℕ} {to e : ℕ} (w : Within k to e) (old new : List ℕ) wh
   put-none i h = ap (replaced old new) (part_none w i h)
 
 module _ {k : List ℕ} {to e : ℕ} (w : Within k to e) where
-  pub each_step : (i : ℕ) → i < e → Split (emptyEach (slice i to k)) (5000 ∷ get_or k i 0 ∷ 0 ∷ 0 ∷ []) (emptyEach (slice (i + 1) to k))
-  each_step i h = record { eq = ap emptyEach (part-cons w i h) }
+  pub each_step : (i : ℕ) → i < e → Split (empty_each (slice i to k)) (5000 ∷ get_or k i 0 ∷ 0 ∷ 0 ∷ []) (empty_each (slice (i + 1) to k))
+  each_step i h = record { eq = ap empty_each (part-cons w i h) }
 
-  pub each_none : (i : ℕ) → e ≤ i → emptyEach (slice i to k) ≡ []
-  each_none i h = ap emptyEach (part_none w i h)
+  pub each_none : (i : ℕ) → e ≤ i → empty_each (slice i to k) ≡ []
+  each_none i h = ap empty_each (part_none w i h)
 
 -- ---- lengths
 
@@ -80,6 +80,6 @@ put-short k old new cut from to until h =
     let d = replaced-short (slice old until k) (slice new cut k) (slice from to k) (omega arith) in
     omega arith
 
-pub length-empty-each : (ws : List ℕ) → length (emptyEach ws) ≡ 4 * length ws
+pub length-empty-each : (ws : List ℕ) → length (empty_each ws) ≡ 4 * length ws
 length-empty-each [] = refl
 length-empty-each (x ∷ ws) = let h = length-empty-each ws in omega arith

@@ -13,12 +13,12 @@ use Rattle.language.specs.Limits.{desk}
 use Rattle.language.specs.Kinds.{pick}
 use Rattle.meaning.specs.Values.{numbers}
 use Rattle.rules.specs.Elements.{factorial}
-use Rattle.orders.specs.Orders.{plenty, someOrders}
+use Rattle.orders.specs.Orders.{plenty, some_orders}
 use Rattle.orders.proofs.Orders.{counted-orders, orders-many}
 use Rattle.plans.specs.Results.{made, numbered}
-use Rattle.words.specs.Spans.{elementEnd, places}
-use Rattle.frames.specs.Frames.{inFrame, inFrames}
-use Rattle.plans.specs.Sizes.{Short, grown, sizedFrom}
+use Rattle.words.specs.Spans.{element_end, places}
+use Rattle.frames.specs.Frames.{in_frame, in_frames}
+use Rattle.plans.specs.Sizes.{Short, grown, sized_from}
 use Rattle.plans.specs.declared.Recipe.{Recipe}
 use Rattle.plans.specs.declared.Size.{Size}
 use Rattle.plans.specs.declared.Size.TheVariants.{Fits, Over}
@@ -27,37 +27,37 @@ use Rattle.slices.proofs.Parts.{Split}
 -- ---- counting
 
 module _ (n : ℕ) (w : List ℕ) (ws : List (List ℕ)) (one : ℕ) (e : one ≡ length w) where
-  pub size-over : desk.question < one → Over ≡ sizedFrom n (w ∷ ws)
+  pub size-over : desk.question < one → Over ≡ sized_from n (w ∷ ws)
   size-over h =
-      sym (ap (λ l. pick (leb l desk.question) (sizedFrom (grown n (length w)) ws) Over) (sym e) ∙ ap (λ b. pick b (sizedFrom (grown n (length w)) ws) Over) (lt-leb one desk.question h))
+      sym (ap (λ l. pick (leb l desk.question) (sized_from (grown n (length w)) ws) Over) (sym e) ∙ ap (λ b. pick b (sized_from (grown n (length w)) ws) Over) (lt-leb one desk.question h))
 
-  pub size-more : one ≤ desk.question → (m : ℕ) → m ≡ grown n one → sizedFrom m ws ≡ sizedFrom n (w ∷ ws)
+  pub size-more : one ≤ desk.question → (m : ℕ) → m ≡ grown n one → sized_from m ws ≡ sized_from n (w ∷ ws)
   size-more h m g =
-      ap (λ m. sizedFrom m ws) (g ∙ ap (grown n) e)
-      ∙ sym (ap (λ l. pick (leb l desk.question) (sizedFrom (grown n (length w)) ws) Over) (sym e) ∙ ap (λ b. pick b (sizedFrom (grown n (length w)) ws) Over) (le-leb one desk.question h))
+      ap (λ m. sized_from m ws) (g ∙ ap (grown n) e)
+      ∙ sym (ap (λ l. pick (leb l desk.question) (sized_from (grown n (length w)) ws) Over) (sym e) ∙ ap (λ b. pick b (sized_from (grown n (length w)) ws) Over) (le-leb one desk.question h))
 
 -- one result and then others
 abbrev pub then : Size → List (List ℕ) → Size
 then Over ws = Over
-then (Fits n) ws = sizedFrom n ws
+then (Fits n) ws = sized_from n ws
 
-pub size-then : (n : ℕ) (w : List ℕ) (ws : List (List ℕ)) → then (sizedFrom n (w ∷ [])) ws ≡ sizedFrom n (w ∷ ws)
+pub size-then : (n : ℕ) (w : List ℕ) (ws : List (List ℕ)) → then (sized_from n (w ∷ [])) ws ≡ sized_from n (w ∷ ws)
 size-then n w ws = go (leb (length w) desk.question)
   where
-    go : (b : Bool) → then (pick b (Fits (grown n (length w))) Over) ws ≡ pick b (sizedFrom (grown n (length w)) ws) Over
+    go : (b : Bool) → then (pick b (Fits (grown n (length w))) Over) ws ≡ pick b (sized_from (grown n (length w)) ws) Over
     go true = refl
     go false = refl
 
 -- two results
-module _ (a b : List ℕ) (s : Size) (e : s ≡ sizedFrom 0 (a ∷ [])) where
-  pub two-over : s ≡ Over → Over ≡ sizedFrom 0 (a ∷ b ∷ [])
+module _ (a b : List ℕ) (s : Size) (e : s ≡ sized_from 0 (a ∷ [])) where
+  pub two-over : s ≡ Over → Over ≡ sized_from 0 (a ∷ b ∷ [])
   two-over f = sym (ap (λ s. then s (b ∷ [])) f) ∙ ap (λ s. then s (b ∷ [])) e ∙ size-then 0 a (b ∷ [])
 
-  pub two-more : (n : ℕ) → s ≡ Fits n → (t : Size) → t ≡ sizedFrom n (b ∷ []) → t ≡ sizedFrom 0 (a ∷ b ∷ [])
+  pub two-more : (n : ℕ) → s ≡ Fits n → (t : Size) → t ≡ sized_from n (b ∷ []) → t ≡ sized_from 0 (a ∷ b ∷ [])
   two-more n f t g = g ∙ sym (ap (λ s. then s (b ∷ [])) f) ∙ ap (λ s. then s (b ∷ [])) e ∙ size-then 0 a (b ∷ [])
 
 -- results in a row
-pub framed-split : (number : ℕ) (w : List ℕ) (ws : List (List ℕ)) → Split (inFrames number (w ∷ ws)) (inFrame number w) (inFrames number ws)
+pub framed-split : (number : ℕ) (w : List ℕ) (ws : List (List ℕ)) → Split (in_frames number (w ∷ ws)) (in_frame number w) (in_frames number ws)
 framed-split number w ws = record { eq = refl }
 
 -- ---- a result for each cut
@@ -69,20 +69,20 @@ module _ (k : List ℕ) (r : Recipe) (n c : ℕ) where
   unfolding places
   cuts-none e = ap (λ n. cuts k r n c) e
 
-  module _ (nz : n ≡ 0 → ⊥) (d : ℕ) (e : d ≡ elementEnd k c) where
+  module _ (nz : n ≡ 0 → ⊥) (d : ℕ) (e : d ≡ element_end k c) where
     cuts-cons : cuts k r n c ≡ made k r c ∷ cuts k r (n - 1) d
     unfolding places
     cuts-cons = let z : n ≡ suc (n - 1) = omega arith in ap (λ m. cuts k r m c) z ∙ ap (λ d. made k r c ∷ cuts k r (n - 1) d) (sym e)
 
-    pub cuts-over : (m one : ℕ) → one ≡ length (made k r c) → desk.question < one → Over ≡ sizedFrom m (cuts k r n c)
-    cuts-over m one f h = size-over m (made k r c) (cuts k r (n - 1) d) one f h ∙ ap (sizedFrom m) (sym cuts-cons)
+    pub cuts-over : (m one : ℕ) → one ≡ length (made k r c) → desk.question < one → Over ≡ sized_from m (cuts k r n c)
+    cuts-over m one f h = size-over m (made k r c) (cuts k r (n - 1) d) one f h ∙ ap (sized_from m) (sym cuts-cons)
 
     pub cuts-more : (m one : ℕ) → one ≡ length (made k r c) → one ≤ desk.question → (m' : ℕ) → m' ≡ grown m one
-        → sizedFrom m' (cuts k r (n - 1) d) ≡ sizedFrom m (cuts k r n c)
-    cuts-more m one f h m' g = size-more m (made k r c) (cuts k r (n - 1) d) one f h m' g ∙ ap (sizedFrom m) (sym cuts-cons)
+        → sized_from m' (cuts k r (n - 1) d) ≡ sized_from m (cuts k r n c)
+    cuts-more m one f h m' g = size-more m (made k r c) (cuts k r (n - 1) d) one f h m' g ∙ ap (sized_from m) (sym cuts-cons)
 
-    pub cuts-split : (number : ℕ) → Split (inFrames number (cuts k r n c)) (inFrame number (made k r c)) (inFrames number (cuts k r (n - 1) d))
-    cuts-split number = record { eq = ap (inFrames number) cuts-cons }
+    pub cuts-split : (number : ℕ) → Split (in_frames number (cuts k r n c)) (in_frame number (made k r c)) (in_frames number (cuts k r (n - 1) d))
+    cuts-split number = record { eq = ap (in_frames number) cuts-cons }
 
     pub cuts-short : Short (cuts k r n c) → (length (made k r c) ≤ desk.question) × Short (cuts k r (n - 1) d)
     cuts-short s = subst Short cuts-cons s
@@ -99,8 +99,8 @@ module _ (k : List ℕ) (r : Recipe) (i n : ℕ) where
     alike-cons : alike k r i (n - i) ≡ numbered k r 0 i ∷ alike k r (i + 1) (n - (i + 1))
     alike-cons = let z : n - i ≡ suc (n - (i + 1)) = omega arith in ap (alike k r i) z ∙ ap (λ j. numbered k r 0 i ∷ alike k r j (n - (i + 1))) (sym (add-one i))
 
-    pub alike-split : (number : ℕ) → Split (inFrames number (alike k r i (n - i))) (inFrame number (numbered k r 0 i)) (inFrames number (alike k r (i + 1) (n - (i + 1))))
-    alike-split number = record { eq = ap (inFrames number) alike-cons }
+    pub alike-split : (number : ℕ) → Split (in_frames number (alike k r i (n - i))) (in_frame number (numbered k r 0 i)) (in_frames number (alike k r (i + 1) (n - (i + 1))))
+    alike-split number = record { eq = ap (in_frames number) alike-cons }
 
     pub alike-short : Short (alike k r i (n - i)) → (length (numbered k r 0 i) ≤ desk.question) × Short (alike k r (i + 1) (n - (i + 1)))
     alike-short s = subst Short alike-cons s
@@ -110,13 +110,13 @@ pub alike_all : (k : List ℕ) (r : Recipe) (n : ℕ) → alike k r 0 n ≡ alik
 alike_all k r n = let z : n ≡ n - 0 = omega arith in ap (alike k r 0) z
 
 -- a room has frames for so many only
-pub alike-few : (k : List ℕ) (r : Recipe) (number n i : ℕ) → 2 * n ≤ length (inFrames number (alike k r i n))
+pub alike-few : (k : List ℕ) (r : Recipe) (number n i : ℕ) → 2 * n ≤ length (in_frames number (alike k r i n))
 alike-few k r number zero i = omega arith
 alike-few k r number (suc n) i =
-    omega (arith, alike-few k r number n (suc i), length-append (inFrame number (numbered k r 0 i)) (inFrames number (alike k r (suc i) n)))
+    omega (arith, alike-few k r number n (suc i), length-append (in_frame number (numbered k r 0 i)) (in_frames number (alike k r (suc i) n)))
 
 -- so they are counted whole
-pub orders-few : (n : ℕ) → factorial n < plenty → {c : ℕ} → c ≡ someOrders n → factorial n ≡ c
+pub orders-few : (n : ℕ) → factorial n < plenty → {c : ℕ} → c ≡ some_orders n → factorial n ≡ c
 orders-few n h {c} e = go (dec_le n 7)
   where
     go : Dec (n ≤ 7) → factorial n ≡ c

@@ -5,7 +5,7 @@ use Prim.Native.Nat.{ℕ, suc, ◌+◌}
 use native.Mathlib.Omega.{arith}
 use lib.ListN.{length, set}
 use lib.Seq.{sets}
-use Rattle.frames.specs.Frames.{frame, frame_of, inFrame}
+use Rattle.frames.specs.Frames.{frame, frame_of, in_frame}
 use Rattle.slices.specs.Written.{Wrote}
 use Rattle.slices.proofs.Still.{set-sets}
 
@@ -19,7 +19,7 @@ wrote-four l e a b c d =
 
 -- a frame before its words, stored when they stand
 pub wrote-framed : {l : List ℕ} {at : ℕ} {ws new : List ℕ} {e x : ℕ} (number : ℕ) {new' : List ℕ} → Wrote l (at + frame) ws new e → x ≡ length ws → new' ≡ sets new at (frame_of x number)
-    → Wrote l at (inFrame number ws) new' e
+    → Wrote l at (in_frame number ws) new' e
 wrote-framed {l} {at} {ws} {new} {e} {x} number w z s = record {
   end = let q = w.end in omega arith;
   list =

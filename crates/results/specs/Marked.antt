@@ -10,22 +10,22 @@ use Rattle.results.specs.declared.replacing.Marks.{Marks}
 use Rattle.results.specs.declared.replacing.Swap.{Swap}
 
 -- a hedge variable's word whose number is marked
-abbrev pub markedBy : List Bool → Kind → Bool
-markedBy set (Run p) = get_or set p.0 false
-markedBy set End = false
-markedBy set (Term x) = false
-markedBy set (Symbol f) = false
-markedBy set (Function X) = false
-markedBy set Equation = false
-markedBy set Membership = false
-markedBy set Eps = false
-markedBy set Cat = false
-markedBy set Alt = false
-markedBy set Star = false
-markedBy set Other = false
+abbrev pub marked_by : List Bool → Kind → Bool
+marked_by set (Run p) = get_or set p.0 false
+marked_by set End = false
+marked_by set (Term x) = false
+marked_by set (Symbol f) = false
+marked_by set (Function X) = false
+marked_by set Equation = false
+marked_by set Membership = false
+marked_by set Eps = false
+marked_by set Cat = false
+marked_by set Alt = false
+marked_by set Star = false
+marked_by set Other = false
 
 unfoldable pub marked : List Bool → ℕ → Bool
-marked set x = markedBy set (kind_of desk x)
+marked set x = marked_by set (kind_of desk x)
 
 -- where the words are hedge variables alone, the marks say which
 pub record Marked (words : List ℕ) (m : Marks) : Type 0 where

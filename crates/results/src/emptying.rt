@@ -1,7 +1,7 @@
 // A part made into equations p = ε.
 ghost use Rattle.std.specs.Prelude.{◌+◌, ◌≤◌, [], ◌∷◌, length};
 ghost use Rattle.std.proofs.Math.Seq.{slice};
-ghost use Rattle.plans.specs.Results.{emptyEach};
+ghost use Rattle.plans.specs.Results.{empty_each};
 ghost use Rattle.slices.specs.Written.{Wrote};
 
 use slices::within;
@@ -20,8 +20,8 @@ fn empty_one(p: u16, out: &mut [u16], at: usize) -> usize
 
 // For each word p of a part the equation p = ε.
 pub fn empty_each(k: &[u16], from: usize, to: usize, out: &mut [u16], at: usize) -> usize
-    requires { at + length (emptyEach (slice from to k.now)) ≤ length out.old }
-    ensures { Wrote out.old at (emptyEach (slice from to k.now)) out.new result }
+    requires { at + length (empty_each (slice from to k.now)) ≤ length out.old }
+    ensures { Wrote out.old at (empty_each (slice from to k.now)) out.new result }
 {
     let end = within(k, to);
     let mut i = from;

@@ -6,10 +6,10 @@ mod replacing;
 ghost use Rattle.std.specs.Prelude.{◌≤◌, ◌≡◌, [], ◌∷◌, map, length};
 ghost use Rattle.language.specs.Limits.{desk};
 ghost use Rattle.meaning.specs.Values.{numbers};
-ghost use Rattle.plans.specs.Results.{made, numbered, resultsOf};
+ghost use Rattle.plans.specs.Results.{made, numbered, results_of};
 ghost use Rattle.words.specs.Spans.{places};
-ghost use Rattle.frames.specs.Frames.{inFrames};
-ghost use Rattle.plans.specs.Sizes.{sizedFrom, sized, Ready};
+ghost use Rattle.frames.specs.Frames.{in_frames};
+ghost use Rattle.plans.specs.Sizes.{sized_from, sized, Ready};
 ghost use Rattle.slices.specs.Written.{Wrote};
 ghost use Rattle.taking.specs.Taking.{Took};
 
@@ -24,7 +24,7 @@ use taking::Stepped;
 // n words and those of one result.
 fn size_one(k: &[u16], r: Recipe, cut: usize, n: usize) -> Size
     requires { length k.now ≤ desk.question }
-    ensures { result ≡ sizedFrom n (made k.now r cut ∷ []) }
+    ensures { result ≡ sized_from n (made k.now r cut ∷ []) }
 {
     let one = made_len(k, r, cut);
     if QUESTION < one {
@@ -83,7 +83,7 @@ fn size_alike(k: &[u16], r: Recipe, times: usize) -> Size
 // How many words a plan's results take, each in its frame; or that one of them is too long.
 fn size_results(k: &[u16], plan: Plan) -> Size
     requires { length k.now ≤ desk.question }
-    ensures { result ≡ sized (resultsOf k.now plan) }
+    ensures { result ≡ sized (results_of k.now plan) }
 {
     let ways = plan.ways;
     let first = plan.first;
@@ -108,7 +108,7 @@ fn write_cuts(
     at: usize,
 ) -> usize
     requires { Ready number (map (made k.now r) (places times k.now cut)) out.old at }
-    ensures { Wrote out.old at (inFrames number (map (made k.now r) (places times k.now cut))) out.new result }
+    ensures { Wrote out.old at (in_frames number (map (made k.now r) (places times k.now cut))) out.new result }
 {
     let mut left = times;
     let mut c = cut;
@@ -123,7 +123,7 @@ fn write_cuts(
 
 fn write_two(k: &[u16], a: Recipe, b: Recipe, number: u16, out: &mut [u16], at: usize) -> usize
     requires { Ready number (made k.now a 0 ∷ made k.now b 0 ∷ []) out.old at }
-    ensures { Wrote out.old at (inFrames number (made k.now a 0 ∷ made k.now b 0 ∷ [])) out.new result }
+    ensures { Wrote out.old at (in_frames number (made k.now a 0 ∷ made k.now b 0 ∷ [])) out.new result }
 {
     let e = write_framed(k, a, 0, 0, number, out, at);
     write_framed(k, b, 0, 0, number, out, e)
@@ -132,7 +132,7 @@ fn write_two(k: &[u16], a: Recipe, b: Recipe, number: u16, out: &mut [u16], at: 
 // One result for each number.
 fn write_alike(k: &[u16], r: Recipe, times: usize, number: u16, out: &mut [u16], at: usize) -> usize
     requires { Ready number (map (numbered k.now r 0) (numbers 0 times)) out.old at }
-    ensures { Wrote out.old at (inFrames number (map (numbered k.now r 0) (numbers 0 times))) out.new result }
+    ensures { Wrote out.old at (in_frames number (map (numbered k.now r 0) (numbers 0 times))) out.new result }
 {
     let mut i = 0;
     let mut e = at;
@@ -145,8 +145,8 @@ fn write_alike(k: &[u16], r: Recipe, times: usize, number: u16, out: &mut [u16],
 
 // A plan's results, each in its frame, all with the number of the conjunction that they come from.
 fn write_results(k: &[u16], plan: Plan, number: u16, out: &mut [u16], at: usize) -> usize
-    requires { Ready number (resultsOf k.now plan) out.old at }
-    ensures { Wrote out.old at (inFrames number (resultsOf k.now plan)) out.new result }
+    requires { Ready number (results_of k.now plan) out.old at }
+    ensures { Wrote out.old at (in_frames number (results_of k.now plan)) out.new result }
 {
     let ways = plan.ways;
     let first = plan.first;
@@ -164,7 +164,7 @@ fn write_results(k: &[u16], plan: Plan, number: u16, out: &mut [u16], at: usize)
 // The results of a plan, right before `next`.
 pub fn step_planned(k: &[u16], plan: Plan, number: u16, out: &mut [u16], next: usize) -> Stepped
     requires { (length k.now ≤ desk.question) × (next ≤ length out.old) × (next ≤ desk.room) }
-    ensures { Took number (resultsOf k.now plan) out.old next result out.new }
+    ensures { Took number (results_of k.now plan) out.old next result out.new }
 {
     match size_results(k, plan) {
         Size::Over => Stepped::Long,

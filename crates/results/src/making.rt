@@ -1,10 +1,10 @@
 // One result: its length, and its words in their frame.
 ghost use Rattle.std.specs.Prelude.{◌+◌, ◌≤◌, ◌<◌, ◌≡◌, length};
 ghost use Rattle.std.proofs.Math.Seq.{slice};
-ghost use Rattle.frames.specs.Frames.{inFrame};
+ghost use Rattle.frames.specs.Frames.{in_frame};
 ghost use Rattle.language.specs.Limits.{desk};
 ghost use Rattle.orders.specs.Orders.{plenty};
-ghost use Rattle.plans.specs.Results.{pieceWords, numbered, made};
+ghost use Rattle.plans.specs.Results.{piece_words, numbered, made};
 ghost use Rattle.slices.specs.Written.{Wrote};
 ghost use Rattle.results.specs.Marked.{Marked, bare};
 
@@ -19,7 +19,7 @@ use slices::{copy, part_len};
 
 fn piece_len(k: &[u16], s: Swap, cut: usize, m: Marks, p: Piece) -> usize
     requires { Marked (slice s.old s.until k.now) m × (length k.now ≤ desk.question) }
-    ensures { result ≡ length (pieceWords k.now (bare s) cut 0 p) }
+    ensures { result ≡ length (piece_words k.now (bare s) cut 0 p) }
 {
     match p {
         Piece::Word(_) => 1,
@@ -43,8 +43,8 @@ fn write_piece(
     out: &mut [u16],
     at: usize,
 ) -> usize
-    requires { Marked (slice s.old s.until k.now) m × (at + length (pieceWords k.now (bare s) cut nth p) ≤ length out.old) × (nth < plenty) }
-    ensures { Wrote out.old at (pieceWords k.now (bare s) cut nth p) out.new result }
+    requires { Marked (slice s.old s.until k.now) m × (at + length (piece_words k.now (bare s) cut nth p) ≤ length out.old) × (nth < plenty) }
+    ensures { Wrote out.old at (piece_words k.now (bare s) cut nth p) out.new result }
 {
     match p {
         Piece::Word(x) => {
@@ -124,8 +124,8 @@ pub(crate) fn write_framed(
     out: &mut [u16],
     at: usize,
 ) -> usize
-    requires { (length (numbered k.now r cut nth) ≤ desk.question) × (at + length (inFrame number (numbered k.now r cut nth)) ≤ length out.old) × (nth < plenty) }
-    ensures { Wrote out.old at (inFrame number (numbered k.now r cut nth)) out.new result }
+    requires { (length (numbered k.now r cut nth) ≤ desk.question) × (at + length (in_frame number (numbered k.now r cut nth)) ≤ length out.old) × (nth < plenty) }
+    ensures { Wrote out.old at (in_frame number (numbered k.now r cut nth)) out.new result }
 {
     let start = at + FRAME;
     let e = write_made(k, r, cut, nth, out, start);

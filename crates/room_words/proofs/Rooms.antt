@@ -9,7 +9,7 @@ use lib.ListN.{length, set, length-append}
 use lib.Seq.{sets, length-sets}
 use borrow.Author.Tests.{leb-true, leb-false, not-true, not-false}
 use Rattle.language.proofs.Stores.{sets-append, set_past, sets-past}
-use Rattle.room_words.specs.Rooms.{wordIf, Put, Wrote}
+use Rattle.room_words.specs.Rooms.{word_if, Put, Wrote}
 
 pub put-length : {room ws room' : List ℕ} {n r : ℕ} → Put room n ws r room' → length room' ≡ length room
 put-length {room} {ws} {room'} {n} p = ap length p.words ∙ length-sets room n ws
@@ -65,14 +65,14 @@ module _ {room : List ℕ} {n : ℕ} (p : n ≤ length room) where
 
 -- ---- as the code does it
 
-pub put-not : {room : List ℕ} {n : ℕ} (w : ℕ) (b : Bool) → not b ≡ true → n ≤ length room → Put room n (wordIf b w) n room
-put-not {room} {n} w b e p = subst (λ b. Put room n (wordIf b w) n room) (sym (not-true b e)) (put-nothing p)
+pub put-not : {room : List ℕ} {n : ℕ} (w : ℕ) (b : Bool) → not b ≡ true → n ≤ length room → Put room n (word_if b w) n room
+put-not {room} {n} w b e p = subst (λ b. Put room n (word_if b w) n room) (sym (not-true b e)) (put-nothing p)
 
-pub put_one : {room : List ℕ} {n : ℕ} (w : ℕ) (b : Bool) → not b ≡ false → n < length room → Put room n (wordIf b w) (n + 1) (set room n w)
-put_one {room} {n} w b e p = subst (λ b. Put room n (wordIf b w) (n + 1) (set room n w)) (sym (not-false b e)) (record { place = omega arith; words = refl })
+pub put_one : {room : List ℕ} {n : ℕ} (w : ℕ) (b : Bool) → not b ≡ false → n < length room → Put room n (word_if b w) (n + 1) (set room n w)
+put_one {room} {n} w b e p = subst (λ b. Put room n (word_if b w) (n + 1) (set room n w)) (sym (not-false b e)) (record { place = omega arith; words = refl })
 
-pub put-none : {room : List ℕ} {n : ℕ} (w : ℕ) (b : Bool) → not b ≡ false → length room ≤ n → n ≤ length room → Put room n (wordIf b w) n room
-put-none {room} {n} w b e p q = subst (λ b. Put room n (wordIf b w) n room) (sym (not-false b e)) (put_full q w p)
+pub put-none : {room : List ℕ} {n : ℕ} (w : ℕ) (b : Bool) → not b ≡ false → length room ≤ n → n ≤ length room → Put room n (word_if b w) n room
+put-none {room} {n} w b e p q = subst (λ b. Put room n (word_if b w) n room) (sym (not-false b e)) (put_full q w p)
 
 pub head-past : {room : List ℕ} {n : ℕ} (w : ℕ) → length room ≤ n → room ≡ set room n w
 head-past {room} {n} w p = sym (set_past room n w p)

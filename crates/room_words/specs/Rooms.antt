@@ -3,8 +3,8 @@ use Rattle.std.specs.Prelude.{ℕ, ◌+◌, ◌≤◌, min, ◌≡◌, Bool, Lis
 use Rattle.std.proofs.lemmas.List.Edits.{sets}
 use Rattle.language.specs.Kinds.{pick}
 
-abbrev pub wordIf : Bool → ℕ → List ℕ
-wordIf b w = pick b (w ∷ []) []
+abbrev pub word_if : Bool → ℕ → List ℕ
+word_if b w = pick b (w ∷ []) []
 
 -- as many of them as there is room for
 pub record Put (room : List ℕ) (n : ℕ) (ws : List ℕ) (r : ℕ) (room' : List ℕ) : Type 0 where

@@ -1,11 +1,11 @@
 // Words put into a room, as far as there is room.
 ghost use Rattle.std.specs.Prelude.{◌≤◌, ◌≡◌, length, set};
-ghost use Rattle.room_words.specs.Rooms.{wordIf, Put};
+ghost use Rattle.room_words.specs.Rooms.{word_if, Put};
 
 // A word put at `n`, if it is to be and where there is room: the place after it.
 pub fn put_if(room: &mut [u16], n: usize, yes: bool, w: u16) -> usize
     requires { n ≤ length room.old }
-    ensures { Put room.old n (wordIf yes w) result room.new }
+    ensures { Put room.old n (word_if yes w) result room.new }
 {
     if !yes {
         return n;

@@ -19,9 +19,9 @@ where-map Q f none h p = tt
 where-map Q f (some a) h p = h a p
 
 -- the first of two, or else the second
-pub orElse-is : {A : Type 0} (P : A → Type 0) (m : Option A) (k : Unit {0} → Option A) → Where P m → Where P (k tt) → Where P (or_else m k)
-orElse-is P none k p q = q
-orElse-is P (some a) k p q = p
+pub or_else-is : {A : Type 0} (P : A → Type 0) (m : Option A) (k : Unit {0} → Option A) → Where P m → Where P (k tt) → Where P (or_else m k)
+or_else-is P none k p q = q
+or_else-is P (some a) k p q = p
 
 pub where-some : {A : Type 0} (P : A → Type 0) (m : Option A) (a : A) → Where P m → m ≡ some a → P a
 where-some P m a p e = rw e at p

@@ -8,10 +8,10 @@ use native.Mathlib.Omega.{arith}
 use Rattle.language.specs.Trees.{Hedge, ε, tvar, hvar, node, ◌⧺◌, same_words}
 use Rattle.rules.specs.Each.{Each, Some}
 use Rattle.rules.specs.Looks.{onto}
-use Rattle.rules.specs.Elements.{without, orStruck, struck, drawn, spread, width, ordersOf, orders}
+use Rattle.rules.specs.Elements.{without, or_struck, struck, drawn, spread, width, orders_of, orders}
 use Rattle.rules.proofs.Each.{each-++, each_map, each-imp, some-++}
 use Rattle.rules.proofs.Tests.{picks}
-use Rattle.rules.proofs.Names.{sameWords-is}
+use Rattle.rules.proofs.Names.{same_words-is}
 use Rattle.rules.proofs.Answers.{Where, where-map}
 
 -- ---- taken out
@@ -38,13 +38,13 @@ without-first e f r d = record { before = ε; behind = r; whole = ap (λ k. k �
 pub without_is : (e h : Hedge) → Where (Without e h) (without e h)
 without_is e ε = tt
 without_is e (tvar x r) =
-    picks (Where (Without e (tvar x r))) (same_words e (tvar x ε)) (λ t. without-first e (tvar x ε) r (sameWords-is e (tvar x ε) t))
+    picks (Where (Without e (tvar x r))) (same_words e (tvar x ε)) (λ t. without-first e (tvar x ε) r (same_words-is e (tvar x ε) t))
     (where-map (Without e (tvar x r)) _ (without e r) (λ k w. without-under (tvar x) (λ _ _. refl) w) (without_is e r))
 without_is e (hvar p r) =
-    picks (Where (Without e (hvar p r))) (same_words e (hvar p ε)) (λ t. without-first e (hvar p ε) r (sameWords-is e (hvar p ε) t))
+    picks (Where (Without e (hvar p r))) (same_words e (hvar p ε)) (λ t. without-first e (hvar p ε) r (same_words-is e (hvar p ε) t))
     (where-map (Without e (hvar p r)) _ (without e r) (λ k w. without-under (hvar p) (λ _ _. refl) w) (without_is e r))
 without_is e (node f c r) =
-    picks (Where (Without e (node f c r))) (same_words e (node f c ε)) (λ t. without-first e (node f c ε) r (sameWords-is e (node f c ε) t))
+    picks (Where (Without e (node f c r))) (same_words e (node f c ε)) (λ t. without-first e (node f c ε) r (same_words-is e (node f c ε) t))
     (where-map (Without e (node f c r)) _ (without e r) (λ k w. without-under (node f c) (λ _ _. refl) w) (without_is e r))
 
 -- both without one and the same
@@ -54,10 +54,10 @@ pub record StruckOut (h k : Hedge) (a : Hedge × Hedge) : Type 0 where
   pub right : Without shared k a.1
 
 struck-one : (e r k : Hedge) (q : Hedge → Hedge) → ((a b : Hedge) → q (a ⧺ b) ≡ q a ⧺ b) → (m : Option (Hedge × Hedge)) → Where (StruckOut r k) m → q r ≡ e ⧺ r
-    → Where (StruckOut (q r) k) (orStruck r (without e k) (onto q m))
+    → Where (StruckOut (q r) k) (or_struck r (without e k) (onto q m))
 struck-one e r k q joins m s d = go (without e k) (without_is e k)
   where
-    go : (o : Option Hedge) → Where (Without e k) o → Where (StruckOut (q r) k) (orStruck r o (onto q m))
+    go : (o : Option Hedge) → Where (Without e k) o → Where (StruckOut (q r) k) (or_struck r o (onto q m))
     go none w = where-map (StruckOut (q r) k) _ m (λ a t. record { shared = t.shared; left = without-under q joins t.left; right = t.right }) s
     go (some b) w = record { shared = e; left = record { before = ε; behind = r; whole = d; left = refl }; right = w }
 
@@ -113,16 +113,16 @@ module _ {A B : Type 0} (g : A → List B) where
 
 -- What holds of nothing and of an element before an order of what is left holds of every order.
 module _ (R : Hedge → Hedge → Type 0) (none : R ε ε) (next : (h : Hedge) (a : Hedge × Hedge) (k : Hedge) → Drawn h a → R a.1 k → R h (a.0 ⧺ k)) where
-  ordersOf-by : (n : ℕ) (h : Hedge) → width h ≡ n → Each (R h) (ordersOf n h)
-  ordersOf-by zero h e = (subst (λ k. R k ε) (sym (no-width h e)) none, tt)
-  ordersOf-by (suc n) h e =
-      each-spread (λ (a : Hedge × Hedge). map (◌⧺◌ a.0) (ordersOf n a.1)) (R h) (drawn h)
-      (each-imp (Drawn h) (λ (a : Hedge × Hedge). Each (R h) (map (◌⧺◌ a.0) (ordersOf n a.1)))
-      (λ a d. each_map (R a.1) (R h) (◌⧺◌ a.0) (λ k r. next h a k d r) (ordersOf n a.1) (ordersOf-by n a.1 (omega (arith, d.fewer, e)))) (drawn h) (drawn-is h))
+  orders_of-by : (n : ℕ) (h : Hedge) → width h ≡ n → Each (R h) (orders_of n h)
+  orders_of-by zero h e = (subst (λ k. R k ε) (sym (no-width h e)) none, tt)
+  orders_of-by (suc n) h e =
+      each-spread (λ (a : Hedge × Hedge). map (◌⧺◌ a.0) (orders_of n a.1)) (R h) (drawn h)
+      (each-imp (Drawn h) (λ (a : Hedge × Hedge). Each (R h) (map (◌⧺◌ a.0) (orders_of n a.1)))
+      (λ a d. each_map (R a.1) (R h) (◌⧺◌ a.0) (λ k r. next h a k d r) (orders_of n a.1) (orders_of-by n a.1 (omega (arith, d.fewer, e)))) (drawn h) (drawn-is h))
 
   pub orders-by : (h : Hedge) → Each (R h) (orders h)
   unfolding orders
-  orders-by h = ordersOf-by (width h) h refl
+  orders-by h = orders_of-by (width h) h refl
 
 -- ---- what a row has exactly where its parts have it
 

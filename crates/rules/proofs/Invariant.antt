@@ -11,11 +11,11 @@ use Rattle.language.specs.declared.Refusal.TheVariants.{ShortSlice, LongResult, 
 use Rattle.language.specs.Limits.{Limits}
 use Rattle.language.specs.declared.Signature.{Signature}
 use Rattle.language.specs.Trees.{Conj, signature, Question}
-use Rattle.language.specs.Question.{Asked, asks, refuses, readQuestion}
+use Rattle.language.specs.Question.{Asked, asks, refuses, read_question}
 use Rattle.rules.specs.Reply.{Reply, nothing, results, stops}
 use Rattle.rules.specs.Step.{Step, step}
-use Rattle.rules.specs.Run.{Numbered, EachLine, all_of, numbered, anyLong, waitingSize, linesFit, Outcome, finished, refused, lined, turn, run_from, run_by, run}
-use Rattle.rules.specs.Answer.{answered, unread, ran, solvingOf, solving}
+use Rattle.rules.specs.Run.{Numbered, EachLine, all_of, numbered, any_long, waiting_size, lines_fit, Outcome, finished, refused, lined, turn, run_from, run_by, run}
+use Rattle.rules.specs.Answer.{answered, unread, ran, solving_of, solving}
 use Rattle.rules.specs.Each.{Each}
 use Rattle.rules.proofs.Each.{each-++, each_map}
 
@@ -42,7 +42,7 @@ module _ (by : Step) (I : List Numbered → List Numbered → Type 0) where
       turn-ends : (L : Limits) (go : List Numbered → List Conj → List Numbered → Outcome)
           → ((ls : List Numbered) (ks : List Conj) (w : List Numbered) → I ls w → Ended (go ls ks w)) → (n : ℕ) (ls w : List Numbered) → I ls w → Ended (turn L by go n ls w)
       turn-ends L go on n ls [] p = p
-      turn-ends L go on n ls (k ∷ w) p = taken (by k.literals) refl (λ q. goes (linesFit L (ls ++ (k ∷ []))) LineRoom _ (turn-ends L go on n (ls ++ (k ∷ [])) w q))
+      turn-ends L go on n ls (k ∷ w) p = taken (by k.literals) refl (λ q. goes (lines_fit L (ls ++ (k ∷ []))) LineRoom _ (turn-ends L go on n (ls ++ (k ∷ [])) w q))
         where
           taken : (m : Reply (List Conj)) → by k.literals ≡ m → (I (ls ++ (k ∷ [])) w → Ended (lined L (ls ++ (k ∷ [])) (λ ms. turn L by go n ms w)))
               → Ended (elim m [ results ks ↦ go ls ks (all_of k.number ks ++ w) | nothing ↦ lined L (ls ++ (k ∷ [])) (λ ms. turn L by go n ms w) | stops r ↦ refused r ])
@@ -54,7 +54,7 @@ module _ (by : Step) (I : List Numbered → List Numbered → Type 0) where
       unfolding run_from
       from-ends L zero n ls w p = turn-ends L (λ _ _ _. refused StepLimit) (λ _ _ _ _. tt) n ls w p
       from-ends L (suc d) n ls w p =
-          turn-ends L _ (λ ms ks v q. halts (anyLong L ks) LongResult _ (halts (ltb L.room (waitingSize v)) LongWaiting _ (from-ends L d (suc n) ms v q))) n ls w p
+          turn-ends L _ (λ ms ks v q. halts (any_long L ks) LongResult _ (halts (ltb L.room (waiting_size v)) LongWaiting _ (from-ends L d (suc n) ms v q))) n ls w p
 
       -- What a step and a new line keep holds of the lines of a finished run.
       pub along : (L : Limits) (w : List Conj) (ls : List Numbered) (n : ℕ) → run_by L by w ≡ finished ls n → I [] (numbered 0 w) → I ls []
@@ -88,20 +88,20 @@ ran-finished : (o : Outcome) (ls : List Numbered) (n : ℕ) → ran o ≡ answer
 ran-finished (finished ms m) ls n e = cc
 ran-finished (refused r) ls n e = let z : ◌≡◌ {A = ℕ} 0 1 = cc in absurd (omega arith)
 
-of-asked : (L : Limits) (a : Asked) (ls : List Numbered) (n : ℕ) → solvingOf L a ≡ answered ls n
+of-asked : (L : Limits) (a : Asked) (ls : List Numbered) (n : ℕ) → solving_of L a ≡ answered ls n
     → (q : Question) × (a ≡ asks q) × (run L (signature q.counts) q.alternatives ≡ finished ls n)
 of-asked L (asks q) ls n e = (q, refl, ran-finished (run L (signature q.counts) q.alternatives) ls n e)
 of-asked L (refuses r) ls n e = let z : ◌≡◌ {A = ℕ} 0 1 = cc in absurd (omega arith)
 
 -- an answer is of a question that was read, and of its run
 pub answered-run : (L : Limits) (work answer : ℕ) (ws : List ℕ) (ls : List Numbered) (n : ℕ) → solving L work answer ws ≡ answered ls n
-    → (q : Question) × (readQuestion L ws ≡ asks q) × (run L (signature q.counts) q.alternatives ≡ finished ls n)
+    → (q : Question) × (read_question L ws ≡ asks q) × (run L (signature q.counts) q.alternatives ≡ finished ls n)
 unfolding solving
 answered-run L work answer ws ls n e = long (ltb work L.room) (ltb answer L.room) e
   where
     long : (a b : Bool)
-        → elim a [ true ↦ unread ShortSlice | false ↦ elim b [ true ↦ unread ShortSlice | false ↦ solvingOf L (readQuestion L ws) ] ] ≡ answered ls n
-        → (q : Question) × (readQuestion L ws ≡ asks q) × (run L (signature q.counts) q.alternatives ≡ finished ls n)
+        → elim a [ true ↦ unread ShortSlice | false ↦ elim b [ true ↦ unread ShortSlice | false ↦ solving_of L (read_question L ws) ] ] ≡ answered ls n
+        → (q : Question) × (read_question L ws ≡ asks q) × (run L (signature q.counts) q.alternatives ≡ finished ls n)
     long true b e = let z : ◌≡◌ {A = ℕ} 0 1 = cc in absurd (omega arith)
     long false true e = let z : ◌≡◌ {A = ℕ} 0 1 = cc in absurd (omega arith)
-    long false false e = of-asked L (readQuestion L ws) ls n e
+    long false false e = of-asked L (read_question L ws) ls n e

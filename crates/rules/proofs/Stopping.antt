@@ -9,13 +9,13 @@ use lib.Dec.{ltb}
 use Rattle.language.specs.declared.Refusal.{Refusal}
 use Rattle.language.specs.declared.Refusal.TheVariants.{LongResult, LongWaiting, LineRoom, StepLimit, LongWalk}
 use Rattle.language.specs.declared.Signature.{Signature}
-use Rattle.language.specs.Limits.{Limits, walkedPairs}
-use Rattle.language.specs.Trees.{Literal, eqn, mem, Conj, isUnordered}
+use Rattle.language.specs.Limits.{Limits, walked_pairs}
+use Rattle.language.specs.Trees.{Literal, eqn, mem, Conj, is_unordered}
 use Rattle.rules.specs.Reply.{Reply, nothing, results, stops}
-use Rattle.rules.specs.Rules.{Answer, Rule, onEqn, onMem, onPair, strike, folded, Fold, Clash, rules}
-use Rattle.rules.specs.Step.{orNext, each, placed, resultsAt, Spot, literalAt, ruleAt, stepAt, found, earliest, first, search, step}
+use Rattle.rules.specs.Rules.{Answer, Rule, on_eqn, on_mem, on_pair, strike, folded, Fold, Clash, rules}
+use Rattle.rules.specs.Step.{or_next, each, placed, results_at, Spot, literal_at, rule_at, step_at, found, earliest, first, search, step}
 use Rattle.rules.proofs.Clashing.{Drops, clash-drops}
-use Rattle.rules.specs.Run.{Numbered, all_of, numbered, Outcome, finished, refused, turn, anyLong, waitingSize, linesFit, run_from, run_by, run}
+use Rattle.rules.specs.Run.{Numbered, all_of, numbered, Outcome, finished, refused, turn, any_long, waiting_size, lines_fit, run_from, run_by, run}
 
 module _ (P : Refusal → Type 0) where
   -- P of the refusal, where there is one
@@ -29,7 +29,7 @@ module _ (P : Refusal → Type 0) where
   by-each f (results a) p = tt
   by-each f (stops r) p = p
 
-  by_next : {A : Type 0} (m : Reply A) (k : Unit {0} → Reply A) → StopsBy m → StopsBy (k tt) → StopsBy (orNext m k)
+  by_next : {A : Type 0} (m : Reply A) (k : Unit {0} → Reply A) → StopsBy m → StopsBy (k tt) → StopsBy (or_next m k)
   by_next nothing k p q = q
   by_next (results a) k p q = tt
   by_next (stops r) k p q = p
@@ -40,65 +40,65 @@ module _ (P : Refusal → Type 0) where
 
   -- P of the refusals of a rule, and of all rules
   abbrev pub RuleStopsBy : Rule → Type 0
-  RuleStopsBy (onEqn rule) = Unit {0}
-  RuleStopsBy (onMem rule) = Unit {0}
-  RuleStopsBy (onPair rule) = (l : Literal) (behind : Conj) → StopsBy (rule l behind)
+  RuleStopsBy (on_eqn rule) = Unit {0}
+  RuleStopsBy (on_mem rule) = Unit {0}
+  RuleStopsBy (on_pair rule) = (l : Literal) (behind : Conj) → StopsBy (rule l behind)
 
   abbrev pub PairsStopBy : List Rule → Type 0
   PairsStopBy [] = Unit {0}
-  PairsStopBy (onEqn rule ∷ rs) = PairsStopBy rs
-  PairsStopBy (onMem rule ∷ rs) = PairsStopBy rs
-  PairsStopBy (onPair rule ∷ rs) = RuleStopsBy (onPair rule) × PairsStopBy rs
+  PairsStopBy (on_eqn rule ∷ rs) = PairsStopBy rs
+  PairsStopBy (on_mem rule ∷ rs) = PairsStopBy rs
+  PairsStopBy (on_pair rule ∷ rs) = RuleStopsBy (on_pair rule) × PairsStopBy rs
 
-  at_place : (rule : Rule) → RuleStopsBy rule → (swap : Bool) (before : Conj) (l : Literal) (behind : Conj) → StopsBy (resultsAt swap rule before l behind)
-  at_place (onEqn rule) p false before (eqn l r) behind = by-placed before behind (rule (before ++ behind) l r)
-  at_place (onEqn rule) p true before (eqn l r) behind = by-placed before behind (rule (before ++ behind) r l)
-  at_place (onEqn rule) p false before (mem h R) behind = tt
-  at_place (onEqn rule) p true before (mem h R) behind = tt
-  at_place (onMem rule) p false before (eqn l r) behind = tt
-  at_place (onMem rule) p true before (eqn l r) behind = tt
-  at_place (onMem rule) p false before (mem h R) behind = by-placed before behind (rule (before ++ behind) h R)
-  at_place (onMem rule) p true before (mem h R) behind = tt
-  at_place (onPair rule) p false before l behind = by-each (map (λ (k : Conj). before ++ k)) (rule l behind) (p l behind)
-  at_place (onPair rule) p true before l behind = tt
+  at_place : (rule : Rule) → RuleStopsBy rule → (swap : Bool) (before : Conj) (l : Literal) (behind : Conj) → StopsBy (results_at swap rule before l behind)
+  at_place (on_eqn rule) p false before (eqn l r) behind = by-placed before behind (rule (before ++ behind) l r)
+  at_place (on_eqn rule) p true before (eqn l r) behind = by-placed before behind (rule (before ++ behind) r l)
+  at_place (on_eqn rule) p false before (mem h R) behind = tt
+  at_place (on_eqn rule) p true before (mem h R) behind = tt
+  at_place (on_mem rule) p false before (eqn l r) behind = tt
+  at_place (on_mem rule) p true before (eqn l r) behind = tt
+  at_place (on_mem rule) p false before (mem h R) behind = by-placed before behind (rule (before ++ behind) h R)
+  at_place (on_mem rule) p true before (mem h R) behind = tt
+  at_place (on_pair rule) p false before l behind = by-each (map (λ (k : Conj). before ++ k)) (rule l behind) (p l behind)
+  at_place (on_pair rule) p true before l behind = tt
 
   -- at a named place
-  at_literal : (swap : Bool) (rule : Rule) → RuleStopsBy rule → (i : ℕ) (before k : Conj) → StopsBy (literalAt swap rule i before k)
+  at_literal : (swap : Bool) (rule : Rule) → RuleStopsBy rule → (i : ℕ) (before k : Conj) → StopsBy (literal_at swap rule i before k)
   at_literal swap rule p i before [] = tt
   at_literal swap rule p zero before (l ∷ k) = at_place rule p swap before l k
   at_literal swap rule p (suc i) before (l ∷ k) = at_literal swap rule p i (before ++ (l ∷ [])) k
 
-  at-rule : (swap : Bool) (i n : ℕ) (rs : List Rule) → PairsStopBy rs → (k : Conj) → StopsBy (ruleAt swap i n rs k)
+  at-rule : (swap : Bool) (i n : ℕ) (rs : List Rule) → PairsStopBy rs → (k : Conj) → StopsBy (rule_at swap i n rs k)
   at-rule swap i n [] p k = tt
-  at-rule swap i zero (onEqn rule ∷ rs) p k = at_literal swap (onEqn rule) tt i [] k
-  at-rule swap i zero (onMem rule ∷ rs) p k = at_literal swap (onMem rule) tt i [] k
-  at-rule swap i zero (onPair rule ∷ rs) p k = at_literal swap (onPair rule) p.0 i [] k
-  at-rule swap i (suc n) (onEqn rule ∷ rs) p k = at-rule swap i n rs p k
-  at-rule swap i (suc n) (onMem rule ∷ rs) p k = at-rule swap i n rs p k
-  at-rule swap i (suc n) (onPair rule ∷ rs) p k = at-rule swap i n rs p.1 k
+  at-rule swap i zero (on_eqn rule ∷ rs) p k = at_literal swap (on_eqn rule) tt i [] k
+  at-rule swap i zero (on_mem rule ∷ rs) p k = at_literal swap (on_mem rule) tt i [] k
+  at-rule swap i zero (on_pair rule ∷ rs) p k = at_literal swap (on_pair rule) p.0 i [] k
+  at-rule swap i (suc n) (on_eqn rule ∷ rs) p k = at-rule swap i n rs p k
+  at-rule swap i (suc n) (on_mem rule ∷ rs) p k = at-rule swap i n rs p k
+  at-rule swap i (suc n) (on_pair rule ∷ rs) p k = at-rule swap i n rs p.1 k
 
-  named-stops-by : (σ : Signature) → PairsStopBy (rules σ) → (s : Spot) (k : Conj) → StopsBy (stepAt σ s k)
-  unfolding stepAt
+  named-stops-by : (σ : Signature) → PairsStopBy (rules σ) → (s : Spot) (k : Conj) → StopsBy (step_at σ s k)
+  unfolding step_at
   named-stops-by σ p s k = at-rule s.swapped s.literal s.rule (rules σ) p k
 
   at-earliest : (n : ℕ) (rule : Rule) → RuleStopsBy rule → (i : ℕ) (before k : Conj) → StopsBy (earliest n rule i before k)
   at-earliest n rule p i before [] = tt
   at-earliest n rule p i before (l ∷ k) =
-      by_next (found n i false (resultsAt false rule before l k)) _ (by-each _ (resultsAt false rule before l k) (at_place rule p false before l k))
-      (by_next (found n i true (resultsAt true rule before l k)) _ (by-each _ (resultsAt true rule before l k) (at_place rule p true before l k))
+      by_next (found n i false (results_at false rule before l k)) _ (by-each _ (results_at false rule before l k) (at_place rule p false before l k))
+      (by_next (found n i true (results_at true rule before l k)) _ (by-each _ (results_at true rule before l k) (at_place rule p true before l k))
       (at-earliest n rule p (suc i) (before ++ (l ∷ [])) k))
 
   pub at_first : (n : ℕ) (rs : List Rule) → PairsStopBy rs → (k : Conj) → StopsBy (first n rs k)
   at_first n [] p k = tt
-  at_first n (onEqn rule ∷ rs) p k = by_next (earliest n (onEqn rule) 0 [] k) _ (at-earliest n (onEqn rule) tt 0 [] k) (at_first (suc n) rs p k)
-  at_first n (onMem rule ∷ rs) p k = by_next (earliest n (onMem rule) 0 [] k) _ (at-earliest n (onMem rule) tt 0 [] k) (at_first (suc n) rs p k)
-  at_first n (onPair rule ∷ rs) p k = by_next (earliest n (onPair rule) 0 [] k) _ (at-earliest n (onPair rule) p.0 0 [] k) (at_first (suc n) rs p.1 k)
+  at_first n (on_eqn rule ∷ rs) p k = by_next (earliest n (on_eqn rule) 0 [] k) _ (at-earliest n (on_eqn rule) tt 0 [] k) (at_first (suc n) rs p k)
+  at_first n (on_mem rule ∷ rs) p k = by_next (earliest n (on_mem rule) 0 [] k) _ (at-earliest n (on_mem rule) tt 0 [] k) (at_first (suc n) rs p k)
+  at_first n (on_pair rule ∷ rs) p k = by_next (earliest n (on_pair rule) 0 [] k) _ (at-earliest n (on_pair rule) p.0 0 [] k) (at_first (suc n) rs p.1 k)
 
   pub step-stops-by : (σ : Signature) → PairsStopBy (rules σ) → (k : Conj) → StopsBy (step σ k)
   unfolding step search
   step-stops-by σ p k = by-each _ (first 0 (rules σ) k) (at_first 0 (rules σ) p k)
 
-  pub Fold-stops : RuleStopsBy (onPair Fold)
+  pub Fold-stops : RuleStopsBy (on_pair Fold)
   Fold-stops l behind = go (strike l behind)
     where
       go : (w : Option Conj) → StopsBy (folded l w)
@@ -109,8 +109,8 @@ module _ (P : Refusal → Type 0) where
 abbrev pub IsLongWalk : Refusal → Type 0
 IsLongWalk r = r ≡ LongWalk
 
-Clash-stops : (σ : Signature) → RuleStopsBy IsLongWalk (onPair (Clash σ))
-Clash-stops σ l behind = go (Clash σ l behind) (clash-drops walkedPairs (isUnordered σ) l behind)
+Clash-stops : (σ : Signature) → RuleStopsBy IsLongWalk (on_pair (Clash σ))
+Clash-stops σ l behind = go (Clash σ l behind) (clash-drops walked_pairs (is_unordered σ) l behind)
   where
     go : (m : Reply (List Conj)) → Drops m → StopsBy IsLongWalk m
     go nothing d = tt
@@ -120,7 +120,7 @@ Clash-stops σ l behind = go (Clash σ l behind) (clash-drops walkedPairs (isUno
 pub step-stops : (σ : Signature) (k : Conj) → StopsBy IsLongWalk (step σ k)
 step-stops σ k = step-stops-by IsLongWalk σ (Fold-stops IsLongWalk, (Clash-stops σ, tt)) k
 
-pub named-stops : (σ : Signature) (s : Spot) (k : Conj) → StopsBy IsLongWalk (stepAt σ s k)
+pub named-stops : (σ : Signature) (s : Spot) (k : Conj) → StopsBy IsLongWalk (step_at σ s k)
 named-stops σ s k = named-stops-by IsLongWalk σ (Fold-stops IsLongWalk, (Clash-stops σ, tt)) s k
 
 -- ---- the run
@@ -147,7 +147,7 @@ module _ (P : Refusal → Type 0) where
     by_turn σ L go h n ls [] = tt
     by_turn σ L go h n ls (k ∷ w) =
         by_turned (step σ k.literals) (step-stops σ k.literals) (λ ks. go ls ks (all_of k.number ks ++ w)) _ (λ ks. h ls ks (all_of k.number ks ++ w))
-        (by-lined (linesFit L (ls ++ (k ∷ []))) _ (by_turn σ L go h n (ls ++ (k ∷ [])) w))
+        (by-lined (lines_fit L (ls ++ (k ∷ []))) _ (by_turn σ L go h n (ls ++ (k ∷ [])) w))
 
     by-tested : (b : Bool) (r : Refusal) (x : Outcome) → P r → RunStopsBy x → RunStopsBy (elim b [ true ↦ refused r | false ↦ x ])
     by-tested true r x h e = h
@@ -158,7 +158,7 @@ module _ (P : Refusal → Type 0) where
     by-steps σ L zero n ls w = by_turn σ L _ (λ ms ks v. ten) n ls w
     by-steps σ L (suc d) n ls w =
         by_turn σ L _
-        (λ ms ks v. by-tested (anyLong L ks) LongResult _ seven (by-tested (ltb L.room (waitingSize v)) LongWaiting _ eight (by-steps σ L d (suc n) ms v)))
+        (λ ms ks v. by-tested (any_long L ks) LongResult _ seven (by-tested (ltb L.room (waiting_size v)) LongWaiting _ eight (by-steps σ L d (suc n) ms v)))
         n ls w
 
     -- What holds of 7 to 10 and 21 holds of the refusal of a run.

@@ -16,16 +16,16 @@ without e (hvar p r) = pick (same_words e (hvar p ε)) (some r) (Option.map (hva
 without e (node f c r) = pick (same_words e (node f c ε)) (some r) (Option.map (node f c) (without e r))
 
 -- l and what the other is without an element, where it has it; or what else there is
-abbrev pub orStruck : Hedge → Option Hedge → Option (Hedge × Hedge) → Option (Hedge × Hedge)
-orStruck l (some r) m = some (l, r)
-orStruck l none m = m
+abbrev pub or_struck : Hedge → Option Hedge → Option (Hedge × Hedge) → Option (Hedge × Hedge)
+or_struck l (some r) m = some (l, r)
+or_struck l none m = m
 
 -- both without "the first shared element, earliest in the left side, then in the right"
 abbrev pub struck : Hedge → Hedge → Option (Hedge × Hedge)
 struck ε k = none
-struck (tvar x r) k = orStruck r (without (tvar x ε) k) (onto (tvar x) (struck r k))
-struck (hvar p r) k = orStruck r (without (hvar p ε) k) (onto (hvar p) (struck r k))
-struck (node f c r) k = orStruck r (without (node f c ε) k) (onto (node f c) (struck r k))
+struck (tvar x r) k = or_struck r (without (tvar x ε) k) (onto (tvar x) (struck r k))
+struck (hvar p r) k = or_struck r (without (hvar p ε) k) (onto (hvar p) (struck r k))
+struck (node f c r) k = or_struck r (without (node f c ε) k) (onto (node f c) (struck r k))
 
 abbrev pub is_none : {A : Type 0} → Option A → Bool
 is_none none = true
@@ -57,9 +57,9 @@ width (hvar p r) = suc (width r)
 width (node f c r) = suc (width r)
 
 -- n elements of h in each order: first those that begin with the first element, and so on
-abbrev pub ordersOf : ℕ → Hedge → List Hedge
-ordersOf zero h = ε ∷ []
-ordersOf (suc n) h = spread (λ (a : Hedge × Hedge). map (◌⧺◌ a.0) (ordersOf n a.1)) (drawn h)
+abbrev pub orders_of : ℕ → Hedge → List Hedge
+orders_of zero h = ε ∷ []
+orders_of (suc n) h = spread (λ (a : Hedge × Hedge). map (◌⧺◌ a.0) (orders_of n a.1)) (drawn h)
 
 -- how many orders n elements have
 abbrev pub factorial : ℕ → ℕ
@@ -68,4 +68,4 @@ factorial (suc n) = suc n * factorial n
 
 -- perm(T), "in dictionary order of positions, equal results kept"
 unfoldable pub orders : Hedge → List Hedge
-orders h = ordersOf (width h) h
+orders h = orders_of (width h) h

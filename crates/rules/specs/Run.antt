@@ -5,7 +5,7 @@ use Rattle.language.specs.declared.Refusal.TheVariants.{LongResult, LongWaiting,
 use Rattle.language.specs.Limits.{Limits}
 use Rattle.language.specs.declared.Signature.{Signature}
 use Rattle.language.specs.Trees.{Conj}
-use Rattle.language.specs.Writing.{conjWords}
+use Rattle.language.specs.Writing.{conj_words}
 use Rattle.rules.specs.Each.{Each}
 use Rattle.rules.specs.Reply.{nothing, results, stops}
 use Rattle.rules.specs.Step.{Step, step}
@@ -36,30 +36,30 @@ EachLine P ks = Each (λ (k : Numbered). P k.literals) ks
 -- ---- lengths in words
 
 abbrev pub size : Conj → ℕ
-size k = length (conjWords k)
+size k = length (conj_words k)
 
 -- "7: a step's result passes" 4,096 "words"
-abbrev pub anyLong : Limits → List Conj → Bool
-anyLong L [] = false
-anyLong L (k ∷ ks) = ltb L.question (size k) || anyLong L ks
+abbrev pub any_long : Limits → List Conj → Bool
+any_long L [] = false
+any_long L (k ∷ ks) = ltb L.question (size k) || any_long L ks
 
 -- "A waiting conjunction now costs its length plus two"
-abbrev pub waitingSize : List Numbered → ℕ
-waitingSize [] = 0
-waitingSize (k ∷ ks) = suc (suc (size k.literals)) + waitingSize ks
+abbrev pub waiting_size : List Numbered → ℕ
+waiting_size [] = 0
+waiting_size (k ∷ ks) = suc (suc (size k.literals)) + waiting_size ks
 
 -- where the lines begin: behind two counts, an offset for each line that can be and the end of the last
-abbrev pub linesAt : Limits → ℕ
-linesAt L = L.lines + 3
+abbrev pub lines_at : Limits → ℕ
+lines_at L = L.lines + 3
 
 -- the words of lines, a mark and a number each
-abbrev pub linesSize : List Numbered → ℕ
-linesSize [] = 0
-linesSize (k ∷ ks) = suc (suc (size k.literals)) + linesSize ks
+abbrev pub lines_size : List Numbered → ℕ
+lines_size [] = 0
+lines_size (k ∷ ks) = suc (suc (size k.literals)) + lines_size ks
 
 -- no line too many, and none past the answer's end
-abbrev pub linesFit : Limits → List Numbered → Bool
-linesFit L ks = leb (length ks) L.lines && leb (linesAt L + linesSize ks) L.room
+abbrev pub lines_fit : Limits → List Numbered → Bool
+lines_fit L ks = leb (length ks) L.lines && leb (lines_at L + lines_size ks) L.room
 
 -- ---- the run
 
@@ -71,15 +71,15 @@ pub data Outcome : Type 0 where
 -- a step whose results are ks, so that w waits: 7, 8, or the run goes on
 abbrev pub checked : Limits → List Conj → List Numbered → (List Numbered → Outcome) → Outcome
 checked L ks w go =
-    elim (anyLong L ks) [
+    elim (any_long L ks) [
       | true ↦ refused LongResult
       | false ↦
-          elim (ltb L.room (waitingSize w)) [ true ↦ refused LongWaiting | false ↦ go w ]
+          elim (ltb L.room (waiting_size w)) [ true ↦ refused LongWaiting | false ↦ go w ]
     ]
 
 -- a line more: 9, or the run goes on
 abbrev pub lined : Limits → List Numbered → (List Numbered → Outcome) → Outcome
-lined L ls go = elim (linesFit L ls) [ true ↦ go ls | false ↦ refused LineRoom ]
+lined L ls go = elim (lines_fit L ls) [ true ↦ go ls | false ↦ refused LineRoom ]
 
 -- The first waiting conjunction, by what a step makes of it, and what `go` makes of the lines, the results and what waits after a step. "If no rule applies, the conjunction
 -- becomes the next line; that is no step." "Results stand in the place of the conjunction, in order", and are of its alternative. A rule's own

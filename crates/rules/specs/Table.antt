@@ -9,31 +9,31 @@ use Rattle.rules.specs.Run.{Numbered, Outcome, finished, refused, run}
 
 -- a line, whether it is solved, and the number of its alternative
 pub record Line : Type 0 where
-  pub isSolved : Bool
+  pub is_solved : Bool
   pub number : ℕ
   pub literals : Conj
 
 pub data Report : Type 0 where
   report : List Line → ℕ → Report
-  noReport : Refusal → Report
+  no_report : Refusal → Report
 
 abbrev pub marked : Numbered → Line
-marked k = record { isSolved = solved k.literals; number = k.number; literals = k.literals }
+marked k = record { is_solved = solved k.literals; number = k.number; literals = k.literals }
 
 abbrev pub reported : Outcome → Report
 reported (finished ls n) = report (map marked ls) n
-reported (refused r) = noReport r
+reported (refused r) = no_report r
 
 -- what the rules make of a question with these symbols
-unfoldable pub solveIn : Signature → List Conj → Report
-solveIn σ q = reported (run desk σ q)
+unfoldable pub solve_in : Signature → List Conj → Report
+solve_in σ q = reported (run desk σ q)
 
 -- four symbols, all of them ordered
-abbrev pub fourOrdered : Signature
-fourOrdered = record { symbols = 4; unordered = 0 }
+abbrev pub four_ordered : Signature
+four_ordered = record { symbols = 4; unordered = 0 }
 
 unfoldable pub solve : List Conj → Report
-solve q = solveIn fourOrdered q
+solve q = solve_in four_ordered q
 
 -- ---- "a, b, f, g are symbols 0 to 3; p, q hedge variables; a stands for a() and in expressions a(eps)."
 
@@ -81,10 +81,10 @@ abbrev pub one : Conj → List Line → ℕ → Case
 one k ls n = record { question = k ∷ []; answer = report ls n }
 
 abbrev pub settled : Conj → Line
-settled k = record { isSolved = true; number = 0; literals = k }
+settled k = record { is_solved = true; number = 0; literals = k }
 
 abbrev pub open-line : Conj → Line
-open-line k = record { isSolved = false; number = 0; literals = k }
+open-line k = record { is_solved = false; number = 0; literals = k }
 
 abbrev pub P1 : Case
 P1 = record { question = []; answer = report [] 0 }

@@ -5,8 +5,8 @@ use Rattle.language.specs.declared.Signature.{Signature}
 use Rattle.language.specs.Trees.{symbol, Hedge, ε, tvar, node, cat, star, over, eqn, mem, ◌⧺◌}
 use Rattle.rules.specs.Table.{Case, one, settled, open-line, f, g, a, b, x, p, q, X, aᴱ, bᴱ, fᴱ}
 
-abbrev pub twoUnordered : Signature
-twoUnordered = record { symbols = 4; unordered = 2 }
+abbrev pub two_unordered : Signature
+two_unordered = record { symbols = 4; unordered = 2 }
 
 abbrev pub y : Hedge
 y = tvar (record { 0 = 1 }) ε
@@ -15,8 +15,8 @@ y = tvar (record { 0 = 1 }) ε
 abbrev pub a∷ : Hedge → Hedge
 a∷ h = node (symbol (record { 0 = 0 })) h ε
 
-abbrev pub unorderedTable : List Case
-unorderedTable =
+abbrev pub unordered_table : List Case
+unordered_table =
     -- the same up to the order of children: Del2, and R1 of what is left
     one (eqn (f (a ⧺ b)) (f (b ⧺ a)) ∷ []) (settled [] ∷ []) 2
     -- "at any depth": D0, then as above

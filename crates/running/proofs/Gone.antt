@@ -9,7 +9,7 @@ use Rattle.language.specs.declared.Refusal.TheVariants.{LongTrail}
 use Rattle.language.specs.Limits.{desk}
 use Rattle.rules.specs.Step.{Spot}
 use Rattle.rules.specs.Run.{Numbered, Outcome, refused}
-use Rattle.frames.specs.Frames.{frame, framedLength}
+use Rattle.frames.specs.Frames.{frame, framed_length}
 use Rattle.running.specs.declared.moves.State.{State}
 use Rattle.running.specs.declared.moves.Turned.{Turned}
 use Rattle.running.specs.declared.moves.Turned.TheVariants.{On, Stop}
@@ -22,81 +22,81 @@ use Rattle.running.specs.Turning.{Guide, guide, left_of, Under, measure, Turns, 
 use Rattle.running.proofs.Trails.{trailed-ends}
 
 -- a run whose end is o
-pub record Gone (g : Guide) (oldWork oldAnswer : List ℕ) (o : Outcome) (s : State) (work answer out : List ℕ) : Type 0 where
+pub record Gone (g : Guide) (old_work old_answer : List ℕ) (o : Outcome) (s : State) (work answer out : List ℕ) : Type 0 where
   pub lines : List Numbered
   pub waits : List Numbered
-  pub under : Under g oldWork oldAnswer lines waits s work answer out
+  pub under : Under g old_work old_answer lines waits s work answer out
   pub same : left_of g s lines waits ≡ o
 
 -- what a turn asks
 abbrev pub Ready : Course → List ℕ → State → List ℕ → List ℕ → List ℕ → Type 0
 Ready course told s work answer out =
-    ((s.at + frame + framedLength work s.at ≤ desk.room) × (framedLength work s.at ≤ desk.question) × (desk.room ≤ length work) × (s.tally.«open» ≤ s.tally.lines) × (s.tally.end ≤ desk.room) × (desk.room ≤ length answer))
+    ((s.at + frame + framed_length work s.at ≤ desk.room) × (framed_length work s.at ≤ desk.question) × (desk.room ≤ length work) × (s.tally.«open» ≤ s.tally.lines) × (s.tally.end ≤ desk.room) × (desk.room ≤ length answer))
     × Awaits course told s work answer out
 
-module _ (course : Course) (told old : List ℕ) (whole : List Spot) (oldWork oldAnswer : List ℕ) (o : Outcome) (s : State) (work answer out : List ℕ)
-    (gone : Gone (guide course told old whole) oldWork oldAnswer o s work answer out) where
+module _ (course : Course) (told old : List ℕ) (whole : List Spot) (old_work old_answer : List ℕ) (o : Outcome) (s : State) (work answer out : List ℕ)
+    (gone : Gone (guide course told old whole) old_work old_answer o s work answer out) where
   abbrev g : Guide
   g = guide course told old whole
 
   -- one waits first
   first_of : (Q : Type 0) → s.at < desk.room
-      → ((ls : List Numbered) (c : Numbered) (w : List Numbered) → Under g oldWork oldAnswer ls (c ∷ w) s work answer out → left_of g s ls (c ∷ w) ≡ o → Q) → Q
+      → ((ls : List Numbered) (c : Numbered) (w : List Numbered) → Under g old_work old_answer ls (c ∷ w) s work answer out → left_of g s ls (c ∷ w) ≡ o → Q) → Q
   first_of Q h f = go gone.waits gone.under gone.same
     where
-      go : (w : List Numbered) → Under g oldWork oldAnswer gone.lines w s work answer out → left_of g s gone.lines w ≡ o → Q
+      go : (w : List Numbered) → Under g old_work old_answer gone.lines w s work answer out → left_of g s gone.lines w ≡ o → Q
       go [] u e = absurd (let z = u.running.waiting.place in omega arith)
       go (c ∷ w) u e = f gone.lines c w u e
 
   pub turn-ready : s.at < desk.room → Ready course told s work answer out
   turn-ready h = first_of _ h λ ls c w u e.
       let p = u.running in
-      let n = first-size oldWork oldAnswer ls c w s work answer p in
-      let b = first_fits oldWork oldAnswer ls c w s work answer p in
+      let n = first-size old_work old_answer ls c w s work answer p in
+      let b = first_fits old_work old_answer ls c w s work answer p in
       let k = p.short.0 in (
         (
           omega arith,
           omega arith,
-          work-fits oldWork oldAnswer ls c w s work answer p,
-          open-fits oldWork oldAnswer ls c w s work answer p,
-          end_fits oldWork oldAnswer ls c w s work answer p,
-          answer-fits oldWork oldAnswer ls c w s work answer p,
+          work-fits old_work old_answer ls c w s work answer p,
+          open-fits old_work old_answer ls c w s work answer p,
+          end_fits old_work old_answer ls c w s work answer p,
+          answer-fits old_work old_answer ls c w s work answer p,
         ),
-        record { old = old; whole = whole; oldWork = oldWork; oldAnswer = oldAnswer; lines = ls; first = c; rest = w; under = u },
+        record { old = old; whole = whole; old_work = old_work; old_answer = old_answer; lines = ls; first = c; rest = w; under = u },
       )
 
   pub still-guided : Guided course told s.steps
   still-guided = gone.under.guided
 
-  pub run-over : desk.room ≤ s.at → (r : Ran) → Finishes told course s r → Ends g o oldWork oldAnswer r work answer out
+  pub run-over : desk.room ≤ s.at → (r : Ran) → Finishes told course s r → Ends g o old_work old_answer r work answer out
   unfolding left_of
   run-over h r f = go gone.waits gone.under gone.same f
     where
-      go : (w : List Numbered) → Under g oldWork oldAnswer gone.lines w s work answer out → left_of g s gone.lines w ≡ o → Finishes told course s r
-          → Ends g o oldWork oldAnswer r work answer out
+      go : (w : List Numbered) → Under g old_work old_answer gone.lines w s work answer out → left_of g s gone.lines w ≡ o → Finishes told course s r
+          → Ends g o old_work old_answer r work answer out
       go [] u e (done er d) =
-          ended s.steps s.tally gone.lines er (sym e ∙ d (length old) gone.lines) u.running.lined (waiting_kept oldWork s.at [] work u.running.waiting)
+          ended s.steps s.tally gone.lines er (sym e ∙ d (length old) gone.lines) u.running.lined (waiting_kept old_work s.at [] work u.running.waiting)
           (trailed-ends course whole old s.signature s.steps out u.trailed)
       go [] u e (goes_on er d) =
-          given-up LongTrail er (sym e ∙ d (length old) gone.lines) (waiting_kept oldWork s.at [] work u.running.waiting) (lined-kept oldAnswer gone.lines s.tally answer u.running.lined)
+          given-up LongTrail er (sym e ∙ d (length old) gone.lines) (waiting_kept old_work s.at [] work u.running.waiting) (lined-kept old_answer gone.lines s.tally answer u.running.lined)
       go (c ∷ w) u e f = absurd (let z = u.running.waiting.place in omega arith)
 
   module _ (h : s.at < desk.room) (r : Turned) (work' answer' out' : List ℕ)
-      (f : (old : List ℕ) (whole : List Spot) (oldWork oldAnswer : List ℕ) (ls : List Numbered) (c : Numbered) (w : List Numbered) → Under (guide course told old whole) oldWork oldAnswer ls (c ∷ w) s work answer out
-      → Turns (guide course told old whole) oldWork oldAnswer ls (c ∷ w) s r work' answer' out') where
+      (f : (old : List ℕ) (whole : List Spot) (old_work old_answer : List ℕ) (ls : List Numbered) (c : Numbered) (w : List Numbered) → Under (guide course told old whole) old_work old_answer ls (c ∷ w) s work answer out
+      → Turns (guide course told old whole) old_work old_answer ls (c ∷ w) s r work' answer' out') where
     module _ (t : State) (er : r ≡ On t) where
-      moved : (Gone g oldWork oldAnswer o t work' answer' out') × (measure course told t < measure course told s) × (t.signature ≡ s.signature)
-      moved = first_of _ h λ ls c w u e. go ls c w e (f old whole oldWork oldAnswer ls c w u)
+      moved : (Gone g old_work old_answer o t work' answer' out') × (measure course told t < measure course told s) × (t.signature ≡ s.signature)
+      moved = first_of _ h λ ls c w u e. go ls c w e (f old whole old_work old_answer ls c w u)
         where
-          go : (ls : List Numbered) (c : Numbered) (w : List Numbered) → left_of g s ls (c ∷ w) ≡ o → Turns g oldWork oldAnswer ls (c ∷ w) s r work' answer' out'
-              → (Gone g oldWork oldAnswer o t work' answer' out') × (measure course told t < measure course told s) × (t.signature ≡ s.signature)
+          go : (ls : List Numbered) (c : Numbered) (w : List Numbered) → left_of g s ls (c ∷ w) ≡ o → Turns g old_work old_answer ls (c ∷ w) s r work' answer' out'
+              → (Gone g old_work old_answer o t work' answer' out') × (measure course told t < measure course told s) × (t.signature ≡ s.signature)
           go ls c w e (on x ms v d q same less signed) =
               let z : x ≡ t = cc in
-              subst (λ x. (Gone g oldWork oldAnswer o x work' answer' out') × (measure course told x < measure course told s) × (x.signature ≡ s.signature)) z
+              subst (λ x. (Gone g old_work old_answer o x work' answer' out') × (measure course told x < measure course told s) × (x.signature ≡ s.signature)) z
               (record { lines = ms; waits = v; under = q; same = same ∙ e }, less, signed)
           go ls c w e (stop x d y k l) = absurd (let z : ◌≡◌ {A = ℕ} 0 1 = cc in omega arith)
 
-      pub gone-on : Gone g oldWork oldAnswer o t work' answer' out'
+      pub gone-on : Gone g old_work old_answer o t work' answer' out'
       gone-on = moved.0
 
       pub gone-less : measure course told t < measure course told s
@@ -105,13 +105,13 @@ module _ (course : Course) (told old : List ℕ) (whole : List Spot) (oldWork ol
       pub gone-signed : t.signature ≡ s.signature
       gone-signed = moved.2
 
-    pub gone-stop : (x : Refusal) → r ≡ Stop x → Ends g o oldWork oldAnswer (Stopped x) work' answer' out'
-    gone-stop x er = first_of _ h λ ls c w u e. go ls c w e (f old whole oldWork oldAnswer ls c w u)
+    pub gone-stop : (x : Refusal) → r ≡ Stop x → Ends g o old_work old_answer (Stopped x) work' answer' out'
+    gone-stop x er = first_of _ h λ ls c w u e. go ls c w e (f old whole old_work old_answer ls c w u)
       where
-        go : (ls : List Numbered) (c : Numbered) (w : List Numbered) → left_of g s ls (c ∷ w) ≡ o → Turns g oldWork oldAnswer ls (c ∷ w) s r work' answer' out'
-            → Ends g o oldWork oldAnswer (Stopped x) work' answer' out'
+        go : (ls : List Numbered) (c : Numbered) (w : List Numbered) → left_of g s ls (c ∷ w) ≡ o → Turns g old_work old_answer ls (c ∷ w) s r work' answer' out'
+            → Ends g o old_work old_answer (Stopped x) work' answer' out'
         go ls c w e (on y ms v d q same less signed) = absurd (let z : ◌≡◌ {A = ℕ} 0 1 = cc in omega arith)
         go ls c w e (stop y d z k l) = let i : y ≡ x = cc in given-up x refl (sym e ∙ sym z ∙ ap refused i) k l
 
-pub ends_as : {g : Guide} {o p : Outcome} {oldWork oldAnswer : List ℕ} {r : Ran} {work answer out : List ℕ} → o ≡ p → Ends g o oldWork oldAnswer r work answer out → Ends g p oldWork oldAnswer r work answer out
-ends_as {g = g} {oldWork = oldWork} {oldAnswer} {r} {work} {answer} {out} e d = subst (λ o. Ends g o oldWork oldAnswer r work answer out) e d
+pub ends_as : {g : Guide} {o p : Outcome} {old_work old_answer : List ℕ} {r : Ran} {work answer out : List ℕ} → o ≡ p → Ends g o old_work old_answer r work answer out → Ends g p old_work old_answer r work answer out
+ends_as {g = g} {old_work = old_work} {old_answer} {r} {work} {answer} {out} e d = subst (λ o. Ends g o old_work old_answer r work answer out) e d

@@ -15,13 +15,13 @@ use Rattle.language.specs.Limits.{desk}
 use Rattle.language.specs.Kinds.{pick}
 use Rattle.language.specs.Trees.{Conj}
 use Rattle.rules.specs.Reply.{Reply, nothing, results, stops}
-use Rattle.rules.specs.Step.{Spot, step, stepAt}
-use Rattle.rules.specs.Run.{Numbered, all_of, anyLong, waitingSize, linesFit, Outcome, finished, refused, checked, lined, turn, run_from}
-use Rattle.replay.specs.Trail.{written, runWriting}
-use Rattle.replay.specs.Replay.{Triple, triples, leftOver, spot_of, retraced, at, replayFrom}
-use Rattle.telling.specs.Telling.{triple_of, namedReply}
-use Rattle.word_bytes.specs.Bytes.{words_of, halfWord}
-use Rattle.word_bytes.proofs.Pairs.{length-wordsOf, half-left, none-half}
+use Rattle.rules.specs.Step.{Spot, step, step_at}
+use Rattle.rules.specs.Run.{Numbered, all_of, any_long, waiting_size, lines_fit, Outcome, finished, refused, checked, lined, turn, run_from}
+use Rattle.replay.specs.Trail.{written, run_writing}
+use Rattle.replay.specs.Replay.{Triple, triples, left_over, spot_of, retraced, at, replay_from}
+use Rattle.telling.specs.Telling.{triple_of, named_reply}
+use Rattle.word_bytes.specs.Bytes.{words_of, half_word}
+use Rattle.word_bytes.proofs.Pairs.{length-words_of, half-left, none-half}
 use Rattle.courses.specs.declared.Course.{Course}
 use Rattle.courses.specs.declared.Course.TheVariants.{First, Noted, Told}
 use Rattle.running.specs.Courses.{left, goes}
@@ -44,7 +44,7 @@ module _ (told : List ℕ) (room : ℕ) (σ : Signature) (n : ℕ) (ls : List Nu
 
   -- ---- no rule applies
 
-  module _ (e : step σ k.literals ≡ nothing) (b : Bool) (f : linesFit desk (ls ++ (k ∷ [])) ≡ b) where
+  module _ (e : step σ k.literals ≡ nothing) (b : Bool) (f : lines_fit desk (ls ++ (k ∷ [])) ≡ b) where
     turn-line : (go : Going) → turn desk (step σ) go n ls (k ∷ w) ≡ fitted (turn desk (step σ) go n (ls ++ (k ∷ [])) w) b
     turn-line go = ap (turned go) e ∙ ap (fitted (turn desk (step σ) go n (ls ++ (k ∷ [])) w)) f
 
@@ -56,20 +56,20 @@ module _ (told : List ℕ) (room : ℕ) (σ : Signature) (n : ℕ) (ls : List Nu
     run-line zero = turn-line _
     run-line (suc d) = turn-line _
 
-    write-line : (d : ℕ) → runWriting desk σ room d n ls (k ∷ w) ≡ fitted (runWriting desk σ room d n (ls ++ (k ∷ [])) w) b
-    unfolding runWriting
+    write-line : (d : ℕ) → run_writing desk σ room d n ls (k ∷ w) ≡ fitted (run_writing desk σ room d n (ls ++ (k ∷ [])) w) b
+    unfolding run_writing
     write-line zero = turn-line _
     write-line (suc d) = turn-line _
 
-    replay-line : (over : Bool) (ts : List Triple) → replayFrom desk σ over n ts ls (k ∷ w) ≡ fitted (replayFrom desk σ over n ts (ls ++ (k ∷ [])) w) b
-    unfolding replayFrom
+    replay-line : (over : Bool) (ts : List Triple) → replay_from desk σ over n ts ls (k ∷ w) ≡ fitted (replay_from desk σ over n ts (ls ++ (k ∷ [])) w) b
+    unfolding replay_from
     replay-line over [] = trace-line _ _
     replay-line over (t ∷ ts) = trace-line _ _
 
     pub left-line : (course : Course) → left course told room σ n ls (k ∷ w) ≡ fitted (left course told room σ n (ls ++ (k ∷ [])) w) b
     left-line First = run-line (desk.steps - n)
     left-line Noted = write-line (desk.steps - n)
-    left-line Told = replay-line (halfWord told || leftOver (words_of told)) (triples (drop (3 * n) (words_of told)))
+    left-line Told = replay-line (half_word told || left_over (words_of told)) (triples (drop (3 * n) (words_of told)))
 
   -- ---- it cannot be told whether one applies
 
@@ -82,20 +82,20 @@ module _ (told : List ℕ) (room : ℕ) (σ : Signature) (n : ℕ) (ls : List Nu
     run-stops zero = turn-stops _
     run-stops (suc d) = turn-stops _
 
-    write-stops : (d : ℕ) → runWriting desk σ room d n ls (k ∷ w) ≡ refused x
-    unfolding runWriting
+    write-stops : (d : ℕ) → run_writing desk σ room d n ls (k ∷ w) ≡ refused x
+    unfolding run_writing
     write-stops zero = turn-stops _
     write-stops (suc d) = turn-stops _
 
-    replay-stops : (over : Bool) (ts : List Triple) → replayFrom desk σ over n ts ls (k ∷ w) ≡ refused x
-    unfolding replayFrom
+    replay-stops : (over : Bool) (ts : List Triple) → replay_from desk σ over n ts ls (k ∷ w) ≡ refused x
+    unfolding replay_from
     replay-stops over [] = ap (traced _ _) e
     replay-stops over (t ∷ ts) = ap (traced _ _) e
 
     pub left-stops : (course : Course) → left course told room σ n ls (k ∷ w) ≡ refused x
     left-stops First = run-stops (desk.steps - n)
     left-stops Noted = write-stops (desk.steps - n)
-    left-stops Told = replay-stops (halfWord told || leftOver (words_of told)) (triples (drop (3 * n) (words_of told)))
+    left-stops Told = replay-stops (half_word told || left_over (words_of told)) (triples (drop (3 * n) (words_of told)))
 
   -- ---- a rule applies, and its results are ks
 
@@ -107,27 +107,27 @@ module _ (told : List ℕ) (room : ℕ) (σ : Signature) (n : ℕ) (ls : List Nu
     unfolding run_from
     run_none = turn_step _
 
-    write-none : runWriting desk σ room 0 n ls (k ∷ w) ≡ refused StepLimit
-    unfolding runWriting
+    write-none : run_writing desk σ room 0 n ls (k ∷ w) ≡ refused StepLimit
+    unfolding run_writing
     write-none = turn_step _
 
     run-one : (d : ℕ) → run_from desk (step σ) (suc d) n ls (k ∷ w) ≡ checked desk ks (all_of k.number ks ++ w) (run_from desk (step σ) d (suc n) ls)
     unfolding run_from
     run-one d = turn_step _
 
-    write-one : (d : ℕ) → runWriting desk σ room (suc d) n ls (k ∷ w) ≡ written desk room n ks (all_of k.number ks ++ w) (runWriting desk σ room d (suc n) ls)
-    unfolding runWriting
+    write-one : (d : ℕ) → run_writing desk σ room (suc d) n ls (k ∷ w) ≡ written desk room n ks (all_of k.number ks ++ w) (run_writing desk σ room d (suc n) ls)
+    unfolding run_writing
     write-one d = turn_step _
 
     trace-step : (go : Retracing) (end : List Numbered → Outcome) → retraced desk σ go end ls (k ∷ w) ≡ go ls k w
     trace-step go end = ap (traced go end) e
 
-    replay-short : (over : Bool) → replayFrom desk σ over n [] ls (k ∷ w) ≡ refused ShortTrail
-    unfolding replayFrom
+    replay-short : (over : Bool) → replay_from desk σ over n [] ls (k ∷ w) ≡ refused ShortTrail
+    unfolding replay_from
     replay-short over = trace-step _ _
 
-    replay-next : (over : Bool) (t : Triple) (ts : List Triple) → replayFrom desk σ over n (t ∷ ts) ls (k ∷ w) ≡ at desk σ (spot_of t) k w (replayFrom desk σ over (suc n) ts ls)
-    unfolding replayFrom
+    replay-next : (over : Bool) (t : Triple) (ts : List Triple) → replay_from desk σ over n (t ∷ ts) ls (k ∷ w) ≡ at desk σ (spot_of t) k w (replay_from desk σ over (suc n) ts ls)
+    unfolding replay_from
     replay-next over t ts = trace-step _ _
 
     -- all steps are made
@@ -139,7 +139,7 @@ module _ (told : List ℕ) (room : ℕ) (σ : Signature) (n : ℕ) (ls : List Nu
       first-none = ap (λ d. run_from desk (step σ) d n ls (k ∷ w)) none_left ∙ run_none
 
       pub noted-none : left Noted told room σ n ls (k ∷ w) ≡ refused StepLimit
-      noted-none = ap (λ d. runWriting desk σ room d n ls (k ∷ w)) none_left ∙ write-none
+      noted-none = ap (λ d. run_writing desk σ room d n ls (k ∷ w)) none_left ∙ write-none
 
     -- some are left
     module _ (h : n < desk.steps) where
@@ -150,14 +150,14 @@ module _ (told : List ℕ) (room : ℕ) (σ : Signature) (n : ℕ) (ls : List Nu
       first_step = ap (λ d. run_from desk (step σ) d n ls (k ∷ w)) some_left ∙ run-one (desk.steps - suc n)
 
       pub noted_step : left Noted told room σ n ls (k ∷ w) ≡ goes Noted told room σ n ls ks (all_of k.number ks ++ w)
-      noted_step = ap (λ d. runWriting desk σ room d n ls (k ∷ w)) some_left ∙ write-one (desk.steps - suc n)
+      noted_step = ap (λ d. run_writing desk σ room d n ls (k ∷ w)) some_left ∙ write-one (desk.steps - suc n)
 
     -- the trail's next words
     abbrev over : Bool
-    over = halfWord told || leftOver (words_of told)
+    over = half_word told || left_over (words_of told)
 
     pub told-short : triples (drop (3 * n) (words_of told)) ≡ [] → left Told told room σ n ls (k ∷ w) ≡ refused ShortTrail
-    told-short d = ap (λ ts. replayFrom desk σ over n ts ls (k ∷ w)) d ∙ replay-short over
+    told-short d = ap (λ ts. replay_from desk σ over n ts ls (k ∷ w)) d ∙ replay-short over
 
     module _ (t : Triple) (ts : List Triple) (d : triples (drop (3 * n) (words_of told)) ≡ t ∷ ts) where
       abbrev named : (List Numbered → Outcome) → Option Spot → Outcome
@@ -167,24 +167,24 @@ module _ (told : List ℕ) (room : ℕ) (σ : Signature) (n : ℕ) (ls : List Nu
       by-reply go m = elim m [ results js ↦ checked desk js (all_of k.number js ++ w) go | nothing ↦ refused BadStep | stops r ↦ refused r ]
 
       -- where a place is named or not
-      reply-at : (go : List Numbered → Outcome) (o : Option Spot) → named go o ≡ by-reply go (elim o [ none ↦ nothing | some s ↦ stepAt σ s k.literals ])
+      reply-at : (go : List Numbered → Outcome) (o : Option Spot) → named go o ≡ by-reply go (elim o [ none ↦ nothing | some s ↦ step_at σ s k.literals ])
       reply-at go none = refl
       reply-at go (some s) = refl
 
-      told-next : left Told told room σ n ls (k ∷ w) ≡ by-reply (replayFrom desk σ over (suc n) ts ls) (namedReply σ t k.literals)
-      told-next = ap (λ us. replayFrom desk σ over n us ls (k ∷ w)) d ∙ replay-next over t ts ∙ reply-at (replayFrom desk σ over (suc n) ts ls) (spot_of t)
+      told-next : left Told told room σ n ls (k ∷ w) ≡ by-reply (replay_from desk σ over (suc n) ts ls) (named_reply σ t k.literals)
+      told-next = ap (λ us. replay_from desk σ over n us ls (k ∷ w)) d ∙ replay-next over t ts ∙ reply-at (replay_from desk σ over (suc n) ts ls) (spot_of t)
 
-      pub told-wrong : namedReply σ t k.literals ≡ nothing → left Told told room σ n ls (k ∷ w) ≡ refused BadStep
-      told-wrong f = told-next ∙ ap (by-reply (replayFrom desk σ over (suc n) ts ls)) f
+      pub told-wrong : named_reply σ t k.literals ≡ nothing → left Told told room σ n ls (k ∷ w) ≡ refused BadStep
+      told-wrong f = told-next ∙ ap (by-reply (replay_from desk σ over (suc n) ts ls)) f
 
-      pub told-stopped : (x : Refusal) → namedReply σ t k.literals ≡ stops x → left Told told room σ n ls (k ∷ w) ≡ refused x
-      told-stopped x f = told-next ∙ ap (by-reply (replayFrom desk σ over (suc n) ts ls)) f
+      pub told-stopped : (x : Refusal) → named_reply σ t k.literals ≡ stops x → left Told told room σ n ls (k ∷ w) ≡ refused x
+      told-stopped x f = told-next ∙ ap (by-reply (replay_from desk σ over (suc n) ts ls)) f
 
-      pub told-step : (js : List Conj) → namedReply σ t k.literals ≡ results js → triples (drop (3 * suc n) (words_of told)) ≡ ts
+      pub told-step : (js : List Conj) → named_reply σ t k.literals ≡ results js → triples (drop (3 * suc n) (words_of told)) ≡ ts
           → left Told told room σ n ls (k ∷ w) ≡ goes Told told room σ n ls js (all_of k.number js ++ w)
       told-step js f g =
-          told-next ∙ ap (by-reply (replayFrom desk σ over (suc n) ts ls)) f
-          ∙ ap (λ us. checked desk js (all_of k.number js ++ w) (replayFrom desk σ over (suc n) us ls)) (sym g)
+          told-next ∙ ap (by-reply (replay_from desk σ over (suc n) ts ls)) f
+          ∙ ap (λ us. checked desk js (all_of k.number js ++ w) (replay_from desk σ over (suc n) us ls)) (sym g)
 
 -- ---- after a step
 
@@ -196,29 +196,29 @@ module _ (told : List ℕ) (room : ℕ) (σ : Signature) (n : ℕ) (ls : List Nu
   spaced short = elim short [ true ↦ refused TrailRoom | false ↦ left Noted told room σ (suc n) ls v ]
 
   -- 7
-  pub goes-long : (course : Course) → anyLong desk ks ≡ true → goes course told room σ n ls ks v ≡ refused LongResult
-  goes-long First a = ap (λ x. tested (left First told room σ (suc n) ls v) x (ltb desk.room (waitingSize v))) a
-  goes-long Noted a = ap (λ x. tested (spaced (ltb room (3 * suc n))) x (ltb desk.room (waitingSize v))) a
-  goes-long Told a = ap (λ x. tested (left Told told room σ (suc n) ls v) x (ltb desk.room (waitingSize v))) a
+  pub goes-long : (course : Course) → any_long desk ks ≡ true → goes course told room σ n ls ks v ≡ refused LongResult
+  goes-long First a = ap (λ x. tested (left First told room σ (suc n) ls v) x (ltb desk.room (waiting_size v))) a
+  goes-long Noted a = ap (λ x. tested (spaced (ltb room (3 * suc n))) x (ltb desk.room (waiting_size v))) a
+  goes-long Told a = ap (λ x. tested (left Told told room σ (suc n) ls v) x (ltb desk.room (waiting_size v))) a
 
   -- 8
-  pub goes-full : (course : Course) → anyLong desk ks ≡ false → ltb desk.room (waitingSize v) ≡ true → goes course told room σ n ls ks v ≡ refused LongWaiting
-  goes-full First a b = ap (λ x. tested (left First told room σ (suc n) ls v) x (ltb desk.room (waitingSize v))) a ∙ ap (λ x. tested (left First told room σ (suc n) ls v) false x) b
-  goes-full Noted a b = ap (λ x. tested (spaced (ltb room (3 * suc n))) x (ltb desk.room (waitingSize v))) a ∙ ap (λ x. tested (spaced (ltb room (3 * suc n))) false x) b
+  pub goes-full : (course : Course) → any_long desk ks ≡ false → ltb desk.room (waiting_size v) ≡ true → goes course told room σ n ls ks v ≡ refused LongWaiting
+  goes-full First a b = ap (λ x. tested (left First told room σ (suc n) ls v) x (ltb desk.room (waiting_size v))) a ∙ ap (λ x. tested (left First told room σ (suc n) ls v) false x) b
+  goes-full Noted a b = ap (λ x. tested (spaced (ltb room (3 * suc n))) x (ltb desk.room (waiting_size v))) a ∙ ap (λ x. tested (spaced (ltb room (3 * suc n))) false x) b
   goes-full Told a b =
-      ap (λ x. tested (left Told told room σ (suc n) ls v) x (ltb desk.room (waitingSize v))) a ∙ ap (λ x. tested (left Told told room σ (suc n) ls v) false x) b
+      ap (λ x. tested (left Told told room σ (suc n) ls v) x (ltb desk.room (waiting_size v))) a ∙ ap (λ x. tested (left Told told room σ (suc n) ls v) false x) b
 
   -- 29, or on
-  module _ (a : anyLong desk ks ≡ false) (b : ltb desk.room (waitingSize v) ≡ false) where
+  module _ (a : any_long desk ks ≡ false) (b : ltb desk.room (waiting_size v) ≡ false) where
     pub first_on : goes First told room σ n ls ks v ≡ left First told room σ (suc n) ls v
-    first_on = ap (λ x. tested (left First told room σ (suc n) ls v) x (ltb desk.room (waitingSize v))) a ∙ ap (λ x. tested (left First told room σ (suc n) ls v) false x) b
+    first_on = ap (λ x. tested (left First told room σ (suc n) ls v) x (ltb desk.room (waiting_size v))) a ∙ ap (λ x. tested (left First told room σ (suc n) ls v) false x) b
 
     pub told-on : goes Told told room σ n ls ks v ≡ left Told told room σ (suc n) ls v
     told-on =
-        ap (λ x. tested (left Told told room σ (suc n) ls v) x (ltb desk.room (waitingSize v))) a ∙ ap (λ x. tested (left Told told room σ (suc n) ls v) false x) b
+        ap (λ x. tested (left Told told room σ (suc n) ls v) x (ltb desk.room (waiting_size v))) a ∙ ap (λ x. tested (left Told told room σ (suc n) ls v) false x) b
 
     noted-tested : goes Noted told room σ n ls ks v ≡ spaced (ltb room (3 * suc n))
-    noted-tested = ap (λ x. tested (spaced (ltb room (3 * suc n))) x (ltb desk.room (waitingSize v))) a ∙ ap (λ x. tested (spaced (ltb room (3 * suc n))) false x) b
+    noted-tested = ap (λ x. tested (spaced (ltb room (3 * suc n))) x (ltb desk.room (waiting_size v))) a ∙ ap (λ x. tested (spaced (ltb room (3 * suc n))) false x) b
 
     pub noted-short : ltb room (3 * suc n) ≡ true → goes Noted told room σ n ls ks v ≡ refused TrailRoom
     noted-short c = noted-tested ∙ ap spaced c
@@ -253,18 +253,18 @@ none_of : (ws : List ℕ) → length ws ≡ 0 → ws ≡ []
 none_of [] e = refl
 none_of (a ∷ ws) e = absurd (omega arith)
 
-over-three : (n : ℕ) (ws : List ℕ) → ((us : List ℕ) → 3 * n ≤ length us → leftOver (drop (3 * n) us) ≡ leftOver us) → 3 * suc n ≤ length ws
-    → leftOver (drop (3 * n) (drop 3 ws)) ≡ leftOver ws
+over-three : (n : ℕ) (ws : List ℕ) → ((us : List ℕ) → 3 * n ≤ length us → left_over (drop (3 * n) us) ≡ left_over us) → 3 * suc n ≤ length ws
+    → left_over (drop (3 * n) (drop 3 ws)) ≡ left_over ws
 over-three n [] f h = absurd (omega arith)
 over-three n (a ∷ []) f h = absurd (omega arith)
 over-three n (a ∷ b ∷ []) f h = absurd (omega arith)
 over-three n (a ∷ b ∷ c ∷ ws) f h = f ws (omega arith)
 
 -- after whole steps the same words are left over
-over-drop : (n : ℕ) (ws : List ℕ) → 3 * n ≤ length ws → leftOver (drop (3 * n) ws) ≡ leftOver ws
+over-drop : (n : ℕ) (ws : List ℕ) → 3 * n ≤ length ws → left_over (drop (3 * n) ws) ≡ left_over ws
 over-drop zero ws h = refl
 over-drop (suc n) ws h =
-    ap (λ m. leftOver (drop m ws)) (let z : 3 * suc n ≡ 3 + 3 * n = omega arith in z) ∙ ap leftOver (sym (drop-drop (3 * n) 3 ws)) ∙ over-three n ws (over-drop n) h
+    ap (λ m. left_over (drop m ws)) (let z : 3 * suc n ≡ 3 + 3 * n = omega arith in z) ∙ ap left_over (sym (drop-drop (3 * n) 3 ws)) ∙ over-three n ws (over-drop n) h
 
 rest-triples : (ws : List ℕ) (t : Triple) (ts : List Triple) → triples ws ≡ t ∷ ts → (triples (drop 3 ws) ≡ ts) × (3 ≤ length ws)
 rest-triples [] t ts e = absurd (let z : ◌≡◌ {A = ℕ} 0 1 = cc in omega arith)
@@ -293,8 +293,8 @@ module _ (told : List ℕ) (room : ℕ) (σ : Signature) (n : ℕ) (ls : List Nu
   run_ends zero = refl
   run_ends (suc d) = refl
 
-  write-ends : (d : ℕ) → runWriting desk σ room d n ls [] ≡ finished ls n
-  unfolding runWriting
+  write-ends : (d : ℕ) → run_writing desk σ room d n ls [] ≡ finished ls n
+  unfolding run_writing
   write-ends zero = refl
   write-ends (suc d) = refl
 
@@ -304,18 +304,18 @@ module _ (told : List ℕ) (room : ℕ) (σ : Signature) (n : ℕ) (ls : List Nu
   pub noted-ends : left Noted told room σ n ls [] ≡ finished ls n
   noted-ends = write-ends (desk.steps - n)
 
-  replay-ends : (over : Bool) (ts : List Triple) → ts ≡ [] → over ≡ false → replayFrom desk σ over n ts ls [] ≡ finished ls n
-  unfolding replayFrom
+  replay-ends : (over : Bool) (ts : List Triple) → ts ≡ [] → over ≡ false → replay_from desk σ over n ts ls [] ≡ finished ls n
+  unfolding replay_from
   replay-ends over [] e f = ap (λ b. pick b (refused LongTrail) (finished ls n)) f
   replay-ends over (t ∷ ts) e f = absurd (let z : ◌≡◌ {A = ℕ} 0 1 = cc in omega arith)
 
-  replay-over : (over : Bool) (ts : List Triple) → (over ≡ true) → replayFrom desk σ over n ts ls [] ≡ refused LongTrail
-  unfolding replayFrom
+  replay-over : (over : Bool) (ts : List Triple) → (over ≡ true) → replay_from desk σ over n ts ls [] ≡ refused LongTrail
+  unfolding replay_from
   replay-over over [] f = ap (λ b. pick b (refused LongTrail) (finished ls n)) f
   replay-over over (t ∷ ts) f = refl
 
-  replay-more : (over : Bool) (t : Triple) (ts : List Triple) → replayFrom desk σ over n (t ∷ ts) ls [] ≡ refused LongTrail
-  unfolding replayFrom
+  replay-more : (over : Bool) (t : Triple) (ts : List Triple) → replay_from desk σ over n (t ∷ ts) ls [] ≡ refused LongTrail
+  unfolding replay_from
   replay-more over t ts = refl
 
   -- by the bytes of the trail
@@ -324,30 +324,30 @@ module _ (told : List ℕ) (room : ℕ) (σ : Signature) (n : ℕ) (ls : List Nu
     words = words_of told
 
     words-made : 3 * n ≤ length words
-    words-made = let z = length-wordsOf told in omega arith
+    words-made = let z = length-words_of told in omega arith
 
     -- the words left over are those behind the steps made
-    left_over : (ws : List ℕ) → drop (3 * n) words ≡ ws → leftOver words ≡ leftOver ws
-    left_over ws e = sym (over-drop n words words-made) ∙ ap leftOver e
+    left_over_lem : (ws : List ℕ) → drop (3 * n) words ≡ ws → left_over words ≡ left_over ws
+    left_over_lem ws e = sym (over-drop n words words-made) ∙ ap left_over e
 
     pub told-ends : length told ≤ 6 * n → left Told told room σ n ls [] ≡ finished ls n
     told-ends g =
-        let e : drop (3 * n) words ≡ [] = none_of (drop (3 * n) words) (let z = length-drop (3 * n) words in let y = length-wordsOf told in omega arith) in
-        replay-ends (halfWord told || leftOver words) (triples (drop (3 * n) words)) (ap triples e)
-        (ap (λ b. b || leftOver words) (none-half told (3 * n) (omega arith)) ∙ left_over [] e)
+        let e : drop (3 * n) words ≡ [] = none_of (drop (3 * n) words) (let z = length-drop (3 * n) words in let y = length-words_of told in omega arith) in
+        replay-ends (half_word told || left_over words) (triples (drop (3 * n) words)) (ap triples e)
+        (ap (λ b. b || left_over words) (none-half told (3 * n) (omega arith)) ∙ left_over_lem [] e)
 
     pub told_more : 6 * n < length told → left Told told room σ n ls [] ≡ refused LongTrail
     told_more g = go (drop (3 * n) words) refl
       where
-        over : leftOver words ≡ true → left Told told room σ n ls [] ≡ refused LongTrail
-        over e = replay-over (halfWord told || leftOver words) (triples (drop (3 * n) words)) (ap (λ b. halfWord told || b) e ∙ either (halfWord told))
+        over : left_over words ≡ true → left Told told room σ n ls [] ≡ refused LongTrail
+        over e = replay-over (half_word told || left_over words) (triples (drop (3 * n) words)) (ap (λ b. half_word told || b) e ∙ either (half_word told))
 
         go : (ws : List ℕ) → drop (3 * n) words ≡ ws → left Told told room σ n ls [] ≡ refused LongTrail
         go [] e =
             let z = ap length e in
             let y = length-drop (3 * n) words in
-            let x = length-wordsOf told in
-            replay-over (halfWord told || leftOver words) (triples (drop (3 * n) words)) (ap (λ b. b || leftOver words) (half-left told (3 * n) (omega arith)))
-        go (a ∷ []) e = over (left_over (a ∷ []) e)
-        go (a ∷ b ∷ []) e = over (left_over (a ∷ b ∷ []) e)
-        go (a ∷ b ∷ c ∷ ws) e = ap (λ us. replayFrom desk σ (halfWord told || leftOver words) n (triples us) ls []) e ∙ replay-more (halfWord told || leftOver words) _ (triples ws)
+            let x = length-words_of told in
+            replay-over (half_word told || left_over words) (triples (drop (3 * n) words)) (ap (λ b. b || left_over words) (half-left told (3 * n) (omega arith)))
+        go (a ∷ []) e = over (left_over_lem (a ∷ []) e)
+        go (a ∷ b ∷ []) e = over (left_over_lem (a ∷ b ∷ []) e)
+        go (a ∷ b ∷ c ∷ ws) e = ap (λ us. replay_from desk σ (half_word told || left_over words) n (triples us) ls []) e ∙ replay-more (half_word told || left_over words) _ (triples ws)

@@ -3,45 +3,45 @@ use Rattle.std.specs.Prelude.{ℕ, List, [], length}
 use Rattle.language.specs.declared.Refusal.{Refusal}
 use Rattle.language.specs.Limits.{desk}
 use Rattle.language.specs.Numbers.{number_of, place_of}
-use Rattle.rules.specs.Answer.{countOpen, answerWords, zeros, overwritten, Verdict, noLine, allSolved, someOpen, verdictOf, Solving, answered, unread, given-up}
+use Rattle.rules.specs.Answer.{count_open, answer_words, zeros, overwritten, Verdict, no_line, all_solved, some_open, verdict_of, Solving, answered, unread, given-up}
 use Rattle.outcomes.specs.declared.Outcome.{Outcome}
 use Rattle.outcomes.specs.declared.Outcome.TheVariants.{NoLine, AllSolved, SomeOpen}
 use Rattle.outcomes.specs.declared.Solved.{Solved}
 use Rattle.outcomes.specs.Numbers.{SolveNumbers}
-use Rattle.around.specs.Told.{refusedBy}
+use Rattle.around.specs.Told.{refused_by}
 
 -- ---- in numbers
 
 -- none, all solved, some open
-abbrev pub verdictValue : Verdict → ℕ
-verdictValue noLine = 0
-verdictValue allSolved = 1
-verdictValue someOpen = 2
+abbrev pub verdict_value : Verdict → ℕ
+verdict_value no_line = 0
+verdict_value all_solved = 1
+verdict_value some_open = 2
 
 -- "a refusal reports 0 for all three"
-abbrev pub refusedNumbers : Refusal → SolveNumbers
-refusedNumbers r = record { number = number_of r; place = place_of r; value = 0; lines = 0; opened = 0; steps = 0 }
+abbrev pub refused_numbers : Refusal → SolveNumbers
+refused_numbers r = record { number = number_of r; place = place_of r; value = 0; lines = 0; opened = 0; steps = 0 }
 
 -- the numbers that come back, and the work and the answer slice, which held `work` and `answer`
-abbrev pub toldLeaves : Solving → List ℕ → List ℕ → SolveNumbers × List ℕ × List ℕ
-toldLeaves (answered ls n) work answer =
-    (record { number = 0; place = 0; value = verdictValue (verdictOf ls); lines = length ls; opened = countOpen ls; steps = n }, overwritten desk (zeros desk) work, overwritten desk (answerWords desk ls) answer)
-toldLeaves (unread r) work answer = (refusedNumbers r, work, answer)
-toldLeaves (given-up r) work answer = (refusedNumbers r, overwritten desk (zeros desk) work, overwritten desk (zeros desk) answer)
+abbrev pub told_leaves : Solving → List ℕ → List ℕ → SolveNumbers × List ℕ × List ℕ
+told_leaves (answered ls n) work answer =
+    (record { number = 0; place = 0; value = verdict_value (verdict_of ls); lines = length ls; opened = count_open ls; steps = n }, overwritten desk (zeros desk) work, overwritten desk (answer_words desk ls) answer)
+told_leaves (unread r) work answer = (refused_numbers r, work, answer)
+told_leaves (given-up r) work answer = (refused_numbers r, overwritten desk (zeros desk) work, overwritten desk (zeros desk) answer)
 
 -- of the answer slice alone, for a call that has a work slice of its own
-abbrev pub toldAnswer : Solving → List ℕ → SolveNumbers × List ℕ
-toldAnswer s answer = let t = toldLeaves s [] answer in (t.0, t.2)
+abbrev pub told_answer : Solving → List ℕ → SolveNumbers × List ℕ
+told_answer s answer = let t = told_leaves s [] answer in (t.0, t.2)
 
 -- ---- the answer that has these numbers
 
 abbrev pub verdict : Verdict → Outcome
-verdict noLine = NoLine
-verdict allSolved = AllSolved
-verdict someOpen = SomeOpen
+verdict no_line = NoLine
+verdict all_solved = AllSolved
+verdict some_open = SomeOpen
 
 abbrev pub leaves : Solving → List ℕ → List ℕ → Solved × List ℕ × List ℕ
 leaves (answered ls n) work answer =
-    (record { outcome = verdict (verdictOf ls); lines = length ls; «open» = countOpen ls; steps = n }, overwritten desk (zeros desk) work, overwritten desk (answerWords desk ls) answer)
-leaves (unread r) work answer = (refusedBy r, work, answer)
-leaves (given-up r) work answer = (refusedBy r, overwritten desk (zeros desk) work, overwritten desk (zeros desk) answer)
+    (record { outcome = verdict (verdict_of ls); lines = length ls; «open» = count_open ls; steps = n }, overwritten desk (zeros desk) work, overwritten desk (answer_words desk ls) answer)
+leaves (unread r) work answer = (refused_by r, work, answer)
+leaves (given-up r) work answer = (refused_by r, overwritten desk (zeros desk) work, overwritten desk (zeros desk) answer)

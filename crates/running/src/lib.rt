@@ -5,12 +5,12 @@ mod turns;
 
 ghost use Rattle.std.specs.Prelude.{◌≡◌, length};
 ghost use Rattle.language.specs.Limits.{desk};
-ghost use Rattle.language.specs.Question.{readQuestion};
+ghost use Rattle.language.specs.Question.{read_question};
 ghost use Rattle.rules.specs.Answer.{solving};
-ghost use Rattle.outcomes.specs.Numbers.{solvedNumbers};
-ghost use Rattle.replay.specs.Calls.{trailOf, trailLeaves};
+ghost use Rattle.outcomes.specs.Numbers.{solved_numbers};
+ghost use Rattle.replay.specs.Calls.{trail_of, trail_leaves};
 ghost use Rattle.answers.specs.Lined.{Cleared};
-ghost use Rattle.running.specs.Leaves.{toldLeaves, toldAnswer};
+ghost use Rattle.running.specs.Leaves.{told_leaves, told_answer};
 ghost use Rattle.running.specs.Calling.{calling, notes};
 
 use crate::turns::run;
@@ -29,8 +29,8 @@ pub fn run_course(
     out: &mut [u16],
     course: Course,
 ) -> Solved
-    ensures answer_after { (solvedNumbers result, work.new, answer.new) ≡ toldLeaves (calling course told.now (length work.old) (length answer.old) (length out.old) question.now) work.old answer.old }
-    ensures out_after { out.new ≡ trailLeaves (calling course told.now (length work.old) (length answer.old) (length out.old) question.now) (notes course (trailOf desk (readQuestion desk question.now))) out.old }
+    ensures answer_after { (solved_numbers result, work.new, answer.new) ≡ told_leaves (calling course told.now (length work.old) (length answer.old) (length out.old) question.now) work.old answer.old }
+    ensures out_after { out.new ≡ trail_leaves (calling course told.now (length work.old) (length answer.old) (length out.old) question.now) (notes course (trail_of desk (read_question desk question.now))) out.old }
 {
     match ready(question, work.len(), answer.len()) {
         Checked::Fine => {
@@ -47,7 +47,7 @@ pub fn run_course(
 // Solves a question in an answer slice that is clear, as one just made is, with a work slice of its own: so neither is cleared once more.
 pub fn solve_cleared(question: &[u16], answer: &mut [u16]) -> Solved
     requires { Cleared answer.old }
-    ensures { (solvedNumbers result, answer.new) ≡ toldAnswer (solving desk desk.room (length answer.old) question.now) answer.old }
+    ensures { (solved_numbers result, answer.new) ≡ told_answer (solving desk desk.room (length answer.old) question.now) answer.old }
 {
     match ready(question, ROOM, answer.len()) {
         Checked::Fine => {

@@ -1,7 +1,7 @@
 // A run under way in two lent slices, and a line more in it.
 ghost use Rattle.std.specs.Prelude.{ℕ, ◌+◌, ◌≤◌, ◌≡◌, List, ◌∷◌, length};
 ghost use Rattle.language.specs.Limits.{desk};
-ghost use Rattle.language.specs.Writing.{conjWords};
+ghost use Rattle.language.specs.Writing.{conj_words};
 ghost use Rattle.rules.specs.Run.{Numbered};
 ghost use Rattle.frames.specs.Frames.{frame};
 ghost use Rattle.views.specs.Standing.{Conjunction};
@@ -42,7 +42,7 @@ pub fn line(
     requires k_len_bound { (length k.now ≤ desk.question) × (s.tally.«open» ≤ s.tally.lines) × (s.tally.end ≤ desk.room) × (desk.room ≤ length answer.old) }
     requires conjunction { Conjunction k.now }
     requires table_value { table.now ≡ afresh k.now }
-    ensures { (oldWork oldAnswer : List ℕ) (ls : List Numbered) (c : Numbered) (w : List Numbered) (work : List ℕ) → Running oldWork oldAnswer ls (c ∷ w) s work answer.old → k.now ≡ conjWords c.literals → number ≡ c.number → next ≡ s.at + frame + length k.now → Lines oldWork oldAnswer ls c w s result work answer.new }
+    ensures { (old_work old_answer : List ℕ) (ls : List Numbered) (c : Numbered) (w : List Numbered) (work : List ℕ) → Running old_work old_answer ls (c ∷ w) s work answer.old → k.now ≡ conj_words c.literals → number ≡ c.number → next ≡ s.at + frame + length k.now → Lines old_work old_answer ls c w s result work answer.new }
 {
     let t = s.tally;
     if LINES <= t.lines {

@@ -2,13 +2,13 @@
 ghost use Rattle.std.specs.Prelude.{◌*◌, ◌≤◌, ◌≡◌, length, drop};
 ghost use Rattle.language.specs.Limits.{desk};
 ghost use Rattle.language.specs.Trees.{Conj};
-ghost use Rattle.language.specs.Writing.{conjWords};
-ghost use Rattle.language.specs.Fine.{fineConj};
+ghost use Rattle.language.specs.Writing.{conj_words};
+ghost use Rattle.language.specs.Fine.{fine_conj};
 ghost use Rattle.replay.specs.Replay.{triples};
 ghost use Rattle.word_bytes.specs.Bytes.{words_of};
 ghost use Rattle.views.specs.Standing.{Conjunction};
 ghost use Rattle.counts.specs.Tables.{afresh};
-ghost use Rattle.running.specs.Courses.{Guided, next_of, underCeiling, ChosenFrom, Finishes};
+ghost use Rattle.running.specs.Courses.{Guided, next_of, under_ceiling, ChosenFrom, Finishes};
 
 use crate::moves::State;
 use around::Ran;
@@ -25,7 +25,7 @@ const STEP_BYTES: usize = 6;
 
 // The step that was found, unless all steps are made.
 fn under_ceiling(b: Best, steps: usize) -> Chosen
-    ensures { result ≡ underCeiling b steps }
+    ensures { result ≡ under_ceiling b steps }
 {
     if STEPS <= steps {
         return Chosen::Not(Refusal::StepLimit);
@@ -38,7 +38,7 @@ fn told_step(k: &[u16], table: &[u16; TABLE], told: &[u8], made: usize, s: Signa
     requires made_in_bounds { (6 * made ≤ length told.now) × (length k.now ≤ desk.question) }
     requires conjunction { Conjunction k.now }
     requires table_value { table.now ≡ afresh k.now }
-    ensures { (c : Conj) → fineConj desk c → k.now ≡ conjWords c → result ≡ next_of s c (triples (drop (3 * made) (words_of told.now))) }
+    ensures { (c : Conj) → fine_conj desk c → k.now ≡ conj_words c → result ≡ next_of s c (triples (drop (3 * made) (words_of told.now))) }
 {
     if told.len() - STEP_BYTES * made < STEP_BYTES {
         return Chosen::Not(Refusal::ShortTrail);

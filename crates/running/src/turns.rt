@@ -1,8 +1,8 @@
 // The run of a question, turn by turn, on one of the three courses.
 ghost use Rattle.std.specs.Prelude.{◌+◌, ◌≤◌, ◌<◌, ◌≡◌, length};
 ghost use Rattle.language.specs.Limits.{desk};
-ghost use Rattle.language.specs.Question.{readQuestion};
-ghost use Rattle.frames.specs.Frames.{frame, framedLength};
+ghost use Rattle.language.specs.Question.{read_question};
+ghost use Rattle.frames.specs.Frames.{frame, framed_length};
 ghost use Rattle.counts.specs.Tables.{afresh};
 ghost use Rattle.notes.specs.Rows.{Noted};
 ghost use Rattle.steps.specs.Asking.{RuleAt};
@@ -118,7 +118,7 @@ fn turn(
     course: Course,
     s: State,
 ) -> Turned
-    requires at_bound { (s.at + frame + framedLength work.old s.at ≤ desk.room) × (framedLength work.old s.at ≤ desk.question) × (desk.room ≤ length work.old) × (s.tally.«open» ≤ s.tally.lines) × (s.tally.end ≤ desk.room) × (desk.room ≤ length answer.old) }
+    requires at_bound { (s.at + frame + framed_length work.old s.at ≤ desk.room) × (framed_length work.old s.at ≤ desk.question) × (desk.room ≤ length work.old) × (s.tally.«open» ≤ s.tally.lines) × (s.tally.end ≤ desk.room) × (desk.room ≤ length answer.old) }
     requires awaits { Awaits course told.now s work.old answer.old out.old }
     requires taken { Taken k.now table.now rows.now m s work.old }
     ensures { TurnsFirst course told.now s work.old answer.old out.old result work.new answer.new out.new }
@@ -182,8 +182,8 @@ pub fn run(
     out: &mut [u16],
     course: Course,
 ) -> Ran
-    requires { (Fine ≡ checked (readQuestion desk question.now)) × (desk.room ≤ length work.old) × Cleared answer.old }
-    ensures { Runs course told.now (readQuestion desk question.now) work.old answer.old out.old result work.new answer.new out.new }
+    requires { (Fine ≡ checked (read_question desk question.now)) × (desk.room ≤ length work.old) × Cleared answer.old }
+    ensures { Runs course told.now (read_question desk question.now) work.old answer.old out.old result work.new answer.new out.new }
 {
     let at = lay_out(question, work);
     let tally = begin(answer);

@@ -12,30 +12,30 @@ use Rattle.expressions.proofs.Passing.{asks_none, asks-star, asks-over, asks_two
 use Rattle.samples.specs.declared.Sample.{Sample}
 use Rattle.samples.specs.declared.Wrote.{Wrote}
 use Rattle.samples.specs.Laid.{Laid}
-use Rattle.samples.specs.Samples.{bodyBy, bodies, body_at, end_at, Measured, Written}
+use Rattle.samples.specs.Samples.{body_by, bodies, body_at, end_at, Measured, Written}
 use Rattle.samples.proofs.Laid.{laid_none, laid-row, laid_as}
 
 -- ---- by the word
 
 module _ (x : ℕ) (a b : List ℕ) where
-  pub body-none : x ≡ 7000 → bodyBy x a b ≡ []
-  unfolding bodyBy
+  pub body-none : x ≡ 7000 → body_by x a b ≡ []
+  unfolding body_by
   body-none e = rw (eq-eqb x 7000 e)
 
-  pub body-star : x ≡ 7003 → bodyBy x a b ≡ []
-  unfolding bodyBy
+  pub body-star : x ≡ 7003 → body_by x a b ≡ []
+  unfolding body_by
   body-star e = rw (ne_eqb x 7000 (omega arith), eq-eqb x 7003 e)
 
-  pub body-over : x < 7000 → bodyBy x a b ≡ x ∷ (a ++ (0 ∷ []))
-  unfolding bodyBy
+  pub body-over : x < 7000 → body_by x a b ≡ x ∷ (a ++ (0 ∷ []))
+  unfolding body_by
   body-over h = rw (ne_eqb x 7000 (omega arith), ne_eqb x 7003 (omega arith), le-leb x 6999 (omega arith))
 
-  pub body-cat : x ≡ 7001 → bodyBy x a b ≡ a ++ b
-  unfolding bodyBy
+  pub body-cat : x ≡ 7001 → body_by x a b ≡ a ++ b
+  unfolding body_by
   body-cat e = rw (ne_eqb x 7000 (omega arith), ne_eqb x 7003 (omega arith), lt-leb x 6999 (omega arith), eq-eqb x 7001 e)
 
-  pub body-alt : (x ≡ 7000 → ⊥) → (x ≡ 7001 → ⊥) → (x ≡ 7003 → ⊥) → 7000 ≤ x → bodyBy x a b ≡ a
-  unfolding bodyBy
+  pub body-alt : (x ≡ 7000 → ⊥) → (x ≡ 7001 → ⊥) → (x ≡ 7003 → ⊥) → 7000 ≤ x → body_by x a b ≡ a
+  unfolding body_by
   body-alt n0 n1 n3 h = rw (ne_eqb x 7000 n0, ne_eqb x 7003 n3, lt-leb x 6999 (omega arith), ne_eqb x 7001 n1)
 
 -- ---- expressions in a row
@@ -69,7 +69,7 @@ module _ (k : List ℕ) (at : ℕ) where
         let e : 0 + asks (get_or k at 0) ≡ asks (get_or k at 0) = omega arith in
         ap (λ ws. at + reach 1 ws) (drop_here k at i) ∙ ap (λ n. at + suc (reach n rest)) e
 
-    body-by : body_at k at ≡ bodyBy (get_or k at 0) (get_or (bodies rest) 0 []) (get_or (bodies rest) 1 [])
+    body-by : body_at k at ≡ body_by (get_or k at 0) (get_or (bodies rest) 0 []) (get_or (bodies rest) 1 [])
     unfolding body_at bodies
     body-by = ap (λ ws. get_or (bodies ws) 0 []) (drop_here k at i)
 
@@ -106,8 +106,8 @@ module _ (k : List ℕ) (at : ℕ) where
           omega arith
 
       -- the sample of the whole by those of its parts
-      body-two : body_at k at ≡ bodyBy (get_or k at 0) (body_at k (at + 1)) (body_at k m)
-      body-two = body-by ∙ ap (λ b. bodyBy (get_or k at 0) b (get_or (bodies rest) 1 [])) (sym first_body) ∙ ap (bodyBy (get_or k at 0) (body_at k (at + 1))) (sym second-body)
+      body-two : body_at k at ≡ body_by (get_or k at 0) (body_at k (at + 1)) (body_at k m)
+      body-two = body-by ∙ ap (λ b. body_by (get_or k at 0) b (get_or (bodies rest) 1 [])) (sym first_body) ∙ ap (body_by (get_or k at 0) (body_at k (at + 1))) (sym second-body)
 
 module _ {k : List ℕ} {at : ℕ} where
   -- ---- measured

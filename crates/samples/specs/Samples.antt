@@ -7,13 +7,13 @@ use Rattle.samples.specs.declared.Wrote.{Wrote}
 use Rattle.samples.specs.Laid.{Laid}
 
 -- the words of a sample without the 0 at its end, by the expression's first word and the samples of the expressions that follow it
-unfoldable pub bodyBy : ℕ → List ℕ → List ℕ → List ℕ
-bodyBy x a b = pick (eqb x 7000 || eqb x 7003) [] (pick (leb x 6999) (x ∷ (a ++ (0 ∷ []))) (pick (eqb x 7001) (a ++ b) a))
+unfoldable pub body_by : ℕ → List ℕ → List ℕ → List ℕ
+body_by x a b = pick (eqb x 7000 || eqb x 7003) [] (pick (leb x 6999) (x ∷ (a ++ (0 ∷ []))) (pick (eqb x 7001) (a ++ b) a))
 
 -- those of the expressions in a row; one that breaks off has none
 unfoldable pub bodies : List ℕ → List (List ℕ)
 bodies [] = []
-bodies (x ∷ ws) = bodyBy x (get_or (bodies ws) 0 []) (get_or (bodies ws) 1 []) ∷ drop (asks x) (bodies ws)
+bodies (x ∷ ws) = body_by x (get_or (bodies ws) 0 []) (get_or (bodies ws) 1 []) ∷ drop (asks x) (bodies ws)
 
 unfoldable pub body_at : List ℕ → ℕ → List ℕ
 body_at k at = get_or (bodies (drop at k)) 0 []

@@ -10,32 +10,32 @@ use borrow.Author.Tests.{ltb-true, ltb-false, lt-ltb, le-ltb}
 use Rattle.language.specs.declared.Signature.{Signature}
 use Rattle.language.specs.Kinds.{pick}
 use Rattle.language.specs.Trees.{Hedge, Literal, eqn, mem, Conj}
-use Rattle.language.specs.Writing.{literalWords, conjWords}
-use Rattle.rules.specs.Places.{atFold, atClash, noRule}
-use Rattle.rules.specs.Ranks.{eqnRank}
+use Rattle.language.specs.Writing.{literal_words, conj_words}
+use Rattle.rules.specs.Places.{at_fold, at_clash, no_rule}
+use Rattle.rules.specs.Ranks.{eqn_rank}
 use Rattle.search.specs.Ranking.{Ranked, Sought, unmet, least, Found}
 use Rattle.search.proofs.Ranks.{rank-written, rank-swapped, rank-member}
 use Rattle.views.proofs.Words.{words_append}
 use Rattle.views.proofs.LiteralWalks.{literal-some}
-use Rattle.folding.specs.Twice.{firstTwice, Once}
+use Rattle.folding.specs.Twice.{first_twice, Once}
 use Rattle.folding.proofs.Folds.{found_none, found_at}
 use Rattle.clashes.specs.declared.Clashing.{Clashing}
-use Rattle.clashes.specs.Pairs.{firstClash}
+use Rattle.clashes.specs.Pairs.{first_clash}
 use Rattle.search.proofs.Applied.{idle-low, idle-once}
 use Rattle.search.proofs.Pass.{start, below, keep, better, finish, finish-fold, finish-clash}
 use Rattle.search.specs.declared.Best.{Best}
-use Rattle.search.specs.Seeking.{best, lesserOf, bestAt, bestFrom, bestAlone, bestFold, bestBeforeClash, clashBest, bestClash, bestOf}
+use Rattle.search.specs.Seeking.{best, lesser_of, best_at, best_from, best_alone, best_fold, best_before_clash, clash_best, best_clash, best_of}
 
 -- ---- one literal
 
 module _ (σ : Signature) (before : Conj) (l r : Hedge) (behind : Conj) where
   abbrev written : Best
-  written = best (eqnRank σ (before ++ behind) l r) (length (conjWords before)) false
+  written = best (eqn_rank σ (before ++ behind) l r) (length (conj_words before)) false
 
   abbrev other : Best
-  other = best (eqnRank σ (before ++ behind) r l) (length (conjWords before)) true
+  other = best (eqn_rank σ (before ++ behind) r l) (length (conj_words before)) true
 
-  one_place : (t : Bool) → (pick t other written).at ≡ length (conjWords before)
+  one_place : (t : Bool) → (pick t other written).at ≡ length (conj_words before)
   one_place true = refl
   one_place false = refl
 
@@ -43,13 +43,13 @@ module _ (σ : Signature) (before : Conj) (l r : Hedge) (behind : Conj) where
   lesser-ranked true e = rank-swapped σ before l r behind _ _ refl refl (ltb-true _ _ e)
   lesser-ranked false e = rank-written σ before l r behind _ _ refl refl (ltb-false _ _ e)
 
-pub best-place : (σ : Signature) (before : Conj) (l : Literal) (behind : Conj) → (bestAt σ before l behind).at ≡ length (conjWords before)
-unfolding bestAt
-best-place σ before (eqn l r) behind = one_place σ before l r behind (ltb (eqnRank σ (before ++ behind) r l) (eqnRank σ (before ++ behind) l r))
+pub best-place : (σ : Signature) (before : Conj) (l : Literal) (behind : Conj) → (best_at σ before l behind).at ≡ length (conj_words before)
+unfolding best_at
+best-place σ before (eqn l r) behind = one_place σ before l r behind (ltb (eqn_rank σ (before ++ behind) r l) (eqn_rank σ (before ++ behind) l r))
 best-place σ before (mem h R) behind = refl
 
-best-ranked : (σ : Signature) (before : Conj) (l : Literal) (behind : Conj) → Ranked σ before l behind (bestAt σ before l behind).rank (bestAt σ before l behind).swap
-unfolding bestAt
+best-ranked : (σ : Signature) (before : Conj) (l : Literal) (behind : Conj) → Ranked σ before l behind (best_at σ before l behind).rank (best_at σ before l behind).swap
+unfolding best_at
 best-ranked σ before (eqn l r) behind = lesser-ranked σ before l r behind _ refl
 best-ranked σ before (mem h R) behind = rank-member σ before h R behind _ refl
 
@@ -58,34 +58,34 @@ best-ranked σ before (mem h R) behind = rank-member σ before h R behind _ refl
 abbrev Seeks : Signature → Conj → Conj → Best → Type 0
 Seeks σ done rest b = Sought σ done rest b.rank b.at b.swap
 
-pass_on : (σ : Signature) (done : Conj) (l : Literal) (rest : Conj) (a b : Best) → b.at ≡ length (conjWords done) → Ranked σ done l rest b.rank b.swap
-    → Seeks σ done (l ∷ rest) a → Seeks σ (done ++ (l ∷ [])) rest (lesserOf a b)
+pass_on : (σ : Signature) (done : Conj) (l : Literal) (rest : Conj) (a b : Best) → b.at ≡ length (conj_words done) → Ranked σ done l rest b.rank b.swap
+    → Seeks σ done (l ∷ rest) a → Seeks σ (done ++ (l ∷ [])) rest (lesser_of a b)
 pass_on σ done l rest a b p k s = go (ltb b.rank a.rank) refl
   where
     go : (t : Bool) → ltb b.rank a.rank ≡ t → Seeks σ (done ++ (l ∷ [])) rest (pick t b a)
     go true d = rw p (better σ done l rest a.rank a.at a.swap b.rank b.swap k (ltb-true b.rank a.rank d) s)
     go false d = keep σ done l rest a.rank a.at a.swap b.rank b.swap k (ltb-false b.rank a.rank d) s
 
-pass_all : (σ : Signature) (b : Best) (done rest : Conj) → Seeks σ done rest b → Seeks σ (done ++ rest) [] (bestFrom σ b done rest)
+pass_all : (σ : Signature) (b : Best) (done rest : Conj) → Seeks σ done rest b → Seeks σ (done ++ rest) [] (best_from σ b done rest)
 pass_all σ b done [] s = subst (λ d. Seeks σ d [] b) (sym (append-nil done)) s
 pass_all σ b done (l ∷ rest) s =
-    subst (λ d. Seeks σ d [] (bestFrom σ (lesserOf b (bestAt σ done l rest)) (done ++ (l ∷ [])) rest)) (append_assoc done (l ∷ []) rest)
-    (pass_all σ (lesserOf b (bestAt σ done l rest)) (done ++ (l ∷ [])) rest (pass_on σ done l rest b (bestAt σ done l rest) (best-place σ done l rest) (best-ranked σ done l rest) s))
+    subst (λ d. Seeks σ d [] (best_from σ (lesser_of b (best_at σ done l rest)) (done ++ (l ∷ [])) rest)) (append_assoc done (l ∷ []) rest)
+    (pass_all σ (lesser_of b (best_at σ done l rest)) (done ++ (l ∷ [])) rest (pass_on σ done l rest b (best_at σ done l rest) (best-place σ done l rest) (best-ranked σ done l rest) s))
 
 -- the pass, and the fold beside it
-alone-sought : (σ : Signature) (c : Conj) → Seeks σ c [] (bestAlone σ c)
-unfolding bestAlone
-alone-sought σ c = pass_all σ (best noRule 0 false) [] c (start σ c 0 false)
+alone-sought : (σ : Signature) (c : Conj) → Seeks σ c [] (best_alone σ c)
+unfolding best_alone
+alone-sought σ c = pass_all σ (best no_rule 0 false) [] c (start σ c 0 false)
 
 -- its place is one of the words
-pub alone-within : (σ : Signature) (c : Conj) {b : Best} → b ≡ bestAlone σ c → {k : List ℕ} → k ≡ conjWords c → b.rank < noRule → b.at < length k
+pub alone-within : (σ : Signature) (c : Conj) {b : Best} → b ≡ best_alone σ c → {k : List ℕ} → k ≡ conj_words c → b.rank < no_rule → b.at < length k
 alone-within σ c {b} e {k} w = go (subst (Seeks σ c []) (sym e) (alone-sought σ c))
   where
-    go : Seeks σ c [] b → b.rank < noRule → b.at < length k
+    go : Seeks σ c [] b → b.rank < no_rule → b.at < length k
     go (unmet n all) h = absurd (omega arith)
     go (least before l mid d p m ranked low high) h =
-        let x = ap length (w ∙ ap conjWords d ∙ words_append before (l ∷ mid)) ∙ length-append (conjWords before) (literalWords l ++ conjWords mid) in
-        let y = length-append (literalWords l) (conjWords mid) in
+        let x = ap length (w ∙ ap conj_words d ∙ words_append before (l ∷ mid)) ∙ length-append (conj_words before) (literal_words l ++ conj_words mid) in
+        let y = length-append (literal_words l) (conj_words mid) in
         let z = literal-some l in
         omega arith
 
@@ -93,94 +93,94 @@ abbrev Finds : Signature → Conj → Best → Type 0
 Finds σ c b = Found σ c b.rank b.at b.swap
 
 -- what is found before the clash: by the pass's best, whether a literal stands twice, and which of the two is less
-found-by : (σ : Signature) (c : Conj) (a : Best) → Seeks σ c [] a → (twice less : Bool) → ltb (firstTwice c) (length (conjWords c)) ≡ twice → ltb (pick twice atFold noRule) a.rank ≡ less
-    → (pick less (best (pick twice atFold noRule) (firstTwice c) false) a).rank < atClash
-    → Finds σ c (pick less (best (pick twice atFold noRule) (firstTwice c) false) a)
+found-by : (σ : Signature) (c : Conj) (a : Best) → Seeks σ c [] a → (twice less : Bool) → ltb (first_twice c) (length (conj_words c)) ≡ twice → ltb (pick twice at_fold no_rule) a.rank ≡ less
+    → (pick less (best (pick twice at_fold no_rule) (first_twice c) false) a).rank < at_clash
+    → Finds σ c (pick less (best (pick twice at_fold no_rule) (first_twice c) false) a)
 found-by σ c a s true true d e h =
-    finish-fold σ c a.rank a.at a.swap (let h = ltb-true atFold a.rank e in omega arith) s (firstTwice c) (found_at c (firstTwice c) refl (ltb-true _ _ d))
-found-by σ c a s true false d e h = finish σ c a.rank a.at a.swap (idle-low σ c a.rank (ltb-false atFold a.rank e)) s
+    finish-fold σ c a.rank a.at a.swap (let h = ltb-true at_fold a.rank e in omega arith) s (first_twice c) (found_at c (first_twice c) refl (ltb-true _ _ d))
+found-by σ c a s true false d e h = finish σ c a.rank a.at a.swap (idle-low σ c a.rank (ltb-false at_fold a.rank e)) s
 found-by σ c a s false true d e h = absurd (omega arith)
-found-by σ c a s false false d e h = finish σ c a.rank a.at a.swap (idle-once σ c (found_none c (firstTwice c) refl (ltb-false _ _ d)) a.rank (omega arith)) s
+found-by σ c a s false false d e h = finish σ c a.rank a.at a.swap (idle-once σ c (found_none c (first_twice c) refl (ltb-false _ _ d)) a.rank (omega arith)) s
 
 -- where nothing is: no literal stands twice, and no rule of one literal applies
-none-by : (c : Conj) (a : Best) → a.rank ≤ noRule → (twice less : Bool) → ltb (firstTwice c) (length (conjWords c)) ≡ twice → ltb (pick twice atFold noRule) a.rank ≡ less
-    → atClash ≤ (pick less (best (pick twice atFold noRule) (firstTwice c) false) a).rank
-    → Once c [] × (atClash ≤ a.rank)
+none-by : (c : Conj) (a : Best) → a.rank ≤ no_rule → (twice less : Bool) → ltb (first_twice c) (length (conj_words c)) ≡ twice → ltb (pick twice at_fold no_rule) a.rank ≡ less
+    → at_clash ≤ (pick less (best (pick twice at_fold no_rule) (first_twice c) false) a).rank
+    → Once c [] × (at_clash ≤ a.rank)
 none-by c a b true true d e h = absurd (omega arith)
-none-by c a b true false d e h = absurd (let z = ltb-false atFold a.rank e in omega arith)
-none-by c a b false true d e h = absurd (let z = ltb-true noRule a.rank e in omega arith)
-none-by c a b false false d e h = (found_none c (firstTwice c) refl (ltb-false _ _ d), h)
+none-by c a b true false d e h = absurd (let z = ltb-false at_fold a.rank e in omega arith)
+none-by c a b false true d e h = absurd (let z = ltb-true no_rule a.rank e in omega arith)
+none-by c a b false false d e h = (found_none c (first_twice c) refl (ltb-false _ _ d), h)
 
-before-found : (σ : Signature) (c : Conj) → (bestBeforeClash σ c).rank < atClash → Finds σ c (bestBeforeClash σ c)
-unfolding bestBeforeClash bestFold
-before-found σ c = found-by σ c (bestAlone σ c) (alone-sought σ c) (ltb (firstTwice c) (length (conjWords c))) _ refl refl
+before-found : (σ : Signature) (c : Conj) → (best_before_clash σ c).rank < at_clash → Finds σ c (best_before_clash σ c)
+unfolding best_before_clash best_fold
+before-found σ c = found-by σ c (best_alone σ c) (alone-sought σ c) (ltb (first_twice c) (length (conj_words c))) _ refl refl
 
-clash-found : (σ : Signature) (c : Conj) → atClash ≤ (bestBeforeClash σ c).rank → Finds σ c (bestClash σ c)
-unfolding bestBeforeClash bestFold bestClash
+clash-found : (σ : Signature) (c : Conj) → at_clash ≤ (best_before_clash σ c).rank → Finds σ c (best_clash σ c)
+unfolding best_before_clash best_fold best_clash
 clash-found σ c h =
-    let a = bestAlone σ c in
+    let a = best_alone σ c in
     let s = alone-sought σ c in
-    let (o, n) = none-by c a (below σ c [] a.rank a.at a.swap s) (ltb (firstTwice c) (length (conjWords c))) _ refl refl h in
+    let (o, n) = none-by c a (below σ c [] a.rank a.at a.swap s) (ltb (first_twice c) (length (conj_words c))) _ refl refl h in
     finish-clash σ c a.rank a.at a.swap n s o
 
-pub best-found : (σ : Signature) (c : Conj) (b : Best) → b ≡ bestOf σ c → Found σ c b.rank b.at b.swap
-unfolding bestOf
-best-found σ c b e = subst (Finds σ c) (sym e) (go (ltb (bestBeforeClash σ c).rank atClash) refl)
+pub best-found : (σ : Signature) (c : Conj) (b : Best) → b ≡ best_of σ c → Found σ c b.rank b.at b.swap
+unfolding best_of
+best-found σ c b e = subst (Finds σ c) (sym e) (go (ltb (best_before_clash σ c).rank at_clash) refl)
   where
-    go : (t : Bool) → ltb (bestBeforeClash σ c).rank atClash ≡ t → Finds σ c (pick t (bestBeforeClash σ c) (bestClash σ c))
+    go : (t : Bool) → ltb (best_before_clash σ c).rank at_clash ≡ t → Finds σ c (pick t (best_before_clash σ c) (best_clash σ c))
     go true d = before-found σ c (ltb-true _ _ d)
     go false d = clash-found σ c (ltb-false _ _ d)
 
 -- ---- the clash beside what stands before it
 
 -- where a rule before it applies, it is not looked for
-pub before-best : (σ : Signature) (c : Conj) (b : Best) → b ≡ bestBeforeClash σ c → b.rank < atClash → b ≡ bestOf σ c
-unfolding bestOf
+pub before-best : (σ : Signature) (c : Conj) (b : Best) → b ≡ best_before_clash σ c → b.rank < at_clash → b ≡ best_of σ c
+unfolding best_of
 before-best σ c b e h =
-    e ∙ ap (λ t. pick t (bestBeforeClash σ c) (bestClash σ c)) (sym (lt-ltb (bestBeforeClash σ c).rank atClash (let d = ap (λ b. b.rank) e in omega arith)))
+    e ∙ ap (λ t. pick t (best_before_clash σ c) (best_clash σ c)) (sym (lt-ltb (best_before_clash σ c).rank at_clash (let d = ap (λ b. b.rank) e in omega arith)))
 
-pub clash-best : (σ : Signature) (c : Conj) (b r : Best) → b ≡ bestBeforeClash σ c → atClash ≤ b.rank → r ≡ bestClash σ c → r ≡ bestOf σ c
-unfolding bestOf
+pub clash-best : (σ : Signature) (c : Conj) (b r : Best) → b ≡ best_before_clash σ c → at_clash ≤ b.rank → r ≡ best_clash σ c → r ≡ best_of σ c
+unfolding best_of
 clash-best σ c b r e h d =
-    d ∙ ap (λ t. pick t (bestBeforeClash σ c) (bestClash σ c)) (sym (le-ltb (bestBeforeClash σ c).rank atClash (let z = ap (λ b. b.rank) e in omega arith)))
+    d ∙ ap (λ t. pick t (best_before_clash σ c) (best_clash σ c)) (sym (le-ltb (best_before_clash σ c).rank at_clash (let z = ap (λ b. b.rank) e in omega arith)))
 
-pub clash-of : (σ : Signature) (c : Conj) (v : Clashing) → v ≡ firstClash σ 0 c → clashBest v ≡ bestClash σ c
-unfolding bestClash
-clash-of σ c v e = ap clashBest e
+pub clash-of : (σ : Signature) (c : Conj) (v : Clashing) → v ≡ first_clash σ 0 c → clash_best v ≡ best_clash σ c
+unfolding best_clash
+clash-of σ c v e = ap clash_best e
 
 -- ---- the fold beside the pass
 
-fold-rank : (c : Conj) → atFold ≤ (bestFold c).rank
-unfolding bestFold
-fold-rank c = go (ltb (firstTwice c) (length (conjWords c)))
+fold-rank : (c : Conj) → at_fold ≤ (best_fold c).rank
+unfolding best_fold
+fold-rank c = go (ltb (first_twice c) (length (conj_words c)))
   where
-    go : (t : Bool) → atFold ≤ pick t atFold noRule
+    go : (t : Bool) → at_fold ≤ pick t at_fold no_rule
     go true = omega arith
     go false = omega arith
 
 -- where a rule before the fold applies, the fold is not looked for
-pub alone-best : (σ : Signature) (c : Conj) (a : Best) → a ≡ bestAlone σ c → a.rank < atFold → a ≡ bestBeforeClash σ c
-unfolding bestBeforeClash
+pub alone-best : (σ : Signature) (c : Conj) (a : Best) → a ≡ best_alone σ c → a.rank < at_fold → a ≡ best_before_clash σ c
+unfolding best_before_clash
 alone-best σ c a e h =
-    e ∙ ap (λ t. pick t (bestFold c) (bestAlone σ c)) (sym (le-ltb (bestFold c).rank (bestAlone σ c).rank (let f = fold-rank c in let d = ap (λ b. b.rank) e in omega arith)))
+    e ∙ ap (λ t. pick t (best_fold c) (best_alone σ c)) (sym (le-ltb (best_fold c).rank (best_alone σ c).rank (let f = fold-rank c in let d = ap (λ b. b.rank) e in omega arith)))
 
-pub both-best : (σ : Signature) (c : Conj) (a f r : Best) → a ≡ bestAlone σ c → f ≡ bestFold c → r ≡ lesserOf a f → r ≡ bestBeforeClash σ c
-unfolding bestBeforeClash
-both-best σ c a f r e d g = g ∙ ap₂ lesserOf e d
+pub both-best : (σ : Signature) (c : Conj) (a f r : Best) → a ≡ best_alone σ c → f ≡ best_fold c → r ≡ lesser_of a f → r ≡ best_before_clash σ c
+unfolding best_before_clash
+both-best σ c a f r e d g = g ∙ ap₂ lesser_of e d
 
-pub fold-there : (c : Conj) (at : ℕ) → at ≡ firstTwice c → at < length (conjWords c) → best atFold at false ≡ bestFold c
-unfolding bestFold
-fold-there c at e h = ap (λ n. best atFold n false) e ∙ ap (λ t. best (pick t atFold noRule) (firstTwice c) false) (sym (lt-ltb (firstTwice c) (length (conjWords c)) (omega arith)))
+pub fold-there : (c : Conj) (at : ℕ) → at ≡ first_twice c → at < length (conj_words c) → best at_fold at false ≡ best_fold c
+unfolding best_fold
+fold-there c at e h = ap (λ n. best at_fold n false) e ∙ ap (λ t. best (pick t at_fold no_rule) (first_twice c) false) (sym (lt-ltb (first_twice c) (length (conj_words c)) (omega arith)))
 
-pub fold-absent : (c : Conj) (at : ℕ) → at ≡ firstTwice c → length (conjWords c) ≤ at → best noRule at false ≡ bestFold c
-unfolding bestFold
-fold-absent c at e h = ap (λ n. best noRule n false) e ∙ ap (λ t. best (pick t atFold noRule) (firstTwice c) false) (sym (le-ltb (firstTwice c) (length (conjWords c)) (omega arith)))
+pub fold-absent : (c : Conj) (at : ℕ) → at ≡ first_twice c → length (conj_words c) ≤ at → best no_rule at false ≡ best_fold c
+unfolding best_fold
+fold-absent c at e h = ap (λ n. best no_rule n false) e ∙ ap (λ t. best (pick t at_fold no_rule) (first_twice c) false) (sym (le-ltb (first_twice c) (length (conj_words c)) (omega arith)))
 
 -- ---- places
 
-pub placed_on : (n : ℕ) (a b r : Best) → r ≡ lesserOf a b → (a.rank < noRule → a.at < n) → (b.rank < noRule → b.at < n) → r.rank < noRule → r.at < n
+pub placed_on : (n : ℕ) (a b r : Best) → r ≡ lesser_of a b → (a.rank < no_rule → a.at < n) → (b.rank < no_rule → b.at < n) → r.rank < no_rule → r.at < n
 placed_on n a b r e f g = rw e (go (ltb b.rank a.rank))
   where
-    go : (t : Bool) → (pick t b a).rank < noRule → (pick t b a).at < n
+    go : (t : Bool) → (pick t b a).rank < no_rule → (pick t b a).at < n
     go true h = g h
     go false h = f h

@@ -9,10 +9,10 @@ use lib.ListN.{length, drop}
 use Rattle.language.specs.Kinds.{pick}
 use Rattle.language.specs.Trees.{Literal, Conj}
 use Rattle.rules.specs.Reply.{Reply, nothing, results, stops}
-use Rattle.rules.specs.Rules.{Rule, onEqn, onMem, onPair}
-use Rattle.rules.specs.Step.{orNext, each, resultsAt, Spot, found, earliest, first}
+use Rattle.rules.specs.Rules.{Rule, on_eqn, on_mem, on_pair}
+use Rattle.rules.specs.Step.{or_next, each, results_at, Spot, found, earliest, first}
 use Rattle.rules.specs.Step as step
-use Rattle.search.specs.Ranking.{Tried, sided, sides, tried, applies, firstReply, replyAt, Each}
+use Rattle.search.specs.Ranking.{Tried, sided, sides, tried, applies, first_reply, reply_at, Each}
 
 -- ---- each literal of a part
 
@@ -34,7 +34,7 @@ abbrev pub spotted : ℕ → ℕ → Bool × List Conj → Spot × List Conj
 spotted n i f = (record { rule = n; literal = i; swapped = f.0 }, f.1)
 
 one-literal : (n i : ℕ) (x y : Reply (List Conj)) (more : Unit {0} → step.Found)
-    → orNext (found n i false x) (λ _. orNext (found n i true y) more) ≡ orNext (each (spotted n i) (orNext (sided false x) (λ _. sided true y))) more
+    → or_next (found n i false x) (λ _. or_next (found n i true y) more) ≡ or_next (each (spotted n i) (or_next (sided false x) (λ _. sided true y))) more
 one-literal n i nothing nothing more = refl
 one-literal n i nothing (results b) more = refl
 one-literal n i nothing (stops r) more = refl
@@ -42,15 +42,15 @@ one-literal n i (results a) y more = refl
 one-literal n i (stops r) y more = refl
 
 earliest-sides : (n : ℕ) (rule : Rule) (i : ℕ) (before : Conj) (l : Literal) (behind : Conj)
-    → earliest n rule i before (l ∷ behind) ≡ orNext (each (spotted n i) (sides rule before l behind)) (λ _. earliest n rule (suc i) (before ++ (l ∷ [])) behind)
-earliest-sides n rule i before l behind = one-literal n i (resultsAt false rule before l behind) (resultsAt true rule before l behind) _
+    → earliest n rule i before (l ∷ behind) ≡ or_next (each (spotted n i) (sides rule before l behind)) (λ _. earliest n rule (suc i) (before ++ (l ∷ [])) behind)
+earliest-sides n rule i before l behind = one-literal n i (results_at false rule before l behind) (results_at true rule before l behind) _
 
 module _ (n : ℕ) (rule : Rule) where
   -- what the rule comes to at the literal, and else at those behind it
   here : (i : ℕ) (before : Conj) (l : Literal) (behind : Conj) (m : Tried) → sides rule before l behind ≡ m
-      → earliest n rule i before (l ∷ behind) ≡ orNext (each (spotted n i) m) (λ _. earliest n rule (suc i) (before ++ (l ∷ [])) behind)
+      → earliest n rule i before (l ∷ behind) ≡ or_next (each (spotted n i) m) (λ _. earliest n rule (suc i) (before ++ (l ∷ [])) behind)
   here i before l behind m e =
-      earliest-sides n rule i before l behind ∙ ap (λ m. orNext (each (spotted n i) m) (λ _. earliest n rule (suc i) (before ++ (l ∷ [])) behind)) e
+      earliest-sides n rule i before l behind ∙ ap (λ m. or_next (each (spotted n i) m) (λ _. earliest n rule (suc i) (before ++ (l ∷ [])) behind)) e
 
   -- a rule that applies to none of the first literals
   pass : (i j : ℕ) (before mid behind : Conj) → j ≡ i + length mid → Each (λ before l behind. sides rule before l behind ≡ nothing) before mid behind
@@ -64,9 +64,9 @@ module _ (n : ℕ) (rule : Rule) where
 -- ---- a rule of two literals among all of a conjunction
 
 abbrev pub Idle : Conj → Rule → Type 0
-Idle c (onEqn rule) = Unit {0}
-Idle c (onMem rule) = Unit {0}
-Idle c (onPair rule) = (n : ℕ) → earliest n (onPair rule) 0 [] c ≡ nothing
+Idle c (on_eqn rule) = Unit {0}
+Idle c (on_mem rule) = Unit {0}
+Idle c (on_pair rule) = (n : ℕ) → earliest n (on_pair rule) 0 [] c ≡ nothing
 
 -- those among the first n of the list come to nothing
 abbrev pub PairsIdle : Conj → ℕ → List Rule → Type 0
@@ -79,22 +79,22 @@ abbrev Silent : Rule → Conj → Literal → Conj → Type 0
 Silent rule before l behind = tried rule before l behind ≡ nothing
 
 quiet : (n : ℕ) (rule : Rule) (c : Conj) → Each (Silent rule) [] c [] → Idle c rule → earliest n rule 0 [] c ≡ nothing
-quiet n (onEqn rule) c e i = ap (earliest n (onEqn rule) 0 []) (sym (append-nil c)) ∙ pass n (onEqn rule) 0 (length c) [] c [] (omega arith) e
-quiet n (onMem rule) c e i = ap (earliest n (onMem rule) 0 []) (sym (append-nil c)) ∙ pass n (onMem rule) 0 (length c) [] c [] (omega arith) e
-quiet n (onPair rule) c e i = i n
+quiet n (on_eqn rule) c e i = ap (earliest n (on_eqn rule) 0 []) (sym (append-nil c)) ∙ pass n (on_eqn rule) 0 (length c) [] c [] (omega arith) e
+quiet n (on_mem rule) c e i = ap (earliest n (on_mem rule) 0 []) (sym (append-nil c)) ∙ pass n (on_mem rule) 0 (length c) [] c [] (omega arith) e
+quiet n (on_pair rule) c e i = i n
 
 met : (n : ℕ) (rule : Rule) (before : Conj) (l : Literal) (behind : Conj) (f : Bool × List Conj) → Each (Silent rule) [] before (l ∷ behind) → tried rule before l behind ≡ results f
     → earliest n rule 0 [] (before ++ (l ∷ behind)) ≡ results (spotted n (length before) f)
-met n (onEqn rule) before l behind f e a =
-    pass n (onEqn rule) 0 (length before) [] before (l ∷ behind) (omega arith) e ∙ here n (onEqn rule) (length before) before l behind (results f) a
-met n (onMem rule) before l behind f e a =
-    pass n (onMem rule) 0 (length before) [] before (l ∷ behind) (omega arith) e ∙ here n (onMem rule) (length before) before l behind (results f) a
-met n (onPair rule) before l behind f e a = absurd (let z : ◌≡◌ {A = ℕ} 0 1 = cc in omega arith)
+met n (on_eqn rule) before l behind f e a =
+    pass n (on_eqn rule) 0 (length before) [] before (l ∷ behind) (omega arith) e ∙ here n (on_eqn rule) (length before) before l behind (results f) a
+met n (on_mem rule) before l behind f e a =
+    pass n (on_mem rule) 0 (length before) [] before (l ∷ behind) (omega arith) e ∙ here n (on_mem rule) (length before) before l behind (results f) a
+met n (on_pair rule) before l behind f e a = absurd (let z : ◌≡◌ {A = ℕ} 0 1 = cc in omega arith)
 
 -- ---- by the rank of each literal
 
 abbrev rank : List Rule → Conj → Literal → Conj → ℕ
-rank rs before l behind = firstReply (λ rule. tried rule before l behind) rs
+rank rs before l behind = first_reply (λ rule. tried rule before l behind) rs
 
 -- a rank above 0 says that the first rule is silent, and goes by the others
 silent : (x : Tried) (n m : ℕ) → n < pick (applies x) 0 (suc m) → (x ≡ nothing) × (n ≤ m)
@@ -123,17 +123,17 @@ pub skip : (m n : ℕ) (rs : List Rule) (c : Conj) → n ≤ length rs → Each 
 skip m zero rs c h e p = ap (λ i. first i rs c) (omega arith)
 skip m (suc n) [] c h e p = absurd (omega arith)
 skip m (suc n) (rule ∷ rs) c h e p =
-    ap (λ a. orNext a (λ _. first (suc m) rs c)) (quiet m rule c (all-silent rule rs n [] c [] e) p.0)
+    ap (λ a. or_next a (λ _. first (suc m) rs c)) (quiet m rule c (all-silent rule rs n [] c [] e) p.0)
     ∙ skip (suc m) n rs c (omega arith) (all_after rule rs n [] c [] e) p.1 ∙ ap (λ i. first i (drop n rs) c) (omega arith)
 
 pub found_first : (m s : ℕ) (rs : List Rule) (before : Conj) (l : Literal) (behind : Conj) (n : ℕ) (f : Bool × List Conj) → s ≡ m + n
-    → n ≡ rank rs before l behind → replyAt (λ rule. tried rule before l behind) rs n ≡ results f
+    → n ≡ rank rs before l behind → reply_at (λ rule. tried rule before l behind) rs n ≡ results f
     → Each (λ before l behind. n < rank rs before l behind) [] before (l ∷ behind) → Each (λ before l behind. n ≤ rank rs before l behind) (before ++ (l ∷ [])) behind []
     → PairsIdle (before ++ (l ∷ behind)) n rs
     → first m rs (before ++ (l ∷ behind)) ≡ results (spotted s (length before) f)
 found_first m s [] before l behind n f d r a low high p = absurd (let z : ◌≡◌ {A = ℕ} 0 1 = cc in omega arith)
 found_first m s (rule ∷ rs) before l behind zero f d r a low high p =
-    ap (λ k. orNext k (λ _. first (suc m) rs (before ++ (l ∷ behind)))) (met m rule before l behind f (all-silent rule rs 0 [] before (l ∷ behind) low) a)
+    ap (λ k. or_next k (λ _. first (suc m) rs (before ++ (l ∷ behind)))) (met m rule before l behind f (all-silent rule rs 0 [] before (l ∷ behind) low) a)
     ∙ ap (λ n. results (spotted n (length before) f)) (omega arith)
 found_first m s (rule ∷ rs) before l behind (suc n) f d r a low high p =
     let q = equal (tried rule before l behind) n (rank rs before l behind) r in
@@ -142,7 +142,7 @@ found_first m s (rule ∷ rs) before l behind (suc n) f d r a low high p =
     (subst (λ k. Each (Silent rule) [] before (l ∷ k)) (sym (append-nil behind)) (all-silent rule rs (suc n) [] before (l ∷ behind) low))
     (subst (λ k. Silent rule before l k) (sym (append-nil behind)) q.0, all-silent rule rs n (before ++ (l ∷ [])) behind [] high)
     in
-    ap (λ k. orNext k (λ _. first (suc m) rs (before ++ (l ∷ behind)))) (quiet m rule (before ++ (l ∷ behind)) all p.0)
+    ap (λ k. or_next k (λ _. first (suc m) rs (before ++ (l ∷ behind)))) (quiet m rule (before ++ (l ∷ behind)) all p.0)
     ∙ found_first (suc m) s rs before l behind n f (omega arith) q.1 a
     (each_map _ _ (λ before l behind h. let z : n < rank rs before l behind = omega arith in z) [] before (l ∷ behind) (all_after rule rs (suc n) [] before (l ∷ behind) low))
     (all_after rule rs n (before ++ (l ∷ [])) behind [] high)

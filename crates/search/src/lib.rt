@@ -3,13 +3,13 @@ ghost use Rattle.std.specs.Prelude.{ℕ, ◌≤◌, ◌<◌, ◌≡◌, List, le
 ghost use Rattle.language.specs.declared.Signature.{Signature};
 ghost use Rattle.language.specs.Limits.{desk};
 ghost use Rattle.language.specs.Trees.{Conj};
-ghost use Rattle.language.specs.Writing.{conjWords};
-ghost use Rattle.language.specs.Fine.{fineConj};
+ghost use Rattle.language.specs.Writing.{conj_words};
+ghost use Rattle.language.specs.Fine.{fine_conj};
 ghost use Rattle.views.specs.Standing.{Conjunction};
-ghost use Rattle.rules.specs.Places.{noRule};
+ghost use Rattle.rules.specs.Places.{no_rule};
 ghost use Rattle.counts.specs.Tables.{afresh};
-ghost use Rattle.notes.specs.Rows.{mostNotes, Noted, SomeNoted};
-ghost use Rattle.search.specs.Seeking.{lesserOf, betterOf, bestAlone, bestFold, bestBeforeClash, bestClash, bestOf};
+ghost use Rattle.notes.specs.Rows.{most_notes, Noted, SomeNoted};
+ghost use Rattle.search.specs.Seeking.{lesser_of, better_of, best_alone, best_fold, best_before_clash, best_clash, best_of};
 
 use clashes::{Clashing, first_clash};
 use counts::TABLE;
@@ -28,7 +28,7 @@ pub struct Best {
 
 // The one of the lesser rank, the first where they are equal.
 fn lesser(a: Best, b: Best) -> Best
-    ensures { result ≡ lesserOf a b }
+    ensures { result ≡ lesser_of a b }
 {
     if b.rank < a.rank { b } else { a }
 }
@@ -36,7 +36,7 @@ fn lesser(a: Best, b: Best) -> Best
 // The best so far, or the literal of a note at a place, where that is better. Where every variable occurs elsewhere its rank is the note's own, and
 // else it is no less: so the table is asked only where that one is below the best so far.
 fn better(b: Best, n: Note, at: usize, table: &[u16; TABLE]) -> Best
-    ensures { result ≡ betterOf b n at table.now }
+    ensures { result ≡ better_of b n at table.now }
 {
     if wide(n.rank) < b.rank {
         let rank = rank_by(n, table);
@@ -48,8 +48,8 @@ fn better(b: Best, n: Note, at: usize, table: &[u16; TABLE]) -> Best
 
 // The earliest literal of the least rank, by the rules of one literal: from row to row of the notes.
 fn find_alone(rows: &[u16; ROWS], m: usize, table: &[u16; TABLE]) -> Best
-    requires { m ≤ mostNotes }
-    ensures { (s : Signature) (k : List ℕ) → Noted s k rows.now m → table.now ≡ afresh k → (result.rank < noRule → result.at < length k) × ((c : Conj) → fineConj desk c → k ≡ conjWords c → result ≡ bestAlone s c) }
+    requires { m ≤ most_notes }
+    ensures { (s : Signature) (k : List ℕ) → Noted s k rows.now m → table.now ≡ afresh k → (result.rank < no_rule → result.at < length k) × ((c : Conj) → fine_conj desk c → k ≡ conj_words c → result ≡ best_alone s c) }
 {
     let mut best = Best {
         rank: NO_RULE,
@@ -71,7 +71,7 @@ fn find_alone(rows: &[u16; ROWS], m: usize, table: &[u16; TABLE]) -> Best
 fn find_fold(k: &[u16], rows: &[u16; ROWS], m: usize) -> Best
     requires k_len_bound { length k.now ≤ desk.question }
     requires some_noted { SomeNoted k.now rows.now m }
-    ensures { (result.rank < noRule → result.at < length k.now) × ((c : Conj) → fineConj desk c → k.now ≡ conjWords c → result ≡ bestFold c) }
+    ensures { (result.rank < no_rule → result.at < length k.now) × ((c : Conj) → fine_conj desk c → k.now ≡ conj_words c → result ≡ best_fold c) }
 {
     let at = first_twice(k, rows, m);
     if at < k.len() {
@@ -92,7 +92,7 @@ fn find_fold(k: &[u16], rows: &[u16; ROWS], m: usize) -> Best
 fn find_clash(k: &[u16], s: Signature) -> Best
     requires k_len_bound { length k.now ≤ desk.question }
     requires conjunction { Conjunction k.now }
-    ensures { (result.rank < noRule → result.at < length k.now) × ((c : Conj) → fineConj desk c → k.now ≡ conjWords c → result ≡ bestClash s c) }
+    ensures { (result.rank < no_rule → result.at < length k.now) × ((c : Conj) → fine_conj desk c → k.now ≡ conj_words c → result ≡ best_clash s c) }
 {
     match first_clash(k, s) {
         Clashing::Nowhere => Best {
@@ -124,7 +124,7 @@ fn find_before_clash(
     requires k_len_bound { length k.now ≤ desk.question }
     requires table_value { table.now ≡ afresh k.now }
     requires noted { Noted s k.now rows.now m }
-    ensures { (result.rank < noRule → result.at < length k.now) × ((c : Conj) → fineConj desk c → k.now ≡ conjWords c → result ≡ bestBeforeClash s c) }
+    ensures { (result.rank < no_rule → result.at < length k.now) × ((c : Conj) → fine_conj desk c → k.now ≡ conj_words c → result ≡ best_before_clash s c) }
 {
     let alone = find_alone(rows, m, table);
     if alone.rank < AT_FOLD {
@@ -139,7 +139,7 @@ pub fn find(k: &[u16], rows: &[u16; ROWS], m: usize, table: &[u16; TABLE], s: Si
     requires conjunction { Conjunction k.now }
     requires table_value { table.now ≡ afresh k.now }
     requires noted { Noted s k.now rows.now m }
-    ensures { (result.rank < noRule → result.at < length k.now) × ((c : Conj) → fineConj desk c → k.now ≡ conjWords c → result ≡ bestOf s c) }
+    ensures { (result.rank < no_rule → result.at < length k.now) × ((c : Conj) → fine_conj desk c → k.now ≡ conj_words c → result ≡ best_of s c) }
 {
     let b = find_before_clash(k, rows, m, table, s);
     if b.rank < AT_CLASH {

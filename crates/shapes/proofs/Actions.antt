@@ -9,21 +9,21 @@ use Rattle.language.specs.Kinds.{pick}
 use Rattle.lexing.specs.declared.Mark.{Mark}
 use Rattle.flat.specs.declared.State.{State}
 use Rattle.flat.specs.declared.State.TheVariants.{Opened, Wanted, Named, Ready}
-use Rattle.walking.specs.Walking.{stageOf}
-use Rattle.shapes.specs.Shapes.{actionOf, ends, refused, depthBy, endWords}
-use Rattle.shapes.specs.Actions.{actionAt, end_at}
+use Rattle.walking.specs.Walking.{stage_of}
+use Rattle.shapes.specs.Shapes.{action_of, ends, refused, depth_by, end_words}
+use Rattle.shapes.specs.Actions.{action_at, end_at}
 
-small : (s : State) (m : Mark) → actionOf s m % 10 ≤ 9
+small : (s : State) (m : Mark) → action_of s m % 10 ≤ 9
 small s m = omega arith
 
-pub at-state : (s : State) (m : Mark) → actionAt (stageOf s) m ≡ actionOf s m
-unfolding actionAt
+pub at-state : (s : State) (m : Mark) → action_at (stage_of s) m ≡ action_of s m
+unfolding action_at
 at-state Opened m = refl
 at-state Wanted m = refl
 at-state Named m = refl
 at-state Ready m = refl
 
-pub end-state : (s : State) → end_at (stageOf s) ≡ endWords s
+pub end-state : (s : State) → end_at (stage_of s) ≡ end_words s
 unfolding end_at
 end-state Opened = refl
 end-state Wanted = refl
@@ -31,22 +31,22 @@ end-state Named = refl
 end-state Ready = refl
 
 module _ (stage : ℕ) (m : Mark) where
-  pub at-opened : stage ≡ 0 → {r : ℕ} → r ≡ actionOf Opened m → r ≡ actionAt stage m
-  unfolding actionAt
+  pub at-opened : stage ≡ 0 → {r : ℕ} → r ≡ action_of Opened m → r ≡ action_at stage m
+  unfolding action_at
   at-opened e f = f ∙ rw (eq-eqb stage 0 e)
 
   module _ (p : stage ≡ 0 → ⊥) where
-    pub at-wanted : stage ≡ 1 → {r : ℕ} → r ≡ actionOf Wanted m → r ≡ actionAt stage m
-    unfolding actionAt
+    pub at-wanted : stage ≡ 1 → {r : ℕ} → r ≡ action_of Wanted m → r ≡ action_at stage m
+    unfolding action_at
     at-wanted e f = f ∙ rw (ne_eqb stage 0 p, eq-eqb stage 1 e)
 
     module _ (q : stage ≡ 1 → ⊥) where
-      pub at_named : stage ≡ 2 → {r : ℕ} → r ≡ actionOf Named m → r ≡ actionAt stage m
-      unfolding actionAt
+      pub at_named : stage ≡ 2 → {r : ℕ} → r ≡ action_of Named m → r ≡ action_at stage m
+      unfolding action_at
       at_named e f = f ∙ rw (ne_eqb stage 0 p, ne_eqb stage 1 q, eq-eqb stage 2 e)
 
-      pub at_ready : (stage ≡ 2 → ⊥) → {r : ℕ} → r ≡ actionOf Ready m → r ≡ actionAt stage m
-      unfolding actionAt
+      pub at_ready : (stage ≡ 2 → ⊥) → {r : ℕ} → r ≡ action_of Ready m → r ≡ action_at stage m
+      unfolding action_at
       at_ready e f = f ∙ rw (ne_eqb stage 0 p, ne_eqb stage 1 q, ne_eqb stage 2 e)
 
 pub no_end : (a d : ℕ) → a < 30 → false ≡ ends a d
@@ -65,16 +65,16 @@ pub refused-5 : (a : ℕ) → (a / 10 ≡ 0 → ⊥) → eqb (a / 10) 5 ≡ refu
 unfolding refused
 refused-5 a e = rw (ne_eqb (a / 10) 0 e)
 
-pub deeper : (a d : ℕ) → a / 10 ≡ 1 → d + 1 ≡ depthBy a d
-unfolding depthBy
+pub deeper : (a d : ℕ) → a / 10 ≡ 1 → d + 1 ≡ depth_by a d
+unfolding depth_by
 deeper a d e = rw (eq-eqb (a / 10) 1 e)
 
-pub shallower : (a d : ℕ) → (a / 10 ≡ 1 → ⊥) → a / 10 ≡ 3 → d - 1 ≡ depthBy a d
-unfolding depthBy
+pub shallower : (a d : ℕ) → (a / 10 ≡ 1 → ⊥) → a / 10 ≡ 3 → d - 1 ≡ depth_by a d
+unfolding depth_by
 shallower a d n e = rw (ne_eqb (a / 10) 1 n, eq-eqb (a / 10) 3 e)
 
-pub as-deep : (a d : ℕ) → (a / 10 ≡ 1 → ⊥) → (a / 10 ≡ 3 → ⊥) → d ≡ depthBy a d
-unfolding depthBy
+pub as-deep : (a d : ℕ) → (a / 10 ≡ 1 → ⊥) → (a / 10 ≡ 3 → ⊥) → d ≡ depth_by a d
+unfolding depth_by
 as-deep a d n e = rw (ne_eqb (a / 10) 1 n, ne_eqb (a / 10) 3 e)
 
 pub end-named : (stage : ℕ) → stage ≡ 2 → 1 ≡ end_at stage
@@ -98,8 +98,8 @@ unfolding ends
 positive a zero e z y = absurd (let q : ◌≡◌ {A = ℕ} 0 1 = cc (le-leb 30 a y) in omega arith)
 positive a (suc d) e z y = omega arith
 
-pub deep : (a d : ℕ) → depthBy a d ≤ d + 1
-unfolding depthBy
+pub deep : (a d : ℕ) → depth_by a d ≤ d + 1
+unfolding depth_by
 deep a d = on (eqb (a / 10) 1) (eqb (a / 10) 3)
   where
     on : (s t : Bool) → pick s (d + 1) (pick t (d - 1) d) ≤ d + 1

@@ -12,13 +12,13 @@ use Rattle.grammar.specs.Tokens.{Tokens}
 use Rattle.texts.specs.Parsing.{Res, got, stop}
 use Rattle.lexing.specs.declared.Mark.{Mark}
 use Rattle.lexing.specs.declared.Mark.TheVariants.{End, Bad, Symbol, One, Run, Function, Equals, Comma, Opens, Closes, Plus, Times}
-use Rattle.lexing.specs.Bytes.{sortOf}
+use Rattle.lexing.specs.Bytes.{sort_of}
 use Rattle.lexing.specs.Pieces.{front}
 use Rattle.flat.specs.declared.State.{State}
 use Rattle.flat.specs.declared.State.TheVariants.{Opened, Wanted, Named, Ready}
 use Rattle.flat.specs.Flat.{add, scan}
-use Rattle.walking.specs.Walking.{reads, gotAt}
-use Rattle.shapes.specs.Shapes.{actionOf, stateBehind, ends, refused, depthBy, endWords}
+use Rattle.walking.specs.Walking.{reads, got_at}
+use Rattle.shapes.specs.Shapes.{action_of, state_behind, ends, refused, depth_by, end_words}
 
 pub no : {A : Type 0} → false ≡ true → A
 no e = absurd (let z : ◌≡◌ {A = ℕ} 0 1 = cc in omega arith)
@@ -36,7 +36,7 @@ no-end-deep a d e = absurd (let z = eqb-true (suc d) 0 (both_true (leb 30 a) (eq
 
 module _ (x : ℕ) where
   -- the expression ends before this token
-  pub token-ends : (d : ℕ) (s : State) (m : Mark) (o : Tokens) → ends (actionOf s m) d ≡ true → reads (scan s d) (front m x o) ≡ gotAt (endWords s) (front m x o)
+  pub token-ends : (d : ℕ) (s : State) (m : Mark) (o : Tokens) → ends (action_of s m) d ≡ true → reads (scan s d) (front m x o) ≡ got_at (end_words s) (front m x o)
   unfolding ends
   token-ends d Opened End o e = no e
   token-ends d Opened Bad o e = no e
@@ -62,67 +62,67 @@ module _ (x : ℕ) where
   token-ends d Wanted Closes o e = no e
   token-ends d Wanted Plus o e = no e
   token-ends d Wanted Times o e = no e
-  token-ends (suc d) Named End o e = no-end-deep (actionOf Named End) d e
+  token-ends (suc d) Named End o e = no-end-deep (action_of Named End) d e
   token-ends zero Named End o e = refl
-  token-ends (suc d) Named Bad o e = no-end-deep (actionOf Named Bad) d e
+  token-ends (suc d) Named Bad o e = no-end-deep (action_of Named Bad) d e
   token-ends zero Named Bad o e = refl
-  token-ends (suc d) Named Symbol o e = no-end-deep (actionOf Named Symbol) d e
+  token-ends (suc d) Named Symbol o e = no-end-deep (action_of Named Symbol) d e
   token-ends zero Named Symbol none e = refl
   token-ends zero Named Symbol (some ts) e = refl
-  token-ends (suc d) Named One o e = no-end-deep (actionOf Named One) d e
+  token-ends (suc d) Named One o e = no-end-deep (action_of Named One) d e
   token-ends zero Named One none e = refl
   token-ends zero Named One (some ts) e = refl
-  token-ends (suc d) Named Run o e = no-end-deep (actionOf Named Run) d e
+  token-ends (suc d) Named Run o e = no-end-deep (action_of Named Run) d e
   token-ends zero Named Run none e = refl
   token-ends zero Named Run (some ts) e = refl
-  token-ends (suc d) Named Function o e = no-end-deep (actionOf Named Function) d e
+  token-ends (suc d) Named Function o e = no-end-deep (action_of Named Function) d e
   token-ends zero Named Function none e = refl
   token-ends zero Named Function (some ts) e = refl
-  token-ends (suc d) Named Equals o e = no-end-deep (actionOf Named Equals) d e
+  token-ends (suc d) Named Equals o e = no-end-deep (action_of Named Equals) d e
   token-ends zero Named Equals none e = refl
   token-ends zero Named Equals (some ts) e = refl
-  token-ends (suc d) Named Comma o e = no-end-deep (actionOf Named Comma) d e
+  token-ends (suc d) Named Comma o e = no-end-deep (action_of Named Comma) d e
   token-ends zero Named Comma none e = refl
   token-ends zero Named Comma (some ts) e = refl
   token-ends d Named Opens o e = no e
-  token-ends (suc d) Named Closes o e = no-end-deep (actionOf Named Closes) d e
+  token-ends (suc d) Named Closes o e = no-end-deep (action_of Named Closes) d e
   token-ends zero Named Closes none e = refl
   token-ends zero Named Closes (some ts) e = refl
   token-ends d Named Plus o e = no e
   token-ends d Named Times o e = no e
-  token-ends (suc d) Ready End o e = no-end-deep (actionOf Ready End) d e
+  token-ends (suc d) Ready End o e = no-end-deep (action_of Ready End) d e
   token-ends zero Ready End o e = refl
-  token-ends (suc d) Ready Bad o e = no-end-deep (actionOf Ready Bad) d e
+  token-ends (suc d) Ready Bad o e = no-end-deep (action_of Ready Bad) d e
   token-ends zero Ready Bad o e = refl
-  token-ends (suc d) Ready Symbol o e = no-end-deep (actionOf Ready Symbol) d e
+  token-ends (suc d) Ready Symbol o e = no-end-deep (action_of Ready Symbol) d e
   token-ends zero Ready Symbol none e = refl
   token-ends zero Ready Symbol (some ts) e = refl
-  token-ends (suc d) Ready One o e = no-end-deep (actionOf Ready One) d e
+  token-ends (suc d) Ready One o e = no-end-deep (action_of Ready One) d e
   token-ends zero Ready One none e = refl
   token-ends zero Ready One (some ts) e = refl
-  token-ends (suc d) Ready Run o e = no-end-deep (actionOf Ready Run) d e
+  token-ends (suc d) Ready Run o e = no-end-deep (action_of Ready Run) d e
   token-ends zero Ready Run none e = refl
   token-ends zero Ready Run (some ts) e = refl
-  token-ends (suc d) Ready Function o e = no-end-deep (actionOf Ready Function) d e
+  token-ends (suc d) Ready Function o e = no-end-deep (action_of Ready Function) d e
   token-ends zero Ready Function none e = refl
   token-ends zero Ready Function (some ts) e = refl
-  token-ends (suc d) Ready Equals o e = no-end-deep (actionOf Ready Equals) d e
+  token-ends (suc d) Ready Equals o e = no-end-deep (action_of Ready Equals) d e
   token-ends zero Ready Equals none e = refl
   token-ends zero Ready Equals (some ts) e = refl
-  token-ends (suc d) Ready Comma o e = no-end-deep (actionOf Ready Comma) d e
+  token-ends (suc d) Ready Comma o e = no-end-deep (action_of Ready Comma) d e
   token-ends zero Ready Comma none e = refl
   token-ends zero Ready Comma (some ts) e = refl
-  token-ends (suc d) Ready Opens o e = no-end-deep (actionOf Ready Opens) d e
+  token-ends (suc d) Ready Opens o e = no-end-deep (action_of Ready Opens) d e
   token-ends zero Ready Opens none e = refl
   token-ends zero Ready Opens (some ts) e = refl
-  token-ends (suc d) Ready Closes o e = no-end-deep (actionOf Ready Closes) d e
+  token-ends (suc d) Ready Closes o e = no-end-deep (action_of Ready Closes) d e
   token-ends zero Ready Closes none e = refl
   token-ends zero Ready Closes (some ts) e = refl
   token-ends d Ready Plus o e = no e
   token-ends d Ready Times o e = no e
 
   -- it cannot stand there
-  pub token-refused : (d : ℕ) (s : State) (m : Mark) (o : Tokens) → ends (actionOf s m) d ≡ false → refused (actionOf s m) ≡ true → reads (scan s d) (front m x o) ≡ stop
+  pub token-refused : (d : ℕ) (s : State) (m : Mark) (o : Tokens) → ends (action_of s m) d ≡ false → refused (action_of s m) ≡ true → reads (scan s d) (front m x o) ≡ stop
   unfolding ends refused
   token-refused d Opened End o e f = refl
   token-refused d Opened Bad o e f = refl
@@ -215,9 +215,9 @@ module _ (x : ℕ) where
   token-refused d Ready Times o e f = no f
 
   -- it goes on
-  pub token-on : (d : ℕ) (s : State) (m : Mark) (o : Tokens) → ends (actionOf s m) d ≡ false → refused (actionOf s m) ≡ false
-      → reads (scan s d) (front m x o) ≡ add (actionOf s m % 10) (reads (scan (stateBehind m) (depthBy (actionOf s m) d)) o)
-  unfolding ends refused depthBy
+  pub token-on : (d : ℕ) (s : State) (m : Mark) (o : Tokens) → ends (action_of s m) d ≡ false → refused (action_of s m) ≡ false
+      → reads (scan s d) (front m x o) ≡ add (action_of s m % 10) (reads (scan (state_behind m) (depth_by (action_of s m) d)) o)
+  unfolding ends refused depth_by
   token-on d Opened End o e f = yes f
   token-on d Opened Bad o e f = yes f
   token-on d Opened Symbol none e f = refl
@@ -286,7 +286,7 @@ module _ (x : ℕ) where
   token-on d Ready Times (some ts) e f = refl
 
   -- a token that the loop passes has bytes
-  pub passed : (s : State) (m : Mark) → sortOf m ≡ 0 → refused (actionOf s m) ≡ true
+  pub passed : (s : State) (m : Mark) → sort_of m ≡ 0 → refused (action_of s m) ≡ true
   unfolding refused
   passed Opened End z = refl
   passed Opened Bad z = refl

@@ -2,9 +2,9 @@
 ghost use Rattle.std.specs.Prelude.{◌+◌, ◌≤◌, ◌<◌, min, ◌≡◌, length};
 ghost use Rattle.language.specs.Limits.{desk};
 ghost use Rattle.flat.specs.declared.State.TheVariants.{Opened, Wanted, Named, Ready};
-ghost use Rattle.walking.specs.Walking.{stageOf};
-ghost use Rattle.shapes.specs.Shapes.{actionOf, stateBehind, ends, refused, depthBy};
-ghost use Rattle.shapes.specs.Actions.{actionAt, end_at};
+ghost use Rattle.walking.specs.Walking.{stage_of};
+ghost use Rattle.shapes.specs.Shapes.{action_of, state_behind, ends, refused, depth_by};
+ghost use Rattle.shapes.specs.Actions.{action_at, end_at};
 ghost use Rattle.shapes.specs.Scanned.{Scanned};
 
 use language::limits::QUESTION;
@@ -12,7 +12,7 @@ use lexing::{Mark, next};
 use walking::Way;
 
 fn when_opened(mark: Mark) -> u8
-    ensures { result ≡ actionOf Opened mark }
+    ensures { result ≡ action_of Opened mark }
 {
     match mark {
         Mark::End => 0,
@@ -31,7 +31,7 @@ fn when_opened(mark: Mark) -> u8
 }
 
 fn when_wanted(mark: Mark) -> u8
-    ensures { result ≡ actionOf Wanted mark }
+    ensures { result ≡ action_of Wanted mark }
 {
     match mark {
         Mark::End => 0,
@@ -50,7 +50,7 @@ fn when_wanted(mark: Mark) -> u8
 }
 
 fn when_named(mark: Mark) -> u8
-    ensures { result ≡ actionOf Named mark }
+    ensures { result ≡ action_of Named mark }
 {
     match mark {
         Mark::End => 50,
@@ -69,7 +69,7 @@ fn when_named(mark: Mark) -> u8
 }
 
 fn when_ready(mark: Mark) -> u8
-    ensures { result ≡ actionOf Ready mark }
+    ensures { result ≡ action_of Ready mark }
 {
     match mark {
         Mark::End => 50,
@@ -88,7 +88,7 @@ fn when_ready(mark: Mark) -> u8
 }
 
 fn stage_behind(mark: Mark) -> u8
-    ensures { result ≡ stageOf (stateBehind mark) }
+    ensures { result ≡ stage_of (state_behind mark) }
 {
     match mark {
         Mark::End => 3,
@@ -108,7 +108,7 @@ fn stage_behind(mark: Mark) -> u8
 
 // What a token is to the loop, by what stands before it.
 fn action(stage: u8, mark: Mark) -> u8
-    ensures { result ≡ actionAt stage mark }
+    ensures { result ≡ action_at stage mark }
 {
     if stage == 0 {
         return when_opened(mark);
@@ -144,7 +144,7 @@ fn is_refused(action: u8) -> bool
 // There are fewer than `most` brackets open.
 fn depth_by(action: u8, d: usize, most: usize) -> usize
     requires { (d < most) × (30 ≤ action → 0 < d) }
-    ensures { result ≡ depthBy action d }
+    ensures { result ≡ depth_by action d }
 {
     let kind = action / 10;
     if kind == 1 {

@@ -9,10 +9,10 @@ use lib.ListN.{length, get_or, drop, length-drop}
 use lib.Seq.{slice, length-slice}
 use borrow.Author.Tests.{eq-eqb, ne_eqb, le-ltb, lt-ltb}
 use Rattle.language.specs.Kinds.{pick}
-use Rattle.words.specs.Spans.{opens, span, elementEnd}
+use Rattle.words.specs.Spans.{opens, span, element_end}
 use Rattle.words.specs.Places.{same_list}
 use Rattle.words.proofs.Spans.{element-on, element-more}
-use Rattle.sharing.specs.Shared.{equalFrom, nowhere, twice, sharedFrom}
+use Rattle.sharing.specs.Shared.{equal_from, nowhere, twice, shared_from}
 
 -- ---- places
 
@@ -23,7 +23,7 @@ span-short zero (x ∷ ws) = omega arith
 span-short (suc n) (x ∷ ws) = let h = span-short (n + opens x) ws in omega arith
 
 -- a step goes on, and stays within the words
-pub goes_on : (k : List ℕ) (i : ℕ) {x e : ℕ} → x ≡ get_or k i 0 → e ≡ elementEnd k i → (x ≡ 0 → ⊥) → (i < e) × (i < length k) × (e ≤ length k)
+pub goes_on : (k : List ℕ) (i : ℕ) {x e : ℕ} → x ≡ get_or k i 0 → e ≡ element_end k i → (x ≡ 0 → ⊥) → (i < e) × (i < length k) × (e ≤ length k)
 goes_on k i {x} {e} a b nz =
     let z = element-more k i (λ q. nz (a ∙ q)) in
     let y = element-on k i (λ q. nz (a ∙ q)) in
@@ -82,50 +82,50 @@ module _ {A : Type 0} {k : List ℕ} {walk : ℕ → ℕ → A} where
 -- ---- the first that has the words
 
 module _ (k ws : List ℕ) (i : ℕ) {x : ℕ} (a : x ≡ get_or k i 0) where
-  pub equal_over : x ≡ 0 → (n : ℕ) → equalFrom n k ws i ≡ length k
-  unfolding equalFrom
+  pub equal_over : x ≡ 0 → (n : ℕ) → equal_from n k ws i ≡ length k
+  unfolding equal_from
   equal_over z zero = refl
   equal_over z (suc n) = rw (eq-eqb _ 0 (sym a ∙ z))
 
-  module _ {e : ℕ} (nz : x ≡ 0 → ⊥) (d : e ≡ elementEnd k i) {b : Bool} (s : b ≡ same_list ws (slice i e k)) where
-    pub equal-here : b ≡ true → (n : ℕ) → equalFrom (suc n) k ws i ≡ i
-    unfolding equalFrom
+  module _ {e : ℕ} (nz : x ≡ 0 → ⊥) (d : e ≡ element_end k i) {b : Bool} (s : b ≡ same_list ws (slice i e k)) where
+    pub equal-here : b ≡ true → (n : ℕ) → equal_from (suc n) k ws i ≡ i
+    unfolding equal_from
     equal-here t n = rw (ne_eqb _ 0 (λ q. nz (a ∙ q)), ap (λ j. same_list ws (slice i j k)) (sym d) ∙ sym s ∙ t)
 
-    pub equal-on : b ≡ false → (n : ℕ) → equalFrom (suc n) k ws i ≡ equalFrom n k ws e
-    unfolding equalFrom
+    pub equal-on : b ≡ false → (n : ℕ) → equal_from (suc n) k ws i ≡ equal_from n k ws e
+    unfolding equal_from
     equal-on t n = rw (ne_eqb _ 0 (λ q. nz (a ∙ q)), ap (λ j. same_list ws (slice i j k)) (sym d) ∙ sym s ∙ t, sym d)
 
 -- one step, by what its tests say
-pub equal-step : (k ws : List ℕ) (i : ℕ) {b : Bool} → eqb (get_or k i 0) 0 ≡ false → same_list ws (slice i (elementEnd k i) k) ≡ b → (n : ℕ)
-    → equalFrom (suc n) k ws i ≡ pick b i (equalFrom n k ws (elementEnd k i))
-unfolding equalFrom
+pub equal-step : (k ws : List ℕ) (i : ℕ) {b : Bool} → eqb (get_or k i 0) 0 ≡ false → same_list ws (slice i (element_end k i) k) ≡ b → (n : ℕ)
+    → equal_from (suc n) k ws i ≡ pick b i (equal_from n k ws (element_end k i))
+unfolding equal_from
 equal-step k ws i z s n = rw (z, s)
 
 -- ---- the first that is shared
 
 module _ (k : List ℕ) (i j : ℕ) {x : ℕ} (a : x ≡ get_or k i 0) where
-  pub shared-over : x ≡ 0 → (n : ℕ) → sharedFrom n k i j ≡ nowhere
-  unfolding sharedFrom
+  pub shared-over : x ≡ 0 → (n : ℕ) → shared_from n k i j ≡ nowhere
+  unfolding shared_from
   shared-over z zero = refl
   shared-over z (suc n) = rw (eq-eqb _ 0 (sym a ∙ z))
 
-  module _ {e p : ℕ} (nz : x ≡ 0 → ⊥) (d : e ≡ elementEnd k i) (s : p ≡ equalFrom (length k) k (slice i e k) j) where
+  module _ {e p : ℕ} (nz : x ≡ 0 → ⊥) (d : e ≡ element_end k i) (s : p ≡ equal_from (length k) k (slice i e k) j) where
     abbrev place : ℕ
-    place = equalFrom (length k) k (slice i (elementEnd k i) k) j
+    place = equal_from (length k) k (slice i (element_end k i) k) j
 
     there : p ≡ place
-    there = s ∙ ap (λ m. equalFrom (length k) k (slice i m k) j) d
+    there = s ∙ ap (λ m. equal_from (length k) k (slice i m k) j) d
 
-    pub shared-here : {q : ℕ} → p < length k → q ≡ elementEnd k p → (n : ℕ) → sharedFrom (suc n) k i j ≡ record { found = true; left = i; after = e; right = p; behind = q }
-    unfolding sharedFrom
+    pub shared-here : {q : ℕ} → p < length k → q ≡ element_end k p → (n : ℕ) → shared_from (suc n) k i j ≡ record { found = true; left = i; after = e; right = p; behind = q }
+    unfolding shared_from
     shared-here {q} t w n = rw (ne_eqb _ 0 (λ q. nz (a ∙ q)), sym there, lt-ltb _ _ t, w, d)
 
-    pub shared-on : (p < length k → ⊥) → (n : ℕ) → sharedFrom (suc n) k i j ≡ sharedFrom n k e j
-    unfolding sharedFrom
+    pub shared-on : (p < length k → ⊥) → (n : ℕ) → shared_from (suc n) k i j ≡ shared_from n k e j
+    unfolding shared_from
     shared-on t n = rw (ne_eqb _ 0 (λ q. nz (a ∙ q)), sym there, le-ltb p (length k) (omega arith), d)
 
-pub shared_step : (k : List ℕ) (i j : ℕ) {ws : List ℕ} → eqb (get_or k i 0) 0 ≡ false → slice i (elementEnd k i) k ≡ ws → (n : ℕ)
-    → sharedFrom (suc n) k i j ≡ pick (ltb (equalFrom (length k) k ws j) (length k)) (twice k i (equalFrom (length k) k ws j)) (sharedFrom n k (elementEnd k i) j)
-unfolding sharedFrom
+pub shared_step : (k : List ℕ) (i j : ℕ) {ws : List ℕ} → eqb (get_or k i 0) 0 ≡ false → slice i (element_end k i) k ≡ ws → (n : ℕ)
+    → shared_from (suc n) k i j ≡ pick (ltb (equal_from (length k) k ws j) (length k)) (twice k i (equal_from (length k) k ws j)) (shared_from n k (element_end k i) j)
+unfolding shared_from
 shared_step k i j z w n = rw (z, w)

@@ -2,7 +2,7 @@
 ghost use Rattle.std.specs.Prelude.{◌≤◌, ◌≡◌, length};
 ghost use Rattle.std.proofs.Math.Seq.{slice};
 ghost use Rattle.words.specs.Places.{same_list};
-ghost use Rattle.sharing.specs.Shared.{equalFrom, firstShared};
+ghost use Rattle.sharing.specs.Shared.{equal_from, first_shared};
 
 use spans::element_end;
 use words::{same_part, word};
@@ -31,7 +31,7 @@ fn same_element(k: &[u16], from: usize, to: usize, start: usize, end: usize) -> 
 // The place of the first element of the hedge at a place that has the same words as a part; the length, where none has.
 fn equal_element(k: &[u16], from: usize, to: usize, at: usize) -> usize
     requires { (from ≤ to) × (to ≤ length k.now) }
-    ensures { result ≡ equalFrom (length k.now) k.now (slice from to k.now) at }
+    ensures { result ≡ equal_from (length k.now) k.now (slice from to k.now) at }
 {
     let mut i = at;
     let mut x = word(k, at);
@@ -48,7 +48,7 @@ fn equal_element(k: &[u16], from: usize, to: usize, at: usize) -> usize
 
 // The first element that the hedges at two places share.
 pub fn first_shared(k: &[u16], left: usize, right: usize) -> Spots
-    ensures { result ≡ firstShared k.now left right }
+    ensures { result ≡ first_shared k.now left right }
 {
     let mut i = left;
     let mut x = word(k, left);

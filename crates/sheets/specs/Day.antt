@@ -4,19 +4,19 @@ use Rattle.language.specs.declared.Refusal.{Refusal}
 use Rattle.language.specs.declared.Refusal.TheVariants.{ShortSlice, SheetLayout, LongAnswers}
 use Rattle.language.specs.Limits.{Limits}
 use Rattle.language.specs.Numbers.{number_of}
-use Rattle.rules.specs.Answer.{answerBody, Solving, answered, solving}
+use Rattle.rules.specs.Answer.{answer_body, Solving, answered, solving}
 use Rattle.rules.specs.Answer as answer
-use Rattle.sheets.specs.Layout.{sheetWords, sheetLaid, sheetParts}
+use Rattle.sheets.specs.Layout.{sheet_words, sheet_laid, sheet_parts}
 
 -- "each a refusal number (0 for none) and, after 0, the answer up to the end of its last line"
-abbrev pub answerPart : Limits → Solving → List ℕ
-answerPart L (answered ls n) = 0 ∷ answerBody L ls
-answerPart L (answer.unread r) = number_of r ∷ []
-answerPart L (answer.given-up r) = number_of r ∷ []
+abbrev pub answer_part : Limits → Solving → List ℕ
+answer_part L (answered ls n) = 0 ∷ answer_body L ls
+answer_part L (answer.unread r) = number_of r ∷ []
+answer_part L (answer.given-up r) = number_of r ∷ []
 
 -- "Each is what solving the question by itself gives, and a refused one doesn't stop the others": for a work and an answer slice of so many words
-unfoldable pub answersOf : Limits → ℕ → ℕ → List (List ℕ) → List (List ℕ)
-answersOf L work answer qs = map (λ (q : List ℕ). answerPart L (solving L work answer q)) qs
+unfoldable pub answers_of : Limits → ℕ → ℕ → List (List ℕ) → List (List ℕ)
+answers_of L work answer qs = map (λ (q : List ℕ). answer_part L (solving L work answer q)) qs
 
 -- the words of the answers; a refusal before any solving, which changes nothing; 23, which leaves zeros
 pub data Day : Type 0 where
@@ -37,6 +37,6 @@ day L work answer room ws =
           elim (ltb answer L.room) [
             | true ↦ unread ShortSlice
             | false ↦
-                elim (sheetLaid L ws) [ false ↦ unread SheetLayout | true ↦ fitted room (sheetWords (answersOf L work answer (sheetParts ws))) ]
+                elim (sheet_laid L ws) [ false ↦ unread SheetLayout | true ↦ fitted room (sheet_words (answers_of L work answer (sheet_parts ws))) ]
           ]
     ]

@@ -12,41 +12,41 @@ use lib.Seq.{slice, length-slice}
 use borrow.Author.Tests.{eq-eqb, ne_eqb, eqb-true}
 use Rattle.language.specs.Kinds.{pick}
 use Rattle.language.specs.Limits.{desk}
-use Rattle.language.specs.Trees.{Hedge, ε, tvar, hvar, node, symbol, fvar, Expr, Literal, eqn, mem, Conj, Var, tv, fv, holds, inConj}
-use Rattle.language.specs.Writing.{literalWords, conjWords}
-use Rattle.language.specs.Fine.{fineConj}
-use Rattle.rules.specs.Solved.{given, variable, alone, is_some, isTerm, isFunctor, inMember, loneVar, onlyMember}
+use Rattle.language.specs.Trees.{Hedge, ε, tvar, hvar, node, symbol, fvar, Expr, Literal, eqn, mem, Conj, Var, tv, fv, holds, in_conj}
+use Rattle.language.specs.Writing.{literal_words, conj_words}
+use Rattle.language.specs.Fine.{fine_conj}
+use Rattle.rules.specs.Solved.{given, variable, alone, is_some, is_term, is_functor, in_member, lone_var, only_member}
 use Rattle.rules.proofs.Answers.{Where}
 use Rattle.rules.proofs.FineParts.{fine-append}
-use Rattle.words.specs.Places.{begins, untilLiteral}
+use Rattle.words.specs.Places.{begins, until_literal}
 use Rattle.words.proofs.Parts.{part_of, word-of}
 use Rattle.views.specs.declared.View.{View}
 use Rattle.views.specs.declared.Shape.{Shape}
 use Rattle.views.specs.Looks.{look_of}
 use Rattle.views.specs.Views.{Sees, Shows}
-use Rattle.views.specs.Variables.{variableWord, fineVar}
+use Rattle.views.specs.Variables.{variable_word, fine_var}
 use Rattle.views.specs.Standing.{LiteralAt}
 use Rattle.views.proofs.Words.{words_append}
 use Rattle.views.proofs.Seen.{literal-here, literal-next}
-use Rattle.counts.specs.Counts.{countHedge, countConj}
-use Rattle.counts.specs.Tables.{times, table, countAt, added, Tallied, Beside}
+use Rattle.counts.specs.Counts.{count_hedge, count_conj}
+use Rattle.counts.specs.Tables.{times, table, count_at, added, Tallied, Beside}
 use Rattle.counts.proofs.Times.{Some, times-short, times-literal, some-hedge, some_or, just-one}
 use Rattle.counts.proofs.Times as times-laws
 use Rattle.counts.proofs.Added.{at_added, length-added, counted}
 use Rattle.counts.proofs.Own.{low, nowhere-else}
-use Rattle.alone.specs.Lone.{word_of, loneWord, sideVariable, loneVariable}
+use Rattle.alone.specs.Lone.{word_of, lone_word, side_variable, lone_variable}
 use Rattle.alone.proofs.Sides.{side-look, side-fine, lone-look, lone-fine, word-lone, word_some}
-use Rattle.solved.specs.Members.{countMembers, InMembers, CoversMembers, Tells, memberIn}
+use Rattle.solved.specs.Members.{count_members, InMembers, CoversMembers, Tells, member_in}
 
 -- ---- counted literal by literal
 
-count-both : (v : Var) (a b : Conj) → countMembers v (a ++ b) ≡ countMembers v a + countMembers v b
+count-both : (v : Var) (a b : Conj) → count_members v (a ++ b) ≡ count_members v a + count_members v b
 count-both v [] b = omega arith
 count-both v (eqn l r ∷ a) b = count-both v a b
 count-both v (mem h R ∷ a) b = let h = count-both v a b in omega arith
 
 -- b says whether the count is not 0
-some-members : (v : Var) (c : Conj) → Some (inMember v c) (countMembers v c)
+some-members : (v : Var) (c : Conj) → Some (in_member v c) (count_members v c)
 some-members v [] = times-laws.none refl
 some-members v (eqn l r ∷ c) = some-members v c
 some-members v (mem h R ∷ c) = some_or (some-hedge v h) (some-members v c)
@@ -60,60 +60,60 @@ added-short ws t e x = go (dec_lt x table)
     go (no h) = let z = get_or-eq_default (added ws t) 0 {n = x} (let l = length-added ws t in omega arith) in omega arith
 
 module _ (k t : List ℕ) (i next : ℕ) where
-  pub in-length : length (memberIn k i next t) ≡ length t
+  pub in-length : length (member_in k i next t) ≡ length t
   in-length = go (eqb (get_or k i 0) 6000)
     where
       go : (b : Bool) → length (pick b (added (slice i next k) t) t) ≡ length t
       go true = length-added (slice i next k) t
       go false = refl
 
-  pub in-short : length t ≡ table → next ≤ length k → i ≤ next → (x : ℕ) → get_or (memberIn k i next t) x 0 ≤ get_or t x 0 + (next - i)
+  pub in-short : length t ≡ table → next ≤ length k → i ≤ next → (x : ℕ) → get_or (member_in k i next t) x 0 ≤ get_or t x 0 + (next - i)
   in-short e p q x = go (eqb (get_or k i 0) 6000)
     where
       go : (b : Bool) → get_or (pick b (added (slice i next k) t) t) x 0 ≤ get_or t x 0 + (next - i)
       go true = let a = added-short (slice i next k) t e x in let l = length-slice i next k p in omega arith
       go false = omega arith
 
-  pub member-counted : get_or k i 0 ≡ 6000 → added (slice i next k) t ≡ memberIn k i next t
+  pub member-counted : get_or k i 0 ≡ 6000 → added (slice i next k) t ≡ member_in k i next t
   member-counted e = sym (ap (λ b. pick b (added (slice i next k) t) t) (eq-eqb (get_or k i 0) 6000 e))
 
-  pub none-counted : (get_or k i 0 ≡ 6000 → ⊥) → t ≡ memberIn k i next t
+  pub none-counted : (get_or k i 0 ≡ 6000 → ⊥) → t ≡ member_in k i next t
   none-counted e = sym (ap (λ b. pick b (added (slice i next k) t) t) (ne_eqb (get_or k i 0) 6000 e))
 
 -- the next literal begins within the words
-until-short : (ws : List ℕ) → untilLiteral ws ≤ length ws
-unfolding untilLiteral
+until-short : (ws : List ℕ) → until_literal ws ≤ length ws
+unfolding until_literal
 until-short [] = omega arith
 until-short (x ∷ ws) = go (begins x) (until-short ws)
   where
-    go : (b : Bool) → untilLiteral ws ≤ length ws → pick b 0 (suc (untilLiteral ws)) ≤ suc (length ws)
+    go : (b : Bool) → until_literal ws ≤ length ws → pick b 0 (suc (until_literal ws)) ≤ suc (length ws)
     go true h = omega arith
     go false h = omega arith
 
-pub next-within : (k : List ℕ) (i next : ℕ) → i < length k → next ≡ i + 1 + untilLiteral (drop (i + 1) k) → (i < next) × (next ≤ length k)
+pub next-within : (k : List ℕ) (i next : ℕ) → i < length k → next ≡ i + 1 + until_literal (drop (i + 1) k) → (i < next) × (next ≤ length k)
 next-within k i next p e = let h = until-short (drop (i + 1) k) in let l = length-drop (i + 1) k in (omega arith, omega arith)
 
 -- the literals `done` are counted
-pub counts-on : {k t : List ℕ} {i next : ℕ} {done : Conj} {l : Literal} {rest : Conj} → LiteralAt k i done l rest → next ≡ i + 1 + untilLiteral (drop (i + 1) k) → length t ≡ table
-    → InMembers t done → InMembers (memberIn k i next t) (done ++ (l ∷ []))
+pub counts-on : {k t : List ℕ} {i next : ℕ} {done : Conj} {l : Literal} {rest : Conj} → LiteralAt k i done l rest → next ≡ i + 1 + until_literal (drop (i + 1) k) → length t ≡ table
+    → InMembers t done → InMembers (member_in k i next t) (done ++ (l ∷ []))
 counts-on {k} {t} {i} {next} {done} {l} {rest} p n e m = record { count = λ v f. at v f l p ∙ sym (count-both v done (l ∷ [])) }
   where
-    size : (l : Literal) → LiteralAt k i done l rest → slice i next k ≡ literalWords l
-    size l p = part_of k i next (literalWords l) (conjWords rest) (literal-here p) (n ∙ literal-next p)
+    size : (l : Literal) → LiteralAt k i done l rest → slice i next k ≡ literal_words l
+    size l p = part_of k i next (literal_words l) (conj_words rest) (literal-here p) (n ∙ literal-next p)
 
-    at : (v : Var) → fineVar desk v → (l : Literal) → LiteralAt k i done l rest → countAt (memberIn k i next t) (variableWord v) ≡ countMembers v done + countMembers v (l ∷ [])
+    at : (v : Var) → fine_var desk v → (l : Literal) → LiteralAt k i done l rest → count_at (member_in k i next t) (variable_word v) ≡ count_members v done + count_members v (l ∷ [])
     at v f (eqn a b) p =
-        ap (λ s. countAt s (variableWord v)) (sym (none-counted k t i next (λ z. let y = word-of k i (literalWords (eqn a b) ++ conjWords rest) (literal-here p) in omega arith)))
-        ∙ m.count v f ∙ (let z : countMembers v done ≡ countMembers v done + 0 = omega arith in z)
+        ap (λ s. count_at s (variable_word v)) (sym (none-counted k t i next (λ z. let y = word-of k i (literal_words (eqn a b) ++ conj_words rest) (literal-here p) in omega arith)))
+        ∙ m.count v f ∙ (let z : count_members v done ≡ count_members v done + 0 = omega arith in z)
     at v f (mem h R) p =
-        let c = ap (λ s. countAt s (variableWord v)) (sym (member-counted k t i next (word-of k i (literalWords (mem h R) ++ conjWords rest) (literal-here p)))) in
-        let a = sym (counted (variableWord v) (added (slice i next k) t) (low v f)) ∙ at_added (variableWord v) (low v f) (slice i next k) t e in
-        let b = ap (times (variableWord v)) (size (mem h R) p) ∙ times-literal v f (mem h R) p.fine in
-        let d = counted (variableWord v) t (low v f) ∙ m.count v f in
-        c ∙ (let z : countAt (added (slice i next k) t) (variableWord v) ≡ countMembers v done + (countHedge v h + 0) = omega arith in z)
+        let c = ap (λ s. count_at s (variable_word v)) (sym (member-counted k t i next (word-of k i (literal_words (mem h R) ++ conj_words rest) (literal-here p)))) in
+        let a = sym (counted (variable_word v) (added (slice i next k) t) (low v f)) ∙ at_added (variable_word v) (low v f) (slice i next k) t e in
+        let b = ap (times (variable_word v)) (size (mem h R) p) ∙ times-literal v f (mem h R) p.fine in
+        let d = counted (variable_word v) t (low v f) ∙ m.count v f in
+        c ∙ (let z : count_at (added (slice i next k) t) (variable_word v) ≡ count_members v done + (count_hedge v h + 0) = omega arith in z)
 
 pub counts-none : {t : List ℕ} → t ≡ replicate table 0 → InMembers t []
-counts-none {t} e = record { count = λ v f. sym (counted (variableWord v) t (low v f)) ∙ ap (λ s. get_or s (variableWord v) 0) e ∙ get_or-replicate {A = ℕ} table (variableWord v) 0 0 (low v f) }
+counts-none {t} e = record { count = λ v f. sym (counted (variable_word v) t (low v f)) ∙ ap (λ s. get_or s (variable_word v) 0) e ∙ get_or-replicate {A = ℕ} table (variable_word v) 0 0 (low v f) }
 
 pub none-short : {t : List ℕ} → t ≡ replicate table 0 → (x : ℕ) → get_or t x 0 ≤ 0
 none-short {t} e x = go (dec_lt x table)
@@ -124,11 +124,11 @@ none-short {t} e x = go (dec_lt x table)
 
 -- the counts of a whole, wherever a literal stands in it
 pub members-here : {k : List ℕ} {at : ℕ} {before : Conj} {l : Literal} {behind : Conj} {t : List ℕ} → LiteralAt k at before l behind
-    → ((c : Conj) → fineConj desk c → k ≡ conjWords c → InMembers t c) → InMembers t (before ++ (l ∷ behind))
-members-here {before = before} {l} {behind} p f = f (before ++ (l ∷ behind)) (fine-append desk before (l ∷ behind) p.fineBefore (p.fine, p.fineBehind)) (p.words ∙ sym (words_append before (l ∷ behind)))
+    → ((c : Conj) → fine_conj desk c → k ≡ conj_words c → InMembers t c) → InMembers t (before ++ (l ∷ behind))
+members-here {before = before} {l} {behind} p f = f (before ++ (l ∷ behind)) (fine-append desk before (l ∷ behind) p.fine_before (p.fine, p.fine_behind)) (p.words ∙ sym (words_append before (l ∷ behind)))
 
 -- what stands in memberships stands in the line
-members-fewer : (v : Var) (c : Conj) → countMembers v c ≤ countConj v c
+members-fewer : (v : Var) (c : Conj) → count_members v c ≤ count_conj v c
 members-fewer v [] = omega arith
 members-fewer v (eqn l r ∷ c) = let h = members-fewer v c in omega arith
 members-fewer v (mem h R ∷ c) = let h = members-fewer v c in omega arith
@@ -146,11 +146,11 @@ same-var : (n : ℕ) → ◌≡◌ {A = ℕ} (pick (eqb n n) 1 0) 1
 same-var n = ap (λ b. pick b 1 0) (eq-eqb n n refl)
 
 -- where a test of a tree that is not empty fails, nothing is given
-own-side : (l r : Hedge) → Where (λ v. countHedge v l ≡ 1) (variable l r)
+own-side : (l r : Hedge) → Where (λ v. count_hedge v l ≡ 1) (variable l r)
 own-side ε r = tt
-own-side (tvar x ε) r = go (isTerm r)
+own-side (tvar x ε) r = go (is_term r)
   where
-    go : (b : Bool) → Where (λ v. countHedge v (tvar x ε) ≡ 1) (given b (tv x))
+    go : (b : Bool) → Where (λ v. count_hedge v (tvar x ε) ≡ 1) (given b (tv x))
     go true = let z = same-var x.0 in omega arith
     go false = tt
 own-side (tvar x (tvar y s)) r = tt
@@ -161,9 +161,9 @@ own-side (hvar p (tvar y s)) r = tt
 own-side (hvar p (hvar y s)) r = tt
 own-side (hvar p (node f c s)) r = tt
 own-side (node (symbol f) c s) r = tt
-own-side (node (fvar X) ε ε) r = go (isFunctor r)
+own-side (node (fvar X) ε ε) r = go (is_functor r)
   where
-    go : (b : Bool) → Where (λ v. countHedge v (node (fvar X) ε ε) ≡ 1) (given b (fv X))
+    go : (b : Bool) → Where (λ v. count_hedge v (node (fvar X) ε ε) ≡ 1) (given b (fv X))
     go true = let z = same-var X.0 in omega arith
     go false = tt
 own-side (node (fvar X) ε (tvar y s)) r = tt
@@ -173,7 +173,7 @@ own-side (node (fvar X) (tvar y c) s) r = tt
 own-side (node (fvar X) (hvar y c) s) r = tt
 own-side (node (fvar X) (node f d c) s) r = tt
 
-own-lone : (h : Hedge) → Where (λ v. countHedge v h ≡ 1) (loneVar h)
+own-lone : (h : Hedge) → Where (λ v. count_hedge v h ≡ 1) (lone_var h)
 own-lone ε = tt
 own-lone (tvar x ε) = let z = same-var x.0 in omega arith
 own-lone (tvar x (tvar y s)) = tt
@@ -191,9 +191,9 @@ given-some false a = refl
 
 -- ---- a side of an equation
 
-module _ {k : List ℕ} {v : View} {before : Conj} {l r : Hedge} {behind : Conj} (s : Sees k v before l r behind) (x : ℕ) (ex : x ≡ loneWord (sideVariable v.l.look v.r.look)) where
+module _ {k : List ℕ} {v : View} {before : Conj} {l r : Hedge} {behind : Conj} (s : Sees k v before l r behind) (x : ℕ) (ex : x ≡ lone_word (side_variable v.l.look v.r.look)) where
   side-word : x ≡ word_of (variable l r)
-  side-word = ex ∙ ap loneWord (ap (λ a. sideVariable a v.r.look) s.left.look ∙ ap (sideVariable (look_of l)) s.right.look ∙ side-look l r) ∙ word-lone (variable l r)
+  side-word = ex ∙ ap lone_word (ap (λ a. side_variable a v.r.look) s.left.look ∙ ap (side_variable (look_of l)) s.right.look ∙ side-look l r) ∙ word-lone (variable l r)
 
   pub no-side : x ≡ 0 → false ≡ is_some (alone (before ++ behind) r (variable l r))
   no-side z = go (variable l r) side-word
@@ -202,45 +202,45 @@ module _ {k : List ℕ} {v : View} {before : Conj} {l r : Hedge} {behind : Conj}
       go none e = refl
       go (some w) e = absurd (word_some w (sym e ∙ z))
 
-  pub lone-side : {t : List ℕ} → (x ≡ 0 → ⊥) → Beside t (before ++ behind) l r → eqb (countAt t x) 1 ≡ is_some (alone (before ++ behind) r (variable l r))
+  pub lone-side : {t : List ℕ} → (x ≡ 0 → ⊥) → Beside t (before ++ behind) l r → eqb (count_at t x) 1 ≡ is_some (alone (before ++ behind) r (variable l r))
   lone-side {t} n b = go (variable l r) side-word (side-fine l r s.left.fine) (own-side l r)
     where
-      go : (o : Option Var) → x ≡ word_of o → Where (fineVar desk) o → Where (λ w. countHedge w l ≡ 1) o → eqb (countAt t x) 1 ≡ is_some (alone (before ++ behind) r o)
+      go : (o : Option Var) → x ≡ word_of o → Where (fine_var desk) o → Where (λ w. count_hedge w l ≡ 1) o → eqb (count_at t x) 1 ≡ is_some (alone (before ++ behind) r o)
       go none e f g = absurd (n e)
-      go (some w) e f g = ap (λ y. eqb (countAt t y) 1) e ∙ nowhere-else w b f g ∙ sym (given-some (not (holds w r || inConj w (before ++ behind))) (w, r))
+      go (some w) e f g = ap (λ y. eqb (count_at t y) 1) e ∙ nowhere-else w b f g ∙ sym (given-some (not (holds w r || in_conj w (before ++ behind))) (w, r))
 
 -- ---- a membership among the other literals
 
-module _ {k : List ℕ} {s : Shape} {before : Conj} {h : Hedge} {R : Expr} {behind : Conj} (q : Shows k s before h R behind) (x : ℕ) (ex : x ≡ loneWord (loneVariable s.h.look)) where
-  word-is : x ≡ word_of (loneVar h)
-  word-is = ex ∙ ap loneWord (ap loneVariable q.hedge.look ∙ lone-look h) ∙ word-lone (loneVar h)
+module _ {k : List ℕ} {s : Shape} {before : Conj} {h : Hedge} {R : Expr} {behind : Conj} (q : Shows k s before h R behind) (x : ℕ) (ex : x ≡ lone_word (lone_variable s.h.look)) where
+  word-is : x ≡ word_of (lone_var h)
+  word-is = ex ∙ ap lone_word (ap lone_variable q.hedge.look ∙ lone-look h) ∙ word-lone (lone_var h)
 
-  pub no-lone : x ≡ 0 → false ≡ onlyMember (before ++ behind) (loneVar h)
-  no-lone z = go (loneVar h) word-is
+  pub no-lone : x ≡ 0 → false ≡ only_member (before ++ behind) (lone_var h)
+  no-lone z = go (lone_var h) word-is
     where
-      go : (o : Option Var) → x ≡ word_of o → false ≡ onlyMember (before ++ behind) o
+      go : (o : Option Var) → x ≡ word_of o → false ≡ only_member (before ++ behind) o
       go none e = refl
       go (some v) e = absurd (word_some v (sym e ∙ z))
 
-  pub only_here : {t : List ℕ} → (x ≡ 0 → ⊥) → InMembers t (before ++ (mem h R ∷ behind)) → eqb (countAt t x) 1 ≡ onlyMember (before ++ behind) (loneVar h)
-  only_here {t} n m = go (loneVar h) word-is (lone-fine h q.hedge.fine) (own-lone h)
+  pub only_here : {t : List ℕ} → (x ≡ 0 → ⊥) → InMembers t (before ++ (mem h R ∷ behind)) → eqb (count_at t x) 1 ≡ only_member (before ++ behind) (lone_var h)
+  only_here {t} n m = go (lone_var h) word-is (lone-fine h q.hedge.fine) (own-lone h)
     where
-      go : (o : Option Var) → x ≡ word_of o → Where (fineVar desk) o → Where (λ w. countHedge w h ≡ 1) o → eqb (countAt t x) 1 ≡ onlyMember (before ++ behind) o
+      go : (o : Option Var) → x ≡ word_of o → Where (fine_var desk) o → Where (λ w. count_hedge w h ≡ 1) o → eqb (count_at t x) 1 ≡ only_member (before ++ behind) o
       go none e f g = absurd (n e)
       go (some v) e f g =
-          ap (λ y. eqb (countAt t y) 1) e
-          ∙ just-one (countAt t (variableWord v)) (some-members v (before ++ behind))
+          ap (λ y. eqb (count_at t y) 1) e
+          ∙ just-one (count_at t (variable_word v)) (some-members v (before ++ behind))
           (let a = m.count v f in let b = count-both v before (mem h R ∷ behind) in let d = count-both v before behind in omega arith)
 
-  pub only-once : {t : List ℕ} → (x ≡ 0 → ⊥) → CoversMembers t (before ++ (mem h R ∷ behind)) → eqb (countAt t x) 1 ≡ true → true ≡ onlyMember (before ++ behind) (loneVar h)
-  only-once {t} n m o = go (loneVar h) word-is (lone-fine h q.hedge.fine) (own-lone h)
+  pub only-once : {t : List ℕ} → (x ≡ 0 → ⊥) → CoversMembers t (before ++ (mem h R ∷ behind)) → eqb (count_at t x) 1 ≡ true → true ≡ only_member (before ++ behind) (lone_var h)
+  only-once {t} n m o = go (lone_var h) word-is (lone-fine h q.hedge.fine) (own-lone h)
     where
-      go : (o : Option Var) → x ≡ word_of o → Where (fineVar desk) o → Where (λ w. countHedge w h ≡ 1) o → true ≡ onlyMember (before ++ behind) o
+      go : (o : Option Var) → x ≡ word_of o → Where (fine_var desk) o → Where (λ w. count_hedge w h ≡ 1) o → true ≡ only_member (before ++ behind) o
       go none e f g = absurd (n e)
       go (some v) e f g =
-          let y = eqb-true (countAt t (variableWord v)) 1 (ap (λ y. eqb (countAt t y) 1) (sym e) ∙ o) in
+          let y = eqb-true (count_at t (variable_word v)) 1 (ap (λ y. eqb (count_at t y) 1) (sym e) ∙ o) in
           let a = m.count v f in
           let b = count-both v before (mem h R ∷ behind) in
           let d = count-both v before behind in
-          let l = countMembers v (before ++ (mem h R ∷ behind)) in
+          let l = count_members v (before ++ (mem h R ∷ behind)) in
           sym (eq-eqb l 1 (omega arith)) ∙ just-one l (some-members v (before ++ behind)) (omega arith)

@@ -2,14 +2,14 @@
 ghost use Rattle.std.specs.Prelude.{ℕ, ◌+◌, ◌-◌, ◌≤◌, ◌<◌, ◌≡◌, true, List, ◌∷◌, ◌++◌, length, get_or, replicate};
 ghost use Rattle.language.specs.Limits.{desk};
 ghost use Rattle.language.specs.Trees.{Hedge, Expr, Literal, mem, Conj};
-ghost use Rattle.language.specs.Writing.{conjWords};
-ghost use Rattle.language.specs.Fine.{fineConj};
-ghost use Rattle.rules.specs.Solved.{variable, alone, is_some, solvedLiteral, solved};
+ghost use Rattle.language.specs.Writing.{conj_words};
+ghost use Rattle.language.specs.Fine.{fine_conj};
+ghost use Rattle.rules.specs.Solved.{variable, alone, is_some, solved_literal, solved};
 ghost use Rattle.views.specs.Views.{Sees, Shows};
 ghost use Rattle.views.specs.Standing.{LiteralAt, Conjunction};
-ghost use Rattle.alone.specs.Lone.{loneVariable};
+ghost use Rattle.alone.specs.Lone.{lone_variable};
 ghost use Rattle.counts.specs.Tables.{table as places, afresh, Tallied, Beside};
-ghost use Rattle.solved.specs.Members.{memberIn, InMembers, Tells};
+ghost use Rattle.solved.specs.Members.{member_in, InMembers, Tells};
 
 use alone::{Lone, lone_word, side_variable};
 use counts::{TABLE, count_in, once};
@@ -19,7 +19,7 @@ use words::next_literal;
 
 // The variable whose membership it is: the one that the hedge would be against a single term.
 fn lone_variable(look: Look) -> Lone
-    ensures { result ≡ loneVariable look }
+    ensures { result ≡ lone_variable look }
 {
     side_variable(look, Look::Term(TermVar(0), true))
 }
@@ -42,7 +42,7 @@ fn lonely_side(table: &[u16; TABLE], v: View) -> bool
 // The words of the literal i..next counted in, where that is a membership.
 fn member_in(k: &[u16], i: usize, next: usize, members: &mut [u16; TABLE])
     requires { (i < length k.now) × (next ≤ length k.now) × (length members.old ≡ places) × ((x : ℕ) → get_or members.old x 0 + (next - i) < 65536) }
-    ensures { members.new ≡ memberIn k.now i next members.old }
+    ensures { members.new ≡ member_in k.now i next members.old }
 {
     if k[i] == 6000 {
         count_in(k, i, next, members);
@@ -52,7 +52,7 @@ fn member_in(k: &[u16], i: usize, next: usize, members: &mut [u16; TABLE])
 // How often each variable stands in memberships.
 fn count_members(k: &[u16], members: &mut [u16; TABLE])
     requires { (length k.now ≤ desk.question) × (members.old ≡ replicate places 0) }
-    ensures { (c : Conj) → fineConj desk c → k.now ≡ conjWords c → InMembers members.new c }
+    ensures { (c : Conj) → fine_conj desk c → k.now ≡ conj_words c → InMembers members.new c }
 {
     let mut i = 0;
     while i < k.len() {
@@ -64,7 +64,7 @@ fn count_members(k: &[u16], members: &mut [u16; TABLE])
 
 // Whether a membership is of a lone variable that is counted once, which is then in no other membership.
 fn lone_member(members: &[u16; TABLE], s: Shape) -> bool
-    ensures { (k : List ℕ) (before : Conj) (h : Hedge) (R : Expr) (behind : Conj) → Shows k s before h R behind → Tells members.now (before ++ (mem h R ∷ behind)) (solvedLiteral (before ++ behind) (mem h R)) result }
+    ensures { (k : List ℕ) (before : Conj) (h : Hedge) (R : Expr) (behind : Conj) → Shows k s before h R behind → Tells members.now (before ++ (mem h R ∷ behind)) (solved_literal (before ++ behind) (mem h R)) result }
 {
     let h = s.h;
     let look = h.look;
@@ -78,7 +78,7 @@ fn lone_member(members: &[u16; TABLE], s: Shape) -> bool
 // Whether the literal at a place is solved.
 fn solved_literal(k: &[u16], table: &[u16; TABLE], members: &[u16; TABLE], at: usize) -> bool
     requires { at < length k.now }
-    ensures { (before : Conj) (l : Literal) (behind : Conj) → LiteralAt k.now at before l behind → Tallied table.now (before ++ (l ∷ behind)) → Tells members.now (before ++ (l ∷ behind)) (solvedLiteral (before ++ behind) l) result }
+    ensures { (before : Conj) (l : Literal) (behind : Conj) → LiteralAt k.now at before l behind → Tallied table.now (before ++ (l ∷ behind)) → Tells members.now (before ++ (l ∷ behind)) (solved_literal (before ++ behind) l) result }
 {
     if k[at] == 5000 {
         let v = see(k, at);
@@ -95,7 +95,7 @@ fn solved_literal(k: &[u16], table: &[u16; TABLE], members: &[u16; TABLE], at: u
 fn solved_by_members(k: &[u16], table: &[u16; TABLE]) -> bool
     requires k_len_bound { length k.now ≤ desk.question }
     requires table_value { table.now ≡ afresh k.now }
-    ensures { (c : Conj) → fineConj desk c → k.now ≡ conjWords c → result ≡ solved c }
+    ensures { (c : Conj) → fine_conj desk c → k.now ≡ conj_words c → result ≡ solved c }
 {
     let mut members = [0; TABLE];
     count_members(k, &mut members);
@@ -114,7 +114,7 @@ fn solved_by_members(k: &[u16], table: &[u16; TABLE]) -> bool
 // Whether each literal is solved by a variable that is counted once in the line; in its memberships it is then counted no more often.
 fn all_once(k: &[u16], table: &[u16; TABLE]) -> bool
     requires { table.now ≡ afresh k.now }
-    ensures { result ≡ true → (c : Conj) → fineConj desk c → k.now ≡ conjWords c → true ≡ solved c }
+    ensures { result ≡ true → (c : Conj) → fine_conj desk c → k.now ≡ conj_words c → true ≡ solved c }
 {
     let mut i = 0;
     while i < k.len() {
@@ -132,7 +132,7 @@ pub fn is_solved(k: &[u16], table: &[u16; TABLE]) -> bool
     requires k_len_bound { length k.now ≤ desk.question }
     requires conjunction { Conjunction k.now }
     requires table_value { table.now ≡ afresh k.now }
-    ensures { (c : Conj) → fineConj desk c → k.now ≡ conjWords c → result ≡ solved c }
+    ensures { (c : Conj) → fine_conj desk c → k.now ≡ conj_words c → result ≡ solved c }
 {
     if all_once(k, table) {
         return true;

@@ -1,6 +1,6 @@
 // Where a hedge and an element end, in words alone.
 ghost use Rattle.std.specs.Prelude.{◌+◌, ◌≤◌, ◌≡◌, drop};
-ghost use Rattle.words.specs.Spans.{opens, span, elementEnd};
+ghost use Rattle.words.specs.Spans.{opens, span, element_end};
 
 use language::limits::{LAST_FUNCTION, LAST_SYMBOL};
 use words::word;
@@ -51,7 +51,7 @@ pub fn hedge_end(k: &[u16], at: usize) -> usize
 
 // The place after the element at a place, or the place itself where the hedge ends there.
 pub fn element_end(k: &[u16], i: usize) -> usize
-    ensures { result ≡ elementEnd k.now i }
+    ensures { result ≡ element_end k.now i }
 {
     let x = word(k, i);
     if x == 0 {

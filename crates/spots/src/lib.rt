@@ -3,10 +3,10 @@ ghost use Rattle.std.specs.Prelude.{ℕ, ◌+◌, ◌<◌, ◌≡◌, List};
 ghost use Rattle.language.specs.declared.HedgeVar.{HedgeVar};
 ghost use Rattle.language.specs.Limits.{desk};
 ghost use Rattle.language.specs.Trees.{Hedge, Var, tv, hv};
-ghost use Rattle.rules.specs.Looks.{hasTerm, under as belowTop};
-ghost use Rattle.views.specs.Variables.{variableWord, fineVar};
+ghost use Rattle.rules.specs.Looks.{has_term, under as below_top};
+ghost use Rattle.views.specs.Variables.{variable_word, fine_var};
 ghost use Rattle.views.specs.Standing.{Stands};
-ghost use Rattle.finds.specs.Walks.{runWord, Spotted};
+ghost use Rattle.finds.specs.Walks.{run_word, Spotted};
 ghost use Rattle.finds.specs.Places.{HasTerm, Under, Inside};
 
 use finds::Spot;
@@ -15,7 +15,7 @@ use spans::element_end;
 use words::{stands, word};
 
 fn is_run(x: u16) -> bool
-    ensures { result ≡ runWord x }
+    ensures { result ≡ run_word x }
 {
     match classify(x) {
         Kind::Run(_) => true,
@@ -25,7 +25,7 @@ fn is_run(x: u16) -> bool
 
 // Whether the hedge at a place has a top-level term.
 pub fn has_term(k: &[u16], at: usize) -> bool
-    ensures { ((h : Hedge) (beyond : List ℕ) → Stands k.now at h beyond → result ≡ hasTerm h) × HasTerm k.now at result }
+    ensures { ((h : Hedge) (beyond : List ℕ) → Stands k.now at h beyond → result ≡ has_term h) × HasTerm k.now at result }
 {
     let mut i = at;
     let mut x = word(k, at);
@@ -38,7 +38,7 @@ pub fn has_term(k: &[u16], at: usize) -> bool
 
 // Whether a variable, whose word is v, stands below a functor at the top.
 fn word_under(k: &[u16], at: usize, v: usize) -> bool
-    ensures { ((y : Var) (h : Hedge) (beyond : List ℕ) → fineVar desk y → v ≡ variableWord y → Stands k.now at h beyond → result ≡ belowTop y h) × Under k.now at v result }
+    ensures { ((y : Var) (h : Hedge) (beyond : List ℕ) → fine_var desk y → v ≡ variable_word y → Stands k.now at h beyond → result ≡ below_top y h) × Under k.now at v result }
 {
     let mut i = at;
     let mut x = word(k, at);
@@ -55,14 +55,14 @@ fn word_under(k: &[u16], at: usize, v: usize) -> bool
 
 // Whether a term variable stands below a functor at the top.
 pub fn under(k: &[u16], at: usize, x: TermVar) -> bool
-    ensures { ((h : Hedge) (beyond : List ℕ) → x.0 < desk.each → Stands k.now at h beyond → result ≡ belowTop (tv x) h) × Under k.now at (1000 + x.0) result }
+    ensures { ((h : Hedge) (beyond : List ℕ) → x.0 < desk.each → Stands k.now at h beyond → result ≡ below_top (tv x) h) × Under k.now at (1000 + x.0) result }
 {
     word_under(k, at, term_word(x))
 }
 
 // Whether the hedge variable whose word is p stands at the top behind another element, and where it does so first.
 fn word_inside(k: &[u16], at: usize, p: usize) -> Spot
-    ensures { ((q : HedgeVar) (h : Hedge) (beyond : List ℕ) → fineVar desk (hv q) → p ≡ variableWord (hv q) → Stands k.now at h beyond → Spotted q at result h) × Inside k.now at p result }
+    ensures { ((q : HedgeVar) (h : Hedge) (beyond : List ℕ) → fine_var desk (hv q) → p ≡ variable_word (hv q) → Stands k.now at h beyond → Spotted q at result h) × Inside k.now at p result }
 {
     let mut i = element_end(k, at);
     let mut x = word(k, i);

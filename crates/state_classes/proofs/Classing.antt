@@ -9,18 +9,18 @@ use native.Mathlib.Decide.{dec_le, ℕ_discrete}
 use lib.ListN.{length, get_or, set, length-append, length-set}
 use lib.Seq.{get_or-set_same, get_or-set_other}
 use Rattle.language.specs.Trees.{Expr, eps, cat, alt, star, over}
-use Rattle.language.specs.Writing.{exprWords}
+use Rattle.language.specs.Writing.{expr_words}
 use Rattle.expressions.specs.Standing.{Here, Parted}
 use Rattle.expressions.proofs.Standing.{word-of}
-use Rattle.walk.specs.Spots.{Spot, here, inLeft, inRight, inFirst, inSecond, inStar, whole, inner_at, rest_at}
-use Rattle.charts.specs.Levels.{place_of, Sought, nowhere, onTop, below, through, under, sought}
+use Rattle.walk.specs.Spots.{Spot, here, in_left, in_right, in_first, in_second, in_star, whole, inner_at, rest_at}
+use Rattle.charts.specs.Levels.{place_of, Sought, nowhere, on_top, below, through, under, sought}
 use Rattle.state_classes.specs.States.{Spotted, Means, itself, inside, after}
 use Rattle.expressions.specs.declared.Part.{Part}
 use Rattle.state_classes.specs.declared.tails.Tail.{Tail}
 use Rattle.state_classes.specs.declared.tails.Laid.{Laid}
 use Rattle.state_classes.specs.declared.tails.Split.{Split}
 use Rattle.state_classes.specs.Tails.{Opened, SplitOf, TailOf, SameState}
-use Rattle.state_classes.specs.Classes.{StateTest, Liked, Classed, FirstState, Tabled, KeptTo, Changed, lastPart, count_of, Counted, Keyed, KeyedTo}
+use Rattle.state_classes.specs.Classes.{StateTest, Liked, Classed, FirstState, Tabled, KeptTo, Changed, last_part, count_of, Counted, Keyed, KeyedTo}
 use Rattle.charts.proofs.Places.{place_in, cat-left, cat-right, alt-left, alt-right, over-here, over_below, sought-right, Right}
 use Rattle.state_classes.proofs.Meanings.{Stands, in-cat, in-alt, in-star, in-over, spotted-place, spotted-stands}
 use Rattle.state_classes.proofs.Peeling.{differ}
@@ -29,65 +29,65 @@ use Rattle.state_classes.proofs.Peeling.{differ}
 
 pub spot-low : (k : List ℕ) (at : ℕ) (p : Spot) → Stands k at (whole p) → get_or k (place_of at p) 0 < 7000
 spot-low k at (here f R) (w, h) = let e = word-of k at h.words in let b = h.fine.0 in omega arith
-spot-low k at (inLeft p b) h = spot-low k (at + 1) p (in-cat k at (whole p) b h).0
-spot-low k at (inRight a p) h = spot-low k (at + 1 + length (exprWords a)) p (in-cat k at a (whole p) h).1
-spot-low k at (inFirst p b) h = spot-low k (at + 1) p (in-alt k at (whole p) b h).0
-spot-low k at (inSecond a p) h = spot-low k (at + 1 + length (exprWords a)) p (in-alt k at a (whole p) h).1
-spot-low k at (inStar p) h = spot-low k (at + 1) p (in-star k at (whole p) h)
+spot-low k at (in_left p b) h = spot-low k (at + 1) p (in-cat k at (whole p) b h).0
+spot-low k at (in_right a p) h = spot-low k (at + 1 + length (expr_words a)) p (in-cat k at a (whole p) h).1
+spot-low k at (in_first p b) h = spot-low k (at + 1) p (in-alt k at (whole p) b h).0
+spot-low k at (in_second a p) h = spot-low k (at + 1 + length (expr_words a)) p (in-alt k at a (whole p) h).1
+spot-low k at (in_star p) h = spot-low k (at + 1) p (in-star k at (whole p) h)
 
 -- something was found
 abbrev Some : Sought → Type 0
 Some nowhere = ⊥
-Some (onTop p) = Unit {0}
+Some (on_top p) = Unit {0}
 Some (below l p) = Unit {0}
 
 some-through : (f : Spot → Spot) (s : Sought) → Some s → Some (through f s)
 some-through f nowhere z = z
-some-through f (onTop p) z = tt
+some-through f (on_top p) z = tt
 some-through f (below l p) z = tt
 
 some-under : (l : ℕ) (s : Sought) → Some s → Some (under l s)
 some-under l nowhere z = z
-some-under l (onTop p) z = tt
+some-under l (on_top p) z = tt
 some-under l (below m p) z = tt
 
-found : (k : List ℕ) (at : ℕ) (R : Expr) (j : ℕ) → Stands k at R → at ≤ j → j < at + length (exprWords R) → get_or k j 0 < 7000 → Some (sought at R j)
+found : (k : List ℕ) (at : ℕ) (R : Expr) (j : ℕ) → Stands k at R → at ≤ j → j < at + length (expr_words R) → get_or k j 0 < 7000 → Some (sought at R j)
 found k at eps j (w, h) l m z = let e : j ≡ at = omega arith in let d = word-of k at h.words in let c = ap (λ i. get_or k i 0) e in absurd (omega arith)
-found k at (cat a b) j h l m z = go (ℕ_discrete j at) (dec_le (at + 1 + length (exprWords a)) j) (found k (at + 1) a j (in-cat k at a b h).0) (found k (at + 1 + length (exprWords a)) b j (in-cat k at a b h).1)
+found k at (cat a b) j h l m z = go (ℕ_discrete j at) (dec_le (at + 1 + length (expr_words a)) j) (found k (at + 1) a j (in-cat k at a b h).0) (found k (at + 1 + length (expr_words a)) b j (in-cat k at a b h).1)
   where
-    go : Dec (j ≡ at) → Dec (at + 1 + length (exprWords a) ≤ j) → (at + 1 ≤ j → j < at + 1 + length (exprWords a) → get_or k j 0 < 7000 → Some (sought (at + 1) a j))
-        → (at + 1 + length (exprWords a) ≤ j → j < at + 1 + length (exprWords a) + length (exprWords b) → get_or k j 0 < 7000 → Some (sought (at + 1 + length (exprWords a)) b j)) → Some (sought at (cat a b) j)
+    go : Dec (j ≡ at) → Dec (at + 1 + length (expr_words a) ≤ j) → (at + 1 ≤ j → j < at + 1 + length (expr_words a) → get_or k j 0 < 7000 → Some (sought (at + 1) a j))
+        → (at + 1 + length (expr_words a) ≤ j → j < at + 1 + length (expr_words a) + length (expr_words b) → get_or k j 0 < 7000 → Some (sought (at + 1 + length (expr_words a)) b j)) → Some (sought at (cat a b) j)
     go (yes e) d x y = let c = word-of k at h.1.words in let i = ap (λ i. get_or k i 0) e in absurd (omega arith)
     go (no n) (yes e) x y =
-        let o = length-append (exprWords a) (exprWords b) in
-        subst Some (sym (cat-right at a b j e)) (some-through (inRight a) (sought (at + 1 + length (exprWords a)) b j) (y e (omega arith) z))
-    go (no n) (no e) x y = subst Some (sym (cat-left at a b j (omega arith))) (some-through (λ p. inLeft p b) (sought (at + 1) a j) (x (omega arith) (omega arith) z))
-found k at (alt a b) j h l m z = go (ℕ_discrete j at) (dec_le (at + 1 + length (exprWords a)) j) (found k (at + 1) a j (in-alt k at a b h).0) (found k (at + 1 + length (exprWords a)) b j (in-alt k at a b h).1)
+        let o = length-append (expr_words a) (expr_words b) in
+        subst Some (sym (cat-right at a b j e)) (some-through (in_right a) (sought (at + 1 + length (expr_words a)) b j) (y e (omega arith) z))
+    go (no n) (no e) x y = subst Some (sym (cat-left at a b j (omega arith))) (some-through (λ p. in_left p b) (sought (at + 1) a j) (x (omega arith) (omega arith) z))
+found k at (alt a b) j h l m z = go (ℕ_discrete j at) (dec_le (at + 1 + length (expr_words a)) j) (found k (at + 1) a j (in-alt k at a b h).0) (found k (at + 1 + length (expr_words a)) b j (in-alt k at a b h).1)
   where
-    go : Dec (j ≡ at) → Dec (at + 1 + length (exprWords a) ≤ j) → (at + 1 ≤ j → j < at + 1 + length (exprWords a) → get_or k j 0 < 7000 → Some (sought (at + 1) a j))
-        → (at + 1 + length (exprWords a) ≤ j → j < at + 1 + length (exprWords a) + length (exprWords b) → get_or k j 0 < 7000 → Some (sought (at + 1 + length (exprWords a)) b j)) → Some (sought at (alt a b) j)
+    go : Dec (j ≡ at) → Dec (at + 1 + length (expr_words a) ≤ j) → (at + 1 ≤ j → j < at + 1 + length (expr_words a) → get_or k j 0 < 7000 → Some (sought (at + 1) a j))
+        → (at + 1 + length (expr_words a) ≤ j → j < at + 1 + length (expr_words a) + length (expr_words b) → get_or k j 0 < 7000 → Some (sought (at + 1 + length (expr_words a)) b j)) → Some (sought at (alt a b) j)
     go (yes e) d x y = let c = word-of k at h.1.words in let i = ap (λ i. get_or k i 0) e in absurd (omega arith)
     go (no n) (yes e) x y =
-        let o = length-append (exprWords a) (exprWords b) in
-        subst Some (sym (alt-right at a b j e)) (some-through (inSecond a) (sought (at + 1 + length (exprWords a)) b j) (y e (omega arith) z))
-    go (no n) (no e) x y = subst Some (sym (alt-left at a b j (omega arith))) (some-through (λ p. inFirst p b) (sought (at + 1) a j) (x (omega arith) (omega arith) z))
+        let o = length-append (expr_words a) (expr_words b) in
+        subst Some (sym (alt-right at a b j e)) (some-through (in_second a) (sought (at + 1 + length (expr_words a)) b j) (y e (omega arith) z))
+    go (no n) (no e) x y = subst Some (sym (alt-left at a b j (omega arith))) (some-through (λ p. in_first p b) (sought (at + 1) a j) (x (omega arith) (omega arith) z))
 found k at (star a) j h l m z = go (ℕ_discrete j at) (found k (at + 1) a j (in-star k at a h))
   where
-    go : Dec (j ≡ at) → (at + 1 ≤ j → j < at + 1 + length (exprWords a) → get_or k j 0 < 7000 → Some (sought (at + 1) a j)) → Some (sought at (star a) j)
+    go : Dec (j ≡ at) → (at + 1 ≤ j → j < at + 1 + length (expr_words a) → get_or k j 0 < 7000 → Some (sought (at + 1) a j)) → Some (sought at (star a) j)
     go (yes e) x = let c = word-of k at h.1.words in let i = ap (λ i. get_or k i 0) e in absurd (omega arith)
-    go (no n) x = some-through inStar (sought (at + 1) a j) (x (omega arith) (omega arith) z)
+    go (no n) x = some-through in_star (sought (at + 1) a j) (x (omega arith) (omega arith) z)
 found k at (over f a) j h l m z = go (ℕ_discrete j at) (found k (at + 1) a j (in-over k at f a h))
   where
-    go : Dec (j ≡ at) → (at + 1 ≤ j → j < at + 1 + length (exprWords a) → get_or k j 0 < 7000 → Some (sought (at + 1) a j)) → Some (sought at (over f a) j)
+    go : Dec (j ≡ at) → (at + 1 ≤ j → j < at + 1 + length (expr_words a) → get_or k j 0 < 7000 → Some (sought (at + 1) a j)) → Some (sought at (over f a) j)
     go (yes e) x = subst Some (sym (over-here at f a j e)) tt
     go (no n) x = subst Some (sym (over_below at f a j (omega arith))) (some-under (at + 1) (sought (at + 1) a j) (x (omega arith) (omega arith) z))
 
-symbol-at : (k : List ℕ) (at : ℕ) (R : Expr) (j : ℕ) → Stands k at R → at ≤ j → j < at + length (exprWords R) → get_or k j 0 < 7000 → (l : ℕ) × (p : Spot) × Spotted at R j l p
+symbol-at : (k : List ℕ) (at : ℕ) (R : Expr) (j : ℕ) → Stands k at R → at ≤ j → j < at + length (expr_words R) → get_or k j 0 < 7000 → (l : ℕ) × (p : Spot) × Spotted at R j l p
 symbol-at k at R j h l m z = go (sought at R j) refl (found k at R j h l m z)
   where
     go : (s : Sought) → sought at R j ≡ s → Some s → (l : ℕ) × (p : Spot) × Spotted at R j l p
     go nowhere e x = absurd x
-    go (onTop p) e x = (at, p, inl (refl, e))
+    go (on_top p) e x = (at, p, inl (refl, e))
     go (below l p) e x = (l, p, inr e)
 
 -- ---- states
@@ -105,7 +105,7 @@ state-first h = record { yes = λ at R w e i l m _. (R, itself (omega arith) ref
 pub state-symbol : {k : List ℕ} {first t j : ℕ} → first < t → j ≡ (t - 1) / 2 → get_or k j 0 < 7000 → StateTest k first t true
 state-symbol {k} {first} {t} {j} h e z = record { yes = λ at R w d i l m _. found-state at R w d i l m; only = λ at R w d i X m. refl }
   where
-    found-state : (at : ℕ) (R : Expr) (w : List ℕ) → first ≡ 2 * at → Here k at R w → first ≤ t → t ≤ 2 * (at + length (exprWords R)) → (X : Expr) × Means at R t X
+    found-state : (at : ℕ) (R : Expr) (w : List ℕ) → first ≡ 2 * at → Here k at R w → first ≤ t → t ≤ 2 * (at + length (expr_words R)) → (X : Expr) × Means at R t X
     found-state at R w d i l m =
         let (x, p, s) = symbol-at k at R j (w, i) (omega arith) (omega arith) z in
         go x p s (ℕ_discrete (t % 2) 0)
@@ -128,9 +128,9 @@ state-none {k} {first} {t} {j} h e z = record { yes = λ at R w d i l m y. diffe
     no at R w d g X (inside i l p s c o) = here-not at R w g i l p s (omega arith)
     no at R w d g X (after i l p s c o) = here-not at R w g i l p s (omega arith)
 
-pub place-to : (at : ℕ) (R : Expr) (j l : ℕ) (p : Spot) → Spotted at R j l p → j < at + length (exprWords R)
+pub place-to : (at : ℕ) (R : Expr) (j l : ℕ) (p : Spot) → Spotted at R j l p → j < at + length (expr_words R)
 place-to at R j l p s = elim s [
-  | inl (e, d) ↦ let r = subst (Right at R j) d (sought-right at R j) in let x = (place_in at p).1 in let y = r.1 in let z = ap (λ A. length (exprWords A)) r.0 in omega arith
+  | inl (e, d) ↦ let r = subst (Right at R j) d (sought-right at R j) in let x = (place_in at p).1 in let y = r.1 in let z = ap (λ A. length (expr_words A)) r.0 in omega arith
   | inr d ↦ let (x, y, z) = subst (Right at R j) d (sought-right at R j) in let u = (place_in l p).1 in omega arith
 ]
 
@@ -140,7 +140,7 @@ state-from at R s X (itself e i) = omega arith
 state-from at R s X (inside j l p t e i) = let x = place-from at R j l p t in omega arith
 state-from at R s X (after j l p t e i) = let x = place-from at R j l p t in omega arith
 
-pub state-to : (at : ℕ) (R : Expr) (s : ℕ) (X : Expr) → Means at R s X → s ≤ 2 * (at + length (exprWords R))
+pub state-to : (at : ℕ) (R : Expr) (s : ℕ) (X : Expr) → Means at R s X → s ≤ 2 * (at + length (expr_words R))
 state-to at R s X (itself e i) = omega arith
 state-to at R s X (inside j l p t e i) = let x = place-to at R j l p t in omega arith
 state-to at R s X (after j l p t e i) = let x = place-to at R j l p t in omega arith
@@ -233,7 +233,7 @@ changed-none = record { each = λ R w h l i. inl refl }
 pub changed-state : {k classes : List ℕ} {at first s : ℕ} (x : ℕ) → first ≡ 2 * at → first ≤ s → StateTest k first s true → Changed k at (s + 1) classes (set classes s x)
 changed-state {k} {classes} {at} {first} {s} x e f t = record { each = λ R w h l i. go R w h l i (ℕ_discrete i s) }
   where
-    go : (R : Expr) (w : List ℕ) → Here k at R w → s + 1 ≤ 2 * (at + length (exprWords R)) + 1 → (i : ℕ) → Dec (i ≡ s) → (get_or (set classes s x) i 0 ≡ get_or classes i 0) ⊎ ((X : Expr) × Means at R i X)
+    go : (R : Expr) (w : List ℕ) → Here k at R w → s + 1 ≤ 2 * (at + length (expr_words R)) + 1 → (i : ℕ) → Dec (i ≡ s) → (get_or (set classes s x) i 0 ≡ get_or classes i 0) ⊎ ((X : Expr) × Means at R i X)
     go R w h l i (yes d) = inr (subst (λ i. (X : Expr) × Means at R i X) (sym d) (t.yes at R w e h f (omega arith) refl))
     go R w h l i (no d) = inl (get_or-set_other classes s i x 0 (omega arith))
 
@@ -256,7 +256,7 @@ like-apart a b n = record { yes = λ R w h e l m X o z. differ (sym z); not = λ
 
 pub counted : {k : List ℕ} {at r : ℕ} {p : Part} → Parted k at p → r ≡ (p.end - at) % 65536 → Counted k at r
 counted {at = at} p e =
-    record { each = λ X w h. e ∙ ap (λ n. n % 65536) (let d = (p.each X w h).end in let z : _ ≡ length (exprWords X) = omega arith in z) }
+    record { each = λ X w h. e ∙ ap (λ n. n % 65536) (let d = (p.each X w h).end in let z : _ ≡ length (expr_words X) = omega arith in z) }
 
 pub keys_none : {k keys : List ℕ} {at t : ℕ} → t ≡ 2 * at → KeyedTo k at t keys
 keys_none {at = at} e = record { below = λ s l. record { each = λ R w h X m. let x = state-from at R s X m in absurd (omega arith) } }
@@ -276,7 +276,7 @@ pub keys-skip : {k keys : List ℕ} {at first s : ℕ} → first ≡ 2 * at → 
 keys-skip {at = at} e d t = keys-more t (λ i h. refl) (record { each = λ R w h X m. differ (sym (d.only at R w e h X m)) })
 
 -- the key of a tail that was laid open
-other-part : (X : Expr) → ((A B : Expr) → X ≡ cat A B → ⊥) → lastPart X ≡ X
+other-part : (X : Expr) → ((A B : Expr) → X ≡ cat A B → ⊥) → last_part X ≡ X
 other-part eps n = refl
 other-part (cat A B) n = absurd (n A B refl)
 other-part (alt A B) n = refl
@@ -285,12 +285,12 @@ other-part (over f A) n = refl
 
 module _ {k : List ℕ} {at s : ℕ} {t : Tail} {o : Laid} (a : TailOf k at s t) (b : Opened k t o) where
   pub key-none : o.none ≡ true → Keyed k at s 1
-  key-none e = record { each = λ R w h X m. ap (λ X. count_of (lastPart X)) (sym (b.none X (a.each R w h X m) e)) }
+  key-none e = record { each = λ R w h X m. ap (λ X. count_of (last_part X)) (sym (b.none X (a.each R w h X m) e)) }
 
   module _ {c : Split} (d : SplitOf k t o c) {r : ℕ} where
     pub key-cat : c.can ≡ true → Counted k c.part r → Keyed k at s r
     key-cat e f =
-        record { each = λ R w h X m. let j = d.yes X (a.each R w h X m) e in f.each j.second j.beyond j.stands ∙ ap (λ X. count_of (lastPart X)) (sym j.is) }
+        record { each = λ R w h X m. let j = d.yes X (a.each R w h X m) e in f.each j.second j.beyond j.stands ∙ ap (λ X. count_of (last_part X)) (sym j.is) }
 
     pub key-other : o.none ≡ false → c.can ≡ false → Counted k o.part r → Keyed k at s r
     key-other z e f =

@@ -12,10 +12,10 @@ use borrow.Author.Tests.{eqb-true, eq-eqb}
 use Rattle.language.specs.Limits.{desk}
 use Rattle.language.specs.Kinds.{pick}
 use Rattle.language.specs.Trees.{Expr, eps, cat}
-use Rattle.language.specs.Writing.{exprWords}
+use Rattle.language.specs.Writing.{expr_words}
 use Rattle.language.proofs.Bools.{both_true}
 use Rattle.language.proofs.Laws.{expressions-read}
-use Rattle.rules.specs.Looks.{isEps}
+use Rattle.rules.specs.Looks.{is_eps}
 use Rattle.words.specs.Places.{same_list}
 use Rattle.words.proofs.Same.{list-refl, list-is}
 use Rattle.expressions.specs.declared.Part.{Part}
@@ -44,10 +44,10 @@ alike-words {k} {a} {b} {p} {q} {r} x y e = record { each = λ A B w v h g. comp
     compared A B w v h g =
         let d = words-here h (x.each A w h).end in
         let c = words-here g (y.each B v g).end in
-        let z : r ≡ same_list (exprWords A) (exprWords B) = e ∙ ap (λ l. same_list l (slice b q.end k)) d ∙ ap (same_list (exprWords A)) c in
+        let z : r ≡ same_list (expr_words A) (expr_words B) = e ∙ ap (λ l. same_list l (slice b q.end k)) d ∙ ap (same_list (expr_words A)) c in
         record {
-          yes = λ t. ((expressions-read desk).one-reading A B [] [] h.fine g.fine (ap (λ l. l ++ []) (list-is (exprWords A) (exprWords B) (sym z ∙ t)))).0;
-          not = λ t i. differ (sym (list-refl (exprWords B)) ∙ ap (λ X. same_list (exprWords X) (exprWords B)) (sym i) ∙ sym z ∙ t);
+          yes = λ t. ((expressions-read desk).one-reading A B [] [] h.fine g.fine (ap (λ l. l ++ []) (list-is (expr_words A) (expr_words B) (sym z ∙ t)))).0;
+          not = λ t i. differ (sym (list-refl (expr_words B)) ∙ ap (λ X. same_list (expr_words X) (expr_words B)) (sym i) ∙ sym z ∙ t);
         }
 
 -- ---- laid open
@@ -62,16 +62,16 @@ is_whole : {k : List ℕ} {X : Expr} (t : Tail) → t.rest ≡ false → Is k t 
 is_whole {k} {X} t e i = subst (Form k t X) e i
 
 -- what is behind something
-behind-nothing : (B : Expr) → isEps B ≡ false → behind B eps ≡ B
+behind-nothing : (B : Expr) → is_eps B ≡ false → behind B eps ≡ B
 behind-nothing B e = ap (λ b. pick b eps B) e
 
-behind-some : (B C : Expr) → isEps B ≡ false → isEps C ≡ false → behind B C ≡ cat C B
-behind-some B C e d = ap (λ b. pick b C (pick (isEps C) B (cat C B))) e ∙ ap (λ b. pick b B (cat C B)) d
+behind-some : (B C : Expr) → is_eps B ≡ false → is_eps C ≡ false → behind B C ≡ cat C B
+behind-some B C e d = ap (λ b. pick b C (pick (is_eps C) B (cat C B))) e ∙ ap (λ b. pick b B (cat C B)) d
 
-behind-full : (B C : Expr) → isEps B ≡ false → isEps (behind B C) ≡ false
-behind-full B C e = ap (λ b. isEps (pick b C (pick (isEps C) B (cat C B)))) e ∙ go (isEps C)
+behind-full : (B C : Expr) → is_eps B ≡ false → is_eps (behind B C) ≡ false
+behind-full B C e = ap (λ b. is_eps (pick b C (pick (is_eps C) B (cat C B)))) e ∙ go (is_eps C)
   where
-    go : (b : Bool) → isEps (pick b B (cat C B)) ≡ false
+    go : (b : Bool) → is_eps (pick b B (cat C B)) ≡ false
     go true = e
     go false = refl
 
@@ -97,7 +97,7 @@ module _ {k : List ℕ} {t : Tail} where
               first = m.before;
               second = m.last;
               beyond = m.beyond;
-              is = m.is ∙ behind-some m.last m.before m.full (ap isEps n.is ∙ behind-full n.last n.before n.full);
+              is = m.is ∙ behind-some m.last m.before m.full (ap is_eps n.is ∙ behind-full n.last n.before n.full);
               tail = m.left;
               stands = m.stands;
             };
@@ -130,7 +130,7 @@ module _ {k : List ℕ} {t : Tail} {o : Laid} (p : Opened k t o) (n : o.none ≡
       cut : (X : Expr) (w : List ℕ) → Here k o.part X w → Joined k X (record { at = o.part + 1; symbol = t.symbol; rest = false }) a.end
       cut X w h =
           by-cat (λ A v. X ≡ A → Joined k X (record { at = o.part + 1; symbol = t.symbol; rest = false }) a.end) z (λ A B v i f e.
-          record { first = A; second = B; beyond = v; is = e; tail = (exprWords B ++ v, i); stands = second-of i f (q.each A _ i).end }) X w h refl
+          record { first = A; second = B; beyond = v; is = e; tail = (expr_words B ++ v, i); stands = second-of i f (q.each A _ i).end }) X w h refl
 
   pub split-none : {r : Tail} {part : ℕ} → o.one ≡ true → (get_or k o.part 0 ≡ 7001 → ⊥) → SplitOf k t o (record { can = false; rest = r; part = part })
   split-none e z =

@@ -9,11 +9,11 @@ use lib.Dec.{T, eqb}
 use lib.ListN.{length, get_or}
 use borrow.Author.Tests.{eqb-true, eq-eqb}
 use Rattle.language.specs.Limits.{desk}
-use Rattle.language.specs.Fine.{fineExpr}
+use Rattle.language.specs.Fine.{fine_expr}
 use Rattle.language.specs.Kinds.{pick}
 use Rattle.language.specs.Trees.{Expr, eps, cat, star}
-use Rattle.language.specs.Writing.{exprWords}
-use Rattle.rules.specs.Looks.{isEps}
+use Rattle.language.specs.Writing.{expr_words}
+use Rattle.rules.specs.Looks.{is_eps}
 use Rattle.expressions.specs.declared.Part.{Part}
 use Rattle.expressions.specs.Standing.{Here, Parted}
 use Rattle.expressions.proofs.Standing.{second-of, cases, by-star, by_over, past_end}
@@ -101,8 +101,8 @@ module _ {k : List ℕ} {at p x : ℕ} (g : Goes k at p x) where
             (λ f z b A w i e. absurd (omega arith))
             (whole l.spot) l.beyond l.stands refl
           where
-            put : (X : Expr) (l : Left k x p X) (A B : Expr) (w : List ℕ) → Here k (x + 1) A (exprWords B ++ w) → fineExpr desk B → (t : Spot) → whole t ≡ B
-                → place_of (x + 1 + length (exprWords A)) t ≡ p → X ≡ rest_at t → Left k q.end p X
+            put : (X : Expr) (l : Left k x p X) (A B : Expr) (w : List ℕ) → Here k (x + 1) A (expr_words B ++ w) → fine_expr desk B → (t : Spot) → whole t ≡ B
+                → place_of (x + 1 + length (expr_words A)) t ≡ p → X ≡ rest_at t → Left k q.end p X
             put X l A B w i o t f c d =
                 let e = (a.each A _ i).end in
                 record { spot = t; beyond = w; stands = subst (λ B. Here k q.end B w) (sym f) (second-of i o e); place = ap (λ m. place_of m t) e ∙ c; is = d }
@@ -131,7 +131,7 @@ module _ {k : List ℕ} {at p x : ℕ} (g : Goes k at p x) where
                       stands = m;
                       full = sym (u.each B w m).bare ∙ (both b.bare t).0;
                       before = rest_at s;
-                      left = record { spot = s; beyond = exprWords B ++ w; stands = subst (λ A. Here k (x + 1) A (exprWords B ++ w)) (sym f) i; place = sym (ap (place_of x) v) ∙ l.place; is = refl };
+                      left = record { spot = s; beyond = expr_words B ++ w; stands = subst (λ A. Here k (x + 1) A (expr_words B ++ w)) (sym f) i; place = sym (ap (place_of x) v) ∙ l.place; is = refl };
                       is = l.is ∙ ap rest_at v;
                     }
                 | inr (s, f, v) ↦ not-second k x p a i s (sym (ap (place_of x) v) ∙ l.place) h
@@ -152,8 +152,8 @@ module _ {k : List ℕ} {at p x : ℕ} (g : Goes k at p x) where
           put : (X A : Expr) (w : List ℕ) → Here k (x + 1) A w → (s : Spot) → whole s ≡ A → place_of (x + 1) s ≡ p → X ≡ rest_at s → Left k (x + 1) p X
           put X A w i s f c d = record { spot = s; beyond = w; stands = subst (λ A. Here k (x + 1) A w) (sym f) i; place = c; is = d }
 
-          empty : (B C : Expr) → isEps B ≡ true → behind B C ≡ C
-          empty B C e = ap (λ n. pick n C (pick (isEps C) B (cat C B))) e
+          empty : (B C : Expr) → is_eps B ≡ true → behind B C ≡ C
+          empty B C e = ap (λ n. pick n C (pick (is_eps C) B (cat C B))) e
 
           go : (X : Expr) → Left k x p X → Left k (x + 1) p X
           go X l =
@@ -162,11 +162,11 @@ module _ {k : List ℕ} {at p x : ℕ} (g : Goes k at p x) where
               (λ y A B w i o e. elim (cat-spot l.spot A B e) [
                 | inl (s, f, v) ↦
                     let m = second-of i o (a.each A _ i).end in
-                    put X A (exprWords B ++ w) i s f (sym (ap (place_of x) v) ∙ l.place) (l.is ∙ ap rest_at v ∙ empty B (rest_at s) (sym (u.each B w m).bare ∙ bare b.bare y t))
+                    put X A (expr_words B ++ w) i s f (sym (ap (place_of x) v) ∙ l.place) (l.is ∙ ap rest_at v ∙ empty B (rest_at s) (sym (u.each B w m).bare ∙ bare b.bare y t))
                 | inr (s, f, v) ↦ not-second k x p a i s (sym (ap (place_of x) v) ∙ l.place) h
               ])
               (λ y A B w i o e. elim (alt-spot l.spot A B e) [
-                | inl (s, f, v) ↦ put X A (exprWords B ++ w) i s f (sym (ap (place_of x) v) ∙ l.place) (l.is ∙ ap rest_at v)
+                | inl (s, f, v) ↦ put X A (expr_words B ++ w) i s f (sym (ap (place_of x) v) ∙ l.place) (l.is ∙ ap rest_at v)
                 | inr (s, f, v) ↦ not-second k x p a i s (sym (ap (place_of x) v) ∙ l.place) h
               ])
               (λ y A w i e. absurd (n3 y))

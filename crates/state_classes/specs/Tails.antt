@@ -1,7 +1,7 @@
 -- What is left after a symbol, laid open.
 use Rattle.std.specs.Prelude.{ℕ, ◌<◌, ◌≤◌, ◌≡◌, Bool, true, false, List, length}
 use Rattle.language.specs.Trees.{Expr, eps, cat}
-use Rattle.rules.specs.Looks.{isEps}
+use Rattle.rules.specs.Looks.{is_eps}
 use Rattle.expressions.specs.Standing.{Here}
 use Rattle.walk.specs.Spots.{Spot, whole, behind, rest_at}
 use Rattle.state_classes.specs.declared.tails.Cut.{Cut}
@@ -24,7 +24,7 @@ pub record Parts (k : List ℕ) (p : ℕ) (X : Expr) (part next : ℕ) : Type 0 
   pub last : Expr
   pub beyond : List ℕ
   pub stands : Here k part last beyond
-  pub full : isEps last ≡ false
+  pub full : is_eps last ≡ false
   pub before : Expr
   pub left : Left k next p before
   pub is : X ≡ behind last before

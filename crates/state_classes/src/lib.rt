@@ -4,7 +4,7 @@ mod tails;
 ghost use Rattle.std.specs.Prelude.{◌+◌, ◌*◌, ◌≤◌, ◌<◌, ◌≡◌, length};
 ghost use Rattle.language.specs.Limits.{desk};
 ghost use Rattle.charts.specs.Charted.{ChartedFrom};
-ghost use Rattle.state_classes.specs.Classes.{StateTest, Liked, Classed, Tabled, KeptTo, Changed, Expressed, stateRoom, Counted, Keyed, KeyedTo};
+ghost use Rattle.state_classes.specs.Classes.{StateTest, Liked, Classed, Tabled, KeptTo, Changed, Expressed, state_room, Counted, Keyed, KeyedTo};
 
 use crate::tails::{lay_open, same_state, tail_of, take_apart};
 use charts::part_at;
@@ -95,7 +95,7 @@ fn class_of(
     x: u16,
     keys: &[u16; STATES],
 ) -> usize
-    requires { ChartedFrom 0 k.now ends.now nulls.now × (at ≤ desk.question) × (s < stateRoom) × Keyed k.now at s x × KeyedTo k.now at s keys.now }
+    requires { ChartedFrom 0 k.now ends.now nulls.now × (at ≤ desk.question) × (s < state_room) × Keyed k.now at s x × KeyedTo k.now at s keys.now }
     ensures { Classed k.now at s result }
 {
     let first = 2 * at;
@@ -120,9 +120,9 @@ fn class_at(
     classes: &mut [u16; STATES],
     keys: &mut [u16; STATES],
 )
-    requires charted_from { ChartedFrom 0 k.now ends.now nulls.now × (at ≤ desk.question) × (first ≡ 2 * at) × (first ≤ s) × (s < stateRoom) }
-    requires classes_len { (length classes.old ≡ stateRoom) × (length keys.old ≡ stateRoom) × KeyedTo k.now at s keys.old }
-    ensures { KeptTo s classes.old classes.new × (Tabled k.now at s classes.old → Tabled k.now at (s + 1) classes.new) × KeyedTo k.now at (s + 1) keys.new × (length keys.new ≡ stateRoom) × Changed k.now at (s + 1) classes.old classes.new }
+    requires charted_from { ChartedFrom 0 k.now ends.now nulls.now × (at ≤ desk.question) × (first ≡ 2 * at) × (first ≤ s) × (s < state_room) }
+    requires classes_len { (length classes.old ≡ state_room) × (length keys.old ≡ state_room) × KeyedTo k.now at s keys.old }
+    ensures { KeptTo s classes.old classes.new × (Tabled k.now at s classes.old → Tabled k.now at (s + 1) classes.new) × KeyedTo k.now at (s + 1) keys.new × (length keys.new ≡ state_room) × Changed k.now at (s + 1) classes.old classes.new }
 {
     if is_state(k, first, s) {
         let x = key_of(k, ends, nulls, at, s);
@@ -141,7 +141,7 @@ pub fn class_all(
     end: usize,
     classes: &mut [u16; STATES],
 )
-    requires { ChartedFrom 0 k.now ends.now nulls.now × (at ≤ end) × (end ≤ desk.question) × (length classes.old ≡ stateRoom) × Expressed k.now at end }
+    requires { ChartedFrom 0 k.now ends.now nulls.now × (at ≤ end) × (end ≤ desk.question) × (length classes.old ≡ state_room) × Expressed k.now at end }
     ensures { Tabled k.now at (2 * end + 1) classes.new × KeptTo (2 * at) classes.old classes.new × Changed k.now at (2 * end + 1) classes.old classes.new }
 {
     let first = 2 * at;

@@ -7,24 +7,24 @@ use Rattle.word_bytes.specs.Bytes.{words_in, bytes_of}
 use Rattle.handing.specs.Handed.{used}
 use Rattle.replay.specs.Replay.{Triple}
 use Rattle.named_steps.specs.Naming.{Naming, made, unread, given-up, naming}
-use Rattle.named_steps.specs.Leaves.{resultWords, begins, roomOf}
+use Rattle.named_steps.specs.Leaves.{result_words, begins, room_of}
 
 -- a number that is no word stands for the last one, which names no rule, no literal and no side
-abbrev pub wordFrom : ℕ → ℕ
-wordFrom n = used 65535 n
+abbrev pub word_from : ℕ → ℕ
+word_from n = used 65535 n
 
 -- A room of so many bytes, the number of the results, the three words of a step, and a question's bytes.
-unfoldable pub namingBytes : Limits → ℕ → ℕ → Triple → List ℕ → Naming
-namingBytes L room number t q = naming L (room / 2) number t (words_in q)
+unfoldable pub naming_bytes : Limits → ℕ → ℕ → Triple → List ℕ → Naming
+naming_bytes L room number t q = naming L (room / 2) number t (words_in q)
 
 -- 100 and the word of the room where the results begin, and below stand the refusals
-unfoldable pub stepNumber : ℕ → Naming → ℕ
-stepNumber number (made ks) = 100 + begins (resultWords number ks)
-stepNumber number (unread r) = number_of r
-stepNumber number (given-up r) = number_of r
+unfoldable pub step_number : ℕ → Naming → ℕ
+step_number number (made ks) = 100 + begins (result_words number ks)
+step_number number (unread r) = number_of r
+step_number number (given-up r) = number_of r
 
 -- The room's bytes at exit: the results behind zeros, or unchanged, or zeros; later bytes stay.
-unfoldable pub stepLeaves : ℕ → Naming → List ℕ → List ℕ
-stepLeaves number (made ks) bytes = bytes_of (roomOf (resultWords number ks)) ++ drop (2 * desk.room) bytes
-stepLeaves number (unread r) bytes = bytes
-stepLeaves number (given-up r) bytes = bytes_of (zeros desk) ++ drop (2 * desk.room) bytes
+unfoldable pub step_leaves : ℕ → Naming → List ℕ → List ℕ
+step_leaves number (made ks) bytes = bytes_of (room_of (result_words number ks)) ++ drop (2 * desk.room) bytes
+step_leaves number (unread r) bytes = bytes
+step_leaves number (given-up r) bytes = bytes_of (zeros desk) ++ drop (2 * desk.room) bytes

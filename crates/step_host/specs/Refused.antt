@@ -4,5 +4,5 @@ use Rattle.std.proofs.lemmas.List.Edits.{sets}
 use Rattle.language.specs.Kinds.{pick}
 use Rattle.word_bytes.specs.Bytes.{bytes_of}
 
-unfoldable pub refusedLeaves : ℕ → List ℕ → List ℕ → List ℕ
-refusedLeaves number own room = pick (leb number 6) room (sets room 0 (bytes_of own))
+unfoldable pub refused_leaves : ℕ → List ℕ → List ℕ → List ℕ
+refused_leaves number own room = pick (leb number 6) room (sets room 0 (bytes_of own))

@@ -4,8 +4,8 @@ ghost use Rattle.std.specs.Prelude.{◌*◌, ◌≤◌, ◌≡◌, length};
 ghost use Rattle.language.specs.Limits.{desk};
 ghost use Rattle.language.specs.Numbers.{number_of};
 ghost use Rattle.telling.specs.Telling.{triple_of};
-ghost use Rattle.step_host.specs.Host.{wordFrom, namingBytes, stepNumber, stepLeaves};
-ghost use Rattle.step_host.specs.Refused.{refusedLeaves};
+ghost use Rattle.step_host.specs.Host.{word_from, naming_bytes, step_number, step_leaves};
+ghost use Rattle.step_host.specs.Refused.{refused_leaves};
 
 use language::Refusal;
 use language::limits::{ANSWER_BYTES, QUESTION, ROOM};
@@ -15,7 +15,7 @@ use word_bytes::{take_words, write_words};
 
 // A number as a word; one that is no word stands for the last one, which names no rule, no literal and no side.
 fn word(n: u32) -> u16
-    ensures { result ≡ wordFrom n }
+    ensures { result ≡ word_from n }
 {
     if n <= 65535 {
         return n as u16;
@@ -27,7 +27,7 @@ fn word(n: u32) -> u16
 fn refuse(refusal: Refusal, own: &[u16], room: &mut [u8]) -> u32
     requires { 2 * length own.now ≤ length room.old }
     ensures value { result ≡ number_of refusal }
-    ensures room_after { room.new ≡ refusedLeaves (number_of refusal) own.now room.old }
+    ensures room_after { room.new ≡ refused_leaves (number_of refusal) own.now room.old }
 {
     let n = number(refusal);
     if n <= 6 {
@@ -47,8 +47,8 @@ pub extern "C" fn desk_step(
     side: u32,
     room: &mut [u8],
 ) -> u32
-    ensures value { result ≡ stepNumber (wordFrom number) (namingBytes desk (length room.old) (wordFrom number) (triple_of (wordFrom rule) (wordFrom literal) (wordFrom side)) question.now) }
-    ensures room_after { room.new ≡ stepLeaves (wordFrom number) (namingBytes desk (length room.old) (wordFrom number) (triple_of (wordFrom rule) (wordFrom literal) (wordFrom side)) question.now) room.old }
+    ensures value { result ≡ step_number (word_from number) (naming_bytes desk (length room.old) (word_from number) (triple_of (word_from rule) (word_from literal) (word_from side)) question.now) }
+    ensures room_after { room.new ≡ step_leaves (word_from number) (naming_bytes desk (length room.old) (word_from number) (triple_of (word_from rule) (word_from literal) (word_from side)) question.now) room.old }
 {
     if room.len() < ANSWER_BYTES {
         return 1;

@@ -8,7 +8,7 @@ use mathlib.Core.Option.{some}
 use lib.ListN.{get_or}
 use Rattle.language.specs.declared.Signature.{Signature}
 use Rattle.language.specs.Trees.{Hedge, Expr, Literal, eqn, mem, Conj}
-use Rattle.rules.specs.Places.{atM2, atFold, atClash}
+use Rattle.rules.specs.Places.{at_m2, at_fold, at_clash}
 use Rattle.views.specs.declared.View.{View}
 use Rattle.views.specs.declared.Shape.{Shape}
 use Rattle.views.specs.Views.{Sees, Shows}
@@ -60,7 +60,7 @@ module _ (σ : Signature) (k : List ℕ) (b : Best) (m : AnswerAt σ k b) where
       })
       m.before m.l m.behind m.stands m.answer
 
-  pub applies-member : (s : Shape) → (b.rank ≡ atM2 → ⊥) → (get_or k b.at 0 ≡ 5000 → ⊥)
+  pub applies-member : (s : Shape) → (b.rank ≡ at_m2 → ⊥) → (get_or k b.at 0 ≡ 5000 → ⊥)
       → ((before : Conj) (h : Hedge) (R : Expr) (behind : Conj) → LiteralAt k b.at before (mem h R) behind → Shows k s before h R behind) → membership.RuleApplies b.rank k s
   applies-member s z e f =
       at-membership k b.at (λ before l behind. side_answer σ b.swap b.rank (before ++ behind) l ≡ some m.branches → membership.RuleApplies b.rank k s) e
@@ -80,7 +80,7 @@ module _ (σ : Signature) (k : List ℕ) (b : Best) (m : AnswerAt σ k b) where
       m.before m.l m.behind m.stands m.answer
 
   -- where the rule is M2, the literal is a membership
-  pub monomials-at : b.rank ≡ atM2 → SomeMembership k b.at
+  pub monomials-at : b.rank ≡ at_m2 → SomeMembership k b.at
   monomials-at e = go m.l m.stands m.answer
     where
       go : (l : Literal) → LiteralAt k b.at m.before l m.behind → side_answer σ b.swap b.rank (m.before ++ m.behind) l ≡ some m.branches → SomeMembership k b.at
@@ -90,12 +90,12 @@ module _ (σ : Signature) (k : List ℕ) (b : Best) (m : AnswerAt σ k b) where
 
 -- ---- what a step is asked to have
 
-pub answer_at : (σ : Signature) (k : List ℕ) (b : Best) → RuleAt σ k b → (b.rank ≡ atFold → ⊥) → (b.rank ≡ atClash → ⊥) → AnswerAt σ k b
+pub answer_at : (σ : Signature) (k : List ℕ) (b : Best) → RuleAt σ k b → (b.rank ≡ at_fold → ⊥) → (b.rank ≡ at_clash → ⊥) → AnswerAt σ k b
 answer_at σ k b m z y =
     let r = results-answer σ b.swap b.rank m.before m.l m.behind m.made z y m.applies in
     record { before = m.before; l = m.l; behind = m.behind; branches = r.branches; stands = m.stands; answer = r.answer }
 
-pub fold_at : (σ : Signature) (k : List ℕ) (b : Best) → RuleAt σ k b → b.rank ≡ atFold → FoldHere k b.at
+pub fold_at : (σ : Signature) (k : List ℕ) (b : Best) → RuleAt σ k b → b.rank ≡ at_fold → FoldHere k b.at
 fold_at σ k b m e =
     let r = results-fold σ b.swap b.rank m.before m.l m.behind m.made e m.applies in
     record { before = m.before; l = m.l; behind = m.behind; made = r.folds; stands = m.stands; applies = r.applies }

@@ -7,7 +7,7 @@ use Rattle.rules.specs.Reply.{results}
 use Rattle.rules.specs.Rules.{Branch, Fold}
 use Rattle.views.specs.Standing.{LiteralAt}
 use Rattle.search.specs.declared.Best.{Best}
-use Rattle.search.specs.Ranking.{side_answer, sideResults}
+use Rattle.search.specs.Ranking.{side_answer, side_results}
 
 -- a literal stands at the place of b, and the rule of its rank applies there from its side
 pub record RuleAt (σ : Signature) (k : List ℕ) (b : Best) : Type 0 where
@@ -16,7 +16,7 @@ pub record RuleAt (σ : Signature) (k : List ℕ) (b : Best) : Type 0 where
   pub behind : Conj
   pub made : List Conj
   pub stands : LiteralAt k b.at before l behind
-  pub applies : sideResults σ b.swap b.rank before l behind ≡ results made
+  pub applies : side_results σ b.swap b.rank before l behind ≡ results made
 
 -- the same of a rule of one literal, by what it answers
 pub record AnswerAt (σ : Signature) (k : List ℕ) (b : Best) : Type 0 where

@@ -2,16 +2,16 @@
 ghost use Rattle.std.specs.Prelude.{◌+◌, ◌≤◌, ◌<◌, ◌≡◌, List, ◌++◌, map, length, drop};
 ghost use Rattle.language.specs.Limits.{desk};
 ghost use Rattle.language.specs.Trees.{Literal, Conj};
-ghost use Rattle.language.specs.Writing.{conjWords};
-ghost use Rattle.plans.specs.Results.{resultsOf};
+ghost use Rattle.language.specs.Writing.{conj_words};
+ghost use Rattle.plans.specs.Results.{results_of};
 ghost use Rattle.views.specs.Standing.{LiteralAt};
 ghost use Rattle.rules.specs.Reply.{results};
 ghost use Rattle.rules.specs.Rules.{Fold};
-ghost use Rattle.search.specs.Ranking.{side_answer, sideResults};
+ghost use Rattle.search.specs.Ranking.{side_answer, side_results};
 ghost use Rattle.taking.specs.Taking.{Took};
 ghost use Rattle.steps.specs.Asking.{RuleAt, AnswerAt, FoldHere};
 ghost use Rattle.plans.specs.Planned.{Planned};
-ghost use Rattle.rules.specs.Places.{atM2};
+ghost use Rattle.rules.specs.Places.{at_m2};
 
 use equation_plans::plan_equation;
 use folding::later_equal;
@@ -29,7 +29,7 @@ use words::next_literal;
 
 // The plan of the rule of one literal of that rank at that literal; M2 has none.
 fn plan_at(k: &[u16], b: Best, s: Signature) -> Plan
-    requires at_in_bounds { (b.at < length k.now) × (b.rank ≡ atM2 → ⊥) }
+    requires at_in_bounds { (b.at < length k.now) × (b.rank ≡ at_m2 → ⊥) }
     requires answer_at { AnswerAt s k.now b }
     ensures { (before : Conj) (l : Literal) (behind : Conj) → LiteralAt k.now b.at before l behind → Planned k.now result before behind (side_answer s b.swap b.rank (before ++ behind) l) }
 {
@@ -51,7 +51,7 @@ fn plan_at(k: &[u16], b: Best, s: Signature) -> Plan
 fn plan_fold(k: &[u16], at: usize) -> Plan
     requires at_in_bounds { at < length k.now }
     requires fold_here { FoldHere k.now at }
-    ensures { (before : Conj) (l : Literal) (behind : Conj) (ks : List Conj) → LiteralAt k.now at before l behind → Fold l behind ≡ results ks → resultsOf k.now result ≡ map (λ (c : Conj). conjWords (before ++ c)) ks }
+    ensures { (before : Conj) (l : Literal) (behind : Conj) (ks : List Conj) → LiteralAt k.now at before l behind → Fold l behind ≡ results ks → results_of k.now result ≡ map (λ (c : Conj). conj_words (before ++ c)) ks }
 {
     let from = later_equal(k, at);
     let to = next_literal(k, from);
@@ -86,7 +86,7 @@ pub fn take_step(
 ) -> Stepped
     requires k_len_bound { (length k.now ≤ desk.question) × (b.at < length k.now) × (next ≤ length out.old) × (next ≤ desk.room) }
     requires rule_at { RuleAt s k.now b }
-    ensures { (before : Conj) (l : Literal) (behind : Conj) (ks : List Conj) → LiteralAt k.now b.at before l behind → sideResults s b.swap b.rank before l behind ≡ results ks → Took number (map conjWords ks) out.old next result out.new }
+    ensures { (before : Conj) (l : Literal) (behind : Conj) (ks : List Conj) → LiteralAt k.now b.at before l behind → side_results s b.swap b.rank before l behind ≡ results ks → Took number (map conj_words ks) out.old next result out.new }
 {
     if b.rank == AT_M2 {
         return step_monomials(k, b.at, number, out, next);

@@ -8,21 +8,21 @@ use borrow.Author.Tests.{lt-ltb, le-ltb}
 use Rattle.language.specs.declared.Refusal.TheVariants.{LongWaiting}
 use Rattle.language.specs.Kinds.{pick}
 use Rattle.language.specs.Numbers.{number_of}
-use Rattle.plans.specs.Sizes.{sized, sizeValue}
+use Rattle.plans.specs.Sizes.{sized, size_value}
 use Rattle.taking.specs.declared.Stepped.{Stepped}
-use Rattle.taking.specs.Taking.{steppedNumber, steppedValue, stepNumber, Took, long, room, done}
+use Rattle.taking.specs.Taking.{stepped_number, stepped_value, step_number, Took, long, room, done}
 
-pub took_number : (number : ℕ) (ws : List (List ℕ)) (old : List ℕ) (next : ℕ) (r : Stepped) (new : List ℕ) → Took number ws old next r new → steppedNumber r ≡ stepNumber next (sized ws)
-took_number number ws old next r new (long e s d) = ap steppedNumber e ∙ sym (ap (stepNumber next) s)
-took_number number ws old next r new (room n e s h d) = ap steppedNumber e ∙ sym (ap (λ b. pick b (number_of LongWaiting) 0) (lt-ltb next n h)) ∙ sym (ap (stepNumber next) s)
+pub took_number : (number : ℕ) (ws : List (List ℕ)) (old : List ℕ) (next : ℕ) (r : Stepped) (new : List ℕ) → Took number ws old next r new → stepped_number r ≡ step_number next (sized ws)
+took_number number ws old next r new (long e s d) = ap stepped_number e ∙ sym (ap (step_number next) s)
+took_number number ws old next r new (room n e s h d) = ap stepped_number e ∙ sym (ap (λ b. pick b (number_of LongWaiting) 0) (lt-ltb next n h)) ∙ sym (ap (step_number next) s)
 took_number number ws old next r new (done n at e s i d) =
-    ap steppedNumber e ∙ sym (ap (λ b. pick b (number_of LongWaiting) 0) (le-ltb next n (omega arith))) ∙ sym (ap (stepNumber next) s)
+    ap stepped_number e ∙ sym (ap (λ b. pick b (number_of LongWaiting) 0) (le-ltb next n (omega arith))) ∙ sym (ap (step_number next) s)
 
 -- of a step that is made
-pub took-value : (number : ℕ) (ws : List (List ℕ)) (old : List ℕ) (next : ℕ) (r : Stepped) (new : List ℕ) → Took number ws old next r new → steppedNumber r ≡ 0 → steppedValue r + sizeValue (sized ws) ≡ next
-took-value number ws old next r new (long e s d) z = absurd (let y = sym (ap steppedNumber e) ∙ z in omega arith)
-took-value number ws old next r new (room n e s h d) z = absurd (let y = sym (ap steppedNumber e) ∙ z in omega arith)
+pub took-value : (number : ℕ) (ws : List (List ℕ)) (old : List ℕ) (next : ℕ) (r : Stepped) (new : List ℕ) → Took number ws old next r new → stepped_number r ≡ 0 → stepped_value r + size_value (sized ws) ≡ next
+took-value number ws old next r new (long e s d) z = absurd (let y = sym (ap stepped_number e) ∙ z in omega arith)
+took-value number ws old next r new (room n e s h d) z = absurd (let y = sym (ap stepped_number e) ∙ z in omega arith)
 took-value number ws old next r new (done n at e s i d) z =
-    let a : steppedValue r ≡ at = ap steppedValue e in
-    let b : sizeValue (sized ws) ≡ n = ap sizeValue s in
+    let a : stepped_value r ≡ at = ap stepped_value e in
+    let b : size_value (sized ws) ≡ n = ap size_value s in
     omega arith

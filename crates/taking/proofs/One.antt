@@ -4,7 +4,7 @@ use native.Mathlib.Omega.{arith}
 use mathlib.Core.Path.{◌≡◌, sym, ap, ◌∙◌}
 use mathlib.Core.List.{List}
 use lib.Seq.{sets}
-use Rattle.frames.specs.Frames.{inFrames}
+use Rattle.frames.specs.Frames.{in_frames}
 use Rattle.plans.specs.declared.Size.{Size}
 use Rattle.plans.specs.declared.Size.TheVariants.{Fits, Over}
 use Rattle.taking.specs.declared.Stepped.{Stepped}
@@ -29,4 +29,4 @@ took_one number ws old next r u new now (done n at e s i d) (room m f t h g) = a
 took_one number ws old next r u new now (done n at e s i d) (done m bt f t h g) =
     let y = one_size _ n m s t in
     let z : at ≡ bt = omega arith in
-    (e ∙ ap Done z ∙ sym f, d ∙ ap (λ x. sets old x (inFrames number ws)) z ∙ sym g)
+    (e ∙ ap Done z ∙ sym f, d ∙ ap (λ x. sets old x (in_frames number ws)) z ∙ sym g)

@@ -5,7 +5,7 @@ use mathlib.Core.Path.{◌≡◌, refl, sym, ◌∙◌, subst}
 use mathlib.Core.List.{List, []}
 use lib.ListN.{length}
 use Rattle.language.specs.Limits.{desk}
-use Rattle.frames.specs.Frames.{inFrames}
+use Rattle.frames.specs.Frames.{in_frames}
 use Rattle.plans.specs.Sizes.{sized, Ready}
 use Rattle.plans.specs.declared.Size.{Size}
 use Rattle.plans.specs.declared.Size.TheVariants.{Fits, Over}
@@ -27,7 +27,7 @@ module _ (number : ℕ) (ws : List (List ℕ)) (old : List ℕ) (next : ℕ) (s 
       pub took-ready : next ≤ desk.room → next ≤ length old → Ready number ws old (next - n)
       took-ready small fits = fits-ready number ws n (sym es ∙ e) (omega arith) old (next - n) (omega arith)
 
-      pub took-done : (new : List ℕ) (end : ℕ) → Wrote old (next - n) (inFrames number ws) new end → Took number ws old next (Done (next - n)) new
+      pub took-done : (new : List ℕ) (end : ℕ) → Wrote old (next - n) (in_frames number ws) new end → Took number ws old next (Done (next - n)) new
       took-done new end w = done n (next - n) refl (sym es ∙ e) (omega arith) w.list
 
 -- of a rule that leaves nothing

@@ -4,30 +4,30 @@ use Rattle.std.proofs.lemmas.List.Edits.{sets}
 use Rattle.language.specs.declared.Refusal.TheVariants.{LongResult, LongWaiting}
 use Rattle.language.specs.Kinds.{pick}
 use Rattle.language.specs.Numbers.{number_of}
-use Rattle.frames.specs.Frames.{inFrames}
-use Rattle.plans.specs.Sizes.{sized, sizeNumber}
+use Rattle.frames.specs.Frames.{in_frames}
+use Rattle.plans.specs.Sizes.{sized, size_number}
 use Rattle.plans.specs.declared.Size.{Size}
 use Rattle.plans.specs.declared.Size.TheVariants.{Fits, Over}
 use Rattle.taking.specs.declared.Stepped.{Stepped}
 use Rattle.taking.specs.declared.Stepped.TheVariants.{Long, Room, Done}
 
 -- the number of the table for each case, 0 for a step that is made, and the value: the place where its results begin
-abbrev pub steppedNumber : Stepped → ℕ
-steppedNumber Long = number_of LongResult
-steppedNumber Room = number_of LongWaiting
-steppedNumber (Done at) = 0
+abbrev pub stepped_number : Stepped → ℕ
+stepped_number Long = number_of LongResult
+stepped_number Room = number_of LongWaiting
+stepped_number (Done at) = 0
 
-abbrev pub steppedValue : Stepped → ℕ
-steppedValue Long = 0
-steppedValue Room = 0
-steppedValue (Done at) = at
+abbrev pub stepped_value : Stepped → ℕ
+stepped_value Long = 0
+stepped_value Room = 0
+stepped_value (Done at) = at
 
 -- the number of a step whose results have this size, if they are to end at `next`: "7, 8", in this order
-abbrev pub stepNumber : ℕ → Size → ℕ
-stepNumber next Over = sizeNumber Over
-stepNumber next (Fits n) = pick (ltb next n) (number_of LongWaiting) 0
+abbrev pub step_number : ℕ → Size → ℕ
+step_number next Over = size_number Over
+step_number next (Fits n) = pick (ltb next n) (number_of LongWaiting) 0
 
 pub data Took (number : ℕ) (ws : List (List ℕ)) (old : List ℕ) (next : ℕ) (r : Stepped) (new : List ℕ) : Type 0 where
   long : r ≡ Long → sized ws ≡ Over → new ≡ old → Took number ws old next r new
   room : (n : ℕ) → r ≡ Room → sized ws ≡ Fits n → next < n → new ≡ old → Took number ws old next r new
-  done : (n at : ℕ) → r ≡ Done at → sized ws ≡ Fits n → at + n ≡ next → new ≡ sets old at (inFrames number ws) → Took number ws old next r new
+  done : (n at : ℕ) → r ≡ Done at → sized ws ≡ Fits n → at + n ≡ next → new ≡ sets old at (in_frames number ws) → Took number ws old next r new

@@ -2,11 +2,11 @@
 ghost use Rattle.std.specs.Prelude.{◌≤◌, ◌<◌, ◌≡◌, length};
 ghost use Rattle.language.specs.Limits.{desk};
 ghost use Rattle.language.specs.Trees.{Literal, Conj};
-ghost use Rattle.language.specs.Writing.{conjWords};
-ghost use Rattle.language.specs.Fine.{fineConj};
+ghost use Rattle.language.specs.Writing.{conj_words};
+ghost use Rattle.language.specs.Fine.{fine_conj};
 ghost use Rattle.views.specs.Standing.{LiteralAt, SomeLiteral, Conjunction};
 ghost use Rattle.counts.specs.Tables.{afresh};
-ghost use Rattle.telling.specs.Telling.{triple_of, chosenBy, ClashNamed};
+ghost use Rattle.telling.specs.Telling.{triple_of, chosen_by, ClashNamed};
 
 use clash::Verdict;
 use clashes::test_behind;
@@ -56,7 +56,7 @@ pub fn named_by(
     requires k_len_bound { length k.now ≤ desk.question }
     requires conjunction { Conjunction k.now }
     requires table_value { table.now ≡ afresh k.now }
-    ensures { (c : Conj) → fineConj desk c → k.now ≡ conjWords c → result ≡ chosenBy s c (triple_of rule literal side) }
+    ensures { (c : Conj) → fine_conj desk c → k.now ≡ conj_words c → result ≡ chosen_by s c (triple_of rule literal side) }
 {
     if 1 < side {
         return Chosen::Not(Refusal::BadStep);
@@ -80,7 +80,7 @@ pub fn named_by(
 pub fn named_step(k: &[u16], rule: u16, literal: u16, side: u16, s: Signature) -> Chosen
     requires k_len_bound { length k.now ≤ desk.question }
     requires conjunction { Conjunction k.now }
-    ensures { (c : Conj) → fineConj desk c → k.now ≡ conjWords c → result ≡ chosenBy s c (triple_of rule literal side) }
+    ensures { (c : Conj) → fine_conj desk c → k.now ≡ conj_words c → result ≡ chosen_by s c (triple_of rule literal side) }
 {
     let mut table = [0; TABLE];
     count_in(k, 0, k.len(), &mut table);

@@ -13,15 +13,15 @@ use Rattle.language.specs.declared.Refusal.TheVariants.{LongText, OtherNumbers}
 use Rattle.language.specs.Limits.{desk}
 use Rattle.language.specs.Numbers.{number_of}
 use Rattle.language.specs.Trees.{Question}
-use Rattle.language.specs.Question.{Asked, asks, refuses, readQuestion}
+use Rattle.language.specs.Question.{Asked, asks, refuses, read_question}
 use Rattle.language.proofs.Numbering.{each_number}
-use Rattle.texts.specs.Writer.{allText}
-use Rattle.texts.specs.Outcomes.{gives, denies, asRead, readsText, writesText}
+use Rattle.texts.specs.Writer.{all_text}
+use Rattle.texts.specs.Outcomes.{gives, denies, as_read, reads_text, writes_text}
 use Rattle.texts.proofs.Refusing.{as_before, twenty, too_long, text_of}
 use Rattle.texts.proofs.RoundTrip.{round_trip}
 use Rattle.word_bytes.specs.Bytes.{words_in, words_of}
-use Rattle.write_text.specs.Writes.{leftBy}
-use Rattle.text_host.specs.Texts.{writingBytes, textNumber}
+use Rattle.write_text.specs.Writes.{left_by}
+use Rattle.text_host.specs.Texts.{writing_bytes, text_number}
 use Rattle.text_demands.specs.Calls.{DeskWriteText, DeskReadText}
 use Rattle.text_demands.specs.Tells.{DeskWriteTextTells}
 use Rattle.text_demands.specs.Tells as tells
@@ -31,42 +31,42 @@ module _ (c : DeskWriteText) where
   abbrev words : List ℕ
   words = words_in c.question
 
-  comes : writingBytes desk (length c.room) c.question ≡ writesText desk (length c.room) words
-  unfolding writingBytes
+  comes : writing_bytes desk (length c.room) c.question ≡ writes_text desk (length c.room) words
+  unfolding writing_bytes
   comes = refl
 
-  denied : (r : Refusal) → writesText desk (length c.room) words ≡ denies r → (c.number ≡ number_of r) × (c.room_left ≡ c.room)
-  denied r e = (c.said.0 ∙ ap textNumber (comes ∙ e), c.said.1 ∙ ap (λ o. leftBy o c.room) (comes ∙ e))
+  denied : (r : Refusal) → writes_text desk (length c.room) words ≡ denies r → (c.number ≡ number_of r) × (c.room_left ≡ c.room)
+  denied r e = (c.said.0 ∙ ap text_number (comes ∙ e), c.said.1 ∙ ap (λ o. left_by o c.room) (comes ∙ e))
 
-  wrote : (text : List ℕ) → writesText desk (length c.room) words ≡ gives text → length text ≤ length c.room
+  wrote : (text : List ℕ) → writes_text desk (length c.room) words ≡ gives text → length text ≤ length c.room
       → (c.number ≡ 100 + length text) × (c.room_left ≡ text ++ drop (length text) c.room)
   wrote text e h = (
-    c.said.0 ∙ ap textNumber (comes ∙ e),
-    c.said.1 ∙ ap (λ o. leftBy o c.room) (comes ∙ e) ∙ sets-eq text c.room 0 (omega arith) ∙ ap (λ n. text ++ drop n c.room) (let z : 0 + length text ≡ length text = omega arith in z),
+    c.said.0 ∙ ap text_number (comes ∙ e),
+    c.said.1 ∙ ap (λ o. left_by o c.room) (comes ∙ e) ∙ sets-eq text c.room 0 (omega arith) ∙ ap (λ n. text ++ drop n c.room) (let z : 0 + length text ≡ length text = omega arith in z),
   )
 
   pub write-tells : DeskWriteTextTells c
-  write-tells = on (readQuestion desk words) refl where
-    on_room : (q : Question) → readQuestion desk words ≡ asks q → asRead q ≡ true → (b : Bool) → leb (length (allText q.alternatives)) (length c.room) ≡ b → DeskWriteTextTells c
+  write-tells = on (read_question desk words) refl where
+    on_room : (q : Question) → read_question desk words ≡ asks q → as_read q ≡ true → (b : Bool) → leb (length (all_text q.alternatives)) (length c.room) ≡ b → DeskWriteTextTells c
     on_room q e f true p =
-        let s = leb-true (length (allText q.alternatives)) (length c.room) p in
-        let g = wrote (allText q.alternatives) (text_of desk (length c.room) words q e f s) s in tells.writes q e f g.0 g.1
+        let s = leb-true (length (all_text q.alternatives)) (length c.room) p in
+        let g = wrote (all_text q.alternatives) (text_of desk (length c.room) words q e f s) s in tells.writes q e f g.0 g.1
     on_room q e f false p =
-        let s = leb-false (length (allText q.alternatives)) (length c.room) p in
+        let s = leb-false (length (all_text q.alternatives)) (length c.room) p in
         let g = denied LongText (too_long desk (length c.room) words q e f s) in tells.long q e f s g.0 g.1
 
-    on_read : (q : Question) → readQuestion desk words ≡ asks q → (b : Bool) → asRead q ≡ b → DeskWriteTextTells c
-    on_read q e true f = on_room q e f (leb (length (allText q.alternatives)) (length c.room)) refl
+    on_read : (q : Question) → read_question desk words ≡ asks q → (b : Bool) → as_read q ≡ b → DeskWriteTextTells c
+    on_read q e true f = on_room q e f (leb (length (all_text q.alternatives)) (length c.room)) refl
     on_read q e false f = let g = denied OtherNumbers (twenty desk (length c.room) words q e f) in tells.otherwise q e f g.0 g.1
 
-    on : (a : Asked) → readQuestion desk words ≡ a → DeskWriteTextTells c
+    on : (a : Asked) → read_question desk words ≡ a → DeskWriteTextTells c
     on (refuses r) e = let g = denied r (as_before desk (length c.room) words r e) in tells.refuses r e g.0 g.1
-    on (asks q) e = on_read q e (asRead q) refl
+    on (asks q) e = on_read q e (as_read q) refl
 
   -- a text that was written, and the bytes that a caller takes for it
   pub record Wrote (n : ℕ) : Type 0 where
     pub text : List ℕ
-    pub came : writesText desk (length c.room) words ≡ gives text
+    pub came : writes_text desk (length c.room) words ≡ gives text
     pub taken : take n c.room_left ≡ text
 
   pub text-written : (n : ℕ) → c.number ≡ 100 + n → Wrote n
@@ -76,17 +76,17 @@ module _ (c : DeskWriteText) where
     on (tells.otherwise q e f m l) = absurd (omega arith)
     on (tells.long q e f h m l) = absurd (omega arith)
     on (tells.writes q e f m l) =
-        let i : n ≡ length (allText q.alternatives) = omega arith in
+        let i : n ≡ length (all_text q.alternatives) = omega arith in
         record {
-          text = allText q.alternatives;
-          came = by-room q e f m (leb (length (allText q.alternatives)) (length c.room)) refl;
-          taken = ap (take n) l ∙ take_at (allText q.alternatives) (drop (length (allText q.alternatives)) c.room) n (sym i);
+          text = all_text q.alternatives;
+          came = by-room q e f m (leb (length (all_text q.alternatives)) (length c.room)) refl;
+          taken = ap (take n) l ∙ take_at (all_text q.alternatives) (drop (length (all_text q.alternatives)) c.room) n (sym i);
         }
       where
-        by-room : (q : Question) → readQuestion desk words ≡ asks q → asRead q ≡ true → c.number ≡ 100 + length (allText q.alternatives) → (b : Bool) → leb (length (allText q.alternatives)) (length c.room) ≡ b
-            → writesText desk (length c.room) words ≡ gives (allText q.alternatives)
-        by-room q e f m true p = text_of desk (length c.room) words q e f (leb-true (length (allText q.alternatives)) (length c.room) p)
-        by-room q e f m false p = let g = denied LongText (too_long desk (length c.room) words q e f (leb-false (length (allText q.alternatives)) (length c.room) p)) in let z = g.0 in absurd (omega arith)
+        by-room : (q : Question) → read_question desk words ≡ asks q → as_read q ≡ true → c.number ≡ 100 + length (all_text q.alternatives) → (b : Bool) → leb (length (all_text q.alternatives)) (length c.room) ≡ b
+            → writes_text desk (length c.room) words ≡ gives (all_text q.alternatives)
+        by-room q e f m true p = text_of desk (length c.room) words q e f (leb-true (length (all_text q.alternatives)) (length c.room) p)
+        by-room q e f m false p = let g = denied LongText (too_long desk (length c.room) words q e f (leb-false (length (all_text q.alternatives)) (length c.room) p)) in let z = g.0 in absurd (omega arith)
 
 -- "Writing and reading back gives the same question words."
 pub read_back : (w : DeskWriteText) (n : ℕ) → w.number ≡ 100 + n → (c : DeskReadText) → c.text ≡ take n w.room_left → length (words_in w.question) ≤ length c.room / 2
@@ -94,6 +94,6 @@ pub read_back : (w : DeskWriteText) (n : ℕ) → w.number ≡ 100 + n → (c : 
 read_back w n k c e h =
     let t = text-written w n k in
     let ws = words_in w.question in
-    let back : readsText desk (length c.room / 2) c.text ≡ gives ws = ap (readsText desk (length c.room / 2)) (e ∙ t.taken) ∙ round_trip desk (length w.room) ws t.text t.came (length c.room / 2) h in
+    let back : reads_text desk (length c.room / 2) c.text ≡ gives ws = ap (reads_text desk (length c.room / 2)) (e ∙ t.taken) ∙ round_trip desk (length w.room) ws t.text t.came (length c.room / 2) h in
     let g = gave c ws back h in
     (g.0, ap (λ l. take (length ws) (words_of l)) g.1 ∙ first-words ws (drop (2 * length ws) c.room))

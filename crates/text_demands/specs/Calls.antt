@@ -1,8 +1,8 @@
 -- Calls on bytes that came back: desk_write_text(question, room), desk_read_text(text, room).
 use Rattle.std.specs.Prelude.{ℕ, ◌≡◌, List, length}
 use Rattle.language.specs.Limits.{desk}
-use Rattle.write_text.specs.Writes.{leftBy}
-use Rattle.text_host.specs.Texts.{writingBytes, readingBytes, textNumber, wordsLeft}
+use Rattle.write_text.specs.Writes.{left_by}
+use Rattle.text_host.specs.Texts.{writing_bytes, reading_bytes, text_number, words_left}
 use Rattle.text_host.proofs.desk_write_text as desk-write-text
 use Rattle.text_host.proofs.desk_read_text as desk-read-text
 use Rattle.demands.specs.Calls.{Call}
@@ -14,7 +14,7 @@ pub record DeskWriteText : Type 0 where
   pub room : List ℕ
   pub number : ℕ
   pub room_left : List ℕ
-  pub said : (number ≡ textNumber (writingBytes desk (length room) question)) × (room_left ≡ leftBy (writingBytes desk (length room) question) room)
+  pub said : (number ≡ text_number (writing_bytes desk (length room) question)) × (room_left ≡ left_by (writing_bytes desk (length room) question) room)
 
 -- any outcome that the contract itself allows is one; so below
 abbrev pub write-text-allowed : Call desk-write-text.ended desk-write-text.Reads.Pre desk-write-text.Reads.Post → DeskWriteText
@@ -33,7 +33,7 @@ pub record DeskReadText : Type 0 where
   pub room : List ℕ
   pub number : ℕ
   pub room_left : List ℕ
-  pub said : (number ≡ textNumber (readingBytes desk (length room) text)) × (room_left ≡ wordsLeft (readingBytes desk (length room) text) room)
+  pub said : (number ≡ text_number (reading_bytes desk (length room) text)) × (room_left ≡ words_left (reading_bytes desk (length room) text) room)
 
 abbrev pub read-text-allowed : Call desk-read-text.ended desk-read-text.Reads.Pre desk-read-text.Reads.Post → DeskReadText
 read-text-allowed c = record {

@@ -14,15 +14,15 @@ use Rattle.language.specs.declared.Refusal.TheVariants.{NotText, ManyNames, Long
 use Rattle.language.specs.Limits.{desk}
 use Rattle.language.specs.Kinds.{pick}
 use Rattle.language.specs.Trees.{Conj}
-use Rattle.language.specs.Question.{countsFit}
+use Rattle.language.specs.Question.{counts_fit}
 use Rattle.texts.specs.Texts.{parse}
-use Rattle.texts.specs.Numbering.{numbered, countsIn}
-use Rattle.texts.specs.Outcomes.{Outcome, gives, denies, questionWords, fitted, counted, readsText}
+use Rattle.texts.specs.Numbering.{numbered, counts_in}
+use Rattle.texts.specs.Outcomes.{Outcome, gives, denies, question_words, fitted, counted, reads_text}
 use Rattle.word_bytes.specs.Bytes.{bytes_of}
 use Rattle.read_text.specs.declared.Reading.{Reading}
 use Rattle.read_text.specs.declared.Reading.TheVariants.{Refused}
-use Rattle.read_text.specs.Reads.{reading_of, leftBy}
-use Rattle.text_host.specs.Texts.{readingBytes, textNumber, wordsLeft, readNumber, readWords}
+use Rattle.read_text.specs.Reads.{reading_of, left_by}
+use Rattle.text_host.specs.Texts.{reading_bytes, text_number, words_left, read_number, read_words}
 
 -- ---- how long a question can be that is read
 
@@ -42,12 +42,12 @@ fits-counted : (room : ℕ) (b : Bool) (ws : List ℕ) → Fits room (pick b (fi
 fits-counted room true ws = fits-fitted room ws
 fits-counted room false ws = tt
 
-fits : (room : ℕ) (text : List ℕ) → Fits room (readsText desk room text)
-unfolding readsText counted
+fits : (room : ℕ) (text : List ℕ) → Fits room (reads_text desk room text)
+unfolding reads_text counted
 fits room text = go (parse text) where
   go : (o : Option (List Conj)) → Fits room (elim o [ none ↦ denies NotText | some ks ↦ counted desk room ks ])
   go none = tt
-  go (some ks) = fits-counted room (countsFit desk (countsIn ks) (length ks)) (questionWords (countsIn ks) (numbered ks))
+  go (some ks) = fits-counted room (counts_fit desk (counts_in ks) (length ks)) (question_words (counts_in ks) (numbered ks))
 
 -- ---- of the room as many words as a question ever has
 
@@ -65,20 +65,20 @@ fitted-same room ws = ap (λ b. pick b (gives ws) (denies LongText)) (both-least
 counted_same : (room : ℕ) (b : Bool) (ws : List ℕ) → pick b (fitted desk.question (min desk.question room) ws) (denies ManyNames) ≡ pick b (fitted desk.question room ws) (denies ManyNames)
 counted_same room b ws = ap (λ o. pick b o (denies ManyNames)) (fitted-same room ws)
 
-same : (room : ℕ) (text : List ℕ) → readsText desk (min desk.question room) text ≡ readsText desk room text
-unfolding readsText counted
+same : (room : ℕ) (text : List ℕ) → reads_text desk (min desk.question room) text ≡ reads_text desk room text
+unfolding reads_text counted
 same room text = go (parse text) where
   go : (o : Option (List Conj)) → ◌≡◌ {A = Outcome} (elim o [ none ↦ denies NotText | some ks ↦ counted desk (min desk.question room) ks ]) (elim o [ none ↦ denies NotText | some ks ↦ counted desk room ks ])
   go none = refl
-  go (some ks) = counted_same room (countsFit desk (countsIn ks) (length ks)) (questionWords (countsIn ks) (numbered ks))
+  go (some ks) = counted_same room (counts_fit desk (counts_in ks) (length ks)) (question_words (counts_in ks) (numbered ks))
 
 -- ---- reading in the desk's own room
 
-numbers : (o : Outcome) → readNumber (reading_of o) ≡ textNumber o
+numbers : (o : Outcome) → read_number (reading_of o) ≡ text_number o
 numbers (gives ws) = refl
 numbers (denies r) = refl
 
-short : (room : ℕ) (o : Outcome) → Fits room o → (readWords (reading_of o) ≤ desk.question) × (readWords (reading_of o) ≤ room)
+short : (room : ℕ) (o : Outcome) → Fits room o → (read_words (reading_of o) ≤ desk.question) × (read_words (reading_of o) ≤ room)
 short room (gives ws) h = h
 short room (denies r) h = (omega arith, omega arith)
 
@@ -87,38 +87,38 @@ unfolding bytes_of
 none_written own bytes = refl
 
 -- a refusal has no words to write
-writes : (o : Outcome) (own bytes : List ℕ) → Fits (length own) o → sets bytes 0 (bytes_of (take (readWords (reading_of o)) (leftBy o own))) ≡ wordsLeft o bytes
+writes : (o : Outcome) (own bytes : List ℕ) → Fits (length own) o → sets bytes 0 (bytes_of (take (read_words (reading_of o)) (left_by o own))) ≡ words_left o bytes
 writes (gives ws) own bytes h = let m = h.1 in ap (λ l. sets bytes 0 (bytes_of l)) (ap (take (length ws)) (sets-eq ws own 0 (omega arith)) ∙ take_at ws _ (length ws) refl)
 writes (denies r) own bytes h = none_written own bytes
 
 -- what `give` leaves of a refusal
-pub none-given : (own bytes : List ℕ) {r : Reading} {x : Refusal} → r ≡ Refused x → bytes ≡ sets bytes 0 (bytes_of (take (readWords r) own))
-none-given own bytes e = sym (ap (λ s. sets bytes 0 (bytes_of (take (readWords s) own))) e ∙ none_written own bytes)
+pub none-given : (own bytes : List ℕ) {r : Reading} {x : Refusal} → r ≡ Refused x → bytes ≡ sets bytes 0 (bytes_of (take (read_words r) own))
+none-given own bytes e = sym (ap (λ s. sets bytes 0 (bytes_of (take (read_words s) own))) e ∙ none_written own bytes)
 
 module _ (text own : List ℕ) where
-  length-left : (o : Outcome) → length (leftBy o own) ≡ length own
+  length-left : (o : Outcome) → length (left_by o own) ≡ length own
   length-left (gives ws) = length-sets own 0 ws
   length-left (denies r) = refl
 
   abbrev comes : Outcome
-  comes = readsText desk (length own) text
+  comes = reads_text desk (length own) text
 
-  pub read_short : {r : Reading} → r ≡ reading_of comes → (readWords r ≤ desk.question) × (readWords r ≤ length own)
-  read_short e = let s = short (length own) comes (fits (length own) text) in let f = ap readWords e in (omega arith, omega arith)
+  pub read_short : {r : Reading} → r ≡ reading_of comes → (read_words r ≤ desk.question) × (read_words r ≤ length own)
+  read_short e = let s = short (length own) comes (fits (length own) text) in let f = ap read_words e in (omega arith, omega arith)
 
   -- reading changes no length
-  pub read_left : {own' : List ℕ} → own' ≡ leftBy comes own → length own' ≡ length own
+  pub read_left : {own' : List ℕ} → own' ≡ left_by comes own → length own' ≡ length own
   read_left e = ap length e ∙ length-left comes
 
-  pub read_done : {r : Reading} {own' : List ℕ} (bytes : List ℕ) {bytes' : List ℕ} {n : ℕ} → r ≡ reading_of comes → own' ≡ leftBy comes own → n ≡ readNumber r
-      → bytes' ≡ sets bytes 0 (bytes_of (take (readWords r) own')) → (n ≡ textNumber comes) × (bytes' ≡ wordsLeft comes bytes)
+  pub read_done : {r : Reading} {own' : List ℕ} (bytes : List ℕ) {bytes' : List ℕ} {n : ℕ} → r ≡ reading_of comes → own' ≡ left_by comes own → n ≡ read_number r
+      → bytes' ≡ sets bytes 0 (bytes_of (take (read_words r) own')) → (n ≡ text_number comes) × (bytes' ≡ words_left comes bytes)
   read_done bytes e f g h = (
-    g ∙ ap readNumber e ∙ numbers comes,
-    h ∙ ap₂ (λ s o. sets bytes 0 (bytes_of (take (readWords s) o))) e f ∙ writes comes own bytes (fits (length own) text),
+    g ∙ ap read_number e ∙ numbers comes,
+    h ∙ ap₂ (λ s o. sets bytes 0 (bytes_of (take (read_words s) o))) e f ∙ writes comes own bytes (fits (length own) text),
   )
 
 -- ---- and in the bytes lent
 
-pub read-bytes : (text bytes : List ℕ) (room : ℕ) → room ≡ min desk.question (length bytes / 2) → readsText desk room text ≡ readingBytes desk (length bytes) text
-unfolding readingBytes
-read-bytes text bytes room e = ap (λ n. readsText desk n text) e ∙ same (length bytes / 2) text
+pub read-bytes : (text bytes : List ℕ) (room : ℕ) → room ≡ min desk.question (length bytes / 2) → reads_text desk room text ≡ reading_bytes desk (length bytes) text
+unfolding reading_bytes
+read-bytes text bytes room e = ap (λ n. reads_text desk n text) e ∙ same (length bytes / 2) text

@@ -8,35 +8,35 @@ use lib.Dec.{eqb}
 use lib.ListN.{length, drop, get_or, drop_of_length-le}
 use borrow.Author.Tests.{eq-eqb, ne_eqb, eqb-true, eqb-false}
 use Rattle.language.specs.Kinds.{pick}
-use Rattle.grammar.specs.Tokens.{nameByte}
-use Rattle.lexing.specs.Bytes.{nameFrom}
+use Rattle.grammar.specs.Tokens.{name_byte}
+use Rattle.lexing.specs.Bytes.{name_from}
 use Rattle.lexing.proofs.Laws.{standing, name-range}
 use Rattle.text_names.specs.Shelves.{name_at, Letter}
 
-nothing : nameFrom [] ≡ 0
-unfolding nameFrom
+nothing : name_from [] ≡ 0
+unfolding name_from
 nothing = refl
 
-from_cons : (b : ℕ) (bs : List ℕ) (t : Bool) → nameByte b ≡ t → nameFrom (b ∷ bs) ≡ pick t (b + 256 * nameFrom bs) 0
-unfolding nameFrom
-from_cons b bs t e = ap (λ z. pick z (b + 256 * nameFrom bs) 0) e
+from_cons : (b : ℕ) (bs : List ℕ) (t : Bool) → name_byte b ≡ t → name_from (b ∷ bs) ≡ pick t (b + 256 * name_from bs) 0
+unfolding name_from
+from_cons b bs t e = ap (λ z. pick z (b + 256 * name_from bs) 0) e
 
 module _ (text : List ℕ) (at : ℕ) where
   pub past_end : length text ≤ at → Letter text at 0
-  past_end p = record { none = λ e. ap nameFrom (drop_of_length-le text p) ∙ nothing; within = λ f. absurd (f refl); small = omega arith; more = λ f. absurd (f refl) }
+  past_end p = record { none = λ e. ap name_from (drop_of_length-le text p) ∙ nothing; within = λ f. absurd (f refl); small = omega arith; more = λ f. absurd (f refl) }
 
-  pub a-letter : at < length text → nameByte (get_or text at 0) ≡ true → Letter text at (get_or text at 0)
+  pub a-letter : at < length text → name_byte (get_or text at 0) ≡ true → Letter text at (get_or text at 0)
   a-letter p e =
       let r = name-range (get_or text at 0) e in
       let l = r.0 in record {
         none = λ z. absurd (omega arith);
         within = λ f. p;
         small = r.1;
-        more = λ f. ap nameFrom (standing text at p) ∙ from_cons (get_or text at 0) (drop (at + 1) text) true e;
+        more = λ f. ap name_from (standing text at p) ∙ from_cons (get_or text at 0) (drop (at + 1) text) true e;
       }
 
-  pub no-letter : at < length text → nameByte (get_or text at 0) ≡ false → Letter text at 0
-  no-letter p e = record { none = λ z. ap nameFrom (standing text at p) ∙ from_cons (get_or text at 0) (drop (at + 1) text) false e; within = λ f. absurd (f refl); small = omega arith; more = λ f. absurd (f refl) }
+  pub no-letter : at < length text → name_byte (get_or text at 0) ≡ false → Letter text at 0
+  no-letter p e = record { none = λ z. ap name_from (standing text at p) ∙ from_cons (get_or text at 0) (drop (at + 1) text) false e; within = λ f. absurd (f refl); small = omega arith; more = λ f. absurd (f refl) }
 
 -- ---- two names
 
@@ -88,7 +88,7 @@ module _ (text : List ℕ) (a b : ℕ) where
   first_ends {i} {j} {y} w p l = on (eqb y 0) refl
     where
       z : name_at text i ≡ 0
-      z = ap nameFrom (drop_of_length-le text p) ∙ nothing
+      z = ap name_from (drop_of_length-le text p) ∙ nothing
 
       on : (t : Bool) → eqb y 0 ≡ t → t ≡ eqb (name_at text b) (name_at text a)
       on true e = sym (w.so_far ∙ eq-eqb (name_at text j) (name_at text i) (l.none (eqb-true y 0 e) ∙ sym z))

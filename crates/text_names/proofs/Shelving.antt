@@ -15,7 +15,7 @@ use Rattle.language.specs.Between.{between}
 use Rattle.language.proofs.Offsets.{between_cons, length-between}
 use Rattle.texts.specs.Numbering.{holds, place}
 use Rattle.texts.proofs.Tables.{place-below}
-use Rattle.text_names.specs.Shelves.{name_at, listed, Shelf, entering, Entered, enterOn}
+use Rattle.text_names.specs.Shelves.{name_at, listed, Shelf, entering, Entered, enter_on}
 
 -- ---- where a name stands
 
@@ -173,8 +173,8 @@ module _ (L : Limits) (text names : List ℕ) (base at : ℕ) (s : Shelf L names
       }
 
   -- A name entered is a name entered.
-  pub enter-law : Entered L text names base at (enterOn L text names base at)
-  unfolding enterOn
+  pub enter-law : Entered L text names base at (enter_on L text names base at)
+  unfolding enter_on
   enter-law = on (ltb (place (name_at text at) (listed text names base)) (get_or names base 0)) refl (ltb L.each (get_or names base 0)) refl
     where
       on : (a : Bool) → ltb (place (name_at text at) (listed text names base)) (get_or names base 0) ≡ a → (b : Bool) → ltb L.each (get_or names base 0) ≡ b
@@ -189,17 +189,17 @@ module _ (L : Limits) (text names : List ℕ) (base at : ℕ) {n : ℕ} (e : n �
   abbrev put : List ℕ
   put = set (set names (base + 1 + get_or names base 0) at) base (get_or names base 0 + 1)
 
-  pub is_known : n < get_or names base 0 → names ≡ enterOn L text names base at
-  unfolding enterOn
+  pub is_known : n < get_or names base 0 → names ≡ enter_on L text names base at
+  unfolding enter_on
   is_known p = sym (ap (λ b. pick b names (pick (ltb L.each (get_or names base 0)) names put)) (ap (λ k. ltb k (get_or names base 0)) (sym e) ∙ lt-ltb n (get_or names base 0) p))
 
   module _ (p : get_or names base 0 ≤ n) where
-    is-new : enterOn L text names base at ≡ pick (ltb L.each (get_or names base 0)) names put
-    unfolding enterOn
+    is-new : enter_on L text names base at ≡ pick (ltb L.each (get_or names base 0)) names put
+    unfolding enter_on
     is-new = ap (λ b. pick b names (pick (ltb L.each (get_or names base 0)) names put)) (ap (λ k. ltb k (get_or names base 0)) (sym e) ∙ le-ltb n (get_or names base 0) p)
 
-    pub is-full : L.each < get_or names base 0 → names ≡ enterOn L text names base at
+    pub is-full : L.each < get_or names base 0 → names ≡ enter_on L text names base at
     is-full q = sym (is-new ∙ ap (λ b. pick b names put) (lt-ltb L.each (get_or names base 0) q))
 
-    pub is-put : get_or names base 0 ≤ L.each → set (set names (base + 1 + get_or names base 0) at) base (get_or names base 0 + 1) ≡ enterOn L text names base at
+    pub is-put : get_or names base 0 ≤ L.each → set (set names (base + 1 + get_or names base 0) at) base (get_or names base 0 + 1) ≡ enter_on L text names base at
     is-put q = sym (is-new ∙ ap (λ b. pick b names put) (le-ltb L.each (get_or names base 0) q))

@@ -14,13 +14,13 @@ use Rattle.texts.specs.Numbering.{symbols, terms, hedges, functions, place}
 use Rattle.lexing.specs.declared.Mark.{Mark}
 use Rattle.lexing.specs.declared.Mark.TheVariants.{End, Bad, Symbol, One, Run, Function, Equals, Comma, Opens, Closes, Plus, Times}
 use Rattle.text_names.specs.Shelves.{name_at, numbering, listed, Shelf, Shelves}
-use Rattle.text_names.specs.Words.{first_of, shelfBy, ownWord}
+use Rattle.text_names.specs.Words.{first_of, shelf_by, own_word}
 
 module _ (L : Limits) (text names : List ℕ) (at : ℕ) where
-  pub no_name : (m : Mark) {f : ℕ} → f ≡ first_of m → f ≡ 0 → 0 ≡ ownWord (numbering L text names) m (name_at text at)
+  pub no_name : (m : Mark) {f : ℕ} → f ≡ first_of m → f ≡ 0 → 0 ≡ own_word (numbering L text names) m (name_at text at)
   no_name m e z = on m (sym e ∙ z)
     where
-      on : (m : Mark) → first_of m ≡ 0 → 0 ≡ ownWord (numbering L text names) m (name_at text at)
+      on : (m : Mark) → first_of m ≡ 0 → 0 ≡ own_word (numbering L text names) m (name_at text at)
       on End z = refl
       on Bad z = refl
       on Symbol z = absurd (omega arith)
@@ -34,10 +34,10 @@ module _ (L : Limits) (text names : List ℕ) (at : ℕ) where
       on Plus z = refl
       on Times z = refl
 
-  pub a-shelf : Shelves L names → (m : Mark) {b : ℕ} → b ≡ shelfBy L m → Shelf L names b
+  pub a-shelf : Shelves L names → (m : Mark) {b : ℕ} → b ≡ shelf_by L m → Shelf L names b
   a-shelf s m e = subst (Shelf L names) (sym e) (on m)
     where
-      on : (m : Mark) → Shelf L names (shelfBy L m)
+      on : (m : Mark) → Shelf L names (shelf_by L m)
       on End = s terms
       on Bad = s terms
       on Symbol = s symbols
@@ -51,11 +51,11 @@ module _ (L : Limits) (text names : List ℕ) (at : ℕ) where
       on Plus = s terms
       on Times = s terms
 
-  pub a_word : (m : Mark) {f b k : ℕ} → f ≡ first_of m → (f ≡ 0 → ⊥) → b ≡ shelfBy L m → k ≡ place (name_at text at) (listed text names b) → f + k ≡ ownWord (numbering L text names) m (name_at text at)
+  pub a_word : (m : Mark) {f b k : ℕ} → f ≡ first_of m → (f ≡ 0 → ⊥) → b ≡ shelf_by L m → k ≡ place (name_at text at) (listed text names b) → f + k ≡ own_word (numbering L text names) m (name_at text at)
   unfolding numbering
   a_word m {f} {b} {k} e z d h = on m (λ y. z (e ∙ y)) (ap₂ ◌+◌ e (h ∙ ap (λ n. place (name_at text at) (listed text names n)) d))
     where
-      on : (m : Mark) → (first_of m ≡ 0 → ⊥) → f + k ≡ first_of m + place (name_at text at) (listed text names (shelfBy L m)) → f + k ≡ ownWord (numbering L text names) m (name_at text at)
+      on : (m : Mark) → (first_of m ≡ 0 → ⊥) → f + k ≡ first_of m + place (name_at text at) (listed text names (shelf_by L m)) → f + k ≡ own_word (numbering L text names) m (name_at text at)
       on End z h = absurd (z refl)
       on Bad z h = absurd (z refl)
       on Symbol z h = h
@@ -92,7 +92,7 @@ first-most Closes = omega arith
 first-most Plus = omega arith
 first-most Times = omega arith
 
-pub few-names : (L : Limits) (text names : List ℕ) (at : ℕ) → Shelves L names → (m : Mark) → {f b k : ℕ} → f ≡ first_of m → b ≡ shelfBy L m → k ≡ place (name_at text at) (listed text names b) → (k ≤ L.each + 1) × (f ≤ 4000)
+pub few-names : (L : Limits) (text names : List ℕ) (at : ℕ) → Shelves L names → (m : Mark) → {f b k : ℕ} → f ≡ first_of m → b ≡ shelf_by L m → k ≡ place (name_at text at) (listed text names b) → (k ≤ L.each + 1) × (f ≤ 4000)
 unfolding listed
 few-names L text names at s m {f} {b} {k} e d h =
     let sh = a-shelf L text names at s m d in

@@ -21,31 +21,31 @@ first_of Closes = 0
 first_of Plus = 0
 first_of Times = 0
 
-abbrev pub shelfBy : Limits → Mark → ℕ
-shelfBy L End = 0
-shelfBy L Bad = 0
-shelfBy L Symbol = 2 * width L
-shelfBy L One = 0
-shelfBy L Run = width L
-shelfBy L Function = 3 * width L
-shelfBy L Equals = 0
-shelfBy L Comma = 0
-shelfBy L Opens = 0
-shelfBy L Closes = 0
-shelfBy L Plus = 0
-shelfBy L Times = 0
+abbrev pub shelf_by : Limits → Mark → ℕ
+shelf_by L End = 0
+shelf_by L Bad = 0
+shelf_by L Symbol = 2 * width L
+shelf_by L One = 0
+shelf_by L Run = width L
+shelf_by L Function = 3 * width L
+shelf_by L Equals = 0
+shelf_by L Comma = 0
+shelf_by L Opens = 0
+shelf_by L Closes = 0
+shelf_by L Plus = 0
+shelf_by L Times = 0
 
 -- the token's own word
-abbrev pub ownWord : Naming → Mark → ℕ → ℕ
-ownWord ρ End n = 0
-ownWord ρ Bad n = 0
-ownWord ρ Symbol n = 3000 + ρ symbols n
-ownWord ρ One n = 1000 + ρ terms n
-ownWord ρ Run n = 2000 + ρ hedges n
-ownWord ρ Function n = 4000 + ρ functions n
-ownWord ρ Equals n = 0
-ownWord ρ Comma n = 0
-ownWord ρ Opens n = 0
-ownWord ρ Closes n = 0
-ownWord ρ Plus n = 0
-ownWord ρ Times n = 0
+abbrev pub own_word : Naming → Mark → ℕ → ℕ
+own_word ρ End n = 0
+own_word ρ Bad n = 0
+own_word ρ Symbol n = 3000 + ρ symbols n
+own_word ρ One n = 1000 + ρ terms n
+own_word ρ Run n = 2000 + ρ hedges n
+own_word ρ Function n = 4000 + ρ functions n
+own_word ρ Equals n = 0
+own_word ρ Comma n = 0
+own_word ρ Opens n = 0
+own_word ρ Closes n = 0
+own_word ρ Plus n = 0
+own_word ρ Times n = 0

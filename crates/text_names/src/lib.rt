@@ -2,8 +2,8 @@
 ghost use Rattle.std.specs.Prelude.{◌+◌, ◌<◌, ◌≡◌, eqb};
 ghost use Rattle.language.specs.Limits.{desk};
 ghost use Rattle.texts.specs.Numbering.{place};
-ghost use Rattle.text_names.specs.Shelves.{name_at, Letter, listed, numbering, Shelf, Shelves, enterOn};
-ghost use Rattle.text_names.specs.Words.{first_of, shelfBy, ownWord};
+ghost use Rattle.text_names.specs.Shelves.{name_at, Letter, listed, numbering, Shelf, Shelves, enter_on};
+ghost use Rattle.text_names.specs.Words.{first_of, shelf_by, own_word};
 
 use language::limits::PLACES;
 use lexing::{Mark, is_name_byte};
@@ -66,7 +66,7 @@ fn number(text: &[u8], names: &[usize], base: usize, at: usize) -> usize
 // A name put on its shelf, where it is not there yet and there is room.
 pub fn enter(text: &[u8], names: &mut [usize], base: usize, at: usize)
     requires { Shelf desk names.old base }
-    ensures { names.new ≡ enterOn desk text.now names.old base at }
+    ensures { names.new ≡ enter_on desk text.now names.old base at }
 {
     let n = number(text, names, base, at);
     let many = names[base];
@@ -101,7 +101,7 @@ fn first_of(mark: Mark) -> u16
 }
 
 fn shelf_by(mark: Mark) -> usize
-    ensures { result ≡ shelfBy desk mark }
+    ensures { result ≡ shelf_by desk mark }
 {
     match mark {
         Mark::End => 0,
@@ -122,7 +122,7 @@ fn shelf_by(mark: Mark) -> usize
 // A token's own word: that of its name, or 0.
 pub fn own_word(text: &[u8], names: &[usize], mark: Mark, at: usize) -> u16
     requires { Shelves desk names.now }
-    ensures { result ≡ ownWord (numbering desk text.now names.now) mark (name_at text.now at) }
+    ensures { result ≡ own_word (numbering desk text.now names.now) mark (name_at text.now at) }
 {
     let first = first_of(mark);
     if first == 0 {

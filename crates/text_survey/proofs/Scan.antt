@@ -10,18 +10,18 @@ use lib.ListN.{length, drop, get_or, drop_of_length-le}
 use borrow.Author.Tests.{eq-eqb, ne_eqb, eqb-true, not-true, not-false}
 use Rattle.language.specs.Kinds.{pick}
 use Rattle.language.specs.Trees.{fvar}
-use Rattle.grammar.specs.Tokens.{Token, one, run, functor, equals, comma, opens, closes, plus, times, Tokens, puts, nameToken}
+use Rattle.grammar.specs.Tokens.{Token, one, run, functor, equals, comma, opens, closes, plus, times, Tokens, puts, name_token}
 use Rattle.grammar.specs.Grammar.{lines_of}
 use Rattle.lexing.specs.declared.Mark.{Mark}
 use Rattle.lexing.specs.declared.Mark.TheVariants.{End, Bad, Symbol, One, Run, Function, Equals, Comma, Opens, Closes, Plus, Times}
 use Rattle.lexing.specs.declared.Piece.{Piece}
-use Rattle.lexing.specs.Bytes.{others, nameFrom, sortOf}
+use Rattle.lexing.specs.Bytes.{others, name_from, sort_of}
 use Rattle.lexing.specs.Pieces.{here, front, next_of, Next}
 use Rattle.lexing.proofs.Laws.{standing}
 use Rattle.lexing.proofs.Pieces.{next-law}
 use Rattle.backwards.proofs.Cutting.{lines_split}
 use Rattle.text_survey.specs.declared.Seen.{Seen}
-use Rattle.text_survey.specs.Surveys.{counts, surveyOf, step_of, tokenOn, lineFrom, lineOn, LineSeen, look_of, Surveyed}
+use Rattle.text_survey.specs.Surveys.{counts, survey_of, step_of, token_on, line_from, line_on, LineSeen, look_of, Surveyed}
 use Rattle.text_survey.specs.Surveys as Surveys
 
 -- ---- the tokens from a place on, with a token before them
@@ -29,7 +29,7 @@ use Rattle.text_survey.specs.Surveys as Surveys
 a-token : (m : Mark) (x : ℕ) (o : Tokens) → step_of m ≡ 2 → (t : Token) × (front m x o ≡ puts t o)
 a-token End x o e = absurd (omega arith)
 a-token Bad x o e = absurd (omega arith)
-a-token Symbol x o e = (nameToken x, refl)
+a-token Symbol x o e = (name_token x, refl)
 a-token One x o e = (one (record { 0 = x }), refl)
 a-token Run x o e = (run (record { 0 = x }), refl)
 a-token Function x o e = (functor (fvar (record { 0 = x })), refl)
@@ -54,7 +54,7 @@ no-token Closes x o e = absurd (e refl)
 no-token Plus x o e = absurd (e refl)
 no-token Times x o e = absurd (e refl)
 
-moving : (m : Mark) → step_of m ≡ 2 → sortOf m ≡ 0 → ⊥
+moving : (m : Mark) → step_of m ≡ 2 → sort_of m ≡ 0 → ⊥
 moving End e f = omega arith
 moving Bad e f = omega arith
 moving Symbol e f = omega arith
@@ -88,18 +88,18 @@ puts_none t o e = ap (puts t) e
 -- ---- a line
 
 module _ (text : List ℕ) where
-  same-most : {m m' : ℕ} (b : Bool) (i : ℕ) → m ≡ m' → lineFrom text m b i ≡ lineFrom text m' b i
-  same-most b i e = ap (λ m. lineFrom text m b i) e
+  same-most : {m m' : ℕ} (b : Bool) (i : ℕ) → m ≡ m' → line_from text m b i ≡ line_from text m' b i
+  same-most b i e = ap (λ m. line_from text m b i) e
 
   module _ (m i : ℕ) (b : Bool) {p : Piece} (e : p ≡ next_of text i) where
-    step-token : lineFrom text (suc m) b i ≡ tokenOn (lineFrom text m) b p
-    unfolding lineFrom
-    step-token = ap (tokenOn (lineFrom text m) b) (sym e)
+    step-token : line_from text (suc m) b i ≡ token_on (line_from text m) b p
+    unfolding line_from
+    step-token = ap (token_on (line_from text m) b) (sym e)
 
-    step-on : step_of p.mark ≡ 2 → lineFrom text (suc m) b i ≡ lineFrom text m true p.to
+    step-on : step_of p.mark ≡ 2 → line_from text (suc m) b i ≡ line_from text m true p.to
     step-on z = step-token ∙ rw (eq-eqb (step_of p.mark) 2 z)
 
-    step-ends : (step_of p.mark ≡ 2 → ⊥) → lineFrom text (suc m) b i ≡ record { ok = eqb (step_of p.mark) 1; some = b; to = p.to }
+    step-ends : (step_of p.mark ≡ 2 → ⊥) → line_from text (suc m) b i ≡ record { ok = eqb (step_of p.mark) 1; some = b; to = p.to }
     step-ends z = step-token ∙ rw (ne_eqb (step_of p.mark) 2 z)
 
 pub record Going (text : List ℕ) (at i : ℕ) (b : Bool) : Type 0 where
@@ -111,7 +111,7 @@ pub record Going (text : List ℕ) (at i : ℕ) (b : Bool) : Type 0 where
   pub none_left : here text i ≡ none → here text at ≡ none
   pub most : ℕ
   pub enough : length text ≤ i + most
-  pub tells : lineFrom text (suc most) b i ≡ lineOn text at
+  pub tells : line_from text (suc most) b i ≡ line_on text at
 
 pub line-starts : {text : List ℕ} {at : ℕ} → at ≤ length text → Going text at at false
 line-starts {text} h = record {
@@ -136,9 +136,9 @@ module _ {text : List ℕ} {at i : ℕ} {b : Bool} (g : Going text at i b) {p : 
   pub line-less : s ≡ 2 → length text - p.to < length text - i
   line-less z = let m = moved z in let h = n.high in omega arith
 
-  pub line_on : s ≡ 2 → Going text at p.to true
-  line_on z =
-      let t = a-token p.mark (nameFrom (drop p.from text)) (here text p.to) (sym f ∙ z) in
+  pub line_on_lem : s ≡ 2 → Going text at p.to true
+  line_on_lem z =
+      let t = a-token p.mark (name_from (drop p.from text)) (here text p.to) (sym f ∙ z) in
       let r : here text i ≡ puts t.0 (here text p.to) = n.reads ∙ t.1 in
       record {
         low = let x = g.low in let y = n.low in let w = n.through in omega arith;
@@ -169,7 +169,7 @@ module _ {text : List ℕ} {at i : ℕ} {b : Bool} (g : Going text at i b) {p : 
   }
     where
       r : here text i ≡ pick (eqb (step_of p.mark) 1) (some []) none
-      r = n.reads ∙ no-token p.mark (nameFrom (drop p.from text)) (here text p.to) (λ y. z (f ∙ y))
+      r = n.reads ∙ no-token p.mark (name_from (drop p.from text)) (here text p.to) (λ y. z (f ∙ y))
 
       last : eqb s 1 ≡ true → here text i ≡ some []
       last y = r ∙ ap (λ c. pick c (some []) none) (ap (λ k. eqb k 1) (sym f) ∙ y)
@@ -191,7 +191,7 @@ more n (some m) = some (n + m)
 pub record Lining (text : List ℕ) (at many : ℕ) : Type 0 where
   pub high : at ≤ length text
   pub few : many ≤ at
-  pub lives : surveyOf (lines_of text) ≡ more many (surveyOf (lines_of (drop at text)))
+  pub lives : survey_of (lines_of text) ≡ more many (survey_of (lines_of (drop at text)))
 
 more-none : (o : Option ℕ) → o ≡ more 0 o
 more-none none = refl
@@ -202,12 +202,12 @@ more-another n none = refl
 more-another n (some m) = ap some (omega arith)
 
 pub survey-starts : (text : List ℕ) → Lining text 0 0
-survey-starts text = record { high = omega arith; few = omega arith; lives = more-none (surveyOf (lines_of text)) }
+survey-starts text = record { high = omega arith; few = omega arith; lives = more-none (survey_of (lines_of text)) }
 
 module _ {text : List ℕ} {at many : ℕ} (g : Lining text at many) {l : Seen} (s : LineSeen text at l) where
-  split : surveyOf (lines_of (drop at text)) ≡ counts (here text at) (surveyOf (others (drop l.to text)))
-  unfolding surveyOf
-  split = ap surveyOf (lines_split (drop at text)) ∙ ap (λ ls. counts (here text at) (surveyOf ls)) s.same
+  split : survey_of (lines_of (drop at text)) ≡ counts (here text at) (survey_of (others (drop l.to text)))
+  unfolding survey_of
+  split = ap survey_of (lines_split (drop at text)) ∙ ap (λ ls. counts (here text at) (survey_of ls)) s.same
 
   pub survey-bad : not l.ok ≡ true → Surveyed text (record { ok = false; many = 0 })
   survey-bad f = record {
@@ -217,21 +217,21 @@ module _ {text : List ℕ} {at many : ℕ} (g : Lining text at many) {l : Seen} 
     tells = sym (ap look_of broken);
   }
     where
-      broken : surveyOf (lines_of text) ≡ none
-      broken = g.lives ∙ ap (more many) (split ∙ ap (λ o. counts o (surveyOf (others (drop l.to text)))) (s.bad (not-true l.ok f)))
+      broken : survey_of (lines_of text) ≡ none
+      broken = g.lives ∙ ap (more many) (split ∙ ap (λ o. counts o (survey_of (others (drop l.to text)))) (s.bad (not-true l.ok f)))
 
   module _ (f : not l.ok ≡ false) where
-    counted : {k : ℕ} → k ≡ pick l.some (many + 1) many → surveyOf (lines_of text) ≡ more k (surveyOf (others (drop l.to text)))
+    counted : {k : ℕ} → k ≡ pick l.some (many + 1) many → survey_of (lines_of text) ≡ more k (survey_of (others (drop l.to text)))
     counted {k} e = on l.some refl
       where
-        on : (b : Bool) → l.some ≡ b → surveyOf (lines_of text) ≡ more k (surveyOf (others (drop l.to text)))
+        on : (b : Bool) → l.some ≡ b → survey_of (lines_of text) ≡ more k (survey_of (others (drop l.to text)))
         on true q =
             let w = s.full (not-false l.ok f) q in
-            g.lives ∙ ap (more many) (split ∙ ap (λ o. counts o (surveyOf (others (drop l.to text)))) w.2) ∙ more-another many (surveyOf (others (drop l.to text)))
-            ∙ ap (λ m. more m (surveyOf (others (drop l.to text)))) (sym (e ∙ ap (λ b. pick b (many + 1) many) q))
+            g.lives ∙ ap (more many) (split ∙ ap (λ o. counts o (survey_of (others (drop l.to text)))) w.2) ∙ more-another many (survey_of (others (drop l.to text)))
+            ∙ ap (λ m. more m (survey_of (others (drop l.to text)))) (sym (e ∙ ap (λ b. pick b (many + 1) many) q))
         on false q =
-            g.lives ∙ ap (more many) (split ∙ ap (λ o. counts o (surveyOf (others (drop l.to text)))) (s.empty (not-false l.ok f) q))
-            ∙ ap (λ m. more m (surveyOf (others (drop l.to text)))) (sym (e ∙ ap (λ b. pick b (many + 1) many) q))
+            g.lives ∙ ap (more many) (split ∙ ap (λ o. counts o (survey_of (others (drop l.to text)))) (s.empty (not-false l.ok f) q))
+            ∙ ap (λ m. more m (survey_of (others (drop l.to text)))) (sym (e ∙ ap (λ b. pick b (many + 1) many) q))
 
     few-more : {k : ℕ} → k ≡ pick l.some (many + 1) many → k ≤ many + 1
     few-more {k} e = on l.some e
@@ -241,7 +241,7 @@ module _ {text : List ℕ} {at many : ℕ} (g : Lining text at many) {l : Seen} 
         on false e = omega arith
 
     pub survey-ends : {k : ℕ} → k ≡ pick l.some (many + 1) many → length text ≤ l.to → Surveyed text (record { ok = true; many = k })
-    unfolding surveyOf
+    unfolding survey_of
     survey-ends {k} e p = record {
       few = let a = g.few in let b = g.high in let c = few-more e in omega arith;
       good = λ y. all;
@@ -249,17 +249,17 @@ module _ {text : List ℕ} {at many : ℕ} (g : Lining text at many) {l : Seen} 
       tells = sym (ap look_of all);
     }
       where
-        nothing : more k (surveyOf []) ≡ some k
+        nothing : more k (survey_of []) ≡ some k
         nothing = ap some (omega arith)
 
-        all : surveyOf (lines_of text) ≡ some k
-        all = counted e ∙ ap (λ ls. more k (surveyOf ls)) (none-behind text l.to p) ∙ nothing
+        all : survey_of (lines_of text) ≡ some k
+        all = counted e ∙ ap (λ ls. more k (survey_of ls)) (none-behind text l.to p) ∙ nothing
 
     pub survey-on : {k : ℕ} → k ≡ pick l.some (many + 1) many → l.to < length text → Lining text (l.to + 1) k
     survey-on {k} e p = record {
       high = omega arith;
       few = let a = g.few in let b = s.low in let c = few-more e in omega arith;
-      lives = counted e ∙ ap (λ ls. more k (surveyOf ls)) (behind-newline text l.to p (s.ends (not-false l.ok f) p));
+      lives = counted e ∙ ap (λ ls. more k (survey_of ls)) (behind-newline text l.to p (s.ends (not-false l.ok f) p));
     }
 
 pub one-yes : {yes' : Bool} (n : ℕ) → yes' ≡ true → n + 1 ≡ pick yes' (n + 1) n

@@ -22,9 +22,9 @@ counts none n = none
 counts (some []) n = n
 counts (some (t ∷ ts)) n = another n
 
-unfoldable pub surveyOf : List (List ℕ) → Option ℕ
-surveyOf [] = some 0
-surveyOf (l ∷ ls) = counts (tokens l) (surveyOf ls)
+unfoldable pub survey_of : List (List ℕ) → Option ℕ
+survey_of [] = some 0
+survey_of (l ∷ ls) = counts (tokens l) (survey_of ls)
 
 -- 1: the end of a line, 2: a token, 0: none
 abbrev pub step_of : Mark → ℕ
@@ -43,16 +43,16 @@ step_of Times = 2
 
 -- ---- a line token by token
 
-abbrev pub tokenOn : (Bool → ℕ → Seen) → Bool → Piece → Seen
-tokenOn rec b p = pick (eqb (step_of p.mark) 2) (rec true p.to) (record { ok = eqb (step_of p.mark) 1; some = b; to = p.to })
+abbrev pub token_on : (Bool → ℕ → Seen) → Bool → Piece → Seen
+token_on rec b p = pick (eqb (step_of p.mark) 2) (rec true p.to) (record { ok = eqb (step_of p.mark) 1; some = b; to = p.to })
 
 -- at most so many tokens
-unfoldable pub lineFrom : List ℕ → ℕ → Bool → ℕ → Seen
-lineFrom text zero b i = record { ok = false; some = b; to = i }
-lineFrom text (suc most) b i = tokenOn (lineFrom text most) b (next_of text i)
+unfoldable pub line_from : List ℕ → ℕ → Bool → ℕ → Seen
+line_from text zero b i = record { ok = false; some = b; to = i }
+line_from text (suc most) b i = token_on (line_from text most) b (next_of text i)
 
-abbrev pub lineOn : List ℕ → ℕ → Seen
-lineOn text at = lineFrom text (suc (length text)) false at
+abbrev pub line_on : List ℕ → ℕ → Seen
+line_on text at = line_from text (suc (length text)) false at
 
 -- and what that comes to: all tokens or not, some or none, and where it ends
 pub record LineSeen (text : List ℕ) (at : ℕ) (r : Seen) : Type 0 where
@@ -63,7 +63,7 @@ pub record LineSeen (text : List ℕ) (at : ℕ) (r : Seen) : Type 0 where
   pub empty : r.ok ≡ true → r.some ≡ false → here text at ≡ some []
   pub full : r.ok ≡ true → r.some ≡ true → (t : Token) × (ts : List Token) × (here text at ≡ some (t ∷ ts))
   pub bad : r.ok ≡ false → here text at ≡ none
-  pub tells : r ≡ lineOn text at
+  pub tells : r ≡ line_on text at
 
 -- ---- a text
 
@@ -73,6 +73,6 @@ look_of (some n) = record { ok = true; many = n }
 
 pub record Surveyed (text : List ℕ) (r : Look) : Type 0 where
   pub few : r.many ≤ length text + 1
-  pub good : r.ok ≡ true → surveyOf (lines_of text) ≡ some r.many
-  pub bad : r.ok ≡ false → surveyOf (lines_of text) ≡ none
-  pub tells : r ≡ look_of (surveyOf (lines_of text))
+  pub good : r.ok ≡ true → survey_of (lines_of text) ≡ some r.many
+  pub bad : r.ok ≡ false → survey_of (lines_of text) ≡ none
+  pub tells : r ≡ look_of (survey_of (lines_of text))

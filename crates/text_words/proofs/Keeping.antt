@@ -19,26 +19,26 @@ use Rattle.texts.specs.Texts.{parse}
 use Rattle.texts.specs.Numbering.{Naming}
 use Rattle.texts.proofs.Readings.{text-read, text-spelt}
 use Rattle.text_words.specs.declared.Took.{Took}
-use Rattle.text_words.specs.Bodies.{words_of, end_in, bodyIn, Looped, cleared, keptOf, leaves, written_of, ReadBody}
+use Rattle.text_words.specs.Bodies.{words_of, end_in, body_in, Looped, cleared, kept_of, leaves, written_of, ReadBody}
 
 -- ---- the test
 
 module _ (ok : Bool) (i n first most : ℕ) where
-  pub not-kept : not ok ≡ true → false ≡ keptOf ok i n first most
-  unfolding keptOf
+  pub not-kept : not ok ≡ true → false ≡ kept_of ok i n first most
+  unfolding kept_of
   not-kept e = rw (not-true ok e)
 
   module _ (e : not ok ≡ false) where
-    pub no-offsets : first < i → false ≡ keptOf ok i n first most
-    unfolding keptOf
+    pub no-offsets : first < i → false ≡ kept_of ok i n first most
+    unfolding kept_of
     no-offsets p = rw (not-false ok e, lt-leb i first p)
 
-    pub all-kept : i ≤ first → ltb n most ≡ keptOf ok i n first most
-    unfolding keptOf
+    pub all-kept : i ≤ first → ltb n most ≡ kept_of ok i n first most
+    unfolding kept_of
     all-kept p = rw (not-false ok e, le-leb i first p)
 
-kept-said : (i n first most : ℕ) → keptOf true i n first most ≡ true → (i ≤ first) × (n < most)
-unfolding keptOf
+kept-said : (i n first most : ℕ) → kept_of true i n first most ≡ true → (i ≤ first) × (n < most)
+unfolding kept_of
 kept-said i n first most e = let b = both (leb i first) (ltb n most) e in (leb-true i first b.0, ltb-true n most b.1)
   where
     both : (a b : Bool) → (a && b) ≡ true → (a ≡ true) × (b ≡ true)
@@ -46,15 +46,15 @@ kept-said i n first most e = let b = both (leb i first) (ltb n most) e in (leb-t
     both true false e = absurd (let z : ◌≡◌ {A = ℕ} 0 1 = cc in omega arith)
     both false b e = absurd (let z : ◌≡◌ {A = ℕ} 0 1 = cc in omega arith)
 
-kept-where : (i n first most : ℕ) → i ≤ first → n < most → keptOf true i n first most ≡ true
-unfolding keptOf
+kept-where : (i n first most : ℕ) → i ≤ first → n < most → kept_of true i n first most ≡ true
+unfolding kept_of
 kept-where i n first most p q = rw (le-leb i first p, lt-ltb n most q)
 
-kept-never : (i n first most : ℕ) → keptOf false i n first most ≡ true → ⊥
-unfolding keptOf
+kept-never : (i n first most : ℕ) → kept_of false i n first most ≡ true → ⊥
+unfolding kept_of
 kept-never i n first most e = let z : ◌≡◌ {A = ℕ} 0 1 = cc in omega arith
 
-same_kept : {a b : Bool} {i j n m : ℕ} (first : ℕ) {k l : ℕ} → a ≡ b → i ≡ j → n ≡ m → k ≡ l → keptOf a i n first k ≡ keptOf b j m first l
+same_kept : {a b : Bool} {i j n m : ℕ} (first : ℕ) {k l : ℕ} → a ≡ b → i ≡ j → n ≡ m → k ≡ l → kept_of a i n first k ≡ kept_of b j m first l
 same_kept first p q r s = cc
 
 -- ---- a room cleared
@@ -114,32 +114,32 @@ not-read text f = on (parse text) refl
     on none e = refl
     on (some ks) e = absurd (f ks (text-spelt text ks e))
 
-module _ {ρ : Naming} {text room : List ℕ} {first : ℕ} {t : Took} {room₁ : List ℕ} (l : Looped ρ text room first t room₁) {b : Bool} (k : b ≡ keptOf t.ok t.i t.n first (length room₁)) where
-  left-kept : (ok : Bool) → t.ok ≡ ok → keptOf t.ok t.i t.n first (length room₁) ≡ true → leaves t.ok t.n room₁ ≡ written_of ρ room first (parse text)
-  left-kept false e f = absurd (kept-never t.i t.n first (length room₁) (ap (λ x. keptOf x t.i t.n first (length room₁)) (sym e) ∙ f))
+module _ {ρ : Naming} {text room : List ℕ} {first : ℕ} {t : Took} {room₁ : List ℕ} (l : Looped ρ text room first t room₁) {b : Bool} (k : b ≡ kept_of t.ok t.i t.n first (length room₁)) where
+  left-kept : (ok : Bool) → t.ok ≡ ok → kept_of t.ok t.i t.n first (length room₁) ≡ true → leaves t.ok t.n room₁ ≡ written_of ρ room first (parse text)
+  left-kept false e f = absurd (kept-never t.i t.n first (length room₁) (ap (λ x. kept_of x t.i t.n first (length room₁)) (sym e) ∙ f))
   left-kept true e f =
       let g = l.good e in
       let a = g.2.place in
       let n = l.len in
       let i = g.3 in
-      let s = kept-said t.i t.n first (length room₁) (ap (λ x. keptOf x t.i t.n first (length room₁)) (sym e) ∙ f) in
+      let s = kept-said t.i t.n first (length room₁) (ap (λ x. kept_of x t.i t.n first (length room₁)) (sym e) ∙ f) in
       let p = s.0 in
       let q = s.1 in
       ap (λ x. leaves x t.n room₁) e ∙ ap₂ (leaves true) a (g.2.words (omega arith) (omega arith))
-      ∙ ap (λ x. leaves true (end_in ρ room first g.0) (pick x (bodyIn ρ room first g.0) (cleared room))) (sym (kept-where (6 + length g.0) (end_in ρ room first g.0) first (length room) (omega arith) (omega arith)))
+      ∙ ap (λ x. leaves true (end_in ρ room first g.0) (pick x (body_in ρ room first g.0) (cleared room))) (sym (kept-where (6 + length g.0) (end_in ρ room first g.0) first (length room) (omega arith) (omega arith)))
       ∙ ap (written_of ρ room first) (sym (text-read text g.0 g.1))
 
   pub body_kept : b ≡ true → ReadBody ρ text room first (record { ok = t.ok; n = t.n }) room₁
   body_kept e = record { len = l.len; good = λ y. let g = l.good y in (g.0, g.1, g.2); bad = λ y. (l.bad y).1; tells = left-kept t.ok refl (sym k ∙ e) }
 
-  left-cleared : {room₂ : List ℕ} → keptOf t.ok t.i t.n first (length room₁) ≡ false → room₂ ≡ cleared room₁ → (ok : Bool) → t.ok ≡ ok → leaves t.ok t.n room₂ ≡ written_of ρ room first (parse text)
+  left-cleared : {room₂ : List ℕ} → kept_of t.ok t.i t.n first (length room₁) ≡ false → room₂ ≡ cleared room₁ → (ok : Bool) → t.ok ≡ ok → leaves t.ok t.n room₂ ≡ written_of ρ room first (parse text)
   left-cleared {room₂} f c false e =
       let b = l.bad e in
       ap₂ (λ x n. leaves x n room₂) e b.0 ∙ ap (leaves false 0) (c ∙ ap (λ n. replicate n 0) l.len) ∙ ap (written_of ρ room first) (sym (not-read text b.1))
   left-cleared {room₂} f c true e =
       let g = l.good e in
       ap₂ (λ x n. leaves x n room₂) e g.2.place ∙ ap (leaves true (end_in ρ room first g.0)) (c ∙ ap (λ n. replicate n 0) l.len)
-      ∙ ap (λ x. leaves true (end_in ρ room first g.0) (pick x (bodyIn ρ room first g.0) (cleared room))) (sym (same_kept first (sym e) (sym g.3) (sym g.2.place) (sym l.len) ∙ f))
+      ∙ ap (λ x. leaves true (end_in ρ room first g.0) (pick x (body_in ρ room first g.0) (cleared room))) (sym (same_kept first (sym e) (sym g.3) (sym g.2.place) (sym l.len) ∙ f))
       ∙ ap (written_of ρ room first) (sym (text-read text g.0 g.1))
 
   pub body-cleared : b ≡ false → {room₂ : List ℕ} → room₂ ≡ cleared room₁ → ReadBody ρ text room first (record { ok = t.ok; n = t.n }) room₂
@@ -157,6 +157,6 @@ module _ {ρ : Naming} {text room : List ℕ} {first : ℕ} {t : Took} {room₁ 
           let i = g.3 in
           let n = l.len in
           let z = kept-where t.i t.n first (length room₁) (omega arith) (omega arith) in
-          let w : keptOf true t.i t.n first (length room₁) ≡ false = ap (λ x. keptOf x t.i t.n first (length room₁)) (sym y) ∙ sym k ∙ e in
+          let w : kept_of true t.i t.n first (length room₁) ≡ false = ap (λ x. kept_of x t.i t.n first (length room₁)) (sym y) ∙ sym k ∙ e in
           let v : ◌≡◌ {A = ℕ} 0 1 = cc in
           omega arith

@@ -10,12 +10,12 @@ use lib.Seq.{sets}
 use borrow.Author.Tests.{not-true, not-false}
 use Rattle.language.specs.Limits.{Limits}
 use Rattle.language.specs.Trees.{Conj}
-use Rattle.language.specs.Writing.{conjWords}
+use Rattle.language.specs.Writing.{conj_words}
 use Rattle.grammar.specs.Tokens.{Token, Tokens, tokens}
 use Rattle.grammar.specs.Grammar.{Line, Lines, no_line, blank, line, lines_of}
 use Rattle.meaning.specs.Values.{joined}
-use Rattle.texts.specs.Parsing.{line_of, literals, literalOf, side_of, hedge}
-use Rattle.texts.specs.Numbering.{Naming, nameConj}
+use Rattle.texts.specs.Parsing.{line_of, literals, literal_of, side_of, hedge}
+use Rattle.texts.specs.Numbering.{Naming, name_conj}
 use Rattle.texts.proofs.Readings.{line_read}
 use Rattle.lexing.specs.Bytes.{others}
 use Rattle.lexing.specs.Pieces.{here}
@@ -26,10 +26,10 @@ use Rattle.backwards.proofs.Cutting.{lines_split}
 use Rattle.text_words.specs.Literals.{Start}
 use Rattle.text_words.specs.Conjunctions.{ReadLine}
 use Rattle.text_survey.specs.declared.Seen.{Seen}
-use Rattle.text_survey.specs.Surveys.{counts, surveyOf, LineSeen}
+use Rattle.text_survey.specs.Surveys.{counts, survey_of, LineSeen}
 use Rattle.text_survey.proofs.Scan.{behind-newline, none-behind}
 use Rattle.text_words.specs.declared.Took.{Took}
-use Rattle.text_words.specs.Bodies.{words_of, endsOf, LineTook, Body, Looped, Lined}
+use Rattle.text_words.specs.Bodies.{words_of, ends_of, LineTook, Body, Looped, Lined}
 use Rattle.text_words.proofs.Stores.{sets-++, set_before, words_snoc, joined_snoc, ends_snoc, length-ends, length-words}
 
 false-true : {A : Type 0} {b : Bool} → b ≡ false → b ≡ true → A
@@ -72,7 +72,7 @@ module _ {ρ : Naming} {text room : List ℕ} {at i k : ℕ} (has : Bool) where
 -- ---- lines, one more
 
 no-conj : (c : Conj) → Line c [] → ⊥
-unfolding line_of literals literalOf side_of hedge
+unfolding line_of literals literal_of side_of hedge
 no-conj c m = let e = line_read m in let z : ◌≡◌ {A = ℕ} 0 1 = cc in omega arith
 
 first-blank : {ks : List Conj} {l : List ℕ} {ls : List (List ℕ)} → Lines ks (l ∷ ls) → tokens l ≡ some [] → Lines ks ls
@@ -92,7 +92,7 @@ module _ (ρ : Naming) (room : List ℕ) (first : ℕ) (h : first ≤ length roo
   body-none : Body ρ room first [] first room
   body-none = record { place = omega arith; words = λ p q. refl }
 
-  body_more : (ks : List Conj) (c : Conj) {k n i : ℕ} {room' room₁ room'' : List ℕ} → length room' ≡ length room → Body ρ room first ks k room' → i ≡ 6 + length ks → Wrote room' k (conjWords (nameConj ρ c)) n room₁ → room'' ≡ set room₁ i n → Body ρ room first (ks ++ (c ∷ [])) n room''
+  body_more : (ks : List Conj) (c : Conj) {k n i : ℕ} {room' room₁ room'' : List ℕ} → length room' ≡ length room → Body ρ room first ks k room' → i ≡ 6 + length ks → Wrote room' k (conj_words (name_conj ρ c)) n room₁ → room'' ≡ set room₁ i n → Body ρ room first (ks ++ (c ∷ [])) n room''
   body_more ks c {k} {n} {i} {room'} {room₁} {room''} l b ie w s = record {
     place = let pl = b.place in let pw = w.place in let sz = size in omega arith;
     words = λ p q.
@@ -103,7 +103,7 @@ module _ (ρ : Naming) (room : List ℕ) (first : ℕ) (h : first ≤ length roo
         let kk : k ≡ first + length js = let pl = b.place in omega arith in
         let nn : n ≡ first + length js + length ws = let pw = w.place in omega arith in
         let new = w.words (omega arith) in
-        let os = endsOf first (words_of ρ ks) in
+        let os = ends_of first (words_of ρ ks) in
         let lo = length-ends first (words_of ρ ks) in
         let lw = length-words ρ ks in
         s
@@ -118,16 +118,16 @@ module _ (ρ : Naming) (room : List ℕ) (first : ℕ) (h : first ≤ length roo
       js = joined (words_of ρ ks)
 
       ws : List ℕ
-      ws = conjWords (nameConj ρ c)
+      ws = conj_words (name_conj ρ c)
 
-      jo : joined (words_of ρ (ks ++ (c ∷ []))) ≡ joined (words_of ρ ks) ++ conjWords (nameConj ρ c)
-      jo = ap joined (words_snoc ρ ks c) ∙ joined_snoc (words_of ρ ks) (conjWords (nameConj ρ c))
+      jo : joined (words_of ρ (ks ++ (c ∷ []))) ≡ joined (words_of ρ ks) ++ conj_words (name_conj ρ c)
+      jo = ap joined (words_snoc ρ ks c) ∙ joined_snoc (words_of ρ ks) (conj_words (name_conj ρ c))
 
-      size : length (joined (words_of ρ (ks ++ (c ∷ [])))) ≡ length (joined (words_of ρ ks)) + length (conjWords (nameConj ρ c))
-      size = ap length jo ∙ length-append (joined (words_of ρ ks)) (conjWords (nameConj ρ c))
+      size : length (joined (words_of ρ (ks ++ (c ∷ [])))) ≡ length (joined (words_of ρ ks)) + length (conj_words (name_conj ρ c))
+      size = ap length jo ∙ length-append (joined (words_of ρ ks)) (conj_words (name_conj ρ c))
 
-      offs : endsOf first (words_of ρ (ks ++ (c ∷ []))) ≡ endsOf first (words_of ρ ks) ++ ((first + length (joined (words_of ρ ks)) + length (conjWords (nameConj ρ c))) ∷ [])
-      offs = ap (endsOf first) (words_snoc ρ ks c) ∙ ends_snoc first (words_of ρ ks) (conjWords (nameConj ρ c))
+      offs : ends_of first (words_of ρ (ks ++ (c ∷ []))) ≡ ends_of first (words_of ρ ks) ++ ((first + length (joined (words_of ρ ks)) + length (conj_words (name_conj ρ c))) ∷ [])
+      offs = ap (ends_of first) (words_snoc ρ ks c) ∙ ends_snoc first (words_of ρ ks) (conj_words (name_conj ρ c))
 
 -- ---- the loop
 
@@ -141,7 +141,7 @@ module _ (L : Limits) (text names room : List ℕ) (first : ℕ) where
     pub high : at ≤ length text
     pub few : i ≤ 6 + at
     pub begun : 1 ≤ k
-    pub clean : (m : ℕ) × (surveyOf (lines_of (drop at text)) ≡ some m)
+    pub clean : (m : ℕ) × (survey_of (lines_of (drop at text)) ≡ some m)
     pub done : List Conj
     pub many : i ≡ 6 + length done
     pub body : Body (numbering L text names) room first done k room'
@@ -164,9 +164,9 @@ module _ (L : Limits) (text names room : List ℕ) (first : ℕ) where
   }
 
   module _ {at i k : ℕ} {room' : List ℕ} (g : Going at i k room') {l : Seen} (s : LineSeen text at l) where
-    counted : counts (here text at) (surveyOf (others (drop at text))) ≡ some g.clean.0
-    unfolding surveyOf
-    counted = sym (ap surveyOf (lines_split (drop at text))) ∙ g.clean.1
+    counted : counts (here text at) (survey_of (others (drop at text))) ≡ some g.clean.0
+    unfolding survey_of
+    counted = sym (ap survey_of (lines_split (drop at text))) ∙ g.clean.1
 
     clean-here : (o : Tokens) → here text at ≡ o → (n : Option ℕ) → counts o n ≡ some g.clean.0 → ((ts : List Token) × (here text at ≡ some ts)) × ((m : ℕ) × (n ≡ some m))
     clean-here none e n f = absurd (let z : ◌≡◌ {A = ℕ} 0 1 = cc in omega arith)
@@ -174,8 +174,8 @@ module _ (L : Limits) (text names room : List ℕ) (first : ℕ) where
     clean-here (some (t ∷ ts)) e none f = absurd (let z : ◌≡◌ {A = ℕ} 0 1 = cc in omega arith)
     clean-here (some (t ∷ ts)) e (some m) f = ((t ∷ ts, e), (m, refl))
 
-    here-clean : ((ts : List Token) × (here text at ≡ some ts)) × ((m : ℕ) × (surveyOf (others (drop at text)) ≡ some m))
-    here-clean = clean-here (here text at) refl (surveyOf (others (drop at text))) counted
+    here-clean : ((ts : List Token) × (here text at ≡ some ts)) × ((m : ℕ) × (survey_of (others (drop at text)) ≡ some m))
+    here-clean = clean-here (here text at) refl (survey_of (others (drop at text))) counted
 
     k-place : k ≤ length room
     k-place = let b = g.body.place in omega arith
@@ -281,7 +281,7 @@ module _ (L : Limits) (text names room : List ℕ) (first : ℕ) where
             high = omega arith;
             few = let z = a.fewer in let w = g.few in let v = s.low in omega arith;
             begun = a.begun;
-            clean = (c.0, ap surveyOf (sym (s.same ∙ nl)) ∙ c.1);
+            clean = (c.0, ap survey_of (sym (s.same ∙ nl)) ∙ c.1);
             done = a.done;
             many = a.many;
             body = a.body;

@@ -12,22 +12,22 @@ use borrow.Author.Tests.{eq-eqb, eqb-true, not-true, not-false}
 use Rattle.language.proofs.Bools.{both_true}
 use Rattle.language.specs.Limits.{Limits}
 use Rattle.language.specs.Trees.{Hedge, Expr, over, Literal, eqn, mem}
-use Rattle.language.specs.Writing.{hedgeWords, exprWords, literalWords}
-use Rattle.grammar.specs.Tokens.{Token, equals, nameToken}
-use Rattle.grammar.specs.Grammar.{begins, Spells, choice, Means, inSym, Says, equal, member}
-use Rattle.texts.specs.Numbering.{Naming, nameHedge, nameExpr, nameLiteral}
+use Rattle.language.specs.Writing.{hedge_words, expr_words, literal_words}
+use Rattle.grammar.specs.Tokens.{Token, equals, name_token}
+use Rattle.grammar.specs.Grammar.{begins, Spells, choice, Means, in_sym, Says, equal, member}
+use Rattle.texts.specs.Numbering.{Naming, name_hedge, name_expr, name_literal}
 use Rattle.texts.proofs.Hedges.{Calm}
 use Rattle.lexing.specs.declared.Piece.{Piece}
-use Rattle.lexing.specs.Bytes.{others, nameFrom, sortOf}
+use Rattle.lexing.specs.Bytes.{others, name_from, sort_of}
 use Rattle.lexing.specs.Pieces.{here, front, next_of}
 use Rattle.text_names.specs.Shelves.{numbering}
-use Rattle.flat.specs.Flat.{flatSide}
+use Rattle.flat.specs.Flat.{flat_side}
 use Rattle.walking.specs.declared.Way.{Way}
 use Rattle.walking.specs.Walking.{Left, Walked}
 use Rattle.room_words.specs.Rooms.{Put, Wrote}
 use Rattle.room_words.proofs.Rooms.{put-wrote, wrote_then}
 use Rattle.backwards.proofs.Cutting.{Over}
-use Rattle.text_words.specs.Literals.{equalsOf, inName, inOf, ReadSide, ReadExpression, ReadLiteral, Start}
+use Rattle.text_words.specs.Literals.{equals_of, in_name, in_of, ReadSide, ReadExpression, ReadLiteral, Start}
 use Rattle.text_words.proofs.Ends.{equals-front, symbol-front, not-equals, not-symbol}
 use Rattle.text_words.proofs.Sides.{behind, front-here, no-side, piece, side-got, side-is, some_same, to_high, to_low}
 
@@ -52,11 +52,11 @@ true-false e f = absurd (let z : ◌≡◌ {A = ℕ} 0 1 = cc in omega arith)
 tail-same : {x y : Token} {us vs : List Token} → x ∷ us ≡ y ∷ vs → us ≡ vs
 tail-same e = cc
 
-equals-name : {A : Type 0} {us vs : List Token} {x : ℕ} → equals ∷ us ≡ nameToken x ∷ vs → A
+equals-name : {A : Type 0} {us vs : List Token} {x : ℕ} → equals ∷ us ≡ name_token x ∷ vs → A
 equals-name e = absurd (let z : ◌≡◌ {A = ℕ} 0 1 = cc in omega arith)
 
 module _ (L : Limits) (text names : List ℕ) {room : List ℕ} {at n : ℕ} (s : Start L text names room at n) {k : ℕ} {room₁ : List ℕ} (h₀ : Put room n (0 ∷ []) k room₁) {l : Way} {room₂ : List ℕ}
-    {left : Left} (d : Walked text (flatSide (numbering L text names)) left room₁ at k l room₂) where
+    {left : Left} (d : Walked text (flat_side (numbering L text names)) left room₁ at k l room₂) where
   h : Wrote room n (0 ∷ []) k room₁
   h = put-wrote h₀
 
@@ -85,7 +85,7 @@ module _ (L : Limits) (text names : List ℕ) {room : List ℕ} {at n : ℕ} (s 
     after : (us : List Token) × (here text l.at ≡ some us)
     after = behind σ d s.clean.0 s.clean.1
 
-    front-after : front p.mark (nameFrom (drop p.from text)) (here text p.to) ≡ some after.0
+    front-after : front p.mark (name_from (drop p.from text)) (here text p.to) ≡ some after.0
     front-after = front-here text l.at d.high e after.0 after.1
 
     left_is : (ts : List Token) → here text at ≡ some ts → {x : Hedge} {vs : List Token} → Spells (begins false) x ts vs → Calm vs → after.0 ≡ vs
@@ -116,14 +116,14 @@ module _ (L : Limits) (text names : List ℕ) {room : List ℕ} {at n : ℕ} (s 
     same_line : others (drop at text) ≡ others (drop p.to text)
     same_line = d.same ∙ (piece text l.at d.high e).same
 
-    left-written : (x : Hedge) → Wrote room₁ k (hedgeWords (nameHedge σ x)) l.n room₂ → Wrote room n (0 ∷ hedgeWords (nameHedge σ x)) l.n room₂
+    left-written : (x : Hedge) → Wrote room₁ k (hedge_words (name_hedge σ x)) l.n room₂ → Wrote room n (0 ∷ hedge_words (name_hedge σ x)) l.n room₂
     left-written x w = wrote_then s.place h w
 
     -- an equation
-    module _ {c : Bool} (f : c ≡ equalsOf p.mark) where
+    module _ {c : Bool} (f : c ≡ equals_of p.mark) where
       module _ (t : c ≡ true) where
         eq : (vs : List Token) × (here text p.to ≡ some vs) × (after.0 ≡ equals ∷ vs)
-        eq = equals-front p.mark (nameFrom (drop p.from text)) (here text p.to) after.0 front-after (sym f ∙ t)
+        eq = equals-front p.mark (name_from (drop p.from text)) (here text p.to) after.0 front-after (sym f ∙ t)
 
         pub right-starts : Start L text names room₂ p.to l.n
         right-starts = starts eq.0 eq.1
@@ -139,8 +139,8 @@ module _ (L : Limits) (text names : List ℕ) {room : List ℕ} {at n : ℕ} (s 
           bad = λ y a ts us b m v. unmade y a ts us b m v;
         }
           where
-            made : (a : Hedge) × (vs : List Token) × (us : List Token) × (here text p.to ≡ some vs) × (here text r.at ≡ some us) × Spells (begins false) a vs us × Over us × Wrote room₂ l.n (hedgeWords (nameHedge σ a)) r.n room₃
-                → (a : Literal) × (ts : List Token) × (us : List Token) × (here text at ≡ some ts) × (here text r.at ≡ some us) × Says a ts us × Over us × Wrote room n (literalWords (nameLiteral σ a)) r.n (set room₃ n 5000)
+            made : (a : Hedge) × (vs : List Token) × (us : List Token) × (here text p.to ≡ some vs) × (here text r.at ≡ some us) × Spells (begins false) a vs us × Over us × Wrote room₂ l.n (hedge_words (name_hedge σ a)) r.n room₃
+                → (a : Literal) × (ts : List Token) × (us : List Token) × (here text at ≡ some ts) × (here text r.at ≡ some us) × Says a ts us × Over us × Wrote room n (literal_words (name_literal σ a)) r.n (set room₃ n 5000)
             made g =
                 let z : g.1 ≡ eq.0 = some_same g.3 eq.1 in
                 let u : after.0 ≡ equals ∷ g.1 = eq.2 ∙ ap (λ vs. equals ∷ vs) (sym z) in
@@ -163,9 +163,9 @@ module _ (L : Limits) (text names : List ℕ) {room : List ℕ} {at n : ℕ} (s 
         an-equation {r} w q = subst (ReadLiteral σ text room at n r) (sym q) (equation-set w)
 
       -- neither = nor in; and `in`
-      module _ (t : c ≡ false) {j : Bool} (g : j ≡ inOf text p.mark p.from) where
+      module _ (t : c ≡ false) {j : Bool} (g : j ≡ in_of text p.mark p.from) where
         pub neither : not j ≡ true → ReadLiteral (numbering L text names) text room at n (record { ok = false; at = at; n = n }) room₂
-        unfolding inOf inName
+        unfolding in_of in_name
         neither q = record {
           low = omega arith;
           high = s.high;
@@ -176,24 +176,24 @@ module _ (L : Limits) (text names : List ℕ) {room : List ℕ} {at n : ℕ} (s 
           bad = λ y a ts us b m v. on a ts us b m;
         }
           where
-            is-in : sortOf p.mark ≡ 1 → nameFrom (drop p.from text) ≡ inSym.0 → inOf text p.mark p.from ≡ true
-            is-in x y = ap₂ ◌&&◌ (eq-eqb (sortOf p.mark) 1 x) (eq-eqb (nameFrom (drop p.from text)) inSym.0 y)
+            is-in : sort_of p.mark ≡ 1 → name_from (drop p.from text) ≡ in_sym.0 → in_of text p.mark p.from ≡ true
+            is-in x y = ap₂ ◌&&◌ (eq-eqb (sort_of p.mark) 1 x) (eq-eqb (name_from (drop p.from text)) in_sym.0 y)
 
             on : (a : Literal) (ts us : List Token) → here text at ≡ some ts → Says a ts us → ⊥
-            on (eqn x y) ts us b (equal {us = ws} m f') = not-equals p.mark (nameFrom (drop p.from text)) (here text p.to) after.0 ws front-after (sym f ∙ t) (left_is ts b m tt)
+            on (eqn x y) ts us b (equal {us = ws} m f') = not-equals p.mark (name_from (drop p.from text)) (here text p.to) after.0 ws front-after (sym f ∙ t) (left_is ts b m tt)
             on (mem x R) ts us b (member {us = ws} m f') =
-                let w = not-symbol p.mark (nameFrom (drop p.from text)) inSym.0 (here text p.to) after.0 ws front-after (left_is ts b m tt) in
+                let w = not-symbol p.mark (name_from (drop p.from text)) in_sym.0 (here text p.to) after.0 ws front-after (left_is ts b m tt) in
                 true-false (is-in w.0 w.1) (sym g ∙ not-true j q)
 
         module _ (q : not j ≡ false) where
-          sorted : (sortOf p.mark ≡ 1) × (nameFrom (drop p.from text) ≡ inSym.0)
-          unfolding inOf inName
-          sorted = let w = both_true (eqb (sortOf p.mark) 1) (eqb (nameFrom (drop p.from text)) inSym.0) (sym g ∙ not-false j q) in (eqb-true (sortOf p.mark) 1 w.0, eqb-true (nameFrom (drop p.from text)) inSym.0 w.1)
+          sorted : (sort_of p.mark ≡ 1) × (name_from (drop p.from text) ≡ in_sym.0)
+          unfolding in_of in_name
+          sorted = let w = both_true (eqb (sort_of p.mark) 1) (eqb (name_from (drop p.from text)) in_sym.0) (sym g ∙ not-false j q) in (eqb-true (sort_of p.mark) 1 w.0, eqb-true (name_from (drop p.from text)) in_sym.0 w.1)
 
-          word : (vs : List Token) × (here text p.to ≡ some vs) × (after.0 ≡ nameToken inSym.0 ∷ vs)
+          word : (vs : List Token) × (here text p.to ≡ some vs) × (after.0 ≡ name_token in_sym.0 ∷ vs)
           word =
-              let w = symbol-front p.mark (nameFrom (drop p.from text)) (here text p.to) after.0 front-after sorted.0 in
-              (w.0, w.1, w.2 ∙ ap (λ x. nameToken x ∷ w.0) sorted.1)
+              let w = symbol-front p.mark (name_from (drop p.from text)) (here text p.to) after.0 front-after sorted.0 in
+              (w.0, w.1, w.2 ∙ ap (λ x. name_token x ∷ w.0) sorted.1)
 
           pub expression-starts : Start L text names room₂ p.to l.n
           expression-starts = starts word.0 word.1
@@ -209,12 +209,12 @@ module _ (L : Limits) (text names : List ℕ) {room : List ℕ} {at n : ℕ} (s 
             bad = λ y a ts us b m v. unmade y a ts us b m v;
           }
             where
-              made : (a : Expr) × (vs : List Token) × (us : List Token) × (here text p.to ≡ some vs) × (here text r.at ≡ some us) × Means choice a vs us × Over us × Wrote room₂ l.n (exprWords (nameExpr σ a)) r.n room₃
-                  → (a : Literal) × (ts : List Token) × (us : List Token) × (here text at ≡ some ts) × (here text r.at ≡ some us) × Says a ts us × Over us × Wrote room n (literalWords (nameLiteral σ a)) r.n (set room₃ n 6000)
+              made : (a : Expr) × (vs : List Token) × (us : List Token) × (here text p.to ≡ some vs) × (here text r.at ≡ some us) × Means choice a vs us × Over us × Wrote room₂ l.n (expr_words (name_expr σ a)) r.n room₃
+                  → (a : Literal) × (ts : List Token) × (us : List Token) × (here text at ≡ some ts) × (here text r.at ≡ some us) × Says a ts us × Over us × Wrote room n (literal_words (name_literal σ a)) r.n (set room₃ n 6000)
               made g =
                   let z : g.1 ≡ word.0 = some_same g.3 word.1 in
-                  let u : after.0 ≡ nameToken inSym.0 ∷ g.1 = word.2 ∙ ap (λ vs. nameToken inSym.0 ∷ vs) (sym z) in
-                  let left = side-got σ d s.clean.0 s.clean.1 (not-false l.ok o) (nameToken inSym.0 ∷ g.1) (after.1 ∙ ap some u) tt in (
+                  let u : after.0 ≡ name_token in_sym.0 ∷ g.1 = word.2 ∙ ap (λ vs. name_token in_sym.0 ∷ vs) (sym z) in
+                  let left = side-got σ d s.clean.0 s.clean.1 (not-false l.ok o) (name_token in_sym.0 ∷ g.1) (after.1 ∙ ap some u) tt in (
                     mem left.0 g.0,
                     s.clean.0,
                     g.2,

@@ -7,11 +7,11 @@ use mathlib.Core.List.{List, [], ◌∷◌}
 use mathlib.Core.Option.{some}
 use lib.ListN.{length, drop, get_or}
 use Rattle.language.specs.Trees.{fvar}
-use Rattle.grammar.specs.Tokens.{Token, one, run, functor, equals, comma, opens, closes, plus, times, Tokens, puts, nameToken}
+use Rattle.grammar.specs.Tokens.{Token, one, run, functor, equals, comma, opens, closes, plus, times, Tokens, puts, name_token}
 use Rattle.lexing.specs.declared.Mark.{Mark}
 use Rattle.lexing.specs.declared.Mark.TheVariants.{End, Bad, Symbol, One, Run, Function, Equals, Comma, Opens, Closes, Plus, Times}
 use Rattle.lexing.specs.declared.Piece.{Piece}
-use Rattle.lexing.specs.Bytes.{nameFrom, sortOf}
+use Rattle.lexing.specs.Bytes.{name_from, sort_of}
 use Rattle.lexing.specs.Pieces.{here, front, next_of, Next}
 use Rattle.lexing.proofs.Pieces.{next-law}
 use Rattle.walking.specs.declared.Way.{Way}
@@ -69,7 +69,7 @@ is-closes Times e = absurd (omega arith)
 no_end : (m : Mark) (x : ℕ) (o : Tokens) → front m x o ≡ some [] → turn_of m ≡ 1
 no_end End x o e = refl
 no_end Bad x o e = absurd (let z : ◌≡◌ {A = ℕ} 0 1 = cc in omega arith)
-no_end Symbol x o e = let w = puts-some (nameToken x) o [] e in absurd (let z = ap length w.2 in omega arith)
+no_end Symbol x o e = let w = puts-some (name_token x) o [] e in absurd (let z = ap length w.2 in omega arith)
 no_end One x o e = let w = puts-some (one (record { 0 = x })) o [] e in absurd (let z = ap length w.2 in omega arith)
 no_end Run x o e = let w = puts-some (run (record { 0 = x })) o [] e in absurd (let z = ap length w.2 in omega arith)
 no_end Function x o e = let w = puts-some (functor (fvar (record { 0 = x }))) o [] e in absurd (let z = ap length w.2 in omega arith)
@@ -83,7 +83,7 @@ no_end Times x o e = let w = puts-some (times) o [] e in absurd (let z = ap leng
 no-opens : (m : Mark) (x : ℕ) (o : Tokens) (us : List Token) → front m x o ≡ some (opens ∷ us) → (turn_of m ≡ 2) × (o ≡ some us)
 no-opens End x o us e = absurd (let z : ◌≡◌ {A = ℕ} 0 1 = cc in omega arith)
 no-opens Bad x o us e = absurd (let z : ◌≡◌ {A = ℕ} 0 1 = cc in omega arith)
-no-opens Symbol x o us e = let w = puts-some (nameToken x) o (opens ∷ us) e in absurd (let z : ◌≡◌ {A = ℕ} 0 1 = cc w.2 in omega arith)
+no-opens Symbol x o us e = let w = puts-some (name_token x) o (opens ∷ us) e in absurd (let z : ◌≡◌ {A = ℕ} 0 1 = cc w.2 in omega arith)
 no-opens One x o us e = let w = puts-some (one (record { 0 = x })) o (opens ∷ us) e in absurd (let z : ◌≡◌ {A = ℕ} 0 1 = cc w.2 in omega arith)
 no-opens Run x o us e = let w = puts-some (run (record { 0 = x })) o (opens ∷ us) e in absurd (let z : ◌≡◌ {A = ℕ} 0 1 = cc w.2 in omega arith)
 no-opens Function x o us e = let w = puts-some (functor (fvar (record { 0 = x }))) o (opens ∷ us) e in absurd (let z : ◌≡◌ {A = ℕ} 0 1 = cc w.2 in omega arith)
@@ -97,7 +97,7 @@ no-opens Times x o us e = let w = puts-some (times) o (opens ∷ us) e in absurd
 no-closes : (m : Mark) (x : ℕ) (o : Tokens) (us : List Token) → front m x o ≡ some (closes ∷ us) → (turn_of m ≡ 3) × (o ≡ some us)
 no-closes End x o us e = absurd (let z : ◌≡◌ {A = ℕ} 0 1 = cc in omega arith)
 no-closes Bad x o us e = absurd (let z : ◌≡◌ {A = ℕ} 0 1 = cc in omega arith)
-no-closes Symbol x o us e = let w = puts-some (nameToken x) o (closes ∷ us) e in absurd (let z : ◌≡◌ {A = ℕ} 0 1 = cc w.2 in omega arith)
+no-closes Symbol x o us e = let w = puts-some (name_token x) o (closes ∷ us) e in absurd (let z : ◌≡◌ {A = ℕ} 0 1 = cc w.2 in omega arith)
 no-closes One x o us e = let w = puts-some (one (record { 0 = x })) o (closes ∷ us) e in absurd (let z : ◌≡◌ {A = ℕ} 0 1 = cc w.2 in omega arith)
 no-closes Run x o us e = let w = puts-some (run (record { 0 = x })) o (closes ∷ us) e in absurd (let z : ◌≡◌ {A = ℕ} 0 1 = cc w.2 in omega arith)
 no-closes Function x o us e = let w = puts-some (functor (fvar (record { 0 = x }))) o (closes ∷ us) e in absurd (let z : ◌≡◌ {A = ℕ} 0 1 = cc w.2 in omega arith)
@@ -111,7 +111,7 @@ no-closes Times x o us e = let w = puts-some (times) o (closes ∷ us) e in absu
 pub a-comma : (m : Mark) (x : ℕ) (o : Tokens) (us : List Token) → front m x o ≡ some (comma ∷ us) → (m ≡ Comma) × (o ≡ some us)
 a-comma End x o us e = absurd (let z : ◌≡◌ {A = ℕ} 0 1 = cc in omega arith)
 a-comma Bad x o us e = absurd (let z : ◌≡◌ {A = ℕ} 0 1 = cc in omega arith)
-a-comma Symbol x o us e = let w = puts-some (nameToken x) o (comma ∷ us) e in absurd (let z : ◌≡◌ {A = ℕ} 0 1 = cc w.2 in omega arith)
+a-comma Symbol x o us e = let w = puts-some (name_token x) o (comma ∷ us) e in absurd (let z : ◌≡◌ {A = ℕ} 0 1 = cc w.2 in omega arith)
 a-comma One x o us e = let w = puts-some (one (record { 0 = x })) o (comma ∷ us) e in absurd (let z : ◌≡◌ {A = ℕ} 0 1 = cc w.2 in omega arith)
 a-comma Run x o us e = let w = puts-some (run (record { 0 = x })) o (comma ∷ us) e in absurd (let z : ◌≡◌ {A = ℕ} 0 1 = cc w.2 in omega arith)
 a-comma Function x o us e = let w = puts-some (functor (fvar (record { 0 = x }))) o (comma ∷ us) e in absurd (let z : ◌≡◌ {A = ℕ} 0 1 = cc w.2 in omega arith)
@@ -132,21 +132,21 @@ module _ (text : List ℕ) (at : ℕ) (high : at ≤ length text) {p : Piece} (e
   past = let a = piece.low in let b = piece.through in (omega arith, piece.high)
 
   pub end-here : {k : ℕ} → k ≡ turn_of p.mark → k ≡ 1 → (here text at ≡ some []) × (p.to < length text → get_or text p.to 0 ≡ 10)
-  end-here f z = let m = is-end p.mark (sym f ∙ z) in (piece.reads ∙ ap (λ k. front k (nameFrom (drop p.from text)) (here text p.to)) m, (λ q. piece.ends m q))
+  end-here f z = let m = is-end p.mark (sym f ∙ z) in (piece.reads ∙ ap (λ k. front k (name_from (drop p.from text)) (here text p.to)) m, (λ q. piece.ends m q))
 
   pub not_end : {k : ℕ} → k ≡ turn_of p.mark → (k ≡ 1 → ⊥) → here text at ≡ some [] → ⊥
   not_end f n d = n (f ∙ no_end p.mark _ (here text p.to) (sym piece.reads ∙ d))
 
   pub comma-here : (us : List Token) → here text at ≡ some (comma ∷ us) → (here text p.to ≡ some us) × (at < p.to)
   comma-here us d =
-      let w = a-comma p.mark (nameFrom (drop p.from text)) (here text p.to) us (sym piece.reads ∙ d) in
-      (w.1, piece.moves (λ z. let y = ap sortOf w.0 in omega arith))
+      let w = a-comma p.mark (name_from (drop p.from text)) (here text p.to) us (sym piece.reads ∙ d) in
+      (w.1, piece.moves (λ z. let y = ap sort_of w.0 in omega arith))
 
   opens-here : {k : ℕ} → k ≡ turn_of p.mark → k ≡ 2 → here text at ≡ puts opens (here text p.to)
-  opens-here f z = piece.reads ∙ ap (λ k. front k (nameFrom (drop p.from text)) (here text p.to)) (is-opens p.mark (sym f ∙ z))
+  opens-here f z = piece.reads ∙ ap (λ k. front k (name_from (drop p.from text)) (here text p.to)) (is-opens p.mark (sym f ∙ z))
 
   closes_here : {k : ℕ} → k ≡ turn_of p.mark → k ≡ 3 → here text at ≡ puts closes (here text p.to)
-  closes_here f z = piece.reads ∙ ap (λ k. front k (nameFrom (drop p.from text)) (here text p.to)) (is-closes p.mark (sym f ∙ z))
+  closes_here f z = piece.reads ∙ ap (λ k. front k (name_from (drop p.from text)) (here text p.to)) (is-closes p.mark (sym f ∙ z))
 
 -- ---- two brackets
 

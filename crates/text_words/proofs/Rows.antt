@@ -9,10 +9,10 @@ use lib.ListN.{length, drop}
 use borrow.Author.Tests.{not-true, not-false}
 use Rattle.language.specs.Limits.{Limits}
 use Rattle.language.specs.Trees.{Literal, Conj}
-use Rattle.language.specs.Writing.{literalWords, conjWords}
+use Rattle.language.specs.Writing.{literal_words, conj_words}
 use Rattle.grammar.specs.Tokens.{Token, one, run, functor, equals, comma, opens, closes, plus, times, Tokens}
 use Rattle.grammar.specs.Grammar.{Says, Literals, final, another, Line, asks_nothing, asks}
-use Rattle.texts.specs.Numbering.{Naming, nameLiteral, nameConj}
+use Rattle.texts.specs.Numbering.{Naming, name_literal, name_conj}
 use Rattle.texts.proofs.Readings.{literal-read}
 use Rattle.lexing.specs.declared.Piece.{Piece}
 use Rattle.lexing.specs.Bytes.{others}
@@ -66,12 +66,12 @@ others-of (another {l} {k} {ts} {us = vs} m d) a us n = let w = one-literal m tt
 
 -- ---- the words of conjunctions one behind the other
 
-words-++ : (ρ : Naming) (a b : Conj) → conjWords (nameConj ρ (a ++ b)) ≡ conjWords (nameConj ρ a) ++ conjWords (nameConj ρ b)
+words-++ : (ρ : Naming) (a b : Conj) → conj_words (name_conj ρ (a ++ b)) ≡ conj_words (name_conj ρ a) ++ conj_words (name_conj ρ b)
 words-++ ρ [] b = refl
-words-++ ρ (l ∷ a) b = ap (λ ws. literalWords (nameLiteral ρ l) ++ ws) (words-++ ρ a b) ∙ sym (append_assoc (literalWords (nameLiteral ρ l)) (conjWords (nameConj ρ a)) (conjWords (nameConj ρ b)))
+words-++ ρ (l ∷ a) b = ap (λ ws. literal_words (name_literal ρ l) ++ ws) (words-++ ρ a b) ∙ sym (append_assoc (literal_words (name_literal ρ l)) (conj_words (name_conj ρ a)) (conj_words (name_conj ρ b)))
 
-words_snoc : (ρ : Naming) (a : Conj) (l : Literal) → conjWords (nameConj ρ a) ++ literalWords (nameLiteral ρ l) ≡ conjWords (nameConj ρ (a ++ (l ∷ [])))
-words_snoc ρ a l = sym (words-++ ρ a (l ∷ []) ∙ ap (λ ws. conjWords (nameConj ρ a) ++ ws) (nothing-behind (literalWords (nameLiteral ρ l))))
+words_snoc : (ρ : Naming) (a : Conj) (l : Literal) → conj_words (name_conj ρ a) ++ literal_words (name_literal ρ l) ≡ conj_words (name_conj ρ (a ++ (l ∷ [])))
+words_snoc ρ a l = sym (words-++ ρ a (l ∷ []) ∙ ap (λ ws. conj_words (name_conj ρ a) ++ ws) (nothing-behind (literal_words (name_literal ρ l))))
 
 -- ---- the loop over literals
 
@@ -86,7 +86,7 @@ module _ (L : Limits) (text names room : List ℕ) (at n : ℕ) where
     pub same : others (drop at text) ≡ others (drop i text)
     pub len : length room' ≡ length room
     pub done : Conj
-    pub wrote : Wrote room n (conjWords (nameConj (numbering L text names) done)) k room'
+    pub wrote : Wrote room n (conj_words (name_conj (numbering L text names) done)) k room'
     pub joins : (r : Conj) (us : List Token) → here text i ≡ some us → Literals r us → Literals (done ++ r) start.clean.0
     pub back : (k : Conj) → Literals k start.clean.0 → (r : Conj) × (us : List Token) × (here text i ≡ some us) × (k ≡ done ++ r) × Literals r us
 
@@ -120,10 +120,10 @@ module _ (L : Limits) (text names room : List ℕ) (at n : ℕ) where
     }
 
     module _ (f : not w.ok ≡ false) {p : Piece} (e : p ≡ next_of text w.at) {c : ℕ} (h : c ≡ turn_of p.mark) where
-      got-literal : (a : Literal) × (ts : List Token) × (us : List Token) × (here text i ≡ some ts) × (here text w.at ≡ some us) × Says a ts us × Over us × Wrote room' k (literalWords (nameLiteral ρ a)) w.n room''
+      got-literal : (a : Literal) × (ts : List Token) × (us : List Token) × (here text i ≡ some ts) × (here text w.at ≡ some us) × Says a ts us × Over us × Wrote room' k (literal_words (name_literal ρ a)) w.n room''
       got-literal = r.good (not-false w.ok f)
 
-      all-written : Wrote room n (conjWords (nameConj ρ (g.done ++ (got-literal.0 ∷ [])))) w.n room''
+      all-written : Wrote room n (conj_words (name_conj ρ (g.done ++ (got-literal.0 ∷ [])))) w.n room''
       all-written = subst (λ ws. Wrote room n ws w.n room'') (words_snoc ρ g.done got-literal.0) (wrote_then g.start.place g.wrote got-literal.7)
 
       pub literals_end : c ≡ 1 → ReadLiterals (numbering L text names) text room at n (record { ok = true; at = p.to; n = w.n }) room''

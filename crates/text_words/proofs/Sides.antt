@@ -13,29 +13,29 @@ use Rattle.language.specs.Limits.{Limits}
 use Rattle.language.specs.Between.{between}
 use Rattle.language.proofs.Offsets.{length-between}
 use Rattle.language.specs.Trees.{Hedge, Expr, eps, cat, alt, star, over}
-use Rattle.language.specs.Writing.{hedgeWords, exprWords}
+use Rattle.language.specs.Writing.{hedge_words, expr_words}
 use Rattle.grammar.specs.Tokens.{Token, one, run, functor, equals, comma, opens, closes, plus, times, Tokens}
 use Rattle.grammar.specs.Grammar.{begins, Spells, choice, Means}
 use Rattle.texts.specs.Parsing.{Res, got, stop}
-use Rattle.texts.specs.Numbering.{Naming, nameHedge, nameExpr}
+use Rattle.texts.specs.Numbering.{Naming, name_hedge, name_expr}
 use Rattle.texts.proofs.Hedges.{Calm}
 use Rattle.texts.proofs.Expressions.{Ends, ends-calm}
 use Rattle.lexing.specs.declared.Piece.{Piece}
-use Rattle.lexing.specs.Bytes.{nameFrom}
+use Rattle.lexing.specs.Bytes.{name_from}
 use Rattle.lexing.specs.Pieces.{here, front, next_of, Next}
 use Rattle.lexing.proofs.Pieces.{next-law}
 use Rattle.text_names.specs.Shelves.{numbering, Shelves}
-use Rattle.flat.specs.Flat.{flatSide, flatExpr}
+use Rattle.flat.specs.Flat.{flat_side, flat_expr}
 use Rattle.flat.proofs.Sides.{flat-side-spelt, flat-side-read}
 use Rattle.flat.proofs.Shapes.{size, flat-expr-spelt, flat-expr-read}
 use Rattle.walking.specs.declared.Way.{Way}
-use Rattle.walking.specs.Walking.{reads, gotAt, Left, Walked}
+use Rattle.walking.specs.Walking.{reads, got_at, Left, Walked}
 use Rattle.room_words.specs.Rooms.{Wrote}
 use Rattle.shapes.specs.Scanned.{Scanned}
-use Rattle.flat.specs.Filling.{operandOn}
+use Rattle.flat.specs.Filling.{operand_on}
 use Rattle.backwards.proofs.Cutting.{Over, Stands, stands}
 use Rattle.expression_words.specs.Seen.{Expression, whole}
-use Rattle.text_words.specs.Literals.{overOf, ReadSide, ReadExpression, Start}
+use Rattle.text_words.specs.Literals.{over_of, ReadSide, ReadExpression, Start}
 use Rattle.text_words.proofs.Ends.{over-front, not-over, clean_at}
 
 pub over-ends : (us : List Token) → Over us → Ends us
@@ -56,10 +56,10 @@ got_same e f = cc
 stop-got : {A : Type 0} {B : Type 0} {r : Res A} {a : A} {us : List Token} → r ≡ stop → r ≡ got a us → B
 stop-got {A} {B} e f = absurd (let z : ◌≡◌ {A = ℕ} 0 1 = cc in omega arith)
 
-size-named : (ρ : Naming) (R : Expr) → length (exprWords (nameExpr ρ R)) ≡ size R
+size-named : (ρ : Naming) (R : Expr) → length (expr_words (name_expr ρ R)) ≡ size R
 size-named ρ eps = refl
-size-named ρ (cat a b) = ap suc (length-append (exprWords (nameExpr ρ a)) (exprWords (nameExpr ρ b)) ∙ ap₂ ◌+◌ (size-named ρ a) (size-named ρ b) ∙ sym (length-append (exprWords a) (exprWords b)))
-size-named ρ (alt a b) = ap suc (length-append (exprWords (nameExpr ρ a)) (exprWords (nameExpr ρ b)) ∙ ap₂ ◌+◌ (size-named ρ a) (size-named ρ b) ∙ sym (length-append (exprWords a) (exprWords b)))
+size-named ρ (cat a b) = ap suc (length-append (expr_words (name_expr ρ a)) (expr_words (name_expr ρ b)) ∙ ap₂ ◌+◌ (size-named ρ a) (size-named ρ b) ∙ sym (length-append (expr_words a) (expr_words b)))
+size-named ρ (alt a b) = ap suc (length-append (expr_words (name_expr ρ a)) (expr_words (name_expr ρ b)) ∙ ap₂ ◌+◌ (size-named ρ a) (size-named ρ b) ∙ sym (length-append (expr_words a) (expr_words b)))
 size-named ρ (star a) = ap suc (size-named ρ a)
 size-named ρ (over f a) = ap suc (size-named ρ a)
 
@@ -73,9 +73,9 @@ module _ (text : List ℕ) (at : ℕ) (high : at ≤ length text) {p : Piece} (e
   piece = subst (Next text at) (sym e) (next-law text at high)
 
   abbrev name : ℕ
-  name = nameFrom (drop p.from text)
+  name = name_from (drop p.from text)
 
-  pub front-here : (us : List Token) → here text at ≡ some us → front p.mark (nameFrom (drop p.from text)) (here text p.to) ≡ some us
+  pub front-here : (us : List Token) → here text at ≡ some us → front p.mark (name_from (drop p.from text)) (here text p.to) ≡ some us
   front-here us d = sym piece.reads ∙ d
 
   pub to_high : p.to ≤ length text
@@ -86,17 +86,17 @@ module _ (text : List ℕ) (at : ℕ) (high : at ≤ length text) {p : Piece} (e
 
 -- ---- a side, where no bracket opens behind it
 
-module _ (ρ : Naming) {text room : List ℕ} {at n : ℕ} {w : Way} {left : Left} {room' : List ℕ} (k : Walked text (flatSide ρ) left room at n w room') (ts : List Token) (b : here text at ≡ some ts) where
+module _ (ρ : Naming) {text room : List ℕ} {at n : ℕ} {w : Way} {left : Left} {room' : List ℕ} (k : Walked text (flat_side ρ) left room at n w room') (ts : List Token) (b : here text at ≡ some ts) where
   pub behind : (us : List Token) × (here text w.at ≡ some us)
   behind = clean_at text at w.at k.low k.high k.same ts b
 
-  pub side-got : w.ok ≡ true → (us : List Token) → here text w.at ≡ some us → Calm us → (h : Hedge) × Spells (begins false) h ts us × Wrote room n (hedgeWords (nameHedge ρ h)) w.n room'
+  pub side-got : w.ok ≡ true → (us : List Token) → here text w.at ≡ some us → Calm us → (h : Hedge) × Spells (begins false) h ts us × Wrote room n (hedge_words (name_hedge ρ h)) w.n room'
   side-got o us d c =
       let g = k.good o in
-      let e : flatSide ρ ts ≡ got g.0 us = ap (reads (flatSide ρ)) (sym b) ∙ g.1 ∙ ap (gotAt g.0) d in
+      let e : flat_side ρ ts ≡ got g.0 us = ap (reads (flat_side ρ)) (sym b) ∙ g.1 ∙ ap (got_at g.0) d in
       let s = flat-side-spelt ρ ts us g.0 e in
       let r = flat-side-read ρ s.1 c in
-      let z : g.0 ≡ hedgeWords (nameHedge ρ s.0) = words_same e r in
+      let z : g.0 ≡ hedge_words (name_hedge ρ s.0) = words_same e r in
       (s.0, s.1, subst (λ ws. Wrote room n ws w.n room') z g.2)
     where
       words_same : {r : Res (List ℕ)} {us vs : List ℕ} {xs ys : List Token} → r ≡ got us xs → r ≡ got vs ys → us ≡ vs
@@ -106,15 +106,15 @@ module _ (ρ : Naming) {text room : List ℕ} {at n : ℕ} {w : Way} {left : Lef
   pub side-is : w.ok ≡ true → (us : List Token) → here text w.at ≡ some us → {h : Hedge} {vs : List Token} → Spells (begins false) h ts vs → Calm vs → us ≡ vs
   side-is o us d s c =
       let g = k.good o in
-      let e : flatSide ρ ts ≡ got g.0 us = ap (reads (flatSide ρ)) (sym b) ∙ g.1 ∙ ap (gotAt g.0) d in
+      let e : flat_side ρ ts ≡ got g.0 us = ap (reads (flat_side ρ)) (sym b) ∙ g.1 ∙ ap (got_at g.0) d in
       got_same e (flat-side-read ρ s c)
 
   pub no-side : w.ok ≡ false → {h : Hedge} {vs : List Token} → Spells (begins false) h ts vs → Calm vs → ⊥
-  no-side o s c = stop-got (ap (reads (flatSide ρ)) (sym b) ∙ k.bad o) (flat-side-read ρ s c)
+  no-side o s c = stop-got (ap (reads (flat_side ρ)) (sym b) ∙ k.bad o) (flat-side-read ρ s c)
 
 -- ---- the right side of an equation
 
-module _ (L : Limits) (text names : List ℕ) {room : List ℕ} {at n : ℕ} (s : Start L text names room at n) {w : Way} {left : Left} {room' : List ℕ} (k : Walked text (flatSide (numbering L text names)) left room at n w room') where
+module _ (L : Limits) (text names : List ℕ) {room : List ℕ} {at n : ℕ} (s : Start L text names room at n) {w : Way} {left : Left} {room' : List ℕ} (k : Walked text (flat_side (numbering L text names)) left room at n w room') where
   abbrev ρ : Naming
   ρ = numbering L text names
 
@@ -129,7 +129,7 @@ module _ (L : Limits) (text names : List ℕ) {room : List ℕ} {at n : ℕ} (s 
     bad = λ y h ts us b d v. no-side ρ k ts b (not-true w.ok o) d (ends-calm us (over-ends us v));
   }
 
-  pub right_side : not w.ok ≡ false → {p : Piece} → p ≡ next_of text w.at → {c : Bool} → c ≡ overOf p.mark → ReadSide (numbering L text names) text room at n (record { ok = c; at = w.at; n = w.n }) room'
+  pub right_side : not w.ok ≡ false → {p : Piece} → p ≡ next_of text w.at → {c : Bool} → c ≡ over_of p.mark → ReadSide (numbering L text names) text room at n (record { ok = c; at = w.at; n = w.n }) room'
   right_side o {p} e {c} f =
       let t = s.clean in
       let u = behind ρ k t.0 t.1 in
@@ -167,12 +167,12 @@ module _ (L : Limits) (text names : List ℕ) {room : List ℕ} {at n : ℕ} (s 
     fits = s.place;
     len = refl;
     good = λ y. absurd (let z : ◌≡◌ {A = ℕ} 0 1 = cc in omega arith);
-    bad = λ y R ts us b m v. stop-got (ap (reads flatExpr) (sym b) ∙ k.bad (not-true w.ok o)) (flat-expr-read m (over-ends us v));
+    bad = λ y R ts us b m v. stop-got (ap (reads flat_expr) (sym b) ∙ k.bad (not-true w.ok o)) (flat-expr-read m (over-ends us v));
   }
 
-  module _ (o : not w.ok ≡ false) {p : Piece} (e : p ≡ next_of text w.at) {c : Bool} (f : c ≡ overOf p.mark) where
-    flat-here : (ts : List Token) → here text at ≡ some ts → flatExpr ts ≡ got (k.good (not-false w.ok o)).0 expr-behind.0
-    flat-here ts b = let g = k.good (not-false w.ok o) in ap (reads flatExpr) (sym b) ∙ g.1 ∙ ap (gotAt g.0) expr-behind.1
+  module _ (o : not w.ok ≡ false) {p : Piece} (e : p ≡ next_of text w.at) {c : Bool} (f : c ≡ over_of p.mark) where
+    flat-here : (ts : List Token) → here text at ≡ some ts → flat_expr ts ≡ got (k.good (not-false w.ok o)).0 expr-behind.0
+    flat-here ts b = let g = k.good (not-false w.ok o) in ap (reads flat_expr) (sym b) ∙ g.1 ∙ ap (got_at g.0) expr-behind.1
 
     pub not-ended : not c ≡ true → ReadExpression (numbering L text names) text room at n (record { ok = false; at = at; n = n }) room
     not-ended q = record {
@@ -200,10 +200,10 @@ module _ (L : Limits) (text names : List ℕ) {room : List ℕ} {at n : ℕ} (s 
           number_same : {r : Res ℕ} {a b : ℕ} {us vs : List Token} → r ≡ got a us → r ≡ got b vs → a ≡ b
           number_same e f = cc
 
-      many : length (exprWords (nameExpr τ expr-here.0)) ≡ (k.good (not-false w.ok o)).0
+      many : length (expr_words (name_expr τ expr-here.0)) ≡ (k.good (not-false w.ok o)).0
       many = size-named τ expr-here.0 ∙ sym counted
 
-      capped : w.n ≡ min (L.question + 1) (length (exprWords (nameExpr τ expr-here.0)))
+      capped : w.n ≡ min (L.question + 1) (length (expr_words (name_expr τ expr-here.0)))
       capped = (k.good (not-false w.ok o)).2 ∙ ap (min (L.question + 1)) (sym many)
 
       -- no room for it
@@ -214,7 +214,7 @@ module _ (L : Limits) (text names : List ℕ) {room : List ℕ} {at n : ℕ} (s 
         same = k.same;
         fits = omega arith;
         len = refl;
-        good = λ y. (expr-here.0, s.clean.0, expr-behind.0, s.clean.1, expr-behind.1, expr-here.1, over-here, full (length (exprWords (nameExpr τ expr-here.0))) capped refl);
+        good = λ y. (expr-here.0, s.clean.0, expr-behind.0, s.clean.1, expr-behind.1, expr-here.1, over-here, full (length (expr_words (name_expr τ expr-here.0))) capped refl);
         bad = λ y. absurd (let z : ◌≡◌ {A = ℕ} 0 1 = cc in omega arith);
       }
         where
@@ -224,7 +224,7 @@ module _ (L : Limits) (text names : List ℕ) {room : List ℕ} {at n : ℕ} (s 
               record { place = omega arith; len = refl; words = λ q. absurd (omega arith) }
 
       module _ (x : w.n ≤ length room - n) where
-        fitting : w.n ≡ length (exprWords (nameExpr τ expr-here.0))
+        fitting : w.n ≡ length (expr_words (name_expr τ expr-here.0))
         fitting = let c = capped in let p = s.place in let b = s.begun in let h = s.short in omega arith
 
         stood : Stands τ text at w.at expr-here.0
@@ -243,18 +243,18 @@ module _ (L : Limits) (text names : List ℕ) {room : List ℕ} {at n : ℕ} (s 
         pub writable : {part : List ℕ} → length part ≡ w.n → Shelves L names × Expression (numbering L text names) text at w.at part × (length part ≤ L.question + 1)
         writable {part} l = let pl = s.place in let h = s.short in (s.shelves, to_write part l, omega arith)
 
-        pub expression-written : {part : List ℕ} → part ≡ operandOn (whole (numbering L text names) text at w.at)
+        pub expression-written : {part : List ℕ} → part ≡ operand_on (whole (numbering L text names) text at w.at)
             → ReadExpression (numbering L text names) text room at n (record { ok = true; at = w.at; n = n + w.n }) (put_mid n (n + w.n - n) room part)
         expression-written {part} y =
             let pl = s.place in
             let room' = put_mid n (n + w.n - n) room part in
             let z : room' ≡ take n room ++ part ++ drop (n + w.n) room = ap (λ l. take n room ++ (part ++ l)) (Post-is n (n + w.n) room (omega arith)) ∙ sym (append_assoc (take n room) part (drop (n + w.n) room)) in
             let words = y ∙ stood.words in
-            let all : room' ≡ sets room n (exprWords (nameExpr τ expr-here.0)) =
-            z ∙ ap₂ (λ ws e. take n room ++ ws ++ drop e room) words (ap (λ m. n + m) fitting) ∙ sym (sets-eq (exprWords (nameExpr τ expr-here.0)) room n (let g = fitting in omega arith)) in
-            let wr : Wrote room n (exprWords (nameExpr τ expr-here.0)) (n + w.n) room' = record {
+            let all : room' ≡ sets room n (expr_words (name_expr τ expr-here.0)) =
+            z ∙ ap₂ (λ ws e. take n room ++ ws ++ drop e room) words (ap (λ m. n + m) fitting) ∙ sym (sets-eq (expr_words (name_expr τ expr-here.0)) room n (let g = fitting in omega arith)) in
+            let wr : Wrote room n (expr_words (name_expr τ expr-here.0)) (n + w.n) room' = record {
               place = let g = fitting in omega arith;
-              len = ap length all ∙ length-sets room n (exprWords (nameExpr τ expr-here.0));
+              len = ap length all ∙ length-sets room n (expr_words (name_expr τ expr-here.0));
               words = λ q. all;
             } in
             record {

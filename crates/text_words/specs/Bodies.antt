@@ -5,34 +5,34 @@ use Rattle.std.proofs.lemmas.List.Edits.{sets}
 use Rattle.language.specs.Limits.{Limits}
 use Rattle.language.specs.Kinds.{pick}
 use Rattle.language.specs.Trees.{Conj}
-use Rattle.language.specs.Writing.{conjWords}
+use Rattle.language.specs.Writing.{conj_words}
 use Rattle.grammar.specs.Tokens.{Token}
 use Rattle.grammar.specs.Grammar.{Line, Lines, lines_of}
 use Rattle.meaning.specs.Values.{joined}
 use Rattle.texts.specs.Texts.{parse}
-use Rattle.texts.specs.Numbering.{Naming, nameConj, nameAll}
+use Rattle.texts.specs.Numbering.{Naming, name_conj, name_all}
 use Rattle.lexing.specs.Pieces.{here}
 use Rattle.text_names.specs.Shelves.{Shelves}
 use Rattle.room_words.specs.Rooms.{Wrote}
-use Rattle.text_survey.specs.Surveys.{surveyOf}
+use Rattle.text_survey.specs.Surveys.{survey_of}
 use Rattle.text_words.specs.declared.Took.{Took}
 use Rattle.text_words.specs.declared.Written.{Written}
 
 -- the words of each conjunction
 abbrev pub words_of : Naming → List Conj → List (List ℕ)
-words_of ρ ks = map conjWords (nameAll ρ ks)
+words_of ρ ks = map conj_words (name_all ρ ks)
 
 -- the offsets behind the first
-abbrev pub endsOf : ℕ → List (List ℕ) → List ℕ
-endsOf at [] = []
-endsOf at (ws ∷ wss) = (at + length ws) ∷ endsOf (at + length ws) wss
+abbrev pub ends_of : ℕ → List (List ℕ) → List ℕ
+ends_of at [] = []
+ends_of at (ws ∷ wss) = (at + length ws) ∷ ends_of (at + length ws) wss
 
 -- a line, taken where it has a token
 pub record LineTook (ρ : Naming) (text room : List ℕ) (at i k : ℕ) (has : Bool) (r : Took) (room' : List ℕ) : Type 0 where
   pub fits : r.n ≤ length room
   pub len : length room' ≡ length room
   pub blank : has ≡ false → (r.ok ≡ true) × (r.i ≡ i) × (r.n ≡ k) × (room' ≡ room)
-  pub good : has ≡ true → r.ok ≡ true → (c : Conj) × (ts : List Token) × (room₁ : List ℕ) × (here text at ≡ some ts) × Line c ts × (r.i ≡ i + 1) × Wrote room k (conjWords (nameConj ρ c)) r.n room₁ × (room' ≡ set room₁ i r.n)
+  pub good : has ≡ true → r.ok ≡ true → (c : Conj) × (ts : List Token) × (room₁ : List ℕ) × (here text at ≡ some ts) × Line c ts × (r.i ≡ i + 1) × Wrote room k (conj_words (name_conj ρ c)) r.n room₁ × (room' ≡ set room₁ i r.n)
   pub bad : has ≡ true → r.ok ≡ false → (c : Conj) (ts : List Token) → here text at ≡ some ts → Line c ts → ⊥
 
 -- where the words end that begin at `first`
@@ -40,13 +40,13 @@ abbrev pub end_in : Naming → List ℕ → ℕ → List Conj → ℕ
 end_in ρ room first ks = min (length room) (first + length (joined (words_of ρ ks)))
 
 -- the offsets, and the words
-abbrev pub bodyIn : Naming → List ℕ → ℕ → List Conj → List ℕ
-bodyIn ρ room first ks = sets (sets room 6 (endsOf first (words_of ρ ks))) first (joined (words_of ρ ks))
+abbrev pub body_in : Naming → List ℕ → ℕ → List Conj → List ℕ
+body_in ρ room first ks = sets (sets room 6 (ends_of first (words_of ρ ks))) first (joined (words_of ρ ks))
 
 -- these, where there is room for them and for the offsets before them
 pub record Body (ρ : Naming) (room : List ℕ) (first : ℕ) (ks : List Conj) (n : ℕ) (room' : List ℕ) : Type 0 where
   pub place : n ≡ min (length room) (first + length (joined (words_of ρ ks)))
-  pub words : 6 + length ks ≤ first → first + length (joined (words_of ρ ks)) < length room → room' ≡ sets (sets room 6 (endsOf first (words_of ρ ks))) first (joined (words_of ρ ks))
+  pub words : 6 + length ks ≤ first → first + length (joined (words_of ρ ks)) < length room → room' ≡ sets (sets room 6 (ends_of first (words_of ρ ks))) first (joined (words_of ρ ks))
 
 -- what the loop over the lines leaves
 pub record Looped (ρ : Naming) (text room : List ℕ) (first : ℕ) (r : Took) (room' : List ℕ) : Type 0 where
@@ -60,8 +60,8 @@ abbrev pub cleared : List ℕ → List ℕ
 cleared room = replicate (length room) 0
 
 -- the offsets stand before the words, and there was room for all of these
-unfoldable pub keptOf : Bool → ℕ → ℕ → ℕ → ℕ → Bool
-keptOf ok i n first most = ok && (leb i first && ltb n most)
+unfoldable pub kept_of : Bool → ℕ → ℕ → ℕ → ℕ → Bool
+kept_of ok i n first most = ok && (leb i first && ltb n most)
 
 abbrev pub Left : Type 0
 Left = Written × List ℕ
@@ -71,7 +71,7 @@ leaves b n room = (record { ok = b; n = n }, room)
 
 abbrev pub written_of : Naming → List ℕ → ℕ → Option (List Conj) → Left
 written_of ρ room first none = leaves false 0 (cleared room)
-written_of ρ room first (some ks) = leaves true (end_in ρ room first ks) (pick (keptOf true (6 + length ks) (end_in ρ room first ks) first (length room)) (bodyIn ρ room first ks) (cleared room))
+written_of ρ room first (some ks) = leaves true (end_in ρ room first ks) (pick (kept_of true (6 + length ks) (end_in ρ room first ks) first (length room)) (body_in ρ room first ks) (cleared room))
 
 pub record ReadBody (ρ : Naming) (text room : List ℕ) (first : ℕ) (r : Written) (room' : List ℕ) : Type 0 where
   pub len : length room' ≡ length room
@@ -86,4 +86,4 @@ pub record Lined (L : Limits) (text names room : List ℕ) (first : ℕ) : Type 
   pub begun : 1 ≤ first
   pub place : first ≤ length room
   pub short : length room ≤ L.question + 1
-  pub clean : (m : ℕ) × (surveyOf (lines_of text) ≡ some m)
+  pub clean : (m : ℕ) × (survey_of (lines_of text) ≡ some m)

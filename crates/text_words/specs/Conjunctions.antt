@@ -2,10 +2,10 @@
 use Rattle.std.specs.Prelude.{ℕ, ◌<◌, ◌≤◌, ◌≡◌, true, false, List, [], ◌∷◌, length, drop, get_or}
 use Rattle.std.proofs.Math.Option.{some}
 use Rattle.language.specs.Trees.{Conj}
-use Rattle.language.specs.Writing.{conjWords}
+use Rattle.language.specs.Writing.{conj_words}
 use Rattle.grammar.specs.Tokens.{Token, opens, closes}
 use Rattle.grammar.specs.Grammar.{Literals, Line}
-use Rattle.texts.specs.Numbering.{Naming, nameConj}
+use Rattle.texts.specs.Numbering.{Naming, name_conj}
 use Rattle.lexing.specs.declared.Mark.{Mark}
 use Rattle.lexing.specs.declared.Mark.TheVariants.{End, Bad, Symbol, One, Run, Function, Equals, Comma, Opens, Closes, Plus, Times}
 use Rattle.lexing.specs.Bytes.{others}
@@ -44,7 +44,7 @@ pub record ReadLiterals (ρ : Naming) (text room : List ℕ) (at n : ℕ) (r : W
   pub fits : r.n ≤ length room
   pub len : length room' ≡ length room
   pub ends : r.ok ≡ true → r.at < length text → get_or text r.at 0 ≡ 10
-  pub good : r.ok ≡ true → (k : Conj) × (ts : List Token) × (here text at ≡ some ts) × Literals k ts × Wrote room n (conjWords (nameConj ρ k)) r.n room'
+  pub good : r.ok ≡ true → (k : Conj) × (ts : List Token) × (here text at ≡ some ts) × Literals k ts × Wrote room n (conj_words (name_conj ρ k)) r.n room'
   pub bad : r.ok ≡ false → (k : Conj) (ts : List Token) → here text at ≡ some ts → Literals k ts → ⊥
 
 pub record ReadLine (ρ : Naming) (text room : List ℕ) (at n : ℕ) (r : Way) (room' : List ℕ) : Type 0 where
@@ -54,5 +54,5 @@ pub record ReadLine (ρ : Naming) (text room : List ℕ) (at n : ℕ) (r : Way) 
   pub fits : r.n ≤ length room
   pub len : length room' ≡ length room
   pub ends : r.ok ≡ true → r.at < length text → get_or text r.at 0 ≡ 10
-  pub good : r.ok ≡ true → (k : Conj) × (ts : List Token) × (here text at ≡ some ts) × Line k ts × Wrote room n (conjWords (nameConj ρ k)) r.n room'
+  pub good : r.ok ≡ true → (k : Conj) × (ts : List Token) × (here text at ≡ some ts) × Line k ts × Wrote room n (conj_words (name_conj ρ k)) r.n room'
   pub bad : r.ok ≡ false → (k : Conj) (ts : List Token) → here text at ≡ some ts → Line k ts → ⊥

@@ -6,7 +6,7 @@ ghost use Rattle.std.specs.Prelude.{◌+◌, ◌≤◌, ◌≡◌, length};
 ghost use Rattle.language.specs.Limits.{desk};
 ghost use Rattle.text_names.specs.Shelves.{numbering};
 ghost use Rattle.text_words.specs.Literals.{Start};
-ghost use Rattle.text_words.specs.Bodies.{LineTook, Looped, keptOf, cleared, ReadBody, Lined};
+ghost use Rattle.text_words.specs.Bodies.{LineTook, Looped, kept_of, cleared, ReadBody, Lined};
 
 use crate::conjunction::conjunction;
 use room_words::put_head;
@@ -97,7 +97,7 @@ fn all_lines(text: &[u8], names: &[usize], room: &mut [u16], first: usize) -> To
 
 // Whether the offsets stand before the words, and there was room for all of these.
 fn is_kept(ok: bool, i: usize, n: usize, first: usize, most: usize) -> bool
-    ensures { result ≡ keptOf ok i n first most }
+    ensures { result ≡ kept_of ok i n first most }
 {
     if !ok {
         return false;

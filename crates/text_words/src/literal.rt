@@ -2,7 +2,7 @@
 ghost use Rattle.std.specs.Prelude.{◌+◌, ◌<◌, ◌≡◌};
 ghost use Rattle.language.specs.Limits.{desk};
 ghost use Rattle.text_names.specs.Shelves.{numbering};
-ghost use Rattle.text_words.specs.Literals.{overOf, equalsOf, inName, inOf, ReadSide, ReadExpression, ReadLiteral, Start};
+ghost use Rattle.text_words.specs.Literals.{over_of, equals_of, in_name, in_of, ReadSide, ReadExpression, ReadLiteral, Start};
 
 use expression_words::write_expression;
 use lexing::{Mark, next, sort};
@@ -13,7 +13,7 @@ use walking::{Way, side};
 
 // Whether a literal ends before such a token.
 fn is_over(mark: Mark) -> bool
-    ensures { result ≡ overOf mark }
+    ensures { result ≡ over_of mark }
 {
     match mark {
         Mark::End => true,
@@ -32,7 +32,7 @@ fn is_over(mark: Mark) -> bool
 }
 
 fn is_equals(mark: Mark) -> bool
-    ensures { result ≡ equalsOf mark }
+    ensures { result ≡ equals_of mark }
 {
     match mark {
         Mark::End => false,
@@ -52,7 +52,7 @@ fn is_equals(mark: Mark) -> bool
 
 // Whether the name at a place is `in`.
 fn is_in_name(text: &[u8], at: usize) -> bool
-    ensures { result ≡ inName text.now at }
+    ensures { result ≡ in_name text.now at }
 {
     if letter_at(text, at) != b'i' {
         return false;
@@ -65,7 +65,7 @@ fn is_in_name(text: &[u8], at: usize) -> bool
 
 // Whether a token is the word `in`.
 fn is_in(text: &[u8], mark: Mark, at: usize) -> bool
-    ensures { result ≡ inOf text.now mark at }
+    ensures { result ≡ in_of text.now mark at }
 {
     if sort(mark) != 1 {
         return false;

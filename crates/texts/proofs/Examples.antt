@@ -4,13 +4,13 @@ use mathlib.Core.List.{List, [], ◌∷◌, map}
 use Prim.Native.Nat.{ℕ}
 use Rattle.language.specs.declared.Refusal.TheVariants.{NotText}
 use Rattle.language.specs.Limits.{desk}
-use Rattle.language.specs.Question.{countsFit}
-use Rattle.grammar.specs.Tokens.{nameByte, blank, letter, marked, starOr, byte, tokens}
+use Rattle.language.specs.Question.{counts_fit}
+use Rattle.grammar.specs.Tokens.{name_byte, blank, letter, marked, star_or, byte, tokens}
 use Rattle.grammar.specs.Grammar.{lines_of}
-use Rattle.texts.specs.Parsing.{hedge, side_of, expr, exprOf, literalOf, literals, line_of}
-use Rattle.texts.specs.Texts.{readLines, parse}
-use Rattle.texts.specs.Numbering.{table, numbered, countsIn}
-use Rattle.texts.specs.Outcomes.{Outcome, gives, denies, questionWords, fitted, counted, readsText}
+use Rattle.texts.specs.Parsing.{hedge, side_of, expr, expr_of, literal_of, literals, line_of}
+use Rattle.texts.specs.Texts.{read_lines, parse}
+use Rattle.texts.specs.Numbering.{table, numbered, counts_in}
+use Rattle.texts.specs.Outcomes.{Outcome, gives, denies, question_words, fitted, counted, reads_text}
 
 pub texts : List (List ℕ)
 texts =
@@ -77,6 +77,6 @@ outcomes =
     ∷ (denies NotText)
     ∷ []
 
-pub examples-hold : map (readsText desk desk.question) texts ≡ outcomes
-unfolding texts outcomes readsText counted fitted questionWords countsIn numbered table parse readLines lines_of line_of literals literalOf exprOf expr side_of hedge tokens byte starOr marked letter blank nameByte countsFit
+pub examples-hold : map (reads_text desk desk.question) texts ≡ outcomes
+unfolding texts outcomes reads_text counted fitted question_words counts_in numbered table parse read_lines lines_of line_of literals literal_of expr_of expr side_of hedge tokens byte star_or marked letter blank name_byte counts_fit
 examples-hold = refl

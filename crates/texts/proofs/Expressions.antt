@@ -8,7 +8,7 @@ use Rattle.language.specs.declared.Sym.{Sym}
 use Rattle.language.specs.Trees.{Functor, symbol, fvar, Expr, eps, cat, alt, star, over}
 use Rattle.grammar.specs.Tokens.{Token, one, run, functor, equals, comma, opens, closes, plus, times}
 use Rattle.grammar.specs.Grammar.{Level, atom, starred, choice, listed, within, Means, single, under, group, once, again, only, either, last, then, no-listed, some-listed}
-use Rattle.texts.specs.Parsing.{Res, got, stop, mapped, bind, Exprs, symbolOn, atomOn, stars, choiceOn, listedOn, withinOn, expr, exprOf}
+use Rattle.texts.specs.Parsing.{Res, got, stop, mapped, bind, Exprs, symbol_on, atom_on, stars, choice_on, listed_on, within_on, expr, expr_of}
 use Rattle.texts.proofs.Hedges.{Calm}
 
 -- the end of a line, a comma, a bracket that closes: no expression goes on here
@@ -48,7 +48,7 @@ stars-end R (closes ∷ ts) c = refl
 stars-end R (plus ∷ ts) c = absurd c
 stars-end R (times ∷ ts) c = absurd c
 
-choice-end : (rec : Exprs) (R : Expr) (ts : List Token) → Ends ts → choiceOn rec R ts ≡ got R ts
+choice-end : (rec : Exprs) (R : Expr) (ts : List Token) → Ends ts → choice_on rec R ts ≡ got R ts
 choice-end rec R [] c = refl
 choice-end rec R (one x ∷ ts) c = absurd c
 choice-end rec R (run p ∷ ts) c = absurd c
@@ -60,7 +60,7 @@ choice-end rec R (closes ∷ ts) c = refl
 choice-end rec R (plus ∷ ts) c = absurd c
 choice-end rec R (times ∷ ts) c = absurd c
 
-on-single : (rec : Exprs) (f : Sym) (ts : List Token) → Calm ts → symbolOn rec (symbol f) ts ≡ got (over f eps) ts
+on-single : (rec : Exprs) (f : Sym) (ts : List Token) → Calm ts → symbol_on rec (symbol f) ts ≡ got (over f eps) ts
 on-single rec f [] c = refl
 on-single rec f (one x ∷ ts) c = refl
 on-single rec f (run p ∷ ts) c = refl
@@ -140,7 +140,7 @@ some_at (then d e) = some_at d
 some_at no-listed = tt
 some_at (some-listed d) = tt
 
-within-some : (rec : Exprs) (ts : List Token) → Some ts → withinOn rec ts ≡ rec listed ts
+within-some : (rec : Exprs) (ts : List Token) → Some ts → within_on rec ts ≡ rec listed ts
 within-some rec [] c = absurd c
 within-some rec (one x ∷ ts) c = absurd c
 within-some rec (run p ∷ ts) c = absurd c
@@ -166,19 +166,19 @@ complete (again d) c zero l = absurd (omega arith)
 complete (again d) c (suc n) l = complete d tt (suc n) l
 complete (only d) c zero l = absurd (omega arith)
 complete (only {R = R} {us = us} d) c (suc n) l =
-    ap (λ r. bind r (choiceOn (expr n))) (complete d (ends-calm us c) n (omega arith) ∙ stars-end R us c)
+    ap (λ r. bind r (choice_on (expr n))) (complete d (ends-calm us c) n (omega arith) ∙ stars-end R us c)
     ∙ choice-end (expr n) R us c
 complete (either d e) c zero l = absurd (omega arith)
 complete (either {a = a} d e) c (suc n) l =
     let m = shorter d in
-    ap (λ r. bind r (choiceOn (expr n))) (complete d tt n (omega arith))
+    ap (λ r. bind r (choice_on (expr n))) (complete d tt n (omega arith))
     ∙ ap (mapped (alt a)) (complete e c n (omega arith))
 complete (last d) c zero l = absurd (omega arith)
-complete (last d) c (suc n) l = ap (λ r. bind r (listedOn (expr n))) (complete d tt n (omega arith))
+complete (last d) c (suc n) l = ap (λ r. bind r (listed_on (expr n))) (complete d tt n (omega arith))
 complete (then d e) c zero l = absurd (omega arith)
 complete (then {a = a} d e) c (suc n) l =
     let m = shorter d in
-    ap (λ r. bind r (listedOn (expr n))) (complete d tt n (omega arith))
+    ap (λ r. bind r (listed_on (expr n))) (complete d tt n (omega arith))
     ∙ ap (mapped (cat a)) (complete e tt n (omega arith))
 complete no-listed c zero l = absurd (omega arith)
 complete no-listed c (suc n) l = refl
@@ -225,7 +225,7 @@ stars-good R ss (plus ∷ ts) d = d
 stars-good R ss (times ∷ ts) d = stars-good (star R) ss ts (again d)
 
 module _ (rec : Exprs) (good : (l : Level) (ts : List Token) → Good l ts (rec l ts)) where
-  symbol-good : (f : Functor) (ts : List Token) → Good atom (functor f ∷ ts) (symbolOn rec f ts)
+  symbol-good : (f : Functor) (ts : List Token) → Good atom (functor f ∷ ts) (symbol_on rec f ts)
   symbol-good (symbol f) [] = single
   symbol-good (symbol f) (one x ∷ ts) = single
   symbol-good (symbol f) (run p ∷ ts) = single
@@ -238,7 +238,7 @@ module _ (rec : Exprs) (good : (l : Level) (ts : List Token) → Good l ts (rec 
   symbol-good (symbol f) (times ∷ ts) = single
   symbol-good (fvar X) ts = tt
 
-  atom-good : (ts : List Token) → Good atom ts (atomOn rec ts)
+  atom-good : (ts : List Token) → Good atom ts (atom_on rec ts)
   atom-good [] = tt
   atom-good (one x ∷ ts) = tt
   atom-good (run p ∷ ts) = tt
@@ -250,7 +250,7 @@ module _ (rec : Exprs) (good : (l : Level) (ts : List Token) → Good l ts (rec 
   atom-good (plus ∷ ts) = tt
   atom-good (times ∷ ts) = tt
 
-  within-good : (ts : List Token) → Good within ts (withinOn rec ts)
+  within-good : (ts : List Token) → Good within ts (within_on rec ts)
   within-good [] = tt
   within-good (one x ∷ ts) = listed-good (one x ∷ ts) (rec listed (one x ∷ ts)) (good listed (one x ∷ ts))
   within-good (run p ∷ ts) = listed-good (run p ∷ ts) (rec listed (run p ∷ ts)) (good listed (run p ∷ ts))
@@ -266,7 +266,7 @@ module _ (rec : Exprs) (good : (l : Level) (ts : List Token) → Good l ts (rec 
   starred-good ss (got R ts) d = stars-good R ss ts (once d)
   starred-good ss stop d = tt
 
-  choice-on : (a : Expr) (ss ts : List Token) → Means starred a ss ts → Good choice ss (choiceOn rec a ts)
+  choice-on : (a : Expr) (ss ts : List Token) → Means starred a ss ts → Good choice ss (choice_on rec a ts)
   choice-on a ss [] d = only d
   choice-on a ss (one x ∷ ts) d = only d
   choice-on a ss (run p ∷ ts) d = only d
@@ -278,11 +278,11 @@ module _ (rec : Exprs) (good : (l : Level) (ts : List Token) → Good l ts (rec 
   choice-on a ss (plus ∷ ts) d = either-good a ss ts d (rec choice ts) (good choice ts)
   choice-on a ss (times ∷ ts) d = only d
 
-  choice-good : (ss : List Token) (r : Res Expr) → Good starred ss r → Good choice ss (bind r (choiceOn rec))
+  choice-good : (ss : List Token) (r : Res Expr) → Good starred ss r → Good choice ss (bind r (choice_on rec))
   choice-good ss (got R ts) d = choice-on R ss ts d
   choice-good ss stop d = tt
 
-  listed-on : (a : Expr) (ss ts : List Token) → Means choice a ss ts → Good listed ss (listedOn rec a ts)
+  listed-on : (a : Expr) (ss ts : List Token) → Means choice a ss ts → Good listed ss (listed_on rec a ts)
   listed-on a ss [] d = tt
   listed-on a ss (one x ∷ ts) d = tt
   listed-on a ss (run p ∷ ts) d = tt
@@ -294,7 +294,7 @@ module _ (rec : Exprs) (good : (l : Level) (ts : List Token) → Good l ts (rec 
   listed-on a ss (plus ∷ ts) d = tt
   listed-on a ss (times ∷ ts) d = tt
 
-  list-good : (ss : List Token) (r : Res Expr) → Good choice ss r → Good listed ss (bind r (listedOn rec))
+  list-good : (ss : List Token) (r : Res Expr) → Good choice ss r → Good listed ss (bind r (listed_on rec))
   list-good ss (got R ts) d = listed-on R ss ts d
   list-good ss stop d = tt
 
@@ -309,10 +309,10 @@ sound (suc n) within ts = within-good (expr n) (sound n) ts
 
 -- ---- an expression behind `in`
 
-pub expr-read : {R : Expr} {ts us : List Token} → Means choice R ts us → Ends us → exprOf ts ≡ got R us
-unfolding exprOf
+pub expr-read : {R : Expr} {ts us : List Token} → Means choice R ts us → Ends us → expr_of ts ≡ got R us
+unfolding expr_of
 expr-read {ts = ts} d c = complete d c (suc (5 * length ts + 2)) (omega arith)
 
-pub expr-spelt : (ts : List Token) → Good choice ts (exprOf ts)
-unfolding exprOf
+pub expr-spelt : (ts : List Token) → Good choice ts (expr_of ts)
+unfolding expr_of
 expr-spelt ts = sound (suc (5 * length ts + 2)) choice ts

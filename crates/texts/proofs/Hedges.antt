@@ -8,7 +8,7 @@ use lib.ListN.{length}
 use Rattle.language.specs.Trees.{Functor, Hedge, ε, tvar, hvar, node}
 use Rattle.grammar.specs.Tokens.{Token, one, run, functor, equals, comma, opens, closes, plus, times}
 use Rattle.grammar.specs.Grammar.{Place, begins, follows, inside, Spells, empty, full, ends, more, alone, brackets, part, parts, leaf, tree}
-use Rattle.texts.specs.Parsing.{Res, got, stop, mapped, bind, Hedges, functorOn, beginsOn, followsOn, insideOn, hedge, side_of}
+use Rattle.texts.specs.Parsing.{Res, got, stop, mapped, bind, Hedges, functor_on, begins_on, follows_on, inside_on, hedge, side_of}
 
 -- no bracket opens here
 abbrev pub Calm : List Token → Type 0
@@ -51,7 +51,7 @@ calm-follows ends c = tt
 calm-follows (more d) c = tt
 calm-follows alone c = c
 
-on-leaf : (rec : Hedges) (b : Bool) (f : Functor) (ts : List Token) → Calm ts → functorOn rec b f ts ≡ mapped (node f ε) (rec (follows b) ts)
+on-leaf : (rec : Hedges) (b : Bool) (f : Functor) (ts : List Token) → Calm ts → functor_on rec b f ts ≡ mapped (node f ε) (rec (follows b) ts)
 on-leaf rec b f [] c = refl
 on-leaf rec b f (one x ∷ ts) c = refl
 on-leaf rec b f (run p ∷ ts) c = refl
@@ -63,7 +63,7 @@ on-leaf rec b f (closes ∷ ts) c = refl
 on-leaf rec b f (plus ∷ ts) c = refl
 on-leaf rec b f (times ∷ ts) c = refl
 
-inside_of : {h : Hedge} {ts us : List Token} (rec : Hedges) → Spells (begins true) h ts us → insideOn rec ts ≡ rec (begins true) ts
+inside_of : {h : Hedge} {ts us : List Token} (rec : Hedges) → Spells (begins true) h ts us → inside_on rec ts ≡ rec (begins true) ts
 inside_of rec (part d) = refl
 inside_of rec (parts d) = refl
 inside_of rec (leaf d) = refl
@@ -135,7 +135,7 @@ module _ (rec : Hedges) (good : (p : Place) (ts : List Token) → Good p ts (rec
   inside-then b f ts (got c us) d = tree-good b f c ts us d (rec (follows b) us) (good (follows b) us)
   inside-then b f ts stop d = tt
 
-  functor-good : (b : Bool) (f : Functor) (ts : List Token) → Good (begins b) (functor f ∷ ts) (functorOn rec b f ts)
+  functor-good : (b : Bool) (f : Functor) (ts : List Token) → Good (begins b) (functor f ∷ ts) (functor_on rec b f ts)
   functor-good b f [] = leaf-good b f [] (rec (follows b) []) (good (follows b) [])
   functor-good b f (one x ∷ ts) = leaf-good b f (one x ∷ ts) (rec (follows b) (one x ∷ ts)) (good (follows b) (one x ∷ ts))
   functor-good b f (run p ∷ ts) = leaf-good b f (run p ∷ ts) (rec (follows b) (run p ∷ ts)) (good (follows b) (run p ∷ ts))
@@ -147,7 +147,7 @@ module _ (rec : Hedges) (good : (p : Place) (ts : List Token) → Good p ts (rec
   functor-good b f (plus ∷ ts) = leaf-good b f (plus ∷ ts) (rec (follows b) (plus ∷ ts)) (good (follows b) (plus ∷ ts))
   functor-good b f (times ∷ ts) = leaf-good b f (times ∷ ts) (rec (follows b) (times ∷ ts)) (good (follows b) (times ∷ ts))
 
-  begins-good : (b : Bool) (ts : List Token) → Good (begins b) ts (beginsOn rec b ts)
+  begins-good : (b : Bool) (ts : List Token) → Good (begins b) ts (begins_on rec b ts)
   begins-good b [] = tt
   begins-good b (one x ∷ ts) = part-good b x ts (rec (follows b) ts) (good (follows b) ts)
   begins-good b (run p ∷ ts) = parts-good b p ts (rec (follows b) ts) (good (follows b) ts)
@@ -159,7 +159,7 @@ module _ (rec : Hedges) (good : (p : Place) (ts : List Token) → Good p ts (rec
   begins-good b (plus ∷ ts) = tt
   begins-good b (times ∷ ts) = tt
 
-  follows-good : (ts : List Token) → Good (follows true) ts (followsOn rec ts)
+  follows-good : (ts : List Token) → Good (follows true) ts (follows_on rec ts)
   follows-good [] = tt
   follows-good (one x ∷ ts) = tt
   follows-good (run p ∷ ts) = tt
@@ -171,7 +171,7 @@ module _ (rec : Hedges) (good : (p : Place) (ts : List Token) → Good p ts (rec
   follows-good (plus ∷ ts) = tt
   follows-good (times ∷ ts) = tt
 
-  inside-good : (ts : List Token) → Good inside ts (insideOn rec ts)
+  inside-good : (ts : List Token) → Good inside ts (inside_on rec ts)
   inside-good [] = tt
   inside-good (one x ∷ ts) = full-good (one x ∷ ts) (rec (begins true) (one x ∷ ts)) (good (begins true) (one x ∷ ts))
   inside-good (run p ∷ ts) = full-good (run p ∷ ts) (rec (begins true) (run p ∷ ts)) (good (begins true) (run p ∷ ts))
@@ -183,7 +183,7 @@ module _ (rec : Hedges) (good : (p : Place) (ts : List Token) → Good p ts (rec
   inside-good (plus ∷ ts) = full-good (plus ∷ ts) (rec (begins true) (plus ∷ ts)) (good (begins true) (plus ∷ ts))
   inside-good (times ∷ ts) = full-good (times ∷ ts) (rec (begins true) (times ∷ ts)) (good (begins true) (times ∷ ts))
 
-after-good : (rec : Hedges) → ((p : Place) (ts : List Token) → Good p ts (rec p ts)) → (b : Bool) (ts : List Token) → Good (follows b) ts (elim b [ true ↦ followsOn rec ts | false ↦ got ε ts ])
+after-good : (rec : Hedges) → ((p : Place) (ts : List Token) → Good p ts (rec p ts)) → (b : Bool) (ts : List Token) → Good (follows b) ts (elim b [ true ↦ follows_on rec ts | false ↦ got ε ts ])
 after-good rec good true ts = follows-good rec good ts
 after-good rec good false ts = alone
 

@@ -9,7 +9,7 @@ use lib.Dec.{ltb, eqb}
 use lib.ListN.{length, length-append}
 use borrow.Author.Tests.{eqb-true, ltb-true, eq-eqb, eqb-false, ltb-false, lt-ltb, le-ltb}
 use Rattle.language.specs.Kinds.{pick}
-use Rattle.texts.specs.Numbering.{holds, place, enter, entered, inOrder}
+use Rattle.texts.specs.Numbering.{holds, place, enter, entered, in_order}
 
 -- ---- all of a list
 
@@ -120,9 +120,9 @@ abbrev pub up_to : ℕ → List ℕ
 up_to zero = []
 up_to (suc n) = up_to n ++ (n ∷ [])
 
-pub length-upTo : (n : ℕ) → length (up_to n) ≡ n
-length-upTo zero = refl
-length-upTo (suc n) = let i = length-upTo n in simp length-append (omega arith)
+pub length-up_to : (n : ℕ) → length (up_to n) ≡ n
+length-up_to zero = refl
+length-up_to (suc n) = let i = length-up_to n in simp length-append (omega arith)
 
 -- below suc n: below n, or n
 ltb-suc : (m n : ℕ) → (ltb m n || (eqb m n || false)) ≡ ltb m (suc n)
@@ -133,67 +133,67 @@ ltb-suc m n = on (ltb m n) refl (eqb m n) refl
     on false e true f = let z = eqb-true m n f in sym (lt-ltb m (suc n) (omega arith))
     on false e false f = let z = ltb-false m n e in let y = eqb-false m n f in sym (le-ltb m (suc n) (omega arith))
 
-pub holds-upTo : (m n : ℕ) → holds m (up_to n) ≡ ltb m n
-holds-upTo m zero = sym (le-ltb m 0 (omega arith))
-holds-upTo m (suc n) = holds-++ m (up_to n) (n ∷ []) ∙ ap (λ b. b || (eqb m n || false)) (holds-upTo m n) ∙ ltb-suc m n
+pub holds-up_to : (m n : ℕ) → holds m (up_to n) ≡ ltb m n
+holds-up_to m zero = sym (le-ltb m 0 (omega arith))
+holds-up_to m (suc n) = holds-++ m (up_to n) (n ∷ []) ∙ ap (λ b. b || (eqb m n || false)) (holds-up_to m n) ∙ ltb-suc m n
 
-pub place-upTo : (m n : ℕ) → m < n → place m (up_to n) ≡ m
-place-upTo m zero p = absurd (omega arith)
-place-upTo m (suc n) p = on (ltb m n) refl (place-upTo m n)
+pub place-up_to : (m n : ℕ) → m < n → place m (up_to n) ≡ m
+place-up_to m zero p = absurd (omega arith)
+place-up_to m (suc n) p = on (ltb m n) refl (place-up_to m n)
   where
     on : (b : Bool) → ltb m n ≡ b → (m < n → place m (up_to n) ≡ m) → place m (up_to n ++ (n ∷ [])) ≡ m
-    on true e i = place_found m (up_to n) (n ∷ []) (holds-upTo m n ∙ e) ∙ i (ltb-true m n e)
+    on true e i = place_found m (up_to n) (n ∷ []) (holds-up_to m n ∙ e) ∙ i (ltb-true m n e)
     on false e i =
         let z = ltb-false m n e in
         let q : n ≡ m = omega arith in
-        place-behind m (up_to n) (n ∷ []) (holds-upTo m n ∙ e)
+        place-behind m (up_to n) (n ∷ []) (holds-up_to m n ∙ e)
         ∙ ap (λ k. length (up_to n) + place m (k ∷ [])) q
         ∙ ap (λ k. length (up_to n) + k) (place-self m)
-        ∙ (let y = length-upTo n in omega arith)
+        ∙ (let y = length-up_to n in omega arith)
 
 some_same : (n m : ℕ) → ◌≡◌ {A = Option ℕ} (some n) (some m) → n ≡ m
 some_same n m e = cc
 
 -- The table of numbers that are in order is these numbers, and all of them are below its length.
-pub in_order : (n m : ℕ) (l : List ℕ) → inOrder n l ≡ some m → (entered (up_to n) l ≡ up_to m) × (n ≤ m) × All (λ k. k < m) l
-in_order n m [] e = let z = some_same n m e in (ap up_to z, omega arith, tt)
-in_order n m (k ∷ l) e = on (ltb k n) refl (eqb k n) refl e (in_order n m l) (in_order (suc n) m l)
+pub in_order_lem : (n m : ℕ) (l : List ℕ) → in_order n l ≡ some m → (entered (up_to n) l ≡ up_to m) × (n ≤ m) × All (λ k. k < m) l
+in_order_lem n m [] e = let z = some_same n m e in (ap up_to z, omega arith, tt)
+in_order_lem n m (k ∷ l) e = on (ltb k n) refl (eqb k n) refl e (in_order_lem n m l) (in_order_lem (suc n) m l)
   where
     Out : ℕ → Type 0
-    Out a = inOrder a l ≡ some m → (entered (up_to a) l ≡ up_to m) × (a ≤ m) × All (λ k. k < m) l
+    Out a = in_order a l ≡ some m → (entered (up_to a) l ≡ up_to m) × (a ≤ m) × All (λ k. k < m) l
 
-    on : (b : Bool) → ltb k n ≡ b → (d : Bool) → eqb k n ≡ d → pick b (inOrder n l) (pick d (inOrder (suc n) l) none) ≡ some m → Out n → Out (suc n)
+    on : (b : Bool) → ltb k n ≡ b → (d : Bool) → eqb k n ≡ d → pick b (in_order n l) (pick d (in_order (suc n) l) none) ≡ some m → Out n → Out (suc n)
         → (entered (enter k (up_to n)) l ≡ up_to m) × (n ≤ m) × All (λ k. k < m) (k ∷ l)
     on true b d e' z i j =
         let p = ltb-true k n b in
         let o = i z in
         let q = o.1 in
-        (ap (λ h. entered (pick h (up_to n) (up_to n ++ (k ∷ []))) l) (holds-upTo k n ∙ b) ∙ o.0, o.1, (omega arith, o.2))
+        (ap (λ h. entered (pick h (up_to n) (up_to n ++ (k ∷ []))) l) (holds-up_to k n ∙ b) ∙ o.0, o.1, (omega arith, o.2))
     on false b true f z i j =
         let p = eqb-true k n f in
         let o = j z in
         let q = o.1 in (
-          ap (λ h. entered (pick h (up_to n) (up_to n ++ (k ∷ []))) l) (holds-upTo k n ∙ b) ∙ ap (λ h. entered (up_to n ++ (h ∷ [])) l) p ∙ o.0,
+          ap (λ h. entered (pick h (up_to n) (up_to n ++ (k ∷ []))) l) (holds-up_to k n ∙ b) ∙ ap (λ h. entered (up_to n ++ (h ∷ [])) l) p ∙ o.0,
           omega arith,
           (omega arith, o.2),
         )
     on false b false f z i j = absurd (let y : ◌≡◌ {A = ℕ} 0 1 = cc in omega arith)
 
 -- The numbers that a table gives are in order.
-pub numbers-in-order : (t l : List ℕ) → inOrder (length t) (map (λ n. place n (entered t l)) l) ≡ some (length (entered t l))
+pub numbers-in-order : (t l : List ℕ) → in_order (length t) (map (λ n. place n (entered t l)) l) ≡ some (length (entered t l))
 numbers-in-order t [] = refl
 numbers-in-order t (n ∷ l) = on (holds n t) refl (numbers-in-order t l) (numbers-in-order (t ++ (n ∷ [])) l)
   where
     Out : List ℕ → Type 0
-    Out s = inOrder (length s) (map (λ n. place n (entered s l)) l) ≡ some (length (entered s l))
+    Out s = in_order (length s) (map (λ n. place n (entered s l)) l) ≡ some (length (entered s l))
 
     on : (b : Bool) → holds n t ≡ b → Out t → Out (t ++ (n ∷ []))
-        → inOrder (length t) (place n (entered (pick b t (t ++ (n ∷ []))) l) ∷ map (λ m. place m (entered (pick b t (t ++ (n ∷ []))) l)) l) ≡ some (length (entered (pick b t (t ++ (n ∷ []))) l))
+        → in_order (length t) (place n (entered (pick b t (t ++ (n ∷ []))) l) ∷ map (λ m. place m (entered (pick b t (t ++ (n ∷ []))) l)) l) ≡ some (length (entered (pick b t (t ++ (n ∷ []))) l))
     on true b i j =
         let g = grows t l in
         let p = place-below n t b in
         let q : place n (entered t l) ≡ place n t = ap (place n) g.1 ∙ place_found n t g.0 b in
-        ap (λ h. pick h (inOrder (length t) (map (λ m. place m (entered t l)) l)) (pick (eqb (place n (entered t l)) (length t)) (inOrder (suc (length t)) (map (λ m. place m (entered t l)) l)) none))
+        ap (λ h. pick h (in_order (length t) (map (λ m. place m (entered t l)) l)) (pick (eqb (place n (entered t l)) (length t)) (in_order (suc (length t)) (map (λ m. place m (entered t l)) l)) none))
         (lt-ltb (place n (entered t l)) (length t) (omega arith))
         ∙ i
     on false b i j =
@@ -201,8 +201,8 @@ numbers-in-order t (n ∷ l) = on (holds n t) refl (numbers-in-order t l) (numbe
         let s : holds n (t ++ (n ∷ [])) ≡ true = holds-++ n t (n ∷ []) ∙ ap (λ h. h || (eqb n n || false)) b ∙ ap (λ h. h || false) (eq-eqb n n refl) in
         let q : place n (entered (t ++ (n ∷ [])) l) ≡ length t = ap (place n) g.1 ∙ place_found n (t ++ (n ∷ [])) g.0 s ∙ place-behind n t (n ∷ []) b ∙ ap (λ k. length t + k) (place-self n) ∙ (omega arith) in
         let w : length (t ++ (n ∷ [])) ≡ suc (length t) = simp length-append (omega arith) in
-        ap (λ h. pick h (inOrder (length t) (map (λ m. place m (entered (t ++ (n ∷ [])) l)) l)) (pick (eqb (place n (entered (t ++ (n ∷ [])) l)) (length t)) (inOrder (suc (length t)) (map (λ m. place m (entered (t ++ (n ∷ [])) l)) l)) none))
+        ap (λ h. pick h (in_order (length t) (map (λ m. place m (entered (t ++ (n ∷ [])) l)) l)) (pick (eqb (place n (entered (t ++ (n ∷ [])) l)) (length t)) (in_order (suc (length t)) (map (λ m. place m (entered (t ++ (n ∷ [])) l)) l)) none))
         (le-ltb (place n (entered (t ++ (n ∷ [])) l)) (length t) (omega arith))
-        ∙ ap (λ h. pick h (inOrder (suc (length t)) (map (λ m. place m (entered (t ++ (n ∷ [])) l)) l)) none) (eq-eqb (place n (entered (t ++ (n ∷ [])) l)) (length t) q)
-        ∙ ap (λ k. inOrder k (map (λ m. place m (entered (t ++ (n ∷ [])) l)) l)) (sym w)
+        ∙ ap (λ h. pick h (in_order (suc (length t)) (map (λ m. place m (entered (t ++ (n ∷ [])) l)) l)) none) (eq-eqb (place n (entered (t ++ (n ∷ [])) l)) (length t) q)
+        ∙ ap (λ k. in_order k (map (λ m. place m (entered (t ++ (n ∷ [])) l)) l)) (sym w)
         ∙ j

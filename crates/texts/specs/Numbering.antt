@@ -19,86 +19,86 @@ at_s terms n k = k
 at_s hedges n k = k
 at_s functions n k = k
 
-abbrev pub atT : Class → ℕ → List ℕ → List ℕ
-atT symbols n k = k
-atT terms n k = n ∷ k
-atT hedges n k = k
-atT functions n k = k
+abbrev pub at_t : Class → ℕ → List ℕ → List ℕ
+at_t symbols n k = k
+at_t terms n k = n ∷ k
+at_t hedges n k = k
+at_t functions n k = k
 
-abbrev pub atH : Class → ℕ → List ℕ → List ℕ
-atH symbols n k = k
-atH terms n k = k
-atH hedges n k = n ∷ k
-atH functions n k = k
+abbrev pub at_h : Class → ℕ → List ℕ → List ℕ
+at_h symbols n k = k
+at_h terms n k = k
+at_h hedges n k = n ∷ k
+at_h functions n k = k
 
-abbrev pub atX : Class → ℕ → List ℕ → List ℕ
-atX symbols n k = k
-atX terms n k = k
-atX hedges n k = k
-atX functions n k = n ∷ k
+abbrev pub at_x : Class → ℕ → List ℕ → List ℕ
+at_x symbols n k = k
+at_x terms n k = k
+at_x hedges n k = k
+at_x functions n k = n ∷ k
 
-abbrev pub atF : Class → Functor → List ℕ → List ℕ
-atF c (symbol f) k = at_s c f.0 k
-atF c (fvar X) k = atX c X.0 k
+abbrev pub at_f : Class → Functor → List ℕ → List ℕ
+at_f c (symbol f) k = at_s c f.0 k
+at_f c (fvar X) k = at_x c X.0 k
 
-abbrev pub inHedge : Class → Hedge → List ℕ → List ℕ
-inHedge c ε k = k
-inHedge c (tvar x r) k = atT c x.0 (inHedge c r k)
-inHedge c (hvar p r) k = atH c p.0 (inHedge c r k)
-inHedge c (node f a r) k = atF c f (inHedge c a (inHedge c r k))
+abbrev pub in_hedge : Class → Hedge → List ℕ → List ℕ
+in_hedge c ε k = k
+in_hedge c (tvar x r) k = at_t c x.0 (in_hedge c r k)
+in_hedge c (hvar p r) k = at_h c p.0 (in_hedge c r k)
+in_hedge c (node f a r) k = at_f c f (in_hedge c a (in_hedge c r k))
 
-abbrev pub inExpr : Class → Expr → List ℕ → List ℕ
-inExpr c eps k = k
-inExpr c (cat a b) k = inExpr c a (inExpr c b k)
-inExpr c (alt a b) k = inExpr c a (inExpr c b k)
-inExpr c (star a) k = inExpr c a k
-inExpr c (over f a) k = at_s c f.0 (inExpr c a k)
+abbrev pub in_expr : Class → Expr → List ℕ → List ℕ
+in_expr c eps k = k
+in_expr c (cat a b) k = in_expr c a (in_expr c b k)
+in_expr c (alt a b) k = in_expr c a (in_expr c b k)
+in_expr c (star a) k = in_expr c a k
+in_expr c (over f a) k = at_s c f.0 (in_expr c a k)
 
-abbrev pub inLiteral : Class → Literal → List ℕ → List ℕ
-inLiteral c (eqn l r) k = inHedge c l (inHedge c r k)
-inLiteral c (mem h R) k = inHedge c h (inExpr c R k)
+abbrev pub in_literal : Class → Literal → List ℕ → List ℕ
+in_literal c (eqn l r) k = in_hedge c l (in_hedge c r k)
+in_literal c (mem h R) k = in_hedge c h (in_expr c R k)
 
-abbrev pub inConj : Class → Conj → List ℕ → List ℕ
-inConj c [] k = k
-inConj c (l ∷ ls) k = inLiteral c l (inConj c ls k)
+abbrev pub in_conj : Class → Conj → List ℕ → List ℕ
+in_conj c [] k = k
+in_conj c (l ∷ ls) k = in_literal c l (in_conj c ls k)
 
-abbrev pub inAll : Class → List Conj → List ℕ
-inAll c [] = []
-inAll c (j ∷ js) = inConj c j (inAll c js)
+abbrev pub in_all : Class → List Conj → List ℕ
+in_all c [] = []
+in_all c (j ∷ js) = in_conj c j (in_all c js)
 
 -- ---- other names, one for each
 
 abbrev pub Naming : Type 0
 Naming = Class → ℕ → ℕ
 
-abbrev pub nameF : Naming → Functor → Functor
-nameF ρ (symbol f) = symbol (record { 0 = ρ symbols f.0 })
-nameF ρ (fvar X) = fvar (record { 0 = ρ functions X.0 })
+abbrev pub name_f : Naming → Functor → Functor
+name_f ρ (symbol f) = symbol (record { 0 = ρ symbols f.0 })
+name_f ρ (fvar X) = fvar (record { 0 = ρ functions X.0 })
 
-abbrev pub nameHedge : Naming → Hedge → Hedge
-nameHedge ρ ε = ε
-nameHedge ρ (tvar x r) = tvar (record { 0 = ρ terms x.0 }) (nameHedge ρ r)
-nameHedge ρ (hvar p r) = hvar (record { 0 = ρ hedges p.0 }) (nameHedge ρ r)
-nameHedge ρ (node f a r) = node (nameF ρ f) (nameHedge ρ a) (nameHedge ρ r)
+abbrev pub name_hedge : Naming → Hedge → Hedge
+name_hedge ρ ε = ε
+name_hedge ρ (tvar x r) = tvar (record { 0 = ρ terms x.0 }) (name_hedge ρ r)
+name_hedge ρ (hvar p r) = hvar (record { 0 = ρ hedges p.0 }) (name_hedge ρ r)
+name_hedge ρ (node f a r) = node (name_f ρ f) (name_hedge ρ a) (name_hedge ρ r)
 
-abbrev pub nameExpr : Naming → Expr → Expr
-nameExpr ρ eps = eps
-nameExpr ρ (cat a b) = cat (nameExpr ρ a) (nameExpr ρ b)
-nameExpr ρ (alt a b) = alt (nameExpr ρ a) (nameExpr ρ b)
-nameExpr ρ (star a) = star (nameExpr ρ a)
-nameExpr ρ (over f a) = over (record { 0 = ρ symbols f.0 }) (nameExpr ρ a)
+abbrev pub name_expr : Naming → Expr → Expr
+name_expr ρ eps = eps
+name_expr ρ (cat a b) = cat (name_expr ρ a) (name_expr ρ b)
+name_expr ρ (alt a b) = alt (name_expr ρ a) (name_expr ρ b)
+name_expr ρ (star a) = star (name_expr ρ a)
+name_expr ρ (over f a) = over (record { 0 = ρ symbols f.0 }) (name_expr ρ a)
 
-abbrev pub nameLiteral : Naming → Literal → Literal
-nameLiteral ρ (eqn l r) = eqn (nameHedge ρ l) (nameHedge ρ r)
-nameLiteral ρ (mem h R) = mem (nameHedge ρ h) (nameExpr ρ R)
+abbrev pub name_literal : Naming → Literal → Literal
+name_literal ρ (eqn l r) = eqn (name_hedge ρ l) (name_hedge ρ r)
+name_literal ρ (mem h R) = mem (name_hedge ρ h) (name_expr ρ R)
 
-abbrev pub nameConj : Naming → Conj → Conj
-nameConj ρ [] = []
-nameConj ρ (l ∷ k) = nameLiteral ρ l ∷ nameConj ρ k
+abbrev pub name_conj : Naming → Conj → Conj
+name_conj ρ [] = []
+name_conj ρ (l ∷ k) = name_literal ρ l ∷ name_conj ρ k
 
-abbrev pub nameAll : Naming → List Conj → List Conj
-nameAll ρ [] = []
-nameAll ρ (k ∷ ks) = nameConj ρ k ∷ nameAll ρ ks
+abbrev pub name_all : Naming → List Conj → List Conj
+name_all ρ [] = []
+name_all ρ (k ∷ ks) = name_conj ρ k ∷ name_all ρ ks
 
 -- ---- a table of names: each that is new is put at its end
 
@@ -120,19 +120,19 @@ entered table (n ∷ l) = entered (enter n table) l
 
 -- the names of a class in the order of their first appearance
 unfoldable pub table : List Conj → Class → List ℕ
-table ks c = entered [] (inAll c ks)
+table ks c = entered [] (in_all c ks)
 
 -- each name its number
 unfoldable pub numbered : List Conj → List Conj
-numbered ks = nameAll (λ c n. place n (table ks c)) ks
+numbered ks = name_all (λ c n. place n (table ks c)) ks
 
-abbrev pub atLeastOne : ℕ → ℕ
-atLeastOne zero = 1
-atLeastOne (suc n) = suc n
+abbrev pub at_least_one : ℕ → ℕ
+at_least_one zero = 1
+at_least_one (suc n) = suc n
 
-unfoldable pub countsIn : List Conj → Counts
-countsIn ks = record {
-  symbols = atLeastOne (length (table ks symbols));
+unfoldable pub counts_in : List Conj → Counts
+counts_in ks = record {
+  symbols = at_least_one (length (table ks symbols));
   unordered = 0;
   terms = length (table ks terms);
   hedges = length (table ks hedges);
@@ -141,6 +141,6 @@ countsIn ks = record {
 
 -- ---- a question that is numbered so already: from `n` on, each number is an old one or the next
 
-abbrev pub inOrder : ℕ → List ℕ → Option ℕ
-inOrder n [] = some n
-inOrder n (m ∷ l) = pick (ltb m n) (inOrder n l) (pick (eqb m n) (inOrder (suc n) l) none)
+abbrev pub in_order : ℕ → List ℕ → Option ℕ
+in_order n [] = some n
+in_order n (m ∷ l) = pick (ltb m n) (in_order n l) (pick (eqb m n) (in_order (suc n) l) none)

@@ -6,12 +6,12 @@ use Rattle.language.specs.declared.Refusal.TheVariants.{NotText, ManyNames, Long
 use Rattle.language.specs.Limits.{Limits}
 use Rattle.language.specs.Kinds.{pick}
 use Rattle.language.specs.Trees.{Conj, Counts, Question}
-use Rattle.language.specs.Writing.{conjWords}
-use Rattle.language.specs.Question.{countsFit, asks, refuses, readQuestion}
-use Rattle.meaning.specs.Values.{joined, offsetsOf}
+use Rattle.language.specs.Writing.{conj_words}
+use Rattle.language.specs.Question.{counts_fit, asks, refuses, read_question}
+use Rattle.meaning.specs.Values.{joined, offsets_of}
 use Rattle.texts.specs.Texts.{parse}
-use Rattle.texts.specs.Numbering.{symbols, terms, hedges, functions, inAll, inOrder, atLeastOne, numbered, countsIn}
-use Rattle.texts.specs.Writer.{allText}
+use Rattle.texts.specs.Numbering.{symbols, terms, hedges, functions, in_all, in_order, at_least_one, numbered, counts_in}
+use Rattle.texts.specs.Writer.{all_text}
 
 pub data Outcome : Type 0 where
   -- words, or bytes
@@ -20,9 +20,9 @@ pub data Outcome : Type 0 where
 
 -- ---- a question's words
 
-unfoldable pub questionWords : Counts → List Conj → List ℕ
-questionWords n ks =
-    (n.symbols + 256 * n.unordered) ∷ n.terms ∷ n.hedges ∷ n.functions ∷ length ks ∷ (offsetsOf (6 + length ks) (map conjWords ks) ++ joined (map conjWords ks))
+unfoldable pub question_words : Counts → List Conj → List ℕ
+question_words n ks =
+    (n.symbols + 256 * n.unordered) ∷ n.terms ∷ n.hedges ∷ n.functions ∷ length ks ∷ (offsets_of (6 + length ks) (map conj_words ks) ++ joined (map conj_words ks))
 
 -- ---- reading a text: 17, 18, 19, in this order
 
@@ -30,36 +30,36 @@ unfoldable pub fitted : ℕ → ℕ → List ℕ → Outcome
 fitted most room ws = pick (leb (length ws) most && leb (length ws) room) (gives ws) (denies LongText)
 
 unfoldable pub counted : Limits → ℕ → List Conj → Outcome
-counted L room ks = pick (countsFit L (countsIn ks) (length ks)) (fitted L.question room (questionWords (countsIn ks) (numbered ks))) (denies ManyNames)
+counted L room ks = pick (counts_fit L (counts_in ks) (length ks)) (fitted L.question room (question_words (counts_in ks) (numbered ks))) (denies ManyNames)
 
-unfoldable pub readsText : Limits → ℕ → List ℕ → Outcome
-readsText L room text = elim (parse text) [ none ↦ denies NotText | some ks ↦ counted L room ks ]
+unfoldable pub reads_text : Limits → ℕ → List ℕ → Outcome
+reads_text L room text = elim (parse text) [ none ↦ denies NotText | some ks ↦ counted L room ks ]
 
 -- ---- writing one: 2 to 6, then 20, then 19
 
-abbrev pub countIs : Option ℕ → ℕ → Bool
-countIs none n = false
-countIs (some m) n = eqb m n
+abbrev pub count_is : Option ℕ → ℕ → Bool
+count_is none n = false
+count_is (some m) n = eqb m n
 
-abbrev pub symbolsAre : Option ℕ → ℕ → Bool
-symbolsAre none n = false
-symbolsAre (some m) n = eqb (atLeastOne m) n
+abbrev pub symbols_are : Option ℕ → ℕ → Bool
+symbols_are none n = false
+symbols_are (some m) n = eqb (at_least_one m) n
 
 -- numbered in order of first appearance, counted as they appear, and no symbol unordered
-unfoldable pub asRead : Question → Bool
-asRead q =
+unfoldable pub as_read : Question → Bool
+as_read q =
     eqb q.counts.unordered 0
-    && (symbolsAre (inOrder 0 (inAll symbols q.alternatives)) q.counts.symbols
-    && (countIs (inOrder 0 (inAll terms q.alternatives)) q.counts.terms
-    && (countIs (inOrder 0 (inAll hedges q.alternatives)) q.counts.hedges
-    && countIs (inOrder 0 (inAll functions q.alternatives)) q.counts.functions)))
+    && (symbols_are (in_order 0 (in_all symbols q.alternatives)) q.counts.symbols
+    && (count_is (in_order 0 (in_all terms q.alternatives)) q.counts.terms
+    && (count_is (in_order 0 (in_all hedges q.alternatives)) q.counts.hedges
+    && count_is (in_order 0 (in_all functions q.alternatives)) q.counts.functions)))
 
 unfoldable pub lent : ℕ → List ℕ → Outcome
 lent room text = pick (leb (length text) room) (gives text) (denies LongText)
 
-unfoldable pub writesText : Limits → ℕ → List ℕ → Outcome
-writesText L room ws =
-    elim (readQuestion L ws) [
+unfoldable pub writes_text : Limits → ℕ → List ℕ → Outcome
+writes_text L room ws =
+    elim (read_question L ws) [
       | refuses r ↦ denies r
-      | asks q ↦ pick (asRead q) (lent room (allText q.alternatives)) (denies OtherNumbers)
+      | asks q ↦ pick (as_read q) (lent room (all_text q.alternatives)) (denies OtherNumbers)
     ]

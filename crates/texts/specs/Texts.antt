@@ -6,23 +6,23 @@ use Rattle.grammar.specs.Tokens.{Token, Tokens, tokens}
 use Rattle.grammar.specs.Grammar.{lines_of}
 use Rattle.texts.specs.Parsing.{line_of}
 
-abbrev pub withLine : Option Conj → Option (List Conj) → Option (List Conj)
-withLine none ks = none
-withLine (some k) none = none
-withLine (some k) (some ks) = some (k ∷ ks)
+abbrev pub with_line : Option Conj → Option (List Conj) → Option (List Conj)
+with_line none ks = none
+with_line (some k) none = none
+with_line (some k) (some ks) = some (k ∷ ks)
 
-abbrev pub lineOn : List Token → Option (List Conj) → Option (List Conj)
-lineOn [] ks = ks
-lineOn (t ∷ ts) ks = withLine (line_of (t ∷ ts)) ks
+abbrev pub line_on : List Token → Option (List Conj) → Option (List Conj)
+line_on [] ks = ks
+line_on (t ∷ ts) ks = with_line (line_of (t ∷ ts)) ks
 
-abbrev pub tokensOn : Tokens → Option (List Conj) → Option (List Conj)
-tokensOn none ks = none
-tokensOn (some ts) ks = lineOn ts ks
+abbrev pub tokens_on : Tokens → Option (List Conj) → Option (List Conj)
+tokens_on none ks = none
+tokens_on (some ts) ks = line_on ts ks
 
-unfoldable pub readLines : List (List ℕ) → Option (List Conj)
-readLines [] = some []
-readLines (l ∷ ls) = tokensOn (tokens l) (readLines ls)
+unfoldable pub read_lines : List (List ℕ) → Option (List Conj)
+read_lines [] = some []
+read_lines (l ∷ ls) = tokens_on (tokens l) (read_lines ls)
 
 -- one pass over the text
 unfoldable pub parse : List ℕ → Option (List Conj)
-parse text = readLines (lines_of text)
+parse text = read_lines (lines_of text)

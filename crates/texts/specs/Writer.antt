@@ -16,45 +16,45 @@ digits n =
     ((48 + n / 10 / 10) ∷ (48 + n / 10 % 10) ∷ (48 + n % 10) ∷ []))
 
 -- a, x, p, X
-abbrev pub letterOf : Class → ℕ
-letterOf symbols = 97
-letterOf terms = 120
-letterOf hedges = 112
-letterOf functions = 88
+abbrev pub letter_of : Class → ℕ
+letter_of symbols = 97
+letter_of terms = 120
+letter_of hedges = 112
+letter_of functions = 88
 
-abbrev pub nameText : Class → ℕ → List ℕ
-nameText c n = letterOf c ∷ digits n
+abbrev pub name_text : Class → ℕ → List ℕ
+name_text c n = letter_of c ∷ digits n
 
 -- the numbers that these names are
 abbrev pub plain : Naming
-plain c n = name_of (nameText c n)
+plain c n = name_of (name_text c n)
 
 -- ---- hedges
 
-abbrev pub functorText : Functor → List ℕ → List ℕ
-functorText (symbol f) k = nameText symbols f.0 ++ k
-functorText (fvar X) k = 37 ∷ (nameText functions X.0 ++ k)
+abbrev pub functor_text : Functor → List ℕ → List ℕ
+functor_text (symbol f) k = name_text symbols f.0 ++ k
+functor_text (fvar X) k = 37 ∷ (name_text functions X.0 ++ k)
 
 -- between brackets: a comma and a space before what follows an element
-abbrev pub sepText : Hedge → List ℕ → List ℕ
-sepText ε k = k
-sepText (tvar x r) k = 44 ∷ 32 ∷ k
-sepText (hvar p r) k = 44 ∷ 32 ∷ k
-sepText (node f c r) k = 44 ∷ 32 ∷ k
+abbrev pub sep_text : Hedge → List ℕ → List ℕ
+sep_text ε k = k
+sep_text (tvar x r) k = 44 ∷ 32 ∷ k
+sep_text (hvar p r) k = 44 ∷ 32 ∷ k
+sep_text (node f c r) k = 44 ∷ 32 ∷ k
 
 -- no brackets where there are no children
-abbrev pub childText : Hedge → List ℕ → List ℕ → List ℕ
-childText ε inner k = k
-childText (tvar x r) inner k = 40 ∷ inner
-childText (hvar p r) inner k = 40 ∷ inner
-childText (node f c r) inner k = 40 ∷ inner
+abbrev pub child_text : Hedge → List ℕ → List ℕ → List ℕ
+child_text ε inner k = k
+child_text (tvar x r) inner k = 40 ∷ inner
+child_text (hvar p r) inner k = 40 ∷ inner
+child_text (node f c r) inner k = 40 ∷ inner
 
 -- the elements, and the bracket that closes
-abbrev pub insideText : Hedge → List ℕ → List ℕ
-insideText ε k = 41 ∷ k
-insideText (tvar x r) k = 63 ∷ (nameText terms x.0 ++ sepText r (insideText r k))
-insideText (hvar p r) k = 42 ∷ (nameText hedges p.0 ++ sepText r (insideText r k))
-insideText (node f c r) k = functorText f (childText c (insideText c (sepText r (insideText r k))) (sepText r (insideText r k)))
+abbrev pub inside_text : Hedge → List ℕ → List ℕ
+inside_text ε k = 41 ∷ k
+inside_text (tvar x r) k = 63 ∷ (name_text terms x.0 ++ sep_text r (inside_text r k))
+inside_text (hvar p r) k = 42 ∷ (name_text hedges p.0 ++ sep_text r (inside_text r k))
+inside_text (node f c r) k = functor_text f (child_text c (inside_text c (sep_text r (inside_text r k))) (sep_text r (inside_text r k)))
 
 -- one element stands by itself, anything else in brackets
 abbrev pub is_empty : Hedge → Bool
@@ -63,11 +63,11 @@ is_empty (tvar x r) = false
 is_empty (hvar p r) = false
 is_empty (node f c r) = false
 
-abbrev pub sideText : Hedge → List ℕ → List ℕ
-sideText ε k = 40 ∷ 41 ∷ k
-sideText (tvar x r) k = pick (is_empty r) (63 ∷ (nameText terms x.0 ++ k)) (40 ∷ insideText (tvar x r) k)
-sideText (hvar p r) k = pick (is_empty r) (42 ∷ (nameText hedges p.0 ++ k)) (40 ∷ insideText (hvar p r) k)
-sideText (node f c r) k = pick (is_empty r) (functorText f (childText c (insideText c k) k)) (40 ∷ insideText (node f c r) k)
+abbrev pub side_text : Hedge → List ℕ → List ℕ
+side_text ε k = 40 ∷ 41 ∷ k
+side_text (tvar x r) k = pick (is_empty r) (63 ∷ (name_text terms x.0 ++ k)) (40 ∷ inside_text (tvar x r) k)
+side_text (hvar p r) k = pick (is_empty r) (42 ∷ (name_text hedges p.0 ++ k)) (40 ∷ inside_text (hvar p r) k)
+side_text (node f c r) k = pick (is_empty r) (functor_text f (child_text c (inside_text c k) k)) (40 ∷ inside_text (node f c r) k)
 
 -- ---- expressions: before a star, in a choice, in a list
 
@@ -76,43 +76,43 @@ pub data Tight : Type 0 where
   chosen : Tight
   listed : Tight
 
-abbrev pub innerText : Expr → List ℕ → List ℕ → List ℕ
-innerText eps inner k = k
-innerText (cat a b) inner k = 40 ∷ inner
-innerText (alt a b) inner k = 40 ∷ inner
-innerText (star a) inner k = 40 ∷ inner
-innerText (over f a) inner k = 40 ∷ inner
+abbrev pub inner_text : Expr → List ℕ → List ℕ → List ℕ
+inner_text eps inner k = k
+inner_text (cat a b) inner k = 40 ∷ inner
+inner_text (alt a b) inner k = 40 ∷ inner
+inner_text (star a) inner k = 40 ∷ inner
+inner_text (over f a) inner k = 40 ∷ inner
 
-abbrev pub exprText : Expr → Tight → List ℕ → List ℕ
-exprText eps t k = 40 ∷ 41 ∷ k
-exprText (over f a) t k = nameText symbols f.0 ++ innerText a (exprText a listed (41 ∷ k)) k
-exprText (star a) t k = exprText a starred (42 ∷ k)
-exprText (alt a b) starred k = 40 ∷ exprText a starred (32 ∷ 43 ∷ 32 ∷ exprText b chosen (41 ∷ k))
-exprText (alt a b) chosen k = exprText a starred (32 ∷ 43 ∷ 32 ∷ exprText b chosen k)
-exprText (alt a b) listed k = exprText a starred (32 ∷ 43 ∷ 32 ∷ exprText b chosen k)
-exprText (cat a b) starred k = 40 ∷ exprText a chosen (44 ∷ 32 ∷ exprText b listed (41 ∷ k))
-exprText (cat a b) chosen k = 40 ∷ exprText a chosen (44 ∷ 32 ∷ exprText b listed (41 ∷ k))
-exprText (cat a b) listed k = exprText a chosen (44 ∷ 32 ∷ exprText b listed k)
+abbrev pub expr_text : Expr → Tight → List ℕ → List ℕ
+expr_text eps t k = 40 ∷ 41 ∷ k
+expr_text (over f a) t k = name_text symbols f.0 ++ inner_text a (expr_text a listed (41 ∷ k)) k
+expr_text (star a) t k = expr_text a starred (42 ∷ k)
+expr_text (alt a b) starred k = 40 ∷ expr_text a starred (32 ∷ 43 ∷ 32 ∷ expr_text b chosen (41 ∷ k))
+expr_text (alt a b) chosen k = expr_text a starred (32 ∷ 43 ∷ 32 ∷ expr_text b chosen k)
+expr_text (alt a b) listed k = expr_text a starred (32 ∷ 43 ∷ 32 ∷ expr_text b chosen k)
+expr_text (cat a b) starred k = 40 ∷ expr_text a chosen (44 ∷ 32 ∷ expr_text b listed (41 ∷ k))
+expr_text (cat a b) chosen k = 40 ∷ expr_text a chosen (44 ∷ 32 ∷ expr_text b listed (41 ∷ k))
+expr_text (cat a b) listed k = expr_text a chosen (44 ∷ 32 ∷ expr_text b listed k)
 
 -- ---- literals, lines
 
-abbrev pub literalText : Literal → List ℕ → List ℕ
-literalText (eqn l r) k = sideText l (32 ∷ 61 ∷ 32 ∷ sideText r k)
-literalText (mem h R) k = sideText h (32 ∷ 105 ∷ 110 ∷ 32 ∷ exprText R chosen k)
+abbrev pub literal_text : Literal → List ℕ → List ℕ
+literal_text (eqn l r) k = side_text l (32 ∷ 61 ∷ 32 ∷ side_text r k)
+literal_text (mem h R) k = side_text h (32 ∷ 105 ∷ 110 ∷ 32 ∷ expr_text R chosen k)
 
-abbrev pub moreText : Conj → List ℕ → List ℕ
-moreText [] k = k
-moreText (l ∷ ls) k = 44 ∷ 32 ∷ k
+abbrev pub more_text : Conj → List ℕ → List ℕ
+more_text [] k = k
+more_text (l ∷ ls) k = 44 ∷ 32 ∷ k
 
-abbrev pub literalsText : Conj → List ℕ
-literalsText [] = []
-literalsText (l ∷ ls) = literalText l (moreText ls (literalsText ls))
+abbrev pub literals_text : Conj → List ℕ
+literals_text [] = []
+literals_text (l ∷ ls) = literal_text l (more_text ls (literals_text ls))
 
-abbrev pub lineText : Conj → List ℕ
-lineText [] = 40 ∷ 41 ∷ []
-lineText (l ∷ ls) = literalsText (l ∷ ls)
+abbrev pub line_text : Conj → List ℕ
+line_text [] = 40 ∷ 41 ∷ []
+line_text (l ∷ ls) = literals_text (l ∷ ls)
 
 -- each line with its newline
-abbrev pub allText : List Conj → List ℕ
-allText [] = []
-allText (k ∷ ks) = lineText k ++ (10 ∷ allText ks)
+abbrev pub all_text : List Conj → List ℕ
+all_text [] = []
+all_text (k ∷ ks) = line_text k ++ (10 ∷ all_text ks)

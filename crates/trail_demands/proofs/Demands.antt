@@ -5,7 +5,7 @@ use mathlib.Core.Path.{◌≡◌}
 use lib.ListN.{take}
 use Rattle.language.specs.Limits.{desk}
 use Rattle.language.specs.Trees.{Question}
-use Rattle.language.specs.Question.{asks, readQuestion}
+use Rattle.language.specs.Question.{asks, read_question}
 use Rattle.lines.specs.Fillings.{WordsMeet}
 use Rattle.word_bytes.specs.Bytes.{words_of, words_in}
 use Rattle.demands.specs.HostCalls.{DeskSolve}
@@ -21,20 +21,20 @@ desk-replay-tells = replaying.replay-tells
 
 -- Where it is 0, whoever wrote the trail: any filling meets the question exactly when it meets one of the lines, alternative n exactly when it meets one of
 -- that number; every settled line has a filling; no rule applies to a line; and no line is open where each alternative is a match.
-pub desk-replay-accepts : (c : DeskReplay) → c.number ≡ 0 → Accepted (words_in c.question) (words_of c.answerLeft)
+pub desk-replay-accepts : (c : DeskReplay) → c.number ≡ 0 → Accepted (words_in c.question) (words_of c.answer_left)
 desk-replay-accepts c z = (replaying.replays c z).there
 
 -- desk_solve_trail, where it gives 100 and n, leaves the answer that desk_solve leaves;
 pub desk-solve-trail-solves : (t : DeskSolveTrail) (n : ℕ) → t.number ≡ 100 + n → (c : DeskSolve) → c.question ≡ t.question → c.answer ≡ t.answer
-    → (c.number ≡ 0) × (c.answerLeft ≡ t.answerLeft)
+    → (c.number ≡ 0) × (c.answer_left ≡ t.answer_left)
 desk-solve-trail-solves = noting.as-solved
 
 -- and its trail, three words for each of the n steps, is accepted and gives the same answer.
-pub desk-own-trail : (t : DeskSolveTrail) (n : ℕ) → t.number ≡ 100 + n → (c : DeskReplay) → c.question ≡ t.question → c.trail ≡ take (2 * (3 * n)) t.trailLeft → c.answer ≡ t.answer
-    → (c.number ≡ 0) × (c.answerLeft ≡ t.answerLeft)
+pub desk-own-trail : (t : DeskSolveTrail) (n : ℕ) → t.number ≡ 100 + n → (c : DeskReplay) → c.question ≡ t.question → c.trail ≡ take (2 * (3 * n)) t.trail_left → c.answer ≡ t.answer
+    → (c.number ≡ 0) × (c.answer_left ≡ t.answer_left)
 desk-own-trail = noting.own-accepted
 
 -- What desk_example_trail shows is a filling of the question, and it meets the question, whoever wrote the trail.
 pub desk-example-trail-meets : (c : DeskExampleTrail) (m : ℕ) → c.number ≡ 100 + m
-    → (q : Question) × (readQuestion desk (words_in c.question) ≡ asks q) × WordsMeet desk q.counts (take m (words_of c.room_left)) q.alternatives
+    → (q : Question) × (read_question desk (words_in c.question) ≡ asks q) × WordsMeet desk q.counts (take m (words_of c.room_left)) q.alternatives
 desk-example-trail-meets = showing.shows-meets

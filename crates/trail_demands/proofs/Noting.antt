@@ -9,16 +9,16 @@ use lib.Seq.{take_at}
 use Rattle.language.specs.declared.Refusal.{Refusal}
 use Rattle.language.specs.Limits.{desk}
 use Rattle.language.specs.Numbers.{number_of}
-use Rattle.language.specs.Question.{readQuestion}
+use Rattle.language.specs.Question.{read_question}
 use Rattle.language.proofs.Numbering.{each_number}
 use Rattle.rules.specs.Run.{Numbered}
-use Rattle.rules.specs.Answer.{Solving, answered, unread, given-up, solving, answerWords}
-use Rattle.word_bytes.specs.Bytes.{words_of, words_in, halfWord, bytes_of}
-use Rattle.word_bytes.proofs.Pairs.{length-bytesOf, words-of-bytes, none-half}
+use Rattle.rules.specs.Answer.{Solving, answered, unread, given-up, solving, answer_words}
+use Rattle.word_bytes.specs.Bytes.{words_of, words_in, half_word, bytes_of}
+use Rattle.word_bytes.proofs.Pairs.{length-bytes_of, words-of-bytes, none-half}
 use Rattle.host.specs.Host as host
-use Rattle.replay.specs.Calls.{solvingTrail, trailOf, replaying}
+use Rattle.replay.specs.Calls.{solving_trail, trail_of, replaying}
 use Rattle.replay.proofs.Told.{untrailed, own-trail-accepted}
-use Rattle.trail_host.specs.Host.{trailingBytes, trailNumber, trailBytes, replayingBytes}
+use Rattle.trail_host.specs.Host.{trailing_bytes, trail_number, trail_bytes, replaying_bytes}
 use Rattle.demands.specs.HostCalls.{DeskSolve}
 use Rattle.trail_demands.specs.Calls.{DeskSolveTrail, DeskReplay}
 
@@ -31,55 +31,55 @@ module _ (t : DeskSolveTrail) (n : ℕ) (z : t.number ≡ 100 + n) where
   asked = words_in t.question
 
   abbrev comes : Solving
-  comes = solvingTrail desk desk.room (length t.answer / 2) (length t.trail / 2) asked
+  comes = solving_trail desk desk.room (length t.answer / 2) (length t.trail / 2) asked
 
   record Notes : Type 0 where
     ls : List Numbered
     noted : comes ≡ answered ls n
-    left : t.answerLeft ≡ bytes_of (answerWords desk ls) ++ drop (2 * desk.room) t.answer
-    trail : t.trailLeft ≡ bytes_of (trailOf desk (readQuestion desk asked)) ++ drop (2 * length (trailOf desk (readQuestion desk asked))) t.trail
+    left : t.answer_left ≡ bytes_of (answer_words desk ls) ++ drop (2 * desk.room) t.answer
+    trail : t.trail_left ≡ bytes_of (trail_of desk (read_question desk asked)) ++ drop (2 * length (trail_of desk (read_question desk asked))) t.trail
 
   notes : Notes
-  unfolding trailingBytes trailNumber host.solveLeaves trailBytes
+  unfolding trailing_bytes trail_number host.solve_leaves trail_bytes
   notes = by comes refl t.said.0 t.said.1.0 t.said.1.1
     where
-      by : (v : Solving) → comes ≡ v → t.number ≡ trailNumber v → t.answerLeft ≡ host.solveLeaves desk v t.answer
-          → t.trailLeft ≡ trailBytes v (trailOf desk (readQuestion desk asked)) t.trail → Notes
+      by : (v : Solving) → comes ≡ v → t.number ≡ trail_number v → t.answer_left ≡ host.solve_leaves desk v t.answer
+          → t.trail_left ≡ trail_bytes v (trail_of desk (read_question desk asked)) t.trail → Notes
       by (answered ls m) d e f g = let same : m ≡ n = omega arith in record { ls = ls; noted = d ∙ ap (answered ls) same; left = f; trail = g }
       by (unread r) d e f g = not-refused r t.number n z e
       by (given-up r) d e f g = not-refused r t.number n z e
 
   -- as desk_solve
-  pub as-solved : (c : DeskSolve) → c.question ≡ t.question → c.answer ≡ t.answer → (c.number ≡ 0) × (c.answerLeft ≡ t.answerLeft)
-  unfolding host.solvingBytes host.solveNumber host.solveLeaves
+  pub as-solved : (c : DeskSolve) → c.question ≡ t.question → c.answer ≡ t.answer → (c.number ≡ 0) × (c.answer_left ≡ t.answer_left)
+  unfolding host.solving_bytes host.solve_number host.solve_leaves
   as-solved c same lent =
       let s = notes in
       let u = (untrailed desk desk.room (length t.answer / 2) (length t.trail / 2) asked s.ls n s.noted).0 in
       let d : solving desk desk.room (length c.answer / 2) (words_in c.question) ≡ answered s.ls n =
       ap (λ q. solving desk desk.room (length c.answer / 2) (words_in q)) same ∙ ap (λ a. solving desk desk.room (length a / 2) asked) lent ∙ u in
-      (c.said.0 ∙ ap host.solveNumber d, c.said.1 ∙ ap (λ v. host.solveLeaves desk v c.answer) d ∙ ap (λ a. bytes_of (answerWords desk s.ls) ++ drop (2 * desk.room) a) lent ∙ sym s.left)
+      (c.said.0 ∙ ap host.solve_number d, c.said.1 ∙ ap (λ v. host.solve_leaves desk v c.answer) d ∙ ap (λ a. bytes_of (answer_words desk s.ls) ++ drop (2 * desk.room) a) lent ∙ sym s.left)
 
   -- the bytes of the trail
-  trail_is : (s : Notes) → take (2 * (3 * n)) t.trailLeft ≡ bytes_of (trailOf desk (readQuestion desk asked))
+  trail_is : (s : Notes) → take (2 * (3 * n)) t.trail_left ≡ bytes_of (trail_of desk (read_question desk asked))
   trail_is s =
-      let w = trailOf desk (readQuestion desk asked) in
+      let w = trail_of desk (read_question desk asked) in
       let size = (untrailed desk desk.room (length t.answer / 2) (length t.trail / 2) asked s.ls n s.noted).2 in
-      let l : length (bytes_of w) ≡ 2 * (3 * n) = length-bytesOf w ∙ ap (λ m. 2 * m) size in
+      let l : length (bytes_of w) ≡ 2 * (3 * n) = length-bytes_of w ∙ ap (λ m. 2 * m) size in
       ap (take (2 * (3 * n))) s.trail ∙ take_at (bytes_of w) (drop (2 * length w) t.trail) (2 * (3 * n)) l
 
   -- its own trail is accepted, with the same answer
-  pub own-accepted : (c : DeskReplay) → c.question ≡ t.question → c.trail ≡ take (2 * (3 * n)) t.trailLeft → c.answer ≡ t.answer → (c.number ≡ 0) × (c.answerLeft ≡ t.answerLeft)
-  unfolding replayingBytes host.solveNumber host.solveLeaves
+  pub own-accepted : (c : DeskReplay) → c.question ≡ t.question → c.trail ≡ take (2 * (3 * n)) t.trail_left → c.answer ≡ t.answer → (c.number ≡ 0) × (c.answer_left ≡ t.answer_left)
+  unfolding replaying_bytes host.solve_number host.solve_leaves
   own-accepted c same taken lent =
       let s = notes in
-      let w = trailOf desk (readQuestion desk asked) in
+      let w = trail_of desk (read_question desk asked) in
       let u = (untrailed desk desk.room (length t.answer / 2) (length t.trail / 2) asked s.ls n s.noted).0 in
       let bytes : c.trail ≡ bytes_of w = taken ∙ trail_is s in
-      let even : halfWord (bytes_of w) ≡ false = none-half (bytes_of w) (length w) (length-bytesOf w) in
-      let d : replaying desk desk.room (length c.answer / 2) (halfWord c.trail) (words_of c.trail) (words_in c.question) ≡ answered s.ls n =
-      ap (λ b. replaying desk desk.room (length c.answer / 2) (halfWord b) (words_of b) (words_in c.question)) bytes
+      let even : half_word (bytes_of w) ≡ false = none-half (bytes_of w) (length w) (length-bytes_of w) in
+      let d : replaying desk desk.room (length c.answer / 2) (half_word c.trail) (words_of c.trail) (words_in c.question) ≡ answered s.ls n =
+      ap (λ b. replaying desk desk.room (length c.answer / 2) (half_word b) (words_of b) (words_in c.question)) bytes
       ∙ ap (λ h. replaying desk desk.room (length c.answer / 2) h (words_of (bytes_of w)) (words_in c.question)) even
       ∙ ap (λ ws. replaying desk desk.room (length c.answer / 2) false ws (words_in c.question)) (words-of-bytes w)
       ∙ ap (λ q. replaying desk desk.room (length c.answer / 2) false w (words_in q)) same ∙ ap (λ a. replaying desk desk.room (length a / 2) false w asked) lent
       ∙ own-trail-accepted desk desk.room (length t.answer / 2) asked s.ls n u in
-      (c.said.0 ∙ ap host.solveNumber d, c.said.1 ∙ ap (λ v. host.solveLeaves desk v c.answer) d ∙ ap (λ a. bytes_of (answerWords desk s.ls) ++ drop (2 * desk.room) a) lent ∙ sym s.left)
+      (c.said.0 ∙ ap host.solve_number d, c.said.1 ∙ ap (λ v. host.solve_leaves desk v c.answer) d ∙ ap (λ a. bytes_of (answer_words desk s.ls) ++ drop (2 * desk.room) a) lent ∙ sym s.left)

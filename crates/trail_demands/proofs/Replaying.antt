@@ -13,37 +13,37 @@ use Rattle.language.specs.declared.Signature.{Signature}
 use Rattle.language.specs.Limits.{desk}
 use Rattle.language.specs.Numbers.{number_of}
 use Rattle.language.specs.Trees.{signature}
-use Rattle.language.specs.Question.{Asked, asks, refuses, readQuestion}
+use Rattle.language.specs.Question.{Asked, asks, refuses, read_question}
 use Rattle.rules.specs.Reply.{nothing}
 use Rattle.rules.specs.Step.{step}
 use Rattle.rules.specs.Solved.{solved}
 use Rattle.rules.specs.Run.{Numbered, EachLine, Outcome, finished, refused}
-use Rattle.rules.specs.Answer.{Solving, answered, unread, given-up, ran, answerWords}
+use Rattle.rules.specs.Answer.{Solving, answered, unread, given-up, ran, answer_words}
 use Rattle.rules.proofs.Steps.{named-at-sides}
 use Rattle.rules.proofs.Stopping.{RunStopsBy}
 use Rattle.exact.proofs.Declared.{read-declared, named-declared}
 use Rattle.lines.specs.Matching.{Matching, KeepsMatching}
 use Rattle.lines.proofs.Lines.{rules-keep-matching, matching-line-solved}
-use Rattle.word_bytes.specs.Bytes.{words_of, words_in, halfWord, bytes_of}
+use Rattle.word_bytes.specs.Bytes.{words_of, words_in, half_word, bytes_of}
 use Rattle.answer_example.specs.Answers.{Answer}
 use Rattle.host.specs.Host as host
 use Rattle.host.proofs.Refusals.{Between, Early, early}
 use Rattle.replay.specs.Replay.{replay}
-use Rattle.replay.specs.Calls.{lent, replayingOf, replaying}
+use Rattle.replay.specs.Calls.{lent, replaying_of, replaying}
 use Rattle.replay.proofs.Along.{replay-keeps}
 use Rattle.replay.proofs.Refused.{replay-stops-by}
 use Rattle.replay.proofs.Replayed.{replay-numbered, replay-exact, replay-rests}
 use Rattle.replay.proofs.Told.{replayed-run}
 use Rattle.trail_example.proofs.Finished.{retraced-end}
-use Rattle.trail_host.specs.Host.{replayingBytes}
+use Rattle.trail_host.specs.Host.{replaying_bytes}
 use Rattle.demands.specs.Columns.{column, zeroed}
-use Rattle.demands.specs.Answers.{numberedOf}
-use Rattle.demands.specs.HostTells.{leftInBytes}
+use Rattle.demands.specs.Answers.{numbered_of}
+use Rattle.demands.specs.HostTells.{left_in_bytes}
 use Rattle.demands.proofs.Between.{not-zero}
 use Rattle.demands.proofs.Columns.{early-column}
 use Rattle.demands.proofs.Hosting.{words-before}
 use Rattle.demands.proofs.Promising.{Kept, marks-of, each-line-of, exact-of}
-use Rattle.demands.proofs.Reading.{asLine, answer_back, numbered-back}
+use Rattle.demands.proofs.Reading.{as_line, answer_back, numbered-back}
 use Rattle.trail_demands.specs.Calls.{DeskReplay}
 use Rattle.trail_demands.specs.Tells.{Accepted, ReplayingNumber, DeskReplayTells}
 use Rattle.trail_demands.specs.Tells as tells
@@ -85,7 +85,7 @@ stops-run : (o : Outcome) → RunStopsBy Late o → Stops (ran o)
 stops-run (finished ls n) h = tt
 stops-run (refused r) h = h
 
-stops-asked : (half : Bool) (trail : List ℕ) (a : Asked) → Early a → Stops (replayingOf desk half trail a)
+stops-asked : (half : Bool) (trail : List ℕ) (a : Asked) → Early a → Stops (replaying_of desk half trail a)
 stops-asked half trail (asks q) h =
     stops-run (replay desk (signature q.counts) half trail q.alternatives)
     (replay-stops-by Late (inl (lit≤ tt), refl) (inl (lit≤ tt), refl) (inl (lit≤ tt), refl) (inr (inl refl), refl) (inr (inr (lit≤ tt, lit≤ tt)), refl)
@@ -106,24 +106,24 @@ module _ (c : DeskReplay) where
   words = words_in c.question
 
   abbrev comes : Solving
-  comes = replaying desk desk.room (length c.answer / 2) (halfWord c.trail) (words_of c.trail) words
+  comes = replaying desk desk.room (length c.answer / 2) (half_word c.trail) (words_of c.trail) words
 
-  accepted : (ls : List Numbered) (n : ℕ) → comes ≡ answered ls n → c.answerLeft ≡ bytes_of (answerWords desk ls) ++ drop (2 * desk.room) c.answer
-      → (a : Accepted words (words_of c.answerLeft)) × (a.lines ≡ map asLine ls)
+  accepted : (ls : List Numbered) (n : ℕ) → comes ≡ answered ls n → c.answer_left ≡ bytes_of (answer_words desk ls) ++ drop (2 * desk.room) c.answer
+      → (a : Accepted words (words_of c.answer_left)) × (a.lines ≡ map as_line ls)
   accepted ls n d f =
-      let k = replay-kept desk.room (length c.answer / 2) (halfWord c.trail) (words_of c.trail) words ls n d in
-      let s = retraced-end desk.room (length c.answer / 2) (halfWord c.trail) (words_of c.trail) words ls n d in
-      let there : Answer (words_of c.answerLeft) ls = record {
+      let k = replay-kept desk.room (length c.answer / 2) (half_word c.trail) (words_of c.trail) words ls n d in
+      let s = retraced-end desk.room (length c.answer / 2) (half_word c.trail) (words_of c.trail) words ls n d in
+      let there : Answer (words_of c.answer_left) ls = record {
         few = s.few;
         size = s.size;
         rest = words_of (drop (2 * desk.room) c.answer);
-        words = ap words_of f ∙ words-before (answerWords desk ls) (drop (2 * desk.room) c.answer);
+        words = ap words_of f ∙ words-before (answer_words desk ls) (drop (2 * desk.room) c.answer);
         lines = s.lines;
       } in (
         record {
           asked = k.asked;
           question-read = k.question-read;
-          lines = map asLine ls;
+          lines = map as_line ls;
           answer-read = answer_back there;
           marks = marks-of ls;
           rests = each-line-of (λ l. step (signature k.asked.counts) l.literals ≡ nothing) (λ j. step (signature k.asked.counts) j ≡ nothing) (λ j q. q) ls k.quiet;
@@ -137,15 +137,15 @@ module _ (c : DeskReplay) where
     pub ls : List Numbered
     pub n : ℕ
     pub replayed : comes ≡ answered ls n
-    pub left : c.answerLeft ≡ bytes_of (answerWords desk ls) ++ drop (2 * desk.room) c.answer
-    pub there : Accepted words (words_of c.answerLeft)
-    pub lines : there.lines ≡ map asLine ls
+    pub left : c.answer_left ≡ bytes_of (answer_words desk ls) ++ drop (2 * desk.room) c.answer
+    pub there : Accepted words (words_of c.answer_left)
+    pub lines : there.lines ≡ map as_line ls
 
   pub replays : c.number ≡ 0 → Replays
-  unfolding replayingBytes host.solveNumber host.solveLeaves
+  unfolding replaying_bytes host.solve_number host.solve_leaves
   replays z = by comes refl c.said.0 c.said.1
     where
-      by : (v : Solving) → comes ≡ v → c.number ≡ host.solveNumber v → c.answerLeft ≡ host.solveLeaves desk v c.answer → Replays
+      by : (v : Solving) → comes ≡ v → c.number ≡ host.solve_number v → c.answer_left ≡ host.solve_leaves desk v c.answer → Replays
       by (answered ls n) d e f = let (a, g) = accepted ls n d f in record { ls = ls; n = n; replayed = d; left = f; there = a; lines = g }
       by (unread r) d e f = not-zero r (sym e ∙ z)
       by (given-up r) d e f = not-zero r (sym e ∙ z)
@@ -153,20 +153,20 @@ module _ (c : DeskReplay) where
   stops : Stops comes
   unfolding replaying
   stops =
-      stops-lent desk.room (length c.answer / 2) (replayingOf desk (halfWord c.trail) (words_of c.trail) (readQuestion desk words))
-      (stops-asked (halfWord c.trail) (words_of c.trail) (readQuestion desk words) (early desk words))
+      stops-lent desk.room (length c.answer / 2) (replaying_of desk (half_word c.trail) (words_of c.trail) (read_question desk words))
+      (stops-asked (half_word c.trail) (words_of c.trail) (read_question desk words) (early desk words))
 
   pub replay-tells : DeskReplayTells c
-  unfolding replayingBytes host.solveNumber host.solveLeaves
+  unfolding replaying_bytes host.solve_number host.solve_leaves
   replay-tells = by comes refl c.said.0 c.said.1
     where
-      by : (v : Solving) → comes ≡ v → c.number ≡ host.solveNumber v → c.answerLeft ≡ host.solveLeaves desk v c.answer → DeskReplayTells c
+      by : (v : Solving) → comes ≡ v → c.number ≡ host.solve_number v → c.answer_left ≡ host.solve_leaves desk v c.answer → DeskReplayTells c
       by (answered ls n) d e f =
           let (a, g) = accepted ls n d f in
-          tells.accepts e a (f ∙ ap (λ ks. bytes_of (answerWords desk ks) ++ drop (2 * desk.room) c.answer) (sym (ap numberedOf g ∙ numbered-back ls)))
+          tells.accepts e a (f ∙ ap (λ ks. bytes_of (answer_words desk ks) ++ drop (2 * desk.room) c.answer) (sym (ap numbered_of g ∙ numbered-back ls)))
       by (unread r) d e f =
           let b : Stops (unread r) = subst Stops d stops in
-          tells.refuses r e (inl (let h = b.1 in omega arith)) (f ∙ sym (ap (λ k. leftInBytes k c.answer c.answer) (early-column r b.1)))
+          tells.refuses r e (inl (let h = b.1 in omega arith)) (f ∙ sym (ap (λ k. left_in_bytes k c.answer c.answer) (early-column r b.1)))
       by (given-up r) d e f =
           let b : Stops (given-up r) = subst Stops d stops in
-          tells.refuses r e b.0 (f ∙ sym (ap (λ k. leftInBytes k c.answer c.answer) b.1))
+          tells.refuses r e b.0 (f ∙ sym (ap (λ k. left_in_bytes k c.answer c.answer) b.1))

@@ -2,11 +2,11 @@
 -- old, room).
 use Rattle.std.specs.Prelude.{ℕ, ◌≡◌, List, length}
 use Rattle.language.specs.Limits.{desk}
-use Rattle.language.specs.Question.{readQuestion}
+use Rattle.language.specs.Question.{read_question}
 use Rattle.word_bytes.specs.Bytes.{words_in}
-use Rattle.host.specs.Host.{solveNumber, solveLeaves, showNumber, showLeaves}
-use Rattle.replay.specs.Calls.{trailOf}
-use Rattle.trail_host.specs.Host.{trailingBytes, trailNumber, trailBytes, replayingBytes, showingTrailBytes}
+use Rattle.host.specs.Host.{solve_number, solve_leaves, show_number, show_leaves}
+use Rattle.replay.specs.Calls.{trail_of}
+use Rattle.trail_host.specs.Host.{trailing_bytes, trail_number, trail_bytes, replaying_bytes, showing_trail_bytes}
 use Rattle.trail_host.proofs.desk_solve_trail as desk-solve-trail
 use Rattle.trail_host.proofs.desk_replay as desk-replay
 use Rattle.trail_host.proofs.desk_example_trail as desk-example-trail
@@ -19,11 +19,11 @@ pub record DeskSolveTrail : Type 0 where
   pub answer : List ℕ
   pub trail : List ℕ
   pub number : ℕ
-  pub answerLeft : List ℕ
-  pub trailLeft : List ℕ
-  pub said : (number ≡ trailNumber (trailingBytes desk (length answer) (length trail) question))
-      × ((answerLeft ≡ solveLeaves desk (trailingBytes desk (length answer) (length trail) question) answer)
-      × (trailLeft ≡ trailBytes (trailingBytes desk (length answer) (length trail) question) (trailOf desk (readQuestion desk (words_in question))) trail))
+  pub answer_left : List ℕ
+  pub trail_left : List ℕ
+  pub said : (number ≡ trail_number (trailing_bytes desk (length answer) (length trail) question))
+      × ((answer_left ≡ solve_leaves desk (trailing_bytes desk (length answer) (length trail) question) answer)
+      × (trail_left ≡ trail_bytes (trailing_bytes desk (length answer) (length trail) question) (trail_of desk (read_question desk (words_in question))) trail))
 
 -- any outcome that the contract itself allows is one; so below
 abbrev pub solve-trail-allowed : Call desk-solve-trail.ended desk-solve-trail.Reads.Pre desk-solve-trail.Reads.Post → DeskSolveTrail
@@ -32,8 +32,8 @@ solve-trail-allowed c = record {
   answer = c.arguments.1.0.now;
   trail = c.arguments.1.1.0.now;
   number = c.outcome.0;
-  answerLeft = c.outcome.1.1.0;
-  trailLeft = c.outcome.1.1.1.0;
+  answer_left = c.outcome.1.1.0;
+  trail_left = c.outcome.1.1.1.0;
   said = c.said;
 }
 
@@ -44,8 +44,8 @@ pub record DeskReplay : Type 0 where
   pub trail : List ℕ
   pub answer : List ℕ
   pub number : ℕ
-  pub answerLeft : List ℕ
-  pub said : (number ≡ solveNumber (replayingBytes desk (length answer) trail question)) × (answerLeft ≡ solveLeaves desk (replayingBytes desk (length answer) trail question) answer)
+  pub answer_left : List ℕ
+  pub said : (number ≡ solve_number (replaying_bytes desk (length answer) trail question)) × (answer_left ≡ solve_leaves desk (replaying_bytes desk (length answer) trail question) answer)
 
 abbrev pub replay-allowed : Call desk-replay.ended desk-replay.Reads.Pre desk-replay.Reads.Post → DeskReplay
 replay-allowed c = record {
@@ -53,7 +53,7 @@ replay-allowed c = record {
   trail = c.arguments.1.0.now;
   answer = c.arguments.1.1.0.now;
   number = c.outcome.0;
-  answerLeft = c.outcome.1.1.1.0;
+  answer_left = c.outcome.1.1.1.0;
   said = c.said;
 }
 
@@ -67,7 +67,7 @@ pub record DeskExampleTrail : Type 0 where
   pub room : List ℕ
   pub number : ℕ
   pub room_left : List ℕ
-  pub said : (number ≡ showNumber (showingTrailBytes desk (length room) line old trail question)) × (room_left ≡ showLeaves (showingTrailBytes desk (length room) line old trail question) room)
+  pub said : (number ≡ show_number (showing_trail_bytes desk (length room) line old trail question)) × (room_left ≡ show_leaves (showing_trail_bytes desk (length room) line old trail question) room)
 
 abbrev pub example-trail-allowed : Call desk-example-trail.ended desk-example-trail.Reads.Pre desk-example-trail.Reads.Post → DeskExampleTrail
 example-trail-allowed c = record {

@@ -1,7 +1,7 @@
 // The example of a line of a question, to whose lines a trail leads.
 ghost use Rattle.std.specs.Prelude.{◌≡◌};
-ghost use Rattle.outcomes.specs.Numbers.{shownNumbers};
-ghost use Rattle.trail_example.specs.Exhibits.{toldTrailExhibits};
+ghost use Rattle.outcomes.specs.Numbers.{shown_numbers};
+ghost use Rattle.trail_example.specs.Exhibits.{told_trail_exhibits};
 
 use answer_example::show_line;
 use outcomes::{Outcome, Shown};
@@ -18,7 +18,7 @@ pub fn example_trail(
     answer: &mut [u16],
     room: &mut [u16],
 ) -> Shown
-    ensures { (shownNumbers result, work.new, answer.new, room.new) ≡ toldTrailExhibits line old trail.now question.now work.old answer.old room.old }
+    ensures { (shown_numbers result, work.new, answer.new, room.new) ≡ told_trail_exhibits line old trail.now question.now work.old answer.old room.old }
 {
     let s = replay(question, trail, work, answer);
     let outcome = s.outcome;

@@ -8,14 +8,14 @@ use Rattle.language.specs.declared.Refusal.TheVariants.{ShortSlice}
 use Rattle.language.specs.Limits.{Limits}
 use Rattle.language.specs.Numbers.{number_of}
 use Rattle.language.specs.Trees.{signature}
-use Rattle.language.specs.Question.{Asked, asks, refuses, readQuestion}
+use Rattle.language.specs.Question.{Asked, asks, refuses, read_question}
 use Rattle.rules.specs.Run.{Outcome, finished, refused}
 use Rattle.rules.specs.Answer.{Solving, unread, ran}
 use Rattle.rules.proofs.Stopping.{RunStopsBy}
 use Rattle.host.proofs.Refusals.{Early, early, InOrder}
-use Rattle.replay.specs.Trail.{runTrail}
+use Rattle.replay.specs.Trail.{run_trail}
 use Rattle.replay.specs.Replay.{replay}
-use Rattle.replay.specs.Calls.{lent, solvingTrailOf, solvingTrail, replayingOf, replaying}
+use Rattle.replay.specs.Calls.{lent, solving_trail_of, solving_trail, replaying_of, replaying}
 use Rattle.replay.proofs.Trailed.{trail-stops-by}
 use Rattle.replay.proofs.Refused.{replay-stops-by}
 
@@ -33,20 +33,20 @@ order-tested false s h = h
 order-lent : (L : Limits) (work answer : ℕ) (s : Solving) → InOrder s → InOrder (lent L work answer s)
 order-lent L work answer s h = order-tested (ltb work L.room) _ (order-tested (ltb answer L.room) s h)
 
-order-trail : (L : Limits) (room : ℕ) (a : Asked) → Early a → InOrder (solvingTrailOf L room a)
+order-trail : (L : Limits) (room : ℕ) (a : Asked) → Early a → InOrder (solving_trail_of L room a)
 order-trail L room (asks q) h =
-    order-run (runTrail L (signature q.counts) room q.alternatives) (trail-stops-by Late (lit≤ tt) (lit≤ tt) (lit≤ tt) (lit≤ tt) (lit≤ tt) (lit≤ tt) L (signature q.counts) room q.alternatives)
+    order-run (run_trail L (signature q.counts) room q.alternatives) (trail-stops-by Late (lit≤ tt) (lit≤ tt) (lit≤ tt) (lit≤ tt) (lit≤ tt) (lit≤ tt) L (signature q.counts) room q.alternatives)
 order-trail L room (refuses r) h = h
 
-order-replay : (L : Limits) (half : Bool) (trail : List ℕ) (a : Asked) → Early a → InOrder (replayingOf L half trail a)
+order-replay : (L : Limits) (half : Bool) (trail : List ℕ) (a : Asked) → Early a → InOrder (replaying_of L half trail a)
 order-replay L half trail (asks q) h =
     order-run (replay L (signature q.counts) half trail q.alternatives) (replay-stops-by Late (lit≤ tt) (lit≤ tt) (lit≤ tt) (lit≤ tt) (lit≤ tt) (lit≤ tt) (lit≤ tt) L (signature q.counts) half trail q.alternatives)
 order-replay L half trail (refuses r) h = h
 
-pub trail-in-order : (L : Limits) (work answer room : ℕ) (ws : List ℕ) → InOrder (solvingTrail L work answer room ws)
-unfolding solvingTrail
-trail-in-order L work answer room ws = order-lent L work answer _ (order-trail L room (readQuestion L ws) (early L ws))
+pub trail-in-order : (L : Limits) (work answer room : ℕ) (ws : List ℕ) → InOrder (solving_trail L work answer room ws)
+unfolding solving_trail
+trail-in-order L work answer room ws = order-lent L work answer _ (order-trail L room (read_question L ws) (early L ws))
 
 pub replay-in-order : (L : Limits) (work answer : ℕ) (half : Bool) (trail ws : List ℕ) → InOrder (replaying L work answer half trail ws)
 unfolding replaying
-replay-in-order L work answer half trail ws = order-lent L work answer _ (order-replay L half trail (readQuestion L ws) (early L ws))
+replay-in-order L work answer half trail ws = order-lent L work answer _ (order-replay L half trail (read_question L ws) (early L ws))

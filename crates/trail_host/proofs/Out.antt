@@ -8,12 +8,12 @@ use lib.Seq.{sets, take_at}
 use Rattle.rules.specs.Answer.{Solving, answered, unread, given-up}
 use Rattle.word_bytes.specs.Bytes.{bytes_of}
 use Rattle.word_bytes.proofs.Pairs.{written}
-use Rattle.handing.specs.Handed.{numberOr, trailOut}
+use Rattle.handing.specs.Handed.{number_or, trail_out}
 use Rattle.handing.proofs.Handed.{number-value, number-refusal, keeps-none, keeps-early, keeps-late, trail-kept, trail-put, trail-cleared}
-use Rattle.host.specs.Host.{solveNumber}
+use Rattle.host.specs.Host.{solve_number}
 use Rattle.host.proofs.Refusals.{InOrder}
-use Rattle.replay.specs.Calls.{trailLeaves}
-use Rattle.trail_host.specs.Host.{trailNumber, trailBytes}
+use Rattle.replay.specs.Calls.{trail_leaves}
+use Rattle.trail_host.specs.Host.{trail_number, trail_bytes}
 
 -- the steps that come back
 abbrev pub steps_of : Solving → ℕ
@@ -32,15 +32,15 @@ steps-fit (answered ls n) t room h = h.0
 steps-fit (unread r) t room h = omega arith
 steps-fit (given-up r) t room h = omega arith
 
-pub number-told : (v : Solving) → InOrder v → (k steps : ℕ) → k ≡ solveNumber v → steps ≡ steps_of v → numberOr k steps ≡ trailNumber v
-unfolding solveNumber trailNumber
+pub number-told : (v : Solving) → InOrder v → (k steps : ℕ) → k ≡ solve_number v → steps ≡ steps_of v → number_or k steps ≡ trail_number v
+unfolding solve_number trail_number
 number-told (answered ls n) o k steps e f = number-value k steps e ∙ ap (λ m. 100 + m) f
 number-told (unread r) o k steps e f = number-refusal k steps (λ z. omega arith) ∙ e
 number-told (given-up r) o k steps e f = number-refusal k steps (λ z. omega arith) ∙ e
 
 module _ (b t own own' : List ℕ) (room : 2 * length own ≤ length b) where
-  pub trail-told : (v : Solving) → InOrder v → (k steps : ℕ) → k ≡ solveNumber v → steps ≡ steps_of v → Trailed v t (length own) → own' ≡ trailLeaves v t own → trailOut k steps own' b ≡ trailBytes v t b
-  unfolding solveNumber trailBytes
+  pub trail-told : (v : Solving) → InOrder v → (k steps : ℕ) → k ≡ solve_number v → steps ≡ steps_of v → Trailed v t (length own) → own' ≡ trail_leaves v t own → trail_out k steps own' b ≡ trail_bytes v t b
+  unfolding solve_number trail_bytes
   trail-told (answered ls n) o k steps e f (fits, size) g =
       let m : length t ≡ 3 * steps = size ∙ ap (λ i. 3 * i) (sym f) in
       trail-put k steps own' b (keeps-none k e) e ∙ ap (λ us. sets b 0 (bytes_of us)) (ap (take (3 * steps)) g ∙ take_at t (drop (length t) own) (3 * steps) m) ∙ written b t (omega arith)

@@ -2,11 +2,11 @@
 // is lent are arrays of the desk's own, cleared at the start; a trail that is replayed is read where it stands.
 ghost use Rattle.std.specs.Prelude.{◌*◌, ◌≤◌, ◌≡◌, length};
 ghost use Rattle.language.specs.Limits.{desk};
-ghost use Rattle.language.specs.Question.{readQuestion};
-ghost use Rattle.word_bytes.specs.Bytes.{words_in, words_of, halfWord};
-ghost use Rattle.host.specs.Host.{solveNumber, solveLeaves, showNumber, showLeaves};
-ghost use Rattle.replay.specs.Calls.{solvingTrail, trailOf, showingTrail};
-ghost use Rattle.trail_host.specs.Host.{longestTrail, trailingBytes, trailNumber, trailBytes, replayingBytes, showingTrailBytes};
+ghost use Rattle.language.specs.Question.{read_question};
+ghost use Rattle.word_bytes.specs.Bytes.{words_in, words_of, half_word};
+ghost use Rattle.host.specs.Host.{solve_number, solve_leaves, show_number, show_leaves};
+ghost use Rattle.replay.specs.Calls.{solving_trail, trail_of, showing_trail};
+ghost use Rattle.trail_host.specs.Host.{longest_trail, trailing_bytes, trail_number, trail_bytes, replaying_bytes, showing_trail_bytes};
 
 use bools::truth;
 use handing::{most, put_answer, put_trail, solved_number, told};
@@ -22,10 +22,10 @@ const TRAIL: usize = 3 * STEPS;
 
 // Solving with a trail in the desk's own slices, and then in the bytes lent.
 fn note(question: &[u16], own: &mut [u16], answer: &mut [u8], trail: &mut [u8]) -> u32
-    requires { (2 * desk.room ≤ length answer.old) × (length own.old ≤ longestTrail desk) × (2 * length own.old ≤ length trail.old) }
-    ensures value { result ≡ trailNumber (solvingTrail desk desk.room desk.room (length own.old) question.now) }
-    ensures answer_after { answer.new ≡ solveLeaves desk (solvingTrail desk desk.room desk.room (length own.old) question.now) answer.old }
-    ensures trail_after { trail.new ≡ trailBytes (solvingTrail desk desk.room desk.room (length own.old) question.now) (trailOf desk (readQuestion desk question.now)) trail.old }
+    requires { (2 * desk.room ≤ length answer.old) × (length own.old ≤ longest_trail desk) × (2 * length own.old ≤ length trail.old) }
+    ensures value { result ≡ trail_number (solving_trail desk desk.room desk.room (length own.old) question.now) }
+    ensures answer_after { answer.new ≡ solve_leaves desk (solving_trail desk desk.room desk.room (length own.old) question.now) answer.old }
+    ensures trail_after { trail.new ≡ trail_bytes (solving_trail desk desk.room desk.room (length own.old) question.now) (trail_of desk (read_question desk question.now)) trail.old }
 {
     let mut work = [0u16; ROOM];
     let mut lines = [0u16; ROOM];
@@ -40,9 +40,9 @@ fn note(question: &[u16], own: &mut [u16], answer: &mut [u8], trail: &mut [u8]) 
 // Solves a question and writes its trail: 100 and the steps made, or the refusal's number.
 #[unsafe(no_mangle)]
 pub extern "C" fn desk_solve_trail(question: &[u8], answer: &mut [u8], trail: &mut [u8]) -> u32
-    ensures value { result ≡ trailNumber (trailingBytes desk (length answer.old) (length trail.old) question.now) }
-    ensures answer_after { answer.new ≡ solveLeaves desk (trailingBytes desk (length answer.old) (length trail.old) question.now) answer.old }
-    ensures trail_after { trail.new ≡ trailBytes (trailingBytes desk (length answer.old) (length trail.old) question.now) (trailOf desk (readQuestion desk (words_in question.now))) trail.old }
+    ensures value { result ≡ trail_number (trailing_bytes desk (length answer.old) (length trail.old) question.now) }
+    ensures answer_after { answer.new ≡ solve_leaves desk (trailing_bytes desk (length answer.old) (length trail.old) question.now) answer.old }
+    ensures trail_after { trail.new ≡ trail_bytes (trailing_bytes desk (length answer.old) (length trail.old) question.now) (trail_of desk (read_question desk (words_in question.now))) trail.old }
 {
     if answer.len() < ANSWER_BYTES {
         return 1;
@@ -57,8 +57,8 @@ pub extern "C" fn desk_solve_trail(question: &[u8], answer: &mut [u8], trail: &m
 // Replays a trail on a question: the refusal's number, or 0.
 #[unsafe(no_mangle)]
 pub extern "C" fn desk_replay(question: &[u8], trail: &[u8], answer: &mut [u8]) -> u32
-    ensures value { result ≡ solveNumber (replayingBytes desk (length answer.old) trail.now question.now) }
-    ensures answer_after { answer.new ≡ solveLeaves desk (replayingBytes desk (length answer.old) trail.now question.now) answer.old }
+    ensures value { result ≡ solve_number (replaying_bytes desk (length answer.old) trail.now question.now) }
+    ensures answer_after { answer.new ≡ solve_leaves desk (replaying_bytes desk (length answer.old) trail.now question.now) answer.old }
 {
     if answer.len() < ANSWER_BYTES {
         return 1;
@@ -82,8 +82,8 @@ fn show(
     room: &mut [u8],
 ) -> u32
     requires { (length own.old ≤ desk.filling) × (2 * length own.old ≤ length room.old) }
-    ensures value { result ≡ showNumber (showingTrail desk old desk.room desk.room (length own.old) line (halfWord trail.now) (words_of trail.now) question.now) }
-    ensures room_after { room.new ≡ showLeaves (showingTrail desk old desk.room desk.room (length own.old) line (halfWord trail.now) (words_of trail.now) question.now) room.old }
+    ensures value { result ≡ show_number (showing_trail desk old desk.room desk.room (length own.old) line (half_word trail.now) (words_of trail.now) question.now) }
+    ensures room_after { room.new ≡ show_leaves (showing_trail desk old desk.room desk.room (length own.old) line (half_word trail.now) (words_of trail.now) question.now) room.old }
 {
     let mut work = [0u16; ROOM];
     let mut answer = [0u16; ROOM];
@@ -104,8 +104,8 @@ pub extern "C" fn desk_example_trail(
     old: u32,
     room: &mut [u8],
 ) -> u32
-    ensures value { result ≡ showNumber (showingTrailBytes desk (length room.old) line old trail.now question.now) }
-    ensures room_after { room.new ≡ showLeaves (showingTrailBytes desk (length room.old) line old trail.now question.now) room.old }
+    ensures value { result ≡ show_number (showing_trail_bytes desk (length room.old) line old trail.now question.now) }
+    ensures room_after { room.new ≡ show_leaves (showing_trail_bytes desk (length room.old) line old trail.now question.now) room.old }
 {
     let mut words = [0u16; QUESTION];
     let mut own = [0u16; FILLING];

@@ -3,7 +3,7 @@ use mathlib.Core.Path.{sym, ap, ◌∙◌, ◌≡◌}
 use mathlib.Core.List.{List}
 use Prim.Native.Nat.{ℕ}
 use Rattle.language.proofs.Determined.{Determined}
-use Rattle.outcomes.specs.Numbers.{SolveNumbers, solvedNumbers}
+use Rattle.outcomes.specs.Numbers.{SolveNumbers, solved_numbers}
 use Rattle.outcomes.proofs.Apart.{solved-apart}
 use Rattle.trails.proofs.solve_trail as solve_trail
 
@@ -12,6 +12,6 @@ Left = SolveNumbers × List ℕ × List ℕ
 
 solve_trail-determined : Determined solve_trail.ended solve_trail.Reads.Pre solve_trail.Reads.Post
 solve_trail-determined κs a p o q e d =
-    let f : ◌≡◌ {A = Left} (solvedNumbers o.0, o.1.1.0, o.1.1.1.0) (solvedNumbers q.0, q.1.1.0, q.1.1.1.0) = e.0 ∙ sym d.0 in
+    let f : ◌≡◌ {A = Left} (solved_numbers o.0, o.1.1.0, o.1.1.1.0) (solved_numbers q.0, q.1.1.0, q.1.1.1.0) = e.0 ∙ sym d.0 in
     ap (λ z. (z, o.1)) (solved-apart o.0 q.0 (ap (λ (t : Left). t.0) f)) ∙ ap (λ (t : Left). (q.0, (tt, (t.1, (t.2, (o.1.1.1.1.0, tt)))))) f
     ∙ ap (λ (trail : List ℕ). (q.0, (tt, (q.1.1.0, (q.1.1.1.0, (trail, tt)))))) (e.1 ∙ sym d.1)

@@ -12,149 +12,149 @@ use Rattle.language.specs.declared.HedgeVar.{HedgeVar}
 use Rattle.language.specs.Limits.{desk}
 use Rattle.language.specs.Kinds.{kind_of}
 use Rattle.language.specs.Trees.{Functor, Hedge, ε, tvar, hvar, node, symbol, fvar, Expr, cat, alt, star, over, Literal, eqn, mem}
-use Rattle.language.specs.Reading.{Got, got, stop, after, both, next, termOn, readTerm, hedgeOn, readHedge, exprOn, readExpr, literalOn, readLiteral, readConj}
-use Rattle.language.proofs.Steps.{readHedge-step, readExpr-step}
+use Rattle.language.specs.Reading.{Got, got, stop, after, both, next, term_on, read_term, hedge_on, read_hedge, expr_on, read_expr, literal_on, read_literal, read_conj}
+use Rattle.language.proofs.Steps.{read_hedge-step, read_expr-step}
 use Rattle.language.proofs.Hedges.{term-at, hedge-at}
 use Rattle.language.proofs.Expressions.{expr-at}
 use Rattle.language.proofs.Formats.{Is, Right}
 use Rattle.language.proofs.Literals.{literals, literal-at, literal-some, right-literal}
-use Rattle.language.proofs.Conjunctions.{readConj-step}
+use Rattle.language.proofs.Conjunctions.{read_conj-step}
 use Rattle.trees.specs.declared.Read.TheVariants.{Next, Stop}
 use Rattle.trees.specs.Places.{placed}
-use Rattle.trees.proofs.Placing.{placed-after, placed-next, placed-none, moves, thenAt, past, both_at, here, at-kind}
+use Rattle.trees.proofs.Placing.{placed-after, placed-next, placed-none, moves, then_at, past, both_at, here, at-kind}
 
 module _ (w : List ℕ) (at : ℕ) where
-  pub past-term : length w ≤ at → Stop at ≡ placed at (readTerm desk (drop at w))
-  past-term p = past w at (readTerm desk) (unfold readTerm in refl) p
+  pub past-term : length w ≤ at → Stop at ≡ placed at (read_term desk (drop at w))
+  past-term p = past w at (read_term desk) (unfold read_term in refl) p
 
-  pub past-hedge : length w ≤ at → Stop at ≡ placed at (readHedge desk (drop at w))
-  past-hedge p = past w at (readHedge desk) (readHedge-step desk []) p
+  pub past-hedge : length w ≤ at → Stop at ≡ placed at (read_hedge desk (drop at w))
+  past-hedge p = past w at (read_hedge desk) (read_hedge-step desk []) p
 
-  pub past-expr : length w ≤ at → Stop at ≡ placed at (readExpr desk (drop at w))
-  past-expr p = past w at (readExpr desk) (readExpr-step desk []) p
+  pub past-expr : length w ≤ at → Stop at ≡ placed at (read_expr desk (drop at w))
+  past-expr p = past w at (read_expr desk) (read_expr-step desk []) p
 
-  pub past-literal : length w ≤ at → Stop at ≡ placed at (readLiteral desk (drop at w))
-  past-literal p = past w at (readLiteral desk) (unfold readLiteral in refl) p
+  pub past-literal : length w ≤ at → Stop at ≡ placed at (read_literal desk (drop at w))
+  past-literal p = past w at (read_literal desk) (unfold read_literal in refl) p
 
   -- at a word of kind k
   module _ (p : at < length w) (k : Kind) (e : k ≡ kind_of desk (get_or w at 0)) where
     -- ---- a term
 
-    to-term : placed at (termOn (readHedge desk) k (drop (at + 1) w)) ≡ placed at (readTerm desk (drop at w))
-    to-term = at-kind w at (readTerm desk) (termOn (readHedge desk)) (term-at desk) p k e
+    to-term : placed at (term_on (read_hedge desk) k (drop (at + 1) w)) ≡ placed at (read_term desk (drop at w))
+    to-term = at-kind w at (read_term desk) (term_on (read_hedge desk)) (term-at desk) p k e
 
-    pub term-variable : {x : TermVar} → k ≡ Term x → Next (at + 1) ≡ placed at (readTerm desk (drop at w))
+    pub term-variable : {x : TermVar} → k ≡ Term x → Next (at + 1) ≡ placed at (read_term desk (drop at w))
     unfolding placed
-    term-variable i = ap (λ j. placed at (termOn (readHedge desk) j (drop (at + 1) w))) (sym i) ∙ to-term
+    term-variable i = ap (λ j. placed at (term_on (read_hedge desk) j (drop (at + 1) w))) (sym i) ∙ to-term
 
     -- a functor: its children
-    pub term-functor : Among (3 ∷ 4 ∷ []) k → placed (at + 1) (readHedge desk (drop (at + 1) w)) ≡ placed at (readTerm desk (drop at w))
+    pub term-functor : Among (3 ∷ 4 ∷ []) k → placed (at + 1) (read_hedge desk (drop (at + 1) w)) ≡ placed at (read_term desk (drop at w))
     term-functor o =
-        each-kind (3 ∷ 4 ∷ []) (λ k. placed (at + 1) (readHedge desk (drop (at + 1) w)) ≡ placed at (termOn (readHedge desk) k (drop (at + 1) w))) tt tt tt (λ f. sym (placed-after at 1 _ _)) (λ X. sym (placed-after at 1 _ _)) tt tt tt tt tt tt tt k o
+        each-kind (3 ∷ 4 ∷ []) (λ k. placed (at + 1) (read_hedge desk (drop (at + 1) w)) ≡ placed at (term_on (read_hedge desk) k (drop (at + 1) w))) tt tt tt (λ f. sym (placed-after at 1 _ _)) (λ X. sym (placed-after at 1 _ _)) tt tt tt tt tt tt tt k o
         ∙ to-term
 
-    pub term-none : Among (0 ∷ 2 ∷ 5 ∷ 6 ∷ 7 ∷ 8 ∷ 9 ∷ 10 ∷ 11 ∷ []) k → Stop at ≡ placed at (readTerm desk (drop at w))
+    pub term-none : Among (0 ∷ 2 ∷ 5 ∷ 6 ∷ 7 ∷ 8 ∷ 9 ∷ 10 ∷ 11 ∷ []) k → Stop at ≡ placed at (read_term desk (drop at w))
     term-none o =
         let n = placed-none Hedge at in
-        each-kind (0 ∷ 2 ∷ 5 ∷ 6 ∷ 7 ∷ 8 ∷ 9 ∷ 10 ∷ 11 ∷ []) (λ k. Stop at ≡ placed at (termOn (readHedge desk) k (drop (at + 1) w))) n tt (λ p. n) tt tt n n n n n n n k o ∙ to-term
+        each-kind (0 ∷ 2 ∷ 5 ∷ 6 ∷ 7 ∷ 8 ∷ 9 ∷ 10 ∷ 11 ∷ []) (λ k. Stop at ≡ placed at (term_on (read_hedge desk) k (drop (at + 1) w))) n tt (λ p. n) tt tt n n n n n n n k o ∙ to-term
 
     -- ---- a hedge
 
-    to-hedge : placed at (hedgeOn (readHedge desk) k (drop (at + 1) w)) ≡ placed at (readHedge desk (drop at w))
-    to-hedge = at-kind w at (readHedge desk) (hedgeOn (readHedge desk)) (hedge-at desk) p k e
+    to-hedge : placed at (hedge_on (read_hedge desk) k (drop (at + 1) w)) ≡ placed at (read_hedge desk (drop at w))
+    to-hedge = at-kind w at (read_hedge desk) (hedge_on (read_hedge desk)) (hedge-at desk) p k e
 
-    pub hedge-end : k ≡ End → Next (at + 1) ≡ placed at (readHedge desk (drop at w))
+    pub hedge-end : k ≡ End → Next (at + 1) ≡ placed at (read_hedge desk (drop at w))
     unfolding placed
-    hedge-end i = ap (λ j. placed at (hedgeOn (readHedge desk) j (drop (at + 1) w))) (sym i) ∙ to-hedge
+    hedge-end i = ap (λ j. placed at (hedge_on (read_hedge desk) j (drop (at + 1) w))) (sym i) ∙ to-hedge
 
-    pub hedge-variable : {v : HedgeVar} → k ≡ Run v → placed (at + 1) (readHedge desk (drop (at + 1) w)) ≡ placed at (readHedge desk (drop at w))
-    hedge-variable {v} i = sym (placed-after at 1 (hvar v) _) ∙ ap (λ j. placed at (hedgeOn (readHedge desk) j (drop (at + 1) w))) (sym i) ∙ to-hedge
+    pub hedge-variable : {v : HedgeVar} → k ≡ Run v → placed (at + 1) (read_hedge desk (drop (at + 1) w)) ≡ placed at (read_hedge desk (drop at w))
+    hedge-variable {v} i = sym (placed-after at 1 (hvar v) _) ∙ ap (λ j. placed at (hedge_on (read_hedge desk) j (drop (at + 1) w))) (sym i) ∙ to-hedge
 
-    children : (f : Functor) → thenAt (readHedge desk) w (placed at (after 1 (λ c. node f c ε) (readHedge desk (drop (at + 1) w)))) ≡ placed at (next (both (node f) (readHedge desk) (readHedge desk) (drop (at + 1) w)))
-    children f = ap (thenAt (readHedge desk) w) (placed-after at 1 (λ c. node f c ε) _) ∙ both_at w (at + 1) (node f) (readHedge desk) (readHedge desk) ∙ sym (placed-next at _)
+    children : (f : Functor) → then_at (read_hedge desk) w (placed at (after 1 (λ c. node f c ε) (read_hedge desk (drop (at + 1) w)))) ≡ placed at (next (both (node f) (read_hedge desk) (read_hedge desk) (drop (at + 1) w)))
+    children f = ap (then_at (read_hedge desk) w) (placed-after at 1 (λ c. node f c ε) _) ∙ both_at w (at + 1) (node f) (read_hedge desk) (read_hedge desk) ∙ sym (placed-next at _)
 
     -- any other word: a term, and the hedge after it
-    pub hedge-term : Among (1 ∷ 3 ∷ 4 ∷ 5 ∷ 6 ∷ 7 ∷ 8 ∷ 9 ∷ 10 ∷ 11 ∷ []) k → thenAt (readHedge desk) w (placed at (readTerm desk (drop at w))) ≡ placed at (readHedge desk (drop at w))
+    pub hedge-term : Among (1 ∷ 3 ∷ 4 ∷ 5 ∷ 6 ∷ 7 ∷ 8 ∷ 9 ∷ 10 ∷ 11 ∷ []) k → then_at (read_hedge desk) w (placed at (read_term desk (drop at w))) ≡ placed at (read_hedge desk (drop at w))
     unfolding placed
     hedge-term o =
-        ap (thenAt (readHedge desk) w) (sym to-term)
+        ap (then_at (read_hedge desk) w) (sym to-term)
         ∙ each-kind (1 ∷ 3 ∷ 4 ∷ 5 ∷ 6 ∷ 7 ∷ 8 ∷ 9 ∷ 10 ∷ 11 ∷ [])
-        (λ k. thenAt (readHedge desk) w (placed at (termOn (readHedge desk) k (drop (at + 1) w))) ≡ placed at (hedgeOn (readHedge desk) k (drop (at + 1) w)))
-        tt (λ x. sym (placed-after at 1 (tvar x) (readHedge desk (drop (at + 1) w)))) tt (λ f. children (symbol f)) (λ X. children (fvar X)) refl refl refl refl refl refl refl k o
+        (λ k. then_at (read_hedge desk) w (placed at (term_on (read_hedge desk) k (drop (at + 1) w))) ≡ placed at (hedge_on (read_hedge desk) k (drop (at + 1) w)))
+        tt (λ x. sym (placed-after at 1 (tvar x) (read_hedge desk (drop (at + 1) w)))) tt (λ f. children (symbol f)) (λ X. children (fvar X)) refl refl refl refl refl refl refl k o
         ∙ to-hedge
 
     -- which moves on
-    pub term-moves : Among (1 ∷ 3 ∷ 4 ∷ 5 ∷ 6 ∷ 7 ∷ 8 ∷ 9 ∷ 10 ∷ 11 ∷ []) k → (q : ℕ) → placed at (readTerm desk (drop at w)) ≡ Next q → at < q
+    pub term-moves : Among (1 ∷ 3 ∷ 4 ∷ 5 ∷ 6 ∷ 7 ∷ 8 ∷ 9 ∷ 10 ∷ 11 ∷ []) k → (q : ℕ) → placed at (read_term desk (drop at w)) ≡ Next q → at < q
     term-moves o q r =
-        each-kind (1 ∷ 3 ∷ 4 ∷ 5 ∷ 6 ∷ 7 ∷ 8 ∷ 9 ∷ 10 ∷ 11 ∷ []) (λ k. placed at (termOn (readHedge desk) k (drop (at + 1) w)) ≡ Next q → at < q)
+        each-kind (1 ∷ 3 ∷ 4 ∷ 5 ∷ 6 ∷ 7 ∷ 8 ∷ 9 ∷ 10 ∷ 11 ∷ []) (λ k. placed at (term_on (read_hedge desk) k (drop (at + 1) w)) ≡ Next q → at < q)
         tt (λ x e. let z : at + 1 ≡ q = unfold placed in cc in omega arith) tt (λ f. some _) (λ X. some _) none none none none none none none k o (to-term ∙ r)
       where
-        some : (f : Hedge → Hedge) → placed at (after 1 f (readHedge desk (drop (at + 1) w))) ≡ Next q → at < q
-        some f e = let m = moves (at + 1) (readHedge desk (drop (at + 1) w)) q (sym (placed-after at 1 f _) ∙ e) in omega arith
+        some : (f : Hedge → Hedge) → placed at (after 1 f (read_hedge desk (drop (at + 1) w))) ≡ Next q → at < q
+        some f e = let m = moves (at + 1) (read_hedge desk (drop (at + 1) w)) q (sym (placed-after at 1 f _) ∙ e) in omega arith
 
         none : placed {A = Hedge} at (stop 0) ≡ Next q → at < q
         none e = let m : Stop at ≡ Next q = placed-none Hedge at ∙ e in absurd (let z : ◌≡◌ {A = ℕ} 0 1 = cc in omega arith)
 
     -- ---- an expression
 
-    to-expr : placed at (exprOn (readExpr desk) k (drop (at + 1) w)) ≡ placed at (readExpr desk (drop at w))
-    to-expr = at-kind w at (readExpr desk) (exprOn (readExpr desk)) (expr-at desk) p k e
+    to-expr : placed at (expr_on (read_expr desk) k (drop (at + 1) w)) ≡ placed at (read_expr desk (drop at w))
+    to-expr = at-kind w at (read_expr desk) (expr_on (read_expr desk)) (expr-at desk) p k e
 
-    pub expr-eps : k ≡ Eps → Next (at + 1) ≡ placed at (readExpr desk (drop at w))
+    pub expr-eps : k ≡ Eps → Next (at + 1) ≡ placed at (read_expr desk (drop at w))
     unfolding placed
-    expr-eps i = ap (λ j. placed at (exprOn (readExpr desk) j (drop (at + 1) w))) (sym i) ∙ to-expr
+    expr-eps i = ap (λ j. placed at (expr_on (read_expr desk) j (drop (at + 1) w))) (sym i) ∙ to-expr
 
     -- a symbol or a star: one part
-    pub expr-one : Among (3 ∷ 10 ∷ []) k → placed (at + 1) (readExpr desk (drop (at + 1) w)) ≡ placed at (readExpr desk (drop at w))
+    pub expr-one : Among (3 ∷ 10 ∷ []) k → placed (at + 1) (read_expr desk (drop (at + 1) w)) ≡ placed at (read_expr desk (drop at w))
     expr-one o =
-        each-kind (3 ∷ 10 ∷ []) (λ k. placed (at + 1) (readExpr desk (drop (at + 1) w)) ≡ placed at (exprOn (readExpr desk) k (drop (at + 1) w)))
+        each-kind (3 ∷ 10 ∷ []) (λ k. placed (at + 1) (read_expr desk (drop (at + 1) w)) ≡ placed at (expr_on (read_expr desk) k (drop (at + 1) w)))
         tt tt tt (λ f. sym (placed-after at 1 (over f) _)) tt tt tt tt tt tt (sym (placed-after at 1 star _)) tt k o
         ∙ to-expr
 
     -- a concatenation or a choice: two parts
-    pub expr-two : Among (8 ∷ 9 ∷ []) k → thenAt (readExpr desk) w (placed (at + 1) (readExpr desk (drop (at + 1) w))) ≡ placed at (readExpr desk (drop at w))
+    pub expr-two : Among (8 ∷ 9 ∷ []) k → then_at (read_expr desk) w (placed (at + 1) (read_expr desk (drop (at + 1) w))) ≡ placed at (read_expr desk (drop at w))
     expr-two o =
-        each-kind (8 ∷ 9 ∷ []) (λ k. thenAt (readExpr desk) w (placed (at + 1) (readExpr desk (drop (at + 1) w))) ≡ placed at (exprOn (readExpr desk) k (drop (at + 1) w)))
+        each-kind (8 ∷ 9 ∷ []) (λ k. then_at (read_expr desk) w (placed (at + 1) (read_expr desk (drop (at + 1) w))) ≡ placed at (expr_on (read_expr desk) k (drop (at + 1) w)))
         tt tt tt tt tt tt tt tt (two cat) (two alt) tt tt k o
         ∙ to-expr
       where
-        two : (f : Expr → Expr → Expr) → thenAt (readExpr desk) w (placed (at + 1) (readExpr desk (drop (at + 1) w))) ≡ placed at (next (both f (readExpr desk) (readExpr desk) (drop (at + 1) w)))
-        two f = both_at w (at + 1) f (readExpr desk) (readExpr desk) ∙ sym (placed-next at _)
+        two : (f : Expr → Expr → Expr) → then_at (read_expr desk) w (placed (at + 1) (read_expr desk (drop (at + 1) w))) ≡ placed at (next (both f (read_expr desk) (read_expr desk) (drop (at + 1) w)))
+        two f = both_at w (at + 1) f (read_expr desk) (read_expr desk) ∙ sym (placed-next at _)
 
-    pub expr-none : Among (0 ∷ 1 ∷ 2 ∷ 4 ∷ 5 ∷ 6 ∷ 11 ∷ []) k → Stop at ≡ placed at (readExpr desk (drop at w))
+    pub expr-none : Among (0 ∷ 1 ∷ 2 ∷ 4 ∷ 5 ∷ 6 ∷ 11 ∷ []) k → Stop at ≡ placed at (read_expr desk (drop at w))
     expr-none o =
         let n = placed-none Expr at in
-        each-kind (0 ∷ 1 ∷ 2 ∷ 4 ∷ 5 ∷ 6 ∷ 11 ∷ []) (λ k. Stop at ≡ placed at (exprOn (readExpr desk) k (drop (at + 1) w))) n (λ x. n) (λ p. n) tt (λ X. n) n n tt tt tt tt n k o ∙ to-expr
+        each-kind (0 ∷ 1 ∷ 2 ∷ 4 ∷ 5 ∷ 6 ∷ 11 ∷ []) (λ k. Stop at ≡ placed at (expr_on (read_expr desk) k (drop (at + 1) w))) n (λ x. n) (λ p. n) tt (λ X. n) n n tt tt tt tt n k o ∙ to-expr
 
     -- ---- a literal
 
-    to-literal : placed at (literalOn desk k (drop (at + 1) w)) ≡ placed at (readLiteral desk (drop at w))
-    to-literal = at-kind w at (readLiteral desk) (literalOn desk) (literal-at desk) p k e
+    to-literal : placed at (literal_on desk k (drop (at + 1) w)) ≡ placed at (read_literal desk (drop at w))
+    to-literal = at-kind w at (read_literal desk) (literal_on desk) (literal-at desk) p k e
 
-    pub literal-equation : k ≡ Equation → thenAt (readHedge desk) w (placed (at + 1) (readHedge desk (drop (at + 1) w))) ≡ placed at (readLiteral desk (drop at w))
-    literal-equation i = both_at w (at + 1) eqn (readHedge desk) (readHedge desk) ∙ sym (placed-next at _) ∙ ap (λ j. placed at (literalOn desk j (drop (at + 1) w))) (sym i) ∙ to-literal
+    pub literal-equation : k ≡ Equation → then_at (read_hedge desk) w (placed (at + 1) (read_hedge desk (drop (at + 1) w))) ≡ placed at (read_literal desk (drop at w))
+    literal-equation i = both_at w (at + 1) eqn (read_hedge desk) (read_hedge desk) ∙ sym (placed-next at _) ∙ ap (λ j. placed at (literal_on desk j (drop (at + 1) w))) (sym i) ∙ to-literal
 
-    pub literal-membership : k ≡ Membership → thenAt (readExpr desk) w (placed (at + 1) (readHedge desk (drop (at + 1) w))) ≡ placed at (readLiteral desk (drop at w))
-    literal-membership i = both_at w (at + 1) mem (readHedge desk) (readExpr desk) ∙ sym (placed-next at _) ∙ ap (λ j. placed at (literalOn desk j (drop (at + 1) w))) (sym i) ∙ to-literal
+    pub literal-membership : k ≡ Membership → then_at (read_expr desk) w (placed (at + 1) (read_hedge desk (drop (at + 1) w))) ≡ placed at (read_literal desk (drop at w))
+    literal-membership i = both_at w (at + 1) mem (read_hedge desk) (read_expr desk) ∙ sym (placed-next at _) ∙ ap (λ j. placed at (literal_on desk j (drop (at + 1) w))) (sym i) ∙ to-literal
 
-    pub literal-none : Among (0 ∷ 1 ∷ 2 ∷ 3 ∷ 4 ∷ 7 ∷ 8 ∷ 9 ∷ 10 ∷ 11 ∷ []) k → Stop at ≡ placed at (readLiteral desk (drop at w))
+    pub literal-none : Among (0 ∷ 1 ∷ 2 ∷ 3 ∷ 4 ∷ 7 ∷ 8 ∷ 9 ∷ 10 ∷ 11 ∷ []) k → Stop at ≡ placed at (read_literal desk (drop at w))
     literal-none o =
         let n = placed-none Literal at in
-        each-kind (0 ∷ 1 ∷ 2 ∷ 3 ∷ 4 ∷ 7 ∷ 8 ∷ 9 ∷ 10 ∷ 11 ∷ []) (λ k. Stop at ≡ placed at (literalOn desk k (drop (at + 1) w))) n (λ x. n) (λ p. n) (λ f. n) (λ X. n) tt tt n n n n n k o ∙ to-literal
+        each-kind (0 ∷ 1 ∷ 2 ∷ 3 ∷ 4 ∷ 7 ∷ 8 ∷ 9 ∷ 10 ∷ 11 ∷ []) (λ k. Stop at ≡ placed at (literal_on desk k (drop (at + 1) w))) n (λ x. n) (λ p. n) (λ f. n) (λ X. n) tt tt n n n n n k o ∙ to-literal
 
   -- ---- a conjunction
 
-  pub literal-moves : (q : ℕ) → placed at (readLiteral desk (drop at w)) ≡ Next q → at < q
+  pub literal-moves : (q : ℕ) → placed at (read_literal desk (drop at w)) ≡ Next q → at < q
   unfolding placed
-  literal-moves q e = on (readLiteral desk (drop at w)) (right-literal desk (drop at w)) e
+  literal-moves q e = on (read_literal desk (drop at w)) (right-literal desk (drop at w)) e
     where
-      on : (g : Got Literal) → Right (Is (literals desk)) (readLiteral desk) (drop at w) g → placed at g ≡ Next q → at < q
+      on : (g : Got Literal) → Right (Is (literals desk)) (read_literal desk) (drop at w) g → placed at g ≡ Next q → at < q
       on (got l k) i e = let z : at + k ≡ q = cc in omega (arith, literal-some desk (drop at w) l k i)
       on (stop k) i e = absurd (let z : ◌≡◌ {A = ℕ} 0 1 = cc in omega arith)
 
-  pub conj-literal : at < length w → thenAt (readConj desk) w (placed at (readLiteral desk (drop at w))) ≡ placed at (readConj desk (drop at w))
-  conj-literal p = both_at w at ◌∷◌ (readLiteral desk) (readConj desk) ∙ ap (placed at) (sym (ap (readConj desk) (here w at p) ∙ readConj-step desk _ ∙ ap (both ◌∷◌ (readLiteral desk) (readConj desk)) (sym (here w at p))))
+  pub conj-literal : at < length w → then_at (read_conj desk) w (placed at (read_literal desk (drop at w))) ≡ placed at (read_conj desk (drop at w))
+  conj-literal p = both_at w at ◌∷◌ (read_literal desk) (read_conj desk) ∙ ap (placed at) (sym (ap (read_conj desk) (here w at p) ∙ read_conj-step desk _ ∙ ap (both ◌∷◌ (read_literal desk) (read_conj desk)) (sym (here w at p))))
 
-  pub conj-end : length w ≤ at → Next at ≡ placed at (readConj desk (drop at w))
+  pub conj-end : length w ≤ at → Next at ≡ placed at (read_conj desk (drop at w))
   unfolding placed
-  conj-end p = ap Next (omega arith) ∙ ap (placed at) (sym (readConj-step desk [])) ∙ ap (λ l. placed at (readConj desk l)) (sym (drop_of_length-le w p))
+  conj-end p = ap Next (omega arith) ∙ ap (placed at) (sym (read_conj-step desk [])) ∙ ap (λ l. placed at (read_conj desk l)) (sym (drop_of_length-le w p))

@@ -32,15 +32,15 @@ unfolding placed
 placed-none A at = ap Stop (omega arith)
 
 -- what is read after a first, by where that ended
-abbrev pub thenAt : {A : Type 0} → Reader A → List ℕ → Read → Read
-thenAt s w (Next q) = placed q (s (drop q w))
-thenAt s w (Stop q) = Stop q
+abbrev pub then_at : {A : Type 0} → Reader A → List ℕ → Read → Read
+then_at s w (Next q) = placed q (s (drop q w))
+then_at s w (Stop q) = Stop q
 
-pub goes_on : {A : Type 0} (s : Reader A) (w : List ℕ) (r : Read) (q : ℕ) → r ≡ Next q → placed q (s (drop q w)) ≡ thenAt s w r
-goes_on s w r q e = ap (thenAt s w) (sym e)
+pub goes_on : {A : Type 0} (s : Reader A) (w : List ℕ) (r : Read) (q : ℕ) → r ≡ Next q → placed q (s (drop q w)) ≡ then_at s w r
+goes_on s w r q e = ap (then_at s w) (sym e)
 
-pub halts : {A : Type 0} (s : Reader A) (w : List ℕ) (r : Read) (q : ℕ) → r ≡ Stop q → Stop q ≡ thenAt s w r
-halts s w r q e = ap (thenAt s w) (sym e)
+pub halts : {A : Type 0} (s : Reader A) (w : List ℕ) (r : Read) (q : ℕ) → r ≡ Stop q → Stop q ≡ then_at s w r
+halts s w r q e = ap (then_at s w) (sym e)
 
 -- what was read ends at its place or after it
 pub moves : {A : Type 0} (at : ℕ) (g : Got A) (q : ℕ) → placed at g ≡ Next q → at ≤ q
@@ -54,10 +54,10 @@ module _ (w : List ℕ) (at : ℕ) where
   past {A} r e p = placed-none A at ∙ ap (placed at) (sym e) ∙ ap (λ l. placed at (r l)) (sym (drop_of_length-le w p))
 
   -- two in a row
-  pub both_at : {A B C : Type 0} (f : A → B → C) (r : Reader A) (s : Reader B) → thenAt s w (placed at (r (drop at w))) ≡ placed at (both f r s (drop at w))
+  pub both_at : {A B C : Type 0} (f : A → B → C) (r : Reader A) (s : Reader B) → then_at s w (placed at (r (drop at w))) ≡ placed at (both f r s (drop at w))
   both_at f r s = on (r (drop at w))
     where
-      on : (g : Got _) → thenAt s w (placed at g) ≡ placed at (then f g s (drop at w))
+      on : (g : Got _) → then_at s w (placed at g) ≡ placed at (then f g s (drop at w))
       on (got a k) = unfold placed in ap (λ l. placed (at + k) (s l)) (sym (drop-drop k at w)) ∙ sym (placed-after at k (f a) (s (drop k (drop at w))))
       on (stop k) = unfold placed in refl
 

@@ -1,7 +1,7 @@
 // The trees that words stand for, read at a place: where a hedge, an expression and a literal end, or which word cannot go on.
 ghost use Rattle.std.specs.Prelude.{◌≡◌, drop};
 ghost use Rattle.language.specs.Limits.{desk};
-ghost use Rattle.language.specs.Reading.{readTerm, readHedge, readExpr, readLiteral};
+ghost use Rattle.language.specs.Reading.{read_term, read_hedge, read_expr, read_literal};
 ghost use Rattle.trees.specs.Places.{placed};
 
 use language::{Kind, classify};
@@ -16,7 +16,7 @@ pub enum Read {
 // One term: a term variable, or a symbol or function variable with its children.
 #[cycle(read_hedge_read_term)]
 fn read_term(w: &[u16], at: usize) -> Read
-    ensures { result ≡ placed at (readTerm desk (drop at w.now)) }
+    ensures { result ≡ placed at (read_term desk (drop at w.now)) }
 {
     if w.len() <= at {
         return Read::Stop(at);
@@ -31,7 +31,7 @@ fn read_term(w: &[u16], at: usize) -> Read
 // A hedge and its 0: hedge variables and terms, one after another.
 #[cycle(read_hedge_read_term)]
 pub fn read_hedge(w: &[u16], at: usize) -> Read
-    ensures { result ≡ placed at (readHedge desk (drop at w.now)) }
+    ensures { result ≡ placed at (read_hedge desk (drop at w.now)) }
 {
     let mut i = at;
     while i < w.len() {
@@ -49,7 +49,7 @@ pub fn read_hedge(w: &[u16], at: usize) -> Read
 
 // An expression, by its parts.
 fn read_expr(w: &[u16], at: usize) -> Read
-    ensures { result ≡ placed at (readExpr desk (drop at w.now)) }
+    ensures { result ≡ placed at (read_expr desk (drop at w.now)) }
 {
     if w.len() <= at {
         return Read::Stop(at);
@@ -67,7 +67,7 @@ fn read_expr(w: &[u16], at: usize) -> Read
 
 // A literal: an equation of two hedges, or a hedge's membership in an expression.
 pub fn read_literal(w: &[u16], at: usize) -> Read
-    ensures { result ≡ placed at (readLiteral desk (drop at w.now)) }
+    ensures { result ≡ placed at (read_literal desk (drop at w.now)) }
 {
     if w.len() <= at {
         return Read::Stop(at);

@@ -11,10 +11,10 @@ use Rattle.language.specs.declared.Refusal.TheVariants.{ShortSlice, FillingLayou
 use Rattle.language.specs.Kinds.{pick}
 use Rattle.language.specs.Limits.{desk}
 use Rattle.language.specs.Trees.{Counts}
-use Rattle.language.specs.Question.{Asked, asks, refuses, readQuestion, laidOut, rises, offsets}
-use Rattle.meaning.specs.Values.{Given, readFilling, variables}
+use Rattle.language.specs.Question.{Asked, asks, refuses, read_question, laid_out, rises, offsets}
+use Rattle.meaning.specs.Values.{Given, read_filling, variables}
 use Rattle.meaning.specs.Values as values
-use Rattle.rules.specs.Calls.{Trying, tryingWith, tryingOf, trying}
+use Rattle.rules.specs.Calls.{Trying, trying_with, trying_of, trying}
 use Rattle.rules.specs.Calls as calls
 use Rattle.word_bytes.specs.Bytes.{fitting}
 use Rattle.word_bytes.proofs.Fitting.{fitting-question}
@@ -23,31 +23,31 @@ at-layout : (b : Bool) (x : Given) → b ≡ false → elim b [ false ↦ values
 at-layout b x e = ap (λ (t : Bool). elim t [ false ↦ values.refuses FillingLayout | true ↦ x ]) e
 
 module _ (n : Counts) where
-  pub long-filling : (fs : List ℕ) → desk.filling < length fs → readFilling desk n fs ≡ values.refuses FillingLayout
-  unfolding readFilling
+  pub long-filling : (fs : List ℕ) → desk.filling < length fs → read_filling desk n fs ≡ values.refuses FillingLayout
+  unfolding read_filling
   long-filling fs h =
-      at-layout _ _ (ap (λ (b : Bool). b && eqb (get_or fs 0 0) (variables n) && laidOut 1 (variables n) fs) (lt-leb (length fs) desk.filling h))
+      at-layout _ _ (ap (λ (b : Bool). b && eqb (get_or fs 0 0) (variables n) && laid_out 1 (variables n) fs) (lt-leb (length fs) desk.filling h))
 
-  pub no-filling : readFilling desk n [] ≡ values.refuses FillingLayout
-  unfolding readFilling laidOut
+  pub no-filling : read_filling desk n [] ≡ values.refuses FillingLayout
+  unfolding read_filling laid_out
   no-filling =
       let e : leb (1 + suc (variables n)) 0 ≡ false = lt-leb (1 + suc (variables n)) 0 (omega arith) in
-      let f : laidOut 1 (variables n) [] ≡ false = ap (λ (b : Bool). b && rises (1 + suc (variables n)) (offsets 1 (variables n) []) 0) e in
+      let f : laid_out 1 (variables n) [] ≡ false = ap (λ (b : Bool). b && rises (1 + suc (variables n)) (offsets 1 (variables n) []) 0) e in
       at-layout _ _ (ap (λ (b : Bool). true && eqb 0 (variables n) && b) f ∙ and-false (eqb 0 (variables n)))
 
-  pub fitting-filling : (fs : List ℕ) → readFilling desk n (fitting desk.filling fs) ≡ readFilling desk n fs
+  pub fitting-filling : (fs : List ℕ) → read_filling desk n (fitting desk.filling fs) ≡ read_filling desk n fs
   unfolding fitting
   fitting-filling fs = go (leb (length fs) desk.filling) refl where
-    go : (b : Bool) → leb (length fs) desk.filling ≡ b → readFilling desk n (pick b fs []) ≡ readFilling desk n fs
+    go : (b : Bool) → leb (length fs) desk.filling ≡ b → read_filling desk n (pick b fs []) ≡ read_filling desk n fs
     go true e = refl
     go false e = no-filling ∙ sym (long-filling fs (leb-false _ _ e))
 
 pub fitting-trying : (work : ℕ) (ws fs : List ℕ) → trying desk work (fitting desk.question ws) (fitting desk.filling fs) ≡ trying desk work ws fs
 unfolding trying
 fitting-trying work ws fs =
-    ap (λ (a : Asked). elim (ltb work desk.room) [ true ↦ calls.unread ShortSlice | false ↦ tryingOf desk a (fitting desk.filling fs) ]) (fitting-question ws)
-    ∙ ap (λ (t : Trying). elim (ltb work desk.room) [ true ↦ calls.unread ShortSlice | false ↦ t ]) (each (readQuestion desk ws))
+    ap (λ (a : Asked). elim (ltb work desk.room) [ true ↦ calls.unread ShortSlice | false ↦ trying_of desk a (fitting desk.filling fs) ]) (fitting-question ws)
+    ∙ ap (λ (t : Trying). elim (ltb work desk.room) [ true ↦ calls.unread ShortSlice | false ↦ t ]) (each (read_question desk ws))
   where
-    each : (a : Asked) → tryingOf desk a (fitting desk.filling fs) ≡ tryingOf desk a fs
-    each (asks q) = ap (tryingWith desk q) (fitting-filling q.counts fs)
+    each : (a : Asked) → trying_of desk a (fitting desk.filling fs) ≡ trying_of desk a fs
+    each (asks q) = ap (trying_with desk q) (fitting-filling q.counts fs)
     each (refuses r) = refl

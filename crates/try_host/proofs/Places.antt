@@ -11,16 +11,16 @@ use Rattle.language.specs.declared.Refusal.{Refusal}
 use Rattle.language.specs.Kinds.{pick}
 use Rattle.language.specs.Limits.{Limits, desk}
 use Rattle.language.specs.Numbers.{number_of, place_of}
-use Rattle.language.specs.Question.{refuses, askedPlace, readQuestion}
+use Rattle.language.specs.Question.{refuses, asked_place, read_question}
 use Rattle.language.specs.Mistakes.{RightPlace}
 use Rattle.language.proofs.Mistakes.{place-right}
 use Rattle.outcomes.specs.declared.Checked.{Checked}
 use Rattle.outcomes.specs.declared.Checked.TheVariants.{Fine, Refused}
-use Rattle.outcomes.specs.Numbers.{checkedNumbers}
-use Rattle.reader.specs.Checking.{askedNumbers}
+use Rattle.outcomes.specs.Numbers.{checked_numbers}
+use Rattle.reader.specs.Checking.{asked_numbers}
 use Rattle.reader.proofs.Answers.{as-checked, question-asked, question-refused}
 use Rattle.word_bytes.specs.Bytes.{words_in, fitting}
-use Rattle.try_host.specs.Host.{placeBytes}
+use Rattle.try_host.specs.Host.{place_bytes}
 use Rattle.word_bytes.proofs.Fitting.{fitting-question}
 
 -- a right place is among the words, or right behind them
@@ -40,21 +40,21 @@ fitting-short n ws = on (leb (length ws) n) refl
     on true e = leb-true (length ws) n e
     on false e = omega arith
 
-module _ (q ws : List ℕ) (lent : ws ≡ fitting desk.question (words_in q)) (c : Checked) (read : checkedNumbers c ≡ askedNumbers (readQuestion desk ws)) where
-  same : readQuestion desk ws ≡ readQuestion desk (words_in q)
-  same = ap (readQuestion desk) lent ∙ fitting-question (words_in q)
+module _ (q ws : List ℕ) (lent : ws ≡ fitting desk.question (words_in q)) (c : Checked) (read : checked_numbers c ≡ asked_numbers (read_question desk ws)) where
+  same : read_question desk ws ≡ read_question desk (words_in q)
+  same = ap (read_question desk) lent ∙ fitting-question (words_in q)
 
-  pub no-mistake : c ≡ Fine → 0 ≡ placeBytes desk q
-  unfolding placeBytes
-  no-mistake f = let (a, i) = question-asked ws (sym f ∙ as-checked c _ read) in sym (ap askedPlace (sym same ∙ i))
+  pub no-mistake : c ≡ Fine → 0 ≡ place_bytes desk q
+  unfolding place_bytes
+  no-mistake f = let (a, i) = question-asked ws (sym f ∙ as-checked c _ read) in sym (ap asked_place (sym same ∙ i))
 
   module _ {r : Refusal} (f : c ≡ Refused r) where
-    refused : readQuestion desk ws ≡ refuses r
+    refused : read_question desk ws ≡ refuses r
     refused = question-refused ws r (sym f ∙ as-checked c _ read)
 
-    pub its-place : place_of r ≡ placeBytes desk q
-    unfolding placeBytes
-    its-place = sym (ap askedPlace (sym same ∙ refused))
+    pub its-place : place_of r ≡ place_bytes desk q
+    unfolding place_bytes
+    its-place = sym (ap asked_place (sym same ∙ refused))
 
     pub place_short : place_of r ≤ desk.question
     place_short = omega (arith, inside desk ws r (place-right desk ws r refused), ap length lent, fitting-short desk.question (words_in q))

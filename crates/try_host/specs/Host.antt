@@ -2,7 +2,7 @@
 use Rattle.std.specs.Prelude.{ℕ, ◌≡◌, ◌⊎◌, List}
 use Rattle.language.specs.Limits.{Limits}
 use Rattle.language.specs.Numbers.{number_of}
-use Rattle.language.specs.Question.{askedPlace, readQuestion}
+use Rattle.language.specs.Question.{asked_place, read_question}
 use Rattle.meaning.specs.Meaning.{MeetsQuestion}
 use Rattle.rules.specs.Calls.{Trying, trying}
 use Rattle.rules.specs.Calls as calls
@@ -11,8 +11,8 @@ use Rattle.word_bytes.specs.Bytes.{words_in}
 -- ---- desk_try
 
 -- A question's bytes and a filling's. The work slice is the desk's own.
-unfoldable pub tryingBytes : Limits → List ℕ → List ℕ → Trying
-tryingBytes L q f = trying L L.room (words_in q) (words_in f)
+unfoldable pub trying_bytes : Limits → List ℕ → List ℕ → Trying
+trying_bytes L q f = trying L L.room (words_in q) (words_in f)
 
 -- 100 is no, 101 is yes, and below stand the refusals
 unfoldable pub TryNumber : Trying → ℕ → Type 0
@@ -23,5 +23,5 @@ TryNumber (calls.given-up r) n = n ≡ number_of r
 -- ---- desk_place
 
 -- "for 5 the first word that cannot continue a literal .., for 6 the first undeclared number .. for all other outcomes it is 0"
-unfoldable pub placeBytes : Limits → List ℕ → ℕ
-placeBytes L q = askedPlace (readQuestion L (words_in q))
+unfoldable pub place_bytes : Limits → List ℕ → ℕ
+place_bytes L q = asked_place (read_question L (words_in q))

@@ -2,7 +2,7 @@
 // arrays of the desk's own, cleared at the start.
 ghost use Rattle.std.specs.Prelude.{◌≡◌};
 ghost use Rattle.language.specs.Limits.{desk};
-ghost use Rattle.try_host.specs.Host.{tryingBytes, TryNumber, placeBytes};
+ghost use Rattle.try_host.specs.Host.{trying_bytes, TryNumber, place_bytes};
 
 use handing::told;
 use language::limits::{FILLING, QUESTION, ROOM};
@@ -13,7 +13,7 @@ use word_bytes::take_words;
 // Whether a filling meets a question: 101 for yes, 100 for no, or the refusal's number.
 #[unsafe(no_mangle)]
 pub extern "C" fn desk_try(question: &[u8], filling: &[u8]) -> u32
-    ensures { TryNumber (tryingBytes desk question.now filling.now) result }
+    ensures { TryNumber (trying_bytes desk question.now filling.now) result }
 {
     let mut words = [0u16; QUESTION];
     let mut values = [0u16; FILLING];
@@ -27,7 +27,7 @@ pub extern "C" fn desk_try(question: &[u8], filling: &[u8]) -> u32
 // Where the mistake is for which a question is refused: its place among the question's words, for 5 and 6, and else 0.
 #[unsafe(no_mangle)]
 pub extern "C" fn desk_place(question: &[u8]) -> u32
-    ensures { result ≡ placeBytes desk question.now }
+    ensures { result ≡ place_bytes desk question.now }
 {
     let mut words = [0u16; QUESTION];
     let n = take_words(question, &mut words);

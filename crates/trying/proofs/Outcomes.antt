@@ -11,18 +11,18 @@ use Rattle.language.specs.declared.Refusal.{Refusal}
 use Rattle.language.specs.declared.Refusal.TheVariants.{ShortSlice, LongLiteral}
 use Rattle.language.specs.Limits.{desk}
 use Rattle.language.specs.Trees.{signature, Question}
-use Rattle.language.specs.Question.{countsFit, Asked, asks, refuses, readQuestion}
+use Rattle.language.specs.Question.{counts_fit, Asked, asks, refuses, read_question}
 use Rattle.language.proofs.Asking.{passed, ranges}
 use Rattle.meaning.specs.Meaning.{Filling, MeetsOne}
-use Rattle.meaning.specs.Values.{Given, gives, readFilling}
+use Rattle.meaning.specs.Values.{Given, gives, read_filling}
 use Rattle.meaning.specs.Values as values
 use Rattle.rules.specs.Answer.{zeros, overwritten}
-use Rattle.rules.specs.Calls.{Trying, decides, given-up, tryingWith, tryingOf, trying}
+use Rattle.rules.specs.Calls.{Trying, decides, given-up, trying_with, trying_of, trying}
 use Rattle.header.specs.declared.Header.{Header}
 use Rattle.outcomes.specs.declared.Checked.{Checked}
 use Rattle.outcomes.specs.declared.Checked.TheVariants.{Fine}
 use Rattle.outcomes.specs.declared.Checked.TheVariants as checked-as
-use Rattle.header.specs.Heading.{headerOf, countsIn}
+use Rattle.header.specs.Heading.{header_of, counts_in}
 use Rattle.reader.specs.Checking.{checked}
 use Rattle.given.specs.Checking.{given}
 use Rattle.outcomes.specs.declared.Tried.{Tried}
@@ -38,8 +38,8 @@ abbrev decided : Question → Filling → Bool → Trying
 decided q ρ b = elim b [ true ↦ given-up LongLiteral | false ↦ decides q ρ ]
 
 module _ (h : Header) (fs ws : List ℕ) where
-  counts-are : (q : Question) → readQuestion desk ws ≡ asks q → h ≡ headerOf ws → q.counts ≡ countsIn h
-  counts-are q r e = (passed desk ws q r).counts ∙ ap countsIn (sym e)
+  counts-are : (q : Question) → read_question desk ws ≡ asks q → h ≡ header_of ws → q.counts ≡ counts_in h
+  counts-are q r e = (passed desk ws q r).counts ∙ ap counts_in (sym e)
 
   pub given-fits : {long : Bool} → QuestionTooLong h fs ws long → long ≡ false → SomeQuestion h fs ws → FittingQuestion h fs ws
   given-fits l e s = record { q = s.q; ρ = s.ρ; it = s.it; fits = sym (l.each s.q s.ρ s.it) ∙ e }
@@ -49,7 +49,7 @@ module _ (h : Header) (fs ws : List ℕ) where
     given-long e c = record { each = λ q ρ x. subst (λ b. Outcome (decided q ρ b) (Refused LongLiteral) w w') (sym e ∙ l.each q ρ x) (refl, c) }
 
     module _ {u : List ℕ} {met : Bool} (e : long ≡ false) (m : QuestionMet h fs ws w u met) (c : w' ≡ overwritten desk (zeros desk) u) where
-      says : {t : Tried} → ((q : Question) (ρ : Filling) → AQuestion h fs ws q ρ → Answers (MeetsOne (signature (countsIn h)) ρ q.alternatives) t) → TriedGiven h fs ws t w w'
+      says : {t : Tried} → ((q : Question) (ρ : Filling) → AQuestion h fs ws q ρ → Answers (MeetsOne (signature (counts_in h)) ρ q.alternatives) t) → TriedGiven h fs ws t w w'
       says {t} a = record {
         each = λ q ρ x. subst (λ b. Outcome (decided q ρ b) t w w') (sym e ∙ l.each q ρ x)
             (subst (λ n. Answers (MeetsOne (signature n) ρ q.alternatives) t) (sym (counts-are q x.read x.head)) (a q ρ x), c ∙ keeps-cleared m.keeps);
@@ -63,33 +63,33 @@ module _ (h : Header) (fs ws : List ℕ) where
 
   -- ---- the question is not refused
 
-  pub asked-counts : AskedQuestion h ws → countsFit desk (countsIn h) h.alternatives ≡ true
-  asked-counts a = ap (λ h. countsFit desk (countsIn h) h.alternatives) a.head ∙ (passed desk ws a.q a.read).counts-fit
+  pub asked-counts : AskedQuestion h ws → counts_fit desk (counts_in h) h.alternatives ≡ true
+  asked-counts a = ap (λ h. counts_fit desk (counts_in h) h.alternatives) a.head ∙ (passed desk ws a.q a.read).counts-fit
 
-  pub asked-refused : {w : List ℕ} {c : Checked} {r : Refusal} → c ≡ given (readFilling desk (countsIn h) fs) → c ≡ checked-as.Refused r → TriedAsked h fs ws (Refused r) w w
+  pub asked-refused : {w : List ℕ} {c : Checked} {r : Refusal} → c ≡ given (read_filling desk (counts_in h) fs) → c ≡ checked-as.Refused r → TriedAsked h fs ws (Refused r) w w
   unfolding given
-  asked-refused {w} {c} {r} e f = record { each = λ q p i. on q (readFilling desk q.counts fs) (sym f ∙ e ∙ ap (λ n. given (readFilling desk n fs)) (sym (counts-are q p i))) }
+  asked-refused {w} {c} {r} e f = record { each = λ q p i. on q (read_filling desk q.counts fs) (sym f ∙ e ∙ ap (λ n. given (read_filling desk n fs)) (sym (counts-are q p i))) }
     where
-      on : (q : Question) (g : Given) → checked-as.Refused r ≡ given g → Outcome (tryingWith desk q g) (Refused r) w w
+      on : (q : Question) (g : Given) → checked-as.Refused r ≡ given g → Outcome (trying_with desk q g) (Refused r) w w
       on q (gives ρ) e = absurd (let z : ◌≡◌ {A = ℕ} 0 1 = cc in omega arith)
       on q (values.refuses s) e = let z : r ≡ s = cc in (ap Refused z, refl)
 
-  fine-gives : {c : Checked} → c ≡ given (readFilling desk (countsIn h) fs) → c ≡ Fine → (ρ : Filling) × (readFilling desk (countsIn h) fs ≡ gives ρ)
+  fine-gives : {c : Checked} → c ≡ given (read_filling desk (counts_in h) fs) → c ≡ Fine → (ρ : Filling) × (read_filling desk (counts_in h) fs ≡ gives ρ)
   unfolding given
-  fine-gives {c} e f = on (readFilling desk (countsIn h) fs) refl (sym f ∙ e)
+  fine-gives {c} e f = on (read_filling desk (counts_in h) fs) refl (sym f ∙ e)
     where
-      on : (g : Given) → readFilling desk (countsIn h) fs ≡ g → Fine ≡ given g → (ρ : Filling) × (readFilling desk (countsIn h) fs ≡ gives ρ)
+      on : (g : Given) → read_filling desk (counts_in h) fs ≡ g → Fine ≡ given g → (ρ : Filling) × (read_filling desk (counts_in h) fs ≡ gives ρ)
       on (gives ρ) i e = (ρ, i)
       on (values.refuses s) i e = absurd (let z : ◌≡◌ {A = ℕ} 0 1 = cc in omega arith)
 
-  pub asked-some : {c : Checked} → c ≡ given (readFilling desk (countsIn h) fs) → c ≡ Fine → AskedQuestion h ws → SomeQuestion h fs ws
+  pub asked-some : {c : Checked} → c ≡ given (read_filling desk (counts_in h) fs) → c ≡ Fine → AskedQuestion h ws → SomeQuestion h fs ws
   asked-some e f a = let (ρ, g) = fine-gives e f in record { q = a.q; ρ = ρ; it = record { read = a.read; head = a.head; given = g } }
 
-  pub asked-given : {c : Checked} {t : Tried} {w w' : List ℕ} → c ≡ given (readFilling desk (countsIn h) fs) → c ≡ Fine → TriedGiven h fs ws t w w' → TriedAsked h fs ws t w w'
+  pub asked-given : {c : Checked} {t : Tried} {w w' : List ℕ} → c ≡ given (read_filling desk (counts_in h) fs) → c ≡ Fine → TriedGiven h fs ws t w w' → TriedAsked h fs ws t w w'
   asked-given {t = t} {w} {w'} e f a = record {
     each = λ q p i.
         let (ρ, g) = fine-gives e f in
-        subst (λ x. Outcome (tryingWith desk q x) t w w') (sym (ap (λ n. readFilling desk n fs) (counts-are q p i) ∙ g)) (a.each q ρ (record { read = p; head = i; given = g }));
+        subst (λ x. Outcome (trying_with desk q x) t w w') (sym (ap (λ n. read_filling desk n fs) (counts-are q p i) ∙ g)) (a.each q ρ (record { read = p; head = i; given = g }));
   }
 
 -- ---- every input
@@ -100,33 +100,33 @@ module _ (ws fs w : List ℕ) where
   short-slice p = rw (trying, lt-ltb (length w) desk.room p) (refl, refl)
 
   module _ (p : desk.room ≤ length w) where
-    reads_on : trying desk (length w) ws fs ≡ tryingOf desk (readQuestion desk ws) fs
+    reads_on : trying desk (length w) ws fs ≡ trying_of desk (read_question desk ws) fs
     unfolding trying
     reads_on = rw (trying, le-ltb (length w) desk.room p)
 
-    pub refused-question : {c : Checked} {r : Refusal} → c ≡ checked (readQuestion desk ws) → c ≡ checked-as.Refused r → ToldOutcome (trying desk (length w) ws fs) (Refused r) w w
+    pub refused-question : {c : Checked} {r : Refusal} → c ≡ checked (read_question desk ws) → c ≡ checked-as.Refused r → ToldOutcome (trying desk (length w) ws fs) (Refused r) w w
     unfolding checked
-    refused-question {c} {r} e f = told-outcome (trying desk (length w) ws fs) (Refused r) w w (subst (λ x. Outcome x (Refused r) w w) (sym reads_on) (on (readQuestion desk ws) (sym f ∙ e)))
+    refused-question {c} {r} e f = told-outcome (trying desk (length w) ws fs) (Refused r) w w (subst (λ x. Outcome x (Refused r) w w) (sym reads_on) (on (read_question desk ws) (sym f ∙ e)))
       where
-        on : (a : Asked) → checked-as.Refused r ≡ checked a → Outcome (tryingOf desk a fs) (Refused r) w w
+        on : (a : Asked) → checked-as.Refused r ≡ checked a → Outcome (trying_of desk a fs) (Refused r) w w
         on (asks q) e = absurd (let z : ◌≡◌ {A = ℕ} 0 1 = cc in omega arith)
         on (refuses s) e = let z : r ≡ s = cc in (ap Refused z, refl)
 
-    pub fine-asks : {c : Checked} → c ≡ checked (readQuestion desk ws) → c ≡ Fine → (q : Question) × (readQuestion desk ws ≡ asks q)
+    pub fine-asks : {c : Checked} → c ≡ checked (read_question desk ws) → c ≡ Fine → (q : Question) × (read_question desk ws ≡ asks q)
     unfolding checked
-    fine-asks {c} e f = on (readQuestion desk ws) refl (sym f ∙ e)
+    fine-asks {c} e f = on (read_question desk ws) refl (sym f ∙ e)
       where
-        on : (a : Asked) → readQuestion desk ws ≡ a → Fine ≡ checked a → (q : Question) × (readQuestion desk ws ≡ asks q)
+        on : (a : Asked) → read_question desk ws ≡ a → Fine ≡ checked a → (q : Question) × (read_question desk ws ≡ asks q)
         on (asks q) i e = (q, i)
         on (refuses s) i e = absurd (let z : ◌≡◌ {A = ℕ} 0 1 = cc in omega arith)
 
-    pub question-long : {c : Checked} → c ≡ checked (readQuestion desk ws) → c ≡ Fine → 6 ≤ length ws
+    pub question-long : {c : Checked} → c ≡ checked (read_question desk ws) → c ≡ Fine → 6 ≤ length ws
     question-long e f = let (q, i) = fine-asks e f in (ranges desk ws q i).long
 
-    pub question-asked : {c : Checked} {h : Header} → c ≡ checked (readQuestion desk ws) → c ≡ Fine → h ≡ headerOf ws → AskedQuestion h ws
+    pub question-asked : {c : Checked} {h : Header} → c ≡ checked (read_question desk ws) → c ≡ Fine → h ≡ header_of ws → AskedQuestion h ws
     question-asked e f g = let (q, i) = fine-asks e f in record { q = q; read = i; head = g }
 
-    pub question-tried : {c : Checked} {h : Header} {t : Tried} {w' : List ℕ} → c ≡ checked (readQuestion desk ws) → c ≡ Fine → h ≡ headerOf ws → TriedAsked h fs ws t w w' → ToldOutcome (trying desk (length w) ws fs) t w w'
+    pub question-tried : {c : Checked} {h : Header} {t : Tried} {w' : List ℕ} → c ≡ checked (read_question desk ws) → c ≡ Fine → h ≡ header_of ws → TriedAsked h fs ws t w w' → ToldOutcome (trying desk (length w) ws fs) t w w'
     question-tried {t = t} {w'} e f g a =
         let (q, i) = fine-asks e f in
-        told-outcome (trying desk (length w) ws fs) t w w' (subst (λ x. Outcome x t w w') (sym (reads_on ∙ ap (λ x. tryingOf desk x fs) i)) (a.each q i g))
+        told-outcome (trying desk (length w) ws fs) t w w' (subst (λ x. Outcome x t w w') (sym (reads_on ∙ ap (λ x. trying_of desk x fs) i)) (a.each q i g))

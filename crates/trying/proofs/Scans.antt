@@ -9,18 +9,18 @@ use lib.ListN.{length, drop, drop_of_length-le}
 use borrow.Author.Tests.{lt-ltb, le-ltb, ltb-false}
 use Rattle.language.specs.Limits.{desk}
 use Rattle.language.specs.Trees.{eqn, mem, Conj, Counts, signature}
-use Rattle.language.specs.Writing.{conjWords}
+use Rattle.language.specs.Writing.{conj_words}
 use Rattle.language.specs.Between.{between}
 use Rattle.meaning.specs.Meaning.{Filling, MeetsAll}
 use Rattle.meaning.proofs.Values.{read_named}
-use Rattle.rules.specs.Calls.{filledSize, anyOver}
+use Rattle.rules.specs.Calls.{filled_size, any_over}
 use Rattle.filling.specs.Showing.{filled, Shows}
 use Rattle.trying.specs.Tasks.{Keeps, LiteralEnd, FittingLiteral, LiteralMet, AConj, SomeConj, FittingConj, ConjTooLong, ConjMet}
 use Rattle.trying.proofs.Rooms.{keeps-none, keeps-both}
 use Rattle.trying.proofs.Conjunctions.{Next-literal, next-literal, literal-shows, filling-few, literal-size}
 
 -- no words, no literals
-none_left : (k : Conj) → [] ≡ conjWords k → k ≡ []
+none_left : (k : Conj) → [] ≡ conj_words k → k ≡ []
 none_left [] e = refl
 none_left (eqn l r ∷ k) e = absurd (let z = ap length e in omega arith)
 none_left (mem h R ∷ k) e = absurd (let z = ap length e in omega arith)
@@ -38,7 +38,7 @@ module _ (n : Counts) (fs ws : List ℕ) where
   pub record LongLeft (i : ℕ) (k : Conj) (ρ : Filling) : Type 0 where
     pub left : Conj
     pub it : AConj n fs (drop i ws) left ρ
-    pub same : anyOver desk ρ left ≡ anyOver desk ρ k
+    pub same : any_over desk ρ left ≡ any_over desk ρ k
 
   pub record Scanning (i : ℕ) : Type 0 where
     pub some : SomeConj n fs ws
@@ -61,7 +61,7 @@ module _ (n : Counts) (fs ws : List ℕ) where
 
     module _ {t h m : ℕ} (a : t ≡ n.terms) (b : h ≡ n.hedges) (f : m ≡ length (filled t h fs (between i end ws))) where
       -- the length of the literal that is next, in any of them
-      size : (k : Conj) (ρ : Filling) (x : Next-literal n fs ws i end k ρ) → m ≡ filledSize ρ x.l
+      size : (k : Conj) (ρ : Filling) (x : Next-literal n fs ws i end k ρ) → m ≡ filled_size ρ x.l
       size k ρ x = f ∙ literal-size n fs _ x.l ρ x.literal a b
 
       pub scan-over : desk.literal < m → ConjTooLong n fs ws true
@@ -70,7 +70,7 @@ module _ (n : Counts) (fs ws : List ℕ) where
             let l = s.each k ρ x in
             let y = next-literal n fs ws i end l.left ρ e p l.it in
             let z = size l.left ρ y in
-            sym (ap (λ c. c || anyOver desk ρ y.later) (lt-ltb desk.literal (filledSize ρ y.l) (omega arith))) ∙ ap (anyOver desk ρ) (sym y.is) ∙ l.same;
+            sym (ap (λ c. c || any_over desk ρ y.later) (lt-ltb desk.literal (filled_size ρ y.l) (omega arith))) ∙ ap (any_over desk ρ) (sym y.is) ∙ l.same;
       }
 
       pub scan-on : m ≤ desk.literal → Scanning end
@@ -83,7 +83,7 @@ module _ (n : Counts) (fs ws : List ℕ) where
             record {
               left = y.later;
               it = y.rest;
-              same = sym (ap (λ c. c || anyOver desk ρ y.later) (le-ltb desk.literal (filledSize ρ y.l) (omega arith))) ∙ ap (anyOver desk ρ) (sym y.is) ∙ l.same;
+              same = sym (ap (λ c. c || any_over desk ρ y.later) (le-ltb desk.literal (filled_size ρ y.l) (omega arith))) ∙ ap (any_over desk ρ) (sym y.is) ∙ l.same;
             };
       }
 
@@ -92,7 +92,7 @@ module _ (n : Counts) (fs ws : List ℕ) where
     each = λ k ρ x.
         let l = s.each k ρ x in
         let z = none_left l.left (sym (drop_of_length-le ws p) ∙ l.it.words) in
-        ap (anyOver desk ρ) (sym z) ∙ l.same;
+        ap (any_over desk ρ) (sym z) ∙ l.same;
   }
 
   -- ---- tests
@@ -100,7 +100,7 @@ module _ (n : Counts) (fs ws : List ℕ) where
   pub record MetLeft (i : ℕ) (k : Conj) (ρ : Filling) : Type 0 where
     pub left : Conj
     pub it : AConj n fs (drop i ws) left ρ
-    pub fits : anyOver desk ρ k ≡ false → anyOver desk ρ left ≡ false
+    pub fits : any_over desk ρ k ≡ false → any_over desk ρ left ≡ false
     pub all : MeetsAll (signature n) ρ left → MeetsAll (signature n) ρ k
     pub all' : MeetsAll (signature n) ρ k → MeetsAll (signature n) ρ left
 
@@ -122,9 +122,9 @@ module _ (n : Counts) (fs ws : List ℕ) where
     pub test-ready : FittingLiteral n fs (between i end ws)
     test-ready =
         let y = test-here in
-        let f : anyOver desk s.some.ρ (y.l ∷ y.later) ≡ false = ap (anyOver desk s.some.ρ) (sym y.is) ∙ its-left.fits s.some.fits in
-        let g = or-false (ltb desk.literal (filledSize s.some.ρ y.l)) (anyOver desk s.some.ρ y.later) f in
-        record { l = y.l; ρ = s.some.ρ; it = y.literal; fits = ltb-false desk.literal (filledSize s.some.ρ y.l) g.0 }
+        let f : any_over desk s.some.ρ (y.l ∷ y.later) ≡ false = ap (any_over desk s.some.ρ) (sym y.is) ∙ its-left.fits s.some.fits in
+        let g = or-false (ltb desk.literal (filled_size s.some.ρ y.l)) (any_over desk s.some.ρ y.later) f in
+        record { l = y.l; ρ = s.some.ρ; it = y.literal; fits = ltb-false desk.literal (filled_size s.some.ρ y.l) g.0 }
 
     module _ {v : List ℕ} {r : Bool} (m : LiteralMet n fs (between i end ws) u v r) where
       pub test-fails : r ≡ false → ConjMet n fs ws w v false
@@ -149,8 +149,8 @@ module _ (n : Counts) (fs ws : List ℕ) where
               left = y.later;
               it = y.rest;
               fits = λ f.
-                  let g : anyOver desk ρ (y.l ∷ y.later) ≡ false = ap (anyOver desk ρ) (sym y.is) ∙ l.fits f in
-                  (or-false (ltb desk.literal (filledSize ρ y.l)) (anyOver desk ρ y.later) g).1;
+                  let g : any_over desk ρ (y.l ∷ y.later) ≡ false = ap (any_over desk ρ) (sym y.is) ∙ l.fits f in
+                  (or-false (ltb desk.literal (filled_size ρ y.l)) (any_over desk ρ y.later) g).1;
               all = λ z. l.all (subst (MeetsAll (signature n) ρ) (sym y.is) (to q, z));
               all' = λ z. let a : MeetsAll (signature n) ρ (y.l ∷ y.later) = subst (MeetsAll (signature n) ρ) y.is (l.all' z) in a.1;
             };

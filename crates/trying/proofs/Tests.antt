@@ -10,7 +10,7 @@ use lib.Seq.{sets}
 use Rattle.language.specs.declared.Signature.{Signature}
 use Rattle.language.specs.Limits.{desk}
 use Rattle.language.specs.Between.{between}
-use Rattle.meaning.specs.Complete.{Complete, completeWords}
+use Rattle.meaning.specs.Complete.{Complete, complete_words}
 use Rattle.passing.specs.Places.{StandsC}
 use Rattle.member.specs.Places.{Both, Decided}
 use Rattle.alike.specs.Tasks.{Two, Pair}
@@ -25,8 +25,8 @@ module _ {t h : ℕ} {fs : List ℕ} where
     written-alone = alone-written w (filled t h fs hedge) (omega arith) w' n x.words (x.place ∙ zero-add (length (filled t h fs hedge)))
 
     -- the complete hedge that it becomes stands there
-    stands : (g : Complete) → filled t h fs hedge ≡ completeWords g → StandsC (between 0 n w') 0 g
-    stands g e = record { others = []; words = written-alone ∙ e ∙ sym (append-nil (completeWords g)) }
+    stands : (g : Complete) → filled t h fs hedge ≡ complete_words g → StandsC (between 0 n w') 0 g
+    stands g e = record { others = []; words = written-alone ∙ e ∙ sym (append-nil (complete_words g)) }
 
     pub both-stand : {expr : List ℕ} → Testable t h fs hedge expr → Both expr 0 (between 0 n w') 0
     both-stand s = record { R = s.R; g = s.g; expression = s.expression; hedge = stands s.g s.becomes }

@@ -2,7 +2,7 @@
 ghost use Rattle.std.specs.Prelude.{◌+◌, ◌≤◌, ◌<◌, length};
 ghost use Rattle.language.specs.Limits.{desk};
 ghost use Rattle.rules.specs.Calls.{trying};
-ghost use Rattle.header.specs.Heading.{countsIn};
+ghost use Rattle.header.specs.Heading.{counts_in};
 ghost use Rattle.filling.specs.Showing.{filled, Shows};
 ghost use Rattle.trying.specs.Tasks.{FirstEnd, Comparable, EquationMet, Testable, MembershipMet, FittingLiteral, LiteralMet, LiteralEnd, SomeConj, FittingConj, ConjTooLong, ConjMet, SomeQuestion, FittingQuestion, QuestionTooLong, QuestionMet, AskedQuestion};
 ghost use Rattle.trying.specs.Outcome.{ToldOutcome, TriedGiven, TriedAsked};
@@ -72,9 +72,9 @@ fn meets_membership<'a>(
 }
 
 fn meets_literal<'a>(h: Header, filling: &'a [u16], literal: &'a [u16], work: &mut [u16]) -> bool
-    requires fitting_literal { FittingLiteral (countsIn h) filling.now literal.now }
+    requires fitting_literal { FittingLiteral (counts_in h) filling.now literal.now }
     requires room_in_bounds { desk.room ≤ length work.old }
-    ensures { LiteralMet (countsIn h) filling.now literal.now work.old work.new result }
+    ensures { LiteralMet (counts_in h) filling.now literal.now work.old work.new result }
 {
     let terms = wide(h.terms);
     let hedges = wide(h.hedges);
@@ -120,8 +120,8 @@ fn literal_end(conj: &[u16], at: usize) -> usize
 
 // Whether one of its literals, filled in, is too long.
 fn too_long<'a>(h: Header, filling: &'a [u16], conj: &'a [u16]) -> bool
-    requires { SomeConj (countsIn h) filling.now conj.now }
-    ensures { ConjTooLong (countsIn h) filling.now conj.now result }
+    requires { SomeConj (counts_in h) filling.now conj.now }
+    ensures { ConjTooLong (counts_in h) filling.now conj.now result }
 {
     let mut i: usize = 0;
     while i < conj.len() {
@@ -138,9 +138,9 @@ fn too_long<'a>(h: Header, filling: &'a [u16], conj: &'a [u16]) -> bool
 
 // Whether all its literals are met.
 fn meets_all<'a>(h: Header, filling: &'a [u16], conj: &'a [u16], work: &mut [u16]) -> bool
-    requires fitting_conj { FittingConj (countsIn h) filling.now conj.now }
+    requires fitting_conj { FittingConj (counts_in h) filling.now conj.now }
     requires room_in_bounds { desk.room ≤ length work.old }
-    ensures { ConjMet (countsIn h) filling.now conj.now work.old work.new result }
+    ensures { ConjMet (counts_in h) filling.now conj.now work.old work.new result }
 {
     let mut i: usize = 0;
     while i < conj.len() {

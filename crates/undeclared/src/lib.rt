@@ -1,16 +1,16 @@
 // The first number in a question's words that is not declared.
 ghost use Rattle.std.specs.Prelude.{◌≡◌, drop};
 ghost use Rattle.language.specs.Limits.{desk};
-ghost use Rattle.language.specs.Undeclared.{declaredWord};
-ghost use Rattle.header.specs.Heading.{countsIn};
-ghost use Rattle.undeclared.specs.Scanning.{firstUndeclared};
+ghost use Rattle.language.specs.Undeclared.{declared_word};
+ghost use Rattle.header.specs.Heading.{counts_in};
+ghost use Rattle.undeclared.specs.Scanning.{first_undeclared};
 
 use header::Header;
 use language::{Kind, classify};
 
 // Whether a word's number is below the count of its kind.
 fn is_declared(h: Header, word: u16) -> bool
-    ensures { result ≡ declaredWord desk (countsIn h) word }
+    ensures { result ≡ declared_word desk (counts_in h) word }
 {
     match classify(word) {
         Kind::Term(x) => x.0 < h.terms,
@@ -29,7 +29,7 @@ pub enum Scan {
 }
 
 pub fn find_undeclared(h: Header, w: &[u16], from: usize) -> Scan
-    ensures { result ≡ firstUndeclared desk (countsIn h) from (drop from w.now) }
+    ensures { result ≡ first_undeclared desk (counts_in h) from (drop from w.now) }
 {
     let mut i = from;
     while i < w.len() {

@@ -9,20 +9,20 @@ use lib.Dec.{eqb}
 use lib.ListN.{length, get_or, length-drop}
 use borrow.Author.Tests.{eq-eqb, ne_eqb}
 use Rattle.language.specs.Limits.{desk}
-use Rattle.language.specs.Trees.{Hedge, Literal, eqn, mem, Conj, Var, tv, hv, fv, eqV, holds, inConj}
-use Rattle.language.specs.Writing.{literalWords, conjWords}
+use Rattle.language.specs.Trees.{Hedge, Literal, eqn, mem, Conj, Var, tv, hv, fv, eq_v, holds, in_conj}
+use Rattle.language.specs.Writing.{literal_words, conj_words}
 use Rattle.rules.specs.Solved.{or_else, given, variable, alone, solves}
 use Rattle.rules.specs.Example.{binds, bound}
 use Rattle.rules.proofs.Answers.{Where}
 use Rattle.views.specs.Views.{Sees}
 use Rattle.views.specs.declared.View.{View}
-use Rattle.views.specs.Variables.{variableWord, fineVar}
+use Rattle.views.specs.Variables.{variable_word, fine_var}
 use Rattle.views.specs.Standing.{LiteralAt}
 use Rattle.views.proofs.Sides.{side-stands}
 use Rattle.views.proofs.Members.{eqb-base}
 use Rattle.words.proofs.Parts.{word-of}
 use Rattle.values.specs.Lines.{Named, Word, Held, held, unheld}
-use Rattle.values.specs.Binding.{soleWord, BoundBy, to, free}
+use Rattle.values.specs.Binding.{sole_word, BoundBy, to, free}
 use Rattle.values.specs.declared.Variable.{Variable}
 use Rattle.values.specs.declared.bindings.Place.{Place}
 use Rattle.values.specs.declared.bindings.Place.TheVariants.{At, Nowhere}
@@ -32,7 +32,7 @@ use Rattle.values.proofs.Walks.{literal-here}
 use Rattle.alone.proofs.Sides.{side-fine, word_some}
 
 -- different words are of different variables
-pub eqb-words : (u v : Var) → fineVar desk u → fineVar desk v → eqb (variableWord u) (variableWord v) ≡ eqV u v
+pub eqb-words : (u v : Var) → fine_var desk u → fine_var desk v → eqb (variable_word u) (variable_word v) ≡ eq_v u v
 eqb-words (tv x) (tv y) f g = eqb-base 1000 x.0 y.0
 eqb-words (tv x) (hv q) f g = ne_eqb (1000 + x.0) (2000 + q.0) (omega arith)
 eqb-words (tv x) (fv Y) f g = ne_eqb (1000 + x.0) (4000 + Y.0) (omega arith)
@@ -47,26 +47,26 @@ eqb-words (fv X) (fv Y) f g = eqb-base 4000 X.0 Y.0
 
 module _ (K : Conj) (r : Hedge) where
   -- where a side solves a variable, the other side is what it is equal to
-  sole : (m : Option Var) → Where (fineVar desk) m → (v : Var) (x y : ℕ) → Word v x → y ≡ soleWord (alone K r m) → binds v (alone K r m) ≡ given (eqb y x) r
+  sole : (m : Option Var) → Where (fine_var desk) m → (v : Var) (x y : ℕ) → Word v x → y ≡ sole_word (alone K r m) → binds v (alone K r m) ≡ given (eqb y x) r
   sole none f v x y w e = ap (λ b. given b r) (sym (ne_eqb y x (λ z. word_some v (sym w.is ∙ sym z ∙ e))))
-  sole (some u) f v x y w e = by (not (holds u r || inConj u K)) e
+  sole (some u) f v x y w e = by (not (holds u r || in_conj u K)) e
     where
-      by : (b : Bool) → y ≡ soleWord (given b (u, r)) → binds v (given b (u, r)) ≡ given (eqb y x) r
-      by true e = ap (λ b. given b r) (sym (ap (λ z. eqb z x) e ∙ ap (eqb (variableWord u)) w.is ∙ eqb-words u v f w.fine))
+      by : (b : Bool) → y ≡ sole_word (given b (u, r)) → binds v (given b (u, r)) ≡ given (eqb y x) r
+      by true e = ap (λ b. given b r) (sym (ap (λ z. eqb z x) e ∙ ap (eqb (variable_word u)) w.is ∙ eqb-words u v f w.fine))
       by false e = ap (λ b. given b r) (sym (ne_eqb y x (λ z. word_some v (sym w.is ∙ sym z ∙ e))))
 
 -- ---- both sides
 
-first : (a : Option (Var × Hedge)) (more : Unit {0} → Option (Var × Hedge)) → (soleWord a ≡ 0 → ⊥) → or_else a more ≡ a
+first : (a : Option (Var × Hedge)) (more : Unit {0} → Option (Var × Hedge)) → (sole_word a ≡ 0 → ⊥) → or_else a more ≡ a
 first none more n = absurd (n refl)
 first (some b) more n = refl
 
-second : (a : Option (Var × Hedge)) (more : Unit {0} → Option (Var × Hedge)) → soleWord a ≡ 0 → or_else a more ≡ more tt
+second : (a : Option (Var × Hedge)) (more : Unit {0} → Option (Var × Hedge)) → sole_word a ≡ 0 → or_else a more ≡ more tt
 second none more n = refl
 second (some b) more n = absurd (word_some b.0 n)
 
 module _ {k : List ℕ} {u : View} {before behind : Conj} {l r : Hedge} {v : Var} {x y : ℕ} (s : Sees k u before l r behind) (w : Word v x)
-    (e : y ≡ soleWord (alone (before ++ behind) r (variable l r))) where
+    (e : y ≡ sole_word (alone (before ++ behind) r (variable l r))) where
   on-left : binds v (alone (before ++ behind) r (variable l r)) ≡ given (eqb y x) r
   on-left = sole (before ++ behind) r (variable l r) (side-fine l r s.left.fine) v x y w e
 
@@ -80,7 +80,7 @@ module _ {k : List ℕ} {u : View} {before behind : Conj} {l r : Hedge} {v : Var
   free-left z n =
       free (ap (binds v) (first (alone (before ++ behind) r (variable l r)) _ (λ q. n (e ∙ q))) ∙ on-left ∙ ap (λ b. given b r) (ne_eqb y x z))
 
-  module _ {t : View} {z : ℕ} (q : Sees k t before r l behind) (n : y ≡ 0) (d : z ≡ soleWord (alone (before ++ behind) l (variable r l))) where
+  module _ {t : View} {z : ℕ} (q : Sees k t before r l behind) (n : y ≡ 0) (d : z ≡ sole_word (alone (before ++ behind) l (variable r l))) where
     on-right : binds v (solves (before ++ behind) (eqn l r)) ≡ given (eqb z x) l
     on-right =
         ap (binds v) (second (alone (before ++ behind) r (variable l r)) _ (sym e ∙ n))
@@ -103,11 +103,11 @@ Swaps u t = (k : List ℕ) (before behind : Conj) (l r : Hedge) → Sees k u bef
 
 -- what is told of the side seen first
 abbrev pub Solves : List ℕ → View → ℕ → Type 0
-Solves k u y = (before : Conj) (l r : Hedge) (behind : Conj) → Sees k u before l r behind → y ≡ soleWord (alone (before ++ behind) r (variable l r))
+Solves k u y = (before : Conj) (l r : Hedge) (behind : Conj) → Sees k u before l r behind → y ≡ sole_word (alone (before ++ behind) r (variable l r))
 
 module _ {k : List ℕ} {at : ℕ} {before behind : Conj} where
-  starts : {l : Literal} → LiteralAt k at before l behind → get_or k at 0 ≡ get_or (literalWords l ++ conjWords behind) 0 0
-  starts {l} a = word-of k at (literalWords l ++ conjWords behind) (literal-here a)
+  starts : {l : Literal} → LiteralAt k at before l behind → get_or k at 0 ≡ get_or (literal_words l ++ conj_words behind) 0 0
+  starts {l} a = word-of k at (literal_words l ++ conj_words behind) (literal-here a)
 
   inside : (l : Literal) → LiteralAt k at before l behind → at < length k
   inside (eqn l r) a = omega (arith, length-drop at k, ap length (literal-here a))

@@ -9,10 +9,10 @@ use lib.Seq.{slice}
 use Rattle.language.specs.declared.TermVar.{TermVar}
 use Rattle.language.specs.declared.Sym.{Sym}
 use Rattle.language.specs.Trees.{Hedge, Expr, Conj, Var, tv}
-use Rattle.language.specs.Writing.{hedgeWords}
-use Rattle.meaning.specs.Complete.{nil, tree, completeWords}
-use Rattle.meaning.specs.Values.{rootOf, childrenOf}
-use Rattle.rules.specs.Example.{expressionOf, sampled, unsolved, bound, followed}
+use Rattle.language.specs.Writing.{hedge_words}
+use Rattle.meaning.specs.Complete.{nil, tree, complete_words}
+use Rattle.meaning.specs.Values.{root_of, children_of}
+use Rattle.rules.specs.Example.{expression_of, sampled, unsolved, bound, followed}
 use Rattle.samples.specs.Bodies.{body}
 use Rattle.samples.specs.Laid.{Laid}
 use Rattle.samples.proofs.Bodies.{words-body}
@@ -25,16 +25,16 @@ use Rattle.values.specs.declared.Variable.{Variable}
 use Rattle.values.specs.declared.bindings.Bound.{Bound}
 use Rattle.values.specs.declared.bindings.Bound.TheVariants.{To, Free}
 use Rattle.values.specs.Spelling.{becomes, spelled, HedgeWords}
-use Rattle.values.specs.Values.{Settled, valueWords, UnsolvedLength, PartLength, ValueLength}
+use Rattle.values.specs.Values.{Settled, value_words, UnsolvedLength, PartLength, ValueLength}
 use Rattle.values.proofs.Spelling.{hedge-words, filled-words}
 
 -- a term variable's unsolved value is one term
-single-sample : (any : Sym) (c : Conj) (x : TermVar) (m : Option Expr) → Settled c → expressionOf (tv x) c ≡ m → sampled any (tv x) m ≡ tree (rootOf (sampled any (tv x) m)) (childrenOf (sampled any (tv x) m)) nil
+single-sample : (any : Sym) (c : Conj) (x : TermVar) (m : Option Expr) → Settled c → expression_of (tv x) c ≡ m → sampled any (tv x) m ≡ tree (root_of (sampled any (tv x) m)) (children_of (sampled any (tv x) m)) nil
 single-sample any c x none t e = refl
 single-sample any c x (some R) t e = let (f, S, d) = t.terms x R e in rw d refl
 
-pub single : (any : Sym) (c : Conj) → Settled c → (x : TermVar) → unsolved any c (tv x) ≡ tree (rootOf (unsolved any c (tv x))) (childrenOf (unsolved any c (tv x))) nil
-single any c t x = single-sample any c x (expressionOf (tv x) c) t refl
+pub single : (any : Sym) (c : Conj) → Settled c → (x : TermVar) → unsolved any c (tv x) ≡ tree (root_of (unsolved any c (tv x))) (children_of (unsolved any c (tv x))) nil
+single any c t x = single-sample any c x (expression_of (tv x) c) t refl
 
 -- what is told of what a variable is bound to
 abbrev pub Bounds : List ℕ → Variable → Bound → Type 0
@@ -46,7 +46,7 @@ record There (k : List ℕ) (from until : ℕ) (m : Option Hedge) : Type 0 where
   beyond : List ℕ
   is : m ≡ some h
   stands : Stands k from h beyond
-  end : until ≡ from + length (hedgeWords h)
+  end : until ≡ from + length (hedge_words h)
 
 there : {k : List ℕ} {m : Option Hedge} {b : Bound} {from until : ℕ} → BoundBy k m b → b ≡ To from until → There k from until m
 there {k} {m} {b} {from} {until} (to {from = i} {until = j} h beyond e s d) z =
@@ -61,21 +61,21 @@ not_there (free e) z = e
 
 module _ {k : List ℕ} {x : Variable} {b : Bound} (t : Bounds k x b) where
   module _ {from until : ℕ} (z : b ≡ To from until) (c : Conj) (v : Var) (s : Line k c) (q : Settled c) (w : Named v x) where
-    part-is : slice from until k ≡ hedgeWords (there (t c v s w) z).h
-    part-is = let a = there (t c v s w) z in part_of k from until (hedgeWords a.h) a.beyond a.stands.here a.end
+    part-is : slice from until k ≡ hedge_words (there (t c v s w) z).h
+    part-is = let a = there (t c v s w) z in part_of k from until (hedge_words a.h) a.beyond a.stands.here a.end
 
     part-words : HedgeWords (slice from until k)
     part-words = rw part-is (hedge-words (there (t c v s w) z).h (there (t c v s w) z).stands.fine)
 
-    bound-words : (any : Sym) → valueWords any c v ≡ spelled (becomes (unsolved any c)) (slice from until k)
-    unfolding valueWords
+    bound-words : (any : Sym) → value_words any c v ≡ spelled (becomes (unsolved any c)) (slice from until k)
+    unfolding value_words
     bound-words any =
         let a = there (t c v s w) z in
-        ap (λ m. completeWords (followed any c v m)) a.is ∙ filled-words (unsolved any c) (single any c q) a.h a.stands.fine ∙ ap (spelled (becomes (unsolved any c))) (sym part-is)
+        ap (λ m. complete_words (followed any c v m)) a.is ∙ filled-words (unsolved any c) (single any c q) a.h a.stands.fine ∙ ap (spelled (becomes (unsolved any c))) (sym part-is)
 
-  free-words : b ≡ Free → (any : Sym) (c : Conj) (v : Var) → Line k c → Named v x → valueWords any c v ≡ body (unsolved any c v) ++ (0 ∷ [])
-  unfolding valueWords
-  free-words z any c v s w = ap (λ m. completeWords (followed any c v m)) (not_there (t c v s w) z) ∙ words-body (unsolved any c v)
+  free-words : b ≡ Free → (any : Sym) (c : Conj) (v : Var) → Line k c → Named v x → value_words any c v ≡ body (unsolved any c v) ++ (0 ∷ [])
+  unfolding value_words
+  free-words z any c v s w = ap (λ m. complete_words (followed any c v m)) (not_there (t c v s w) z) ∙ words-body (unsolved any c v)
 
   pub bound-length : {from until n : ℕ} → b ≡ To from until → PartLength k from until n → ValueLength k x n
   bound-length z p = record {
@@ -92,9 +92,9 @@ module _ {k : List ℕ} {x : Variable} {b : Bound} (t : Bounds k x b) where
   module _ (any : Sym) {old new : List ℕ} {at e : ℕ} where
     pub bound-laid : {from until : ℕ} → b ≡ To from until
         → ((c : Conj) → Line k c → Settled c → HedgeWords (slice from until k) → Laid old at (spelled (becomes (unsolved any c)) (slice from until k)) new e)
-        → (c : Conj) (v : Var) → Line k c → Settled c → Named v x → Laid old at (valueWords any c v) new e
+        → (c : Conj) (v : Var) → Line k c → Settled c → Named v x → Laid old at (value_words any c v) new e
     bound-laid z f c v s q w = laid_as (sym (bound-words z c v s q w any)) (f c s q (part-words z c v s q w))
 
     pub free-laid : {mid : List ℕ} {m : ℕ} → b ≡ Free → ((c : Conj) (v : Var) → Line k c → Named v x → Laid old at (body (unsolved any c v)) mid m) → Laid mid m (0 ∷ []) new e
-        → (c : Conj) (v : Var) → Line k c → Settled c → Named v x → Laid old at (valueWords any c v) new e
+        → (c : Conj) (v : Var) → Line k c → Settled c → Named v x → Laid old at (value_words any c v) new e
     free-laid z f l c v s q w = laid_as (sym (free-words z any c v s w)) (laid-row (body (unsolved any c v)) (0 ∷ []) (f c v s w) l)

@@ -16,7 +16,7 @@ use Rattle.language.specs.Limits.{desk}
 use Rattle.language.specs.Kinds.{kind_of}
 use Rattle.language.specs.Trees.{Conj, Var, tv, hv, fv}
 use Rattle.language.proofs.Arms.{Among, each-kind}
-use Rattle.meaning.specs.Values.{rootOf}
+use Rattle.meaning.specs.Values.{root_of}
 use Rattle.rules.specs.Example.{sampled, unsolved}
 use Rattle.values.specs.declared.Variable.{Variable}
 use Rattle.values.specs.declared.Variable.TheVariants as one
@@ -25,7 +25,7 @@ use Rattle.samples.specs.Laid.{Laid}
 use Rattle.samples.proofs.Laid.{laid_none, laid-row, laid_as}
 use Rattle.words.proofs.Parts.{part-cons, part_none, part-past}
 use Rattle.values.specs.Lines.{Named, Line}
-use Rattle.values.specs.Spelling.{becomesBy, becomes, spelled, HedgeWord, HedgeWords}
+use Rattle.values.specs.Spelling.{becomes_by, becomes, spelled, HedgeWord, HedgeWords}
 use Rattle.values.specs.Values.{Settled, UnsolvedLength, WordLength, PartLength}
 use Rattle.values.proofs.Spelling.{becomes-as, named-term, named-run}
 
@@ -42,7 +42,7 @@ module _ {k : List ℕ} (x : ℕ) {j : Kind} (e : j ≡ kind_of desk x) where
   length-other o = record {
     few = omega arith;
     each = λ any c s h.
-        each-kind (0 ∷ 3 ∷ 4 ∷ 5 ∷ 6 ∷ 7 ∷ 8 ∷ 9 ∷ 10 ∷ 11 ∷ []) (λ i. 1 ≡ length (becomesBy (unsolved any c) x i)) refl tt tt (λ f. refl) (λ X. refl) refl refl refl refl refl refl refl j o
+        each-kind (0 ∷ 3 ∷ 4 ∷ 5 ∷ 6 ∷ 7 ∷ 8 ∷ 9 ∷ 10 ∷ 11 ∷ []) (λ i. 1 ≡ length (becomes_by (unsolved any c) x i)) refl tt tt (λ f. refl) (λ X. refl) refl refl refl refl refl refl refl j o
         ∙ ap length (becomes-as x e (unsolved any c) refl);
   }
 
@@ -63,12 +63,12 @@ module _ (any : Sym) {k : List ℕ} (x : ℕ) {j : Kind} {old new : List ℕ} {a
 
   pub wrote-blank : (X : FunVar) {w : ℕ} → j ≡ Function X → w ≡ 3000 + any.0 → Laid old at (w ∷ []) new e → WroteWord any k x old at new e
   wrote-blank X {w} g z l c s t h =
-      laid_as (ap (λ y. y ∷ []) z ∙ ap (λ m. (3000 + (rootOf (sampled any (fv X) m)).0) ∷ []) (sym (t.names X)) ∙ becomes-as x d (unsolved any c) g) l
+      laid_as (ap (λ y. y ∷ []) z ∙ ap (λ m. (3000 + (root_of (sampled any (fv X) m)).0) ∷ []) (sym (t.names X)) ∙ becomes-as x d (unsolved any c) g) l
 
   pub wrote-other : Among (0 ∷ 3 ∷ 5 ∷ 6 ∷ 7 ∷ 8 ∷ 9 ∷ 10 ∷ 11 ∷ []) j → Laid old at (x ∷ []) new e → WroteWord any k x old at new e
   wrote-other o l c s t h =
       laid_as
-      (each-kind (0 ∷ 3 ∷ 5 ∷ 6 ∷ 7 ∷ 8 ∷ 9 ∷ 10 ∷ 11 ∷ []) (λ i. x ∷ [] ≡ becomesBy (unsolved any c) x i) refl tt tt (λ f. refl) tt refl refl refl refl refl refl refl j o
+      (each-kind (0 ∷ 3 ∷ 5 ∷ 6 ∷ 7 ∷ 8 ∷ 9 ∷ 10 ∷ 11 ∷ []) (λ i. x ∷ [] ≡ becomes_by (unsolved any c) x i) refl tt tt (λ f. refl) tt refl refl refl refl refl refl refl j o
       ∙ becomes-as x d (unsolved any c) refl)
       l
 

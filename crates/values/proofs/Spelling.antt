@@ -13,23 +13,23 @@ use Rattle.language.proofs.Words.{Is, term, run, is, kind-end, kind-term, kind-r
 use Rattle.values.specs.declared.Variable.TheVariants as one
 use Rattle.language.specs.Limits.{desk}
 use Rattle.language.specs.Trees.{Functor, symbol, fvar, Hedge, ε, tvar, hvar, node, tv, hv, fv}
-use Rattle.language.specs.Writing.{functorWord, hedgeWords}
-use Rattle.language.specs.Fine.{fineFunctor, fineHedge}
-use Rattle.meaning.specs.Complete.{nil, tree, completeWords}
+use Rattle.language.specs.Writing.{functor_word, hedge_words}
+use Rattle.language.specs.Fine.{fine_functor, fine_hedge}
+use Rattle.meaning.specs.Complete.{nil, tree, complete_words}
 use Rattle.meaning.specs.Meaning.{fill_f, fill}
-use Rattle.meaning.specs.Values.{rootOf, childrenOf}
+use Rattle.meaning.specs.Values.{root_of, children_of}
 use Rattle.rules.specs.Example.{Values, of}
 use Rattle.samples.specs.Bodies.{body}
 use Rattle.samples.proofs.Bodies.{words_row}
 use Rattle.values.specs.Lines.{Named}
-use Rattle.values.specs.Spelling.{becomesBy, becomes, spelled, HedgeWord, ends, varies, names, HedgeWords}
+use Rattle.values.specs.Spelling.{becomes_by, becomes, spelled, HedgeWord, ends, varies, names, HedgeWords}
 
 -- ---- one word, by its kind
 
 module _ (x : ℕ) {j : Kind} (e : j ≡ kind_of desk x) where
-  pub becomes-as : (β : Values) {i : Kind} → j ≡ i → becomesBy β x i ≡ becomes β x
+  pub becomes-as : (β : Values) {i : Kind} → j ≡ i → becomes_by β x i ≡ becomes β x
   unfolding becomes
-  becomes-as β g = ap (becomesBy β x) (sym g ∙ e)
+  becomes-as β g = ap (becomes_by β x) (sym g ∙ e)
 
   kind-is : {i : Kind} → j ≡ i → Is desk x i
   kind-is g = subst (Is desk x) (sym e ∙ g) (is desk x)
@@ -49,23 +49,23 @@ module _ (x : ℕ) {j : Kind} (e : j ≡ kind_of desk x) where
 module _ (β : Values) where
   becomes-end : becomes β 0 ≡ 0 ∷ []
   unfolding becomes
-  becomes-end = ap (becomesBy β 0) (kind-end desk)
+  becomes-end = ap (becomes_by β 0) (kind-end desk)
 
   becomes-term : (y : TermVar) → y.0 < desk.each → becomes β (1000 + y.0) ≡ body (β (tv y))
   unfolding becomes
-  becomes-term y i = ap (becomesBy β (1000 + y.0)) (kind-term desk y i)
+  becomes-term y i = ap (becomes_by β (1000 + y.0)) (kind-term desk y i)
 
   becomes-run : (p : HedgeVar) → p.0 < desk.each → becomes β (2000 + p.0) ≡ body (β (hv p))
   unfolding becomes
-  becomes-run p i = ap (becomesBy β (2000 + p.0)) (kind-run desk p i)
+  becomes-run p i = ap (becomes_by β (2000 + p.0)) (kind-run desk p i)
 
   becomes-symbol : (f : Sym) → f.0 < desk.each → becomes β (3000 + f.0) ≡ (3000 + f.0) ∷ []
   unfolding becomes
-  becomes-symbol f i = ap (becomesBy β (3000 + f.0)) (kind-symbol desk f i)
+  becomes-symbol f i = ap (becomes_by β (3000 + f.0)) (kind-symbol desk f i)
 
-  becomes-name : (X : FunVar) → X.0 < desk.each → becomes β (4000 + X.0) ≡ (3000 + (rootOf (β (fv X))).0) ∷ []
+  becomes-name : (X : FunVar) → X.0 < desk.each → becomes β (4000 + X.0) ≡ (3000 + (root_of (β (fv X))).0) ∷ []
   unfolding becomes
-  becomes-name X i = ap (becomesBy β (4000 + X.0)) (kind-function desk X i)
+  becomes-name X i = ap (becomes_by β (4000 + X.0)) (kind-function desk X i)
 
 -- ---- hedges
 
@@ -77,33 +77,33 @@ words-row-of : (us vs : List ℕ) → HedgeWords us → HedgeWords vs → HedgeW
 words-row-of [] vs f g = g
 words-row-of (x ∷ us) vs f g = (f.0, words-row-of us vs f.1 g)
 
-functor-word : (F : Functor) → fineFunctor desk F → HedgeWord (functorWord F)
+functor-word : (F : Functor) → fine_functor desk F → HedgeWord (functor_word F)
 functor-word (symbol f) l = names f.0 l refl
 functor-word (fvar X) l = varies (fv X) (record { fine = l; is = refl })
 
-pub hedge-words : (h : Hedge) → fineHedge desk h → HedgeWords (hedgeWords h)
+pub hedge-words : (h : Hedge) → fine_hedge desk h → HedgeWords (hedge_words h)
 hedge-words ε f = (ends refl, tt)
 hedge-words (tvar x r) f = (varies (tv x) (record { fine = f.0; is = refl }), hedge-words r f.1)
 hedge-words (hvar p r) f = (varies (hv p) (record { fine = f.0; is = refl }), hedge-words r f.1)
-hedge-words (node F c r) f = (functor-word F f.0, words-row-of (hedgeWords c) (hedgeWords r) (hedge-words c f.1) (hedge-words r f.2))
+hedge-words (node F c r) f = (functor-word F f.0, words-row-of (hedge_words c) (hedge_words r) (hedge-words c f.1) (hedge-words r f.2))
 
-module _ (β : Values) (single : (x : TermVar) → β (tv x) ≡ tree (rootOf (β (tv x))) (childrenOf (β (tv x))) nil) where
-  functor-becomes : (F : Functor) → fineFunctor desk F → becomes β (functorWord F) ≡ (3000 + (fill_f (of β) F).0) ∷ []
+module _ (β : Values) (single : (x : TermVar) → β (tv x) ≡ tree (root_of (β (tv x))) (children_of (β (tv x))) nil) where
+  functor-becomes : (F : Functor) → fine_functor desk F → becomes β (functor_word F) ≡ (3000 + (fill_f (of β) F).0) ∷ []
   functor-becomes (symbol f) l = becomes-symbol β f l
   functor-becomes (fvar X) l = becomes-name β X l
 
-  pub filled-words : (h : Hedge) → fineHedge desk h → completeWords (fill (of β) h) ≡ spelled (becomes β) (hedgeWords h)
+  pub filled-words : (h : Hedge) → fine_hedge desk h → complete_words (fill (of β) h) ≡ spelled (becomes β) (hedge_words h)
   filled-words ε f = sym (ap (λ l. l ++ []) (becomes-end β))
   filled-words (tvar x r) f =
-      ap (λ l. (3000 + (rootOf (β (tv x))).0) ∷ (completeWords (childrenOf (β (tv x))) ++ l)) (filled-words r f.1)
-      ∙ ap (λ l. (3000 + (rootOf (β (tv x))).0) ∷ (l ++ spelled (becomes β) (hedgeWords r))) (sym (append-nil (completeWords (childrenOf (β (tv x))))))
-      ∙ ap (λ l. l ++ spelled (becomes β) (hedgeWords r)) (sym (becomes-term β x f.0 ∙ ap body (single x)))
+      ap (λ l. (3000 + (root_of (β (tv x))).0) ∷ (complete_words (children_of (β (tv x))) ++ l)) (filled-words r f.1)
+      ∙ ap (λ l. (3000 + (root_of (β (tv x))).0) ∷ (l ++ spelled (becomes β) (hedge_words r))) (sym (append-nil (complete_words (children_of (β (tv x))))))
+      ∙ ap (λ l. l ++ spelled (becomes β) (hedge_words r)) (sym (becomes-term β x f.0 ∙ ap body (single x)))
   filled-words (hvar p r) f =
       words_row (β (hv p)) (fill (of β) r)
       ∙ ap (λ l. body (β (hv p)) ++ l) (filled-words r f.1)
-      ∙ ap (λ l. l ++ spelled (becomes β) (hedgeWords r)) (sym (becomes-run β p f.0))
+      ∙ ap (λ l. l ++ spelled (becomes β) (hedge_words r)) (sym (becomes-run β p f.0))
   filled-words (node F c r) f =
-      ap (λ l. (3000 + (fill_f (of β) F).0) ∷ (l ++ completeWords (fill (of β) r))) (filled-words c f.1)
-      ∙ ap (λ l. (3000 + (fill_f (of β) F).0) ∷ (spelled (becomes β) (hedgeWords c) ++ l)) (filled-words r f.2)
-      ∙ ap (λ l. (3000 + (fill_f (of β) F).0) ∷ l) (sym (spelled-row (becomes β) (hedgeWords c) (hedgeWords r)))
-      ∙ ap (λ l. l ++ spelled (becomes β) (hedgeWords c ++ hedgeWords r)) (sym (functor-becomes F f.0))
+      ap (λ l. (3000 + (fill_f (of β) F).0) ∷ (l ++ complete_words (fill (of β) r))) (filled-words c f.1)
+      ∙ ap (λ l. (3000 + (fill_f (of β) F).0) ∷ (spelled (becomes β) (hedge_words c) ++ l)) (filled-words r f.2)
+      ∙ ap (λ l. (3000 + (fill_f (of β) F).0) ∷ l) (sym (spelled-row (becomes β) (hedge_words c) (hedge_words r)))
+      ∙ ap (λ l. l ++ spelled (becomes β) (hedge_words c ++ hedge_words r)) (sym (functor-becomes F f.0))

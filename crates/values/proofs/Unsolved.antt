@@ -8,7 +8,7 @@ use native.Mathlib.Omega.{arith}
 use lib.ListN.{length}
 use Rattle.language.specs.declared.Sym.{Sym}
 use Rattle.language.specs.Trees.{Conj, Var, tv, hv, fv}
-use Rattle.rules.specs.Example.{default, expressionOf, sampled, unsolved}
+use Rattle.rules.specs.Example.{default, expression_of, sampled, unsolved}
 use Rattle.rules.specs.Expressions.{sample}
 use Rattle.samples.specs.Bodies.{body}
 use Rattle.samples.specs.Laid.{Laid}
@@ -17,7 +17,7 @@ use Rattle.samples.specs.declared.Sample.{Sample}
 use Rattle.samples.specs.declared.Wrote.{Wrote}
 use Rattle.samples.proofs.Laid.{laid_none, laid-row, laid_as}
 use Rattle.samples.proofs.Standing.{body-here}
-use Rattle.values.specs.Lines.{varOf, Named, Line, Found, Expressed, expressed, unexpressed}
+use Rattle.values.specs.Lines.{var_of, Named, Line, Found, Expressed, expressed, unexpressed}
 use Rattle.values.specs.declared.Variable.{Variable}
 use Rattle.values.specs.declared.bindings.Place.{Place}
 use Rattle.values.specs.declared.bindings.Place.TheVariants.{At, Nowhere}
@@ -35,7 +35,7 @@ default-size any b (fv X) e = (λ t. absurd (let z : ◌≡◌ {A = Bool} true f
 abbrev pub Runs : Variable → Bool → Type 0
 Runs x b = (v : Var) → Named v x → b ≡ runs v
 
-pub runs-named : {x : Variable} {b : Bool} → b ≡ runs (varOf x) → Runs x b
+pub runs-named : {x : Variable} {b : Bool} → b ≡ runs (var_of x) → Runs x b
 runs-named e v w = e ∙ ap runs w.is
 
 module _ {x : Variable} {b : Bool} (r : Runs x b) where
@@ -68,11 +68,11 @@ module _ {x : Variable} {b : Bool} (r : Runs x b) where
 abbrev pub Expresses : List ℕ → Variable → Place → Type 0
 Expresses k x p = (c : Conj) (v : Var) → Line k c → Named v x → Expressed k c v p
 
-found_at : {k : List ℕ} {c : Conj} {v : Var} {p : Place} {e : ℕ} → Expressed k c v p → p ≡ At e → Found k e (expressionOf v c)
+found_at : {k : List ℕ} {c : Conj} {v : Var} {p : Place} {e : ℕ} → Expressed k c v p → p ≡ At e → Found k e (expression_of v c)
 found_at {k} {c} {v} {p} {e} (expressed {e = i} f) d = let z : i ≡ e = cc in rw z at f
 found_at (unexpressed f) d = let z : ◌≡◌ {A = ℕ} 0 1 = cc in absurd (omega arith)
 
-not_found : {k : List ℕ} {c : Conj} {v : Var} {p : Place} → Expressed k c v p → p ≡ Nowhere → expressionOf v c ≡ none
+not_found : {k : List ℕ} {c : Conj} {v : Var} {p : Place} → Expressed k c v p → p ≡ Nowhere → expression_of v c ≡ none
 not_found (expressed f) d = let z : ◌≡◌ {A = ℕ} 0 1 = cc in absurd (omega arith)
 not_found (unexpressed f) d = f
 

@@ -7,46 +7,46 @@ use lib.ListN.{length, drop, length-append}
 use lib.Seq.{drop-append_seam}
 use Rattle.language.specs.Limits.{desk}
 use Rattle.language.specs.Trees.{Literal, eqn, mem, Conj}
-use Rattle.language.specs.Writing.{literalWords, conjWords}
-use Rattle.language.specs.Fine.{fineConj}
-use Rattle.words.specs.Places.{untilLiteral}
+use Rattle.language.specs.Writing.{literal_words, conj_words}
+use Rattle.language.specs.Fine.{fine_conj}
+use Rattle.words.specs.Places.{until_literal}
 use Rattle.views.specs.Standing.{LiteralAt}
 use Rattle.views.proofs.Words.{words_append}
 use Rattle.views.proofs.Literals.{next-literal}
 use Rattle.values.specs.Lines.{Line, Walk}
 
-fine-parts : (a b : Conj) → fineConj desk (a ++ b) → fineConj desk a × fineConj desk b
+fine-parts : (a b : Conj) → fine_conj desk (a ++ b) → fine_conj desk a × fine_conj desk b
 fine-parts [] b f = (tt, f)
 fine-parts (l ∷ a) b f = let g = fine-parts a b f.1 in ((f.0, g.0), g.1)
 
-some_words : (l : Literal) → 0 < length (literalWords l)
+some_words : (l : Literal) → 0 < length (literal_words l)
 some_words (eqn l r) = omega arith
 some_words (mem h R) = omega arith
 
 -- a literal between the others
-pub literal-at : {k : List ℕ} {at : ℕ} {c : Conj} (before : Conj) (l : Literal) (behind : Conj) → Line k c → c ≡ before ++ (l ∷ behind) → at ≡ length (conjWords before) → LiteralAt k at before l behind
+pub literal-at : {k : List ℕ} {at : ℕ} {c : Conj} (before : Conj) (l : Literal) (behind : Conj) → Line k c → c ≡ before ++ (l ∷ behind) → at ≡ length (conj_words before) → LiteralAt k at before l behind
 literal-at {k} {at} {c} before l behind s e p =
     let f = fine-parts before (l ∷ behind) (rw e at s.fine) in
     record {
-      words = s.words ∙ ap conjWords e ∙ words_append before (l ∷ behind);
+      words = s.words ∙ ap conj_words e ∙ words_append before (l ∷ behind);
       place = p;
-      fineBefore = f.0;
+      fine_before = f.0;
       fine = f.1.0;
-      fineBehind = f.1.1;
+      fine_behind = f.1.1;
     }
 
-pub literal-here : {k : List ℕ} {at : ℕ} {before behind : Conj} {l : Literal} → LiteralAt k at before l behind → drop at k ≡ literalWords l ++ conjWords behind
+pub literal-here : {k : List ℕ} {at : ℕ} {before behind : Conj} {l : Literal} → LiteralAt k at before l behind → drop at k ≡ literal_words l ++ conj_words behind
 literal-here {k} {at} {before} {behind} {l} a =
-    ap (λ i. drop i k) a.place ∙ ap (drop (length (conjWords before))) a.words ∙ drop-append_seam (conjWords before) (literalWords l ++ conjWords behind)
+    ap (λ i. drop i k) a.place ∙ ap (drop (length (conj_words before))) a.words ∙ drop-append_seam (conj_words before) (literal_words l ++ conj_words behind)
 
-pub literal-ends : {k : List ℕ} {at : ℕ} {before behind : Conj} {l : Literal} → LiteralAt k at before l behind → at + 1 + untilLiteral (drop (at + 1) k) ≡ at + length (literalWords l)
+pub literal-ends : {k : List ℕ} {at : ℕ} {before behind : Conj} {l : Literal} → LiteralAt k at before l behind → at + 1 + until_literal (drop (at + 1) k) ≡ at + length (literal_words l)
 literal-ends {k} {at} {before} {behind} {l} a = next-literal k at l behind a.fine (literal-here a)
 
 pub walk_start : {k : List ℕ} {c : Conj} {P : Conj → Conj → Type 0} → P [] c → Walk k 0 c P
 walk_start {k} {c} p = record { before = []; behind = c; split = refl; place = refl; kept = p }
 
-some_left : {k : List ℕ} {c : Conj} → Line k c → (before behind : Conj) → c ≡ before ++ behind → length k ≡ length (conjWords before) + length (conjWords behind)
-some_left s before behind e = ap length (s.words ∙ ap conjWords e ∙ words_append before behind) ∙ length-append (conjWords before) (conjWords behind)
+some_left : {k : List ℕ} {c : Conj} → Line k c → (before behind : Conj) → c ≡ before ++ behind → length k ≡ length (conj_words before) + length (conj_words behind)
+some_left s before behind e = ap length (s.words ∙ ap conj_words e ∙ words_append before behind) ∙ length-append (conj_words before) (conj_words behind)
 
 module _ {k : List ℕ} {at : ℕ} {c : Conj} {P : Conj → Conj → Type 0} (s : Line k c) where
   -- at a place before the end a literal stands
@@ -58,7 +58,7 @@ module _ {k : List ℕ} {at : ℕ} {c : Conj} {P : Conj → Conj → Type 0} (s 
       cases (l ∷ d) e p = go w.before l d (literal-at w.before l d s e w.place) p
 
   -- past it the next
-  pub walk-next : {next : ℕ} → Walk k at c P → at < length k → next ≡ at + 1 + untilLiteral (drop (at + 1) k)
+  pub walk-next : {next : ℕ} → Walk k at c P → at < length k → next ≡ at + 1 + until_literal (drop (at + 1) k)
       → ((before : Conj) (l : Literal) (behind : Conj) → LiteralAt k at before l behind → P before (l ∷ behind) → P (before ++ (l ∷ [])) behind) → Walk k next c P
   walk-next {next} w i n go = cases w.behind w.split w.kept
     where
@@ -68,8 +68,8 @@ module _ {k : List ℕ} {at : ℕ} {c : Conj} {P : Conj → Conj → Type 0} (s 
           let a = literal-at w.before l d s e w.place in
           let t = literal-ends a in
           let m = w.place in
-          let q = ap length (words_append w.before (l ∷ [])) ∙ length-append (conjWords w.before) (conjWords (l ∷ [])) in
-          let r = length-append (literalWords l) [] in
+          let q = ap length (words_append w.before (l ∷ [])) ∙ length-append (conj_words w.before) (conj_words (l ∷ [])) in
+          let r = length-append (literal_words l) [] in
           record {
             before = w.before ++ (l ∷ []);
             behind = d;
@@ -87,7 +87,7 @@ module _ {k : List ℕ} {at : ℕ} {c : Conj} {P : Conj → Conj → Type 0} (s 
       cases (l ∷ d) e p = absurd (
           let n = some_left s w.before (l ∷ d) e in
           let m = w.place in
-          let q = length-append (literalWords l) (conjWords d) in
+          let q = length-append (literal_words l) (conj_words d) in
           let z = some_words l in
           omega arith
           )

@@ -2,18 +2,18 @@
 use Rattle.std.specs.Prelude.{ℕ, ◌+◌, ◌≡◌, List, length}
 use Rattle.std.proofs.Math.Option.{Option, none, some}
 use Rattle.language.specs.Trees.{Hedge, Var}
-use Rattle.language.specs.Writing.{hedgeWords}
-use Rattle.views.specs.Variables.{variableWord}
+use Rattle.language.specs.Writing.{hedge_words}
+use Rattle.views.specs.Variables.{variable_word}
 use Rattle.views.specs.Standing.{Stands}
 use Rattle.values.specs.declared.bindings.Bound.{Bound}
 use Rattle.values.specs.declared.bindings.Bound.TheVariants.{To, Free}
 
 -- the word of the variable that a side solves, or 0
-abbrev pub soleWord : Option (Var × Hedge) → ℕ
-soleWord none = 0
-soleWord (some b) = variableWord b.0
+abbrev pub sole_word : Option (Var × Hedge) → ℕ
+sole_word none = 0
+sole_word (some b) = variable_word b.0
 
 -- b is where the hedge stands that a variable is bound to
 pub data BoundBy (k : List ℕ) (m : Option Hedge) : Bound → Type 0 where
-  to : {from until : ℕ} (h : Hedge) (beyond : List ℕ) → m ≡ some h → Stands k from h beyond → until ≡ from + length (hedgeWords h) → BoundBy k m (To from until)
+  to : {from until : ℕ} (h : Hedge) (beyond : List ℕ) → m ≡ some h → Stands k from h beyond → until ≡ from + length (hedge_words h) → BoundBy k m (To from until)
   free : m ≡ none → BoundBy k m Free

@@ -5,28 +5,28 @@ use Rattle.language.specs.declared.Kind.TheVariants.{End, Term, Run, Symbol, Fun
 use Rattle.language.specs.Kinds.{kind_of}
 use Rattle.language.specs.Limits.{desk}
 use Rattle.language.specs.Trees.{Var, tv, hv, fv}
-use Rattle.meaning.specs.Values.{rootOf}
+use Rattle.meaning.specs.Values.{root_of}
 use Rattle.rules.specs.Example.{Values}
 use Rattle.samples.specs.Bodies.{body}
 use Rattle.values.specs.Lines.{Word}
 
 -- a term or a hedge variable becomes its value without the 0, a function variable its symbol, any other word stays
-abbrev pub becomesBy : Values → ℕ → Kind → List ℕ
-becomesBy β x (Term y) = body (β (tv y))
-becomesBy β x (Run p) = body (β (hv p))
-becomesBy β x (Function X) = (3000 + (rootOf (β (fv X))).0) ∷ []
-becomesBy β x End = x ∷ []
-becomesBy β x (Symbol f) = x ∷ []
-becomesBy β x Equation = x ∷ []
-becomesBy β x Membership = x ∷ []
-becomesBy β x Eps = x ∷ []
-becomesBy β x Cat = x ∷ []
-becomesBy β x Alt = x ∷ []
-becomesBy β x Star = x ∷ []
-becomesBy β x Other = x ∷ []
+abbrev pub becomes_by : Values → ℕ → Kind → List ℕ
+becomes_by β x (Term y) = body (β (tv y))
+becomes_by β x (Run p) = body (β (hv p))
+becomes_by β x (Function X) = (3000 + (root_of (β (fv X))).0) ∷ []
+becomes_by β x End = x ∷ []
+becomes_by β x (Symbol f) = x ∷ []
+becomes_by β x Equation = x ∷ []
+becomes_by β x Membership = x ∷ []
+becomes_by β x Eps = x ∷ []
+becomes_by β x Cat = x ∷ []
+becomes_by β x Alt = x ∷ []
+becomes_by β x Star = x ∷ []
+becomes_by β x Other = x ∷ []
 
 unfoldable pub becomes : Values → ℕ → List ℕ
-becomes β x = becomesBy β x (kind_of desk x)
+becomes β x = becomes_by β x (kind_of desk x)
 
 abbrev pub spelled : (ℕ → List ℕ) → List ℕ → List ℕ
 spelled f [] = []

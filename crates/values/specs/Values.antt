@@ -6,8 +6,8 @@ use Rattle.language.specs.declared.TermVar.{TermVar}
 use Rattle.language.specs.declared.FunVar.{FunVar}
 use Rattle.language.specs.declared.Sym.{Sym}
 use Rattle.language.specs.Trees.{Expr, over, Conj, Var, tv, fv}
-use Rattle.meaning.specs.Complete.{completeWords}
-use Rattle.rules.specs.Example.{expressionOf, unsolved, bound, followed}
+use Rattle.meaning.specs.Complete.{complete_words}
+use Rattle.rules.specs.Example.{expression_of, unsolved, bound, followed}
 use Rattle.values.specs.declared.Variable.{Variable}
 use Rattle.samples.specs.Bodies.{body}
 use Rattle.values.specs.Lines.{Named, Line}
@@ -15,8 +15,8 @@ use Rattle.values.specs.Spelling.{becomes, spelled, HedgeWord, HedgeWords}
 
 -- what no rule leaves: the expression of a term variable is a symbol's, and a function variable has none
 pub record Settled (c : Conj) : Type 0 where
-  pub terms : (x : TermVar) (R : Expr) → expressionOf (tv x) c ≡ some R → (f : Sym) × (S : Expr) × (R ≡ over f S)
-  pub names : (X : FunVar) → expressionOf (fv X) c ≡ none
+  pub terms : (x : TermVar) (R : Expr) → expression_of (tv x) c ≡ some R → (f : Sym) × (S : Expr) × (R ≡ over f S)
+  pub names : (X : FunVar) → expression_of (fv X) c ≡ none
 
 -- k are the words of a line that no rule leaves otherwise
 pub record SettledLine (k : List ℕ) : Type 0 where
@@ -25,8 +25,8 @@ pub record SettledLine (k : List ℕ) : Type 0 where
   pub settled : Settled c
 
 -- the words of v's value, where free blanks take the symbol `any`
-unfoldable pub valueWords : Sym → Conj → Var → List ℕ
-valueWords any c v = completeWords (followed any c v (bound v [] c))
+unfoldable pub value_words : Sym → Conj → Var → List ℕ
+value_words any c v = complete_words (followed any c v (bound v [] c))
 
 -- Lengths are the same whatever that symbol is.
 
@@ -48,4 +48,4 @@ pub record PartLength (k : List ℕ) (from to n : ℕ) : Type 0 where
 -- n is the number of words of a variable's value
 pub record ValueLength (k : List ℕ) (x : Variable) (n : ℕ) : Type 0 where
   pub few : n ≤ 10000000000
-  pub each : (any : Sym) (c : Conj) (v : Var) → Line k c → Settled c → Named v x → n ≡ length (valueWords any c v)
+  pub each : (any : Sym) (c : Conj) (v : Var) → Line k c → Settled c → Named v x → n ≡ length (value_words any c v)

@@ -4,9 +4,9 @@ ghost use Rattle.language.specs.Trees.{Hedge, Literal, Conj, Var};
 ghost use Rattle.views.specs.Views.{Sees};
 ghost use Rattle.rules.specs.Solved.{variable, alone, solves};
 ghost use Rattle.rules.specs.Example.{binds, bound};
-ghost use Rattle.views.specs.Variables.{variableWord};
-ghost use Rattle.values.specs.Lines.{varOf, Named, Line, Told, Expressed, Held};
-ghost use Rattle.values.specs.Binding.{soleWord, BoundBy};
+ghost use Rattle.views.specs.Variables.{variable_word};
+ghost use Rattle.values.specs.Lines.{var_of, Named, Line, Told, Expressed, Held};
+ghost use Rattle.values.specs.Binding.{sole_word, BoundBy};
 ghost use Rattle.views.specs.Standing.{LiteralAt};
 
 use crate::Variable;
@@ -30,7 +30,7 @@ pub enum Bound {
 
 // The word of a variable.
 fn word_of(x: Variable) -> usize
-    ensures { result ≡ variableWord (varOf x) }
+    ensures { result ≡ variable_word (var_of x) }
 {
     match x {
         Variable::Term(y) => term_word(y),
@@ -91,7 +91,7 @@ fn holder(k: &[u16], x: Variable) -> Place
 
 // The word of the variable that the side seen first solves, or 0.
 fn solved_side(k: &[u16], v: View) -> usize
-    ensures { (before : Conj) (l r : Hedge) (behind : Conj) → Sees k.now v before l r behind → result ≡ soleWord (alone (before ++ behind) r (variable l r)) }
+    ensures { (before : Conj) (l r : Hedge) (behind : Conj) → Sees k.now v before l r behind → result ≡ sole_word (alone (before ++ behind) r (variable l r)) }
 {
     if alone_side(k, v) {
         let l = v.l;

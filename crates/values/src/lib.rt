@@ -10,9 +10,9 @@ ghost use Rattle.language.specs.Trees.{Conj, Var};
 ghost use Rattle.rules.specs.Example.{default, unsolved};
 ghost use Rattle.samples.specs.Bodies.{body};
 ghost use Rattle.samples.specs.Laid.{Laid};
-ghost use Rattle.values.specs.Lines.{varOf, Named, Line};
+ghost use Rattle.values.specs.Lines.{var_of, Named, Line};
 ghost use Rattle.values.specs.Spelling.{becomes, spelled, HedgeWord, HedgeWords, runs};
-ghost use Rattle.values.specs.Values.{Settled, SettledLine, valueWords, UnsolvedLength, WordLength, PartLength, ValueLength};
+ghost use Rattle.values.specs.Values.{Settled, SettledLine, value_words, UnsolvedLength, WordLength, PartLength, ValueLength};
 
 use bindings::{Bound, Place, bound_to, expression_of};
 use language::{FunVar, HedgeVar, Kind, Sym, TermVar, classify};
@@ -37,7 +37,7 @@ fn symbol_word(f: Sym) -> u16
 }
 
 fn is_run(x: Variable) -> bool
-    ensures { result ≡ runs (varOf x) }
+    ensures { result ≡ runs (var_of x) }
 {
     match x {
         Variable::Term(_) => false,
@@ -157,7 +157,7 @@ fn write_part(k: &[u16], from: usize, to: usize, any: Sym, out: &mut [u16], at: 
 
 // How many words the value of a variable has.
 pub fn value_len(k: &[u16], x: Variable) -> usize
-    requires { (length k.now ≤ 65536) × SettledLine k.now × Named (varOf x) x }
+    requires { (length k.now ≤ 65536) × SettledLine k.now × Named (var_of x) x }
     ensures { ValueLength k.now x result }
 {
     let b = bound_to(k, x);
@@ -169,8 +169,8 @@ pub fn value_len(k: &[u16], x: Variable) -> usize
 
 // Writes the value of a variable, where there is room for it. Free blanks take the symbol `any`.
 pub fn write_value(k: &[u16], x: Variable, any: Sym, out: &mut [u16], at: usize) -> usize
-    requires { SettledLine k.now × Named (varOf x) x × (any.0 < desk.each) }
-    ensures { (c : Conj) (v : Var) → Line k.now c → Settled c → Named v x → Laid out.old at (valueWords any c v) out.new result }
+    requires { SettledLine k.now × Named (var_of x) x × (any.0 < desk.each) }
+    ensures { (c : Conj) (v : Var) → Line k.now c → Settled c → Named v x → Laid out.old at (value_words any c v) out.new result }
 {
     let b = bound_to(k, x);
     match b {

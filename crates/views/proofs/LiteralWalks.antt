@@ -6,9 +6,9 @@ use mathlib.Core.List.{List, [], ◌∷◌, ◌++◌, append_assoc, append-nil}
 use lib.ListN.{length, get_or, drop, length-append}
 use Rattle.language.specs.Limits.{desk}
 use Rattle.language.specs.Trees.{Hedge, Expr, Literal, eqn, mem, Conj}
-use Rattle.language.specs.Writing.{literalWords, conjWords}
-use Rattle.language.specs.Fine.{fineConj}
-use Rattle.words.specs.Places.{untilLiteral}
+use Rattle.language.specs.Writing.{literal_words, conj_words}
+use Rattle.language.specs.Fine.{fine_conj}
+use Rattle.words.specs.Places.{until_literal}
 use Rattle.views.specs.Standing.{LiteralAt}
 use Rattle.views.proofs.Words.{words_append}
 use Rattle.words.proofs.Parts.{word-of}
@@ -20,13 +20,13 @@ pub record Walked (P : Conj → Conj → Type 0) (c : Conj) (i : ℕ) : Type 0 w
   pub done : Conj
   pub rest : Conj
   pub whole : c ≡ done ++ rest
-  pub place : i ≡ length (conjWords done)
+  pub place : i ≡ length (conj_words done)
   pub known : P done rest
 
 pub walk-starts : (P : Conj → Conj → Type 0) (c : Conj) → P [] c → Walked P c 0
 walk-starts P c p = record { done = []; rest = c; whole = refl; place = refl; known = p }
 
-pub literal-some : (l : Literal) → 0 < length (literalWords l)
+pub literal-some : (l : Literal) → 0 < length (literal_words l)
 literal-some (eqn l r) = omega arith
 literal-some (mem h R) = omega arith
 
@@ -36,53 +36,53 @@ module _ (k : List ℕ) (at : ℕ) (Q : Conj → Literal → Conj → Type 0) wh
   pub at-equation : get_or k at 0 ≡ 5000 → ((before : Conj) (l r : Hedge) (behind : Conj) → LiteralAt k at before (eqn l r) behind → Q before (eqn l r) behind)
       → (before : Conj) (l : Literal) (behind : Conj) → LiteralAt k at before l behind → Q before l behind
   at-equation e f before (eqn l r) behind p = f before l r behind p
-  at-equation e f before (mem h R) behind p = absurd (let z = word-of k at (literalWords (mem h R) ++ conjWords behind) (literal-here p) in omega arith)
+  at-equation e f before (mem h R) behind p = absurd (let z = word-of k at (literal_words (mem h R) ++ conj_words behind) (literal-here p) in omega arith)
 
   pub at-membership : (get_or k at 0 ≡ 5000 → ⊥) → ((before : Conj) (h : Hedge) (R : Expr) (behind : Conj) → LiteralAt k at before (mem h R) behind → Q before (mem h R) behind)
       → (before : Conj) (l : Literal) (behind : Conj) → LiteralAt k at before l behind → Q before l behind
-  at-membership e f before (eqn l r) behind p = absurd (e (word-of k at (literalWords (eqn l r) ++ conjWords behind) (literal-here p)))
+  at-membership e f before (eqn l r) behind p = absurd (e (word-of k at (literal_words (eqn l r) ++ conj_words behind) (literal-here p)))
   at-membership e f before (mem h R) behind p = f before h R behind p
 
-module _ (k : List ℕ) (c : Conj) (fine : fineConj desk c) (words : k ≡ conjWords c) (i : ℕ) where
-  pub stands_here : (done : Conj) (l : Literal) (rest : Conj) → c ≡ done ++ (l ∷ rest) → i ≡ length (conjWords done) → LiteralAt k i done l rest
+module _ (k : List ℕ) (c : Conj) (fine : fine_conj desk c) (words : k ≡ conj_words c) (i : ℕ) where
+  pub stands_here : (done : Conj) (l : Literal) (rest : Conj) → c ≡ done ++ (l ∷ rest) → i ≡ length (conj_words done) → LiteralAt k i done l rest
   stands_here done l rest e p =
-      let f = fine-split desk done (l ∷ rest) (subst (fineConj desk) e fine) in
+      let f = fine-split desk done (l ∷ rest) (subst (fine_conj desk) e fine) in
       record {
-        words = words ∙ ap conjWords e ∙ words_append done (l ∷ rest);
+        words = words ∙ ap conj_words e ∙ words_append done (l ∷ rest);
         place = p;
-        fineBefore = f.0;
+        fine_before = f.0;
         fine = f.1.0;
-        fineBehind = f.1.1;
+        fine_behind = f.1.1;
       }
 
   -- the length of the whole, by what is passed and what is to come
-  lengths : (done rest : Conj) → c ≡ done ++ rest → length k ≡ length (conjWords done) + length (conjWords rest)
-  lengths done rest e = ap length (words ∙ ap conjWords e ∙ words_append done rest) ∙ length-append (conjWords done) (conjWords rest)
+  lengths : (done rest : Conj) → c ≡ done ++ rest → length k ≡ length (conj_words done) + length (conj_words rest)
+  lengths done rest e = ap length (words ∙ ap conj_words e ∙ words_append done rest) ∙ length-append (conj_words done) (conj_words rest)
 
   module _ (P : Conj → Conj → Type 0) where
     -- what is shown of the literal that stands here
     pub walk_here : (Q : Type 0) → Walked P c i → i < length k → ((done : Conj) (l : Literal) (rest : Conj) → LiteralAt k i done l rest → P done (l ∷ rest) → Q) → Q
     walk_here Q w h f = go w.done w.rest w.whole w.place w.known
       where
-        go : (done rest : Conj) → c ≡ done ++ rest → i ≡ length (conjWords done) → P done rest → Q
+        go : (done rest : Conj) → c ≡ done ++ rest → i ≡ length (conj_words done) → P done rest → Q
         go done [] e p q = absurd (let z = lengths done [] e in omega arith)
         go done (l ∷ rest) e p q = f done l rest (stands_here done l rest e p) q
 
     pub walk_ends : Walked P c i → length k ≤ i → P c []
     walk_ends w h = go w.done w.rest w.whole w.place w.known
       where
-        go : (done rest : Conj) → c ≡ done ++ rest → i ≡ length (conjWords done) → P done rest → P c []
+        go : (done rest : Conj) → c ≡ done ++ rest → i ≡ length (conj_words done) → P done rest → P c []
         go done [] e p q = subst (λ d. P d []) (sym (append-nil done) ∙ sym e) q
         go done (l ∷ rest) e p q =
-            absurd (let z = lengths done (l ∷ rest) e in let y = length-append (literalWords l) (conjWords rest) in let x = literal-some l in omega arith)
+            absurd (let z = lengths done (l ∷ rest) e in let y = length-append (literal_words l) (conj_words rest) in let x = literal-some l in omega arith)
 
     -- the literal that stands here is passed
     pub walk-to : (P' : Conj → Conj → Type 0) (j : ℕ) → Walked P c i → i < length k
-        → ((done : Conj) (l : Literal) (rest : Conj) → LiteralAt k i done l rest → P done (l ∷ rest) → (j ≡ i + length (literalWords l)) × P' (done ++ (l ∷ [])) rest)
+        → ((done : Conj) (l : Literal) (rest : Conj) → LiteralAt k i done l rest → P done (l ∷ rest) → (j ≡ i + length (literal_words l)) × P' (done ++ (l ∷ [])) rest)
         → Walked P' c j
     walk-to P' j w h f = go w.done w.rest w.whole w.place w.known
       where
-        go : (done rest : Conj) → c ≡ done ++ rest → i ≡ length (conjWords done) → P done rest → Walked P' c j
+        go : (done rest : Conj) → c ≡ done ++ rest → i ≡ length (conj_words done) → P done rest → Walked P' c j
         go done [] e p q = absurd (let z = lengths done [] e in omega arith)
         go done (l ∷ rest) e p q =
             let s = f done l rest (stands_here done l rest e p) q in
@@ -92,12 +92,12 @@ module _ (k : List ℕ) (c : Conj) (fine : fineConj desk c) (words : k ≡ conjW
               whole = e ∙ sym (append_assoc done (l ∷ []) rest);
               place =
                   s.0
-                  ∙ (let a = ap length (words_append done (l ∷ [])) ∙ length-append (conjWords done) (conjWords (l ∷ [])) in
-                  let b = ap length (append-nil (literalWords l)) in
-                  let z : i + length (literalWords l) ≡ length (conjWords (done ++ (l ∷ []))) = omega arith in z);
+                  ∙ (let a = ap length (words_append done (l ∷ [])) ∙ length-append (conj_words done) (conj_words (l ∷ [])) in
+                  let b = ap length (append-nil (literal_words l)) in
+                  let z : i + length (literal_words l) ≡ length (conj_words (done ++ (l ∷ []))) = omega arith in z);
               known = s.1;
             }
 
-    pub walk-on : (P' : Conj → Conj → Type 0) (j : ℕ) → Walked P c i → i < length k → j ≡ i + 1 + untilLiteral (drop (i + 1) k)
+    pub walk-on : (P' : Conj → Conj → Type 0) (j : ℕ) → Walked P c i → i < length k → j ≡ i + 1 + until_literal (drop (i + 1) k)
         → ((done : Conj) (l : Literal) (rest : Conj) → LiteralAt k i done l rest → P done (l ∷ rest) → P' (done ++ (l ∷ [])) rest) → Walked P' c j
     walk-on P' j w h n f = walk-to P' j w h (λ done l rest s q. (n ∙ literal-next s, f done l rest s q))

@@ -17,18 +17,18 @@ use Rattle.language.proofs.Arms.{Among, each-kind}
 use Rattle.language.specs.Limits.{desk}
 use Rattle.language.specs.Kinds.{kind_of}
 use Rattle.language.specs.Trees.{Functor, symbol, fvar, Hedge, ε, tvar, hvar, node}
-use Rattle.language.specs.Writing.{functorWord, hedgeWords}
-use Rattle.language.specs.Fine.{fineHedge}
+use Rattle.language.specs.Writing.{functor_word, hedge_words}
+use Rattle.language.specs.Fine.{fine_hedge}
 use Rattle.language.proofs.Words.{kind-end, kind-term, kind-run, kind-symbol, kind-function}
 use Rattle.rules.specs.Looks.{empty}
-use Rattle.views.specs.Looks.{name_of, look_of, head, tail, bodyWords}
-use Rattle.words.specs.Spans.{span, elementEnd}
+use Rattle.views.specs.Looks.{name_of, look_of, head, tail, body_words}
+use Rattle.words.specs.Spans.{span, element_end}
 use Rattle.views.specs.Views.{Sided}
 use Rattle.views.specs.declared.Look.{Look}
 use Rattle.views.specs.declared.Look.TheVariants.{Empty, Term, Run, Node}
 use Rattle.views.specs.declared.Side.{Side}
 use Rattle.views.specs.Standing.{Stands}
-use Rattle.views.specs.Places.{lookBy, lookAt, sideAt}
+use Rattle.views.specs.Places.{look_by, look_at, side_at}
 use Rattle.words.proofs.Parts.{drop_of, below-of-word}
 use Rattle.views.proofs.Words.{first_word}
 use Rattle.views.proofs.Spans.{functor-some, stands_word, stands-rest, stands-place, stands-end}
@@ -37,53 +37,53 @@ pub empty-word : (h : Hedge) → eqb (first_word h) 0 ≡ empty h
 empty-word ε = refl
 empty-word (tvar x r) = ne_eqb (1000 + x.0) 0 (omega arith)
 empty-word (hvar p r) = ne_eqb (2000 + p.0) 0 (omega arith)
-empty-word (node f c r) = ne_eqb (functorWord f) 0 (functor-some f)
+empty-word (node f c r) = ne_eqb (functor_word f) 0 (functor-some f)
 
 -- the children of a functor stand after it
-pub stands-children : {k : List ℕ} {i : ℕ} {f : Functor} {c r : Hedge} {beyond : List ℕ} → Stands k i (node f c r) beyond → Stands k (i + 1) c (hedgeWords r ++ beyond)
+pub stands-children : {k : List ℕ} {i : ℕ} {f : Functor} {c r : Hedge} {beyond : List ℕ} → Stands k i (node f c r) beyond → Stands k (i + 1) c (hedge_words r ++ beyond)
 stands-children {k} {i} {f} {c} {r} {beyond} s = record {
   fine = s.fine.1;
-  here = drop_of k i (i + 1) (functorWord f ∷ []) ((hedgeWords c ++ hedgeWords r) ++ beyond) s.here refl ∙ append_assoc (hedgeWords c) (hedgeWords r) beyond;
+  here = drop_of k i (i + 1) (functor_word f ∷ []) ((hedge_words c ++ hedge_words r) ++ beyond) s.here refl ∙ append_assoc (hedge_words c) (hedge_words r) beyond;
 }
 
 -- ---- the look at a place where h stands is how h begins
 
 -- by the first word: its kind, whether the hedge ends after its first element, and whether that has no children
-look-by : (h : Hedge) → fineHedge desk h → (bare : Bool) → ((f : Functor) (c r : Hedge) → h ≡ node f c r → bare ≡ empty c) → lookBy (kind_of desk (first_word h)) (empty (tail h)) bare ≡ look_of h
-look-by ε b bare e = ap (λ k. lookBy k (empty (tail ε)) bare) (kind-end desk)
-look-by (tvar x r) b bare e = ap (λ k. lookBy k (empty r) bare) (kind-term desk x b.0)
-look-by (hvar p r) b bare e = ap (λ k. lookBy k (empty r) bare) (kind-run desk p b.0)
-look-by (node (symbol g) c r) b bare e = ap (λ k. lookBy k (empty r) bare) (kind-symbol desk g b.0) ∙ ap (Node (Symbol g) (empty r)) (e (symbol g) c r refl)
-look-by (node (fvar X) c r) b bare e = ap (λ k. lookBy k (empty r) bare) (kind-function desk X b.0) ∙ ap (Node (Blank X) (empty r)) (e (fvar X) c r refl)
+look-by : (h : Hedge) → fine_hedge desk h → (bare : Bool) → ((f : Functor) (c r : Hedge) → h ≡ node f c r → bare ≡ empty c) → look_by (kind_of desk (first_word h)) (empty (tail h)) bare ≡ look_of h
+look-by ε b bare e = ap (λ k. look_by k (empty (tail ε)) bare) (kind-end desk)
+look-by (tvar x r) b bare e = ap (λ k. look_by k (empty r) bare) (kind-term desk x b.0)
+look-by (hvar p r) b bare e = ap (λ k. look_by k (empty r) bare) (kind-run desk p b.0)
+look-by (node (symbol g) c r) b bare e = ap (λ k. look_by k (empty r) bare) (kind-symbol desk g b.0) ∙ ap (Node (Symbol g) (empty r)) (e (symbol g) c r refl)
+look-by (node (fvar X) c r) b bare e = ap (λ k. look_by k (empty r) bare) (kind-function desk X b.0) ∙ ap (Node (Blank X) (empty r)) (e (fvar X) c r refl)
 
-pub look-law : {k : List ℕ} {i : ℕ} (h : Hedge) {beyond : List ℕ} {j : ℕ} → Stands k i h beyond → j ≡ i + length (bodyWords (head h)) → lookAt k i j ≡ look_of h
-unfolding lookAt
+pub look-law : {k : List ℕ} {i : ℕ} (h : Hedge) {beyond : List ℕ} {j : ℕ} → Stands k i h beyond → j ≡ i + length (body_words (head h)) → look_at k i j ≡ look_of h
+unfolding look_at
 look-law {k} {i} h {beyond} {j} s d =
-    ap (λ w. lookBy (kind_of desk w) (eqb (get_or k j 0) 0) (eqb (get_or k (i + 1) 0) 0)) (stands_word s)
-    ∙ ap (λ b. lookBy (kind_of desk (first_word h)) b (eqb (get_or k (i + 1) 0) 0)) (ap (λ n. eqb n 0) (stands_word (stands-rest s d)) ∙ empty-word (tail h))
+    ap (λ w. look_by (kind_of desk w) (eqb (get_or k j 0) 0) (eqb (get_or k (i + 1) 0) 0)) (stands_word s)
+    ∙ ap (λ b. look_by (kind_of desk (first_word h)) b (eqb (get_or k (i + 1) 0) 0)) (ap (λ n. eqb n 0) (stands_word (stands-rest s d)) ∙ empty-word (tail h))
     ∙ look-by h s.fine (eqb (get_or k (i + 1) 0) 0) (λ f c r e. ap (λ n. eqb n 0) (stands_word (stands-children (rw e at s))) ∙ empty-word c)
 
 -- ---- the look at a place by the kind of the word there
 
 module _ (k : List ℕ) (i j : ℕ) where
   -- what is the look at the place is how h begins, where h stands there
-  pub looked : {r : Look} → r ≡ lookAt k i j → ((h : Hedge) (beyond : List ℕ) → Stands k i h beyond → j ≡ i + length (bodyWords (head h)) → r ≡ look_of h) × (r ≡ lookAt k i j)
+  pub looked : {r : Look} → r ≡ look_at k i j → ((h : Hedge) (beyond : List ℕ) → Stands k i h beyond → j ≡ i + length (body_words (head h)) → r ≡ look_of h) × (r ≡ look_at k i j)
   looked e = ((λ h beyond s d. e ∙ look-law h s d), e)
 
   module _ {x : ℕ} {d : Kind} (w : x ≡ get_or k i 0) (q : d ≡ kind_of desk x) where
-    pub look-kind : (v : Kind) → d ≡ v → lookBy v (eqb (get_or k j 0) 0) (eqb (get_or k (i + 1) 0) 0) ≡ lookAt k i j
-    unfolding lookAt
-    look-kind v e = ap (λ v. lookBy v (eqb (get_or k j 0) 0) (eqb (get_or k (i + 1) 0) 0)) (sym e ∙ q ∙ ap (kind_of desk) w)
+    pub look-kind : (v : Kind) → d ≡ v → look_by v (eqb (get_or k j 0) 0) (eqb (get_or k (i + 1) 0) 0) ≡ look_at k i j
+    unfolding look_at
+    look-kind v e = ap (λ v. look_by v (eqb (get_or k j 0) 0) (eqb (get_or k (i + 1) 0) 0)) (sym e ∙ q ∙ ap (kind_of desk) w)
 
-    pub look-term : (x : TermVar) {y : ℕ} → d ≡ kind.Term x → y ≡ get_or k j 0 → Term x (eqb y 0) ≡ lookAt k i j
+    pub look-term : (x : TermVar) {y : ℕ} → d ≡ kind.Term x → y ≡ get_or k j 0 → Term x (eqb y 0) ≡ look_at k i j
     look-term x e u = ap (λ y. Term x (eqb y 0)) u ∙ look-kind (kind.Term x) e
 
-    pub look-run : (p : HedgeVar) {y : ℕ} → d ≡ kind.Run p → y ≡ get_or k j 0 → Run p (eqb y 0) ≡ lookAt k i j
+    pub look-run : (p : HedgeVar) {y : ℕ} → d ≡ kind.Run p → y ≡ get_or k j 0 → Run p (eqb y 0) ≡ look_at k i j
     look-run p e u = ap (λ y. Run p (eqb y 0)) u ∙ look-kind (kind.Run p) e
 
-    pub look-other : Among (0 ∷ 5 ∷ 6 ∷ 7 ∷ 8 ∷ 9 ∷ 10 ∷ 11 ∷ []) d → Empty ≡ lookAt k i j
+    pub look-other : Among (0 ∷ 5 ∷ 6 ∷ 7 ∷ 8 ∷ 9 ∷ 10 ∷ 11 ∷ []) d → Empty ≡ look_at k i j
     look-other o =
-        each-kind (0 ∷ 5 ∷ 6 ∷ 7 ∷ 8 ∷ 9 ∷ 10 ∷ 11 ∷ []) (λ v. Empty ≡ lookBy v (eqb (get_or k j 0) 0) (eqb (get_or k (i + 1) 0) 0)) refl tt tt tt tt refl refl refl refl refl refl refl d o
+        each-kind (0 ∷ 5 ∷ 6 ∷ 7 ∷ 8 ∷ 9 ∷ 10 ∷ 11 ∷ []) (λ v. Empty ≡ look_by v (eqb (get_or k j 0) 0) (eqb (get_or k (i + 1) 0) 0)) refl tt tt tt tt refl refl refl refl refl refl refl d o
         ∙ look-kind d refl
 
     -- a word that is something stands within the words
@@ -91,14 +91,14 @@ module _ (k : List ℕ) (i j : ℕ) where
     look-within v e n = below-of-word k i (λ z. n (sym e ∙ q ∙ ap (kind_of desk) (w ∙ z) ∙ kind-end desk))
 
 -- a side, from what the walk finds at its place
-pub side-is : (k : List ℕ) (i : ℕ) {r t : ℕ} {l : Look} → r ≡ elementEnd k i → t ≡ i + span 1 (drop i k) → l ≡ lookAt k i r → record { from = i; rest = r; to = t; look = l } ≡ sideAt k i
-unfolding sideAt
-side-is k i {r} {t} {l} e d g = ap (λ m. side r t m) g ∙ ap (λ n. side r n (lookAt k i r)) d ∙ ap (λ n. side n (i + span 1 (drop i k)) (lookAt k i n)) e
+pub side-is : (k : List ℕ) (i : ℕ) {r t : ℕ} {l : Look} → r ≡ element_end k i → t ≡ i + span 1 (drop i k) → l ≡ look_at k i r → record { from = i; rest = r; to = t; look = l } ≡ side_at k i
+unfolding side_at
+side-is k i {r} {t} {l} e d g = ap (λ m. side r t m) g ∙ ap (λ n. side r n (look_at k i r)) d ∙ ap (λ n. side n (i + span 1 (drop i k)) (look_at k i n)) e
   where
     side : ℕ → ℕ → Look → Side
     side r t l = record { from = i; rest = r; to = t; look = l }
 
-pub side-of : {k : List ℕ} {v : Side} {h : Hedge} {beyond : List ℕ} → Stands k v.from h beyond → v.rest ≡ elementEnd k v.from → v.to ≡ v.from + span 1 (drop v.from k) → v.look ≡ look_of h → Sided k v h
+pub side-of : {k : List ℕ} {v : Side} {h : Hedge} {beyond : List ℕ} → Stands k v.from h beyond → v.rest ≡ element_end k v.from → v.to ≡ v.from + span 1 (drop v.from k) → v.look ≡ look_of h → Sided k v h
 side-of {k} {v} {h} {beyond} s r t l = record { fine = s.fine; beyond = beyond; here = s.here; rest = r ∙ stands-place s; to = t ∙ stands-end s; look = l }
 
 -- ---- what a look says of the hedge

@@ -6,7 +6,7 @@ use native.Mathlib.Decide.{ℕ_discrete}
 use native.Mathlib.Omega.{arith}
 use lib.ListN.{length, get_or, drop}
 use lib.Seq.{drop-drop}
-use Rattle.words.specs.Spans.{opens, span, elementEnd}
+use Rattle.words.specs.Spans.{opens, span, element_end}
 use Rattle.words.proofs.Parts.{below-of-word}
 use Rattle.words.proofs.Spans.{opens-pos, span-step, element-stop, element-on}
 
@@ -23,10 +23,10 @@ span-plus (suc m) n (x ∷ ws) =
     let h = span-plus (m + opens x) n ws in
     let g : suc (span (m + opens x) ws) + span n (drop (span (m + opens x) ws) ws) ≡ span (suc m + n) (x ∷ ws) = omega arith in g
 
-pub rest_end : (k : List ℕ) (i : ℕ) → elementEnd k i + span 1 (drop (elementEnd k i) k) ≡ i + span 1 (drop i k)
+pub rest_end : (k : List ℕ) (i : ℕ) → element_end k i + span 1 (drop (element_end k i) k) ≡ i + span 1 (drop i k)
 rest_end k i = go (ℕ_discrete (get_or k i 0) 0)
   where
-    go : Dec (get_or k i 0 ≡ 0) → elementEnd k i + span 1 (drop (elementEnd k i) k) ≡ i + span 1 (drop i k)
+    go : Dec (get_or k i 0 ≡ 0) → element_end k i + span 1 (drop (element_end k i) k) ≡ i + span 1 (drop i k)
     go (yes e) = ap (λ j. j + span 1 (drop j k)) (sym (element-stop k i e))
     go (no nz) =
         let o = opens-pos (get_or k i 0) nz in

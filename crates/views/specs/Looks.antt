@@ -5,7 +5,7 @@ use Rattle.language.specs.declared.Name.TheVariants.{Symbol, Blank}
 use Rattle.language.specs.declared.Kind.{Kind}
 use Rattle.language.specs.declared.Kind.TheVariants as kind
 use Rattle.language.specs.Trees.{Functor, symbol, fvar, Hedge, ε, tvar, hvar, node, Expr, eps, cat, alt, star, over}
-use Rattle.language.specs.Writing.{functorWord, hedgeWords}
+use Rattle.language.specs.Writing.{functor_word, hedge_words}
 use Rattle.rules.specs.Looks.{empty}
 use Rattle.views.specs.declared.Look.{Look}
 use Rattle.views.specs.declared.Look.TheVariants.{Empty, Term, Run, Node}
@@ -22,12 +22,12 @@ look_of (hvar p r) = Run p (empty r)
 look_of (node f c r) = Node (name_of f) (empty r) (empty c)
 
 -- what the first word of an expression is
-abbrev pub firstKind : Expr → Kind
-firstKind eps = kind.Eps
-firstKind (cat a b) = kind.Cat
-firstKind (alt a b) = kind.Alt
-firstKind (star a) = kind.Star
-firstKind (over f a) = kind.Symbol f
+abbrev pub first_kind : Expr → Kind
+first_kind eps = kind.Eps
+first_kind (cat a b) = kind.Cat
+first_kind (alt a b) = kind.Alt
+first_kind (star a) = kind.Star
+first_kind (over f a) = kind.Symbol f
 
 -- the first element alone, and what follows it
 abbrev pub head : Hedge → Hedge
@@ -43,8 +43,8 @@ tail (hvar p r) = r
 tail (node f c r) = r
 
 -- the words before the 0
-abbrev pub bodyWords : Hedge → List ℕ
-bodyWords ε = []
-bodyWords (tvar x r) = (1000 + x.0) ∷ bodyWords r
-bodyWords (hvar p r) = (2000 + p.0) ∷ bodyWords r
-bodyWords (node f c r) = functorWord f ∷ (hedgeWords c ++ bodyWords r)
+abbrev pub body_words : Hedge → List ℕ
+body_words ε = []
+body_words (tvar x r) = (1000 + x.0) ∷ body_words r
+body_words (hvar p r) = (2000 + p.0) ∷ body_words r
+body_words (node f c r) = functor_word f ∷ (hedge_words c ++ body_words r)

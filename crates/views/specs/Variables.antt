@@ -3,12 +3,12 @@ use Rattle.std.specs.Prelude.{ℕ, ◌+◌, ◌<◌}
 use Rattle.language.specs.Limits.{Limits}
 use Rattle.language.specs.Trees.{Var, tv, hv, fv}
 
-abbrev pub variableWord : Var → ℕ
-variableWord (tv x) = 1000 + x.0
-variableWord (hv p) = 2000 + p.0
-variableWord (fv X) = 4000 + X.0
+abbrev pub variable_word : Var → ℕ
+variable_word (tv x) = 1000 + x.0
+variable_word (hv p) = 2000 + p.0
+variable_word (fv X) = 4000 + X.0
 
-abbrev pub fineVar : Limits → Var → Type 0
-fineVar L (tv x) = x.0 < L.each
-fineVar L (hv p) = p.0 < L.each
-fineVar L (fv X) = X.0 < L.each
+abbrev pub fine_var : Limits → Var → Type 0
+fine_var L (tv x) = x.0 < L.each
+fine_var L (hv p) = p.0 < L.each
+fine_var L (fv X) = X.0 < L.each

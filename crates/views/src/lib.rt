@@ -1,10 +1,10 @@
 // What stands in a conjunction's words: shapes of hedges and literals, read off them.
 ghost use Rattle.std.specs.Prelude.{ℕ, ◌+◌, ◌<◌, ◌≡◌, List, length};
 ghost use Rattle.language.specs.Trees.{Hedge, Expr, eqn, mem, Conj};
-ghost use Rattle.views.specs.Looks.{look_of, head, bodyWords};
+ghost use Rattle.views.specs.Looks.{look_of, head, body_words};
 ghost use Rattle.views.specs.Views.{Sided, Sees, Shows};
 ghost use Rattle.views.specs.Standing.{Stands, LiteralAt};
-ghost use Rattle.views.specs.Places.{nodeAt, lookAt, sideAt, viewAt, pastExpression, shape_at, turned};
+ghost use Rattle.views.specs.Places.{node_at, look_at, side_at, view_at, past_expression, shape_at, turned};
 
 use language::{HedgeVar, Kind, Name, TermVar, classify};
 use spans::{element_end, hedge_end};
@@ -52,7 +52,7 @@ pub struct Shape {
 // How a hedge begins whose first element has this name.
 fn node_at(k: &[u16], from: usize, rest: usize, name: Name) -> Look
     requires { from < length k.now }
-    ensures { result ≡ nodeAt k.now from rest name }
+    ensures { result ≡ node_at k.now from rest name }
 {
     let y = word(k, rest);
     let z = word(k, from + 1);
@@ -61,7 +61,7 @@ fn node_at(k: &[u16], from: usize, rest: usize, name: Name) -> Look
 
 // How the hedge at a place begins; `rest` is the place after its first element.
 fn look_at(k: &[u16], from: usize, rest: usize) -> Look
-    ensures { ((h : Hedge) (beyond : List ℕ) → Stands k.now from h beyond → rest ≡ from + length (bodyWords (head h)) → result ≡ look_of h) × (result ≡ lookAt k.now from rest) }
+    ensures { ((h : Hedge) (beyond : List ℕ) → Stands k.now from h beyond → rest ≡ from + length (body_words (head h)) → result ≡ look_of h) × (result ≡ look_at k.now from rest) }
 {
     match classify(word(k, from)) {
         Kind::Term(x) => Look::Term(x, word(k, rest) == 0),
@@ -74,7 +74,7 @@ fn look_at(k: &[u16], from: usize, rest: usize) -> Look
 
 // The hedge at a place as a side.
 pub fn side_at(k: &[u16], from: usize) -> Side
-    ensures { (result.from ≡ from) × ((h : Hedge) (beyond : List ℕ) → Stands k.now from h beyond → Sided k.now result h) × (result ≡ sideAt k.now from) }
+    ensures { (result.from ≡ from) × ((h : Hedge) (beyond : List ℕ) → Stands k.now from h beyond → Sided k.now result h) × (result ≡ side_at k.now from) }
 {
     let rest = element_end(k, from);
     let to = hedge_end(k, rest);
@@ -90,7 +90,7 @@ pub fn side_at(k: &[u16], from: usize) -> Side
 // The equation at a place.
 pub fn see(k: &[u16], at: usize) -> View
     requires { at < length k.now }
-    ensures { ((before : Conj) (l r : Hedge) (behind : Conj) → LiteralAt k.now at before (eqn l r) behind → Sees k.now result before l r behind) × (result ≡ viewAt k.now at) }
+    ensures { ((before : Conj) (l r : Hedge) (behind : Conj) → LiteralAt k.now at before (eqn l r) behind → Sees k.now result before l r behind) × (result ≡ view_at k.now at) }
 {
     let l = side_at(k, at + 1);
     let middle = l.to;
@@ -107,7 +107,7 @@ pub fn see(k: &[u16], at: usize) -> View
 
 // The place after the expression of a membership, which has no literal's mark in it.
 fn past_expression(k: &[u16], at: usize) -> usize
-    ensures { result ≡ pastExpression k.now at }
+    ensures { result ≡ past_expression k.now at }
 {
     if k.len() <= at {
         return k.len();

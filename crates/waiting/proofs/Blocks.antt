@@ -8,7 +8,7 @@ use lib.ListN.{length, take, drop, get_or, set, length-append}
 use lib.Seq.{sets, sets-eq, length-sets, slice, drop_at, take_at, drop-drop, get_or-drop, length-take-le}
 use Rattle.language.specs.Limits.{desk}
 use Rattle.language.proofs.Offsets.{slice-between}
-use Rattle.frames.specs.Frames.{frame, Block, framed, framedLength, framedNumber}
+use Rattle.frames.specs.Frames.{frame, Block, framed, framed_length, framed_number}
 use Rattle.frames.proofs.Framing.{framed-append}
 use Rattle.slices.proofs.Still.{set-sets}
 use Rattle.waiting.specs.Waiting.{Laid, Waiting}
@@ -71,10 +71,10 @@ module _ (old : List ℕ) (at : ℕ) where
   -- ---- the first block
 
   module _ (b : Block) (bs : List Block) (w : List ℕ) (p : Waiting old at (b ∷ bs) w) where
-    pub first-length : framedLength w at ≡ length b.words
+    pub first-length : framed_length w at ≡ length b.words
     first-length = ap (λ j. get_or w j 0) (sym (add-zero at)) ∙ sym (get_or-drop at w 0 0) ∙ ap (λ l. get_or l 0 0) p.words
 
-    pub first-number : framedNumber w at ≡ b.number
+    pub first-number : framed_number w at ≡ b.number
     first-number = sym (get_or-drop at w 1 0) ∙ ap (λ l. get_or l 1 0) p.words
 
     after_first : drop (at + frame) w ≡ b.words ++ (framed bs ++ drop desk.room old)

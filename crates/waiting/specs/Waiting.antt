@@ -5,9 +5,9 @@ use Rattle.language.specs.Limits.{desk}
 use Rattle.frames.specs.Frames.{Block, framed}
 
 -- the alternatives in order, the first of which has the number n
-abbrev pub inOrder : ℕ → List (List ℕ) → List Block
-inOrder n [] = []
-inOrder n (w ∷ ws) = record { number = n; words = w } ∷ inOrder (suc n) ws
+abbrev pub in_order : ℕ → List (List ℕ) → List Block
+in_order n [] = []
+in_order n (w ∷ ws) = record { number = n; words = w } ∷ in_order (suc n) ws
 
 -- the blocks are stored in `old` from `at` on, and nothing else is
 pub record Laid (old : List ℕ) (at : ℕ) (blocks : List Block) (new : List ℕ) : Type 0 where

@@ -3,9 +3,9 @@ ghost use Rattle.std.specs.Prelude.{◌+◌, ◌-◌, ◌≤◌, ◌<◌, ◌≡
 ghost use Rattle.std.proofs.Math.Seq.{slice};
 ghost use Rattle.std.proofs.lemmas.List.Edits.{sets};
 ghost use Rattle.language.specs.Limits.{desk};
-ghost use Rattle.language.specs.Question.{laidOut, parts};
+ghost use Rattle.language.specs.Question.{laid_out, parts};
 ghost use Rattle.frames.specs.Frames.{frame, frame_of};
-ghost use Rattle.waiting.specs.Waiting.{inOrder, Laid};
+ghost use Rattle.waiting.specs.Waiting.{in_order, Laid};
 
 use frames::{FRAME, write_frame};
 use language::limits::ROOM;
@@ -26,8 +26,8 @@ fn push(src: &[u16], from: usize, to: usize, number: u16, work: &mut [u16], at: 
 
 // The conjunctions of a question, waiting in order, each with its number. The answer is where they begin.
 pub fn lay_out(question: &[u16], work: &mut [u16]) -> usize
-    requires { (length question.now ≤ desk.question) × (laidOut 5 (get_or question.now 4 0) question.now ≡ true) × (desk.room ≤ length work.old) }
-    ensures { Laid work.old result (inOrder 0 (parts 5 (get_or question.now 4 0) question.now)) work.new }
+    requires { (length question.now ≤ desk.question) × (laid_out 5 (get_or question.now 4 0) question.now ≡ true) × (desk.room ≤ length work.old) }
+    ensures { Laid work.old result (in_order 0 (parts 5 (get_or question.now 4 0) question.now)) work.new }
 {
     let mut i = wide(question[4]);
     let mut at: usize = ROOM;

@@ -10,18 +10,18 @@ use borrow.Author.Tests.{ltb-true, ltb-false}
 use lib.Dec.{T, ltb}
 use lib.ListN.{length}
 use Rattle.language.specs.Kinds.{pick}
-use Rattle.language.specs.Trees.{sameExpr}
+use Rattle.language.specs.Trees.{same_expr}
 use Rattle.rules.specs.Walk.{Pair, same_pair, among, added, closure}
 use Rattle.rules.proofs.Tests.{or_cases, or_left, or_right, and_parts, and_both, true-test}
-use Rattle.rules.proofs.Names.{sameExpr-is, sameExpr-self}
+use Rattle.rules.proofs.Names.{same_expr-is, same_expr-self}
 use Rattle.walk.specs.Reach.{Once}
 
 -- ---- "different by their words"
 
 same-is : (p q : Pair) → T (same_pair p q) → p ≡ q
 same-is p q t =
-    let (u, v) = and_parts (sameExpr p.0 q.0) (sameExpr p.1 q.1) t in
-    ap (λ x. (x, p.1)) (sameExpr-is p.0 q.0 u) ∙ ap (λ y. (q.0, y)) (sameExpr-is p.1 q.1 v)
+    let (u, v) = and_parts (same_expr p.0 q.0) (same_expr p.1 q.1) t in
+    ap (λ x. (x, p.1)) (same_expr-is p.0 q.0 u) ∙ ap (λ y. (q.0, y)) (same_expr-is p.1 q.1 v)
 
 pub among_in : (p : Pair) (s : List Pair) → T (among p s) → Memᴰ p s
 among_in p [] t = absurd t
@@ -30,7 +30,7 @@ among_in p (q ∷ s) t = elim (or_cases (same_pair p q) (among p s) t) [ inl u �
 pub in-among : (p : Pair) (s : List Pair) → Memᴰ p s → T (among p s)
 in-among p (q ∷ s) (Memᴰ.head e) =
     or_left (same_pair p q) (among p s)
-    (subst (λ q. T (same_pair p q)) e (and_both (sameExpr p.0 p.0) (sameExpr p.1 p.1) (sameExpr-self p.0) (sameExpr-self p.1)))
+    (subst (λ q. T (same_pair p q)) e (and_both (same_expr p.0 p.0) (same_expr p.1 p.1) (same_expr-self p.0) (same_expr-self p.1)))
 in-among p (q ∷ s) (Memᴰ.tail m) = or_right (same_pair p q) (among p s) (in-among p s m)
 
 -- ---- what is added

@@ -6,9 +6,9 @@ use native.Mathlib.Omega.{arith}
 use native.Mathlib.Nat.{mul-le-mul}
 use lib.ListN.{length, length-append, length-map}
 use Rattle.language.specs.Trees.{Expr, eps, cat, alt, star, over}
-use Rattle.language.specs.Writing.{exprWords}
+use Rattle.language.specs.Writing.{expr_words}
 use Rattle.rules.specs.Walk.{most}
-use Rattle.walk.specs.Spots.{Spot, inLeft, inRight, inFirst, inSecond, inStar, rest_at, spots, inners, within, states}
+use Rattle.walk.specs.Spots.{Spot, in_left, in_right, in_first, in_second, in_star, rest_at, spots, inners, within, states}
 
 within-++ : (l m : List Expr) → length (within (l ++ m)) ≡ length (within l) + length (within m)
 within-++ [] m = omega arith
@@ -25,24 +25,24 @@ two f g ps qs = length-append (map f ps) (map g qs) ∙ rw (length-map ps f, len
 abbrev places : Expr → ℕ
 places R = length (spots R) + length (within (inners R))
 
-few : (R : Expr) → suc (suc (places R)) ≤ 2 * length (exprWords R)
+few : (R : Expr) → suc (suc (places R)) ≤ 2 * length (expr_words R)
 few eps = omega arith
 few (cat a b) =
-    let s = two (λ p. inLeft p b) (inRight a) (spots a) (spots b) in
+    let s = two (λ p. in_left p b) (in_right a) (spots a) (spots b) in
     let w = within-++ (inners a) (inners b) in
-    let l = length-append (exprWords a) (exprWords b) in
+    let l = length-append (expr_words a) (expr_words b) in
     let x = few a in
     let y = few b in
     omega arith
 few (alt a b) =
-    let s = two (λ p. inFirst p b) (inSecond a) (spots a) (spots b) in
+    let s = two (λ p. in_first p b) (in_second a) (spots a) (spots b) in
     let w = within-++ (inners a) (inners b) in
-    let l = length-append (exprWords a) (exprWords b) in
+    let l = length-append (expr_words a) (expr_words b) in
     let x = few a in
     let y = few b in
     omega arith
 few (star a) =
-    let s = length-map (spots a) inStar in
+    let s = length-map (spots a) in_star in
     let x = few a in
     omega arith
 few (over f a) =
@@ -51,7 +51,7 @@ few (over f a) =
     let x = few a in
     omega arith
 
-states-few : (R : Expr) → length (states R) ≤ 2 * length (exprWords R)
+states-few : (R : Expr) → length (states R) ≤ 2 * length (expr_words R)
 states-few R =
     let s = length-append (map rest_at (spots R)) (within (inners R)) in
     let m = length-map (spots R) rest_at in

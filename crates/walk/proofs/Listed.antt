@@ -10,7 +10,7 @@ use lib.Dec.{T, ltb}
 use lib.ListN.{length}
 use Rattle.language.specs.Trees.{Expr}
 use Rattle.rules.specs.Expressions.{nullable, Monomial}
-use Rattle.rules.specs.Walk.{Pair, onward, reached, longWalk}
+use Rattle.rules.specs.Walk.{Pair, onward, reached, long_walk}
 use Rattle.rules.proofs.Tests.{test-true}
 use Rattle.walk.specs.Reach.{Twins, Reach, Once, Shares, empty, more}
 use Rattle.walk.proofs.Members.{no_more}
@@ -29,8 +29,8 @@ module _ (R S : Expr) where
     pub on : (p q : Pair) → Memᴰ p ps → Memᴰ q (onward p) → Memᴰ q ps
 
   -- more than so many: 21
-  pub too_long : (limit : ℕ) (ps : List Pair) → Listed ps → limit < length ps → longWalk limit R S ≡ true
-  too_long limit ps l h = (test-true (longWalk limit R S)).0 ((long-exact R S limit).1 (record { pairs = ps; many = h; different = l.once; met = l.met }))
+  pub too_long : (limit : ℕ) (ps : List Pair) → Listed ps → limit < length ps → long_walk limit R S ≡ true
+  too_long limit ps l h = (test-true (long_walk limit R S)).0 ((long-exact R S limit).1 (record { pairs = ps; many = h; different = l.once; met = l.met }))
 
   -- all of them: their number decides
   pub as_many : (ps : List Pair) → Listed ps → Whole ps → length ps ≡ length (reached R S)
@@ -39,8 +39,8 @@ module _ (R S : Expr) where
       let y = no_more (reached R S) ps (reached-once R S) (λ q m. all-met R S ps w.first w.on q ((reached-exact R S q).0 m)) in
       omega arith
 
-  pub long-by-number : (limit : ℕ) (ps : List Pair) → Listed ps → Whole ps → longWalk limit R S ≡ ltb limit (length ps)
-  unfolding longWalk
+  pub long-by-number : (limit : ℕ) (ps : List Pair) → Listed ps → Whole ps → long_walk limit R S ≡ ltb limit (length ps)
+  unfolding long_walk
   long-by-number limit ps l w = ap (ltb limit) (sym (as_many ps l w))
 
 -- marks among the pairs of a list that goes on from each: what is marked is shared, and what can be marked is

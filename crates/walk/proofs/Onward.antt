@@ -4,11 +4,11 @@ use mathlib.Core.Logic.{◌⊎◌, inl, inr, ◌↔◌}
 use mathlib.Core.Bool.{Bool, true, false}
 use mathlib.Core.List.{List, [], ◌∷◌, Memᴰ}
 use Rattle.language.specs.Kinds.{pick}
-use Rattle.language.specs.Trees.{eqS}
+use Rattle.language.specs.Trees.{eq_s}
 use Rattle.rules.specs.Expressions.{Monomial, linear}
-use Rattle.rules.specs.Walk.{Pair, parts_of, partsWith, partsAll, onward, onwards}
+use Rattle.rules.specs.Walk.{Pair, parts_of, parts_with, parts_all, onward, onwards}
 use Rattle.rules.proofs.Tests.{true-test}
-use Rattle.rules.proofs.Names.{eqS-is, eqS-same}
+use Rattle.rules.proofs.Names.{eq_s-is, eq_s-same}
 use Rattle.walk.specs.Reach.{Twins}
 use Rattle.walk.proofs.Members.{in_left, in_right, of-++}
 
@@ -20,7 +20,7 @@ abbrev Leads : Monomial → Monomial → Pair → Type 0
 Leads m k q = (m.name ≡ k.name) × Either m k q
 
 parts-of : (m k : Monomial) {q : Pair} → Memᴰ q (parts_of m k) ↔ Leads m k q
-parts-of m k {q} = go (eqS m.name k.name) refl
+parts-of m k {q} = go (eq_s m.name k.name) refl
   where
     to : Memᴰ q ((m.inner, k.inner) ∷ (m.rest, k.rest) ∷ []) → Either m k q
     to (Memᴰ.head e) = inl e
@@ -31,31 +31,31 @@ parts-of m k {q} = go (eqS m.name k.name) refl
     from (inl e) = Memᴰ.head e
     from (inr e) = Memᴰ.tail (Memᴰ.head e)
 
-    go : (b : Bool) → eqS m.name k.name ≡ b → Memᴰ q (pick b ((m.inner, k.inner) ∷ (m.rest, k.rest) ∷ []) []) ↔ Leads m k q
-    go true e = (λ n. (eqS-is m.name k.name (true-test (eqS m.name k.name) e), to n), λ l. from l.1)
-    go false e = (λ n. elim n [ ], λ l. absurd (rw e at (eqS-same m.name k.name l.0)))
+    go : (b : Bool) → eq_s m.name k.name ≡ b → Memᴰ q (pick b ((m.inner, k.inner) ∷ (m.rest, k.rest) ∷ []) []) ↔ Leads m k q
+    go true e = (λ n. (eq_s-is m.name k.name (true-test (eq_s m.name k.name) e), to n), λ l. from l.1)
+    go false e = (λ n. elim n [ ], λ l. absurd (rw e at (eq_s-same m.name k.name l.0)))
 
-of-partsWith : (m : Monomial) (l : List Monomial) {q : Pair} → Memᴰ q (partsWith m l) → (k : Monomial) × Memᴰ k l × Leads m k q
-of-partsWith m [] n = elim n [ ]
-of-partsWith m (k ∷ l) n = elim (of-++ (parts_of m k) n) [
+of-parts_with : (m : Monomial) (l : List Monomial) {q : Pair} → Memᴰ q (parts_with m l) → (k : Monomial) × Memᴰ k l × Leads m k q
+of-parts_with m [] n = elim n [ ]
+of-parts_with m (k ∷ l) n = elim (of-++ (parts_of m k) n) [
   | inl i ↦ (k, Memᴰ.head refl, (parts-of m k).0 i)
-  | inr i ↦ let (j, x, y) = of-partsWith m l i in (j, Memᴰ.tail x, y)
+  | inr i ↦ let (j, x, y) = of-parts_with m l i in (j, Memᴰ.tail x, y)
 ]
 
-in-partsWith : (m : Monomial) {k : Monomial} (l : List Monomial) {q : Pair} → Memᴰ k l → Leads m k q → Memᴰ q (partsWith m l)
-in-partsWith m {k} (j ∷ l) {q = q} (Memᴰ.head e) y = in_left (partsWith m l) ((parts-of m j).1 (subst (λ k. Leads m k q) e y))
-in-partsWith m (j ∷ l) (Memᴰ.tail i) y = in_right (parts_of m j) (in-partsWith m l i y)
+in-parts_with : (m : Monomial) {k : Monomial} (l : List Monomial) {q : Pair} → Memᴰ k l → Leads m k q → Memᴰ q (parts_with m l)
+in-parts_with m {k} (j ∷ l) {q = q} (Memᴰ.head e) y = in_left (parts_with m l) ((parts-of m j).1 (subst (λ k. Leads m k q) e y))
+in-parts_with m (j ∷ l) (Memᴰ.tail i) y = in_right (parts_of m j) (in-parts_with m l i y)
 
-of_parts : (k l : List Monomial) {q : Pair} → Memᴰ q (partsAll k l) → (m : Monomial) × (n : Monomial) × Memᴰ m k × Memᴰ n l × Leads m n q
+of_parts : (k l : List Monomial) {q : Pair} → Memᴰ q (parts_all k l) → (m : Monomial) × (n : Monomial) × Memᴰ m k × Memᴰ n l × Leads m n q
 of_parts [] l n = elim n [ ]
-of_parts (m ∷ k) l n = elim (of-++ (partsWith m l) n) [
-  | inl i ↦ let (j, x, y) = of-partsWith m l i in (m, j, Memᴰ.head refl, x, y)
+of_parts (m ∷ k) l n = elim (of-++ (parts_with m l) n) [
+  | inl i ↦ let (j, x, y) = of-parts_with m l i in (m, j, Memᴰ.head refl, x, y)
   | inr i ↦ let (a, b, x, y, z) = of_parts k l i in (a, b, Memᴰ.tail x, y, z)
 ]
 
-in_parts : {m n : Monomial} (k l : List Monomial) {q : Pair} → Memᴰ m k → Memᴰ n l → Leads m n q → Memᴰ q (partsAll k l)
-in_parts {n = n} (a ∷ k) l {q = q} (Memᴰ.head e) j y = in_left (partsAll k l) (in-partsWith a l j (subst (λ m. Leads m n q) e y))
-in_parts (a ∷ k) l (Memᴰ.tail i) j y = in_right (partsWith a l) (in_parts k l i j y)
+in_parts : {m n : Monomial} (k l : List Monomial) {q : Pair} → Memᴰ m k → Memᴰ n l → Leads m n q → Memᴰ q (parts_all k l)
+in_parts {n = n} (a ∷ k) l {q = q} (Memᴰ.head e) j y = in_left (parts_all k l) (in-parts_with a l j (subst (λ m. Leads m n q) e y))
+in_parts (a ∷ k) l (Memᴰ.tail i) j y = in_right (parts_with a l) (in_parts k l i j y)
 
 -- twins of p lead to q
 abbrev pub On : Pair → Pair → Type 0

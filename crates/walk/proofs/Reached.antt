@@ -8,7 +8,7 @@ use native.Mathlib.Omega.{arith}
 use lib.Dec.{T, leb→le, le→leb}
 use lib.ListN.{length}
 use Rattle.language.specs.Trees.{Expr}
-use Rattle.rules.specs.Walk.{Pair, onward, onwards, most, reached, longWalk}
+use Rattle.rules.specs.Walk.{Pair, onward, onwards, most, reached, long_walk}
 use Rattle.walk.specs.Reach.{Reach, start, inner, rest, Once, ReachesMore}
 use Rattle.walk.proofs.Members.{pairs, in_pairs, of-pairs, pairs-length, no_more}
 use Rattle.walk.proofs.Closures.{Closed, closes}
@@ -70,8 +70,8 @@ module _ (R S : Expr) where
   reached-once = walk-closed.once
 
   -- "21 when a walk reaches more than" so many "different pairs, different by their words"
-  pub long-exact : (limit : ℕ) → T (longWalk limit R S) ↔ ReachesMore limit R S
-  unfolding longWalk
+  pub long-exact : (limit : ℕ) → T (long_walk limit R S) ↔ ReachesMore limit R S
+  unfolding long_walk
   long-exact limit = (
     λ t. record { pairs = reached R S; many = leb→le (suc limit) (length (reached R S)) t; different = reached-once; met = λ q m. (reached-exact q).0 m },
     λ d. le→leb (suc limit) (length (reached R S)) (le_trans d.many (no_more d.pairs (reached R S) d.different (λ q m. (reached-exact q).1 (d.met q m)))),

@@ -7,11 +7,11 @@ use native.Mathlib.Omega.{arith}
 use lib.Dec.{T}
 use lib.ListN.{length}
 use Rattle.language.specs.Kinds.{pick}
-use Rattle.language.specs.Trees.{Expr, eqS}
+use Rattle.language.specs.Trees.{Expr, eq_s}
 use Rattle.rules.specs.Expressions.{nullable, Monomial, linear}
-use Rattle.rules.specs.Walk.{Pair, among, onward, reached, someOf, somePair, sharesBy, sharing, shared, commonHedge, commonTerm}
+use Rattle.rules.specs.Walk.{Pair, among, onward, reached, some_of, some_pair, shares_by, sharing, shared, common_hedge, common_term}
 use Rattle.rules.proofs.Tests.{or_cases, or_left, or_right, and_parts, and_both, true-test}
-use Rattle.rules.proofs.Names.{eqS-is, eqS-same}
+use Rattle.rules.proofs.Names.{eq_s-is, eq_s-same}
 use Rattle.walk.specs.Reach.{Twins, start, inner, rest, Shares, empty, more, SharesTerm}
 use Rattle.walk.proofs.Members.{no_more}
 use Rattle.walk.proofs.Closures.{among_in, in-among, Closed, closes}
@@ -20,90 +20,90 @@ use Rattle.walk.proofs.Reached.{reach-on, reached-exact}
 
 -- ---- some monomial of the one and some of the other
 
-of-someOf : (t : Monomial → Bool) (l : List Monomial) → T (someOf t l) → (n : Monomial) × Memᴰ n l × T (t n)
-of-someOf t [] s = absurd s
-of-someOf t (n ∷ l) s =
-    elim (or_cases (t n) (someOf t l) s) [ inl y ↦ (n, Memᴰ.head refl, y) | inr r ↦ let (k, m, y) = of-someOf t l r in (k, Memᴰ.tail m, y) ]
+of-some_of : (t : Monomial → Bool) (l : List Monomial) → T (some_of t l) → (n : Monomial) × Memᴰ n l × T (t n)
+of-some_of t [] s = absurd s
+of-some_of t (n ∷ l) s =
+    elim (or_cases (t n) (some_of t l) s) [ inl y ↦ (n, Memᴰ.head refl, y) | inr r ↦ let (k, m, y) = of-some_of t l r in (k, Memᴰ.tail m, y) ]
 
-in-someOf : (t : Monomial → Bool) {n : Monomial} (l : List Monomial) → Memᴰ n l → T (t n) → T (someOf t l)
-in-someOf t (k ∷ l) (Memᴰ.head e) y = or_left (t k) (someOf t l) (rw e at y)
-in-someOf t (k ∷ l) (Memᴰ.tail m) y = or_right (t k) (someOf t l) (in-someOf t l m y)
+in-some_of : (t : Monomial → Bool) {n : Monomial} (l : List Monomial) → Memᴰ n l → T (t n) → T (some_of t l)
+in-some_of t (k ∷ l) (Memᴰ.head e) y = or_left (t k) (some_of t l) (rw e at y)
+in-some_of t (k ∷ l) (Memᴰ.tail m) y = or_right (t k) (some_of t l) (in-some_of t l m y)
 
-of-somePair : (t : Monomial → Monomial → Bool) (k l : List Monomial) → T (somePair t k l) → (m : Monomial) × (n : Monomial) × Memᴰ m k × Memᴰ n l × T (t m n)
-of-somePair t [] l s = absurd s
-of-somePair t (m ∷ k) l s = elim (or_cases (someOf (t m) l) (somePair t k l) s) [
-  | inl y ↦ let (n, i, z) = of-someOf (t m) l y in (m, n, Memᴰ.head refl, i, z)
-  | inr y ↦ let (a, b, i, j, z) = of-somePair t k l y in (a, b, Memᴰ.tail i, j, z)
+of-some_pair : (t : Monomial → Monomial → Bool) (k l : List Monomial) → T (some_pair t k l) → (m : Monomial) × (n : Monomial) × Memᴰ m k × Memᴰ n l × T (t m n)
+of-some_pair t [] l s = absurd s
+of-some_pair t (m ∷ k) l s = elim (or_cases (some_of (t m) l) (some_pair t k l) s) [
+  | inl y ↦ let (n, i, z) = of-some_of (t m) l y in (m, n, Memᴰ.head refl, i, z)
+  | inr y ↦ let (a, b, i, j, z) = of-some_pair t k l y in (a, b, Memᴰ.tail i, j, z)
 ]
 
-in-somePair : (t : Monomial → Monomial → Bool) {m n : Monomial} (k l : List Monomial) → Memᴰ m k → Memᴰ n l → T (t m n) → T (somePair t k l)
-in-somePair t {m} {n} (a ∷ k) l (Memᴰ.head e) j y = or_left (someOf (t a) l) (somePair t k l) (in-someOf (t a) l j (rw e at y))
-in-somePair t (a ∷ k) l (Memᴰ.tail i) j y = or_right (someOf (t a) l) (somePair t k l) (in-somePair t k l i j y)
+in-some_pair : (t : Monomial → Monomial → Bool) {m n : Monomial} (k l : List Monomial) → Memᴰ m k → Memᴰ n l → T (t m n) → T (some_pair t k l)
+in-some_pair t {m} {n} (a ∷ k) l (Memᴰ.head e) j y = or_left (some_of (t a) l) (some_pair t k l) (in-some_of (t a) l j (rw e at y))
+in-some_pair t (a ∷ k) l (Memᴰ.tail i) j y = or_right (some_of (t a) l) (some_pair t k l) (in-some_pair t k l i j y)
 
 -- Of the two linear forms of a pair: twins, of which the two further tests hold.
 pub some-twins : (p : Pair) (a b : Monomial → Monomial → Bool)
-    → T (somePair (λ m k. eqS m.name k.name && a m k && b m k) (linear p.0) (linear p.1)) ↔ ((m : Monomial) × (k : Monomial) × Twins p m k × T (a m k) × T (b m k))
+    → T (some_pair (λ m k. eq_s m.name k.name && a m k && b m k) (linear p.0) (linear p.1)) ↔ ((m : Monomial) × (k : Monomial) × Twins p m k × T (a m k) × T (b m k))
 some-twins p a b = (
   λ y.
-      let (m, k, i, j, z) = of-somePair t (linear p.0) (linear p.1) y in
-      let (w, v) = and_parts (eqS m.name k.name && a m k) (b m k) z in
-      let (e, u) = and_parts (eqS m.name k.name) (a m k) w in
-      (m, k, record { one = i; other = j; name = eqS-is m.name k.name e }, u, v),
+      let (m, k, i, j, z) = of-some_pair t (linear p.0) (linear p.1) y in
+      let (w, v) = and_parts (eq_s m.name k.name && a m k) (b m k) z in
+      let (e, u) = and_parts (eq_s m.name k.name) (a m k) w in
+      (m, k, record { one = i; other = j; name = eq_s-is m.name k.name e }, u, v),
   λ y.
       let (m, k, w, u, v) = y in
-      in-somePair t (linear p.0) (linear p.1) w.one w.other
-      (and_both (eqS m.name k.name && a m k) (b m k) (and_both (eqS m.name k.name) (a m k) (eqS-same m.name k.name w.name) u) v),
+      in-some_pair t (linear p.0) (linear p.1) w.one w.other
+      (and_both (eq_s m.name k.name && a m k) (b m k) (and_both (eq_s m.name k.name) (a m k) (eq_s-same m.name k.name w.name) u) v),
 )
   where
     t : Monomial → Monomial → Bool
-    t m k = eqS m.name k.name && a m k && b m k
+    t m k = eq_s m.name k.name && a m k && b m k
 
 -- ---- what is shared by what is known
 
-abbrev insideIn : List Pair → Monomial → Monomial → Bool
-insideIn s m k = among (m.inner, k.inner) s
+abbrev inside_in : List Pair → Monomial → Monomial → Bool
+inside_in s m k = among (m.inner, k.inner) s
 
-abbrev restIn : List Pair → Monomial → Monomial → Bool
-restIn s m k = among (m.rest, k.rest) s
+abbrev rest_in : List Pair → Monomial → Monomial → Bool
+rest_in s m k = among (m.rest, k.rest) s
 
 abbrev Known : List Pair → Pair → Type 0
 Known s p =
     (T (nullable p.0) × T (nullable p.1))
     ⊎ ((m : Monomial) × (k : Monomial) × Twins p m k × T (among (m.inner, k.inner) s) × T (among (m.rest, k.rest) s))
 
-shares-by : (s : List Pair) (p : Pair) → T (sharesBy s p) ↔ Known s p
+shares-by : (s : List Pair) (p : Pair) → T (shares_by s p) ↔ Known s p
 shares-by s p = (
-  λ y. elim (or_cases (nullable p.0 && nullable p.1) (somePair t (linear p.0) (linear p.1)) y) [
+  λ y. elim (or_cases (nullable p.0 && nullable p.1) (some_pair t (linear p.0) (linear p.1)) y) [
     | inl a ↦ inl (and_parts (nullable p.0) (nullable p.1) a)
-    | inr a ↦ inr ((some-twins p (insideIn s) (restIn s)).0 a)
+    | inr a ↦ inr ((some-twins p (inside_in s) (rest_in s)).0 a)
   ],
   λ y. elim y [
-    | inl (a, b) ↦ or_left (nullable p.0 && nullable p.1) (somePair t (linear p.0) (linear p.1)) (and_both (nullable p.0) (nullable p.1) a b)
-    | inr a ↦ or_right (nullable p.0 && nullable p.1) (somePair t (linear p.0) (linear p.1)) ((some-twins p (insideIn s) (restIn s)).1 a)
+    | inl (a, b) ↦ or_left (nullable p.0 && nullable p.1) (some_pair t (linear p.0) (linear p.1)) (and_both (nullable p.0) (nullable p.1) a b)
+    | inr a ↦ or_right (nullable p.0 && nullable p.1) (some_pair t (linear p.0) (linear p.1)) ((some-twins p (inside_in s) (rest_in s)).1 a)
   ],
 )
   where
     t : Monomial → Monomial → Bool
-    t m k = eqS m.name k.name && among (m.inner, k.inner) s && among (m.rest, k.rest) s
+    t m k = eq_s m.name k.name && among (m.inner, k.inner) s && among (m.rest, k.rest) s
 
-of-sharing : (ps s : List Pair) {q : Pair} → Memᴰ q (sharing ps s) → Memᴰ q ps × T (sharesBy s q)
+of-sharing : (ps s : List Pair) {q : Pair} → Memᴰ q (sharing ps s) → Memᴰ q ps × T (shares_by s q)
 of-sharing [] s m = elim m [ ]
-of-sharing (p ∷ ps) s {q = q} m = go (sharesBy s p) refl (of-sharing ps s) m
+of-sharing (p ∷ ps) s {q = q} m = go (shares_by s p) refl (of-sharing ps s) m
   where
-    go : (b : Bool) → sharesBy s p ≡ b → (Memᴰ q (sharing ps s) → Memᴰ q ps × T (sharesBy s q))
-        → Memᴰ q (pick b (p ∷ sharing ps s) (sharing ps s)) → Memᴰ q (p ∷ ps) × T (sharesBy s q)
-    go true e on (Memᴰ.head d) = (Memᴰ.head d, rw d (true-test (sharesBy s p) e))
+    go : (b : Bool) → shares_by s p ≡ b → (Memᴰ q (sharing ps s) → Memᴰ q ps × T (shares_by s q))
+        → Memᴰ q (pick b (p ∷ sharing ps s) (sharing ps s)) → Memᴰ q (p ∷ ps) × T (shares_by s q)
+    go true e on (Memᴰ.head d) = (Memᴰ.head d, rw d (true-test (shares_by s p) e))
     go true e on (Memᴰ.tail m) = let (i, t) = on m in (Memᴰ.tail i, t)
     go false e on m = let (i, t) = on m in (Memᴰ.tail i, t)
 
-in-sharing : (ps s : List Pair) {q : Pair} → Memᴰ q ps → T (sharesBy s q) → Memᴰ q (sharing ps s)
-in-sharing (p ∷ ps) s {q = q} m t = go (sharesBy s p) refl (in-sharing ps s) m
+in-sharing : (ps s : List Pair) {q : Pair} → Memᴰ q ps → T (shares_by s q) → Memᴰ q (sharing ps s)
+in-sharing (p ∷ ps) s {q = q} m t = go (shares_by s p) refl (in-sharing ps s) m
   where
-    go : (b : Bool) → sharesBy s p ≡ b → (Memᴰ q ps → T (sharesBy s q) → Memᴰ q (sharing ps s))
+    go : (b : Bool) → shares_by s p ≡ b → (Memᴰ q ps → T (shares_by s q) → Memᴰ q (sharing ps s))
         → Memᴰ q (p ∷ ps) → Memᴰ q (pick b (p ∷ sharing ps s) (sharing ps s))
     go true e on (Memᴰ.head d) = Memᴰ.head d
     go true e on (Memᴰ.tail m) = Memᴰ.tail (on m t)
-    go false e on (Memᴰ.head d) = absurd (rw e at (subst (λ q. T (sharesBy s q)) d t))
+    go false e on (Memᴰ.head d) = absurd (rw e at (subst (λ q. T (shares_by s q)) d t))
     go false e on (Memᴰ.tail m) = on m t
 
 -- ---- all that is shared
@@ -144,20 +144,20 @@ module _ (R S : Expr) where
   )
 
   -- A hedge is shared exactly where the test says so.
-  pub hedge-exact : T (commonHedge R S) ↔ Shares (R, S)
-  unfolding commonHedge
+  pub hedge-exact : T (common_hedge R S) ↔ Shares (R, S)
+  unfolding common_hedge
   hedge-exact = shared-exact (R, S) ((reached-exact R S (R, S)).1 (start refl))
 
   -- A term is shared exactly where the test says so.
-  pub term-exact : T (commonTerm R S) ↔ SharesTerm (R, S)
-  unfolding commonTerm
+  pub term-exact : T (common_term R S) ↔ SharesTerm (R, S)
+  unfolding common_term
   term-exact = (
     λ y.
-        let (m, k, t, a, b) = (some-twins (R, S) (insideIn (shared (reached R S))) ends).0 y in
+        let (m, k, t, a, b) = (some-twins (R, S) (inside_in (shared (reached R S))) ends).0 y in
         let (c, d) = and_parts (nullable m.rest) (nullable k.rest) b in
         record { monomial = m; twin = k; twins = t; inside = (shared-exact (m.inner, k.inner) (inside m k t)).0 a; ends = c; twin-ends = d },
     λ y.
-        (some-twins (R, S) (insideIn (shared (reached R S))) ends).1 (
+        (some-twins (R, S) (inside_in (shared (reached R S))) ends).1 (
           y.monomial,
           y.twin,
           y.twins,

@@ -5,31 +5,31 @@ use mathlib.Core.List.{List, ◌∷◌, ◌++◌, map, Memᴰ}
 use Rattle.language.specs.Trees.{Expr, eps, cat, alt, star, over}
 use Rattle.rules.specs.Expressions.{Monomial, linear}
 use Rattle.rules.proofs.Each.{each_in}
-use Rattle.walk.specs.Spots.{Spot, here, inLeft, inRight, inFirst, inSecond, inStar, whole, inner_at, rest_at, monomial, spots, firsts, nexts, inners, levels, within, states}
-use Rattle.walk.proofs.Members.{in_left, in_right, of-++, in_map, of_map}
+use Rattle.walk.specs.Spots.{Spot, here, in_left, in_right, in_first, in_second, in_star, whole, inner_at, rest_at, monomial, spots, firsts, nexts, inners, levels, within, states}
+use Rattle.walk.proofs.Members.{in_left_lem, in_right_lem, of-++, in_map, of_map}
 use Rattle.walk.proofs.Continuations.{firsts-of, nexts-of, spots-of, first-monomials, next-monomials}
 
 in-spots : (p : Spot) → Memᴰ p (spots (whole p))
 in-spots (here f R) = Memᴰ.head refl
-in-spots (inLeft p b) = in_left (map (inRight (whole p)) (spots b)) (in_map (λ p. inLeft p b) (in-spots p))
-in-spots (inRight a p) = in_right (map (λ q. inLeft q (whole p)) (spots a)) (in_map (inRight a) (in-spots p))
-in-spots (inFirst p b) = in_left (map (inSecond (whole p)) (spots b)) (in_map (λ p. inFirst p b) (in-spots p))
-in-spots (inSecond a p) = in_right (map (λ q. inFirst q (whole p)) (spots a)) (in_map (inSecond a) (in-spots p))
-in-spots (inStar p) = in_map inStar (in-spots p)
+in-spots (in_left p b) = in_left_lem (map (in_right (whole p)) (spots b)) (in_map (λ p. in_left p b) (in-spots p))
+in-spots (in_right a p) = in_right_lem (map (λ q. in_left q (whole p)) (spots a)) (in_map (in_right a) (in-spots p))
+in-spots (in_first p b) = in_left_lem (map (in_second (whole p)) (spots b)) (in_map (λ p. in_first p b) (in-spots p))
+in-spots (in_second a p) = in_right_lem (map (λ q. in_first q (whole p)) (spots a)) (in_map (in_second a) (in-spots p))
+in-spots (in_star p) = in_map in_star (in-spots p)
 
 in-inners : (p : Spot) → Memᴰ (inner_at p) (inners (whole p))
 in-inners (here f R) = Memᴰ.head refl
-in-inners (inLeft p b) = in_left (inners b) (in-inners p)
-in-inners (inRight a p) = in_right (inners a) (in-inners p)
-in-inners (inFirst p b) = in_left (inners b) (in-inners p)
-in-inners (inSecond a p) = in_right (inners a) (in-inners p)
-in-inners (inStar p) = in-inners p
+in-inners (in_left p b) = in_left_lem (inners b) (in-inners p)
+in-inners (in_right a p) = in_right_lem (inners a) (in-inners p)
+in-inners (in_first p b) = in_left_lem (inners b) (in-inners p)
+in-inners (in_second a p) = in_right_lem (inners a) (in-inners p)
+in-inners (in_star p) = in-inners p
 
 -- the inner expressions of an inner expression
 inners-on : (R : Expr) {S X : Expr} → Memᴰ S (inners R) → Memᴰ X (inners S) → Memᴰ X (inners R)
 inners-on eps m n = elim m [ ]
-inners-on (cat a b) m n = elim (of-++ (inners a) m) [ inl k ↦ in_left (inners b) (inners-on a k n) | inr k ↦ in_right (inners a) (inners-on b k n) ]
-inners-on (alt a b) m n = elim (of-++ (inners a) m) [ inl k ↦ in_left (inners b) (inners-on a k n) | inr k ↦ in_right (inners a) (inners-on b k n) ]
+inners-on (cat a b) m n = elim (of-++ (inners a) m) [ inl k ↦ in_left_lem (inners b) (inners-on a k n) | inr k ↦ in_right_lem (inners a) (inners-on b k n) ]
+inners-on (alt a b) m n = elim (of-++ (inners a) m) [ inl k ↦ in_left_lem (inners b) (inners-on a k n) | inr k ↦ in_right_lem (inners a) (inners-on b k n) ]
 inners-on (star a) m n = inners-on a m n
 inners-on (over f R) (Memᴰ.head e) n = Memᴰ.tail (rw e at n)
 inners-on (over f R) (Memᴰ.tail k) n = Memᴰ.tail (inners-on R k n)
@@ -42,11 +42,11 @@ levels-on R (Memᴰ.tail k) n = Memᴰ.tail (inners-on R k n)
 
 pub start-in : {S : Expr} (l : List Expr) → Memᴰ S l → Memᴰ S (within l)
 start-in (U ∷ l) (Memᴰ.head e) = Memᴰ.head e
-start-in (U ∷ l) (Memᴰ.tail m) = Memᴰ.tail (in_right (map rest_at (spots U)) (start-in l m))
+start-in (U ∷ l) (Memᴰ.tail m) = Memᴰ.tail (in_right_lem (map rest_at (spots U)) (start-in l m))
 
 rest_in : (p : Spot) (l : List Expr) → Memᴰ (whole p) l → Memᴰ (rest_at p) (within l)
-rest_in p (U ∷ l) (Memᴰ.head e) = Memᴰ.tail (in_left (within l) (in_map rest_at (rw e at (in-spots p))))
-rest_in p (U ∷ l) (Memᴰ.tail m) = Memᴰ.tail (in_right (map rest_at (spots U)) (rest_in p l m))
+rest_in p (U ∷ l) (Memᴰ.head e) = Memᴰ.tail (in_left_lem (within l) (in_map rest_at (rw e at (in-spots p))))
+rest_in p (U ∷ l) (Memᴰ.tail m) = Memᴰ.tail (in_right_lem (map rest_at (spots U)) (rest_in p l m))
 
 -- a level itself, or what is left after one of its spots
 abbrev StateOf : Expr → Expr → Type 0

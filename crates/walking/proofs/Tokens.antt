@@ -15,8 +15,8 @@ use Rattle.lexing.specs.declared.Mark.TheVariants.{End, Bad, Symbol, One, Run, F
 use Rattle.lexing.specs.Pieces.{front}
 use Rattle.flat.specs.declared.State.{State}
 use Rattle.flat.specs.declared.State.TheVariants.{Opened, Wanted, Named, Ready}
-use Rattle.flat.specs.Flat.{lay, inBrackets}
-use Rattle.walking.specs.Walking.{reads, roleOf, stageOf, allows, owes, writes, tokenWords, goesOn}
+use Rattle.flat.specs.Flat.{lay, in_brackets}
+use Rattle.walking.specs.Walking.{reads, role_of, stage_of, allows, owes, writes, token_words, goes_on}
 
 lay-nil : (r : Res (List ℕ)) → r ≡ lay [] r
 lay-nil (got ws ts) = refl
@@ -30,7 +30,7 @@ yes e = absurd (let z : ◌≡◌ {A = ℕ} 0 1 = cc in omega arith)
 
 module _ (ρ : Naming) (n : ℕ) where
   -- A token that can stand there writes its words, and the loop goes on.
-  pub token-read : (d : ℕ) (s : State) (m : Mark) (o : Tokens) → allows (roleOf m) (stageOf s) ≡ true → reads (inBrackets ρ s d) (front m n o) ≡ lay (tokenWords ρ (stageOf s) m n) (goesOn ρ d m o)
+  pub token-read : (d : ℕ) (s : State) (m : Mark) (o : Tokens) → allows (role_of m) (stage_of s) ≡ true → reads (in_brackets ρ s d) (front m n o) ≡ lay (token_words ρ (stage_of s) m n) (goes_on ρ d m o)
   unfolding allows owes writes
   token-read d Opened End o e = no e
   token-read d Opened Bad o e = no e
@@ -77,7 +77,7 @@ module _ (ρ : Naming) (n : ℕ) where
   token-read d Named Comma none e = refl
   token-read d Named Comma (some ts) e = refl
   token-read d Named Opens none e = refl
-  token-read d Named Opens (some ts) e = lay-nil (inBrackets ρ Opened (suc d) ts)
+  token-read d Named Opens (some ts) e = lay-nil (in_brackets ρ Opened (suc d) ts)
   token-read zero Named Closes none e = refl
   token-read zero Named Closes (some ts) e = refl
   token-read (suc d) Named Closes none e = refl
@@ -92,7 +92,7 @@ module _ (ρ : Naming) (n : ℕ) where
   token-read d Ready Function o e = no e
   token-read d Ready Equals o e = no e
   token-read d Ready Comma none e = refl
-  token-read d Ready Comma (some ts) e = lay-nil (inBrackets ρ Wanted d ts)
+  token-read d Ready Comma (some ts) e = lay-nil (in_brackets ρ Wanted d ts)
   token-read d Ready Opens o e = no e
   token-read zero Ready Closes none e = refl
   token-read zero Ready Closes (some ts) e = refl
@@ -102,7 +102,7 @@ module _ (ρ : Naming) (n : ℕ) where
   token-read d Ready Times o e = no e
 
   -- One that cannot ends it.
-  pub token-refused : (d : ℕ) (s : State) (m : Mark) (o : Tokens) → allows (roleOf m) (stageOf s) ≡ false → reads (inBrackets ρ s d) (front m n o) ≡ stop
+  pub token-refused : (d : ℕ) (s : State) (m : Mark) (o : Tokens) → allows (role_of m) (stage_of s) ≡ false → reads (in_brackets ρ s d) (front m n o) ≡ stop
   unfolding allows
   token-refused d Opened End o e = refl
   token-refused d Opened Bad o e = refl

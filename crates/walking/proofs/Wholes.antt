@@ -15,23 +15,23 @@ use Rattle.texts.specs.Numbering.{Naming}
 use Rattle.lexing.specs.declared.Mark.{Mark}
 use Rattle.lexing.specs.declared.Mark.TheVariants.{End, Bad, Symbol, One, Run, Function, Equals, Comma, Opens, Closes, Plus, Times}
 use Rattle.lexing.specs.declared.Piece.{Piece}
-use Rattle.lexing.specs.Bytes.{others, nameFrom}
+use Rattle.lexing.specs.Bytes.{others, name_from}
 use Rattle.lexing.specs.Pieces.{here, front, next_of, Next}
 use Rattle.lexing.proofs.Pieces.{next-law}
 use Rattle.flat.specs.declared.State.TheVariants.{Opened}
-use Rattle.flat.specs.Flat.{lay, inBrackets, closed, flatSide}
+use Rattle.flat.specs.Flat.{lay, in_brackets, closed, flat_side}
 use Rattle.text_names.specs.Shelves.{name_at, numbering}
 use Rattle.room_words.specs.Rooms.{Put}
 use Rattle.room_words.proofs.Rooms.{put-length, put-wrote, put_then, wrote_then}
-use Rattle.text_names.specs.Words.{ownWord}
+use Rattle.text_names.specs.Words.{own_word}
 use Rattle.walking.specs.declared.Way.{Way}
-use Rattle.walking.specs.Walking.{reads, gotAt, roleOf, allows, Walked, behindFunctor, Closed, leaves, behindWords, bracketsOn, closedOn, behindBy, behindOn, sideBy, sideOn}
+use Rattle.walking.specs.Walking.{reads, got_at, role_of, allows, Walked, behind_functor, Closed, leaves, behind_words, brackets_on, closed_on, behind_by, behind_on, side_by, side_on}
 
 -- ---- over tokens
 
 module _ (ρ : Naming) (x : ℕ) where
   -- behind a functor: a bracket that opens, and anything else
-  opened-behind : (m : Mark) (o : Tokens) → roleOf m ≡ 4 → reads (behindFunctor ρ) (front m x o) ≡ reads (λ ts. closed (inBrackets ρ Opened 0 ts)) o
+  opened-behind : (m : Mark) (o : Tokens) → role_of m ≡ 4 → reads (behind_functor ρ) (front m x o) ≡ reads (λ ts. closed (in_brackets ρ Opened 0 ts)) o
   opened-behind End o e = absurd (omega arith)
   opened-behind Bad o e = absurd (omega arith)
   opened-behind Symbol o e = absurd (omega arith)
@@ -46,7 +46,7 @@ module _ (ρ : Naming) (x : ℕ) where
   opened-behind Plus o e = absurd (omega arith)
   opened-behind Times o e = absurd (omega arith)
 
-  alone-behind : (m : Mark) (o : Tokens) → (roleOf m ≡ 4 → ⊥) → reads (behindFunctor ρ) (front m x o) ≡ gotAt (0 ∷ 0 ∷ []) (front m x o)
+  alone-behind : (m : Mark) (o : Tokens) → (role_of m ≡ 4 → ⊥) → reads (behind_functor ρ) (front m x o) ≡ got_at (0 ∷ 0 ∷ []) (front m x o)
   alone-behind End o e = refl
   alone-behind Bad o e = refl
   alone-behind Symbol none e = refl
@@ -70,7 +70,7 @@ module _ (ρ : Naming) (x : ℕ) where
   alone-behind Times (some ts) e = refl
 
   -- a side: a bracket of its own, nothing that can begin one, a blank, a functor
-  own-bracket : (m : Mark) (o : Tokens) → roleOf m ≡ 4 → reads (flatSide ρ) (front m x o) ≡ reads (inBrackets ρ Opened 0) o
+  own-bracket : (m : Mark) (o : Tokens) → role_of m ≡ 4 → reads (flat_side ρ) (front m x o) ≡ reads (in_brackets ρ Opened 0) o
   own-bracket End o e = absurd (omega arith)
   own-bracket Bad o e = absurd (omega arith)
   own-bracket Symbol o e = absurd (omega arith)
@@ -85,7 +85,7 @@ module _ (ρ : Naming) (x : ℕ) where
   own-bracket Plus o e = absurd (omega arith)
   own-bracket Times o e = absurd (omega arith)
 
-  no-side : (m : Mark) (o : Tokens) → (roleOf m ≡ 4 → ⊥) → allows (roleOf m) 1 ≡ false → reads (flatSide ρ) (front m x o) ≡ stop
+  no-side : (m : Mark) (o : Tokens) → (role_of m ≡ 4 → ⊥) → allows (role_of m) 1 ≡ false → reads (flat_side ρ) (front m x o) ≡ stop
   unfolding allows
   no-side End o e f = refl
   no-side Bad o e f = refl
@@ -105,7 +105,7 @@ module _ (ρ : Naming) (x : ℕ) where
   no-side Times none e f = refl
   no-side Times (some ts) e f = refl
 
-  a-blank : (m : Mark) (o : Tokens) → roleOf m ≡ 1 → reads (flatSide ρ) (front m x o) ≡ gotAt (ownWord ρ m x ∷ 0 ∷ []) o
+  a-blank : (m : Mark) (o : Tokens) → role_of m ≡ 1 → reads (flat_side ρ) (front m x o) ≡ got_at (own_word ρ m x ∷ 0 ∷ []) o
   a-blank End o e = absurd (omega arith)
   a-blank Bad o e = absurd (omega arith)
   a-blank Symbol o e = absurd (omega arith)
@@ -121,7 +121,7 @@ module _ (ρ : Naming) (x : ℕ) where
   a-blank Plus o e = absurd (omega arith)
   a-blank Times o e = absurd (omega arith)
 
-  a-functor : (m : Mark) (o : Tokens) → allows (roleOf m) 1 ≡ true → (roleOf m ≡ 1 → ⊥) → reads (flatSide ρ) (front m x o) ≡ lay (ownWord ρ m x ∷ []) (reads (behindFunctor ρ) o)
+  a-functor : (m : Mark) (o : Tokens) → allows (role_of m) 1 ≡ true → (role_of m ≡ 1 → ⊥) → reads (flat_side ρ) (front m x o) ≡ lay (own_word ρ m x ∷ []) (reads (behind_functor ρ) o)
   unfolding allows
   a-functor End o e f = absurd (let z : ◌≡◌ {A = ℕ} 0 1 = cc in omega arith)
   a-functor Bad o e f = absurd (let z : ◌≡◌ {A = ℕ} 0 1 = cc in omega arith)
@@ -156,7 +156,7 @@ module _ (ρ : Naming) (x : ℕ) where
   a-functor Plus o e f = absurd (let z : ◌≡◌ {A = ℕ} 0 1 = cc in omega arith)
   a-functor Times o e f = absurd (let z : ◌≡◌ {A = ℕ} 0 1 = cc in omega arith)
 
-closed-got : (ws : List ℕ) (o : Tokens) → closed (gotAt ws o) ≡ gotAt (ws ++ (0 ∷ [])) o
+closed-got : (ws : List ℕ) (o : Tokens) → closed (got_at ws o) ≡ got_at (ws ++ (0 ∷ [])) o
 closed-got ws none = refl
 closed-got ws (some ts) = refl
 
@@ -164,35 +164,35 @@ closed-reads : (f : List Token → Res (List ℕ)) (o : Tokens) → reads (λ ts
 closed-reads f none = refl
 closed-reads f (some ts) = refl
 
-lay-gotAt : (us vs : List ℕ) (o : Tokens) → lay us (gotAt vs o) ≡ gotAt (us ++ vs) o
-lay-gotAt us vs none = refl
-lay-gotAt us vs (some ts) = refl
+lay-got_at : (us vs : List ℕ) (o : Tokens) → lay us (got_at vs o) ≡ got_at (us ++ vs) o
+lay-got_at us vs none = refl
+lay-got_at us vs (some ts) = refl
 
 -- ---- what is left, by cases
 
-way-left : {room ws room' : List ℕ} {n r : ℕ} (at : ℕ) → Put room n ws r room' → leaves true at r room' ≡ leaves true at (behindWords room n ws) (sets room n ws)
+way-left : {room ws room' : List ℕ} {n r : ℕ} (at : ℕ) → Put room n ws r room' → leaves true at r room' ≡ leaves true at (behind_words room n ws) (sets room n ws)
 way-left at p = ap₂ (leaves true at) p.place p.words
 
 module _ (ρ : Naming) (text : List ℕ) (at n : ℕ) (room : List ℕ) (p : Piece) where
-  brackets-behind : roleOf p.mark ≡ 4 → closedOn (bracketsOn ρ text p.to n room) ≡ behindBy ρ text at n room p
-  brackets-behind e = rw (eq-eqb (roleOf p.mark) 4 e)
+  brackets-behind : role_of p.mark ≡ 4 → closed_on (brackets_on ρ text p.to n room) ≡ behind_by ρ text at n room p
+  brackets-behind e = rw (eq-eqb (role_of p.mark) 4 e)
 
-  none-behind : (roleOf p.mark ≡ 4 → ⊥) → leaves true at (behindWords room n (0 ∷ 0 ∷ [])) (sets room n (0 ∷ 0 ∷ [])) ≡ behindBy ρ text at n room p
-  none-behind e = rw (ne_eqb (roleOf p.mark) 4 e)
+  none-behind : (role_of p.mark ≡ 4 → ⊥) → leaves true at (behind_words room n (0 ∷ 0 ∷ [])) (sets room n (0 ∷ 0 ∷ [])) ≡ behind_by ρ text at n room p
+  none-behind e = rw (ne_eqb (role_of p.mark) 4 e)
 
-  own-side : roleOf p.mark ≡ 4 → bracketsOn ρ text p.to n room ≡ sideBy ρ text at n room p
-  own-side e = rw (eq-eqb (roleOf p.mark) 4 e)
+  own-side : role_of p.mark ≡ 4 → brackets_on ρ text p.to n room ≡ side_by ρ text at n room p
+  own-side e = rw (eq-eqb (role_of p.mark) 4 e)
 
-  module _ (z : roleOf p.mark ≡ 4 → ⊥) where
-    no-side-left : allows (roleOf p.mark) 1 ≡ false → leaves false at n room ≡ sideBy ρ text at n room p
-    no-side-left a = rw (ne_eqb (roleOf p.mark) 4 z, a)
+  module _ (z : role_of p.mark ≡ 4 → ⊥) where
+    no-side-left : allows (role_of p.mark) 1 ≡ false → leaves false at n room ≡ side_by ρ text at n room p
+    no-side-left a = rw (ne_eqb (role_of p.mark) 4 z, a)
 
-    module _ (a : allows (roleOf p.mark) 1 ≡ true) where
-      blank-left : roleOf p.mark ≡ 1 → leaves true p.to (behindWords room n (ownWord ρ p.mark (name_at text p.from) ∷ 0 ∷ [])) (sets room n (ownWord ρ p.mark (name_at text p.from) ∷ 0 ∷ [])) ≡ sideBy ρ text at n room p
-      blank-left e = rw (ne_eqb (roleOf p.mark) 4 z, a, eq-eqb (roleOf p.mark) 1 e)
+    module _ (a : allows (role_of p.mark) 1 ≡ true) where
+      blank-left : role_of p.mark ≡ 1 → leaves true p.to (behind_words room n (own_word ρ p.mark (name_at text p.from) ∷ 0 ∷ [])) (sets room n (own_word ρ p.mark (name_at text p.from) ∷ 0 ∷ [])) ≡ side_by ρ text at n room p
+      blank-left e = rw (ne_eqb (role_of p.mark) 4 z, a, eq-eqb (role_of p.mark) 1 e)
 
-      functor-left : (roleOf p.mark ≡ 1 → ⊥) → behindOn ρ text p.to (behindWords room n (ownWord ρ p.mark (name_at text p.from) ∷ [])) (sets room n (ownWord ρ p.mark (name_at text p.from) ∷ [])) ≡ sideBy ρ text at n room p
-      functor-left e = rw (ne_eqb (roleOf p.mark) 4 z, a, ne_eqb (roleOf p.mark) 1 e)
+      functor-left : (role_of p.mark ≡ 1 → ⊥) → behind_on ρ text p.to (behind_words room n (own_word ρ p.mark (name_at text p.from) ∷ [])) (sets room n (own_word ρ p.mark (name_at text p.from) ∷ [])) ≡ side_by ρ text at n room p
+      functor-left e = rw (ne_eqb (role_of p.mark) 4 z, a, ne_eqb (role_of p.mark) 1 e)
 
 -- ---- in the words
 
@@ -213,14 +213,14 @@ module _ (L : Limits) (text names room : List ℕ) (at n : ℕ) (a : at ≤ leng
   n' = subst (Next text at) (sym e₀) (next-law text at a)
 
   abbrev x : ℕ
-  x = nameFrom (drop p.from text)
+  x = name_from (drop p.from text)
 
   below : at ≤ p.to
   below = let u = n'.low in let v = n'.through in omega arith
 
   -- a functor with brackets
-  pub with-brackets : {role : ℕ} → role ≡ roleOf p.mark → role ≡ 4 → {w r : Way} {room' room'' : List ℕ} → n ≤ length room → Walked text (inBrackets (numbering L text names) Opened 0) (bracketsOn (numbering L text names) text p.to n room) room p.to n w room' → Closed room' w r room''
-      → Walked text (behindFunctor (numbering L text names)) (behindOn (numbering L text names) text at n room) room at n r room''
+  pub with-brackets : {role : ℕ} → role ≡ role_of p.mark → role ≡ 4 → {w r : Way} {room' room'' : List ℕ} → n ≤ length room → Walked text (in_brackets (numbering L text names) Opened 0) (brackets_on (numbering L text names) text p.to n room) room p.to n w room' → Closed room' w r room''
+      → Walked text (behind_functor (numbering L text names)) (behind_on (numbering L text names) text at n room) room at n r room''
   with-brackets e z {w} {r} q b c = record {
     low = let u = below in let v = b.low in let t = c.at in omega arith;
     high = let v = b.high in let t = c.at in omega arith;
@@ -229,31 +229,31 @@ module _ (L : Limits) (text names room : List ℕ) (at n : ℕ) (a : at ≤ leng
     len = c.len ∙ b.len;
     good = λ f.
         let g = b.good (sym c.ok ∙ f) in
-        (g.0 ++ (0 ∷ []), first ∙ ap closed g.1 ∙ closed-got g.0 (here text w.at) ∙ ap (λ k. gotAt (g.0 ++ (0 ∷ [])) (here text k)) (sym c.at), wrote_then q g.2 (put-wrote (c.good (sym c.ok ∙ f))));
+        (g.0 ++ (0 ∷ []), first ∙ ap closed g.1 ∙ closed-got g.0 (here text w.at) ∙ ap (λ k. got_at (g.0 ++ (0 ∷ [])) (here text k)) (sym c.at), wrote_then q g.2 (put-wrote (c.good (sym c.ok ∙ f))));
     bad = λ f. first ∙ ap closed (b.bad (sym c.ok ∙ f));
-    tells = c.tells ∙ ap closedOn b.tells ∙ brackets-behind ρ text at n room p (sym e ∙ z) ∙ ap (behindBy ρ text at n room) e₀;
+    tells = c.tells ∙ ap closed_on b.tells ∙ brackets-behind ρ text at n room p (sym e ∙ z) ∙ ap (behind_by ρ text at n room) e₀;
   }
     where
-      first : reads (behindFunctor ρ) (here text at) ≡ closed (reads (inBrackets ρ Opened 0) (here text p.to))
-      first = ap (reads (behindFunctor ρ)) n'.reads ∙ opened-behind ρ x p.mark (here text p.to) (sym e ∙ z) ∙ closed-reads (inBrackets ρ Opened 0) (here text p.to)
+      first : reads (behind_functor ρ) (here text at) ≡ closed (reads (in_brackets ρ Opened 0) (here text p.to))
+      first = ap (reads (behind_functor ρ)) n'.reads ∙ opened-behind ρ x p.mark (here text p.to) (sym e ∙ z) ∙ closed-reads (in_brackets ρ Opened 0) (here text p.to)
 
   -- and without
-  pub without-brackets : {role : ℕ} → role ≡ roleOf p.mark → (role ≡ 4 → ⊥) → {k r : ℕ} {room' room'' : List ℕ} → n ≤ length room → Put room n (0 ∷ []) k room' → Put room' k (0 ∷ []) r room''
-      → Walked text (behindFunctor (numbering L text names)) (behindOn (numbering L text names) text at n room) room at n (record { ok = true; at = at; n = r }) room''
+  pub without-brackets : {role : ℕ} → role ≡ role_of p.mark → (role ≡ 4 → ⊥) → {k r : ℕ} {room' room'' : List ℕ} → n ≤ length room → Put room n (0 ∷ []) k room' → Put room' k (0 ∷ []) r room''
+      → Walked text (behind_functor (numbering L text names)) (behind_on (numbering L text names) text at n room) room at n (record { ok = true; at = at; n = r }) room''
   without-brackets e z {k} {r} q u v = record {
     low = omega arith;
     high = a;
     same = refl;
     fits = let s = v.place in let t = put-length u in omega arith;
     len = put-length v ∙ put-length u;
-    good = λ f. (0 ∷ 0 ∷ [], ap (reads (behindFunctor ρ)) n'.reads ∙ alone-behind ρ x p.mark (here text p.to) (λ y. z (e ∙ y)) ∙ ap (gotAt (0 ∷ 0 ∷ [])) (sym n'.reads), put-wrote (put_then q u v));
+    good = λ f. (0 ∷ 0 ∷ [], ap (reads (behind_functor ρ)) n'.reads ∙ alone-behind ρ x p.mark (here text p.to) (λ y. z (e ∙ y)) ∙ ap (got_at (0 ∷ 0 ∷ [])) (sym n'.reads), put-wrote (put_then q u v));
     bad = λ f. absurd (let y : ◌≡◌ {A = ℕ} 0 1 = cc in omega arith);
-    tells = way-left at (put_then q u v) ∙ none-behind ρ text at n room p (λ y. z (e ∙ y)) ∙ ap (behindBy ρ text at n room) e₀;
+    tells = way-left at (put_then q u v) ∙ none-behind ρ text at n room p (λ y. z (e ∙ y)) ∙ ap (behind_by ρ text at n room) e₀;
   }
 
   -- ---- a side
 
-  pub in-brackets : {role : ℕ} → role ≡ roleOf p.mark → role ≡ 4 → {r : Way} {room' : List ℕ} → Walked text (inBrackets (numbering L text names) Opened 0) (bracketsOn (numbering L text names) text p.to n room) room p.to n r room' → Walked text (flatSide (numbering L text names)) (sideOn (numbering L text names) text at n room) room at n r room'
+  pub in-brackets : {role : ℕ} → role ≡ role_of p.mark → role ≡ 4 → {r : Way} {room' : List ℕ} → Walked text (in_brackets (numbering L text names) Opened 0) (brackets_on (numbering L text names) text p.to n room) room p.to n r room' → Walked text (flat_side (numbering L text names)) (side_on (numbering L text names) text at n room) room at n r room'
   in-brackets e z b = record {
     low = let u = below in let v = b.low in omega arith;
     high = b.high;
@@ -262,14 +262,14 @@ module _ (L : Limits) (text names room : List ℕ) (at n : ℕ) (a : at ≤ leng
     len = b.len;
     good = λ f. let g = b.good f in (g.0, first ∙ g.1, g.2);
     bad = λ f. first ∙ b.bad f;
-    tells = b.tells ∙ own-side ρ text at n room p (sym e ∙ z) ∙ ap (sideBy ρ text at n room) e₀;
+    tells = b.tells ∙ own-side ρ text at n room p (sym e ∙ z) ∙ ap (side_by ρ text at n room) e₀;
   }
     where
-      first : reads (flatSide ρ) (here text at) ≡ reads (inBrackets ρ Opened 0) (here text p.to)
-      first = ap (reads (flatSide ρ)) n'.reads ∙ own-bracket ρ x p.mark (here text p.to) (sym e ∙ z)
+      first : reads (flat_side ρ) (here text at) ≡ reads (in_brackets ρ Opened 0) (here text p.to)
+      first = ap (reads (flat_side ρ)) n'.reads ∙ own-bracket ρ x p.mark (here text p.to) (sym e ∙ z)
 
-  module _ {role : ℕ} (e : role ≡ roleOf p.mark) (z : role ≡ 4 → ⊥) {c : Bool} (d : c ≡ allows role 1) where
-    pub none-begins : not c ≡ true → n ≤ length room → Walked text (flatSide (numbering L text names)) (sideOn (numbering L text names) text at n room) room at n (record { ok = false; at = at; n = n }) room
+  module _ {role : ℕ} (e : role ≡ role_of p.mark) (z : role ≡ 4 → ⊥) {c : Bool} (d : c ≡ allows role 1) where
+    pub none-begins : not c ≡ true → n ≤ length room → Walked text (flat_side (numbering L text names)) (side_on (numbering L text names) text at n room) room at n (record { ok = false; at = at; n = n }) room
     none-begins f q = record {
       low = omega arith;
       high = a;
@@ -277,37 +277,37 @@ module _ (L : Limits) (text names room : List ℕ) (at n : ℕ) (a : at ≤ leng
       fits = q;
       len = refl;
       good = λ y. absurd (let w : ◌≡◌ {A = ℕ} 0 1 = cc in omega arith);
-      bad = λ y. ap (reads (flatSide ρ)) n'.reads ∙ no-side ρ x p.mark (here text p.to) (λ w. z (e ∙ w)) (ap (λ k. allows k 1) (sym e) ∙ sym d ∙ not-true c f);
-      tells = no-side-left ρ text at n room p (λ w. z (e ∙ w)) (ap (λ k. allows k 1) (sym e) ∙ sym d ∙ not-true c f) ∙ ap (sideBy ρ text at n room) e₀;
+      bad = λ y. ap (reads (flat_side ρ)) n'.reads ∙ no-side ρ x p.mark (here text p.to) (λ w. z (e ∙ w)) (ap (λ k. allows k 1) (sym e) ∙ sym d ∙ not-true c f);
+      tells = no-side-left ρ text at n room p (λ w. z (e ∙ w)) (ap (λ k. allows k 1) (sym e) ∙ sym d ∙ not-true c f) ∙ ap (side_by ρ text at n room) e₀;
     }
 
-    module _ (f : not c ≡ false) (q : n ≤ length room) {w : ℕ} (o : w ≡ ownWord (numbering L text names) p.mark (name_at text p.from)) {k : ℕ} {room' : List ℕ} (u : Put room n (w ∷ []) k room') where
-      allowed-here : allows (roleOf p.mark) 1 ≡ true
+    module _ (f : not c ≡ false) (q : n ≤ length room) {w : ℕ} (o : w ≡ own_word (numbering L text names) p.mark (name_at text p.from)) {k : ℕ} {room' : List ℕ} (u : Put room n (w ∷ []) k room') where
+      allowed-here : allows (role_of p.mark) 1 ≡ true
       allowed-here = ap (λ k. allows k 1) (sym e) ∙ sym d ∙ not-false c f
 
-      pub blank_side : role ≡ 1 → {r : ℕ} {room'' : List ℕ} → Put room' k (0 ∷ []) r room'' → Walked text (flatSide (numbering L text names)) (sideOn (numbering L text names) text at n room) room at n (record { ok = true; at = p.to; n = r }) room''
+      pub blank_side : role ≡ 1 → {r : ℕ} {room'' : List ℕ} → Put room' k (0 ∷ []) r room'' → Walked text (flat_side (numbering L text names)) (side_on (numbering L text names) text at n room) room at n (record { ok = true; at = p.to; n = r }) room''
       blank_side y {r} v = record {
         low = below;
         high = n'.high;
         same = n'.same;
         fits = let s = v.place in let t = put-length u in omega arith;
         len = put-length v ∙ put-length u;
-        good = λ h. (w ∷ 0 ∷ [], ap (reads (flatSide ρ)) n'.reads ∙ a-blank ρ x p.mark (here text p.to) (sym e ∙ y) ∙ ap (λ b. gotAt (b ∷ 0 ∷ []) (here text p.to)) (sym o), put-wrote (put_then q u v));
+        good = λ h. (w ∷ 0 ∷ [], ap (reads (flat_side ρ)) n'.reads ∙ a-blank ρ x p.mark (here text p.to) (sym e ∙ y) ∙ ap (λ b. got_at (b ∷ 0 ∷ []) (here text p.to)) (sym o), put-wrote (put_then q u v));
         bad = λ h. absurd (let b : ◌≡◌ {A = ℕ} 0 1 = cc in omega arith);
-        tells = way-left p.to (put_then q u v) ∙ ap (λ b. leaves true p.to (behindWords room n (b ∷ 0 ∷ [])) (sets room n (b ∷ 0 ∷ []))) o ∙ blank-left ρ text at n room p (λ s. z (e ∙ s)) allowed-here (sym e ∙ y) ∙ ap (sideBy ρ text at n room) e₀;
+        tells = way-left p.to (put_then q u v) ∙ ap (λ b. leaves true p.to (behind_words room n (b ∷ 0 ∷ [])) (sets room n (b ∷ 0 ∷ []))) o ∙ blank-left ρ text at n room p (λ s. z (e ∙ s)) allowed-here (sym e ∙ y) ∙ ap (side_by ρ text at n room) e₀;
       }
 
-      pub functor-side : (role ≡ 1 → ⊥) → {r : Way} {room'' : List ℕ} → Walked text (behindFunctor (numbering L text names)) (behindOn (numbering L text names) text p.to k room') room' p.to k r room'' → Walked text (flatSide (numbering L text names)) (sideOn (numbering L text names) text at n room) room at n r room''
+      pub functor-side : (role ≡ 1 → ⊥) → {r : Way} {room'' : List ℕ} → Walked text (behind_functor (numbering L text names)) (behind_on (numbering L text names) text p.to k room') room' p.to k r room'' → Walked text (flat_side (numbering L text names)) (side_on (numbering L text names) text at n room) room at n r room''
       functor-side y {r} b = record {
         low = let s = below in let t = b.low in omega arith;
         high = b.high;
         same = n'.same ∙ b.same;
         fits = let s = b.fits in let t = put-length u in omega arith;
         len = b.len ∙ put-length u;
-        good = λ h. let g = b.good h in (w ∷ g.0, first ∙ ap (lay (w ∷ [])) g.1 ∙ lay-gotAt (w ∷ []) g.0 (here text r.at), wrote_then q (put-wrote u) g.2);
+        good = λ h. let g = b.good h in (w ∷ g.0, first ∙ ap (lay (w ∷ [])) g.1 ∙ lay-got_at (w ∷ []) g.0 (here text r.at), wrote_then q (put-wrote u) g.2);
         bad = λ h. first ∙ ap (lay (w ∷ [])) (b.bad h);
-        tells = b.tells ∙ ap₂ (behindOn ρ text p.to) u.place u.words ∙ ap (λ b. behindOn ρ text p.to (behindWords room n (b ∷ [])) (sets room n (b ∷ []))) o ∙ functor-left ρ text at n room p (λ s. z (e ∙ s)) allowed-here (λ s. y (e ∙ s)) ∙ ap (sideBy ρ text at n room) e₀;
+        tells = b.tells ∙ ap₂ (behind_on ρ text p.to) u.place u.words ∙ ap (λ b. behind_on ρ text p.to (behind_words room n (b ∷ [])) (sets room n (b ∷ []))) o ∙ functor-left ρ text at n room p (λ s. z (e ∙ s)) allowed-here (λ s. y (e ∙ s)) ∙ ap (side_by ρ text at n room) e₀;
       }
         where
-          first : reads (flatSide ρ) (here text at) ≡ lay (w ∷ []) (reads (behindFunctor ρ) (here text p.to))
-          first = ap (reads (flatSide ρ)) n'.reads ∙ a-functor ρ x p.mark (here text p.to) (ap (λ k. allows k 1) (sym e) ∙ sym d ∙ not-false c f) (λ s. y (e ∙ s)) ∙ ap (λ b. lay (b ∷ []) (reads (behindFunctor ρ) (here text p.to))) (sym o)
+          first : reads (flat_side ρ) (here text at) ≡ lay (w ∷ []) (reads (behind_functor ρ) (here text p.to))
+          first = ap (reads (flat_side ρ)) n'.reads ∙ a-functor ρ x p.mark (here text p.to) (ap (λ k. allows k 1) (sym e) ∙ sym d ∙ not-false c f) (λ s. y (e ∙ s)) ∙ ap (λ b. lay (b ∷ []) (reads (behind_functor ρ) (here text p.to))) (sym o)

@@ -11,12 +11,12 @@ use Rattle.lexing.specs.declared.Mark.TheVariants.{End, Bad, Symbol, One, Run, F
 use Rattle.lexing.specs.Bytes.{others}
 use Rattle.lexing.specs.declared.Piece.{Piece}
 use Rattle.lexing.specs.Pieces.{here, next_of}
-use Rattle.room_words.specs.Rooms.{wordIf, Put, Wrote}
+use Rattle.room_words.specs.Rooms.{word_if, Put, Wrote}
 use Rattle.text_names.specs.Shelves.{name_at}
-use Rattle.text_names.specs.Words.{ownWord}
+use Rattle.text_names.specs.Words.{own_word}
 use Rattle.flat.specs.declared.State.{State}
 use Rattle.flat.specs.declared.State.TheVariants.{Opened, Wanted, Named, Ready}
-use Rattle.flat.specs.Flat.{inBrackets, closed}
+use Rattle.flat.specs.Flat.{in_brackets, closed}
 use Rattle.walking.specs.declared.Way.{Way}
 
 -- ---- tokens that may break off
@@ -26,32 +26,32 @@ reads f none = stop
 reads f (some ts) = f ts
 
 -- read so far, and these tokens behind
-abbrev pub gotAt : {A : Type 0} → A → Tokens → Res A
-gotAt a none = stop
-gotAt a (some ts) = got a ts
+abbrev pub got_at : {A : Type 0} → A → Tokens → Res A
+got_at a none = stop
+got_at a (some ts) = got a ts
 
 -- ---- a token in brackets
 
 -- what a token is here: a blank, a functor, a comma, a bracket that opens, one that closes; or nothing that can stand in a side
-abbrev pub roleOf : Mark → ℕ
-roleOf End = 0
-roleOf Bad = 0
-roleOf Symbol = 2
-roleOf One = 1
-roleOf Run = 1
-roleOf Function = 2
-roleOf Equals = 0
-roleOf Comma = 3
-roleOf Opens = 4
-roleOf Closes = 5
-roleOf Plus = 0
-roleOf Times = 0
+abbrev pub role_of : Mark → ℕ
+role_of End = 0
+role_of Bad = 0
+role_of Symbol = 2
+role_of One = 1
+role_of Run = 1
+role_of Function = 2
+role_of Equals = 0
+role_of Comma = 3
+role_of Opens = 4
+role_of Closes = 5
+role_of Plus = 0
+role_of Times = 0
 
-abbrev pub stageOf : State → ℕ
-stageOf Opened = 0
-stageOf Wanted = 1
-stageOf Named = 2
-stageOf Ready = 3
+abbrev pub stage_of : State → ℕ
+stage_of Opened = 0
+stage_of Wanted = 1
+stage_of Named = 2
+stage_of Ready = 3
 
 -- whether it can stand there
 unfoldable pub allows : ℕ → ℕ → Bool
@@ -61,19 +61,19 @@ allows role stage =
     (pick (eqb role 3) (leb 2 stage)
     (pick (eqb role 4) (eqb stage 2) (not (eqb stage 1)))))
 
-abbrev pub stateAfter : Mark → State
-stateAfter End = Ready
-stateAfter Bad = Ready
-stateAfter Symbol = Named
-stateAfter One = Ready
-stateAfter Run = Ready
-stateAfter Function = Named
-stateAfter Equals = Ready
-stateAfter Comma = Wanted
-stateAfter Opens = Opened
-stateAfter Closes = Ready
-stateAfter Plus = Ready
-stateAfter Times = Ready
+abbrev pub state_after : Mark → State
+state_after End = Ready
+state_after Bad = Ready
+state_after Symbol = Named
+state_after One = Ready
+state_after Run = Ready
+state_after Function = Named
+state_after Equals = Ready
+state_after Comma = Wanted
+state_after Opens = Opened
+state_after Closes = Ready
+state_after Plus = Ready
+state_after Times = Ready
 
 -- whether the end of a functor without brackets stands before it
 unfoldable pub owes : ℕ → ℕ → Bool
@@ -83,35 +83,35 @@ owes role stage = eqb stage 2 && not (eqb role 4)
 unfoldable pub writes : ℕ → Bool
 writes role = ltb role 3 || eqb role 5
 
-unfoldable pub depthAfter : ℕ → ℕ → ℕ
-depthAfter role d = pick (eqb role 4) (d + 1) (pick (eqb role 5) (d - 1) d)
+unfoldable pub depth_after : ℕ → ℕ → ℕ
+depth_after role d = pick (eqb role 4) (d + 1) (pick (eqb role 5) (d - 1) d)
 
 -- the bracket that closes is the first that opened
 unfoldable pub last_of : ℕ → ℕ → Bool
 last_of role d = eqb role 5 && eqb d 0
 
 -- what it writes, where it can stand
-abbrev pub tokenWords : Naming → ℕ → Mark → ℕ → List ℕ
-tokenWords ρ stage m n = wordIf (owes (roleOf m) stage) 0 ++ wordIf (writes (roleOf m)) (ownWord ρ m n)
+abbrev pub token_words : Naming → ℕ → Mark → ℕ → List ℕ
+token_words ρ stage m n = word_if (owes (role_of m) stage) 0 ++ word_if (writes (role_of m)) (own_word ρ m n)
 
 -- how the loop goes on behind it
 abbrev pub closing : Naming → ℕ → Tokens → Res (List ℕ)
-closing ρ zero o = gotAt [] o
-closing ρ (suc d) o = reads (inBrackets ρ Ready d) o
+closing ρ zero o = got_at [] o
+closing ρ (suc d) o = reads (in_brackets ρ Ready d) o
 
-abbrev pub goesOn : Naming → ℕ → Mark → Tokens → Res (List ℕ)
-goesOn ρ d End o = reads (inBrackets ρ Ready d) o
-goesOn ρ d Bad o = reads (inBrackets ρ Ready d) o
-goesOn ρ d Symbol o = reads (inBrackets ρ Named d) o
-goesOn ρ d One o = reads (inBrackets ρ Ready d) o
-goesOn ρ d Run o = reads (inBrackets ρ Ready d) o
-goesOn ρ d Function o = reads (inBrackets ρ Named d) o
-goesOn ρ d Equals o = reads (inBrackets ρ Ready d) o
-goesOn ρ d Comma o = reads (inBrackets ρ Wanted d) o
-goesOn ρ d Opens o = reads (inBrackets ρ Opened (suc d)) o
-goesOn ρ d Closes o = closing ρ d o
-goesOn ρ d Plus o = reads (inBrackets ρ Ready d) o
-goesOn ρ d Times o = reads (inBrackets ρ Ready d) o
+abbrev pub goes_on : Naming → ℕ → Mark → Tokens → Res (List ℕ)
+goes_on ρ d End o = reads (in_brackets ρ Ready d) o
+goes_on ρ d Bad o = reads (in_brackets ρ Ready d) o
+goes_on ρ d Symbol o = reads (in_brackets ρ Named d) o
+goes_on ρ d One o = reads (in_brackets ρ Ready d) o
+goes_on ρ d Run o = reads (in_brackets ρ Ready d) o
+goes_on ρ d Function o = reads (in_brackets ρ Named d) o
+goes_on ρ d Equals o = reads (in_brackets ρ Ready d) o
+goes_on ρ d Comma o = reads (in_brackets ρ Wanted d) o
+goes_on ρ d Opens o = reads (in_brackets ρ Opened (suc d)) o
+goes_on ρ d Closes o = closing ρ d o
+goes_on ρ d Plus o = reads (in_brackets ρ Ready d) o
+goes_on ρ d Times o = reads (in_brackets ρ Ready d) o
 
 -- ---- what a walk leaves, token by token: what comes back, and the room
 
@@ -122,53 +122,53 @@ abbrev pub leaves : Bool → ℕ → ℕ → List ℕ → Left
 leaves b i k room = (record { ok = b; at = i; n = k }, room)
 
 -- the place behind words that are put
-abbrev pub behindWords : List ℕ → ℕ → List ℕ → ℕ
-behindWords room k ws = min (length room) (k + length ws)
+abbrev pub behind_words : List ℕ → ℕ → List ℕ → ℕ
+behind_words room k ws = min (length room) (k + length ws)
 
 -- a token that cannot stand there, the last one, or one behind which it goes on
-abbrev pub tokenOn : (ℕ → ℕ → ℕ → ℕ → List ℕ → Left) → ℕ → ℕ → ℕ → ℕ → List ℕ → Piece → List ℕ → Left
-tokenOn rec stage d i k room p ws =
-    pick (allows (roleOf p.mark) stage)
-    (pick (last_of (roleOf p.mark) d) (leaves true p.to (behindWords room k ws) (sets room k ws))
-    (rec (stageOf (stateAfter p.mark)) (depthAfter (roleOf p.mark) d) p.to (behindWords room k ws) (sets room k ws)))
+abbrev pub token_on : (ℕ → ℕ → ℕ → ℕ → List ℕ → Left) → ℕ → ℕ → ℕ → ℕ → List ℕ → Piece → List ℕ → Left
+token_on rec stage d i k room p ws =
+    pick (allows (role_of p.mark) stage)
+    (pick (last_of (role_of p.mark) d) (leaves true p.to (behind_words room k ws) (sets room k ws))
+    (rec (stage_of (state_after p.mark)) (depth_after (role_of p.mark) d) p.to (behind_words room k ws) (sets room k ws)))
     (leaves false i k room)
 
-abbrev pub pieceOn : Naming → List ℕ → (ℕ → ℕ → ℕ → ℕ → List ℕ → Left) → ℕ → ℕ → ℕ → ℕ → List ℕ → Piece → Left
-pieceOn ρ text rec stage d i k room p = tokenOn rec stage d i k room p (tokenWords ρ stage p.mark (name_at text p.from))
+abbrev pub piece_on : Naming → List ℕ → (ℕ → ℕ → ℕ → ℕ → List ℕ → Left) → ℕ → ℕ → ℕ → ℕ → List ℕ → Piece → Left
+piece_on ρ text rec stage d i k room p = token_on rec stage d i k room p (token_words ρ stage p.mark (name_at text p.from))
 
 -- at most so many tokens
-unfoldable pub bracketsFrom : Naming → List ℕ → ℕ → ℕ → ℕ → ℕ → ℕ → List ℕ → Left
-bracketsFrom ρ text zero stage d i k room = leaves false i k room
-bracketsFrom ρ text (suc most) stage d i k room = pieceOn ρ text (bracketsFrom ρ text most) stage d i k room (next_of text i)
+unfoldable pub brackets_from : Naming → List ℕ → ℕ → ℕ → ℕ → ℕ → ℕ → List ℕ → Left
+brackets_from ρ text zero stage d i k room = leaves false i k room
+brackets_from ρ text (suc most) stage d i k room = piece_on ρ text (brackets_from ρ text most) stage d i k room (next_of text i)
 
-abbrev pub bracketsOn : Naming → List ℕ → ℕ → ℕ → List ℕ → Left
-bracketsOn ρ text at n room = bracketsFrom ρ text (suc (length text)) 0 0 at n room
+abbrev pub brackets_on : Naming → List ℕ → ℕ → ℕ → List ℕ → Left
+brackets_on ρ text at n room = brackets_from ρ text (suc (length text)) 0 0 at n room
 
 -- with the end of the side behind it
-abbrev pub closedOn : Left → Left
-closedOn l = pick l.0.ok (leaves true l.0.at (behindWords l.1 l.0.n (0 ∷ [])) (sets l.1 l.0.n (0 ∷ []))) l
+abbrev pub closed_on : Left → Left
+closed_on l = pick l.0.ok (leaves true l.0.at (behind_words l.1 l.0.n (0 ∷ [])) (sets l.1 l.0.n (0 ∷ []))) l
 
-abbrev pub behindBy : Naming → List ℕ → ℕ → ℕ → List ℕ → Piece → Left
-behindBy ρ text at n room p =
-    pick (eqb (roleOf p.mark) 4) (closedOn (bracketsOn ρ text p.to n room))
-    (leaves true at (behindWords room n (0 ∷ 0 ∷ [])) (sets room n (0 ∷ 0 ∷ [])))
+abbrev pub behind_by : Naming → List ℕ → ℕ → ℕ → List ℕ → Piece → Left
+behind_by ρ text at n room p =
+    pick (eqb (role_of p.mark) 4) (closed_on (brackets_on ρ text p.to n room))
+    (leaves true at (behind_words room n (0 ∷ 0 ∷ [])) (sets room n (0 ∷ 0 ∷ [])))
 
-abbrev pub behindOn : Naming → List ℕ → ℕ → ℕ → List ℕ → Left
-behindOn ρ text at n room = behindBy ρ text at n room (next_of text at)
+abbrev pub behind_on : Naming → List ℕ → ℕ → ℕ → List ℕ → Left
+behind_on ρ text at n room = behind_by ρ text at n room (next_of text at)
 
 -- an element by itself
-abbrev pub elementOn : Naming → List ℕ → ℕ → List ℕ → Piece → ℕ → Left
-elementOn ρ text n room p w =
-    pick (eqb (roleOf p.mark) 1) (leaves true p.to (behindWords room n (w ∷ 0 ∷ [])) (sets room n (w ∷ 0 ∷ [])))
-    (behindOn ρ text p.to (behindWords room n (w ∷ [])) (sets room n (w ∷ [])))
+abbrev pub element_on : Naming → List ℕ → ℕ → List ℕ → Piece → ℕ → Left
+element_on ρ text n room p w =
+    pick (eqb (role_of p.mark) 1) (leaves true p.to (behind_words room n (w ∷ 0 ∷ [])) (sets room n (w ∷ 0 ∷ [])))
+    (behind_on ρ text p.to (behind_words room n (w ∷ [])) (sets room n (w ∷ [])))
 
-abbrev pub sideBy : Naming → List ℕ → ℕ → ℕ → List ℕ → Piece → Left
-sideBy ρ text at n room p =
-    pick (eqb (roleOf p.mark) 4) (bracketsOn ρ text p.to n room)
-    (pick (allows (roleOf p.mark) 1) (elementOn ρ text n room p (ownWord ρ p.mark (name_at text p.from))) (leaves false at n room))
+abbrev pub side_by : Naming → List ℕ → ℕ → ℕ → List ℕ → Piece → Left
+side_by ρ text at n room p =
+    pick (eqb (role_of p.mark) 4) (brackets_on ρ text p.to n room)
+    (pick (allows (role_of p.mark) 1) (element_on ρ text n room p (own_word ρ p.mark (name_at text p.from))) (leaves false at n room))
 
-abbrev pub sideOn : Naming → List ℕ → ℕ → ℕ → List ℕ → Left
-sideOn ρ text at n room = sideBy ρ text at n room (next_of text at)
+abbrev pub side_on : Naming → List ℕ → ℕ → ℕ → List ℕ → Left
+side_on ρ text at n room = side_by ρ text at n room (next_of text at)
 
 -- ---- what that comes to: the words of what was read, and where it ended; or that nothing can be read
 
@@ -178,24 +178,24 @@ pub record Walked (text : List ℕ) (f : List Token → Res (List ℕ)) (left : 
   pub same : others (drop at text) ≡ others (drop r.at text)
   pub fits : r.n ≤ length room
   pub len : length room' ≡ length room
-  pub good : r.ok ≡ true → (ws : List ℕ) × (reads f (here text at) ≡ gotAt ws (here text r.at)) × Wrote room n ws r.n room'
+  pub good : r.ok ≡ true → (ws : List ℕ) × (reads f (here text at) ≡ got_at ws (here text r.at)) × Wrote room n ws r.n room'
   pub bad : r.ok ≡ false → reads f (here text at) ≡ stop
   pub tells : ◌≡◌ {A = Left} (r, room') left
 
 -- ---- a side
 
 -- what a functor that is a side by itself has behind its word
-abbrev pub behindFunctor : Naming → List Token → Res (List ℕ)
-behindFunctor ρ [] = got (0 ∷ 0 ∷ []) []
-behindFunctor ρ (one x ∷ ts) = got (0 ∷ 0 ∷ []) (one x ∷ ts)
-behindFunctor ρ (run p ∷ ts) = got (0 ∷ 0 ∷ []) (run p ∷ ts)
-behindFunctor ρ (functor g ∷ ts) = got (0 ∷ 0 ∷ []) (functor g ∷ ts)
-behindFunctor ρ (equals ∷ ts) = got (0 ∷ 0 ∷ []) (equals ∷ ts)
-behindFunctor ρ (comma ∷ ts) = got (0 ∷ 0 ∷ []) (comma ∷ ts)
-behindFunctor ρ (opens ∷ ts) = closed (inBrackets ρ Opened 0 ts)
-behindFunctor ρ (closes ∷ ts) = got (0 ∷ 0 ∷ []) (closes ∷ ts)
-behindFunctor ρ (plus ∷ ts) = got (0 ∷ 0 ∷ []) (plus ∷ ts)
-behindFunctor ρ (times ∷ ts) = got (0 ∷ 0 ∷ []) (times ∷ ts)
+abbrev pub behind_functor : Naming → List Token → Res (List ℕ)
+behind_functor ρ [] = got (0 ∷ 0 ∷ []) []
+behind_functor ρ (one x ∷ ts) = got (0 ∷ 0 ∷ []) (one x ∷ ts)
+behind_functor ρ (run p ∷ ts) = got (0 ∷ 0 ∷ []) (run p ∷ ts)
+behind_functor ρ (functor g ∷ ts) = got (0 ∷ 0 ∷ []) (functor g ∷ ts)
+behind_functor ρ (equals ∷ ts) = got (0 ∷ 0 ∷ []) (equals ∷ ts)
+behind_functor ρ (comma ∷ ts) = got (0 ∷ 0 ∷ []) (comma ∷ ts)
+behind_functor ρ (opens ∷ ts) = closed (in_brackets ρ Opened 0 ts)
+behind_functor ρ (closes ∷ ts) = got (0 ∷ 0 ∷ []) (closes ∷ ts)
+behind_functor ρ (plus ∷ ts) = got (0 ∷ 0 ∷ []) (plus ∷ ts)
+behind_functor ρ (times ∷ ts) = got (0 ∷ 0 ∷ []) (times ∷ ts)
 
 pub record Closed (room : List ℕ) (w r : Way) (room' : List ℕ) : Type 0 where
   pub len : length room' ≡ length room
@@ -203,4 +203,4 @@ pub record Closed (room : List ℕ) (w r : Way) (room' : List ℕ) : Type 0 wher
   pub at : r.at ≡ w.at
   pub ok : r.ok ≡ w.ok
   pub good : w.ok ≡ true → Put room w.n (0 ∷ []) r.n room'
-  pub tells : ◌≡◌ {A = Left} (r, room') (closedOn (w, room))
+  pub tells : ◌≡◌ {A = Left} (r, room') (closed_on (w, room))

@@ -2,10 +2,10 @@
 ghost use Rattle.std.specs.Prelude.{◌+◌, ◌≤◌, ◌<◌, ◌≡◌, length};
 ghost use Rattle.language.specs.Limits.{desk};
 ghost use Rattle.flat.specs.declared.State.TheVariants.{Opened};
-ghost use Rattle.flat.specs.Flat.{inBrackets, flatSide};
+ghost use Rattle.flat.specs.Flat.{in_brackets, flat_side};
 ghost use Rattle.room_words.specs.Rooms.{Put};
 ghost use Rattle.text_names.specs.Shelves.{name_at, numbering, Shelves};
-ghost use Rattle.walking.specs.Walking.{roleOf, stageOf, allows, stateAfter, owes, writes, depthAfter, last_of, tokenWords, Walked, behindFunctor, Closed, bracketsOn, behindOn, sideOn};
+ghost use Rattle.walking.specs.Walking.{role_of, stage_of, allows, state_after, owes, writes, depth_after, last_of, token_words, Walked, behind_functor, Closed, brackets_on, behind_on, side_on};
 
 use lexing::{Mark, next};
 use room_words::put_if;
@@ -20,7 +20,7 @@ pub struct Way {
 }
 
 fn role(mark: Mark) -> u8
-    ensures { result ≡ roleOf mark }
+    ensures { result ≡ role_of mark }
 {
     match mark {
         Mark::End => 0,
@@ -39,7 +39,7 @@ fn role(mark: Mark) -> u8
 }
 
 fn stage_after(mark: Mark) -> u8
-    ensures { result ≡ stageOf (stateAfter mark) }
+    ensures { result ≡ stage_of (state_after mark) }
 {
     match mark {
         Mark::End => 3,
@@ -105,7 +105,7 @@ fn put_token(
     at: usize,
 ) -> usize
     requires { (n ≤ length room.old) × Shelves desk names.now }
-    ensures { Put room.old n (tokenWords (numbering desk text.now names.now) stage mark (name_at text.now at)) result room.new }
+    ensures { Put room.old n (token_words (numbering desk text.now names.now) stage mark (name_at text.now at)) result room.new }
 {
     let role = role(mark);
     let k = put_if(room, n, is_owed(role, stage), 0);
@@ -116,7 +116,7 @@ fn put_token(
 // Brackets open behind a token of this role; there are fewer than `most`.
 fn depth_after(role: u8, d: usize, most: usize) -> usize
     requires { (d < most) × (role ≡ 5 → 0 < d) }
-    ensures { result ≡ depthAfter role d }
+    ensures { result ≡ depth_after role d }
 {
     if role == 4 {
         return d + 1;
@@ -140,7 +140,7 @@ fn is_last(role: u8, d: usize) -> bool
 // Behind a bracket that opened, up to the one that closes it: elements with commas between them, or none.
 fn brackets(text: &[u8], names: &[usize], room: &mut [u16], at: usize, n: usize) -> Way
     requires { (at ≤ length text.now) × (n ≤ length room.old) × Shelves desk names.now }
-    ensures { Walked text.now (inBrackets (numbering desk text.now names.now) Opened 0) (bracketsOn (numbering desk text.now names.now) text.now at n room.old) room.old at n result room.new }
+    ensures { Walked text.now (in_brackets (numbering desk text.now names.now) Opened 0) (brackets_on (numbering desk text.now names.now) text.now at n room.old) room.old at n result room.new }
 {
     let mut stage = 0;
     let mut d = 0;
@@ -189,7 +189,7 @@ fn closed(room: &mut [u16], w: Way) -> Way
 // Behind a functor that is a side by itself.
 fn behind_functor(text: &[u8], names: &[usize], room: &mut [u16], at: usize, n: usize) -> Way
     requires { (at ≤ length text.now) × (n ≤ length room.old) × Shelves desk names.now }
-    ensures { Walked text.now (behindFunctor (numbering desk text.now names.now)) (behindOn (numbering desk text.now names.now) text.now at n room.old) room.old at n result room.new }
+    ensures { Walked text.now (behind_functor (numbering desk text.now names.now)) (behind_on (numbering desk text.now names.now) text.now at n room.old) room.old at n result room.new }
 {
     let p = next(text, at);
     let mark = p.mark;
@@ -208,7 +208,7 @@ fn behind_functor(text: &[u8], names: &[usize], room: &mut [u16], at: usize, n: 
 // A side of a literal: one element, or brackets.
 pub fn side(text: &[u8], names: &[usize], room: &mut [u16], at: usize, n: usize) -> Way
     requires { (at ≤ length text.now) × (n ≤ length room.old) × Shelves desk names.now }
-    ensures { Walked text.now (flatSide (numbering desk text.now names.now)) (sideOn (numbering desk text.now names.now) text.now at n room.old) room.old at n result room.new }
+    ensures { Walked text.now (flat_side (numbering desk text.now names.now)) (side_on (numbering desk text.now names.now) text.now at n room.old) room.old at n result room.new }
 {
     let p = next(text, at);
     let mark = p.mark;

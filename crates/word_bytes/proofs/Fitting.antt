@@ -9,26 +9,26 @@ use borrow.Author.Tests.{leb-false, lt-leb}
 use Rattle.language.specs.declared.Refusal.TheVariants.{QuestionLength}
 use Rattle.language.specs.Kinds.{pick}
 use Rattle.language.specs.Limits.{desk}
-use Rattle.language.specs.Question.{Asked, refuses, readQuestion, lengthFits}
+use Rattle.language.specs.Question.{Asked, refuses, read_question, length_fits}
 use Rattle.word_bytes.specs.Bytes.{fitting}
 
 at_first : (b : Bool) (x : Asked) → b ≡ false → elim b [ false ↦ refuses QuestionLength | true ↦ x ] ≡ refuses QuestionLength
 at_first b x e = ap (λ (t : Bool). elim t [ false ↦ refuses QuestionLength | true ↦ x ]) e
 
-pub long-question : (ws : List ℕ) → desk.question < length ws → readQuestion desk ws ≡ refuses QuestionLength
-unfolding readQuestion lengthFits
+pub long-question : (ws : List ℕ) → desk.question < length ws → read_question desk ws ≡ refuses QuestionLength
+unfolding read_question length_fits
 long-question ws h =
     let e : leb (length ws) desk.question ≡ false = lt-leb _ _ h in
-    let f : lengthFits desk ws ≡ false = ap (λ (b : Bool). leb 6 (length ws) && b) e ∙ and-false (leb 6 (length ws)) in
-    at_first (lengthFits desk ws) _ f
+    let f : length_fits desk ws ≡ false = ap (λ (b : Bool). leb 6 (length ws) && b) e ∙ and-false (leb 6 (length ws)) in
+    at_first (length_fits desk ws) _ f
 
-pub no-question : readQuestion desk [] ≡ refuses QuestionLength
-unfolding readQuestion lengthFits
+pub no-question : read_question desk [] ≡ refuses QuestionLength
+unfolding read_question length_fits
 no-question = refl
 
-pub fitting-question : (ws : List ℕ) → readQuestion desk (fitting desk.question ws) ≡ readQuestion desk ws
+pub fitting-question : (ws : List ℕ) → read_question desk (fitting desk.question ws) ≡ read_question desk ws
 unfolding fitting
 fitting-question ws = go (leb (length ws) desk.question) refl where
-  go : (b : Bool) → leb (length ws) desk.question ≡ b → readQuestion desk (pick b ws []) ≡ readQuestion desk ws
+  go : (b : Bool) → leb (length ws) desk.question ≡ b → read_question desk (pick b ws []) ≡ read_question desk ws
   go true e = refl
   go false e = no-question ∙ sym (long-question ws (leb-false _ _ e))

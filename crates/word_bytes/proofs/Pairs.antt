@@ -9,28 +9,28 @@ use native.Mathlib.Numerals.{add-one}
 use lib.ListN.{length, get_or, set, take, drop, length-drop}
 use borrow.Author.Tests.{eq-eqb, ne_eqb, le-leb, lt-leb}
 use lib.Seq.{sets, drop-cons, drop-length, sets-eq, take_at, take-nil, drop-nil, get_or-drop}
-use Rattle.word_bytes.specs.Bytes.{word_of, words_of, halfWord, bytes_of, words_in, fitting}
+use Rattle.word_bytes.specs.Bytes.{word_of, words_of, half_word, bytes_of, words_in, fitting}
 
 -- ---- lengths
 
-pub length-wordsOf : (bs : List ℕ) → length (words_of bs) ≡ length bs / 2
+pub length-words_of : (bs : List ℕ) → length (words_of bs) ≡ length bs / 2
 unfolding words_of
-length-wordsOf [] = refl
-length-wordsOf (low ∷ []) = refl
-length-wordsOf (low ∷ (high ∷ bs)) = let h : length (words_of bs) ≡ length bs / 2 = length-wordsOf bs in omega arith
+length-words_of [] = refl
+length-words_of (low ∷ []) = refl
+length-words_of (low ∷ (high ∷ bs)) = let h : length (words_of bs) ≡ length bs / 2 = length-words_of bs in omega arith
 
-pub length-bytesOf : (ws : List ℕ) → length (bytes_of ws) ≡ 2 * length ws
+pub length-bytes_of : (ws : List ℕ) → length (bytes_of ws) ≡ 2 * length ws
 unfolding bytes_of
-length-bytesOf [] = refl
-length-bytesOf (w ∷ ws) = let h : length (bytes_of ws) ≡ 2 * length ws = length-bytesOf ws in omega arith
+length-bytes_of [] = refl
+length-bytes_of (w ∷ ws) = let h : length (bytes_of ws) ≡ 2 * length ws = length-bytes_of ws in omega arith
 
 -- by whether the count is odd
-pub half-left : (bs : List ℕ) (n : ℕ) → length bs ≡ 2 * n + 1 → halfWord bs ≡ true
-unfolding halfWord
+pub half-left : (bs : List ℕ) (n : ℕ) → length bs ≡ 2 * n + 1 → half_word bs ≡ true
+unfolding half_word
 half-left bs n e = eq-eqb (length bs % 2) 1 (omega arith)
 
-pub none-half : (bs : List ℕ) (n : ℕ) → length bs ≡ 2 * n → halfWord bs ≡ false
-unfolding halfWord
+pub none-half : (bs : List ℕ) (n : ℕ) → length bs ≡ 2 * n → half_word bs ≡ false
+unfolding half_word
 none-half bs n e = ne_eqb (length bs % 2) 1 (λ d. omega arith)
 
 -- ---- a turn of reading
@@ -126,7 +126,7 @@ bytes-of-words (low ∷ (high ∷ bs)) (more a (more b ok)) h =
 
 pub written : (bytes ws : List ℕ) → 2 * length ws ≤ length bytes → sets bytes 0 (bytes_of ws) ≡ bytes_of ws ++ drop (2 * length ws) bytes
 written bytes ws h =
-    let e : length (bytes_of ws) ≡ 2 * length ws = length-bytesOf ws in
+    let e : length (bytes_of ws) ≡ 2 * length ws = length-bytes_of ws in
     sets-eq (bytes_of ws) bytes 0 (omega arith) ∙ ap (λ (n : ℕ). bytes_of ws ++ drop n bytes) (zero-add (length (bytes_of ws)) ∙ e)
 
 -- ---- the words that bytes from outside hold
@@ -166,13 +166,13 @@ module _ (bs : List ℕ) (room : ℕ) where
   module _ (even : length bs % 2 ≡ 0) where
     pub takes-none-of-long : (words : List ℕ) → room < length bs / 2 → TakesNone words
     takes-none-of-long words h =
-        let e : length (words_of bs) ≡ length bs / 2 = length-wordsOf bs in
+        let e : length (words_of bs) ≡ length bs / 2 = length-words_of bs in
         takes_none words (sym (ap (fitting room) (even-holds bs even) ∙ fitting-none room (words_of bs) (omega arith)))
 
     pub takes_all : (words words' : List ℕ) → length words ≡ room → length bs / 2 ≤ room → words' ≡ sets words 0 (words_of bs)
         → (take (length bs / 2) words' ≡ fitting room (words_in bs)) × (words' ≡ sets words 0 (fitting room (words_in bs)))
     takes_all words words' n h e =
-        let f : length (words_of bs) ≡ length bs / 2 = length-wordsOf bs in
+        let f : length (words_of bs) ≡ length bs / 2 = length-words_of bs in
         let all : words_of bs ≡ fitting room (words_in bs) = sym (ap (fitting room) (even-holds bs even) ∙ fitting-all room (words_of bs) (omega arith)) in (
           ap (take (length bs / 2)) (e ∙ sets-eq (words_of bs) words 0 (omega arith)) ∙ take_at (words_of bs) _ (length bs / 2) f ∙ all,
           e ∙ ap (sets words 0) all,

@@ -13,8 +13,8 @@ words_of (low ∷ []) = []
 words_of (low ∷ (high ∷ bs)) = word_of low high ∷ words_of bs
 
 -- whether a last byte stands alone, half of a word
-unfoldable pub halfWord : List ℕ → Bool
-halfWord bs = eqb (length bs % 2) 1
+unfoldable pub half_word : List ℕ → Bool
+half_word bs = eqb (length bs % 2) 1
 
 -- the bytes of words
 unfoldable pub bytes_of : List ℕ → List ℕ

@@ -13,10 +13,10 @@ use Rattle.language.specs.Limits.{desk}
 use Rattle.language.specs.Kinds.{kind_of}
 use Rattle.language.specs.Trees.{Functor}
 use Rattle.language.specs.Trees as tree
-use Rattle.language.specs.Writing.{functorWord}
-use Rattle.language.specs.Fine.{fineFunctor}
+use Rattle.language.specs.Writing.{functor_word}
+use Rattle.language.specs.Fine.{fine_functor}
 use Rattle.language.proofs.Words.{Is, end, term, run, symbol, function, equation, membership, eps, cat, alt, star, other, is, kind-end, kind-term, kind-run, kind-symbol, kind-function}
-use Rattle.words.specs.Spans.{opensBy, opens, span, elementEnd}
+use Rattle.words.specs.Spans.{opens_by, opens, span, element_end}
 use Rattle.words.proofs.Parts.{drop_here, below-of-word}
 
 -- ---- what a word opens
@@ -25,7 +25,7 @@ pub opens-le : (x : ℕ) → opens x ≤ 2
 unfolding opens
 opens-le x = go (kind_of desk x)
   where
-    go : (k : Kind) → opensBy k ≤ 2
+    go : (k : Kind) → opens_by k ≤ 2
     go End = omega arith
     go (Term x) = omega arith
     go (Run p) = omega arith
@@ -43,7 +43,7 @@ pub opens-pos : (x : ℕ) → (x ≡ 0 → ⊥) → 1 ≤ opens x
 unfolding opens
 opens-pos x nz = go (is desk x)
   where
-    go : {k : Kind} → Is desk x k → 1 ≤ opensBy k
+    go : {k : Kind} → Is desk x k → 1 ≤ opens_by k
     go (end e) = absurd (nz e)
     go (term v b e) = omega arith
     go (run p b e) = omega arith
@@ -59,20 +59,20 @@ opens-pos x nz = go (is desk x)
 
 pub opens-0 : opens 0 ≡ 0
 unfolding opens
-opens-0 = ap opensBy (kind-end desk)
+opens-0 = ap opens_by (kind-end desk)
 
 pub opens-term : (x : TermVar) → x.0 < desk.each → opens (1000 + x.0) ≡ 1
 unfolding opens
-opens-term x b = ap opensBy (kind-term desk x b)
+opens-term x b = ap opens_by (kind-term desk x b)
 
 pub opens-run : (p : HedgeVar) → p.0 < desk.each → opens (2000 + p.0) ≡ 1
 unfolding opens
-opens-run p b = ap opensBy (kind-run desk p b)
+opens-run p b = ap opens_by (kind-run desk p b)
 
-pub opens-functor : (f : Functor) → fineFunctor desk f → opens (functorWord f) ≡ 2
+pub opens-functor : (f : Functor) → fine_functor desk f → opens (functor_word f) ≡ 2
 unfolding opens
-opens-functor (tree.symbol g) b = ap opensBy (kind-symbol desk g b)
-opens-functor (tree.fvar X) b = ap opensBy (kind-function desk X b)
+opens-functor (tree.symbol g) b = ap opens_by (kind-symbol desk g b)
+opens-functor (tree.fvar X) b = ap opens_by (kind-function desk X b)
 
 -- ---- how many words n hedges take
 
@@ -98,13 +98,13 @@ span-step n k i nz h =
 
 -- ---- the element at a place
 
-pub element-stop : (k : List ℕ) (i : ℕ) → get_or k i 0 ≡ 0 → i ≡ elementEnd k i
-unfolding elementEnd
+pub element-stop : (k : List ℕ) (i : ℕ) → get_or k i 0 ≡ 0 → i ≡ element_end k i
+unfolding element_end
 element-stop k i e = simp (eq-eqb _ 0 e)
 
-pub element-on : (k : List ℕ) (i : ℕ) → (get_or k i 0 ≡ 0 → ⊥) → elementEnd k i ≡ i + 1 + span (opens (get_or k i 0) - 1) (drop (i + 1) k)
-unfolding elementEnd
+pub element-on : (k : List ℕ) (i : ℕ) → (get_or k i 0 ≡ 0 → ⊥) → element_end k i ≡ i + 1 + span (opens (get_or k i 0) - 1) (drop (i + 1) k)
+unfolding element_end
 element-on k i e = simp (ne_eqb _ 0 e)
 
-pub element-more : (k : List ℕ) (i : ℕ) → (get_or k i 0 ≡ 0 → ⊥) → (i < elementEnd k i) × (i < length k)
+pub element-more : (k : List ℕ) (i : ℕ) → (get_or k i 0 ≡ 0 → ⊥) → (i < element_end k i) × (i < length k)
 element-more k i nz = let e = element-on k i nz in (omega arith, below-of-word k i nz)

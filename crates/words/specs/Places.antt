@@ -7,9 +7,9 @@ abbrev pub begins : ℕ → Bool
 begins x = eqb x 5000 || eqb x 6000
 
 -- how many words stand before the next literal
-unfoldable pub untilLiteral : List ℕ → ℕ
-untilLiteral [] = 0
-untilLiteral (x ∷ ws) = pick (begins x) 0 (suc (untilLiteral ws))
+unfoldable pub until_literal : List ℕ → ℕ
+until_literal [] = 0
+until_literal (x ∷ ws) = pick (begins x) 0 (suc (until_literal ws))
 
 -- the same words
 abbrev pub same_list : List ℕ → List ℕ → Bool

@@ -2,7 +2,7 @@
 ghost use Rattle.std.specs.Prelude.{◌+◌, ◌<◌, min, ◌≡◌, ◌||◌, length, get_or, take, drop};
 ghost use Rattle.std.proofs.Math.Seq.{slice};
 ghost use Rattle.words.specs.Spans.{member};
-ghost use Rattle.words.specs.Places.{untilLiteral, same_list};
+ghost use Rattle.words.specs.Places.{until_literal, same_list};
 
 use language::wide;
 
@@ -39,7 +39,7 @@ pub fn stands(k: &[u16], from: usize, to: usize, x: usize) -> bool
 // The place of the next literal, or the length.
 pub fn next_literal(k: &[u16], at: usize) -> usize
     requires { at < length k.now }
-    ensures { result ≡ at + 1 + untilLiteral (drop (at + 1) k.now) }
+    ensures { result ≡ at + 1 + until_literal (drop (at + 1) k.now) }
 {
     let mut i = at + 1;
     while i < k.len() {

@@ -11,9 +11,9 @@ use borrow.Author.Tests.{eq-eqb, ne_eqb, lt-ltb, le-ltb}
 use Rattle.language.specs.Kinds.{pick}
 use Rattle.language.specs.Limits.{desk}
 use Rattle.language.specs.Trees.{Functor, symbol, fvar, Hedge, ε, tvar, hvar, node}
-use Rattle.language.specs.Writing.{functorWord, hedgeWords}
-use Rattle.language.specs.Fine.{fineHedge}
-use Rattle.language.specs.Reading.{Got, got, stop, readHedge}
+use Rattle.language.specs.Writing.{functor_word, hedge_words}
+use Rattle.language.specs.Fine.{fine_hedge}
+use Rattle.language.specs.Reading.{Got, got, stop, read_hedge}
 use Rattle.language.specs.Between.{between}
 use Rattle.language.proofs.Laws.{hedges-read}
 use Rattle.language.proofs.Offsets.{between_cons}
@@ -23,7 +23,7 @@ use Rattle.trees.specs.declared.Read.TheVariants.{Next, Stop}
 use Rattle.trees.specs.Places.{placed}
 use Rattle.expressions.proofs.Standing.{word-of, tail_of}
 use Rattle.write_text.specs.Laid.{Laid}
-use Rattle.write_text.specs.Pieces.{given, closingOf, wordText, after_of, flat, behind, elements, isOne, unless}
+use Rattle.write_text.specs.Pieces.{given, closing_of, word_text, after_of, flat, behind, elements, is_one, unless}
 use Rattle.write_text.specs.Standing.{Side, OneAt, Sided}
 use Rattle.write_text.proofs.Laid.{laid_as, laid-row, laid_none}
 
@@ -33,22 +33,22 @@ pub flat-none : (s : ℕ) → flat s [] ≡ []
 unfolding flat
 flat-none s = refl
 
-pub flat-cons : (s x : ℕ) (ws : List ℕ) → flat s (x ∷ ws) ≡ wordText s x ++ flat (after_of x) ws
+pub flat-cons : (s x : ℕ) (ws : List ℕ) → flat s (x ∷ ws) ≡ word_text s x ++ flat (after_of x) ws
 unfolding flat
 flat-cons s x ws = refl
 
-flat_on : (s x t : ℕ) (ws : List ℕ) → after_of x ≡ t → flat s (x ∷ ws) ≡ wordText s x ++ flat t ws
-flat_on s x t ws e = flat-cons s x ws ∙ ap (λ t. wordText s x ++ flat t ws) e
+flat_on : (s x t : ℕ) (ws : List ℕ) → after_of x ≡ t → flat s (x ∷ ws) ≡ word_text s x ++ flat t ws
+flat_on s x t ws e = flat-cons s x ws ∙ ap (λ t. word_text s x ++ flat t ws) e
 
 after-low : (x : ℕ) → x < 3000 → after_of x ≡ 2
 after-low x p = ap (λ b. pick b 2 1) (lt-ltb x 3000 p)
 
-after-functor : (f : Functor) → after_of (functorWord f) ≡ 1
+after-functor : (f : Functor) → after_of (functor_word f) ≡ 1
 after-functor (symbol f) = ap (λ b. pick b 2 1) (le-ltb (3000 + f.0) 3000 (omega arith))
 after-functor (fvar X) = ap (λ b. pick b 2 1) (le-ltb (4000 + X.0) 3000 (omega arith))
 
-word_end : (s : ℕ) → wordText s 0 ≡ given (closingOf s)
-unfolding wordText
+word_end : (s : ℕ) → word_text s 0 ≡ given (closing_of s)
+unfolding word_text
 word_end s = refl
 
 -- a hedge's words without its 0
@@ -56,13 +56,13 @@ abbrev body : Hedge → List ℕ
 body ε = []
 body (tvar x r) = (1000 + x.0) ∷ body r
 body (hvar p r) = (2000 + p.0) ∷ body r
-body (node f c r) = functorWord f ∷ (hedgeWords c ++ body r)
+body (node f c r) = functor_word f ∷ (hedge_words c ++ body r)
 
-words-body : (h : Hedge) → hedgeWords h ≡ body h ++ (0 ∷ [])
+words-body : (h : Hedge) → hedge_words h ≡ body h ++ (0 ∷ [])
 words-body ε = refl
 words-body (tvar x r) = ap (λ l. (1000 + x.0) ∷ l) (words-body r)
 words-body (hvar p r) = ap (λ l. (2000 + p.0) ∷ l) (words-body r)
-words-body (node f c r) = ap (λ l. functorWord f ∷ (hedgeWords c ++ l)) (words-body r) ∙ ap (λ l. functorWord f ∷ l) (sym (append_assoc (hedgeWords c) (body r) (0 ∷ [])))
+words-body (node f c r) = ap (λ l. functor_word f ∷ (hedge_words c ++ l)) (words-body r) ∙ ap (λ l. functor_word f ∷ l) (sym (append_assoc (hedge_words c) (body r) (0 ∷ [])))
 
 two : (r : Hedge) → behind 2 r ≡ 2
 two ε = refl
@@ -71,37 +71,37 @@ two (hvar p r) = refl
 two (node f c r) = refl
 
 -- where the elements of a hedge are followed by those of `ws`
-flat-hedge : (h : Hedge) → fineHedge desk h → (s : ℕ) (ws : List ℕ) → flat s (hedgeWords h ++ ws) ≡ elements s h ++ (given (closingOf (behind s h)) ++ flat 2 ws)
+flat-hedge : (h : Hedge) → fine_hedge desk h → (s : ℕ) (ws : List ℕ) → flat s (hedge_words h ++ ws) ≡ elements s h ++ (given (closing_of (behind s h)) ++ flat 2 ws)
 flat-hedge ε i s ws = flat_on s 0 2 ws refl ∙ ap (λ l. l ++ flat 2 ws) (word_end s)
 flat-hedge (tvar x r) i s ws =
     let b = i.0 in
-    flat_on s (1000 + x.0) 2 (hedgeWords r ++ ws) (after-low (1000 + x.0) (omega arith))
-    ∙ ap (λ l. wordText s (1000 + x.0) ++ l) (flat-hedge r i.1 2 ws ∙ ap (λ z. elements 2 r ++ (given (closingOf z) ++ flat 2 ws)) (two r))
-    ∙ sym (append_assoc (wordText s (1000 + x.0)) (elements 2 r) (given (closingOf 2) ++ flat 2 ws))
+    flat_on s (1000 + x.0) 2 (hedge_words r ++ ws) (after-low (1000 + x.0) (omega arith))
+    ∙ ap (λ l. word_text s (1000 + x.0) ++ l) (flat-hedge r i.1 2 ws ∙ ap (λ z. elements 2 r ++ (given (closing_of z) ++ flat 2 ws)) (two r))
+    ∙ sym (append_assoc (word_text s (1000 + x.0)) (elements 2 r) (given (closing_of 2) ++ flat 2 ws))
 flat-hedge (hvar p r) i s ws =
     let b = i.0 in
-    flat_on s (2000 + p.0) 2 (hedgeWords r ++ ws) (after-low (2000 + p.0) (omega arith))
-    ∙ ap (λ l. wordText s (2000 + p.0) ++ l) (flat-hedge r i.1 2 ws ∙ ap (λ z. elements 2 r ++ (given (closingOf z) ++ flat 2 ws)) (two r))
-    ∙ sym (append_assoc (wordText s (2000 + p.0)) (elements 2 r) (given (closingOf 2) ++ flat 2 ws))
+    flat_on s (2000 + p.0) 2 (hedge_words r ++ ws) (after-low (2000 + p.0) (omega arith))
+    ∙ ap (λ l. word_text s (2000 + p.0) ++ l) (flat-hedge r i.1 2 ws ∙ ap (λ z. elements 2 r ++ (given (closing_of z) ++ flat 2 ws)) (two r))
+    ∙ sym (append_assoc (word_text s (2000 + p.0)) (elements 2 r) (given (closing_of 2) ++ flat 2 ws))
 flat-hedge (node f c r) i s ws =
-    flat_on s (functorWord f) 1 ((hedgeWords c ++ hedgeWords r) ++ ws) (after-functor f)
-    ∙ ap (λ l. wordText s (functorWord f) ++ l)
-    (ap (flat 1) (append_assoc (hedgeWords c) (hedgeWords r) ws)
-    ∙ flat-hedge c i.1 1 (hedgeWords r ++ ws)
-    ∙ ap (λ l. elements 1 c ++ (given (closingOf (behind 1 c)) ++ l)) (flat-hedge r i.2 2 ws ∙ ap (λ z. elements 2 r ++ (given (closingOf z) ++ flat 2 ws)) (two r))
-    ∙ sym (append_assoc (elements 1 c) (given (closingOf (behind 1 c))) (elements 2 r ++ (given (closingOf 2) ++ flat 2 ws)))
-    ∙ sym (append_assoc (elements 1 c ++ given (closingOf (behind 1 c))) (elements 2 r) (given (closingOf 2) ++ flat 2 ws)))
-    ∙ sym (append_assoc (wordText s (functorWord f)) ((elements 1 c ++ given (closingOf (behind 1 c))) ++ elements 2 r) (given (closingOf 2) ++ flat 2 ws))
+    flat_on s (functor_word f) 1 ((hedge_words c ++ hedge_words r) ++ ws) (after-functor f)
+    ∙ ap (λ l. word_text s (functor_word f) ++ l)
+    (ap (flat 1) (append_assoc (hedge_words c) (hedge_words r) ws)
+    ∙ flat-hedge c i.1 1 (hedge_words r ++ ws)
+    ∙ ap (λ l. elements 1 c ++ (given (closing_of (behind 1 c)) ++ l)) (flat-hedge r i.2 2 ws ∙ ap (λ z. elements 2 r ++ (given (closing_of z) ++ flat 2 ws)) (two r))
+    ∙ sym (append_assoc (elements 1 c) (given (closing_of (behind 1 c))) (elements 2 r ++ (given (closing_of 2) ++ flat 2 ws)))
+    ∙ sym (append_assoc (elements 1 c ++ given (closing_of (behind 1 c))) (elements 2 r) (given (closing_of 2) ++ flat 2 ws)))
+    ∙ sym (append_assoc (word_text s (functor_word f)) ((elements 1 c ++ given (closing_of (behind 1 c))) ++ elements 2 r) (given (closing_of 2) ++ flat 2 ws))
 
-flat-body : (h : Hedge) → fineHedge desk h → (s : ℕ) → flat s (body h) ≡ elements s h
+flat-body : (h : Hedge) → fine_hedge desk h → (s : ℕ) → flat s (body h) ≡ elements s h
 flat-body ε i s = flat-none s
-flat-body (tvar x r) i s = let b = i.0 in flat_on s (1000 + x.0) 2 (body r) (after-low (1000 + x.0) (omega arith)) ∙ ap (λ l. wordText s (1000 + x.0) ++ l) (flat-body r i.1 2)
-flat-body (hvar p r) i s = let b = i.0 in flat_on s (2000 + p.0) 2 (body r) (after-low (2000 + p.0) (omega arith)) ∙ ap (λ l. wordText s (2000 + p.0) ++ l) (flat-body r i.1 2)
+flat-body (tvar x r) i s = let b = i.0 in flat_on s (1000 + x.0) 2 (body r) (after-low (1000 + x.0) (omega arith)) ∙ ap (λ l. word_text s (1000 + x.0) ++ l) (flat-body r i.1 2)
+flat-body (hvar p r) i s = let b = i.0 in flat_on s (2000 + p.0) 2 (body r) (after-low (2000 + p.0) (omega arith)) ∙ ap (λ l. word_text s (2000 + p.0) ++ l) (flat-body r i.1 2)
 flat-body (node f c r) i s =
-    flat_on s (functorWord f) 1 (hedgeWords c ++ body r) (after-functor f)
-    ∙ ap (λ l. wordText s (functorWord f) ++ l)
-    (flat-hedge c i.1 1 (body r) ∙ ap (λ l. elements 1 c ++ (given (closingOf (behind 1 c)) ++ l)) (flat-body r i.2 2)
-    ∙ sym (append_assoc (elements 1 c) (given (closingOf (behind 1 c))) (elements 2 r)))
+    flat_on s (functor_word f) 1 (hedge_words c ++ body r) (after-functor f)
+    ∙ ap (λ l. word_text s (functor_word f) ++ l)
+    (flat-hedge c i.1 1 (body r) ∙ ap (λ l. elements 1 c ++ (given (closing_of (behind 1 c)) ++ l)) (flat-body r i.2 2)
+    ∙ sym (append_assoc (elements 1 c) (given (closing_of (behind 1 c))) (elements 2 r)))
 
 -- ---- the loop over a side's words
 
@@ -112,12 +112,12 @@ pub record Going (stop from end : ℕ) (w old : List ℕ) (to i s : ℕ) (now : 
   pub on : (new : List ℕ) (e : ℕ) → Laid stop now n (flat s (between i end w)) new e → Laid stop old to (flat 0 (between from end w)) new e
 
 module _ {stop from end : ℕ} {w old : List ℕ} {to : ℕ} where
-  pub going_on : {i s m n : ℕ} {now next : List ℕ} {t : ℕ} → Going stop from end w old to i s now n → i < end → end ≤ length w → Laid stop now n (wordText s (get_or w i 0)) next m → t ≡ after_of (get_or w i 0) → length next ≡ length old
+  pub going_on : {i s m n : ℕ} {now next : List ℕ} {t : ℕ} → Going stop from end w old to i s now n → i < end → end ≤ length w → Laid stop now n (word_text s (get_or w i 0)) next m → t ≡ after_of (get_or w i 0) → length next ≡ length old
       → Going stop from end w old to (i + 1) t next m
   going_on {i} {s} {m} {n} {now} {next} {t} g p q l e same = record {
     high = omega arith;
     same = same;
-    on = λ new z k. g.on new z (laid_as (sym (ap (flat s) (between_cons i end w p q) ∙ flat_on s (get_or w i 0) t (between (i + 1) end w) (sym e))) (laid-row (wordText s (get_or w i 0)) (flat t (between (i + 1) end w)) l k));
+    on = λ new z k. g.on new z (laid_as (sym (ap (flat s) (between_cons i end w p q) ∙ flat_on s (get_or w i 0) t (between (i + 1) end w) (sym e))) (laid-row (word_text s (get_or w i 0)) (flat t (between (i + 1) end w)) l k));
   }
 
   pub all-gone : {i s n : ℕ} {now : List ℕ} → Going stop from end w old to i s now n → end ≤ i → Laid stop old to (flat 0 (between from end w)) now n
@@ -126,17 +126,17 @@ module _ {stop from end : ℕ} {w old : List ℕ} {to : ℕ} where
 -- ---- a hedge where it stands
 
 -- a hedge has a word, and one only if it is empty
-some_words : (h : Hedge) → 1 ≤ length (hedgeWords h)
+some_words : (h : Hedge) → 1 ≤ length (hedge_words h)
 some_words ε = omega arith
 some_words (tvar x r) = omega arith
 some_words (hvar p r) = omega arith
 some_words (node f c r) = omega arith
 
-empty-words : (r : Hedge) (a b : ℕ) → b ≡ a + length (hedgeWords r) → eqb (a + 1) b ≡ is_empty r
+empty-words : (r : Hedge) (a b : ℕ) → b ≡ a + length (hedge_words r) → eqb (a + 1) b ≡ is_empty r
 empty-words ε a b e = eq-eqb (a + 1) b (omega arith)
 empty-words (tvar x r) a b e = let s = some_words r in ne_eqb (a + 1) b (omega arith)
 empty-words (hvar p r) a b e = let s = some_words r in ne_eqb (a + 1) b (omega arith)
-empty-words (node f c r) a b e = let s = some_words r in let t = some_words c in let n = length-append (hedgeWords c) (hedgeWords r) in ne_eqb (a + 1) b (omega arith)
+empty-words (node f c r) a b e = let s = some_words r in let t = some_words c in let n = length-append (hedge_words c) (hedge_words r) in ne_eqb (a + 1) b (omega arith)
 
 place_of : (at : ℕ) (g : Got Hedge) (h : Hedge) (n e : ℕ) → g ≡ got h n → placed at g ≡ Next e → e ≡ at + n
 unfolding placed
@@ -147,21 +147,21 @@ unfolding placed
 no_place at g h n e p q = let z = sym (ap (placed at) p) ∙ q in absurd (let z : ◌≡◌ {A = ℕ} 0 1 = cc in omega arith)
 
 abbrev Tells : List ℕ → ℕ → ℕ → Bool → Type 0
-Tells w at last r = (h : Hedge) (beyond : List ℕ) → Side w at h beyond → last + 1 ≡ at + length (hedgeWords h) → r ≡ isOne h
+Tells w at last r = (h : Hedge) (beyond : List ℕ) → Side w at h beyond → last + 1 ≡ at + length (hedge_words h) → r ≡ is_one h
 
 module _ (w : List ℕ) (at : ℕ) where
-  read-side : (h : Hedge) (beyond : List ℕ) → Side w at h beyond → readHedge desk (drop at w) ≡ got h (length (hedgeWords h))
-  read-side h beyond s = ap (readHedge desk) s.words ∙ (hedges-read desk).read_back h beyond s.fine
+  read-side : (h : Hedge) (beyond : List ℕ) → Side w at h beyond → read_hedge desk (drop at w) ≡ got h (length (hedge_words h))
+  read-side h beyond s = ap (read_hedge desk) s.words ∙ (hedges-read desk).read_back h beyond s.fine
 
   -- what was read at a place lies within the words
-  pub side-within : (r : Read) (e : ℕ) → r ≡ placed at (readHedge desk (drop at w)) → r ≡ Next e → (at < e) × (e ≤ length w)
-  side-within r e p q = on (readHedge desk (drop at w)) refl (sym p ∙ q)
+  pub side-within : (r : Read) (e : ℕ) → r ≡ placed at (read_hedge desk (drop at w)) → r ≡ Next e → (at < e) × (e ≤ length w)
+  side-within r e p q = on (read_hedge desk (drop at w)) refl (sym p ∙ q)
     where
-      on : (g : Got Hedge) → readHedge desk (drop at w) ≡ g → placed at g ≡ Next e → (at < e) × (e ≤ length w)
+      on : (g : Got Hedge) → read_hedge desk (drop at w) ≡ g → placed at g ≡ Next e → (at < e) × (e ≤ length w)
       on (got h n) i z =
           let f = (hedges-read desk).found (drop at w) h n i in
           let l = length-drop at w in
-          let m = ap length f.2 ∙ length-append (hedgeWords h) (drop n (drop at w)) in
+          let m = ap length f.2 ∙ length-append (hedge_words h) (drop n (drop at w)) in
           let k = some_words h in
           let j = f.1 in
           let y = place_of at (got h n) h n e refl z in
@@ -171,19 +171,19 @@ module _ (w : List ℕ) (at : ℕ) where
   -- ---- whether it is one element
 
   pub one-past : (last : ℕ) → length w ≤ at → Tells w at last false
-  one-past last p h beyond s e = let k = some_words h in let l = ap length s.words ∙ length-append (hedgeWords h) beyond in absurd (omega (arith, length-drop at w))
+  one-past last p h beyond s e = let k = some_words h in let l = ap length s.words ∙ length-append (hedge_words h) beyond in absurd (omega (arith, length-drop at w))
 
   pub one-empty : (last : ℕ) → at ≡ last → Tells w at last false
   one-empty last p ε beyond s e = refl
   one-empty last p (tvar x r) beyond s e = absurd (let k = some_words r in omega arith)
   one-empty last p (hvar q r) beyond s e = absurd (let k = some_words r in omega arith)
-  one-empty last p (node f c r) beyond s e = absurd (let k = some_words r in let n = length-append (hedgeWords c) (hedgeWords r) in omega arith)
+  one-empty last p (node f c r) beyond s e = absurd (let k = some_words r in let n = length-append (hedge_words c) (hedge_words r) in omega arith)
 
-  low-functor : (f : Functor) → functorWord f < 3000 → ⊥
+  low-functor : (f : Functor) → functor_word f < 3000 → ⊥
   low-functor (symbol f) p = omega arith
   low-functor (fvar X) p = omega arith
 
-  high_word : (f : Functor) (ws : List ℕ) → drop at w ≡ functorWord f ∷ ws → get_or w at 0 < 3000 → ⊥
+  high_word : (f : Functor) (ws : List ℕ) → drop at w ≡ functor_word f ∷ ws → get_or w at 0 < 3000 → ⊥
   high_word f ws e p = low-functor f (let z = word-of w at e in omega arith)
 
   pub one-variable : (last : ℕ) → (at ≡ last → ⊥) → get_or w at 0 < 3000 → Tells w at last (eqb (at + 1) last)
@@ -192,21 +192,21 @@ module _ (w : List ℕ) (at : ℕ) where
   one-variable last n p (hvar q r) beyond s e = empty-words r at _ (omega arith)
   one-variable last n p (node f c r) beyond s e = absurd (high_word f _ s.words p)
 
-  children : (f : Functor) (c r : Hedge) (beyond : List ℕ) → Side w at (node f c r) beyond → readHedge desk (drop (at + 1) w) ≡ got c (length (hedgeWords c))
+  children : (f : Functor) (c r : Hedge) (beyond : List ℕ) → Side w at (node f c r) beyond → read_hedge desk (drop (at + 1) w) ≡ got c (length (hedge_words c))
   children f c r beyond s =
-      ap (readHedge desk) (tail_of w at s.words ∙ append_assoc (hedgeWords c) (hedgeWords r) beyond) ∙ (hedges-read desk).read_back c (hedgeWords r ++ beyond) s.fine.1
+      ap (read_hedge desk) (tail_of w at s.words ∙ append_assoc (hedge_words c) (hedge_words r) beyond) ∙ (hedges-read desk).read_back c (hedge_words r ++ beyond) s.fine.1
 
   low_word : {A : Type 0} (x : ℕ) (ws : List ℕ) → drop at w ≡ x ∷ ws → x < 3000 → 3000 ≤ get_or w at 0 → A
   low_word x ws e p q = let z = word-of w at e in absurd (omega arith)
 
-  module _ (last : ℕ) {m : ℕ} (g : Read) (p : 3000 ≤ get_or w at 0) (q : g ≡ placed (at + 1) (readHedge desk (drop (at + 1) w))) where
+  module _ (last : ℕ) {m : ℕ} (g : Read) (p : 3000 ≤ get_or w at 0) (q : g ≡ placed (at + 1) (read_hedge desk (drop (at + 1) w))) where
     pub one-functor : g ≡ Next m → Tells w at last (eqb m last)
     one-functor z ε beyond s e = low_word 0 _ s.words (omega arith) p
     one-functor z (tvar x r) beyond s e = let b = s.fine.0 in low_word (1000 + x.0) _ s.words (omega arith) p
     one-functor z (hvar x r) beyond s e = let b = s.fine.0 in low_word (2000 + x.0) _ s.words (omega arith) p
     one-functor z (node f c r) beyond s e =
-        let y = place_of (at + 1) _ c (length (hedgeWords c)) m (children f c r beyond s) (sym q ∙ z) in
-        let n = length-append (hedgeWords c) (hedgeWords r) in
+        let y = place_of (at + 1) _ c (length (hedge_words c)) m (children f c r beyond s) (sym q ∙ z) in
+        let n = length-append (hedge_words c) (hedge_words r) in
         let t = some_words c in
         ap (λ k. eqb k last) (let z : m ≡ m - 1 + 1 = omega arith in z) ∙ empty-words r (m - 1) last (omega arith)
 
@@ -214,20 +214,20 @@ module _ (w : List ℕ) (at : ℕ) where
     one-broken z ε beyond s e = refl
     one-broken z (tvar x r) beyond s e = let b = s.fine.0 in low_word (1000 + x.0) _ s.words (omega arith) p
     one-broken z (hvar x r) beyond s e = let b = s.fine.0 in low_word (2000 + x.0) _ s.words (omega arith) p
-    one-broken z (node f c r) beyond s e = no_place (at + 1) _ c (length (hedgeWords c)) m (children f c r beyond s) (sym q ∙ z)
+    one-broken z (node f c r) beyond s e = no_place (at + 1) _ c (length (hedge_words c)) m (children f c r beyond s) (sym q ∙ z)
 
 -- ---- a side is written
 
-module _ {stop at to : ℕ} {w old : List ℕ} (g : Read) (q : g ≡ placed at (readHedge desk (drop at w))) where
+module _ {stop at to : ℕ} {w old : List ℕ} (g : Read) (q : g ≡ placed at (read_hedge desk (drop at w))) where
   pub sided-none : {e : ℕ} → g ≡ Stop e → Sided stop w at old to old (record { end = at; to = to })
-  sided-none {e} z = record { after = omega arith; each = λ h beyond s. no_place at _ h (length (hedgeWords h)) e (read-side w at h beyond s) (sym q ∙ z) }
+  sided-none {e} z = record { after = omega arith; each = λ h beyond s. no_place at _ h (length (hedge_words h)) e (read-side w at h beyond s) (sym q ∙ z) }
 
   pub sided : {e n m k : ℕ} {last : ℕ} {one : Bool} {l₁ l₂ new : List ℕ} (a b : ℕ) → g ≡ Next e → last + 1 ≡ e → OneAt w at last one → a ≡ unless one 40 → Laid stop old to (given a) l₁ n
       → Laid stop l₁ n (flat 0 (between at last w)) l₂ m → b ≡ unless one 41 → Laid stop l₂ m (given b) new k → Sided stop w at old to new (record { end = e; to = k })
   sided {e} {n} {m} {k} {last} {one} {l₁} {l₂} {new} a b z p o pa la lf pb lb = record {
     after = let y = side-within w at g e q z in omega arith;
     each = λ h beyond s.
-        let d = place_of at _ h (length (hedgeWords h)) e (read-side w at h beyond s) (sym q ∙ z) in
+        let d = place_of at _ h (length (hedge_words h)) e (read-side w at h beyond s) (sym q ∙ z) in
         let i = o.tells h beyond s (p ∙ d) in
         let c = ap length (words-body h) ∙ length-append (body h) (0 ∷ []) in
         let u : last - at ≡ length (body h) = omega arith in
@@ -236,7 +236,7 @@ module _ {stop at to : ℕ} {w old : List ℕ} (g : Read) (q : g ≡ placed at (
         record {
           end = d;
           laid =
-              laid-row (given (unless (isOne h) 40)) (elements 0 h ++ given (unless (isOne h) 41)) (laid_as (ap given (pa ∙ ap (λ o. unless o 40) i)) la)
-              (laid-row (elements 0 h) (given (unless (isOne h) 41)) (laid_as (ap (flat 0) t ∙ flat-body h s.fine 0) lf) (laid_as (ap given (pb ∙ ap (λ o. unless o 41) i)) lb));
+              laid-row (given (unless (is_one h) 40)) (elements 0 h ++ given (unless (is_one h) 41)) (laid_as (ap given (pa ∙ ap (λ o. unless o 40) i)) la)
+              (laid-row (elements 0 h) (given (unless (is_one h) 41)) (laid_as (ap (flat 0) t ∙ flat-body h s.fine 0) lf) (laid_as (ap given (pb ∙ ap (λ o. unless o 41) i)) lb));
         };
   }

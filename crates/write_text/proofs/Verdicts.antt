@@ -11,41 +11,41 @@ use Rattle.language.specs.declared.Refusal.TheVariants.{LongText, OtherNumbers}
 use Rattle.language.specs.Limits.{desk}
 use Rattle.language.specs.Kinds.{pick}
 use Rattle.language.specs.Trees.{Question}
-use Rattle.language.specs.Question.{asks, refuses, readQuestion}
+use Rattle.language.specs.Question.{asks, refuses, read_question}
 use Rattle.language.proofs.Bools.{holds, fails}
 use Rattle.outcomes.specs.declared.Checked.{Checked}
 use Rattle.outcomes.specs.declared.Checked.TheVariants.{Fine, Refused}
-use Rattle.outcomes.specs.Numbers.{checkedNumbers}
-use Rattle.reader.specs.Checking.{askedNumbers}
+use Rattle.outcomes.specs.Numbers.{checked_numbers}
+use Rattle.reader.specs.Checking.{asked_numbers}
 use Rattle.reader.proofs.Answers.{as-checked, question-asked, question-refused}
-use Rattle.texts.specs.Writer.{allText}
-use Rattle.texts.specs.Outcomes.{Outcome, gives, denies, asRead, lent, writesText}
+use Rattle.texts.specs.Writer.{all_text}
+use Rattle.texts.specs.Outcomes.{Outcome, gives, denies, as_read, lent, writes_text}
 use Rattle.write_text.specs.declared.Written.{Written}
 use Rattle.write_text.specs.declared.Written.TheVariants.{Given}
 use Rattle.write_text.specs.Standing.{IsQuestion, AllLined, Numbered}
-use Rattle.write_text.specs.Writes.{written_by, leftBy}
+use Rattle.write_text.specs.Writes.{written_by, left_by}
 
 -- ---- the question's check
 
 module _ (w : List ℕ) where
-  pub fine-question : (c : Checked) → checkedNumbers c ≡ askedNumbers (readQuestion desk w) → c ≡ Fine → IsQuestion w
+  pub fine-question : (c : Checked) → checked_numbers c ≡ asked_numbers (read_question desk w) → c ≡ Fine → IsQuestion w
   fine-question c e f = let (q, i) = question-asked w (sym f ∙ as-checked c _ e) in record { question = q; read = i }
 
   -- ---- what comes back, and what the room holds
 
   abbrev pub Ends : List ℕ → Written → List ℕ → Type 0
-  Ends room v left = (v ≡ written_by (writesText desk (length room) w)) × (left ≡ leftBy (writesText desk (length room) w) room)
+  Ends room v left = (v ≡ written_by (writes_text desk (length room) w)) × (left ≡ left_by (writes_text desk (length room) w) room)
 
-  ends : (room : List ℕ) (o : Outcome) → writesText desk (length room) w ≡ o → Ends room (written_by o) (leftBy o room)
-  ends room o e = (ap written_by (sym e), ap (λ o. leftBy o room) (sym e))
+  ends : (room : List ℕ) (o : Outcome) → writes_text desk (length room) w ≡ o → Ends room (written_by o) (left_by o room)
+  ends room o e = (ap written_by (sym e), ap (λ o. left_by o room) (sym e))
 
-  pub denied : (room : ℕ) (r : Refusal) → readQuestion desk w ≡ refuses r → writesText desk room w ≡ denies r
-  unfolding writesText
-  denied room r e = rw (writesText, e)
+  pub denied : (room : ℕ) (r : Refusal) → read_question desk w ≡ refuses r → writes_text desk room w ≡ denies r
+  unfolding writes_text
+  denied room r e = rw (writes_text, e)
 
-  pub wrote : (room : ℕ) (q : Question) → readQuestion desk w ≡ asks q → writesText desk room w ≡ pick (asRead q) (lent room (allText q.alternatives)) (denies OtherNumbers)
-  unfolding writesText
-  wrote room q e = rw (writesText, e)
+  pub wrote : (room : ℕ) (q : Question) → read_question desk w ≡ asks q → writes_text desk room w ≡ pick (as_read q) (lent room (all_text q.alternatives)) (denies OtherNumbers)
+  unfolding writes_text
+  wrote room q e = rw (writes_text, e)
 
   fits : (room : ℕ) (t : List ℕ) → length t ≤ room → lent room t ≡ gives t
   unfolding lent
@@ -55,11 +55,11 @@ module _ (w : List ℕ) where
   unfolding lent
   too_long room t p = ap (λ b. pick b (gives t) (denies LongText)) (lt-leb (length t) room p)
 
-  pub ends-refused : {room : List ℕ} {r : Refusal} (c : Checked) → checkedNumbers c ≡ askedNumbers (readQuestion desk w) → c ≡ Refused r → Ends room (written_by (denies r)) room
+  pub ends-refused : {room : List ℕ} {r : Refusal} (c : Checked) → checked_numbers c ≡ asked_numbers (read_question desk w) → c ≡ Refused r → Ends room (written_by (denies r)) room
   ends-refused {room} {r} c e f = ends room (denies r) (denied (length room) r (question-refused w r (sym f ∙ as-checked c _ e)))
 
   abbrev text_of : IsQuestion w → List ℕ
-  text_of q = allText q.question.alternatives
+  text_of q = all_text q.question.alternatives
 
   module _ (q : IsQuestion w) {r : Bool} (n : Numbered w r) where
     pub ends-unnumbered : {room : List ℕ} → not r ≡ true → Ends room (written_by (denies OtherNumbers)) room
@@ -67,7 +67,7 @@ module _ (w : List ℕ) where
         ends room (denies OtherNumbers) (wrote (length room) q.question q.read ∙ ap (λ b. pick b (lent (length room) (text_of q)) (denies OtherNumbers)) (fails r _ (n q.question q.read) f))
 
     module _ (f : not r ≡ false) {none next : List ℕ} {stop e : ℕ} (l : AllLined stop w none next e) where
-      lends : (room : List ℕ) → writesText desk (length room) w ≡ lent (length room) (text_of q)
+      lends : (room : List ℕ) → writes_text desk (length room) w ≡ lent (length room) (text_of q)
       lends room = wrote (length room) q.question q.read ∙ ap (λ b. pick b (lent (length room) (text_of q)) (denies OtherNumbers)) (holds r _ (n q.question q.read) f)
 
       reached : e ≡ 0 + (length (text_of q) - (0 + length (text_of q) - stop))

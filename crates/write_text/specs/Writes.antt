@@ -10,6 +10,6 @@ written_by (gives bs) = Given (length bs)
 written_by (denies r) = Refused r
 
 -- "each leaves the room untouched"
-abbrev pub leftBy : Outcome → List ℕ → List ℕ
-leftBy (gives bs) room = sets room 0 bs
-leftBy (denies r) room = room
+abbrev pub left_by : Outcome → List ℕ → List ℕ
+left_by (gives bs) room = sets room 0 bs
+left_by (denies r) room = room

@@ -1,7 +1,7 @@
 // Bytes of a text, written one after another below a place at which it stops. A byte that is 0 is none.
 ghost use Rattle.std.specs.Prelude.{◌+◌, ◌/◌, ◌%◌, ◌<◌, ◌≡◌};
 ghost use Rattle.write_text.specs.Laid.{Laid};
-ghost use Rattle.write_text.specs.Pieces.{given, four, hundredsOf, tensOf, first_of, second_of, closingOf, mark_of, letterIn, wordText};
+ghost use Rattle.write_text.specs.Pieces.{given, four, hundreds_of, tens_of, first_of, second_of, closing_of, mark_of, letter_in, word_text};
 
 // One byte: it is stored where the slice reaches, and counted in any case.
 pub(crate) fn put(out: &mut [u8], stop: usize, at: usize, x: u8) -> usize
@@ -33,7 +33,7 @@ pub(crate) fn put_four(out: &mut [u8], stop: usize, at: usize, a: u8, b: u8, c: 
 
 fn hundreds(n: u16) -> u8
     requires { n < 1000 }
-    ensures { result ≡ hundredsOf n }
+    ensures { result ≡ hundreds_of n }
 {
     if n < 100 {
         return 0;
@@ -42,7 +42,7 @@ fn hundreds(n: u16) -> u8
 }
 
 fn tens(n: u16) -> u8
-    ensures { result ≡ tensOf n }
+    ensures { result ≡ tens_of n }
 {
     if n < 10 {
         return 0;
@@ -78,7 +78,7 @@ pub(crate) fn second(s: u8) -> u8
 }
 
 fn closing(s: u8) -> u8
-    ensures { result ≡ closingOf s }
+    ensures { result ≡ closing_of s }
 {
     if s == 1 {
         return 0;
@@ -102,7 +102,7 @@ fn mark(x: u16) -> u8
 }
 
 fn letter(x: u16) -> u8
-    ensures { result ≡ letterIn x }
+    ensures { result ≡ letter_in x }
 {
     if x < 2000 {
         return 120;
@@ -118,7 +118,7 @@ fn letter(x: u16) -> u8
 
 // A word of a hedge, by what stands before it: 0 nothing, 1 a functor, 2 an element.
 pub(crate) fn put_word(out: &mut [u8], stop: usize, at: usize, s: u8, x: u16) -> usize
-    ensures { Laid stop out.old at (wordText s x) out.new result }
+    ensures { Laid stop out.old at (word_text s x) out.new result }
 {
     if x == 0 {
         return put(out, stop, at, closing(s));

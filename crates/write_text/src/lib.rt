@@ -7,8 +7,8 @@ mod sides;
 
 ghost use Rattle.std.specs.Prelude.{◌≡◌, length};
 ghost use Rattle.language.specs.Limits.{desk};
-ghost use Rattle.texts.specs.Outcomes.{writesText};
-ghost use Rattle.write_text.specs.Writes.{written_by, leftBy};
+ghost use Rattle.texts.specs.Outcomes.{writes_text};
+ghost use Rattle.write_text.specs.Writes.{written_by, left_by};
 
 use language::Refusal;
 use lines::put_lines;
@@ -32,8 +32,8 @@ pub enum Written {
 
 // The text of a question, in the room lent: counted first, and written if there is room for all of it.
 pub fn write_text(question: &[u16], room: &mut [u8]) -> Written
-    ensures value { result ≡ written_by (writesText desk (length room.old) question.now) }
-    ensures room_after { room.new ≡ leftBy (writesText desk (length room.old) question.now) room.old }
+    ensures value { result ≡ written_by (writes_text desk (length room.old) question.now) }
+    ensures room_after { room.new ≡ left_by (writes_text desk (length room.old) question.now) room.old }
 {
     match read_question(question) {
         Checked::Refused(r) => Written::Refused(r),

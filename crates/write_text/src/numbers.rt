@@ -1,7 +1,7 @@
 // Whether a question is numbered and counted as a text's would be: each number an old one or the next, and what is declared is what appears.
 ghost use Rattle.std.specs.Prelude.{◌≤◌, ◌≡◌, drop};
-ghost use Rattle.texts.specs.Numbering.{inOrder};
-ghost use Rattle.write_text.specs.Numbers.{step_of, countAfter, numbersIn, countedAs};
+ghost use Rattle.texts.specs.Numbering.{in_order};
+ghost use Rattle.write_text.specs.Numbers.{step_of, count_after, numbers_in, counted_as};
 ghost use Rattle.write_text.specs.Standing.{IsQuestion, Numbered};
 
 use language::wide;
@@ -9,7 +9,7 @@ use language::wide;
 // The count after a number, or 1,001 where it is out of order.
 fn after_number(n: u16, m: u16) -> u16
     requires { n ≤ 1000 }
-    ensures { result ≡ countAfter n m }
+    ensures { result ≡ count_after n m }
 {
     if m < n {
         return n;
@@ -37,7 +37,7 @@ fn after_word(base: u16, n: u16, x: u16) -> u16
 // Whether those of a class are numbered in order from 0 on, and are as many as declared.
 fn are_counted(w: &[u16], from: usize, base: u16, least: u16, declared: u16) -> bool
     requires { base ≤ 4000 }
-    ensures { result ≡ countedAs least declared (inOrder 0 (numbersIn base (drop from w.now))) }
+    ensures { result ≡ counted_as least declared (in_order 0 (numbers_in base (drop from w.now))) }
 {
     let mut i = from;
     let mut n = 0;

@@ -1,7 +1,7 @@
 // An expression, by recursion over its parts, with the brackets that its place asks for: 0 before a star, 1 in a choice, 2 in a list, 3 under a symbol.
 ghost use Rattle.std.specs.Prelude.{◌≡◌};
 ghost use Rattle.write_text.specs.Laid.{Laid};
-ghost use Rattle.write_text.specs.Pieces.{opens, braceOf, headPiece, firstIn, secondIn, betweenPiece, starOf, isTwo, elsewhere};
+ghost use Rattle.write_text.specs.Pieces.{opens, brace_of, head_piece, first_in, second_in, between_piece, star_of, is_two, elsewhere};
 ghost use Rattle.write_text.specs.Standing.{Shaped};
 
 use crate::Wrote;
@@ -24,7 +24,7 @@ fn is_open(t: u8, x: u16) -> bool
 
 // A bracket, if its place asks for one.
 fn brace(t: u8, x: u16, b: u8) -> u8
-    ensures { result ≡ braceOf t x b }
+    ensures { result ≡ brace_of t x b }
 {
     if is_open(t, x) {
         return b;
@@ -42,7 +42,7 @@ fn unless_under(t: u8, b: u8) -> u8
 }
 
 fn first_place(x: u16) -> u8
-    ensures { result ≡ firstIn x }
+    ensures { result ≡ first_in x }
 {
     if x < 7000 {
         return 3;
@@ -54,7 +54,7 @@ fn first_place(x: u16) -> u8
 }
 
 fn second_place(x: u16) -> u8
-    ensures { result ≡ secondIn x }
+    ensures { result ≡ second_in x }
 {
     if x == 7001 {
         return 2;
@@ -63,7 +63,7 @@ fn second_place(x: u16) -> u8
 }
 
 fn is_two(x: u16) -> bool
-    ensures { result ≡ isTwo x }
+    ensures { result ≡ is_two x }
 {
     if x == 7001 {
         return true;
@@ -72,7 +72,7 @@ fn is_two(x: u16) -> bool
 }
 
 fn star(x: u16) -> u8
-    ensures { result ≡ starOf x }
+    ensures { result ≡ star_of x }
 {
     if x == 7003 {
         return 42;
@@ -82,7 +82,7 @@ fn star(x: u16) -> u8
 
 // What stands before the first part: a bracket, a symbol.
 fn put_head(out: &mut [u8], stop: usize, at: usize, t: u8, x: u16) -> usize
-    ensures { Laid stop out.old at (headPiece t x) out.new result }
+    ensures { Laid stop out.old at (head_piece t x) out.new result }
 {
     let n = put(out, stop, at, brace(t, x, 40));
     if x < 7000 {
@@ -92,7 +92,7 @@ fn put_head(out: &mut [u8], stop: usize, at: usize, t: u8, x: u16) -> usize
 }
 
 fn put_between(out: &mut [u8], stop: usize, at: usize, x: u16) -> usize
-    ensures { Laid stop out.old at (betweenPiece x) out.new result }
+    ensures { Laid stop out.old at (between_piece x) out.new result }
 {
     if x == 7001 {
         return put_four(out, stop, at, 44, 32, 0, 0);

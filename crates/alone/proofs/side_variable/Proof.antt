@@ -1,6 +1,6 @@
 -- Case by case.
 use mathlib.Core.Path.{sym, ap, ◌∙◌}
-use Rattle.alone.specs.Lone.{sideVariable}
+use Rattle.alone.specs.Lone.{side_variable}
 use Rattle.alone.proofs.Sides.{term-chosen, symbol-chosen, blank-chosen}
 use borrow.Author.Rules.{rules}
 use Rattle.alone.proofs.side_variable.Statement.{statement}
@@ -10,7 +10,7 @@ returns-2 : tie.Need-returns-2
 returns-2 c = term-chosen _ _ _ _ _ _ _ c.before.before.before.before.l.given.1 c.before.before.single-term.ensures c.before.and.ensures c.chosen.ensures
 
 returns-3 : tie.Need-returns-3
-returns-3 c = c.chosen2.ensures ∙ ap (λ l. sideVariable l c.before.before.before.before.args.r) (sym c.before.before.l2.given.1)
+returns-3 c = c.chosen2.ensures ∙ ap (λ l. side_variable l c.before.before.before.before.args.r) (sym c.before.before.l2.given.1)
 
 returns-4 : tie.Need-returns-4
 returns-4 c = symbol-chosen _ _ _ _ _ c.before.before.before.l3.given.1 _ c.enum-told2.given.1

@@ -8,7 +8,7 @@ use mathlib.Core.Path.{◌∙◌}
 use mathlib.Core.Bool.{Bool, false}
 use lib.ListN.{length-replicate}
 use Rattle.language.specs.Limits.{desk}
-use Rattle.state_classes.specs.Classes.{stateRoom}
+use Rattle.state_classes.specs.Classes.{state_room}
 use Rattle.charts.proofs.Charting.{chart-from}
 use Rattle.clash.proofs.Verdicts.{part-bounds, tabled-kept}
 
@@ -50,7 +50,7 @@ slice-aggregate-class-all-2 c = search rules
 
 class-all-requires : tie.Need-class-all-requires
 class-all-requires c κs =
-    let t = c.before.before.before.before.before.before.before.before.before.before.before.before.before.before.before.requires.1 in let (ae, al) = part-bounds t.one c.before.before.before.before.before.before.part_at.ensures in let (be, bl) = part-bounds t.two c.before.before.before.part-at2.ensures in let q = t.apart in let s = c.before.before.before.before.before.before.before.before.before.before.before.before.before.before.before.requires.0 in (c.before.before.before.before.before.before.before.before.before.before.before.chart.ensures.here, omega arith, omega arith, length-replicate {A = ℕ} stateRoom 0, record { expression = t.first; beyond = t.beyond; here = t.one; to = ae })
+    let t = c.before.before.before.before.before.before.before.before.before.before.before.before.before.before.before.requires.1 in let (ae, al) = part-bounds t.one c.before.before.before.before.before.before.part_at.ensures in let (be, bl) = part-bounds t.two c.before.before.before.part-at2.ensures in let q = t.apart in let s = c.before.before.before.before.before.before.before.before.before.before.before.before.before.before.before.requires.0 in (c.before.before.before.before.before.before.before.before.before.before.before.chart.ensures.here, omega arith, omega arith, length-replicate {A = ℕ} state_room 0, record { expression = t.first; beyond = t.beyond; here = t.one; to = ae })
 
 slice-aggregate-class-all-3 : tie.Need-slice-aggregate-class-all-3
 slice-aggregate-class-all-3 c = search rules
@@ -60,7 +60,7 @@ slice-aggregate-class-all-4 c = search rules
 
 class-all-requires-2 : tie.Need-class-all-requires-2
 class-all-requires-2 c κs =
-    let t = c.before.before.before.before.before.before.before.before.before.before.before.before.before.before.before.before.before.before.before.requires.1 in let (ae, al) = part-bounds t.one c.before.before.before.before.before.before.before.before.before.before.part_at.ensures in let (be, bl) = part-bounds t.two c.before.before.before.before.before.before.before.part-at2.ensures in let q = t.apart in let s = c.before.before.before.before.before.before.before.before.before.before.before.before.before.before.before.before.before.before.before.requires.0 in (c.before.before.before.before.before.before.before.before.before.before.before.before.before.before.before.chart.ensures.here, omega arith, omega arith, c.before.before.before.class-all.ensures.1.long ∙ length-replicate {A = ℕ} stateRoom 0, record { expression = t.second; beyond = t.further; here = t.two; to = be })
+    let t = c.before.before.before.before.before.before.before.before.before.before.before.before.before.before.before.before.before.before.before.requires.1 in let (ae, al) = part-bounds t.one c.before.before.before.before.before.before.before.before.before.before.part_at.ensures in let (be, bl) = part-bounds t.two c.before.before.before.before.before.before.before.part-at2.ensures in let q = t.apart in let s = c.before.before.before.before.before.before.before.before.before.before.before.before.before.before.before.before.before.before.before.requires.0 in (c.before.before.before.before.before.before.before.before.before.before.before.before.before.before.before.chart.ensures.here, omega arith, omega arith, c.before.before.before.class-all.ensures.1.long ∙ length-replicate {A = ℕ} state_room 0, record { expression = t.second; beyond = t.further; here = t.two; to = be })
 
 slice-aggregate-judge-classed : tie.Need-slice-aggregate-judge-classed
 slice-aggregate-judge-classed c = search rules

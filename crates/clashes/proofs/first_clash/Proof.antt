@@ -6,15 +6,15 @@ use lib.ListN.{length}
 use borrow.Author.Rules.{rules}
 use Rattle.language.specs.Limits.{desk}
 use Rattle.language.specs.Trees.{Conj}
-use Rattle.language.specs.Writing.{conjWords}
-use Rattle.language.specs.Fine.{fineConj}
+use Rattle.language.specs.Writing.{conj_words}
+use Rattle.language.specs.Fine.{fine_conj}
 use Rattle.views.proofs.LiteralWalks.{Walked}
 use Rattle.clashes.proofs.Firsts.{Passed, first-starts, first-literal, first_ends, first-clashes, first-long, first_on}
 use Rattle.clashes.proofs.first_clash.Statement.{statement}
 use Rattle.clashes.proofs.first_clash.Tie as tie
 
 abbrev invariant-loop : tie.invariant-loop
-invariant-loop k s i₀ i = (c : Conj) → fineConj desk c → k ≡ conjWords c → Walked (Passed s c i) c i
+invariant-loop k s i₀ i = (c : Conj) → fine_conj desk c → k ≡ conj_words c → Walked (Passed s c i) c i
 
 abbrev decreases-loop : tie.decreases-loop
 decreases-loop k s i₀ i = length k - i

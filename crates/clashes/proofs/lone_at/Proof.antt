@@ -5,7 +5,7 @@ use Rattle.language.specs.Limits.{desk}
 use Rattle.language.specs.Kinds.{kind_of}
 use Rattle.views.proofs.LiteralWalks.{at-equation, at-membership}
 use Rattle.clashes.specs.declared.Lone.TheVariants.{Nothing}
-use Rattle.clashes.specs.Pairs.{loneOf, loneKind}
+use Rattle.clashes.specs.Pairs.{lone_of, lone_kind}
 use Rattle.clashes.proofs.Alone.{lone-of-ends, lone-of-goes-on}
 use Rattle.clashes.proofs.lone_at.Statement.{statement}
 use Rattle.clashes.proofs.lone_at.Tie as tie
@@ -13,18 +13,18 @@ use Rattle.clashes.proofs.lone_at.Tie as tie
 returns : tie.Need-returns
 returns c =
     let start = c.before.before.before in
-    at-equation start.args.k.now start.args.at (λ before l behind. Nothing ≡ loneOf l) c.if1.true (λ before l r behind p. refl)
+    at-equation start.args.k.now start.args.at (λ before l behind. Nothing ≡ lone_of l) c.if1.true (λ before l r behind p. refl)
 
 returns-2 : tie.Need-returns-2
 returns-2 c =
     let c₁ = c.before in let c₂ = c₁.before in let c₃ = c₂.before.before in let start = c₃.before.before.before in
-    at-membership start.args.k.now start.args.at (λ before l behind. c.lone-word.result ≡ loneOf l) c₃.if1.false
-    λ before h R behind p. c.lone-word.ensures ∙ ap (λ w. loneKind (kind_of desk w)) c₁.word2.ensures ∙ lone-of-ends p c₂.before.word.ensures c₂.if2.true
+    at-membership start.args.k.now start.args.at (λ before l behind. c.lone-word.result ≡ lone_of l) c₃.if1.false
+    λ before h R behind p. c.lone-word.ensures ∙ ap (λ w. lone_kind (kind_of desk w)) c₁.word2.ensures ∙ lone-of-ends p c₂.before.word.ensures c₂.if2.true
 
 returns-3 : tie.Need-returns-3
 returns-3 c =
     let c₁ = c.before in let c₂ = c₁.before in let start = c₂.before.before.before in
-    at-membership start.args.k.now start.args.at (λ before l behind. Nothing ≡ loneOf l) c₂.if1.false
+    at-membership start.args.k.now start.args.at (λ before l behind. Nothing ≡ lone_of l) c₂.if1.false
     λ before h R behind p. lone-of-goes-on p c₁.word.ensures c.if2.false
 
 pub lone-at-spec : {M : Type 1} → statement M

@@ -4,13 +4,13 @@ use native.Mathlib.Omega.{arith}
 use mathlib.Core.Path.{◌≡◌, refl, sym, ◌∙◌}
 use lib.Seq.{slice}
 use borrow.Author.Rules.{rules}
-use Rattle.clashes.specs.Pairs.{someUnordered}
+use Rattle.clashes.specs.Pairs.{some_unordered}
 use Rattle.clashes.proofs.Unordered.{some-none, some-here, some_next}
 use Rattle.clashes.proofs.mentions.Statement.{statement}
 use Rattle.clashes.proofs.mentions.Tie as tie
 
 abbrev invariant-loop : tie.invariant-loop
-invariant-loop k from to s i₀ i = someUnordered s (slice i to k) ≡ someUnordered s (slice from to k)
+invariant-loop k from to s i₀ i = some_unordered s (slice i to k) ≡ some_unordered s (slice from to k)
 
 abbrev decreases-loop : tie.decreases-loop
 decreases-loop k from to s i₀ i = to - i

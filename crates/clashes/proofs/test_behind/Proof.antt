@@ -6,18 +6,18 @@ use mathlib.Core.List.{◌∷◌, ◌++◌}
 use lib.ListN.{length, drop}
 use borrow.Author.Rules.{rules}
 use Rattle.language.specs.Trees.{Literal, Conj}
-use Rattle.words.specs.Places.{untilLiteral}
+use Rattle.words.specs.Places.{until_literal}
 use Rattle.views.specs.Standing.{LiteralAt}
 use Rattle.views.proofs.LiteralWalks.{Walked}
-use Rattle.clashes.specs.Pairs.{loneOf, isTerm}
+use Rattle.clashes.specs.Pairs.{lone_of, is_term}
 use Rattle.clashes.proofs.Behind.{Known, behind-starts, behind-ends, next-within, two-tests, behind-passed, behind-shares, behind-clashes, behind-long}
 use Rattle.clashes.proofs.test_behind.Statement.{statement}
 use Rattle.clashes.proofs.test_behind.Tie as tie
 
 abbrev invariant-loop : tie.invariant-loop
 invariant-loop k at s x term end j₀ j =
-    (end ≤ j) × (end ≡ at + 1 + untilLiteral (drop (at + 1) k)) × (term ≡ isTerm x)
-    × ((before : Conj) (l : Literal) (behind : Conj) → LiteralAt k at before l behind → (x ≡ loneOf l) × Walked (Known s l behind) (before ++ (l ∷ behind)) j)
+    (end ≤ j) × (end ≡ at + 1 + until_literal (drop (at + 1) k)) × (term ≡ is_term x)
+    × ((before : Conj) (l : Literal) (behind : Conj) → LiteralAt k at before l behind → (x ≡ lone_of l) × Walked (Known s l behind) (before ++ (l ∷ behind)) j)
 
 abbrev decreases-loop : tie.decreases-loop
 decreases-loop k at s x term end j₀ j = length k - j

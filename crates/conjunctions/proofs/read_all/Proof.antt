@@ -10,18 +10,18 @@ use Rattle.language.specs.Limits.{desk}
 use Rattle.language.specs.Question.{parts, read_all}
 use Rattle.language.proofs.Walks.{Walk, walk-starts, walk-room, walk-part, walk-on, walk-stops, walk_ends}
 use Rattle.trees.specs.Places.{placed}
-use Rattle.conjunctions.proofs.Parts.{toRead, part-read, part-within, part-stops, none_left}
+use Rattle.conjunctions.proofs.Parts.{to_read, part-read, part-within, part-stops, none_left}
 use Rattle.conjunctions.proofs.read_all.Statement.{statement}
 use Rattle.conjunctions.proofs.read_all.Tie as tie
 
 abbrev invariant-loop : tie.invariant-loop
-invariant-loop w n stop from₀ i₀ from i = (i ≤ stop) × (stop ≡ n + 6) × (stop ≤ length w) × Walk toRead 5 n w i from
+invariant-loop w n stop from₀ i₀ from i = (i ≤ stop) × (stop ≡ n + 6) × (stop ≤ length w) × Walk to_read 5 n w i from
 
 abbrev decreases-loop : tie.decreases-loop
 decreases-loop w n stop from₀ i₀ from i = stop - i
 
 -- where the parts begin
-from-body : (n : ℕ) (ws : List ℕ) → toRead 0 (5 + n + 1) (parts 5 n ws) ≡ placed (6 + n) (read_all desk (parts 5 n ws))
+from-body : (n : ℕ) (ws : List ℕ) → to_read 0 (5 + n + 1) (parts 5 n ws) ≡ placed (6 + n) (read_all desk (parts 5 n ws))
 from-body n ws = ap (λ at. placed at (read_all desk (parts 5 n ws))) (let z : 5 + n + 1 ≡ 6 + n = omega arith in z)
 
 pub read-all-spec : {M : Type 1} → statement M
@@ -30,7 +30,7 @@ read-all-spec =
     invariant-loop decreases-loop (λ c κs. search rules) (λ c. search rules)
     (λ c.
     let e = c.wide.ensures in
-    let w = walk-starts toRead 5 _ _ 6 _ c.before.before.requires refl (omega arith) in
+    let w = walk-starts to_read 5 _ _ 6 _ c.before.before.requires refl (omega arith) in
     (omega arith, omega arith, omega (arith, walk-room _ _ _ _ w), w))
     (λ c. search rules) (λ c. search rules) (λ c κs. search rules)
     (λ c.

@@ -7,8 +7,8 @@ use lib.Seq.{length-take-le}
 use borrow.Author.Rules.{rules}
 use Rattle.language.specs.Limits.{desk}
 use Rattle.word_bytes.specs.Bytes.{words_in}
-use Rattle.sheets.specs.Layout.{sheetParts}
-use Rattle.sheets.specs.Day.{answersOf}
+use Rattle.sheets.specs.Layout.{sheet_parts}
+use Rattle.sheets.specs.Day.{answers_of}
 use Rattle.day.specs.Written.{Placed, Kept}
 use Rattle.day.proofs.Cuts.{few-questions}
 use Rattle.day.proofs.Ends.{kept_same, kept_on}
@@ -18,7 +18,7 @@ use Rattle.day.proofs.answer_all.Tie as tie
 
 abbrev invariant-loop : tie.invariant-loop
 invariant-loop sheet count work₀ answer₀ room₀ n at₀ i₀ work answer room at i =
-    (n ≡ count) × (i ≤ n) × Placed count (answersOf desk (length work₀) (length answer₀) (sheetParts (words_in sheet))) room₀ i at room × Kept work₀ work × Kept answer₀ answer
+    (n ≡ count) × (i ≤ n) × Placed count (answers_of desk (length work₀) (length answer₀) (sheet_parts (words_in sheet))) room₀ i at room × Kept work₀ work × Kept answer₀ answer
 
 abbrev decreases-loop : tie.decreases-loop
 decreases-loop sheet count work₀ answer₀ room₀ n at₀ i₀ work answer room at i = n - i

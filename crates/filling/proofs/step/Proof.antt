@@ -7,17 +7,17 @@ use Rattle.language.specs.declared.Kind.{Kind}
 use Rattle.language.specs.declared.Kind.TheVariants.{Symbol}
 use Rattle.language.specs.declared.Sym.{Sym}
 use Rattle.language.proofs.Arms.{Among, each-kind}
-use Rattle.filling.specs.Showing.{stepOn}
+use Rattle.filling.specs.Showing.{step_on}
 use Rattle.filling.proofs.step.Statement.{statement}
 use Rattle.filling.proofs.step.Tie as tie
 
-symbol : {k j : Kind} {f : Sym} (n : ℕ) → k ≡ j → k ≡ Symbol f → n ≡ stepOn n j
-symbol n e g = ap (stepOn n) (sym g ∙ e)
+symbol : {k j : Kind} {f : Sym} (n : ℕ) → k ≡ j → k ≡ Symbol f → n ≡ step_on n j
+symbol n e g = ap (step_on n) (sym g ∙ e)
 
-other : {k j : Kind} (n : ℕ) → k ≡ j → Among (0 ∷ 1 ∷ 2 ∷ 4 ∷ 5 ∷ 6 ∷ 7 ∷ 8 ∷ 9 ∷ 10 ∷ 11 ∷ []) k → 1 ≡ stepOn n j
+other : {k j : Kind} (n : ℕ) → k ≡ j → Among (0 ∷ 1 ∷ 2 ∷ 4 ∷ 5 ∷ 6 ∷ 7 ∷ 8 ∷ 9 ∷ 10 ∷ 11 ∷ []) k → 1 ≡ step_on n j
 other {k} n e o =
-    each-kind (0 ∷ 1 ∷ 2 ∷ 4 ∷ 5 ∷ 6 ∷ 7 ∷ 8 ∷ 9 ∷ 10 ∷ 11 ∷ []) (λ j. 1 ≡ stepOn n j) refl (λ x. refl) (λ x. refl) tt (λ x. refl) refl refl refl refl refl refl refl k o
-    ∙ ap (stepOn n) e
+    each-kind (0 ∷ 1 ∷ 2 ∷ 4 ∷ 5 ∷ 6 ∷ 7 ∷ 8 ∷ 9 ∷ 10 ∷ 11 ∷ []) (λ j. 1 ≡ step_on n j) refl (λ x. refl) (λ x. refl) tt (λ x. refl) refl refl refl refl refl refl refl k o
+    ∙ ap (step_on n) e
 
 pub step_spec : {M : Type 1} → statement M
 step_spec =

@@ -6,11 +6,11 @@ use mathlib.Core.List.{List}
 use Prim.Native.Nat.{ℕ, ◌+◌, ◌-◌, ◌≤◌}
 use lib.ListN.{length, get_or}
 use Rattle.language.specs.Trees.{Hedge}
-use Rattle.rules.specs.Looks.{allTerms}
+use Rattle.rules.specs.Looks.{all_terms}
 use Rattle.views.specs.Standing.{Stands}
 use Rattle.finds.specs.Walks.{size}
-use Rattle.finds.proofs.Walks.{Passed, pass-start, pass_on, goes_on, term-some, word-term, word-empty, allTerms-on, allTerms-end}
-use Rattle.finds.specs.Places.{termsEnd}
+use Rattle.finds.proofs.Walks.{Passed, pass-start, pass_on, goes_on, term-some, word-term, word-empty, all_terms-on, all_terms-end}
+use Rattle.finds.specs.Places.{terms_end}
 use Rattle.finds.proofs.Firsts.{Gone, gone-start}
 use Rattle.finds.proofs.Stops.{terms-on, terms-end}
 use Rattle.finds.proofs.all_terms.Statement.{statement}
@@ -18,8 +18,8 @@ use Rattle.finds.proofs.all_terms.Tie as tie
 
 abbrev invariant-loop : tie.invariant-loop
 invariant-loop k at i₀ n₀ x₀ i n x =
-    ((h : Hedge) (beyond : List ℕ) → Stands k at h beyond → Passed k at i beyond (λ done left. (allTerms left ≡ allTerms h) × (n + size left ≡ size h)))
-    × (x ≡ get_or k i 0) × (n ≤ i) × (n ≤ length k) × Gone k at (termsEnd k) n i
+    ((h : Hedge) (beyond : List ℕ) → Stands k at h beyond → Passed k at i beyond (λ done left. (all_terms left ≡ all_terms h) × (n + size left ≡ size h)))
+    × (x ≡ get_or k i 0) × (n ≤ i) × (n ≤ length k) × Gone k at (terms_end k) n i
 
 abbrev decreases-loop : tie.decreases-loop
 decreases-loop k at i₀ n₀ x₀ i n x = length k - i
@@ -41,7 +41,7 @@ loop-again : tie.Need-loop-preserved invariant-loop decreases-loop
 loop-again c =
     let c₁ = c.before in let c₂ = c₁.before in let c₃ = c₂.before in let c₄ = c₃.before in let c₅ = c₄.before.before.before in
     let z = goes_on c₅.args.k.now c₄.loop.i c₄.loop.invariant.1 c₁.element-end.ensures (term-some _ (sym c₃.is-term.ensures ∙ c₂.if1.true)) in (
-      (λ h beyond s. pass_on c₁.element-end.ensures (c₄.loop.invariant.0 h beyond s) (λ done left t q. let a = allTerms-on left (sym (word-term t c₄.loop.invariant.1) ∙ sym c₃.is-term.ensures ∙ c₂.if1.true) in (a.0 ∙ q.0, omega arith))),
+      (λ h beyond s. pass_on c₁.element-end.ensures (c₄.loop.invariant.0 h beyond s) (λ done left t q. let a = all_terms-on left (sym (word-term t c₄.loop.invariant.1) ∙ sym c₃.is-term.ensures ∙ c₂.if1.true) in (a.0 ∙ q.0, omega arith))),
       c.word2.ensures,
       omega arith,
       omega arith,
@@ -54,7 +54,7 @@ returns c =
       (λ h beyond s.
           let w = c₂.loop.invariant.0 h beyond s in
           let e = word-empty w.here c₂.loop.invariant.1 in
-          let a = allTerms-end w.left (sym (word-term w.here c₂.loop.invariant.1) ∙ sym c₁.is-term.ensures ∙ c.if1.false) in
+          let a = all_terms-end w.left (sym (word-term w.here c₂.loop.invariant.1) ∙ sym c₁.is-term.ensures ∙ c.if1.false) in
           record { all = e ∙ a.0 ∙ w.keeps.0; count = λ y. let z = a.1 (sym e ∙ y) in let q = w.keeps.1 in omega arith }),
       omega arith,
       terms-end _ _ c₂.loop.invariant.1 c₁.is-term.ensures c.if1.false c₂.loop.invariant.4,

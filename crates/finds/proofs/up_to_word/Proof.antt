@@ -8,11 +8,11 @@ use lib.ListN.{length, get_or}
 use Rattle.language.specs.Limits.{desk}
 use Rattle.language.specs.declared.HedgeVar.{HedgeVar}
 use Rattle.language.specs.Trees.{Hedge, hv}
-use Rattle.views.specs.Variables.{variableWord, fineVar}
+use Rattle.views.specs.Variables.{variable_word, fine_var}
 use Rattle.views.specs.Standing.{Stands}
 use Rattle.finds.proofs.Walks.{Passed, pass-start, pass_on, goes_on, term-some, word-term}
 use Rattle.finds.proofs.Searches.{Without, without-start, without_on, without-found, without_end}
-use Rattle.finds.specs.Places.{freeEnd}
+use Rattle.finds.specs.Places.{free_end}
 use Rattle.finds.proofs.Firsts.{Gone, gone-start}
 use Rattle.finds.proofs.Stops.{free_on, free-found, free-end}
 use Rattle.finds.proofs.up_to_word.Statement.{statement}
@@ -20,8 +20,8 @@ use Rattle.finds.proofs.up_to_word.Tie as tie
 
 abbrev invariant-loop : tie.invariant-loop
 invariant-loop k at p i₀ n₀ x₀ i n x =
-    ((q : HedgeVar) (h : Hedge) (beyond : List ℕ) → fineVar desk (hv q) → p ≡ variableWord (hv q) → Stands k at h beyond → Passed k at i beyond (Without q n h))
-    × (x ≡ get_or k i 0) × (n ≤ i) × (n ≤ length k) × Gone k at (freeEnd p k) n i
+    ((q : HedgeVar) (h : Hedge) (beyond : List ℕ) → fine_var desk (hv q) → p ≡ variable_word (hv q) → Stands k at h beyond → Passed k at i beyond (Without q n h))
+    × (x ≡ get_or k i 0) × (n ≤ i) × (n ≤ length k) × Gone k at (free_end p k) n i
 
 abbrev decreases-loop : tie.decreases-loop
 decreases-loop k at p i₀ n₀ x₀ i n x = length k - i

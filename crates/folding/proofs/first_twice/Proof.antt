@@ -11,7 +11,7 @@ use Rattle.views.proofs.LiteralWalks.{Walked}
 use Rattle.notes.specs.Rows.{SomeNoted}
 use Rattle.notes.proofs.Rows.{noted_one, noted-among, noted-few}
 use Rattle.notes.proofs.Walks.{Numbered, rows_start, row_here, row_within, row_on, rows_end}
-use Rattle.folding.specs.Twice.{firstTwice}
+use Rattle.folding.specs.Twice.{first_twice}
 use Rattle.folding.specs.Chains.{Falls}
 use Rattle.folding.proofs.Tables.{Table, zeros, falls-empty, falls-on, table_on}
 use Rattle.folding.proofs.Taking.{Known, known-none, known_on, known-within, ends_found, ends-none, ends-few}
@@ -30,7 +30,7 @@ abbrev decreases-loop : tie.decreases-loop
 decreases-loop k rows m heads₀ next₀ places₀ best₀ i₀ at₀ heads next places best i at = m - i
 
 returns : tie.Need-returns invariant-loop decreases-loop
-returns c = let n = c.before.before.requires.1.noted in λ x f e. ends-few n c.if1.true ∙ ap firstTwice (noted_one n x f e)
+returns c = let n = c.before.before.requires.1.noted in λ x f e. ends-few n c.if1.true ∙ ap first_twice (noted_one n x f e)
 
 loop-holds : tie.Need-loop-init invariant-loop decreases-loop
 loop-holds c =
@@ -93,14 +93,14 @@ returns-2 c =
     let c₁ = c.before in let c₂ = c₁.before in let c₃ = c₂.before in let c₄ = c₃.before.before.before in
     let x = c₄.requires.1 in
     let known = rows_end x.noted c₃.loop.i c₃.loop.at (P c₄.args.m c₃.loop.best c₃.loop.places x.noted.conj c₃.loop.i) (c₃.loop.invariant.3 x) c₂.loop-test.false in
-    λ d f e. c.wide.ensures ∙ ends_found x.noted known c₂.loop-test.false c₁.if2.true ∙ ap firstTwice (noted_one x.noted d f e)
+    λ d f e. c.wide.ensures ∙ ends_found x.noted known c₂.loop-test.false c₁.if2.true ∙ ap first_twice (noted_one x.noted d f e)
 
 returns-3 : tie.Need-returns-3 invariant-loop decreases-loop
 returns-3 c =
     let c₁ = c.before in let c₂ = c₁.before in let c₃ = c₂.before.before.before in
     let x = c₃.requires.1 in
     let known = rows_end x.noted c₂.loop.i c₂.loop.at (P c₃.args.m c₂.loop.best c₂.loop.places x.noted.conj c₂.loop.i) (c₂.loop.invariant.3 x) c₁.loop-test.false in
-    λ d f e. ends-none x.noted known c.if2.false ∙ ap firstTwice (noted_one x.noted d f e)
+    λ d f e. ends-none x.noted known c.if2.false ∙ ap first_twice (noted_one x.noted d f e)
 
 pub first-twice-spec : {M : Type 1} → statement M
 first-twice-spec =

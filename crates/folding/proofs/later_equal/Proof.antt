@@ -6,7 +6,7 @@ use native.Mathlib.Omega.{arith}
 use lib.ListN.{length, drop}
 use borrow.Author.Rules.{rules}
 use Rattle.language.specs.Trees.{Literal, Conj}
-use Rattle.words.specs.Places.{untilLiteral}
+use Rattle.words.specs.Places.{until_literal}
 use Rattle.views.specs.Standing.{LiteralAt}
 use Rattle.views.proofs.LiteralWalks.{Walked}
 use Rattle.folding.proofs.Laters.{Passed, later-starts, later-found, later-on, later-ends}
@@ -15,7 +15,7 @@ use Rattle.folding.proofs.later_equal.Tie as tie
 
 abbrev invariant-loop : tie.invariant-loop
 invariant-loop k at end j₀ j =
-    (end ≡ at + 1 + untilLiteral (drop (at + 1) k))
+    (end ≡ at + 1 + until_literal (drop (at + 1) k))
     × ((before : Conj) (l : Literal) (behind : Conj) → LiteralAt k at before l behind → Walked (Passed at l behind j) (before ++ (l ∷ behind)) j)
 
 abbrev decreases-loop : tie.decreases-loop

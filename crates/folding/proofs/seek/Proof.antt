@@ -4,13 +4,13 @@ use mathlib.Core.Path.{refl, sym, ◌∙◌, subst}
 use mathlib.Core.Logic.{inr}
 use native.Mathlib.Omega.{arith}
 use borrow.Author.Rules.{rules}
-use Rattle.folding.specs.Chains.{Held, here, further, alikeBelow, met, unmet}
+use Rattle.folding.specs.Chains.{Held, here, further, alike_below, met, unmet}
 use Rattle.folding.proofs.Chains.{Left, left-on, left_end}
 use Rattle.folding.proofs.seek.Statement.{statement}
 use Rattle.folding.proofs.seek.Tie as tie
 
 abbrev invariant-loop : tie.invariant-loop
-invariant-loop k rows places next first best at n p₀ p = (p ≤ first) × ((q : ℕ) → Held next p q → Held next first q) × Left (alikeBelow k rows places best at n) next first p
+invariant-loop k rows places next first best at n p₀ p = (p ≤ first) × ((q : ℕ) → Held next p q → Held next first q) × Left (alike_below k rows places best at n) next first p
 
 abbrev decreases-loop : tie.decreases-loop
 decreases-loop k rows places next first best at n p₀ p = p
@@ -28,13 +28,13 @@ loop-again c =
     let y = c.wide.ensures in (
       omega arith,
       λ q r. c₃.loop.invariant.1 q (further (c₃.loop.p - 1) (omega arith) (subst (λ n. Held c₄.args.next.now n q) y r)),
-      left-on (alikeBelow c₄.args.k.now c₄.args.rows.now c₄.args.places.now c₄.args.best c₄.args.at c₄.args.n) c₄.args.next.now c₄.args.first c₃.loop.p c₃.loop.invariant.2 (c₃.loop.p - 1) _ (omega arith) y (sym c₂.alike.ensures ∙ c₁.if1.false),
+      left-on (alike_below c₄.args.k.now c₄.args.rows.now c₄.args.places.now c₄.args.best c₄.args.at c₄.args.n) c₄.args.next.now c₄.args.first c₃.loop.p c₃.loop.invariant.2 (c₃.loop.p - 1) _ (omega arith) y (sym c₂.alike.ensures ∙ c₁.if1.false),
     )
 
 returns-2 : tie.Need-returns-2 invariant-loop decreases-loop
 returns-2 c =
     let c₁ = c.before in let c₂ = c₁.before.before in
-    unmet refl (left_end (alikeBelow c₂.args.k.now c₂.args.rows.now c₂.args.places.now c₂.args.best c₂.args.at c₂.args.n) c₂.args.next.now c₂.args.first c₁.loop.p c₁.loop.invariant.2 c.loop-test.false)
+    unmet refl (left_end (alike_below c₂.args.k.now c₂.args.rows.now c₂.args.places.now c₂.args.best c₂.args.at c₂.args.n) c₂.args.next.now c₂.args.first c₁.loop.p c₁.loop.invariant.2 c.loop-test.false)
 
 pub seek-spec : {M : Type 1} → statement M
 seek-spec =

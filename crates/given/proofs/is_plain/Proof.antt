@@ -5,13 +5,13 @@ use native.Mathlib.Omega.{arith}
 use borrow.Author.Rules.{rules}
 use borrow.Author.Tests.{not-true, not-false}
 use lib.ListN.{length, drop}
-use Rattle.given.specs.Checking.{plainWords}
+use Rattle.given.specs.Checking.{plain_words}
 use Rattle.given.proofs.Plain.{plain-on, plain-fails, plain_done}
 use Rattle.given.proofs.is_plain.Statement.{statement}
 use Rattle.given.proofs.is_plain.Tie as tie
 
 abbrev invariant-loop : tie.invariant-loop
-invariant-loop words symbols i₀ i = plainWords symbols (drop i words) ≡ plainWords symbols words
+invariant-loop words symbols i₀ i = plain_words symbols (drop i words) ≡ plain_words symbols words
 
 abbrev decreases-loop : tie.decreases-loop
 decreases-loop words symbols i₀ i = length words - i

@@ -6,17 +6,17 @@ use Prim.Native.Nat.{ℕ}
 use borrow.Author.Rules.{rules}
 use Rattle.language.specs.declared.Kind.{Kind}
 use Rattle.language.proofs.Arms.{Among, each-kind}
-use Rattle.given.specs.Checking.{plainOn}
+use Rattle.given.specs.Checking.{plain_on}
 use Rattle.given.proofs.is_plain_word.Statement.{statement}
 use Rattle.given.proofs.is_plain_word.Tie as tie
 
-is : (n : ℕ) {k j i : Kind} → k ≡ j → k ≡ i → plainOn n i ≡ plainOn n j
-is n e g = ap (plainOn n) (sym g ∙ e)
+is : (n : ℕ) {k j i : Kind} → k ≡ j → k ≡ i → plain_on n i ≡ plain_on n j
+is n e g = ap (plain_on n) (sym g ∙ e)
 
-other : (n : ℕ) {k j : Kind} → k ≡ j → Among (1 ∷ 2 ∷ 4 ∷ 5 ∷ 6 ∷ 7 ∷ 8 ∷ 9 ∷ 10 ∷ 11 ∷ []) k → false ≡ plainOn n j
+other : (n : ℕ) {k j : Kind} → k ≡ j → Among (1 ∷ 2 ∷ 4 ∷ 5 ∷ 6 ∷ 7 ∷ 8 ∷ 9 ∷ 10 ∷ 11 ∷ []) k → false ≡ plain_on n j
 other n {k} e o =
-    each-kind (1 ∷ 2 ∷ 4 ∷ 5 ∷ 6 ∷ 7 ∷ 8 ∷ 9 ∷ 10 ∷ 11 ∷ []) (λ j. false ≡ plainOn n j) tt (λ x. refl) (λ x. refl) tt (λ x. refl) refl refl refl refl refl refl refl k o
-    ∙ ap (plainOn n) e
+    each-kind (1 ∷ 2 ∷ 4 ∷ 5 ∷ 6 ∷ 7 ∷ 8 ∷ 9 ∷ 10 ∷ 11 ∷ []) (λ j. false ≡ plain_on n j) tt (λ x. refl) (λ x. refl) tt (λ x. refl) refl refl refl refl refl refl refl k o
+    ∙ ap (plain_on n) e
 
 pub is-plain-word-spec : {M : Type 1} → statement M
 is-plain-word-spec =

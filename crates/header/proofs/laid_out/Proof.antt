@@ -6,24 +6,24 @@ use mathlib.Core.Bool.{false}
 use mathlib.Core.List.{List}
 use lib.ListN.{length, get_or}
 use borrow.Author.Rules.{rules}
-use Rattle.language.specs.Question.{rising, laidOut}
+use Rattle.language.specs.Question.{rising, laid_out}
 use Rattle.language.specs.Between.{between}
 use Rattle.language.proofs.Offsets.{laid-short, laid-first, laid-rest}
 use Rattle.header.proofs.laid_out.Statement.{statement}
 use Rattle.header.proofs.laid_out.Tie as tie
 
 module _ (w : List ℕ) (head n h m : ℕ) (eh : h ≡ head) (em : m ≡ n) where
-  same : laidOut h m w ≡ laidOut head n w
+  same : laid_out h m w ≡ laid_out head n w
   same = cc
 
-  short : length w < h + m + 1 → false ≡ laidOut head n w
+  short : length w < h + m + 1 → false ≡ laid_out head n w
   short p = sym (laid-short h m w p) ∙ same
 
   module _ (p : h + m + 1 ≤ length w) (o : ℕ) (e : o ≡ get_or w h 0) where
-    elsewhere : (o ≡ h + m + 1 → ⊥) → false ≡ laidOut head n w
+    elsewhere : (o ≡ h + m + 1 → ⊥) → false ≡ laid_out head n w
     elsewhere q = sym (laid-first h m w p (λ z. q (e ∙ z))) ∙ same
 
-    rest : o ≡ h + m + 1 → rising (h + m + 1) (between (h + 1) (h + m + 1) w) (length w) ≡ laidOut head n w
+    rest : o ≡ h + m + 1 → rising (h + m + 1) (between (h + 1) (h + m + 1) w) (length w) ≡ laid_out head n w
     rest z = sym (laid-rest h m w p (sym e ∙ z)) ∙ same
 
 pub laid-out-spec : {M : Type 1} → statement M

@@ -3,7 +3,7 @@ use mathlib.Core.Path.{ap, ◌∙◌}
 use native.Mathlib.Omega.{arith}
 use borrow.Author.Rules.{rules}
 use Rattle.rules.specs.Calls.{Showing}
-use Rattle.host.specs.Host.{showNumber, showLeaves}
+use Rattle.host.specs.Host.{show_number, show_leaves}
 use Rattle.host.proofs.Shows.{bytes-show}
 use Rattle.host.proofs.desk_example.Statement.{statement}
 use Rattle.host.proofs.desk_example.Tie as tie
@@ -22,7 +22,7 @@ returns c =
     let c₅ = c₄.before.before.before.before in
     let a = c₅.args in
     let e = bytes-show a.question.now _ a.room.now a.line a.old _ _ c₂.truth.ensures c₄.take_words.ensures.1.0 c₃.most.ensures.0 in
-    (c₁.show.ensures.0 ∙ ap showNumber e, c₁.show.ensures.1 ∙ ap (λ (s : Showing). showLeaves s a.room.now) e)
+    (c₁.show.ensures.0 ∙ ap show_number e, c₁.show.ensures.1 ∙ ap (λ (s : Showing). show_leaves s a.room.now) e)
 
 pub desk-example-spec : {M : Type 1} → statement M
 desk-example-spec =

@@ -4,7 +4,7 @@ use mathlib.Core.Path.{◌≡◌, ap, sym}
 use lib.ListN.{length}
 use native.Mathlib.Omega.{arith}
 use native.Mathlib.Nat.{mod-lt}
-use Rattle.orders.specs.Orders.{drop_at, inOrder, elementsAt}
+use Rattle.orders.specs.Orders.{drop_at, in_order, elements_at}
 use Rattle.slices.proofs.Still.{Still, still-all, still-none, still-fits, still-run}
 use Rattle.orders.proofs.Orders.{next-found, agree-order, counted-orders, orders-some, none-in-order, still-as}
 use borrow.Author.Rules.{rules}
@@ -12,7 +12,7 @@ use Rattle.in_order.proofs.write_few.Statement.{statement}
 use Rattle.in_order.proofs.write_few.Tie as tie
 
 abbrev invariant-loop : tie.invariant-loop
-invariant-loop k n number out₀ at ps₀ m₀ j₀ e₀ out ps m j e = Still out₀ at (elementsAt k (inOrder n number ps₀.at)) out e (elementsAt k (inOrder m j ps.at)) × (m ≤ 8) × (length ps.at ≡ 8)
+invariant-loop k n number out₀ at ps₀ m₀ j₀ e₀ out ps m j e = Still out₀ at (elements_at k (in_order n number ps₀.at)) out e (elements_at k (in_order m j ps.at)) × (m ≤ 8) × (length ps.at ≡ 8)
 
 abbrev decreases-loop : tie.decreases-loop
 decreases-loop k n number out₀ at ps₀ m₀ j₀ e₀ out ps m j e = m
@@ -51,7 +51,7 @@ loop-again c =
     let c₁ = c.before.before.before in let c₂ = c₁.before.before in let c₃ = c₂.before.before in let c₄ = c₃.before in let c₅ = c₄.before in
     let c₆ = c₅.before.before.before in
     let l = c₅.loop.invariant.1 in let t = c₄.loop-test.true in (
-      still-as (ap (elementsAt c₆.args.k.now) (sym (agree-order (c₅.loop.m - 1) (c₅.loop.j % c₃.count-orders.result) c.without.result.at (drop_at (c₅.loop.j / c₃.count-orders.result % c₅.loop.m) c₅.loop.ps.at) (λ i h. c.without.ensures.1 i (omega arith)))))
+      still-as (ap (elements_at c₆.args.k.now) (sym (agree-order (c₅.loop.m - 1) (c₅.loop.j % c₃.count-orders.result) c.without.result.at (drop_at (c₅.loop.j / c₃.count-orders.result % c₅.loop.m) c₅.loop.ps.at) (λ i h. c.without.ensures.1 i (omega arith)))))
           (still-run c₅.loop.invariant.0 (next-found c₆.args.k.now c₅.loop.m c₅.loop.j c₅.loop.ps.at c₄.loop-test.true
           (counted-orders (c₅.loop.m - 1) (omega arith) c₃.count-orders.ensures) c₂.element-end.ensures) c₁.copy.ensures),
       omega arith,

@@ -7,7 +7,7 @@ use Rattle.language.specs.Trees.{Hedge, Expr, mem, Conj}
 use Rattle.views.specs.declared.Shape.{Shape}
 use Rattle.views.specs.Standing.{LiteralAt}
 use Rattle.views.specs.Views.{Shows, MembershipAt}
-use Rattle.plans.specs.Sizes.{monomialWords}
+use Rattle.plans.specs.Sizes.{monomial_words}
 use Rattle.linear_form.specs.Rows.{SomeMembership}
 use Rattle.taking.proofs.Taken.{took-long, took-room, took-ready, took-done}
 use Rattle.linear_form.proofs.Charting.{chart-within, expression-ends, expression-within}
@@ -45,7 +45,7 @@ write-monomials-requires c κs =
       record {
         membership = m;
         ready =
-            took-ready _ (monomialWords m.before m.h m.R m.behind) c₆.args.out.now c₆.args.next _
+            took-ready _ (monomial_words m.before m.h m.R m.behind) c₆.args.out.now c₆.args.next _
             (c₃.size-monomials.ensures.each m.before m.h m.R m.behind m.shows) _ c₂.n.given.1 c₁.if1.false d.3 d.2;
       },
     )
@@ -53,12 +53,12 @@ write-monomials-requires c κs =
 returns : tie.Need-returns
 returns c = λ before h R behind p.
     let s = c.before.before.before.before.before.before.before.before.before.show-membership.ensures.0 before h R behind p in
-    took-room _ (monomialWords before h R behind) _ _ _ (c.before.before.before.before.size-monomials.ensures.each before h R behind s) _ c.before.before.n.given.1 c.if1.true
+    took-room _ (monomial_words before h R behind) _ _ _ (c.before.before.before.before.size-monomials.ensures.each before h R behind s) _ c.before.before.n.given.1 c.if1.true
 
 returns-2 : tie.Need-returns-2
 returns-2 c = λ before h R behind p.
     let s = c.before.before.before.before.before.before.before.show-membership.ensures.0 before h R behind p in
-    took-long _ (monomialWords before h R behind) _ _ _ (c.before.before.size-monomials.ensures.each before h R behind s) c.enum_told.given.1
+    took-long _ (monomial_words before h R behind) _ _ _ (c.before.before.size-monomials.ensures.each before h R behind s) c.enum_told.given.1
 
 returns-3 : tie.Need-returns-3
 returns-3 c =
@@ -68,8 +68,8 @@ returns-3 c =
     let s = c₅.show-membership.ensures.0 before h R behind p in
     let d = c₆.requires.0 in
     let e = c₄.size-monomials.ensures.each before h R behind s in
-    took-done _ (monomialWords before h R behind) c₆.args.out.now c₆.args.next _ e _ c₃.n.given.1 c₂.if1.false _ _
-    (c₁.write-monomials.ensures.each before h R behind s (took-ready _ (monomialWords before h R behind) c₆.args.out.now c₆.args.next _ e _ c₃.n.given.1 c₂.if1.false d.3 d.2))
+    took-done _ (monomial_words before h R behind) c₆.args.out.now c₆.args.next _ e _ c₃.n.given.1 c₂.if1.false _ _
+    (c₁.write-monomials.ensures.each before h R behind s (took-ready _ (monomial_words before h R behind) c₆.args.out.now c₆.args.next _ e _ c₃.n.given.1 c₂.if1.false d.3 d.2))
 
 pub step-monomials-spec : {M : Type 1} → statement M
 step-monomials-spec =

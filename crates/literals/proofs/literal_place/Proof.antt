@@ -6,15 +6,15 @@ use lib.ListN.{length}
 use borrow.Author.Rules.{rules}
 use Rattle.language.specs.Limits.{desk}
 use Rattle.language.specs.Trees.{Conj}
-use Rattle.language.specs.Writing.{conjWords}
-use Rattle.language.specs.Fine.{fineConj}
+use Rattle.language.specs.Writing.{conj_words}
+use Rattle.language.specs.Fine.{fine_conj}
 use Rattle.views.proofs.LiteralWalks.{Walked}
 use Rattle.literals.proofs.Walks.{Left, left-starts, left-none, left_less, left-ends}
 use Rattle.literals.proofs.literal_place.Statement.{statement}
 use Rattle.literals.proofs.literal_place.Tie as tie
 
 abbrev invariant-loop : tie.invariant-loop
-invariant-loop k number i₀ left₀ i left = (c : Conj) → fineConj desk c → k ≡ conjWords c → Walked (Left number c left i) c i
+invariant-loop k number i₀ left₀ i left = (c : Conj) → fine_conj desk c → k ≡ conj_words c → Walked (Left number c left i) c i
 
 abbrev decreases-loop : tie.decreases-loop
 decreases-loop k number i₀ left₀ i left = length k - i

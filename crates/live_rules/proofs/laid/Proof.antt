@@ -4,7 +4,7 @@ use mathlib.Core.Path.{◌≡◌, sym, ◌∙◌}
 use lib.ListN.{length}
 use Rattle.language.proofs.Bools.{holds, fails}
 use Rattle.word_bytes.specs.Bytes.{words_of}
-use Rattle.live_rules.specs.Layout.{rulesLaid}
+use Rattle.live_rules.specs.Layout.{rules_laid}
 use Rattle.live_rules.proofs.Reading.{inside, laid-stops, laid-goes, laid_done, laid-start}
 use native.Mathlib.Omega.{arith}
 use borrow.Author.Rules.{rules}
@@ -12,7 +12,7 @@ use Rattle.live_rules.proofs.laid.Statement.{statement}
 use Rattle.live_rules.proofs.laid.Tie as tie
 
 abbrev invariant-loop : tie.invariant-loop
-invariant-loop sheet n at₀ i₀ at i = (i ≤ n) × (at ≤ length sheet / 2) × (rulesLaid (n - i) at (words_of sheet) ≡ rulesLaid n 2 (words_of sheet))
+invariant-loop sheet n at₀ i₀ at i = (i ≤ n) × (at ≤ length sheet / 2) × (rules_laid (n - i) at (words_of sheet) ≡ rules_laid n 2 (words_of sheet))
 
 abbrev decreases-loop : tie.decreases-loop
 decreases-loop sheet n at₀ i₀ at i = n - i

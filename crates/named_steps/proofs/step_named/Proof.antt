@@ -4,7 +4,7 @@ use native.Mathlib.Omega.{arith}
 use borrow.Author.Rules.{rules}
 use Rattle.language.specs.declared.Signature.{Signature}
 use Rattle.language.specs.Limits.{desk}
-use Rattle.language.specs.Question.{readQuestion}
+use Rattle.language.specs.Question.{read_question}
 use Rattle.header.specs.declared.Header.{Header}
 use Rattle.reader.proofs.Answers.{as-checked}
 use Rattle.telling.specs.Telling.{triple_of}
@@ -66,7 +66,7 @@ returns-3 c =
     let t = triple_of c₄.args.rule c₄.args.literal c₄.args.side in
     unread-leaves c₄.args.number t c₄.args.question.now c₄.args.work.now _
     (long-work c₄.args.number t c₄.args.question.now c₄.args.work.now c₃.if1.false
-    ∙ refused-unread c₄.args.number t c₄.args.question.now c₄.args.work.now _ (sym c₁.r.given.1 ∙ as-checked _ (readQuestion desk c₄.args.question.now) c₂.read-question.ensures))
+    ∙ refused-unread c₄.args.number t c₄.args.question.now c₄.args.work.now _ (sym c₁.r.given.1 ∙ as-checked _ (read_question desk c₄.args.question.now) c₂.read-question.ensures))
 
 returns-4 : tie.Need-returns-4
 returns-4 c =

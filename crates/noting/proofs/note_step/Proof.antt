@@ -4,7 +4,7 @@ use native.Mathlib.Omega.{arith}
 use mathlib.Core.Path.{refl, ap}
 use lib.ListN.{set}
 use borrow.Author.Rules.{rules}
-use Rattle.noting.specs.Noting.{threeAt, there, roomless}
+use Rattle.noting.specs.Noting.{three_at, there, roomless}
 use Rattle.noting.proofs.Laws.{within}
 use Rattle.noting.proofs.note_step.Statement.{statement}
 use Rattle.noting.proofs.note_step.Tie as tie
@@ -21,7 +21,7 @@ slice-write-trail-3 c =
     (within c.before.before.before.args.trail.now (3 * c.before.before.before.args.made) c.before.before.before.args.rule (3 * c.before.before.before.args.made + 2) (let z = c.before.if1.false in let y = c.before.before.before.requires.0 in omega arith))
 
 returns-2 : tie.Need-returns-2
-returns-2 c = there refl (let z = c.before.if1.false in let y = c.before.before.before.requires.0 in omega arith) (ap (λ d. threeAt c.before.before.before.args.trail.now (3 * c.before.before.before.args.made) c.before.before.before.args.rule c.before.before.before.args.literal d) c.side-of.ensures)
+returns-2 c = there refl (let z = c.before.if1.false in let y = c.before.before.before.requires.0 in omega arith) (ap (λ d. three_at c.before.before.before.args.trail.now (3 * c.before.before.before.args.made) c.before.before.before.args.rule c.before.before.before.args.literal d) c.side-of.ensures)
 
 pub note-step-spec : {M : Type 1} → statement M
 note-step-spec =

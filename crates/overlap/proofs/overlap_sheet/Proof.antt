@@ -1,7 +1,7 @@
 -- `overlap::overlap_sheet` meets its contract.
 use mathlib.Core.Path.{sym, ap, ◌∙◌}
 use Rattle.word_bytes.specs.Bytes.{words_of}
-use Rattle.live_rules.specs.Layout.{rulesLaid}
+use Rattle.live_rules.specs.Layout.{rules_laid}
 use Rattle.live_rules.proofs.Reading.{is-sheet}
 use Rattle.overlap.proofs.Sheets.{sheet-refused, sheet-no-room, sheet-done}
 use native.Mathlib.Omega.{arith}
@@ -35,7 +35,7 @@ all-rows-requires : tie.Need-all-rows-requires
 all-rows-requires c κs =
     let c₁ = c.before.before.before in let c₂ = c₁.before in let c₃ = c₂.before in let c₄ = c₃.before in let c₅ = c₄.before in
     let c₆ = c₅.before.before.before in
-    let x = is-sheet c₆.args.sheet.now (sym c₅.sheet-number.ensures ∙ c₄.if1.false) in let t = c₁.table-length.ensures in (ap (λ m. rulesLaid m 2 (words_of c₆.args.sheet.now)) (c₂.wide.ensures ∙ c₃.word_at.ensures) ∙ x.laid, omega arith)
+    let x = is-sheet c₆.args.sheet.now (sym c₅.sheet-number.ensures ∙ c₄.if1.false) in let t = c₁.table-length.ensures in (ap (λ m. rules_laid m 2 (words_of c₆.args.sheet.now)) (c₂.wide.ensures ∙ c₃.word_at.ensures) ∙ x.laid, omega arith)
 
 returns-3 : tie.Need-returns-3
 returns-3 c =

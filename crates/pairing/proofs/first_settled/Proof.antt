@@ -2,7 +2,7 @@
 use Prim.Native.Nat.{◌≤◌, ◌-◌}
 use mathlib.Core.Path.{◌≡◌, sym, ◌∙◌}
 use borrow.Author.Tests.{eqb-true, eqb-false}
-use Rattle.pairing.specs.Lent.{markedFrom}
+use Rattle.pairing.specs.Lent.{marked_from}
 use Rattle.pairing.proofs.Reporting.{mark-here, mark-not, mark-end, marks-start}
 use native.Mathlib.Omega.{arith}
 use borrow.Author.Rules.{rules}
@@ -10,7 +10,7 @@ use Rattle.pairing.proofs.first_settled.Statement.{statement}
 use Rattle.pairing.proofs.first_settled.Tie as tie
 
 abbrev invariant-loop : tie.invariant-loop
-invariant-loop answer lines i₀ i = (i ≤ lines) × (markedFrom answer i (lines - i) ≡ markedFrom answer 0 lines)
+invariant-loop answer lines i₀ i = (i ≤ lines) × (marked_from answer i (lines - i) ≡ marked_from answer 0 lines)
 
 abbrev decreases-loop : tie.decreases-loop
 decreases-loop answer lines i₀ i = lines - i

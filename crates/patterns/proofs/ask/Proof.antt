@@ -4,7 +4,7 @@ use mathlib.Core.Path.{sym, ap₂, ◌∙◌}
 use lib.Dec.{ltb}
 use borrow.Author.Tests.{ltb-false}
 use Rattle.language.specs.Limits.{desk}
-use Rattle.word_bytes.proofs.Pairs.{length-wordsOf}
+use Rattle.word_bytes.proofs.Pairs.{length-words_of}
 use Rattle.patterns.proofs.Pairing.{none-tabled, sums-fit, ask-many, ask-few, ask-long, ask-asks}
 use native.Mathlib.Omega.{arith}
 use borrow.Author.Rules.{rules}
@@ -21,7 +21,7 @@ returns-2 : tie.Need-returns-2
 returns-2 c =
     let c₁ = c.before in let c₂ = c₁.before in let c₃ = c₂.before in let c₄ = c₃.before.before in let c₅ = c₄.before.before.before in
     let c₆ = c₅.before.before in let c₇ = c₆.before in let c₈ = c₇.before.before.before.before in
-    let a = sym (length-wordsOf c₇.even.result.now) in let b = sym (length-wordsOf c₆.even2.result.now) in ask-long c₈.args.word _ _ _ _ c₇.even.ensures.0 c₆.even2.ensures.0 _ _ _ _ c₅.number-blanks.ensures c₄.number-blanks2.ensures _ c₃.too_many.ensures c₂.if1.false _ (c₁.too_long.ensures ∙ ap₂ (λ i j. ltb desk.question (10 + (i + j))) a b) c.if2.true _
+    let a = sym (length-words_of c₇.even.result.now) in let b = sym (length-words_of c₆.even2.result.now) in ask-long c₈.args.word _ _ _ _ c₇.even.ensures.0 c₆.even2.ensures.0 _ _ _ _ c₅.number-blanks.ensures c₄.number-blanks2.ensures _ c₃.too_many.ensures c₂.if1.false _ (c₁.too_long.ensures ∙ ap₂ (λ i j. ltb desk.question (10 + (i + j))) a b) c.if2.true _
 
 write-pair-requires : tie.Need-write-pair-requires
 write-pair-requires c κs =
@@ -47,7 +47,7 @@ returns-3 c =
     let c₁ = c.before in let c₂ = c₁.before in let c₃ = c₂.before.before.before.before.before.before.before in
     let c₄ = c₃.before.before.before.before in let c₅ = c₄.before in let c₆ = c₅.before in let c₇ = c₆.before in let c₈ = c₇.before.before in
     let c₉ = c₈.before.before.before in let c₁₀ = c₉.before.before in let c₁₁ = c₁₀.before in let c₁₂ = c₁₁.before.before.before.before in
-    let a = sym (length-wordsOf c₁₁.even.result.now) in let b = sym (length-wordsOf c₁₀.even2.result.now) in ask-asks c₁₂.args.word _ _ _ _ c₁₁.even.ensures.0 c₁₀.even2.ensures.0 _ _ _ _ c₉.number-blanks.ensures c₈.number-blanks2.ensures _ c₇.too_many.ensures c₆.if1.false _ (c₅.too_long.ensures ∙ ap₂ (λ i j. ltb desk.question (10 + (i + j))) a b) c₄.if2.false _ _ _ _ _ _ _ a b c.and.ensures c₂.is-term.ensures c₁.is-term2.ensures c₃.write-pair.ensures
+    let a = sym (length-words_of c₁₁.even.result.now) in let b = sym (length-words_of c₁₀.even2.result.now) in ask-asks c₁₂.args.word _ _ _ _ c₁₁.even.ensures.0 c₁₀.even2.ensures.0 _ _ _ _ c₉.number-blanks.ensures c₈.number-blanks2.ensures _ c₇.too_many.ensures c₆.if1.false _ (c₅.too_long.ensures ∙ ap₂ (λ i j. ltb desk.question (10 + (i + j))) a b) c₄.if2.false _ _ _ _ _ _ _ a b c.and.ensures c₂.is-term.ensures c₁.is-term2.ensures c₃.write-pair.ensures
 
 pub ask-spec : {M : Type 1} → statement M
 ask-spec =

@@ -1,7 +1,7 @@
 -- `patterns::write_pair` meets its contract: the pieces are the pair's question.
 use mathlib.Core.Path.{refl, sym, ◌∙◌}
 use Rattle.word_bytes.specs.Bytes.{words_of}
-use Rattle.word_bytes.proofs.Pairs.{length-wordsOf}
+use Rattle.word_bytes.proofs.Pairs.{length-words_of}
 use Rattle.patterns.proofs.Pairing.{sums-fit, first-ready, second-ready, pair-written}
 use native.Mathlib.Omega.{arith}
 use Rattle.patterns.proofs.write_pair.Statement.{statement}
@@ -54,7 +54,7 @@ returns : tie.Need-returns
 returns c =
     let c₁ = c.before.before in let c₂ = c₁.before.before.before.before in let c₃ = c₂.before.before.before.before in
     let c₄ = c₃.before.before.before.before.before.before.before.before.before.before.before.before.before in
-    let a = length-wordsOf c₄.args.first.now in let b = length-wordsOf c₄.args.second.now in let p = c₄.requires.1.1.0 in let q = c₄.requires.1.1.1 in pair-written c₄.args.word (words_of c₄.args.first.now) (words_of c₄.args.second.now) c₄.args.n c₄.args.m c₄.args.one.now c₄.args.other.now c₄.requires.0.0 c₄.requires.0.1 c₄.requires.1.0 c₄.args.question.now _ _ _ _ _ _ _ (sym a) (sym b) refl c₂.write-apart.ensures.0 c₃.write-head.ensures c₂.write-apart.ensures.1 c₁.write-apart2.ensures.1
+    let a = length-words_of c₄.args.first.now in let b = length-words_of c₄.args.second.now in let p = c₄.requires.1.1.0 in let q = c₄.requires.1.1.1 in pair-written c₄.args.word (words_of c₄.args.first.now) (words_of c₄.args.second.now) c₄.args.n c₄.args.m c₄.args.one.now c₄.args.other.now c₄.requires.0.0 c₄.requires.0.1 c₄.requires.1.0 c₄.args.question.now _ _ _ _ _ _ _ (sym a) (sym b) refl c₂.write-apart.ensures.0 c₃.write-head.ensures c₂.write-apart.ensures.1 c₁.write-apart2.ensures.1
 
 pub write-pair-spec : {M : Type 1} → statement M
 write-pair-spec =

@@ -2,7 +2,7 @@
 use mathlib.Core.Path.{sym, ap, subst, ◌∙◌}
 use Prim.Native.Nat.{◌≤◌, ◌<◌}
 use Rattle.language.specs.Limits.{desk}
-use Rattle.plans.specs.Sizes.{sized, grownBy}
+use Rattle.plans.specs.Sizes.{sized, grown_by}
 use Rattle.plans.specs.declared.Size.TheVariants.{Fits}
 use Rattle.plans.proofs.Alike.{sized-alike, over-alike}
 use Rattle.results.proofs.Results.{alike}
@@ -22,7 +22,7 @@ returns-2 c =
 returns-3 : tie.Need-returns-3
 returns-3 c =
     let c₁ = c.before in let c₂ = c₁.before in let c₃ = c₂.before.before.before in
-    ap Fits (c.grow-by.ensures ∙ ap (grownBy c₃.args.times 0) c₂.made-len.ensures)
+    ap Fits (c.grow-by.ensures ∙ ap (grown_by c₃.args.times 0) c₂.made-len.ensures)
     ∙ sym (sized-alike c₃.args.k.now c₃.args.r c₃.args.times (subst (λ n. n ≤ desk.question) c₂.made-len.ensures c₁.if2.false))
 
 pub size-alike-spec : {M : Type 1} → statement M

@@ -1,13 +1,13 @@
 -- The loop's invariant: the count and the results for the cuts that are left make the whole.
 use mathlib.Core.Path.{◌≡◌, refl, sym, ap, ◌∙◌}
-use Rattle.plans.specs.Sizes.{sizedFrom, sized}
+use Rattle.plans.specs.Sizes.{sized_from, sized}
 use Rattle.results.proofs.Results.{cuts, cuts-none, cuts-over, cuts-more}
 use borrow.Author.Rules.{rules}
 use Rattle.results.proofs.size_cuts.Statement.{statement}
 use Rattle.results.proofs.size_cuts.Tie as tie
 
 abbrev invariant-loop : tie.invariant-loop
-invariant-loop k r cut times left₀ at₀ n₀ left at n = sizedFrom n (cuts k r left at) ≡ sizedFrom 0 (cuts k r times cut)
+invariant-loop k r cut times left₀ at₀ n₀ left at n = sized_from n (cuts k r left at) ≡ sized_from 0 (cuts k r times cut)
 
 abbrev decreases-loop : tie.decreases-loop
 decreases-loop k r cut times left₀ at₀ n₀ left at n = left
@@ -26,7 +26,7 @@ loop-again c =
 
 returns-2 : tie.Need-returns-2 invariant-loop decreases-loop
 unfolding sized
-returns-2 c = let a = c.before.before.before.args in sym (ap (sizedFrom c.before.loop.n) (cuts-none a.k.now a.r c.before.loop.left c.before.loop.at c.loop-test.false)) ∙ c.before.loop.invariant
+returns-2 c = let a = c.before.before.before.args in sym (ap (sized_from c.before.loop.n) (cuts-none a.k.now a.r c.before.loop.left c.before.loop.at c.loop-test.false)) ∙ c.before.loop.invariant
 
 pub size-cuts-spec : {M : Type 1} → statement M
 size-cuts-spec =

@@ -2,7 +2,7 @@
 use Prim.Native.Nat.{◌-◌}
 use mathlib.Core.Path.{ap, subst}
 use native.Mathlib.Omega.{arith}
-use Rattle.frames.specs.Frames.{inFrames}
+use Rattle.frames.specs.Frames.{in_frames}
 use Rattle.plans.specs.Sizes.{Short}
 use Rattle.slices.proofs.Still.{Still, still-all, still-none, still-fits, still-run}
 use Rattle.results.proofs.Results.{alike, alike_all, alike-none, alike-split, alike-short, alike-few}
@@ -12,7 +12,7 @@ use Rattle.results.proofs.write_alike.Tie as tie
 
 abbrev invariant-loop : tie.invariant-loop
 invariant-loop k r times number out₀ at i₀ e₀ out i e =
-    Still out₀ at (inFrames number (alike k r 0 times)) out e (inFrames number (alike k r i (times - i))) × Short (alike k r i (times - i))
+    Still out₀ at (in_frames number (alike k r 0 times)) out e (in_frames number (alike k r i (times - i))) × Short (alike k r i (times - i))
 
 abbrev decreases-loop : tie.decreases-loop
 decreases-loop k r times number out₀ at i₀ e₀ out i e = times - i
@@ -21,7 +21,7 @@ loop-holds : tie.Need-loop-init invariant-loop decreases-loop
 loop-holds c =
     let a = c.before.before.args in
     let z = alike_all a.k.now a.r a.times in
-    (subst (λ ws. Still a.out.now a.at (inFrames a.number (alike a.k.now a.r 0 a.times)) a.out.now a.at (inFrames a.number ws)) z (still-all _ _ _ c.before.before.requires.room), subst Short z c.before.before.requires.short)
+    (subst (λ ws. Still a.out.now a.at (in_frames a.number (alike a.k.now a.r 0 a.times)) a.out.now a.at (in_frames a.number ws)) z (still-all _ _ _ c.before.before.requires.room), subst Short z c.before.before.requires.short)
 
 write-framed-requires : tie.Need-write-framed-requires invariant-loop decreases-loop
 write-framed-requires c κs =
@@ -40,7 +40,7 @@ loop-again c =
     (still-run c₃.loop.invariant.0 (alike-split a.k.now a.r c₃.loop.i a.times h a.number) c₁.write-framed.ensures, (alike-short a.k.now a.r c₃.loop.i a.times h c₃.loop.invariant.1).1)
 
 returns : tie.Need-returns invariant-loop decreases-loop
-returns c = let a = c.before.before.before.before.args in still-none c.before.loop.invariant.0 (ap (inFrames a.number) (alike-none a.k.now a.r c.before.loop.i a.times c.loop-test.false))
+returns c = let a = c.before.before.before.before.args in still-none c.before.loop.invariant.0 (ap (in_frames a.number) (alike-none a.k.now a.r c.before.loop.i a.times c.loop-test.false))
 
 pub write-alike-spec : {M : Type 1} → statement M
 write-alike-spec =

@@ -1,5 +1,5 @@
 -- The loop's invariant: the results for the cuts that are left are still to come, and none is too long.
-use Rattle.frames.specs.Frames.{inFrames}
+use Rattle.frames.specs.Frames.{in_frames}
 use Rattle.plans.specs.Sizes.{Short}
 use mathlib.Core.Path.{refl, ap}
 use Rattle.slices.proofs.Still.{Still, still-all, still-none, still-fits, still-run}
@@ -10,7 +10,7 @@ use Rattle.results.proofs.write_cuts.Statement.{statement}
 use Rattle.results.proofs.write_cuts.Tie as tie
 
 abbrev invariant-loop : tie.invariant-loop
-invariant-loop k r cut times number out₀ at left₀ c₀ e₀ out left c e = Still out₀ at (inFrames number (cuts k r times cut)) out e (inFrames number (cuts k r left c)) × Short (cuts k r left c)
+invariant-loop k r cut times number out₀ at left₀ c₀ e₀ out left c e = Still out₀ at (in_frames number (cuts k r times cut)) out e (in_frames number (cuts k r left c)) × Short (cuts k r left c)
 
 abbrev decreases-loop : tie.decreases-loop
 decreases-loop k r cut times number out₀ at left₀ c₀ e₀ out left c e = left
@@ -36,7 +36,7 @@ loop-again c =
     )
 
 returns : tie.Need-returns invariant-loop decreases-loop
-returns c = let a = c.before.before.before.before.args in still-none c.before.loop.invariant.0 (ap (inFrames a.number) (cuts-none a.k.now a.r c.before.loop.left c.before.loop.c c.loop-test.false))
+returns c = let a = c.before.before.before.before.args in still-none c.before.loop.invariant.0 (ap (in_frames a.number) (cuts-none a.k.now a.r c.before.loop.left c.before.loop.c c.loop-test.false))
 
 pub write-cuts-spec : {M : Type 1} → statement M
 write-cuts-spec =

@@ -2,7 +2,7 @@
 use mathlib.Core.Path.{ap, sym, subst}
 use native.Mathlib.Omega.{arith}
 use Rattle.rules.specs.Elements.{factorial}
-use Rattle.frames.specs.Frames.{inFrames}
+use Rattle.frames.specs.Frames.{in_frames}
 use Rattle.plans.specs.Results.{made}
 use Rattle.plans.specs.Sizes.{Ready}
 use Rattle.plans.specs.declared.Ways.TheVariants.{Drop, Two}
@@ -66,7 +66,7 @@ returns-5 c =
     let n = c₃.ways3.given.0.0 in
     let r = ready_by _ a.plan _ c₃.ways3.given.1 c₄.requires in
     wrote_by _ a.plan _ c₃.ways3.given.1 a.number
-    (wrote_as (ap (λ m. inFrames a.number (alike a.k.now a.plan.first 0 m))
+    (wrote_as (ap (λ m. in_frames a.number (alike a.k.now a.plan.first 0 m))
     (orders-few n (let f = alike-few a.k.now a.plan.first a.number (factorial n) 0 in let l = r.low in omega arith) c₂.count-orders.ensures)) c₁.write-alike.ensures)
 
 returns-6 : tie.Need-returns-6
@@ -75,7 +75,7 @@ returns-6 c =
     let c₄ = c₃.before.before.before.before.before.before in
     let a = c₄.args in
     wrote_by _ a.plan _ c₃.ways4.given.1 a.number
-    (wrote_as (ap (λ m. inFrames a.number (alike a.k.now a.plan.first 0 m)) (sym c₂.wide.ensures)) c₁.write-alike2.ensures)
+    (wrote_as (ap (λ m. in_frames a.number (alike a.k.now a.plan.first 0 m)) (sym c₂.wide.ensures)) c₁.write-alike2.ensures)
 
 pub write-results-spec : {M : Type 1} → statement M
 write-results-spec =

@@ -4,7 +4,7 @@ use native.Mathlib.Omega.{arith}
 use lib.ListN.{length}
 use borrow.Author.Rules.{rules}
 use Rattle.language.specs.Limits.{desk}
-use Rattle.language.specs.Question.{readQuestion}
+use Rattle.language.specs.Question.{read_question}
 use Rattle.answers.proofs.Cleared.{just-cleared}
 use Rattle.running.proofs.Ending.{is-ready, cleared-told, told-unread, told-ran}
 use Rattle.running.proofs.Calling.{calls-unread, calls-ran, trail-of, room-told, room-unread, room_as}
@@ -43,7 +43,7 @@ returns c =
     let c₆ = c₅.before.before in let c₇ = c₆.before.before in let c₈ = c₇.before.before.before.before.before.before in
     let a = c₈.args in
     let q = a.question.now in
-    let r = is-ready (length a.work.now) (length a.answer.now) (readQuestion desk q) (sym c₆.enum_told.given.1 ∙ c₇.ready.ensures) in
+    let r = is-ready (length a.work.now) (length a.answer.now) (read_question desk q) (sym c₆.enum_told.given.1 ∙ c₇.ready.ensures) in
     let v = calls-ran a.told.now (length a.work.now) (length a.answer.now) (length a.out.now) q r a.course in (
       told-ran _ _ _ a.work.now a.answer.now (cleared-told a.work.now a.answer.now _ c₅.clear.ensures c₄.run.ensures c₂.clear2.ensures c₁.tell.ensures) v,
       room_as a.course _ _ _ _ a.out.now v (trail-of a.told.now (length a.work.now) (length a.answer.now) (length a.out.now) q r)

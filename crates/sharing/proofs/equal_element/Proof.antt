@@ -5,13 +5,13 @@ use native.Mathlib.Omega.{arith}
 use borrow.Author.Rules.{rules}
 use lib.ListN.{length, get_or}
 use lib.Seq.{slice}
-use Rattle.sharing.specs.Shared.{equalFrom}
+use Rattle.sharing.specs.Shared.{equal_from}
 use Rattle.sharing.proofs.Walks.{goes_on, Still, still-start, still-found, still-over, still-on, equal_over, equal-here, equal-on}
 use Rattle.sharing.proofs.equal_element.Statement.{statement}
 use Rattle.sharing.proofs.equal_element.Tie as tie
 
 abbrev invariant-loop : tie.invariant-loop
-invariant-loop k from to at i₀ x₀ i x = (x ≡ get_or k i 0) × Still k (λ n i. equalFrom n k (slice from to k) i) i (equalFrom (length k) k (slice from to k) at)
+invariant-loop k from to at i₀ x₀ i x = (x ≡ get_or k i 0) × Still k (λ n i. equal_from n k (slice from to k) i) i (equal_from (length k) k (slice from to k) at)
 
 abbrev decreases-loop : tie.decreases-loop
 decreases-loop k from to at i₀ x₀ i x = length k - i

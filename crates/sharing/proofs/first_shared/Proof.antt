@@ -4,13 +4,13 @@ use mathlib.Core.Path.{◌≡◌}
 use native.Mathlib.Omega.{arith}
 use borrow.Author.Rules.{rules}
 use lib.ListN.{length, get_or}
-use Rattle.sharing.specs.Shared.{sharedFrom, firstShared}
+use Rattle.sharing.specs.Shared.{shared_from, first_shared}
 use Rattle.sharing.proofs.Walks.{goes_on, Still, still-start, still-found, still-over, still-on, shared-over, shared-here, shared-on}
 use Rattle.sharing.proofs.first_shared.Statement.{statement}
 use Rattle.sharing.proofs.first_shared.Tie as tie
 
 abbrev invariant-loop : tie.invariant-loop
-invariant-loop k left right i₀ x₀ i x = (x ≡ get_or k i 0) × Still k (λ n i. sharedFrom n k i right) i (sharedFrom (length k) k left right)
+invariant-loop k left right i₀ x₀ i x = (x ≡ get_or k i 0) × Still k (λ n i. shared_from n k i right) i (shared_from (length k) k left right)
 
 abbrev decreases-loop : tie.decreases-loop
 decreases-loop k left right i₀ x₀ i x = length k - i
@@ -19,7 +19,7 @@ equal-element-requires : tie.Need-equal-element-requires invariant-loop decrease
 equal-element-requires c κs = let z = goes_on c.before.before.before.before.before.args.k.now c.before.before.loop.i c.before.before.loop.invariant.0 c.element-end.ensures c.before.loop-test.true in search rules
 
 returns : tie.Need-returns invariant-loop decreases-loop
-unfolding firstShared
+unfolding first_shared
 returns c =
     let c₁ = c.before in let c₂ = c₁.before in let c₃ = c₂.before in let c₄ = c₃.before in let c₅ = c₄.before in
     let c₆ = c₅.before.before.before in
@@ -38,7 +38,7 @@ loop-again c =
     (c.word2.ensures, still-on z.1 z.0 (shared-on _ _ _ c₄.loop.invariant.0 c₃.loop-test.true c₂.element-end.ensures c₁.equal-element.ensures (omega arith)) c₄.loop.invariant.1)
 
 returns-2 : tie.Need-returns-2 invariant-loop decreases-loop
-unfolding firstShared
+unfolding first_shared
 returns-2 c = still-over (shared-over _ _ _ c.before.loop.invariant.0 c.loop-test.false) c.before.loop.invariant.1
 
 pub first-shared-spec : {M : Type 1} → statement M

@@ -7,8 +7,8 @@ use borrow.Author.Rules.{rules}
 use borrow.Author.Tests.{not-false}
 use Rattle.language.specs.Limits.{desk}
 use Rattle.language.specs.Trees.{Conj}
-use Rattle.language.specs.Writing.{conjWords}
-use Rattle.language.specs.Fine.{fineConj}
+use Rattle.language.specs.Writing.{conj_words}
+use Rattle.language.specs.Fine.{fine_conj}
 use Rattle.views.proofs.LiteralWalks.{Walked, walk-starts, walk-on, walk_ends}
 use Rattle.counts.proofs.Own.{counted-here}
 use Rattle.solved.proofs.Marked.{Decides, decides-starts, decides-on}
@@ -17,7 +17,7 @@ use Rattle.solved.proofs.all_once.Statement.{statement}
 use Rattle.solved.proofs.all_once.Tie as tie
 
 abbrev invariant-loop : tie.invariant-loop
-invariant-loop k table i₀ i = (c : Conj) → fineConj desk c → k ≡ conjWords c → Walked (Decides c) c i
+invariant-loop k table i₀ i = (c : Conj) → fine_conj desk c → k ≡ conj_words c → Walked (Decides c) c i
 
 abbrev decreases-loop : tie.decreases-loop
 decreases-loop k table i₀ i = length k - i

@@ -7,8 +7,8 @@ use lib.ListN.{length, get_or, length-replicate}
 use borrow.Author.Rules.{rules}
 use Rattle.language.specs.Limits.{desk}
 use Rattle.language.specs.Trees.{Conj}
-use Rattle.language.specs.Writing.{conjWords}
-use Rattle.language.specs.Fine.{fineConj}
+use Rattle.language.specs.Writing.{conj_words}
+use Rattle.language.specs.Fine.{fine_conj}
 use Rattle.counts.specs.Tables.{table as places}
 use Rattle.views.proofs.LiteralWalks.{Walked, walk-starts, walk-on, walk_ends}
 use Rattle.solved.specs.Members.{InMembers}
@@ -19,7 +19,7 @@ use Rattle.solved.proofs.count_members.Tie as tie
 abbrev invariant-loop : tie.invariant-loop
 invariant-loop k members₀ i₀ members i =
     (length members ≡ places) × (i ≤ length k) × ((x : ℕ) → get_or members x 0 ≤ i)
-    × ((c : Conj) → fineConj desk c → k ≡ conjWords c → Walked (λ done rest. InMembers members done) c i)
+    × ((c : Conj) → fine_conj desk c → k ≡ conj_words c → Walked (λ done rest. InMembers members done) c i)
 
 abbrev decreases-loop : tie.decreases-loop
 decreases-loop k members₀ i₀ members i = length k - i

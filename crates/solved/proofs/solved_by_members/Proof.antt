@@ -8,8 +8,8 @@ use borrow.Author.Rules.{rules}
 use borrow.Author.Tests.{not-true, not-false}
 use Rattle.language.specs.Limits.{desk}
 use Rattle.language.specs.Trees.{Conj}
-use Rattle.language.specs.Writing.{conjWords}
-use Rattle.language.specs.Fine.{fineConj}
+use Rattle.language.specs.Writing.{conj_words}
+use Rattle.language.specs.Fine.{fine_conj}
 use Rattle.rules.specs.Solved.{solved}
 use Rattle.views.proofs.LiteralWalks.{Walked, walk-starts, walk_here, walk-on, walk_ends}
 use Rattle.counts.proofs.Own.{counted-here}
@@ -19,7 +19,7 @@ use Rattle.solved.proofs.solved_by_members.Statement.{statement}
 use Rattle.solved.proofs.solved_by_members.Tie as tie
 
 abbrev invariant-loop : tie.invariant-loop
-invariant-loop k table members i₀ i = (c : Conj) → fineConj desk c → k ≡ conjWords c → Walked (Decides c) c i
+invariant-loop k table members i₀ i = (c : Conj) → fine_conj desk c → k ≡ conj_words c → Walked (Decides c) c i
 
 abbrev decreases-loop : tie.decreases-loop
 decreases-loop k table members i₀ i = length k - i

@@ -5,12 +5,12 @@ use native.Mathlib.Omega.{arith}
 use Rattle.language.specs.Limits.{desk}
 use Rattle.language.specs.declared.Kind.{Kind}
 use Rattle.language.proofs.Words.{Is, end, term, run, symbol, function, equation, membership, eps, cat, alt, star, other, is, at-end, at_symbol, at-function}
-use Rattle.words.specs.Spans.{opensBy, opens}
+use Rattle.words.specs.Spans.{opens_by, opens}
 use Rattle.spans.proofs.opened.Statement.{statement}
 use Rattle.spans.proofs.opened.Tie as tie
 
 -- neither 0 nor a functor's word
-one : (w : ℕ) (k : Kind) → Is desk w k → (w ≡ 0 → ⊥) → ((n : ℕ) → n < desk.each → w ≡ 3000 + n → ⊥) → ((n : ℕ) → n < desk.each → w ≡ 4000 + n → ⊥) → 1 ≡ opensBy k
+one : (w : ℕ) (k : Kind) → Is desk w k → (w ≡ 0 → ⊥) → ((n : ℕ) → n < desk.each → w ≡ 3000 + n → ⊥) → ((n : ℕ) → n < desk.each → w ≡ 4000 + n → ⊥) → 1 ≡ opens_by k
 one w k (end q) z f g = absurd (z q)
 one w k (term x b q) z f g = refl
 one w k (run p b q) z f g = refl
@@ -26,7 +26,7 @@ one w k other z f g = refl
 
 returns : tie.Need-returns
 unfolding opens
-returns c = sym (ap opensBy (at-end desk _ c.if1.true))
+returns c = sym (ap opens_by (at-end desk _ c.if1.true))
 
 returns-2 : tie.Need-returns-2
 unfolding opens
@@ -34,7 +34,7 @@ returns-2 c = one _ _ (is desk _) c.before.if1.false (λ n b q. let t = c.if2.tr
 
 returns-3 : tie.Need-returns-3
 unfolding opens
-returns-3 c = let l = c.before.if2.false in let t = c.if3.true in sym (ap opensBy (at_symbol desk _ (omega arith) (omega arith)))
+returns-3 c = let l = c.before.if2.false in let t = c.if3.true in sym (ap opens_by (at_symbol desk _ (omega arith) (omega arith)))
 
 returns-4 : tie.Need-returns-4
 unfolding opens
@@ -42,7 +42,7 @@ returns-4 c = let l = c.before.if3.false in let t = c.if4.true in one _ _ (is de
 
 returns-5 : tie.Need-returns-5
 unfolding opens
-returns-5 c = let l = c.before.if4.false in let t = c.if5.true in sym (ap opensBy (at-function desk _ (omega arith) (omega arith)))
+returns-5 c = let l = c.before.if4.false in let t = c.if5.true in sym (ap opens_by (at-function desk _ (omega arith) (omega arith)))
 
 returns-6 : tie.Need-returns-6
 unfolding opens

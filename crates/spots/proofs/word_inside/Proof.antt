@@ -8,12 +8,12 @@ use lib.ListN.{length, get_or}
 use Rattle.language.specs.Limits.{desk}
 use Rattle.language.specs.declared.HedgeVar.{HedgeVar}
 use Rattle.language.specs.Trees.{Hedge, hv}
-use Rattle.views.specs.Variables.{variableWord, fineVar}
+use Rattle.views.specs.Variables.{variable_word, fine_var}
 use Rattle.views.specs.Standing.{Stands}
 use Rattle.finds.proofs.Walks.{Passed, pass-first, pass_on, goes_on}
 use Rattle.finds.proofs.Searches.{Behind, behind-start, behind-on, behind-found, behind-end}
-use Rattle.words.specs.Spans.{elementEnd}
-use Rattle.finds.specs.Places.{othersEnd}
+use Rattle.words.specs.Spans.{element_end}
+use Rattle.finds.specs.Places.{others_end}
 use Rattle.finds.proofs.Firsts.{Going, going_start}
 use Rattle.finds.proofs.Stops.{others-on, others-found, others-none}
 use Rattle.spots.proofs.word_inside.Statement.{statement}
@@ -21,7 +21,7 @@ use Rattle.spots.proofs.word_inside.Tie as tie
 
 abbrev invariant-loop : tie.invariant-loop
 invariant-loop k at p i₀ x₀ i x =
-    ((q : HedgeVar) (h : Hedge) (beyond : List ℕ) → fineVar desk (hv q) → p ≡ variableWord (hv q) → Stands k at h beyond → Passed k at i beyond (Behind q h)) × (x ≡ get_or k i 0) × Going k (elementEnd k at) (othersEnd p k) i
+    ((q : HedgeVar) (h : Hedge) (beyond : List ℕ) → fine_var desk (hv q) → p ≡ variable_word (hv q) → Stands k at h beyond → Passed k at i beyond (Behind q h)) × (x ≡ get_or k i 0) × Going k (element_end k at) (others_end p k) i
 
 abbrev decreases-loop : tie.decreases-loop
 decreases-loop k at p i₀ x₀ i x = length k - i

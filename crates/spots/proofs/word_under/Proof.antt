@@ -7,12 +7,12 @@ use Prim.Native.Nat.{ℕ, ◌-◌}
 use lib.ListN.{length, get_or}
 use Rattle.language.specs.Limits.{desk}
 use Rattle.language.specs.Trees.{Hedge, Var}
-use Rattle.rules.specs.Looks.{under as belowTop}
-use Rattle.views.specs.Variables.{variableWord, fineVar}
+use Rattle.rules.specs.Looks.{under as below_top}
+use Rattle.views.specs.Variables.{variable_word, fine_var}
 use Rattle.views.specs.Standing.{Stands}
 use Rattle.finds.proofs.Walks.{Passed, pass-start, pass_on, goes_on}
 use Rattle.finds.proofs.Searches.{under-found, under-on, under-end}
-use Rattle.finds.specs.Places.{belowEnd}
+use Rattle.finds.specs.Places.{below_end}
 use Rattle.finds.proofs.Firsts.{Going, going_start}
 use Rattle.finds.proofs.Stops.{below_on, below-found, below_none}
 use Rattle.spots.proofs.word_under.Statement.{statement}
@@ -20,8 +20,8 @@ use Rattle.spots.proofs.word_under.Tie as tie
 
 abbrev invariant-loop : tie.invariant-loop
 invariant-loop k at v i₀ x₀ i x =
-    ((y : Var) (h : Hedge) (beyond : List ℕ) → fineVar desk y → v ≡ variableWord y → Stands k at h beyond → Passed k at i beyond (λ done left. belowTop y left ≡ belowTop y h))
-    × (x ≡ get_or k i 0) × Going k at (belowEnd v k) i
+    ((y : Var) (h : Hedge) (beyond : List ℕ) → fine_var desk y → v ≡ variable_word y → Stands k at h beyond → Passed k at i beyond (λ done left. below_top y left ≡ below_top y h))
+    × (x ≡ get_or k i 0) × Going k at (below_end v k) i
 
 abbrev decreases-loop : tie.decreases-loop
 decreases-loop k at v i₀ x₀ i x = length k - i

@@ -6,12 +6,12 @@ use Rattle.state_classes.proofs.class_all.Tie as tie
 use Prim.Native.Nat.{ℕ, ◌+◌, ◌*◌, ◌-◌, ◌≤◌}
 use mathlib.Core.Path.{◌≡◌, refl}
 use lib.ListN.{length, length-replicate}
-use Rattle.state_classes.specs.Classes.{Tabled, KeptTo, Changed, KeyedTo, stateRoom}
+use Rattle.state_classes.specs.Classes.{Tabled, KeptTo, Changed, KeyedTo, state_room}
 use Rattle.state_classes.proofs.Classing.{tabled_start, tabled-to, kept_same, kept_then, keys_none, changed-none, changed_then, changed-to}
 
 abbrev invariant-loop : tie.invariant-loop
 invariant-loop k ends nulls at end classes₀ first last keys₀ s₀ classes keys s =
-    (first ≤ s) × (s ≤ last + 1) × Tabled k at s classes × KeptTo (2 * at) classes₀ classes × KeyedTo k at s keys × (length keys ≡ stateRoom) × Changed k at s classes₀ classes
+    (first ≤ s) × (s ≤ last + 1) × Tabled k at s classes × KeptTo (2 * at) classes₀ classes × KeyedTo k at s keys × (length keys ≡ state_room) × Changed k at s classes₀ classes
 
 abbrev decreases-loop : tie.decreases-loop
 decreases-loop k ends nulls at end classes₀ first last keys₀ s₀ classes keys s = last + 1 - s
@@ -24,7 +24,7 @@ mul-last c = search rules
 
 loop-holds : tie.Need-loop-init invariant-loop decreases-loop
 loop-holds c =
-    let p = c.before.before.before.requires.1 in (omega arith, omega arith, tabled_start refl, kept_same, keys_none refl, length-replicate {A = ℕ} stateRoom 0, changed-none)
+    let p = c.before.before.before.requires.1 in (omega arith, omega arith, tabled_start refl, kept_same, keys_none refl, length-replicate {A = ℕ} state_room 0, changed-none)
 
 class-at-requires : tie.Need-class-at-requires invariant-loop decreases-loop
 class-at-requires c κs =

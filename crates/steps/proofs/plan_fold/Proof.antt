@@ -2,7 +2,7 @@
 use mathlib.Core.Path.{refl, ap, ◌∙◌}
 use borrow.Author.Rules.{rules}
 use Rattle.plans.specs.declared.Ways.TheVariants.{One}
-use Rattle.plans.specs.Results.{resultsOf}
+use Rattle.plans.specs.Results.{results_of}
 use Rattle.plans.specs.Slots.{single}
 use Rattle.steps.proofs.Made.{fold-within, fold-planned}
 use Rattle.steps.proofs.plan_fold.Statement.{statement}
@@ -17,7 +17,7 @@ returns c =
     let c₁ = c.before in let c₂ = c₁.before in let c₃ = c₂.before.before in
     let k = c₃.args.k.now in
     λ before l behind ks s a.
-    ap (λ r. resultsOf k (single (One 0) r)) c.few.ensures
+    ap (λ r. results_of k (single (One 0) r)) c.few.ensures
     ∙ fold-planned k c₃.args.at c₂.later-equal.result c₂.later-equal.ensures _ _ c₁.next-literal.ensures refl before l behind ks s a
 
 pub plan-fold-spec : {M : Type 1} → statement M

@@ -3,7 +3,7 @@ use native.Mathlib.Omega.{arith}
 use mathlib.Core.Path.{ap, ◌∙◌}
 use mathlib.Core.List.{map}
 use borrow.Author.Rules.{rules}
-use Rattle.language.specs.Writing.{conjWords}
+use Rattle.language.specs.Writing.{conj_words}
 use Rattle.taking.proofs.Taken.{took-none, took-as}
 use Rattle.steps.proofs.Taken.{took-monomials}
 use Rattle.steps.proofs.Asked.{monomials-at, answer_at, fold_at}
@@ -46,7 +46,7 @@ returns-3 c =
     let c₁ = c.before.before.before.before.before.before.before.before in
     let b = c₁.args.b in
     λ before l behind ks p a.
-    took-none c₁.args.number _ c₁.args.next (ap (map conjWords) (results-clash c₁.args.s b.swap b.rank before l behind ks c.if3.true a))
+    took-none c₁.args.number _ c₁.args.next (ap (map conj_words) (results-clash c₁.args.s b.swap b.rank before l behind ks c.if3.true a))
 
 plan-at-requires : tie.Need-plan-at-requires
 plan-at-requires c κs =

@@ -8,7 +8,7 @@ use lib.Seq.{length-take-le}
 use borrow.Author.Rules.{rules}
 use Rattle.language.specs.Limits.{desk}
 use Rattle.texts.specs.Outcomes.{Outcome}
-use Rattle.text_host.specs.Texts.{textNumber, wordsLeft}
+use Rattle.text_host.specs.Texts.{text_number, words_left}
 use Rattle.text_host.proofs.Taken.{read-bytes}
 use Rattle.text_host.proofs.desk_read_text.Statement.{statement}
 use Rattle.text_host.proofs.desk_read_text.Tie as tie
@@ -29,7 +29,7 @@ returns c =
     let c₁ = c.before.before.before in let c₂ = c₁.before.before.before in let c₃ = c₂.before.before.before in
     let n : length (take c₂.most.result clear) ≡ c₂.most.result = within _ (omega arith) in
     let e = read-bytes c₃.args.text.now c₃.args.room.now _ (n ∙ c₂.most.ensures) in
-    (c₁.read.ensures.0 ∙ ap textNumber e, c₁.read.ensures.1 ∙ ap (λ (o : Outcome). wordsLeft o c₃.args.room.now) e)
+    (c₁.read.ensures.0 ∙ ap text_number e, c₁.read.ensures.1 ∙ ap (λ (o : Outcome). words_left o c₃.args.room.now) e)
 
 pub desk-read-text-spec : {M : Type 1} → statement M
 desk-read-text-spec =

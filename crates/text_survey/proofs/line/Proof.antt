@@ -1,7 +1,7 @@
 -- `text_survey::line` meets its contract: token by token.
 use Prim.Native.Nat.{◌-◌}
 use lib.ListN.{length}
-use Rattle.text_survey.proofs.Scan.{Going, line-starts, line-less, line_on, line-ends}
+use Rattle.text_survey.proofs.Scan.{Going, line-starts, line-less, line_on_lem, line-ends}
 use borrow.Author.Rules.{rules}
 use Rattle.text_survey.proofs.line.Statement.{statement}
 use Rattle.text_survey.proofs.line.Tie as tie
@@ -28,7 +28,7 @@ loop-less : tie.Need-loop-smaller invariant-loop decreases-loop
 loop-less c = line-less c.before.before.before.loop.invariant c.before.before.next.ensures c.before.step.ensures c.if1.false
 
 loop-again : tie.Need-loop-preserved invariant-loop decreases-loop
-loop-again c = line_on c.before.before.before.loop.invariant c.before.before.next.ensures c.before.step.ensures c.if1.false
+loop-again c = line_on_lem c.before.before.before.loop.invariant c.before.before.next.ensures c.before.step.ensures c.if1.false
 
 pub line-spec : {M : Type 1} → statement M
 line-spec =

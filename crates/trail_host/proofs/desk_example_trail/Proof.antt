@@ -8,7 +8,7 @@ use lib.Seq.{length-take-le}
 use borrow.Author.Rules.{rules}
 use Rattle.language.specs.Limits.{desk}
 use Rattle.rules.specs.Calls.{Showing}
-use Rattle.host.specs.Host.{showNumber, showLeaves}
+use Rattle.host.specs.Host.{show_number, show_leaves}
 use Rattle.trail_host.proofs.Lent.{example-lent}
 use Rattle.trail_host.proofs.desk_example_trail.Statement.{statement}
 use Rattle.trail_host.proofs.desk_example_trail.Tie as tie
@@ -31,7 +31,7 @@ returns c =
     let a = c₅.args in
     let n : length (take c₃.most.result clear) ≡ c₃.most.result = within _ (omega arith) in
     let e = example-lent a.question.now _ a.trail.now a.line a.old _ (length a.room.now) _ c₂.truth.ensures c₄.take_words.ensures.1.0 (n ∙ c₃.most.ensures.0) in
-    (c₁.show.ensures.0 ∙ ap showNumber e, c₁.show.ensures.1 ∙ ap (λ (s : Showing). showLeaves s a.room.now) e)
+    (c₁.show.ensures.0 ∙ ap show_number e, c₁.show.ensures.1 ∙ ap (λ (s : Showing). show_leaves s a.room.now) e)
 
 pub desk-example-trail-spec : {M : Type 1} → statement M
 desk-example-trail-spec =

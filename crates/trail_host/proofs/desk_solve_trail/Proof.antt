@@ -8,8 +8,8 @@ use lib.Seq.{length-take-le}
 use borrow.Author.Rules.{rules}
 use Rattle.language.specs.Limits.{desk}
 use Rattle.rules.specs.Answer.{Solving}
-use Rattle.host.specs.Host.{solveLeaves}
-use Rattle.trail_host.specs.Host.{longestTrail, trailNumber}
+use Rattle.host.specs.Host.{solve_leaves}
+use Rattle.trail_host.specs.Host.{longest_trail, trail_number}
 use Rattle.trail_host.proofs.Lent.{same-trail, trail-lent}
 use Rattle.trail_host.proofs.Notes.{too_short, room_as}
 use Rattle.trail_host.proofs.desk_solve_trail.Statement.{statement}
@@ -17,11 +17,11 @@ use Rattle.trail_host.proofs.desk_solve_trail.Tie as tie
 
 -- the desk's own trail at the start
 abbrev clear : List ℕ
-clear = replicate (longestTrail desk) 0
+clear = replicate (longest_trail desk) 0
 
 -- as many of its words as the room has; by the law, since computing the length would walk the whole list
-within : (m : ℕ) → m ≤ longestTrail desk → length (take m clear) ≡ m
-within m h = length-take-le m clear (subst (λ n. m ≤ n) (sym (length-replicate {A = ℕ} (longestTrail desk) 0)) h)
+within : (m : ℕ) → m ≤ longest_trail desk → length (take m clear) ≡ m
+within m h = length-take-le m clear (subst (λ n. m ≤ n) (sym (length-replicate {A = ℕ} (longest_trail desk) 0)) h)
 
 note-requires : tie.Need-note-requires
 note-requires c κs =
@@ -39,9 +39,9 @@ returns-2 c =
     let words = c₃.take_words.ensures.1.0 in
     let e = trail-lent a.question.now _ words (length a.answer.now) (length a.trail.now) _ c₄.if1.false (n ∙ c₂.most.ensures.0) in
     let r = c₁.note.ensures in (
-      r.0 ∙ ap trailNumber e,
+      r.0 ∙ ap trail_number e,
       (
-        r.1.0 ∙ ap (λ (s : Solving). solveLeaves desk s a.answer.now) e,
+        r.1.0 ∙ ap (λ (s : Solving). solve_leaves desk s a.answer.now) e,
         room_as a.trail.now e (same-trail a.question.now _ words) r.1.1,
       ),
     )

@@ -8,7 +8,7 @@ use borrow.Author.Rules.{rules}
 use borrow.Fn.Kinds.{In}
 use borrow.Fn.PlainCycle.{Measures, is, falls, and}
 use Rattle.language.specs.Limits.{desk}
-use Rattle.language.specs.Reading.{readExpr}
+use Rattle.language.specs.Reading.{read_expr}
 use Rattle.trees.proofs.Placing.{moves, goes_on, halts}
 use Rattle.trees.proofs.Parts.{past-expr, expr-eps, expr-one, expr-two, expr-none}
 use Rattle.trees.proofs.read_expr.Reads as read-expr
@@ -51,5 +51,5 @@ pub +read-expr-spec : {M : Type 1} → statement M
     c.read-expr3.ensures ∙ goes_on _ _ _ _ (sym c₂.read-expr2.ensures ∙ c₁.after.given.1) ∙ expr-two _ _ (omega arith) _ c₄.classify.ensures c₃.match.keys3)
     (λ c.
     let c₁ = c.before in let c₂ = c₁.before.before in let c₃ = c₂.before in let c₄ = c₃.before in
-    halts (readExpr desk) _ _ _ (sym c₂.read-expr2.ensures ∙ c₁.place.given.1) ∙ expr-two _ _ (omega arith) _ c₄.classify.ensures c₃.match.keys3)
+    halts (read_expr desk) _ _ _ (sym c₂.read-expr2.ensures ∙ c₁.place.given.1) ∙ expr-two _ _ (omega arith) _ c₄.classify.ensures c₃.match.keys3)
     (λ c. expr-none _ _ (omega arith) _ c.before.classify.ensures c.match.keys4)

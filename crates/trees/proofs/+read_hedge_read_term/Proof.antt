@@ -9,7 +9,7 @@ use borrow.Author.Rules.{rules}
 use borrow.Fn.Kinds.{In}
 use borrow.Fn.PlainCycle.{Measures, is, falls, and}
 use Rattle.language.specs.Limits.{desk}
-use Rattle.language.specs.Reading.{readHedge}
+use Rattle.language.specs.Reading.{read_hedge}
 use Rattle.trees.specs.Places.{placed}
 use Rattle.trees.proofs.Placing.{goes_on, halts}
 use Rattle.trees.proofs.Parts.{past-term, term-variable, term-functor, term-none, past-hedge, hedge-end, hedge-variable, hedge-term, term-moves}
@@ -42,7 +42,7 @@ abbrev read-term-below : ℕ → In 1 read-term-kinds.ps
 read-term-below t = and 1 read-term-kinds.ps (falls 1 read-term-kinds.ps ◌<◌ μ-read-term t) read-term.Pre
 
 abbrev invariant-loop : read-hedge-lts.invariant-loop
-invariant-loop w at i₀ i = (at ≤ i) × (placed i (readHedge desk (drop i w)) ≡ placed at (readHedge desk (drop at w)))
+invariant-loop w at i₀ i = (at ≤ i) × (placed i (read_hedge desk (drop i w)) ≡ placed at (read_hedge desk (drop at w)))
 
 abbrev decreases-loop : read-hedge-lts.decreases-loop
 decreases-loop w at i₀ i = length w - i
@@ -74,7 +74,7 @@ pub +read-hedge-read-term-spec : {M : Type 1} → statement M
     (λ c. search rules)
     (λ c.
     let c₁ = c.before in let c₂ = c₁.before.before in let c₃ = c₂.before in let c₄ = c₃.before in let c₅ = c₄.before.before.before in
-    halts (readHedge desk) _ _ _ (sym c₂.read-term.ensures ∙ c₁.place.given.1) ∙ hedge-term _ _ (omega arith) _ c₄.classify.ensures c₃.match.keys3 ∙ c₅.loop.invariant.1)
+    halts (read_hedge desk) _ _ _ (sym c₂.read-term.ensures ∙ c₁.place.given.1) ∙ hedge-term _ _ (omega arith) _ c₄.classify.ensures c₃.match.keys3 ∙ c₅.loop.invariant.1)
     (λ c. past-hedge _ _ (omega arith) ∙ c.before.loop.invariant.1))
     (λ t. read-term-lts.spec (classify-reads.Asked, classify-reads.Learnt, read-hedge-below t, read-hedge.Post) (read-term-at t) read-term.Post
     (λ c. past-term _ _ c.if1.true)

@@ -4,13 +4,13 @@ use native.Mathlib.Omega.{arith}
 use lib.ListN.{length}
 use borrow.Author.Rules.{rules}
 use borrow.Author.Tests.{not-true, not-false}
-use Rattle.header.specs.Heading.{countsIn}
+use Rattle.header.specs.Heading.{counts_in}
 use Rattle.trying.proofs.Scans.{Testing, test-starts, test-here, test-ready, test-fails, test_on, test-ends}
 use Rattle.trying.proofs.meets_all.Statement.{statement}
 use Rattle.trying.proofs.meets_all.Tie as tie
 
 abbrev invariant-loop : tie.invariant-loop
-invariant-loop h filling conj work₀ i₀ work i = Testing (countsIn h) filling conj i work₀ work
+invariant-loop h filling conj work₀ i₀ work i = Testing (counts_in h) filling conj i work₀ work
 
 abbrev decreases-loop : tie.decreases-loop
 decreases-loop h filling conj work₀ i₀ work i = length conj - i

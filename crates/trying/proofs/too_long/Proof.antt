@@ -3,13 +3,13 @@ use Prim.Native.Nat.{◌-◌}
 use native.Mathlib.Omega.{arith}
 use lib.ListN.{length}
 use borrow.Author.Rules.{rules}
-use Rattle.header.specs.Heading.{countsIn}
+use Rattle.header.specs.Heading.{counts_in}
 use Rattle.trying.proofs.Scans.{Scanning, scan-starts, scan-here, scan-ready, scan-over, scan-on, scan-ends}
 use Rattle.trying.proofs.too_long.Statement.{statement}
 use Rattle.trying.proofs.too_long.Tie as tie
 
 abbrev invariant-loop : tie.invariant-loop
-invariant-loop h filling conj i₀ i = Scanning (countsIn h) filling conj i
+invariant-loop h filling conj i₀ i = Scanning (counts_in h) filling conj i
 
 abbrev decreases-loop : tie.decreases-loop
 decreases-loop h filling conj i₀ i = length conj - i

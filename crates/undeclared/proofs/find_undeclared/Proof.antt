@@ -7,14 +7,14 @@ use lib.ListN.{length, drop}
 use borrow.Author.Rules.{rules}
 use Rattle.language.specs.Limits.{desk}
 use Rattle.language.proofs.Bools.{holds, fails}
-use Rattle.header.specs.Heading.{countsIn}
-use Rattle.undeclared.specs.Scanning.{firstUndeclared}
+use Rattle.header.specs.Heading.{counts_in}
+use Rattle.undeclared.specs.Scanning.{first_undeclared}
 use Rattle.undeclared.proofs.Scans.{scan-done, scan-on, scan-here}
 use Rattle.undeclared.proofs.find_undeclared.Statement.{statement}
 use Rattle.undeclared.proofs.find_undeclared.Tie as tie
 
 abbrev invariant-loop : tie.invariant-loop
-invariant-loop h w from i₀ i = firstUndeclared desk (countsIn h) i (drop i w) ≡ firstUndeclared desk (countsIn h) from (drop from w)
+invariant-loop h w from i₀ i = first_undeclared desk (counts_in h) i (drop i w) ≡ first_undeclared desk (counts_in h) from (drop from w)
 
 abbrev decreases-loop : tie.decreases-loop
 decreases-loop h w from i₀ i = length w - i

@@ -4,7 +4,7 @@ use borrow.Author.Rules.{rules}
 use Prim.Native.Nat.{ℕ}
 use mathlib.Core.Path.{◌∙◌, ◌≡◌}
 use Rattle.language.specs.declared.Kind.TheVariants.{Symbol, Function}
-use Rattle.views.specs.Places.{nodeAt}
+use Rattle.views.specs.Places.{node_at}
 use Rattle.views.proofs.Looks.{looked, look-kind, look-term, look-run, look-other, look-within}
 use Rattle.views.proofs.look_at.Statement.{statement}
 use Rattle.views.proofs.look_at.Tie as tie
@@ -30,11 +30,11 @@ returns-2 c =
     looked _ _ _ (look-run _ _ _ c₃.word.ensures c₂.classify.ensures c₁.p.given.0.0 c₁.p.given.1 c.word3.ensures)
 
 returns-3 : tie.Need-returns-3
-unfolding nodeAt
+unfolding node_at
 returns-3 c = looked _ _ _ (c.Node-at.ensures ∙ look-kind _ _ _ c.before.before.before.before.before.word.ensures c.before.before.before.before.classify.ensures (Symbol _) c.before.before.f.given.1)
 
 returns-4 : tie.Need-returns-4
-unfolding nodeAt
+unfolding node_at
 returns-4 c = looked _ _ _ (c.node-at2.ensures ∙ look-kind _ _ _ c.before.before.before.before.before.word.ensures c.before.before.before.before.classify.ensures (Function _) c.before.before.f2.given.1)
 
 returns-5 : tie.Need-returns-5

@@ -4,7 +4,7 @@ use Prim.Native.Nat.{ℕ, ◌+◌}
 use mathlib.Core.List.{List}
 use lib.ListN.{drop}
 use borrow.Author.Rules.{rules}
-use Rattle.words.specs.Spans.{span, elementEnd}
+use Rattle.words.specs.Spans.{span, element_end}
 use Rattle.views.proofs.Rests.{rest_end}
 use Rattle.views.proofs.Spans.{stands-place}
 use Rattle.views.proofs.Looks.{side-of, side-is}
@@ -12,7 +12,7 @@ use Rattle.views.proofs.side_at.Statement.{statement}
 use Rattle.views.proofs.side_at.Tie as tie
 
 -- the rest after the first element ends where the hedge does
-ends : (k : List ℕ) (i : ℕ) {r t : ℕ} → r ≡ elementEnd k i → t ≡ r + span 1 (drop r k) → t ≡ i + span 1 (drop i k)
+ends : (k : List ℕ) (i : ℕ) {r t : ℕ} → r ≡ element_end k i → t ≡ r + span 1 (drop r k) → t ≡ i + span 1 (drop i k)
 ends k i e d = d ∙ ap (λ r. r + span 1 (drop r k)) e ∙ rest_end k i
 
 returns : tie.Need-returns

@@ -7,7 +7,7 @@ use Rattle.views.proofs.swapped.Tie as tie
 returns : tie.Need-returns
 unfolding turned
 returns c = (
-  (λ k before behind l r w. record { start = w.start; left = w.right; right = w.left; finish = w.finish; len = w.len; fineBefore = w.fineBefore; fineBehind = w.fineBehind }),
+  (λ k before behind l r w. record { start = w.start; left = w.right; right = w.left; finish = w.finish; len = w.len; fine_before = w.fine_before; fine_behind = w.fine_behind }),
   refl,
 )
 

@@ -8,7 +8,7 @@ use Rattle.language.specs.Limits.{desk}
 use Rattle.language.specs.Question.{parts}
 use Rattle.language.proofs.Offsets.{laid-length}
 use Rattle.frames.specs.Frames.{frame}
-use Rattle.waiting.specs.Waiting.{inOrder, Laid}
+use Rattle.waiting.specs.Waiting.{in_order, Laid}
 use Rattle.waiting.proofs.Blocks.{laid-size}
 use Rattle.waiting.proofs.Pushing.{part-before, laid_none, laid_more}
 use Rattle.waiting.proofs.lay_out.Statement.{statement}
@@ -16,7 +16,7 @@ use Rattle.waiting.proofs.lay_out.Tie as tie
 
 abbrev invariant-loop : tie.invariant-loop
 invariant-loop question work₀ i₀ at₀ work i at =
-    (i ≤ get_or question 4 0) × (get_or question 4 0 + 6 ≤ length question) × (desk.room ≤ at + (length question - get_or question (i + 5) 0) + frame * (get_or question 4 0 - i)) × Laid work₀ at (inOrder i (drop i (parts 5 (get_or question 4 0) question))) work
+    (i ≤ get_or question 4 0) × (get_or question 4 0 + 6 ≤ length question) × (desk.room ≤ at + (length question - get_or question (i + 5) 0) + frame * (get_or question 4 0 - i)) × Laid work₀ at (in_order i (drop i (parts 5 (get_or question 4 0) question))) work
 
 abbrev decreases-loop : tie.decreases-loop
 decreases-loop question work₀ i₀ at₀ work i at = i
@@ -67,7 +67,7 @@ returns : tie.Need-returns invariant-loop decreases-loop
 returns c =
     let l = c.before.loop in
     let q = c.before.before.before.before.before.before.args.question.now in
-    subst (λ n. Laid c.before.before.before.before.before.before.args.work.now l.at (inOrder n (drop n (parts 5 (get_or q 4 0) q))) l.work) (let z : l.i ≡ 0 = omega arith in z) l.invariant.3
+    subst (λ n. Laid c.before.before.before.before.before.before.args.work.now l.at (in_order n (drop n (parts 5 (get_or q 4 0) q))) l.work) (let z : l.i ≡ 0 = omega arith in z) l.invariant.3
 
 pub lay-out-spec : {M : Type 1} → statement M
 lay-out-spec =

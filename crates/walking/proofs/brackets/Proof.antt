@@ -3,7 +3,7 @@ use Prim.Native.Nat.{◌-◌}
 use native.Mathlib.Omega.{arith}
 use lib.ListN.{length}
 use Rattle.language.specs.Limits.{desk}
-use Rattle.walking.proofs.Elements.{Going, going-starts, refuses, closes-last, less, deep-less, deep-enough, goes_on}
+use Rattle.walking.proofs.Elements.{Going, going-starts, refuses, closes-last, less, deep-less, deep-enough, goes_on_lem}
 use borrow.Author.Rules.{rules}
 use Rattle.walking.proofs.brackets.Statement.{statement}
 use Rattle.walking.proofs.brackets.Tie as tie
@@ -23,4 +23,4 @@ brackets-spec =
     (λ c. closes-last desk _ _ _ _ _ c.before.before.before.before.before.before.before.before.before.before.loop.invariant c.before.before.before.before.before.before.before.before.before.next.ensures c.before.before.before.before.before.before.before.before.role.ensures c.before.before.before.before.before.before.before.is-allowed.ensures c.before.before.before.before.before.before.if1.false c.before.before.before.before.put-token.ensures c.before.is_last.ensures c.if2.true)
     (λ c κs. (deep-less desk _ _ _ _ _ c.before.before.before.before.before.before.before.before.before.before.loop.invariant c.before.before.before.before.before.before.before.before.before.next.ensures c.before.before.before.before.before.before.before.before.role.ensures c.before.before.before.before.before.before.before.is-allowed.ensures c.before.before.before.before.before.before.if1.false c.before.before.before.before.put-token.ensures c.before.is_last.ensures c.if2.false, deep-enough desk _ _ _ _ _ c.before.before.before.before.before.before.before.before.before.before.loop.invariant c.before.before.before.before.before.before.before.before.before.next.ensures c.before.before.before.before.before.before.before.before.role.ensures c.before.before.before.before.before.before.before.is-allowed.ensures c.before.before.before.before.before.before.if1.false c.before.before.before.before.put-token.ensures c.before.is_last.ensures c.if2.false))
     (λ c κs. search rules) (λ c. less desk _ _ _ _ _ c.before.before.before.before.before.before.before.before.before.before.before.before.loop.invariant c.before.before.before.before.before.before.before.before.before.before.before.next.ensures c.before.before.before.before.before.before.before.before.before.before.role.ensures c.before.before.before.before.before.before.before.before.before.is-allowed.ensures c.before.before.before.before.before.before.before.before.if1.false c.before.before.before.before.before.before.put-token.ensures)
-    (λ c. goes_on desk _ _ _ _ _ c.before.before.before.before.before.before.before.before.before.before.before.before.loop.invariant c.before.before.before.before.before.before.before.before.before.before.before.next.ensures c.before.before.before.before.before.before.before.before.before.before.role.ensures c.before.before.before.before.before.before.before.before.before.is-allowed.ensures c.before.before.before.before.before.before.before.before.if1.false c.before.before.before.before.before.before.put-token.ensures c.before.before.before.is_last.ensures c.before.before.if2.false c.before.depth-after.ensures c.stage-after.ensures))
+    (λ c. goes_on_lem desk _ _ _ _ _ c.before.before.before.before.before.before.before.before.before.before.before.before.loop.invariant c.before.before.before.before.before.before.before.before.before.before.before.next.ensures c.before.before.before.before.before.before.before.before.before.before.role.ensures c.before.before.before.before.before.before.before.before.before.is-allowed.ensures c.before.before.before.before.before.before.before.before.if1.false c.before.before.before.before.before.before.put-token.ensures c.before.before.before.is_last.ensures c.before.before.if2.false c.before.depth-after.ensures c.stage-after.ensures))

@@ -5,13 +5,13 @@ use mathlib.Core.Logic.{inl, inr}
 use lib.ListN.{length, drop}
 use borrow.Author.Rules.{rules}
 use native.Mathlib.Omega.{arith}
-use Rattle.words.specs.Places.{untilLiteral}
+use Rattle.words.specs.Places.{until_literal}
 use Rattle.words.proofs.Literals.{until_stop, until-on, until_end}
 use Rattle.words.proofs.next_literal.Statement.{statement}
 use Rattle.words.proofs.next_literal.Tie as tie
 
 abbrev invariant-loop : tie.invariant-loop
-invariant-loop k at i₀ i = (i ≤ length k) × (i + untilLiteral (drop i k) ≡ at + 1 + untilLiteral (drop (at + 1) k))
+invariant-loop k at i₀ i = (i ≤ length k) × (i + until_literal (drop i k) ≡ at + 1 + until_literal (drop (at + 1) k))
 
 abbrev decreases-loop : tie.decreases-loop
 decreases-loop k at i₀ i = length k - i

@@ -2,7 +2,7 @@
 use borrow.Author.Rules.{rules}
 use mathlib.Core.Path.{ap, ◌∙◌}
 use mathlib.Core.Bool.{not}
-use Rattle.applies.specs.Parts.{loneFunctor, nameIn, isSymbol}
+use Rattle.applies.specs.Parts.{lone_functor, name_in, is_symbol}
 use Rattle.applies.proofs.Reading.{both, read, blank-read, same-functions}
 use Rattle.applies.proofs.equation.e7.Statement.{statement}
 use Rattle.applies.proofs.equation.e7.Tie as tie
@@ -13,8 +13,8 @@ returns c =
     let c₇ = c₆.before.before.before in let c₈ = c₇.before in let c₉ = c₈.before in let c₁₀ = c₉.before in let c₁₁ = c₁₀.before in
     let c₁₂ = c₁₁.before in let c₁₃ = c₁₂.before in let c₁₄ = c₁₃.before in let c₁₅ = c₁₄.before in
     λ before behind l r w.
-    both c.and6.ensures (read w.left loneFunctor c₄.lone-functor.ensures) (both c₁.and5.ensures (ap not (c₁₃.is-symbol.ensures ∙ ap isSymbol (read w.left nameIn c₁₅.name_in.ensures)))
-    (both c₂.and4.ensures (read w.right loneFunctor c₃.lone-functor2.ensures) (both c₅.and3.ensures (ap not (c₁₂.is-symbol2.ensures ∙ ap isSymbol (read w.right nameIn c₁₄.name-in2.ensures)))
+    both c.and6.ensures (read w.left lone_functor c₄.lone-functor.ensures) (both c₁.and5.ensures (ap not (c₁₃.is-symbol.ensures ∙ ap is_symbol (read w.left name_in c₁₅.name_in.ensures)))
+    (both c₂.and4.ensures (read w.right lone_functor c₃.lone-functor2.ensures) (both c₅.and3.ensures (ap not (c₁₂.is-symbol2.ensures ∙ ap is_symbol (read w.right name_in c₁₄.name-in2.ensures)))
     (both c₆.and2.ensures (same-functions (blank-read w.left c₁₅.name_in.ensures c₁₁.blank_of.ensures) (blank-read w.right c₁₄.name-in2.ensures c₁₀.blank-of2.ensures))
     (both c₇.and.ensures (ap not (c₉.r1.ensures before behind l r w)) c₈.any-unordered.ensures)))))
 

@@ -2,13 +2,13 @@
 use borrow.Author.Rules.{rules}
 use mathlib.Core.Path.{ap}
 use mathlib.Core.Bool.{not}
-use Rattle.applies.specs.Parts.{loneVariable}
+use Rattle.applies.specs.Parts.{lone_variable}
 use Rattle.applies.proofs.Reading.{one, read, variable-there}
 use Rattle.applies.proofs.equation.variable_too.Statement.{statement}
 use Rattle.applies.proofs.equation.variable_too.Tie as tie
 
 returns : tie.Need-returns
-returns c = λ before behind l r w. one c.or.ensures (ap not (read w.right loneVariable c.before.lone-variable.ensures)) (variable-there w w.right c.before.before.before.before.variable-of.ensures c.before.before.before.term-word.ensures c.before.before.elsewhere.ensures)
+returns c = λ before behind l r w. one c.or.ensures (ap not (read w.right lone_variable c.before.lone-variable.ensures)) (variable-there w w.right c.before.before.before.before.variable-of.ensures c.before.before.before.term-word.ensures c.before.before.elsewhere.ensures)
 
 pub variable-too-spec : {M : Type 1} → statement M
 variable-too-spec =

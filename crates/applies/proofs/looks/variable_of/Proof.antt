@@ -1,12 +1,12 @@
 -- By the look.
 use borrow.Author.Rules.{rules}
 use mathlib.Core.Path.{sym, ap}
-use Rattle.applies.specs.Parts.{variableOf}
+use Rattle.applies.specs.Parts.{variable_of}
 use Rattle.applies.proofs.looks.variable_of.Statement.{statement}
 use Rattle.applies.proofs.looks.variable_of.Tie as tie
 
 pub variable-of-spec : {M : Type 1} → statement M
 variable-of-spec =
     tie.close (tie.spec
-    (λ c. search rules) (λ c. search rules) (λ c. search rules) (λ c. search rules) (λ c. ap variableOf (sym c.enum_told.given.1))
-    (λ c. search rules) (λ c. ap variableOf (sym c.enum-told2.given.1)) (λ c. ap variableOf (sym c.enum-told3.given.1)))
+    (λ c. search rules) (λ c. search rules) (λ c. search rules) (λ c. search rules) (λ c. ap variable_of (sym c.enum_told.given.1))
+    (λ c. search rules) (λ c. ap variable_of (sym c.enum-told2.given.1)) (λ c. ap variable_of (sym c.enum-told3.given.1)))

@@ -2,13 +2,13 @@
 use borrow.Author.Rules.{rules}
 use mathlib.Core.Path.{ap}
 use mathlib.Core.Bool.{not}
-use Rattle.applies.specs.Parts.{isTerm, isLast}
+use Rattle.applies.specs.Parts.{is_term, is_last}
 use Rattle.applies.proofs.Reading.{both, read, formed}
 use Rattle.applies.proofs.membership.m2.Statement.{statement}
 use Rattle.applies.proofs.membership.m2.Tie as tie
 
 returns : tie.Need-returns
-returns c = λ before h R behind w. both c.and2.ensures (read w.hedge isTerm c.before.before.before.is-term.ensures) (both c.before.and.ensures (ap not (read w.hedge isLast c.before.before.before.before.is_last.ensures)) (ap not (formed w c.before.before.form_of.ensures 7000)))
+returns c = λ before h R behind w. both c.and2.ensures (read w.hedge is_term c.before.before.before.is-term.ensures) (both c.before.and.ensures (ap not (read w.hedge is_last c.before.before.before.before.is_last.ensures)) (ap not (formed w c.before.before.form_of.ensures 7000)))
 
 pub m2-spec : {M : Type 1} → statement M
 m2-spec =

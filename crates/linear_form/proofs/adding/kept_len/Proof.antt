@@ -1,13 +1,13 @@
 -- Four parts, each no longer than the words.
 use borrow.Author.Rules.{rules}
 use native.Mathlib.Omega.{arith}
-use Rattle.linear_form.specs.Rows.{keptLength}
+use Rattle.linear_form.specs.Rows.{kept_length}
 use Rattle.linear_form.proofs.Rows.{parts-short}
 use Rattle.linear_form.proofs.adding.kept_len.Statement.{statement}
 use Rattle.linear_form.proofs.adding.kept_len.Tie as tie
 
 returns : tie.Need-returns
-unfolding keptLength
+unfolding kept_length
 returns c = omega arith
 
 pub kept-len-spec : {M : Type 1} → statement M

@@ -1,13 +1,13 @@
 -- The lengths of what is kept, of the first term and of the rest, each bounded.
 use borrow.Author.Rules.{rules}
 use native.Mathlib.Omega.{arith}
-use Rattle.linear_form.specs.Rows.{lengthBy}
+use Rattle.linear_form.specs.Rows.{length_by}
 use Rattle.linear_form.proofs.Rows.{row-short}
 use Rattle.linear_form.proofs.adding.result_len.Statement.{statement}
 use Rattle.linear_form.proofs.adding.result_len.Tie as tie
 
 returns : tie.Need-returns
-unfolding lengthBy
+unfolding length_by
 returns c = omega arith
 
 pub result-len-spec : {M : Type 1} → statement M

@@ -1,7 +1,7 @@
 -- The loop's invariant: the equations of the rest of the part are still to come.
 use Prim.Native.Nat.{◌-◌}
 use lib.Seq.{slice}
-use Rattle.plans.specs.Results.{emptyEach}
+use Rattle.plans.specs.Results.{empty_each}
 use Rattle.results.proofs.Replaced.{each_step, each_none}
 use Rattle.slices.proofs.Still.{Still, still-all, still-none, still-fits, still-run}
 use borrow.Author.Rules.{rules}
@@ -9,7 +9,7 @@ use Rattle.results.proofs.emptying.empty_each.Statement.{statement}
 use Rattle.results.proofs.emptying.empty_each.Tie as tie
 
 abbrev invariant-loop : tie.invariant-loop
-invariant-loop k from to out₀ at end i₀ e₀ out i e = Still out₀ at (emptyEach (slice from to k)) out e (emptyEach (slice i to k))
+invariant-loop k from to out₀ at end i₀ e₀ out i e = Still out₀ at (empty_each (slice from to k)) out e (empty_each (slice i to k))
 
 abbrev decreases-loop : tie.decreases-loop
 decreases-loop k from to out₀ at end i₀ e₀ out i e = end - i

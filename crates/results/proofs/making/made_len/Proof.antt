@@ -4,7 +4,7 @@ use mathlib.Core.Path.{◌≡◌, ap}
 use lib.ListN.{length}
 use Rattle.language.specs.Limits.{desk}
 use Rattle.plans.specs.Results.{slot_at, numbered}
-use Rattle.results.proofs.Made.{whole, swapOf, from, made-length, made_none, piece-short}
+use Rattle.results.proofs.Made.{whole, swap_of, from, made-length, made_none, piece-short}
 use Rattle.results.specs.Marked.{bare}
 use native.Mathlib.Omega.{arith}
 use borrow.Author.Rules.{rules}
@@ -28,7 +28,7 @@ add-n : tie.Need-overflow-add-n invariant-loop decreases-loop
 add-n c =
     let c₁ = c.before.before.before in let c₂ = c₁.before.before.before.before in
     let a = c₂.args in
-    let b = piece-short a.k.now (bare (swapOf a.r)) a.cut 0 (slot_at a.r c₁.loop.i) c₂.requires in
+    let b = piece-short a.k.now (bare (swap_of a.r)) a.cut 0 (slot_at a.r c₁.loop.i) c₂.requires in
     let e = c.piece-len.ensures in
     let y = c₁.loop.invariant.1 in
     omega arith
@@ -37,7 +37,7 @@ loop-again : tie.Need-loop-preserved invariant-loop decreases-loop
 loop-again c =
     let c₁ = c.before.before in let c₂ = c₁.before in let c₃ = c₂.before.before.before.before in
     let a = c₃.args in
-    let b = piece-short a.k.now (bare (swapOf a.r)) a.cut 0 (slot_at a.r c₂.loop.i) c₃.requires in
+    let b = piece-short a.k.now (bare (swap_of a.r)) a.cut 0 (slot_at a.r c₂.loop.i) c₃.requires in
     let e = c.piece-len.ensures in
     let w = made-length a.k.now a.r a.cut 0 c₂.loop.i c₁.loop-test.true c.piece-len.result e in
     let y = c₂.loop.invariant.0 in

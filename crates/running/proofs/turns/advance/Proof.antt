@@ -15,30 +15,30 @@ returns : tie.Need-returns
 returns c =
     let c₁ = c.before.before.before in let c₂ = c₁.before.before.before in let c₃ = c₂.before.before.before.before in
     let c₄ = c₃.before.before.before.before.before.before.before in
-    λ told old whole oldWork oldAnswer ls x w answer ks u ek eu en em a on below fine traces.
-    step-turns _ told old whole oldWork oldAnswer ls x w c₄.args.s c₄.args.work.now answer c₄.args.out.now u c₄.args.k.now ek c₄.args.number eu c₄.args.next en c₄.args.b ks a on below fine traces _ _ c₃.take_step.ensures
+    λ told old whole old_work old_answer ls x w answer ks u ek eu en em a on below fine traces.
+    step-turns _ told old whole old_work old_answer ls x w c₄.args.s c₄.args.work.now answer c₄.args.out.now u c₄.args.k.now ek c₄.args.number eu c₄.args.next en c₄.args.b ks a on below fine traces _ _ c₃.take_step.ensures
     _ c₂.at.given.1 _ em _ _ c₁.note.ensures c.if1.true
 
 returns-2 : tie.Need-returns-2
 returns-2 c =
     let c₁ = c.before.before.before.before in let c₂ = c₁.before.before.before.before.before.before.before in
-    λ told old whole oldWork oldAnswer ls x w answer ks u ek eu en em a on below fine traces.
-    too_long _ told old whole oldWork oldAnswer ls x w c₂.args.s c₂.args.work.now answer c₂.args.out.now u c₂.args.k.now ek c₂.args.number eu c₂.args.next en c₂.args.b ks a on below fine traces _ _ c₁.take_step.ensures
+    λ told old whole old_work old_answer ls x w answer ks u ek eu en em a on below fine traces.
+    too_long _ told old whole old_work old_answer ls x w c₂.args.s c₂.args.work.now answer c₂.args.out.now u c₂.args.k.now ek c₂.args.number eu c₂.args.next en c₂.args.b ks a on below fine traces _ _ c₁.take_step.ensures
     c.enum_told.given.1
 
 returns-3 : tie.Need-returns-3
 returns-3 c =
     let c₁ = c.before.before.before.before in let c₂ = c₁.before.before.before.before.before.before.before in
-    λ told old whole oldWork oldAnswer ls x w answer ks u ek eu en em a on below fine traces.
-    no_room _ told old whole oldWork oldAnswer ls x w c₂.args.s c₂.args.work.now answer c₂.args.out.now u c₂.args.k.now ek c₂.args.number eu c₂.args.next en c₂.args.b ks a on below fine traces _ _ c₁.take_step.ensures
+    λ told old whole old_work old_answer ls x w answer ks u ek eu en em a on below fine traces.
+    no_room _ told old whole old_work old_answer ls x w c₂.args.s c₂.args.work.now answer c₂.args.out.now u c₂.args.k.now ek c₂.args.number eu c₂.args.next en c₂.args.b ks a on below fine traces _ _ c₁.take_step.ensures
     c.enum-told2.given.1
 
 returns-4 : tie.Need-returns-4
 returns-4 c =
     let c₁ = c.before.before.before in let c₂ = c₁.before.before.before in let c₃ = c₂.before.before.before.before in
     let c₄ = c₃.before.before.before.before.before.before.before in
-    λ told old whole oldWork oldAnswer ls x w answer ks u ek eu en em a on below fine traces.
-    unnoted-turns _ told old whole oldWork oldAnswer ls x w c₄.args.s c₄.args.work.now answer c₄.args.out.now u c₄.args.k.now ek c₄.args.number eu c₄.args.next en c₄.args.b ks a on below fine traces _ _ c₃.take_step.ensures
+    λ told old whole old_work old_answer ls x w answer ks u ek eu en em a on below fine traces.
+    unnoted-turns _ told old whole old_work old_answer ls x w c₄.args.s c₄.args.work.now answer c₄.args.out.now u c₄.args.k.now ek c₄.args.number eu c₄.args.next en c₄.args.b ks a on below fine traces _ _ c₃.take_step.ensures
     _ c₂.at.given.1 _ em _ _ c₁.note.ensures c.if1.false
 
 pub advance-spec : {M : Type 1} → statement M

@@ -3,11 +3,11 @@ use mathlib.Core.Path.{sym, ◌∙◌}
 use mathlib.Core.List.{[]}
 use borrow.Author.Rules.{rules}
 use Rattle.language.specs.Limits.{desk}
-use Rattle.language.specs.Question.{readQuestion}
+use Rattle.language.specs.Question.{read_question}
 use Rattle.rules.specs.Run.{numbered}
 use Rattle.answers.proofs.Cleared.{cleared-long}
 use Rattle.replay.specs.Trail.{trail}
-use Rattle.running.specs.Turning.{signature_of, conjunctionsOf}
+use Rattle.running.specs.Turning.{signature_of, conjunctions_of}
 use Rattle.running.proofs.Gone.{ends_as}
 use Rattle.running.proofs.Asked.{asked-fits, asked-long, asked-laid, asked-signature, under-way, begin-left}
 use Rattle.running.proofs.turns.run.Statement.{statement}
@@ -28,11 +28,11 @@ go-on-requires c κs =
     let q = a.question.now in
     record {
       old = a.out.now;
-      whole = trail desk (signature_of (readQuestion desk q)) (conjunctionsOf (readQuestion desk q));
-      oldWork = a.work.now;
-      oldAnswer = a.answer.now;
+      whole = trail desk (signature_of (read_question desk q)) (conjunctions_of (read_question desk q));
+      old_work = a.work.now;
+      old_answer = a.answer.now;
       lines = [];
-      waits = numbered 0 (conjunctionsOf (readQuestion desk q));
+      waits = numbered 0 (conjunctions_of (read_question desk q));
       under =
           under-way q p.0 a.course a.told.now a.out.now a.work.now a.answer.now _ _ _ _ _ (c₁.signature-of.ensures ∙ sym (asked-signature q p.0)) p.1 (cleared-long _ p.2) c₂.begin.auto.0 c₃.lay-out.ensures
           c₂.begin.ensures;
@@ -47,7 +47,7 @@ returns c =
     let q = a.question.now in
     let signed = c₂.signature-of.ensures ∙ sym (asked-signature q p.0) in
     ends_as (begin-left q p.0 a.course a.told.now a.out.now _ _ _ signed)
-    (c₁.go_on.ensures a.out.now (trail desk (signature_of (readQuestion desk q)) (conjunctionsOf (readQuestion desk q))) a.work.now a.answer.now [] (numbered 0 (conjunctionsOf (readQuestion desk q)))
+    (c₁.go_on.ensures a.out.now (trail desk (signature_of (read_question desk q)) (conjunctions_of (read_question desk q))) a.work.now a.answer.now [] (numbered 0 (conjunctions_of (read_question desk q)))
     (under-way q p.0 a.course a.told.now a.out.now a.work.now a.answer.now _ _ _ _ _ signed p.1 (cleared-long _ p.2) c₃.begin.auto.0 c₄.lay-out.ensures c₃.begin.ensures))
 
 pub run_spec : {M : Type 1} → statement M

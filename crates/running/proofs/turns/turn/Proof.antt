@@ -19,13 +19,13 @@ turn-with-requires c κs =
         record {
           old = x.old;
           whole = x.whole;
-          oldWork = x.oldWork;
-          oldAnswer = x.oldAnswer;
+          old_work = x.old_work;
+          old_answer = x.old_answer;
           lines = x.lines;
           first = x.first;
           rest = x.rest;
           under = x.under;
-          words = taken-words x.oldWork x.oldAnswer x.lines x.first x.rest c₁.args.s c₁.args.work.now c₁.args.answer.now x.under.running t;
+          words = taken-words x.old_work x.old_answer x.lines x.first x.rest c₁.args.s c₁.args.work.now c₁.args.answer.now x.under.running t;
         },
         (t.counts, t.noted),
       ),
@@ -35,10 +35,10 @@ returns : tie.Need-returns
 returns c =
     let c₁ = c.before.before.before.before.before.before in let c₂ = c₁.before.before.before.before in
     let c₃ = c₂.before.before.before.before.before.before.before in
-    λ old whole oldWork oldAnswer ls x w u.
-    c₁.turn-with.ensures old whole oldWork oldAnswer ls x w u
-    (taken-words oldWork oldAnswer ls x w c₃.args.s c₃.args.work.now c₃.args.answer.now u.running c₃.requires.1.1)
-    (c₂.read_number.ensures ∙ first_of oldWork oldAnswer ls x w c₃.args.s c₃.args.work.now c₃.args.answer.now u.running) (omega arith)
+    λ old whole old_work old_answer ls x w u.
+    c₁.turn-with.ensures old whole old_work old_answer ls x w u
+    (taken-words old_work old_answer ls x w c₃.args.s c₃.args.work.now c₃.args.answer.now u.running c₃.requires.1.1)
+    (c₂.read_number.ensures ∙ first_of old_work old_answer ls x w c₃.args.s c₃.args.work.now c₃.args.answer.now u.running) (omega arith)
 
 pub turn_spec : {M : Type 1} → statement M
 turn_spec =

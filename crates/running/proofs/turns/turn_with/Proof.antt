@@ -20,16 +20,16 @@ returns : tie.Need-returns
 returns c =
     let c₁ = c.before.before in let c₂ = c₁.before.before in let c₃ = c₂.before.before in
     let c₄ = c₃.before.before.before.before.before.before.before in
-    λ old whole oldWork oldAnswer ls x w u ek eu en.
-    lined-turns (guide c₄.args.course c₄.args.told.now old whole) oldWork oldAnswer ls x w c₄.args.s c₄.args.work.now c₄.args.answer.now c₄.args.out.now u
+    λ old whole old_work old_answer ls x w u ek eu en.
+    lined-turns (guide c₄.args.course c₄.args.told.now old whole) old_work old_answer ls x w c₄.args.s c₄.args.work.now c₄.args.answer.now c₄.args.out.now u
     (none_found c₄.args.s.signature x.literals _ _ _ (best-found c₄.args.s.signature x.literals _ (c₃.find.ensures.1 x.literals u.running.fine.0 ek)) c₂.if1.true) _ _
-    (c₁.line.ensures oldWork oldAnswer ls x w c₄.args.work.now u.running ek eu en)
+    (c₁.line.ensures old_work old_answer ls x w c₄.args.work.now u.running ek eu en)
 
 returns-2 : tie.Need-returns-2
 returns-2 c =
     let c₁ = c.before.before.before.before in let c₂ = c₁.before.before.before.before.before.before.before in
-    λ old whole oldWork oldAnswer ls x w u ek eu en.
-    not-told (guide c₂.args.course c₂.args.told.now old whole) oldWork oldAnswer ls x w c₂.args.s c₂.args.work.now c₂.args.answer.now c₂.args.out.now u _
+    λ old whole old_work old_answer ls x w u ek eu en.
+    not-told (guide c₂.args.course c₂.args.told.now old whole) old_work old_answer ls x w c₂.args.s c₂.args.work.now c₂.args.answer.now c₂.args.out.now u _
     (halt-found c₂.args.s.signature x.literals _ _ _ (best-found c₂.args.s.signature x.literals _ (c₁.find.ensures.1 x.literals u.running.fine.0 ek)) c.if2.true)
 
 choose-requires : tie.Need-choose-requires
@@ -62,9 +62,9 @@ returns-3 : tie.Need-returns-3
 returns-3 c =
     let c₁ = c.before in let c₂ = c₁.before.before in let c₃ = c₂.before in let c₄ = c₃.before.before in let c₅ = c₄.before.before in
     let c₆ = c₅.before.before.before.before.before.before.before in
-    λ old whole oldWork oldAnswer ls x w u ek eu en.
+    λ old whole old_work old_answer ls x w u ek eu en.
     let f = best-found c₆.args.s.signature x.literals _ (c₅.find.ensures.1 x.literals u.running.fine.0 ek) in
-    not_chosen (guide c₆.args.course c₆.args.told.now old whole) oldWork oldAnswer ls x w c₆.args.s c₆.args.work.now c₆.args.answer.now c₆.args.out.now u _
+    not_chosen (guide c₆.args.course c₆.args.told.now old whole) old_work old_answer ls x w c₆.args.s c₆.args.work.now c₆.args.answer.now c₆.args.out.now u _
     (chosen-not c₆.args.course c₆.args.told.now (length old) c₆.args.s.signature c₆.args.s.steps x _ _ c₁.e.given.1
     (c₂.choose.ensures (length old) x u.running.fine.0 ek u.running.few (below_all c₄.if1.false c₃.if2.false) f))
 
@@ -73,11 +73,11 @@ returns-4 c =
     let c₁ = c.before.before.before.before in let c₂ = c₁.before.before.before in let c₃ = c₂.before.before in let c₄ = c₃.before.before in
     let c₅ = c₄.before in let c₆ = c₅.before.before in let c₇ = c₆.before.before in
     let c₈ = c₇.before.before.before.before.before.before.before in
-    λ old whole oldWork oldAnswer ls x w u ek eu en.
+    λ old whole old_work old_answer ls x w u ek eu en.
     let f = best-found c₈.args.s.signature x.literals _ (c₇.find.ensures.1 x.literals u.running.fine.0 ek) in
     let d = chosen-step c₈.args.course c₈.args.told.now (length old) c₈.args.s.signature c₈.args.s.steps x _ _ c₃.c.given.1
     (c₄.choose.ensures (length old) x u.running.fine.0 ek u.running.few (below_all c₆.if1.false c₅.if2.false) f) in
-    c₁.advance.ensures c₈.args.told.now old whole oldWork oldAnswer ls x w c₈.args.answer.now d.ks u ek eu en c₂.one_more.ensures d.applies
+    c₁.advance.ensures c₈.args.told.now old whole old_work old_answer ls x w c₈.args.answer.now d.ks u ek eu en c₂.one_more.ensures d.applies
     (goes-here (guide c₈.args.course c₈.args.told.now old whole) c₈.args.s ls x w d.ks d.goes_on) d.below d.fine d.traces
 
 pub turn-with-spec : {M : Type 1} → statement M

@@ -1,6 +1,6 @@
 -- The loop keeps what is to be written.
 use Rattle.write_text.proofs.Lining.{question-long, question-few, table-within, within-question, Listing, listing-on, listing-ends}
-use Rattle.language.specs.Question.{alternativesOf}
+use Rattle.language.specs.Question.{alternatives_of}
 use mathlib.Core.Path.{◌≡◌, refl}
 use Prim.Native.Nat.{◌-◌}
 use native.Mathlib.Omega.{arith}
@@ -9,7 +9,7 @@ use Rattle.write_text.proofs.lines.put_lines.Statement.{statement}
 use Rattle.write_text.proofs.lines.put_lines.Tie as tie
 
 abbrev invariant-loop : tie.invariant-loop
-invariant-loop w out₀ stop many i₀ n₀ out i n = (many ≡ alternativesOf w) × Listing stop w out₀ i out n
+invariant-loop w out₀ stop many i₀ n₀ out i n = (many ≡ alternatives_of w) × Listing stop w out₀ i out n
 
 abbrev decreases-loop : tie.decreases-loop
 decreases-loop w out₀ stop many i₀ n₀ out i n = many - i
