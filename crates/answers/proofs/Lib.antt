@@ -1,4 +1,3 @@
-pub mod Cleared
 pub mod Rows
 pub mod Adding
 pub mod Tallies

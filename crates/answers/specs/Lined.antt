@@ -4,16 +4,12 @@ use Rattle.std.proofs.lemmas.List.Edits.{sets}
 use Rattle.language.specs.Limits.{desk}
 use Rattle.language.specs.Kinds.{pick}
 use Rattle.rules.specs.Run.{Numbered, lines_size, lines_at}
-use Rattle.rules.specs.Answer.{count_open, answer_words, zeros, overwritten}
+use Rattle.rules.specs.Answer.{count_open, answer_words}
 use Rattle.answers.specs.declared.Tally.{Tally}
 
 -- how many words of a line stand before its literals: its mark and its number
 abbrev pub line_head : ℕ
 line_head = 2
-
--- the room of a slice is clear: clearing it changes nothing
-abbrev pub Cleared : List ℕ → Type 0
-Cleared ws = ws ≡ overwritten desk (zeros desk) ws
 
 -- `new` has the lines ls, t counts them, and the words past the room are those of `old`
 pub record Lined (old : List ℕ) (ls : List Numbered) (t : Tally) (new : List ℕ) : Type 0 where

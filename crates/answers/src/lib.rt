@@ -3,10 +3,10 @@ ghost use Rattle.std.specs.Prelude.{◌+◌, ◌≤◌, ◌<◌, ◌≡◌, [], 
 ghost use Rattle.std.proofs.lemmas.List.Edits.{sets};
 ghost use Rattle.language.specs.Limits.{desk};
 ghost use Rattle.language.specs.Kinds.{pick};
-ghost use Rattle.answers.specs.Lined.{line_head, Cleared, Lined, counted, with_line};
+ghost use Rattle.answers.specs.Lined.{line_head, Lined, counted, with_line};
 
 use language::limits::LINES_AT;
-use slices::{copy, store};
+use slices::{clear, copy, store};
 
 // How many lines there are, how many of them open, and the place after the last.
 #[derive(Drop)]
@@ -34,11 +34,12 @@ fn opened(before: usize, solved: bool) -> usize
     if solved { before } else { before + 1 }
 }
 
-// The answer that has no line, in a slice that is clear.
+// The answer that has no line.
 pub fn begin(answer: &mut [u16]) -> Tally
-    requires { Cleared answer.old }
+    requires { desk.room ≤ length answer.old }
     ensures { Lined answer.old [] result answer.new }
 {
+    clear(answer);
     store(answer, 2, LINES_AT);
     Tally {
         lines: 0,

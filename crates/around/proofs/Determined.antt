@@ -14,10 +14,10 @@ refused-determined : Determined refused.ended refused.Reads.Pre refused.Reads.Po
 refused-determined κs a p o q e d = ap (λ z. (z, o.1)) (e ∙ sym d)
 
 abbrev Left : Type 0
-Left = Solved × List ℕ
+Left = Solved × List ℕ × List ℕ
 
 tell-determined : Determined tell.ended tell.Reads.Pre tell.Reads.Post
-tell-determined κs a p o q e d = ap (λ (t : Left). (t.0, (tt, (t.1, tt)))) (e ∙ sym d)
+tell-determined κs a p o q e d = ap (λ (t : Left). (t.0, (tt, (t.1, (t.2, tt))))) (e ∙ sym d)
 
 ready-determined : Determined ready.ended ready.Reads.Pre ready.Reads.Post
 ready-determined κs a p o q e d = ap (λ z. (z, o.1)) (e ∙ sym d)

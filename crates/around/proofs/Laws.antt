@@ -43,16 +43,21 @@ module _ (work answer : ℕ) (a : Asked) where
 
 -- ---- what is told
 
-module _ (r : Ran) (answer : List ℕ) where
+module _ (r : Ran) (work answer cleared : List ℕ) (ec : cleared ≡ overwritten desk (zeros desk) work) where
   pub told-done : (n : ℕ) (t : Tally) (o : Outcome) → r ≡ Done n t → o ≡ verdict_for t.lines t.«open»
-      → (record { outcome = o; lines = t.lines; «open» = t.«open»; steps = n }, answer) ≡ told_by r answer
+      → (record { outcome = o; lines = t.lines; «open» = t.«open»; steps = n }, cleared, answer) ≡ told_by r work answer
   unfolding told_by
   told-done n t o er eo =
-      ap (λ o. (record { outcome = o; lines = t.lines; «open» = t.«open»; steps = n }, answer)) eo ∙ sym (ap (λ r. told_by r answer) er)
+      ap (λ o. (record { outcome = o; lines = t.lines; «open» = t.«open»; steps = n }, cleared, answer)) eo
+      ∙ ap (λ x. (record { outcome = verdict_for t.lines t.«open»; lines = t.lines; «open» = t.«open»; steps = n }, x, answer)) ec
+      ∙ sym (ap (λ r. told_by r work answer) er)
 
-  pub told-stopped : (x : Refusal) (wiped : List ℕ) (s : Solved) → r ≡ Stopped x → wiped ≡ overwritten desk (zeros desk) answer → s ≡ refused_by x → (s, wiped) ≡ told_by r answer
+  pub told-stopped : (x : Refusal) (wiped : List ℕ) (s : Solved) → r ≡ Stopped x → wiped ≡ overwritten desk (zeros desk) answer → s ≡ refused_by x
+      → (s, cleared, wiped) ≡ told_by r work answer
   unfolding told_by
-  told-stopped x wiped s er ew es = ap (λ s. (s, wiped)) es ∙ ap (λ w. (refused_by x, w)) ew ∙ sym (ap (λ r. told_by r answer) er)
+  told-stopped x wiped s er ew es =
+      ap (λ s. (s, cleared, wiped)) es ∙ ap (λ c. (refused_by x, c, wiped)) ec ∙ ap (λ w. (refused_by x, overwritten desk (zeros desk) work, w)) ew
+      ∙ sym (ap (λ r. told_by r work answer) er)
 
 -- ---- the room of a trail
 

@@ -17,7 +17,8 @@ verdict_for lines opens = pick (eqb lines 0) NoLine (pick (ltb 0 opens) SomeOpen
 abbrev pub refused_by : Refusal → Solved
 refused_by r = record { outcome = Refused r; lines = 0; «open» = 0; steps = 0 }
 
--- what comes back, and the answer slice: after a refusal it is cleared
-unfoldable pub told_by : Ran → List ℕ → Solved × List ℕ
-told_by (Done n t) answer = (record { outcome = verdict_for t.lines t.«open»; lines = t.lines; «open» = t.«open»; steps = n }, answer)
-told_by (Stopped e) answer = (refused_by e, overwritten desk (zeros desk) answer)
+-- what comes back, and the two slices: the work slice is cleared, and after a refusal the answer slice too
+unfoldable pub told_by : Ran → List ℕ → List ℕ → Solved × List ℕ × List ℕ
+told_by (Done n t) work answer =
+    (record { outcome = verdict_for t.lines t.«open»; lines = t.lines; «open» = t.«open»; steps = n }, overwritten desk (zeros desk) work, answer)
+told_by (Stopped e) work answer = (refused_by e, overwritten desk (zeros desk) work, overwritten desk (zeros desk) answer)

@@ -45,11 +45,12 @@ fn verdict_of(t: Tally) -> Outcome
     Outcome::AllSolved
 }
 
-// What a run that came to this is told as. After a refusal the answer slice is cleared.
-pub fn tell(ran: Ran, answer: &mut [u16]) -> Solved
-    requires { desk.room ≤ length answer.old }
-    ensures { (result, answer.new) ≡ told_by ran answer.old }
+// What a run that came to this is told as. The work slice is cleared, and after a refusal the answer slice too.
+pub fn tell(ran: Ran, work: &mut [u16], answer: &mut [u16]) -> Solved
+    requires { (desk.room ≤ length work.old) × (desk.room ≤ length answer.old) }
+    ensures { (result, work.new, answer.new) ≡ told_by ran work.old answer.old }
 {
+    clear(work);
     match ran {
         Ran::Done(steps, t) => {
             let outcome = verdict_of(t);

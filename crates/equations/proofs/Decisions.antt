@@ -15,7 +15,7 @@ use Rattle.rules.specs.Solved.{is_some}
 use Rattle.rules.specs.Places.{at_r1, at_f1, at_f2, at_f3, at_del1, at_del2, at_del3, at_d1, at_d2, at_d0, at_e1, at_e2, at_e3, at_e4, at_e5, at_e6, at_e7, no_rule}
 use Rattle.rules.specs.Ranks.{eqn_rank}
 use Rattle.plans.proofs.Ranking.{check-on, lone-on, none-on, bind-on, pick-suc, pick-not}
-use Rattle.equations.specs.Rank.{run_here, rank_of}
+use Rattle.equations.specs.Rank.{rank_of}
 
 -- what stands inside is held
 onto-on : (q : Hedge → Hedge) (m : Option (Hedge × Hedge)) → is_some (onto q m) ≡ is_some m
@@ -127,11 +127,6 @@ blanks-order removed part same next bind every rest true true false d false k w 
 blanks-order removed part same next bind every rest true false c d q k w m u h = refl
 blanks-order removed part same next bind every rest false t c d q k w m u h = refl
 
--- the rule's own test of a hedge variable on the right, where there is one
-run-too : (K : Conj) (o : Option HedgeVar) → too hv o K ≡ run_here (λ v. in_conj v K) o
-run-too K none = refl
-run-too K (some q) = refl
-
 -- nothing is the same as nothing
 never : (b : Bool) → Held false b
 never true = refl
@@ -160,7 +155,7 @@ rank-law σ K (tvar x s) (node (symbol g) d t) = simp (check-on, lone-on, bind-o
 rank-law σ K (tvar x s) (node (fvar Y) d t) = simp (check-on, lone-on, bind-on, and-true, and-false, pick-suc) (node-order at_f1 at_d2 at_e1 no_rule (empty s) (empty t) (holds (tv x) d) (under (tv x) t) (in_conj (tv x) K))
 rank-law σ K (hvar p s) ε = simp (check-on, lone-on, bind-on, and-true, and-false, pick-suc) (empty-order at_e2 at_e3 no_rule (empty s) (in_conj (hv p) K))
 rank-law σ K (hvar p s) (tvar y t) = simp (check-on, lone-on, bind-on, and-true, and-false, pick-suc) (run-order at_f2 at_del3 at_e2 at_e3 at_e4 no_rule (empty s) (holds (hv p) (tvar y t)) (is_some (inside p (tvar y t))) (in_conj (hv p) K) (all_terms t) (is_some (up_to p (tvar y t))) (inside-held p (tvar y t)))
-rank-law σ K (hvar p s) (hvar q t) = simp (check-on, lone-on, bind-on, and-true, and-false, pick-suc, run-too) (runs-order at_f2 at_del3 at_r1 at_del1 at_e2 no_rule (eq_h p q) (same_words s t) (empty s) (has_term t) (holds (hv p) t) (is_some (inside p (hvar q t))) (in_conj (hv p) K && run_here (λ v. in_conj v K) (lone q t)) (inside-held p (hvar q t)))
+rank-law σ K (hvar p s) (hvar q t) = simp (check-on, lone-on, bind-on, and-true, and-false, pick-suc) (runs-order at_f2 at_del3 at_r1 at_del1 at_e2 no_rule (eq_h p q) (same_words s t) (empty s) (has_term t) (holds (hv p) t) (is_some (inside p (hvar q t))) (in_conj (hv p) K && too hv (lone q t) K) (inside-held p (hvar q t)))
 rank-law σ K (hvar p s) (node (symbol g) d t) = simp (check-on, lone-on, bind-on, and-true, and-false, pick-suc) (run-order at_f2 at_del3 at_e2 at_e3 at_e4 no_rule (empty s) (holds (hv p) (node (symbol g) d t)) (is_some (inside p (node (symbol g) d t))) (in_conj (hv p) K) (all_terms t) (is_some (up_to p (node (symbol g) d t))) (inside-held p (node (symbol g) d t)))
 rank-law σ K (hvar p s) (node (fvar Y) d t) = simp (check-on, lone-on, bind-on, and-true, and-false, pick-suc) (run-order at_f2 at_del3 at_e2 at_e3 at_e4 no_rule (empty s) (holds (hv p) (node (fvar Y) d t)) (is_some (inside p (node (fvar Y) d t))) (in_conj (hv p) K) (all_terms t) (is_some (up_to p (node (fvar Y) d t))) (inside-held p (node (fvar Y) d t)))
 rank-law σ K (node (symbol f) c s) ε = simp (check-on, lone-on, bind-on, and-true, and-false, pick-suc)

@@ -6,7 +6,6 @@ use Rattle.language.proofs.Determined.{Determined}
 use Rattle.outcomes.specs.Numbers.{shown_numbers}
 use Rattle.outcomes.proofs.Apart.{shown-apart}
 use Rattle.example.proofs.example as example
-use Rattle.example.proofs.example_over as example_over
 
 abbrev Told : Type 0
 Told = (ℕ × ℕ × ℕ) × List ℕ × List ℕ × List ℕ
@@ -16,12 +15,3 @@ example-determined : Determined example.ended example.Reads.Pre example.Reads.Po
 example-determined κs a p o q e d =
     let f : ◌≡◌ {A = Told} (shown_numbers o.0, o.1.1.1.1.0, o.1.1.1.1.1.0, o.1.1.1.1.1.1.0) (shown_numbers q.0, q.1.1.1.1.0, q.1.1.1.1.1.0, q.1.1.1.1.1.1.0) = e ∙ sym d in
     ap (λ z. (z, o.1)) (shown-apart o.0 q.0 (ap (λ (t : Told). t.0) f)) ∙ ap (λ (t : Told). (q.0, (tt, (tt, (tt, (t.1, (t.2, (t.3, tt)))))))) f
-
-abbrev Placed : Type 0
-Placed = (ℕ × ℕ × ℕ) × List ℕ
-
--- what comes back, and what the slice then holds
-example_over-determined : Determined example_over.ended example_over.Reads.Pre example_over.Reads.Post
-example_over-determined κs a p o q e d =
-    let f : ◌≡◌ {A = Placed} (shown_numbers o.0, o.1.0) (shown_numbers q.0, q.1.0) = e ∙ sym d in
-    ap (λ z. (z, o.1)) (shown-apart o.0 q.0 (ap (λ (t : Placed). t.0) f)) ∙ ap (λ (t : Placed). (q.0, (t.1, (tt, (tt, (tt, (tt, tt))))))) f

@@ -3,5 +3,4 @@ pub mod Finished
 pub mod Told
 pub mod Exhibits
 pub mod Anew
-pub mod Over
 pub mod Determined

@@ -1,5 +1,5 @@
 -- What asking for an example leaves: the two slices as solved, and the filling in the room.
-use Rattle.std.specs.Prelude.{ℕ, Bool, List, ◌++◌, length, take, drop}
+use Rattle.std.specs.Prelude.{ℕ, Bool, List, length}
 use Rattle.language.specs.Limits.{desk}
 use Rattle.language.specs.Question.{counts_of}
 use Rattle.rules.specs.Answer.{Solving, solving}
@@ -16,14 +16,7 @@ told_exhibits line old_sheets question work answer room =
     let l = leaves (solving desk (length work) (length answer) question) work answer in
     (numbers_of s, l.1, l.2, room_of s room)
 
--- in one slice, of which the first n words are the question and the first m the room: the numbers that come back, and the slice, which held these
--- words; the work and the answer slice are the call's own
-unfoldable pub told_over : ℕ → ℕ → ℕ → Bool → List ℕ → (ℕ × ℕ × ℕ) × List ℕ
-told_over n m line old_sheets words =
-    let s = showing desk old_sheets desk.room desk.room m line (take n words) in
-    (numbers_of s, room_of s (take m words) ++ drop m words)
-
--- what `told_exhibits` says, with the answer that has these numbers
+-- the same with the answer that has these numbers
 unfoldable pub exhibits : ℕ → Bool → List ℕ → List ℕ → List ℕ → List ℕ → Shown × List ℕ × List ℕ × List ℕ
 exhibits line old_sheets question work answer room =
     let s = showing desk old_sheets (length work) (length answer) (length room) line question in

@@ -3,14 +3,13 @@ use Prim.Native.Nat.{ℕ, ◌+◌, ◌-◌, ◌<◌, ◌≤◌}
 use native.Mathlib.Omega.{arith}
 use native.Mathlib.Decide.{ℕ_discrete, dec_lt}
 use mathlib.Core.Path.{◌≡◌, refl, sym, ap, ◌∙◌}
-use mathlib.Core.List.{List, ◌++◌, append_assoc}
-use lib.ListN.{length, get_or, take, drop, length-append, get_or-eq_default}
-use lib.Seq.{slice, sets, sets-eq, ext_get_or, get_or-take, get_or-drop, take-add, drop-append-le, take_at, drop_at, length-take-le, length-slice}
+use mathlib.Core.List.{List, ◌++◌}
+use lib.ListN.{length, get_or, take, drop, get_or-eq_default}
+use lib.Seq.{slice, sets, sets-eq, ext_get_or, get_or-take, get_or-drop, take-add, drop-append-le, drop_at, length-take-le, length-slice}
 use Rattle.language.specs.Limits.{desk}
 use Rattle.counts.specs.Tables.{times, table, added, removed, afresh}
 use Rattle.counts.proofs.Times.{times-append, times-short}
 use Rattle.counts.proofs.Added.{kept, at-afresh, at-removed, length-afresh, length_removed}
-use Rattle.kept_notes.specs.Renewal.{Shares}
 use Rattle.first_waiting.specs.Parts.{Alike, AlikeBack}
 
 -- ---- the loops
@@ -62,15 +61,6 @@ same-words k w a b n p q f = ext_get_or 0 _ _ (long k a p ∙ sym (long w b q)) 
 
     at : (k : List ℕ) (a i : ℕ) → i < n → get_or (slice a (a + n) k) i 0 ≡ get_or k (a + i) 0
     at k a i h = get_or-drop a (take (a + n) k) i 0 ∙ get_or-take (a + n) k (a + i) 0 (omega arith)
-
--- the last of three parts
-last-words : (l a b c : List ℕ) (n : ℕ) → l ≡ a ++ (b ++ c) → length c ≡ n → drop (length l - n) l ≡ c
-last-words l a b c n e d =
-    let z = ap length e ∙ length-append a (b ++ c) in
-    let y = length-append b c in
-    let x = length-append a b in
-    let w : length (a ++ b) ≡ length l - n = omega arith in
-    ap (drop (length l - n)) (e ∙ sym (append_assoc a b c)) ∙ drop_at (a ++ b) c (length l - n) w
 
 -- a place among the last b, counted from the end
 from_end : (e b j : ℕ) → b ≤ e → j < b → e - b + j ≡ e - 1 - (b - 1 - j)
@@ -141,22 +131,6 @@ module _ {k w : List ℕ} {from to old n front back : ℕ} (f : Follows k w from
       cut w from (from + front) to (let z₁ = size in let z₂ = within in let z₃ = fits in let z₄ = few in let z₅ = less in omega arith) (let z₁ = size in let z₂ = within in let z₃ = fits in let z₄ = few in let z₅ = less in omega arith) within
       ∙ ap (λ s. slice from (from + front) w ++ s) (cut w (from + front) (to - back) to (let z₁ = size in let z₂ = within in let z₃ = fits in let z₄ = few in let z₅ = less in omega arith) (let z₁ = size in let z₂ = within in let z₃ = fits in let z₄ = few in let z₅ = less in omega arith) within ∙ ap (λ s. come ++ s) (sym behind-same))
       ∙ ap (λ s. s ++ (come ++ behind)) (sym before_same)
-
-  -- ---- what stays, in front and behind
-
-  pub shares : Shares (slice from to w) (take old k) front back
-  shares = record {
-    few = let z = length-take-le old k fits in let z₄ = few in omega arith;
-    less = let z = length-slice from to w within in let z₁ = size in let z₅ = less in omega arith;
-    in_front = ap (take front) new-words ∙ take_at before (come ++ behind) front long ∙ sym (ap (take front) old-words ∙ take_at before (gone ++ behind) front long);
-    behind = last-words (slice from to w) before come behind back new-words last ∙ sym (last-words (take old k) before gone behind back old-words last);
-  }
-    where
-      long : length before ≡ front
-      long = length-take-le front k (let z₃ = fits in let z₄ = few in omega arith)
-
-      last : length behind ≡ back
-      last = let z = length-slice (old - back) old k fits in let z₄ = few in omega arith
 
   -- ---- what counting out and in asks, and what they leave
 

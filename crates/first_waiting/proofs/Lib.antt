@@ -1,4 +1,2 @@
-pub mod Eights
 pub mod Kept
-pub mod Lent
 pub mod Determined

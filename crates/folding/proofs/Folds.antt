@@ -23,10 +23,10 @@ use Rattle.views.specs.Standing.{LiteralAt}
 use Rattle.views.proofs.Words.{words_append}
 use Rattle.views.proofs.Seen.{literal-next}
 use Rattle.views.proofs.LiteralWalks.{literal-some, stands_here}
-use Rattle.notes.proofs.Walks.{literal-within}
 use Rattle.folding.specs.Twice.{again, until_same, first_twice, Once}
 use Rattle.folding.proofs.Same.{same-is}
 use Rattle.folding.proofs.Twice.{or-false, cut}
+use Rattle.folding.proofs.Noting.{literal-within}
 
 -- ---- at one literal
 

@@ -1,9 +1,9 @@
 pub mod Same
 pub mod Twice
+pub mod Buckets
 pub mod Chains
-pub mod Leaves
 pub mod Tables
-pub mod Taking
+pub mod Noting
 pub mod Laters
 pub mod Folds
 pub mod Determined

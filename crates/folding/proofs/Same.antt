@@ -1,10 +1,11 @@
--- Literals with the same words are equal.
+-- Literals with the same words are equal, and the words of one begin no other's.
 use mathlib.Core.Path.{◌≡◌, refl, sym, ap, ◌∙◌}
 use mathlib.Core.Bool.{Bool, true, false}
-use mathlib.Core.List.{List, [], ◌++◌}
-use Prim.Native.Nat.{ℕ, ◌+◌}
-use lib.ListN.{length}
-use lib.Seq.{slice}
+use mathlib.Core.List.{List, [], ◌∷◌, ◌++◌}
+use Prim.Native.Nat.{ℕ, zero, suc, ◌+◌, ◌-◌}
+use native.Mathlib.Omega.{arith}
+use lib.ListN.{length, take, drop, take-append-drop}
+use lib.Seq.{slice, take-append_seam, take-nil}
 use borrow.Author.Tests.{eq-eqb}
 use Rattle.language.specs.Limits.{desk}
 use Rattle.language.specs.Trees.{Functor, symbol, fvar, Hedge, ε, tvar, hvar, node, Expr, eps, cat, alt, star, over, Literal, eqn, mem, Conj, eq_f, same_words, same_expr, same_literal}
@@ -18,6 +19,7 @@ use Rattle.words.proofs.Parts.{part_of}
 use Rattle.words.proofs.Same.{list-refl, list-is}
 use Rattle.views.specs.Standing.{LiteralAt}
 use Rattle.views.proofs.Seen.{literal-here}
+use Rattle.folding.specs.Chains.{same_at}
 
 -- ---- the test of two literals
 
@@ -46,7 +48,7 @@ pub same-is : (l m : Literal) → same_literal l m ≡ true → l ≡ m
 same-is l m e = same_literal-is l m (true-test (same_literal l m) e)
 
 -- either test, where the literals are equal
-same_of : (l m : Literal) → l ≡ m → same_literal l m ≡ true
+pub same_of : (l m : Literal) → l ≡ m → same_literal l m ≡ true
 same_of l m e = ap (same_literal l) (sym e) ∙ same_refl l
 
 pub same-sym : (l m : Literal) → same_literal l m ≡ same_literal m l
@@ -79,6 +81,29 @@ module _ (l m : Literal) (f : fine_literal desk l) (g : fine_literal desk m) whe
       tested l m _ (λ e. one [] [] (ap (λ ws. ws ++ []) (list-is (literal_words l) (literal_words m) e)))
       (λ e. ap (λ x. same_list (literal_words l) (literal_words x)) (sym e) ∙ list-refl (literal_words l))
 
+  -- so many words as l has, from where m stands
+  begin-same : (beyond : List ℕ) → same_list (literal_words l) (take (length (literal_words l)) (literal_words m ++ beyond)) ≡ same_literal l m
+  begin-same beyond =
+      let n = length (literal_words l) in
+      let ws = literal_words m ++ beyond in
+      tested l m _ (λ e. one (drop n ws) beyond (ap (λ us. us ++ drop n ws) (list-is (literal_words l) (take n ws) e) ∙ take-append-drop n ws))
+      (λ e.
+      ap (λ x. same_list (literal_words l) (take (length (literal_words l)) (literal_words x ++ beyond))) (sym e) ∙ ap (same_list (literal_words l)) (take-append_seam (literal_words l) beyond)
+      ∙ list-refl (literal_words l))
+
+take-drop : (i n : ℕ) (k : List ℕ) → drop i (take (i + n) k) ≡ take n (drop i k)
+take-drop zero n k = let e : zero + n ≡ n = omega arith in ap (λ m. take m k) e
+take-drop (suc i) n [] = let e : suc i + n ≡ suc (i + n) = omega arith in ap (λ m. drop (suc i) (take m [])) e ∙ sym (take-nil n)
+take-drop (suc i) n (x ∷ k) = let e : suc i + n ≡ suc (i + n) = omega arith in ap (λ m. drop (suc i) (take m (x ∷ k))) e ∙ take-drop i n k
+
 module _ {k : List ℕ} {at : ℕ} {before : Conj} {l : Literal} {behind : Conj} (s : LiteralAt k at before l behind) (end : ℕ) (d : end ≡ at + length (literal_words l)) where
   pub literal-words : slice at end k ≡ literal_words l
   literal-words = part_of k at end (literal_words l) _ (literal-here s) d
+
+  -- the words of the literal, from a place where another stands
+  pub same_at_lem : (q : ℕ) (m : Literal) → fine_literal desk m → (beyond : List ℕ) → drop q k ≡ literal_words m ++ beyond → same_at k at end q ≡ same_literal l m
+  same_at_lem q m g beyond e =
+      let n : end - at ≡ length (literal_words l) = omega arith in
+      ap (λ us. same_list us (slice q (q + (end - at)) k)) literal-words
+      ∙ ap (same_list (literal_words l)) (take-drop q (end - at) k ∙ ap (λ j. take j (drop q k)) n ∙ ap (take (length (literal_words l))) e)
+      ∙ begin-same l m s.fine g beyond

@@ -1,125 +1,102 @@
--- The table of the literals passed: each of them that may be the earliest is in its chain.
-use mathlib.Core.Path.{◌≡◌, refl, sym, ap, ap₂, ◌∙◌, subst}
-use mathlib.Core.Bool.{Bool, true, false}
-use mathlib.Core.List.{List}
-use Prim.Native.Nat.{ℕ, zero, suc, ◌+◌, ◌/◌, ◌%◌, ◌<◌, ◌≤◌}
-use native.Mathlib.Nat.{mod-lt}
+-- The table of the literals passed: the chains have the first place of each, and nothing else.
+use mathlib.Core.Path.{◌≡◌, refl, sym, ap, ◌∙◌, subst}
+use mathlib.Core.Bool.{Bool, true, false, false≢true}
+use mathlib.Core.List.{List, [], ◌∷◌, ◌++◌}
+use mathlib.Core.Logic.{◌⊎◌, inl, inr}
+use Prim.Native.Nat.{ℕ, suc, ◌+◌, ◌/◌, ◌<◌}
 use native.Mathlib.Omega.{arith}
-use lib.Dec.{eqb, ltb}
-use lib.ListN.{length, get_or, set, replicate, length-set}
+use lib.Dec.{eqb}
+use lib.ListN.{length, get_or, set}
 use lib.Seq.{get_or-set_same, get_or-set_other}
-use borrow.Author.Tests.{eqb-true, eqb-false, ltb-true}
-use Rattle.language.specs.Limits.{desk}
-use Rattle.language.proofs.Bools.{both_true}
-use Rattle.notes.specs.declared.Note.{Note}
-use Rattle.notes.specs.Rows.{note_at}
-use Rattle.folding.specs.Chains.{Held, here, further, Falls, head_of, Sought, met, unmet, TakenIn, found, new}
-use Rattle.folding.proofs.Chains.{held-set}
+use borrow.Author.Tests.{eqb-true, eqb-false}
+use Rattle.language.specs.Trees.{Literal, Conj}
+use Rattle.language.specs.Writing.{literal_words, conj_words}
+use Rattle.folding.specs.Twice.{again, until_same}
+use Rattle.folding.specs.Chains.{bucket, Held, here, further, Falls, head_of}
+use Rattle.folding.proofs.Twice.{again-more, again-last, again-either, until-more, until-last}
+use Rattle.folding.proofs.Chains.{held_none, held-set, held-unset}
 
--- of the literals below i, those below `best`
-abbrev pub Table : List ℕ → List ℕ → List ℕ → ℕ → ℕ → Type 0
-Table rows heads next i best = (q : ℕ) → q < i → q < best → Held next (head_of heads (note_at rows q)) q
+-- q is the first place of some literal
+pub record First (done : Conj) (q : ℕ) : Type 0 where
+  pub l : Literal
+  pub among : again l done ≡ true
+  pub place : q ≡ until_same l done
 
--- ---- nothing is in it yet
+pub record Table (heads next : List ℕ) (done : Conj) : Type 0 where
+  pub only : (h q : ℕ) → Held next (get_or heads h 0) q → First done q
+  pub all : (l : Literal) → again l done ≡ true → Held next (head_of heads (literal_words l)) (until_same l done)
 
-pub zeros : (n h : ℕ) → ◌≡◌ {A = ℕ} (get_or (replicate n 0) h 0) 0
-zeros zero h = refl
-zeros (suc n) zero = refl
-zeros (suc n) (suc h) = zeros n h
+pub table_empty : (heads next : List ℕ) → ((h : ℕ) → get_or heads h 0 ≡ 0) → Table heads next []
+table_empty heads next z = record { only = λ h q r. absurd (held_none (z h) r); all = λ l e. absurd (false≢true e) }
 
-pub falls-empty : (heads next : List ℕ) → length heads ≡ 256 → length next ≡ desk.question / 3 + 1 → ((h : ℕ) → get_or heads h 0 ≡ 0) → ((q : ℕ) → get_or next q 0 ≡ 0) → Falls heads next 0
-falls-empty heads next p q f g = record { chains = p; room = q; low = λ h. let z = f h in omega arith; falls = λ q. let z = g q in omega arith }
+first_more : {done : Conj} {q : ℕ} (l : Literal) → First done q → First (done ++ (l ∷ [])) q
+first_more {done} l f = record { l = f.l; among = again-more f.l done (l ∷ []) f.among; place = f.place ∙ sym (until-more f.l done (l ∷ []) f.among) }
 
--- ---- one literal more
+-- ---- a literal that is there already
 
-set-low : (l : List ℕ) (h x b : ℕ) → ((g : ℕ) → get_or l g 0 ≤ b) → x ≤ b → h < length l → (g : ℕ) → get_or (set l h x) g 0 ≤ b
-set-low l h x b f p n g = go (eqb g h) refl
+pub table-old : {heads next : List ℕ} {done : Conj} (l : Literal) → Table heads next done → again l done ≡ true → Table heads next (done ++ (l ∷ []))
+table-old {heads} {next} {done} l t e = record {
+  only = λ h q r. first_more l (t.only h q r);
+  all = λ m a.
+      let b : again m done ≡ true = known m (again-either m done l a) in
+      subst (Held next (head_of heads (literal_words m))) (sym (until-more m done (l ∷ []) b)) (t.all m b);
+}
   where
-    go : (t : Bool) → eqb g h ≡ t → get_or (set l h x) g 0 ≤ b
-    go true d = let z = ap (λ y. get_or (set l h x) y 0) (eqb-true g h d) ∙ get_or-set_same l h x 0 n in omega arith
-    go false d = let z = get_or-set_other l h g x 0 (eqb-false g h d) in let y = f g in omega arith
+    known : (m : Literal) → (again m done ≡ true) ⊎ (m ≡ l) → again m done ≡ true
+    known m (inl b) = b
+    known m (inr d) = ap (λ x. again x done) d ∙ e
 
-set-falls : (l : List ℕ) (i x : ℕ) → ((q : ℕ) → get_or l q 0 ≤ q) → x ≤ i → i < length l → (q : ℕ) → get_or (set l i x) q 0 ≤ q
-set-falls l i x f p n q = go (eqb q i) refl
-  where
-    go : (t : Bool) → eqb q i ≡ t → get_or (set l i x) q 0 ≤ q
-    go true d = let e = eqb-true q i d in let z = ap (λ y. get_or (set l i x) y 0) e ∙ get_or-set_same l i x 0 n in omega arith
-    go false d = let z = get_or-set_other l i q x 0 (eqb-false q i d) in let y = f q in omega arith
+-- ---- a new one, at the head of its chain
 
--- what is sought in the chain of the literal of the number i, and stored
-module _ (rows heads : List ℕ) (i sum : ℕ) {k places next : List ℕ} {at best r x : ℕ} {n : Note} (e : n ≡ note_at rows i) (d : sum ≡ n.sum) (g : x ≡ get_or heads (sum % 256) 0)
-    (s : Sought k rows places next x best at n r) where
-  sought : Sought k rows places next (head_of heads (note_at rows i)) best at (note_at rows i) r
-  sought =
-      subst (λ y. Sought k rows places next (head_of heads y) best at y r) e
-      (subst (λ y. Sought k rows places next y best at n r) (g ∙ ap (λ y. get_or heads (y % 256) 0) d) s)
+module _ {heads next : List ℕ} {done : Conj} (l : Literal) (t : Table heads next done) (i h : ℕ) (f : Falls heads next i) (n : i / 3 < length next) (b : h < length heads)
+    (e : again l done ≡ false) (p : i ≡ length (conj_words done)) (c : h ≡ bucket (literal_words l)) where
+  abbrev heads' : List ℕ
+  heads' = set heads h (i + 1)
 
-  pub taken-found : {m : ℕ} → r < m → TakenIn k rows places heads next i at best m r heads next
-  taken-found l = found sought l refl refl
+  abbrev next' : List ℕ
+  next' = set next (i / 3) (get_or heads h 0)
 
-  pub taken-new : {m : ℕ} → m ≤ r → (y v : ℕ) → y ≡ i + 1 → v ≡ x → TakenIn k rows places heads next i at best m r (set heads (sum % 256) y) (set next i v)
-  taken-new l y v p q = new sought l (ap₂ (set heads) (ap (λ z. z % 256) (d ∙ ap (λ z. z.sum) e)) p) (ap (set next i) (q ∙ g ∙ ap (λ y. get_or heads (y % 256) 0) (d ∙ ap (λ z. z.sum) e)))
+  old-place : (g q : ℕ) → Held next' (get_or heads g 0) q → First (done ++ (l ∷ [])) q
+  old-place g q r = first_more l (t.only g q (held-unset next f.falls i (get_or heads h 0) (f.low g) r))
 
--- what is met is below `best`
-pub sought-below : {k rows places next : List ℕ} {first best at r : ℕ} {n : Note} → Sought k rows places next first best at n r → r ≤ best
-sought-below {k} {rows} {places} {next} {first} {best} {at} {r} {n} (met h e) = let z = ltb-true r best (both_true (ltb r best) _ e).0 in omega arith
-sought-below (unmet e u) = omega arith
+  first-place : First (done ++ (l ∷ [])) i
+  first-place = record { l = l; among = again-last l done; place = p ∙ sym (until-last l done e) }
 
-pub sought-in : {k rows places heads next heads' next' : List ℕ} {i at best m r : ℕ} → TakenIn k rows places heads next i at best m r heads' next'
-    → Sought k rows places next (head_of heads (note_at rows i)) best at (note_at rows i) r
-sought-in (found s l d e) = s
-sought-in (new s l d e) = s
+  in-chain : (x q : ℕ) → x ≡ i + 1 → Held next' x q → First (done ++ (l ∷ [])) q
+  in-chain x q d (here s) = subst (First (done ++ (l ∷ []))) (let z : i ≡ q = omega arith in z) first-place
+  in-chain x q d (further m s r) =
+      let z : m ≡ i = omega arith in
+      old-place h q (subst (λ y. Held next' y q) (ap (λ y. get_or next' (y / 3) 0) z ∙ get_or-set_same next (i / 3) (get_or heads h 0) 0 n) r)
 
--- the chain of the literal of a number
-abbrev chain_at : List ℕ → ℕ → ℕ
-chain_at rows i = (note_at rows i).sum % 256
-
-module _ (rows heads next : List ℕ) (i : ℕ) (f : Falls heads next i) (b : i < desk.question / 3 + 1) where
-  in-heads : chain_at rows i < length heads
-  in-heads = let z = mod-lt (note_at rows i).sum (let x : 0 < 256 = omega arith in x) in let y = f.chains in omega arith
-
-  in-next : i < length next
-  in-next = let z = f.room in omega arith
-
-  pub falls-on : {k places heads' next' : List ℕ} {at best m r : ℕ} → TakenIn k rows places heads next i at best m r heads' next' → Falls heads' next' (i + 1)
-  falls-on (found s l d e) = rw (d, e) (record { chains = f.chains; room = f.room; low = λ g. let z = f.low g in omega arith; falls = f.falls })
-  falls-on (new s l d e) =
-      rw (d, e)
-      (record {
-        chains = length-set heads (chain_at rows i) (i + 1) ∙ f.chains;
-        room = length-set next i (head_of heads (note_at rows i)) ∙ f.room;
-        low = set-low heads (chain_at rows i) (i + 1) (i + 1) (λ g. let z = f.low g in omega arith) (omega arith) in-heads;
-        falls = set-falls next i (head_of heads (note_at rows i)) f.falls (f.low (chain_at rows i)) in-next;
-      })
-
-  abbrev heads⁺ : List ℕ
-  heads⁺ = set heads (chain_at rows i) (i + 1)
-
-  abbrev next⁺ : List ℕ
-  next⁺ = set next i (head_of heads (note_at rows i))
+  only-new : (g q : ℕ) → Held next' (get_or heads' g 0) q → First (done ++ (l ∷ [])) q
+  only-new g q r = go (eqb g h) refl
+    where
+      go : (t : Bool) → eqb g h ≡ t → First (done ++ (l ∷ [])) q
+      go true d = in-chain _ q (ap (λ y. get_or heads' y 0) (eqb-true g h d) ∙ get_or-set_same heads h (i + 1) 0 b) r
+      go false d = old-place g q (subst (λ y. Held next' y q) (get_or-set_other heads h g (i + 1) 0 (eqb-false g h d)) r)
 
   -- what was in a chain still is
-  kept : (g q : ℕ) → Held next (get_or heads g 0) q → Held next⁺ (get_or heads⁺ g 0) q
-  kept g q t = go (eqb g (chain_at rows i)) refl
+  kept : (g q : ℕ) → Held next (get_or heads g 0) q → Held next' (get_or heads' g 0) q
+  kept g q r = go (eqb g h) refl
     where
-      t' : Held next⁺ (get_or heads g 0) q
-      t' = held-set next f.falls i (head_of heads (note_at rows i)) (f.low g) t
+      r' : Held next' (get_or heads g 0) q
+      r' = held-set next f.falls i (get_or heads h 0) (f.low g) r
 
-      go : (b : Bool) → eqb g (chain_at rows i) ≡ b → Held next⁺ (get_or heads⁺ g 0) q
+      go : (t : Bool) → eqb g h ≡ t → Held next' (get_or heads' g 0) q
       go true d =
-          further i (ap (λ y. get_or heads⁺ y 0) (eqb-true g (chain_at rows i) d) ∙ get_or-set_same heads (chain_at rows i) (i + 1) 0 in-heads ∙ (let z : i + 1 ≡ suc i = omega arith in z))
-          (subst (λ y. Held next⁺ y q) (ap (λ y. get_or heads y 0) (eqb-true g (chain_at rows i) d) ∙ sym (get_or-set_same next i (head_of heads (note_at rows i)) 0 in-next)) t')
-      go false d = subst (λ y. Held next⁺ y q) (sym (get_or-set_other heads (chain_at rows i) g (i + 1) 0 (eqb-false g (chain_at rows i) d))) t'
+          further i (ap (λ y. get_or heads' y 0) (eqb-true g h d) ∙ get_or-set_same heads h (i + 1) 0 b ∙ (let z : i + 1 ≡ suc i = omega arith in z))
+          (subst (λ y. Held next' y q) (ap (λ y. get_or heads y 0) (eqb-true g h d) ∙ sym (get_or-set_same next (i / 3) (get_or heads h 0) 0 n)) r')
+      go false d = subst (λ y. Held next' y q) (sym (get_or-set_other heads h g (i + 1) 0 (eqb-false g h d))) r'
 
-  pub table_on : {k places heads' next' : List ℕ} {at best m r : ℕ} → TakenIn k rows places heads next i at best m r heads' next' → i < m → (r < m → r ≤ i) → Table rows heads next i best
-      → Table rows heads' next' (i + 1) r
-  table_on (found s x d e) l w t = rw (d, e) (λ q p o. let z = w x in let y = sought-below s in t q (omega arith) (omega arith))
-  table_on {best = best} (new s x d e) l w t = rw (d, e) (λ q p o. go q p (eqb q i) refl)
-    where
-      go : (q : ℕ) → q < i + 1 → (b : Bool) → eqb q i ≡ b → Held next⁺ (head_of heads⁺ (note_at rows q)) q
-      go q p true d =
-          here (ap (λ y. head_of heads⁺ (note_at rows y)) (eqb-true q i d) ∙ get_or-set_same heads (chain_at rows i) (i + 1) 0 in-heads ∙ (let y = eqb-true q i d in let z : i + 1 ≡ suc q = omega arith in z))
-      go q p false d =
-          let n = eqb-false q i d in
-          let y = sought-below s in
-          kept (chain_at rows q) q (t q (omega arith) (omega arith))
+  new-head : Held next' (get_or heads' h 0) i
+  new-head = here (get_or-set_same heads h (i + 1) 0 b ∙ (let z : i + 1 ≡ suc i = omega arith in z))
+
+  all_new : (m : Literal) → (again m done ≡ true) ⊎ (m ≡ l) → Held next' (head_of heads' (literal_words m)) (until_same m (done ++ (l ∷ [])))
+  all_new m (inl a) = subst (Held next' (head_of heads' (literal_words m))) (sym (until-more m done (l ∷ []) a)) (kept (bucket (literal_words m)) (until_same m done) (t.all m a))
+  all_new m (inr d) =
+      subst (λ x. Held next' (head_of heads' (literal_words x)) (until_same x (done ++ (l ∷ [])))) (sym d)
+      (subst (λ g. Held next' (get_or heads' g 0) (until_same l (done ++ (l ∷ [])))) c
+      (subst (Held next' (get_or heads' h 0)) (p ∙ sym (until-last l done e)) new-head))
+
+  pub table-new : Table (set heads h (i + 1)) (set next (i / 3) (get_or heads h 0)) (done ++ (l ∷ []))
+  table-new = record { only = only-new; all = λ m a. all_new m (again-either m done l a) }

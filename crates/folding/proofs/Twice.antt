@@ -1,21 +1,74 @@
--- A literal among others: where it stands first, the earliest that stands there again, and one literal more.
+-- A literal among others: where it stands first, one literal more, and the earliest that stands there again.
 use mathlib.Core.Path.{◌≡◌, refl, sym, ap, ◌∙◌}
 use mathlib.Core.Bool.{Bool, true, false, ◌||◌, false≢true, true≢false}
 use mathlib.Core.List.{[], ◌∷◌, ◌++◌}
-use mathlib.Core.Logic.{◌⊎◌, inl, inr, ⊎_elim}
-use Prim.Native.Nat.{ℕ, zero, suc, ◌+◌, ◌≤◌, ◌<◌, min}
+use mathlib.Core.Logic.{◌⊎◌, inl, inr}
+use Prim.Native.Nat.{ℕ, ◌+◌, ◌≤◌, min}
 use native.Mathlib.Nat.{min-eq_left, min-eq_right}
 use native.Mathlib.Omega.{arith}
-use lib.ListN.{length, take, length-append}
+use lib.ListN.{length, length-append}
 use Rattle.language.specs.Kinds.{pick}
 use Rattle.language.specs.Trees.{Literal, Conj, same_literal}
 use Rattle.language.specs.Writing.{literal_words, conj_words}
 use Rattle.folding.specs.Twice.{again, until_same, first_twice}
 use Rattle.folding.proofs.Same.{same_refl, same-is, same-sym}
 
+-- ---- among some literals and one more
+
 pub or-false : (a b : Bool) → (a || b) ≡ false → (a ≡ false) × (b ≡ false)
 or-false true b e = absurd (true≢false e)
 or-false false b e = (refl, e)
+
+pub again-more : (l : Literal) (c d : Conj) → again l c ≡ true → again l (c ++ d) ≡ true
+again-more l [] d e = absurd (false≢true e)
+again-more l (m ∷ c) d e = go (same_literal l m) e (again-more l c d)
+  where
+    go : (b : Bool) → (b || again l c) ≡ true → (again l c ≡ true → again l (c ++ d) ≡ true) → (b || again l (c ++ d)) ≡ true
+    go true e ih = refl
+    go false e ih = ih e
+
+pub again-last : (l : Literal) (c : Conj) → again l (c ++ (l ∷ [])) ≡ true
+again-last l [] = rw (same_refl l)
+again-last l (m ∷ c) = go (same_literal l m) (again-last l c)
+  where
+    go : (b : Bool) → again l (c ++ (l ∷ [])) ≡ true → (b || again l (c ++ (l ∷ []))) ≡ true
+    go true e = refl
+    go false e = e
+
+-- one that stands among them and one more stands among them, or is the one
+pub again-either : (l : Literal) (c : Conj) (m : Literal) → again l (c ++ (m ∷ [])) ≡ true → (again l c ≡ true) ⊎ (l ≡ m)
+again-either l [] m e = go (same_literal l m) refl e
+  where
+    go : (b : Bool) → same_literal l m ≡ b → (b || false) ≡ true → (again l [] ≡ true) ⊎ (l ≡ m)
+    go true d e = inr (same-is l m d)
+    go false d e = absurd (false≢true e)
+again-either l (n ∷ c) m e = go (same_literal l n) e (again-either l c m)
+  where
+    go : (b : Bool) → (b || again l (c ++ (m ∷ []))) ≡ true → (again l (c ++ (m ∷ [])) ≡ true → (again l c ≡ true) ⊎ (l ≡ m)) → ((b || again l c) ≡ true) ⊎ (l ≡ m)
+    go true e ih = inl refl
+    go false e ih = ih e
+
+-- the first place is the same with more behind
+pub until-more : (l : Literal) (c d : Conj) → again l c ≡ true → until_same l (c ++ d) ≡ until_same l c
+until-more l [] d e = absurd (false≢true e)
+until-more l (m ∷ c) d e = go (same_literal l m) e (until-more l c d)
+  where
+    go : (b : Bool) → (b || again l c) ≡ true → (again l c ≡ true → until_same l (c ++ d) ≡ until_same l c)
+        → pick b 0 (length (literal_words m) + until_same l (c ++ d)) ≡ pick b 0 (length (literal_words m) + until_same l c)
+    go true e ih = refl
+    go false e ih = ap (λ n. length (literal_words m) + n) (ih e)
+
+-- and where it does not stand among them, they are all passed
+pub until-past : (l : Literal) (c d : Conj) → again l c ≡ false → until_same l (c ++ d) ≡ length (conj_words c) + until_same l d
+until-past l [] d e = omega arith
+until-past l (m ∷ c) d e =
+    let p = or-false (same_literal l m) (again l c) e in
+    let i = until-past l c d p.1 in
+    let j = length-append (literal_words m) (conj_words c) in
+    ap (λ b. pick b 0 (length (literal_words m) + until_same l (c ++ d))) p.0 ∙ omega arith
+
+pub until-last : (l : Literal) (c : Conj) → again l c ≡ false → until_same l (c ++ (l ∷ [])) ≡ length (conj_words c)
+until-last l c e = let z = until-past l c (l ∷ []) e in let y = ap (λ b. pick b 0 (length (literal_words l) + 0)) (same_refl l) in omega arith
 
 -- ---- where it stands first
 
@@ -40,42 +93,44 @@ cut l (m ∷ c) e = go (same_literal l m) refl e (cut l c)
           place = let z = r.place in let y = length-append (literal_words m) (conj_words r.before) in omega arith;
         }
 
--- ---- the number of the earliest that stands there again, counted from n; d, where none does
+-- ---- the earliest that stands there again, from a place on; d, where none does
 
-abbrev pub twice_at : ℕ → ℕ → Conj → ℕ
-twice_at d n [] = d
-twice_at d n (l ∷ k) = pick (again l k) n (twice_at d (n + 1) k)
+abbrev pub twice_from : ℕ → ℕ → Conj → ℕ
+twice_from d at [] = d
+twice_from d at (l ∷ k) = pick (again l k) at (twice_from d (at + length (literal_words l)) k)
 
-pub twice-within : (d n : ℕ) (c : Conj) → n + length c ≤ d → (n ≤ twice_at d n c) × (twice_at d n c ≤ d) × ((twice_at d n c ≡ d) ⊎ (twice_at d n c < n + length c))
-twice-within d n [] h = (omega arith, omega arith, inl refl)
-twice-within d n (l ∷ k) h = go (again l k) (twice-within d (n + 1) k (omega arith))
+pub twice-is : (d at : ℕ) (c : Conj) → d ≡ at + length (conj_words c) → twice_from d at c ≡ at + first_twice c
+twice-is d at [] e = e
+twice-is d at (l ∷ k) e =
+    let n = length-append (literal_words l) (conj_words k) in
+    go (again l k) (twice-is d (at + length (literal_words l)) k (omega arith))
   where
-    go : (b : Bool) → (n + 1 ≤ twice_at d (n + 1) k) × (twice_at d (n + 1) k ≤ d) × ((twice_at d (n + 1) k ≡ d) ⊎ (twice_at d (n + 1) k < n + 1 + length k))
-        → (n ≤ pick b n (twice_at d (n + 1) k)) × (pick b n (twice_at d (n + 1) k) ≤ d)
-        × ((pick b n (twice_at d (n + 1) k) ≡ d) ⊎ (pick b n (twice_at d (n + 1) k) < n + length (l ∷ k)))
-    go true ih = (omega arith, omega arith, inr (omega arith))
-    go false ih = (let z = ih.0 in omega arith, ih.1, ⊎_elim inl (λ (p : twice_at d (n + 1) k < n + 1 + length k). inr (omega arith)) ih.2)
+    go : (b : Bool) → twice_from d (at + length (literal_words l)) k ≡ at + length (literal_words l) + first_twice k
+        → pick b at (twice_from d (at + length (literal_words l)) k) ≡ at + pick b 0 (length (literal_words l) + first_twice k)
+    go true ih = omega arith
+    go false ih = omega arith
 
--- its place
-pub twice-place : (d n q : ℕ) (c : Conj) → d ≡ n + length c → twice_at d n c ≡ n + q → first_twice c ≡ length (conj_words (take q c))
-twice-place d n zero [] e p = refl
-twice-place d n (suc q) [] e p = absurd (omega arith)
-twice-place d n q (l ∷ k) e p = go q (again l k) p (twice-within d (n + 1) k (omega arith)).0 (λ r. twice-place d (n + 1) r k (omega arith))
+pub twice-within : (d at : ℕ) (c : Conj) → at + length (conj_words c) ≤ d → (at ≤ twice_from d at c) × (twice_from d at c ≤ d)
+twice-within d at [] h = (omega arith, omega arith)
+twice-within d at (l ∷ k) h =
+    let n = length-append (literal_words l) (conj_words k) in
+    go (again l k) (twice-within d (at + length (literal_words l)) k (omega arith)) (omega arith)
   where
-    go : (q : ℕ) (b : Bool) → pick b n (twice_at d (n + 1) k) ≡ n + q → n + 1 ≤ twice_at d (n + 1) k
-        → ((r : ℕ) → twice_at d (n + 1) k ≡ n + 1 + r → first_twice k ≡ length (conj_words (take r k)))
-        → pick b 0 (length (literal_words l) + first_twice k) ≡ length (conj_words (take q (l ∷ k)))
-    go zero true p h ih = refl
-    go (suc r) true p h ih = absurd (omega arith)
-    go zero false p h ih = absurd (omega arith)
-    go (suc r) false p h ih = let z = ih r (omega arith) in let y = length-append (literal_words l) (conj_words (take r k)) in omega arith
+    go : (b : Bool) → (at + length (literal_words l) ≤ twice_from d (at + length (literal_words l)) k) × (twice_from d (at + length (literal_words l)) k ≤ d) → at ≤ d
+        → (at ≤ pick b at (twice_from d (at + length (literal_words l)) k)) × (pick b at (twice_from d (at + length (literal_words l)) k) ≤ d)
+    go true ih h = (omega arith, h)
+    go false ih h = (let z = ih.0 in omega arith, ih.1)
 
-pub twice-few : (c : Conj) → length c < 2 → length (conj_words c) ≡ first_twice c
-twice-few [] h = refl
-twice-few (l ∷ []) h = let z = length-append (literal_words l) [] in omega arith
-twice-few (l ∷ m ∷ c) h = absurd (omega arith)
-
--- ---- one literal more
+-- one literal more: it stands there again behind its first place
+one_more : (a s s' g : Bool) (at n u x x' : ℕ) → s ≡ s' → at ≤ x → x' ≡ pick g (min x (at + n + u)) x
+    → pick (a || (s || false)) at x' ≡ pick (s' || g) (min (pick a at x) (at + pick s' 0 (n + u))) (pick a at x)
+one_more true s true g at n u x x' e h d = sym (min-eq_left (omega arith))
+one_more true s false true at n u x x' e h d = sym (min-eq_left (omega arith))
+one_more true s false false at n u x x' e h d = refl
+one_more false true true g at n u x x' e h d = let z = min-eq_right {n = at + 0} {m = x} (omega arith) in omega arith
+one_more false true false g at n u x x' e h d = absurd (true≢false e)
+one_more false false true g at n u x x' e h d = absurd (false≢true e)
+one_more false false false g at n u x x' e h d = d ∙ ap (λ m. pick g (min x m) x) (omega arith)
 
 again-append : (l : Literal) (c d : Conj) → again l (c ++ d) ≡ (again l c || again l d)
 again-append l [] d = refl
@@ -85,45 +140,12 @@ again-append l (m ∷ c) d = go (same_literal l m) (again-append l c d)
     go true e = refl
     go false e = e
 
-or-none : (a b : Bool) → b ≡ false → (a || (b || false)) ≡ a
-or-none true b e = refl
-or-none false b e = ap (λ x. x || false) e
-
-or-there : (a b : Bool) → (b ≡ true → a ≡ true) → (a || (b || false)) ≡ a
-or-there true b f = refl
-or-there false true f = sym (f refl)
-or-there false false f = refl
-
-again-here : (before : Conj) (l : Literal) (behind : Conj) → again l (before ++ (l ∷ behind)) ≡ true
-again-here [] l behind = ap (λ b. b || again l behind) (same_refl l)
-again-here (m ∷ before) l behind = go (same_literal l m) (again-here before l behind)
-  where
-    go : (b : Bool) → again l (before ++ (l ∷ behind)) ≡ true → (b || again l (before ++ (l ∷ behind))) ≡ true
-    go true e = refl
-    go false e = e
-
--- that is not among them
-pub twice-past : (d n : ℕ) (c : Conj) (l : Literal) → again l c ≡ false → twice_at d n (c ++ (l ∷ [])) ≡ twice_at d n c
-twice-past d n [] l e = refl
-twice-past d n (x ∷ k) l e =
-    let p = or-false (same_literal l x) (again l k) e in
-    ap (λ b. pick b n (twice_at d (n + 1) (k ++ (l ∷ [])))) (again-append x k (l ∷ []) ∙ or-none (again x k) (same_literal x l) (same-sym x l ∙ p.0))
-    ∙ ap (pick (again x k) n) (twice-past d (n + 1) k l p.1)
-
--- that is
-pub twice-again : (d n : ℕ) (before : Conj) (l : Literal) (behind : Conj) → n + length (before ++ (l ∷ behind)) ≤ d
-    → twice_at d n ((before ++ (l ∷ behind)) ++ (l ∷ [])) ≡ min (twice_at d n (before ++ (l ∷ behind))) (n + length before)
-twice-again d n [] l behind h =
-    let low = (twice-within d n (l ∷ behind) h).0 in
-    ap (λ b. pick b n (twice_at d (n + 1) (behind ++ (l ∷ [])))) (again-here behind l []) ∙ sym (min-eq_right (let z : n + 0 ≤ twice_at d n (l ∷ behind) = omega arith in z) ∙ (let y : n + 0 ≡ n = omega arith in y))
-twice-again d n (x ∷ before) l behind h =
-    ap (λ b. pick b n (twice_at d (n + 1) ((before ++ (l ∷ behind)) ++ (l ∷ [])))) (again-append x (before ++ (l ∷ behind)) (l ∷ []) ∙ or-there (again x (before ++ (l ∷ behind))) (same_literal x l) there)
-    ∙ go (again x (before ++ (l ∷ behind))) (twice-again d (n + 1) before l behind (omega arith))
-  where
-    there : same_literal x l ≡ true → again x (before ++ (l ∷ behind)) ≡ true
-    there e = ap (λ y. again y (before ++ (l ∷ behind))) (same-is x l e) ∙ again-here before l behind
-
-    go : (b : Bool) → twice_at d (n + 1) ((before ++ (l ∷ behind)) ++ (l ∷ [])) ≡ min (twice_at d (n + 1) (before ++ (l ∷ behind))) (n + 1 + length before)
-        → pick b n (twice_at d (n + 1) ((before ++ (l ∷ behind)) ++ (l ∷ []))) ≡ min (pick b n (twice_at d (n + 1) (before ++ (l ∷ behind)))) (n + length (x ∷ before))
-    go true ih = sym (min-eq_left (omega arith))
-    go false ih = ih ∙ ap (min (twice_at d (n + 1) (before ++ (l ∷ behind)))) (omega arith)
+pub twice-more : (d at : ℕ) (c : Conj) (l : Literal) → at + length (conj_words c) ≤ d
+    → twice_from d at (c ++ (l ∷ [])) ≡ pick (again l c) (min (twice_from d at c) (at + until_same l c)) (twice_from d at c)
+twice-more d at [] l h = refl
+twice-more d at (m ∷ k) l h =
+    let n = length-append (literal_words m) (conj_words k) in
+    let low = (twice-within d (at + length (literal_words m)) k (omega arith)).0 in
+    ap (λ b. pick b at (twice_from d (at + length (literal_words m)) (k ++ (l ∷ [])))) (again-append m k (l ∷ []))
+    ∙ one_more (again m k) (same_literal m l) (same_literal l m) (again l k) at (length (literal_words m)) (until_same l k) _ _ (same-sym m l) (omega arith)
+    (twice-more d (at + length (literal_words m)) k l (omega arith))

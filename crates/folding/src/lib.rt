@@ -1,22 +1,64 @@
 // What the fold looks for in a conjunction's words: the earliest literal that stands there again, and where it stands again first.
-ghost use Rattle.std.specs.Prelude.{ℕ, ◌+◌, ◌≤◌, ◌<◌, ◌≡◌, length, get_or};
+ghost use Rattle.std.specs.Prelude.{ℕ, ◌+◌, ◌-◌, ◌*◌, ◌≤◌, ◌<◌, min, ◌≡◌, length, get_or};
 ghost use Rattle.std.proofs.Math.Seq.{slice};
 ghost use Rattle.language.specs.Limits.{desk};
 ghost use Rattle.language.specs.Trees.{Literal, Conj};
 ghost use Rattle.language.specs.Writing.{literal_words, conj_words};
 ghost use Rattle.language.specs.Fine.{fine_conj};
-ghost use Rattle.words.specs.Places.{same_list};
-ghost use Rattle.views.specs.Standing.{LiteralAt, SomeLiteral};
-ghost use Rattle.notes.specs.Rows.{most_notes, SomeNoted};
+ghost use Rattle.views.specs.Standing.{LiteralAt, SomeLiteral, Conjunction};
 ghost use Rattle.folding.specs.Twice.{until_same, first_twice};
-ghost use Rattle.folding.specs.Chains.{alike_below, Falls, Sought, TakenIn};
+ghost use Rattle.folding.specs.Chains.{bucket, Falls, Sought, Noted};
 
+use language::limits::QUESTION;
 use language::wide;
-use notes::{NOTES, Note, ROWS, len_of, note_of};
 use words::{next_literal, same_part};
 
-// The chains of the table: the number made of a literal's words says in which chain it is.
-const CHAINS: usize = 256;
+// The chains of the table: a literal's words say in which chain its place is.
+const CHAINS: usize = 1024;
+
+// No literal has fewer words: its mark and at least one word for each of its two parts. So at most one literal begins in each row of three words, and
+// a place divided by three is a number for the literal there.
+const SHORTEST: usize = 3;
+
+const LITERALS: usize = QUESTION / SHORTEST;
+
+fn least(a: usize, b: usize) -> usize
+    ensures { result ≡ min a b }
+{
+    if a < b { a } else { b }
+}
+
+// The chain of a literal's words. The number is kept within 32 bits, so that nothing wraps; its upper bits depend on every word but the last, which is
+// the same in all literals of a kind.
+fn chain_of(k: &[u16], from: usize, to: usize) -> usize
+    requires { to ≤ length k.now }
+    ensures { (result ≡ bucket (slice from to k.now)) × (result < 1024) }
+{
+    let mut s: usize = 0;
+    let mut i = from;
+    while i < to {
+        s = (s * 1664525 + wide(k[i])) % 4294967296;
+        i += 1;
+    }
+    s / 4194304
+}
+
+// The place in a chain where the words of a literal stand again, or the length. No literal's words begin another's: so many words as it has decide.
+fn seek(k: &[u16], next: &[u16; LITERALS], first: usize, at: usize, end: usize) -> usize
+    requires { (at ≤ end) × (end ≤ length k.now) × (length k.now ≤ desk.question) × (first ≤ at - 2) × ((s : ℕ) → get_or next.now s 0 ≤ 3 * s) }
+    ensures { Sought k.now next.now first at end result }
+{
+    let len = end - at;
+    let mut p = first;
+    while p != 0 {
+        let q = p - 1;
+        if same_part(k, at, end, q, q + len) {
+            return q;
+        }
+        p = wide(next[q / SHORTEST]);
+    }
+    k.len()
+}
 
 fn narrow(x: usize) -> u16
     requires { x ≤ desk.question }
@@ -25,122 +67,46 @@ fn narrow(x: usize) -> u16
     x as u16
 }
 
-// Whether so many words are the same from two places on.
-fn same_words(k: &[u16], at: usize, from: u16, len: u16) -> bool
-    requires { at ≤ desk.question }
-    ensures { result ≡ same_list (slice at (at + len) k.now) (slice from (from + len) k.now) }
-{
-    let n = wide(len);
-    let other = wide(from);
-    same_part(k, at, at + n, other, other + n)
-}
-
-// Whether the literal of the number q, which is below `best`, has the words of the literal at a place, whose note this is. No word is read where the
-// numbers made of their words differ, or their lengths.
-fn alike(
+// The earlier place of the literal at a place; where there is none, its place becomes the head of its chain, and the length is returned.
+fn note(
     k: &[u16],
-    rows: &[u16; ROWS],
-    places: &[u16; NOTES],
-    best: usize,
-    at: usize,
-    n: Note,
-    q: usize,
-) -> bool
-    requires { (at ≤ desk.question) × (q < most_notes) }
-    ensures { result ≡ alike_below k.now rows.now places.now best at n q }
-{
-    if best <= q {
-        return false;
-    }
-    let other = note_of(rows, q);
-    if other.sum != n.sum {
-        return false;
-    }
-    if other.len != n.len {
-        return false;
-    }
-    same_words(k, at, places[q], n.len)
-}
-
-// The number below `best` of a literal of a chain that has the words of the literal at a place; `best`, where there is none.
-fn seek(
-    k: &[u16],
-    rows: &[u16; ROWS],
-    places: &[u16; NOTES],
-    next: &[u16; NOTES],
-    first: usize,
-    best: usize,
-    at: usize,
-    n: Note,
-) -> usize
-    requires { (at ≤ desk.question) × (first ≤ most_notes) × ((s : ℕ) → get_or next.now s 0 ≤ s) }
-    ensures { Sought k.now rows.now places.now next.now first best at n result }
-{
-    let mut p = first;
-    while p != 0 {
-        let q = p - 1;
-        if alike(k, rows, places, best, at, n, q) {
-            return q;
-        }
-        p = wide(next[q]);
-    }
-    best
-}
-
-// The least number of a literal that stands again, with the literal of the number i taken in; m, where there is none. Only where there is none, the
-// literal becomes the first of its chain: of those behind one that stands again none is the earliest.
-fn take_in(
-    k: &[u16],
-    rows: &[u16; ROWS],
-    places: &[u16; NOTES],
     heads: &mut [u16; CHAINS],
-    next: &mut [u16; NOTES],
-    i: usize,
+    next: &mut [u16; LITERALS],
     at: usize,
-    best: usize,
-    m: usize,
+    end: usize,
 ) -> usize
-    requires { (at ≤ desk.question) × (i < most_notes) × Falls heads.old next.old i }
-    ensures { TakenIn k.now rows.now places.now heads.old next.old i at best m result heads.new next.new }
+    requires { (at + 3 ≤ end) × (end ≤ length k.now) × (length k.now ≤ desk.question) × Falls heads.old next.old at }
+    ensures { Noted k.now heads.old next.old at end result heads.new next.new }
 {
-    let n = note_of(rows, i);
-    let h = wide(n.sum) % CHAINS;
+    let h = chain_of(k, at, end);
     let first = heads[h];
-    let r = seek(k, rows, places, next, wide(first), best, at, n);
-    if r < m {
-        return r;
+    let p = seek(k, next, wide(first), at, end);
+    if p < k.len() {
+        return p;
     }
-    next[i] = first;
-    heads[h] = narrow(i + 1);
-    r
+    next[at / SHORTEST] = first;
+    heads[h] = narrow(at + 1);
+    p
 }
 
 // The place of the earliest literal that stands there again; the length, where there is none.
-pub fn first_twice(k: &[u16], rows: &[u16; ROWS], m: usize) -> usize
+pub fn first_twice(k: &[u16]) -> usize
     requires k_len_bound { length k.now ≤ desk.question }
-    requires some_noted { SomeNoted k.now rows.now m }
+    requires conjunction { Conjunction k.now }
     ensures { (c : Conj) → fine_conj desk c → k.now ≡ conj_words c → result ≡ first_twice c }
 {
-    if m < 2 {
-        return k.len();
-    }
-    // a literal is kept as the number after its own, so that 0 ends a chain
+    // a place is kept as the number after it, so that 0 ends a chain
     let mut heads = [0; CHAINS];
-    let mut next = [0; NOTES];
-    let mut places = [0; NOTES];
-    let mut best = m;
+    let mut next = [0; LITERALS];
+    let mut best = k.len();
     let mut i = 0;
-    let mut at = 0;
-    while i < m {
-        places[i] = narrow(at);
-        best = take_in(k, rows, &places, &mut heads, &mut next, i, at, best, m);
-        at += len_of(rows, i);
-        i += 1;
+    while i < k.len() {
+        let end = next_literal(k, i);
+        let p = note(k, &mut heads, &mut next, i, end);
+        best = least(best, p);
+        i = end;
     }
-    if best < m {
-        return wide(places[best]);
-    }
-    k.len()
+    best
 }
 
 // The place of the first literal behind the one at a place that has the same words; the length, where there is none.

@@ -1,14 +1,13 @@
 -- What solving on words ensures, told of the bytes: the words lent come to what the bytes come to.
 use Prim.Native.Nat.{ℕ, ◌*◌, ◌/◌, ◌≤◌}
 use mathlib.Core.Path.{◌≡◌, ap, ◌∙◌}
-use mathlib.Core.List.{List, [], ◌++◌, append-nil}
+use mathlib.Core.List.{List, ◌++◌, append-nil}
 use native.Mathlib.Omega.{arith}
 use lib.ListN.{length, drop, drop_of_length-le}
 use Rattle.language.specs.Limits.{desk}
 use Rattle.rules.specs.Answer.{Solving, answered, unread, given-up, solving}
 use Rattle.outcomes.specs.Numbers.{SolveNumbers}
-use Rattle.running.specs.Leaves.{told_leaves, told_answer}
-use Rattle.running.proofs.Told.{some-work}
+use Rattle.solver.specs.Leaves.{told_leaves}
 use Rattle.word_bytes.specs.Bytes.{words_in, fitting}
 use Rattle.handing.specs.Handed.{answer_out}
 use Rattle.host.specs.Host.{solving_bytes, solve_number, solve_leaves}
@@ -29,18 +28,18 @@ read_off (unread x) r w o w' o' n8 e = (ap (λ (t : Told). t.0.number) e, tt)
 read_off (given-up x) r w o w' o' n8 e = (ap (λ (t : Told). t.0.number) e, ap (λ (t : Told). t.2) e ∙ none-behind _ o n8)
 
 module _ (q a : List ℕ) (room : 2 * desk.room ≤ length a)
-    (ws o o' : List ℕ) (r : SolveNumbers) (k : ℕ)
-    (lent : ws ≡ fitting desk.question (words_in q)) (own : length o ≡ desk.room)
-    (solved : (r, o') ≡ told_answer (solving desk desk.room (length o) ws) o)
+    (ws w o w' o' : List ℕ) (r : SolveNumbers) (k : ℕ)
+    (lent : ws ≡ fitting desk.question (words_in q)) (work : length w ≡ desk.room) (own : length o ≡ desk.room)
+    (solved : (r, w', o') ≡ told_leaves (solving desk (length w) (length o) ws) w o)
     (number : k ≡ r.number) where
   abbrev comes : Solving
   comes = solving_bytes desk (length a) q
 
-  comes-to : solving desk desk.room (length o) ws ≡ comes
-  comes-to = rw (own, lent) (same q a room)
+  comes-to : solving desk (length w) (length o) ws ≡ comes
+  comes-to = rw (work, own, lent) (same q a room)
 
   told : (r.number ≡ solve_number comes) × Own comes o'
-  told = read_off comes r [] o _ o' own (some-work comes r o o' (solved ∙ ap (λ (s : Solving). told_answer s o) comes-to))
+  told = read_off comes r w o w' o' own (solved ∙ ap (λ (s : Solving). told_leaves s w o) comes-to)
 
   some_number : InRange comes
   unfolding solving_bytes

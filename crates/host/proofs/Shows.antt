@@ -1,13 +1,13 @@
 -- What the returns of desk_example cite: how long an example can be, and how the room's bytes are left.
 use Prim.Native.Nat.{ℕ, ◌*◌, ◌/◌, ◌≤◌}
-use mathlib.Core.Path.{◌≡◌, refl, sym, ap, ◌∙◌, subst}
+use mathlib.Core.Path.{◌≡◌, refl, ap, ◌∙◌}
 use mathlib.Core.Bool.{Bool, true, false, ◌||◌}
-use mathlib.Core.List.{List, ◌++◌}
+use mathlib.Core.List.{List}
 use mathlib.Core.Option.{Option, none, some}
 use native.Mathlib.Omega.{arith}
 use lib.Dec.{ltb}
-use lib.ListN.{length, take, drop, length-append}
-use lib.Seq.{sets, take_at, length-take-le, take-append-le}
+use lib.ListN.{length, take, drop}
+use lib.Seq.{sets, take_at}
 use borrow.Author.Tests.{ltb-false}
 use Rattle.language.specs.declared.Refusal.TheVariants.{OpenLine, LongExample}
 use Rattle.language.specs.Limits.{desk}
@@ -20,7 +20,7 @@ use Rattle.rules.specs.Run.{Numbered}
 use Rattle.rules.specs.Answer.{Solving, answered, unread, given-up, solving}
 use Rattle.rules.specs.Calls.{Showing, shows, denied, line_at, fitted, shown, showing_of, showing}
 use Rattle.line_example.specs.Shown.{numbers_of, room_of}
-use Rattle.example.specs.Exhibits.{told_over}
+use Rattle.example.specs.Exhibits.{told_exhibits}
 use Rattle.word_bytes.specs.Bytes.{bytes_of, words_in, fitting}
 use Rattle.handing.specs.Handed.{used, number_or}
 use Rattle.handing.proofs.Handed.{number-value, number-refused}
@@ -89,41 +89,37 @@ writes (shows ws) own own' bytes bytes' h room eo eb =
     eb ∙ ap (λ (l : List ℕ). sets bytes 0 (bytes_of l)) t ∙ written bytes ws (omega arith)
 writes (denied x) own own' bytes bytes' h room eo eb = eb ∙ none_written own' bytes
 
--- what stands behind the room does not matter
-in-front : (s : Showing) (own behind : List ℕ) → take (numbers_of s).2 (room_of s own ++ behind) ≡ take (numbers_of s).2 (room_of s own)
-in-front (shows ws) own behind = take-append-le (length ws) (ws ++ drop (length ws) own) behind (let n = length-append ws (drop (length ws) own) in omega arith)
-in-front (denied x) own behind = refl
-
 -- ---- the return
 
-module _ (words words' : List ℕ) (n m line : ℕ) (old : Bool) (r : ℕ × ℕ × ℕ) (e : (r, words') ≡ told_over n m line old words) where
+module _ (q w o own w' o' own' : List ℕ) (line : ℕ) (old : Bool) (r : ℕ × ℕ × ℕ)
+    (work : length w ≡ desk.room) (answer : length o ≡ desk.room)
+    (e : (r, w', o', own') ≡ told_exhibits line old q w o own) where
   abbrev comes : Showing
-  comes = showing desk old desk.room desk.room m line (take n words)
+  comes = showing desk old desk.room desk.room (length own) line q
+
+  same : showing desk old (length w) (length o) (length own) line q ≡ comes
+  same = rw (work, answer)
 
   result : r ≡ numbers_of comes
-  unfolding told_over
-  result = ap (λ (t : (ℕ × ℕ × ℕ) × List ℕ). t.0) e
+  unfolding told_exhibits
+  result = ap (λ (t : (ℕ × ℕ × ℕ) × List ℕ × List ℕ × List ℕ). t.0) e ∙ ap numbers_of same
 
-  left : words' ≡ room_of comes (take m words) ++ drop m words
-  unfolding told_over
-  left = ap (λ (t : (ℕ × ℕ × ℕ) × List ℕ). t.1) e
+  room-left : own' ≡ room_of comes own
+  unfolding told_exhibits
+  room-left = ap (λ (t : (ℕ × ℕ × ℕ) × List ℕ × List ℕ × List ℕ). t.3) e ∙ ap (λ (s : Showing). room_of s own) same
 
-  pub example-within : (k : ℕ) → k ≡ r.2 → k ≤ m
-  example-within k f =
-      let h : (numbers_of comes).2 ≤ m = within comes m (fits old desk.room desk.room m line (take n words)) in
-      let g : k ≡ (numbers_of comes).2 = f ∙ ap (λ (n : ℕ × ℕ × ℕ). n.2) result in
+  pub example-within : (n : ℕ) → n ≡ r.2 → n ≤ length own
+  example-within n f =
+      let h : (numbers_of comes).2 ≤ length own = within comes (length own) (fits old desk.room desk.room (length own) line q) in
+      let g : n ≡ (numbers_of comes).2 = f ∙ ap (λ (n : ℕ × ℕ × ℕ). n.2) result in
       omega arith
 
-  pub shown-line : (number k : ℕ) (bytes bytes' : List ℕ) → m ≤ length words → number ≡ shown_told r → k ≡ r.2 → 2 * m ≤ length bytes
-      → bytes' ≡ sets bytes 0 (bytes_of (take k words')) → (number ≡ show_number comes) × (bytes' ≡ show_leaves comes bytes)
-  shown-line number k bytes bytes' inside f g room eb =
-      let own : List ℕ = take m words in
-      let long : length own ≡ m = length-take-le m words inside in (
-        told comes number r result f,
-        writes comes own (room_of comes own) bytes bytes' (subst (λ (i : ℕ). Fits i comes) (sym long) (fits old desk.room desk.room m line (take n words))) (omega arith) refl
-            (eb ∙ ap (λ (i : ℕ). sets bytes 0 (bytes_of (take i words'))) (g ∙ ap (λ (n : ℕ × ℕ × ℕ). n.2) result)
-            ∙ ap (λ (l : List ℕ). sets bytes 0 (bytes_of l)) (ap (take (numbers_of comes).2) left ∙ in-front comes own (drop m words))),
-      )
+  pub shown-line : (k n : ℕ) (bytes bytes' : List ℕ) → k ≡ shown_told r → n ≡ r.2 → 2 * length own ≤ length bytes
+      → bytes' ≡ sets bytes 0 (bytes_of (take n own')) → (k ≡ show_number comes) × (bytes' ≡ show_leaves comes bytes)
+  shown-line k n bytes bytes' number f room eb = (
+    told comes k r result number,
+    writes comes own own' bytes bytes' (fits old desk.room desk.room (length own) line q) room room-left (eb ∙ ap (λ (m : ℕ). sets bytes 0 (bytes_of (take m own'))) (f ∙ ap (λ (n : ℕ × ℕ × ℕ). n.2) result)),
+  )
 
 -- the words lent come to what the bytes come to
 pub bytes-show : (q ws bytes : List ℕ) (line old room : ℕ) (flag : Bool) → flag ≡ asks_old old → ws ≡ fitting desk.question (words_in q) → room ≡ used desk.filling (length bytes / 2)

@@ -1,6 +1,6 @@
 // The calls of the control room's host that solve: bytes and numbers around the calls on words. The slices that a call on words is lent are arrays of
-// the desk's own, cleared where they are made and not once more.
-ghost use Rattle.std.specs.Prelude.{◌*◌, ◌≤◌, ◌≡◌, length, take};
+// the desk's own, cleared at the start.
+ghost use Rattle.std.specs.Prelude.{◌*◌, ◌≤◌, ◌≡◌, length};
 ghost use Rattle.language.specs.Limits.{desk};
 ghost use Rattle.host.specs.Host.{solving_bytes, solve_number, solve_leaves, showing_bytes, show_number, show_leaves, day_bytes};
 ghost use Rattle.rules.specs.Calls.{showing};
@@ -8,11 +8,9 @@ ghost use Rattle.day.specs.Leaves.{day_number, room_leaves};
 
 use bools::truth;
 use day::solve_day;
-use example::example_over;
 use handing::{most, put_answer, solved_number, told};
 use language::limits::{ANSWER_BYTES, FILLING, QUESTION, ROOM};
 use outcomes::{shown_length, shown_number, verdict_number};
-use running::solve_cleared;
 use word_bytes::{take_words, write_words};
 
 // Solves a question: the refusal's number, or 0.
@@ -25,24 +23,27 @@ pub extern "C" fn desk_solve(question: &[u8], answer: &mut [u8]) -> u32
         return 1;
     }
     let mut words = [0u16; QUESTION];
+    let mut work = [0u16; ROOM];
     let mut own = [0u16; ROOM];
     let n = take_words(question, &mut words);
-    let number = solved_number(solve_cleared(&words[..n], &mut own));
+    let number = solved_number(solver::solve(&words[..n], &mut work, &mut own));
     put_answer(number, &own, answer);
     number as u32
 }
 
-// The example of a line of the question that the first n words are, over it, and then in the bytes lent.
-fn show(words: &mut [u16], n: usize, line: usize, old: bool, m: usize, room: &mut [u8]) -> u32
-    requires { (n ≤ length words.old) × (m ≤ length words.old) × (m ≤ desk.filling) × (2 * m ≤ length room.old) }
-    ensures value { result ≡ show_number (showing desk old desk.room desk.room m line (take n words.old)) }
-    ensures room_after { room.new ≡ show_leaves (showing desk old desk.room desk.room m line (take n words.old)) room.old }
+// The example in the desk's own room, and then in the bytes lent.
+fn show(question: &[u16], line: usize, old: bool, own: &mut [u16], room: &mut [u8]) -> u32
+    requires { (length own.old ≤ desk.filling) × (2 * length own.old ≤ length room.old) }
+    ensures value { result ≡ show_number (showing desk old desk.room desk.room (length own.old) line question.now) }
+    ensures room_after { room.new ≡ show_leaves (showing desk old desk.room desk.room (length own.old) line question.now) room.old }
 {
-    let s = example_over(words, n, line, old, m);
-    let k = shown_length(s);
+    let mut work = [0u16; ROOM];
+    let mut answer = [0u16; ROOM];
+    let s = example::example(question, line, old, &mut work, &mut answer, own);
+    let n = shown_length(s);
     // of a refusal that is 0, and nothing is written
-    write_words(&words[..k], room);
-    told(shown_number(s), k as u16)
+    write_words(&own[..n], room);
+    told(shown_number(s), n as u16)
 }
 
 // Shows the example of a settled line: 100 and its length in words, or the refusal's number. Free blanks take the last declared symbol where `old`
@@ -53,9 +54,10 @@ pub extern "C" fn desk_example(question: &[u8], line: u32, old: u32, room: &mut 
     ensures room_after { room.new ≡ show_leaves (showing_bytes desk (length room.old) line old question.now) room.old }
 {
     let mut words = [0u16; QUESTION];
+    let mut own = [0u16; FILLING];
     let n = take_words(question, &mut words);
     let m = most(FILLING, room.len() / 2);
-    show(&mut words, n, line as usize, truth(old), m, room)
+    show(&words[..n], line as usize, truth(old), &mut own[..m], room)
 }
 
 // Answers a day's sheet: the refusal's number, or 0.

@@ -1,19 +1,15 @@
--- The chart of the ends in an expression, place by place from the last.
+-- The chart of ends, place by place from the last.
 use Prim.Native.Nat.{ℕ, zero, suc, ◌+◌, ◌-◌, ◌<◌, ◌≤◌}
 use mathlib.Core.Path.{◌≡◌, refl, sym, ap, ◌∙◌}
-use mathlib.Core.Bool.{Bool, true, false, ◌||◌}
+use mathlib.Core.Bool.{Bool, true, false}
 use mathlib.Core.List.{List, [], ◌∷◌}
 use native.Mathlib.Omega.{arith}
 use lib.ListN.{length, get_or, drop, set, length-drop, length-set}
-use lib.Dec.{eqb, leb}
+use lib.Dec.{eqb}
 use lib.Seq.{drop-drop, get_or-set_same, get_or-set_other}
-use borrow.Author.Tests.{eqb-true, eqb-false, ne_eqb}
-use Rattle.language.specs.Kinds.{pick}
-use Rattle.language.proofs.Sizes.{expr-some}
-use Rattle.views.specs.Views.{MembershipAt}
-use Rattle.views.specs.declared.Shape.{Shape}
+use borrow.Author.Tests.{eqb-true, eqb-false}
 use Rattle.expressions.specs.Passing.{asks, reach}
-use Rattle.linear_form.specs.Charted.{Charted, ChartedAt, Past}
+use Rattle.linear_form.specs.Charted.{ChartedFrom, Past}
 use Rattle.expressions.proofs.Passing.{asks_none, asks-star, asks-over, asks_two, reach-none, reach-more}
 use Rattle.linear_form.proofs.Reaching.{reach-past, reach_step, past_by}
 
@@ -33,15 +29,8 @@ end-within k {at} h d = let l = reach-le 1 (drop at k) in let z = length-drop at
 pub past-end-of : {k : List ℕ} {at : ℕ} → length k ≤ at → Past k at at
 past-end-of {k} {at} h = past_of (let z = reach-past 1 k at h in omega arith)
 
--- an expression in the words has a first one
-reach-some : (k : List ℕ) (at : ℕ) → at < length k → at < at + reach 1 (drop at k)
-reach-some k at h = let s = reach_step 1 k at (omega arith) h in omega arith
-
-pub charted-room : (k : List ℕ) {ends : List ℕ} {at : ℕ} → ChartedAt at k ends → at < length k → at < length ends
-charted-room k {at = at} c h = let s = reach-some k at h in let r = c.room in omega arith
-
-pub past-charted : (k ends : List ℕ) {at : ℕ} → ChartedAt at k ends → at < length k → Past k at (get_or ends at 0)
-past-charted k ends {at} c h = past_of (c.each at (omega arith) (reach-some k at h))
+pub past-charted : {k ends : List ℕ} {at : ℕ} → ChartedFrom at k ends → at < length k → Past k at (get_or ends at 0)
+past-charted {k} {ends} {at} c h = past_of (c.each at (omega arith) h)
 
 module _ (k : List ℕ) (at : ℕ) (h : at < length k) where
   step-one : (n : ℕ) → asks (get_or k at 0) ≡ n → at + 1 + reach n (drop (at + 1) k) ≡ at + reach 1 (drop at k)
@@ -73,60 +62,19 @@ module _ (k : List ℕ) (at : ℕ) (h : at < length k) where
       let y = q.is in
       omega arith
 
--- ---- the expressions in an expression
-
-pub chart-within : {from to : ℕ} {k ends : List ℕ} {at e : ℕ} → from ≤ at → e ≤ to → Charted from to k ends → Charted at e k ends
-chart-within f t c = record { room = let r = c.room in omega arith; each = λ i a b. c.each i (omega arith) (omega arith) }
-
--- all places of an expression but its first
-pub chart-rest : (k : List ℕ) {ends : List ℕ} {at : ℕ} → ChartedAt at k ends → Charted (at + 1) (at + reach 1 (drop at k)) k ends
-chart-rest k c = chart-within (omega arith) (omega arith) c
-
--- a word that is not eps asks for one
-one-or-two : (b : Bool) → 1 ≤ pick b 1 2
-one-or-two true = omega arith
-one-or-two false = omega arith
-
-asks-some : (x : ℕ) → (x ≡ 7000 → ⊥) → 1 ≤ asks x
-unfolding asks
-asks-some x n = rw (ne_eqb x 7000 n) (one-or-two (eqb x 7003 || leb x 6999))
-
-reach-one : (n : ℕ) → 1 ≤ n → (ws : List ℕ) → reach 1 ws ≤ reach n ws
-reach-one n h ws =
-    let r = reach-more 1 (n - 1) ws in
-    let e : 1 + (n - 1) ≡ n = omega arith in
-    let f = ap (λ j. reach j ws) e in
-    omega arith
-
-first-before : (k : List ℕ) (at : ℕ) → at < length k → (get_or k at 0 ≡ 7000 → ⊥) → at + 1 + reach 1 (drop (at + 1) k) ≤ at + reach 1 (drop at k)
-first-before k at h n =
-    let s = reach_step 1 k at (omega arith) h in
-    let l = asks-some (get_or k at 0) n in
-    let r = reach-one (1 - 1 + asks (get_or k at 0)) (omega arith) (drop (at + 1) k) in
-    omega arith
-
-module _ {k ends : List ℕ} {at : ℕ} (h : at < length k) (c : Charted (at + 1) (at + reach 1 (drop at k)) k ends) where
-  -- the first one behind such a word
-  pub chart-first : (get_or k at 0 ≡ 7000 → ⊥) → ChartedAt (at + 1) k ends
-  chart-first n = chart-within (omega arith) (first-before k at h n) c
-
-  -- and the second
-  pub chart-second : {m : ℕ} → (get_or k at 0 ≡ 7000 → ⊥) → 6999 < get_or k at 0 → (get_or k at 0 ≡ 7003 → ⊥) → Past k (at + 1) m → ChartedAt m k ends
-  chart-second n0 lo n3 p = let a = p.after in let z = end-two k at h n0 lo n3 p (past_of refl) in chart-within (omega arith) (omega arith) c
-
 -- ---- a place more
 
-pub chart-none : (k : List ℕ) {ends : List ℕ} {to : ℕ} → to ≤ length ends → Charted to to k ends
-chart-none k r = record { room = r; each = λ i a b. absurd (omega arith) }
+pub chart-none : {k ends : List ℕ} → length k ≤ length ends → ChartedFrom (length k) k ends
+chart-none r = record { room = r; each = λ i a b. absurd (omega arith) }
 
-pub chart-more : {k ends : List ℕ} {at to e : ℕ} → at < to → e ≡ at + reach 1 (drop at k) → Charted (at + 1) to k ends → Charted at to k (set ends at e)
-chart-more {k} {ends} {at} {to} {e} h d c =
+pub chart-more : {k ends : List ℕ} {at e : ℕ} → at < length k → e ≡ at + reach 1 (drop at k) → ChartedFrom (at + 1) k ends → ChartedFrom at k (set ends at e)
+chart-more {k} {ends} {at} {e} h d c =
     record {
       room = let l = length-set ends at e in let r = c.room in omega arith;
       each = λ i a b. go i a b (eqb i at) refl;
     }
   where
-    go : (i : ℕ) → at ≤ i → i < to → (b : Bool) → eqb i at ≡ b → get_or (set ends at e) i 0 ≡ i + reach 1 (drop i k)
+    go : (i : ℕ) → at ≤ i → i < length k → (b : Bool) → eqb i at ≡ b → get_or (set ends at e) i 0 ≡ i + reach 1 (drop i k)
     go i a b true z =
         let y = eqb-true i at z in
         let r = c.room in
@@ -135,42 +83,5 @@ chart-more {k} {ends} {at} {to} {e} h d c =
         let y = eqb-false i at z in
         get_or-set_other ends at i e 0 (omega arith) ∙ c.each i (omega arith) b
 
--- ---- every place of an expression is the first of one in it
-
-reach-inside : (n : ℕ) (ws : List ℕ) (i : ℕ) → i < reach n ws → i + reach 1 (drop i ws) ≤ reach n ws
-unfolding reach
-reach-inside n [] i h = absurd (omega arith)
-reach-inside zero (x ∷ ws) i h = absurd (omega arith)
-reach-inside (suc n) (x ∷ ws) zero h = let r = reach-one (suc n) (omega arith) (x ∷ ws) in omega arith
-reach-inside (suc n) (x ∷ ws) (suc i) h = let r = reach-inside (n + asks x) ws i (omega arith) in omega arith
-
-module _ (k : List ℕ) (from : ℕ) {to : ℕ} (t : to ≡ from + reach 1 (drop from k)) {i : ℕ} (a : from ≤ i) (b : i < to) where
-  pub place-within : i < length k
-  place-within = let l = reach-le 1 (drop from k) in let z = length-drop from k in omega arith
-
-  pub end-inside : i + reach 1 (drop i k) ≤ to
-  end-inside =
-      let j = i - from in
-      let r = reach-inside 1 (drop from k) j (omega arith) in
-      let e : from + j ≡ i = omega arith in
-      let d : drop j (drop from k) ≡ drop i k = drop-drop j from k ∙ ap (λ j. drop j k) e in
-      let f = ap (reach 1) d in
-      omega arith
-
--- ---- the expression of a membership
-
-pub expression-ends : {k : List ℕ} {s : Shape} → MembershipAt k s → s.end ≡ s.expr + reach 1 (drop s.expr k)
-expression-ends {k} {s} m =
-    let v = m.shows in
-    let p : Past k s.expr (s.expr + reach 1 (drop s.expr k)) = past_of refl in
-    v.end ∙ sym (p.each m.R _ (record { fine = v.fine; words = v.here }))
-
-pub expression-within : {k : List ℕ} {s : Shape} → MembershipAt k s → s.end ≤ length k
-expression-within {k} {s} m =
-    let e = expression-ends m in
-    let v = m.shows in
-    let z = v.end in
-    let n = expr-some m.R in
-    let l = reach-le 1 (drop s.expr k) in
-    let d = length-drop s.expr k in
-    omega arith
+pub chart-from : {k ends : List ℕ} {at i : ℕ} → at ≤ i → ChartedFrom at k ends → ChartedFrom i k ends
+chart-from h c = record { room = c.room; each = λ j a b. c.each j (omega arith) b }

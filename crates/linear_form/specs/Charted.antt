@@ -5,14 +5,10 @@ use Rattle.language.specs.Writing.{expr_words}
 use Rattle.expressions.specs.Passing.{reach}
 use Rattle.expressions.specs.Standing.{Here}
 
--- for each place from `from` up to `to`, `ends` has the place after the expression there
-pub record Charted (from to : ℕ) (k ends : List ℕ) : Type 0 where
-  pub room : to ≤ length ends
-  pub each : (i : ℕ) → from ≤ i → i < to → get_or ends i 0 ≡ i + reach 1 (drop i k)
-
--- so it has for all places of the expression at `at`
-abbrev pub ChartedAt : ℕ → List ℕ → List ℕ → Type 0
-ChartedAt at k ends = Charted at (at + reach 1 (drop at k)) k ends
+-- from `at` on, `ends` has for each place of k the place after the expression there
+pub record ChartedFrom (at : ℕ) (k ends : List ℕ) : Type 0 where
+  pub room : length k ≤ length ends
+  pub each : (i : ℕ) → at ≤ i → i < length k → get_or ends i 0 ≡ i + reach 1 (drop i k)
 
 -- e is the place after whatever stands in k at `at`
 pub record Past (k : List ℕ) (at e : ℕ) : Type 0 where

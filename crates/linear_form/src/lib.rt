@@ -8,7 +8,7 @@ mod chart;
 
 ghost use Rattle.std.specs.Prelude.{◌≡◌, ◌≤◌, ◌<◌, ◌+◌, ◌*◌, length};
 ghost use Rattle.language.specs.Limits.{desk};
-ghost use Rattle.linear_form.specs.Charted.{ChartedAt, Past};
+ghost use Rattle.linear_form.specs.Charted.{ChartedFrom};
 ghost use Rattle.language.specs.Trees.{Hedge, Expr, mem, Conj};
 ghost use Rattle.plans.specs.Sizes.{monomial_words};
 ghost use Rattle.taking.specs.Taking.{Took};
@@ -84,7 +84,7 @@ fn hand_down(
     o: Outside,
     rest: &mut [u16],
 ) -> Outside
-    requires { (at < length k.now) × Past k.now (at + 1) mid × (length k.now ≤ desk.question) × ChartedAt at k.now ends.now × (o.parts ≤ desk.question) × (o.words ≤ desk.question * desk.question) }
+    requires { (at < length k.now) × (at ≤ mid) × (mid ≤ length k.now) × (length k.now ≤ desk.question) × ChartedFrom 0 k.now ends.now × (o.parts ≤ desk.question) × (o.words ≤ desk.question * desk.question) }
     ensures { Handed k.now at mid o rest.old rest.new result }
 {
     let x = k[at];
@@ -120,7 +120,7 @@ fn join(x: u16, a: bool, b: bool) -> bool
 
 // Passes the expression at a place, and counts the results of its monomials as it meets them, each of which keeps so many words.
 fn tally(k: &[u16], ends: &[u16], kept: usize, at: usize, o: Outside, size: Size) -> Counted
-    requires { (length k.now ≤ desk.question) × ChartedAt at k.now ends.now × (kept ≤ 4 * desk.question + 3) × (o.parts ≤ at) × (o.words ≤ desk.question * at) }
+    requires { (length k.now ≤ desk.question) × ChartedFrom 0 k.now ends.now × (kept ≤ 4 * desk.question + 3) × (o.parts ≤ at) × (o.words ≤ desk.question * at) }
     ensures { Tallies k.now kept at o size result }
 {
     if k.len() <= at {
@@ -176,7 +176,7 @@ fn walk(
     out: &mut [u16],
     to: usize,
 ) -> Walked
-    requires { (length k.now ≤ desk.question) × ChartedAt at k.now ends.now × (o.parts ≤ at) × (o.words ≤ desk.question * at) × (to ≤ length out.old) }
+    requires { (length k.now ≤ desk.question) × ChartedFrom 0 k.now ends.now × (o.parts ≤ at) × (o.words ≤ desk.question * at) × (to ≤ length out.old) }
     ensures { Walks k.now s at o rest.old out.old to rest.new out.new result }
 {
     if k.len() <= at {
@@ -220,35 +220,32 @@ fn walk(
 }
 
 // How many words M2's results take, each in its frame, whatever their number; or that one of them is too long.
-fn size_monomials(k: &[u16], ends: &[u16], s: Shape) -> Size
-    requires k_len_bound { (length k.now ≤ desk.question) × ChartedAt s.expr k.now ends.now }
+fn size_monomials(k: &[u16], s: Shape) -> Size
+    requires k_len_bound { length k.now ≤ desk.question }
     requires membership_at { MembershipAt k.now s }
     ensures { Sized k.now s result }
 {
     let t = keeping(s, 0);
+    let mut ends = [0; QUESTION];
+    chart(k, &mut ends);
     let kept = kept_len(k, t);
     let o = Outside { parts: 0, words: 0 };
-    let w = tally(k, ends, kept, s.expr, o, Size::Fits(0));
+    let w = tally(k, &ends, kept, s.expr, o, Size::Fits(0));
     w.size
 }
 
 // M2's results, each in its frame, all with the number of the conjunction that they come from.
-fn write_monomials(
-    k: &[u16],
-    ends: &[u16],
-    s: Shape,
-    number: u16,
-    out: &mut [u16],
-    at: usize,
-) -> usize
-    requires k_len_bound { (length k.now ≤ desk.question) × ChartedAt s.expr k.now ends.now × (at ≤ length out.old) }
+fn write_monomials(k: &[u16], s: Shape, number: u16, out: &mut [u16], at: usize) -> usize
+    requires k_len_bound { (length k.now ≤ desk.question) × (at ≤ length out.old) }
     requires room_for { RoomFor k.now s number out.old at }
     ensures { Written k.now s number out.old at out.new result }
 {
     let t = keeping(s, number);
+    let mut ends = [0; QUESTION];
+    chart(k, &mut ends);
     let mut rest = [0; QUESTION];
     let o = Outside { parts: 0, words: 0 };
-    let w = walk(k, ends, t, s.expr, o, &mut rest, out, at);
+    let w = walk(k, &ends, t, s.expr, o, &mut rest, out, at);
     w.to
 }
 
@@ -265,16 +262,14 @@ pub fn step_monomials(
     ensures { (before : Conj) (h : Hedge) (R : Expr) (behind : Conj) → LiteralAt k.now literal before (mem h R) behind → Took number (monomial_words before h R behind) out.old next result out.new }
 {
     let s = show_membership(k, literal);
-    let mut ends = [0; QUESTION];
-    chart(k, s.expr, s.end, &mut ends);
-    match size_monomials(k, &ends, s) {
+    match size_monomials(k, s) {
         Size::Over => Stepped::Long,
         Size::Fits(n) => {
             if next < n {
                 return Stepped::Room;
             }
             let at = next - n;
-            write_monomials(k, &ends, s, number, out, at);
+            write_monomials(k, s, number, out, at);
             Stepped::Done(at)
         }
     }

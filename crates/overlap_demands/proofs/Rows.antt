@@ -92,16 +92,16 @@ module _ (size word : ℕ) where
 
 -- ---- the pair by itself
 
-number-of : (room : ℕ) (m : Meeting) → Fair room m → length (report_of m) ≡ meeting_number m - 200
-number-of room cannot f = refl
-number-of room unsettled f = refl
-number-of room (can ws) f = omega arith
-number-of room (refused n) f = omega (arith, f.low n refl)
+number_of : (room : ℕ) (m : Meeting) → Fair room m → length (report_of m) ≡ meeting_number m - 200
+number_of room cannot f = refl
+number_of room unsettled f = refl
+number_of room (can ws) f = omega arith
+number_of room (refused n) f = omega (arith, f.low n refl)
 
 report-back : (room : List ℕ) (m : Meeting) → Fair (length room / 2) m → take (meeting_number m - 200) (words_of (sets room 0 (bytes_of (report_of m)))) ≡ report_of m
 report-back room m f =
     let ws = report_of m in
-    let n = number-of (length room / 2) m f in
+    let n = number_of (length room / 2) m f in
     let l = length-bytes_of ws in
     let s = f.short in
     ap₂ (λ (k : ℕ) (b : List ℕ). take k (words_of b)) (sym n) (written room ws (omega arith)) ∙ sym (words-up-to (bytes_of ws ++ drop (2 * length ws) room) (length ws))
@@ -147,7 +147,7 @@ module _ (c : OverlapSheet) (z : c.number ≡ 0) where
           let g : Fair (length d.room / 2) m = subst (λ k. Fair k m) (sym x.size) f in
           let report : take (d.number - 200) (words_of d.room_left) ≡ report_of m =
           ap₂ (λ (k : ℕ) (b : List ℕ). take (k - 200) (words_of b)) n (d.said.1 ∙ ap (λ (y : Meeting). sets d.room 0 (bytes_of (report_of y))) is) ∙ report-back d.room m g in
-          let len : 4 + (d.number - 200) ≡ length (row_words c.report (word_of ws) (pair_at c i)) = ap (λ k. 4 + (k - 200)) n ∙ ap (λ k. 4 + k) (sym (number-of c.report m f)) ∙ omega arith in
+          let len : 4 + (d.number - 200) ≡ length (row_words c.report (word_of ws) (pair_at c i)) = ap (λ k. 4 + (k - 200)) n ∙ ap (λ k. 4 + k) (sym (number_of c.report m f)) ∙ omega arith in
           ap₂ (λ (k : ℕ) (b : List ℕ). take k (drop (i * (c.report + 4)) (words_of b))) len left ∙ row_words_lem c.report (word_of ws) pairs i c.room _ p fit
           ∙ sym (ap₂ (λ (k : ℕ) (r : List ℕ). (pair_at c i).0.action ∷ ((pair_at c i).1.action ∷ ((k % 65536) ∷ ((k / 65536) ∷ r)))) n report)
 

@@ -72,7 +72,6 @@ module _ (g : Guide) (old_work old_answer : List ℕ) (ls : List Numbered) (c : 
       })
       (sym (line-left true f t a d))
       (let y = place-below in let z = ap (λ n. (bound g.course g.told - n) * (desk.room + 1)) a in let x : desk.room - t.at < desk.room - s.at = omega arith in omega arith)
-      d
     where
       place-below : t.at ≤ desk.room
       place-below = let z = p.waiting.place in omega arith
@@ -185,7 +184,7 @@ module _ (course : Course) (told old : List ℕ) (whole : List Spot) (old_work o
           go : Settled course told old whole s.signature s.steps m ls c w ks noted out' → Turns g old_work old_answer ls (c ∷ w) s (On (stepped s to m)) new answer out'
           go (went x t q f h) =
               on (stepped s to m) ls (all_of c.number ks ++ w) refl (record { running = placed.runs m; trailed = t; guided = q }) (sym (goes_on ∙ f))
-              (let y = placed.place in omega arith) refl
+              (let y = placed.place in omega arith)
           go (unnoted x f) = absurd (true≢false (sym e ∙ x))
 
       pub unnoted-turns : noted ≡ false → Turns g old_work old_answer ls (c ∷ w) s (Stop TrailRoom) new answer out'

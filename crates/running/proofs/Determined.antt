@@ -1,4 +1,4 @@
--- Any two outcomes that a contract of this crate allows coincide: what comes back and what the lent slices then hold.
+-- Any two outcomes that the contract of `run_course` allows coincide: what comes back and what the three lent slices then hold.
 use mathlib.Core.Path.{sym, ap, ◌∙◌, ◌≡◌}
 use mathlib.Core.List.{List}
 use Prim.Native.Nat.{ℕ}
@@ -6,7 +6,6 @@ use Rattle.language.proofs.Determined.{Determined}
 use Rattle.outcomes.specs.Numbers.{SolveNumbers, solved_numbers}
 use Rattle.outcomes.proofs.Apart.{solved-apart}
 use Rattle.running.proofs.run_course as run_course
-use Rattle.running.proofs.solve_cleared as solve_cleared
 
 abbrev Left : Type 0
 Left = SolveNumbers × List ℕ × List ℕ
@@ -17,11 +16,3 @@ run_course-determined κs a p o q e d =
     ap (λ z. (z, o.1)) (solved-apart o.0 q.0 (ap (λ (t : Left). t.0) f))
     ∙ ap (λ (t : Left). (q.0, (tt, (t.1, (t.2, (tt, (o.1.1.1.1.1.0, (tt, tt)))))))) f
     ∙ ap (λ (out : List ℕ). (q.0, (tt, (q.1.1.0, (q.1.1.1.0, (tt, (out, (tt, tt)))))))) (e.1 ∙ sym d.1)
-
-abbrev Answer : Type 0
-Answer = SolveNumbers × List ℕ
-
-solve_cleared-determined : Determined solve_cleared.ended solve_cleared.Reads.Pre solve_cleared.Reads.Post
-solve_cleared-determined κs a p o q e d =
-    let f : ◌≡◌ {A = Answer} (solved_numbers o.0, o.1.1.0) (solved_numbers q.0, q.1.1.0) = e ∙ sym d in
-    ap (λ z. (z, o.1)) (solved-apart o.0 q.0 (ap (λ (t : Answer). t.0) f)) ∙ ap (λ (t : Answer). (q.0, (tt, (t.1, tt)))) f

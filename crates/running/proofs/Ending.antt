@@ -5,29 +5,29 @@ use mathlib.Core.Path.{◌≡◌, refl, sym, ap, ◌∙◌}
 use mathlib.Core.Bool.{Bool, true, false}
 use mathlib.Core.List.{List, [], ◌∷◌, ◌++◌}
 use lib.Dec.{ltb}
-use lib.ListN.{length}
+use lib.ListN.{length, drop}
 use borrow.Author.Tests.{ne_eqb, le-ltb, ltb-false}
 use Rattle.language.specs.declared.Refusal.{Refusal}
 use Rattle.language.specs.declared.Refusal.TheVariants.{ShortSlice}
 use Rattle.language.specs.Limits.{desk}
 use Rattle.language.specs.Kinds.{pick}
 use Rattle.language.specs.Question.{Asked, asks, refuses}
-use Rattle.rules.specs.Run.{Numbered, Outcome, finished, refused}
-use Rattle.rules.specs.Answer.{count_open, answer_words, zeros, overwritten, verdict_of, Solving, answered, unread, ran}
+use Rattle.rules.specs.Run.{Numbered, Outcome}
+use Rattle.rules.specs.Answer.{count_open, zeros, verdict_of, Solving, answered, unread, ran}
 use Rattle.rules.specs.Answer as rules
-use Rattle.answers.proofs.Cleared.{past-cleared}
+use Rattle.answers.specs.declared.Tally.{Tally}
 use Rattle.reader.specs.Checking.{checked}
 use Rattle.outcomes.specs.declared.Checked.{Checked}
 use Rattle.outcomes.specs.declared.Checked.TheVariants.{Fine, Refused}
 use Rattle.outcomes.specs.declared.Outcome as outcome
 use Rattle.outcomes.specs.declared.Solved.{Solved}
-use Rattle.outcomes.specs.Numbers.{SolveNumbers, solved_numbers}
+use Rattle.outcomes.specs.Numbers.{solved_numbers}
 use Rattle.around.specs.declared.Ran.{Ran}
-use Rattle.running.specs.Running.{Kept}
+use Rattle.around.specs.declared.Ran.TheVariants.{Done, Stopped}
 use Rattle.running.specs.Turning.{Guide, Ends, ended, given-up}
 use Rattle.around.specs.Ready.{readied}
 use Rattle.around.specs.Told.{verdict_for, refused_by, told_by}
-use Rattle.running.specs.Leaves.{verdict, leaves, told_leaves, told_answer}
+use Rattle.running.specs.Leaves.{verdict, leaves, told_leaves}
 use Rattle.running.proofs.Told.{told-leaves}
 
 -- the verdict by the counts
@@ -42,45 +42,54 @@ counted (k ∷ ls) =
     (ne_eqb (length (k ∷ ls)) 0 (λ e. omega arith))
     ∙ picked (ltb 0 (count_open (k ∷ ls)))
 
--- what is told of a run, and its answer slice
-abbrev answer_left : Solving → List ℕ → Solved × List ℕ
-answer_left s answer = let l = leaves s [] answer in (l.0, l.2)
+module _ (g : Guide) (o' : Outcome) (old_work old_answer : List ℕ) (r : Ran) (work answer out : List ℕ)
+    (p : Ends g o' old_work old_answer r work answer out) (cleared : List ℕ) (ec : cleared ≡ zeros desk ++ drop desk.room work) where
+  pub leaves_lines : (n : ℕ) (t : Tally) (o : outcome.Outcome) → r ≡ Done n t → o ≡ verdict_for t.lines t.«open»
+      → (record { outcome = o; lines = t.lines; «open» = t.«open»; steps = n }, cleared, answer) ≡ leaves (ran o') old_work old_answer
+  leaves_lines n t o er eo = go p
+    where
+      go : Ends g o' old_work old_answer r work answer out → (record { outcome = o; lines = t.lines; «open» = t.«open»; steps = n }, cleared, answer) ≡ leaves (ran o') old_work old_answer
+      go (given-up x d f k l) = absurd (let z : ◌≡◌ {A = ℕ} 0 1 = cc in omega arith)
+      go (ended m u ls d f l k tr) =
+          let en : n ≡ m = cc in
+          let et : t ≡ u = cc in
+          let el : t.lines ≡ length ls = ap (λ (t : Tally). t.lines) et ∙ l.lines in
+          let ep : t.«open» ≡ count_open ls = ap (λ (t : Tally). t.«open») et ∙ l.«open» in
+          let ev : o ≡ verdict (verdict_of ls) = eo ∙ ap (λ x. verdict_for x t.«open») el ∙ ap (verdict_for (length ls)) ep ∙ counted ls in
+          let s : ran o' ≡ answered ls m = ap ran f in
+          let a = l.words in
+          let c : cleared ≡ zeros desk ++ drop desk.room old_work = ec ∙ ap (λ x. zeros desk ++ x) k in
+          ap (λ o. (record { outcome = o; lines = t.lines; «open» = t.«open»; steps = n }, cleared, answer)) ev
+          ∙ ap (λ x. (record { outcome = verdict (verdict_of ls); lines = x; «open» = t.«open»; steps = n }, cleared, answer)) el
+          ∙ ap (λ x. (record { outcome = verdict (verdict_of ls); lines = length ls; «open» = x; steps = n }, cleared, answer)) ep
+          ∙ ap (λ x. (record { outcome = verdict (verdict_of ls); lines = length ls; «open» = count_open ls; steps = x }, cleared, answer)) en
+          ∙ ap (λ x. (record { outcome = verdict (verdict_of ls); lines = length ls; «open» = count_open ls; steps = m }, x, answer)) c
+          ∙ ap (λ x. (record { outcome = verdict (verdict_of ls); lines = length ls; «open» = count_open ls; steps = m }, zeros desk ++ drop desk.room old_work, x)) a
+          ∙ sym (ap (λ x. leaves x old_work old_answer) s)
 
-ends-told : {g : Guide} {o : Outcome} {old_work old_answer : List ℕ} {r : Ran} {work answer out : List ℕ} {t : Solved × List ℕ}
-    → t ≡ told_by r answer → Ends g o old_work old_answer r work answer out → t ≡ answer_left (ran o) old_answer
+  pub leaves-refusal : (x : Refusal) (wiped : List ℕ) (s : Solved) → r ≡ Stopped x → wiped ≡ zeros desk ++ drop desk.room answer → s ≡ refused_by x
+      → (s, cleared, wiped) ≡ leaves (ran o') old_work old_answer
+  leaves-refusal x wiped s er ew es = go p
+    where
+      go : Ends g o' old_work old_answer r work answer out → (s, cleared, wiped) ≡ leaves (ran o') old_work old_answer
+      go (ended m u ls d f l k tr) = absurd (let z : ◌≡◌ {A = ℕ} 0 1 = cc in omega arith)
+      go (given-up y d f k l) =
+          let ex : x ≡ y = cc in
+          let h : ran o' ≡ rules.given-up y = ap ran f in
+          let c : cleared ≡ zeros desk ++ drop desk.room old_work = ec ∙ ap (λ z. zeros desk ++ z) k in
+          let b : wiped ≡ zeros desk ++ drop desk.room old_answer = ew ∙ ap (λ z. zeros desk ++ z) l in
+          ap (λ s. (s, cleared, wiped)) (es ∙ ap refused_by ex) ∙ ap (λ z. (refused_by y, z, wiped)) c ∙ ap (λ z. (refused_by y, zeros desk ++ drop desk.room old_work, z)) b
+          ∙ sym (ap (λ z. leaves z old_work old_answer) h)
+
+-- what is told of a run that ended so
+pub ends-told : {g : Guide} {o : Outcome} {old_work old_answer : List ℕ} {r : Ran} {work answer out : List ℕ} {t : Solved × List ℕ × List ℕ}
+    → t ≡ told_by r work answer → Ends g o old_work old_answer r work answer out → t ≡ leaves (ran o) old_work old_answer
 unfolding told_by
-ends-told {g} {o} {old_work} {old_answer} {r} {work} {answer} {out} e (ended n u ls d f l k tr) =
-    e ∙ ap (λ r. told_by r answer) d
-    ∙ ap (λ x. (record { outcome = verdict_for x u.«open»; lines = x; «open» = u.«open»; steps = n }, answer)) l.lines
-    ∙ ap (λ x. (record { outcome = verdict_for (length ls) x; lines = length ls; «open» = x; steps = n }, answer)) l.«open»
-    ∙ ap (λ v. (record { outcome = v; lines = length ls; «open» = count_open ls; steps = n }, answer)) (counted ls)
-    ∙ ap (λ a. (record { outcome = verdict (verdict_of ls); lines = length ls; «open» = count_open ls; steps = n }, a)) l.words
-    ∙ sym (ap (λ o. answer_left (ran o) old_answer) f)
-ends-told {g} {o} {old_work} {old_answer} {r} {work} {answer} {out} e (given-up x d f k l) =
-    e ∙ ap (λ r. told_by r answer) d ∙ ap (λ a. (refused_by x, zeros desk ++ a)) l ∙ sym (ap (λ o. answer_left (ran o) old_answer) f)
-
--- the words of the work slice past the room are as they were
-work-kept : {g : Guide} {o : Outcome} {old_work old_answer : List ℕ} {r : Ran} {work answer out : List ℕ} → Ends g o old_work old_answer r work answer out → Kept old_work work
-work-kept (ended n t ls d f l k tr) = k
-work-kept (given-up x d f k l) = k
-
--- in an answer slice that was cleared it leaves what it leaves in any
-answer-cleared : (o : Outcome) (old : List ℕ) → answer_left (ran o) (overwritten desk (zeros desk) old) ≡ answer_left (ran o) old
-answer-cleared (finished ls n) old = ap (λ a. ((leaves (answered ls n) [] []).0, answer_words desk ls ++ a)) (past-cleared old)
-answer-cleared (refused x) old = ap (λ a. (refused_by x, zeros desk ++ a)) (past-cleared old)
-
--- with the work slice, which is cleared after it
-both_left : (o : Outcome) (t : Solved × List ℕ) (old_work old_answer cleared : List ℕ) → t ≡ answer_left (ran o) old_answer → cleared ≡ overwritten desk (zeros desk) old_work
-    → (t.0, cleared, t.1) ≡ leaves (ran o) old_work old_answer
-both_left (finished ls n) t old_work old_answer cleared e d = ap (λ (t : Solved × List ℕ). (t.0, cleared, t.1)) e ∙ ap (λ w. ((leaves (answered ls n) [] []).0, w, overwritten desk (answer_words desk ls) old_answer)) d
-both_left (refused x) t old_work old_answer cleared e d = ap (λ (t : Solved × List ℕ). (t.0, cleared, t.1)) e ∙ ap (λ w. (refused_by x, w, overwritten desk (zeros desk) old_answer)) d
-
--- a run between two clears
-pub cleared-told : {g : Guide} {o : Outcome} (old_work old_answer began : List ℕ) {r : Ran} {work answer out : List ℕ} {t : Solved × List ℕ} {cleared : List ℕ}
-    → began ≡ overwritten desk (zeros desk) old_answer → Ends g o old_work began r work answer out → cleared ≡ overwritten desk (zeros desk) work → t ≡ told_by r answer
-    → (t.0, cleared, t.1) ≡ leaves (ran o) old_work old_answer
-cleared-told {g} {o} old_work old_answer began {r} {work} {answer} {out} {t} {cleared} b p c e =
-    both_left o t old_work old_answer cleared (ends-told e p ∙ ap (answer_left (ran o)) b ∙ answer-cleared o old_answer) (c ∙ ap (λ w. zeros desk ++ w) (work-kept p))
+ends-told {g} {o} {old_work} {old_answer} {r} {work} {answer} {out} e p = e ∙ go r p
+  where
+    go : (r : Ran) → Ends g o old_work old_answer r work answer out → told_by r work answer ≡ leaves (ran o) old_work old_answer
+    go (Done n t) p = leaves_lines g o old_work old_answer (Done n t) work answer out p _ refl n t _ refl refl
+    go (Stopped x) p = leaves-refusal g o old_work old_answer (Stopped x) work answer out p _ refl x _ _ refl refl refl
 
 -- ---- before the run
 
@@ -144,14 +153,3 @@ told-unread s x v work answer es e = told-leaves (s, work, answer) v work answer
 
 pub told-ran : (t : Solved × List ℕ × List ℕ) (v u : Solving) (work answer : List ℕ) → t ≡ leaves u work answer → v ≡ u → (solved_numbers t.0, t.1, t.2) ≡ told_leaves v work answer
 told-ran t v u work answer e d = told-leaves t v work answer (e ∙ sym (ap (λ z. leaves z work answer) d))
-
--- and of the answer slice alone
-abbrev Told : Type 0
-Told = SolveNumbers × List ℕ × List ℕ
-
-pub answer-unread : (s : Solved) (x : Refusal) (v : Solving) (answer : List ℕ) → s ≡ refused_by x → v ≡ unread x → (solved_numbers s, answer) ≡ told_answer v answer
-answer-unread s x v answer es e = ap (λ (t : Told). (t.0, t.2)) (told-unread s x v [] answer es e)
-
-pub answer-told : {g : Guide} {o : Outcome} {old_work old_answer : List ℕ} {r : Ran} {work answer out : List ℕ} (t : Solved × List ℕ) (v : Solving)
-    → t ≡ told_by r answer → Ends g o old_work old_answer r work answer out → v ≡ ran o → (solved_numbers t.0, t.1) ≡ told_answer v old_answer
-answer-told {g} {o} {old_work} {old_answer} t v e p d = ap (λ (t : Told). (t.0, t.2)) (told-ran (t.0, _, t.1) v (ran o) [] old_answer (both_left o t [] old_answer _ (ends-told e p) refl) d)

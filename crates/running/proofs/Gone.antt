@@ -1,5 +1,5 @@
 -- The run, turn after turn: its end stays the same, and a measure falls.
-use Prim.Native.Nat.{ℕ, ◌+◌, ◌<◌, ◌≤◌}
+use Prim.Native.Nat.{ℕ, ◌+◌, ◌-◌, ◌<◌, ◌≤◌}
 use native.Mathlib.Omega.{arith}
 use mathlib.Core.Path.{◌≡◌, refl, sym, ap, ◌∙◌, subst}
 use mathlib.Core.List.{List, [], ◌∷◌}
@@ -85,15 +85,14 @@ module _ (course : Course) (told old : List ℕ) (whole : List Spot) (old_work o
       (f : (old : List ℕ) (whole : List Spot) (old_work old_answer : List ℕ) (ls : List Numbered) (c : Numbered) (w : List Numbered) → Under (guide course told old whole) old_work old_answer ls (c ∷ w) s work answer out
       → Turns (guide course told old whole) old_work old_answer ls (c ∷ w) s r work' answer' out') where
     module _ (t : State) (er : r ≡ On t) where
-      moved : (Gone g old_work old_answer o t work' answer' out') × (measure course told t < measure course told s) × (t.signature ≡ s.signature)
+      moved : (Gone g old_work old_answer o t work' answer' out') × (measure course told t < measure course told s)
       moved = first_of _ h λ ls c w u e. go ls c w e (f old whole old_work old_answer ls c w u)
         where
           go : (ls : List Numbered) (c : Numbered) (w : List Numbered) → left_of g s ls (c ∷ w) ≡ o → Turns g old_work old_answer ls (c ∷ w) s r work' answer' out'
-              → (Gone g old_work old_answer o t work' answer' out') × (measure course told t < measure course told s) × (t.signature ≡ s.signature)
-          go ls c w e (on x ms v d q same less signed) =
+              → (Gone g old_work old_answer o t work' answer' out') × (measure course told t < measure course told s)
+          go ls c w e (on x ms v d q same less) =
               let z : x ≡ t = cc in
-              subst (λ x. (Gone g old_work old_answer o x work' answer' out') × (measure course told x < measure course told s) × (x.signature ≡ s.signature)) z
-              (record { lines = ms; waits = v; under = q; same = same ∙ e }, less, signed)
+              subst (λ x. (Gone g old_work old_answer o x work' answer' out') × (measure course told x < measure course told s)) z (record { lines = ms; waits = v; under = q; same = same ∙ e }, less)
           go ls c w e (stop x d y k l) = absurd (let z : ◌≡◌ {A = ℕ} 0 1 = cc in omega arith)
 
       pub gone-on : Gone g old_work old_answer o t work' answer' out'
@@ -102,15 +101,12 @@ module _ (course : Course) (told old : List ℕ) (whole : List Spot) (old_work o
       pub gone-less : measure course told t < measure course told s
       gone-less = moved.1
 
-      pub gone-signed : t.signature ≡ s.signature
-      gone-signed = moved.2
-
     pub gone-stop : (x : Refusal) → r ≡ Stop x → Ends g o old_work old_answer (Stopped x) work' answer' out'
     gone-stop x er = first_of _ h λ ls c w u e. go ls c w e (f old whole old_work old_answer ls c w u)
       where
         go : (ls : List Numbered) (c : Numbered) (w : List Numbered) → left_of g s ls (c ∷ w) ≡ o → Turns g old_work old_answer ls (c ∷ w) s r work' answer' out'
             → Ends g o old_work old_answer (Stopped x) work' answer' out'
-        go ls c w e (on y ms v d q same less signed) = absurd (let z : ◌≡◌ {A = ℕ} 0 1 = cc in omega arith)
+        go ls c w e (on y ms v d q same less) = absurd (let z : ◌≡◌ {A = ℕ} 0 1 = cc in omega arith)
         go ls c w e (stop y d z k l) = let i : y ≡ x = cc in given-up x refl (sym e ∙ sym z ∙ ap refused i) k l
 
 pub ends_as : {g : Guide} {o p : Outcome} {old_work old_answer : List ℕ} {r : Ran} {work answer out : List ℕ} → o ≡ p → Ends g o old_work old_answer r work answer out → Ends g p old_work old_answer r work answer out

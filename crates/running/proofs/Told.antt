@@ -1,13 +1,13 @@
 -- What solving returns, in numbers and as the answer that has them: each gives the other, since the numbers tell the cases apart.
 use Prim.Native.Nat.{ℕ}
 use mathlib.Core.Path.{◌≡◌, refl, sym, ap, ◌∙◌}
-use mathlib.Core.List.{List, []}
+use mathlib.Core.List.{List}
 use lib.ListN.{length}
 use Rattle.rules.specs.Answer.{count_open, Verdict, no_line, all_solved, some_open, verdict_of, Solving, answered, unread, given-up}
 use Rattle.outcomes.specs.declared.Solved.{Solved}
 use Rattle.outcomes.specs.Numbers.{SolveNumbers, solved_numbers}
 use Rattle.outcomes.proofs.Apart.{solved-apart}
-use Rattle.running.specs.Leaves.{verdict, verdict_value, leaves, told_leaves, told_answer}
+use Rattle.running.specs.Leaves.{verdict, verdict_value, leaves, told_leaves}
 
 abbrev Left : Type 0
 Left = Solved × List ℕ × List ℕ
@@ -38,7 +38,3 @@ leaves-told t s work answer e =
     let l = leaves s work answer in
     let d : told t ≡ told l = e ∙ both_ways s work answer in
     ap (λ x. (x, t.1, t.2)) (solved-apart t.0 l.0 (ap (λ (x : Told). x.0) d)) ∙ ap (λ (x : Told). (l.0, x.1, x.2)) d
-
--- what is told of the answer slice alone is what is told of both slices, of some work slice
-pub some-work : (s : Solving) (n : SolveNumbers) (answer answer' : List ℕ) → (n, answer') ≡ told_answer s answer → (n, (told_leaves s [] answer).1, answer') ≡ told_leaves s [] answer
-some-work s n answer answer' e = ap (λ (t : SolveNumbers × List ℕ). (t.0, (told_leaves s [] answer).1, t.1)) e

@@ -1,5 +1,5 @@
 -- What solving returns and leaves in the two lent slices: in the paper's numbers, as the contract says it, and as the answer that has these numbers.
-use Rattle.std.specs.Prelude.{ℕ, List, [], length}
+use Rattle.std.specs.Prelude.{ℕ, List, length}
 use Rattle.language.specs.declared.Refusal.{Refusal}
 use Rattle.language.specs.Limits.{desk}
 use Rattle.language.specs.Numbers.{number_of, place_of}
@@ -28,10 +28,6 @@ told_leaves (answered ls n) work answer =
     (record { number = 0; place = 0; value = verdict_value (verdict_of ls); lines = length ls; opened = count_open ls; steps = n }, overwritten desk (zeros desk) work, overwritten desk (answer_words desk ls) answer)
 told_leaves (unread r) work answer = (refused_numbers r, work, answer)
 told_leaves (given-up r) work answer = (refused_numbers r, overwritten desk (zeros desk) work, overwritten desk (zeros desk) answer)
-
--- of the answer slice alone, for a call that has a work slice of its own
-abbrev pub told_answer : Solving → List ℕ → SolveNumbers × List ℕ
-told_answer s answer = let t = told_leaves s [] answer in (t.0, t.2)
 
 -- ---- the answer that has these numbers
 

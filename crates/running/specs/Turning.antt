@@ -13,7 +13,6 @@ use Rattle.rules.specs.Step.{Spot}
 use Rattle.rules.specs.Run.{Numbered, all_of, numbered, Outcome, finished, refused}
 use Rattle.frames.specs.Frames.{frame, framed_length}
 use Rattle.counts.specs.Tables.{afresh}
-use Rattle.notes.specs.Rows as notes
 use Rattle.replay.specs.Trail.{trail_from, trail_words, trail}
 use Rattle.search.specs.declared.Best.{Best}
 use Rattle.telling.specs.Telling.{Applies}
@@ -79,10 +78,10 @@ bound Told told = length told
 abbrev pub measure : Course → List ℕ → State → ℕ
 measure course told s = (bound course told - s.steps) * (desk.room + 1) + (desk.room - s.at)
 
--- a turn: the run goes on with the same end and the same signature, or that end is a refusal
+-- a turn: the run goes on with the same end, or that end is a refusal
 pub data Turns (g : Guide) (old_work old_answer : List ℕ) (ls w : List Numbered) (s : State) (r : Turned) (work answer out : List ℕ) : Type 0 where
   on : (t : State) (ms v : List Numbered) → r ≡ On t → Under g old_work old_answer ms v t work answer out → left_of g t ms v ≡ left_of g s ls w
-      → measure g.course g.told t < measure g.course g.told s → t.signature ≡ s.signature → Turns g old_work old_answer ls w s r work answer out
+      → measure g.course g.told t < measure g.course g.told s → Turns g old_work old_answer ls w s r work answer out
   stop : (e : Refusal) → r ≡ Stop e → refused e ≡ left_of g s ls w → Kept old_work work → Kept old_answer answer → Turns g old_work old_answer ls w s r work answer out
 
 -- ---- the calls
@@ -109,11 +108,10 @@ pub record FirstOf (k : List ℕ) (number next : ℕ) (course : Course) (s : Sta
   pub under : Under (guide course told old whole) old_work old_answer lines (first ∷ rest) s work answer out
   pub words : k ≡ conj_words first.literals
 
--- k is the conjunction that waits first, taken out, the table is the count of its words, and m rows are the notes of its literals
-pub record Taken (k table rows : List ℕ) (m : ℕ) (s : State) (work : List ℕ) : Type 0 where
+-- k is the conjunction that waits first, taken out, and the table is the count of its words
+pub record Taken (k table : List ℕ) (s : State) (work : List ℕ) : Type 0 where
   pub words : k ≡ slice (s.at + frame) (s.at + frame + framed_length work s.at) work
   pub counts : table ≡ afresh k
-  pub noted : notes.Noted s.signature k rows m
 
 abbrev pub TurnsWith : List ℕ → ℕ → ℕ → Course → State → List ℕ → List ℕ → List ℕ → List ℕ → Turned → List ℕ → List ℕ → List ℕ → Type 0
 TurnsWith k number next course s work answer told out r work' answer' out' =

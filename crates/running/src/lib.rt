@@ -6,19 +6,15 @@ mod turns;
 ghost use Rattle.std.specs.Prelude.{◌≡◌, length};
 ghost use Rattle.language.specs.Limits.{desk};
 ghost use Rattle.language.specs.Question.{read_question};
-ghost use Rattle.rules.specs.Answer.{solving};
 ghost use Rattle.outcomes.specs.Numbers.{solved_numbers};
 ghost use Rattle.replay.specs.Calls.{trail_of, trail_leaves};
-ghost use Rattle.answers.specs.Lined.{Cleared};
-ghost use Rattle.running.specs.Leaves.{told_leaves, told_answer};
+ghost use Rattle.running.specs.Leaves.{told_leaves};
 ghost use Rattle.running.specs.Calling.{calling, notes};
 
 use crate::turns::run;
 use around::{ready, refused, settle, tell};
 use courses::Course;
-use language::limits::ROOM;
 use outcomes::{Checked, Solved};
-use slices::clear;
 
 // Runs a question on a course, `told` being the bytes of the trail to follow and `out` the room for one to be noted: what comes back, and what the three slices then hold, is what the course's definition says.
 pub fn run_course(
@@ -34,35 +30,9 @@ pub fn run_course(
 {
     match ready(question, work.len(), answer.len()) {
         Checked::Fine => {
-            clear(answer);
             let ran = run(question, work, answer, told, out, course);
             settle(ran, out);
-            clear(work);
-            tell(ran, answer)
-        }
-        Checked::Refused(r) => refused(r),
-    }
-}
-
-// Solves a question in an answer slice that is clear, as one just made is, with a work slice of its own: so neither is cleared once more.
-pub fn solve_cleared(question: &[u16], answer: &mut [u16]) -> Solved
-    requires { Cleared answer.old }
-    ensures { (solved_numbers result, answer.new) ≡ told_answer (solving desk desk.room (length answer.old) question.now) answer.old }
-{
-    match ready(question, ROOM, answer.len()) {
-        Checked::Fine => {
-            let mut work = [0; ROOM];
-            let none = [0; 1];
-            let mut unused = [0; 1];
-            let ran = run(
-                question,
-                &mut work,
-                answer,
-                &none,
-                &mut unused,
-                Course::First,
-            );
-            tell(ran, answer)
+            tell(ran, work, answer)
         }
         Checked::Refused(r) => refused(r),
     }

@@ -4,10 +4,8 @@ ghost use Rattle.language.specs.Limits.{desk};
 ghost use Rattle.language.specs.Question.{read_question};
 ghost use Rattle.frames.specs.Frames.{frame, framed_length};
 ghost use Rattle.counts.specs.Tables.{afresh};
-ghost use Rattle.notes.specs.Rows.{Noted};
 ghost use Rattle.steps.specs.Asking.{RuleAt};
 ghost use Rattle.reader.specs.Checking.{checked};
-ghost use Rattle.answers.specs.Lined.{Cleared};
 ghost use Rattle.outcomes.specs.declared.Checked.TheVariants.{Fine};
 ghost use Rattle.running.specs.Courses.{Roomy};
 ghost use Rattle.running.specs.Turning.{Advances, FirstOf, Taken, TurnsWith, TurnsFirst, Awaits, Begun, GoesOn, Runs};
@@ -23,7 +21,6 @@ use frames::{FRAME, read_number};
 use header::signature_of;
 use language::Refusal;
 use language::limits::{QUESTION, ROOM};
-use notes::ROWS;
 use rules::places::NO_RULE;
 use search::{Best, find};
 use steps::take_step;
@@ -66,12 +63,10 @@ fn advance(
     }
 }
 
-// One turn, the first waiting conjunction being k, of that alternative, the table having the counts of its variables and the rows the notes of its literals.
+// One turn, the first waiting conjunction being k, of that alternative, and the table having the counts of its variables.
 fn turn_with(
     k: &[u16],
     table: &[u16; TABLE],
-    rows: &[u16; ROWS],
-    m: usize,
     number: u16,
     next: usize,
     work: &mut [u16],
@@ -84,11 +79,10 @@ fn turn_with(
     requires k_len_bound { (length k.now ≤ desk.question) × (next ≤ desk.room) × (desk.room ≤ length work.old) × (s.tally.«open» ≤ s.tally.lines) × (s.tally.end ≤ desk.room) × (desk.room ≤ length answer.old) }
     requires first_of { FirstOf k.now number next course s work.old answer.old told.now out.old }
     requires table_value { table.now ≡ afresh k.now }
-    requires noted { Noted s.signature k.now rows.now m }
     ensures { TurnsWith k.now number next course s work.old answer.old told.now out.old result work.new answer.new out.new }
 {
     let signature = s.signature;
-    let b = find(k, rows, m, table, signature);
+    let b = find(k, table, signature);
     if b.rank == NO_RULE {
         return line(k, table, number, next, answer, s);
     }
@@ -104,13 +98,10 @@ fn turn_with(
     }
 }
 
-// One turn, the first waiting conjunction having been taken out, so that results can be written over its place, with the table of its counts and the rows of
-// its notes.
+// One turn, the first waiting conjunction having been taken out, so that results can be written over its place, with the table of its counts.
 fn turn(
     k: &[u16],
     table: &[u16; TABLE],
-    rows: &[u16; ROWS],
-    m: usize,
     work: &mut [u16],
     answer: &mut [u16],
     told: &[u8],
@@ -120,18 +111,16 @@ fn turn(
 ) -> Turned
     requires at_bound { (s.at + frame + framed_length work.old s.at ≤ desk.room) × (framed_length work.old s.at ≤ desk.question) × (desk.room ≤ length work.old) × (s.tally.«open» ≤ s.tally.lines) × (s.tally.end ≤ desk.room) × (desk.room ≤ length answer.old) }
     requires awaits { Awaits course told.now s work.old answer.old out.old }
-    requires taken { Taken k.now table.now rows.now m s work.old }
+    requires taken { Taken k.now table.now s work.old }
     ensures { TurnsFirst course told.now s work.old answer.old out.old result work.new answer.new out.new }
 {
     let at = s.at;
     let number = read_number(work, at);
     let next = at + FRAME + k.len();
-    turn_with(
-        k, table, rows, m, number, next, work, answer, told, out, course, s,
-    )
+    turn_with(k, table, number, next, work, answer, told, out, course, s)
 }
 
-// Turn after turn, until nothing waits. The table and the rows are those of the conjunction that waits first at each of them.
+// Turn after turn, until nothing waits. The table is that of the conjunction that waits first at each of them.
 fn go_on(
     work: &mut [u16],
     answer: &mut [u16],
@@ -146,26 +135,10 @@ fn go_on(
     let mut k = [0; QUESTION];
     let mut table = [0; TABLE];
     let mut n: usize = 0;
-    let mut rows = [0; ROWS];
-    let mut m: usize = 0;
     let mut s = begin;
     while s.at < ROOM {
-        let signature = s.signature;
-        let first = take_first(work, s.at, &mut k, n, &mut table, &mut rows, m, signature);
-        n = first.len;
-        m = first.literals;
-        match turn(
-            &k[0..n],
-            &table,
-            &rows,
-            m,
-            work,
-            answer,
-            told,
-            out,
-            course,
-            s,
-        ) {
+        n = take_first(work, s.at, &mut k, n, &mut table);
+        match turn(&k[0..n], &table, work, answer, told, out, course, s) {
             Turned::On(t) => s = t,
             Turned::Stop(e) => return Ran::Stopped(e),
         }
@@ -173,7 +146,7 @@ fn go_on(
     finish(told, course, s)
 }
 
-// The run of a question that was read, in an answer slice that is clear.
+// The run of a question that was read.
 pub fn run(
     question: &[u16],
     work: &mut [u16],
@@ -182,7 +155,7 @@ pub fn run(
     out: &mut [u16],
     course: Course,
 ) -> Ran
-    requires { (Fine ≡ checked (read_question desk question.now)) × (desk.room ≤ length work.old) × Cleared answer.old }
+    requires { (Fine ≡ checked (read_question desk question.now)) × (desk.room ≤ length work.old) × (desk.room ≤ length answer.old) }
     ensures { Runs course told.now (read_question desk question.now) work.old answer.old out.old result work.new answer.new out.new }
 {
     let at = lay_out(question, work);

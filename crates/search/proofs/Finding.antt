@@ -1,21 +1,21 @@
 -- The best literal makes the step: its rank is the rank of the literal, from the side that comes first, and one pass over the literals finds it.
-use Prim.Native.Nat.{ℕ, ◌<◌, ◌≤◌}
+use Prim.Native.Nat.{ℕ, ◌+◌, ◌-◌, ◌<◌, ◌≤◌}
 use native.Mathlib.Omega.{arith}
 use mathlib.Core.Path.{◌≡◌, refl, sym, ap, ap₂, ◌∙◌, subst}
 use mathlib.Core.Bool.{Bool, true, false}
 use mathlib.Core.List.{List, [], ◌∷◌, ◌++◌, append_assoc, append-nil}
-use lib.Dec.{ltb}
-use lib.ListN.{length, length-append}
-use borrow.Author.Tests.{ltb-true, ltb-false, lt-ltb, le-ltb}
+use lib.Dec.{ltb, leb}
+use lib.ListN.{length, drop, length-append, length-drop}
+use borrow.Author.Tests.{ltb-true, ltb-false, leb-true, leb-false, lt-ltb, le-ltb}
 use Rattle.language.specs.declared.Signature.{Signature}
 use Rattle.language.specs.Kinds.{pick}
-use Rattle.language.specs.Trees.{Hedge, Literal, eqn, mem, Conj}
+use Rattle.language.specs.Trees.{Hedge, Expr, Literal, eqn, mem, Conj}
 use Rattle.language.specs.Writing.{literal_words, conj_words}
 use Rattle.rules.specs.Places.{at_fold, at_clash, no_rule}
-use Rattle.rules.specs.Ranks.{eqn_rank}
-use Rattle.search.specs.Ranking.{Ranked, Sought, unmet, least, Found}
+use Rattle.views.specs.Standing.{LiteralAt}
+use Rattle.rules.specs.Ranks.{eqn_rank, mem_rank}
+use Rattle.search.specs.Ranking.{Ranked, Sought, Found}
 use Rattle.search.proofs.Ranks.{rank-written, rank-swapped, rank-member}
-use Rattle.views.proofs.Words.{words_append}
 use Rattle.views.proofs.LiteralWalks.{literal-some}
 use Rattle.folding.specs.Twice.{first_twice, Once}
 use Rattle.folding.proofs.Folds.{found_none, found_at}
@@ -27,6 +27,26 @@ use Rattle.search.specs.declared.Best.{Best}
 use Rattle.search.specs.Seeking.{best, lesser_of, best_at, best_from, best_alone, best_fold, best_before_clash, clash_best, best_clash, best_of}
 
 -- ---- one literal
+
+-- an equation by the lesser of the ranks of its two sides
+module _ (σ : Signature) (before : Conj) (l r : Hedge) (behind : Conj) (at a b : ℕ) (ep : at ≡ length (conj_words before))
+    (ea : a ≡ eqn_rank σ (before ++ behind) l r) (eb : b ≡ eqn_rank σ (before ++ behind) r l) where
+  by-ranks : lesser_of (best a at false) (best b at true) ≡ best_at σ before (eqn l r) behind
+  unfolding best_at
+  by-ranks =
+      ap (λ n. lesser_of (best a n false) (best b n true)) ep ∙ ap (λ n. lesser_of (best n (length (conj_words before)) false) (best b (length (conj_words before)) true)) ea
+      ∙ ap (λ n. lesser_of (best (eqn_rank σ (before ++ behind) l r) (length (conj_words before)) false) (best n (length (conj_words before)) true)) eb
+
+  pub best-swapped : b < a → best b at true ≡ best_at σ before (eqn l r) behind
+  best-swapped h = ap (λ t. pick t (best b at true) (best a at false)) (sym (lt-ltb b a h)) ∙ by-ranks
+
+  pub best-written : a ≤ b → best a at false ≡ best_at σ before (eqn l r) behind
+  best-written h = ap (λ t. pick t (best b at true) (best a at false)) (sym (le-ltb b a h)) ∙ by-ranks
+
+pub best-member : (σ : Signature) (before : Conj) (h : Hedge) (R : Expr) (behind : Conj) (at a : ℕ) → at ≡ length (conj_words before) → a ≡ mem_rank σ (before ++ behind) h R
+    → best a at false ≡ best_at σ before (mem h R) behind
+unfolding best_at
+best-member σ before h R behind at a ep ea = ap (λ n. best a n false) ep ∙ ap (λ n. best n (length (conj_words before)) false) ea
 
 module _ (σ : Signature) (before : Conj) (l r : Hedge) (behind : Conj) where
   abbrev written : Best
@@ -43,7 +63,7 @@ module _ (σ : Signature) (before : Conj) (l r : Hedge) (behind : Conj) where
   lesser-ranked true e = rank-swapped σ before l r behind _ _ refl refl (ltb-true _ _ e)
   lesser-ranked false e = rank-written σ before l r behind _ _ refl refl (ltb-false _ _ e)
 
-pub best-place : (σ : Signature) (before : Conj) (l : Literal) (behind : Conj) → (best_at σ before l behind).at ≡ length (conj_words before)
+best-place : (σ : Signature) (before : Conj) (l : Literal) (behind : Conj) → (best_at σ before l behind).at ≡ length (conj_words before)
 unfolding best_at
 best-place σ before (eqn l r) behind = one_place σ before l r behind (ltb (eqn_rank σ (before ++ behind) r l) (eqn_rank σ (before ++ behind) l r))
 best-place σ before (mem h R) behind = refl
@@ -52,6 +72,19 @@ best-ranked : (σ : Signature) (before : Conj) (l : Literal) (behind : Conj) →
 unfolding best_at
 best-ranked σ before (eqn l r) behind = lesser-ranked σ before l r behind _ refl
 best-ranked σ before (mem h R) behind = rank-member σ before h R behind _ refl
+
+-- the place after it, by the words behind it
+reach : (t : Bool) (n e r at a b : ℕ) → leb n e ≡ t → n ≡ at + (a + b) → 0 < a → n - e ≡ b → (at < e → e ≤ n → r ≡ e) → (n ≤ e → r ≡ n) → r ≡ at + a
+reach true n e r at a b d p q m f g = let y = leb-true n e d in let z = g y in omega arith
+reach false n e r at a b d p q m f g = let y = leb-false n e d in let z = f (omega arith) (omega arith) in omega arith
+
+pub passed_to : (k : List ℕ) (at e r : ℕ) (before : Conj) (l : Literal) (behind : Conj) → LiteralAt k at before l behind → drop e k ≡ conj_words behind
+    → (at < e → e ≤ length k → r ≡ e) → (length k ≤ e → r ≡ length k) → r ≡ at + length (literal_words l)
+passed_to k at e r before l behind p d f g =
+    let n = ap length p.words ∙ length-append (conj_words before) (literal_words l ++ conj_words behind) in
+    let m = length-append (literal_words l) (conj_words behind) in
+    let w = p.place in
+    reach (leb (length k) e) (length k) e r at (length (literal_words l)) (length (conj_words behind)) refl (omega arith) (literal-some l) (sym (length-drop e k) ∙ ap length d) f g
 
 -- ---- all literals
 
@@ -76,18 +109,6 @@ pass_all σ b done (l ∷ rest) s =
 alone-sought : (σ : Signature) (c : Conj) → Seeks σ c [] (best_alone σ c)
 unfolding best_alone
 alone-sought σ c = pass_all σ (best no_rule 0 false) [] c (start σ c 0 false)
-
--- its place is one of the words
-pub alone-within : (σ : Signature) (c : Conj) {b : Best} → b ≡ best_alone σ c → {k : List ℕ} → k ≡ conj_words c → b.rank < no_rule → b.at < length k
-alone-within σ c {b} e {k} w = go (subst (Seeks σ c []) (sym e) (alone-sought σ c))
-  where
-    go : Seeks σ c [] b → b.rank < no_rule → b.at < length k
-    go (unmet n all) h = absurd (omega arith)
-    go (least before l mid d p m ranked low high) h =
-        let x = ap length (w ∙ ap conj_words d ∙ words_append before (l ∷ mid)) ∙ length-append (conj_words before) (literal_words l ++ conj_words mid) in
-        let y = length-append (literal_words l) (conj_words mid) in
-        let z = literal-some l in
-        omega arith
 
 abbrev Finds : Signature → Conj → Best → Type 0
 Finds σ c b = Found σ c b.rank b.at b.swap

@@ -3,6 +3,6 @@ pub mod First
 pub mod Applied
 pub mod Clashed
 pub mod Pass
+pub mod Counted
 pub mod Finding
-pub mod Betters
 pub mod Determined

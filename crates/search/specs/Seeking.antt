@@ -1,5 +1,5 @@
 -- The first rule of the list that applies to any literal, and for it the earliest literal; an equation as it is written, then swapped.
-use Rattle.std.specs.Prelude.{ℕ, Bool, true, false, List, [], ◌∷◌, ◌++◌, ltb, length}
+use Rattle.std.specs.Prelude.{ℕ, Bool, true, false, [], ◌∷◌, ◌++◌, ltb, length}
 use Rattle.language.specs.declared.Signature.{Signature}
 use Rattle.language.specs.Kinds.{pick}
 use Rattle.language.specs.Trees.{Literal, eqn, mem, Conj}
@@ -10,8 +10,6 @@ use Rattle.folding.specs.Twice.{first_twice}
 use Rattle.clashes.specs.declared.Clashing.{Clashing}
 use Rattle.clashes.specs.declared.Clashing.TheVariants.{Nowhere, At, Stopped}
 use Rattle.clashes.specs.Pairs.{first_clash}
-use Rattle.notes.specs.declared.Note.{Note}
-use Rattle.notes.specs.Notes.{rank_noted}
 use Rattle.search.specs.declared.Best.{Best}
 
 abbrev pub best : ℕ → ℕ → Bool → Best
@@ -20,10 +18,6 @@ best rank at swap = record { rank = rank; at = at; swap = swap }
 -- the one of the lesser rank, the first where they are equal
 abbrev pub lesser_of : Best → Best → Best
 lesser_of a b = pick (ltb b.rank a.rank) b a
-
--- the best so far, or the literal of a note at a place, where it is less; whose own rank is not below the best so far is not asked for
-abbrev pub better_of : Best → Note → ℕ → List ℕ → Best
-better_of b n at table = pick (ltb n.rank b.rank) (lesser_of b (best (rank_noted n table) at n.swap)) b
 
 -- the rank of a literal between others, its place, and from which side
 unfoldable pub best_at : Signature → Conj → Literal → Conj → Best

@@ -9,7 +9,7 @@ use mathlib.Core.Option.{Option, none, some}
 use lib.Dec.{eqb}
 use lib.ListN.{length, get_or, drop, length-drop, replicate, length-replicate, get_or-replicate, get_or-eq_default}
 use lib.Seq.{slice, length-slice}
-use borrow.Author.Tests.{eq-eqb, ne_eqb, eqb-true}
+use borrow.Author.Tests.{eq-eqb, ne_eqb}
 use Rattle.language.specs.Kinds.{pick}
 use Rattle.language.specs.Limits.{desk}
 use Rattle.language.specs.Trees.{Hedge, ε, tvar, hvar, node, symbol, fvar, Expr, Literal, eqn, mem, Conj, Var, tv, fv, holds, in_conj}
@@ -28,15 +28,15 @@ use Rattle.views.specs.Variables.{variable_word, fine_var}
 use Rattle.views.specs.Standing.{LiteralAt}
 use Rattle.views.proofs.Words.{words_append}
 use Rattle.views.proofs.Seen.{literal-here, literal-next}
-use Rattle.counts.specs.Counts.{count_hedge, count_conj}
-use Rattle.counts.specs.Tables.{times, table, count_at, added, Tallied, Beside}
+use Rattle.counts.specs.Counts.{count_hedge}
+use Rattle.counts.specs.Tables.{times, table, count_at, added, Beside}
 use Rattle.counts.proofs.Times.{Some, times-short, times-literal, some-hedge, some_or, just-one}
 use Rattle.counts.proofs.Times as times-laws
 use Rattle.counts.proofs.Added.{at_added, length-added, counted}
 use Rattle.counts.proofs.Own.{low, nowhere-else}
 use Rattle.alone.specs.Lone.{word_of, lone_word, side_variable, lone_variable}
 use Rattle.alone.proofs.Sides.{side-look, side-fine, lone-look, lone-fine, word-lone, word_some}
-use Rattle.solved.specs.Members.{count_members, InMembers, CoversMembers, Tells, member_in}
+use Rattle.solved.specs.Members.{count_members, InMembers, member_in}
 
 -- ---- counted literal by literal
 
@@ -126,19 +126,6 @@ none-short {t} e x = go (dec_lt x table)
 pub members-here : {k : List ℕ} {at : ℕ} {before : Conj} {l : Literal} {behind : Conj} {t : List ℕ} → LiteralAt k at before l behind
     → ((c : Conj) → fine_conj desk c → k ≡ conj_words c → InMembers t c) → InMembers t (before ++ (l ∷ behind))
 members-here {before = before} {l} {behind} p f = f (before ++ (l ∷ behind)) (fine-append desk before (l ∷ behind) p.fine_before (p.fine, p.fine_behind)) (p.words ∙ sym (words_append before (l ∷ behind)))
-
--- what stands in memberships stands in the line
-members-fewer : (v : Var) (c : Conj) → count_members v c ≤ count_conj v c
-members-fewer v [] = omega arith
-members-fewer v (eqn l r ∷ c) = let h = members-fewer v c in omega arith
-members-fewer v (mem h R ∷ c) = let h = members-fewer v c in omega arith
-
-pub tallied-covers : {t : List ℕ} {c : Conj} → Tallied t c → CoversMembers t c
-tallied-covers {c = c} y = record { count = λ v f. let a = y.count v f in let b = members-fewer v c in omega arith }
-
--- what is so whatever the table has
-pub tells : {t : List ℕ} {c : Conj} {asked r : Bool} → r ≡ asked → Tells t c asked r
-tells e = record { exact = λ m. e; sure = λ m o. sym o ∙ e }
 
 -- ---- a lone variable is there once
 
@@ -231,16 +218,3 @@ module _ {k : List ℕ} {s : Shape} {before : Conj} {h : Hedge} {R : Expr} {behi
           ap (λ y. eqb (count_at t y) 1) e
           ∙ just-one (count_at t (variable_word v)) (some-members v (before ++ behind))
           (let a = m.count v f in let b = count-both v before (mem h R ∷ behind) in let d = count-both v before behind in omega arith)
-
-  pub only-once : {t : List ℕ} → (x ≡ 0 → ⊥) → CoversMembers t (before ++ (mem h R ∷ behind)) → eqb (count_at t x) 1 ≡ true → true ≡ only_member (before ++ behind) (lone_var h)
-  only-once {t} n m o = go (lone_var h) word-is (lone-fine h q.hedge.fine) (own-lone h)
-    where
-      go : (o : Option Var) → x ≡ word_of o → Where (fine_var desk) o → Where (λ w. count_hedge w h ≡ 1) o → true ≡ only_member (before ++ behind) o
-      go none e f g = absurd (n e)
-      go (some v) e f g =
-          let y = eqb-true (count_at t (variable_word v)) 1 (ap (λ y. eqb (count_at t y) 1) (sym e) ∙ o) in
-          let a = m.count v f in
-          let b = count-both v before (mem h R ∷ behind) in
-          let d = count-both v before behind in
-          let l = count_members v (before ++ (mem h R ∷ behind)) in
-          sym (eq-eqb l 1 (omega arith)) ∙ just-one l (some-members v (before ++ behind)) (omega arith)

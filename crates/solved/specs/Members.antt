@@ -1,5 +1,5 @@
 -- How often variables stand in memberships.
-use Rattle.std.specs.Prelude.{ℕ, ◌+◌, ◌≤◌, ◌≡◌, Bool, true, List, [], ◌∷◌, eqb, get_or}
+use Rattle.std.specs.Prelude.{ℕ, ◌+◌, ◌≡◌, List, [], ◌∷◌, eqb, get_or}
 use Rattle.std.proofs.Math.Seq.{slice}
 use Rattle.language.specs.Kinds.{pick}
 use Rattle.language.specs.Limits.{desk}
@@ -16,15 +16,6 @@ count_members v (mem h R ∷ k) = count_hedge v h + count_members v k
 -- the table t has these counts
 pub record InMembers (t : List ℕ) (c : Conj) : Type 0 where
   pub count : (v : Var) → fine_var desk v → count_at t (variable_word v) ≡ count_members v c
-
--- it has no less
-pub record CoversMembers (t : List ℕ) (c : Conj) : Type 0 where
-  pub count : (v : Var) → fine_var desk v → count_members v c ≤ count_at t (variable_word v)
-
--- r is what is asked, by a table with these counts; by one that has no less, a yes is right
-pub record Tells (t : List ℕ) (c : Conj) (asked r : Bool) : Type 0 where
-  pub exact : InMembers t c → r ≡ asked
-  pub sure : CoversMembers t c → r ≡ true → true ≡ asked
 
 -- the words of a literal counted in, where it is a membership
 abbrev pub member_in : List ℕ → ℕ → ℕ → List ℕ → List ℕ

@@ -1,5 +1,5 @@
 // Whether a line is solved, read off its words and off how often each variable occurs in it.
-ghost use Rattle.std.specs.Prelude.{ℕ, ◌+◌, ◌-◌, ◌≤◌, ◌<◌, ◌≡◌, true, List, ◌∷◌, ◌++◌, length, get_or, replicate};
+ghost use Rattle.std.specs.Prelude.{ℕ, ◌+◌, ◌-◌, ◌≤◌, ◌<◌, ◌≡◌, List, ◌∷◌, ◌++◌, length, get_or, replicate};
 ghost use Rattle.language.specs.Limits.{desk};
 ghost use Rattle.language.specs.Trees.{Hedge, Expr, Literal, mem, Conj};
 ghost use Rattle.language.specs.Writing.{conj_words};
@@ -9,7 +9,7 @@ ghost use Rattle.views.specs.Views.{Sees, Shows};
 ghost use Rattle.views.specs.Standing.{LiteralAt, Conjunction};
 ghost use Rattle.alone.specs.Lone.{lone_variable};
 ghost use Rattle.counts.specs.Tables.{table as places, afresh, Tallied, Beside};
-ghost use Rattle.solved.specs.Members.{member_in, InMembers, Tells};
+ghost use Rattle.solved.specs.Members.{member_in, InMembers};
 
 use alone::{Lone, lone_word, side_variable};
 use counts::{TABLE, count_in, once};
@@ -62,9 +62,9 @@ fn count_members(k: &[u16], members: &mut [u16; TABLE])
     }
 }
 
-// Whether a membership is of a lone variable that is counted once, which is then in no other membership.
+// Whether a membership is of a lone variable that is in no other membership.
 fn lone_member(members: &[u16; TABLE], s: Shape) -> bool
-    ensures { (k : List ℕ) (before : Conj) (h : Hedge) (R : Expr) (behind : Conj) → Shows k s before h R behind → Tells members.now (before ++ (mem h R ∷ behind)) (solved_literal (before ++ behind) (mem h R)) result }
+    ensures { (k : List ℕ) (before : Conj) (h : Hedge) (R : Expr) (behind : Conj) → Shows k s before h R behind → InMembers members.now (before ++ (mem h R ∷ behind)) → result ≡ solved_literal (before ++ behind) (mem h R) }
 {
     let h = s.h;
     let look = h.look;
@@ -78,7 +78,7 @@ fn lone_member(members: &[u16; TABLE], s: Shape) -> bool
 // Whether the literal at a place is solved.
 fn solved_literal(k: &[u16], table: &[u16; TABLE], members: &[u16; TABLE], at: usize) -> bool
     requires { at < length k.now }
-    ensures { (before : Conj) (l : Literal) (behind : Conj) → LiteralAt k.now at before l behind → Tallied table.now (before ++ (l ∷ behind)) → Tells members.now (before ++ (l ∷ behind)) (solved_literal (before ++ behind) l) result }
+    ensures { (before : Conj) (l : Literal) (behind : Conj) → LiteralAt k.now at before l behind → Tallied table.now (before ++ (l ∷ behind)) → InMembers members.now (before ++ (l ∷ behind)) → result ≡ solved_literal (before ++ behind) l }
 {
     if k[at] == 5000 {
         let v = see(k, at);
@@ -91,9 +91,10 @@ fn solved_literal(k: &[u16], table: &[u16; TABLE], members: &[u16; TABLE], at: u
     lone_member(members, s)
 }
 
-// Whether a line is solved, by how often each variable stands in its memberships.
-fn solved_by_members(k: &[u16], table: &[u16; TABLE]) -> bool
+// Whether a line is solved, the table having the counts of its variables.
+pub fn is_solved(k: &[u16], table: &[u16; TABLE]) -> bool
     requires k_len_bound { length k.now ≤ desk.question }
+    requires conjunction { Conjunction k.now }
     requires table_value { table.now ≡ afresh k.now }
     ensures { (c : Conj) → fine_conj desk c → k.now ≡ conj_words c → result ≡ solved c }
 {
@@ -109,33 +110,4 @@ fn solved_by_members(k: &[u16], table: &[u16; TABLE]) -> bool
         i = next;
     }
     true
-}
-
-// Whether each literal is solved by a variable that is counted once in the line; in its memberships it is then counted no more often.
-fn all_once(k: &[u16], table: &[u16; TABLE]) -> bool
-    requires { table.now ≡ afresh k.now }
-    ensures { result ≡ true → (c : Conj) → fine_conj desk c → k.now ≡ conj_words c → true ≡ solved c }
-{
-    let mut i = 0;
-    while i < k.len() {
-        let here = solved_literal(k, table, table, i);
-        if !here {
-            return false;
-        }
-        i = next_literal(k, i);
-    }
-    true
-}
-
-// Whether a line is solved, the table having the counts of its variables. Where these are all 1 it is, and no second table is made.
-pub fn is_solved(k: &[u16], table: &[u16; TABLE]) -> bool
-    requires k_len_bound { length k.now ≤ desk.question }
-    requires conjunction { Conjunction k.now }
-    requires table_value { table.now ≡ afresh k.now }
-    ensures { (c : Conj) → fine_conj desk c → k.now ≡ conj_words c → result ≡ solved c }
-{
-    if all_once(k, table) {
-        return true;
-    }
-    solved_by_members(k, table)
 }

@@ -2,26 +2,18 @@
 ghost use Rattle.std.specs.Prelude.{◌+◌, ◌≤◌, ◌≡◌, drop};
 ghost use Rattle.words.specs.Spans.{opens, span, element_end};
 
-use language::limits::{LAST_FUNCTION, LAST_SYMBOL};
+use language::{Kind, classify};
 use words::word;
 
-// How many hedges a word opens. It is asked of every word that is passed: so by its number, and not by its kind.
+// How many hedges a word opens.
 fn opened(x: u16) -> usize
     ensures { result ≡ opens x }
 {
-    if x == 0 {
-        return 0;
+    match classify(x) {
+        Kind::End => 0,
+        Kind::Symbol(_) | Kind::Function(_) => 2,
+        _ => 1,
     }
-    if x < 3000 {
-        return 1;
-    }
-    if x <= LAST_SYMBOL {
-        return 2;
-    }
-    if x < 4000 {
-        return 1;
-    }
-    if x <= LAST_FUNCTION { 2 } else { 1 }
 }
 
 // The place after the next hedges.

@@ -2,20 +2,16 @@
 use mathlib.Core.Path.{◌≡◌, refl, ap, ◌∙◌}
 use mathlib.Core.List.{List, [], ◌∷◌, ◌++◌, append_assoc}
 use mathlib.Core.Logic.{inl, inr}
-use Prim.Native.Nat.{ℕ, suc, ◌+◌, ◌<◌}
+use Prim.Native.Nat.{ℕ, suc, ◌+◌}
 use native.Mathlib.Omega.{arith}
-use lib.ListN.{length, drop, length-append, length-drop}
-use borrow.Author.Tests.{lt-leb}
-use Rattle.language.specs.Kinds.{pick}
+use lib.ListN.{length, drop, length-append}
 use Rattle.language.specs.Limits.{desk}
 use Rattle.language.specs.Trees.{Functor, symbol, fvar, Hedge, ε, tvar, hvar, node, Expr, eps, cat, alt, star, over, Literal, eqn, mem, Conj}
 use Rattle.language.specs.Writing.{functor_word, hedge_words, expr_words, literal_words, conj_words}
 use Rattle.language.specs.Fine.{fine_functor, fine_hedge, fine_expr, fine_literal}
-use Rattle.language.proofs.Sizes.{expr-some}
 use Rattle.words.specs.Places.{until_literal}
 use Rattle.words.proofs.Parts.{drop_of}
-use Rattle.words.proofs.Literals.{on, off, until_stop, until-on}
-use Rattle.views.specs.Places.{past_expression}
+use Rattle.words.proofs.Literals.{on, off}
 
 past-functor : (f : Functor) (ws : List ℕ) → fine_functor desk f → until_literal (functor_word f ∷ ws) ≡ suc (until_literal ws)
 past-functor (symbol g) ws f = on (3000 + g.0) ws (omega arith) (omega arith)
@@ -60,16 +56,3 @@ next-literal k at (mem h R) behind f e =
     let z = at-conj behind in
     let n = length-append (hedge_words h) (expr_words R) in
     omega arith
-
--- that is where its expression ends, and no word of that begins a literal
-pub past-expression : (k : List ℕ) (at : ℕ) (R : Expr) (behind : Conj) → fine_expr desk R → drop at k ≡ expr_words R ++ conj_words behind → past_expression k at ≡ at + length (expr_words R)
-unfolding past_expression
-past-expression k at R behind f e =
-    let n = expr-some R in
-    let b = ap until_literal e ∙ past-expr R f (conj_words behind) in
-    let z = at-conj behind in
-    let l = ap length e ∙ length-append (expr_words R) (conj_words behind) in
-    let d = length-drop at k in
-    let i : at < length k = omega arith in
-    let o = until-on k at i (λ m. let y = until_stop k at i (inl m) in omega arith) (λ m. let y = until_stop k at i (inr m) in omega arith) in
-    ap (λ b. pick b (length k) (at + 1 + until_literal (drop (at + 1) k))) (lt-leb (length k) at i) ∙ omega arith

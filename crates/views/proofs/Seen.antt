@@ -3,7 +3,7 @@ use mathlib.Core.Path.{◌≡◌, refl, ap, ◌∙◌}
 use mathlib.Core.List.{List, [], ◌∷◌, ◌++◌, append_assoc}
 use Prim.Native.Nat.{ℕ, ◌+◌}
 use native.Mathlib.Omega.{arith}
-use lib.ListN.{length, get_or, take, drop}
+use lib.ListN.{length, get_or, take, drop, length-append}
 use lib.Seq.{take-append_seam}
 use Rattle.language.specs.declared.Kind.{Kind}
 use Rattle.language.specs.Limits.{desk}
@@ -18,9 +18,9 @@ use Rattle.views.specs.declared.Side.{Side}
 use Rattle.views.specs.declared.Shape.{Shape}
 use Rattle.words.specs.Places.{until_literal}
 use Rattle.views.specs.Standing.{Stands, LiteralAt}
-use Rattle.views.specs.Places.{side_at, view_of, view_at, past_expression, shape_of, shape_at}
+use Rattle.views.specs.Places.{side_at, view_of, view_at, shape_of, shape_at}
 use Rattle.words.proofs.Parts.{drop_of, word-of}
-use Rattle.views.proofs.Literals.{next-literal, past-expression}
+use Rattle.views.proofs.Literals.{next-literal}
 
 module _ {k : List ℕ} {at : ℕ} {before : Conj} {l : Literal} {behind : Conj} (s : LiteralAt k at before l behind) where
   pub literal-before : take at k ≡ conj_words before
@@ -66,7 +66,7 @@ pub view-is : (k : List ℕ) (at : ℕ) {a b : Side} → a ≡ side_at k (at + 1
 unfolding view_of view_at
 view-is k at {a} {b} e d = ap (view_of k at a) d ∙ ap (λ (s : Side). view_of k at s (side_at k s.to)) e
 
-pub shape_is : (k : List ℕ) (at : ℕ) {x : Kind} {end : ℕ} {a : Side} → a ≡ side_at k (at + 1) → x ≡ kind_of desk (get_or k a.to 0) → end ≡ past_expression k a.to → record { at = at; h = a; expr = a.to; first = x; end = end; len = length k } ≡ shape_at k at
+pub shape_is : (k : List ℕ) (at : ℕ) {x : Kind} {end : ℕ} {a : Side} → a ≡ side_at k (at + 1) → x ≡ kind_of desk (get_or k a.to 0) → end ≡ at + 1 + until_literal (drop (at + 1) k) → record { at = at; h = a; expr = a.to; first = x; end = end; len = length k } ≡ shape_at k at
 unfolding shape_of shape_at
 shape_is k at {x} {end} {a} e d g = ap (λ n. shape n end) d ∙ ap (shape (kind_of desk (get_or k a.to 0))) g ∙ ap (shape_of k at) e
   where
@@ -87,7 +87,7 @@ module _ {k : List ℕ} {at : ℕ} {before : Conj} {h : Hedge} {R : Expr} {behin
     here = drop_of k at (at + 1) (6000 ∷ []) ((hedge_words h ++ expr_words R) ++ conj_words behind) (literal-here s) refl ∙ append_assoc (hedge_words h) (expr_words R) (conj_words behind);
   }
 
-  pub shows-of : {a : Side} {x : Kind} {end : ℕ} → SideAt k (at + 1) a → x ≡ kind_of desk (get_or k a.to 0) → end ≡ past_expression k a.to
+  pub shows-of : {a : Side} {x : Kind} {end : ℕ} → SideAt k (at + 1) a → x ≡ kind_of desk (get_or k a.to 0) → end ≡ at + 1 + until_literal (drop (at + 1) k)
       → Shows k (record { at = at; h = a; expr = a.to; first = x; end = end; len = length k }) before h R behind
   shows-of {a} {x} {end} y e d =
       let w = y.1 h (expr_words R ++ conj_words behind) hedge-stands in
@@ -98,7 +98,7 @@ module _ {k : List ℕ} {at : ℕ} {before : Conj} {h : Hedge} {R : Expr} {behin
         fine = s.fine.1;
         here = here;
         first = e ∙ ap (kind_of desk) (word-of k a.to _ here) ∙ first_of R s.fine.1 (conj_words behind);
-        end = d ∙ past-expression k a.to R behind s.fine.1 here;
+        end = let n = literal-next s in let m = length-append (hedge_words h) (expr_words R) in let t = w.to in let f = y.0 in omega arith;
         len = refl;
         fine_before = s.fine_before;
         fine_behind = s.fine_behind;

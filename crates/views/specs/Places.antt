@@ -1,11 +1,11 @@
 -- What is read off a conjunction's words whatever stands in them: how a hedge begins, and where its parts are.
-use Rattle.std.specs.Prelude.{ℕ, ◌+◌, Bool, List, eqb, leb, length, get_or, drop}
+use Rattle.std.specs.Prelude.{ℕ, ◌+◌, Bool, List, eqb, length, get_or, drop}
 use Rattle.language.specs.declared.Name.{Name}
 use Rattle.language.specs.declared.Name.TheVariants.{Symbol, Blank}
 use Rattle.language.specs.declared.Kind.{Kind}
 use Rattle.language.specs.declared.Kind.TheVariants as kind
 use Rattle.language.specs.Limits.{desk}
-use Rattle.language.specs.Kinds.{pick, kind_of}
+use Rattle.language.specs.Kinds.{kind_of}
 use Rattle.words.specs.Spans.{span, element_end}
 use Rattle.views.specs.declared.Look.{Look}
 use Rattle.views.specs.declared.Look.TheVariants.{Empty, Term, Run, Node}
@@ -45,13 +45,9 @@ view_of k at l r = record { at = at; l = l; r = r; end = r.to; len = length k }
 unfoldable pub view_at : List ℕ → ℕ → View
 view_at k at = view_of k at (side_at k (at + 1)) (side_at k (side_at k (at + 1)).to)
 
--- the next literal behind a place within the words, or their end
-unfoldable pub past_expression : List ℕ → ℕ → ℕ
-past_expression k i = pick (leb (length k) i) (length k) (i + 1 + until_literal (drop (i + 1) k))
-
 -- a side, and an expression up to the next literal
 unfoldable pub shape_of : List ℕ → ℕ → Side → Shape
-shape_of k at h = record { at = at; h = h; expr = h.to; first = kind_of desk (get_or k h.to 0); end = past_expression k h.to; len = length k }
+shape_of k at h = record { at = at; h = h; expr = h.to; first = kind_of desk (get_or k h.to 0); end = at + 1 + until_literal (drop (at + 1) k); len = length k }
 
 unfoldable pub shape_at : List ℕ → ℕ → Shape
 shape_at k at = shape_of k at (side_at k (at + 1))

@@ -4,7 +4,7 @@ ghost use Rattle.language.specs.Trees.{Hedge, Expr, eqn, mem, Conj};
 ghost use Rattle.views.specs.Looks.{look_of, head, body_words};
 ghost use Rattle.views.specs.Views.{Sided, Sees, Shows};
 ghost use Rattle.views.specs.Standing.{Stands, LiteralAt};
-ghost use Rattle.views.specs.Places.{node_at, look_at, side_at, view_at, past_expression, shape_at, turned};
+ghost use Rattle.views.specs.Places.{node_at, look_at, side_at, view_at, shape_at, turned};
 
 use language::{HedgeVar, Kind, Name, TermVar, classify};
 use spans::{element_end, hedge_end};
@@ -105,16 +105,6 @@ pub fn see(k: &[u16], at: usize) -> View
     }
 }
 
-// The place after the expression of a membership, which has no literal's mark in it.
-fn past_expression(k: &[u16], at: usize) -> usize
-    ensures { result ≡ past_expression k.now at }
-{
-    if k.len() <= at {
-        return k.len();
-    }
-    next_literal(k, at)
-}
-
 // The membership at a place.
 pub fn show_membership(k: &[u16], at: usize) -> Shape
     requires { at < length k.now }
@@ -123,7 +113,7 @@ pub fn show_membership(k: &[u16], at: usize) -> Shape
     let h = side_at(k, at + 1);
     let expr = h.to;
     let first = classify(word(k, expr));
-    let end = past_expression(k, expr);
+    let end = next_literal(k, at);
     Shape {
         at,
         h,

@@ -3,7 +3,7 @@ use Prim.Native.Nat.{◌-◌, ◌≤◌}
 use native.Mathlib.Omega.{arith}
 use borrow.Author.Rules.{rules}
 use Rattle.first_waiting.specs.Parts.{Alike}
-use Rattle.first_waiting.proofs.Kept.{alike-more}
+use Rattle.first_waiting.proofs.Kept.{alike-none, alike-more}
 use Rattle.first_waiting.proofs.same_before.Statement.{statement}
 use Rattle.first_waiting.proofs.same_before.Tie as tie
 
@@ -19,5 +19,5 @@ loop-again c = (omega arith, alike-more c.before.before.before.before.loop.invar
 pub same-before-spec : {M : Type 1} → statement M
 same-before-spec =
     tie.close (tie.spec
-    invariant-loop decreases-loop (λ c κs. search rules) (λ c. c.eights-before.ensures) (λ c. search rules) (λ c. search rules) (λ c. search rules) (λ c. search rules) (λ c. search rules)
+    invariant-loop decreases-loop (λ c. (omega arith, alike-none _ _ _)) (λ c. search rules) (λ c. search rules) (λ c. search rules) (λ c. search rules) (λ c. search rules)
     (λ c. c.before.before.before.before.loop.invariant) (λ c. search rules) (λ c. search rules) loop-again (λ c. c.before.loop.invariant))

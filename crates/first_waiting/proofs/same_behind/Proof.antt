@@ -3,7 +3,7 @@ use Prim.Native.Nat.{◌-◌, ◌≤◌}
 use native.Mathlib.Omega.{arith}
 use borrow.Author.Rules.{rules}
 use Rattle.first_waiting.specs.Parts.{AlikeBack}
-use Rattle.first_waiting.proofs.Kept.{back_more}
+use Rattle.first_waiting.proofs.Kept.{back_none, back_more}
 use Rattle.first_waiting.proofs.same_behind.Statement.{statement}
 use Rattle.first_waiting.proofs.same_behind.Tie as tie
 
@@ -19,5 +19,5 @@ loop-again c = (omega arith, back_more c.before.before.before.before.loop.invari
 pub same-behind-spec : {M : Type 1} → statement M
 same-behind-spec =
     tie.close (tie.spec
-    invariant-loop decreases-loop (λ c κs. search rules) (λ c. c.eights-behind.ensures) (λ c. search rules) (λ c. search rules) (λ c. search rules) (λ c. search rules) (λ c. search rules)
+    invariant-loop decreases-loop (λ c. (omega arith, back_none _ _ _ _)) (λ c. search rules) (λ c. search rules) (λ c. search rules) (λ c. search rules) (λ c. search rules)
     (λ c. search rules) (λ c. search rules) (λ c. search rules) (λ c. c.before.before.before.before.loop.invariant) (λ c. search rules) (λ c. search rules) loop-again (λ c. c.before.loop.invariant))

@@ -1,109 +1,75 @@
--- One pass from row to row: the table of the literals passed, their places, and the least number of one that stands again.
-use Prim.Native.Nat.{ℕ, ◌+◌, ◌-◌, ◌/◌, ◌≤◌, ◌<◌}
+-- One pass: the table of the literals passed, and the earliest of them that stands there again.
+use Prim.Native.Nat.{ℕ, ◌+◌, ◌-◌, ◌/◌, ◌≤◌}
 use native.Mathlib.Omega.{arith}
 use mathlib.Core.Path.{◌≡◌, refl, ap, ◌∙◌}
-use mathlib.Core.List.{List, [], ◌∷◌}
-use lib.ListN.{length, length-append, length-set, length-replicate}
+use mathlib.Core.List.{List}
+use lib.ListN.{length, length-replicate}
 use borrow.Author.Rules.{rules}
 use Rattle.language.specs.Limits.{desk}
 use Rattle.language.specs.Trees.{Conj}
-use Rattle.views.proofs.LiteralWalks.{Walked}
-use Rattle.notes.specs.Rows.{SomeNoted}
-use Rattle.notes.proofs.Rows.{noted_one, noted-among, noted-few}
-use Rattle.notes.proofs.Walks.{Numbered, rows_start, row_here, row_within, row_on, rows_end}
-use Rattle.folding.specs.Twice.{first_twice}
+use Rattle.language.specs.Writing.{conj_words}
+use Rattle.language.specs.Fine.{fine_conj}
+use Rattle.language.proofs.Sizes.{literal-three}
+use Rattle.views.proofs.Seen.{literal-next}
+use Rattle.views.proofs.LiteralWalks.{Walked, walk-starts, walk_here, walk-to, walk_ends}
 use Rattle.folding.specs.Chains.{Falls}
-use Rattle.folding.proofs.Tables.{Table, zeros, falls-empty, falls-on, table_on}
-use Rattle.folding.proofs.Taking.{Known, known-none, known_on, known-within, ends_found, ends-none, ends-few}
+use Rattle.folding.proofs.Twice.{twice_from, twice-is}
+use Rattle.folding.proofs.Tables.{Table, table_empty}
+use Rattle.folding.proofs.Noting.{falls-on, falls-empty, zeros, noted, literal-within}
 use Rattle.folding.proofs.first_twice.Statement.{statement}
 use Rattle.folding.proofs.first_twice.Tie as tie
 
-abbrev P : ℕ → ℕ → List ℕ → Conj → ℕ → Conj → Conj → Type 0
-P m best places c i done rest = Known m best places c i done
+abbrev Known : List ℕ → List ℕ → List ℕ → ℕ → Conj → Conj → Type 0
+Known k heads next best done rest = Table heads next done × (best ≡ twice_from (length k) 0 done)
 
 abbrev invariant-loop : tie.invariant-loop
-invariant-loop k rows m heads₀ next₀ places₀ best₀ i₀ at₀ heads next places best i at =
-    Falls heads next i × (length places ≡ desk.question / 3 + 1) × Table rows heads next i best
-    × ((x : SomeNoted k rows m) → Walked (Numbered i (P m best places x.noted.conj i)) x.noted.conj at) × (m ≤ desk.question / 3)
+invariant-loop k heads₀ next₀ best₀ i₀ heads next best i =
+    Falls heads next i × ((c : Conj) → fine_conj desk c → k ≡ conj_words c → Walked (Known k heads next best) c i)
 
 abbrev decreases-loop : tie.decreases-loop
-decreases-loop k rows m heads₀ next₀ places₀ best₀ i₀ at₀ heads next places best i at = m - i
-
-returns : tie.Need-returns invariant-loop decreases-loop
-returns c = let n = c.before.before.requires.1.noted in λ x f e. ends-few n c.if1.true ∙ ap first_twice (noted_one n x f e)
+decreases-loop k heads₀ next₀ best₀ i₀ heads next best i = length k - i
 
 loop-holds : tie.Need-loop-init invariant-loop decreases-loop
-loop-holds c =
-    let c₁ = c.before.before in (
-      falls-empty _ _ (length-replicate {A = ℕ} 256 0) (length-replicate {A = ℕ} (desk.question / 3 + 1) 0) (zeros 256) (zeros (desk.question / 3 + 1)),
-      length-replicate {A = ℕ} (desk.question / 3 + 1) 0,
-      (λ q h p. absurd (omega arith)),
-      (λ x. rows_start (P c₁.args.m c₁.args.m _ x.noted.conj 0) x.noted.conj (known-none c₁.args.m _ x.noted.conj)),
-      noted-few c₁.requires.1.noted c₁.requires.0,
-    )
+loop-holds c = (falls-empty _ _ _ (length-replicate {A = ℕ} 1024 0) (length-replicate {A = ℕ} (desk.question / 3) 0) (zeros 1024) (zeros (desk.question / 3)), λ x f e. walk-starts (Known c.before.args.k.now _ _ _) x (table_empty _ _ (zeros 1024), refl))
 
-narrow-requires : tie.Need-narrow-requires invariant-loop decreases-loop
-narrow-requires c κs =
-    let c₁ = c.before in let c₂ = c₁.before.before.before in
-    let x = c₂.requires.1 in
-    let z = row_within x.noted c₁.loop.i c₁.loop.at (P c₂.args.m c₁.loop.best c₁.loop.places x.noted.conj c₁.loop.i) (c₁.loop.invariant.3 x) c.loop-test.true in
-    omega arith
+-- a literal's words from a place to its end
+abbrev Within : List ℕ → ℕ → ℕ → Type 0
+Within k at end = (at + 3 ≤ end) × (end ≤ length k)
 
-take-in-requires : tie.Need-take-in-requires invariant-loop decreases-loop
-take-in-requires c κs =
-    let c₁ = c.before.before.before.before in let c₂ = c₁.before in let c₃ = c₂.before.before.before in
-    let x = c₃.requires.1 in
-    let z = row_within x.noted c₂.loop.i c₂.loop.at (P c₃.args.m c₂.loop.best c₂.loop.places x.noted.conj c₂.loop.i) (c₂.loop.invariant.3 x) c₁.loop-test.true in
-    (omega arith, omega arith, c₂.loop.invariant.0)
+note-requires : tie.Need-note-requires invariant-loop decreases-loop
+note-requires c κs =
+    let c₁ = c.before.before in let c₂ = c₁.before in let c₃ = c₂.before in let c₄ = c₃.before.before in
+    let x = c₄.requires.1 in
+    let e = c₁.next-literal.ensures in
+    let within = walk_here c₄.args.k.now x.conj x.fine x.words c₃.loop.i (Known c₄.args.k.now c₃.loop.heads c₃.loop.next c₃.loop.best) (Within c₄.args.k.now c₃.loop.i c₁.next-literal.result) (c₃.loop.invariant.1 x.conj x.fine x.words) c₂.loop-test.true
+    (λ done l rest p d. (let z = e ∙ literal-next p in let y = literal-three l in omega arith, literal-within p _ (e ∙ literal-next p))) in
+    (within.0, within.1, c₄.requires.0, c₃.loop.invariant.0)
 
-add_at : tie.Need-overflow-add-at invariant-loop decreases-loop
-add_at c =
-    let c₁ = c.before.before.before.before.before.before in let c₂ = c₁.before in let c₃ = c₂.before.before.before in
-    let x = c₃.requires.1 in
-    let y = c.len_of_lem.ensures in
-    let z = row_within x.noted c₂.loop.i c₂.loop.at (P c₃.args.m c₂.loop.best c₂.loop.places x.noted.conj c₂.loop.i) (c₂.loop.invariant.3 x) c₁.loop-test.true in
-    omega arith
+loop-less : tie.Need-loop-smaller invariant-loop decreases-loop
+loop-less c = let z = c.before.before.before.before.next-literal.ensures in omega arith
 
 loop-again : tie.Need-loop-preserved invariant-loop decreases-loop
 loop-again c =
-    let c₁ = c.before in let c₂ = c₁.before.before.before.before in let c₃ = c₂.before in let c₄ = c₃.before in
-    let c₅ = c₄.before.before.before in
-    let x = c₅.requires.1 in
-    let room = c₄.loop.invariant.1 in
-    let t = c₁.take_in.ensures in (
-      falls-on c₅.args.rows.now c₄.loop.heads c₄.loop.next c₄.loop.i c₄.loop.invariant.0 (omega arith) t,
-      length-set c₄.loop.places c₄.loop.i c₂.narrow.result ∙ c₄.loop.invariant.1,
-      table_on c₅.args.rows.now c₄.loop.heads c₄.loop.next c₄.loop.i c₄.loop.invariant.0 (omega arith) t c₃.loop-test.true
-          (row_here x.noted c₄.loop.i c₄.loop.at (P c₅.args.m c₄.loop.best c₄.loop.places x.noted.conj c₄.loop.i) (c₄.loop.invariant.3 x) (c₁.take_in.result < c₅.args.m → c₁.take_in.result ≤ c₄.loop.i) c₃.loop-test.true
-          λ done l rest s e note known less.
-          let z = known-within (known_on x.noted c₄.loop.places c₄.loop.heads c₄.loop.next c₄.loop.i c₄.loop.at c₄.loop.best c₂.narrow.result c₂.narrow.ensures (omega arith) s e note c₄.loop.invariant.0 c₄.loop.invariant.2 known t)
-          (let a = length-append done (l ∷ []) in let b = noted-among x.noted s in omega arith) less in
-          let y = length-append done (l ∷ []) in
-          omega arith)
-          c₄.loop.invariant.2,
-      λ x.
-          row_on x.noted c₄.loop.i c₄.loop.at (P c₅.args.m c₄.loop.best c₄.loop.places x.noted.conj c₄.loop.i) (c₄.loop.invariant.3 x)
-          (P c₅.args.m c₁.take_in.result _ x.noted.conj (c₄.loop.i + 1)) _ _ refl (ap (λ y. c₄.loop.at + y) c.len_of_lem.ensures) c₃.loop-test.true
-          (λ done l rest s e note known. known_on x.noted c₄.loop.places c₄.loop.heads c₄.loop.next c₄.loop.i c₄.loop.at c₄.loop.best c₂.narrow.result c₂.narrow.ensures (omega arith) s e note c₄.loop.invariant.0 c₄.loop.invariant.2 known t),
-      omega arith,
+    let c₁ = c.before in let c₂ = c₁.before.before.before in let c₃ = c₂.before in let c₄ = c₃.before in let c₅ = c₄.before.before in
+    let e = c₂.next-literal.ensures in (
+      falls-on c₁.note.ensures (walk_here c₅.args.k.now c₅.requires.1.conj c₅.requires.1.fine c₅.requires.1.words c₄.loop.i (Known c₅.args.k.now c₄.loop.heads c₄.loop.next c₄.loop.best) (c₄.loop.i + 3 ≤ c₂.next-literal.result) (c₄.loop.invariant.1 c₅.requires.1.conj c₅.requires.1.fine c₅.requires.1.words) c₃.loop-test.true (λ done l rest p d. let z = e ∙ literal-next p in let y = literal-three l in omega arith)) c₄.loop.invariant.0,
+      λ x f w.
+          walk-to c₅.args.k.now x f w c₄.loop.i (Known c₅.args.k.now c₄.loop.heads c₄.loop.next c₄.loop.best) (Known c₅.args.k.now _ _ c.least.result) _ (c₄.loop.invariant.1 x f w) c₃.loop-test.true
+          (λ done l rest p d.
+          let n = noted p _ (e ∙ literal-next p) d.0 c₄.loop.invariant.0 c₄.loop.best d.1 _ _ _ c₁.note.ensures in
+          (e ∙ literal-next p, (n.0, c.least.ensures ∙ n.1))),
     )
 
-returns-2 : tie.Need-returns-2 invariant-loop decreases-loop
-returns-2 c =
-    let c₁ = c.before in let c₂ = c₁.before in let c₃ = c₂.before in let c₄ = c₃.before.before.before in
-    let x = c₄.requires.1 in
-    let known = rows_end x.noted c₃.loop.i c₃.loop.at (P c₄.args.m c₃.loop.best c₃.loop.places x.noted.conj c₃.loop.i) (c₃.loop.invariant.3 x) c₂.loop-test.false in
-    λ d f e. c.wide.ensures ∙ ends_found x.noted known c₂.loop-test.false c₁.if2.true ∙ ap first_twice (noted_one x.noted d f e)
-
-returns-3 : tie.Need-returns-3 invariant-loop decreases-loop
-returns-3 c =
-    let c₁ = c.before in let c₂ = c₁.before in let c₃ = c₂.before.before.before in
-    let x = c₃.requires.1 in
-    let known = rows_end x.noted c₂.loop.i c₂.loop.at (P c₃.args.m c₂.loop.best c₂.loop.places x.noted.conj c₂.loop.i) (c₂.loop.invariant.3 x) c₁.loop-test.false in
-    λ d f e. ends-none x.noted known c.if2.false ∙ ap first_twice (noted_one x.noted d f e)
+returns : tie.Need-returns invariant-loop decreases-loop
+returns c =
+    let c₁ = c.before in let c₂ = c₁.before.before in
+    λ x f e.
+    let k = walk_ends c₂.args.k.now x f e c₁.loop.i (Known c₂.args.k.now c₁.loop.heads c₁.loop.next c₁.loop.best) (c₁.loop.invariant.1 x f e) c.loop-test.false in
+    let t = twice-is (length c₂.args.k.now) 0 x (ap length e ∙ (let z : length (conj_words x) ≡ 0 + length (conj_words x) = omega arith in z)) in
+    let y = k.1 in
+    omega arith
 
 pub first-twice-spec : {M : Type 1} → statement M
 first-twice-spec =
     tie.close (tie.spec
-    invariant-loop decreases-loop returns loop-holds narrow-requires (λ c. search rules) (λ c. search rules) take-in-requires (λ c κs. search rules) add_at
-    (λ c. search rules) (λ c. search rules) loop-again (λ c. search rules) (λ c. search rules) (λ c κs. search rules) returns-2 returns-3)
+    invariant-loop decreases-loop loop-holds (λ c κs. search rules) note-requires (λ c κs. search rules) loop-less loop-again returns)

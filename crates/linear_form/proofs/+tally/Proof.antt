@@ -6,7 +6,7 @@ use mathlib.Core.Path.{sym, ◌∙◌}
 use lib.ListN.{length}
 use borrow.Fn.Kinds.{In}
 use borrow.Fn.PlainCycle.{Measures, is, falls, and}
-use Rattle.linear_form.proofs.Charting.{chart-rest, chart-first, chart-second}
+use Rattle.linear_form.proofs.Charting.{chart-from}
 use Rattle.linear_form.proofs.Tallying.{tallies-end, tallies-eps, tallies-over, tallies-star, tallies-first, tallies-both}
 use Rattle.linear_form.proofs.tally.Reads as f
 use Rattle.linear_form.proofs.tally.Kinds as kinds
@@ -43,7 +43,7 @@ pub +tally-spec : {M : Type 1} → statement M
     -- need add-expression-end
     (λ c. search rules)
     -- need expression-end-requires
-    (λ c κs. chart-first c.before.before.if1.false (chart-rest _ c.before.before.before.before.before.requires.1.1) c.if2.false)
+    (λ c κs. chart-from (omega arith) c.before.before.before.before.before.requires.1.1)
     -- need result-len-requires
     (λ c κs.
     let c₁ = c.before.before.before.before in let c₂ = c₁.before.before.before in
@@ -57,15 +57,15 @@ pub +tally-spec : {M : Type 1} → statement M
     -- need hand-down-requires
     (λ c κs.
     let c₁ = c.before.before in let c₂ = c₁.before.before.before in let c₃ = c₂.before.before.before in
-    let p = c₃.requires.1 in let q = c₃.requires.0 in let x = p.0 in let y = p.3 in let z = p.4 in let h = c₂.if1.false in
-    (c₂.if1.false, c₁.expression-end.ensures, p.0, p.1, omega arith, omega arith))
+    let p = c₃.requires.1 in let q = c₃.requires.0 in let x = p.0 in let y = p.3 in let z = p.4 in let h = c₂.if1.false in let a = c₁.expression-end.ensures.after in
+    (c₂.if1.false, omega arith, c₁.expression-end.ensures.within (omega arith), p.0, p.1, omega arith, omega arith))
     -- need add-tally
     (λ c. search rules)
     -- need tally-requires
     (λ c κs.
     let c₁ = c.before in let c₂ = c₁.before.before.before.before.before.before in let c₃ = c₂.before.before.before in
     let p = c₃.requires.1 in let q = c₃.requires.0 in let x = p.0 in let y = p.3 in let z = p.4 in let h = c₂.if1.false in let u = c₁.hand-down.ensures.few in let v = c₁.hand-down.ensures.short in
-    (omega arith, (p.0, chart-first h (chart-rest _ p.1) c.before.before.before.before.before.if2.false, p.2, omega arith, omega arith)))
+    (omega arith, (p.0, p.1, p.2, omega arith, omega arith)))
     -- need returns-4
     (λ c. tallies-star c.before.before.before.before.before.before.expression-end.ensures c.before.before.before.hand-down.ensures c.before.tally.ensures c.if4.true)
     -- need closed-requires
@@ -79,7 +79,7 @@ pub +tally-spec : {M : Type 1} → statement M
     let c₁ = c.before.before.before.before.before.before.before.before in let c₂ = c₁.before.before.before in
     let c₃ = c₂.before.before.before in
     let p = c₃.requires.1 in let q = c₃.requires.0 in let y = p.3 in let z = p.4 in let h = c₂.if1.false in let a = c₁.expression-end.ensures.after in
-    (omega arith, (p.0, chart-second h (chart-rest _ p.1) c₁.before.if2.false (let l = c.before.before.before.before.before.before.before.if3.false in omega arith) c.before.before.if4.false c₁.expression-end.ensures, p.2, omega arith, omega arith)))
+    (omega arith, (p.0, p.1, p.2, omega arith, omega arith)))
     -- need join-requires
     (λ c κs. search rules)
     -- need returns-6

@@ -6,7 +6,7 @@ use mathlib.Core.Path.{sym, ◌∙◌}
 use lib.ListN.{length}
 use borrow.Fn.Kinds.{In}
 use borrow.Fn.PlainCycle.{Measures, is, falls, and}
-use Rattle.linear_form.proofs.Charting.{chart-rest, chart-first, chart-second}
+use Rattle.linear_form.proofs.Charting.{chart-from}
 use Rattle.linear_form.proofs.Walking.{walks-end, walks-eps, walks-over, walks-star, walks-first, walks-both}
 use Rattle.linear_form.proofs.walk.Reads as f
 use Rattle.linear_form.proofs.walk.Kinds as kinds
@@ -42,7 +42,7 @@ pub +walk-spec : {M : Type 1} → statement M
     -- need add-expression-end
     (λ c. search rules)
     -- need expression-end-requires
-    (λ c κs. chart-first c.before.before.if1.false (chart-rest _ c.before.before.before.before.before.before.before.requires.1.1) c.if2.false)
+    (λ c κs. chart-from (omega arith) c.before.before.before.before.before.before.before.requires.1.1)
     -- need add-row-requires
     (λ c κs.
     let c₁ = c.before.before.before.before.before.before in let c₂ = c₁.before.before.before.before.before in
@@ -56,8 +56,8 @@ pub +walk-spec : {M : Type 1} → statement M
     -- need hand-down-requires
     (λ c κs.
     let c₁ = c.before.before in let c₂ = c₁.before.before.before in let c₃ = c₂.before.before.before.before.before in
-    let p = c₃.requires.1 in let q = c₃.requires.0 in let x = p.0 in let y = p.2 in let z = p.3 in let h = c₂.if1.false in
-    (c₂.if1.false, c₁.expression-end.ensures, p.0, p.1, omega arith, omega arith))
+    let p = c₃.requires.1 in let q = c₃.requires.0 in let x = p.0 in let y = p.2 in let z = p.3 in let h = c₂.if1.false in let a = c₁.expression-end.ensures.after in
+    (c₂.if1.false, omega arith, c₁.expression-end.ensures.within (omega arith), p.0, p.1, omega arith, omega arith))
     -- need add-walk
     (λ c. search rules)
     -- need walk-requires
@@ -65,7 +65,7 @@ pub +walk-spec : {M : Type 1} → statement M
     let c₁ = c.before.before.before.before in let c₂ = c₁.before.before.before.before.before.before in
     let c₃ = c₂.before.before.before.before.before in
     let p = c₃.requires.1 in let q = c₃.requires.0 in let x = p.0 in let y = p.2 in let z = p.3 in let h = c₂.if1.false in let u = c₁.hand-down.ensures.few in let v = c₁.hand-down.ensures.short in
-    (omega arith, (p.0, chart-first h (chart-rest _ p.1) c₁.before.before.before.before.if2.false, omega arith, omega arith, p.4)))
+    (omega arith, (p.0, p.1, omega arith, omega arith, p.4)))
     -- need same-length-3
     (λ c. omega arith)
     -- need same-length-4
@@ -91,7 +91,7 @@ pub +walk-spec : {M : Type 1} → statement M
     let c₂ = c₁.before.before.before.before.before.before.before.before in let c₃ = c₂.before.before.before in
     let c₄ = c₃.before.before.before.before.before in
     let p = c₄.requires.1 in let q = c₄.requires.0 in let y = p.2 in let z = p.3 in let h = c₃.if1.false in let a = c₂.expression-end.ensures.after in
-    (omega arith, (p.0, chart-second h (chart-rest _ p.1) c₂.before.if2.false (let l = c₁.before.before.before.before.before.before.before.if3.false in omega arith) c.before.before.before.before.if4.false c₂.expression-end.ensures, omega arith, omega arith, c₁.walk.ensures.room)))
+    (omega arith, (p.0, p.1, omega arith, omega arith, c₁.walk.ensures.room)))
     -- need join-requires
     (λ c κs. search rules)
     -- need same-length-7

@@ -10,7 +10,7 @@ use Rattle.views.proofs.show_membership.Tie as tie
 returns : tie.Need-returns
 returns c =
     let c₁ = c.before in let c₂ = c₁.before in let c₃ = c₂.before in
-    ((λ before h R behind s. shows-of s c₃.side-at.ensures (c₁.classify.ensures ∙ ap (kind_of desk) c₂.word.ensures) c.past-expression.ensures), shape_is _ _ c₃.side-at.ensures.2 (c₁.classify.ensures ∙ ap (kind_of desk) c₂.word.ensures) c.past-expression.ensures)
+    ((λ before h R behind s. shows-of s c₃.side-at.ensures (c₁.classify.ensures ∙ ap (kind_of desk) c₂.word.ensures) c.next-literal.ensures), shape_is _ _ c₃.side-at.ensures.2 (c₁.classify.ensures ∙ ap (kind_of desk) c₂.word.ensures) c.next-literal.ensures)
 
 pub show-membership-spec : {M : Type 1} → statement M
 show-membership-spec =

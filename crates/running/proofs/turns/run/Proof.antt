@@ -5,7 +5,6 @@ use borrow.Author.Rules.{rules}
 use Rattle.language.specs.Limits.{desk}
 use Rattle.language.specs.Question.{read_question}
 use Rattle.rules.specs.Run.{numbered}
-use Rattle.answers.proofs.Cleared.{cleared-long}
 use Rattle.replay.specs.Trail.{trail}
 use Rattle.running.specs.Turning.{signature_of, conjunctions_of}
 use Rattle.running.proofs.Gone.{ends_as}
@@ -34,7 +33,7 @@ go-on-requires c κs =
       lines = [];
       waits = numbered 0 (conjunctions_of (read_question desk q));
       under =
-          under-way q p.0 a.course a.told.now a.out.now a.work.now a.answer.now _ _ _ _ _ (c₁.signature-of.ensures ∙ sym (asked-signature q p.0)) p.1 (cleared-long _ p.2) c₂.begin.auto.0 c₃.lay-out.ensures
+          under-way q p.0 a.course a.told.now a.out.now a.work.now a.answer.now _ _ _ _ _ (c₁.signature-of.ensures ∙ sym (asked-signature q p.0)) p.1 p.2 c₂.begin.auto.0 c₃.lay-out.ensures
           c₂.begin.ensures;
     }
 
@@ -48,7 +47,7 @@ returns c =
     let signed = c₂.signature-of.ensures ∙ sym (asked-signature q p.0) in
     ends_as (begin-left q p.0 a.course a.told.now a.out.now _ _ _ signed)
     (c₁.go_on.ensures a.out.now (trail desk (signature_of (read_question desk q)) (conjunctions_of (read_question desk q))) a.work.now a.answer.now [] (numbered 0 (conjunctions_of (read_question desk q)))
-    (under-way q p.0 a.course a.told.now a.out.now a.work.now a.answer.now _ _ _ _ _ signed p.1 (cleared-long _ p.2) c₃.begin.auto.0 c₄.lay-out.ensures c₃.begin.ensures))
+    (under-way q p.0 a.course a.told.now a.out.now a.work.now a.answer.now _ _ _ _ _ signed p.1 p.2 c₃.begin.auto.0 c₄.lay-out.ensures c₃.begin.ensures))
 
 pub run_spec : {M : Type 1} → statement M
 run_spec =

@@ -9,10 +9,9 @@ use Rattle.running.proofs.turns.turn.Tie as tie
 
 turn-with-requires : tie.Need-turn-with-requires
 turn-with-requires c κs =
-    let c₁ = c.before.before.before.before.before.before.before.before.before.before in
-    let x = c₁.requires.1.0 in
-    let t = c₁.requires.1.1 in
-    let p = c₁.requires.0 in
+    let x = c.before.before.before.before.before.before.before.before.before.before.requires.1.0 in
+    let t = c.before.before.before.before.before.before.before.before.before.before.requires.1.1 in
+    let p = c.before.before.before.before.before.before.before.before.before.before.requires.0 in
     let e = taken-size t (omega arith) in (
       (omega arith, omega arith, p.2, p.3, p.4, p.5),
       (
@@ -25,23 +24,17 @@ turn-with-requires c κs =
           first = x.first;
           rest = x.rest;
           under = x.under;
-          words = taken-words x.old_work x.old_answer x.lines x.first x.rest c₁.args.s c₁.args.work.now c₁.args.answer.now x.under.running t;
+          words = taken-words x.old_work x.old_answer x.lines x.first x.rest c.before.before.before.before.before.before.before.before.before.before.args.s c.before.before.before.before.before.before.before.before.before.before.args.work.now c.before.before.before.before.before.before.before.before.before.before.args.answer.now x.under.running t;
         },
-        (t.counts, t.noted),
+        t.counts,
       ),
     )
 
 returns : tie.Need-returns
-returns c =
-    let c₁ = c.before.before.before.before.before.before in let c₂ = c₁.before.before.before.before in
-    let c₃ = c₂.before.before.before.before.before.before.before in
-    λ old whole old_work old_answer ls x w u.
-    c₁.turn-with.ensures old whole old_work old_answer ls x w u
-    (taken-words old_work old_answer ls x w c₃.args.s c₃.args.work.now c₃.args.answer.now u.running c₃.requires.1.1)
-    (c₂.read_number.ensures ∙ first_of old_work old_answer ls x w c₃.args.s c₃.args.work.now c₃.args.answer.now u.running) (omega arith)
+returns c = λ old whole old_work old_answer ls x w u.
+    c.before.before.before.before.before.before.turn-with.ensures old whole old_work old_answer ls x w u
+    (taken-words old_work old_answer ls x w c.before.before.before.before.before.before.before.before.before.before.before.before.before.before.before.before.before.args.s c.before.before.before.before.before.before.before.before.before.before.before.before.before.before.before.before.before.args.work.now c.before.before.before.before.before.before.before.before.before.before.before.before.before.before.before.before.before.args.answer.now u.running c.before.before.before.before.before.before.before.before.before.before.before.before.before.before.before.before.before.requires.1.1)
+    (c.before.before.before.before.before.before.before.before.before.before.read_number.ensures ∙ first_of old_work old_answer ls x w c.before.before.before.before.before.before.before.before.before.before.before.before.before.before.before.before.before.args.s c.before.before.before.before.before.before.before.before.before.before.before.before.before.before.before.before.before.args.work.now c.before.before.before.before.before.before.before.before.before.before.before.before.before.before.before.before.before.args.answer.now u.running) (omega arith)
 
 pub turn_spec : {M : Type 1} → statement M
-turn_spec =
-    tie.close (tie.spec
-    (λ c κs. search rules) (λ c. search rules) (λ c. search rules) turn-with-requires (λ c. search rules) (λ c. search rules) (λ c. search rules)
-    returns)
+turn_spec = tie.close (tie.spec (λ c κs. search rules) (λ c. search rules) (λ c. search rules) turn-with-requires (λ c. search rules) (λ c. search rules) (λ c. search rules) returns)

@@ -14,7 +14,7 @@ find-requires c κs = let x = c.before.before.before.before.before.before.requir
 line-requires : tie.Need-line-requires
 line-requires c κs =
     let c₁ = c.before.before.before.before.before.before.before.before.before.before in
-    let x = c₁.requires.1.0 in let p = c₁.requires.0 in ((p.0, p.3, p.4, p.5), (record { conj = x.first.literals; fine = x.under.running.fine.0; words = x.words }, c₁.requires.1.1.0))
+    let x = c₁.requires.1.0 in let p = c₁.requires.0 in ((p.0, p.3, p.4, p.5), (record { conj = x.first.literals; fine = x.under.running.fine.0; words = x.words }, c₁.requires.1.1))
 
 returns : tie.Need-returns
 returns c =
@@ -35,7 +35,7 @@ returns-2 c =
 choose-requires : tie.Need-choose-requires
 choose-requires c κs =
     let c₁ = c.before.before.before.before.before.before.before.before.before.before.before in
-    let x = c₁.requires.1.0 in ((x.under.guided, c₁.requires.0.0), (record { conj = x.first.literals; fine = x.under.running.fine.0; words = x.words }, c₁.requires.1.1.0))
+    let x = c₁.requires.1.0 in ((x.under.guided, c₁.requires.0.0), (record { conj = x.first.literals; fine = x.under.running.fine.0; words = x.words }, c₁.requires.1.1))
 
 one-more-requires : tie.Need-one-more-requires
 one-more-requires c κs =

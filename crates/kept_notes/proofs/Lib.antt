@@ -1,9 +1,0 @@
-pub mod Moves
-pub mod Marks
-pub mod Between
-pub mod Lens
-pub mod Noting
-pub mod Renewing
-pub mod Renewed
-pub mod Next
-pub mod Determined
