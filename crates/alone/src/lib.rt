@@ -8,7 +8,7 @@ use views::{Look, View};
 use words::{elsewhere, stands};
 
 // The one variable that a hedge is, by its kind.
-#[derive(Drop)]
+#[derive(Clone, Copy)]
 pub enum Lone {
     Nothing,
     Term(TermVar),

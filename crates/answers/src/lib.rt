@@ -9,7 +9,7 @@ use language::limits::LINES_AT;
 use slices::{clear, copy, store};
 
 // How many lines there are, how many of them open, and the place after the last.
-#[derive(Drop)]
+#[derive(Clone, Copy)]
 pub struct Tally {
     pub lines: usize,
     pub open: usize,

@@ -11,7 +11,7 @@ use language::wide;
 use slices::store;
 
 // How many members it may be: at least so many, and at most so many, or without end.
-#[derive(Drop)]
+#[derive(Clone, Copy)]
 struct Range {
     pub least: usize,
     pub most: usize,
@@ -19,14 +19,14 @@ struct Range {
 }
 
 // The place after an expression, and how many of its members there may be.
-#[derive(Drop)]
+#[derive(Clone, Copy)]
 struct Span {
     pub end: usize,
     pub range: Range,
 }
 
 // Which kind comes next, how many terms of it are left, and from which place on they may be put.
-#[derive(Drop)]
+#[derive(Clone, Copy)]
 struct Next {
     pub kind: usize,
     pub times: usize,

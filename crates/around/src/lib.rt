@@ -14,7 +14,7 @@ use reader::read_question;
 use slices::clear;
 
 // What a run comes to: the steps made and the lines, or a refusal.
-#[derive(Drop)]
+#[derive(Clone, Copy)]
 pub enum Ran {
     Done(usize, Tally),
     Stopped(Refusal),

@@ -1,19 +1,23 @@
 -- Any two outcomes that a contract of this crate allows coincide.
 use mathlib.Core.Path.{sym, ap, ◌∙◌}
 use Rattle.language.proofs.Determined.{Determined}
-use Rattle.bools.proofs.and as and
-use Rattle.bools.proofs.or as or
-use Rattle.bools.proofs.neither as neither
-use Rattle.bools.proofs.truth as truth
+use Rattle.bools.specs.contracts.and as and-contract
+use Rattle.bools.proofs.and.Reads as and-reads
+use Rattle.bools.specs.contracts.or as or-contract
+use Rattle.bools.proofs.or.Reads as or-reads
+use Rattle.bools.specs.contracts.neither as neither-contract
+use Rattle.bools.proofs.neither.Reads as neither-reads
+use Rattle.bools.specs.contracts.truth as truth-contract
+use Rattle.bools.proofs.truth.Reads as truth-reads
 
-and-determined : Determined and.ended and.Reads.Pre and.Reads.Post
+and-determined : Determined and-contract.ended and-reads.Pre and-reads.Post
 and-determined κs a p o q e d = ap (λ z. (z, o.1)) (e ∙ sym d)
 
-or-determined : Determined or.ended or.Reads.Pre or.Reads.Post
+or-determined : Determined or-contract.ended or-reads.Pre or-reads.Post
 or-determined κs a p o q e d = ap (λ z. (z, o.1)) (e ∙ sym d)
 
-neither-determined : Determined neither.ended neither.Reads.Pre neither.Reads.Post
+neither-determined : Determined neither-contract.ended neither-reads.Pre neither-reads.Post
 neither-determined κs a p o q e d = ap (λ z. (z, o.1)) (e ∙ sym d)
 
-truth-determined : Determined truth.ended truth.Reads.Pre truth.Reads.Post
+truth-determined : Determined truth-contract.ended truth-reads.Pre truth-reads.Post
 truth-determined κs a p o q e d = ap (λ z. (z, o.1)) (e ∙ sym d)

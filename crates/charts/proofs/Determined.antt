@@ -10,18 +10,22 @@ use lib.Seq.{ext_get_or}
 use Rattle.language.proofs.Determined.{Determined}
 use Rattle.expressions.specs.declared.Part.{Part}
 use Rattle.charts.specs.Charted.{Charts}
-use Rattle.charts.proofs.chart as chart
-use Rattle.charts.proofs.part_at as part_at
-use Rattle.charts.proofs.later as later
-use Rattle.charts.proofs.level_of as level_of
+use Rattle.charts.specs.contracts.chart as chart-contract
+use Rattle.charts.proofs.chart.Reads as chart-reads
+use Rattle.charts.specs.contracts.part_at as part_at-contract
+use Rattle.charts.proofs.part_at.Reads as part_at-reads
+use Rattle.charts.specs.contracts.later as later-contract
+use Rattle.charts.proofs.later.Reads as later-reads
+use Rattle.charts.specs.contracts.level_of as level_of-contract
+use Rattle.charts.proofs.level_of.Reads as level_of-reads
 
-part-at-determined : Determined part_at.ended part_at.Reads.Pre part_at.Reads.Post
+part-at-determined : Determined part_at-contract.ended part_at-reads.Pre part_at-reads.Post
 part-at-determined κs a p o q e d = ap (λ z. (z, o.1)) (e.is ∙ sym d.is)
 
-later-determined : Determined later.ended later.Reads.Pre later.Reads.Post
+later-determined : Determined later-contract.ended later-reads.Pre later-reads.Post
 later-determined κs a p o q e d = ap (λ z. (z, o.1)) (e ∙ sym d)
 
-level_of-determined : Determined level_of.ended level_of.Reads.Pre level_of.Reads.Post
+level_of-determined : Determined level_of-contract.ended level_of-reads.Pre level_of-reads.Post
 level_of-determined κs a p o q e d = ap (λ z. (z, o.1)) (e.is ∙ sym d.is)
 
 -- two charts of the same words in the same tables
@@ -40,5 +44,5 @@ module _ {k ends a c : List ℕ} {nulls b d : List Bool} (x : Charts k ends null
       go i (yes l) = x.nulls-kept i l ∙ sym (y.nulls-kept i l)
       go i (no l) = ap (λ (p : Part). p.null) ((x.here.each i (omega arith) (omega arith)).is ∙ sym (y.here.each i (omega arith) (omega arith)).is)
 
-chart-determined : Determined chart.ended chart.Reads.Pre chart.Reads.Post
+chart-determined : Determined chart-contract.ended chart-reads.Pre chart-reads.Post
 chart-determined κs a p o q e d = ap (λ s. (tt, (tt, (s, (o.1.1.1.0, tt))))) (same_ends e d) ∙ ap (λ s. (tt, (tt, (q.1.1.0, (s, tt))))) (same-nulls e d)

@@ -24,7 +24,7 @@ use language::limits::{PAIRS, QUESTION};
 use state_classes::{STATES, class_all};
 
 // Of two tests of one variable: something lies in both, nothing does, or the walk is too long to tell.
-#[derive(Drop)]
+#[derive(Clone, Copy)]
 pub enum Verdict {
     Shares,
     Clashes,

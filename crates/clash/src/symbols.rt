@@ -10,7 +10,7 @@ use crate::states::follow;
 use language::limits::QUESTION;
 
 // How many symbols can be read next, and whether nothing need be read.
-#[derive(Drop)]
+#[derive(Clone, Copy)]
 pub struct Symbols {
     pub count: usize,
     pub null: bool,

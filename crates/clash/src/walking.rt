@@ -114,7 +114,7 @@ fn meet_all(
 }
 
 // Where the two expressions stand, from their first word to the place after their last.
-#[derive(Drop)]
+#[derive(Clone, Copy)]
 pub struct Places {
     pub at: usize,
     pub end: usize,
@@ -152,7 +152,7 @@ fn go_on(
 }
 
 // How many pairs are met then, and whether neither of the two states needs to read anything.
-#[derive(Drop)]
+#[derive(Clone, Copy)]
 pub struct Step {
     pub count: usize,
     pub null: bool,

@@ -43,7 +43,7 @@ fn mentions(k: &[u16], from: usize, to: usize, s: Signature) -> bool
 }
 
 // The variable that is tested, where it stands alone.
-#[derive(Drop)]
+#[derive(Clone, Copy)]
 enum Lone {
     Nothing,
     Term(TermVar),
@@ -151,7 +151,7 @@ pub fn test_behind(k: &[u16], at: usize, s: Signature) -> Verdict
 }
 
 // Where the clash applies: nowhere, at the literal of that place, or it cannot be told there.
-#[derive(Drop)]
+#[derive(Clone, Copy)]
 pub enum Clashing {
     Nowhere,
     At(usize),

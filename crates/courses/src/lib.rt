@@ -9,7 +9,7 @@ use noting::note_step;
 use search::Best;
 
 // The first step that applies; the same, noted in a trail; or what a trail tells.
-#[derive(Drop)]
+#[derive(Clone, Copy)]
 pub enum Course {
     First,
     Noted,

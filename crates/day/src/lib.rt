@@ -95,7 +95,7 @@ fn answer_end(number: u16, lines: usize, answer: &[u16]) -> usize
 }
 
 // A question's refusal number, or 0, and how many words of the answer slice follow it.
-#[derive(Drop)]
+#[derive(Clone, Copy)]
 pub struct Part {
     pub number: u16,
     pub len: usize,

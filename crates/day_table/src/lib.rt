@@ -30,7 +30,7 @@ fn widest(i: usize) -> usize {
 }
 
 // Which argument names the file, how wide the column of files is, and which question of how many it is.
-#[derive(Drop)]
+#[derive(Clone, Copy)]
 struct Place {
     file: usize,
     width: usize,

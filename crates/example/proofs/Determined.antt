@@ -5,13 +5,14 @@ use mathlib.Core.List.{List}
 use Rattle.language.proofs.Determined.{Determined}
 use Rattle.outcomes.specs.Numbers.{shown_numbers}
 use Rattle.outcomes.proofs.Apart.{shown-apart}
-use Rattle.example.proofs.example as example
+use Rattle.example.specs.contracts.example as example-contract
+use Rattle.example.proofs.example.Reads as example-reads
 
 abbrev Told : Type 0
 Told = (ℕ × ℕ × ℕ) × List ℕ × List ℕ × List ℕ
 
 -- what comes back, and what the two slices and the room then hold
-example-determined : Determined example.ended example.Reads.Pre example.Reads.Post
+example-determined : Determined example-contract.ended example-reads.Pre example-reads.Post
 example-determined κs a p o q e d =
     let f : ◌≡◌ {A = Told} (shown_numbers o.0, o.1.1.1.1.0, o.1.1.1.1.1.0, o.1.1.1.1.1.1.0) (shown_numbers q.0, q.1.1.1.1.0, q.1.1.1.1.1.0, q.1.1.1.1.1.1.0) = e ∙ sym d in
     ap (λ z. (z, o.1)) (shown-apart o.0 q.0 (ap (λ (t : Told). t.0) f)) ∙ ap (λ (t : Told). (q.0, (tt, (tt, (tt, (t.1, (t.2, (t.3, tt)))))))) f

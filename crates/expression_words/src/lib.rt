@@ -16,7 +16,7 @@ use text_names::own_word;
 
 // Where the first word stands, and what is owed before it: stars, an operand's word, an item's; whether a bracket that opens stands behind,
 // or one that closes; how many brackets are open, and before how many of them something is owed.
-#[derive(Drop)]
+#[derive(Clone, Copy)]
 struct Fill {
     at: usize,
     stars: usize,

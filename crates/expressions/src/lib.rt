@@ -4,7 +4,7 @@ ghost use Rattle.expressions.specs.Standing.{Parted};
 use bools::{and, or};
 
 // Of an expression in the words: the place after it, whether it is nullable, whether it is eps.
-#[derive(Drop)]
+#[derive(Clone, Copy)]
 pub struct Part {
     pub end: usize,
     pub null: bool,

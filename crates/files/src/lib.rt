@@ -96,7 +96,7 @@ fn fetch(i: usize, buf: &mut [u8]) -> usize {
 }
 
 // How many words were taken from some bytes. Where none could be, the number of a refusal, or 0 where the reason is said.
-#[derive(Drop)]
+#[derive(Clone, Copy)]
 struct Taken {
     fine: bool,
     number: u16,
@@ -240,7 +240,7 @@ fn list_names(buf: &mut [u8], n: usize) -> usize
 
 // What was read of a file: how many bytes, how many of them and behind them are a text and its names, 0 where it is no text, and how many words they came
 // to. Where they came to none, the number of the refusal, or 0 where the reason is said already.
-#[derive(Drop)]
+#[derive(Clone, Copy)]
 pub struct Loaded {
     pub fine: bool,
     pub number: u16,

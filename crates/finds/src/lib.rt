@@ -14,21 +14,21 @@ use spans::element_end;
 use words::{stands, word};
 
 // Whether a hedge is terms alone, and how many.
-#[derive(Drop)]
+#[derive(Clone, Copy)]
 pub struct Terms {
     pub all: bool,
     pub count: usize,
 }
 
 // Whether a term is found, and how many stand before it.
-#[derive(Drop)]
+#[derive(Clone, Copy)]
 pub struct Found {
     pub found: bool,
     pub count: usize,
 }
 
 // Whether a word is found, and where.
-#[derive(Drop)]
+#[derive(Clone, Copy)]
 pub struct Spot {
     pub found: bool,
     pub place: usize,

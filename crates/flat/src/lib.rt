@@ -1,7 +1,7 @@
 // Where a loop over a side or an expression stands.
 
 // Behind a bracket that opened; where an element has to begin; behind a functor; behind an element.
-#[derive(Drop)]
+#[derive(Clone, Copy)]
 pub enum State {
     Opened,
     Wanted,

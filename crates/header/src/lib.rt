@@ -41,7 +41,7 @@ pub fn laid_out(w: &[u16], head: u16, n: u16) -> bool
 }
 
 // The first five words of a question: how many of each are declared, how many of the symbols are unordered, and how many conjunctions follow.
-#[derive(Drop)]
+#[derive(Clone, Copy)]
 pub struct Header {
     pub symbols: u16,
     pub unordered: u16,

@@ -10,7 +10,7 @@ use slices::copy;
 use spans::element_end;
 
 // The places of eight elements at most.
-#[derive(Drop)]
+#[derive(Clone, Copy)]
 struct Places {
     at: [usize; 8],
 }

@@ -7,7 +7,7 @@ ghost use Rattle.lexing.specs.Bytes.{name_length, blanks, mark_of, sort_of, alon
 ghost use Rattle.lexing.specs.Pieces.{marked_of, piece_of, next_of};
 
 // What a token is: the end of a line, no token; a name, ?name, *name, %name; = , ( ) + *.
-#[derive(Drop)]
+#[derive(Clone, Copy)]
 pub enum Mark {
     End,
     Bad,
@@ -24,7 +24,7 @@ pub enum Mark {
 }
 
 // A token: what it is, where its name begins or it stands, and the place after it.
-#[derive(Drop)]
+#[derive(Clone, Copy)]
 pub struct Piece {
     pub mark: Mark,
     pub from: usize,

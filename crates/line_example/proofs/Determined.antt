@@ -3,10 +3,11 @@ use mathlib.Core.Path.{refl, sym, ap, ◌∙◌}
 use Rattle.language.specs.Trees.{Counts}
 use Rattle.language.proofs.Determined.{Determined}
 use Rattle.line_example.specs.Fillings.{Counted}
-use Rattle.line_example.proofs.fill_line as fill_line
+use Rattle.line_example.specs.contracts.fill_line as fill_line-contract
+use Rattle.line_example.proofs.fill_line.Reads as fill_line-reads
 
 -- the counts that were handed on, with any number of symbols, unordered or not
-fill_line-determined : Determined fill_line.ended fill_line.Reads.Pre fill_line.Reads.Post
+fill_line-determined : Determined fill_line-contract.ended fill_line-reads.Pre fill_line-reads.Post
 fill_line-determined κs a p o q e d =
     let l = p.4 in
     let n : Counts = record { symbols = 0; unordered = 0; terms = a.1.0; hedges = a.1.1.0; functions = a.1.1.1.0 } in

@@ -9,7 +9,7 @@ use samples::put;
 use values::{Variable, value_len, write_value};
 
 // A row of offsets that is written: the place after it, and the offset that is next.
-#[derive(Drop)]
+#[derive(Clone, Copy)]
 pub struct Row {
     pub to: usize,
     pub next: usize,
@@ -25,7 +25,7 @@ pub(crate) fn short(n: usize) -> u16
     0
 }
 
-#[derive(Drop)]
+#[derive(Clone, Copy)]
 pub enum Sort {
     Terms,
     Runs,

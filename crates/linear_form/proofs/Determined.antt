@@ -2,9 +2,10 @@
 use mathlib.Core.Path.{ap, ◌∙◌}
 use Rattle.language.proofs.Determined.{Determined}
 use Rattle.taking.proofs.One.{took_one}
-use Rattle.linear_form.proofs.step_monomials as step_monomials
+use Rattle.linear_form.specs.contracts.step_monomials as step_monomials-contract
+use Rattle.linear_form.proofs.step_monomials.Reads as step_monomials-reads
 
-step_monomials-determined : Determined step_monomials.ended step_monomials.Reads.Pre step_monomials.Reads.Post
+step_monomials-determined : Determined step_monomials-contract.ended step_monomials-reads.Pre step_monomials-reads.Post
 step_monomials-determined κs a p o q e d =
     let m = p.1 in
     let z = took_one _ _ _ _ _ _ _ _ (e m.before m.h m.R m.behind m.stands) (d m.before m.h m.R m.behind m.stands) in

@@ -14,7 +14,7 @@ use views::Shape;
 
 // What a result keeps of the conjunction: the words up to `at`, of the literal its hedge's first element and what follows it, the words
 // from `end` on, and the number of its alternative. It is smaller than the literal's shape, since each level of the recursion holds it.
-#[derive(Drop)]
+#[derive(Clone, Copy)]
 pub struct Kept {
     pub at: usize,
     pub from: usize,
@@ -26,7 +26,7 @@ pub struct Kept {
 }
 
 // A monomial f(R1), R2: the part of f(R1), how many parts R2 has, and how many words they have together.
-#[derive(Drop)]
+#[derive(Clone, Copy)]
 pub struct Spot {
     pub place: usize,
     pub past: usize,

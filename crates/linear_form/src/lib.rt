@@ -27,21 +27,21 @@ use views::{Shape, show_membership};
 use words::word;
 
 // What the rests of an expression's monomials get from outside of it: how many parts, and how many words they have together.
-#[derive(Drop)]
+#[derive(Clone, Copy)]
 pub struct Outside {
     pub parts: usize,
     pub words: usize,
 }
 
 // Of an expression whose results were counted: whether it is nullable, and how many words the results take up to those of its monomials.
-#[derive(Drop)]
+#[derive(Clone, Copy)]
 pub struct Counted {
     pub null: bool,
     pub size: Size,
 }
 
 // Of an expression whose results were written: whether it is nullable, and the place after those of its monomials.
-#[derive(Drop)]
+#[derive(Clone, Copy)]
 pub struct Walked {
     pub null: bool,
     pub to: usize,

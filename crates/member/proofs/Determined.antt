@@ -3,7 +3,8 @@ use mathlib.Core.Path.{◌≡◌, refl, sym, ap}
 use mathlib.Core.Logic.{◌↔◌}
 use mathlib.Core.Bool.{Bool, true, false}
 use Rattle.language.proofs.Determined.{Determined}
-use Rattle.member.proofs.member as member
+use Rattle.member.specs.contracts.member as member-contract
+use Rattle.member.proofs.member.Reads as member-reads
 
 -- two tests of one fact
 same_test : {P : Type 0} (a b : Bool) → (a ≡ true) ↔ P → (b ≡ true) ↔ P → a ≡ b
@@ -12,7 +13,7 @@ same_test false false f g = refl
 same_test true false f g = sym (g.1 (f.0 refl))
 same_test false true f g = f.1 (g.0 refl)
 
-member-determined : Determined member.ended member.Reads.Pre member.Reads.Post
+member-determined : Determined member-contract.ended member-reads.Pre member-reads.Post
 member-determined κs a p o q e d =
     let both = p.0 in
     let R = both.R in

@@ -21,14 +21,14 @@ use passing::{clear, skip};
 const KINDS: usize = 4 * LITERAL;
 
 // The place after an expression, and whether the empty hedge is in its language.
-#[derive(Drop)]
+#[derive(Clone, Copy)]
 struct Seen {
     pub end: usize,
     pub null: bool,
 }
 
 // The same, and whether what was read so far may end here.
-#[derive(Drop)]
+#[derive(Clone, Copy)]
 struct Step {
     pub end: usize,
     pub null: bool,
@@ -36,7 +36,7 @@ struct Step {
 }
 
 // The place after an expression, the place after what was written, and whether there was no room for all.
-#[derive(Drop)]
+#[derive(Clone, Copy)]
 struct Fitted {
     pub end: usize,
     pub top: usize,
@@ -44,14 +44,14 @@ struct Fitted {
 }
 
 // The kind that has one term more, and the place after the kinds.
-#[derive(Drop)]
+#[derive(Clone, Copy)]
 struct Joined {
     pub at: usize,
     pub top: usize,
 }
 
 // Whether one of an expression's symbols will do; where none does, the place after it.
-#[derive(Drop)]
+#[derive(Clone, Copy)]
 struct Tried {
     pub end: usize,
     pub yes: bool,

@@ -10,7 +10,7 @@ use print::{warn, warn_number};
 use words::word;
 
 // What a place of a conjunction stands in.
-#[derive(Drop)]
+#[derive(Clone, Copy)]
 enum Part {
     Literals,
     FirstSide,
@@ -20,7 +20,7 @@ enum Part {
 }
 
 // Where reading stands: how many hedges are open inside a side, or how many expressions are still to come.
-#[derive(Drop)]
+#[derive(Clone, Copy)]
 struct Reading {
     part: Part,
     depth: usize,

@@ -4,12 +4,13 @@ use mathlib.Core.List.{List}
 use Prim.Native.Nat.{ℕ}
 use Rattle.language.proofs.Determined.{Determined}
 use Rattle.named_steps.specs.declared.Stepping.{Stepping}
-use Rattle.named_steps.proofs.step_named as step_named
+use Rattle.named_steps.specs.contracts.step_named as step_named-contract
+use Rattle.named_steps.proofs.step_named.Reads as step_named-reads
 
 abbrev Left : Type 0
 Left = Stepping × List ℕ
 
-step_named-determined : Determined step_named.ended step_named.Reads.Pre step_named.Reads.Post
+step_named-determined : Determined step_named-contract.ended step_named-reads.Pre step_named-reads.Post
 step_named-determined κs a p o q e d =
     let f : ◌≡◌ {A = Left} (o.0, o.1.1.1.1.1.1.0) (q.0, q.1.1.1.1.1.1.0) = e ∙ sym d in
     ap (λ (t : Left). (t.0, (tt, (tt, (tt, (tt, (tt, (t.1, tt)))))))) f

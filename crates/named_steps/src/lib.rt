@@ -20,7 +20,7 @@ use taking::Stepped;
 use telling::{Chosen, named_step};
 
 // Where the results begin, or why there are none.
-#[derive(Drop)]
+#[derive(Clone, Copy)]
 pub enum Stepping {
     Made(usize),
     Refused(Refusal),

@@ -6,7 +6,7 @@ use language::Refusal;
 use refusals::number;
 
 // What comes of reading a question or a filling.
-#[derive(Drop)]
+#[derive(Clone, Copy)]
 pub enum Checked {
     Fine,
     Refused(Refusal),
@@ -23,7 +23,7 @@ pub fn verdict_number(verdict: Checked) -> u16
 }
 
 // "Solving returns the refusal or (none, all solved, some open)."
-#[derive(Drop)]
+#[derive(Clone, Copy)]
 pub enum Outcome {
     Refused(Refusal),
     NoLine,
@@ -32,7 +32,7 @@ pub enum Outcome {
 }
 
 // What comes back from solving.
-#[derive(Drop)]
+#[derive(Clone, Copy)]
 pub struct Solved {
     pub outcome: Outcome,
     pub lines: usize,
@@ -53,7 +53,7 @@ pub fn outcome_number(outcome: Outcome) -> u16
 }
 
 // What comes of trying a filling.
-#[derive(Drop)]
+#[derive(Clone, Copy)]
 pub enum Tried {
     Yes,
     No,
@@ -83,7 +83,7 @@ pub fn tried_value(tried: Tried) -> u16
 }
 
 // The length of the filling that the room holds, or why there is none.
-#[derive(Drop)]
+#[derive(Clone, Copy)]
 pub enum Shown {
     Shows(usize),
     Denied(Refusal),

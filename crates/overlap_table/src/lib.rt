@@ -18,7 +18,7 @@ const SHEET: usize = 32768;
 const REPORT: usize = 2 * FILLING;
 
 // How many pairs stand in the table, how many of these are refused, and how many cannot meet.
-#[derive(Drop)]
+#[derive(Clone, Copy)]
 struct Tally {
     rows: usize,
     failed: usize,
@@ -26,7 +26,7 @@ struct Tally {
 }
 
 // Two rules: their numbers, the places where they stand, and their actions.
-#[derive(Drop)]
+#[derive(Clone, Copy)]
 struct Rules {
     i: usize,
     first: usize,

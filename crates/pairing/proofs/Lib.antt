@@ -2,5 +2,5 @@ pub mod Reporting
 pub mod Settling
 pub mod Showing
 pub mod Telling
-pub mod Determined
 pub mod Promises
+pub mod Determined

@@ -9,10 +9,12 @@ use lib.ListN.{get_or}
 use lib.Seq.{ext_get_or}
 use Rattle.language.proofs.Determined.{Determined}
 use Rattle.passing.specs.Places.{Cleared}
-use Rattle.passing.proofs.skip as skip
-use Rattle.passing.proofs.clear as clear
+use Rattle.passing.specs.contracts.skip as skip-contract
+use Rattle.passing.proofs.skip.Reads as skip-reads
+use Rattle.passing.specs.contracts.clear as clear-contract
+use Rattle.passing.proofs.clear.Reads as clear-reads
 
-skip-determined : Determined skip.ended skip.Reads.Pre skip.Reads.Post
+skip-determined : Determined skip-contract.ended skip-reads.Pre skip-reads.Post
 skip-determined κs a p o q e d = ap (λ z. (z, o.1)) (e.each p.g p.here ∙ sym (d.each p.g p.here))
 
 one-clear : (k l m : List Bool) (from to : ℕ) → Cleared k l from to → Cleared k m from to → l ≡ m
@@ -23,5 +25,5 @@ one-clear k l m from to c d = ext_get_or false l m (c.beside.len ∙ sym d.besid
     at i (yes p) (yes q) = c.beside.high i q ∙ sym (d.beside.high i q)
     at i (yes p) (no n) = c.clear i p (omega arith) ∙ sym (d.clear i p (omega arith))
 
-clear-determined : Determined clear.ended clear.Reads.Pre clear.Reads.Post
+clear-determined : Determined clear-contract.ended clear-reads.Pre clear-reads.Post
 clear-determined κs a p o q e d = ap (λ s. (o.0, (s, o.1.1))) (one-clear a.0.now o.1.0 q.1.0 a.1.0 a.1.1.0 e d)

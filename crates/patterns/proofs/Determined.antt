@@ -4,7 +4,8 @@ use Prim.Native.Nat.{ℕ}
 use mathlib.Core.List.{List}
 use Rattle.language.proofs.Determined.{Determined}
 use Rattle.patterns.specs.declared.Asked.{Asked}
-use Rattle.patterns.proofs.ask as ask
+use Rattle.patterns.specs.contracts.ask as ask-contract
+use Rattle.patterns.proofs.ask.Reads as ask-reads
 
-ask-determined : Determined ask.ended ask.Reads.Pre ask.Reads.Post
+ask-determined : Determined ask-contract.ended ask-reads.Pre ask-reads.Post
 ask-determined κs a p o q e d = ap₂ (λ (r : Asked) (s : List ℕ). (r, (tt, (tt, (tt, (s, tt)))))) (e.0 ∙ sym d.0) (e.1 ∙ sym d.1)

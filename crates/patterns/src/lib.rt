@@ -20,7 +20,7 @@ use word_bytes::word_at;
 const TABLE: usize = 3 * PLACES;
 
 // How many blanks of each kind there are.
-#[derive(Drop)]
+#[derive(Clone, Copy)]
 pub struct Numbers {
     pub terms: usize,
     pub hedges: usize,
@@ -29,7 +29,7 @@ pub struct Numbers {
 
 // The question of a pair, in the first `len` words of a slice: the first pattern stands in it from word 8 on and has `first` words. `fair` says
 // whether each pattern is one term.
-#[derive(Drop)]
+#[derive(Clone, Copy)]
 pub struct Pair {
     pub len: usize,
     pub first: usize,
@@ -39,7 +39,7 @@ pub struct Pair {
 }
 
 // More blanks of one kind than a question has, more words than a question has, or the question.
-#[derive(Drop)]
+#[derive(Clone, Copy)]
 pub enum Asked {
     TooMany,
     TooLong,

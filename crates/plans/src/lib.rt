@@ -10,7 +10,7 @@ use language::limits::ROOM;
 // A piece of a result: one word; a part as it is; a part under the substitution; a part up to the cut as it is;
 // a part from the cut on under the substitution; for each word p of a part the equation p = ε; so many elements from a place on in the order of the
 // result's number; a part with the symbol of that number for the word at `old`.
-#[derive(Drop)]
+#[derive(Clone, Copy)]
 pub enum Piece {
     Word(u16),
     Copy(usize, usize),
@@ -22,13 +22,13 @@ pub enum Piece {
     Named(usize, usize),
 }
 
-#[derive(Drop)]
+#[derive(Clone, Copy)]
 pub struct Slot {
     pub piece: Piece,
 }
 
 // The pieces of a result in order. The substitution replaces each word of the part old..until by the part from `new` to the cut.
-#[derive(Drop)]
+#[derive(Clone, Copy)]
 pub struct Recipe {
     pub slots: [Slot; 12],
     pub old: usize,
@@ -38,7 +38,7 @@ pub struct Recipe {
 
 // The results: none; one, at a cut; two; one for each of so many cuts, element by element; one for each order of so many elements; one for each of so
 // many symbols. Of the last two kinds each has its number.
-#[derive(Drop)]
+#[derive(Clone, Copy)]
 pub enum Ways {
     Drop,
     One(usize),
@@ -48,7 +48,7 @@ pub enum Ways {
     Names(u16),
 }
 
-#[derive(Drop)]
+#[derive(Clone, Copy)]
 pub struct Plan {
     pub ways: Ways,
     pub first: Recipe,
@@ -56,14 +56,14 @@ pub struct Plan {
 }
 
 // How many words the results take, each in its frame (counted until they pass a lent slice), or that one of them is too long.
-#[derive(Drop)]
+#[derive(Clone, Copy)]
 pub enum Size {
     Fits(usize),
     Over,
 }
 
 // A part of the words.
-#[derive(Drop)]
+#[derive(Clone, Copy)]
 pub struct Within {
     pub from: usize,
     pub to: usize,

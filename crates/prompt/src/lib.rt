@@ -5,7 +5,7 @@ ghost use Rattle.prompt.specs.declared.Mode.TheVariants.{Number};
 ghost use Rattle.prompt.specs.Parsed.{Put, Parsed};
 
 // Where reading stands: between words, in a word that is this number so far, in a remark, or past something else.
-#[derive(Drop)]
+#[derive(Clone, Copy)]
 enum Mode {
     Between,
     Number(u16),
@@ -14,7 +14,7 @@ enum Mode {
 }
 
 // Where a byte stands, its line and column counted from 1; and the column where the last word began.
-#[derive(Drop)]
+#[derive(Clone, Copy)]
 struct Place {
     line: usize,
     column: usize,
@@ -22,7 +22,7 @@ struct Place {
 }
 
 // How many words were read; and the line and column, from 1, where something begins that is no word, or 0 and 0.
-#[derive(Drop)]
+#[derive(Clone, Copy)]
 pub struct Text {
     pub words: usize,
     pub line: usize,

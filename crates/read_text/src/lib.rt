@@ -16,7 +16,7 @@ use text_words::write_lines;
 const LINES: usize = ALTERNATIVES as usize;
 
 // How many words were given, or why none.
-#[derive(Drop)]
+#[derive(Clone, Copy)]
 pub enum Reading {
     Given(usize),
     Refused(Refusal),

@@ -1,11 +1,13 @@
 -- Any two outcomes that a contract of this crate allows coincide.
 use mathlib.Core.Path.{sym, ap, ◌∙◌}
 use Rattle.language.proofs.Determined.{Determined}
-use Rattle.recipes.proofs.full as full
-use Rattle.recipes.proofs.few as few
+use Rattle.recipes.specs.contracts.full as full-contract
+use Rattle.recipes.proofs.full.Reads as full-reads
+use Rattle.recipes.specs.contracts.few as few-contract
+use Rattle.recipes.proofs.few.Reads as few-reads
 
-full-determined : Determined full.ended full.Reads.Pre full.Reads.Post
+full-determined : Determined full-contract.ended full-reads.Pre full-reads.Post
 full-determined κs a p o q e d = ap (λ z. (z, o.1)) (e ∙ sym d)
 
-few-determined : Determined few.ended few.Reads.Pre few.Reads.Post
+few-determined : Determined few-contract.ended few-reads.Pre few-reads.Post
 few-determined κs a p o q e d = ap (λ z. (z, o.1)) (e ∙ sym d)

@@ -47,7 +47,7 @@ fn begins_wrong(question: &[u16], told: &[u8], steps: usize) -> bool {
 }
 
 // So many first steps of a trail apply, and of so many one does not.
-#[derive(Drop)]
+#[derive(Clone, Copy)]
 struct Between {
     right: usize,
     wrong: usize,

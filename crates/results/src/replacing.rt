@@ -14,14 +14,14 @@ use slices::{copy, part_len, within};
 use words::stands;
 
 // Which hedge variables a part has, where it has no other words.
-#[derive(Drop)]
+#[derive(Clone, Copy)]
 pub struct Marks {
     pub only: bool,
     pub set: [bool; PLACES],
 }
 
 // A recipe's substitution by itself, so that its pieces are not handed on with it: each word of the part old..until is replaced by the part from `new` to the cut.
-#[derive(Drop)]
+#[derive(Clone, Copy)]
 pub struct Swap {
     pub old: usize,
     pub until: usize,

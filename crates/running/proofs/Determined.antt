@@ -5,12 +5,13 @@ use Prim.Native.Nat.{ℕ}
 use Rattle.language.proofs.Determined.{Determined}
 use Rattle.outcomes.specs.Numbers.{SolveNumbers, solved_numbers}
 use Rattle.outcomes.proofs.Apart.{solved-apart}
-use Rattle.running.proofs.run_course as run_course
+use Rattle.running.specs.contracts.run_course as run_course-contract
+use Rattle.running.proofs.run_course.Reads as run_course-reads
 
 abbrev Left : Type 0
 Left = SolveNumbers × List ℕ × List ℕ
 
-run_course-determined : Determined run_course.ended run_course.Reads.Pre run_course.Reads.Post
+run_course-determined : Determined run_course-contract.ended run_course-reads.Pre run_course-reads.Post
 run_course-determined κs a p o q e d =
     let f : ◌≡◌ {A = Left} (solved_numbers o.0, o.1.1.0, o.1.1.1.0) (solved_numbers q.0, q.1.1.0, q.1.1.1.0) = e.0 ∙ sym d.0 in
     ap (λ z. (z, o.1)) (solved-apart o.0 q.0 (ap (λ (t : Left). t.0) f))

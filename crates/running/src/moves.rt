@@ -15,7 +15,7 @@ use language::{Refusal, Signature};
 use solved::is_solved;
 
 // Where the waiting conjunctions begin, the steps made, and the lines; and the question's signature, which stays.
-#[derive(Drop)]
+#[derive(Clone, Copy)]
 pub struct State {
     pub at: usize,
     pub steps: usize,
@@ -24,7 +24,7 @@ pub struct State {
 }
 
 // What a turn comes to: the run goes on, or stops with a refusal.
-#[derive(Drop)]
+#[derive(Clone, Copy)]
 pub enum Turned {
     On(State),
     Stop(Refusal),

@@ -4,14 +4,14 @@ ghost use Rattle.samples.specs.Laid.{Laid};
 ghost use Rattle.samples.specs.Samples.{Measured, Written};
 
 // Of an expression in the words: the place after it, and how many words its sample has before its 0.
-#[derive(Drop)]
+#[derive(Clone, Copy)]
 pub struct Sample {
     pub end: usize,
     pub words: usize,
 }
 
 // The place after an expression in the words, and the place after what was written.
-#[derive(Drop)]
+#[derive(Clone, Copy)]
 pub struct Wrote {
     pub end: usize,
     pub to: usize,

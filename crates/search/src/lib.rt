@@ -19,7 +19,7 @@ use rules::places::{AT_CLASH, AT_FOLD, NO_RULE, STOPS};
 use views::{see, show_membership, swapped};
 
 // The literal of the least rank so far: its rank, its place, and whether its equation is seen from the other side.
-#[derive(Drop)]
+#[derive(Clone, Copy)]
 pub struct Best {
     pub rank: usize,
     pub at: usize,
@@ -27,7 +27,7 @@ pub struct Best {
 }
 
 // A literal that was passed: what it is, and the place after it.
-#[derive(Drop)]
+#[derive(Clone, Copy)]
 struct Passed {
     best: Best,
     end: usize,

@@ -8,7 +8,7 @@ use spans::element_end;
 use words::{same_part, word};
 
 // Whether an element is shared; it stands from `left` to `after`, and again from `right` to `behind`.
-#[derive(Drop)]
+#[derive(Clone, Copy)]
 pub struct Spots {
     pub found: bool,
     pub left: usize,

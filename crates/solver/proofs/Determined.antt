@@ -5,12 +5,13 @@ use Prim.Native.Nat.{ℕ}
 use Rattle.language.proofs.Determined.{Determined}
 use Rattle.outcomes.specs.Numbers.{SolveNumbers, solved_numbers}
 use Rattle.outcomes.proofs.Apart.{solved-apart}
-use Rattle.solver.proofs.solve as solve
+use Rattle.solver.specs.contracts.solve as solve-contract
+use Rattle.solver.proofs.solve.Reads as solve-reads
 
 abbrev Told : Type 0
 Told = SolveNumbers × List ℕ × List ℕ
 
-solve-determined : Determined solve.ended solve.Reads.Pre solve.Reads.Post
+solve-determined : Determined solve-contract.ended solve-reads.Pre solve-reads.Post
 solve-determined κs a p o q e d =
     let f : ◌≡◌ {A = Told} (solved_numbers o.0, o.1.1.0, o.1.1.1.0) (solved_numbers q.0, q.1.1.0, q.1.1.1.0) = e ∙ sym d in
     ap (λ z. (z, o.1)) (solved-apart o.0 q.0 (ap (λ (t : Told). t.0) f)) ∙ ap (λ (t : Told). (q.0, (tt, (t.1, (t.2, tt))))) f

@@ -12,7 +12,8 @@ use Rattle.language.proofs.Determined.{Determined}
 use Rattle.state_classes.specs.States.{Means}
 use Rattle.state_classes.specs.Classes.{FirstState, Tabled, KeptTo, Changed, Expressed}
 use Rattle.state_classes.proofs.Classing.{state-to}
-use Rattle.state_classes.proofs.class_all as class_all
+use Rattle.state_classes.specs.contracts.class_all as class_all-contract
+use Rattle.state_classes.proofs.class_all.Reads as class_all-reads
 
 -- the first of the states that mean the same is one
 first_one : {at : ℕ} {R X : Expr} {c d : ℕ} → FirstState at R c X → FirstState at R d X → c ≡ d
@@ -44,5 +45,5 @@ same-table {k} {old} {a} {b} {at} {end} x s t l m c d = ext_get_or 0 a b (l.long
           | inr (X, n) ↦ stated i X n
         ]
 
-class_all-determined : Determined class_all.ended class_all.Reads.Pre class_all.Reads.Post
+class_all-determined : Determined class_all-contract.ended class_all-reads.Pre class_all-reads.Post
 class_all-determined κs a p o q e d = ap (λ s. (tt, (tt, (tt, (tt, (tt, (tt, (s, tt)))))))) (same-table p.4 e.0 d.0 e.1 d.1 e.2 d.2)

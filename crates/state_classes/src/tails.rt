@@ -10,7 +10,7 @@ use charts::{level_of, part_at};
 use words::{same_part, word};
 
 // Of what is left after a symbol in an expression: nothing, or the place of its last part, and that of the expression in which what is before it is left.
-#[derive(Drop)]
+#[derive(Clone, Copy)]
 pub struct Cut {
     pub done: bool,
     pub part: usize,
@@ -83,7 +83,7 @@ fn same_at(k: &[u16], ends: &[usize], nulls: &[bool], a: usize, b: usize) -> boo
 }
 
 // An expression in the words, or what is left of it after a symbol.
-#[derive(Drop)]
+#[derive(Clone, Copy)]
 pub struct Tail {
     pub at: usize,
     pub symbol: usize,
@@ -91,7 +91,7 @@ pub struct Tail {
 }
 
 // A tail laid open: nothing; one expression in the words; or a concatenation, by its second part, and where the rest of it is left.
-#[derive(Drop)]
+#[derive(Clone, Copy)]
 pub struct Laid {
     pub none: bool,
     pub one: bool,
@@ -132,7 +132,7 @@ pub(crate) fn lay_open(k: &[u16], ends: &[usize], nulls: &[bool], t: Tail) -> La
 }
 
 // A tail as a concatenation, where it is one: the rest of it, and the place of its second part.
-#[derive(Drop)]
+#[derive(Clone, Copy)]
 pub struct Split {
     pub can: bool,
     pub rest: Tail,

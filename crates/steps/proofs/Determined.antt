@@ -2,9 +2,10 @@
 use mathlib.Core.Path.{ap, ◌∙◌}
 use Rattle.language.proofs.Determined.{Determined}
 use Rattle.taking.proofs.One.{took_one}
-use Rattle.steps.proofs.take_step as take_step
+use Rattle.steps.specs.contracts.take_step as take_step-contract
+use Rattle.steps.proofs.take_step.Reads as take_step-reads
 
-take-step-determined : Determined take_step.ended take_step.Reads.Pre take_step.Reads.Post
+take-step-determined : Determined take_step-contract.ended take_step-reads.Pre take_step-reads.Post
 take-step-determined κs a p o q e d =
     let m = p.1 in
     let z =

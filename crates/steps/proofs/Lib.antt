@@ -1,4 +1,4 @@
 pub mod Taken
 pub mod Asked
-pub mod Determined
 pub mod Made
+pub mod Determined

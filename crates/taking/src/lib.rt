@@ -2,7 +2,7 @@
 // not in `plans`: it has no call, and there it would be checked again with every wrong answer that is tried of a plan.
 
 // A result is too long; the results have no room before those that wait; or they are written, from a place on.
-#[derive(Drop)]
+#[derive(Clone, Copy)]
 pub enum Stepped {
     Long,
     Room,

@@ -18,7 +18,7 @@ use rules::places::AT_CLASH;
 use search::Best;
 
 // The step that is made, or why none is.
-#[derive(Drop)]
+#[derive(Clone, Copy)]
 pub enum Chosen {
     Step(Best),
     Not(Refusal),

@@ -6,7 +6,7 @@ ghost use Rattle.text_survey.specs.Surveys.{step_of, LineSeen, Surveyed};
 use lexing::{Mark, next};
 
 // A line: whether it is made of tokens, whether it has one, and where it ends.
-#[derive(Drop)]
+#[derive(Clone, Copy)]
 pub struct Seen {
     pub ok: bool,
     pub some: bool,
@@ -14,7 +14,7 @@ pub struct Seen {
 }
 
 // A text: whether it is made of tokens, and how many lines have one.
-#[derive(Drop)]
+#[derive(Clone, Copy)]
 pub struct Look {
     pub ok: bool,
     pub many: usize,

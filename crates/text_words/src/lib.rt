@@ -13,14 +13,14 @@ use room_words::put_head;
 use text_survey::line;
 
 // Whether all lines could be read, and the place behind their words; 0 where not.
-#[derive(Drop)]
+#[derive(Clone, Copy)]
 pub struct Written {
     pub ok: bool,
     pub n: usize,
 }
 
 // Whether a line could be read, the place of the next offset, and the number of words so far.
-#[derive(Drop)]
+#[derive(Clone, Copy)]
 struct Took {
     ok: bool,
     i: usize,

@@ -5,12 +5,13 @@ use Prim.Native.Nat.{ℕ}
 use Rattle.language.proofs.Determined.{Determined}
 use Rattle.outcomes.specs.Numbers.{SolveNumbers, solved_numbers}
 use Rattle.outcomes.proofs.Apart.{solved-apart}
-use Rattle.trails.proofs.solve_trail as solve_trail
+use Rattle.trails.specs.contracts.solve_trail as solve_trail-contract
+use Rattle.trails.proofs.solve_trail.Reads as solve_trail-reads
 
 abbrev Left : Type 0
 Left = SolveNumbers × List ℕ × List ℕ
 
-solve_trail-determined : Determined solve_trail.ended solve_trail.Reads.Pre solve_trail.Reads.Post
+solve_trail-determined : Determined solve_trail-contract.ended solve_trail-reads.Pre solve_trail-reads.Post
 solve_trail-determined κs a p o q e d =
     let f : ◌≡◌ {A = Left} (solved_numbers o.0, o.1.1.0, o.1.1.1.0) (solved_numbers q.0, q.1.1.0, q.1.1.1.0) = e.0 ∙ sym d.0 in
     ap (λ z. (z, o.1)) (solved-apart o.0 q.0 (ap (λ (t : Left). t.0) f)) ∙ ap (λ (t : Left). (q.0, (tt, (t.1, (t.2, (o.1.1.1.1.0, tt)))))) f

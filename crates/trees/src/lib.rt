@@ -7,7 +7,7 @@ ghost use Rattle.trees.specs.Places.{placed};
 use language::{Kind, classify};
 
 // The place after what was read, or the place of the first word that cannot go on.
-#[derive(Drop)]
+#[derive(Clone, Copy)]
 pub enum Read {
     Next(usize),
     Stop(usize),

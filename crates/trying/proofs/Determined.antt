@@ -10,7 +10,8 @@ use Rattle.rules.specs.Calls.{Trying, decides, unread, given-up, trying}
 use Rattle.outcomes.specs.declared.Tried.{Tried}
 use Rattle.outcomes.proofs.Apart.{tried-apart}
 use Rattle.trying.specs.Outcome.{ToldAnswers, ToldOutcome}
-use Rattle.trying.proofs.try_filling as try-filling
+use Rattle.trying.specs.contracts.try_filling as try-filling-contract
+use Rattle.trying.proofs.try_filling.Reads as try-filling-reads
 
 one_answer : {P : Type 0} (s t : Tried) → ToldAnswers P s → ToldAnswers P t → s ≡ t
 one_answer s t (inl (e, x)) (inl (f, y)) = tried-apart s t (e ∙ sym f)
@@ -23,7 +24,7 @@ one-outcome (decides q ρ) s t w u v a b = (one_answer s t a.0 b.0, a.1 ∙ sym 
 one-outcome (unread r) s t w u v a b = (tried-apart s t (a.0 ∙ sym b.0), a.1 ∙ sym b.1)
 one-outcome (given-up r) s t w u v a b = (tried-apart s t (a.0 ∙ sym b.0), a.1 ∙ sym b.1)
 
-try_filling-determined : Determined try-filling.ended try-filling.Reads.Pre try-filling.Reads.Post
+try_filling-determined : Determined try-filling-contract.ended try-filling-reads.Pre try-filling-reads.Post
 try_filling-determined κs a p o q e d =
     let (s, w) = one-outcome (trying desk (length a.1.1.0.now) a.0.now a.1.0.now) o.0 q.0 a.1.1.0.now o.1.1.1.0 q.1.1.1.0 e d in
     ap₂ (λ z s. (z, (tt, (tt, (s, tt))))) s w

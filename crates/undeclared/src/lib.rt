@@ -22,7 +22,7 @@ fn is_declared(h: Header, word: u16) -> bool
 }
 
 // The place of the first undeclared number.
-#[derive(Drop)]
+#[derive(Clone, Copy)]
 pub enum Scan {
     Declared,
     Undeclared(usize),

@@ -15,14 +15,14 @@ use language::{function_word, run_word, term_word};
 use views::{View, see, side_at, swapped};
 use words::{next_literal, stands};
 
-#[derive(Drop)]
+#[derive(Clone, Copy)]
 pub enum Place {
     At(usize),
     Nowhere,
 }
 
 // What a variable is bound to: the part of a side, or nothing.
-#[derive(Drop)]
+#[derive(Clone, Copy)]
 pub enum Bound {
     To(usize, usize),
     Free,

@@ -19,7 +19,7 @@ use language::{FunVar, HedgeVar, Kind, Sym, TermVar, classify};
 use samples::{measure, put, write_sample};
 
 // A variable of any kind.
-#[derive(Drop)]
+#[derive(Clone, Copy)]
 pub enum Variable {
     Term(TermVar),
     Run(HedgeVar),

@@ -11,7 +11,7 @@ use spans::{element_end, hedge_end};
 use words::{next_literal, word};
 
 // How a hedge begins: with which variable or name, whether nothing follows the first element, and for a name whether it has no children.
-#[derive(Drop)]
+#[derive(Clone, Copy)]
 pub enum Look {
     Empty,
     Term(TermVar, bool),
@@ -20,7 +20,7 @@ pub enum Look {
 }
 
 // A hedge in the words: its place, the place after its first element, and the place after its 0.
-#[derive(Drop)]
+#[derive(Clone, Copy)]
 pub struct Side {
     pub from: usize,
     pub rest: usize,
@@ -29,7 +29,7 @@ pub struct Side {
 }
 
 // An equation in the words of a conjunction; l is the side that is looked at first.
-#[derive(Drop)]
+#[derive(Clone, Copy)]
 pub struct View {
     pub at: usize,
     pub l: Side,
@@ -39,7 +39,7 @@ pub struct View {
 }
 
 // A membership in the words of a conjunction: its hedge, the place of its expression and what the first word there is.
-#[derive(Drop)]
+#[derive(Clone, Copy)]
 pub struct Shape {
     pub at: usize,
     pub h: Side,

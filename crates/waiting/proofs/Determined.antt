@@ -7,10 +7,11 @@ use Rattle.language.specs.Question.{parts}
 use Rattle.language.proofs.Determined.{Determined}
 use Rattle.frames.specs.Frames.{framed}
 use Rattle.waiting.specs.Waiting.{in_order}
-use Rattle.waiting.proofs.lay_out as lay_out
+use Rattle.waiting.specs.contracts.lay_out as lay_out-contract
+use Rattle.waiting.proofs.lay_out.Reads as lay_out-reads
 
 -- where the blocks begin follows from how long they are
-lay_out-determined : Determined lay_out.ended lay_out.Reads.Pre lay_out.Reads.Post
+lay_out-determined : Determined lay_out-contract.ended lay_out-reads.Pre lay_out-reads.Post
 lay_out-determined κs a p o q e d =
     let h = e.place in
     let k = d.place in

@@ -7,7 +7,7 @@ mod sentences;
 
 // A step of a conjunction's words: the rule's place in the list, the place of the literal's first word, whether its sides are swapped, and how many
 // results there are.
-#[derive(Drop)]
+#[derive(Clone, Copy)]
 pub struct Act {
     pub rule: usize,
     pub at: usize,

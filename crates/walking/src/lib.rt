@@ -12,7 +12,7 @@ use room_words::put_if;
 use text_names::own_word;
 
 // Whether it could be read, the place after it, and the number of words so far.
-#[derive(Drop)]
+#[derive(Clone, Copy)]
 pub struct Way {
     pub ok: bool,
     pub at: usize,

@@ -24,7 +24,7 @@ use words::word;
 const TRIPLE: usize = 3;
 
 // Where the waiting conjunctions begin, the steps made and the lines met.
-#[derive(Drop)]
+#[derive(Clone, Copy)]
 struct Place {
     at: usize,
     made: usize,

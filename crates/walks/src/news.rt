@@ -4,14 +4,14 @@ use language::Signature;
 use walk_wording::rows::{becomes, case_is, nothing_new, one_more, row_ends};
 
 // Which result it is, 0 for the only one, and how deep it stands.
-#[derive(Drop)]
+#[derive(Clone, Copy)]
 pub(crate) struct Row {
     pub case: usize,
     pub depth: usize,
 }
 
 // How far both conjunctions are passed, and how many literals were shown.
-#[derive(Drop)]
+#[derive(Clone, Copy)]
 struct Passed {
     old: usize,
     new: usize,

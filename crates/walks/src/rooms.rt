@@ -26,7 +26,7 @@ pub(crate) fn body<'a>(one: &'a [u16]) -> &'a [u16] {
 
 // What stands before a waiting conjunction: how many words it has, its alternative, how deep it is, which case of which step it is. Step 0 is none: it is
 // an alternative; case 0 is the only result.
-#[derive(Drop)]
+#[derive(Clone, Copy)]
 pub(crate) struct Frame {
     pub words: u16,
     pub number: u16,

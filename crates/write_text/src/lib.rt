@@ -17,14 +17,14 @@ use outcomes::Checked;
 use reader::read_question;
 
 // The place after a tree in the words, and the place after what was written of it.
-#[derive(Drop)]
+#[derive(Clone, Copy)]
 struct Wrote {
     end: usize,
     to: usize,
 }
 
 // How many bytes were given, or why none.
-#[derive(Drop)]
+#[derive(Clone, Copy)]
 pub enum Written {
     Given(usize),
     Refused(Refusal),

@@ -1,0 +1,9 @@
+-- Each part of the test is so of the trees.
+use mathlib.Core.Path.{ap, ◌∙◌}
+use mathlib.Core.Bool.{not}
+use Rattle.applies.specs.Parts.{lone_functor, name_in, is_symbol}
+use Rattle.applies.proofs.Reading.{both, read, formed}
+use Rattle.applies.proofs.membership.m10.Goals as goal
+
+pub returns : goal.returns
+returns c = λ before h R behind w. both c.and-2.ensures (read w.hedge lone_functor c.lone_functor.ensures) (both c.and.ensures (ap not (c.is_symbol-symbol.ensures ∙ ap is_symbol (read w.hedge name_in c.name_in.ensures))) (formed w c.form_of.ensures 3000))

@@ -1,0 +1,9 @@
+-- Each part of the test is so of the trees.
+use mathlib.Core.Path.{ap}
+use mathlib.Core.Bool.{not}
+use Rattle.applies.specs.Parts.{is_term, is_last}
+use Rattle.applies.proofs.Reading.{both, read, formed}
+use Rattle.applies.proofs.membership.m2.Goals as goal
+
+pub returns : goal.returns
+returns c = λ before h R behind w. both c.and-2.ensures (read w.hedge is_term c.is_term.ensures) (both c.and.ensures (ap not (read w.hedge is_last c.is_last-last.ensures)) (ap not (formed w c.form_of.ensures 7000)))

@@ -1,0 +1,16 @@
+use Prim.Native.Nat.{◌-◌}
+use native.Mathlib.Omega.{arith}
+use Rattle.cases.proofs.Laws.{starts, passes, ends-here, ends_last}
+use Rattle.cases.proofs.line_end.Goals as goal
+
+pub loop-i-init : goal.loop-i-init
+loop-i-init c = starts _ _
+
+pub returns-then-text-i-eq10 : goal.returns-then-text-i-eq10
+returns-then-text-i-eq10 c = ends-here _ _ c.loop-i.invariant (omega arith) c.if-text-i-eq10.true
+
+pub loop-i-preserved : goal.loop-i-preserved
+loop-i-preserved c = passes _ _ c.loop-i.invariant (omega arith) c.if-text-i-eq10.false
+
+pub returns : goal.returns
+returns c = ends_last _ _ c.loop-i.invariant (omega arith)

@@ -1,0 +1,10 @@
+-- The invariant: where the pair can still stand is below x.
+use Prim.Native.Nat.{◌-◌}
+use Rattle.clash.proofs.Chaining.{Below}
+use Rattle.clash.proofs.pairs.find.Given as goal
+
+abbrev pub invariant-loop-x : goal.invariant-loop-x
+invariant-loop-x l = Below l.left l.right l.n l.a l.b l.h l.x
+
+abbrev pub decreases-loop-x : goal.decreases-loop-x
+decreases-loop-x l = l.x

@@ -1,9 +1,0 @@
--- The plan is that of the recipe.
-use borrow.Author.Rules.{rules}
-use mathlib.Core.Path.{ap}
-use Rattle.plans.specs.Slots.{single}
-use Rattle.equation_plans.proofs.plan_r1.Statement.{statement}
-use Rattle.equation_plans.proofs.plan_r1.Tie as tie
-
-pub plan-r1-spec : {M : Type 1} → statement M
-plan-r1-spec = tie.close (tie.spec (λ c κs. search rules) (λ c. ap (single _) c.few.ensures))

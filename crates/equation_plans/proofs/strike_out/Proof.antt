@@ -1,9 +1,0 @@
--- The plan is that of the recipe.
-use borrow.Author.Rules.{rules}
-use mathlib.Core.Path.{ap}
-use Rattle.plans.specs.Slots.{single}
-use Rattle.equation_plans.proofs.strike_out.Statement.{statement}
-use Rattle.equation_plans.proofs.strike_out.Tie as tie
-
-pub strike-out-spec : {M : Type 1} → statement M
-strike-out-spec = tie.close (tie.spec (λ c κs. search rules) (λ c. ap (single _) c.full.ensures))

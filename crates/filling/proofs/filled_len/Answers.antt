@@ -1,0 +1,30 @@
+use Prim.Native.Nat.{◌-◌}
+use native.Mathlib.Omega.{arith}
+use Rattle.filling.proofs.Filled.{counted-starts, counted-fits, counted-on, counted-ends}
+use Rattle.filling.proofs.filled_len.Goals as goal
+
+pub loop-at-preserved : goal.loop-at-preserved
+loop-at-preserved c = let b = c.before.before.before.before in
+    let p = b.before.before.before.requires in
+    (counted-on _ _ _ b.loop.invariant (omega arith) p.0 p.1.0 c.lookup-value.ensures c.step-at.ensures).0
+
+pub loop-at-init : goal.loop-at-init
+loop-at-init c = counted-starts _ _ _ _
+
+pub overflow_add-total : goal.overflow_add-total
+overflow_add-total c = let b = c.before.before in
+    let p = b.before.before.before.requires in
+    let f = counted-fits _ _ _ b.loop.invariant (omega arith) p.0 p.1.0 c.lookup-value.ensures in
+    omega arith
+
+pub overflow_add-at : goal.overflow_add-at
+overflow_add-at c = omega (arith, (on c).inside)
+
+pub loop-at-smaller : goal.loop-at-smaller
+loop-at-smaller c = let b = c.before.before.before.before in
+    let p = b.before.before.before.requires in
+    let f = counted-on _ _ _ b.loop.invariant (omega arith) p.0 p.1.0 c.lookup-value.ensures c.step-at.ensures in
+    omega arith
+
+pub returns : goal.returns
+returns c = counted-ends _ _ _ c.loop-at.invariant (omega arith)

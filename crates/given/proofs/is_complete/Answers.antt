@@ -1,0 +1,14 @@
+-- `given::is_complete` meets its contract: where reading a hedge ended, and then whether its words are plain.
+use mathlib.Core.Path.{sym, ◌∙◌}
+use native.Mathlib.Omega.{arith}
+use Rattle.given.proofs.Plain.{judged-stop, judged-short, judged-all}
+use Rattle.given.proofs.is_complete.Goals as goal
+
+pub read_hedge-requires : goal.read_hedge-requires
+read_hedge-requires c = judged-short _ _ _ (sym c.read-hedge.ensures ∙ c.end.given.1) (omega arith)
+
+pub returns-else-end-value : goal.returns-else-end-value
+returns-else-end-value c = judged-all _ _ _ (sym c.read_hedge.ensures ∙ c.in-Next.is) (omega arith) _ c.is_plain.ensures
+
+pub returns-in-Stop : goal.returns-in-Stop
+returns-in-Stop c = judged-stop _ _ _ (sym c.read_hedge.ensures ∙ c.in-Stop.is)

@@ -1,0 +1,12 @@
+-- Either way the answer is whether the word stands among those replaced.
+use mathlib.Core.Path.{ap, ◌∙◌}
+use lib.Seq.{slice}
+use Rattle.words.specs.Spans.{member}
+use Rattle.results.proofs.replacing.is_old.Goals as goal
+
+pub returns-then-only : goal.returns-then-only
+returns-then-only c = c.is_marked.ensures ∙ c.requires.told c.if-only.true _
+
+pub returns : goal.returns
+returns c = let a = c.args in
+    c.stands.ensures ∙ ap (λ x. member x (slice a.old a.until a.k.now)) c.wide.ensures

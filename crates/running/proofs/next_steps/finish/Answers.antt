@@ -1,0 +1,21 @@
+-- `finish`: a trail that is told is used up, or goes on.
+use native.Mathlib.Omega.{arith}
+use Rattle.running.specs.Courses.{Guided}
+use Rattle.courses.proofs.Laws.{as-course}
+use Rattle.running.proofs.Choosing.{ends-first, ends-noted, ends_more, ends-told}
+use Rattle.running.proofs.next_steps.finish.Goals as goal
+
+pub overflow_mul-s : goal.overflow_mul-s
+overflow_mul-s c = let z = as-course (λ x. Guided x c.args.told.now c.args.s.steps) _ _ c.in-Told.is c.requires in omega arith
+
+pub returns-then-s-told : goal.returns-then-s-told
+returns-then-s-told c = ends_more _ _ _ c.in-Told.is c.requires c.if-s-told.true
+
+pub returns-else-s-told : goal.returns-else-s-told
+returns-else-s-told c = ends-told _ _ _ c.in-Told.is c.requires c.if-s-told.false
+
+pub returns-in-First : goal.returns-in-First
+returns-in-First c = ends-first _ _ _ c.in-First.is
+
+pub returns-in-Noted : goal.returns-in-Noted
+returns-in-Noted c = ends-noted _ _ _ c.in-Noted.is

@@ -1,0 +1,9 @@
+-- `write_text::bytes::closing` meets its contract: by the test.
+use borrow.Author.Tests.{eq-eqb, ne_eqb}
+use Rattle.write_text.proofs.bytes.closing.Goals as goal
+
+pub returns-then-s-eq1 : goal.returns-then-s-eq1
+returns-then-s-eq1 c = rw (eq-eqb _ _ c.if-s-eq1.true)
+
+pub returns : goal.returns
+returns c = rw (ne_eqb _ _ c.if-s-eq1.false)

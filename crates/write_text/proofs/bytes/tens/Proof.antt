@@ -1,8 +1,0 @@
--- by the test.
-use borrow.Author.Tests.{lt-ltb, le-ltb}
-use borrow.Author.Rules.{rules}
-use Rattle.write_text.proofs.bytes.tens.Statement.{statement}
-use Rattle.write_text.proofs.bytes.tens.Tie as tie
-
-pub tens-spec : {M : Type 1} → statement M
-tens-spec = tie.close (tie.spec (λ c. rw (lt-ltb _ _ c.if1.true)) (λ c. search rules) (λ c. search rules) (λ c. rw (le-ltb _ _ c.if1.false)))
