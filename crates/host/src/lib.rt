@@ -14,8 +14,7 @@ use outcomes::{shown_length, shown_number, verdict_number};
 use word_bytes::{take_words, write_words};
 
 // Solves a question: the refusal's number, or 0.
-#[unsafe(no_mangle)]
-pub extern "C" fn desk_solve(question: &[u8], answer: &mut [u8]) -> u32
+pub fn desk_solve(question: &[u8], answer: &mut [u8]) -> u32
     ensures value { result ≡ solve_number (solving_bytes desk (length answer.old) question.now) }
     ensures answer_after { answer.new ≡ solve_leaves desk (solving_bytes desk (length answer.old) question.now) answer.old }
 {
@@ -48,8 +47,7 @@ fn show(question: &[u16], line: usize, old: bool, own: &mut [u16], room: &mut [u
 
 // Shows the example of a settled line: 100 and its length in words, or the refusal's number. Free blanks take the last declared symbol where `old`
 // is 0, and else symbol 0.
-#[unsafe(no_mangle)]
-pub extern "C" fn desk_example(question: &[u8], line: u32, old: u32, room: &mut [u8]) -> u32
+pub fn desk_example(question: &[u8], line: u32, old: u32, room: &mut [u8]) -> u32
     ensures value { result ≡ show_number (showing_bytes desk (length room.old) line old question.now) }
     ensures room_after { room.new ≡ show_leaves (showing_bytes desk (length room.old) line old question.now) room.old }
 {
@@ -61,8 +59,7 @@ pub extern "C" fn desk_example(question: &[u8], line: u32, old: u32, room: &mut 
 }
 
 // Answers a day's sheet: the refusal's number, or 0.
-#[unsafe(no_mangle)]
-pub extern "C" fn desk_day(sheet: &[u8], room: &mut [u8]) -> u32
+pub fn desk_day(sheet: &[u8], room: &mut [u8]) -> u32
     ensures value { result ≡ day_number (day_bytes desk (length room.old) sheet.now) }
     ensures room_after { room.new ≡ room_leaves (day_bytes desk (length room.old) sheet.now) room.old }
 {

@@ -38,8 +38,7 @@ fn refuse(refusal: Refusal, own: &[u16], room: &mut [u8]) -> u32
 }
 
 // Makes one named step of a question of one alternative: 100 and the word of the room where the results begin, or the refusal's number.
-#[unsafe(no_mangle)]
-pub extern "C" fn desk_step(
+pub fn desk_step(
     question: &[u8],
     number: u32,
     rule: u32,
