@@ -1,4 +1,6 @@
 // The commands of the desk at its prompt: which one is asked for, and whether as much is said as it takes.
+#![tactic(auto)]
+
 ghost use Rattle.std.specs.Prelude.{◌<◌};
 
 use day_table::day_files;

@@ -1,4 +1,6 @@
 // A day's questions, file by file: a table with a row for each, and on a terminal how far that is.
+#![tactic(auto)]
+
 use files::arguments::{say_of, warn_of};
 use files::load_question;
 use files::status::{failed, found};

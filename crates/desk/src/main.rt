@@ -1,4 +1,6 @@
 // The desk at a prompt.
+#![tactic(auto)]
+
 fn main() {
     commands::obey();
 }

@@ -1,4 +1,6 @@
 // An example shown. The command prints and says its status: it returns nothing.
+#![tactic(auto)]
+
 ghost use Rattle.std.specs.Prelude.{◌≤◌, length};
 
 use files::arguments::wrong_use;

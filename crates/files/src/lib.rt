@@ -1,5 +1,7 @@
 // What the operating system gives the desk at its prompt: arguments, and words or a text from a file, or from standard input where its name is -.
 // No contract can say what that is (docs/PROMISES.md); what is proved is that it fits and that reading it ends.
+#![tactic(auto)]
+
 ghost use Rattle.std.specs.Prelude.{◌≤◌, ◌≡◌, length};
 
 pub mod arguments;

@@ -1,5 +1,7 @@
 // The calls of the control room's host that solve: bytes and numbers around the calls on words. The slices that a call on words is lent are arrays of
 // the desk's own, cleared at the start.
+#![tactic(auto)]
+
 ghost use Rattle.std.specs.Prelude.{◌*◌, ◌≤◌, ◌≡◌, length};
 ghost use Rattle.language.specs.Limits.{desk};
 ghost use Rattle.host.specs.Host.{solving_bytes, solve_number, solve_leaves, showing_bytes, show_number, show_leaves, day_bytes};

@@ -1,6 +1,8 @@
 // The mistake in a question, for 5 and 6: the word at its place, shown where it stands in the text, and what was expected there. All words before
 // the place can be continued, so the part that the place stands in follows from them and is never guessed.
 // To print is all that the call does: it returns nothing, and is proved safe and ending.
+#![tactic(auto)]
+
 mod word_places;
 
 use crate::word_places::point;

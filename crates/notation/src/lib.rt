@@ -1,5 +1,7 @@
 // Hedges, expressions and literals written out for a reader. Where a question came as words, x0, p0, X0 are the term, hedge and function variables, a0 a
 // symbol, a1~ one whose parts come in any order, () nothing at all. Where it came as a text, all is written as a text is, in that text's own names.
+#![tactic(auto)]
+
 ghost use Rattle.std.specs.Prelude.{◌≤◌};
 
 mod names;

@@ -1,4 +1,6 @@
 // The overlap desk, for a C program: whether two live rules can meet, and the table of a whole sheet of them.
+#![tactic(auto)]
+
 ghost use Rattle.std.specs.Prelude.{◌+◌, ◌*◌, ◌/◌, ◌≤◌, ◌<◌, ◌≡◌, true, map, length};
 ghost use Rattle.std.proofs.lemmas.List.Edits.{sets};
 ghost use Rattle.word_bytes.specs.Bytes.{words_of, words_in, bytes_of};

@@ -1,4 +1,6 @@
 // A sheet of live rules, pair by pair: a table of those that can meet or are not settled, with the dangerous ones first, whose actions are different.
+#![tactic(auto)]
+
 ghost use Rattle.std.specs.Prelude.{◌≤◌, length};
 
 use files::load;

@@ -1,4 +1,6 @@
 // What the desk says at its prompt of live rules and their pairs. To print is all that these calls do: they return nothing, and are proved safe and ending.
+#![tactic(auto)]
+
 use language::Signature;
 use notation::hedge;
 use print::{number, say, warn, warn_number};

@@ -1,4 +1,6 @@
 // A place of a file, shown in its line with a mark below it. To print is all that the call does: it returns nothing, and is proved safe and ending.
+#![tactic(auto)]
+
 ghost use Rattle.std.specs.Prelude.{◌≤◌, length};
 
 use print::{warn, warn_number};

@@ -1,4 +1,6 @@
 // Standard output and standard error: bytes, and numbers in decimal.
+#![tactic(auto)]
+
 use libc::{STDERR_FILENO, STDOUT_FILENO};
 
 pub fn say(text: &[u8]) {

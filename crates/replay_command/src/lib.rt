@@ -1,4 +1,6 @@
 // A trail from a file replayed. The command prints and says its status: it returns nothing.
+#![tactic(auto)]
+
 ghost use Rattle.std.specs.Prelude.{◌≤◌, length};
 
 use files::status::failed;

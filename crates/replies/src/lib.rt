@@ -1,5 +1,7 @@
 // What a command that was asked with a question answers in the end: the answer, or why there is none and where in the file the reason stands; and the
 // status. To print is all that these calls do: they return nothing, and are proved safe and ending.
+#![tactic(auto)]
+
 use files::name_of;
 use files::status::{failed, found, nothing};
 use language::Refusal;

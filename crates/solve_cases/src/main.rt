@@ -1,6 +1,8 @@
 // Reads cases, a line each: the lengths of the work and the answer slice to lend, then the question's words. Writes the refusal's number, the
 // lines, the open lines and the steps, and every word of both slices: of what is not an answer's line, how many zeros stand there and how many
 // words then stand as they were lent.
+#![tactic(auto)]
+
 ghost use Rattle.std.specs.Prelude.{◌≤◌, ◌<◌, length};
 
 use language::limits::{QUESTION, ROOM};

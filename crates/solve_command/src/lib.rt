@@ -1,4 +1,6 @@
 // A question solved. The command prints and says its status: it returns nothing.
+#![tactic(auto)]
+
 ghost use Rattle.std.specs.Prelude.{◌≤◌, length};
 
 use files::{Loaded, SHEET, load_question};

@@ -1,5 +1,7 @@
 // The call of the control room's host that makes one named step: bytes and numbers around the call on words. The slices that it is lent are arrays of
 // the desk's own, cleared at the start.
+#![tactic(auto)]
+
 ghost use Rattle.std.specs.Prelude.{◌*◌, ◌≤◌, ◌≡◌, length};
 ghost use Rattle.language.specs.Limits.{desk};
 ghost use Rattle.language.specs.Numbers.{number_of};

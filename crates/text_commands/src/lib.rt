@@ -1,4 +1,6 @@
 // A question written as a text, and a text as words. The commands print and say their status: they return nothing.
+#![tactic(auto)]
+
 use files::load_question;
 use files::status::found;
 use language::limits::QUESTION;

@@ -2,6 +2,8 @@
 // says whether one does; here endings are only proposed. They are enough: what is open is a name behind its mark, `in` that is written half, a side
 // or a shape that is missing, and brackets.
 // To print is all that the call does: it returns nothing, and is proved safe and ending.
+#![tactic(auto)]
+
 ghost use Rattle.std.specs.Prelude.{◌<◌, ◌≤◌, length};
 
 use pointing::point_at;

@@ -1,5 +1,7 @@
 // The calls of the control room's host that write a trail or replay one: bytes and numbers around the calls on words. The slices that a call on words
 // is lent are arrays of the desk's own, cleared at the start; a trail that is replayed is read where it stands.
+#![tactic(auto)]
+
 ghost use Rattle.std.specs.Prelude.{◌*◌, ◌≤◌, ◌≡◌, length};
 ghost use Rattle.language.specs.Limits.{desk};
 ghost use Rattle.language.specs.Question.{read_question};

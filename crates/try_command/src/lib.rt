@@ -1,4 +1,6 @@
 // A filling tried. The command prints and says its status: it returns nothing.
+#![tactic(auto)]
+
 use files::status::{failed, found, nothing};
 use files::{load, load_question};
 use language::limits::{FILLING, QUESTION, ROOM};

@@ -1,5 +1,7 @@
 // The calls of the control room's host that solve nothing: bytes and numbers around the calls on words. The slices that a call on words is lent are
 // arrays of the desk's own, cleared at the start.
+#![tactic(auto)]
+
 ghost use Rattle.std.specs.Prelude.{◌≡◌};
 ghost use Rattle.language.specs.Limits.{desk};
 ghost use Rattle.try_host.specs.Host.{trying_bytes, TryNumber, place_bytes};

@@ -1,4 +1,6 @@
 // A question's trail: walked through, or written. The commands print and say their status: they return nothing.
+#![tactic(auto)]
+
 ghost use Rattle.std.specs.Prelude.{◌≤◌, length};
 
 use files::status::{found, nothing};

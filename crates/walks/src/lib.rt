@@ -1,5 +1,7 @@
 // A walk through an answer, step by step, from a question, its answer and its trail. It only prints. Every step is made anew by `step_named`; where the
 // first conjunction that waits has the words of the next line, it is that line, for no rule applies to a line.
+#![tactic(auto)]
+
 mod clashing;
 mod news;
 mod places;
