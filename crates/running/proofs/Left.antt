@@ -30,6 +30,16 @@ module _ (told : List ℕ) (room : ℕ) (σ : Signature) (n : ℕ) (ls : List Nu
   abbrev Going : Type 0
   Going = List Numbered → List Conj → List Numbered → Outcome
 
+  -- what becomes of the results of a step: none may be made, or the run goes on with so many steps left
+  abbrev ceiling : Going
+  ceiling = λ more ks wait. refused StepLimit
+
+  abbrev stepping : ℕ → Going
+  stepping d = λ more ks wait. checked desk ks wait (run_from desk (step σ) d (suc n) more)
+
+  abbrev noting : ℕ → Going
+  noting d = λ more ks wait. written desk room n ks wait (run_writing desk σ room d (suc n) more)
+
   abbrev turned : Going → Reply (List Conj) → Outcome
   turned go m = elim m [ results ks ↦ go ls ks (all_of k.number ks ++ w) | nothing ↦ lined desk (ls ++ (k ∷ [])) (λ ms. turn desk (step σ) go n ms w) | stops r ↦ refused r ]
 
@@ -53,13 +63,13 @@ module _ (told : List ℕ) (room : ℕ) (σ : Signature) (n : ℕ) (ls : List Nu
 
     run-line : (d : ℕ) → run_from desk (step σ) d n ls (k ∷ w) ≡ fitted (run_from desk (step σ) d n (ls ++ (k ∷ [])) w) b
     unfolding run_from
-    run-line zero = turn-line _
-    run-line (suc d) = turn-line _
+    run-line zero = turn-line ceiling
+    run-line (suc d) = turn-line (stepping d)
 
     write-line : (d : ℕ) → run_writing desk σ room d n ls (k ∷ w) ≡ fitted (run_writing desk σ room d n (ls ++ (k ∷ [])) w) b
     unfolding run_writing
-    write-line zero = turn-line _
-    write-line (suc d) = turn-line _
+    write-line zero = turn-line ceiling
+    write-line (suc d) = turn-line (noting d)
 
     replay-line : (over : Bool) (ts : List Triple) → replay_from desk σ over n ts ls (k ∷ w) ≡ fitted (replay_from desk σ over n ts (ls ++ (k ∷ [])) w) b
     unfolding replay_from
@@ -79,13 +89,13 @@ module _ (told : List ℕ) (room : ℕ) (σ : Signature) (n : ℕ) (ls : List Nu
 
     run-stops : (d : ℕ) → run_from desk (step σ) d n ls (k ∷ w) ≡ refused x
     unfolding run_from
-    run-stops zero = turn-stops _
-    run-stops (suc d) = turn-stops _
+    run-stops zero = turn-stops ceiling
+    run-stops (suc d) = turn-stops (stepping d)
 
     write-stops : (d : ℕ) → run_writing desk σ room d n ls (k ∷ w) ≡ refused x
     unfolding run_writing
-    write-stops zero = turn-stops _
-    write-stops (suc d) = turn-stops _
+    write-stops zero = turn-stops ceiling
+    write-stops (suc d) = turn-stops (noting d)
 
     replay-stops : (over : Bool) (ts : List Triple) → replay_from desk σ over n ts ls (k ∷ w) ≡ refused x
     unfolding replay_from
@@ -105,19 +115,19 @@ module _ (told : List ℕ) (room : ℕ) (σ : Signature) (n : ℕ) (ls : List Nu
 
     run_none : run_from desk (step σ) 0 n ls (k ∷ w) ≡ refused StepLimit
     unfolding run_from
-    run_none = turn_step _
+    run_none = turn_step ceiling
 
     write-none : run_writing desk σ room 0 n ls (k ∷ w) ≡ refused StepLimit
     unfolding run_writing
-    write-none = turn_step _
+    write-none = turn_step ceiling
 
     run-one : (d : ℕ) → run_from desk (step σ) (suc d) n ls (k ∷ w) ≡ checked desk ks (all_of k.number ks ++ w) (run_from desk (step σ) d (suc n) ls)
     unfolding run_from
-    run-one d = turn_step _
+    run-one d = turn_step (stepping d)
 
     write-one : (d : ℕ) → run_writing desk σ room (suc d) n ls (k ∷ w) ≡ written desk room n ks (all_of k.number ks ++ w) (run_writing desk σ room d (suc n) ls)
     unfolding run_writing
-    write-one d = turn_step _
+    write-one d = turn_step (noting d)
 
     trace-step : (go : Retracing) (end : List Numbered → Outcome) → retraced desk σ go end ls (k ∷ w) ≡ go ls k w
     trace-step go end = ap (traced go end) e

@@ -27,23 +27,19 @@ returns-then-h-ne1 c = let t = triple_of c.args.rule c.args.literal c.args.side 
     (long-work c.args.number t c.args.question.now c.args.work.now c.if-work-lt-ROOM.false
     ∙ of-none-or-more c.args.question.now (was-fine _ _ c.read_question.ensures c.in-Fine.is) (λ z. c.if-h-ne1.true (ap (λ (h : Header). h.alternatives) c.read_header-h.ensures ∙ z)) c.args.number t)
 
-pub slice_bounds-make_step-count : goal.slice_bounds-make_step-count
-slice_bounds-make_step-count c = let o = (is_one c.args.question.now _ c.read_question.ensures c.in-Fine.is _ c.read_header-h.ensures c.if-h-ne1.false).long in omega arith
-
 pub slice_bounds-make_step-start : goal.slice_bounds-make_step-start
 slice_bounds-make_step-start c = let o = (is_one c.args.question.now _ c.read_question.ensures c.in-Fine.is _ c.read_header-h.ensures c.if-h-ne1.false).long in omega arith
 
-pub slice_bounds-make_step-end : goal.slice_bounds-make_step-end
-slice_bounds-make_step-end c = let o = (is_one c.args.question.now _ c.read_question.ensures c.in-Fine.is _ c.read_header-h.ensures c.if-h-ne1.false).long in omega arith
+pub slice_bounds-make_step-count : goal.slice_bounds-make_step-count
+slice_bounds-make_step-count c = let o = (is_one c.args.question.now _ c.read_question.ensures c.in-Fine.is _ c.read_header-h.ensures c.if-h-ne1.false).long in omega arith
 
 pub make_step-requires : goal.make_step-requires
 make_step-requires c = let o = is_one c.args.question.now _ c.read_question.ensures c.in-Fine.is _ c.read_header-h.ensures c.if-h-ne1.false in
-    let k = c.clear.auto.0 in
     let w = c.if-work-lt-ROOM.false in
     record {
-  k_len_bound = (o.short, omega arith);
-  conjunction = record { conj = o.conj; fine = o.fine; words = o.words };
-}
+      k_len_bound = (o.short, omega arith);
+      conjunction = record { conj = o.conj; fine = o.fine; words = o.words };
+    }
 
 pub returns-in-Refused : goal.returns-in-Refused
 returns-in-Refused c = let t = triple_of c.args.rule c.args.literal c.args.side in

@@ -12,5 +12,5 @@ returns-then-t-k-gt-ROOM c = λ old_work old_answer ls x w work p ek eu en. long
 
 pub returns : goal.returns
 returns c = λ old_work old_answer ls x w work p ek eu en.
-    next-line old_work old_answer ls x w c.args.s work _ p _ ek _ en _ _ c.add_line-u.auto.1.1.1.1.0
+    next-line old_work old_answer ls x w c.args.s work _ p _ ek _ en _ _ c.add_line-u.auto.answer
     (line-added old_answer ls x _ _ _ _ _ ek eu (c.is_solved-solved.ensures x.literals p.fine.0 ek) p.lined _ _ (omega arith) (omega arith) c.add_line-u.ensures.0 c.add_line-u.ensures.1)

@@ -5,14 +5,7 @@ use Rattle.running.proofs.Choosing.{chosen-first, chosen-noted, chosen-told, of-
 use Rattle.running.proofs.next_steps.choose.Goals as goal
 
 pub told_step-requires-clause-made_in_bounds : goal.told_step-requires-clause-made_in_bounds
-told_step-requires-clause-made_in_bounds c = (((as-course (λ x. Guided x c.args.told.now c.args.s.steps) _ _ c.in-Told.is c.requires.guided.0, c.requires.guided.1), c.requires.conjunction)).0
-
-pub told_step-requires-clause-conjunction : goal.told_step-requires-clause-conjunction
-told_step-requires-clause-conjunction c = (((as-course (λ x. Guided x c.args.told.now c.args.s.steps) _ _ c.in-Told.is c.requires.guided.0, c.requires.guided.1), c.requires.conjunction)).1
-
-pub told_step-requires-clause-table_value : goal.told_step-requires-clause-table_value
-told_step-requires-clause-table_value c = (((as-course (λ x. Guided x c.args.told.now c.args.s.steps) _ _ c.in-Told.is c.requires.guided.0, c.requires.guided.1), c.requires.conjunction)).2
-
+told_step-requires-clause-made_in_bounds c = (as-course (λ x. Guided x c.args.told.now c.args.s.steps) _ _ c.in-Told.is c.requires.guided.0, c.requires.guided.1)
 
 pub returns-in-First : goal.returns-in-First
 returns-in-First c = λ room x fine ek few low found.

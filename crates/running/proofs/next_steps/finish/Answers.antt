@@ -1,12 +1,6 @@
 -- `finish`: a trail that is told is used up, or goes on.
-use native.Mathlib.Omega.{arith}
-use Rattle.running.specs.Courses.{Guided}
-use Rattle.courses.proofs.Laws.{as-course}
 use Rattle.running.proofs.Choosing.{ends-first, ends-noted, ends_more, ends-told}
 use Rattle.running.proofs.next_steps.finish.Goals as goal
-
-pub overflow_mul-s : goal.overflow_mul-s
-overflow_mul-s c = let z = as-course (λ x. Guided x c.args.told.now c.args.s.steps) _ _ c.in-Told.is c.requires in omega arith
 
 pub returns-then-s-told : goal.returns-then-s-told
 returns-then-s-told c = ends_more _ _ _ c.in-Told.is c.requires c.if-s-told.true

@@ -9,5 +9,5 @@ returns-then-told-made-lt-STEP_BYTES c = λ x f e. none_told c.args.s x c.args.t
 
 pub returns : goal.returns
 returns c = λ x f e.
-    c.Named-by.ensures x f e
+    c.named_by.ensures x f e
     ∙ next-told c.args.s x c.args.told.now c.args.made _ _ _ (let y = c.if-told-made-lt-STEP_BYTES.false in let z = c.requires.made_in_bounds.0 in omega arith) c.word_at-rule.ensures c.word_at-literal.ensures c.word_at-side.ensures

@@ -6,9 +6,9 @@ pub note-requires : goal.note-requires
 note-requires c = let p = c.requires.k_len_bound in
     let x = c.requires.rule_at in
     record {
-  at_in_bounds = (p.1, p.0, p.4);
-  some_literal = record { before = x.before; l = x.l; behind = x.behind; stands = x.stands };
-}
+      at_in_bounds = (p.1, p.0, p.4);
+      some_literal = record { before = x.before; l = x.l; behind = x.behind; stands = x.stands };
+    }
 
 pub returns-then-note : goal.returns-then-note
 returns-then-note c = λ told old whole old_work old_answer ls x w answer ks u ek eu en em a on below fine traces.

@@ -18,9 +18,9 @@ take_first-n-requires c = let b = c.requires in
     let l = c.loop-s.invariant.4 in
     let m = c.loop-s.invariant.5 in
     record {
-  at_in_bounds = (omega arith, omega arith, omega arith, omega arith);
-  table_value = c.loop-s.invariant.6;
-}
+      at_in_bounds = (omega arith, omega arith, omega arith, omega arith);
+      table_value = c.loop-s.invariant.6;
+    }
 
 pub slice_bounds-turn-end : goal.slice_bounds-turn-end
 slice_bounds-turn-end c = let b = c.requires in
@@ -28,30 +28,25 @@ slice_bounds-turn-end c = let b = c.requires in
     let p = r.0 in
     let l = c.loop-s.invariant.4 in
     let n = c.take_first-n.ensures.value in
-    let e = still-long c.loop-s.k _ _ c.loop-s.s c.loop-s.work c.take_first-n.result n (omega arith) (omega arith) c.take_first-n.ensures.k_after.0 c.take_first-n.ensures.k_after.1 in
+    let e = still-long c.loop-s.k _ _ c.loop-s.s c.loop-s.work c.take_first-n.result n (omega arith) (omega arith) c.take_first-n.ensures.k_after c.take_first-n.ensures.table_after in
     omega arith
 
 pub turn-requires-clause-at_bound : goal.turn-requires-clause-at_bound
-turn-requires-clause-at_bound c = (let b = c.requires in
+turn-requires-clause-at_bound c = let b = c.requires in
     let r = turn-ready _ _ b.old b.whole b.old_work b.old_answer _ _ _ _ _ (c.loop-s.invariant.3 b.old b.whole b.old_work b.old_answer b.lines b.waits b.under) c.loop-s-test.true in
-    let p = r.0 in
-    let l = c.loop-s.invariant.4 in
-    (p, (r.1, taken c.loop-s.k _ _ c.loop-s.s c.loop-s.work c.take_first-n.result c.take_first-n.ensures.value (omega arith) (omega arith) c.take_first-n.ensures.k_after.0 c.take_first-n.ensures.k_after.1))).0
+    r.0
 
 pub turn-requires-clause-awaits : goal.turn-requires-clause-awaits
-turn-requires-clause-awaits c = (let b = c.requires in
+turn-requires-clause-awaits c = let b = c.requires in
     let r = turn-ready _ _ b.old b.whole b.old_work b.old_answer _ _ _ _ _ (c.loop-s.invariant.3 b.old b.whole b.old_work b.old_answer b.lines b.waits b.under) c.loop-s-test.true in
-    let p = r.0 in
-    let l = c.loop-s.invariant.4 in
-    (p, (r.1, taken c.loop-s.k _ _ c.loop-s.s c.loop-s.work c.take_first-n.result c.take_first-n.ensures.value (omega arith) (omega arith) c.take_first-n.ensures.k_after.0 c.take_first-n.ensures.k_after.1))).1
+    r.1
 
 pub turn-requires-clause-taken : goal.turn-requires-clause-taken
-turn-requires-clause-taken c = (let b = c.requires in
+turn-requires-clause-taken c = let b = c.requires in
     let r = turn-ready _ _ b.old b.whole b.old_work b.old_answer _ _ _ _ _ (c.loop-s.invariant.3 b.old b.whole b.old_work b.old_answer b.lines b.waits b.under) c.loop-s-test.true in
     let p = r.0 in
     let l = c.loop-s.invariant.4 in
-    (p, (r.1, taken c.loop-s.k _ _ c.loop-s.s c.loop-s.work c.take_first-n.result c.take_first-n.ensures.value (omega arith) (omega arith) c.take_first-n.ensures.k_after.0 c.take_first-n.ensures.k_after.1))).2
-
+    taken c.loop-s.k _ _ c.loop-s.s c.loop-s.work c.take_first-n.result c.take_first-n.ensures.value (omega arith) (omega arith) c.take_first-n.ensures.k_after c.take_first-n.ensures.table_after
 
 pub loop-s-smaller : goal.loop-s-smaller
 loop-s-smaller c = let b = c.requires in
@@ -63,13 +58,13 @@ loop-s-preserved c = let b = c.requires in
     let p = r.0 in
     let l = c.loop-s.invariant.4 in
     let n = c.take_first-n.ensures.value in (
-      c.turn.auto.1.1.0 ∙ c.loop-s.invariant.0,
-      c.turn.auto.1.1.1.0 ∙ c.loop-s.invariant.1,
-      c.turn.auto.1.1.1.1.1.0 ∙ c.loop-s.invariant.2,
+      c.turn.auto.work ∙ c.loop-s.invariant.0,
+      c.turn.auto.answer ∙ c.loop-s.invariant.1,
+      c.turn.auto.out ∙ c.loop-s.invariant.2,
       (λ old whole old_work old_answer ls w u. gone-on _ _ old whole old_work old_answer _ _ _ _ _ (c.loop-s.invariant.3 old whole old_work old_answer ls w u) c.loop-s-test.true _ _ _ _ c.turn.ensures _ c.in-On.is),
-      still-long c.loop-s.k _ _ c.loop-s.s c.loop-s.work c.take_first-n.result n (omega arith) (omega arith) c.take_first-n.ensures.k_after.0 c.take_first-n.ensures.k_after.1 ∙ l,
+      still-long c.loop-s.k _ _ c.loop-s.s c.loop-s.work c.take_first-n.result n (omega arith) (omega arith) c.take_first-n.ensures.k_after c.take_first-n.ensures.table_after ∙ l,
       omega arith,
-      still-counted c.loop-s.k _ _ c.loop-s.s c.loop-s.work c.take_first-n.result n (omega arith) (omega arith) c.take_first-n.ensures.k_after.0 c.take_first-n.ensures.k_after.1,
+      still-counted c.loop-s.k _ _ c.loop-s.s c.loop-s.work c.take_first-n.result n (omega arith) (omega arith) c.take_first-n.ensures.k_after c.take_first-n.ensures.table_after,
     )
 
 pub returns-in-Stop : goal.returns-in-Stop

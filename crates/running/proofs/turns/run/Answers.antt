@@ -28,7 +28,7 @@ go_on-requires c = let p = c.requires in
       lines = [];
       waits = numbered 0 (conjunctions_of (read_question desk q));
       under =
-          under-way q p.0 a.course a.told.now a.out.now a.work.now a.answer.now _ _ _ _ _ (c.signature_of-signature.ensures ∙ sym (asked-signature q p.0)) p.1 p.2 c.begin-tally.auto.0 c.lay_out-at.ensures
+          under-way q p.0 a.course a.told.now a.out.now a.work.now a.answer.now _ _ _ _ _ (c.signature_of-signature.ensures ∙ sym (asked-signature q p.0)) p.1 p.2 c.begin-tally.auto.answer c.lay_out-at.ensures
           c.begin-tally.ensures;
     }
 
@@ -39,4 +39,4 @@ returns c = let p = c.requires in
     let signed = c.signature_of-signature.ensures ∙ sym (asked-signature q p.0) in
     ends_as (begin-left q p.0 a.course a.told.now a.out.now _ _ _ signed)
     (c.go_on.ensures a.out.now (trail desk (signature_of (read_question desk q)) (conjunctions_of (read_question desk q))) a.work.now a.answer.now [] (numbered 0 (conjunctions_of (read_question desk q)))
-    (under-way q p.0 a.course a.told.now a.out.now a.work.now a.answer.now _ _ _ _ _ signed p.1 p.2 c.begin-tally.auto.0 c.lay_out-at.ensures c.begin-tally.ensures))
+    (under-way q p.0 a.course a.told.now a.out.now a.work.now a.answer.now _ _ _ _ _ signed p.1 p.2 c.begin-tally.auto.answer c.lay_out-at.ensures c.begin-tally.ensures))

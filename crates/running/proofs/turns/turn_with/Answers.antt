@@ -7,24 +7,16 @@ use Rattle.running.proofs.Advancing.{lined-turns, none_found, halt-found, below_
 use Rattle.running.proofs.turns.turn_with.Goals as goal
 
 pub find-b-requires-clause-k_len_bound : goal.find-b-requires-clause-k_len_bound
-find-b-requires-clause-k_len_bound c = (let x = c.requires.first_of.0 in (c.requires.k_len_bound.0, (record { conj = x.first.literals; fine = x.under.running.fine.0; words = x.words }, c.requires.first_of.1))).0
+find-b-requires-clause-k_len_bound c = c.requires.k_len_bound.0
 
 pub find-b-requires-clause-conjunction : goal.find-b-requires-clause-conjunction
-find-b-requires-clause-conjunction c = (let x = c.requires.first_of.0 in (c.requires.k_len_bound.0, (record { conj = x.first.literals; fine = x.under.running.fine.0; words = x.words }, c.requires.first_of.1))).1
-
-pub find-b-requires-clause-table_value : goal.find-b-requires-clause-table_value
-find-b-requires-clause-table_value c = (let x = c.requires.first_of.0 in (c.requires.k_len_bound.0, (record { conj = x.first.literals; fine = x.under.running.fine.0; words = x.words }, c.requires.first_of.1))).2
-
+find-b-requires-clause-conjunction c = let x = c.requires.first_of in record { conj = x.first.literals; fine = x.under.running.fine.0; words = x.words }
 
 pub line-requires-clause-k_len_bound : goal.line-requires-clause-k_len_bound
-line-requires-clause-k_len_bound c = (let x = c.requires.first_of.0 in let p = c.requires.k_len_bound in ((p.0, p.3, p.4, p.5), (record { conj = x.first.literals; fine = x.under.running.fine.0; words = x.words }, c.requires.first_of.1))).0
+line-requires-clause-k_len_bound c = let p = c.requires.k_len_bound in (p.0, p.3, p.4, p.5)
 
 pub line-requires-clause-conjunction : goal.line-requires-clause-conjunction
-line-requires-clause-conjunction c = (let x = c.requires.first_of.0 in let p = c.requires.k_len_bound in ((p.0, p.3, p.4, p.5), (record { conj = x.first.literals; fine = x.under.running.fine.0; words = x.words }, c.requires.first_of.1))).1
-
-pub line-requires-clause-table_value : goal.line-requires-clause-table_value
-line-requires-clause-table_value c = (let x = c.requires.first_of.0 in let p = c.requires.k_len_bound in ((p.0, p.3, p.4, p.5), (record { conj = x.first.literals; fine = x.under.running.fine.0; words = x.words }, c.requires.first_of.1))).2
-
+line-requires-clause-conjunction c = let x = c.requires.first_of in record { conj = x.first.literals; fine = x.under.running.fine.0; words = x.words }
 
 pub returns-then-b-eq-NO_RULE : goal.returns-then-b-eq-NO_RULE
 returns-then-b-eq-NO_RULE c = λ old whole old_work old_answer ls x w u ek eu en.
@@ -38,39 +30,34 @@ returns-then-b-gt-NO_RULE c = λ old whole old_work old_answer ls x w u ek eu en
     (halt-found c.args.s.signature x.literals _ _ _ (best-found c.args.s.signature x.literals _ (c.find-b.ensures.1 x.literals u.running.fine.0 ek)) c.if-b-gt-NO_RULE.true)
 
 pub choose-requires-clause-guided : goal.choose-requires-clause-guided
-choose-requires-clause-guided c = (let x = c.requires.first_of.0 in ((x.under.guided, c.requires.k_len_bound.0), (record { conj = x.first.literals; fine = x.under.running.fine.0; words = x.words }, c.requires.first_of.1))).0
+choose-requires-clause-guided c = (c.requires.first_of.under.guided, c.requires.k_len_bound.0)
 
 pub choose-requires-clause-conjunction : goal.choose-requires-clause-conjunction
-choose-requires-clause-conjunction c = (let x = c.requires.first_of.0 in ((x.under.guided, c.requires.k_len_bound.0), (record { conj = x.first.literals; fine = x.under.running.fine.0; words = x.words }, c.requires.first_of.1))).1
-
-pub choose-requires-clause-table_value : goal.choose-requires-clause-table_value
-choose-requires-clause-table_value c = (let x = c.requires.first_of.0 in ((x.under.guided, c.requires.k_len_bound.0), (record { conj = x.first.literals; fine = x.under.running.fine.0; words = x.words }, c.requires.first_of.1))).2
-
+choose-requires-clause-conjunction c = let x = c.requires.first_of in record { conj = x.first.literals; fine = x.under.running.fine.0; words = x.words }
 
 pub one_more-made-requires : goal.one_more-made-requires
-one_more-made-requires c = let x = c.requires.first_of.0 in
+one_more-made-requires c = let x = c.requires.first_of in
     let f = best-found c.args.s.signature x.first.literals _ (c.find-b.ensures.1 x.first.literals x.under.running.fine.0 x.words) in
     (chosen-step c.args.course c.args.told.now (length x.old) c.args.s.signature c.args.s.steps x.first _ _ c.in-Step.is
     (c.choose.ensures (length x.old) x.first x.under.running.fine.0 x.words x.under.running.few (below_all c.if-b-eq-NO_RULE.false c.if-b-gt-NO_RULE.false) f)).below
 
 pub advance-requires-clause-k_len_bound : goal.advance-requires-clause-k_len_bound
-advance-requires-clause-k_len_bound c = (let x = c.requires.first_of.0 in
+advance-requires-clause-k_len_bound c = let x = c.requires.first_of in
     let p = c.requires.k_len_bound in
     let f = best-found c.args.s.signature x.first.literals _ (c.find-b.ensures.1 x.first.literals x.under.running.fine.0 x.words) in
     let d = chosen-step c.args.course c.args.told.now (length x.old) c.args.s.signature c.args.s.steps x.first _ _ c.in-Step.is
     (c.choose.ensures (length x.old) x.first x.under.running.fine.0 x.words x.under.running.few (below_all c.if-b-eq-NO_RULE.false c.if-b-gt-NO_RULE.false) f) in
     let (a, h) = rule-at c.args.s.signature c.args.k.now x.first.literals x.under.running.fine.0 x.words _ d.ks d.applies in
-    ((p.0, h, omega arith, p.1, roomy c.args.course x.whole x.old c.args.s.signature c.args.s.steps _ c.args.out.now x.first.literals _ d.ks _ x.under.trailed d.traces), a)).0
+    (p.0, h, omega arith, p.1, roomy c.args.course x.whole x.old c.args.s.signature c.args.s.steps _ c.args.out.now x.first.literals _ d.ks _ x.under.trailed d.traces)
 
 pub advance-requires-clause-rule_at : goal.advance-requires-clause-rule_at
-advance-requires-clause-rule_at c = (let x = c.requires.first_of.0 in
+advance-requires-clause-rule_at c = let x = c.requires.first_of in
     let p = c.requires.k_len_bound in
     let f = best-found c.args.s.signature x.first.literals _ (c.find-b.ensures.1 x.first.literals x.under.running.fine.0 x.words) in
     let d = chosen-step c.args.course c.args.told.now (length x.old) c.args.s.signature c.args.s.steps x.first _ _ c.in-Step.is
     (c.choose.ensures (length x.old) x.first x.under.running.fine.0 x.words x.under.running.few (below_all c.if-b-eq-NO_RULE.false c.if-b-gt-NO_RULE.false) f) in
     let (a, h) = rule-at c.args.s.signature c.args.k.now x.first.literals x.under.running.fine.0 x.words _ d.ks d.applies in
-    ((p.0, h, omega arith, p.1, roomy c.args.course x.whole x.old c.args.s.signature c.args.s.steps _ c.args.out.now x.first.literals _ d.ks _ x.under.trailed d.traces), a)).1
-
+    a
 
 pub returns-in-Not : goal.returns-in-Not
 returns-in-Not c = λ old whole old_work old_answer ls x w u ek eu en.
