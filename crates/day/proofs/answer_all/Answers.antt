@@ -1,10 +1,10 @@
 use Prim.Native.Nat.{◌-◌}
-use mathlib.Core.Path.{sym, ◌∙◌}
+use mathlib.Core.Path.{sym}
 use native.Mathlib.Omega.{arith}
 use lib.Seq.{length-take-le}
 use Rattle.day.proofs.Cuts.{few-questions}
 use Rattle.day.proofs.Ends.{kept_same, kept_on}
-use Rattle.day.proofs.Turns.{none_yet, room-kept, place-fits, no_room, one_more, all_there}
+use Rattle.day.proofs.Turns.{none_yet, place-fits, no_room, one_more, all_there}
 use Rattle.day.proofs.answer_all.Goals as goal
 
 pub loop-i-init : goal.loop-i-init
@@ -23,20 +23,14 @@ solve_part-p-requires c = let p = c.requires in
     let ha = p.3 in
     (p.0, omega arith, omega arith, omega arith)
 
-pub overflow_add-next : goal.overflow_add-next
-overflow_add-next c = c.solve_part-p.ensures.kept.1.long ∙ c.loop-i.invariant.4.long
-
-pub overflow_add-next-in-loop-i : goal.overflow_add-next-in-loop-i
-overflow_add-next-in-loop-i c = room-kept _ _ c.requires.1 _ _ _ _ _ _ c.loop-i.invariant.2
-
 pub returns-then-room-next : goal.returns-then-room-next
 returns-then-room-next c = let p = c.requires in
     let l = c.loop-i in
     let e = l.invariant.0 in
     let s = c.solve_part-p.ensures in (
-      no_room _ _ p.1 _ _ _ _ _ _ l.invariant.2 (omega arith) _ _ l.invariant.3.long l.invariant.4.long _ _ _ s.0.0 s.0.1 s.0.2 _ (omega arith) c.if-room-next.true,
-      kept_on _ _ _ l.invariant.3 s.1.0,
-      kept_on _ _ _ l.invariant.4 s.1.1,
+      no_room _ _ p.1 _ _ _ _ _ _ l.invariant.2 (omega arith) _ _ l.invariant.3.long l.invariant.4.long _ _ _ s.len_le_room.0 s.len_le_room.1 s.len_le_room.2 _ (omega arith) c.if-room-next.true,
+      kept_on _ _ _ l.invariant.3 s.kept.0,
+      kept_on _ _ _ l.invariant.4 s.kept.1,
     )
 
 pub slice_bounds-place-end : goal.slice_bounds-place-end
@@ -52,7 +46,7 @@ place-requires c = let p = c.requires in
     let is = p.1 in
     let f = few-questions _ p.0 in
     let s = c.solve_part-p.ensures in
-    place-fits _ _ p.1 _ _ _ _ _ _ l.invariant.2 (omega arith) _ _ l.invariant.3.long l.invariant.4.long _ _ _ s.0.0 s.0.1 s.0.2 (omega arith) _ (omega arith) c.if-room-next.false
+    place-fits _ _ p.1 _ _ _ _ _ _ l.invariant.2 (omega arith) _ _ l.invariant.3.long l.invariant.4.long _ _ _ s.len_le_room.0 s.len_le_room.1 s.len_le_room.2 (omega arith) _ (omega arith) c.if-room-next.false
 
 pub loop-i-preserved : goal.loop-i-preserved
 loop-i-preserved c = let p = c.requires in
@@ -61,9 +55,9 @@ loop-i-preserved c = let p = c.requires in
     let s = c.solve_part-p.ensures in (
       e,
       omega arith,
-      one_more _ _ p.1 _ _ _ _ _ _ l.invariant.2 (omega arith) _ _ l.invariant.3.long l.invariant.4.long _ _ _ s.0.0 s.0.1 s.0.2 _ (omega arith) c.if-room-next.false _ c.place.ensures,
-      kept_on _ _ _ l.invariant.3 s.1.0,
-      kept_on _ _ _ l.invariant.4 s.1.1,
+      one_more _ _ p.1 _ _ _ _ _ _ l.invariant.2 (omega arith) _ _ l.invariant.3.long l.invariant.4.long _ _ _ s.len_le_room.0 s.len_le_room.1 s.len_le_room.2 _ (omega arith) c.if-room-next.false _ c.place.ensures,
+      kept_on _ _ _ l.invariant.3 s.kept.0,
+      kept_on _ _ _ l.invariant.4 s.kept.1,
     )
 
 pub returns : goal.returns
