@@ -1,4 +1,6 @@
 // Lines of decimal words, for the programs that run cases and compare.
+#![tactic(auto)]
+
 ghost use Rattle.cases.specs.Lines.{Ends, Parsed};
 
 use prompt::parse;

@@ -1,4 +1,8 @@
 // The desk at a prompt.
-fn main() {
-    commands::obey();
+#![tactic(auto)]
+
+use std::process::ExitCode;
+
+fn main(rt: HostRuntime) -> ExitCode {
+    commands::obey(&rt)
 }

@@ -1,5 +1,7 @@
 // What the desk says at its prompt of a walk through an answer, in plain words: the rules by their names, a sentence for each of them, and how a branch
 // ends. To print is all that these calls do: they return nothing, and are proved safe and ending.
+#![tactic(auto)]
+
 mod names;
 mod reasons;
 pub mod rows;
