@@ -187,8 +187,8 @@ fn run(rt: &HostRuntime, i: usize) -> Status
     }
 }
 
-// Does what the arguments ask for, and answers with the exit status. The first of them may be --status-on-3, with which scripts asked for the status
-// when it was no exit status: it says nothing more than is so without it.
+// Does what the arguments ask for, and answers with the exit status. By a first argument --status-on-3 scripts asked for the status when a program had none
+// of its own: it is taken, and changes nothing.
 pub fn obey(rt: &HostRuntime) -> ExitCode {
     if is(rt, 1, b"--status-on-3") {
         return exit_code(run(rt, 2));
