@@ -1,4 +1,6 @@
 // Whether two complete hedges in words are the same, where the children of some symbols come in any order.
+#![tactic(auto)]
+
 ghost use Rattle.std.specs.Prelude.{◌≤◌, length};
 ghost use Rattle.language.specs.Limits.{desk};
 ghost use Rattle.passing.specs.Places.{Hedge, Term};

@@ -1,4 +1,6 @@
 // The one variable that a side of an equation is, and whether it stands nowhere else.
+#![tactic(auto)]
+
 ghost use Rattle.std.specs.Prelude.{◌≡◌};
 ghost use Rattle.alone.specs.Lone.{single_term, bare_functor, lone, side_variable, lone_word, alone_side};
 

@@ -1,4 +1,6 @@
 // The example of a line of an answer, which is read where it stands.
+#![tactic(auto)]
+
 ghost use Rattle.std.specs.Prelude.{◌+◌, ◌<◌, ◌≤◌, length, ◌≡◌};
 ghost use Rattle.language.specs.Trees.{Counts};
 ghost use Rattle.rules.specs.Example.{default_symbol};

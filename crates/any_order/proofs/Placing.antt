@@ -1,6 +1,6 @@
 -- The search: what is tried is all there is to try.
 use Prim.Native.Nat.{ℕ, zero, suc, ◌+◌, ◌-◌, ◌*◌, ◌<◌, ◌≤◌}
-use mathlib.Core.Path.{◌≡◌, refl, sym, ◌∙◌, ap}
+use mathlib.Core.Path.{◌≡◌, refl, sym, subst, ◌∙◌, ap}
 use mathlib.Core.Logic.{inl, inr, ◌↔◌}
 use mathlib.Core.Bool.{Bool, true, false, not}
 use mathlib.Core.List.{List, [], ◌∷◌}
@@ -295,7 +295,7 @@ module _ {w : List ℕ} {kind top : ℕ} {c l : List ℕ} {times : ℕ} where
                 records = rw a₁ y;
                 fits = r.fits;
                 bounded = r.bounded;
-                within = rw (length-set c p (get_or c p 0 + 1)) v;
+                within = subst (λ (m : ℕ). Each (λ (k : Kind). Each (λ p. (p < m) × (p < length l)) k.places) (k ∷ ks)) (sym (length-set c p (get_or c p 0 + 1))) v;
                 room = λ q. omega (arith, o q, bumped-le c p q lt, r.some z);
                 some = λ _. omega (arith, leb-true 1 (times - 1) e);
               }

@@ -1,5 +1,7 @@
 // Whether terms of several kinds can be shared out among the symbols of an expression so that, in some order, they are a member of it. The terms of a kind may
 // be put on the same symbols.
+#![tactic(auto)]
+
 ghost use Rattle.std.specs.Prelude.{◌≡◌, ◌+◌, ◌-◌, ◌≤◌, ◌<◌, max, min, length};
 ghost use Rattle.language.specs.Limits.{desk};
 ghost use Rattle.any_order.specs.Places.{Expression};

@@ -1,4 +1,6 @@
 // Whether the rule of one place in the list applies at a literal: the search asks for the first that does, and this for one that is named.
+#![tactic(auto)]
+
 ghost use Rattle.std.specs.Prelude.{◌<◌, ◌≡◌, ◌++◌, length};
 ghost use Rattle.language.specs.Kinds.{pick};
 ghost use Rattle.language.specs.Trees.{Hedge, Expr, Literal, eqn, Conj};

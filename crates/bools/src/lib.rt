@@ -1,4 +1,6 @@
 // Truths made and put together by a call, so that a proof has no branch for them.
+#![tactic(auto)]
+
 ghost use Rattle.std.specs.Prelude.{◌≡◌, not, ◌&&◌, ◌||◌, eqb};
 
 pub fn and(a: bool, b: bool) -> bool

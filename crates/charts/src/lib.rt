@@ -1,5 +1,7 @@
 // A chart of words: where each expression in them ends and whether it is nullable, found once for all places, from the last word on. By it the expression
 // is found that a symbol is a symbol of.
+#![tactic(auto)]
+
 ghost use Rattle.std.specs.Prelude.{◌+◌, ◌≤◌, ◌<◌, ◌≡◌, false, eqb, leb, length};
 ghost use Rattle.language.specs.Kinds.{pick};
 ghost use Rattle.expressions.specs.Standing.{Parted};

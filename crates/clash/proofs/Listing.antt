@@ -41,6 +41,7 @@ pub marked-in : (ps : List ℕ) (f : List Bool) (i : ℕ) → Memᴰ i ps → i 
 marked-in (p ∷ ps) f i (Memᴰ.head e) l =
     marked-keeps ps (set f p true) i (subst (λ q. get_or (set f q true) i false ≡ true) e (get_or-set_same f i true false l))
 marked-in (p ∷ ps) f i (Memᴰ.tail m) l = marked-in ps (set f p true) i m (subst (λ n. i < n) (sym (length-set f p true)) l)
+marked-in [] f i x'' l = elim x'' [ ]
 
 pub in-marked : (ps : List ℕ) (f : List Bool) (i : ℕ) → get_or (marked ps f) i false ≡ true → Memᴰ i ps ⊎ (get_or f i false ≡ true)
 in-marked [] f i e = inr e

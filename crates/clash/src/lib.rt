@@ -1,4 +1,6 @@
 // Two shape tests of one variable, walked together in their words.
+#![tactic(auto)]
+
 mod follow;
 mod pairs;
 mod states;

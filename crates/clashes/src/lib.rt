@@ -1,4 +1,6 @@
 // The clash among the literals of a conjunction, in its words: the earliest test of a lone variable that clashes with a later one.
+#![tactic(auto)]
+
 ghost use Rattle.std.specs.Prelude.{◌+◌, ◌≤◌, ◌<◌, ◌≡◌, length};
 ghost use Rattle.std.proofs.Math.Seq.{slice};
 ghost use Rattle.language.specs.Limits.{desk};

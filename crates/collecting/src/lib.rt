@@ -1,5 +1,7 @@
 // The names of a whole text, each put on the shelf of its class in the order of first appearance: for whoever reads the text, and for whoever names
 // things as it does.
+#![tactic(auto)]
+
 ghost use Rattle.std.specs.Prelude.{◌≤◌, ◌≡◌, length};
 ghost use Rattle.language.specs.Limits.{desk};
 ghost use Rattle.lexing.specs.declared.Mark.TheVariants.{Symbol};

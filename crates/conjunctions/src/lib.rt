@@ -1,4 +1,6 @@
 // The conjunctions of a question, each of which is to be exactly literals.
+#![tactic(auto)]
+
 ghost use Rattle.std.specs.Prelude.{◌≡◌, true, ◌+◌};
 ghost use Rattle.language.specs.Limits.{desk};
 ghost use Rattle.language.specs.Reading.{read_conj};

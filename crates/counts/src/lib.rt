@@ -1,4 +1,6 @@
 // A table of how often each word stands among others, up to the last word of a variable: a variable's count is kept at the place of its word.
+#![tactic(auto)]
+
 ghost use Rattle.std.specs.Prelude.{ℕ, ◌+◌, ◌-◌, ◌≤◌, ◌<◌, ◌≡◌, eqb, ltb, length, get_or};
 ghost use Rattle.std.proofs.Math.Seq.{slice};
 ghost use Rattle.counts.specs.Tables.{times, table, count_at, one_in, one_out, added, removed};

@@ -1,4 +1,6 @@
 // The three courses of a run, and a step made on each: counted, and noted where steps are.
+#![tactic(auto)]
+
 ghost use Rattle.std.specs.Prelude.{◌+◌, ◌≤◌, ◌<◌, ◌≡◌, length};
 ghost use Rattle.language.specs.Limits.{desk};
 ghost use Rattle.views.specs.Standing.{SomeLiteral};

@@ -1,4 +1,6 @@
 // What the rules of equations make of the words that eliminate a variable, or look along a side for one; and those that leave nothing.
+#![tactic(auto)]
+
 ghost use Rattle.std.specs.Prelude.{◌+◌, ◌≡◌};
 ghost use Rattle.language.specs.declared.HedgeVar.{HedgeVar};
 ghost use Rattle.language.specs.Trees.{Hedge, hvar};

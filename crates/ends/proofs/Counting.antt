@@ -45,6 +45,7 @@ module _ (j k : Conj) (stays : (v : Var) → settled k v ≡ true → settled j 
       let y = ap (λ u. one (not (settled j u))) (sym e) ∙ ap (λ c. one (not c)) b in
       omega arith
   unsettled-fewer (w ∷ vs) v (Memᴰ.tail m) a b = let y = no_more w in let z = unsettled-fewer vs v m a b in omega arith
+  unsettled-fewer [] v x3 a b = elim x3 [ ]
 
 -- ---- all variables are among these
 

@@ -40,6 +40,7 @@ names_c (mem h R ∷ k) = names h ++ names_c k
 left_in : {A : Type 0} {x : A} (xs ys : List A) → Memᴰ x xs → Memᴰ x (xs ++ ys)
 left_in (y ∷ xs) ys (Memᴰ.head e) = Memᴰ.head e
 left_in (y ∷ xs) ys (Memᴰ.tail m) = Memᴰ.tail (left_in xs ys m)
+left_in {A = A} [] ys x'' = elim x'' [ ]
 
 right-in : {A : Type 0} {x : A} (xs ys : List A) → Memᴰ x ys → Memᴰ x (xs ++ ys)
 right-in [] ys m = m

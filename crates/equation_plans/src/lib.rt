@@ -1,5 +1,7 @@
 // What each rule of equations makes of the words: its results, described by parts of them. Rules that move parts stand here, the others in
 // `elimination_plans`.
+#![tactic(auto)]
+
 ghost use Rattle.std.specs.Prelude.{◌≡◌};
 ghost use Rattle.language.specs.declared.Signature.{Signature};
 ghost use Rattle.rules.specs.Rules.{D1};

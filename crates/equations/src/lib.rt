@@ -1,4 +1,6 @@
 // The first rule at an equation, seen from its left side.
+#![tactic(auto)]
+
 ghost use Rattle.std.specs.Prelude.{◌≡◌, ◌++◌};
 ghost use Rattle.language.specs.Trees.{Hedge, Conj};
 ghost use Rattle.views.specs.Views.{Sees};

@@ -133,6 +133,7 @@ module _ (limit : ℕ) (σ : Signature) (v : Var) (R : Expr) where
   never_both ρ (eqn l r ∷ k) (here z) a m = z
   never_both ρ (mem h S ∷ k) (here c) a m = c.3.1 (value_in σ ρ v R S a (rw (where-some (λ w. fill ρ h ≡ value ρ w) (lone_var h) v (lone-fills ρ h) c.0) at m.0))
   never_both ρ (l ∷ k) (later p f) a m = never_both ρ k f a m.1
+  never_both ρ [] x3 a m = elim x3 [ ]
 
 -- The rule, at a test of a lone variable, says of the literals behind it what it should; at any other literal it does not apply.
 pub clash-says : (limit : ℕ) (σ : Signature) (h : Hedge) (R : Expr) (behind : Conj) (v : Var) → lone_var h ≡ some v

@@ -1,6 +1,6 @@
 -- A step and a run that finishes keep the fillings, number by number.
 use Prim.Native.Nat.{ℕ, suc, ◌+◌, ◌<◌}
-use mathlib.Core.Path.{◌≡◌, refl}
+use mathlib.Core.Path.{◌≡◌, refl, sym, subst}
 use mathlib.Core.Logic.Iff
 use mathlib.Core.Logic.{◌⊎◌, inl, inr, ◌↔◌}
 use mathlib.Core.List.{List, [], ◌∷◌, ◌++◌, append_assoc, append-nil}
@@ -74,12 +74,13 @@ module _ (σ : Signature) where
   numbered-at ρ n m [] = (λ z. z, λ z. z)
   numbered-at ρ ℕ.zero m (k ∷ ks) = (
     λ a. inl (rw add-zero, a),
-    λ o. elim o [ inl a ↦ a.1 | inr s ↦ absurd (above ρ m (suc m) ks (omega arith) (rw add-zero at s)) ],
+    λ o. elim o [ inl a ↦ a.1 | inr s ↦ absurd (above ρ m (suc m) ks (omega arith) (subst (λ x. MeetsNumbered σ ρ x (numbered (suc m) ks)) (add-zero m) s)) ],
   )
   numbered-at ρ (ℕ.suc n) m (k ∷ ks) =
-      let e = numbered-at ρ n (suc m) ks in (
-        λ a. inr (rw (add-suc, ← suc-add) (e.0 a)),
-        λ o. elim o [ inl a ↦ absurd (let z = a.0 in omega arith) | inr s ↦ e.1 (rw (add-suc, ← suc-add) at s) ],
+      let e = numbered-at ρ n (suc m) ks in
+      let p : suc m + n ≡ m + suc n = omega arith in (
+        λ a. inr (subst (λ x. MeetsNumbered σ ρ x (numbered (suc m) ks)) p (e.0 a)),
+        λ o. elim o [ inl a ↦ absurd (let z = a.0 in omega arith) | inr s ↦ e.1 (subst (λ x. MeetsNumbered σ ρ x (numbered (suc m) ks)) (sym p) s) ],
       )
 
   -- A filling meets the alternative of a number exactly when it meets a line of that number.

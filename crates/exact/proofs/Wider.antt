@@ -17,7 +17,7 @@ use Rattle.language.proofs.Wider.{read-wider, first-within}
 use Rattle.meaning.specs.Values.{offsets_of, joined}
 use Rattle.rules.specs.Reply.{Reply, nothing, results, stops}
 use Rattle.rules.specs.Step.{Step, step}
-use Rattle.rules.specs.Run.{Numbered, all_of, numbered, size, any_long, waiting_size, lines_at, lines_size, lines_fit, Outcome, finished, refused, lined, turn, run_from, run_by, run}
+use Rattle.rules.specs.Run.{Numbered, all_of, numbered, size, any_long, waiting_size, lines_at, lines_size, lines_fit, Outcome, finished, refused, lined, turn, checked, run_from, run_by, run}
 use Rattle.rules.specs.Answer.{line_words, count_open, padded, answer_words, answered, ran, solving_of, solving}
 use Rattle.rules.proofs.Tests.{neither}
 use Rattle.rules.proofs.Invariant.{answered-run}
@@ -84,8 +84,8 @@ module _ (L M : Limits) (i : Within L M) where
 
   from-wider : (by : Step) (d e n : ℕ) (ls w : List Numbered) → d ≤ e → Finishes (run_from L by d n ls w) (run_from M by e n ls w)
   unfolding run_from
-  from-wider by zero zero n ls w h = turn-wider by _ _ (λ ms ks v. never StepLimit _) n ls w
-  from-wider by zero (suc e) n ls w h = turn-wider by _ _ (λ ms ks v. never StepLimit _) n ls w
+  from-wider by zero zero n ls w h = turn-wider by (λ _ _ _. refused StepLimit) (λ _ _ _. refused StepLimit) (λ ms ks v. never StepLimit _) n ls w
+  from-wider by zero (suc e) n ls w h = turn-wider by (λ _ _ _. refused StepLimit) (λ ms ks v. checked M ks v (λ x. run_from M by e (suc n) ms x)) (λ ms ks v. never StepLimit _) n ls w
   from-wider by (suc d) zero n ls w h = absurd (omega arith)
   from-wider by (suc d) (suc e) n ls w h =
       turn-wider by _ _ (λ ms ks v.

@@ -1,4 +1,6 @@
 // The example of a line of a question, which is solved anew.
+#![tactic(auto)]
+
 ghost use Rattle.std.specs.Prelude.{◌≡◌};
 ghost use Rattle.outcomes.specs.Numbers.{shown_numbers};
 ghost use Rattle.example.specs.Exhibits.{told_exhibits};

@@ -1,4 +1,6 @@
 // The words of an expression, from its last byte to its first: each is put right before those that are there already.
+#![tactic(auto)]
+
 ghost use Rattle.std.specs.Prelude.{◌+◌, ◌-◌, ◌*◌, ◌≤◌, ◌<◌, ◌≡◌, not, ◌∷◌, length, drop};
 ghost use Rattle.lexing.specs.declared.Mark.TheVariants.{Opens};
 ghost use Rattle.language.specs.Limits.{desk};

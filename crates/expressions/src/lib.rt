@@ -1,4 +1,6 @@
 // Expressions standing in words: where one ends, and whether it is nullable.
+#![tactic(auto)]
+
 ghost use Rattle.expressions.specs.Standing.{Parted};
 
 use bools::{and, or};

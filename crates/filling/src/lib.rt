@@ -1,4 +1,6 @@
 // A filling in words: how each word of the question is shown under it, and what the words of a hedge become.
+#![tactic(auto)]
+
 ghost use Rattle.std.specs.Prelude.{◌≡◌, ◌+◌, ◌≤◌, ◌<◌, length, drop};
 ghost use Rattle.filling.specs.Showing.{body_at, name_at, TermEnd, shown, step_on, filled, HasValue, Shows, Written};
 ghost use Rattle.language.specs.Limits.{desk};

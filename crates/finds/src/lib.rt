@@ -1,5 +1,7 @@
 // What is looked for along the elements of a hedge in a conjunction's words: terms alone, and the terms up to one that holds a hedge variable. The laws of
 // such walks stand here, for those of `spots` too.
+#![tactic(auto)]
+
 ghost use Rattle.std.specs.Prelude.{ℕ, ◌+◌, ◌≤◌, ◌<◌, ◌≡◌, List, length};
 ghost use Rattle.language.specs.declared.HedgeVar.{HedgeVar};
 ghost use Rattle.language.specs.Limits.{desk};

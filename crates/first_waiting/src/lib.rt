@@ -1,5 +1,7 @@
 // The first waiting conjunction, taken out of its frame, and beside it the table of how often each variable occurs in it. Both are kept from turn to
 // turn: only the words that are not as before are counted.
+#![tactic(auto)]
+
 ghost use Rattle.std.specs.Prelude.{◌+◌, ◌-◌, ◌≤◌, ◌<◌, ◌≡◌, length, take};
 ghost use Rattle.std.proofs.Math.Seq.{slice};
 ghost use Rattle.std.proofs.lemmas.List.Edits.{sets};

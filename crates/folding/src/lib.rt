@@ -1,4 +1,6 @@
 // What the fold looks for in a conjunction's words: the earliest literal that stands there again, and where it stands again first.
+#![tactic(auto)]
+
 ghost use Rattle.std.specs.Prelude.{ℕ, ◌+◌, ◌-◌, ◌*◌, ◌≤◌, ◌<◌, min, ◌≡◌, length, get_or};
 ghost use Rattle.std.proofs.Math.Seq.{slice};
 ghost use Rattle.language.specs.Limits.{desk};

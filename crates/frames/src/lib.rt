@@ -1,4 +1,6 @@
 // The frame of a waiting conjunction: the words that stand before its own. They are written and read here alone.
+#![tactic(auto)]
+
 ghost use Rattle.std.specs.Prelude.{◌≡◌, ◌<◌, ◌≤◌, ◌+◌, length};
 ghost use Rattle.std.proofs.lemmas.List.Edits.{sets};
 ghost use Rattle.frames.specs.Frames.{frame, frame_of, framed_length, framed_number};

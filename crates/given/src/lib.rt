@@ -1,4 +1,6 @@
 // The values of a filling, read: its count and offsets, the form of each value, and which of the refusals 11 and 12 is given.
+#![tactic(auto)]
+
 ghost use Rattle.std.specs.Prelude.{◌≡◌, true, ◌+◌, ◌<◌};
 ghost use Rattle.language.specs.Limits.{desk};
 ghost use Rattle.language.specs.Kinds.{kind_of};

@@ -1,4 +1,6 @@
 // What the calls for C hand to their host: a number, and the bytes lent, by the number that came back from the calls on words.
+#![tactic(auto)]
+
 ghost use Rattle.std.specs.Prelude.{◌*◌, ◌≤◌, ◌≡◌, ◌++◌, length, drop, replicate};
 ghost use Rattle.outcomes.specs.Numbers.{outcome_number};
 ghost use Rattle.handing.specs.Handed.{used, number_or, word_bytes, keeps_bytes, answer_out, trail_out};

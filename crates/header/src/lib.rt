@@ -1,4 +1,6 @@
 // The first words of a question, and the table of offsets of a question or a filling.
+#![tactic(auto)]
+
 ghost use Rattle.std.specs.Prelude.{◌≡◌, ◌≤◌, length};
 ghost use Rattle.language.specs.Trees.{signature};
 ghost use Rattle.language.specs.Question.{rising, laid_out, counts_of};

@@ -1,5 +1,7 @@
 // The calls of the control room's host that solve: bytes and numbers around the calls on words. The slices that a call on words is lent are arrays of
 // the desk's own, cleared at the start.
+#![tactic(auto)]
+
 ghost use Rattle.std.specs.Prelude.{◌*◌, ◌≤◌, ◌≡◌, length};
 ghost use Rattle.language.specs.Limits.{desk};
 ghost use Rattle.host.specs.Host.{solving_bytes, solve_number, solve_leaves, showing_bytes, show_number, show_leaves, day_bytes};
@@ -14,8 +16,7 @@ use outcomes::{shown_length, shown_number, verdict_number};
 use word_bytes::{take_words, write_words};
 
 // Solves a question: the refusal's number, or 0.
-#[unsafe(no_mangle)]
-pub extern "C" fn desk_solve(question: &[u8], answer: &mut [u8]) -> u32
+pub fn desk_solve(question: &[u8], answer: &mut [u8]) -> u32
     ensures value { result ≡ solve_number (solving_bytes desk (length answer.old) question.now) }
     ensures answer_after { answer.new ≡ solve_leaves desk (solving_bytes desk (length answer.old) question.now) answer.old }
 {
@@ -48,8 +49,7 @@ fn show(question: &[u16], line: usize, old: bool, own: &mut [u16], room: &mut [u
 
 // Shows the example of a settled line: 100 and its length in words, or the refusal's number. Free blanks take the last declared symbol where `old`
 // is 0, and else symbol 0.
-#[unsafe(no_mangle)]
-pub extern "C" fn desk_example(question: &[u8], line: u32, old: u32, room: &mut [u8]) -> u32
+pub fn desk_example(question: &[u8], line: u32, old: u32, room: &mut [u8]) -> u32
     ensures value { result ≡ show_number (showing_bytes desk (length room.old) line old question.now) }
     ensures room_after { room.new ≡ show_leaves (showing_bytes desk (length room.old) line old question.now) room.old }
 {
@@ -61,8 +61,7 @@ pub extern "C" fn desk_example(question: &[u8], line: u32, old: u32, room: &mut 
 }
 
 // Answers a day's sheet: the refusal's number, or 0.
-#[unsafe(no_mangle)]
-pub extern "C" fn desk_day(sheet: &[u8], room: &mut [u8]) -> u32
+pub fn desk_day(sheet: &[u8], room: &mut [u8]) -> u32
     ensures value { result ≡ day_number (day_bytes desk (length room.old) sheet.now) }
     ensures room_after { room.new ≡ room_leaves (day_bytes desk (length room.old) sheet.now) room.old }
 {

@@ -1,4 +1,6 @@
 // Elements copied in the order of a number. The order is found from its number alone, digit by digit, so that nothing is kept between results.
+#![tactic(auto)]
+
 ghost use Rattle.std.specs.Prelude.{◌+◌, ◌≤◌, ◌<◌, ◌≡◌, length};
 ghost use Rattle.slices.specs.Written.{Wrote};
 ghost use Rattle.words.specs.Spans.{places};

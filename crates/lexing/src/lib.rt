@@ -1,4 +1,6 @@
 // The tokens of a text, one after the other, where they stand: a name is kept as the place where it begins.
+#![tactic(auto)]
+
 ghost use Rattle.std.specs.Prelude.{◌+◌, ◌≤◌, ◌<◌, ◌≡◌, length, drop};
 ghost use Rattle.language.specs.Kinds.{pick};
 ghost use Rattle.grammar.specs.Tokens.{name_byte, blank};

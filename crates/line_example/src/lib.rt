@@ -1,4 +1,6 @@
 // The example of one line, written as a filling: a table of offsets, and the values of the variables.
+#![tactic(auto)]
+
 mod sorts;
 
 ghost use Rattle.std.specs.Prelude.{◌≤◌, ◌<◌, length};

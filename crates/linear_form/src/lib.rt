@@ -3,6 +3,8 @@
 // part of that slice. The results are counted first, by a recursion that needs none of their words and goes as deep as an expression may, and then
 // written, if all of them fit. Each recursion has one call for each part, and what is handed down is found before: a call's copies of what it lends
 // stand in the frame of every level.
+#![tactic(auto)]
+
 mod adding;
 mod chart;
 

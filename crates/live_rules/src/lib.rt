@@ -1,4 +1,6 @@
 // A sheet of live rules in bytes: whether it is one, and where its rules stand.
+#![tactic(auto)]
+
 ghost use Rattle.std.specs.Prelude.{◌+◌, ◌*◌, ◌/◌, ◌≤◌, ◌≡◌, length};
 ghost use Rattle.word_bytes.specs.Bytes.{words_of, words_in};
 ghost use Rattle.live_rules.specs.Layout.{rule_end, rule_fits, rules_laid, sheet_number};

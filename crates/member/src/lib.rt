@@ -1,4 +1,6 @@
 // Membership of a complete hedge in an expression, both given in words: in time words times words, but for the children of unordered symbols.
+#![tactic(auto)]
+
 ghost use Rattle.std.specs.Prelude.{◌+◌, ◌≤◌, ◌<◌, length};
 ghost use Rattle.language.specs.Limits.{desk};
 ghost use Rattle.any_order.specs.Places.{Expression};

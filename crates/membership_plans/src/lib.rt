@@ -1,4 +1,6 @@
 // What each rule of memberships makes of the words: its results, described by parts of them.
+#![tactic(auto)]
+
 ghost use Rattle.std.specs.Prelude.{◌≡◌};
 ghost use Rattle.language.specs.declared.Signature.{Signature};
 ghost use Rattle.rules.specs.Rules.{M5, M6, M7, M12};

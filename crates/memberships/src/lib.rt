@@ -1,4 +1,6 @@
 // The first rule at a membership.
+#![tactic(auto)]
+
 ghost use Rattle.std.specs.Prelude.{ℕ, ◌≡◌, List, ◌++◌};
 ghost use Rattle.language.specs.Kinds.{pick};
 ghost use Rattle.language.specs.Trees.{Functor, Hedge, node, Expr, Conj};

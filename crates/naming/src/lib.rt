@@ -1,4 +1,6 @@
 // A step that is named: whether the rule of a place in the list applies at a literal, as it is written or with its sides swapped.
+#![tactic(auto)]
+
 ghost use Rattle.std.specs.Prelude.{◌<◌, ◌≡◌, length};
 ghost use Rattle.language.specs.Trees.{Literal, Conj};
 ghost use Rattle.rules.specs.Places.{at_clash};

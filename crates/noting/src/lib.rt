@@ -1,4 +1,6 @@
 // A step noted in a trail: three words behind those of the steps before it.
+#![tactic(auto)]
+
 ghost use Rattle.std.specs.Prelude.{◌*◌, ◌≤◌, ◌<◌, ◌≡◌, length};
 ghost use Rattle.language.specs.Kinds.{pick};
 ghost use Rattle.noting.specs.Noting.{Noted};

@@ -1,5 +1,7 @@
 // The orders of elements, by their numbers: how many there are, and how many words the elements are in each. What a number decides is said here; `in_order`
 // and `renaming` write it.
+#![tactic(auto)]
+
 ghost use Rattle.std.specs.Prelude.{◌≡◌, length};
 ghost use Rattle.orders.specs.Orders.{ordered, some_orders};
 

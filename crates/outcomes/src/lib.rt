@@ -1,4 +1,6 @@
 // What the calls answer with, and the numbers of each answer.
+#![tactic(auto)]
+
 ghost use Rattle.std.specs.Prelude.{◌≡◌};
 ghost use Rattle.outcomes.specs.Numbers.{checked_number, outcome_number, tried_number, tried_value, shown_number, shown_length};
 

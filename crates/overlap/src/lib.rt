@@ -1,4 +1,6 @@
 // The overlap desk, for a C program: whether two live rules can meet, and the table of a whole sheet of them.
+#![tactic(auto)]
+
 ghost use Rattle.std.specs.Prelude.{◌+◌, ◌*◌, ◌/◌, ◌≤◌, ◌<◌, ◌≡◌, true, map, length};
 ghost use Rattle.std.proofs.lemmas.List.Edits.{sets};
 ghost use Rattle.word_bytes.specs.Bytes.{words_of, words_in, bytes_of};
@@ -28,8 +30,7 @@ fn first_word(n: u32) -> u16
 
 // Whether two rules can meet, by their patterns' bytes: 100 they cannot, 101 it is not settled, 200 and the words of a report that both match, which
 // the room then holds; or the refusal's number.
-#[unsafe(no_mangle)]
-pub extern "C" fn overlap_pair(word_0: u32, first: &[u8], second: &[u8], room: &mut [u8]) -> u32
+pub fn overlap_pair(word_0: u32, first: &[u8], second: &[u8], room: &mut [u8]) -> u32
     ensures { Told (meeting (length room.old / 2) (word_from word_0) (words_in first.now) (words_in second.now)) 0 room.old result room.new }
 {
     let size = room.len() / 2;
@@ -131,8 +132,7 @@ fn table_length(n: usize, size: usize) -> usize
 }
 
 // The table of a sheet of live rules: the refusal's number, or 0. Each row has room for a report of `report` words.
-#[unsafe(no_mangle)]
-pub extern "C" fn overlap_sheet(sheet: &[u8], report: u32, room: &mut [u8]) -> u32
+pub fn overlap_sheet(sheet: &[u8], report: u32, room: &mut [u8]) -> u32
     ensures value { result ≡ table_number report (words_in sheet.now) (length room.old / 2) }
     ensures room_after { room.new ≡ table_leaves report (words_in sheet.now) room.old }
 {

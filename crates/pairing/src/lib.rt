@@ -1,4 +1,6 @@
 // Whether two patterns can meet: a report that both match, if there is one. It knows the solver, the example and the reader by their contracts.
+#![tactic(auto)]
+
 ghost use Rattle.std.specs.Prelude.{ℕ, ◌+◌, ◌*◌, ◌≤◌, ◌<◌, ◌≡◌, false, List, eqb, length, get_or};
 ghost use Rattle.std.proofs.lemmas.List.Edits.{sets};
 ghost use Rattle.language.specs.Limits.{desk};

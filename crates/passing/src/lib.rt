@@ -1,4 +1,6 @@
 // Complete hedges in words: the place after one; and marks beside the words.
+#![tactic(auto)]
+
 ghost use Rattle.std.specs.Prelude.{◌≡◌, ◌+◌, ◌-◌, ◌≤◌, ◌<◌, eqb, length};
 ghost use Rattle.language.specs.Kinds.{pick};
 ghost use Rattle.passing.specs.Places.{Hedge, Skipped, Cleared};

@@ -1,4 +1,6 @@
 // The question of a pair of patterns, made from their bytes: the blanks of each are numbered apart, and the two stand in one equation.
+#![tactic(auto)]
+
 ghost use Rattle.std.specs.Prelude.{◌+◌, ◌-◌, ◌*◌, ◌/◌, ◌%◌, ◌≤◌, ◌<◌, ◌≡◌, false, ◌||◌, [], ◌∷◌, ◌++◌, map, eqb, ltb, length, get_or, set, drop};
 ghost use Rattle.std.proofs.lemmas.List.Edits.{sets};
 ghost use Rattle.language.specs.Limits.{desk};

@@ -1,4 +1,6 @@
 // How the results of a rule are described: by parts of a conjunction's words, copied or with words replaced.
+#![tactic(auto)]
+
 ghost use Rattle.std.specs.Prelude.{◌-◌, ◌≤◌, ◌≡◌, length};
 ghost use Rattle.language.specs.Limits.{desk};
 ghost use Rattle.plans.specs.Sizes.{grown, grown_by};

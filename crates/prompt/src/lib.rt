@@ -1,4 +1,6 @@
 // Words in decimal, as a person writes them: blanks and line ends between them, and from # to the end of a line a remark.
+#![tactic(auto)]
+
 ghost use Rattle.std.specs.Prelude.{◌<◌, ◌≤◌, ◌≡◌, [], ◌∷◌, length};
 ghost use Rattle.prompt.specs.Texts.{digit, gap, longer, after_word, outside, in_remark, next, is_wrong, begins, after, ended};
 ghost use Rattle.prompt.specs.declared.Mode.TheVariants.{Number};

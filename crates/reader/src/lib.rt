@@ -1,4 +1,6 @@
 // Reading a question's words: its header, its offsets, its conjunctions, and which of the refusals 2 to 6 is given.
+#![tactic(auto)]
+
 ghost use Rattle.std.specs.Prelude.{◌≡◌};
 ghost use Rattle.language.specs.Limits.{desk};
 ghost use Rattle.language.specs.Question.{counts_fit, read_question};

@@ -1,4 +1,6 @@
 // A recipe put together from its pieces.
+#![tactic(auto)]
+
 ghost use Rattle.std.specs.Prelude.{◌≡◌};
 ghost use Rattle.plans.specs.Slots.{full_recipe, few_recipe};
 

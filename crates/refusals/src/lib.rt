@@ -1,4 +1,6 @@
 // A refusal in numbers: which of the table it is, and where the mistake is.
+#![tactic(auto)]
+
 ghost use Rattle.std.specs.Prelude.{◌≡◌};
 ghost use Rattle.language.specs.Numbers.{number_of, place_of};
 

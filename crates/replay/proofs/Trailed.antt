@@ -93,7 +93,7 @@ module _ (L : Limits) (σ : Signature) (room : ℕ) where
 
   roomy : (d n : ℕ) (ls w : List Numbered) → 3 * (n + d) ≤ room → run_writing L σ room d n ls w ≡ run_from L (step σ) d n ls w
   unfolding run_writing run_from
-  roomy zero n ls w h = turns Same (λ _. refl) L σ _ _ n (λ _. refl) (λ _ _ _. refl) w ls
+  roomy zero n ls w h = turns Same (λ _. refl) L σ (λ _ _ _. refused StepLimit) (λ _ _ _. refused StepLimit) n (λ _. refl) (λ _ _ _. refl) w ls
   roomy (suc d) n ls w h = turns Same (λ _. refl) L σ _ _ n (λ _. refl) (λ ms ks v. writes Same (λ _. refl) L σ room n (run_writing L σ room d (suc n) ms) (run_from L (step σ) d (suc n) ms) ks v (more ms v (roomy d (suc n) ms v (omega arith)))) w ls
     where
       more : (ms v : List Numbered) → run_writing L σ room d (suc n) ms v ≡ run_from L (step σ) d (suc n) ms v

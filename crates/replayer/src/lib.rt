@@ -1,4 +1,6 @@
 // Replaying a trail on a question in two lent slices: the run that a trail tells.
+#![tactic(auto)]
+
 ghost use Rattle.std.specs.Prelude.{◌≡◌, length};
 ghost use Rattle.language.specs.Limits.{desk};
 ghost use Rattle.outcomes.specs.Numbers.{solved_numbers};

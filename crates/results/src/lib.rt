@@ -1,4 +1,6 @@
 // A plan's results in words: how long they are together, and, where nothing stands against it, written in a row, each in its frame.
+#![tactic(auto)]
+
 mod emptying;
 mod making;
 mod replacing;

@@ -1,4 +1,6 @@
 // Words put into a room, as far as there is room.
+#![tactic(auto)]
+
 ghost use Rattle.std.specs.Prelude.{◌≤◌, ◌≡◌, length, set};
 ghost use Rattle.room_words.specs.Rooms.{word_if, Put};
 

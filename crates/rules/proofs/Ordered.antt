@@ -9,7 +9,7 @@ use native.Mathlib.Omega.{arith}
 use lib.Dec.{ltb}
 use lib.ListN.{get_or}
 use Rattle.language.specs.declared.Refusal.{Refusal}
-use Rattle.language.specs.declared.Refusal.TheVariants.{ShortSlice, LongResult, LongWaiting, LineRoom}
+use Rattle.language.specs.declared.Refusal.TheVariants.{ShortSlice, LongResult, LongWaiting, LineRoom, StepLimit}
 use Rattle.language.specs.Limits.{Limits, walked_pairs}
 use Rattle.language.specs.declared.Signature.{Signature}
 use Rattle.language.specs.Trees.{Functor, symbol, fvar, Hedge, Expr, Literal, eqn, mem, Conj, Counts, signature, is_unordered, any_unordered, eq_s, eq_f, eq_x, same_words}
@@ -21,7 +21,7 @@ use Rattle.rules.specs.Looks.{lone_node, as_symbol, as_blank, as_over}
 use Rattle.rules.specs.Reply.{Reply, nothing, results, stops, PairRule}
 use Rattle.rules.specs.Rules.{Answer, EqRule, InRule, Rule, on_eqn, on_mem, on_pair, ◌>>=◌, check, Del2, D1, keeps_order, D0, E7, M11, M12, Clash, rules}
 use Rattle.rules.specs.Step.{or_next, each, placed, results_at, Spot, Found, found, earliest, first, search, Step, step}
-use Rattle.rules.specs.Run.{Numbered, all_of, numbered, any_long, waiting_size, lines_fit, Outcome, refused, lined, turn, run_from, run_by, run}
+use Rattle.rules.specs.Run.{Numbered, all_of, numbered, any_long, waiting_size, lines_fit, Outcome, refused, lined, turn, run_from, run_by, run, checked}
 use Rattle.rules.specs.Answer.{Solving, unread, ran, solving_of, solving}
 use Rattle.rules.specs.Clash.{all_ordered}
 use Rattle.rules.proofs.Clashing.{clash-same}
@@ -167,6 +167,7 @@ data AsBefore : List Rule → List Rule → Type 0 where
 
 first-as-before : (rs qs : List Rule) → AsBefore rs qs → (n m : ℕ) (k : Conj) → results_of (first n rs k) ≡ results_of (first m qs k)
 first-as-before [] [] end n m k = refl
+first-as-before [] (was ∷ qs) x'' n m k = elim x'' [ ]
 first-as-before (rule ∷ rs) (was ∷ qs) (kept h b) n m k =
     next-same (earliest n rule 0 [] k) (earliest m was 0 [] k) _ _ (earliest-same rule was h n m 0 [] k) (first-as-before rs qs b (suc n) (suc m) k)
 first-as-before (rule ∷ rs) qs (added h b) n m k =
@@ -215,8 +216,8 @@ module _ (by was : Step) (same : (k : Conj) → by k ≡ was k) (L : Limits) whe
 
   from-same : (d n : ℕ) (ls w : List Numbered) → run_from L by d n ls w ≡ run_from L was d n ls w
   unfolding run_from
-  from-same zero n ls w = turn-same _ _ (λ ms ks v. refl) n ls w
-  from-same (suc d) n ls w = turn-same _ _ (λ ms ks v. passed (any_long L ks) LongResult (passed (ltb L.room (waiting_size v)) LongWaiting (from-same d (suc n) ms v))) n ls w
+  from-same zero n ls w = turn-same (λ ms ks v. refused StepLimit) (λ ms ks v. refused StepLimit) (λ ms ks v. refl) n ls w
+  from-same (suc d) n ls w = turn-same (λ ms ks v. checked L ks v (run_from L by d (suc n) ms)) (λ ms ks v. checked L ks v (run_from L was d (suc n) ms)) (λ ms ks v. passed (any_long L ks) LongResult (passed (ltb L.room (waiting_size v)) LongWaiting (from-same d (suc n) ms v))) n ls w
     where
       passed : (b : Bool) (r : Refusal) {o p : Outcome} → o ≡ p → ◌≡◌ {A = Outcome} (elim b [ true ↦ refused r | false ↦ o ]) (elim b [ true ↦ refused r | false ↦ p ])
       passed true r e = refl

@@ -15,7 +15,7 @@ use Rattle.rules.specs.Reply.{Reply, nothing, results, stops}
 use Rattle.rules.specs.Rules.{Answer, Rule, on_eqn, on_mem, on_pair, strike, folded, Fold, Clash, rules}
 use Rattle.rules.specs.Step.{or_next, each, placed, results_at, Spot, literal_at, rule_at, step_at, found, earliest, first, search, step}
 use Rattle.rules.proofs.Clashing.{Drops, clash-drops}
-use Rattle.rules.specs.Run.{Numbered, all_of, numbered, Outcome, finished, refused, turn, any_long, waiting_size, lines_fit, run_from, run_by, run}
+use Rattle.rules.specs.Run.{Numbered, all_of, numbered, Outcome, finished, refused, turn, any_long, waiting_size, lines_fit, run_from, run_by, run, checked}
 
 module _ (P : Refusal → Type 0) where
   -- P of the refusal, where there is one
@@ -155,9 +155,9 @@ module _ (P : Refusal → Type 0) where
 
     by-steps : (σ : Signature) (L : Limits) (d n : ℕ) (ls w : List Numbered) → RunStopsBy (run_from L (step σ) d n ls w)
     unfolding run_from
-    by-steps σ L zero n ls w = by_turn σ L _ (λ ms ks v. ten) n ls w
+    by-steps σ L zero n ls w = by_turn σ L (λ ms ks v. refused StepLimit) (λ ms ks v. ten) n ls w
     by-steps σ L (suc d) n ls w =
-        by_turn σ L _
+        by_turn σ L (λ ms ks v. checked L ks v (run_from L (step σ) d (suc n) ms))
         (λ ms ks v. by-tested (any_long L ks) LongResult _ seven (by-tested (ltb L.room (waiting_size v)) LongWaiting _ eight (by-steps σ L d (suc n) ms v)))
         n ls w
 

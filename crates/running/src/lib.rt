@@ -1,4 +1,6 @@
 // The run of a question in lent slices, on one of three courses, and what is told of it.
+#![tactic(auto)]
+
 mod moves;
 mod next_steps;
 mod turns;

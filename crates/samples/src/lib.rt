@@ -1,4 +1,6 @@
 // The sample of an expression, as words: measured first, then written straight to its place.
+#![tactic(auto)]
+
 ghost use Rattle.std.specs.Prelude.{[], ◌∷◌};
 ghost use Rattle.samples.specs.Laid.{Laid};
 ghost use Rattle.samples.specs.Samples.{Measured, Written};

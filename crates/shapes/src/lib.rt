@@ -1,4 +1,6 @@
 // An expression: whether it is one, where it ends, and the number of its words.
+#![tactic(auto)]
+
 ghost use Rattle.std.specs.Prelude.{◌+◌, ◌≤◌, ◌<◌, min, ◌≡◌, length};
 ghost use Rattle.language.specs.Limits.{desk};
 ghost use Rattle.flat.specs.declared.State.TheVariants.{Opened, Wanted, Named, Ready};

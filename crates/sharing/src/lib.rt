@@ -1,4 +1,6 @@
 // What two hedges in a conjunction's words share: the first element, earliest in the left one, then in the right one.
+#![tactic(auto)]
+
 ghost use Rattle.std.specs.Prelude.{◌≤◌, ◌≡◌, length};
 ghost use Rattle.std.proofs.Math.Seq.{slice};
 ghost use Rattle.words.specs.Places.{same_list};

@@ -1,4 +1,6 @@
 // Solving a question in two lent slices: the run on its first course.
+#![tactic(auto)]
+
 ghost use Rattle.std.specs.Prelude.{◌≡◌, length};
 ghost use Rattle.language.specs.Limits.{desk};
 ghost use Rattle.rules.specs.Answer.{solving};

@@ -1,4 +1,6 @@
 // Where a hedge and an element end, in words alone.
+#![tactic(auto)]
+
 ghost use Rattle.std.specs.Prelude.{◌+◌, ◌≤◌, ◌≡◌, drop};
 ghost use Rattle.words.specs.Spans.{opens, span, element_end};
 

@@ -1,4 +1,6 @@
 // What stands along the elements of a hedge in a conjunction's words: a term at all, a variable below a functor, a hedge variable behind another element.
+#![tactic(auto)]
+
 ghost use Rattle.std.specs.Prelude.{ℕ, ◌+◌, ◌<◌, ◌≡◌, List};
 ghost use Rattle.language.specs.declared.HedgeVar.{HedgeVar};
 ghost use Rattle.language.specs.Limits.{desk};

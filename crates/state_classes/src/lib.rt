@@ -1,4 +1,6 @@
 // States of an expression in its words: which of them mean the same expression. The first of these stands for all.
+#![tactic(auto)]
+
 mod tails;
 
 ghost use Rattle.std.specs.Prelude.{◌+◌, ◌*◌, ◌≤◌, ◌<◌, ◌≡◌, length};

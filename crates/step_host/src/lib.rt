@@ -1,5 +1,7 @@
 // The call of the control room's host that makes one named step: bytes and numbers around the call on words. The slices that it is lent are arrays of
 // the desk's own, cleared at the start.
+#![tactic(auto)]
+
 ghost use Rattle.std.specs.Prelude.{◌*◌, ◌≤◌, ◌≡◌, length};
 ghost use Rattle.language.specs.Limits.{desk};
 ghost use Rattle.language.specs.Numbers.{number_of};
@@ -38,8 +40,7 @@ fn refuse(refusal: Refusal, own: &[u16], room: &mut [u8]) -> u32
 }
 
 // Makes one named step of a question of one alternative: 100 and the word of the room where the results begin, or the refusal's number.
-#[unsafe(no_mangle)]
-pub extern "C" fn desk_step(
+pub fn desk_step(
     question: &[u8],
     number: u32,
     rule: u32,

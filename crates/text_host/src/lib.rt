@@ -1,4 +1,6 @@
 // The host's calls on texts: bytes and numbers around the calls on words.
+#![tactic(auto)]
+
 ghost use Rattle.std.specs.Prelude.{◌+◌, ◌*◌, ◌≤◌, min, ◌≡◌, length, take};
 ghost use Rattle.std.proofs.lemmas.List.Edits.{sets};
 ghost use Rattle.language.specs.Limits.{desk};
@@ -25,8 +27,7 @@ fn told(w: Written) -> u32
 }
 
 // Writes a question as a text: 100 and its length in bytes, or the refusal's number.
-#[unsafe(no_mangle)]
-pub extern "C" fn desk_write_text(question: &[u8], room: &mut [u8]) -> u32
+pub fn desk_write_text(question: &[u8], room: &mut [u8]) -> u32
     ensures value { result ≡ text_number (writing_bytes desk (length room.old) question.now) }
     ensures room_after { room.new ≡ left_by (writing_bytes desk (length room.old) question.now) room.old }
 {
@@ -67,8 +68,7 @@ fn read(text: &[u8], own: &mut [u16], room: &mut [u8]) -> u32
 }
 
 // Reads a text as a question: 100 and its length in words, or the refusal's number.
-#[unsafe(no_mangle)]
-pub extern "C" fn desk_read_text(text: &[u8], room: &mut [u8]) -> u32
+pub fn desk_read_text(text: &[u8], room: &mut [u8]) -> u32
     ensures value { result ≡ text_number (reading_bytes desk (length room.old) text.now) }
     ensures room_after { room.new ≡ words_left (reading_bytes desk (length room.old) text.now) room.old }
 {

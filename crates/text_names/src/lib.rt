@@ -1,4 +1,6 @@
 // The names of a text: compared where they stand, and numbered in the order of their first appearance.
+#![tactic(auto)]
+
 ghost use Rattle.std.specs.Prelude.{◌+◌, ◌<◌, ◌≡◌, eqb};
 ghost use Rattle.language.specs.Limits.{desk};
 ghost use Rattle.texts.specs.Numbering.{place};

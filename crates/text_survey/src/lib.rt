@@ -1,4 +1,6 @@
 // A first look at a text: whether each line is made of tokens, and how many have one.
+#![tactic(auto)]
+
 ghost use Rattle.std.specs.Prelude.{◌+◌, ◌≤◌, ◌<◌, ◌≡◌, length};
 ghost use Rattle.language.specs.Kinds.{pick};
 ghost use Rattle.text_survey.specs.Surveys.{step_of, LineSeen, Surveyed};

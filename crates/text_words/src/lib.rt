@@ -1,4 +1,6 @@
 // The words of all lines of a text, and where each conjunction ends.
+#![tactic(auto)]
+
 mod conjunction;
 mod literal;
 

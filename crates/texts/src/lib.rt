@@ -1,1 +1,2 @@
 // Reading and writing a text has no code here: the definitions and their theorems.
+#![tactic(auto)]

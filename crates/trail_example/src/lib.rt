@@ -1,4 +1,6 @@
 // The example of a line of a question, to whose lines a trail leads.
+#![tactic(auto)]
+
 ghost use Rattle.std.specs.Prelude.{◌≡◌};
 ghost use Rattle.outcomes.specs.Numbers.{shown_numbers};
 ghost use Rattle.trail_example.specs.Exhibits.{told_trail_exhibits};

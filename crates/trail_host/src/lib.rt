@@ -1,5 +1,7 @@
 // The calls of the control room's host that write a trail or replay one: bytes and numbers around the calls on words. The slices that a call on words
 // is lent are arrays of the desk's own, cleared at the start; a trail that is replayed is read where it stands.
+#![tactic(auto)]
+
 ghost use Rattle.std.specs.Prelude.{◌*◌, ◌≤◌, ◌≡◌, length};
 ghost use Rattle.language.specs.Limits.{desk};
 ghost use Rattle.language.specs.Question.{read_question};
@@ -38,8 +40,7 @@ fn note(question: &[u16], own: &mut [u16], answer: &mut [u8], trail: &mut [u8]) 
 }
 
 // Solves a question and writes its trail: 100 and the steps made, or the refusal's number.
-#[unsafe(no_mangle)]
-pub extern "C" fn desk_solve_trail(question: &[u8], answer: &mut [u8], trail: &mut [u8]) -> u32
+pub fn desk_solve_trail(question: &[u8], answer: &mut [u8], trail: &mut [u8]) -> u32
     ensures value { result ≡ trail_number (trailing_bytes desk (length answer.old) (length trail.old) question.now) }
     ensures answer_after { answer.new ≡ solve_leaves desk (trailing_bytes desk (length answer.old) (length trail.old) question.now) answer.old }
     ensures trail_after { trail.new ≡ trail_bytes (trailing_bytes desk (length answer.old) (length trail.old) question.now) (trail_of desk (read_question desk (words_in question.now))) trail.old }
@@ -55,8 +56,7 @@ pub extern "C" fn desk_solve_trail(question: &[u8], answer: &mut [u8], trail: &m
 }
 
 // Replays a trail on a question: the refusal's number, or 0.
-#[unsafe(no_mangle)]
-pub extern "C" fn desk_replay(question: &[u8], trail: &[u8], answer: &mut [u8]) -> u32
+pub fn desk_replay(question: &[u8], trail: &[u8], answer: &mut [u8]) -> u32
     ensures value { result ≡ solve_number (replaying_bytes desk (length answer.old) trail.now question.now) }
     ensures answer_after { answer.new ≡ solve_leaves desk (replaying_bytes desk (length answer.old) trail.now question.now) answer.old }
 {
@@ -96,8 +96,7 @@ fn show(
 
 // Shows the example of a settled line, to which a trail leads: 100 and its length in words, or the refusal's number. Free blanks take the last declared
 // symbol where `old` is 0, and else symbol 0.
-#[unsafe(no_mangle)]
-pub extern "C" fn desk_example_trail(
+pub fn desk_example_trail(
     question: &[u8],
     trail: &[u8],
     line: u32,

@@ -1,4 +1,6 @@
 // Solving a question with a trail, which is written in a room lent for it: the run that notes its steps.
+#![tactic(auto)]
+
 ghost use Rattle.std.specs.Prelude.{◌≡◌, length};
 ghost use Rattle.language.specs.Limits.{desk};
 ghost use Rattle.language.specs.Question.{read_question};

@@ -1,4 +1,6 @@
 // The trees that words stand for, read at a place: where a hedge, an expression and a literal end, or which word cannot go on.
+#![tactic(auto)]
+
 ghost use Rattle.std.specs.Prelude.{◌≡◌, drop};
 ghost use Rattle.language.specs.Limits.{desk};
 ghost use Rattle.language.specs.Reading.{read_term, read_hedge, read_expr, read_literal};

@@ -1,5 +1,7 @@
 // The calls of the control room's host that solve nothing: bytes and numbers around the calls on words. The slices that a call on words is lent are
 // arrays of the desk's own, cleared at the start.
+#![tactic(auto)]
+
 ghost use Rattle.std.specs.Prelude.{◌≡◌};
 ghost use Rattle.language.specs.Limits.{desk};
 ghost use Rattle.try_host.specs.Host.{trying_bytes, TryNumber, place_bytes};
@@ -11,8 +13,7 @@ use refusals::place;
 use word_bytes::take_words;
 
 // Whether a filling meets a question: 101 for yes, 100 for no, or the refusal's number.
-#[unsafe(no_mangle)]
-pub extern "C" fn desk_try(question: &[u8], filling: &[u8]) -> u32
+pub fn desk_try(question: &[u8], filling: &[u8]) -> u32
     ensures { TryNumber (trying_bytes desk question.now filling.now) result }
 {
     let mut words = [0u16; QUESTION];
@@ -25,8 +26,7 @@ pub extern "C" fn desk_try(question: &[u8], filling: &[u8]) -> u32
 }
 
 // Where the mistake is for which a question is refused: its place among the question's words, for 5 and 6, and else 0.
-#[unsafe(no_mangle)]
-pub extern "C" fn desk_place(question: &[u8]) -> u32
+pub fn desk_place(question: &[u8]) -> u32
     ensures { result ≡ place_bytes desk question.now }
 {
     let mut words = [0u16; QUESTION];

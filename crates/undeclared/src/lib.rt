@@ -1,4 +1,6 @@
 // The first number in a question's words that is not declared.
+#![tactic(auto)]
+
 ghost use Rattle.std.specs.Prelude.{◌≡◌, drop};
 ghost use Rattle.language.specs.Limits.{desk};
 ghost use Rattle.language.specs.Undeclared.{declared_word};

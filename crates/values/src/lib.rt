@@ -1,5 +1,7 @@
 // The value of a variable of a line, as words: measured first, then written straight to its place. A variable that an equation solves follows
 // from it; any other has the sample of its expression, or a default.
+#![tactic(auto)]
+
 mod bindings;
 
 ghost use Rattle.std.specs.Prelude.{◌+◌, ◌<◌, ◌≤◌, ◌≡◌, length};

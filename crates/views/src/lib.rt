@@ -1,4 +1,6 @@
 // What stands in a conjunction's words: shapes of hedges and literals, read off them.
+#![tactic(auto)]
+
 ghost use Rattle.std.specs.Prelude.{ℕ, ◌+◌, ◌<◌, ◌≡◌, List, length};
 ghost use Rattle.language.specs.Trees.{Hedge, Expr, eqn, mem, Conj};
 ghost use Rattle.views.specs.Looks.{look_of, head, body_words};

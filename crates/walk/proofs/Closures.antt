@@ -32,6 +32,7 @@ in-among p (q ∷ s) (Memᴰ.head e) =
     or_left (same_pair p q) (among p s)
     (subst (λ q. T (same_pair p q)) e (and_both (same_expr p.0 p.0) (same_expr p.1 p.1) (same_expr-self p.0) (same_expr-self p.1)))
 in-among p (q ∷ s) (Memᴰ.tail m) = or_right (same_pair p q) (among p s) (in-among p s m)
+in-among p [] x' = elim x' [ ]
 
 -- ---- what is added
 
@@ -83,6 +84,7 @@ nothing-new (p ∷ ps) s {q = q} h m = go (among p s) refl (nothing-new ps s) (a
     go true e on l h (Memᴰ.head d) = rw d (among_in p s (true-test (among p s) e))
     go true e on l h (Memᴰ.tail m) = on h m
     go false e on l h m = absurd (omega arith)
+nothing-new [] s {q = q} h m = elim m [ ]
 
 -- ---- what follows, again and again
 

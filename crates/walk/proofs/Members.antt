@@ -9,13 +9,13 @@ use Rattle.rules.specs.Each.{Some}
 use Rattle.walk.specs.Reach.{Once}
 
 module _ {A : Type 0} where
-  pub in_left : {x : A} {xs : List A} (ys : List A) → Memᴰ x xs → Memᴰ x (xs ++ ys)
-  in_left ys (Memᴰ.head e) = Memᴰ.head e
-  in_left ys (Memᴰ.tail m) = Memᴰ.tail (in_left ys m)
+  pub in_left_lem : {x : A} {xs : List A} (ys : List A) → Memᴰ x xs → Memᴰ x (xs ++ ys)
+  in_left_lem ys (Memᴰ.head e) = Memᴰ.head e
+  in_left_lem ys (Memᴰ.tail m) = Memᴰ.tail (in_left_lem ys m)
 
-  pub in_right : {x : A} (xs : List A) {ys : List A} → Memᴰ x ys → Memᴰ x (xs ++ ys)
-  in_right [] m = m
-  in_right (y ∷ xs) m = Memᴰ.tail (in_right xs m)
+  pub in_right_lem : {x : A} (xs : List A) {ys : List A} → Memᴰ x ys → Memᴰ x (xs ++ ys)
+  in_right_lem [] m = m
+  in_right_lem (y ∷ xs) m = Memᴰ.tail (in_right_lem xs m)
 
   pub of-++ : {x : A} (xs : List A) {ys : List A} → Memᴰ x (xs ++ ys) → Memᴰ x xs ⊎ Memᴰ x ys
   of-++ [] m = inr m
@@ -29,6 +29,7 @@ module _ {A : Type 0} where
   pub of_map : {B : Type 0} (f : A → B) {y : B} (xs : List A) → Memᴰ y (map f xs) → (x : A) × Memᴰ x xs × (y ≡ f x)
   of_map f (x ∷ xs) (Memᴰ.head e) = (x, Memᴰ.head refl, e)
   of_map f (x ∷ xs) (Memᴰ.tail m) = let (z, n, e) = of_map f xs m in (z, Memᴰ.tail n, e)
+  of_map {B = B} f {y = y} [] x' = elim x' [ ]
 
   pub some_in : (P : A → Type 0) (xs : List A) → Some P xs → (x : A) × Memᴰ x xs × P x
   some_in P [] s = absurd s
@@ -46,8 +47,9 @@ pairs [] ys = []
 pairs (x ∷ xs) ys = map (λ y. (x, y)) ys ++ pairs xs ys
 
 pub in_pairs : {A : Type 0} {x y : A} (xs : List A) {ys : List A} → Memᴰ x xs → Memᴰ y ys → Memᴰ (x, y) (pairs xs ys)
-in_pairs (z ∷ xs) {ys = ys} (Memᴰ.head e) n = rw e (in_left (pairs xs ys) (in_map (λ y. (z, y)) n))
-in_pairs (z ∷ xs) {ys = ys} (Memᴰ.tail m) n = in_right (map (λ y. (z, y)) ys) (in_pairs xs m n)
+in_pairs (z ∷ xs) {ys = ys} (Memᴰ.head e) n = rw e (in_left_lem (pairs xs ys) (in_map (λ y. (z, y)) n))
+in_pairs (z ∷ xs) {ys = ys} (Memᴰ.tail m) n = in_right_lem (map (λ y. (z, y)) ys) (in_pairs xs m n)
+in_pairs {A = A} {y = y} [] {ys = ys} x3 n = elim x3 [ ]
 
 pub of-pairs : {A : Type 0} {z : A × A} (xs : List A) {ys : List A} → Memᴰ z (pairs xs ys) → Memᴰ z.0 xs × Memᴰ z.1 ys
 of-pairs {z} (x ∷ xs) {ys = ys} m =
@@ -55,6 +57,7 @@ of-pairs {z} (x ∷ xs) {ys = ys} m =
       | inl k ↦ let (y, n, e) = of_map (λ y. (x, y)) ys k in (Memᴰ.head (ap (λ p. p.0) e), rw e n)
       | inr k ↦ let (a, b) = of-pairs xs k in (Memᴰ.tail a, b)
     ]
+of-pairs {A = A} {z = z} [] {ys = ys} m = elim m [ ]
 
 pub pairs-length : {A : Type 0} (xs ys : List A) → length (pairs xs ys) ≡ length xs * length ys
 pairs-length {A} [] ys = sym (zero-mul (length ys))
@@ -75,6 +78,7 @@ without {A} {x} (z ∷ ys) (Memᴰ.tail m) = let (zs, e, h) = without ys m in (z
     go : (zs : List A) → ((y : A) → Memᴰ y ys → (y ≡ x) ⊎ Memᴰ y zs) → (y : A) → Memᴰ y (z ∷ ys) → (y ≡ x) ⊎ Memᴰ y (z ∷ zs)
     go zs h y (Memᴰ.head d) = inr (Memᴰ.head d)
     go zs h y (Memᴰ.tail n) = elim (h y n) [ inl d ↦ inl d | inr k ↦ inr (Memᴰ.tail k) ]
+without {A = A} {x = x} [] x'' = elim x'' [ ]
 
 -- where nothing stands twice and all is in ys, there is not more than in ys
 pub no_more : {A : Type 0} (xs ys : List A) → Once xs → ((x : A) → Memᴰ x xs → Memᴰ x ys) → length xs ≤ length ys

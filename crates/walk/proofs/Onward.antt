@@ -10,7 +10,7 @@ use Rattle.rules.specs.Walk.{Pair, parts_of, parts_with, parts_all, onward, onwa
 use Rattle.rules.proofs.Tests.{true-test}
 use Rattle.rules.proofs.Names.{eq_s-is, eq_s-same}
 use Rattle.walk.specs.Reach.{Twins}
-use Rattle.walk.proofs.Members.{in_left, in_right, of-++}
+use Rattle.walk.proofs.Members.{in_left_lem, in_right_lem, of-++}
 
 -- one of the two pairs that two monomials lead to
 abbrev Either : Monomial → Monomial → Pair → Type 0
@@ -43,8 +43,9 @@ of-parts_with m (k ∷ l) n = elim (of-++ (parts_of m k) n) [
 ]
 
 in-parts_with : (m : Monomial) {k : Monomial} (l : List Monomial) {q : Pair} → Memᴰ k l → Leads m k q → Memᴰ q (parts_with m l)
-in-parts_with m {k} (j ∷ l) {q = q} (Memᴰ.head e) y = in_left (parts_with m l) ((parts-of m j).1 (subst (λ k. Leads m k q) e y))
-in-parts_with m (j ∷ l) (Memᴰ.tail i) y = in_right (parts_of m j) (in-parts_with m l i y)
+in-parts_with m {k} (j ∷ l) {q = q} (Memᴰ.head e) y = in_left_lem (parts_with m l) ((parts-of m j).1 (subst (λ k. Leads m k q) e y))
+in-parts_with m (j ∷ l) (Memᴰ.tail i) y = in_right_lem (parts_of m j) (in-parts_with m l i y)
+in-parts_with m {k = k} [] {q = q} x'' y = elim x'' [ ]
 
 of_parts : (k l : List Monomial) {q : Pair} → Memᴰ q (parts_all k l) → (m : Monomial) × (n : Monomial) × Memᴰ m k × Memᴰ n l × Leads m n q
 of_parts [] l n = elim n [ ]
@@ -54,8 +55,9 @@ of_parts (m ∷ k) l n = elim (of-++ (parts_with m l) n) [
 ]
 
 in_parts : {m n : Monomial} (k l : List Monomial) {q : Pair} → Memᴰ m k → Memᴰ n l → Leads m n q → Memᴰ q (parts_all k l)
-in_parts {n = n} (a ∷ k) l {q = q} (Memᴰ.head e) j y = in_left (parts_all k l) (in-parts_with a l j (subst (λ m. Leads m n q) e y))
-in_parts (a ∷ k) l (Memᴰ.tail i) j y = in_right (parts_with a l) (in_parts k l i j y)
+in_parts {n = n} (a ∷ k) l {q = q} (Memᴰ.head e) j y = in_left_lem (parts_all k l) (in-parts_with a l j (subst (λ m. Leads m n q) e y))
+in_parts (a ∷ k) l (Memᴰ.tail i) j y = in_right_lem (parts_with a l) (in_parts k l i j y)
+in_parts {m = m} {n = n} [] l {q = q} x3 j y = elim x3 [ ]
 
 -- twins of p lead to q
 abbrev pub On : Pair → Pair → Type 0
@@ -75,5 +77,6 @@ of-onwards (p ∷ s) n = elim (of-++ (onward p) n) [
 ]
 
 pub in-onwards : {p : Pair} (s : List Pair) {q : Pair} → Memᴰ p s → Memᴰ q (onward p) → Memᴰ q (onwards s)
-in-onwards (r ∷ s) {q = q} (Memᴰ.head e) n = in_left (onwards s) (subst (λ p. Memᴰ q (onward p)) e n)
-in-onwards (r ∷ s) (Memᴰ.tail i) n = in_right (onward r) (in-onwards s i n)
+in-onwards (r ∷ s) {q = q} (Memᴰ.head e) n = in_left_lem (onwards s) (subst (λ p. Memᴰ q (onward p)) e n)
+in-onwards (r ∷ s) (Memᴰ.tail i) n = in_right_lem (onward r) (in-onwards s i n)
+in-onwards {p = p} [] {q = q} x'' n = elim x'' [ ]

@@ -28,6 +28,7 @@ of-some_of t (n ∷ l) s =
 in-some_of : (t : Monomial → Bool) {n : Monomial} (l : List Monomial) → Memᴰ n l → T (t n) → T (some_of t l)
 in-some_of t (k ∷ l) (Memᴰ.head e) y = or_left (t k) (some_of t l) (rw e at y)
 in-some_of t (k ∷ l) (Memᴰ.tail m) y = or_right (t k) (some_of t l) (in-some_of t l m y)
+in-some_of t {n = n} [] x'' y = elim x'' [ ]
 
 of-some_pair : (t : Monomial → Monomial → Bool) (k l : List Monomial) → T (some_pair t k l) → (m : Monomial) × (n : Monomial) × Memᴰ m k × Memᴰ n l × T (t m n)
 of-some_pair t [] l s = absurd s
@@ -39,6 +40,7 @@ of-some_pair t (m ∷ k) l s = elim (or_cases (some_of (t m) l) (some_pair t k l
 in-some_pair : (t : Monomial → Monomial → Bool) {m n : Monomial} (k l : List Monomial) → Memᴰ m k → Memᴰ n l → T (t m n) → T (some_pair t k l)
 in-some_pair t {m} {n} (a ∷ k) l (Memᴰ.head e) j y = or_left (some_of (t a) l) (some_pair t k l) (in-some_of (t a) l j (rw e at y))
 in-some_pair t (a ∷ k) l (Memᴰ.tail i) j y = or_right (some_of (t a) l) (some_pair t k l) (in-some_pair t k l i j y)
+in-some_pair t {m = m} {n = n} [] l x3 j y = elim x3 [ ]
 
 -- Of the two linear forms of a pair: twins, of which the two further tests hold.
 pub some-twins : (p : Pair) (a b : Monomial → Monomial → Bool)
@@ -105,6 +107,7 @@ in-sharing (p ∷ ps) s {q = q} m t = go (shares_by s p) refl (in-sharing ps s) 
     go true e on (Memᴰ.tail m) = Memᴰ.tail (on m t)
     go false e on (Memᴰ.head d) = absurd (rw e at (subst (λ q. T (shares_by s q)) d t))
     go false e on (Memᴰ.tail m) = on m t
+in-sharing [] s {q = q} m t = elim m [ ]
 
 -- ---- all that is shared
 

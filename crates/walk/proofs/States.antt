@@ -43,10 +43,12 @@ levels-on R (Memᴰ.tail k) n = Memᴰ.tail (inners-on R k n)
 pub start-in : {S : Expr} (l : List Expr) → Memᴰ S l → Memᴰ S (within l)
 start-in (U ∷ l) (Memᴰ.head e) = Memᴰ.head e
 start-in (U ∷ l) (Memᴰ.tail m) = Memᴰ.tail (in_right_lem (map rest_at (spots U)) (start-in l m))
+start-in {S = S} mathlib.Core.List.[] x' = elim x' [ ]
 
 rest_in : (p : Spot) (l : List Expr) → Memᴰ (whole p) l → Memᴰ (rest_at p) (within l)
 rest_in p (U ∷ l) (Memᴰ.head e) = Memᴰ.tail (in_left_lem (within l) (in_map rest_at (rw e at (in-spots p))))
 rest_in p (U ∷ l) (Memᴰ.tail m) = Memᴰ.tail (in_right_lem (map rest_at (spots U)) (rest_in p l m))
+rest_in p mathlib.Core.List.[] x' = elim x' [ ]
 
 -- a level itself, or what is left after one of its spots
 abbrev StateOf : Expr → Expr → Type 0
@@ -60,6 +62,7 @@ of-within {X} (U ∷ l) (Memᴰ.tail m) = go (of-++ (map rest_at (spots U)) m) (
         → (S : Expr) × Memᴰ S (U ∷ l) × StateOf S X
     go (inl n) r = let (p, k, e) = of_map rest_at (spots U) n in (U, Memᴰ.head refl, inr (p, each_in (λ p. whole p ≡ U) (spots-of U) k, e))
     go (inr n) r = let (S, k, o) = r n in (S, Memᴰ.tail k, o)
+of-within {X = X} mathlib.Core.List.[] x' = elim x' [ ]
 
 -- a monomial of a state is that of a spot of its level
 spot_of : {S X : Expr} {m : Monomial} → StateOf S X → Memᴰ m (linear X) → (q : Spot) × (whole q ≡ S) × (m ≡ monomial q)

@@ -1,4 +1,6 @@
 // A side of a literal: whether it is one, where it ends, and its words, put into a room as far as there is room.
+#![tactic(auto)]
+
 ghost use Rattle.std.specs.Prelude.{◌+◌, ◌≤◌, ◌<◌, ◌≡◌, length};
 ghost use Rattle.language.specs.Limits.{desk};
 ghost use Rattle.flat.specs.declared.State.TheVariants.{Opened};

@@ -1,4 +1,6 @@
 // Words as bytes, the low byte first: read from the bytes of a caller, and written to them.
+#![tactic(auto)]
+
 ghost use Rattle.std.specs.Prelude.{◌+◌, ◌*◌, ◌/◌, ◌%◌, ◌≤◌, ◌<◌, ◌≡◌, length, take, get_or};
 ghost use Rattle.std.proofs.lemmas.List.Edits.{sets};
 ghost use Rattle.word_bytes.specs.Bytes.{word_of, words_of, bytes_of, words_in, fitting};

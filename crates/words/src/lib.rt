@@ -1,4 +1,6 @@
 // Calls on a conjunction's words alone, whatever stands there.
+#![tactic(auto)]
+
 ghost use Rattle.std.specs.Prelude.{◌+◌, ◌<◌, min, ◌≡◌, ◌||◌, length, get_or, take, drop};
 ghost use Rattle.std.proofs.Math.Seq.{slice};
 ghost use Rattle.words.specs.Spans.{member};

@@ -1,4 +1,6 @@
 // A question as a text, in the room lent.
+#![tactic(auto)]
+
 mod bytes;
 mod lines;
 mod numbers;

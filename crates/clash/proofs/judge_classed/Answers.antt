@@ -28,10 +28,10 @@ add-requires c = record {
 }
 
 pub walk_on-n-requires : goal.walk_on-n-requires
-walk_on-n-requires c = (c.requires.0, c.requires.1, c.add.ensures.right_after.1, length-replicate {A = Bool} stops false)
+walk_on-n-requires c = (c.requires.0, c.requires.1, c.add.ensures.chained_2, length-replicate {A = Bool} stops false)
 
 pub returns-then-n-gt-PAIRS : goal.returns-then-n-gt-PAIRS
-returns-then-n-gt-PAIRS c = λ R S st. judged-long (first-set _ _ _ refl c.add.ensures.left_after c.narrow-one.ensures) (first-set _ _ _ refl c.add.ensures.right_after.0 c.narrow-other.ensures) c.walk_on-n.ensures.0 c.walk_on-n.ensures.1 c.args.term c.if-n-gt-PAIRS.true R S st
+returns-then-n-gt-PAIRS c = λ R S st. judged-long (first-set _ _ _ refl c.add.ensures.left_after c.narrow-one.ensures) (first-set _ _ _ refl c.add.ensures.right_after c.narrow-other.ensures) c.walk_on-n.ensures.0 c.walk_on-n.ensures.1 c.args.term c.if-n-gt-PAIRS.true R S st
 
 pub settle-requires : goal.settle-requires
 settle-requires c = (c.requires.0, c.requires.1, c.walk_on-n.ensures.1, c.walk_on-n.ensures.2)
@@ -40,7 +40,7 @@ pub first_shares-shares-requires : goal.first_shares-shares-requires
 first_shares-shares-requires c = (c.requires.0, c.requires.1, c.walk_on-n.ensures.1, c.walk_on-n.ensures.0.some)
 
 pub returns-then-shares : goal.returns-then-shares
-returns-then-shares c = λ R S st. ap (λ b. elim b [ true ↦ Shares | false ↦ Clashes ]) (sym c.if-shares.true) ∙ judged (first-set _ _ _ refl c.add.ensures.left_after c.narrow-one.ensures) (first-set _ _ _ refl c.add.ensures.right_after.0 c.narrow-other.ensures) c.walk_on-n.ensures.0 c.walk_on-n.ensures.1 c.args.term _ c.if-n-gt-PAIRS.false c.settle.ensures c.first_shares-shares.ensures R S st
+returns-then-shares c = λ R S st. ap (λ b. elim b [ true ↦ Shares | false ↦ Clashes ]) (sym c.if-shares.true) ∙ judged (first-set _ _ _ refl c.add.ensures.left_after c.narrow-one.ensures) (first-set _ _ _ refl c.add.ensures.right_after c.narrow-other.ensures) c.walk_on-n.ensures.0 c.walk_on-n.ensures.1 c.args.term _ c.if-n-gt-PAIRS.false c.settle.ensures c.first_shares-shares.ensures R S st
 
 pub returns : goal.returns
-returns c = λ R S st. ap (λ b. elim b [ true ↦ Shares | false ↦ Clashes ]) (sym c.if-shares.false) ∙ judged (first-set _ _ _ refl c.add.ensures.left_after c.narrow-one.ensures) (first-set _ _ _ refl c.add.ensures.right_after.0 c.narrow-other.ensures) c.walk_on-n.ensures.0 c.walk_on-n.ensures.1 c.args.term _ c.if-n-gt-PAIRS.false c.settle.ensures c.first_shares-shares.ensures R S st
+returns c = λ R S st. ap (λ b. elim b [ true ↦ Shares | false ↦ Clashes ]) (sym c.if-shares.false) ∙ judged (first-set _ _ _ refl c.add.ensures.left_after c.narrow-one.ensures) (first-set _ _ _ refl c.add.ensures.right_after c.narrow-other.ensures) c.walk_on-n.ensures.0 c.walk_on-n.ensures.1 c.args.term _ c.if-n-gt-PAIRS.false c.settle.ensures c.first_shares-shares.ensures R S st

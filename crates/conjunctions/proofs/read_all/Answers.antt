@@ -5,9 +5,9 @@ use native.Mathlib.Omega.{arith}
 use borrow.Author.Rules.{rules}
 use Rattle.language.specs.Limits.{desk}
 use Rattle.language.specs.Question.{parts, read_all}
-use Rattle.language.proofs.Walks.{walk-starts, walk-room, walk-part, walk-on, walk_ends}
+use Rattle.language.proofs.Walks.{walk-starts, walk-room, walk-part, walk-on, walk-stops, walk_ends}
 use Rattle.trees.specs.Places.{placed}
-use Rattle.conjunctions.proofs.Parts.{to_read, part-read, part-within, none_left}
+use Rattle.conjunctions.proofs.Parts.{to_read, part-read, part-within, part-stops, none_left}
 use Rattle.conjunctions.proofs.read_all.Goals as goal
 
 -- where the parts begin
@@ -39,16 +39,20 @@ slice_bounds-read_conj-end c = let l = c.loop-i in
     let s = walk-part _ _ _ _ l.invariant.3 (omega arith) _ c.wide-to.ensures in
     search rules
 
-pub overflow_add-result : goal.overflow_add-result
-overflow_add-result c = let l = c.loop-i in
+pub loop-i-preserved : goal.loop-i-preserved
+loop-i-preserved c = let l = c.loop-i in
     let e = c.wide-to.ensures in
     let s = walk-part _ _ _ _ l.invariant.3 (omega arith) _ e in
-    (omega arith, l.invariant.1, l.invariant.2, walk-on _ _ _ _ l.invariant.3 (omega arith) _ e (part-read 0 _ _ _ s _ (sym c.read_conj.ensures ∙ c.enum_told.given.1)))
+    (omega arith, l.invariant.1, l.invariant.2, walk-on _ _ _ _ l.invariant.3 (omega arith) _ e (part-read 0 _ _ _ s _ (sym c.read_conj.ensures ∙ c.in-Next.is)))
+
+pub overflow_add-result : goal.overflow_add-result
+overflow_add-result c = let s = walk-part _ _ _ _ c.loop-i.invariant.3 (omega arith) _ c.wide-to.ensures in
+    let t = part-within 0 _ _ _ s _ (sym c.read_conj.ensures ∙ c.in-Stop.is) in
+    search rules
 
 pub returns-in-Stop : goal.returns-in-Stop
 returns-in-Stop c = let s = walk-part _ _ _ _ c.loop-i.invariant.3 (omega arith) _ c.wide-to.ensures in
-    let t = part-within 0 _ _ _ s _ (sym c.read_conj.ensures ∙ c.in-Stop.is) in
-    search rules
+    walk-stops _ _ _ _ c.loop-i.invariant.3 (omega arith) _ c.wide-to.ensures (part-stops 0 _ _ _ s _ (sym c.read_conj.ensures ∙ c.in-Stop.is)) ∙ from-body _ _
 
 pub returns : goal.returns
 returns c = let l = c.loop-i in none_left _ ∙ walk_ends _ _ _ _ l.invariant.3 (omega arith) ∙ from-body _ _

@@ -4,26 +4,20 @@ use Rattle.filling.proofs.Filled.{counted-starts, counted-fits, counted-on, coun
 use Rattle.filling.proofs.filled_len.Goals as goal
 
 pub loop-at-preserved : goal.loop-at-preserved
-loop-at-preserved c = let b = c.before.before.before.before in
-    let p = b.before.before.before.requires in
-    (counted-on _ _ _ b.loop.invariant (omega arith) p.0 p.1.0 c.lookup-value.ensures c.step-at.ensures).0
+loop-at-preserved c = (counted-on _ _ _ c.loop-at.invariant (omega arith) c.requires.filling_len_bound c.requires.words_len_bound c.lookup-value.ensures c.step-at.ensures).0
 
 pub loop-at-init : goal.loop-at-init
 loop-at-init c = counted-starts _ _ _ _
 
 pub overflow_add-total : goal.overflow_add-total
-overflow_add-total c = let b = c.before.before in
-    let p = b.before.before.before.requires in
-    let f = counted-fits _ _ _ b.loop.invariant (omega arith) p.0 p.1.0 c.lookup-value.ensures in
+overflow_add-total c = let f = counted-fits _ _ _ c.loop-at.invariant (omega arith) c.requires.filling_len_bound c.requires.words_len_bound c.lookup-value.ensures in
     omega arith
 
 pub overflow_add-at : goal.overflow_add-at
-overflow_add-at c = omega (arith, (on c).inside)
+overflow_add-at c = omega (arith, (counted-on _ _ _ c.loop-at.invariant (omega arith) c.requires.filling_len_bound c.requires.words_len_bound c.lookup-value.ensures c.step-at.ensures).0.inside)
 
 pub loop-at-smaller : goal.loop-at-smaller
-loop-at-smaller c = let b = c.before.before.before.before in
-    let p = b.before.before.before.requires in
-    let f = counted-on _ _ _ b.loop.invariant (omega arith) p.0 p.1.0 c.lookup-value.ensures c.step-at.ensures in
+loop-at-smaller c = let f = counted-on _ _ _ c.loop-at.invariant (omega arith) c.requires.filling_len_bound c.requires.words_len_bound c.lookup-value.ensures c.step-at.ensures in
     omega arith
 
 pub returns : goal.returns

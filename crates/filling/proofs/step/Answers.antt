@@ -1,4 +1,5 @@
 -- `filling::step` meets its contract: a symbol, and any other kind.
+use borrow.Enum.Refused.{opened}
 use mathlib.Core.Path.{◌≡◌, refl, sym, ap, ◌∙◌}
 use mathlib.Core.List.{[], ◌∷◌}
 use Prim.Native.Nat.{ℕ}
@@ -21,4 +22,4 @@ pub returns-in-Symbol : goal.returns-in-Symbol
 returns-in-Symbol c = symbol _ c.classify.ensures c.in-Symbol.is
 
 pub returns-in_default : goal.returns-in_default
-returns-in_default c = other _ c.classify.ensures c.in_default.in_default-own.keys2
+returns-in_default c = other _ c.classify.ensures (opened c.in_default.in_default-own.keys2)

@@ -17,20 +17,20 @@ loop-x-smaller c = let z = goes_on c.args.k.now c.loop-x.i c.loop-x.invariant.1 
 
 pub loop-x-preserved : goal.loop-x-preserved
 loop-x-preserved c = let z = goes_on c.args.k.now c.loop-x.i c.loop-x.invariant.1 c.element_end-i.ensures (term-some _ (sym c.is_term.ensures ∙ c.loop-x-test.true)) in (
-      (λ h beyond s. pass_on c.element_end-i.ensures (c.loop-x.invariant.0 h beyond s) (λ done left t q. let a = all_terms-on left (sym (word-term t c.loop-x.invariant.1) ∙ sym c.is_term.ensures ∙ c.loop-x-test.true) in (a.0 ∙ q.0, omega arith))),
-      c.word-x-in-loop-x.ensures,
-      omega arith,
-      omega arith,
-      terms-on _ _ c.loop-x.invariant.1 c.is_term.ensures c.loop-x-test.true c.element_end-i.ensures c.loop-x.invariant.4,
-    )
+  (λ h beyond s. pass_on c.element_end-i.ensures (c.loop-x.invariant.0 h beyond s) (λ done left t q. let a = all_terms-on left (sym (word-term t c.loop-x.invariant.1) ∙ sym c.is_term.ensures ∙ c.loop-x-test.true) in (a.0 ∙ q.0, omega arith))),
+  c.word-x-in-loop-x.ensures,
+  omega arith,
+  omega arith,
+  terms-on _ _ c.loop-x.invariant.1 c.is_term.ensures c.loop-x-test.true c.element_end-i.ensures c.loop-x.invariant.4,
+)
 
 pub returns : goal.returns
 returns c = (
-      (λ h beyond s.
-          let w = c.loop-x.invariant.0 h beyond s in
-          let e = word-empty w.here c.loop-x.invariant.1 in
-          let a = all_terms-end w.left (sym (word-term w.here c.loop-x.invariant.1) ∙ sym c.is_term.ensures ∙ c.loop-x-test.false) in
-          record { all = e ∙ a.0 ∙ w.keeps.0; count = λ y. let z = a.1 (sym e ∙ y) in let q = w.keeps.1 in omega arith }),
-      omega arith,
-      terms-end _ _ c.loop-x.invariant.1 c.is_term.ensures c.loop-x-test.false c.loop-x.invariant.4,
-    )
+  (λ h beyond s.
+      let w = c.loop-x.invariant.0 h beyond s in
+      let e = word-empty w.here c.loop-x.invariant.1 in
+      let a = all_terms-end w.left (sym (word-term w.here c.loop-x.invariant.1) ∙ sym c.is_term.ensures ∙ c.loop-x-test.false) in
+      record { all = e ∙ a.0 ∙ w.keeps.0; count = λ y. let z = a.1 (sym e ∙ y) in let q = w.keeps.1 in omega arith }),
+  omega arith,
+  terms-end _ _ c.loop-x.invariant.1 c.is_term.ensures c.loop-x-test.false c.loop-x.invariant.4,
+)

@@ -1,4 +1,5 @@
 -- `is_term`: the kinds of words that `term_word` names.
+use borrow.Enum.Refused.{opened}
 use mathlib.Core.Path.{◌≡◌, refl, ap, ◌∙◌}
 use mathlib.Core.Bool.{true, false}
 use mathlib.Core.List.{[], ◌∷◌}
@@ -20,4 +21,4 @@ returns-in-Term c = found c.classify.ensures c.in-Term.in-Term-own.keys1
 
 pub returns-in_default : goal.returns-in_default
 unfolding term_word
-returns-in_default c = others c.classify.ensures c.in_default.in_default-own.keys2
+returns-in_default c = others c.classify.ensures (opened c.in_default.in_default-own.keys2)

@@ -4,8 +4,8 @@ use native.Mathlib.Omega.{arith}
 use Rattle.given.proofs.Plain.{judged-stop, judged-short, judged-all}
 use Rattle.given.proofs.is_complete.Goals as goal
 
-pub read_hedge-requires : goal.read_hedge-requires
-read_hedge-requires c = judged-short _ _ _ (sym c.read-hedge.ensures ∙ c.end.given.1) (omega arith)
+pub returns-then-end-value : goal.returns-then-end-value
+returns-then-end-value c = judged-short _ _ _ (sym c.read_hedge.ensures ∙ c.in-Next.is) (omega arith)
 
 pub returns-else-end-value : goal.returns-else-end-value
 returns-else-end-value c = judged-all _ _ _ (sym c.read_hedge.ensures ∙ c.in-Next.is) (omega arith) _ c.is_plain.ensures

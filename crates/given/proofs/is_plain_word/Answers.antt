@@ -1,4 +1,5 @@
 -- `given::is_plain_word` meets its contract: an end, a symbol, and any other kind.
+use borrow.Enum.Refused.{opened}
 use mathlib.Core.Path.{◌≡◌, refl, sym, ap, ◌∙◌}
 use mathlib.Core.Bool.{false}
 use mathlib.Core.List.{[], ◌∷◌}
@@ -23,4 +24,4 @@ pub returns-in-Symbol : goal.returns-in-Symbol
 returns-in-Symbol c = is _ c.classify.ensures c.in-Symbol.is
 
 pub returns-in_default : goal.returns-in_default
-returns-in_default c = other _ c.classify.ensures c.in_default.in_default-own.keys3
+returns-in_default c = other _ c.classify.ensures (opened c.in_default.in_default-own.keys3)

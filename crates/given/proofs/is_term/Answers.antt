@@ -1,8 +1,11 @@
 -- `given::is_term` meets its contract: too few words, and where the children end.
 use mathlib.Core.Path.{sym, ◌∙◌}
 use native.Mathlib.Omega.{arith}
-use Rattle.given.proofs.Plain.{term-next, term-stop}
+use Rattle.given.proofs.Plain.{few_words, term-next, term-stop}
 use Rattle.given.proofs.is_term.Goals as goal
+
+pub returns-then-value-lt2 : goal.returns-then-value-lt2
+returns-then-value-lt2 c = few_words _ (omega arith)
 
 pub returns-in-Next : goal.returns-in-Next
 returns-in-Next c = term-next _ _ (omega arith) (sym c.read_hedge.ensures ∙ c.in-Next.is)

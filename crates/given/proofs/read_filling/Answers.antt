@@ -1,7 +1,6 @@
 -- `given::read_filling` meets its contract: a law for each return.
 use mathlib.Core.Path.{sym, ◌∙◌}
 use native.Mathlib.Omega.{arith}
-use borrow.Author.Tests.{not-true, not-false}
 use Rattle.given.proofs.Readings.{too_long, no_words, other-count, not-laid, bad-value, good-values}
 use Rattle.given.proofs.read_filling.Goals as goal
 
@@ -10,21 +9,19 @@ returns-then-filling-n c = let v = c.count_variables-n.ensures in
     other-count _ _ (λ e. c.if-filling-n.true (e ∙ sym v)) (omega arith)
 
 pub returns-then-not-laid_out : goal.returns-then-not-laid_out
-returns-then-not-laid_out c = not-laid _ _ _ c.count_variables-n.ensures (sym c.laid_out.ensures ∙ not-true _ c.if-not-laid_out.true)
+returns-then-not-laid_out c = not-laid _ _ _ c.count_variables-n.ensures (sym c.laid_out.ensures ∙ c.if-not-laid_out.true)
 
 pub values_fit-requires : goal.values_fit-requires
 values_fit-requires c = record {
   n_value = c.count_variables-n.ensures;
-  filling_value = sym c.laid_out.ensures ∙ not-false _ c.if-not-laid_out.false;
+  filling_value = sym c.laid_out.ensures ∙ c.if-not-laid_out.false;
 }
 
 pub returns-then-not-values_fit : goal.returns-then-not-values_fit
-returns-then-not-values_fit c = let b = c.before.before in
-    bad-value _ _ _ b.before.before.before.before.count-variables.ensures (omega arith) b.before.before.if3.false (sym b.before.laid_out.ensures ∙ not-false _ b.if4.false) _ c.values_fit.ensures (not-true _ c.if-not-values_fit.true)
+returns-then-not-values_fit c = bad-value _ _ _ c.count_variables-n.ensures (omega arith) c.if-filling-n.false (sym c.laid_out.ensures ∙ c.if-not-laid_out.false) _ c.values_fit.ensures c.if-not-values_fit.true
 
 pub returns : goal.returns
-returns c = let b = c.before.before in
-    good-values _ _ _ b.before.before.before.before.count-variables.ensures (omega arith) b.before.before.if3.false (sym b.before.laid_out.ensures ∙ not-false _ b.if4.false) _ c.values_fit.ensures (not-false _ c.if-not-values_fit.false)
+returns c = good-values _ _ _ c.count_variables-n.ensures (omega arith) c.if-filling-n.false (sym c.laid_out.ensures ∙ c.if-not-laid_out.false) _ c.values_fit.ensures c.if-not-values_fit.false
 
 pub returns-then-filling-gt-FILLING : goal.returns-then-filling-gt-FILLING
 returns-then-filling-gt-FILLING c = too_long _ _ (omega arith)

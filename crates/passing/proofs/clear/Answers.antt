@@ -30,15 +30,6 @@ cleared_more {k} {k'} {from} {to} c p l =
 pub loop-i-init : goal.loop-i-init
 loop-i-init c = (omega arith, omega arith, cleared-none)
 
-pub bounds-k-i : goal.bounds-k-i
-bounds-k-i c = omega (arith, c.loop-i.invariant.2.beside.len)
-
-pub overflow_add-i : goal.overflow_add-i
-overflow_add-i c = omega arith
-
-pub loop-i-smaller : goal.loop-i-smaller
-loop-i-smaller c = omega arith
-
 pub loop-i-preserved : goal.loop-i-preserved
 loop-i-preserved c = (omega arith, omega arith, cleared_more c.loop-i.invariant.2 c.loop-i.invariant.0 (omega arith))
 

@@ -1,47 +1,35 @@
 -- `reader::read_question` meets its contract: each return is a verdict, with the tests before it.
 -- Assumes nothing.
 use mathlib.Core.Path.{sym, ◌∙◌}
-use Rattle.language.proofs.Bools.{holds, fails}
-use Rattle.reader.proofs.Verdicts.{counts-wrong, offsets-wrong, literals-wrong, number-wrong, nothing-wrong}
+use Rattle.reader.proofs.Verdicts.{too_short, too_long, counts-wrong, offsets-wrong, literals-wrong, number-wrong, nothing-wrong}
 use Rattle.reader.proofs.read_question.Goals as goal
 
 pub returns-then-question-lt6 : goal.returns-then-question-lt6
-returns-then-question-lt6 c = let two = c.before.before.before in
-    counts-wrong _ two.before.if1.false two.if2.false _ c.read-header.ensures (fails _ _ c.before.counts-fit.ensures c.if3.true)
+returns-then-question-lt6 c = too_short _ c.if-question-lt6.true
 
-pub read_header-h-requires : goal.read_header-h-requires
-read_header-h-requires c = let three = c.before.before in
-    let two = three.before.before.before in
-    offsets-wrong _ two.before.if1.false two.if2.false _ three.before.before.read-header.ensures (holds _ _ three.before.counts-fit.ensures three.if3.false)
-    (fails _ _ c.before.laid_out.ensures c.if4.true)
+pub returns-then-question-gt-QUESTION : goal.returns-then-question-gt-QUESTION
+returns-then-question-gt-QUESTION c = too_long _ c.if-question-lt6.false c.if-question-gt-QUESTION.true
 
-pub counts_fit-requires : goal.counts_fit-requires
-counts_fit-requires c = holds _ _ c.before.laid_out.ensures c.if4.false
+pub returns-then-not-counts_fit : goal.returns-then-not-counts_fit
+returns-then-not-counts_fit c = counts-wrong _ c.if-question-lt6.false c.if-question-gt-QUESTION.false _ c.read_header-h.ensures (sym c.counts_fit.ensures ∙ c.if-not-counts_fit.true)
+
+pub returns-then-not-laid_out : goal.returns-then-not-laid_out
+returns-then-not-laid_out c = offsets-wrong _ c.if-question-lt6.false c.if-question-gt-QUESTION.false _ c.read_header-h.ensures (sym c.counts_fit.ensures ∙ c.if-not-counts_fit.false)
+    (sym c.laid_out.ensures ∙ c.if-not-laid_out.true)
+
+pub read_all-requires : goal.read_all-requires
+read_all-requires c = sym c.laid_out.ensures ∙ c.if-not-laid_out.false
 
 pub returns-in-Stop : goal.returns-in-Stop
-returns-in-Stop c = let five = c.before.before.before in
-    let four = five.before in
-    let three = four.before.before in
-    let two = three.before.before.before in
-    literals-wrong _ two.before.if1.false two.if2.false _ three.before.before.read-header.ensures (holds _ _ three.before.counts-fit.ensures three.if3.false)
-    (holds _ _ four.before.laid_out.ensures four.if4.false) _ (sym five.read-all.ensures ∙ c.in-Stop.is)
+returns-in-Stop c = literals-wrong _ c.if-question-lt6.false c.if-question-gt-QUESTION.false _ c.read_header-h.ensures (sym c.counts_fit.ensures ∙ c.if-not-counts_fit.false)
+    (sym c.laid_out.ensures ∙ c.if-not-laid_out.false) _ (sym c.read_all.ensures ∙ c.in-Stop.is)
 
 pub returns-in-Undeclared : goal.returns-in-Undeclared
-returns-in-Undeclared c = let scan = c.before.before.before in
-    let five = scan.before.before.before.before in
-    let four = five.before in
-    let three = four.before.before in
-    let two = three.before.before.before in
-    number-wrong _ two.before.if1.false two.if2.false _ three.before.before.read-header.ensures (holds _ _ three.before.counts-fit.ensures three.if3.false)
-    (holds _ _ four.before.laid_out.ensures four.if4.false) _ (sym five.read-all.ensures ∙ scan.before.before.enum_told.given.1) _ scan.before.wide.ensures _
-    (sym scan.find-undeclared.ensures ∙ c.in-Undeclared.is)
+returns-in-Undeclared c = number-wrong _ c.if-question-lt6.false c.if-question-gt-QUESTION.false _ c.read_header-h.ensures (sym c.counts_fit.ensures ∙ c.if-not-counts_fit.false)
+    (sym c.laid_out.ensures ∙ c.if-not-laid_out.false) _ (sym c.read_all.ensures ∙ c.in-Next.is) _ c.wide.ensures _
+    (sym c.find_undeclared.ensures ∙ c.in-Undeclared.is)
 
 pub returns-in-Declared : goal.returns-in-Declared
-returns-in-Declared c = let scan = c.before.before in
-    let five = scan.before.before.before.before in
-    let four = five.before in
-    let three = four.before.before in
-    let two = three.before.before.before in
-    nothing-wrong _ two.before.if1.false two.if2.false _ three.before.before.read-header.ensures (holds _ _ three.before.counts-fit.ensures three.if3.false)
-    (holds _ _ four.before.laid_out.ensures four.if4.false) _ (sym five.read-all.ensures ∙ scan.before.before.enum_told.given.1) _ scan.before.wide.ensures
-    (sym scan.find-undeclared.ensures ∙ c.in-Declared.is)
+returns-in-Declared c = nothing-wrong _ c.if-question-lt6.false c.if-question-gt-QUESTION.false _ c.read_header-h.ensures (sym c.counts_fit.ensures ∙ c.if-not-counts_fit.false)
+    (sym c.laid_out.ensures ∙ c.if-not-laid_out.false) _ (sym c.read_all.ensures ∙ c.in-Next.is) _ c.wide.ensures
+    (sym c.find_undeclared.ensures ∙ c.in-Declared.is)

@@ -1,4 +1,5 @@
 -- `opened`: what a word of each kind opens.
+use borrow.Enum.Refused.{opened}
 use mathlib.Core.Path.{◌≡◌, refl, sym, ap, ◌∙◌}
 use mathlib.Core.List.{[], ◌∷◌}
 use Rattle.language.specs.declared.Kind.{Kind}
@@ -26,4 +27,4 @@ returns-in-Symbol c = functors c.classify.ensures c.in-Symbol.in-Symbol-own.keys
 
 pub returns-in_default : goal.returns-in_default
 unfolding opens
-returns-in_default c = others c.classify.ensures c.in_default.in_default-own.keys3
+returns-in_default c = others c.classify.ensures (opened c.in_default.in_default-own.keys3)

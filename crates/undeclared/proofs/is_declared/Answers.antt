@@ -1,5 +1,6 @@
 -- `undeclared::is_declared` meets its contract: the word's kind says which count its number is held against.
 -- Assumes nothing.
+use borrow.Enum.Refused.{opened}
 use Rattle.undeclared.proofs.Scans.{declared-as, declared-none}
 use Rattle.undeclared.proofs.is_declared.Goals as goal
 
@@ -16,4 +17,4 @@ pub returns-in-Function : goal.returns-in-Function
 returns-in-Function c = declared-as _ _ _ _ c.classify.ensures c.in-Function.is
 
 pub returns-in_default : goal.returns-in_default
-returns-in_default c = declared-none _ _ _ c.classify.ensures c.in_default.in_default-own.keys5
+returns-in_default c = declared-none _ _ _ c.classify.ensures (opened c.in_default.in_default-own.keys5)

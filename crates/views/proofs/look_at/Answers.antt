@@ -1,4 +1,5 @@
 -- `look_at`: each way out is the look of one kind of word.
+use borrow.Enum.Refused.{opened}
 use native.Mathlib.Omega.{arith}
 use Prim.Native.Nat.{ℕ}
 use mathlib.Core.Path.{◌∙◌, ◌≡◌}
@@ -21,11 +22,11 @@ returns-in-Run c = looked _ _ _ (look-run _ _ _ c.word.ensures c.classify.ensure
 
 pub returns-in-Symbol : goal.returns-in-Symbol
 unfolding node_at
-returns-in-Symbol c = looked _ _ _ (c.Node-at.ensures ∙ look-kind _ _ _ c.word.ensures c.classify.ensures (Symbol _) c.in-Symbol.is)
+returns-in-Symbol c = looked _ _ _ (c.node_at.ensures ∙ look-kind _ _ _ c.word.ensures c.classify.ensures (Symbol _) c.in-Symbol.is)
 
 pub returns-in-Function : goal.returns-in-Function
 unfolding node_at
 returns-in-Function c = looked _ _ _ (c.node_at-in-Function.ensures ∙ look-kind _ _ _ c.word.ensures c.classify.ensures (Function _) c.in-Function.is)
 
 pub returns-in_default : goal.returns-in_default
-returns-in_default c = looked _ _ _ (look-other _ _ _ c.word.ensures c.classify.ensures c.in_default.in_default-own.keys5)
+returns-in_default c = looked _ _ _ (look-other _ _ _ c.word.ensures c.classify.ensures (opened c.in_default.in_default-own.keys5))

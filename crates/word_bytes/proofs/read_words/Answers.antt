@@ -10,7 +10,7 @@ loop-i-preserved c = let l = c.loop-i in
     (omega arith, (read_more _ _ l.i _ (omega arith) c.word.ensures ∙ l.invariant.1.0, simp length-set l.invariant.1.1))
 
 pub returns : goal.returns
-returns c = let a = c.before in sym (all_read a.before.before.before.args.bytes.now _ a.loop.i (omega arith)) ∙ a.loop.invariant.1.0
+returns c = sym (all_read c.args.bytes.now _ c.loop-i.i (omega arith)) ∙ c.loop-i.invariant.1.0
 
 pub loop-i-init : goal.loop-i-init
 loop-i-init c = (omega arith, (refl, refl))

@@ -7,15 +7,15 @@ use Rattle.word_bytes.proofs.write_words_at.Goals as goal
 
 pub loop-i-preserved : goal.loop-i-preserved
 loop-i-preserved c = let l = c.loop-i in (
-      omega arith,
-      (
-        write-more _ _ _ l.i _ _ (omega arith) c.low.ensures c.high.ensures ∙ l.invariant.1.0,
-        simp length-set l.invariant.1.1,
-      ),
-    )
+  omega arith,
+  (
+    write-more _ _ _ l.i _ _ (omega arith) c.low.ensures c.high.ensures ∙ l.invariant.1.0,
+    simp length-set l.invariant.1.1,
+  ),
+)
 
 pub returns : goal.returns
-returns c = let a = c.before in sym (all-written a.before.before.before.args.words.now _ _ a.loop.i (omega arith)) ∙ a.loop.invariant.1.0
+returns c = sym (all-written c.args.words.now _ _ c.loop-i.i (omega arith)) ∙ c.loop-i.invariant.1.0
 
 pub loop-i-init : goal.loop-i-init
 loop-i-init c = (omega arith, (none_written _ _ _, refl))

@@ -21,7 +21,7 @@ pub overflow_add-result : goal.overflow_add-result
 overflow_add-result c = search rules
 
 pub returns-then-i-eq0 : goal.returns-then-i-eq0
-returns-then-i-eq0 c = (met-add c.requires c.if-n-gt-PAIRS.false c.add.ensures.left_after c.add.ensures.right_after.0, c.add.ensures.right_after.1)
+returns-then-i-eq0 c = (met-add c.requires c.if-n-gt-PAIRS.false c.add.ensures.left_after c.add.ensures.right_after, c.add.ensures.chained_2)
 
 pub returns : goal.returns
 returns c = (met-old c.find-i.ensures c.if-i-eq0.false, c.requires)
