@@ -6,12 +6,11 @@ ghost use Rattle.std.specs.Prelude.{◌<◌};
 use day_table::day_files;
 use example_command::example_file;
 use files::arguments::{count, is, is_last, warn_of, wrong_use};
-use files::status::{Status, exit_code, found};
+use files::status::{Status, found};
 use overlap_table::overlap_file;
 use print::warn;
 use replay_command::replay_file;
 use solve_command::solve_file;
-use std::process::ExitCode;
 use text_commands::{text_file, words_file};
 use try_command::try_file;
 use walk_commands::{trail_file, walk_file};
@@ -187,11 +186,11 @@ fn run(rt: &HostRuntime, i: usize) -> Status
     }
 }
 
-// Does what the arguments ask for, and answers with the exit status. By a first argument --status-on-3 scripts asked for the status when a program had none
+// Does what the arguments ask for, and returns its status. By a first argument --status-on-3 scripts asked for the status when a program had none
 // of its own: it is taken, and changes nothing.
-pub fn obey(rt: &HostRuntime) -> ExitCode {
+pub fn obey(rt: &HostRuntime) -> Status {
     if is(rt, 1, b"--status-on-3") {
-        return exit_code(run(rt, 2));
+        return run(rt, 2);
     }
-    exit_code(run(rt, 1))
+    run(rt, 1)
 }

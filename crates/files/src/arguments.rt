@@ -1,5 +1,6 @@
 // The words that the program is started with.
-ghost use Rattle.std.specs.Prelude.{◌≤◌, length};
+ghost use Rattle.std.specs.Prelude.{◌≤◌, ◌≡◌, length};
+ghost use Rattle.files.specs.declared.status.Status.TheVariants.{Failed};
 
 use crate::status::{Status, failed};
 use print::{say, warn};
@@ -82,7 +83,9 @@ pub fn say_of(rt: &HostRuntime, i: usize) {
 }
 
 // Says how a command is used.
-pub fn wrong_use(rt: &HostRuntime, text: &[u8]) -> Status {
+pub fn wrong_use(rt: &HostRuntime, text: &[u8]) -> Status
+    ensures { result ≡ Failed }
+{
     warn(rt.stderr(), b"desk: ");
     warn(rt.stderr(), text);
     warn(rt.stderr(), b"; desk --help says more\n");

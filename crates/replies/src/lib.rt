@@ -2,6 +2,10 @@
 // status, which these calls return. To print is all else that they do, and they are proved safe and ending.
 #![tactic(auto)]
 
+ghost use Rattle.std.specs.Prelude.{◌≡◌};
+ghost use Rattle.files.specs.declared.status.Status.TheVariants.{Failed};
+ghost use Rattle.replies.specs.Statuses.{status_of};
+
 use files::name_of;
 use files::status::{Status, failed, found, nothing};
 use language::Refusal;
@@ -25,7 +29,9 @@ pub fn refuse<'a>(
     question: &'a [u16],
     text: &'a [u8],
     i: usize,
-) -> Status {
+) -> Status
+    ensures { result ≡ Failed }
+{
     refusal(rt.stderr(), wide(refusals::number(r)));
     if refusals::place(r) != 0 {
         name_of(rt, i);
@@ -35,7 +41,9 @@ pub fn refuse<'a>(
 }
 
 // Says why a file has no question: a text that is refused by this number, or for a reason that is said already.
-pub fn no_question(rt: &HostRuntime, number: u16, text: &[u8], i: usize) -> Status {
+pub fn no_question(rt: &HostRuntime, number: u16, text: &[u8], i: usize) -> Status
+    ensures { result ≡ Failed }
+{
     if number != 0 {
         refusal(rt.stderr(), wide(number));
         if number == NOT_TEXT {
@@ -55,7 +63,9 @@ pub fn solved<'a>(
     text: &'a [u8],
     names: &'a [u8],
     i: usize,
-) -> Status {
+) -> Status
+    ensures { result ≡ status_of s.outcome }
+{
     let outcome = s.outcome;
     match outcome {
         Outcome::Refused(r) => refuse(rt, r, question, text, i),
