@@ -351,6 +351,7 @@ module _ (L : Limits) (text : List ℕ) where
 
   none_left : (ks : List Conj) → Lines ks [] → ks ≡ []
   none_left [] no_line = refl
+  none_left (_ ∷ _) x3 = elim x3 [ ]
 
   pub record GoingOn (names names' : List ℕ) (at : ℕ) : Type 0 where
     pub on : (n : List ℕ) → LinesOn L text names' at n → LinesOn L text names 0 n

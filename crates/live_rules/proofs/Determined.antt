@@ -1,7 +1,8 @@
 -- Any two outcomes that a contract of this crate allows coincide.
 use mathlib.Core.Path.{sym, ap, ◌∙◌}
 use Rattle.language.proofs.Determined.{Determined}
-use Rattle.live_rules.proofs.rule_end as Rule-end
+use Rattle.live_rules.specs.contracts.rule_end as Rule-end-contract
+use Rattle.live_rules.proofs.rule_end.Reads as Rule-end-reads
 use Rattle.live_rules.specs.contracts.sheet_number as sheet-number-contract
 use Rattle.live_rules.proofs.sheet_number.Reads as sheet-number-reads
 

@@ -1,6 +1,6 @@
 -- Kinds of terms: one term more of a kind, and a kind more, are one more term at the end.
 use Prim.Native.Nat.{ℕ, zero, suc, ◌+◌, ◌<◌, ◌≤◌}
-use mathlib.Core.Path.{◌≡◌, sym, ◌∙◌, ap}
+use mathlib.Core.Path.{◌≡◌, sym, ◌∙◌, ap, subst}
 use mathlib.Core.Logic.{inl, inr, ◌↔◌}
 use mathlib.Core.List.{List, [], ◌∷◌, ◌++◌}
 use native.Mathlib.Omega.{arith}
@@ -151,7 +151,7 @@ records-raised w top (k ∷ ks) at o L ks' (r, s) f (inl (e, p, d)) = rw (d, e) 
     places = λ i l. get_or-set_other w at (at + 2 + i) (get_or w at 0 + 1) 0 (omega arith) ∙ r.places i l;
     ascending = r.ascending;
   },
-  records-same w (set w at (get_or w at 0 + 1)) (at + 2 + length k.places) ks top (λ q l u. get_or-set_other w at q (get_or w at 0 + 1) 0 (omega arith)) s,
+  subst (λ (x : ℕ). Records (set w x (get_or w x 0 + 1)) (at + 2 + length k.places) ks top) (sym e) (records-same w (set w at (get_or w at 0 + 1)) (at + 2 + length k.places) ks top (λ q l u. get_or-set_other w at q (get_or w at 0 + 1) 0 (omega arith)) s),
 )
 records-raised w top (k ∷ ks) at o L ks' (r, s) f (inr (m, d, z)) =
     let (l, u) = raised-within ks (at + 2 + length k.places) o L m w top s z in

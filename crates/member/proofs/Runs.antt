@@ -31,12 +31,12 @@ final-blank (over f R) = refl
 kept-blank : {k : List Bool} {at : ℕ} (R : Expr) → ((i : ℕ) → at ≤ i → i < at + size_e R → get_or k i false ≡ false) → Kept k at (blank R)
 kept-blank eps z = kept-eps
 kept-blank {at = at} (cat a b) z =
-    kept-cat {at = at} {a = blank a} {b = blank b} (rw (final-blank a) (z at (omega arith) (omega arith))) (kept-blank a (λ i l u. z i (omega arith) (omega arith)))
-    (rw (bare-blank a) (kept-blank b (λ i l u. z i (omega arith) (omega arith))))
+    kept-cat {at = at} {a = blank a} {b = blank b} (rw (final-blank a) (z at (omega arith) (omega arith))) (kept-blank {at = at + 1} a (λ i l u. z i (omega arith) (omega arith)))
+    (rw (bare-blank a) (kept-blank {at = at + 1 + size_e a} b (λ i l u. z i (omega arith) (omega arith))))
 kept-blank {at = at} (alt a b) z =
-    kept-alt {at = at} {a = blank a} {b = blank b} (kept-blank a (λ i l u. z i (omega arith) (omega arith)))
-    (rw (bare-blank a) (kept-blank b (λ i l u. z i (omega arith) (omega arith))))
-kept-blank {at = at} (star a) z = kept-star {at = at} {a = blank a} (rw (final-blank a) (z at (omega arith) (omega arith))) (kept-blank a (λ i l u. z i (omega arith) (omega arith)))
+    kept-alt {at = at} {a = blank a} {b = blank b} (kept-blank {at = at + 1} a (λ i l u. z i (omega arith) (omega arith)))
+    (rw (bare-blank a) (kept-blank {at = at + 1 + size_e a} b (λ i l u. z i (omega arith) (omega arith))))
+kept-blank {at = at} (star a) z = kept-star {at = at} {a = blank a} (rw (final-blank a) (z at (omega arith) (omega arith))) (kept-blank {at = at + 1} a (λ i l u. z i (omega arith) (omega arith)))
 kept-blank (over f R) z = kept-over
 
 pub children-of : {h : List ℕ} {j : ℕ} → Term h j → Hedge h (j + 1)

@@ -144,6 +144,6 @@ found_first m s (rule ∷ rs) before l behind (suc n) f d r a low high p =
     in
     ap (λ k. or_next k (λ _. first (suc m) rs (before ++ (l ∷ behind)))) (quiet m rule (before ++ (l ∷ behind)) all p.0)
     ∙ found_first (suc m) s rs before l behind n f (omega arith) q.1 a
-    (each_map _ _ (λ before l behind h. let z : n < rank rs before l behind = omega arith in z) [] before (l ∷ behind) (all_after rule rs (suc n) [] before (l ∷ behind) low))
+    (each_map (λ before l behind. suc n ≤ rank rs before l behind) (λ before l behind. n < rank rs before l behind) (λ before l behind h. omega arith) [] before (l ∷ behind) (all_after rule rs (suc n) [] before (l ∷ behind) low))
     (all_after rule rs n (before ++ (l ∷ [])) behind [] high)
     p.1

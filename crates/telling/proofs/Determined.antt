@@ -1,7 +1,8 @@
 -- Any two outcomes that the contracts of this crate allow coincide.
 use mathlib.Core.Path.{sym, ap, ◌∙◌}
 use Rattle.language.proofs.Determined.{Determined}
-use Rattle.telling.proofs.named_by as Named-by
+use Rattle.telling.specs.contracts.named_by as Named-by-contract
+use Rattle.telling.proofs.named_by.Reads as Named-by-reads
 use Rattle.telling.specs.contracts.named_step as named_step-contract
 use Rattle.telling.proofs.named_step.Reads as named_step-reads
 

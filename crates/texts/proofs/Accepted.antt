@@ -25,7 +25,7 @@ use Rattle.language.proofs.Laws.{conjunctions-read}
 use Rattle.language.proofs.Questions.{asked}
 use Rattle.grammar.specs.Grammar.{TextOf}
 use Rattle.meaning.specs.Values.{joined, offsets_of}
-use Rattle.texts.specs.Numbering.{Class, symbols, terms, hedges, functions, at_s, at_t, at_h, at_x, at_f, in_hedge, in_expr, in_literal, in_conj, in_all, name_all, table, numbered, at_least_one, counts_in}
+use Rattle.texts.specs.Numbering.{Class, symbols, terms, hedges, functions, at_s, at_t, at_h, at_x, at_f, in_hedge, in_expr, in_literal, in_conj, in_all, name_all, table, numbered, place, at_least_one, counts_in}
 use Rattle.texts.specs.Texts.{parse}
 use Rattle.texts.specs.Outcomes.{Outcome, gives, denies, question_words, fitted, counted, reads_text, as_read, symbols_are, count_is}
 use Rattle.texts.proofs.Readings.{text-spelt, text-read}
@@ -160,7 +160,7 @@ length-named σ (k ∷ ks) = ap suc (length-named σ ks)
 
 length-numbered : (ks : List Conj) → length (numbered ks) ≡ length ks
 unfolding numbered
-length-numbered ks = length-named _ ks
+length-numbered ks = length-named (λ c n. place n (table ks c)) ks
 
 at_least : (m : ℕ) → m ≤ at_least_one m
 at_least zero = omega arith

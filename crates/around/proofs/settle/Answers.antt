@@ -5,5 +5,5 @@ use Rattle.around.proofs.settle.Goals as goal
 pub returns-in-Stopped : goal.returns-in-Stopped
 returns-in-Stopped c = settled-stopped _ _ _ _ c.in-Stopped.is c.wipe.ensures
 
-pub wipe-requires : goal.wipe-requires
-wipe-requires c = settled-done _ _ _ _ c.enum_told.given.1
+pub returns-in-Done : goal.returns-in-Done
+returns-in-Done c = settled-done _ _ _ _ c.in-Done.is

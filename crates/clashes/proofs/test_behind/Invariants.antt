@@ -13,7 +13,7 @@ use Rattle.clashes.proofs.test_behind.Given as goal
 
 abbrev pub invariant-loop-j : goal.invariant-loop-j
 invariant-loop-j l = (l.end ≤ l.j) × (l.end ≡ l.at + 1 + until_literal (drop (l.at + 1) l.k)) × (l.term ≡ is_term l.x)
-    × ((before : Conj) (l : Literal) (behind : Conj) → LiteralAt l.k l.at before l behind → (l.x ≡ lone_of l) × Walked (Known l.s l behind) (before ++ (l ∷ behind)) l.j)
+    × ((before : Conj) (m : Literal) (behind : Conj) → LiteralAt l.k l.at before m behind → (l.x ≡ lone_of m) × Walked (Known l.s m behind) (before ++ (m ∷ behind)) l.j)
 
 abbrev pub decreases-loop-j : goal.decreases-loop-j
 decreases-loop-j l = length l.k - l.j

@@ -2,8 +2,8 @@
 use Rattle.collecting.proofs.Taking.{its-shelf, taken, not_taken}
 use Rattle.collecting.proofs.take.Goals as goal
 
-pub shelf-s-requires : goal.shelf-s-requires
-shelf-s-requires c = search (its-shelf)
+pub enter-requires : goal.enter-requires
+enter-requires c = search (its-shelf)
 
 pub returns-then-s-lt-ALL : goal.returns-then-s-lt-ALL
 returns-then-s-lt-ALL c = search (taken)

@@ -6,9 +6,9 @@ use Rattle.equation_plans.proofs.plan_equation.Goals as goal
 pub plan_elimination-requires : goal.plan_elimination-requires
 plan_elimination-requires c = let m = c.in_default.in_default-own.rest in
     record {
-  rule_applies = c.requires;
-  further = record { not-R1 = m.0.0.0.0.0.1; not-Del1 = m.0.0.0.0.1; not-Del2 = m.0.0.0.1; not-D1 = m.0.0.1; not-D2 = m.0.1; not-D0 = m.1 };
-}
+      rule_applies = c.requires;
+      further = record { not-R1 = m.0.0.0.0.0.1; not-Del1 = m.0.0.0.0.1; not-Del2 = m.0.0.0.1; not-D1 = m.0.0.1; not-D2 = m.0.1; not-D0 = m.1 };
+    }
 
 pub returns-in-0 : goal.returns-in-0
 returns-in-0 c = for-R1 (omega arith) (λ l r a. c.plan_r1.ensures)

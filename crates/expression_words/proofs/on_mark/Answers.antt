@@ -1,22 +1,9 @@
 -- `expression_words::on_mark` meets its contract: character by character.
 use Rattle.expression_words.proofs.Rows.{end_marked, bad-marked, symbol-marked, one-marked, function-marked, equals-marked, star-marked, times-marked, comma-marked, plus-marked, as-opens, closes-marked}
-use borrow.Author.Rules.{rules}
 use Rattle.expression_words.proofs.on_mark.Goals as goal
-
-pub on_times-requires : goal.on_times-requires
-on_times-requires c = search rules
-
-pub on_comma-requires : goal.on_comma-requires
-on_comma-requires c = search rules
 
 pub on_opens-requires : goal.on_opens-requires
 on_opens-requires c = (c.requires.inside c.in-Opens.is, c.requires.high, c.requires.few.0, c.requires.few.1)
-
-pub on_closes-requires : goal.on_closes-requires
-on_closes-requires c = search rules
-
-pub on_plus-requires : goal.on_plus-requires
-on_plus-requires c = search rules
 
 pub returns-in-End : goal.returns-in-End
 returns-in-End c = end_marked c.args.s c.requires.high c.in-End.is

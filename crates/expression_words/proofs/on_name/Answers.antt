@@ -2,14 +2,7 @@
 use Rattle.language.specs.Limits.{desk}
 use Rattle.expression_words.proofs.Laying.{leaf-leaves, name-turned}
 use native.Mathlib.Omega.{arith}
-use borrow.Author.Rules.{rules}
 use Rattle.expression_words.proofs.on_name.Goals as goal
-
-pub put_if-leaf-requires : goal.put_if-leaf-requires
-put_if-leaf-requires c = search rules
-
-pub own_word-w-requires : goal.own_word-w-requires
-own_word-w-requires c = search rules
 
 pub put_if-first-requires : goal.put_if-first-requires
 put_if-first-requires c = (leaf-leaves c.args.s c.requires.1 c.put_if-leaf.ensures c.requires.0, omega arith)

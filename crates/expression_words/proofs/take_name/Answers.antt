@@ -1,16 +1,9 @@
 -- `expression_words::take_name` meets its contract: no byte, a name, another byte.
 use Rattle.expression_words.proofs.Steps.{none-taken, other-taken, name-space, name-taken}
-use borrow.Author.Rules.{rules}
 use Rattle.expression_words.proofs.take_name.Goals as goal
 
 pub returns-then-at-to : goal.returns-then-at-to
 returns-then-at-to c = none-taken c.requires c.if-at-to.true
-
-pub bounds-text-at : goal.bounds-text-at
-bounds-text-at c = search rules
-
-pub is_name_byte-requires : goal.is_name_byte-requires
-is_name_byte-requires c = search rules
 
 pub on_name-requires : goal.on_name-requires
 on_name-requires c = (name-space c.requires c.if-at-to.false c.is_name_byte.ensures c.if-is_name_byte.true, c.requires.place, c.requires.shelves)

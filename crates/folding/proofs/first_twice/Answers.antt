@@ -12,10 +12,8 @@ use Rattle.views.proofs.LiteralWalks.{walk-starts, walk_here, walk-to, walk_ends
 use Rattle.folding.proofs.Twice.{twice_from, twice-is}
 use Rattle.folding.proofs.Tables.{Table, table_empty}
 use Rattle.folding.proofs.Noting.{falls-on, falls-empty, zeros, noted, literal-within}
+use Rattle.folding.proofs.first_twice.Invariants.{Known}
 use Rattle.folding.proofs.first_twice.Goals as goal
-
-abbrev Known : List ℕ → List ℕ → List ℕ → ℕ → Conj → Conj → Type 0
-Known k heads next best done rest = Table heads next done × (best ≡ twice_from (length k) 0 done)
 
 pub loop-i-init : goal.loop-i-init
 loop-i-init c = (falls-empty _ _ _ (length-replicate {A = ℕ} 1024 0) (length-replicate {A = ℕ} (desk.question / 3) 0) (zeros 1024) (zeros (desk.question / 3)), λ x f e. walk-starts (Known c.args.k.now _ _ _) x (table_empty _ _ (zeros 1024), refl))
@@ -36,13 +34,13 @@ loop-i-smaller c = let z = c.next_literal-end.ensures in omega arith
 
 pub loop-i-preserved : goal.loop-i-preserved
 loop-i-preserved c = let e = c.next_literal-end.ensures in (
-      falls-on c.note-p.ensures (walk_here c.args.k.now c.requires.conjunction.conj c.requires.conjunction.fine c.requires.conjunction.words c.loop-i.i (Known c.args.k.now c.loop-i.heads c.loop-i.next c.loop-i.best) (c.loop-i.i + 3 ≤ c.next_literal-end.result) (c.loop-i.invariant.1 c.requires.conjunction.conj c.requires.conjunction.fine c.requires.conjunction.words) c.loop-i-test.true (λ done l rest p d. let z = e ∙ literal-next p in let y = literal-three l in omega arith)) c.loop-i.invariant.0,
-      λ x f w.
-          walk-to c.args.k.now x f w c.loop-i.i (Known c.args.k.now c.loop-i.heads c.loop-i.next c.loop-i.best) (Known c.args.k.now _ _ c.least-best.result) _ (c.loop-i.invariant.1 x f w) c.loop-i-test.true
-          (λ done l rest p d.
-          let n = noted p _ (e ∙ literal-next p) d.0 c.loop-i.invariant.0 c.loop-i.best d.1 _ _ _ c.note-p.ensures in
-          (e ∙ literal-next p, (n.0, c.least-best.ensures ∙ n.1))),
-    )
+  falls-on c.note-p.ensures (walk_here c.args.k.now c.requires.conjunction.conj c.requires.conjunction.fine c.requires.conjunction.words c.loop-i.i (Known c.args.k.now c.loop-i.heads c.loop-i.next c.loop-i.best) (c.loop-i.i + 3 ≤ c.next_literal-end.result) (c.loop-i.invariant.1 c.requires.conjunction.conj c.requires.conjunction.fine c.requires.conjunction.words) c.loop-i-test.true (λ done l rest p d. let z = e ∙ literal-next p in let y = literal-three l in omega arith)) c.loop-i.invariant.0,
+  λ x f w.
+      walk-to c.args.k.now x f w c.loop-i.i (Known c.args.k.now c.loop-i.heads c.loop-i.next c.loop-i.best) (Known c.args.k.now _ _ c.least-best.result) _ (c.loop-i.invariant.1 x f w) c.loop-i-test.true
+      (λ done l rest p d.
+      let n = noted p _ (e ∙ literal-next p) d.0 c.loop-i.invariant.0 c.loop-i.best d.1 _ _ _ c.note-p.ensures in
+      (e ∙ literal-next p, (n.0, c.least-best.ensures ∙ n.1))),
+)
 
 pub returns : goal.returns
 returns c = λ x f e.

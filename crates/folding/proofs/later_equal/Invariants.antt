@@ -12,7 +12,7 @@ use Rattle.folding.proofs.later_equal.Given as goal
 
 abbrev pub invariant-loop-j : goal.invariant-loop-j
 invariant-loop-j l = (l.end ≡ l.at + 1 + until_literal (drop (l.at + 1) l.k))
-    × ((before : Conj) (l : Literal) (behind : Conj) → LiteralAt l.k l.at before l behind → Walked (Passed l.at l behind l.j) (before ++ (l ∷ behind)) l.j)
+    × ((before : Conj) (m : Literal) (behind : Conj) → LiteralAt l.k l.at before m behind → Walked (Passed l.at m behind l.j) (before ++ (m ∷ behind)) l.j)
 
 abbrev pub decreases-loop-j : goal.decreases-loop-j
 decreases-loop-j l = length l.k - l.j

@@ -13,9 +13,8 @@ loop-m-init c = (still-all _ _ _ c.requires.2, c.requires.1, c.requires.0)
 pub nonzero_div-d : goal.nonzero_div-d
 nonzero_div-d c = let b = counted-orders (c.loop-m.m - 1) (let l = c.loop-m.invariant.1 in omega arith) c.count_orders-block.ensures in let f = orders-some (c.loop-m.m - 1) in omega arith
 
-pub offset_bounds-row-d : goal.offset_bounds-row-d
-offset_bounds-row-d c = let t = c.loop-m-test.true in let l = c.loop-m.invariant.1 in let s = c.loop-m.invariant.2 in
-    let d = mod-lt (c.loop-m.j / c.count_orders-block.result) {m = c.loop-m.m} (omega arith) in omega arith
+pub nonzero_rem-j : goal.nonzero_rem-j
+nonzero_rem-j c = let b = counted-orders (c.loop-m.m - 1) (let l = c.loop-m.invariant.1 in omega arith) c.count_orders-block.ensures in let f = orders-some (c.loop-m.m - 1) in omega arith
 
 pub bounds-row-d : goal.bounds-row-d
 bounds-row-d c = let t = c.loop-m-test.true in let l = c.loop-m.invariant.1 in let s = c.loop-m.invariant.2 in
@@ -25,17 +24,14 @@ pub copy-e-requires : goal.copy-e-requires
 copy-e-requires c = still-fits c.loop-m.invariant.0 (next-found c.args.k.now c.loop-m.m c.loop-m.j c.loop-m.ps.at c.loop-m-test.true
     (counted-orders (c.loop-m.m - 1) (let l = c.loop-m.invariant.1 in omega arith) c.count_orders-block.ensures) c.element_end-end.ensures)
 
-pub nonzero_rem-j : goal.nonzero_rem-j
-nonzero_rem-j c = let b = counted-orders (c.loop-m.m - 1) (let l = c.loop-m.invariant.1 in omega arith) c.count_orders-block.ensures in let f = orders-some (c.loop-m.m - 1) in omega arith
-
 pub loop-m-preserved : goal.loop-m-preserved
 loop-m-preserved c = let l = c.loop-m.invariant.1 in let t = c.loop-m-test.true in (
-      still-as (ap (elements_at c.args.k.now) (sym (agree-order (c.loop-m.m - 1) (c.loop-m.j % c.count_orders-block.result) c.without-ps.result.at (drop_at (c.loop-m.j / c.count_orders-block.result % c.loop-m.m) c.loop-m.ps.at) (λ i h. c.without-ps.ensures.1 i (omega arith)))))
-          (still-run c.loop-m.invariant.0 (next-found c.args.k.now c.loop-m.m c.loop-m.j c.loop-m.ps.at c.loop-m-test.true
-          (counted-orders (c.loop-m.m - 1) (omega arith) c.count_orders-block.ensures) c.element_end-end.ensures) c.copy-e.ensures),
-      omega arith,
-      c.without-ps.ensures.0,
-    )
+  still-as (ap (elements_at c.args.k.now) (sym (agree-order (c.loop-m.m - 1) (c.loop-m.j % c.count_orders-block.result) c.without-ps.result.at (drop_at (c.loop-m.j / c.count_orders-block.result % c.loop-m.m) c.loop-m.ps.at) (λ i h. c.without-ps.ensures.1 i (omega arith)))))
+      (still-run c.loop-m.invariant.0 (next-found c.args.k.now c.loop-m.m c.loop-m.j c.loop-m.ps.at c.loop-m-test.true
+      (counted-orders (c.loop-m.m - 1) (omega arith) c.count_orders-block.ensures) c.element_end-end.ensures) c.copy-e.ensures),
+  omega arith,
+  c.without-ps.ensures.0,
+)
 
 pub returns : goal.returns
 returns c = still-none c.loop-m.invariant.0 (none-in-order c.args.k.now c.loop-m.j c.loop-m.ps.at c.loop-m-test.false)

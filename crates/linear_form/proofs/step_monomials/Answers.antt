@@ -25,14 +25,14 @@ size_monomials-requires c = record {
 pub write_monomials-requires : goal.write_monomials-requires
 write_monomials-requires c = let d = c.requires.k_len_bound in
     let m = shown-at c.args.k.now c.args.literal _ c.show_membership-s.ensures.0 c.requires.some_membership in record {
-  k_len_bound = (d.0, omega arith);
-  room_for = record {
+      k_len_bound = (d.0, omega arith);
+      room_for = record {
         membership = m;
         ready =
             took-ready _ (monomial_words m.before m.h m.R m.behind) c.args.out.now c.args.next _
             (c.size_monomials.ensures.each m.before m.h m.R m.behind m.shows) _ c.in-Fits.is c.if-next-n.false d.3 d.2;
       };
-}
+    }
 
 pub returns-then-next-n : goal.returns-then-next-n
 returns-then-next-n c = λ before h R behind p.

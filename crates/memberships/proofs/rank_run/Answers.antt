@@ -1,4 +1,5 @@
 -- Kind by kind.
+use borrow.Enum.Refused.{opened}
 use Prim.Native.Nat.{ℕ}
 use mathlib.Core.Path.{◌≡◌, refl, sym, ap, ◌∙◌}
 use mathlib.Core.Bool.{Bool}
@@ -35,4 +36,4 @@ pub returns-else-last : goal.returns-else-last
 returns-else-last c = λ h beyond s. so-of c.args.last (has_term h) _ _ c.in-Symbol.is (ap (λ b. pick b no_rule at_m3) (sym c.if-last.false))
 
 pub returns-in_default : goal.returns-in_default
-returns-in_default c = λ h beyond s. others c.args.last (has_term h) c.args.first c.in_default.in_default-own.keys4
+returns-in_default c = λ h beyond s. others c.args.last (has_term h) c.args.first (opened c.in_default.in_default-own.keys4)

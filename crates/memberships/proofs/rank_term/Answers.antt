@@ -1,4 +1,5 @@
 -- Kind by kind.
+use borrow.Enum.Refused.{opened}
 use Prim.Native.Nat.{ℕ}
 use mathlib.Core.Path.{◌≡◌, refl, sym, ap, ◌∙◌}
 use mathlib.Core.Bool.{Bool}
@@ -38,4 +39,4 @@ returns-in-Symbol c = λ h beyond s l.
     so-of c.args.signature (child_terms h) c.args.look c.args.last _ _ c.in-Symbol.is (c.or_more-in-Symbol.ensures ∙ ap (λ n. pick c.args.last n at_m2) (c.rank_single.ensures h beyond s l))
 
 pub returns-in_default : goal.returns-in_default
-returns-in_default c = λ h beyond s l. others c.args.signature (child_terms h) c.args.look c.args.last c.args.first c.in_default.in_default-own.keys6
+returns-in_default c = λ h beyond s l. others c.args.signature (child_terms h) c.args.look c.args.last c.args.first (opened c.in_default.in_default-own.keys6)

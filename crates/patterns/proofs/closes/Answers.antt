@@ -1,3 +1,4 @@
+use borrow.Enum.Refused.{opened}
 use Prim.Native.Nat.{◌-◌}
 use mathlib.Core.Path.{refl, ◌∙◌}
 use Rattle.word_bytes.proofs.Pairs.{length-words_of}
@@ -28,7 +29,7 @@ pub loop-i-preserved : goal.loop-i-preserved
 loop-i-preserved c = let h = length-words_of c.args.bytes.now in (omega arith, closes-more _ c.loop-i.i _ (omega arith) _ (rw c.word_at-word.ensures at c.classify.ensures) c.if-depth-eq0.false c.in-Symbol.in-Symbol-own.keys3 ∙ c.loop-i.invariant.1)
 
 pub returns-in_default : goal.returns-in_default
-returns-in_default c = let h = length-words_of c.args.bytes.now in closes-not _ c.loop-i.i _ (omega arith) _ (rw c.word_at-word.ensures at c.classify.ensures) c.if-depth-eq0.false c.in_default.in_default-own.keys4 ∙ c.loop-i.invariant.1
+returns-in_default c = let h = length-words_of c.args.bytes.now in closes-not _ c.loop-i.i _ (omega arith) _ (rw c.word_at-word.ensures at c.classify.ensures) c.if-depth-eq0.false (opened c.in_default.in_default-own.keys4) ∙ c.loop-i.invariant.1
 
 pub returns : goal.returns
 returns c = let h = length-words_of c.args.bytes.now in closes-done _ c.loop-i.i _ (omega arith) ∙ c.loop-i.invariant.1

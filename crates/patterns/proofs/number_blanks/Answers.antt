@@ -1,3 +1,4 @@
+use borrow.Enum.Refused.{opened}
 use Prim.Native.Nat.{◌-◌, ◌+◌}
 use mathlib.Core.Path.{ap, ◌∙◌}
 use Rattle.language.specs.Limits.{desk}
@@ -46,7 +47,7 @@ pub loop-i-smaller : goal.loop-i-smaller
 loop-i-smaller c = let h = length-words_of c.args.bytes.now in omega arith
 
 pub loop-i-preserved : goal.loop-i-preserved
-loop-i-preserved c = let h = length-words_of c.args.bytes.now in (omega arith, other-noted (words_of c.args.bytes.now) c.loop-i.i (omega arith) _ _ c.loop-i.invariant.1 _ (c.classify.ensures ∙ ap (kind_of desk) c.word_at-word.ensures) c.in_default.in_default-own.keys4, omega arith, omega arith, omega arith)
+loop-i-preserved c = let h = length-words_of c.args.bytes.now in (omega arith, other-noted (words_of c.args.bytes.now) c.loop-i.i (omega arith) _ _ c.loop-i.invariant.1 _ (c.classify.ensures ∙ ap (kind_of desk) c.word_at-word.ensures) (opened c.in_default.in_default-own.keys4), omega arith, omega arith, omega arith)
 
 pub returns : goal.returns
 returns c = let h = length-words_of c.args.bytes.now in all_noted _ c.loop-i.i _ _ (omega arith) c.loop-i.invariant.1

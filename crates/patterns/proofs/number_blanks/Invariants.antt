@@ -6,7 +6,7 @@ use Rattle.patterns.specs.Tables.{Noted}
 use Rattle.patterns.proofs.number_blanks.Given as goal
 
 abbrev pub invariant-loop-i : goal.invariant-loop-i
-invariant-loop-i l = (l.i ≤ length (words_of l.bytes)) × Noted (take l.i (words_of l.bytes)) (record { l.terms = l.terms; l.hedges = l.hedges; l.functions = l.functions }) l.table × (l.terms ≤ l.i) × (l.hedges ≤ l.i) × (l.functions ≤ l.i)
+invariant-loop-i l = (l.i ≤ length (words_of l.bytes)) × Noted (take l.i (words_of l.bytes)) (record { terms = l.terms; hedges = l.hedges; functions = l.functions }) l.table × (l.terms ≤ l.i) × (l.hedges ≤ l.i) × (l.functions ≤ l.i)
 
 abbrev pub decreases-loop-i : goal.decreases-loop-i
 decreases-loop-i l = length (words_of l.bytes) - l.i

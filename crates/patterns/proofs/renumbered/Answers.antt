@@ -1,4 +1,5 @@
 -- `patterns::renumbered` meets its contract: each arm cites the law of its kind.
+use borrow.Enum.Refused.{opened}
 use Rattle.patterns.proofs.Turns.{entered-term, entered-run, entered-function, by-term, by-run, by-function, by-other}
 use Rattle.patterns.proofs.renumbered.Goals as goal
 
@@ -21,4 +22,4 @@ pub returns-in-Function : goal.returns-in-Function
 returns-in-Function c = by-function _ _ _ _ c.classify.ensures _ _ _ _ c.short-in-Function.ensures c.in-Function.is c.wide-in-Function.ensures c.function_word.ensures c.number_at-in-Function.ensures.0
 
 pub returns-in_default : goal.returns-in_default
-returns-in_default c = by-other _ _ _ _ c.classify.ensures c.in_default.in_default-own.keys4
+returns-in_default c = by-other _ _ _ _ c.classify.ensures (opened c.in_default.in_default-own.keys4)

@@ -1,29 +1,16 @@
 use Prim.Native.Nat.{◌-◌}
 use Rattle.read_text.proofs.Leaves.{copy-starts, copy-length, copy-on, copy-ends}
 use native.Mathlib.Omega.{arith}
-use borrow.Author.Rules.{rules}
 use Rattle.read_text.proofs.copy.Goals as goal
 
 pub loop-i-init : goal.loop-i-init
 loop-i-init c = copy-starts c.requires.0 c.requires.1
 
-pub offset_bounds-words-i : goal.offset_bounds-words-i
-offset_bounds-words-i c = search rules
-
 pub bounds-words-i : goal.bounds-words-i
 bounds-words-i c = omega (arith, c.loop-i.invariant.within)
 
-pub offset_bounds-room-i : goal.offset_bounds-room-i
-offset_bounds-room-i c = search rules
-
 pub bounds-room-i : goal.bounds-room-i
 bounds-room-i c = omega (arith, c.loop-i.invariant.fits, copy-length c.loop-i.invariant)
-
-pub overflow_add-i : goal.overflow_add-i
-overflow_add-i c = search rules
-
-pub loop-i-smaller : goal.loop-i-smaller
-loop-i-smaller c = search rules
 
 pub loop-i-preserved : goal.loop-i-preserved
 loop-i-preserved c = copy-on c.loop-i.invariant (omega arith)

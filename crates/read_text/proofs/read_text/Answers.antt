@@ -1,5 +1,6 @@
 -- `read_text::read_text` meets its contract: each way out.
-use mathlib.Core.Path.{refl, sym, ◌∙◌}
+use mathlib.Core.Bool.{not}
+use mathlib.Core.Path.{refl, sym, ◌∙◌, ap}
 use lib.ListN.{length-replicate}
 use Prim.Native.Nat.{ℕ, ◌+◌, ◌*◌}
 use Rattle.language.specs.Limits.{desk}
@@ -14,7 +15,6 @@ returns-then-not-v-clause-value c = (done-tokens _ _ c.survey-v.ensures c.if-not
 pub returns-then-not-v-clause-room_after : goal.returns-then-not-v-clause-room_after
 returns-then-not-v-clause-room_after c = (done-tokens _ _ c.survey-v.ensures c.if-not-v.true).1
 
-
 pub write_lines-w-requires : goal.write_lines-w-requires
 write_lines-w-requires c = lined _ _ _ _ c.survey-v.ensures c.if-not-v.false c.collect.ensures c.first_word.ensures (length-replicate {A = ℕ} (desk.question + 1) 0)
 
@@ -23,7 +23,6 @@ returns-then-not-w-clause-value c = (done-lines _ _ _ _ _ c.survey-v.ensures c.i
 
 pub returns-then-not-w-clause-room_after : goal.returns-then-not-w-clause-room_after
 returns-then-not-w-clause-room_after c = (done-lines _ _ _ _ _ c.survey-v.ensures c.if-not-v.false refl c.collect.ensures c.first_word.ensures c.write_lines-w.ensures c.if-not-w.true).1
-
 
 pub is_many-requires : goal.is_many-requires
 is_many-requires c = omega (arith, c.collect.ensures.len, length-replicate {A = ℕ} (4 * (desk.each + 2)) 0)
@@ -34,20 +33,17 @@ returns-then-is_many-clause-value c = (done-many _ _ _ _ _ c.survey-v.ensures c.
 pub returns-then-is_many-clause-room_after : goal.returns-then-is_many-clause-room_after
 returns-then-is_many-clause-room_after c = (done-many _ _ _ _ _ c.survey-v.ensures c.if-not-v.false refl c.collect.ensures c.first_word.ensures c.write_lines-w.ensures c.if-not-w.false c.is_many.ensures c.if-is_many.true).1
 
-
 pub returns-then-n-gt-QUESTION-clause-value : goal.returns-then-n-gt-QUESTION-clause-value
 returns-then-n-gt-QUESTION-clause-value c = (done-long _ _ _ _ _ c.survey-v.ensures c.if-not-v.false refl c.collect.ensures c.first_word.ensures c.write_lines-w.ensures c.if-not-w.false c.is_many.ensures c.if-is_many.false (length-replicate {A = ℕ} (desk.question + 1) 0) c.if-n-gt-QUESTION.true).0
 
 pub returns-then-n-gt-QUESTION-clause-room_after : goal.returns-then-n-gt-QUESTION-clause-room_after
 returns-then-n-gt-QUESTION-clause-room_after c = (done-long _ _ _ _ _ c.survey-v.ensures c.if-not-v.false refl c.collect.ensures c.first_word.ensures c.write_lines-w.ensures c.if-not-w.false c.is_many.ensures c.if-is_many.false (length-replicate {A = ℕ} (desk.question + 1) 0) c.if-n-gt-QUESTION.true).1
 
-
 pub returns-then-room-n-clause-value : goal.returns-then-room-n-clause-value
 returns-then-room-n-clause-value c = (done-room _ _ _ _ _ c.survey-v.ensures c.if-not-v.false refl c.collect.ensures c.first_word.ensures c.write_lines-w.ensures c.if-not-w.false c.is_many.ensures c.if-is_many.false (length-replicate {A = ℕ} (desk.question + 1) 0) c.if-n-gt-QUESTION.false c.if-room-n.true).0
 
 pub returns-then-room-n-clause-room_after : goal.returns-then-room-n-clause-room_after
 returns-then-room-n-clause-room_after c = (done-room _ _ _ _ _ c.survey-v.ensures c.if-not-v.false refl c.collect.ensures c.first_word.ensures c.write_lines-w.ensures c.if-not-w.false c.is_many.ensures c.if-is_many.false (length-replicate {A = ℕ} (desk.question + 1) 0) c.if-n-gt-QUESTION.false c.if-room-n.true).1
-
 
 pub write_header-requires : goal.write_header-requires
 write_header-requires c = (omega (arith, c.collect.ensures.len, length-replicate {A = ℕ} (4 * (desk.each + 2)) 0), sym c.is_many.ensures ∙ c.if-is_many.false)
@@ -57,7 +53,6 @@ returns-clause-value c = (done-given _ _ _ _ _ c.survey-v.ensures c.if-not-v.fal
 
 pub returns-clause-room_after : goal.returns-clause-room_after
 returns-clause-room_after c = (done-given _ _ _ _ _ c.survey-v.ensures c.if-not-v.false refl c.collect.ensures c.first_word.ensures c.write_lines-w.ensures c.if-not-w.false c.is_many.ensures c.if-is_many.false (length-replicate {A = ℕ} (desk.question + 1) 0) c.if-n-gt-QUESTION.false c.if-room-n.false c.write_header.ensures c.copy.ensures).1
-
 
 pub collect-requires : goal.collect-requires
 collect-requires c = empty-shelves refl

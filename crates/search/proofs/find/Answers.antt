@@ -3,9 +3,7 @@ use Rattle.search.proofs.Finding.{before-best, clash-best}
 use Rattle.search.proofs.find.Goals as goal
 
 pub returns-then-b-lt-AT_CLASH : goal.returns-then-b-lt-AT_CLASH
-returns-then-b-lt-AT_CLASH c = let found = c.before.before in
-    (found.find-before-clash.ensures.0, λ x f e. before-best _ x _ (found.find-before-clash.ensures.1 x f e) c.if-b-lt-AT_CLASH.true)
+returns-then-b-lt-AT_CLASH c = (c.find_before_clash-b.ensures.0, λ x f e. before-best _ x _ (c.find_before_clash-b.ensures.1 x f e) c.if-b-lt-AT_CLASH.true)
 
 pub returns : goal.returns
-returns c = let test = c.before in let found = test.before.before in
-    (c.find_clash.ensures.0, λ x f e. clash-best _ x _ _ (found.find-before-clash.ensures.1 x f e) test.if1.false (c.find_clash.ensures.1 x f e))
+returns c = (c.find_clash.ensures.0, λ x f e. clash-best _ x _ _ (c.find_before_clash-b.ensures.1 x f e) c.if-b-lt-AT_CLASH.false (c.find_clash.ensures.1 x f e))

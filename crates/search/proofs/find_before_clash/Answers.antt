@@ -7,6 +7,6 @@ returns-then-alone-lt-AT_FOLD c = (c.find_alone-alone.ensures.0, λ x f e. alone
 
 pub returns : goal.returns
 returns c = (
-      placed_on _ c.find_alone-alone.result c.find_fold.result c.lesser.result c.lesser.ensures c.find_alone-alone.ensures.0 c.find_fold.ensures.0,
-      λ x f e. both-best _ x c.find_alone-alone.result c.find_fold.result _ (c.find_alone-alone.ensures.1 x f e) (c.find_fold.ensures.1 x f e) c.lesser.ensures,
-    )
+  placed_on _ c.find_alone-alone.result c.find_fold.result c.lesser.result c.lesser.ensures c.find_alone-alone.ensures.0 c.find_fold.ensures.0,
+  λ x f e. both-best _ x c.find_alone-alone.result c.find_fold.result _ (c.find_alone-alone.ensures.1 x f e) (c.find_fold.ensures.1 x f e) c.lesser.ensures,
+)

@@ -10,14 +10,13 @@ pub returns-in-Nowhere : goal.returns-in-Nowhere
 returns-in-Nowhere c = (λ h. absurd (omega arith), λ x f e. clash-of _ x _ (sym c.in-Nowhere.is ∙ c.first_clash.ensures x f e))
 
 pub returns-in-At : goal.returns-in-At
-returns-in-At c = let found = c.before.before.before in
-    let x = found.before.before.requires.1 in
+returns-in-At c = let x = c.requires.conjunction in
     let told = c.in-At.is in (
       λ h.
-          let z = clash-within _ 0 x.conj _ (sym told ∙ found.first-clash.ensures x.conj x.fine x.words) in
+          let z = clash-within _ 0 x.conj _ (sym told ∙ c.first_clash.ensures x.conj x.fine x.words) in
           let y = ap length x.words in
           omega arith,
-      λ x f e. clash-of _ x _ (sym told ∙ found.first-clash.ensures x f e),
+      λ x f e. clash-of _ x _ (sym told ∙ c.first_clash.ensures x f e),
     )
 
 pub returns-in-Stopped : goal.returns-in-Stopped

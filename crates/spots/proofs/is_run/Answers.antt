@@ -1,4 +1,5 @@
 -- `is_run`: the kinds of words that `run_word` names.
+use borrow.Enum.Refused.{opened}
 use mathlib.Core.Path.{◌≡◌, refl, sym, ap, ◌∙◌}
 use mathlib.Core.Bool.{false}
 use mathlib.Core.List.{[], ◌∷◌}
@@ -20,4 +21,4 @@ returns-in-Run c = found c.classify.ensures c.in-Run.is
 
 pub returns-in_default : goal.returns-in_default
 unfolding run_word
-returns-in_default c = others c.classify.ensures c.in_default.in_default-own.keys2
+returns-in_default c = others c.classify.ensures (opened c.in_default.in_default-own.keys2)

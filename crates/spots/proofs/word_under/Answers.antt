@@ -21,10 +21,10 @@ loop-x-smaller c = let z = goes_on c.args.k.now c.loop-x.i c.loop-x.invariant.1 
 
 pub loop-x-preserved : goal.loop-x-preserved
 loop-x-preserved c = (
-      (λ y h beyond f w s. pass_on c.element_end-e.ensures (c.loop-x.invariant.0 y h beyond f w s) (λ done left t q. under-on y left f w t c.element_end-e.ensures c.stands.ensures c.if-stands.false ∙ q)),
-      c.word-x-in-loop-x.ensures,
-      below_on _ _ c.loop-x.invariant.1 _ c.loop-x-test.true c.element_end-e.ensures c.stands.ensures c.if-stands.false c.loop-x.invariant.2,
-    )
+  (λ y h beyond f w s. pass_on c.element_end-e.ensures (c.loop-x.invariant.0 y h beyond f w s) (λ done left t q. under-on y left f w t c.element_end-e.ensures c.stands.ensures c.if-stands.false ∙ q)),
+  c.word-x-in-loop-x.ensures,
+  below_on _ _ c.loop-x.invariant.1 _ c.loop-x-test.true c.element_end-e.ensures c.stands.ensures c.if-stands.false c.loop-x.invariant.2,
+)
 
 pub returns : goal.returns
 returns c = ((λ y h beyond f w s. let u = c.loop-x.invariant.0 y h beyond f w s in under-end y u.left u.here c.loop-x.invariant.1 c.loop-x-test.false ∙ u.keeps), below_none _ _ c.loop-x.invariant.1 _ c.loop-x-test.false c.loop-x.invariant.2)

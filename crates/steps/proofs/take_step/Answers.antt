@@ -13,9 +13,9 @@ use Rattle.steps.proofs.take_step.Goals as goal
 pub step_monomials-requires : goal.step_monomials-requires
 step_monomials-requires c = let h = c.if-b-eq-AT_M2.true in
     record {
-  k_len_bound = c.requires.k_len_bound;
-  some_membership = monomials-at c.args.s c.args.k.now c.args.b (answer_at c.args.s c.args.k.now c.args.b c.requires.rule_at (λ e. omega arith) (λ e. omega arith)) h;
-}
+      k_len_bound = c.requires.k_len_bound;
+      some_membership = monomials-at c.args.s c.args.k.now c.args.b (answer_at c.args.s c.args.k.now c.args.b c.requires.rule_at (λ e. omega arith) (λ e. omega arith)) h;
+    }
 
 pub returns-then-b-eq-AT_M2 : goal.returns-then-b-eq-AT_M2
 returns-then-b-eq-AT_M2 c = let b = c.args.b in

@@ -9,15 +9,8 @@ use Rattle.telling.proofs.named_step.Goals as goal
 pub count_in-requires : goal.count_in-requires
 count_in-requires c = (omega arith, length-replicate {A = ℕ} places 0, λ x. let z = zeros-short x in let p = c.requires.k_len_bound in omega arith)
 
-pub named_by-requires-clause-k_len_bound : goal.named_by-requires-clause-k_len_bound
-named_by-requires-clause-k_len_bound c = ((c.requires.k_len_bound, (c.requires.conjunction, all-counted c.args.k.now _ c.count_in.ensures))).0
-
-pub named_by-requires-clause-conjunction : goal.named_by-requires-clause-conjunction
-named_by-requires-clause-conjunction c = ((c.requires.k_len_bound, (c.requires.conjunction, all-counted c.args.k.now _ c.count_in.ensures))).1
-
 pub named_by-requires-clause-table_value : goal.named_by-requires-clause-table_value
-named_by-requires-clause-table_value c = ((c.requires.k_len_bound, (c.requires.conjunction, all-counted c.args.k.now _ c.count_in.ensures))).2
-
+named_by-requires-clause-table_value c = all-counted c.args.k.now _ c.count_in.ensures
 
 pub returns : goal.returns
-returns c = c.Named-by.ensures
+returns c = c.named_by.ensures

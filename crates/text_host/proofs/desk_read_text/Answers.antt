@@ -26,9 +26,9 @@ pub returns : goal.returns
 returns c = let n : length (take c.most-m.result clear) ≡ c.most-m.result = within _ (omega arith) in
     let e = read-bytes c.args.text.now c.args.room.now _ (n ∙ c.most-m.ensures) in
     record {
-  value = c.read.ensures.value ∙ ap text_number e;
-  room_after = c.read.ensures.room_after ∙ ap (λ (o : Outcome). words_left o c.args.room.now) e;
-}
+      value = c.read.ensures.value ∙ ap text_number e;
+      room_after = c.read.ensures.room_after ∙ ap (λ (o : Outcome). words_left o c.args.room.now) e;
+    }
 
 pub slice_bounds-read-end : goal.slice_bounds-read-end
 slice_bounds-read-end c = sym (within _ (omega arith))

@@ -1,22 +1,6 @@
 -- `text_host::desk_write_text` meets its contract: the words lent come to what the bytes come to.
 use Rattle.text_host.proofs.Written.{told-short, told-number, told-left}
-use borrow.Author.Rules.{rules}
 use Rattle.text_host.proofs.desk_write_text.Goals as goal
-
-pub slice_bounds-take_words-end : goal.slice_bounds-take_words-end
-slice_bounds-take_words-end c = search rules
-
-pub take_words-n-requires : goal.take_words-n-requires
-take_words-n-requires c = search rules
-
-pub slice_bounds-words-end : goal.slice_bounds-words-end
-slice_bounds-words-end c = search rules
-
-pub slice_bounds-write_text-end : goal.slice_bounds-write_text-end
-slice_bounds-write_text-end c = search rules
-
-pub write_text-requires : goal.write_text-requires
-write_text-requires c = search rules
 
 pub told-requires : goal.told-requires
 told-requires c = told-short _ _ _ c.write_text.ensures.value

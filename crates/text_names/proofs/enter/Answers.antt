@@ -1,6 +1,4 @@
 -- `text_names::enter` meets its contract: a name that is there, a full shelf, and a name put at the end.
-use native.Mathlib.Omega.{arith}
-use lib.ListN.{length-set}
 use Rattle.text_names.proofs.Shelving.{is_known, is-full, is-put}
 use Rattle.text_names.proofs.enter.Goals as goal
 
@@ -9,9 +7,6 @@ returns-then-n-many c = search (is_known)
 
 pub returns-then-many-gt-PLACES : goal.returns-then-many-gt-PLACES
 returns-then-many-gt-PLACES c = search (is-full)
-
-pub bounds-names-base-3 : goal.bounds-names-base-3
-bounds-names-base-3 c = simp length-set (omega arith)
 
 pub returns : goal.returns
 returns c = search (is-put)

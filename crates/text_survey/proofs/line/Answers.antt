@@ -1,6 +1,5 @@
 use Prim.Native.Nat.{◌-◌}
 use Rattle.text_survey.proofs.Scan.{line-starts, line-less, line_on_lem, line-ends}
-use borrow.Author.Rules.{rules}
 use Rattle.text_survey.proofs.line.Goals as goal
 
 pub loop-p-init : goal.loop-p-init
@@ -8,9 +7,6 @@ loop-p-init c = line-starts c.requires
 
 pub next-p-requires : goal.next-p-requires
 next-p-requires c = c.loop-p.invariant.high
-
-pub step-s-requires : goal.step-s-requires
-step-s-requires c = search rules
 
 pub returns-then-s-ne2 : goal.returns-then-s-ne2
 returns-then-s-ne2 c = line-ends c.loop-p.invariant c.next-p.ensures c.step-s.ensures c.if-s-ne2.true

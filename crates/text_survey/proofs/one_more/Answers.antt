@@ -1,10 +1,6 @@
 -- `text_survey::one_more` meets its contract: one more, or none.
 use Rattle.text_survey.proofs.Scan.{one-yes, one-no}
-use borrow.Author.Rules.{rules}
 use Rattle.text_survey.proofs.one_more.Goals as goal
-
-pub overflow_add-result : goal.overflow_add-result
-overflow_add-result c = search rules
 
 pub returns-then-yes : goal.returns-then-yes
 returns-then-yes c = one-yes _ c.if-yes.true

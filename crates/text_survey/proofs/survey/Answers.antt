@@ -1,7 +1,8 @@
+use mathlib.Core.Bool.{not}
+use mathlib.Core.Path.{ap}
 use Prim.Native.Nat.{◌-◌}
 use Rattle.text_survey.proofs.Scan.{survey-starts, survey-bad, survey-ends, survey-on}
 use native.Mathlib.Omega.{arith}
-use borrow.Author.Rules.{rules}
 use Rattle.text_survey.proofs.survey.Goals as goal
 
 pub loop-l-init : goal.loop-l-init
@@ -13,17 +14,11 @@ line-l-requires c = c.loop-l.invariant.high
 pub returns-then-not-l : goal.returns-then-not-l
 returns-then-not-l c = survey-bad c.loop-l.invariant c.line-l.ensures c.if-not-l.true
 
-pub overflow_add-text : goal.overflow_add-text
-overflow_add-text c = search rules
-
 pub one_more-many-requires : goal.one_more-many-requires
 one_more-many-requires c = omega (arith, c.loop-l.invariant.few, c.loop-l.invariant.high)
 
 pub returns-then-text-to : goal.returns-then-text-to
 returns-then-text-to c = survey-ends c.loop-l.invariant c.line-l.ensures c.if-not-l.false c.one_more-many.ensures c.if-text-to.true
-
-pub overflow_add-at : goal.overflow_add-at
-overflow_add-at c = search rules
 
 pub loop-l-smaller : goal.loop-l-smaller
 loop-l-smaller c = omega (arith, c.line-l.ensures.low)

@@ -3,16 +3,10 @@ use Rattle.trying.proofs.Tests.{pair-written, pair_fits, equation-met}
 use Rattle.trying.proofs.meets_equation.Goals as goal
 
 pub same-requires : goal.same-requires
-same-requires c = let second = c.before.before.before.before in
-    let first = second.before.before.before.before in
-    let p = first.before.before.before.before.before.before.requires.1.1 in
-    record {
-  pair = pair-written first.fill-in.ensures second.fill-in2.ensures p.1.0 p.1.1 p.0;
-  w_len_bound = pair_fits first.fill-in.ensures second.fill-in2.ensures p.1.0 p.1.1;
+same-requires c = record {
+  pair = pair-written c.fill_in-mid.ensures c.fill_in-end.ensures c.requires.right_len_bound c.requires.room_in_bounds c.requires.comparable;
+  w_len_bound = pair_fits c.fill_in-mid.ensures c.fill_in-end.ensures c.requires.right_len_bound c.requires.room_in_bounds;
 }
 
 pub returns : goal.returns
-returns c = let second = c.before.before.before.before.before in
-    let first = second.before.before.before.before in
-    let p = first.before.before.before.before.before.before.requires.1.1 in
-    equation-met first.fill-in.ensures second.fill-in2.ensures p.1.0 p.1.1 c.same.ensures
+returns c = equation-met c.fill_in-mid.ensures c.fill_in-end.ensures c.requires.right_len_bound c.requires.room_in_bounds c.same.ensures

@@ -3,28 +3,13 @@ use Rattle.trying.proofs.Tests.{both-stand, hedge-fits, membership-met}
 use Rattle.trying.proofs.meets_membership.Goals as goal
 
 pub member-requires-clause-both : goal.member-requires-clause-both
-member-requires-clause-both c = (let written = c.before.before.before.before in
-    let p = written.before.before.before.before.before.before.requires.1 in
-    let fits = p.1.1.0 in
-    let room = p.1.1.1 in
-    (both-stand written.fill-in.ensures fits room p.0, (p.1.0, hedge-fits written.fill-in.ensures fits room))).0
+member-requires-clause-both c = both-stand c.fill_in-end.ensures c.requires.hedge_len_bound c.requires.room_in_bounds c.requires.testable
 
 pub member-requires-clause-e_len_bound : goal.member-requires-clause-e_len_bound
-member-requires-clause-e_len_bound c = (let written = c.before.before.before.before in
-    let p = written.before.before.before.before.before.before.requires.1 in
-    let fits = p.1.1.0 in
-    let room = p.1.1.1 in
-    (both-stand written.fill-in.ensures fits room p.0, (p.1.0, hedge-fits written.fill-in.ensures fits room))).1
+member-requires-clause-e_len_bound c = c.requires.expression_len_bound
 
 pub member-requires-clause-h_len_bound : goal.member-requires-clause-h_len_bound
-member-requires-clause-h_len_bound c = (let written = c.before.before.before.before in
-    let p = written.before.before.before.before.before.before.requires.1 in
-    let fits = p.1.1.0 in
-    let room = p.1.1.1 in
-    (both-stand written.fill-in.ensures fits room p.0, (p.1.0, hedge-fits written.fill-in.ensures fits room))).2
-
+member-requires-clause-h_len_bound c = hedge-fits c.fill_in-end.ensures c.requires.hedge_len_bound c.requires.room_in_bounds
 
 pub returns : goal.returns
-returns c = let written = c.before.before.before.before.before in
-    let p = written.before.before.before.before.before.before.requires.1 in
-    membership-met written.fill-in.ensures p.1.1.0 p.1.1.1 c.member.ensures
+returns c = membership-met c.fill_in-end.ensures c.requires.hedge_len_bound c.requires.room_in_bounds c.member.ensures

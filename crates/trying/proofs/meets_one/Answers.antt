@@ -7,27 +7,26 @@ use Rattle.trying.proofs.meets_one.Goals as goal
 pub loop-i-init : goal.loop-i-init
 loop-i-init c = trying-starts _ _ _ _ c.requires.fitting_question c.wide-n.ensures
 
-pub overflow_add-i : goal.overflow_add-i
-overflow_add-i c = let r = loop-room _ _ _ (fitting-some _ _ _ c.loop-i.invariant.some) c.loop-i.invariant.number in search rules
-
-pub offset_bounds-question-i : goal.offset_bounds-question-i
-offset_bounds-question-i c = let r = loop-room _ _ _ (fitting-some _ _ _ c.loop-i.invariant.some) c.loop-i.invariant.number in search rules
-
 pub bounds-question-i : goal.bounds-question-i
 bounds-question-i c = let r = loop-room _ _ _ (fitting-some _ _ _ c.loop-i.invariant.some) c.loop-i.invariant.number in search rules
-
-pub overflow_add-i-in-loop-i : goal.overflow_add-i-in-loop-i
-overflow_add-i-in-loop-i c = let r = loop-room _ _ _ (fitting-some _ _ _ c.loop-i.invariant.some) c.loop-i.invariant.number in search rules
-
-pub offset_bounds-question-i-in-loop-i : goal.offset_bounds-question-i-in-loop-i
-offset_bounds-question-i-in-loop-i c = let r = loop-room _ _ _ (fitting-some _ _ _ c.loop-i.invariant.some) c.loop-i.invariant.number in search rules
 
 pub bounds-question-i-in-loop-i : goal.bounds-question-i-in-loop-i
 bounds-question-i-in-loop-i c = let r = loop-room _ _ _ (fitting-some _ _ _ c.loop-i.invariant.some) c.loop-i.invariant.number in search rules
 
-pub offset_bounds-question-from : goal.offset_bounds-question-from
-offset_bounds-question-from c = let x = loop-here _ _ _ (fitting-some _ _ _ c.loop-i.invariant.some) c.loop-i.invariant.number (omega arith) c.wide-from.ensures c.wide-to.ensures in
-    search rules
+pub meets_all-requires : goal.meets_all-requires
+meets_all-requires c = record {
+  fitting_conj = trying-conj _ _ _ c.loop-i.invariant (omega arith) c.wide-from.ensures c.wide-to.ensures;
+  room_in_bounds = omega (arith, c.loop-i.invariant.keeps.len);
+}
+
+pub returns-then-meets_all : goal.returns-then-meets_all
+returns-then-meets_all c = trying-met _ _ _ c.loop-i.invariant (omega arith) c.wide-from.ensures c.wide-to.ensures c.meets_all.ensures c.if-meets_all.true
+
+pub loop-i-preserved : goal.loop-i-preserved
+loop-i-preserved c = trying-next _ _ _ c.loop-i.invariant (omega arith) c.wide-from.ensures c.wide-to.ensures c.meets_all.ensures c.if-meets_all.false
+
+pub returns : goal.returns
+returns c = trying-ends _ _ _ c.loop-i.invariant (omega arith)
 
 pub slice_bounds-meets_all-count : goal.slice_bounds-meets_all-count
 slice_bounds-meets_all-count c = let x = loop-here _ _ _ (fitting-some _ _ _ c.loop-i.invariant.some) c.loop-i.invariant.number (omega arith) c.wide-from.ensures c.wide-to.ensures in
@@ -40,21 +39,3 @@ slice_bounds-meets_all-start c = let x = loop-here _ _ _ (fitting-some _ _ _ c.l
 pub slice_bounds-meets_all-end : goal.slice_bounds-meets_all-end
 slice_bounds-meets_all-end c = let x = loop-here _ _ _ (fitting-some _ _ _ c.loop-i.invariant.some) c.loop-i.invariant.number (omega arith) c.wide-from.ensures c.wide-to.ensures in
     search rules
-
-pub meets_all-requires : goal.meets_all-requires
-meets_all-requires c = record {
-  fitting_conj = trying-conj _ _ _ c.loop-i.invariant (omega arith) c.wide-from.ensures c.wide-to.ensures;
-  room_in_bounds = omega (arith, c.loop-i.invariant.keeps.len);
-}
-
-pub returns-then-meets_all : goal.returns-then-meets_all
-returns-then-meets_all c = trying-met _ _ _ c.loop-i.invariant (omega arith) c.wide-from.ensures c.wide-to.ensures c.meets_all.ensures c.if-meets_all.true
-
-pub overflow_add-i-in-loop-i-2 : goal.overflow_add-i-in-loop-i-2
-overflow_add-i-in-loop-i-2 c = let r = loop-room _ _ _ (fitting-some _ _ _ c.loop-i.invariant.some) c.loop-i.invariant.number in search rules
-
-pub loop-i-preserved : goal.loop-i-preserved
-loop-i-preserved c = trying-next _ _ _ c.loop-i.invariant (omega arith) c.wide-from.ensures c.wide-to.ensures c.meets_all.ensures c.if-meets_all.false
-
-pub returns : goal.returns
-returns c = trying-ends _ _ _ c.loop-i.invariant (omega arith)

@@ -21,17 +21,16 @@ slice_bounds-filled_len-end c = let x = scan-here _ _ _ c.loop-i.invariant c.lit
     search rules
 
 pub filled_len-requires-clause-filling_len_bound : goal.filled_len-requires-clause-filling_len_bound
-filled_len-requires-clause-filling_len_bound c = (let r = scan-ready _ _ _ c.loop-i.invariant c.literal_end-end.ensures (omega arith) c.wide-terms.ensures c.wide-hedges.ensures in
-    (r.0, (r.1, r.2))).0
+filled_len-requires-clause-filling_len_bound c = let r = scan-ready _ _ _ c.loop-i.invariant c.literal_end-end.ensures (omega arith) c.wide-terms.ensures c.wide-hedges.ensures in
+    r.0
 
 pub filled_len-requires-clause-words_len_bound : goal.filled_len-requires-clause-words_len_bound
-filled_len-requires-clause-words_len_bound c = (let r = scan-ready _ _ _ c.loop-i.invariant c.literal_end-end.ensures (omega arith) c.wide-terms.ensures c.wide-hedges.ensures in
-    (r.0, (r.1, r.2))).1
+filled_len-requires-clause-words_len_bound c = let r = scan-ready _ _ _ c.loop-i.invariant c.literal_end-end.ensures (omega arith) c.wide-terms.ensures c.wide-hedges.ensures in
+    r.1
 
 pub filled_len-requires-clause-shows : goal.filled_len-requires-clause-shows
-filled_len-requires-clause-shows c = (let r = scan-ready _ _ _ c.loop-i.invariant c.literal_end-end.ensures (omega arith) c.wide-terms.ensures c.wide-hedges.ensures in
-    (r.0, (r.1, r.2))).2
-
+filled_len-requires-clause-shows c = let r = scan-ready _ _ _ c.loop-i.invariant c.literal_end-end.ensures (omega arith) c.wide-terms.ensures c.wide-hedges.ensures in
+    r.2
 
 pub returns-then-filled_len-gt-LITERAL : goal.returns-then-filled_len-gt-LITERAL
 returns-then-filled_len-gt-LITERAL c = scan-over _ _ _ c.loop-i.invariant c.literal_end-end.ensures (omega arith) c.wide-terms.ensures c.wide-hedges.ensures c.filled_len.ensures (omega arith)

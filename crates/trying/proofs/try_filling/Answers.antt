@@ -16,9 +16,9 @@ read_header-h-requires c = let a = c.args in
 pub try_asked-requires : goal.try_asked-requires
 try_asked-requires c = let a = c.args in
     record {
-  asked_question = question-asked a.question.now a.filling.now a.work.now (omega arith) (as-checked c.read_question.result _ c.read_question.ensures) c.in-Fine.is c.read_header-h.ensures;
-  room_in_bounds = search rules;
-}
+      asked_question = question-asked a.question.now a.filling.now a.work.now (omega arith) (as-checked c.read_question.result _ c.read_question.ensures) c.in-Fine.is c.read_header-h.ensures;
+      room_in_bounds = search rules;
+    }
 
 pub returns-in-Refused : goal.returns-in-Refused
 returns-in-Refused c = refused-question _ _ c.args.work.now (omega arith) (as-checked c.read_question.result _ c.read_question.ensures) c.in-Refused.is

@@ -1,10 +1,13 @@
 -- A variable's value has the words of the part that it is bound to, filled in, or those that it takes unsolved and a 0.
 use native.Mathlib.Omega.{arith}
-use Rattle.values.proofs.Following.{free-length}
+use Rattle.values.proofs.Following.{bound-length, free-length}
 use Rattle.values.proofs.value_len.Goals as goal
 
+pub overflow_add-result : goal.overflow_add-result
+overflow_add-result c = omega arith
+
 pub returns-in-To : goal.returns-in-To
-returns-in-To c = omega arith
+returns-in-To c = let t = c.bound_to-b.ensures in search (bound-length)
 
 pub returns-in-Free : goal.returns-in-Free
 returns-in-Free c = free-length c.bound_to-b.ensures c.in-Free.is c.requires.0 c.unsolved_len.ensures

@@ -1,17 +1,6 @@
 -- Four stores in a row.
-use lib.ListN.{length-set}
 use Rattle.results.proofs.Stores.{wrote-four}
-use native.Mathlib.Omega.{arith}
 use Rattle.results.proofs.emptying.empty_one.Goals as goal
-
-pub bounds-out-at-2 : goal.bounds-out-at-2
-bounds-out-at-2 c = simp length-set (omega arith)
-
-pub bounds-out-at-3 : goal.bounds-out-at-3
-bounds-out-at-3 c = simp length-set (omega arith)
-
-pub bounds-out-at-4 : goal.bounds-out-at-4
-bounds-out-at-4 c = simp length-set (omega arith)
 
 pub returns : goal.returns
 returns c = wrote-four _ _ _ _ _ _

@@ -6,17 +6,9 @@ use lib.Seq.{slice}
 use Rattle.orders.proofs.Renamed.{length-renamed}
 use Rattle.plans.specs.Results.{piece_words}
 use Rattle.results.specs.Marked.{bare}
-use Rattle.slices.proofs.Parts.{part-short}
 use Rattle.slices.proofs.Still.{counted-as}
 use Rattle.results.proofs.Replaced.{length-empty-each}
-use native.Mathlib.Omega.{arith}
 use Rattle.results.proofs.making.piece_len.Goals as goal
-
-pub put_len-requires-in-PutFromCut : goal.put_len-requires-in-PutFromCut
-put_len-requires-in-PutFromCut c = let g = c.before.before.p5.given.0 in
-    let z = part-short c.args.k.now g.0 g.1.0 in
-    let e = c.part-len3.ensures in
-    omega arith
 
 pub returns-in-Copy : goal.returns-in-Copy
 returns-in-Copy c = let a = c.args in counted-as (ap (piece_words a.k.now (bare a.s) a.cut 0) c.in-Copy.is) c.part_len.ensures
@@ -32,14 +24,14 @@ returns-in-PutFromCut c = let a = c.args in counted-as (ap (piece_words a.k.now 
 
 pub returns-in-Each : goal.returns-in-Each
 returns-in-Each c = let a = c.args in
-    let g = c.p-in-Each-1.given.0 in
-    counted-as (ap (piece_words a.k.now (bare a.s) a.cut 0) c.in-Each.is) (ap (λ n. 4 * n) c.part_len-in-Each.ensures ∙ sym (length-empty-each (slice g.0 g.1.0 a.k.now)))
+    let g = c.in-Each in
+    counted-as (ap (piece_words a.k.now (bare a.s) a.cut 0) c.in-Each.is) (ap (λ n. 4 * n) c.part_len-in-Each.ensures ∙ sym (length-empty-each (slice g.from g.to a.k.now)))
 
 pub returns-in-Ordered : goal.returns-in-Ordered
 returns-in-Ordered c = let a = c.args in counted-as (ap (piece_words a.k.now (bare a.s) a.cut 0) c.in-Ordered.is) c.order_len.ensures
 
 pub returns-in-Named : goal.returns-in-Named
 returns-in-Named c = let a = c.args in
-    let g = c.p-in-Named-1.given.0 in
+    let g = c.in-Named in
     counted-as (ap (piece_words a.k.now (bare a.s) a.cut 0) c.in-Named.is)
-    (c.part_len-in-Named.ensures ∙ sym (length-renamed (get_or a.k.now a.s.old 0) 3000 (slice g.0 g.1.0 a.k.now)))
+    (c.part_len-in-Named.ensures ∙ sym (length-renamed (get_or a.k.now a.s.old 0) 3000 (slice g.from g.to a.k.now)))

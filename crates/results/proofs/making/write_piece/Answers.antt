@@ -35,8 +35,8 @@ write_order-requires c = let a = c.args in (c.requires.2, fits-as (ap (piece_wor
 
 pub write_named-requires : goal.write_named-requires
 write_named-requires c = let a = c.args in
-    let g = c.p-in-Named-1.given.0 in
-    let l = length-renamed (get_or a.k.now a.s.old 0) (3000 + a.nth) (slice g.0 g.1.0 a.k.now) in
+    let g = c.in-Named in
+    let l = length-renamed (get_or a.k.now a.s.old 0) (3000 + a.nth) (slice g.from g.to a.k.now) in
     let h = fits-as (ap (piece_words a.k.now (bare a.s) a.cut a.nth) c.in-Named.is) _ _ c.requires.1 in
     (c.requires.2, omega arith)
 

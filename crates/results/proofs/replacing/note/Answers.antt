@@ -17,10 +17,9 @@ bounds-set-n c = let w = c.wide-n.ensures in
     omega arith
 
 pub loop-i-preserved : goal.loop-i-preserved
-loop-i-preserved c = let l = c₄ in
-    let a = l.before.before.before.args in
-    subst (λ n. Marking (set l.loop.set n true) (slice (l.loop.i + 1) a.to a.k.now) (slice a.from a.to a.k.now)) (sym c.wide-n.ensures)
-    (marking_step l.loop.invariant _ _ (part-cons l.before.within.ensures _ c.loop-i-test.true) c.classify.ensures _ c.in-Run.is)
+loop-i-preserved c = let a = c.args in
+    subst (λ n. Marking (set c.loop-i.set n true) (slice (c.loop-i.i + 1) a.to a.k.now) (slice a.from a.to a.k.now)) (sym c.wide-n.ensures)
+    (marking_step c.loop-i.invariant _ _ (part-cons c.within-end.ensures _ c.loop-i-test.true) c.classify.ensures _ c.in-Run.is)
 
 pub returns : goal.returns
 returns c = marking-done c.loop-i.invariant (part_none c.within-end.ensures _ c.loop-i-test.false)

@@ -1,3 +1,5 @@
+use mathlib.Core.Bool.{not}
+use mathlib.Core.Path.{ap}
 use Prim.Native.Nat.{◌-◌}
 use Rattle.language.specs.Limits.{desk}
 use Rattle.text_words.proofs.Rows.{literals-start, literals-bad, literals_end, literals-less, literals-on}

@@ -1,4 +1,4 @@
-use Rattle.write_text.proofs.Lining.{question-long, question-few, table-within, within-question, listing-on, listing-ends}
+use Rattle.write_text.proofs.Lining.{question-long, table-within, within-question, listing-on, listing-ends}
 use mathlib.Core.Path.{refl}
 use Prim.Native.Nat.{◌-◌}
 use native.Mathlib.Omega.{arith}
@@ -11,35 +11,11 @@ bounds-w-4 c = let l = question-long c.requires in omega arith
 pub loop-i-init : goal.loop-i-init
 loop-i-init c = (c.wide-many.ensures, record { same = refl; high = omega arith; each = λ q e new z l. l })
 
-pub overflow_add-i : goal.overflow_add-i
-overflow_add-i c = let f = question-few c.requires in let m = c.loop-i.invariant.0 in omega arith
-
-pub offset_bounds-w-i : goal.offset_bounds-w-i
-offset_bounds-w-i c = let f = question-few c.requires in let m = c.loop-i.invariant.0 in search rules
-
 pub bounds-w-i : goal.bounds-w-i
 bounds-w-i c = let t = table-within c.requires in let m = c.loop-i.invariant.0 in omega arith
 
-pub overflow_add-i-in-loop-i : goal.overflow_add-i-in-loop-i
-overflow_add-i-in-loop-i c = let f = question-few c.requires in let m = c.loop-i.invariant.0 in omega arith
-
-pub offset_bounds-w-i-in-loop-i : goal.offset_bounds-w-i-in-loop-i
-offset_bounds-w-i-in-loop-i c = let f = question-few c.requires in let m = c.loop-i.invariant.0 in search rules
-
 pub bounds-w-i-in-loop-i : goal.bounds-w-i-in-loop-i
 bounds-w-i-in-loop-i c = let t = table-within c.requires in let m = c.loop-i.invariant.0 in omega arith
-
-pub offset_bounds-w-from : goal.offset_bounds-w-from
-offset_bounds-w-from c = let m = c.loop-i.invariant.0 in let s = within-question c.requires _ _ _ (omega arith) c.wide-from.ensures c.wide-to.ensures in search rules
-
-pub slice_bounds-put_line-count : goal.slice_bounds-put_line-count
-slice_bounds-put_line-count c = let m = c.loop-i.invariant.0 in let s = within-question c.requires _ _ _ (omega arith) c.wide-from.ensures c.wide-to.ensures in search rules
-
-pub slice_bounds-put_line-start : goal.slice_bounds-put_line-start
-slice_bounds-put_line-start c = let m = c.loop-i.invariant.0 in let s = within-question c.requires _ _ _ (omega arith) c.wide-from.ensures c.wide-to.ensures in search rules
-
-pub slice_bounds-put_line-end : goal.slice_bounds-put_line-end
-slice_bounds-put_line-end c = let m = c.loop-i.invariant.0 in let s = within-question c.requires _ _ _ (omega arith) c.wide-from.ensures c.wide-to.ensures in search rules
 
 pub loop-i-preserved : goal.loop-i-preserved
 loop-i-preserved c = let m = c.loop-i.invariant.0 in (m, listing-on c.loop-i.invariant.1 _ _ (omega arith) c.wide-from.ensures c.wide-to.ensures c.put_line-n.ensures (omega arith))
@@ -49,3 +25,12 @@ returns c = let m = c.loop-i.invariant.0 in listing-ends c.loop-i.invariant.1 (o
 
 pub loop-i-smaller : goal.loop-i-smaller
 loop-i-smaller c = omega arith
+
+pub slice_bounds-put_line-count : goal.slice_bounds-put_line-count
+slice_bounds-put_line-count c = let m = c.loop-i.invariant.0 in let s = within-question c.requires _ _ _ (omega arith) c.wide-from.ensures c.wide-to.ensures in search rules
+
+pub slice_bounds-put_line-start : goal.slice_bounds-put_line-start
+slice_bounds-put_line-start c = let m = c.loop-i.invariant.0 in let s = within-question c.requires _ _ _ (omega arith) c.wide-from.ensures c.wide-to.ensures in search rules
+
+pub slice_bounds-put_line-end : goal.slice_bounds-put_line-end
+slice_bounds-put_line-end c = let m = c.loop-i.invariant.0 in let s = within-question c.requires _ _ _ (omega arith) c.wide-from.ensures c.wide-to.ensures in search rules

@@ -1,33 +1,14 @@
--- `member::look` meets its contract: a lemma for each kind of word. The measure is the words that are left.
 use Prim.Native.Nat.{ℕ, ◌<◌, ◌+◌, ◌-◌}
 use mathlib.Core.Path.{◌≡◌, refl}
 use mathlib.Core.Bool.{Bool, true, false, ◌&&◌, ◌||◌}
 use mathlib.Core.List.{List}
 use native.Mathlib.Omega.{arith}
-use borrow.Author.Rules.{rules}
-use lib.ListN.{length, get_or}
-use borrow.Fn.Kinds.{In}
-use borrow.Fn.PlainCycle.{Measures, is, falls, and}
+use lib.ListN.{get_or}
 use Rattle.member.specs.declared.Seen.{Seen}
 use Rattle.member.specs.Places.{Looked}
 use Rattle.any_order.proofs.Standing.{expression-lt, first, second, is-alt, by-eps, by-cat, by-alt, by-star, by_over}
 use Rattle.member.proofs.Standing.{looked-end, looked-falls}
-use Rattle.member.proofs.look.Reads as look
-use Rattle.member.proofs.look.Kinds as look-kinds
-use Rattle.member.proofs.+look.Lts-look as look-lts
-use Rattle.bools.proofs.and.Reads as and-reads
-use Rattle.bools.proofs.or.Reads as or-reads
-use Rattle.member.proofs.+look.{statement}
-use Rattle.member.proofs.+look.Tie.{close}
-
-abbrev μ : Measures 1 look-kinds.ps ℕ
-μ κs a = length a.0.now - a.1.0
-
-abbrev look_at : ℕ → In 1 look-kinds.ps
-look_at t = and 1 look-kinds.ps (is 1 look-kinds.ps μ t) look.Pre
-
-abbrev look-below : ℕ → In 1 look-kinds.ps
-look-below t = and 1 look-kinds.ps (falls 1 look-kinds.ps ◌<◌ μ t) look.Pre
+use Rattle.member.proofs.+look.Goals as goal
 
 module _ {e : List ℕ} {at : ℕ} where
   l-eps : get_or e at 0 ≡ 7000 → Looked e at (record { end = at + 1; null = true })
@@ -55,19 +36,35 @@ module _ {e : List ℕ} {at : ℕ} where
         (omega arith, rw (q, n, n')));
   }
 
-pub +look-spec : {M : Type 1} → statement M
-+look-spec =
-    close μ λ t. look-lts.spec (look-below t, look.Post, and-reads.Asked, and-reads.Learnt, or-reads.Asked, or-reads.Learnt) (look_at t) look.Post
-    (λ c. omega (arith, expression-lt))
-    (λ c. omega (arith, expression-lt))
-    (λ c. omega (arith, expression-lt))
-    (λ c. search (l-eps))
-    (λ c. omega (arith, expression-lt))
-    (λ c κs. (omega (arith, expression-lt), search (first)))
-    (λ c. search (l-over))
-    (λ c. search (l-star))
-    (λ c κs. (search (looked-falls), search (second, looked-end)))
-    (λ c κs. search rules)
-    (λ c. search (l-cat))
-    (λ c κs. search rules)
-    (λ c. search (l-alt, is-alt))
+pub offset_bounds-e-at : goal.offset_bounds-e-at
+offset_bounds-e-at t c = omega (arith, expression-lt)
+
+pub bounds-e-at : goal.bounds-e-at
+bounds-e-at t c = omega (arith, expression-lt)
+
+pub overflow_add-result : goal.overflow_add-result
+overflow_add-result t c = omega (arith, expression-lt)
+
+pub returns-then-x-eq7000 : goal.returns-then-x-eq7000
+returns-then-x-eq7000 t c = search (l-eps)
+
+pub overflow_add-at : goal.overflow_add-at
+overflow_add-at t c = omega (arith, expression-lt)
+
+pub look-a-requires : goal.look-a-requires
+look-a-requires t c = (omega (arith, expression-lt), search (first))
+
+pub returns-then-x-lt7000 : goal.returns-then-x-lt7000
+returns-then-x-lt7000 t c = search (l-over)
+
+pub returns-then-x-eq7003 : goal.returns-then-x-eq7003
+returns-then-x-eq7003 t c = search (l-star)
+
+pub look-b-requires : goal.look-b-requires
+look-b-requires t c = (search (looked-falls), search (second, looked-end))
+
+pub returns-then-x-eq7001 : goal.returns-then-x-eq7001
+returns-then-x-eq7001 t c = search (l-cat)
+
+pub returns : goal.returns
+returns t c = search (l-alt, is-alt)
