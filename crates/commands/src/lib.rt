@@ -5,8 +5,8 @@ ghost use Rattle.std.specs.Prelude.{◌<◌};
 
 use day_table::day_files;
 use example_command::example_file;
-use files::arguments::{is, is_last, warn_of, wrong_use};
-use files::status::found;
+use files::arguments::{count, is, is_last, warn_of, wrong_use};
+use files::status::{Status, found};
 use overlap_table::overlap_file;
 use print::warn;
 use replay_command::replay_file;
@@ -17,187 +17,180 @@ use walk_commands::{trail_file, walk_file};
 use wording::help::{help, version};
 
 // The command that argument `i` names takes the file behind it, and to solve a question nothing more.
-fn solve_asked(i: usize)
+fn solve_asked(rt: &HostRuntime, i: usize) -> Status
     requires { i < 9 }
 {
-    if is_last(i + 1) {
-        solve_file(i + 1);
-        return;
+    if is_last(rt, i + 1) {
+        return solve_file(rt, i + 1);
     }
-    wrong_use(b"solve takes a file");
+    wrong_use(rt, b"solve takes a file")
 }
 
-fn try_asked(i: usize)
+fn try_asked(rt: &HostRuntime, i: usize) -> Status
     requires { i < 9 }
 {
-    if is_last(i + 2) {
-        try_file(i + 1, i + 2);
-        return;
+    if is_last(rt, i + 2) {
+        return try_file(rt, i + 1, i + 2);
     }
-    wrong_use(b"try takes a file with a question and a file with a filling");
+    wrong_use(
+        rt,
+        b"try takes a file with a question and a file with a filling",
+    )
 }
 
-fn example_asked(i: usize)
+fn example_asked(rt: &HostRuntime, i: usize) -> Status
     requires { i < 9 }
 {
-    if is(i + 1, b"--old-sheets") {
-        if is_last(i + 3) {
-            example_file(i + 2, i + 3, true);
-            return;
+    if is(rt, i + 1, b"--old-sheets") {
+        if is_last(rt, i + 3) {
+            return example_file(rt, i + 2, i + 3, true);
         }
-    } else if is_last(i + 2) {
-        example_file(i + 1, i + 2, false);
-        return;
+    } else if is_last(rt, i + 2) {
+        return example_file(rt, i + 1, i + 2, false);
     }
-    wrong_use(b"example takes a file and the number of a line");
+    wrong_use(rt, b"example takes a file and the number of a line")
 }
 
-fn walk_asked(i: usize)
+fn walk_asked(rt: &HostRuntime, i: usize) -> Status
     requires { i < 9 }
 {
-    if is_last(i + 1) {
-        walk_file(i + 1);
-        return;
+    if is_last(rt, i + 1) {
+        return walk_file(rt, i + 1);
     }
-    wrong_use(b"walk takes a file");
+    wrong_use(rt, b"walk takes a file")
 }
 
-fn trail_asked(i: usize)
+fn trail_asked(rt: &HostRuntime, i: usize) -> Status
     requires { i < 9 }
 {
-    if is_last(i + 1) {
-        trail_file(i + 1);
-        return;
+    if is_last(rt, i + 1) {
+        return trail_file(rt, i + 1);
     }
-    wrong_use(b"trail takes a file");
+    wrong_use(rt, b"trail takes a file")
 }
 
-fn replay_asked(i: usize)
+fn replay_asked(rt: &HostRuntime, i: usize) -> Status
     requires { i < 9 }
 {
-    if is_last(i + 2) {
-        replay_file(i + 1, i + 2);
-        return;
+    if is_last(rt, i + 2) {
+        return replay_file(rt, i + 1, i + 2);
     }
-    wrong_use(b"replay takes a file with a question and a file with a trail");
+    wrong_use(
+        rt,
+        b"replay takes a file with a question and a file with a trail",
+    )
 }
 
-fn day_asked(i: usize)
+fn day_asked(rt: &HostRuntime, i: usize) -> Status
     requires { i < 9 }
 {
-    if os::arg_count() <= i + 1 {
-        wrong_use(b"day takes files, with a question in each");
-        return;
+    if count(rt) <= i + 1 {
+        return wrong_use(rt, b"day takes files, with a question in each");
     }
-    day_files(i + 1);
+    day_files(rt, i + 1)
 }
 
-fn overlap_asked(i: usize)
+fn overlap_asked(rt: &HostRuntime, i: usize) -> Status
     requires { i < 9 }
 {
-    if is_last(i + 1) {
-        overlap_file(i + 1);
-        return;
+    if is_last(rt, i + 1) {
+        return overlap_file(rt, i + 1);
     }
-    wrong_use(b"overlap takes a file, with a sheet of live rules");
+    wrong_use(rt, b"overlap takes a file, with a sheet of live rules")
 }
 
-fn text_asked(i: usize)
+fn text_asked(rt: &HostRuntime, i: usize) -> Status
     requires { i < 9 }
 {
-    if is_last(i + 1) {
-        text_file(i + 1);
-        return;
+    if is_last(rt, i + 1) {
+        return text_file(rt, i + 1);
     }
-    wrong_use(b"text takes a file");
+    wrong_use(rt, b"text takes a file")
 }
 
-fn words_asked(i: usize)
+fn words_asked(rt: &HostRuntime, i: usize) -> Status
     requires { i < 9 }
 {
-    if is_last(i + 1) {
-        words_file(i + 1);
-        return;
+    if is_last(rt, i + 1) {
+        return words_file(rt, i + 1);
     }
-    wrong_use(b"words takes a file");
+    wrong_use(rt, b"words takes a file")
 }
 
 // What asks for no question.
-fn other_asked(i: usize) {
-    if is(i, b"--help") {
-        help();
-        found();
-        return;
+fn other_asked(rt: &HostRuntime, i: usize) -> Status {
+    if is(rt, i, b"--help") {
+        help(rt.stdout());
+        return found();
     }
-    if is(i, b"--version") {
-        version();
-        found();
-        return;
+    if is(rt, i, b"--version") {
+        version(rt.stdout());
+        return found();
     }
-    if os::arg_count() <= i {
-        wrong_use(b"no command is given");
-        return;
+    if count(rt) <= i {
+        return wrong_use(rt, b"no command is given");
     }
-    warn(b"desk: no command ");
-    warn_of(i);
-    warn(b"\n");
+    warn(rt.stderr(), b"desk: no command ");
+    warn_of(rt, i);
+    warn(rt.stderr(), b"\n");
     wrong_use(
+        rt,
         b"the commands are solve, try, example, walk, trail, replay, day, overlap, text and words",
-    );
+    )
 }
 
 // What asks for another form of a question, and all else.
-fn form_asked(i: usize)
+fn form_asked(rt: &HostRuntime, i: usize) -> Status
     requires { i < 9 }
 {
-    if is(i, b"text") {
-        text_asked(i);
-    } else if is(i, b"words") {
-        words_asked(i);
+    if is(rt, i, b"text") {
+        text_asked(rt, i)
+    } else if is(rt, i, b"words") {
+        words_asked(rt, i)
     } else {
-        other_asked(i);
+        other_asked(rt, i)
     }
 }
 
 // What asks for the steps of an answer, and all else.
-fn steps_asked(i: usize)
+fn steps_asked(rt: &HostRuntime, i: usize) -> Status
     requires { i < 9 }
 {
-    if is(i, b"walk") {
-        walk_asked(i);
-    } else if is(i, b"trail") {
-        trail_asked(i);
-    } else if is(i, b"replay") {
-        replay_asked(i);
+    if is(rt, i, b"walk") {
+        walk_asked(rt, i)
+    } else if is(rt, i, b"trail") {
+        trail_asked(rt, i)
+    } else if is(rt, i, b"replay") {
+        replay_asked(rt, i)
     } else {
-        form_asked(i);
+        form_asked(rt, i)
     }
 }
 
 // Does what argument `i` and those behind it ask for.
-fn run(i: usize)
+fn run(rt: &HostRuntime, i: usize) -> Status
     requires { i < 9 }
 {
-    if is(i, b"solve") {
-        solve_asked(i);
-    } else if is(i, b"try") {
-        try_asked(i);
-    } else if is(i, b"example") {
-        example_asked(i);
-    } else if is(i, b"day") {
-        day_asked(i);
-    } else if is(i, b"overlap") {
-        overlap_asked(i);
+    if is(rt, i, b"solve") {
+        solve_asked(rt, i)
+    } else if is(rt, i, b"try") {
+        try_asked(rt, i)
+    } else if is(rt, i, b"example") {
+        example_asked(rt, i)
+    } else if is(rt, i, b"day") {
+        day_asked(rt, i)
+    } else if is(rt, i, b"overlap") {
+        overlap_asked(rt, i)
     } else {
-        steps_asked(i);
+        steps_asked(rt, i)
     }
 }
 
-// Does what the arguments ask for; the first of them may ask for the status.
-pub fn obey() {
-    if is(1, b"--status-on-3") {
-        run(2);
-        return;
+// Does what the arguments ask for, and returns its status. By a first argument --status-on-3 scripts asked for the status when a program had none
+// of its own: it is taken, and changes nothing.
+pub fn obey(rt: &HostRuntime) -> Status {
+    if is(rt, 1, b"--status-on-3") {
+        return run(rt, 2);
     }
-    run(1);
+    run(rt, 1)
 }

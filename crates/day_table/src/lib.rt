@@ -1,28 +1,28 @@
 // A day's questions, file by file: a table with a row for each, and on a terminal how far that is.
 #![tactic(auto)]
 
-use files::arguments::{say_of, warn_of};
-use files::load_question;
-use files::status::{failed, found};
+use files::arguments::{LONGEST, argument, count, say_of, warn_of};
+use files::status::{Status, failed, found};
+use files::{TOO_MANY, load_question};
 use language::limits::{QUESTION, ROOM};
-use libc::STDERR_FILENO;
 use outcomes::outcome_number;
 use print::{warn, warn_number};
+use std::io::{IsTerminal, Stderr};
 use wording::table::{beside, heading, outcome_row, unread_row};
 
 // How many bytes argument `i` has.
-fn length_of(i: usize) -> usize {
-    let mut text = io::buffer();
-    os::arg(i, &mut text)
+fn length_of(rt: &HostRuntime, i: usize) -> usize {
+    let mut text = [0u8; LONGEST];
+    argument(rt, i, &mut text)
 }
 
 // How wide the column of the files is: as the longest name among the arguments from `i` on, or as its heading.
-fn widest(i: usize) -> usize {
-    let n = os::arg_count();
+fn widest(rt: &HostRuntime, i: usize) -> usize {
+    let n = count(rt);
     let mut most = 4;
     let mut j = i;
     while j < n {
-        let k = length_of(j);
+        let k = length_of(rt, j);
         if most < k {
             most = k;
         }
@@ -40,64 +40,64 @@ struct Place {
     count: usize,
 }
 
-fn watched() -> bool {
-    libc::isatty(STDERR_FILENO) == 1
+fn watched(err: Stderr) -> bool {
+    err.is_terminal()
 }
 
 // How far it is, in a line of its own where a person looks on, and its end.
-fn progress(r: Place) {
-    if watched() {
-        warn(b"\rsolving question ");
-        warn_number(r.number as u64);
-        warn(b" of ");
-        warn_number(r.count as u64);
-        warn(b": ");
-        warn_of(r.file);
+fn progress(rt: &HostRuntime, r: Place) {
+    if watched(rt.stderr()) {
+        warn(rt.stderr(), b"\rsolving question ");
+        warn_number(rt.stderr(), r.number as u64);
+        warn(rt.stderr(), b" of ");
+        warn_number(rt.stderr(), r.count as u64);
+        warn(rt.stderr(), b": ");
+        warn_of(rt, r.file);
     }
 }
 
-fn no_progress() {
-    if watched() {
-        warn(b"\r\x1b[K");
+fn no_progress(rt: &HostRuntime) {
+    if watched(rt.stderr()) {
+        warn(rt.stderr(), b"\r\x1b[K");
     }
 }
 
 // The file's name, at the left of its column.
-fn name(r: Place) {
-    say_of(r.file);
-    beside(length_of(r.file), r.width);
+fn name(rt: &HostRuntime, r: Place) {
+    say_of(rt, r.file);
+    beside(rt.stdout(), length_of(rt, r.file), r.width);
 }
 
 // The row of a question, and whether it is answered.
-fn solve_row(question: &[u16], r: Place) -> bool {
+fn solve_row(rt: &HostRuntime, question: &[u16], r: Place) -> bool {
     let mut work = [0u16; ROOM];
     let mut answer = [0u16; ROOM];
-    progress(r);
+    progress(rt, r);
     let s = solver::solve(question, &mut work, &mut answer);
-    no_progress();
-    name(r);
-    outcome_row(s);
+    no_progress(rt);
+    name(rt, r);
+    outcome_row(rt.stdout(), s);
     let outcome = s.outcome;
     outcome_number(outcome) == 0
 }
 
 // The row of a file, and whether its question is answered.
-fn row(r: Place) -> bool {
-    let mut buf = io::large_buffer();
+fn row(rt: &HostRuntime, r: Place) -> bool {
+    let mut buf = [0u8; TOO_MANY];
     let mut words = [0u16; 2 * QUESTION];
-    let t = load_question(r.file, &mut buf, &mut words);
+    let t = load_question(rt, r.file, &mut buf, &mut words);
     if !t.fine {
-        name(r);
-        unread_row(t.number);
+        name(rt, r);
+        unread_row(rt.stdout(), t.number);
         return false;
     }
     let n = t.words;
-    solve_row(&words[0..n], r)
+    solve_row(rt, &words[0..n], r)
 }
 
 // The rows of the files that the arguments from `first` on name, and whether every question is answered.
-fn rows(first: usize, width: usize) -> bool {
-    let n = os::arg_count();
+fn rows(rt: &HostRuntime, first: usize, width: usize) -> bool {
+    let n = count(rt);
     let mut all = true;
     let mut i = first;
     while i < n {
@@ -107,7 +107,7 @@ fn rows(first: usize, width: usize) -> bool {
             number: i - first + 1,
             count: n - first,
         };
-        if !row(r) {
+        if !row(rt, r) {
             all = false;
         }
         i += 1;
@@ -115,13 +115,12 @@ fn rows(first: usize, width: usize) -> bool {
     all
 }
 
-// The table of these files. It prints, and says its status.
-pub fn day_files(first: usize) {
-    let width = widest(first);
-    heading(width);
-    if rows(first, width) {
-        found();
-        return;
+// The table of these files. It prints, and returns its status.
+pub fn day_files(rt: &HostRuntime, first: usize) -> Status {
+    let width = widest(rt, first);
+    heading(rt.stdout(), width);
+    if rows(rt, first, width) {
+        return found();
     }
-    failed();
+    failed()
 }

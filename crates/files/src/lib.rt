@@ -2,20 +2,24 @@
 // No contract can say what that is (docs/PROMISES.md); what is proved is that it fits and that reading it ends.
 #![tactic(auto)]
 
-ghost use Rattle.std.specs.Prelude.{◌≤◌, ◌≡◌, length};
+ghost use Rattle.std.specs.Prelude.{◌≤◌, ◌≡◌, length, IfOk};
 
 pub mod arguments;
 pub mod status;
 
+use arguments::{LONGEST, argument, is};
 use collecting::{ALL, collect};
 use language::Refusal;
 use print::{warn, warn_number};
 use prompt::parse;
 use read_text::{Reading, read_text};
+use std::fs::File;
+use std::io::{Read, Stderr, Write};
+use std::{io, str};
 use word_bytes::write_words;
 
 // More bytes than a file may have: as many as there is room for, and one more.
-const TOO_MANY: usize = 65536;
+pub const TOO_MANY: usize = 65536;
 
 const NOT_READ: usize = SHEET + 1;
 
@@ -25,6 +29,11 @@ const SHELVES: usize = 2 * ALL;
 // Room for the bytes of a file, and behind those of a text for the names in it.
 pub const SHEET: usize = TOO_MANY + SHELVES;
 
+// What the system says of a file descriptor that is closed, and of bytes that are no text, as a name of a file has to be.
+const CLOSED: i32 = 9;
+
+const NO_TEXT: i32 = 84;
+
 fn is_dash(path: &[u8]) -> bool {
     if path.len() != 1 {
         return false;
@@ -32,69 +41,136 @@ fn is_dash(path: &[u8]) -> bool {
     path[0] == b'-'
 }
 
-fn opened(path: &[u8]) -> i32 {
-    if is_dash(path) {
-        return 0;
+// Bytes from where they are read, as far as there is room for them, and how many they are. A folder can be opened and not read.
+fn read_into<R: Read>(from: &mut R, buf: &mut [u8]) -> io::Result<usize>
+    ensures { IfOk result (λ n. n ≤ length buf.new) }
+{
+    let mut done = 0;
+    while done < buf.len() {
+        let n = from.read(&mut buf[done..])?;
+        if n == 0 {
+            return Ok(done);
+        }
+        done += n;
     }
-    os::open_read(path)
+    Ok(done)
 }
 
-// Whether bytes can be read there: a folder can be opened and not read.
-fn readable(fd: i32) -> bool {
-    if fd < 0 {
-        return false;
+fn read_file(rt: &HostRuntime, path: &[u8], buf: &mut [u8]) -> io::Result<usize>
+    ensures { IfOk result (λ n. n ≤ length buf.new) }
+{
+    match str::from_utf8(path) {
+        Ok(path) => {
+            let mut file = File::open(rt, path)?;
+            read_into(&mut file, buf)
+        }
+        Err(_) => Err(io::Error::from_raw_os_error(NO_TEXT)),
     }
-    let mut none = [0u8; 0];
-    libc::read(fd, &mut none) >= 0
 }
 
-fn name(path: &[u8]) {
-    warn(b"desk: ");
+// Whether an argument before argument `i` asks for standard input.
+fn is_used(rt: &HostRuntime, i: usize) -> bool {
+    for j in 1..i {
+        if is(rt, j, b"-") {
+            return true;
+        }
+    }
+    false
+}
+
+// Standard input can be read once: who asks for it again is told that it is closed, and gets no empty file.
+fn read_input(rt: &HostRuntime, i: usize, buf: &mut [u8]) -> io::Result<usize>
+    ensures { IfOk result (λ n. n ≤ length buf.new) }
+{
+    if is_used(rt, i) {
+        return Err(io::Error::from_raw_os_error(CLOSED));
+    }
+    let mut input = rt.stdin();
+    read_into(&mut input, buf)
+}
+
+// The bytes of the file of this path, which argument `i` is.
+fn read(rt: &HostRuntime, i: usize, path: &[u8], buf: &mut [u8]) -> io::Result<usize>
+    ensures { IfOk result (λ n. n ≤ length buf.new) }
+{
     if is_dash(path) {
-        warn(b"standard input");
+        return read_input(rt, i, buf);
+    }
+    read_file(rt, path, buf)
+}
+
+fn name(err: Stderr, path: &[u8]) {
+    warn(err, b"desk: ");
+    if is_dash(path) {
+        warn(err, b"standard input");
         return;
     }
-    warn(path);
+    warn(err, path);
 }
 
 // Says which file argument `i` names.
-pub fn name_of(i: usize) {
-    let mut path = io::buffer();
-    let n = os::arg(i, &mut path);
-    name(&path[..n]);
+pub fn name_of(rt: &HostRuntime, i: usize) {
+    let mut path = [0u8; LONGEST];
+    let n = argument(rt, i, &mut path);
+    name(rt.stderr(), &path[..n]);
 }
 
 // Says where something stands in the file of argument `i` that is no word.
-fn complain(i: usize, line: usize, column: usize) {
-    name_of(i);
-    warn(b", line ");
-    warn_number(line as u64);
-    warn(b", column ");
-    warn_number(column as u64);
+fn complain(rt: &HostRuntime, i: usize, line: usize, column: usize) {
+    name_of(rt, i);
+    warn(rt.stderr(), b", line ");
+    warn_number(rt.stderr(), line as u64);
+    warn(rt.stderr(), b", column ");
+    warn_number(rt.stderr(), column as u64);
     warn(
+        rt.stderr(),
         b": not a word. Words are numbers from 0 to 65535, with blanks between them; # begins a remark.\n",
     );
 }
 
+// Where the reason ends in the text of a failure: the system's number for it stands behind, in brackets.
+fn reason_end(text: &[u8]) -> usize
+    ensures { result ≤ length text.now }
+{
+    for i in 1..text.len() {
+        if text[i] == b'(' {
+            return i - 1;
+        }
+    }
+    text.len()
+}
+
+// Says why a file is not read, in the system's words.
+fn fail(err: Stderr, path: &[u8], why: io::Error) {
+    let mut text = [0u8; 128];
+    let mut room = &mut text[..];
+    let _ = write!(room, "{why}");
+    warn(err, b"desk: ");
+    warn(err, path);
+    warn(err, b": ");
+    warn(err, &text[..reason_end(&text)]);
+    warn(err, b"\n");
+}
+
 // The bytes of the file that argument `i` names, at the start of `buf`, and how many they are, or more than there is room for where they were not read:
 // that is said.
-fn fetch(i: usize, buf: &mut [u8]) -> usize {
-    let mut path = io::buffer();
-    let n = os::arg(i, &mut path);
-    let fd = opened(&path[..n]);
-    if !readable(fd) {
-        warn(b"desk: ");
-        os::fail(&path[..n]);
-        return NOT_READ;
+fn fetch(rt: &HostRuntime, i: usize, buf: &mut [u8]) -> usize {
+    let mut path = [0u8; LONGEST];
+    let n = argument(rt, i, &mut path);
+    match read(rt, i, &path[..n], buf) {
+        Ok(got) => {
+            if TOO_MANY <= got {
+                name(rt.stderr(), &path[..n]);
+                warn(rt.stderr(), b": more than 65,535 bytes\n");
+                return NOT_READ;
+            }
+            got
+        }
+        Err(why) => {
+            fail(rt.stderr(), &path[..n], why);
+            NOT_READ
+        }
     }
-    let got = io::read_full(fd, buf);
-    libc::close(fd);
-    if TOO_MANY <= got {
-        name(&path[..n]);
-        warn(b": more than 65,535 bytes\n");
-        return NOT_READ;
-    }
-    got
 }
 
 // How many words were taken from some bytes. Where none could be, the number of a refusal, or 0 where the reason is said.
@@ -124,12 +200,12 @@ fn first<'a>(buf: &'a [u8], n: usize) -> &'a [u8] {
 }
 
 // Words in decimal, from the file of argument `i`.
-fn in_decimal(i: usize, buf: &[u8], n: usize, words: &mut [u16]) -> Taken
+fn in_decimal(rt: &HostRuntime, i: usize, buf: &[u8], n: usize, words: &mut [u16]) -> Taken
     ensures { result.words ≤ length words.new }
 {
     let t = parse(first(buf, n), words);
     if t.line != 0 {
-        complain(i, t.line, t.column);
+        complain(rt, i, t.line, t.column);
         return not_taken(0);
     }
     Taken {
@@ -276,22 +352,22 @@ fn not_loaded() -> Loaded
 }
 
 // The bytes of the file that argument `i` names, at the start of `buf`, and their words.
-pub fn load(i: usize, buf: &mut [u8], words: &mut [u16]) -> Loaded
+pub fn load(rt: &HostRuntime, i: usize, buf: &mut [u8], words: &mut [u16]) -> Loaded
     ensures { (result.bytes ≤ length buf.new) × (result.words ≤ length words.new) }
 {
-    let n = fetch(i, buf);
+    let n = fetch(rt, i, buf);
     if buf.len() < n {
         return not_loaded();
     }
-    let t = in_decimal(i, buf, n, words);
+    let t = in_decimal(rt, i, buf, n, words);
     read_of(n, 0, t)
 }
 
 // The same of a question, which may be a text: its names then stand behind it.
-pub fn load_question(i: usize, buf: &mut [u8], words: &mut [u16]) -> Loaded
+pub fn load_question(rt: &HostRuntime, i: usize, buf: &mut [u8], words: &mut [u16]) -> Loaded
     ensures { (result.bytes ≤ length buf.new) × (result.named ≤ length buf.new) × (result.words ≤ length words.new) }
 {
-    let n = fetch(i, buf);
+    let n = fetch(rt, i, buf);
     if buf.len() < n {
         return not_loaded();
     }
@@ -300,6 +376,6 @@ pub fn load_question(i: usize, buf: &mut [u8], words: &mut [u16]) -> Loaded
         let named = list_names(buf, n);
         return read_of(n, named, t);
     }
-    let t = in_decimal(i, buf, n, words);
+    let t = in_decimal(rt, i, buf, n, words);
     read_of(n, 0, t)
 }

@@ -1,26 +1,31 @@
-// What a script gets of an answer. A program of the toolchain has no exit status of its own, so the digit goes to a file
-// descriptor that the script `desk` opens for it alone, where the first argument asks for it: nothing that is printed can reach it.
-use crate::arguments::is;
+// What a script gets of an answer: the program ends with its number as the exit status.
+ghost use Rattle.std.specs.Prelude.{◌≡◌};
+ghost use Rattle.files.specs.declared.status.Status.TheVariants.{Found, Nothing, Failed};
 
-const DESCRIPTOR: i32 = 3;
-
-fn report(status: u8) {
-    if is(1, b"--status-on-3") {
-        io::write_all(DESCRIPTOR, &[status]);
-    }
+#[derive(Clone, Copy)]
+pub enum Status {
+    Found,
+    Nothing,
+    Failed,
 }
 
 // There are lines, or yes, or an example.
-pub fn found() {
-    report(b'0');
+pub fn found() -> Status
+    ensures { result ≡ Found }
+{
+    Status::Found
 }
 
 // None, or no.
-pub fn nothing() {
-    report(b'1');
+pub fn nothing() -> Status
+    ensures { result ≡ Nothing }
+{
+    Status::Nothing
 }
 
 // Refused, wrong use or no such file.
-pub fn failed() {
-    report(b'2');
+pub fn failed() -> Status
+    ensures { result ≡ Failed }
+{
+    Status::Failed
 }

@@ -9,6 +9,7 @@ use crate::word_places::point;
 use language::limits::QUESTION;
 use language::{Kind, Refusal, classify, wide};
 use print::{warn, warn_number};
+use std::io::Stderr;
 use words::word;
 
 // What a place of a conjunction stands in.
@@ -151,52 +152,52 @@ fn is_end(question: &[u16], at: usize) -> bool {
     false
 }
 
-fn name(part: Part) {
+fn name(err: Stderr, part: Part) {
     match part {
-        Part::Literals => warn(b"an alternative"),
-        Part::FirstSide => warn(b"an equation's first side"),
-        Part::SecondSide => warn(b"an equation's second side"),
-        Part::Hedge => warn(b"a membership's hedge"),
-        Part::Expression => warn(b"a membership's expression"),
+        Part::Literals => warn(err, b"an alternative"),
+        Part::FirstSide => warn(err, b"an equation's first side"),
+        Part::SecondSide => warn(err, b"an equation's second side"),
+        Part::Hedge => warn(err, b"a membership's hedge"),
+        Part::Expression => warn(err, b"a membership's expression"),
     }
 }
 
 // What can stand in a part, wherever in it.
-fn expected(part: Part) {
+fn expected(err: Stderr, part: Part) {
     match part {
-        Part::Literals => warn(b" a literal begins with 5000 or 6000"),
-        Part::Expression => warn(b" a symbol or one of 7000 to 7003 is expected"),
-        _ => warn(b" a variable, a symbol or a 0 is expected"),
+        Part::Literals => warn(err, b" a literal begins with 5000 or 6000"),
+        Part::Expression => warn(err, b" a symbol or one of 7000 to 7003 is expected"),
+        _ => warn(err, b" a variable, a symbol or a 0 is expected"),
     }
 }
 
-fn numbered(at: usize) {
-    warn(b"word ");
-    warn_number(at as u64);
+fn numbered(err: Stderr, at: usize) {
+    warn(err, b"word ");
+    warn_number(err, at as u64);
 }
 
 // The word at a place, by its number and its value.
-fn valued(question: &[u16], at: usize) {
-    numbered(at);
-    warn(b", ");
-    warn_number(word(question, at) as u64);
+fn valued(err: Stderr, question: &[u16], at: usize) {
+    numbered(err, at);
+    warn(err, b", ");
+    warn_number(err, word(question, at) as u64);
 }
 
 // 5: the word cannot stand there.
-fn misplaced(question: &[u16], at: usize, part: Part) {
-    valued(question, at);
-    warn(b": in ");
-    name(part);
-    expected(part);
-    warn(b"\n");
+fn misplaced(err: Stderr, question: &[u16], at: usize, part: Part) {
+    valued(err, question, at);
+    warn(err, b": in ");
+    name(err, part);
+    expected(err, part);
+    warn(err, b"\n");
 }
 
 // 5: the conjunction breaks off.
-fn unfinished(at: usize, part: Part) {
-    numbered(at);
-    warn(b": the alternative ends inside ");
-    name(part);
-    warn(b"\n");
+fn unfinished(err: Stderr, at: usize, part: Part) {
+    numbered(err, at);
+    warn(err, b": the alternative ends inside ");
+    name(err, part);
+    warn(err, b"\n");
 }
 
 // Whether something of a literal is still to come.
@@ -214,58 +215,58 @@ fn breaks_off(question: &[u16], at: usize, part: Part) -> bool {
     false
 }
 
-fn not_literals<'a>(question: &'a [u16], text: &'a [u8], at: usize) {
+fn not_literals<'a>(err: Stderr, question: &'a [u16], text: &'a [u8], at: usize) {
     let s = stand(question, at);
     let part = s.part;
     if breaks_off(question, at, part) {
         // the place is behind the alternative's last word
-        point(text, if at > 0 { at - 1 } else { at }, true);
-        unfinished(at, part);
+        point(err, text, if at > 0 { at - 1 } else { at }, true);
+        unfinished(err, at, part);
         return;
     }
-    point(text, at, false);
-    misplaced(question, at, part);
+    point(err, text, at, false);
+    misplaced(err, question, at, part);
 }
 
 // How many of a kind are declared.
-fn declared(kind: &[u8], n: u16) {
+fn declared(err: Stderr, kind: &[u8], n: u16) {
     if n == 0 {
-        warn(b"no ");
+        warn(err, b"no ");
     } else {
-        warn_number(n as u64);
-        warn(b" ");
+        warn_number(err, n as u64);
+        warn(err, b" ");
     }
-    warn(kind);
+    warn(err, kind);
     if n > 1 {
-        warn(b"s are\n");
+        warn(err, b"s are\n");
     } else {
-        warn(b" is\n");
+        warn(err, b" is\n");
     }
 }
 
-fn undeclared_of(kind: &[u8], n: u16) {
-    warn(b": this ");
-    warn(kind);
-    warn(b" is not declared; ");
-    declared(kind, n);
+fn undeclared_of(err: Stderr, kind: &[u8], n: u16) {
+    warn(err, b": this ");
+    warn(err, kind);
+    warn(err, b" is not declared; ");
+    declared(err, kind, n);
 }
 
-fn undeclared<'a>(question: &'a [u16], text: &'a [u8], at: usize) {
-    point(text, at, false);
-    valued(question, at);
+fn undeclared<'a>(err: Stderr, question: &'a [u16], text: &'a [u8], at: usize) {
+    point(err, text, at, false);
+    valued(err, question, at);
     match classify(word(question, at)) {
-        Kind::Term(_) => undeclared_of(b"term variable", word(question, 1)),
-        Kind::Run(_) => undeclared_of(b"hedge variable", word(question, 2)),
-        Kind::Function(_) => undeclared_of(b"function variable", word(question, 3)),
-        _ => undeclared_of(b"symbol", word(question, 0)),
+        Kind::Term(_) => undeclared_of(err, b"term variable", word(question, 1)),
+        Kind::Run(_) => undeclared_of(err, b"hedge variable", word(question, 2)),
+        Kind::Function(_) => undeclared_of(err, b"function variable", word(question, 3)),
+        _ => undeclared_of(err, b"symbol", word(question, 0)),
     }
 }
 
 // The mistake for which a question is refused, whose words stand in this text. Where no word of it is to blame, nothing is said.
-pub fn mistake<'a>(refusal: Refusal, question: &'a [u16], text: &'a [u8]) {
+pub fn mistake<'a>(err: Stderr, refusal: Refusal, question: &'a [u16], text: &'a [u8]) {
     match refusal {
-        Refusal::NotLiterals(at) => not_literals(question, text, at),
-        Refusal::Undeclared(at) => undeclared(question, text, at),
-        _ => warn(b""),
+        Refusal::NotLiterals(at) => not_literals(err, question, text, at),
+        Refusal::Undeclared(at) => undeclared(err, question, text, at),
+        _ => warn(err, b""),
     }
 }

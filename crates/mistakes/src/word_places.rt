@@ -4,6 +4,7 @@ ghost use Rattle.std.specs.Prelude.{◌<◌, ◌≤◌, length};
 use language::limits::QUESTION;
 use pointing::point_at;
 use prompt::parse;
+use std::io::Stderr;
 
 // How many words are shown before and behind the one that is meant: a line may hold all words of a question.
 const AROUND: usize = 8;
@@ -66,10 +67,10 @@ fn most(a: usize, b: usize) -> usize {
 }
 
 // Says where word n of a text stands, or what is right behind it, and shows the words around it. The text's name is said before.
-pub(crate) fn point(text: &[u8], n: usize, past: bool) {
+pub(crate) fn point(err: Stderr, text: &[u8], n: usize, past: bool) {
     let word = beginning(text, n);
     let at = if past { ending(text, word) } else { word };
     let first = beginning(text, if n < AROUND { 0 } else { n - AROUND });
     let last = beginning(text, if n < QUESTION { n + AROUND } else { n });
-    point_at(text, at, first, ending(text, most(last, at)), b'#');
+    point_at(err, text, at, first, ending(text, most(last, at)), b'#');
 }

@@ -10,39 +10,40 @@ use language::{Kind, Signature, Sym, classify, is_unordered, wide};
 use names::{FUNCTIONS, HEDGES, SYMBOLS, TERMS, is_text, name};
 use print::{number, say};
 use spans::element_end;
+use std::io::Stdout;
 use words::word;
 
 // A symbol, with a mark where it is unordered.
-fn symbol(s: Signature, names: &[u8], f: Sym) {
-    name(names, SYMBOLS, wide(f.0), b"", b"a");
+fn symbol(out: Stdout, s: Signature, names: &[u8], f: Sym) {
+    name(out, names, SYMBOLS, wide(f.0), b"", b"a");
     if is_unordered(s, f) {
-        say(b"~");
+        say(out, b"~");
     }
 }
 
 // The name of a variable or a symbol.
-pub fn named(s: Signature, names: &[u8], w: u16) {
+pub fn named(out: Stdout, s: Signature, names: &[u8], w: u16) {
     match classify(w) {
-        Kind::Term(x) => name(names, TERMS, wide(x.0), b"?", b"x"),
-        Kind::Run(p) => name(names, HEDGES, wide(p.0), b"*", b"p"),
-        Kind::Symbol(f) => symbol(s, names, f),
-        Kind::Function(f) => name(names, FUNCTIONS, wide(f.0), b"%", b"X"),
-        _ => number(w as u64),
+        Kind::Term(x) => name(out, names, TERMS, wide(x.0), b"?", b"x"),
+        Kind::Run(p) => name(out, names, HEDGES, wide(p.0), b"*", b"p"),
+        Kind::Symbol(f) => symbol(out, s, names, f),
+        Kind::Function(f) => name(out, names, FUNCTIONS, wide(f.0), b"%", b"X"),
+        _ => number(out, w as u64),
     }
 }
 
 // The name of variable i of a filling: term, hedge, function variables in order.
-pub fn variable(names: &[u8], i: usize, terms: usize, hedges: usize) {
+pub fn variable(out: Stdout, names: &[u8], i: usize, terms: usize, hedges: usize) {
     if i < terms {
-        name(names, TERMS, i, b"?", b"x");
+        name(out, names, TERMS, i, b"?", b"x");
         return;
     }
     let j = i - terms;
     if j < hedges {
-        name(names, HEDGES, j, b"*", b"p");
+        name(out, names, HEDGES, j, b"*", b"p");
         return;
     }
-    name(names, FUNCTIONS, j - hedges, b"%", b"X");
+    name(out, names, FUNCTIONS, j - hedges, b"%", b"X");
 }
 
 // Whether a word has children, and a 0 behind them.
@@ -55,9 +56,9 @@ fn has_children(w: u16) -> bool {
 }
 
 // A comma where another element follows.
-fn comma(ws: &[u16], at: usize) {
+fn comma(out: Stdout, ws: &[u16], at: usize) {
     if word(ws, at) != 0 {
-        say(b", ");
+        say(out, b", ");
     }
 }
 
@@ -86,13 +87,13 @@ fn after(ws: &[u16], at: usize, w: u16) -> usize
 }
 
 // A hedge; the place after its 0.
-fn past_hedge(s: Signature, names: &[u8], ws: &[u16], from: usize) -> usize
+fn past_hedge(out: Stdout, s: Signature, names: &[u8], ws: &[u16], from: usize) -> usize
     ensures { from ≤ result }
 {
     let mut at = from;
     let mut depth: usize = 0;
     if word(ws, from) == 0 {
-        say(b"()");
+        say(out, b"()");
     }
     while at < ws.len() {
         let w = ws[at];
@@ -102,16 +103,16 @@ fn past_hedge(s: Signature, names: &[u8], ws: &[u16], from: usize) -> usize
                 return at;
             }
             depth -= 1;
-            say(b")");
-            comma(ws, at);
+            say(out, b")");
+            comma(out, ws, at);
         } else {
-            named(s, names, w);
+            named(out, s, names, w);
             if opens(ws, at, w) {
-                say(b"(");
+                say(out, b"(");
                 depth += 1;
             } else {
                 at = after(ws, at, w);
-                comma(ws, at);
+                comma(out, ws, at);
             }
         }
     }
@@ -129,26 +130,26 @@ fn is_row(names: &[u8], ws: &[u16], from: usize) -> bool {
     false
 }
 
-fn bracket(stands: bool, text: &[u8]) {
+fn bracket(out: Stdout, stands: bool, text: &[u8]) {
     if stands {
-        say(text);
+        say(out, text);
     }
 }
 
 // A hedge as a side; the place after its 0.
-fn side(s: Signature, names: &[u8], ws: &[u16], from: usize) -> usize
+fn side(out: Stdout, s: Signature, names: &[u8], ws: &[u16], from: usize) -> usize
     ensures { from ≤ result }
 {
     let row = is_row(names, ws, from);
-    bracket(row, b"(");
-    let end = past_hedge(s, names, ws, from);
-    bracket(row, b")");
+    bracket(out, row, b"(");
+    let end = past_hedge(out, s, names, ws, from);
+    bracket(out, row, b")");
     end
 }
 
 // The hedge that begins here.
-pub fn hedge(s: Signature, names: &[u8], ws: &[u16], from: usize) {
-    side(s, names, ws, from);
+pub fn hedge(out: Stdout, s: Signature, names: &[u8], ws: &[u16], from: usize) {
+    side(out, s, names, ws, from);
 }
 
 // How much of an expression can stand at a place of a text without brackets: a list of choices, a choice, or less. For a question of words all have them.
@@ -189,44 +190,44 @@ fn is_bracketed(w: u16, level: u8) -> bool {
 }
 
 // A sign of expressions: that of texts, or that for a question of words.
-fn sign<'a>(names: &'a [u8], of_text: &'a [u8], of_words: &'a [u8]) {
+fn sign<'a>(out: Stdout, names: &'a [u8], of_text: &'a [u8], of_words: &'a [u8]) {
     if is_text(names) {
-        say(of_text);
+        say(out, of_text);
         return;
     }
-    say(of_words);
+    say(out, of_words);
 }
 
 // What stands before the parts of an expression that begins with this word, between two of them, and behind them.
-fn before(s: Signature, names: &[u8], w: u16, level: u8) {
+fn before(out: Stdout, s: Signature, names: &[u8], w: u16, level: u8) {
     match w {
-        7000 => sign(names, b"()", b"eps"),
-        7001 => bracket(is_bracketed(w, level), b"("),
-        7002 => bracket(is_bracketed(w, level), b"("),
-        7003 => say(b""),
-        _ => over(s, names, w),
+        7000 => sign(out, names, b"()", b"eps"),
+        7001 => bracket(out, is_bracketed(w, level), b"("),
+        7002 => bracket(out, is_bracketed(w, level), b"("),
+        7003 => say(out, b""),
+        _ => over(out, s, names, w),
     }
 }
 
-fn over(s: Signature, names: &[u8], w: u16) {
-    named(s, names, w);
-    say(b"(");
+fn over(out: Stdout, s: Signature, names: &[u8], w: u16) {
+    named(out, s, names, w);
+    say(out, b"(");
 }
 
-fn between(names: &[u8], w: u16) {
+fn between(out: Stdout, names: &[u8], w: u16) {
     if w == 7001 {
-        sign(names, b", ", b" . ");
+        sign(out, names, b", ", b" . ");
         return;
     }
-    say(b" + ");
+    say(out, b" + ");
 }
 
-fn behind(w: u16, level: u8) {
+fn behind(out: Stdout, w: u16, level: u8) {
     match w {
-        7001 => bracket(is_bracketed(w, level), b")"),
-        7002 => bracket(is_bracketed(w, level), b")"),
-        7003 => say(b"*"),
-        _ => say(b")"),
+        7001 => bracket(out, is_bracketed(w, level), b")"),
+        7002 => bracket(out, is_bracketed(w, level), b")"),
+        7003 => say(out, b"*"),
+        _ => say(out, b")"),
     }
 }
 
@@ -239,7 +240,7 @@ fn is_leaf(ws: &[u16], next: usize, w: u16) -> bool {
 }
 
 // An expression: R . S in a row, in a text R, S; R + S either, R* any number, a0(R) one term over R; the place after it.
-fn expression(s: Signature, names: &[u8], ws: &[u16], at: usize, level: u8) -> usize
+fn expression(out: Stdout, s: Signature, names: &[u8], ws: &[u16], at: usize, level: u8) -> usize
     ensures { at ≤ result }
 {
     if at >= ws.len() {
@@ -248,56 +249,56 @@ fn expression(s: Signature, names: &[u8], ws: &[u16], at: usize, level: u8) -> u
     let w = ws[at];
     let next = at + 1;
     if is_leaf(ws, next, w) {
-        named(s, names, w);
+        named(out, s, names, w);
         return after(ws, next, w);
     }
-    before(s, names, w, level);
+    before(out, s, names, w, level);
     if w == 7000 {
         return next;
     }
-    let middle = expression(s, names, ws, next, first_level(names, w));
+    let middle = expression(out, s, names, ws, next, first_level(names, w));
     if w == 7001 || w == 7002 {
-        between(names, w);
-        let end = expression(s, names, ws, middle, second_level(names, w));
-        behind(w, level);
+        between(out, names, w);
+        let end = expression(out, s, names, ws, middle, second_level(names, w));
+        behind(out, w, level);
         return end;
     }
-    behind(w, level);
+    behind(out, w, level);
     middle
 }
 
 // A literal; the place after it.
-fn literal(s: Signature, names: &[u8], ws: &[u16], at: usize) -> usize
+fn literal(out: Stdout, s: Signature, names: &[u8], ws: &[u16], at: usize) -> usize
     ensures { at ≤ result }
 {
     if at >= ws.len() {
         return at;
     }
     let w = ws[at];
-    let middle = side(s, names, ws, at + 1);
+    let middle = side(out, s, names, ws, at + 1);
     if w == 5000 {
-        say(b" = ");
-        return side(s, names, ws, middle);
+        say(out, b" = ");
+        return side(out, s, names, ws, middle);
     }
-    say(b" in ");
-    expression(s, names, ws, middle, level(names, CHOICE))
+    say(out, b" in ");
+    expression(out, s, names, ws, middle, level(names, CHOICE))
 }
 
 // The literal that begins here.
-pub fn one_literal(s: Signature, names: &[u8], ws: &[u16], at: usize) {
-    literal(s, names, ws, at);
+pub fn one_literal(out: Stdout, s: Signature, names: &[u8], ws: &[u16], at: usize) {
+    literal(out, s, names, ws, at);
 }
 
 // The literals between two places, a row for each.
-pub fn literals(s: Signature, names: &[u8], ws: &[u16], from: usize, to: usize) {
+pub fn literals(out: Stdout, s: Signature, names: &[u8], ws: &[u16], from: usize, to: usize) {
     let mut at = from;
     let mut left = to;
     while left > from {
         left -= 1;
         if at < to {
-            say(b"  ");
-            at = literal(s, names, ws, at);
-            say(b"\n");
+            say(out, b"  ");
+            at = literal(out, s, names, ws, at);
+            say(out, b"\n");
         }
     }
 }

@@ -6,6 +6,7 @@ use collecting::ALL;
 use language::wide;
 use lexing::next;
 use print::{number, say};
+use std::io::Stdout;
 use text_names::WIDTH;
 use word_bytes::word_at;
 
@@ -40,7 +41,7 @@ fn shelved(names: &[u8], i: usize) -> usize
 }
 
 // The name that begins at a place of a text.
-fn own_name(text: &[u8], at: usize) {
+fn own_name(out: Stdout, text: &[u8], at: usize) {
     if text.len() < at {
         return;
     }
@@ -51,27 +52,34 @@ fn own_name(text: &[u8], at: usize) {
         return;
     }
     if from < to {
-        say(&text[from..to]);
+        say(out, &text[from..to]);
     }
 }
 
 // The name that begins at a place of the text.
-fn name_at(names: &[u8], at: usize) {
+fn name_at(out: Stdout, names: &[u8], at: usize) {
     if SHELVES <= names.len() {
         let n = names.len() - SHELVES;
-        own_name(&names[0..n], at);
+        own_name(out, &names[0..n], at);
     }
 }
 
 // The name of number n on a shelf behind its mark, or, where that has none, a letter and the number.
-pub(crate) fn name<'a>(names: &'a [u8], shelf: usize, n: usize, mark: &'a [u8], letter: &'a [u8])
+pub(crate) fn name<'a>(
+    out: Stdout,
+    names: &'a [u8],
+    shelf: usize,
+    n: usize,
+    mark: &'a [u8],
+    letter: &'a [u8],
+)
     requires { shelf < 65536 }
 {
     if n < shelved(names, shelf) {
-        say(mark);
-        name_at(names, shelved(names, shelf + 1 + n));
+        say(out, mark);
+        name_at(out, names, shelved(names, shelf + 1 + n));
         return;
     }
-    say(letter);
-    number(n as u64);
+    say(out, letter);
+    number(out, n as u64);
 }

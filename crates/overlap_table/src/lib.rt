@@ -3,14 +3,14 @@
 
 ghost use Rattle.std.specs.Prelude.{◌≤◌, length};
 
-use files::load;
-use files::status::{failed, found, nothing};
+use files::status::{Status, failed, found, nothing};
+use files::{TOO_MANY, load};
 use language::limits::FILLING;
 use language::{Signature, wide};
-use libc::STDERR_FILENO;
 use live_rules::{rule_end, sheet_number};
 use overlap_wording::{heading, met, no_pair, no_progress, not_met, pair, progress, refused, rest};
 use pairing::meet;
+use std::io::{IsTerminal, Stderr};
 use word_bytes::{take_words, word_at, write_words};
 
 // As many words as a text of 65,535 bytes can have.
@@ -77,29 +77,29 @@ fn pattern<'a>(sheet: &'a [u8], at: usize) -> &'a [u8] {
     &sheet[2 * (at + 2)..2 * to]
 }
 
-fn watched() -> bool {
-    libc::isatty(STDERR_FILENO) == 1
+fn watched(err: Stderr) -> bool {
+    err.is_terminal()
 }
 
 // The report that is in the room, behind its two rules: zeros stand behind it.
-fn show(word: u16, room: &[u8]) {
+fn show(rt: &HostRuntime, word: u16, room: &[u8]) {
     let mut report = [0u16; FILLING];
     let n = take_words(room, &mut report);
     let s = Signature {
         symbols: word % 256,
         unordered: word / 256,
     };
-    met(s, &report[..n]);
+    met(rt.stdout(), s, &report[..n]);
 }
 
 // A row, for a pair that does not meet for sure; whether it is refused.
-fn row(r: Rules, word: u16, n: u32, room: &[u8]) -> bool {
-    pair(r.i, r.a, r.j, r.b);
+fn row(rt: &HostRuntime, r: Rules, word: u16, n: u32, room: &[u8]) -> bool {
+    pair(rt.stdout(), r.i, r.a, r.j, r.b);
     if 200 <= n {
-        show(word, room);
+        show(rt, word, room);
         return false;
     }
-    not_met(n);
+    not_met(rt.stdout(), n);
     if n == 16 {
         return false;
     }
@@ -107,7 +107,7 @@ fn row(r: Rules, word: u16, n: u32, room: &[u8]) -> bool {
 }
 
 // What a pair came to, as a row or in a count.
-fn told(r: Rules, word: u16, n: u32, room: &[u8], t: Tally) -> Tally {
+fn told(rt: &HostRuntime, r: Rules, word: u16, n: u32, room: &[u8], t: Tally) -> Tally {
     let rows = t.rows;
     let failed = t.failed;
     let apart = t.apart;
@@ -118,7 +118,7 @@ fn told(r: Rules, word: u16, n: u32, room: &[u8], t: Tally) -> Tally {
             apart: more(apart),
         };
     }
-    if row(r, word, n, room) {
+    if row(rt, r, word, n, room) {
         return Tally {
             rows: more(rows),
             failed: more(failed),
@@ -132,11 +132,11 @@ fn told(r: Rules, word: u16, n: u32, room: &[u8], t: Tally) -> Tally {
     }
 }
 
-fn ask(sheet: &[u8], r: Rules, t: Tally) -> Tally {
+fn ask(rt: &HostRuntime, sheet: &[u8], r: Rules, t: Tally) -> Tally {
     let mut room = [0u8; REPORT];
     let word = word_of(sheet, 0);
-    if watched() {
-        progress(r.i, r.j);
+    if watched(rt.stderr()) {
+        progress(rt.stderr(), r.i, r.j);
     }
     let n = meet(
         word,
@@ -146,23 +146,24 @@ fn ask(sheet: &[u8], r: Rules, t: Tally) -> Tally {
         0,
         FILLING,
     );
-    if watched() {
-        no_progress();
+    if watched(rt.stderr()) {
+        no_progress(rt.stderr());
     }
-    told(r, word, n, &room, t)
+    told(rt, r, word, n, &room, t)
 }
 
 // The pair, where its actions are different or not, as is asked.
-fn sorted(sheet: &[u8], r: Rules, different: bool, t: Tally) -> Tally {
+fn sorted(rt: &HostRuntime, sheet: &[u8], r: Rules, different: bool, t: Tally) -> Tally {
     let unlike = r.a != r.b;
     if unlike == different {
-        return ask(sheet, r, t);
+        return ask(rt, sheet, r, t);
     }
     t
 }
 
 // A rule with each of those behind it.
 fn with_later(
+    rt: &HostRuntime,
     sheet: &[u8],
     i: usize,
     at: usize,
@@ -182,7 +183,7 @@ fn with_later(
             second,
             b: word_of(sheet, second),
         };
-        t = sorted(sheet, r, different, t);
+        t = sorted(rt, sheet, r, different, t);
         second = behind(sheet, second);
         j += 1;
     }
@@ -190,42 +191,39 @@ fn with_later(
 }
 
 // The pairs whose actions are different, or the others, behind their heading.
-fn section(sheet: &[u8], n: usize, different: bool, before: Tally) -> Tally {
-    heading(different);
+fn section(rt: &HostRuntime, sheet: &[u8], n: usize, different: bool, before: Tally) -> Tally {
+    heading(rt.stdout(), different);
     let mut t = before;
     let mut at: usize = 2;
     let mut i: usize = 0;
     while i < n {
-        t = with_later(sheet, i, at, n, different, t);
+        t = with_later(rt, sheet, i, at, n, different, t);
         at = behind(sheet, at);
         i += 1;
     }
     if t.rows == before.rows {
-        no_pair();
+        no_pair(rt.stdout());
     }
     t
 }
 
-fn ended(t: Tally) {
-    rest(t.apart);
+fn ended(rt: &HostRuntime, t: Tally) -> Status {
+    rest(rt.stdout(), t.apart);
     if t.failed != 0 {
-        failed();
-        return;
+        return failed();
     }
     if t.rows != 0 {
-        found();
-        return;
+        return found();
     }
-    nothing();
+    nothing()
 }
 
 // The table of a sheet's bytes.
-fn all_pairs(sheet: &[u8]) {
+fn all_pairs(rt: &HostRuntime, sheet: &[u8]) -> Status {
     let k = sheet_number(sheet);
     if k != 0 {
-        refused(k);
-        failed();
-        return;
+        refused(rt.stderr(), k);
+        return failed();
     }
     let n = wide(word_of(sheet, 1));
     let none = Tally {
@@ -233,28 +231,27 @@ fn all_pairs(sheet: &[u8]) {
         failed: 0,
         apart: 0,
     };
-    let t = section(sheet, n, true, none);
-    ended(section(sheet, n, false, t));
+    let t = section(rt, sheet, n, true, none);
+    ended(rt, section(rt, sheet, n, false, t))
 }
 
-fn sheet_of(words: &[u16])
+fn sheet_of(rt: &HostRuntime, words: &[u16]) -> Status
     requires { length words.now ≤ 32768 }
 {
     let mut bytes = [0u8; 2 * SHEET];
     write_words(words, &mut bytes);
     let n = 2 * words.len();
-    all_pairs(&bytes[0..n]);
+    all_pairs(rt, &bytes[0..n])
 }
 
-// The table of the sheet in the file that argument `i` names. It prints, and says its status.
-pub fn overlap_file(i: usize) {
-    let mut buf = io::large_buffer();
+// The table of the sheet in the file that argument `i` names. It prints, and returns its status.
+pub fn overlap_file(rt: &HostRuntime, i: usize) -> Status {
+    let mut buf = [0u8; TOO_MANY];
     let mut words = [0u16; SHEET];
-    let t = load(i, &mut buf, &mut words);
+    let t = load(rt, i, &mut buf, &mut words);
     if !t.fine {
-        failed();
-        return;
+        return failed();
     }
     let n = t.words;
-    sheet_of(&words[0..n]);
+    sheet_of(rt, &words[0..n])
 }

@@ -4,6 +4,7 @@
 ghost use Rattle.std.specs.Prelude.{◌≤◌, length};
 
 use print::{warn, warn_number};
+use std::io::Stderr;
 
 // Where the line begins that a place stands in.
 fn line_start(text: &[u8], at: usize) -> usize
@@ -75,23 +76,23 @@ fn least(a: usize, b: usize) -> usize {
 }
 
 // A part of a text.
-fn show(text: &[u8], from: usize, to: usize) {
+fn show(err: Stderr, text: &[u8], from: usize, to: usize) {
     if to <= text.len() {
         if from <= to {
-            warn(&text[from..to]);
+            warn(err, &text[from..to]);
         }
     }
 }
 
 // As much room as a part of a text takes.
-fn indent(text: &[u8], from: usize, to: usize) {
+fn indent(err: Stderr, text: &[u8], from: usize, to: usize) {
     let mut i = from;
     while i < to {
         if i < text.len() {
             if text[i] == b'\t' {
-                warn(b"\t");
+                warn(err, b"\t");
             } else {
-                warn(b" ");
+                warn(err, b" ");
             }
         }
         i += 1;
@@ -99,29 +100,37 @@ fn indent(text: &[u8], from: usize, to: usize) {
 }
 
 // What stands between two places of a line that begins at `start` and ends at `end`, and a mark below the byte at `at`.
-fn underline(text: &[u8], start: usize, from: usize, to: usize, end: usize, at: usize) {
-    warn(b"  ");
+fn underline(
+    err: Stderr,
+    text: &[u8],
+    start: usize,
+    from: usize,
+    to: usize,
+    end: usize,
+    at: usize,
+) {
+    warn(err, b"  ");
     if start < from {
-        warn(b".. ");
+        warn(err, b".. ");
     }
-    show(text, from, to);
+    show(err, text, from, to);
     if to < end {
-        warn(b" ..");
+        warn(err, b" ..");
     }
-    warn(b"\n  ");
+    warn(err, b"\n  ");
     if start < from {
-        warn(b"   ");
+        warn(err, b"   ");
     }
-    indent(text, from, at);
-    warn(b"^\n");
+    indent(err, text, from, at);
+    warn(err, b"^\n");
 }
 
-fn show_place(line: usize, column: usize) {
-    warn(b", line ");
-    warn_number(line as u64);
-    warn(b", column ");
-    warn_number(column as u64);
-    warn(b":\n");
+fn show_place(err: Stderr, line: usize, column: usize) {
+    warn(err, b", line ");
+    warn_number(err, line as u64);
+    warn(err, b", column ");
+    warn_number(err, column as u64);
+    warn(err, b":\n");
 }
 
 // The place, where it is within the text.
@@ -133,14 +142,22 @@ fn within(text: &[u8], at: usize) -> usize
 
 // Says in which line and column a byte stands, and shows its line from `first` to `last` at most, up to a byte that begins a remark. The file's name is said
 // before.
-pub fn point_at(text: &[u8], place: usize, first: usize, last: usize, remark: u8) {
+pub fn point_at(err: Stderr, text: &[u8], place: usize, first: usize, last: usize, remark: u8) {
     let at = within(text, place);
     let start = line_start(text, at);
     if start <= at {
         if at < BYTES {
-            show_place(line_number(text, at), at - start + 1);
+            show_place(err, line_number(text, at), at - start + 1);
         }
     }
     let end = line_end(text, at, remark);
-    underline(text, start, most(start, first), least(end, last), end, at);
+    underline(
+        err,
+        text,
+        start,
+        most(start, first),
+        least(end, last),
+        end,
+        at,
+    );
 }

@@ -1,10 +1,10 @@
-// A trail from a file replayed. The command prints and says its status: it returns nothing.
+// A trail from a file replayed. The command prints, and returns its status.
 #![tactic(auto)]
 
 ghost use Rattle.std.specs.Prelude.{◌≤◌, length};
 
-use files::status::failed;
-use files::{Loaded, SHEET, load, load_question};
+use files::status::{Status, failed};
+use files::{Loaded, SHEET, TOO_MANY, load, load_question};
 use language::Refusal;
 use language::limits::{QUESTION, ROOM};
 use outcomes::{Outcome, Solved};
@@ -98,30 +98,38 @@ fn wrong_step(question: &[u16], told: &[u8]) -> usize {
 }
 
 // Says which step it is.
-fn at_step<'a>(text: &'a [u8], n: usize) {
-    warn(text);
-    warn_number(n as u64);
-    warn(b".\n");
+fn at_step<'a>(rt: &HostRuntime, text: &'a [u8], n: usize) {
+    warn(rt.stderr(), text);
+    warn_number(rt.stderr(), n as u64);
+    warn(rt.stderr(), b".\n");
 }
 
 // Why a trail is refused, and at which step, where that is known.
-fn denied<'a>(r: Refusal, question: &'a [u16], told: &'a [u8], text: &'a [u8], i: usize) {
+fn denied<'a>(
+    rt: &HostRuntime,
+    r: Refusal,
+    question: &'a [u16],
+    told: &'a [u8],
+    text: &'a [u8],
+    i: usize,
+) -> Status {
     match r {
         Refusal::BadStep => {
-            refusal(number(r) as u64);
-            at_step(b"It is step ", wrong_step(question, told));
-            failed();
+            refusal(rt.stderr(), number(r) as u64);
+            at_step(rt, b"It is step ", wrong_step(question, told));
+            failed()
         }
         Refusal::ShortTrail => {
-            refusal(number(r) as u64);
-            at_step(b"Its whole steps are ", told.len() / (2 * TRIPLE));
-            failed();
+            refusal(rt.stderr(), number(r) as u64);
+            at_step(rt, b"Its whole steps are ", told.len() / (2 * TRIPLE));
+            failed()
         }
-        _ => refuse(r, question, text, i),
+        _ => refuse(rt, r, question, text, i),
     }
 }
 
 fn replayed<'a>(
+    rt: &HostRuntime,
     s: Solved,
     question: &'a [u16],
     answer: &'a [u16],
@@ -129,65 +137,77 @@ fn replayed<'a>(
     text: &'a [u8],
     names: &'a [u8],
     i: usize,
-) {
+) -> Status {
     let outcome = s.outcome;
     if let Outcome::Refused(r) = outcome {
-        denied(r, question, told, text, i);
-        return;
+        return denied(rt, r, question, told, text, i);
     }
-    solved(s, question, answer, text, names, i);
+    solved(rt, s, question, answer, text, names, i)
 }
 
 fn replay_words<'a>(
+    rt: &HostRuntime,
     question: &'a [u16],
     told: &'a [u8],
     text: &'a [u8],
     names: &'a [u8],
     i: usize,
-) {
+) -> Status {
     let mut work = [0u16; ROOM];
     let mut answer = [0u16; ROOM];
     let s = replay(question, told, &mut work, &mut answer);
-    replayed(s, question, &answer, told, text, names, i);
+    replayed(rt, s, question, &answer, told, text, names, i)
 }
 
 // Replays a trail's words, as the bytes that they are.
-fn replay_told<'a>(question: &'a [u16], trail: &'a [u16], text: &'a [u8], names: &'a [u8], i: usize)
+fn replay_told<'a>(
+    rt: &HostRuntime,
+    question: &'a [u16],
+    trail: &'a [u16],
+    text: &'a [u8],
+    names: &'a [u8],
+    i: usize,
+) -> Status
     requires { length trail.now ≤ 32768 }
 {
     let mut told = [0u8; 2 * TOLD];
     write_words(trail, &mut told);
     let n = 2 * trail.len();
-    replay_words(question, &told[0..n], text, names, i);
+    replay_words(rt, question, &told[0..n], text, names, i)
 }
 
 // Replays the trail of the file that argument `j` names.
-fn replay_trail<'a>(question: &'a [u16], buf: &'a [u8], t: Loaded, i: usize, j: usize)
+fn replay_trail<'a>(
+    rt: &HostRuntime,
+    question: &'a [u16],
+    buf: &'a [u8],
+    t: Loaded,
+    i: usize,
+    j: usize,
+) -> Status
     requires { (t.bytes ≤ length buf.now) × (t.named ≤ length buf.now) }
 {
     let m = t.bytes;
     let k = t.named;
-    let mut trail = io::large_buffer();
+    let mut trail = [0u8; TOO_MANY];
     let mut words = [0u16; TOLD];
-    let told = load(j, &mut trail, &mut words);
+    let told = load(rt, j, &mut trail, &mut words);
     if !told.fine {
-        failed();
-        return;
+        return failed();
     }
     let n = told.words;
-    replay_told(question, &words[0..n], &buf[0..m], &buf[0..k], i);
+    replay_told(rt, question, &words[0..n], &buf[0..m], &buf[0..k], i)
 }
 
 // The answer that the trail in the file of argument `j` leads to, of the question in the file that argument `i` names.
-pub fn replay_file(i: usize, j: usize) {
+pub fn replay_file(rt: &HostRuntime, i: usize, j: usize) -> Status {
     let mut buf = [0u8; SHEET];
     let mut words = [0u16; 2 * QUESTION];
-    let t = load_question(i, &mut buf, &mut words);
+    let t = load_question(rt, i, &mut buf, &mut words);
     let n = t.words;
     let m = t.bytes;
     if !t.fine {
-        no_question(t.number, &buf[0..m], i);
-        return;
+        return no_question(rt, t.number, &buf[0..m], i);
     }
-    replay_trail(&words[0..n], &buf, t, i, j);
+    replay_trail(rt, &words[0..n], &buf, t, i, j)
 }

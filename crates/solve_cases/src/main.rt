@@ -3,16 +3,19 @@
 // words then stand as they were lent.
 #![tactic(auto)]
 
-ghost use Rattle.std.specs.Prelude.{◌≤◌, ◌<◌, length};
+ghost use Rattle.std.specs.Prelude.{◌≤◌, ◌<◌, length, IfOk};
 
 use language::limits::{QUESTION, ROOM};
+use print::say;
+use std::io;
+use std::io::{Read, Stdin, Stdout};
 
 // A slice that is lent may be longer than it has to be.
 const MOST: usize = ROOM + 808;
 
-fn number(n: u64) {
-    io::print_decimal(1, n);
-    io::write_all(1, b" ");
+fn number(out: Stdout, n: u64) {
+    print::number(out, n);
+    say(out, b" ");
 }
 
 fn wide(x: u16) -> u64 {
@@ -69,17 +72,17 @@ fn lent_end(s: &[u16], from: usize) -> usize
 }
 
 // From a place on: how many zeros, and how many words behind them as they were lent. A word that is neither makes the two too few.
-fn left(s: &[u16], from: usize)
+fn left(out: Stdout, s: &[u16], from: usize)
     requires { from ≤ length s.now }
 {
     let zeros = zeros_end(s, from);
     let end = lent_end(s, zeros);
-    number((zeros - from) as u64);
-    number((end - zeros) as u64);
+    number(out, (zeros - from) as u64);
+    number(out, (end - zeros) as u64);
 }
 
 // The words up to a place, and where they end.
-fn words(s: &[u16], end: usize) -> usize
+fn words(out: Stdout, s: &[u16], end: usize) -> usize
     ensures { result ≤ length s.now }
 {
     let mut i = 0;
@@ -87,7 +90,7 @@ fn words(s: &[u16], end: usize) -> usize
         if end <= i {
             return i;
         }
-        number(wide(s[i]));
+        number(out, wide(s[i]));
         i += 1;
     }
     i
@@ -99,20 +102,20 @@ fn lines_end(answer: &[u16]) -> usize {
     place(words::word(answer, at))
 }
 
-fn solved(question: &[u16], work: &mut [u16], answer: &mut [u16]) {
+fn solved(out: Stdout, question: &[u16], work: &mut [u16], answer: &mut [u16]) {
     let s = solver::solve(question, work, answer);
     let outcome = s.outcome;
     let refusal = outcomes::outcome_number(outcome);
-    number(wide(refusal));
-    number(s.lines as u64);
-    number(s.open as u64);
-    number(s.steps as u64);
-    io::write_all(1, b"work ");
-    left(work, 0);
-    io::write_all(1, b"answer ");
+    number(out, wide(refusal));
+    number(out, s.lines as u64);
+    number(out, s.open as u64);
+    number(out, s.steps as u64);
+    say(out, b"work ");
+    left(out, work, 0);
+    say(out, b"answer ");
     let end = if refusal == 0 { lines_end(answer) } else { 0 };
-    left(answer, words(answer, end));
-    io::write_all(1, b"\n");
+    left(out, answer, words(out, answer, end));
+    say(out, b"\n");
 }
 
 fn at_most(n: usize, most: usize) -> usize
@@ -121,7 +124,7 @@ fn at_most(n: usize, most: usize) -> usize
     if n < most { n } else { most }
 }
 
-fn one(line: &[u8]) {
+fn one(out: Stdout, line: &[u8]) {
     let mut words = [0u16; 2 * QUESTION];
     let mut work = [0u16; MOST];
     let mut answer = [0u16; MOST];
@@ -133,20 +136,37 @@ fn one(line: &[u8]) {
     }
     let w = at_most(place(words[0]), MOST);
     let a = at_most(place(words[1]), MOST);
-    solved(&words[2..n], &mut work[0..w], &mut answer[0..a]);
+    solved(out, &words[2..n], &mut work[0..w], &mut answer[0..a]);
 }
 
-fn all(text: &[u8]) {
+fn all(out: Stdout, text: &[u8]) {
     let mut at = 0;
     while at < text.len() {
         let end = cases::line_end(text, at);
-        one(&text[at..end]);
+        one(out, &text[at..end]);
         at = end + 1;
     }
 }
 
-fn main() {
+// The bytes of standard input as far as there is room for them, and how many they are.
+fn read(input: Stdin, buf: &mut [u8]) -> io::Result<usize>
+    ensures { IfOk result (λ n. n ≤ length buf.new) }
+{
+    let mut from = input;
+    let mut done = 0;
+    while done < buf.len() {
+        let n = from.read(&mut buf[done..])?;
+        if n == 0 {
+            return Ok(done);
+        }
+        done += n;
+    }
+    Ok(done)
+}
+
+fn main(rt: HostRuntime) -> io::Result<()> {
     let mut buffer = [0u8; 131072];
-    let n = io::read_full(0, &mut buffer);
-    all(&buffer[..n]);
+    let n = read(rt.stdin(), &mut buffer)?;
+    all(rt.stdout(), &buffer[..n]);
+    Ok(())
 }

@@ -1,14 +1,15 @@
-// A question solved. The command prints and says its status: it returns nothing.
+// A question solved. The command prints, and returns its status.
 #![tactic(auto)]
 
 ghost use Rattle.std.specs.Prelude.{◌≤◌, length};
 
+use files::status::Status;
 use files::{Loaded, SHEET, load_question};
 use language::limits::{QUESTION, ROOM};
 use replies::{no_question, solved};
 
 // The lines of a question, which was read from these bytes.
-fn solve<'a>(question: &'a [u16], buf: &'a [u8], t: Loaded, i: usize)
+fn solve<'a>(rt: &HostRuntime, question: &'a [u16], buf: &'a [u8], t: Loaded, i: usize) -> Status
     requires { (t.bytes ≤ length buf.now) × (t.named ≤ length buf.now) }
 {
     let m = t.bytes;
@@ -16,19 +17,18 @@ fn solve<'a>(question: &'a [u16], buf: &'a [u8], t: Loaded, i: usize)
     let mut work = [0u16; ROOM];
     let mut answer = [0u16; ROOM];
     let s = solver::solve(question, &mut work, &mut answer);
-    solved(s, question, &answer, &buf[0..m], &buf[0..k], i);
+    solved(rt, s, question, &answer, &buf[0..m], &buf[0..k], i)
 }
 
 // The lines of the question in the file that argument `i` names.
-pub fn solve_file(i: usize) {
+pub fn solve_file(rt: &HostRuntime, i: usize) -> Status {
     let mut buf = [0u8; SHEET];
     let mut words = [0u16; 2 * QUESTION];
-    let t = load_question(i, &mut buf, &mut words);
+    let t = load_question(rt, i, &mut buf, &mut words);
     let n = t.words;
     let m = t.bytes;
     if !t.fine {
-        no_question(t.number, &buf[0..m], i);
-        return;
+        return no_question(rt, t.number, &buf[0..m], i);
     }
-    solve(&words[0..n], &buf, t, i);
+    solve(rt, &words[0..n], &buf, t, i)
 }

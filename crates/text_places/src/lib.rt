@@ -10,6 +10,7 @@ use pointing::point_at;
 use print::warn;
 use read_text::{Reading, read_text};
 use refusals::number;
+use std::io::Stderr;
 
 // The number of the refusal of what is no text.
 const NOT_TEXT: u16 = 17;
@@ -152,24 +153,24 @@ fn beyond(at: usize) -> usize {
 }
 
 // What is wrong with a byte that cannot continue a text.
-fn wrong_byte(b: u8) {
+fn wrong_byte(err: Stderr, b: u8) {
     match b {
-        b'\n' => warn(b"the line breaks off here: something has to follow\n"),
-        _ => warn(b"up to here it can be a text; with this it cannot\n"),
+        b'\n' => warn(err, b"the line breaks off here: something has to follow\n"),
+        _ => warn(err, b"up to here it can be a text; with this it cannot\n"),
     }
 }
 
-fn wrong(text: &[u8], at: usize) {
+fn wrong(err: Stderr, text: &[u8], at: usize) {
     if at < text.len() {
-        wrong_byte(text[at]);
+        wrong_byte(err, text[at]);
         return;
     }
-    warn(b"the text breaks off here: something has to follow\n");
+    warn(err, b"the text breaks off here: something has to follow\n");
 }
 
 // Says where something that is no text stops being one, and shows it. Its name is said before.
-pub fn not_text(text: &[u8]) {
+pub fn not_text(err: Stderr, text: &[u8]) {
     let at = first_wrong(text);
-    point_at(text, at, before(at), beyond(at), b'\n');
-    wrong(text, at);
+    point_at(err, text, at, before(at), beyond(at), b'\n');
+    wrong(err, text, at);
 }

@@ -1,56 +1,66 @@
-// A filling tried. The command prints and says its status: it returns nothing.
+// A filling tried. The command prints, and returns its status.
 #![tactic(auto)]
 
-use files::status::{failed, found, nothing};
-use files::{load, load_question};
+use files::status::{Status, failed, found, nothing};
+use files::{TOO_MANY, load, load_question};
 use language::limits::{FILLING, QUESTION, ROOM};
 use outcomes::Tried;
 use print::say;
 use replies::{no_question, refuse};
 
-fn tell<'a>(t: Tried, question: &'a [u16], text: &'a [u8], i: usize) {
+fn tell<'a>(rt: &HostRuntime, t: Tried, question: &'a [u16], text: &'a [u8], i: usize) -> Status {
     match t {
         Tried::Yes => {
-            say(b"yes: the filling meets the question\n");
-            found();
+            say(rt.stdout(), b"yes: the filling meets the question\n");
+            found()
         }
         Tried::No => {
-            say(b"no: the filling does not meet the question\n");
-            nothing();
+            say(rt.stdout(), b"no: the filling does not meet the question\n");
+            nothing()
         }
-        Tried::Refused(r) => refuse(r, question, text, i),
+        Tried::Refused(r) => refuse(rt, r, question, text, i),
     }
 }
 
-fn attempt<'a>(question: &'a [u16], values: &'a [u16], text: &'a [u8], i: usize) {
+fn attempt<'a>(
+    rt: &HostRuntime,
+    question: &'a [u16],
+    values: &'a [u16],
+    text: &'a [u8],
+    i: usize,
+) -> Status {
     let mut work = [0u16; ROOM];
     let t = trying::try_filling(question, values, &mut work);
-    tell(t, question, text, i);
+    tell(rt, t, question, text, i)
 }
 
 // Whether the filling that argument `j` names meets the question.
-fn try_values<'a>(question: &'a [u16], text: &'a [u8], i: usize, j: usize) {
-    let mut buf = io::large_buffer();
+fn try_values<'a>(
+    rt: &HostRuntime,
+    question: &'a [u16],
+    text: &'a [u8],
+    i: usize,
+    j: usize,
+) -> Status {
+    let mut buf = [0u8; TOO_MANY];
     let mut values = [0u16; 2 * FILLING];
-    let t = load(j, &mut buf, &mut values);
+    let t = load(rt, j, &mut buf, &mut values);
     if !t.fine {
-        failed();
-        return;
+        return failed();
     }
     let n = t.words;
-    attempt(question, &values[0..n], text, i);
+    attempt(rt, question, &values[0..n], text, i)
 }
 
 // Whether the filling in the file of argument `j` meets the question in the file that argument `i` names.
-pub fn try_file(i: usize, j: usize) {
-    let mut buf = io::large_buffer();
+pub fn try_file(rt: &HostRuntime, i: usize, j: usize) -> Status {
+    let mut buf = [0u8; TOO_MANY];
     let mut words = [0u16; 2 * QUESTION];
-    let t = load_question(i, &mut buf, &mut words);
+    let t = load_question(rt, i, &mut buf, &mut words);
     let n = t.words;
     let m = t.bytes;
     if !t.fine {
-        no_question(t.number, &buf[0..m], i);
-        return;
+        return no_question(rt, t.number, &buf[0..m], i);
     }
-    try_values(&words[0..n], &buf[0..m], i, j);
+    try_values(rt, &words[0..n], &buf[0..m], i, j)
 }

@@ -6,156 +6,176 @@ use crate::sentences::sentence;
 use language::Signature;
 use notation::one_literal;
 use print::{number, say};
+use std::io::Stdout;
 
 // Deeper rows stand no further to the right than this.
 const DEEPEST: usize = 24;
 
-fn blanks(n: usize) {
+fn blanks(out: Stdout, n: usize) {
     let mut i = 0;
     while i < n {
-        say(b"  ");
+        say(out, b"  ");
         i += 1;
     }
 }
 
-fn indent(depth: usize) {
+fn indent(out: Stdout, depth: usize) {
     if depth < DEEPEST {
-        blanks(depth);
+        blanks(out, depth);
         return;
     }
-    blanks(DEEPEST);
+    blanks(out, DEEPEST);
 }
 
-fn end() {
-    say(b"\n");
+fn end(out: Stdout) {
+    say(out, b"\n");
 }
 
 // A literal in a row.
-pub fn literal_row(s: Signature, names: &[u8], k: &[u16], at: usize, depth: usize) {
-    indent(depth);
-    one_literal(s, names, k, at);
-    end();
+pub fn literal_row(out: Stdout, s: Signature, names: &[u8], k: &[u16], at: usize, depth: usize) {
+    indent(out, depth);
+    one_literal(out, s, names, k, at);
+    end(out);
 }
 
 // An alternative of the question, by its number.
-pub fn alternative(i: usize, asks: bool) {
-    say(b"alternative ");
-    number(i as u64);
+pub fn alternative(out: Stdout, i: usize, asks: bool) {
+    say(out, b"alternative ");
+    number(out, i as u64);
     if asks {
-        say(b":\n");
+        say(out, b":\n");
         return;
     }
-    say(b": nothing is asked\n");
+    say(out, b": nothing is asked\n");
 }
 
 // One of the cases that a step left, before its own steps.
-pub fn case_begins(i: usize, step: usize, depth: usize) {
-    indent(depth);
-    say(b"case ");
-    number(i as u64);
-    say(b" of step ");
-    number(step as u64);
-    say(b":\n");
+pub fn case_begins(out: Stdout, i: usize, step: usize, depth: usize) {
+    indent(out, depth);
+    say(out, b"case ");
+    number(out, i as u64);
+    say(out, b" of step ");
+    number(out, step as u64);
+    say(out, b":\n");
 }
 
 // A step: its number, its rule and the literal that it acts on.
-pub fn step_begins(s: Signature, names: &[u8], k: &[u16], t: Act, step: usize, depth: usize) {
-    indent(depth);
-    say(b"step ");
-    number(step as u64);
-    say(b", ");
-    rule_name(t.rule);
-    say(b": ");
-    one_literal(s, names, k, t.at);
-    end();
+pub fn step_begins(
+    out: Stdout,
+    s: Signature,
+    names: &[u8],
+    k: &[u16],
+    t: Act,
+    step: usize,
+    depth: usize,
+) {
+    indent(out, depth);
+    say(out, b"step ");
+    number(out, step as u64);
+    say(out, b", ");
+    rule_name(out, t.rule);
+    say(out, b": ");
+    one_literal(out, s, names, k, t.at);
+    end(out);
 }
 
 // Why it may be made.
-pub fn step_says(s: Signature, names: &[u8], k: &[u16], t: Act, depth: usize) {
-    indent(depth);
-    sentence(s, names, k, t);
-    end();
+pub fn step_says(out: Stdout, s: Signature, names: &[u8], k: &[u16], t: Act, depth: usize) {
+    indent(out, depth);
+    sentence(out, s, names, k, t);
+    end(out);
 }
 
 // Why nothing is left.
-pub fn dropped(s: Signature, names: &[u8], k: &[u16], t: Act, depth: usize) {
-    indent(depth);
-    say(b"dropped: ");
-    reason(s, names, k, t);
-    end();
+pub fn dropped(out: Stdout, s: Signature, names: &[u8], k: &[u16], t: Act, depth: usize) {
+    indent(out, depth);
+    say(out, b"dropped: ");
+    reason(out, s, names, k, t);
+    end(out);
 }
 
 // The same by two tests that clash.
-pub fn clashed(s: Signature, names: &[u8], k: &[u16], first: usize, second: usize, depth: usize) {
-    indent(depth);
-    say(b"dropped: ");
-    one_literal(s, names, k, first);
-    say(b" and ");
-    one_literal(s, names, k, second);
-    say(b" share no report");
-    end();
+pub fn clashed(
+    out: Stdout,
+    s: Signature,
+    names: &[u8],
+    k: &[u16],
+    first: usize,
+    second: usize,
+    depth: usize,
+) {
+    indent(out, depth);
+    say(out, b"dropped: ");
+    one_literal(out, s, names, k, first);
+    say(out, b" and ");
+    one_literal(out, s, names, k, second);
+    say(out, b" share no report");
+    end(out);
 }
 
 // What comes before the new literals of a result: the only one, or a case.
-pub fn becomes(depth: usize) {
-    indent(depth);
-    say(b"now ");
+pub fn becomes(out: Stdout, depth: usize) {
+    indent(out, depth);
+    say(out, b"now ");
 }
 
-pub fn case_is(i: usize, depth: usize) {
-    indent(depth);
-    say(b"case ");
-    number(i as u64);
-    say(b": ");
+pub fn case_is(out: Stdout, i: usize, depth: usize) {
+    indent(out, depth);
+    say(out, b"case ");
+    number(out, i as u64);
+    say(out, b": ");
 }
 
 // One more literal of a result, apart from the one before it.
-pub fn one_more(s: Signature, names: &[u8], k: &[u16], at: usize, first: bool) {
+pub fn one_more(out: Stdout, s: Signature, names: &[u8], k: &[u16], at: usize, first: bool) {
     if !first {
-        say(b"; ");
+        say(out, b"; ");
     }
-    one_literal(s, names, k, at);
+    one_literal(out, s, names, k, at);
 }
 
-pub fn nothing_new() {
-    say(b"nothing more is asked");
+pub fn nothing_new(out: Stdout) {
+    say(out, b"nothing more is asked");
 }
 
-pub fn row_ends() {
-    end();
+pub fn row_ends(out: Stdout) {
+    end(out);
 }
 
 // A branch that ends in a line of the answer.
-pub fn settled(line: usize, depth: usize) {
-    indent(depth);
-    say(b"settled: line ");
-    number(line as u64);
-    end();
+pub fn settled(out: Stdout, line: usize, depth: usize) {
+    indent(out, depth);
+    say(out, b"settled: line ");
+    number(out, line as u64);
+    end(out);
 }
 
-pub fn open(line: usize, depth: usize) {
-    indent(depth);
-    say(b"open: line ");
-    number(line as u64);
-    say(b", promises nothing\n");
+pub fn open(out: Stdout, line: usize, depth: usize) {
+    indent(out, depth);
+    say(out, b"open: line ");
+    number(out, line as u64);
+    say(out, b", promises nothing\n");
 }
 
 // A branch that is too long to be asked about step by step.
-pub fn too_long(depth: usize) {
-    indent(depth);
-    say(b"from here on the branch is too long to be shown\n");
+pub fn too_long(out: Stdout, depth: usize) {
+    indent(out, depth);
+    say(out, b"from here on the branch is too long to be shown\n");
 }
 
 // What the walk came to.
-pub fn summary(lines: usize, open: usize, steps: usize) {
+pub fn summary(out: Stdout, lines: usize, open: usize, steps: usize) {
     if lines == 0 {
-        say(b"none: no report meets the question, and that is a promise\n");
+        say(
+            out,
+            b"none: no report meets the question, and that is a promise\n",
+        );
     }
-    say(b"lines ");
-    number(lines as u64);
-    say(b", open lines ");
-    number(open as u64);
-    say(b", steps ");
-    number(steps as u64);
-    end();
+    say(out, b"lines ");
+    number(out, lines as u64);
+    say(out, b", open lines ");
+    number(out, open as u64);
+    say(out, b", steps ");
+    number(out, steps as u64);
+    end(out);
 }

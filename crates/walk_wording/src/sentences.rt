@@ -9,6 +9,7 @@ use rules::places::{
     AT_R2,
 };
 use spans::hedge_end;
+use std::io::Stdout;
 use words::word;
 
 // A place behind another, and the same where there is none.
@@ -26,39 +27,47 @@ pub(crate) fn variable(k: &[u16], t: Act) -> u16 {
 }
 
 // A sentence about a variable or a symbol.
-pub(crate) fn about<'a>(s: Signature, names: &'a [u8], before: &'a [u8], v: u16, behind: &'a [u8]) {
-    say(before);
-    named(s, names, v);
-    say(behind);
+pub(crate) fn about<'a>(
+    out: Stdout,
+    s: Signature,
+    names: &'a [u8],
+    before: &'a [u8],
+    v: u16,
+    behind: &'a [u8],
+) {
+    say(out, before);
+    named(out, s, names, v);
+    say(out, behind);
 }
 
 // How many cases there are.
-fn cases(n: usize) {
+fn cases(out: Stdout, n: usize) {
     match n {
-        1 => say(b"one case"),
-        2 => say(b"two cases"),
-        3 => say(b"three cases"),
+        1 => say(out, b"one case"),
+        2 => say(out, b"two cases"),
+        3 => say(out, b"three cases"),
         _ => {
-            number(n as u64);
-            say(b" cases");
+            number(out, n as u64);
+            say(out, b" cases");
         }
     }
 }
 
 // A sentence that ends with their number.
-fn told(text: &[u8], n: usize) {
-    say(text);
-    cases(n);
+fn told(out: Stdout, text: &[u8], n: usize) {
+    say(out, text);
+    cases(out, n);
 }
 
 // Which of the parts on the other side a run may take.
-fn cuts(s: Signature, names: &[u8], v: u16, n: usize) {
-    about(s, names, b"the run ", v, b" ");
+fn cuts(out: Stdout, s: Signature, names: &[u8], v: u16, n: usize) {
+    about(out, s, names, b"the run ", v, b" ");
     match n {
-        1 => say(b"can take nothing here: one case"),
-        2 => say(b"may take nothing or the one part: two cases"),
-        3 => say(b"may take none, one or both of the parts: three cases"),
+        1 => say(out, b"can take nothing here: one case"),
+        2 => say(out, b"may take nothing or the one part: two cases"),
+        3 => say(out, b"may take none, one or both of the parts: three cases"),
         _ => told(
+            out,
             b"may take none of the parts, the first, the first two, and so on up to all: ",
             n,
         ),
@@ -66,25 +75,33 @@ fn cuts(s: Signature, names: &[u8], v: u16, n: usize) {
 }
 
 // The same where it stands in one of them itself.
-fn some_cuts(s: Signature, names: &[u8], v: u16, n: usize) {
+fn some_cuts(out: Stdout, s: Signature, names: &[u8], v: u16, n: usize) {
     about(
+        out,
         s,
         names,
         b"the run ",
         v,
         b" cannot reach the part that it stands in itself: ",
     );
-    cases(n);
+    cases(out, n);
 }
 
 // R1, R2, the fold, Del1 to Del3, D1, D2, D0: what is the same is struck or taken apart.
-fn of_same(s: Signature, names: &[u8], v: u16, t: Act) {
+fn of_same(out: Stdout, s: Signature, names: &[u8], v: u16, t: Act) {
     let rule = t.rule;
     match rule {
-        AT_R1 => say(b"both sides are written the same, so it always holds and is struck"),
-        AT_R2 => say(b"nothing stands here, and the shape allows that, so it holds and is struck"),
-        AT_FOLD => say(b"the same is asked twice, so the later one is struck"),
+        AT_R1 => say(
+            out,
+            b"both sides are written the same, so it always holds and is struck",
+        ),
+        AT_R2 => say(
+            out,
+            b"nothing stands here, and the shape allows that, so it holds and is struck",
+        ),
+        AT_FOLD => say(out, b"the same is asked twice, so the later one is struck"),
         AT_DEL1 => about(
+            out,
             s,
             names,
             b"both sides begin with the run ",
@@ -92,9 +109,11 @@ fn of_same(s: Signature, names: &[u8], v: u16, t: Act) {
             b", so it is struck from both",
         ),
         AT_DEL2 => say(
+            out,
             b"their order is free, and what both sides have in common is struck from both",
         ),
         AT_DEL3 => about(
+            out,
             s,
             names,
             b"the run ",
@@ -102,21 +121,27 @@ fn of_same(s: Signature, names: &[u8], v: u16, t: Act) {
             b" stands among others on the other side, so all of those are empty",
         ),
         AT_D1 => told(
+            out,
             b"the parts may stand in any order, so each order is tried: ",
             t.cases,
         ),
         AT_D2 => say(
+            out,
             b"the first parts of both sides must be the same, and so must what follows them",
         ),
-        _ => say(b"the two parts must have one name, so what is in them must be the same"),
+        _ => say(
+            out,
+            b"the two parts must have one name, so what is in them must be the same",
+        ),
     }
 }
 
 // E1 to E7: a variable is filled in.
-fn of_filled(s: Signature, names: &[u8], v: u16, t: Act) {
+fn of_filled(out: Stdout, s: Signature, names: &[u8], v: u16, t: Act) {
     let rule = t.rule;
     match rule {
         AT_E1 => about(
+            out,
             s,
             names,
             b"the blank ",
@@ -124,15 +149,17 @@ fn of_filled(s: Signature, names: &[u8], v: u16, t: Act) {
             b" is known now, and is filled in everywhere else",
         ),
         AT_E2 => about(
+            out,
             s,
             names,
             b"the run ",
             v,
             b" is known now, and is filled in everywhere else",
         ),
-        AT_E3 => cuts(s, names, v, t.cases),
-        AT_E4 => some_cuts(s, names, v, t.cases),
+        AT_E3 => cuts(out, s, names, v, t.cases),
+        AT_E4 => some_cuts(out, s, names, v, t.cases),
         AT_E5 => about(
+            out,
             s,
             names,
             b"the name ",
@@ -140,6 +167,7 @@ fn of_filled(s: Signature, names: &[u8], v: u16, t: Act) {
             b" is known now, and is filled in everywhere else",
         ),
         AT_E6 => about(
+            out,
             s,
             names,
             b"the two parts must have one name, so ",
@@ -148,40 +176,48 @@ fn of_filled(s: Signature, names: &[u8], v: u16, t: Act) {
         ),
         _ => {
             about(
+                out,
                 s,
                 names,
                 b"the name ",
                 v,
                 b" may be any symbol, so each is tried: ",
             );
-            cases(t.cases);
+            cases(out, t.cases);
         }
     }
 }
 
 // M1 to M7, M10 to M12: a shape test is taken apart.
-fn of_shapes(s: Signature, names: &[u8], v: u16, t: Act) {
+fn of_shapes(out: Stdout, s: Signature, names: &[u8], v: u16, t: Act) {
     let rule = t.rule;
     match rule {
-        AT_M1 => say(b"only an empty run has this shape, so every run here is empty"),
+        AT_M1 => say(
+            out,
+            b"only an empty run has this shape, so every run here is empty",
+        ),
         AT_M2 => told(
+            out,
             b"the first part fits one beginning of the shape, and what follows fits the rest: ",
             t.cases,
         ),
         AT_M3 => about(
+            out,
             s,
             names,
             b"the shape is one part: the run ",
             v,
             b" is that part, or it is empty: two cases",
         ),
-        AT_M4 => say(b"one part of a repeated shape has that shape once"),
+        AT_M4 => say(out, b"one part of a repeated shape has that shape once"),
         AT_M5 => say(
+            out,
             b"one part has one of the two shapes in a row, and the other is empty: two cases",
         ),
-        AT_M6 => say(b"the part has the one shape or the other: two cases"),
-        AT_M7 => say(b"all of it has the one shape or the other: two cases"),
+        AT_M6 => say(out, b"the part has the one shape or the other: two cases"),
+        AT_M7 => say(out, b"all of it has the one shape or the other: two cases"),
         AT_M10 => about(
+            out,
             s,
             names,
             b"the shape asks for its own name, so ",
@@ -189,25 +225,27 @@ fn of_shapes(s: Signature, names: &[u8], v: u16, t: Act) {
             b" is that and is filled in everywhere",
         ),
         AT_M11 => say(
+            out,
             b"the part has the name that the shape asks for, so what is in it has the shape inside",
         ),
         AT_M12 => told(
+            out,
             b"the parts may stand in any order, so each order is tried: ",
             t.cases,
         ),
-        _ => say(b"this holds"),
+        _ => say(out, b"this holds"),
     }
 }
 
-pub(crate) fn sentence(s: Signature, names: &[u8], k: &[u16], t: Act) {
+pub(crate) fn sentence(out: Stdout, s: Signature, names: &[u8], k: &[u16], t: Act) {
     let v = variable(k, t);
     if t.rule <= AT_D0 {
-        of_same(s, names, v, t);
+        of_same(out, s, names, v, t);
         return;
     }
     if t.rule <= AT_E7 {
-        of_filled(s, names, v, t);
+        of_filled(out, s, names, v, t);
         return;
     }
-    of_shapes(s, names, v, t);
+    of_shapes(out, s, names, v, t);
 }

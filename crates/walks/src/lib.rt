@@ -18,6 +18,7 @@ use rooms::{
     read_frame, wait,
 };
 use shown::{FRAME, case_number, count, heading, signature_of, told, words_of};
+use std::io::Stdout;
 use walk_wording::Act;
 use walk_wording::rows::{open, settled, summary, too_long};
 use words::word;
@@ -101,6 +102,7 @@ fn act(k: &[u16], trail: &[u16], made: usize, n: usize) -> Act {
 
 // The results of a step stand in the room from a place on: they are shown and wait.
 fn stepped(
+    out: Stdout,
     one: &[u16],
     names: &[u8],
     trail: &[u16],
@@ -115,6 +117,7 @@ fn stepped(
     let n = count(work, begin);
     let step = plus(p.made, 1);
     told(
+        out,
         one,
         names,
         literal,
@@ -136,6 +139,7 @@ fn stepped(
 
 // The step that comes next in the trail, of a question of one conjunction.
 fn step(
+    out: Stdout,
     one: &[u16],
     names: &[u8],
     trail: &[u16],
@@ -149,17 +153,17 @@ fn step(
     let side = word(trail, plus(from, 2));
     let mut work = [0u16; ROOM];
     match step_named(one, f.number, rule, literal, side, &mut work) {
-        Stepping::Made(begin) => stepped(one, names, trail, &work, begin, f, waiting, p),
+        Stepping::Made(begin) => stepped(out, one, names, trail, &work, begin, f, waiting, p),
         Stepping::Refused(_) => over(p),
     }
 }
 
 // A branch that ends in the next line.
-fn line(answer: &[u16], f: Frame, n: usize, p: Place) -> Place {
+fn line(out: Stdout, answer: &[u16], f: Frame, n: usize, p: Place) -> Place {
     if is_settled(answer, p.line) {
-        settled(p.line, wide(f.depth));
+        settled(out, p.line, wide(f.depth));
     } else {
-        open(p.line, wide(f.depth));
+        open(out, p.line, wide(f.depth));
     }
     Place {
         at: plus(p.at, plus(HEAD, n)),
@@ -170,6 +174,7 @@ fn line(answer: &[u16], f: Frame, n: usize, p: Place) -> Place {
 
 // The first waiting conjunction, as a question of its own.
 fn go_on(
+    out: Stdout,
     one: &[u16],
     names: &[u8],
     answer: &[u16],
@@ -179,15 +184,16 @@ fn go_on(
     p: Place,
 ) -> Place {
     let k = body(one);
-    heading(signature_of(one), names, k, f);
+    heading(out, signature_of(one), names, k, f);
     if is_line(answer, p.line, one, BODY, k.len()) {
-        return line(answer, f, k.len(), p);
+        return line(out, answer, f, k.len(), p);
     }
-    step(one, names, trail, f, waiting, p)
+    step(out, one, names, trail, f, waiting, p)
 }
 
 // One turn of the walk: a step or a line.
 fn turn(
+    out: Stdout,
     question: &[u16],
     names: &[u8],
     answer: &[u16],
@@ -201,17 +207,18 @@ fn turn(
     let f = read_frame(waiting, p.at);
     let n = wide(f.words);
     if QUESTION - BODY < n {
-        too_long(wide(f.depth));
+        too_long(out, wide(f.depth));
         return over(p);
     }
     let mut one = [0u16; QUESTION];
     head(question, n, &mut one);
     carry(waiting, plus(p.at, HEAD), n, &mut one, BODY);
-    go_on(&one[0..BODY + n], names, answer, trail, f, waiting, p)
+    go_on(out, &one[0..BODY + n], names, answer, trail, f, waiting, p)
 }
 
 // So many turns: every step and every line has one.
 fn turns(
+    out: Stdout,
     question: &[u16],
     names: &[u8],
     answer: &[u16],
@@ -226,17 +233,18 @@ fn turns(
     };
     let mut left = n;
     while left > 0 {
-        p = turn(question, names, answer, trail, waiting, p);
+        p = turn(out, question, names, answer, trail, waiting, p);
         left -= 1;
     }
 }
 
 // Walks through the answer of a question that was solved with this trail. `names` has the names of the text that it came as (crates/notation).
-pub fn walk(question: &[u16], answer: &[u16], trail: &[u16], names: &[u8]) {
+pub fn walk(out: Stdout, question: &[u16], answer: &[u16], trail: &[u16], names: &[u8]) {
     let mut waiting = [0u16; WAITING];
     let steps = trail.len() / TRIPLE;
     let lines = wide(word(answer, 0));
     turns(
+        out,
         question,
         names,
         answer,
@@ -244,24 +252,24 @@ pub fn walk(question: &[u16], answer: &[u16], trail: &[u16], names: &[u8]) {
         &mut waiting,
         plus(steps, lines),
     );
-    summary(lines, wide(word(answer, 1)), steps);
+    summary(out, lines, wide(word(answer, 1)), steps);
 }
 
 // A word in decimal, behind the one before it: three stand in a row.
-fn decimal(w: u16, i: usize) {
-    number(w as u64);
+fn decimal(out: Stdout, w: u16, i: usize) {
+    number(out, w as u64);
     if i % TRIPLE == TRIPLE - 1 {
-        say(b"\n");
+        say(out, b"\n");
         return;
     }
-    say(b" ");
+    say(out, b" ");
 }
 
 // The words of a trail in decimal, a row for each step.
-pub fn write_trail(trail: &[u16]) {
+pub fn write_trail(out: Stdout, trail: &[u16]) {
     let mut i = 0;
     while i < trail.len() {
-        decimal(trail[i], i);
+        decimal(out, trail[i], i);
         i += 1;
     }
 }

@@ -1,6 +1,7 @@
 // What a step made: of each result the literals that are new or not as they were.
 use crate::places::{literals_of, minus, past, plus, same};
 use language::Signature;
+use std::io::Stdout;
 use walk_wording::rows::{becomes, case_is, nothing_new, one_more, row_ends};
 
 // Which result it is, 0 for the only one, and how deep it stands.
@@ -18,23 +19,31 @@ struct Passed {
     shown: usize,
 }
 
-fn begin(row: Row) {
+fn begin(out: Stdout, row: Row) {
     if row.case == 0 {
-        becomes(row.depth);
+        becomes(out, row.depth);
         return;
     }
-    case_is(row.case, row.depth);
+    case_is(out, row.case, row.depth);
 }
 
-fn show(s: Signature, names: &[u8], r: &[u16], p: Passed, row: Row) {
+fn show(out: Stdout, s: Signature, names: &[u8], r: &[u16], p: Passed, row: Row) {
     if p.shown == 0 {
-        begin(row);
+        begin(out, row);
     }
-    one_more(s, names, r, p.new, p.shown == 0);
+    one_more(out, s, names, r, p.new, p.shown == 0);
 }
 
 // A literal that was there before.
-fn kept(s: Signature, names: &[u8], k: &[u16], r: &[u16], p: Passed, row: Row) -> Passed {
+fn kept(
+    out: Stdout,
+    s: Signature,
+    names: &[u8],
+    k: &[u16],
+    r: &[u16],
+    p: Passed,
+    row: Row,
+) -> Passed {
     let end = past(k, p.old);
     let next = past(r, p.new);
     let n = minus(end, p.old);
@@ -47,7 +56,7 @@ fn kept(s: Signature, names: &[u8], k: &[u16], r: &[u16], p: Passed, row: Row) -
             };
         }
     }
-    show(s, names, r, p, row);
+    show(out, s, names, r, p, row);
     Passed {
         old: end,
         new: next,
@@ -56,8 +65,8 @@ fn kept(s: Signature, names: &[u8], k: &[u16], r: &[u16], p: Passed, row: Row) -
 }
 
 // A literal that stands in the place of the old one.
-fn made(s: Signature, names: &[u8], r: &[u16], p: Passed, row: Row) -> Passed {
-    show(s, names, r, p, row);
+fn made(out: Stdout, s: Signature, names: &[u8], r: &[u16], p: Passed, row: Row) -> Passed {
+    show(out, s, names, r, p, row);
     Passed {
         old: p.old,
         new: past(r, p.new),
@@ -67,6 +76,7 @@ fn made(s: Signature, names: &[u8], r: &[u16], p: Passed, row: Row) -> Passed {
 
 // So many that were there before.
 fn all_kept(
+    out: Stdout,
     s: Signature,
     names: &[u8],
     k: &[u16],
@@ -78,35 +88,44 @@ fn all_kept(
     let mut p = from;
     let mut left = n;
     while left > 0 {
-        p = kept(s, names, k, r, p, row);
+        p = kept(out, s, names, k, r, p, row);
         left -= 1;
     }
     p
 }
 
-fn all_made(s: Signature, names: &[u8], r: &[u16], from: Passed, n: usize, row: Row) -> Passed {
+fn all_made(
+    out: Stdout,
+    s: Signature,
+    names: &[u8],
+    r: &[u16],
+    from: Passed,
+    n: usize,
+    row: Row,
+) -> Passed {
     let mut p = from;
     let mut left = n;
     while left > 0 {
-        p = made(s, names, r, p, row);
+        p = made(out, s, names, r, p, row);
         left -= 1;
     }
     p
 }
 
-fn end(shown: usize, row: Row) {
+fn end(out: Stdout, shown: usize, row: Row) {
     if shown == 0 {
         if row.case == 0 {
             return;
         }
-        begin(row);
-        nothing_new();
+        begin(out, row);
+        nothing_new(out);
     }
-    row_ends();
+    row_ends(out);
 }
 
 // The result r of a step at literal i of k, which stands at a place: those before it and those behind it are there in the result too.
 pub(crate) fn result(
+    out: Stdout,
     s: Signature,
     names: &[u8],
     k: &[u16],
@@ -122,13 +141,13 @@ pub(crate) fn result(
         new: 0,
         shown: 0,
     };
-    let p = all_kept(s, names, k, r, none, i, row);
-    let q = all_made(s, names, r, p, middle, row);
+    let p = all_kept(out, s, names, k, r, none, i, row);
+    let q = all_made(out, s, names, r, p, middle, row);
     let there = Passed {
         old: past(k, at),
         new: q.new,
         shown: q.shown,
     };
-    let e = all_kept(s, names, k, r, there, behind, row);
-    end(e.shown, row);
+    let e = all_kept(out, s, names, k, r, there, behind, row);
+    end(out, e.shown, row);
 }

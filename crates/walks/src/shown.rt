@@ -6,6 +6,7 @@ use crate::rooms::{Frame, body};
 use language::limits::ROOM;
 use language::{Signature, wide};
 use rules::places::{AT_CLASH, AT_FOLD};
+use std::io::Stdout;
 use walk_wording::Act;
 use walk_wording::rows::{
     alternative, case_begins, clashed, dropped, literal_row, step_begins, step_says,
@@ -24,12 +25,12 @@ pub(crate) fn signature_of(question: &[u16]) -> Signature {
 }
 
 // Every literal of an alternative, a row for each.
-fn literals(s: Signature, names: &[u8], k: &[u16]) {
+fn literals(out: Stdout, s: Signature, names: &[u8], k: &[u16]) {
     let mut at = 0;
     let mut left = k.len();
     while left > 0 {
         if at < k.len() {
-            literal_row(s, names, k, at, 1);
+            literal_row(out, s, names, k, at, 1);
         }
         at = past(k, at);
         left -= 1;
@@ -37,14 +38,14 @@ fn literals(s: Signature, names: &[u8], k: &[u16]) {
 }
 
 // What a conjunction begins with: as an alternative, as a case, or as the only result of the step before.
-pub(crate) fn heading(s: Signature, names: &[u8], k: &[u16], f: Frame) {
+pub(crate) fn heading(out: Stdout, s: Signature, names: &[u8], k: &[u16], f: Frame) {
     if f.step == 0 {
-        alternative(wide(f.number), k.len() > 0);
-        literals(s, names, k);
+        alternative(out, wide(f.number), k.len() > 0);
+        literals(out, s, names, k);
         return;
     }
     if f.case > 0 {
-        case_begins(wide(f.case), wide(f.step), minus(wide(f.depth), 1));
+        case_begins(out, wide(f.case), wide(f.step), minus(wide(f.depth), 1));
     }
 }
 
@@ -87,6 +88,7 @@ pub(crate) fn case_number(n: usize, i: usize) -> usize {
 
 // What each result has new.
 fn news_of(
+    out: Stdout,
     s: Signature,
     names: &[u8],
     k: &[u16],
@@ -104,26 +106,27 @@ fn news_of(
             case: case_number(t.cases, i),
             depth,
         };
-        result(s, names, k, literal, t.at, r, row);
+        result(out, s, names, k, literal, t.at, r, row);
         at = plus(at, plus(FRAME, r.len()));
         i += 1;
     }
 }
 
 // Why nothing is left.
-fn ends(s: Signature, names: &[u8], one: &[u16], k: &[u16], t: Act, depth: usize) {
+fn ends(out: Stdout, s: Signature, names: &[u8], one: &[u16], k: &[u16], t: Act, depth: usize) {
     if t.rule == AT_CLASH {
         let second = partner(one, k, t.at);
         if second < k.len() {
-            clashed(s, names, k, t.at, second, depth);
+            clashed(out, s, names, k, t.at, second, depth);
             return;
         }
     }
-    dropped(s, names, k, t, depth);
+    dropped(out, s, names, k, t, depth);
 }
 
 // A step that was made of a question of one conjunction, in rows.
 pub(crate) fn told(
+    out: Stdout,
     one: &[u16],
     names: &[u8],
     literal: usize,
@@ -136,14 +139,14 @@ pub(crate) fn told(
     let s = signature_of(one);
     let k = body(one);
     let depth = wide(f.depth);
-    step_begins(s, names, k, t, step, depth);
+    step_begins(out, s, names, k, t, step, depth);
     if t.cases == 0 {
-        ends(s, names, one, k, t, plus(depth, 1));
+        ends(out, s, names, one, k, t, plus(depth, 1));
         return;
     }
-    step_says(s, names, k, t, plus(depth, 1));
+    step_says(out, s, names, k, t, plus(depth, 1));
     if t.rule == AT_FOLD {
         return;
     }
-    news_of(s, names, k, literal, t, work, begin, plus(depth, 1));
+    news_of(out, s, names, k, literal, t, work, begin, plus(depth, 1));
 }
