@@ -2,4 +2,4 @@
 use Rattle.trails.proofs.solve_trail.Goals as goal
 
 pub returns : goal.returns
-returns c = c.run_course.ensures
+returns c = (c.run_course.ensures.answer_after, c.run_course.ensures.out_after)
