@@ -46,7 +46,7 @@ module _ (L : Limits) (σ : Signature) (alternatives : List Conj) where
   from-steps : (left made : ℕ) (ls : List Numbered) (k : Numbered) (ks : List Conj) (w : List Numbered) → step σ k.literals ≡ results ks
       → run_from L (step σ) (suc left) made ls (k ∷ w) ≡ checked L ks (all_of k.number ks ++ w) (run_from L (step σ) left (suc made) ls)
   unfolding run_from
-  from-steps left made ls k ks w e = turn-steps _ made ls k ks w e
+  from-steps left made ls k ks w e = turn-steps (λ ms ks v. checked L ks v (run_from L (step σ) left (suc made) ms)) made ls k ks w e
 
   from-none-left : (made : ℕ) (ls : List Numbered) (k : Numbered) (ks : List Conj) (w : List Numbered) → step σ k.literals ≡ results ks → run_from L (step σ) 0 made ls (k ∷ w) ≡ refused StepLimit
   unfolding run_from
@@ -61,7 +61,7 @@ module _ (L : Limits) (σ : Signature) (alternatives : List Conj) where
       → checked L ks w go ≡ elim a [ true ↦ refused LongResult | false ↦ elim b [ true ↦ refused LongWaiting | false ↦ go w ] ]
   checks ks w go a b e f =
       ap (λ t. elim t as (λ _. Outcome) [ true ↦ refused LongResult | false ↦ elim (ltb L.room (waiting_size w)) [ true ↦ refused LongWaiting | false ↦ go w ] ]) e
-      ∙ ap (λ t. elim a as (λ _. Outcome) [ true ↦ refused LongResult | false ↦ elim t [ true ↦ refused LongWaiting | false ↦ go w ] ]) f
+      ∙ ap (λ (t : Bool). elim a as (λ _. Outcome) [ true ↦ refused LongResult | false ↦ elim t as (λ _. Outcome) [ true ↦ refused LongWaiting | false ↦ go w ] ]) f
 
   reached-run : {made left : ℕ} {ls w : List Numbered} → Reached L σ alternatives made left ls w → run L σ alternatives ≡ run_from L (step σ) left made ls w
   unfolding run run_by

@@ -3,7 +3,8 @@ use Rattle.std.specs.Prelude.{ℕ, ◌≡◌, Bool, List}
 use Rattle.outcomes.specs.declared.Shown.{Shown}
 use Rattle.outcomes.specs.Numbers.{shown_numbers}
 use Rattle.example.specs.Exhibits.{told_exhibits}
-use Rattle.example.proofs.example as example
+use Rattle.example.specs.contracts.example as example-contract
+use Rattle.example.proofs.example.Reads as example-reads
 use Rattle.demands.specs.Calls.{Call}
 
 -- what was lent and asked, what came back, and what the two slices and the room held then
@@ -21,7 +22,7 @@ pub record Example : Type 0 where
   pub said : ◌≡◌ {A = (ℕ × ℕ × ℕ) × List ℕ × List ℕ × List ℕ} (shown_numbers returned, work_left, answer_left, room_left) (told_exhibits line old_sheets question work answer room)
 
 -- any outcome that the contract itself allows is one
-abbrev pub allowed : Call example.ended example.Reads.Pre example.Reads.Post → Example
+abbrev pub allowed : Call example-contract.ended example-reads.Pre example-reads.Post → Example
 allowed c = record {
   question = c.arguments.0.now;
   line = c.arguments.1.0;

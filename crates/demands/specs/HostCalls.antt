@@ -5,11 +5,16 @@ use Rattle.language.specs.Limits.{desk}
 use Rattle.host.specs.Host.{solving_bytes, solve_number, solve_leaves, showing_bytes, show_number, show_leaves, day_bytes}
 use Rattle.try_host.specs.Host.{trying_bytes, TryNumber, place_bytes}
 use Rattle.day.specs.Leaves.{day_number, room_leaves}
-use Rattle.host.proofs.desk_solve as desk-solve
-use Rattle.try_host.proofs.desk_try as desk-try
-use Rattle.host.proofs.desk_example as desk-example
-use Rattle.try_host.proofs.desk_place as desk-place
-use Rattle.host.proofs.desk_day as desk-day
+use Rattle.host.specs.contracts.desk_solve as desk-solve-contract
+use Rattle.host.proofs.desk_solve.Reads as desk-solve-reads
+use Rattle.try_host.specs.contracts.desk_try as desk-try-contract
+use Rattle.try_host.proofs.desk_try.Reads as desk-try-reads
+use Rattle.host.specs.contracts.desk_example as desk-example-contract
+use Rattle.host.proofs.desk_example.Reads as desk-example-reads
+use Rattle.try_host.specs.contracts.desk_place as desk-place-contract
+use Rattle.try_host.proofs.desk_place.Reads as desk-place-reads
+use Rattle.host.specs.contracts.desk_day as desk-day-contract
+use Rattle.host.proofs.desk_day.Reads as desk-day-reads
 use Rattle.demands.specs.Calls.{Call}
 
 -- ---- desk_solve
@@ -22,7 +27,7 @@ pub record DeskSolve : Type 0 where
   pub said : (number ≡ solve_number (solving_bytes desk (length answer) question)) × (answer_left ≡ solve_leaves desk (solving_bytes desk (length answer) question) answer)
 
 -- any outcome that the contract itself allows is one; so below
-abbrev pub solve-allowed : Call desk-solve.ended desk-solve.Reads.Pre desk-solve.Reads.Post → DeskSolve
+abbrev pub solve-allowed : Call desk-solve-contract.ended desk-solve-reads.Pre desk-solve-reads.Post → DeskSolve
 solve-allowed c = record { question = c.arguments.0.now; answer = c.arguments.1.0.now; number = c.outcome.0; answer_left = c.outcome.1.1.0; said = c.said }
 
 -- ---- desk_try
@@ -33,7 +38,7 @@ pub record DeskTry : Type 0 where
   pub number : ℕ
   pub said : TryNumber (trying_bytes desk question filling) number
 
-abbrev pub try-allowed : Call desk-try.ended desk-try.Reads.Pre desk-try.Reads.Post → DeskTry
+abbrev pub try-allowed : Call desk-try-contract.ended desk-try-reads.Pre desk-try-reads.Post → DeskTry
 try-allowed c = record { question = c.arguments.0.now; filling = c.arguments.1.0.now; number = c.outcome.0; said = c.said }
 
 -- ---- desk_example
@@ -47,7 +52,7 @@ pub record DeskExample : Type 0 where
   pub room_left : List ℕ
   pub said : (number ≡ show_number (showing_bytes desk (length room) line old question)) × (room_left ≡ show_leaves (showing_bytes desk (length room) line old question) room)
 
-abbrev pub example-allowed : Call desk-example.ended desk-example.Reads.Pre desk-example.Reads.Post → DeskExample
+abbrev pub example-allowed : Call desk-example-contract.ended desk-example-reads.Pre desk-example-reads.Post → DeskExample
 example-allowed c = record {
   question = c.arguments.0.now;
   line = c.arguments.1.0;
@@ -65,7 +70,7 @@ pub record DeskPlace : Type 0 where
   pub number : ℕ
   pub said : number ≡ place_bytes desk question
 
-abbrev pub place-allowed : Call desk-place.ended desk-place.Reads.Pre desk-place.Reads.Post → DeskPlace
+abbrev pub place-allowed : Call desk-place-contract.ended desk-place-reads.Pre desk-place-reads.Post → DeskPlace
 place-allowed c = record { question = c.arguments.0.now; number = c.outcome.0; said = c.said }
 
 -- ---- desk_day
@@ -77,5 +82,5 @@ pub record DeskDay : Type 0 where
   pub room_left : List ℕ
   pub said : (number ≡ day_number (day_bytes desk (length room) sheet)) × (room_left ≡ room_leaves (day_bytes desk (length room) sheet) room)
 
-abbrev pub day-allowed : Call desk-day.ended desk-day.Reads.Pre desk-day.Reads.Post → DeskDay
+abbrev pub day-allowed : Call desk-day-contract.ended desk-day-reads.Pre desk-day-reads.Post → DeskDay
 day-allowed c = record { sheet = c.arguments.0.now; room = c.arguments.1.0.now; number = c.outcome.0; room_left = c.outcome.1.1.0; said = c.said }

@@ -5,7 +5,8 @@ use Rattle.rules.specs.Answer.{solving}
 use Rattle.outcomes.specs.declared.Solved.{Solved}
 use Rattle.outcomes.specs.Numbers.{SolveNumbers, solved_numbers}
 use Rattle.solver.specs.Leaves.{told_leaves}
-use Rattle.solver.proofs.solve as solve
+use Rattle.solver.specs.contracts.solve as solve-contract
+use Rattle.solver.proofs.solve.Reads as solve-reads
 use Rattle.demands.specs.Calls.{Call}
 
 -- what was lent, what came back, and what the two slices held then
@@ -19,7 +20,7 @@ pub record Solve : Type 0 where
   pub said : ◌≡◌ {A = SolveNumbers × List ℕ × List ℕ} (solved_numbers returned, work_left, answer_left) (told_leaves (solving desk (length work) (length answer) question) work answer)
 
 -- Any outcome that the contract itself allows is one: were the contract another, this would be refused.
-abbrev pub allowed : Call solve.ended solve.Reads.Pre solve.Reads.Post → Solve
+abbrev pub allowed : Call solve-contract.ended solve-reads.Pre solve-reads.Post → Solve
 allowed c = record {
   question = c.arguments.0.now;
   work = c.arguments.1.0.now;

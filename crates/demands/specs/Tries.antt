@@ -4,7 +4,8 @@ use Rattle.language.specs.Limits.{desk}
 use Rattle.rules.specs.Calls.{trying}
 use Rattle.outcomes.specs.declared.Tried.{Tried}
 use Rattle.trying.specs.Outcome.{ToldOutcome}
-use Rattle.trying.proofs.try_filling as try-filling
+use Rattle.trying.specs.contracts.try_filling as try-filling-contract
+use Rattle.trying.proofs.try_filling.Reads as try-filling-reads
 use Rattle.demands.specs.Calls.{Call}
 
 -- what was lent, what came back, and what the work slice held then
@@ -17,7 +18,7 @@ pub record Try : Type 0 where
   pub said : ToldOutcome (trying desk (length work) question filling) returned work work_left
 
 -- any outcome that the contract itself allows is one
-abbrev pub allowed : Call try-filling.ended try-filling.Reads.Pre try-filling.Reads.Post → Try
+abbrev pub allowed : Call try-filling-contract.ended try-filling-reads.Pre try-filling-reads.Post → Try
 allowed c = record {
   question = c.arguments.0.now;
   filling = c.arguments.1.0.now;

@@ -1,5 +1,5 @@
 -- The filling that an example shows for a pair has a value for every blank of the first pattern, and makes both patterns the same report.
-use Prim.Native.Nat.{ℕ, zero, suc, ◌+◌}
+use Prim.Native.Nat.{ℕ, zero, suc}
 use mathlib.Core.Path.{◌≡◌, refl, sym, ap, subst, ◌∙◌}
 use mathlib.Core.Logic.{inl, inr}
 use mathlib.Core.Bool.{true, false}
@@ -137,6 +137,7 @@ module _ (word : ℕ) (ps qs : List ℕ) (h k : Hedge) (p : Pattern ps h) (q : P
     where
       on : (ρ : Filling) → MeetsQuestion ρ (pair_asks word ps qs h k) → Same (signature n) (fill ρ (first_of ps h)) (fill ρ (second_of word ps qs k))
       on ρ (inl m) = m.0
+      on ρ (inr x') = elim x' [ ]
 
   module _ {line : ℕ} {fs : List ℕ} (x : ShownPair word ps qs h k line fs) where
     words : hedge_words (first_of ps h) ≡ apart nothing ps ++ (0 ∷ [])

@@ -3,8 +3,10 @@ use Rattle.std.specs.Prelude.{ℕ, ◌≡◌, List, length}
 use Rattle.language.specs.Limits.{desk}
 use Rattle.write_text.specs.Writes.{left_by}
 use Rattle.text_host.specs.Texts.{writing_bytes, reading_bytes, text_number, words_left}
-use Rattle.text_host.proofs.desk_write_text as desk-write-text
-use Rattle.text_host.proofs.desk_read_text as desk-read-text
+use Rattle.text_host.specs.contracts.desk_write_text as desk-write-text-contract
+use Rattle.text_host.proofs.desk_write_text.Reads as desk-write-text-reads
+use Rattle.text_host.specs.contracts.desk_read_text as desk-read-text-contract
+use Rattle.text_host.proofs.desk_read_text.Reads as desk-read-text-reads
 use Rattle.demands.specs.Calls.{Call}
 
 -- ---- desk_write_text
@@ -17,7 +19,7 @@ pub record DeskWriteText : Type 0 where
   pub said : (number ≡ text_number (writing_bytes desk (length room) question)) × (room_left ≡ left_by (writing_bytes desk (length room) question) room)
 
 -- any outcome that the contract itself allows is one; so below
-abbrev pub write-text-allowed : Call desk-write-text.ended desk-write-text.Reads.Pre desk-write-text.Reads.Post → DeskWriteText
+abbrev pub write-text-allowed : Call desk-write-text-contract.ended desk-write-text-reads.Pre desk-write-text-reads.Post → DeskWriteText
 write-text-allowed c = record {
   question = c.arguments.0.now;
   room = c.arguments.1.0.now;
@@ -35,7 +37,7 @@ pub record DeskReadText : Type 0 where
   pub room_left : List ℕ
   pub said : (number ≡ text_number (reading_bytes desk (length room) text)) × (room_left ≡ words_left (reading_bytes desk (length room) text) room)
 
-abbrev pub read-text-allowed : Call desk-read-text.ended desk-read-text.Reads.Pre desk-read-text.Reads.Post → DeskReadText
+abbrev pub read-text-allowed : Call desk-read-text-contract.ended desk-read-text-reads.Pre desk-read-text-reads.Post → DeskReadText
 read-text-allowed c = record {
   text = c.arguments.0.now;
   room = c.arguments.1.0.now;

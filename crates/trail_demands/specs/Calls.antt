@@ -7,9 +7,12 @@ use Rattle.word_bytes.specs.Bytes.{words_in}
 use Rattle.host.specs.Host.{solve_number, solve_leaves, show_number, show_leaves}
 use Rattle.replay.specs.Calls.{trail_of}
 use Rattle.trail_host.specs.Host.{trailing_bytes, trail_number, trail_bytes, replaying_bytes, showing_trail_bytes}
-use Rattle.trail_host.proofs.desk_solve_trail as desk-solve-trail
-use Rattle.trail_host.proofs.desk_replay as desk-replay
-use Rattle.trail_host.proofs.desk_example_trail as desk-example-trail
+use Rattle.trail_host.specs.contracts.desk_solve_trail as desk-solve-trail-contract
+use Rattle.trail_host.proofs.desk_solve_trail.Reads as desk-solve-trail-reads
+use Rattle.trail_host.specs.contracts.desk_replay as desk-replay-contract
+use Rattle.trail_host.proofs.desk_replay.Reads as desk-replay-reads
+use Rattle.trail_host.specs.contracts.desk_example_trail as desk-example-trail-contract
+use Rattle.trail_host.proofs.desk_example_trail.Reads as desk-example-trail-reads
 use Rattle.demands.specs.Calls.{Call}
 
 -- ---- desk_solve_trail
@@ -26,7 +29,7 @@ pub record DeskSolveTrail : Type 0 where
       × (trail_left ≡ trail_bytes (trailing_bytes desk (length answer) (length trail) question) (trail_of desk (read_question desk (words_in question))) trail))
 
 -- any outcome that the contract itself allows is one; so below
-abbrev pub solve-trail-allowed : Call desk-solve-trail.ended desk-solve-trail.Reads.Pre desk-solve-trail.Reads.Post → DeskSolveTrail
+abbrev pub solve-trail-allowed : Call desk-solve-trail-contract.ended desk-solve-trail-reads.Pre desk-solve-trail-reads.Post → DeskSolveTrail
 solve-trail-allowed c = record {
   question = c.arguments.0.now;
   answer = c.arguments.1.0.now;
@@ -47,7 +50,7 @@ pub record DeskReplay : Type 0 where
   pub answer_left : List ℕ
   pub said : (number ≡ solve_number (replaying_bytes desk (length answer) trail question)) × (answer_left ≡ solve_leaves desk (replaying_bytes desk (length answer) trail question) answer)
 
-abbrev pub replay-allowed : Call desk-replay.ended desk-replay.Reads.Pre desk-replay.Reads.Post → DeskReplay
+abbrev pub replay-allowed : Call desk-replay-contract.ended desk-replay-reads.Pre desk-replay-reads.Post → DeskReplay
 replay-allowed c = record {
   question = c.arguments.0.now;
   trail = c.arguments.1.0.now;
@@ -69,7 +72,7 @@ pub record DeskExampleTrail : Type 0 where
   pub room_left : List ℕ
   pub said : (number ≡ show_number (showing_trail_bytes desk (length room) line old trail question)) × (room_left ≡ show_leaves (showing_trail_bytes desk (length room) line old trail question) room)
 
-abbrev pub example-trail-allowed : Call desk-example-trail.ended desk-example-trail.Reads.Pre desk-example-trail.Reads.Post → DeskExampleTrail
+abbrev pub example-trail-allowed : Call desk-example-trail-contract.ended desk-example-trail-reads.Pre desk-example-trail-reads.Post → DeskExampleTrail
 example-trail-allowed c = record {
   question = c.arguments.0.now;
   trail = c.arguments.1.0.now;

@@ -27,9 +27,9 @@ returns c = let a = c.args in
     let n : length (take c.most-m.result clear) ≡ c.most-m.result = within _ (omega arith) in
     let e = bytes-show a.question.now _ a.room.now a.line a.old _ _ c.truth.ensures c.take_words-n.ensures.words_after.0 (n ∙ c.most-m.ensures.0) in
     record {
-  value = c.show.ensures.value ∙ ap show_number e;
-  room_after = c.show.ensures.room_after ∙ ap (λ (s : Showing). show_leaves s a.room.now) e;
-}
+      value = c.show.ensures.value ∙ ap show_number e;
+      room_after = c.show.ensures.room_after ∙ ap (λ (s : Showing). show_leaves s a.room.now) e;
+    }
 
 pub slice_bounds-show-end-2 : goal.slice_bounds-show-end-2
 slice_bounds-show-end-2 c = sym (within _ (omega arith))

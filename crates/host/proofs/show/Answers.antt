@@ -39,3 +39,9 @@ returns-clause-value c = (let a = c.args in
 pub returns-clause-room_after : goal.returns-clause-room_after
 returns-clause-room_after c = (let a = c.args in
     shown-line a.question.now clear clear a.own.now _ _ _ a.line a.old _ long long c.example-s.ensures _ _ _ _ (number-as c.told.ensures c.shown_number.ensures c.shown_length-n.ensures) c.shown_length-n.ensures c.requires.1 c.write_words.ensures).1
+
+pub overflow_cast-n : goal.overflow_cast-n
+overflow_cast-n c = let a = c.args in
+    let p = c.requires.0 in
+    let h : c.shown_length-n.result ≤ length a.own.now = example-within a.question.now clear clear a.own.now _ _ _ a.line a.old _ long long c.example-s.ensures _ c.shown_length-n.ensures in
+    omega arith

@@ -1,4 +1,3 @@
-use Prim.Native.Nat.{◌-◌}
 use Rattle.overlap.proofs.Tabling.{tabling-starts, tabling-rule, tabling-behind, tabling-room, tabling-on, tabling-ends}
 use native.Mathlib.Omega.{arith}
 use Rattle.overlap.proofs.all_rows.Goals as goal

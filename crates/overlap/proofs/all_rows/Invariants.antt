@@ -1,5 +1,4 @@
 -- `overlap::all_rows` meets its contract.
-use Prim.Native.Nat.{◌-◌}
 use Rattle.overlap.proofs.Tabling.{Tabling}
 use Rattle.overlap.proofs.all_rows.Given as goal
 

@@ -1,4 +1,3 @@
-use Prim.Native.Nat.{◌-◌}
 use mathlib.Core.Path.{◌≡◌, ap, ◌∙◌}
 use Rattle.overlap.specs.Lengths.{pair_count}
 use Rattle.overlap.proofs.Tabling.{no_pairs, one-rule-more}

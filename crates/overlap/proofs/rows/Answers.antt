@@ -1,4 +1,3 @@
-use Prim.Native.Nat.{◌-◌}
 use Rattle.overlap.proofs.Tabling.{rowing-starts, rowing-rule, rowing-room, rowing-on, rowing-ends}
 use native.Mathlib.Omega.{arith}
 use Rattle.overlap.proofs.rows.Goals as goal

@@ -14,7 +14,7 @@ abbrev clear : List ℕ
 clear = replicate desk.question 0
 
 pub slice_bounds-decide-end : goal.slice_bounds-decide-end
-slice_bounds-decide-end c = let z = asks-inside c.args.size c.args.word (words_in c.args.first.now) (words_in c.args.second.now) c.args.at c.args.room.now _ (sym c.ask.ensures.value ∙ c.in-Asks.is) clear _ refl c.ask.ensures.question_after in let k = c.ask.auto.1.1.1.0 in omega arith
+slice_bounds-decide-end c = let z = asks-inside c.args.size c.args.word (words_in c.args.first.now) (words_in c.args.second.now) c.args.at c.args.room.now _ (sym c.ask.ensures.value ∙ c.in-Asks.is) clear _ refl c.ask.ensures.question_after in let k = c.ask.auto.question in omega arith
 
 pub decide-requires : goal.decide-requires
 decide-requires c = (record { word = c.args.word; one = words_in c.args.first.now; other = words_in c.args.second.now; known = asks-known c.args.size c.args.word (words_in c.args.first.now) (words_in c.args.second.now) c.args.at c.args.room.now _ (sym c.ask.ensures.value ∙ c.in-Asks.is) clear _ refl c.ask.ensures.question_after }, c.requires)

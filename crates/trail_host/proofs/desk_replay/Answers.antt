@@ -4,7 +4,7 @@ use mathlib.Core.Path.{◌≡◌, refl}
 use mathlib.Core.List.{List}
 use lib.ListN.{length, replicate, length-replicate}
 use Rattle.language.specs.Limits.{desk}
-use Rattle.trail_host.proofs.Replays.{replayed}
+use Rattle.trail_host.proofs.Replays.{too_short, replayed}
 use Rattle.trail_host.proofs.desk_replay.Goals as goal
 
 -- the desk's own slices at the start
@@ -18,9 +18,15 @@ long = length-replicate {A = ℕ} desk.room 0
 pub returns-clause-value : goal.returns-clause-value
 returns-clause-value c = (let a = c.args in
     replayed a.question.now a.trail.now a.answer.now c.if-answer-lt-ANSWER_BYTES.false _ clear clear _ _ _ c.take_words-n.ensures.words_after.0 long long c.replay.ensures _ _ _
-    c.solved_number-number.ensures c.replay.auto.1.1.1.0 refl c.put_answer.ensures).0
+    c.solved_number-number.ensures c.replay.auto.answer refl c.put_answer.ensures).0
 
 pub returns-clause-answer_after : goal.returns-clause-answer_after
 returns-clause-answer_after c = (let a = c.args in
     replayed a.question.now a.trail.now a.answer.now c.if-answer-lt-ANSWER_BYTES.false _ clear clear _ _ _ c.take_words-n.ensures.words_after.0 long long c.replay.ensures _ _ _
-    c.solved_number-number.ensures c.replay.auto.1.1.1.0 refl c.put_answer.ensures).1
+    c.solved_number-number.ensures c.replay.auto.answer refl c.put_answer.ensures).1
+
+pub returns-then-answer-lt-ANSWER_BYTES-clause-value : goal.returns-then-answer-lt-ANSWER_BYTES-clause-value
+returns-then-answer-lt-ANSWER_BYTES-clause-value c = (too_short _ _ _ c.if-answer-lt-ANSWER_BYTES.true).0
+
+pub returns-then-answer-lt-ANSWER_BYTES-clause-answer_after : goal.returns-then-answer-lt-ANSWER_BYTES-clause-answer_after
+returns-then-answer-lt-ANSWER_BYTES-clause-answer_after c = (too_short _ _ _ c.if-answer-lt-ANSWER_BYTES.true).1

@@ -26,55 +26,26 @@ note-requires c = let n : length (take c.most-m.result clear) ≡ c.most-m.resul
     let h = c.if-answer-lt-ANSWER_BYTES.false in
     (omega arith, omega arith, omega arith)
 
-pub returns-clause-value : goal.returns-clause-value
-returns-clause-value c = (let a = c.args in
+pub returns : goal.returns
+returns c = let a = c.args in
     let n : length (take c.most-m.result clear) ≡ c.most-m.result = within _ (omega arith) in
     let words = c.take_words-n.ensures.words_after.0 in
     let e = trail-lent a.question.now _ words (length a.answer.now) (length a.trail.now) _ c.if-answer-lt-ANSWER_BYTES.false (n ∙ c.most-m.ensures.0) in
-    let r = c.note.ensures in (
-      r.0 ∙ ap trail_number e,
-      (
-        r.1.0 ∙ ap (λ (s : Solving). solve_leaves desk s a.answer.now) e,
-        room_as a.trail.now e (same-trail a.question.now _ words) r.1.1,
-      ),
-    )).0
-
-pub returns-clause-answer_after : goal.returns-clause-answer_after
-returns-clause-answer_after c = (let a = c.args in
-    let n : length (take c.most-m.result clear) ≡ c.most-m.result = within _ (omega arith) in
-    let words = c.take_words-n.ensures.words_after.0 in
-    let e = trail-lent a.question.now _ words (length a.answer.now) (length a.trail.now) _ c.if-answer-lt-ANSWER_BYTES.false (n ∙ c.most-m.ensures.0) in
-    let r = c.note.ensures in (
-      r.0 ∙ ap trail_number e,
-      (
-        r.1.0 ∙ ap (λ (s : Solving). solve_leaves desk s a.answer.now) e,
-        room_as a.trail.now e (same-trail a.question.now _ words) r.1.1,
-      ),
-    )).1
-
-pub returns-clause-trail_after : goal.returns-clause-trail_after
-returns-clause-trail_after c = (let a = c.args in
-    let n : length (take c.most-m.result clear) ≡ c.most-m.result = within _ (omega arith) in
-    let words = c.take_words-n.ensures.words_after.0 in
-    let e = trail-lent a.question.now _ words (length a.answer.now) (length a.trail.now) _ c.if-answer-lt-ANSWER_BYTES.false (n ∙ c.most-m.ensures.0) in
-    let r = c.note.ensures in (
-      r.0 ∙ ap trail_number e,
-      (
-        r.1.0 ∙ ap (λ (s : Solving). solve_leaves desk s a.answer.now) e,
-        room_as a.trail.now e (same-trail a.question.now _ words) r.1.1,
-      ),
-    )).2
-
+    let r = c.note.ensures in
+    record {
+      value = r.value ∙ ap trail_number e;
+      answer_after = r.answer_after ∙ ap (λ (s : Solving). solve_leaves desk s a.answer.now) e;
+      trail_after = room_as a.trail.now e (same-trail a.question.now _ words) r.trail_after;
+    }
 
 pub returns-then-answer-lt-ANSWER_BYTES-clause-value : goal.returns-then-answer-lt-ANSWER_BYTES-clause-value
 returns-then-answer-lt-ANSWER_BYTES-clause-value c = (too_short _ _ _ c.if-answer-lt-ANSWER_BYTES.true).0
 
 pub returns-then-answer-lt-ANSWER_BYTES-clause-answer_after : goal.returns-then-answer-lt-ANSWER_BYTES-clause-answer_after
-returns-then-answer-lt-ANSWER_BYTES-clause-answer_after c = (too_short _ _ _ c.if-answer-lt-ANSWER_BYTES.true).1
+returns-then-answer-lt-ANSWER_BYTES-clause-answer_after c = (too_short _ _ _ c.if-answer-lt-ANSWER_BYTES.true).1.0
 
 pub returns-then-answer-lt-ANSWER_BYTES-clause-trail_after : goal.returns-then-answer-lt-ANSWER_BYTES-clause-trail_after
-returns-then-answer-lt-ANSWER_BYTES-clause-trail_after c = (too_short _ _ _ c.if-answer-lt-ANSWER_BYTES.true).2
-
+returns-then-answer-lt-ANSWER_BYTES-clause-trail_after c = (too_short _ _ _ c.if-answer-lt-ANSWER_BYTES.true).1.1
 
 pub slice_bounds-note-end-2 : goal.slice_bounds-note-end-2
 slice_bounds-note-end-2 c = sym (within _ (omega arith))
