@@ -82,9 +82,7 @@ pub fn chart(k: &[u16], ends: &mut [usize], nulls: &mut [bool])
     requires { (length k.now ≤ length ends.old) × (length k.now ≤ length nulls.old) }
     ensures { Charts k.now ends.old nulls.old ends.new nulls.new }
 {
-    let mut i = k.len();
-    while 0 < i {
-        i -= 1;
+    for i in (0..k.len()).rev() {
         let p = part_by(k, ends, nulls, i);
         ends[i] = p.end;
         nulls[i] = p.null;

@@ -97,8 +97,7 @@ fn leads_with(
     requires { (p < length k.now) × (length k.now ≤ desk.question) × Listed (length k.now) qs.now count × Chained left.now right.now links.now heads.now n }
     ensures { LeadsWith k.now classes.now left.now right.now n inner.now rest.now p qs.now count result }
 {
-    let mut j = 0;
-    while j < count {
+    for j in 0..count {
         if leads(
             k,
             classes,
@@ -114,7 +113,6 @@ fn leads_with(
         ) {
             return true;
         }
-        j += 1;
     }
     false
 }
@@ -138,8 +136,7 @@ fn leads_of(
     requires { (length k.now ≤ desk.question) × Listed (length k.now) ps.now ones × Listed (length k.now) qs.now others × Chained left.now right.now links.now heads.now n }
     ensures { LeadsOf k.now classes.now left.now right.now n inner.now rest.now ps.now ones qs.now others result }
 {
-    let mut i = 0;
-    while i < ones {
+    for i in 0..ones {
         if leads_with(
             k,
             classes,
@@ -156,7 +153,6 @@ fn leads_of(
         ) {
             return true;
         }
-        i += 1;
     }
     false
 }
@@ -240,9 +236,7 @@ fn sweep(
     ensures { Swept k.now classes.now at left.now right.now n marks.old marks.new result }
 {
     let mut changed = false;
-    let mut i = n;
-    while 0 < i {
-        i -= 1;
+    for i in (0..n).rev() {
         let new = sweep_at(
             k, ends, nulls, classes, at, left, right, links, heads, n, marks, i,
         );

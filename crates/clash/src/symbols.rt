@@ -34,10 +34,8 @@ fn collect(marks: &[bool; QUESTION], from: usize, to: usize, list: &mut [u16; QU
     ensures { Collected marks.now from to list.new result }
 {
     let mut n = 0;
-    let mut i = from;
-    while i < to {
+    for i in from..to {
         n = collect_one(marks[i], i, list, n);
-        i += 1;
     }
     n
 }

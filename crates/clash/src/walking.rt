@@ -68,10 +68,8 @@ fn meet_with(
     ensures { Grown (TwinWith k.now classes.now p qs.now count) left.old right.old from left.new right.new result × Chained left.new right.new links.new heads.new result }
 {
     let mut n = from;
-    let mut j = 0;
-    while j < count {
+    for j in 0..count {
         n = meet_twin(k, classes, p, wide(qs[j]), left, right, links, heads, n);
-        j += 1;
     }
     n
 }
@@ -94,8 +92,7 @@ fn meet_all(
     ensures { Grown (TwinOf k.now classes.now ps.now ones qs.now others) left.old right.old from left.new right.new result × Chained left.new right.new links.new heads.new result }
 {
     let mut n = from;
-    let mut i = 0;
-    while i < ones {
+    for i in 0..ones {
         n = meet_with(
             k,
             classes,
@@ -108,7 +105,6 @@ fn meet_all(
             heads,
             n,
         );
-        i += 1;
     }
     n
 }

@@ -101,12 +101,10 @@ fn class_of(
     ensures { Classed k.now at s result }
 {
     let first = 2 * at;
-    let mut t = first;
-    while t < s {
+    for t in first..s {
         if is_like(k, ends, nulls, at, first, s, t, x, keys[t]) {
             return t;
         }
-        t += 1;
     }
     s
 }
@@ -149,9 +147,7 @@ pub fn class_all(
     let first = 2 * at;
     let last = 2 * end;
     let mut keys = [0; STATES];
-    let mut s = first;
-    while s <= last {
+    for s in first..last + 1 {
         class_at(k, ends, nulls, at, first, s, classes, &mut keys);
-        s += 1;
     }
 }

@@ -9,5 +9,5 @@ use Rattle.charts.proofs.chart.Given as goal
 abbrev pub invariant-loop-i : goal.invariant-loop-i
 invariant-loop-i l = (l.i ≤ length l.k) × ChartedFrom l.i l.k l.ends l.nulls × (length l.ends ≡ length l.initial.ends) × (length l.nulls ≡ length l.initial.nulls) × Rest l.k l.initial.ends l.initial.nulls l.ends l.nulls
 
-abbrev pub decreases-loop-i : goal.decreases-loop-i
-decreases-loop-i l = l.i
+
+

@@ -8,5 +8,3 @@ use Rattle.state_classes.proofs.class_all.Given as goal
 abbrev pub invariant-loop-s : goal.invariant-loop-s
 invariant-loop-s l = (l.first ≤ l.s) × (l.s ≤ l.last + 1) × Tabled l.k l.at l.s l.classes × KeptTo (2 * l.at) l.initial.classes l.classes × KeyedTo l.k l.at l.s l.keys × (length l.keys ≡ state_room) × Changed l.k l.at l.s l.initial.classes l.classes
 
-abbrev pub decreases-loop-s : goal.decreases-loop-s
-decreases-loop-s l = l.last + 1 - l.s

@@ -6,5 +6,3 @@ use Rattle.state_classes.proofs.class_of.Given as goal
 abbrev pub invariant-loop-t : goal.invariant-loop-t
 invariant-loop-t l = Unmet l.k l.at l.s l.t
 
-abbrev pub decreases-loop-t : goal.decreases-loop-t
-decreases-loop-t l = l.s - l.t

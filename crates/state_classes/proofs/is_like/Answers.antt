@@ -1,16 +1,9 @@
 -- By the keys, and then by the two tests.
-use borrow.Author.Rules.{rules}
 use Prim.Native.Nat.{◌-◌}
 use mathlib.Core.Path.{subst}
 use Rattle.state_classes.specs.Classes.{StateTest}
 use Rattle.state_classes.proofs.Classing.{like-none, like-same, like-apart}
 use Rattle.state_classes.proofs.is_like.Goals as goal
-
-pub is_state-requires : goal.is_state-requires
-is_state-requires c = search rules
-
-pub same_state-requires : goal.same_state-requires
-same_state-requires c = search rules
 
 pub returns-then-is_state : goal.returns-then-is_state
 returns-then-is_state c = like-same (subst (StateTest _ _ _) c.if-is_state.true c.is_state.ensures) c.same_state.ensures

@@ -1,5 +1,4 @@
 -- By whether the pair is there.
-use borrow.Author.Rules.{rules}
 use Rattle.clash.proofs.Growing.{met-full, met-old, met-add}
 use mathlib.Core.Path.{subst}
 use Rattle.clash.specs.Chains.{Found}
@@ -8,17 +7,11 @@ use Rattle.clash.proofs.pairs.meet.Goals as goal
 pub returns-then-n-gt-PAIRS : goal.returns-then-n-gt-PAIRS
 returns-then-n-gt-PAIRS c = (met-full c.if-n-gt-PAIRS.true, c.requires)
 
-pub find-i-requires : goal.find-i-requires
-find-i-requires c = search rules
-
 pub add-requires : goal.add-requires
 add-requires c = record {
   chained = c.requires;
   n_le_walked_pairs = (c.if-n-gt-PAIRS.false, subst (Found _ _ _ _ _) c.if-i-eq0.true c.find-i.ensures);
 }
-
-pub overflow_add-result : goal.overflow_add-result
-overflow_add-result c = search rules
 
 pub returns-then-i-eq0 : goal.returns-then-i-eq0
 returns-then-i-eq0 c = (met-add c.requires c.if-n-gt-PAIRS.false c.add.ensures.left_after c.add.ensures.right_after, c.add.ensures.chained_2)

@@ -1,6 +1,5 @@
 -- The symbols of both states, and the pairs that they lead to.
 use native.Mathlib.Omega.{arith}
-use borrow.Author.Rules.{rules}
 use Prim.Native.Nat.{ℕ, ◌-◌}
 use mathlib.Core.Path.{refl}
 use lib.ListN.{length-replicate}
@@ -8,23 +7,11 @@ use Rattle.language.specs.Limits.{desk}
 use Rattle.clash.proofs.Flagging.{leads-from}
 use Rattle.clash.proofs.sweeps.leads_from.Goals as goal
 
-pub offset_bounds-left-i : goal.offset_bounds-left-i
-offset_bounds-left-i c = search rules
-
 pub bounds-left-i : goal.bounds-left-i
 bounds-left-i c = let f = c.requires.2.few in let l = c.requires.3 in omega arith
 
-pub wide-a-requires : goal.wide-a-requires
-wide-a-requires c = search rules
-
-pub offset_bounds-right-i : goal.offset_bounds-right-i
-offset_bounds-right-i c = search rules
-
 pub bounds-right-i : goal.bounds-right-i
 bounds-right-i c = let f = c.requires.2.few in let l = c.requires.3 in omega arith
-
-pub wide-b-requires : goal.wide-b-requires
-wide-b-requires c = search rules
 
 pub symbols_after-x-requires : goal.symbols_after-x-requires
 symbols_after-x-requires c = let b = c.requires.1 in let x = b.apart in let y = b.two in let z = b.within in (c.requires.0, b.one, omega arith, b.few, length-replicate {A = ℕ} desk.question 0)

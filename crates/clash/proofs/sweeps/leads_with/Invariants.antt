@@ -7,5 +7,3 @@ use Rattle.clash.proofs.sweeps.leads_with.Given as goal
 abbrev pub invariant-loop-j : goal.invariant-loop-j
 invariant-loop-j l = (l.j ≤ l.count) × ((i : ℕ) → i < l.j → Leading l.k l.classes l.left l.right l.n l.inner l.rest l.p (get_or l.qs i 0) → ⊥)
 
-abbrev pub decreases-loop-j : goal.decreases-loop-j
-decreases-loop-j l = l.count - l.j

@@ -6,5 +6,3 @@ use Rattle.clash.proofs.sweeps.sweep.Given as goal
 abbrev pub invariant-loop-i : goal.invariant-loop-i
 invariant-loop-i l = (l.i ≤ l.n) × SweptTo l.i l.k l.classes l.at l.left l.right l.n l.initial.marks l.marks l.changed
 
-abbrev pub decreases-loop-i : goal.decreases-loop-i
-decreases-loop-i l = l.i

@@ -8,5 +8,3 @@ use Rattle.clash.proofs.symbols.collect.Given as goal
 abbrev pub invariant-loop-i : goal.invariant-loop-i
 invariant-loop-i l = (l.from ≤ l.i) × (l.i ≤ l.to) × (length l.list ≡ length l.initial.list) × Collected l.marks l.from l.i l.list l.n
 
-abbrev pub decreases-loop-i : goal.decreases-loop-i
-decreases-loop-i l = l.to - l.i

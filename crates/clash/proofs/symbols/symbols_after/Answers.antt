@@ -1,15 +1,11 @@
 -- The marks that are followed, collected.
 use native.Mathlib.Omega.{arith}
-use borrow.Author.Rules.{rules}
 use lib.ListN.{length-replicate}
 use mathlib.Core.Bool.{Bool, false}
 use Rattle.language.specs.Limits.{desk}
 use Rattle.clash.proofs.Collecting.{blank}
 use Rattle.clash.proofs.Listing.{symboled}
 use Rattle.clash.proofs.symbols.symbols_after.Goals as goal
-
-pub slice_bounds-follow-end : goal.slice_bounds-follow-end
-slice_bounds-follow-end c = search rules
 
 pub follow-null-requires : goal.follow-null-requires
 follow-null-requires c = let e = length-replicate {A = Bool} desk.question false in (c.requires.0, omega arith)

@@ -1,6 +1,5 @@
 -- The symbols of both states, and the pairs that they lead to.
 use native.Mathlib.Omega.{arith}
-use borrow.Author.Rules.{rules}
 use Prim.Native.Nat.{ℕ, ◌-◌}
 use lib.ListN.{length-replicate}
 use Rattle.language.specs.Limits.{desk}
@@ -15,9 +14,6 @@ symbols_after-y-requires c = let b = c.requires.1 in (c.requires.0, b.two, b.wit
 
 pub meet_all-count-requires : goal.meet_all-count-requires
 meet_all-count-requires c = (c.requires.1.few, c.symbols_after-x.ensures.listed, c.symbols_after-y.ensures.listed, c.requires.2)
-
-pub and-null-requires : goal.and-null-requires
-and-null-requires c = search rules
 
 pub returns : goal.returns
 returns c = (went c.symbols_after-x.ensures c.symbols_after-y.ensures c.meet_all-count.ensures.0 c.and-null.ensures, c.meet_all-count.ensures.1)

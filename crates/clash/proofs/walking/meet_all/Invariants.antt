@@ -7,5 +7,3 @@ use Rattle.clash.proofs.walking.meet_all.Given as goal
 abbrev pub invariant-loop-i : goal.invariant-loop-i
 invariant-loop-i l = (l.i ≤ l.ones) × Grown (TwinOf l.k l.classes l.ps l.i l.qs l.others) l.initial.left l.initial.right l.from l.left l.right l.n × Chained l.left l.right l.links l.heads l.n
 
-abbrev pub decreases-loop-i : goal.decreases-loop-i
-decreases-loop-i l = l.ones - l.i

@@ -7,5 +7,3 @@ use Rattle.clash.proofs.walking.meet_with.Given as goal
 abbrev pub invariant-loop-j : goal.invariant-loop-j
 invariant-loop-j l = (l.j ≤ l.count) × Grown (TwinWith l.k l.classes l.p l.qs l.j) l.initial.left l.initial.right l.from l.left l.right l.n × Chained l.left l.right l.links l.heads l.n
 
-abbrev pub decreases-loop-j : goal.decreases-loop-j
-decreases-loop-j l = l.count - l.j

@@ -1,5 +1,4 @@
 use native.Mathlib.Omega.{arith}
-use borrow.Author.Rules.{rules}
 use Prim.Native.Nat.{◌-◌}
 use mathlib.Core.Path.{refl, ◌∙◌}
 use lib.ListN.{length-set}
@@ -12,23 +11,11 @@ loop-i-init c = (walks-start, c.requires.2, refl)
 pub returns-then-n-gt-PAIRS : goal.returns-then-n-gt-PAIRS
 returns-then-n-gt-PAIRS c = (gone_long c.loop-i.invariant.0 c.if-n-gt-PAIRS.true, c.loop-i.invariant.1, c.loop-i.invariant.2 ∙ c.requires.3)
 
-pub offset_bounds-left-i : goal.offset_bounds-left-i
-offset_bounds-left-i c = search rules
-
 pub bounds-left-i : goal.bounds-left-i
 bounds-left-i c = let f = c.loop-i.invariant.1.few in let l = c.loop-i-test.true in omega arith
 
-pub wide-a-requires : goal.wide-a-requires
-wide-a-requires c = search rules
-
-pub offset_bounds-right-i : goal.offset_bounds-right-i
-offset_bounds-right-i c = search rules
-
 pub bounds-right-i : goal.bounds-right-i
 bounds-right-i c = let f = c.loop-i.invariant.1.few in let l = c.loop-i-test.true in omega arith
-
-pub wide-b-requires : goal.wide-b-requires
-wide-b-requires c = search rules
 
 pub go_on-r-requires : goal.go_on-r-requires
 go_on-r-requires c = (c.requires.0, c.requires.1, c.loop-i.invariant.1)
