@@ -12,7 +12,6 @@ ghost use Rattle.std.specs.Prelude.{ℕ, ◌≤◌, ◌<◌, ◌≡◌, List, le
 ghost use Rattle.language.specs.Limits.{desk};
 ghost use Rattle.language.specs.Trees.{Expr};
 ghost use Rattle.expressions.specs.Standing.{Here};
-ghost use Rattle.charts.specs.Charted.{ChartedFrom};
 ghost use Rattle.clash.specs.Chains.{Chained};
 ghost use Rattle.clash.specs.Walking.{Bounds, Stand};
 ghost use Rattle.clash.specs.Sweeping.{FirstShares};
@@ -21,7 +20,7 @@ ghost use Rattle.clash.specs.Judging.{verdict_of, Two};
 use crate::pairs::{CHAINS, STOPS, add, narrow};
 use crate::sweeps::{leads_from, settle};
 use crate::walking::{Places, walk_on};
-use charts::{chart, part_at};
+use charts::{Chart, chart};
 use language::limits::{PAIRS, QUESTION};
 use state_classes::{STATES, class_all};
 
@@ -35,9 +34,7 @@ pub enum Verdict {
 
 // Whether the first pair shares a hedge, or, for a term variable, a term: that is what a symbol leads to with nothing left after it in both.
 fn first_shares(
-    k: &[u16],
-    ends: &[usize],
-    nulls: &[bool],
+    chart: &Chart,
     classes: &[u16; STATES],
     at: Places,
     left: &[u16; STOPS],
@@ -49,28 +46,21 @@ fn first_shares(
     empty: &[bool; STOPS],
     term: bool,
 ) -> bool
-    requires { ChartedFrom 0 k.now ends.now nulls.now × Bounds at (length k.now) × Chained left.now right.now links.now heads.now n × (0 < n) }
-    ensures { FirstShares k.now classes.now at left.now right.now n marks.now empty.now term result }
+    requires { Bounds at (length chart.now.words.now) × Chained left.now right.now links.now heads.now n × (0 < n) }
+    ensures { FirstShares chart.now.words.now classes.now at left.now right.now n marks.now empty.now term result }
 {
     if term {
         return leads_from(
-            k, ends, nulls, classes, at, left, right, links, heads, n, marks, empty, 0,
+            chart, classes, at, left, right, links, heads, n, marks, empty, 0,
         );
     }
     marks[0]
 }
 
 // Of two expressions whose states are classed.
-fn judge_classed(
-    k: &[u16],
-    ends: &[usize],
-    nulls: &[bool],
-    classes: &[u16; STATES],
-    at: Places,
-    term: bool,
-) -> Verdict
-    requires { ChartedFrom 0 k.now ends.now nulls.now × Bounds at (length k.now) }
-    ensures { (R S : Expr) → Stand k.now classes.now at R S → result ≡ verdict_of term R S }
+fn judge_classed(chart: &Chart, classes: &[u16; STATES], at: Places, term: bool) -> Verdict
+    requires { Bounds at (length chart.now.words.now) }
+    ensures { (R S : Expr) → Stand chart.now.words.now classes.now at R S → result ≡ verdict_of term R S }
 {
     let mut left = [0; STOPS];
     let mut right = [0; STOPS];
@@ -81,17 +71,17 @@ fn judge_classed(
     add(&mut left, &mut right, &mut links, &mut heads, 0, one, other);
     let mut empty = [false; STOPS];
     let n = walk_on(
-        k, ends, nulls, classes, at, &mut left, &mut right, &mut links, &mut heads, &mut empty,
+        chart, classes, at, &mut left, &mut right, &mut links, &mut heads, &mut empty,
     );
     if PAIRS < n {
         return Verdict::Long;
     }
     let mut marks = empty;
     settle(
-        k, ends, nulls, classes, at, &left, &right, &links, &heads, n, &mut marks,
+        chart, classes, at, &left, &right, &links, &heads, n, &mut marks,
     );
     let shares = first_shares(
-        k, ends, nulls, classes, at, &left, &right, &links, &heads, n, &marks, &empty, term,
+        chart, classes, at, &left, &right, &links, &heads, n, &marks, &empty, term,
     );
     if shares {
         return Verdict::Shares;
@@ -108,18 +98,23 @@ pub fn judge(k: &[u16], at: usize, other: usize, term: bool) -> Verdict
     let mut ends = [0; QUESTION];
     let mut nulls = [false; QUESTION];
     chart(k, &mut ends, &mut nulls);
-    let a = part_at(k, &ends, &nulls, at);
-    let b = part_at(k, &ends, &nulls, other);
+    let charted = Chart {
+        words: k,
+        ends: &ends,
+        nulls: &nulls,
+    };
+    let a = charted.part(at);
+    let b = charted.part(other);
     let end = a.end;
     let last = b.end;
     let mut classes = [0; STATES];
-    class_all(k, &ends, &nulls, at, end, &mut classes);
-    class_all(k, &ends, &nulls, other, last, &mut classes);
+    class_all(&charted, at, end, &mut classes);
+    class_all(&charted, other, last, &mut classes);
     let places = Places {
         at,
         end,
         other,
         last,
     };
-    judge_classed(k, &ends, &nulls, &classes, places, term)
+    judge_classed(&charted, &classes, places, term)
 }

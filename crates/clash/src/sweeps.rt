@@ -1,7 +1,6 @@
 // Which of the pairs of a walk have a hedge in both: those with the empty hedge, and those from which a symbol leads to two pairs that have one.
 ghost use Rattle.std.specs.Prelude.{◌+◌, ◌*◌, ◌≤◌, ◌<◌, ◌≡◌, length};
 ghost use Rattle.language.specs.Limits.{desk};
-ghost use Rattle.charts.specs.Charted.{ChartedFrom};
 ghost use Rattle.clash.specs.Chains.{Chained, stops};
 ghost use Rattle.clash.specs.Symbols.{Listed};
 ghost use Rattle.clash.specs.Walking.{Bounds};
@@ -11,6 +10,7 @@ use crate::pairs::{CHAINS, STOPS, find};
 use crate::symbols::symbols_after;
 use crate::walking::Places;
 use bools::{and, or};
+use charts::Chart;
 use language::limits::QUESTION;
 use language::wide;
 use state_classes::STATES;
@@ -159,9 +159,7 @@ fn leads_of(
 
 // Whether from the i-th pair a symbol leads to pairs that are marked.
 pub(crate) fn leads_from(
-    k: &[u16],
-    ends: &[usize],
-    nulls: &[bool],
+    chart: &Chart,
     classes: &[u16; STATES],
     at: Places,
     left: &[u16; STOPS],
@@ -173,15 +171,16 @@ pub(crate) fn leads_from(
     rest: &[bool; STOPS],
     i: usize,
 ) -> bool
-    requires { ChartedFrom 0 k.now ends.now nulls.now × Bounds at (length k.now) × Chained left.now right.now links.now heads.now n × (i < n) }
-    ensures { LeadsFrom k.now classes.now at left.now right.now n inner.now rest.now i result }
+    requires { Bounds at (length chart.now.words.now) × Chained left.now right.now links.now heads.now n × (i < n) }
+    ensures { LeadsFrom chart.now.words.now classes.now at left.now right.now n inner.now rest.now i result }
 {
+    let k = chart.words;
     let mut ps = [0; QUESTION];
     let mut qs = [0; QUESTION];
     let a = wide(left[i]);
     let b = wide(right[i]);
-    let x = symbols_after(k, ends, nulls, at.at, at.end, a, &mut ps);
-    let y = symbols_after(k, ends, nulls, at.other, at.last, b, &mut qs);
+    let x = symbols_after(chart, at.at, at.end, a, &mut ps);
+    let y = symbols_after(chart, at.other, at.last, b, &mut qs);
     leads_of(
         k, classes, left, right, links, heads, n, inner, rest, &ps, x.count, &qs, y.count,
     )
@@ -189,9 +188,7 @@ pub(crate) fn leads_from(
 
 // The i-th pair is marked, if a symbol leads from it to marked pairs. Whether it was not marked and is now.
 fn sweep_at(
-    k: &[u16],
-    ends: &[usize],
-    nulls: &[bool],
+    chart: &Chart,
     classes: &[u16; STATES],
     at: Places,
     left: &[u16; STOPS],
@@ -202,14 +199,14 @@ fn sweep_at(
     marks: &mut [bool; STOPS],
     i: usize,
 ) -> bool
-    requires { ChartedFrom 0 k.now ends.now nulls.now × Bounds at (length k.now) × Chained left.now right.now links.now heads.now n × (i < n) × (length marks.old ≡ stops) }
-    ensures { SweptAt k.now classes.now at left.now right.now n i marks.old marks.new result }
+    requires { Bounds at (length chart.now.words.now) × Chained left.now right.now links.now heads.now n × (i < n) × (length marks.old ≡ stops) }
+    ensures { SweptAt chart.now.words.now classes.now at left.now right.now n i marks.old marks.new result }
 {
     if marks[i] {
         return false;
     }
     let found = leads_from(
-        k, ends, nulls, classes, at, left, right, links, heads, n, marks, marks, i,
+        chart, classes, at, left, right, links, heads, n, marks, marks, i,
     );
     if found {
         marks[i] = true;
@@ -220,9 +217,7 @@ fn sweep_at(
 
 // One sweep over the pairs, the last first. Whether one was marked.
 fn sweep(
-    k: &[u16],
-    ends: &[usize],
-    nulls: &[bool],
+    chart: &Chart,
     classes: &[u16; STATES],
     at: Places,
     left: &[u16; STOPS],
@@ -232,14 +227,12 @@ fn sweep(
     n: usize,
     marks: &mut [bool; STOPS],
 ) -> bool
-    requires { ChartedFrom 0 k.now ends.now nulls.now × Bounds at (length k.now) × Chained left.now right.now links.now heads.now n × (length marks.old ≡ stops) }
-    ensures { Swept k.now classes.now at left.now right.now n marks.old marks.new result }
+    requires { Bounds at (length chart.now.words.now) × Chained left.now right.now links.now heads.now n × (length marks.old ≡ stops) }
+    ensures { Swept chart.now.words.now classes.now at left.now right.now n marks.old marks.new result }
 {
     let mut changed = false;
     for i in (0..n).rev() {
-        let new = sweep_at(
-            k, ends, nulls, classes, at, left, right, links, heads, n, marks, i,
-        );
+        let new = sweep_at(chart, classes, at, left, right, links, heads, n, marks, i);
         changed = or(changed, new);
     }
     changed
@@ -247,9 +240,7 @@ fn sweep(
 
 // Sweep after sweep, until nothing more is marked.
 pub(crate) fn settle(
-    k: &[u16],
-    ends: &[usize],
-    nulls: &[bool],
+    chart: &Chart,
     classes: &[u16; STATES],
     at: Places,
     left: &[u16; STOPS],
@@ -259,13 +250,11 @@ pub(crate) fn settle(
     n: usize,
     marks: &mut [bool; STOPS],
 )
-    requires { ChartedFrom 0 k.now ends.now nulls.now × Bounds at (length k.now) × Chained left.now right.now links.now heads.now n × (length marks.old ≡ stops) }
-    ensures { Settled k.now classes.now at left.now right.now n marks.old marks.new }
+    requires { Bounds at (length chart.now.words.now) × Chained left.now right.now links.now heads.now n × (length marks.old ≡ stops) }
+    ensures { Settled chart.now.words.now classes.now at left.now right.now n marks.old marks.new }
 {
     let mut more = true;
     while more {
-        more = sweep(
-            k, ends, nulls, classes, at, left, right, links, heads, n, marks,
-        );
+        more = sweep(chart, classes, at, left, right, links, heads, n, marks);
     }
 }

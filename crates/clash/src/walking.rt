@@ -1,7 +1,6 @@
 // The walk from two expressions: from each pair of states that it has met on to the pairs that symbols lead to which can be read next in both.
 ghost use Rattle.std.specs.Prelude.{◌+◌, ◌*◌, ◌≤◌, ◌<◌, ◌≡◌, length};
 ghost use Rattle.language.specs.Limits.{desk};
-ghost use Rattle.charts.specs.Charted.{ChartedFrom};
 ghost use Rattle.clash.specs.Chains.{Chained, Grown, stops};
 ghost use Rattle.clash.specs.Symbols.{Listed};
 ghost use Rattle.clash.specs.Walking.{Twin, TwinWith, TwinOf, Bounds, Went, Gone};
@@ -9,6 +8,7 @@ ghost use Rattle.clash.specs.Walking.{Twin, TwinWith, TwinOf, Bounds, Went, Gone
 use crate::pairs::{CHAINS, STOPS, meet};
 use crate::symbols::symbols_after;
 use bools::and;
+use charts::Chart;
 use language::limits::{PAIRS, QUESTION};
 use language::wide;
 use state_classes::STATES;
@@ -120,9 +120,7 @@ pub struct Places {
 
 // The pair of states a and b: where it goes on to is listed.
 fn go_on(
-    k: &[u16],
-    ends: &[usize],
-    nulls: &[bool],
+    chart: &Chart,
     classes: &[u16; STATES],
     at: Places,
     a: usize,
@@ -133,13 +131,14 @@ fn go_on(
     heads: &mut [u16; CHAINS],
     n: usize,
 ) -> Step
-    requires { ChartedFrom 0 k.now ends.now nulls.now × Bounds at (length k.now) × Chained left.old right.old links.old heads.old n }
-    ensures { Went k.now classes.now at a b left.old right.old n left.new right.new result × Chained left.new right.new links.new heads.new result.count }
+    requires { Bounds at (length chart.now.words.now) × Chained left.old right.old links.old heads.old n }
+    ensures { Went chart.now.words.now classes.now at a b left.old right.old n left.new right.new result × Chained left.new right.new links.new heads.new result.count }
 {
+    let k = chart.words;
     let mut ps = [0; QUESTION];
     let mut qs = [0; QUESTION];
-    let x = symbols_after(k, ends, nulls, at.at, at.end, a, &mut ps);
-    let y = symbols_after(k, ends, nulls, at.other, at.last, b, &mut qs);
+    let x = symbols_after(chart, at.at, at.end, a, &mut ps);
+    let y = symbols_after(chart, at.other, at.last, b, &mut qs);
     let count = meet_all(
         k, classes, &ps, x.count, &qs, y.count, left, right, links, heads, n,
     );
@@ -156,9 +155,7 @@ pub struct Step {
 
 // From the first pair on, until nothing new is met or there are too many. Which pairs have the empty hedge in both is noted.
 pub(crate) fn walk_on(
-    k: &[u16],
-    ends: &[usize],
-    nulls: &[bool],
+    chart: &Chart,
     classes: &[u16; STATES],
     at: Places,
     left: &mut [u16; STOPS],
@@ -167,8 +164,8 @@ pub(crate) fn walk_on(
     heads: &mut [u16; CHAINS],
     empty: &mut [bool; STOPS],
 ) -> usize
-    requires { ChartedFrom 0 k.now ends.now nulls.now × Bounds at (length k.now) × Chained left.old right.old links.old heads.old 1 × (length empty.old ≡ stops) }
-    ensures { Gone k.now classes.now at left.old right.old left.new right.new empty.new result × Chained left.new right.new links.new heads.new result × (length empty.new ≡ stops) }
+    requires { Bounds at (length chart.now.words.now) × Chained left.old right.old links.old heads.old 1 × (length empty.old ≡ stops) }
+    ensures { Gone chart.now.words.now classes.now at left.old right.old left.new right.new empty.new result × Chained left.new right.new links.new heads.new result × (length empty.new ≡ stops) }
 {
     let mut n = 1;
     let mut i = 0;
@@ -178,9 +175,7 @@ pub(crate) fn walk_on(
         }
         let a = wide(left[i]);
         let b = wide(right[i]);
-        let r = go_on(
-            k, ends, nulls, classes, at, a, b, left, right, links, heads, n,
-        );
+        let r = go_on(chart, classes, at, a, b, left, right, links, heads, n);
         empty[i] = r.null;
         n = r.count;
         i += 1;

@@ -2,11 +2,10 @@
 // part, and none is written out.
 ghost use Rattle.std.specs.Prelude.{◌≡◌, false, ◌+◌, ◌<◌, eqb};
 ghost use Rattle.language.specs.Kinds.{pick};
-ghost use Rattle.charts.specs.Charted.{ChartedFrom};
 ghost use Rattle.state_classes.specs.Tails.{Peeled, Alike, Opened, SplitOf, Nothing, Same, TailOf, SameState};
 
 use bools::and;
-use charts::{level_of, part_at};
+use charts::{Chart, level_of};
 use words::{same_part, word};
 
 // Of what is left after a symbol in an expression: nothing, or the place of its last part, and that of the expression in which what is before it is left.
@@ -25,10 +24,10 @@ fn adds(x: u16, bare: bool) -> bool
 }
 
 // What is left after the symbol at p of the expression at a place.
-fn peel(k: &[u16], ends: &[usize], nulls: &[bool], at: usize, p: usize) -> Cut
-    requires { ChartedFrom 0 k.now ends.now nulls.now }
-    ensures { Peeled k.now at p result }
+fn peel(chart: &Chart, at: usize, p: usize) -> Cut
+    ensures { Peeled chart.now.words.now at p result }
 {
+    let k = chart.words;
     let mut x = at;
     while x < k.len() {
         let w = k[x];
@@ -46,12 +45,12 @@ fn peel(k: &[u16], ends: &[usize], nulls: &[bool], at: usize, p: usize) -> Cut
                 next: x + 1,
             };
         }
-        let a = part_at(k, ends, nulls, x + 1);
+        let a = chart.part(x + 1);
         let mid = a.end;
         if mid <= p {
             x = mid;
         } else {
-            let b = part_at(k, ends, nulls, mid);
+            let b = chart.part(mid);
             if adds(w, b.bare) {
                 return Cut {
                     done: false,
@@ -70,15 +69,15 @@ fn peel(k: &[u16], ends: &[usize], nulls: &[bool], at: usize, p: usize) -> Cut
 }
 
 // Whether the same expression stands at two places.
-fn same_at(k: &[u16], ends: &[usize], nulls: &[bool], a: usize, b: usize) -> bool
-    requires { ChartedFrom 0 k.now ends.now nulls.now }
-    ensures { Alike k.now a b result }
+fn same_at(chart: &Chart, a: usize, b: usize) -> bool
+    ensures { Alike chart.now.words.now a b result }
 {
+    let k = chart.words;
     if a == b {
         return true;
     }
-    let p = part_at(k, ends, nulls, a);
-    let q = part_at(k, ends, nulls, b);
+    let p = chart.part(a);
+    let q = chart.part(b);
     same_part(k, a, p.end, b, q.end)
 }
 
@@ -99,12 +98,11 @@ pub struct Laid {
     pub next: usize,
 }
 
-pub(crate) fn lay_open(k: &[u16], ends: &[usize], nulls: &[bool], t: Tail) -> Laid
-    requires { ChartedFrom 0 k.now ends.now nulls.now }
-    ensures { Opened k.now t result }
+pub(crate) fn lay_open(chart: &Chart, t: Tail) -> Laid
+    ensures { Opened chart.now.words.now t result }
 {
     if t.rest {
-        let a = peel(k, ends, nulls, t.at, t.symbol);
+        let a = peel(chart, t.at, t.symbol);
         if a.done {
             return Laid {
                 none: true,
@@ -115,7 +113,7 @@ pub(crate) fn lay_open(k: &[u16], ends: &[usize], nulls: &[bool], t: Tail) -> La
         }
         let part = a.part;
         let next = a.next;
-        let b = peel(k, ends, nulls, next, t.symbol);
+        let b = peel(chart, next, t.symbol);
         return Laid {
             none: false,
             one: b.done,
@@ -139,16 +137,17 @@ pub struct Split {
     pub part: usize,
 }
 
-pub(crate) fn take_apart(k: &[u16], ends: &[usize], nulls: &[bool], t: Tail, o: Laid) -> Split
-    requires { ChartedFrom 0 k.now ends.now nulls.now × Opened k.now t o × (o.none ≡ false) }
-    ensures { SplitOf k.now t o result }
+pub(crate) fn take_apart(chart: &Chart, t: Tail, o: Laid) -> Split
+    requires { Opened chart.now.words.now t o × (o.none ≡ false) }
+    ensures { SplitOf chart.now.words.now t o result }
 {
+    let k = chart.words;
     let symbol = t.symbol;
     let part = o.part;
     let next = o.next;
     if o.one {
         if word(k, part) == 7001 {
-            let a = part_at(k, ends, nulls, part + 1);
+            let a = chart.part(part + 1);
             let mid = a.end;
             return Split {
                 can: true,
@@ -191,12 +190,12 @@ fn is_nothing(k: &[u16], o: Laid) -> bool
 }
 
 // Whether two tails are the same expression, by their second parts and then by what is before these.
-fn same(k: &[u16], ends: &[usize], nulls: &[bool], s: Tail, t: Tail) -> bool
-    requires { ChartedFrom 0 k.now ends.now nulls.now }
-    ensures { Same k.now s t result }
+fn same(chart: &Chart, s: Tail, t: Tail) -> bool
+    ensures { Same chart.now.words.now s t result }
 {
-    let a = lay_open(k, ends, nulls, s);
-    let b = lay_open(k, ends, nulls, t);
+    let k = chart.words;
+    let a = lay_open(chart, s);
+    let b = lay_open(chart, t);
     if a.none {
         return is_nothing(k, b);
     }
@@ -204,13 +203,13 @@ fn same(k: &[u16], ends: &[usize], nulls: &[bool], s: Tail, t: Tail) -> bool
         return is_nothing(k, a);
     }
     if and(a.one, b.one) {
-        return same_at(k, ends, nulls, a.part, b.part);
+        return same_at(chart, a.part, b.part);
     }
-    let c = take_apart(k, ends, nulls, s, a);
-    let d = take_apart(k, ends, nulls, t, b);
+    let c = take_apart(chart, s, a);
+    let d = take_apart(chart, t, b);
     if and(c.can, d.can) {
-        if same_at(k, ends, nulls, c.part, d.part) {
-            return same(k, ends, nulls, c.rest, d.rest);
+        if same_at(chart, c.part, d.part) {
+            return same(chart, c.rest, d.rest);
         }
         return false;
     }
@@ -218,9 +217,8 @@ fn same(k: &[u16], ends: &[usize], nulls: &[bool], s: Tail, t: Tail) -> bool
 }
 
 // A state of the expression at a place, as a tail.
-pub(crate) fn tail_of(k: &[u16], ends: &[usize], nulls: &[bool], at: usize, s: usize) -> Tail
-    requires { ChartedFrom 0 k.now ends.now nulls.now }
-    ensures { TailOf k.now at s result }
+pub(crate) fn tail_of(chart: &Chart, at: usize, s: usize) -> Tail
+    ensures { TailOf chart.now.words.now at s result }
 {
     let symbol = s / 2;
     if s % 2 == 0 {
@@ -230,7 +228,7 @@ pub(crate) fn tail_of(k: &[u16], ends: &[usize], nulls: &[bool], at: usize, s: u
             rest: false,
         };
     }
-    let level = level_of(k, ends, nulls, at, symbol);
+    let level = level_of(chart, at, symbol);
     Tail {
         at: level,
         symbol,
@@ -239,18 +237,10 @@ pub(crate) fn tail_of(k: &[u16], ends: &[usize], nulls: &[bool], at: usize, s: u
 }
 
 // Whether two states of the expression at a place mean the same expression.
-pub(crate) fn same_state(
-    k: &[u16],
-    ends: &[usize],
-    nulls: &[bool],
-    at: usize,
-    s: usize,
-    t: usize,
-) -> bool
-    requires { ChartedFrom 0 k.now ends.now nulls.now }
-    ensures { SameState k.now at s t result }
+pub(crate) fn same_state(chart: &Chart, at: usize, s: usize, t: usize) -> bool
+    ensures { SameState chart.now.words.now at s t result }
 {
-    let a = tail_of(k, ends, nulls, at, s);
-    let b = tail_of(k, ends, nulls, at, t);
-    same(k, ends, nulls, a, b)
+    let a = tail_of(chart, at, s);
+    let b = tail_of(chart, at, t);
+    same(chart, a, b)
 }

@@ -1,5 +1,4 @@
 -- By the kind of the variable.
-use Prim.Native.Nat.{◌-◌}
 use mathlib.Core.Path.{refl, sym, ◌∙◌}
 use Rattle.state_classes.proofs.Peeling.{differ}
 use Rattle.clash.proofs.first_shares.Goals as goal

@@ -1,5 +1,5 @@
 use native.Mathlib.Omega.{arith}
-use Prim.Native.Nat.{ℕ, ◌-◌}
+use Prim.Native.Nat.{ℕ}
 use mathlib.Core.Path.{refl}
 use lib.ListN.{length-replicate}
 use Rattle.state_classes.specs.Classes.{state_room}
@@ -7,11 +7,11 @@ use Rattle.state_classes.proofs.Classing.{tabled_start, tabled-to, kept_same, ke
 use Rattle.state_classes.proofs.class_all.Goals as goal
 
 pub loop-s-init : goal.loop-s-init
-loop-s-init c = let p = c.requires.1 in (omega arith, omega arith, tabled_start refl, kept_same, keys_none refl, length-replicate {A = ℕ} state_room 0, changed-none)
+loop-s-init c = let p = c.requires.0 in (omega arith, omega arith, tabled_start refl, kept_same, keys_none refl, length-replicate {A = ℕ} state_room 0, changed-none)
 
 pub class_at-requires : goal.class_at-requires
-class_at-requires c = let e = c.loop-s.invariant.3.long in let p = c.requires.2 in let q = c.requires.3 in record {
-  charted_from = (c.requires.0, omega arith, refl, c.loop-s.invariant.0, omega arith);
+class_at-requires c = let e = c.loop-s.invariant.3.long in let p = c.requires.1 in let q = c.requires.2 in record {
+  places = (omega arith, refl, c.loop-s.invariant.0, omega arith);
   classes_len = (omega arith, c.loop-s.invariant.5, c.loop-s.invariant.4);
 }
 

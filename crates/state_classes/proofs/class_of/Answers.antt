@@ -1,4 +1,3 @@
-use Prim.Native.Nat.{◌-◌}
 use mathlib.Core.Path.{refl, subst}
 use Rattle.state_classes.specs.Classes.{Liked}
 use Rattle.state_classes.proofs.Classing.{unmet-start, unmet-next, classed-here, classed-self}

@@ -1,5 +1,4 @@
 -- By the keys, and then by the two tests.
-use Prim.Native.Nat.{◌-◌}
 use mathlib.Core.Path.{subst}
 use Rattle.state_classes.specs.Classes.{StateTest}
 use Rattle.state_classes.proofs.Classing.{like-none, like-same, like-apart}
@@ -12,4 +11,4 @@ pub returns-then-x-y : goal.returns-then-x-y
 returns-then-x-y c = like-none (subst (StateTest _ _ _) c.if-is_state.false c.is_state.ensures)
 
 pub returns : goal.returns
-returns c = like-apart c.requires.1 c.requires.2 c.if-x-y.false
+returns c = like-apart c.requires.0 c.requires.1 c.if-x-y.false

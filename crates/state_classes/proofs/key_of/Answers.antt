@@ -1,5 +1,4 @@
 -- By the tail that the state is.
-use Prim.Native.Nat.{◌-◌}
 use Rattle.state_classes.proofs.Classing.{key-none, key-cat, key-other}
 use Rattle.state_classes.proofs.key_of.Goals as goal
 

@@ -1,4 +1,3 @@
-use Prim.Native.Nat.{◌-◌}
 use native.Mathlib.Omega.{arith}
 use Rattle.clash.proofs.Chaining.{starts, less, unmet, in-room, in_array, step, hit}
 use Rattle.clash.proofs.pairs.find.Goals as goal

@@ -1,5 +1,4 @@
 -- The invariant: where the pair can still stand is below x.
-use Prim.Native.Nat.{◌-◌}
 use Rattle.clash.proofs.Chaining.{Below}
 use Rattle.clash.proofs.pairs.find.Given as goal
 

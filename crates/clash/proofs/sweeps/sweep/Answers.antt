@@ -1,5 +1,4 @@
 use native.Mathlib.Omega.{arith}
-use Prim.Native.Nat.{◌-◌}
 use Rattle.clash.proofs.Flagging.{sweep-more, swept_all}
 use Rattle.clash.proofs.sweeps.sweep.Goals as goal
 

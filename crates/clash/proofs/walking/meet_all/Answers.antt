@@ -1,5 +1,4 @@
 use native.Mathlib.Omega.{arith}
-use Prim.Native.Nat.{◌-◌}
 use Rattle.clash.proofs.Growing.{of-more, of-to}
 use Rattle.clash.proofs.walking.meet_all.Goals as goal
 

@@ -1,5 +1,4 @@
 use native.Mathlib.Omega.{arith}
-use Prim.Native.Nat.{◌-◌}
 use Rattle.clash.proofs.Growing.{with-more}
 use Rattle.clash.proofs.Growing.{with-to}
 use Rattle.clash.proofs.walking.meet_with.Goals as goal

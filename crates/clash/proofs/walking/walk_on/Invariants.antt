@@ -7,7 +7,7 @@ use Rattle.clash.proofs.Going.{Walks}
 use Rattle.clash.proofs.walking.walk_on.Given as goal
 
 abbrev pub invariant-loop-i : goal.invariant-loop-i
-invariant-loop-i l = Walks l.k l.classes l.at l.initial.left l.initial.right l.left l.right l.empty l.n l.i × Chained l.left l.right l.links l.heads l.n × (length l.empty ≡ length l.initial.empty)
+invariant-loop-i l = Walks l.chart.words.now l.classes l.at l.initial.left l.initial.right l.left l.right l.empty l.n l.i × Chained l.left l.right l.links l.heads l.n × (length l.empty ≡ length l.initial.empty)
 
 abbrev pub decreases-loop-i : goal.decreases-loop-i
 decreases-loop-i l = stops - l.i

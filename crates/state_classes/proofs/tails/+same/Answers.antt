@@ -1,16 +1,9 @@
 use native.Mathlib.Omega.{arith}
-use Prim.Native.Nat.{◌-◌}
 use mathlib.Core.Path.{sym, subst, ◌∙◌}
 use Rattle.language.proofs.Bools.{both_true}
 use Rattle.state_classes.specs.Tails.{Alike}
 use Rattle.state_classes.proofs.Opening.{same_left, same-right, same-ones, same_parts, same-differ, same-neither}
 use Rattle.state_classes.proofs.tails.+same.Goals as goal
-
-pub lay_open-a-requires : goal.lay_open-a-requires
-lay_open-a-requires t c = c.requires
-
-pub lay_open-b-requires : goal.lay_open-b-requires
-lay_open-b-requires t c = c.requires
 
 pub returns-then-a : goal.returns-then-a
 returns-then-a t c = same_left c.lay_open-a.ensures c.lay_open-b.ensures c.if-a.true c.is_nothing.ensures
@@ -18,23 +11,17 @@ returns-then-a t c = same_left c.lay_open-a.ensures c.lay_open-b.ensures c.if-a.
 pub returns-then-b : goal.returns-then-b
 returns-then-b t c = same-right c.lay_open-a.ensures c.lay_open-b.ensures c.if-b.true c.is_nothing-then-b.ensures
 
-pub same_at-requires : goal.same_at-requires
-same_at-requires t c = c.requires
-
 pub returns-then-and : goal.returns-then-and
 returns-then-and t c = same-ones c.lay_open-a.ensures c.lay_open-b.ensures c.if-a.false c.if-b.false (sym c.if-and.true ∙ c.and.ensures) c.same_at.ensures
 
 pub take_apart-c-requires : goal.take_apart-c-requires
-take_apart-c-requires t c = (c.requires, c.lay_open-a.ensures, c.if-a.false)
+take_apart-c-requires t c = (c.lay_open-a.ensures, c.if-a.false)
 
 pub take_apart-d-requires : goal.take_apart-d-requires
-take_apart-d-requires t c = (c.requires, c.lay_open-b.ensures, c.if-b.false)
-
-pub same_at-requires-then-and-2 : goal.same_at-requires-then-and-2
-same_at-requires-then-and-2 t c = c.requires
+take_apart-d-requires t c = (c.lay_open-b.ensures, c.if-b.false)
 
 pub same-requires : goal.same-requires
-same-requires t c = let (x, y) = c.take_apart-c.ensures.further (both_true _ _ (sym c.and-2.ensures ∙ c.if-and-2.true)).0 in (omega arith, c.requires)
+same-requires t c = let (x, y) = c.take_apart-c.ensures.further (both_true _ _ (sym c.and-2.ensures ∙ c.if-and-2.true)).0 in omega arith
 
 pub returns-then-same_at : goal.returns-then-same_at
 returns-then-same_at t c = same_parts c.lay_open-a.ensures c.lay_open-b.ensures c.if-a.false c.if-b.false c.take_apart-c.ensures c.take_apart-d.ensures (sym c.if-and-2.true ∙ c.and-2.ensures) (subst (Alike _ _ _) c.if-same_at.true c.same_at-then-and-2.ensures) c.same.ensures
