@@ -6,14 +6,13 @@ ghost use Rattle.language.specs.declared.HedgeVar.{HedgeVar};
 ghost use Rattle.language.specs.Trees.{Hedge, hvar};
 ghost use Rattle.views.specs.Looks.{look_of};
 ghost use Rattle.rules.specs.Rules.{E3, E4, Del3};
-ghost use Rattle.plans.specs.Slots.{drop_plan};
 ghost use Rattle.equation_recipes.specs.Recipes.{eliminated, e1_plan, e5_plan, e6_plan, e7_plan, cut_plan, e3_plan, e4_plan, del3_plan, spot_of};
 ghost use Rattle.equation_recipes.specs.Planned.{Is, Planning, RuleApplies, Further};
 
 use finds::{all_terms, up_to};
 use language::{HedgeVar, Signature};
 use plans::{Piece, Plan, Ways, inner};
-use recipes::{few, full};
+use recipes::{few, full, plan_drop};
 use rules::places::{AT_DEL3, AT_E1, AT_E2, AT_E3, AT_E4, AT_E5, AT_E6, AT_E7};
 use spots::inside;
 use views::{Look, View};
@@ -186,9 +185,10 @@ fn plan_e4(k: &[u16], v: View) -> Plan
     let r = v.r;
     let look = l.look;
     let p = run_of(look);
-    let ahead = up_to(k, r.from, p);
-    let cuts = ahead.count + 1;
-    cut_by(v, cuts)
+    let Some(n) = up_to(k, r.from, p) else {
+        return plan_drop();
+    };
+    cut_by(v, n + 1)
 }
 
 // The hedge variable at the place i is struck, and what stands around it is empty.
@@ -230,21 +230,10 @@ fn plan_del3(k: &[u16], v: View) -> Plan
     let r = v.r;
     let look = l.look;
     let p = run_of(look);
-    let spot = inside(k, r.from, p);
-    strike(k, v, spot.place)
-}
-
-// No result.
-fn plan_drop() -> Plan
-    ensures { result ≡ drop_plan }
-{
-    let none = Piece::Copy(0, 0);
-    let first = few(none, none, none, none, none, 0, 0, 0);
-    Plan {
-        ways: Ways::Drop,
-        first,
-        second: first,
-    }
+    let Some(i) = inside(k, r.from, p) else {
+        return plan_drop();
+    };
+    strike(k, v, i)
 }
 
 // The results of the rule of that place in the list, which applies and is none of those that move parts.

@@ -12,7 +12,7 @@ use elimination_plans::plan_elimination;
 use finds::all_terms;
 use language::Signature;
 use plans::{Piece, Plan, Ways, Within, inner};
-use recipes::{few, full};
+use recipes::{few, full, plan_drop};
 use rules::places::{AT_D0, AT_D1, AT_D2, AT_DEL1, AT_DEL2, AT_R1};
 use sharing::{Spots, first_shared};
 use views::View;
@@ -119,8 +119,10 @@ fn plan_del2(k: &[u16], v: View) -> Plan
     let r = v.r;
     let left = inner(k, l.from, l.to);
     let right = inner(k, r.from, r.to);
-    let s = first_shared(k, left.from, right.from);
-    strike_out(v, s)
+    match first_shared(k, left.from, right.from) {
+        Some(s) => strike_out(v, s),
+        None => plan_drop(),
+    }
 }
 
 // H = T' for each order T' of the n elements of T.

@@ -4,28 +4,14 @@
 ghost use Rattle.std.specs.Prelude.{◌≡◌};
 ghost use Rattle.language.specs.declared.Signature.{Signature};
 ghost use Rattle.rules.specs.Rules.{M5, M6, M7, M12};
-ghost use Rattle.plans.specs.Slots.{drop_plan};
 ghost use Rattle.membership_plans.specs.Recipes.{r2_plan, m1_plan, m3_first, m3_second, m3_plan, member_in, m4_plan, m11_plan, reordered, m12_plan, m5_first, m5_second, shared, halved, m10_plan, expr_inner, mid_of};
 ghost use Rattle.membership_plans.specs.Planned.{Is, Answered, RuleApplies};
 
 use finds::all_terms;
 use plans::{Piece, Plan, Recipe, Ways, Within, inner};
-use recipes::{few, full};
+use recipes::{few, full, plan_drop};
 use rules::places::{AT_M1, AT_M3, AT_M4, AT_M5, AT_M6, AT_M7, AT_M10, AT_M11, AT_M12, AT_R2};
 use views::Shape;
-
-// No result.
-fn plan_drop() -> Plan
-    ensures { result ≡ drop_plan }
-{
-    let none = Piece::Copy(0, 0);
-    let first = few(none, none, none, none, none, 0, 0, 0);
-    Plan {
-        ways: Ways::Drop,
-        first,
-        second: first,
-    }
-}
 
 // One membership: the hedge from..to in the expression start..end.
 fn member_in(s: Shape, from: usize, to: usize, start: usize, end: usize) -> Recipe

@@ -1,6 +1,5 @@
 use native.Mathlib.Omega.{arith}
 use mathlib.Core.Path.{sym, ◌∙◌}
-use Prim.Native.Nat.{◌-◌}
 use Rattle.finds.proofs.Walks.{pass-first, pass_on, goes_on}
 use Rattle.finds.proofs.Searches.{behind-start, behind-on, behind-found, behind-end}
 use Rattle.finds.proofs.Firsts.{going_start}
