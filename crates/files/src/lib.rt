@@ -12,7 +12,7 @@ use collecting::{ALL, collect};
 use language::Refusal;
 use print::{warn, warn_number};
 use prompt::parse;
-use read_text::{Reading, read_text};
+use read_text::read_text;
 use std::fs::File;
 use std::io::{Read, Stderr, Write};
 use std::{io, str};
@@ -240,8 +240,8 @@ fn in_a_text(buf: &[u8], n: usize, words: &mut [u16]) -> Taken
     ensures { result.words ≤ length words.new }
 {
     match read_text(first(buf, n), words) {
-        Reading::Given(m) => given(m, words.len()),
-        Reading::Refused(r) => refused(r),
+        Ok(m) => given(m, words.len()),
+        Err(r) => refused(r),
     }
 }
 

@@ -17,13 +17,6 @@ use text_words::write_lines;
 
 const LINES: usize = ALTERNATIVES as usize;
 
-// How many words were given, or why none.
-#[derive(Clone, Copy)]
-pub enum Reading {
-    Given(usize),
-    Refused(Refusal),
-}
-
 // Whether there are more names of a class, or more lines, than a header can count.
 fn is_many(names: &[usize], many: usize) -> bool
     requires { 4 * (desk.each + 2) ≤ length names.now }
@@ -90,14 +83,14 @@ fn copy(words: &[u16], n: usize, room: &mut [u16])
     }
 }
 
-// The words of the question that a text is, in the room lent.
-pub fn read_text(text: &[u8], room: &mut [u16]) -> Reading
+// The words of the question that a text is, in the room lent, and how many they are; or why there are none.
+pub fn read_text(text: &[u8], room: &mut [u16]) -> Result<usize, Refusal>
     ensures value { result ≡ reading_of (reads_text desk (length room.old) text.now) }
     ensures room_after { room.new ≡ left_by (reads_text desk (length room.old) text.now) room.old }
 {
     let v = survey(text);
     if !v.ok {
-        return Reading::Refused(Refusal::NotText);
+        return Err(Refusal::NotText);
     }
     let many = v.many;
     let mut names = [0usize; ALL];
@@ -105,19 +98,19 @@ pub fn read_text(text: &[u8], room: &mut [u16]) -> Reading
     collect(text, &mut names);
     let w = write_lines(text, &names, &mut words, first_word(many));
     if !w.ok {
-        return Reading::Refused(Refusal::NotText);
+        return Err(Refusal::NotText);
     }
     if is_many(&names, many) {
-        return Reading::Refused(Refusal::ManyNames);
+        return Err(Refusal::ManyNames);
     }
     let n = w.n;
     if QUESTION < n {
-        return Reading::Refused(Refusal::LongText);
+        return Err(Refusal::LongText);
     }
     if room.len() < n {
-        return Reading::Refused(Refusal::LongText);
+        return Err(Refusal::LongText);
     }
     write_header(&names, many, &mut words);
     copy(&words, n, room);
-    Reading::Given(n)
+    Ok(n)
 }

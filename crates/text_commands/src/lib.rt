@@ -7,7 +7,7 @@ use language::limits::QUESTION;
 use print::say;
 use replies::{no_question, refuse};
 use wording::answer::words;
-use write_text::{Written, write_text};
+use write_text::write_text;
 
 // More bytes than the text of any question has.
 const BYTES: usize = 65536;
@@ -22,11 +22,11 @@ fn say_first(rt: &HostRuntime, room: &[u8], n: usize) {
 fn write<'a>(rt: &HostRuntime, question: &'a [u16], text: &'a [u8], i: usize) -> Status {
     let mut room = [0u8; BYTES];
     match write_text(question, &mut room) {
-        Written::Given(n) => {
+        Ok(n) => {
             say_first(rt, &room, n);
             found()
         }
-        Written::Refused(r) => refuse(rt, r, question, text, i),
+        Err(r) => refuse(rt, r, question, text, i),
     }
 }
 

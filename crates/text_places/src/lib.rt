@@ -8,7 +8,7 @@ ghost use Rattle.std.specs.Prelude.{◌<◌, ◌≤◌, length};
 
 use pointing::point_at;
 use print::warn;
-use read_text::{Reading, read_text};
+use read_text::read_text;
 use refusals::number;
 use std::io::Stderr;
 
@@ -25,8 +25,8 @@ const AROUND: usize = 50;
 fn is_text(text: &[u8]) -> bool {
     let mut room = [0u16; 1];
     match read_text(text, &mut room) {
-        Reading::Given(_) => true,
-        Reading::Refused(r) => number(r) != NOT_TEXT,
+        Ok(_) => true,
+        Err(r) => number(r) != NOT_TEXT,
     }
 }
 

@@ -6,6 +6,7 @@ use mathlib.Core.List.{List}
 use native.Mathlib.Omega.{arith}
 use lib.ListN.{length}
 use borrow.Author.Tests.{le-leb, lt-leb}
+use Rattle.std.specs.Prelude.{Result, Ok}
 use Rattle.language.specs.declared.Refusal.{Refusal}
 use Rattle.language.specs.declared.Refusal.TheVariants.{LongText, OtherNumbers}
 use Rattle.language.specs.Limits.{desk}
@@ -20,8 +21,6 @@ use Rattle.reader.specs.Checking.{asked_numbers}
 use Rattle.reader.proofs.Answers.{as-checked, question-asked, question-refused}
 use Rattle.texts.specs.Writer.{all_text}
 use Rattle.texts.specs.Outcomes.{Outcome, gives, denies, as_read, lent, writes_text}
-use Rattle.write_text.specs.declared.Written.{Written}
-use Rattle.write_text.specs.declared.Written.TheVariants.{Given}
 use Rattle.write_text.specs.Standing.{IsQuestion, AllLined, Numbered}
 use Rattle.write_text.specs.Writes.{written_by, left_by}
 
@@ -33,7 +32,7 @@ module _ (w : List ℕ) where
 
   -- ---- what comes back, and what the room holds
 
-  abbrev pub Ends : List ℕ → Written → List ℕ → Type 0
+  abbrev pub Ends : List ℕ → Result ℕ Refusal → List ℕ → Type 0
   Ends room v left = (v ≡ written_by (writes_text desk (length room) w)) × (left ≡ left_by (writes_text desk (length room) w) room)
 
   ends : (room : List ℕ) (o : Outcome) → writes_text desk (length room) w ≡ o → Ends room (written_by o) (left_by o room)
@@ -76,10 +75,10 @@ module _ (w : List ℕ) where
       pub ends-long : {room : List ℕ} → stop ≡ length room + 1 → e ≡ stop → Ends room (written_by (denies LongText)) room
       ends-long {room} s p = let c = reached in ends room (denies LongText) (lends room ∙ too_long (length room) (text_of q) (omega arith))
 
-      pub ends-written : {room new : List ℕ} {e' : ℕ} → stop ≡ length room + 1 → (e ≡ stop → ⊥) → AllLined stop w room new e' → Ends room (Given e) new
+      pub ends-written : {room new : List ℕ} {e' : ℕ} → stop ≡ length room + 1 → (e ≡ stop → ⊥) → AllLined stop w room new e' → Ends room (Ok e) new
       ends-written {room} {new} {e'} s p k =
           let c = reached in
           let i : length (text_of q) ≤ length room = omega arith in
           let o = ends room (gives (text_of q)) (lends room ∙ fits (length room) (text_of q) i) in
           let y : e ≡ length (text_of q) = omega arith in
-          (ap Given y ∙ o.0, (k q.question q.read).list (omega arith) ∙ o.1)
+          (ap Ok y ∙ o.0, (k q.question q.read).list (omega arith) ∙ o.1)
