@@ -38,10 +38,8 @@ pub fn count_in(k: &[u16], from: usize, to: usize, t: &mut [u16; TABLE])
     requires { (to ≤ length k.now) × (length t.old ≡ table) × ((x : ℕ) → get_or t.old x 0 + (to - from) < 65536) }
     ensures { t.new ≡ added (slice from to k.now) t.old }
 {
-    let mut i = from;
-    while i < to {
+    for i in from..to {
         one_in(wide(k[i]), t);
-        i += 1;
     }
 }
 
@@ -50,10 +48,8 @@ pub fn count_out(k: &[u16], from: usize, to: usize, t: &mut [u16; TABLE])
     requires { (to ≤ length k.now) × (length t.old ≡ table) × ((x : ℕ) → x < table → times x (slice from to k.now) ≤ get_or t.old x 0) }
     ensures { t.new ≡ removed (slice from to k.now) t.old }
 {
-    let mut i = from;
-    while i < to {
+    for i in from..to {
         one_out(wide(k[i]), t);
-        i += 1;
     }
 }
 

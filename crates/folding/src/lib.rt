@@ -1,7 +1,7 @@
 // What the fold looks for in a conjunction's words: the earliest literal that stands there again, and where it stands again first.
 #![tactic(auto)]
 
-ghost use Rattle.std.specs.Prelude.{ℕ, ◌+◌, ◌-◌, ◌*◌, ◌≤◌, ◌<◌, min, ◌≡◌, length, get_or};
+ghost use Rattle.std.specs.Prelude.{ℕ, ◌+◌, ◌-◌, ◌*◌, ◌≤◌, ◌<◌, ◌≡◌, length, get_or};
 ghost use Rattle.std.proofs.Math.Seq.{slice};
 ghost use Rattle.language.specs.Limits.{desk};
 ghost use Rattle.language.specs.Trees.{Literal, Conj};
@@ -24,12 +24,6 @@ const SHORTEST: usize = 3;
 
 const LITERALS: usize = QUESTION / SHORTEST;
 
-fn least(a: usize, b: usize) -> usize
-    ensures { result ≡ min a b }
-{
-    if a < b { a } else { b }
-}
-
 // The chain of a literal's words. The number is kept within 32 bits, so that nothing wraps; its upper bits depend on every word but the last, which is
 // the same in all literals of a kind.
 fn chain_of(k: &[u16], from: usize, to: usize) -> usize
@@ -37,10 +31,8 @@ fn chain_of(k: &[u16], from: usize, to: usize) -> usize
     ensures { (result ≡ bucket (slice from to k.now)) × (result < 1024) }
 {
     let mut s: usize = 0;
-    let mut i = from;
-    while i < to {
+    for i in from..to {
         s = (s * 1664525 + wide(k[i])) % 4294967296;
-        i += 1;
     }
     s / 4194304
 }
@@ -62,13 +54,6 @@ fn seek(k: &[u16], next: &[u16; LITERALS], first: usize, at: usize, end: usize) 
     k.len()
 }
 
-fn narrow(x: usize) -> u16
-    requires { x ≤ desk.question }
-    ensures { result ≡ x }
-{
-    x as u16
-}
-
 // The earlier place of the literal at a place; where there is none, its place becomes the head of its chain, and the length is returned.
 fn note(
     k: &[u16],
@@ -87,7 +72,7 @@ fn note(
         return p;
     }
     next[at / SHORTEST] = first;
-    heads[h] = narrow(at + 1);
+    heads[h] = (at + 1) as u16;
     p
 }
 
@@ -105,7 +90,7 @@ pub fn first_twice(k: &[u16]) -> usize
     while i < k.len() {
         let end = next_literal(k, i);
         let p = note(k, &mut heads, &mut next, i, end);
-        best = least(best, p);
+        best = best.min(p);
         i = end;
     }
     best

@@ -23,12 +23,10 @@ fn places_of(k: &[u16], from: usize, n: usize) -> Places
     ensures { (length result.at ≡ 8) × Agree n result.at (places n k.now from) }
 {
     let mut at = [0; 8];
-    let mut i = 0;
     let mut p = from;
-    while i < n {
+    for i in 0..n {
         at[i] = p;
         p = element_end(k, p);
-        i += 1;
     }
     Places { at }
 }
@@ -39,10 +37,8 @@ fn without(ps: Places, d: usize) -> Places
     ensures { (length result.at ≡ 8) × Agree 7 result.at (drop_at d ps.at) }
 {
     let mut at = ps.at;
-    let mut i = d;
-    while i < 7 {
+    for i in d..7 {
         at[i] = at[i + 1];
-        i += 1;
     }
     Places { at }
 }

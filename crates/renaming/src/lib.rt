@@ -31,11 +31,9 @@ fn rename(
     ensures { Wrote out.old at (renamed old new (slice from to k.now)) out.new result }
 {
     let end = within(k, to);
-    let mut i = from;
     let mut e = at;
-    while i < end {
+    for i in from..end {
         out[e] = rename_word(k[i], old, new);
-        i += 1;
         e += 1;
     }
     e

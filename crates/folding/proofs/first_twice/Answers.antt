@@ -36,10 +36,10 @@ pub loop-i-preserved : goal.loop-i-preserved
 loop-i-preserved c = let e = c.next_literal-end.ensures in (
   falls-on c.note-p.ensures (walk_here c.args.k.now c.requires.conjunction.conj c.requires.conjunction.fine c.requires.conjunction.words c.loop-i.i (Known c.args.k.now c.loop-i.heads c.loop-i.next c.loop-i.best) (c.loop-i.i + 3 ≤ c.next_literal-end.result) (c.loop-i.invariant.1 c.requires.conjunction.conj c.requires.conjunction.fine c.requires.conjunction.words) c.loop-i-test.true (λ done l rest p d. let z = e ∙ literal-next p in let y = literal-three l in omega arith)) c.loop-i.invariant.0,
   λ x f w.
-      walk-to c.args.k.now x f w c.loop-i.i (Known c.args.k.now c.loop-i.heads c.loop-i.next c.loop-i.best) (Known c.args.k.now _ _ c.least-best.result) _ (c.loop-i.invariant.1 x f w) c.loop-i-test.true
+      walk-to c.args.k.now x f w c.loop-i.i (Known c.args.k.now c.loop-i.heads c.loop-i.next c.loop-i.best) (Known c.args.k.now _ _ c.min-best.result) _ (c.loop-i.invariant.1 x f w) c.loop-i-test.true
       (λ done l rest p d.
       let n = noted p _ (e ∙ literal-next p) d.0 c.loop-i.invariant.0 c.loop-i.best d.1 _ _ _ c.note-p.ensures in
-      (e ∙ literal-next p, (n.0, c.least-best.ensures ∙ n.1))),
+      (e ∙ literal-next p, (n.0, c.min-best.ensures ∙ n.1))),
 )
 
 pub returns : goal.returns

@@ -1,6 +1,6 @@
 -- `note`: by what is found in the chain.
 use native.Mathlib.Omega.{arith}
-use mathlib.Core.Path.{sym}
+use mathlib.Core.Path.{refl, sym}
 use Rattle.folding.proofs.Noting.{note-old, note-new}
 use Rattle.folding.proofs.note.Goals as goal
 
@@ -15,4 +15,4 @@ returns c = let h = c.chain_of-h.ensures.1 in
     let f = c.requires.3 in
     let a = f.chains in
     let b = f.room in
-    note-new _ _ _ _ _ _ c.chain_of-h.result c.wide.result c.chain_of-h.ensures.0 c.wide.ensures c.seek-p.ensures c.if-p-k.false (omega arith) f (omega arith) (omega arith) _ _ c.narrow.ensures (sym c.wide.ensures)
+    note-new _ _ _ _ _ _ c.chain_of-h.result c.wide.result c.chain_of-h.ensures.0 c.wide.ensures c.seek-p.ensures c.if-p-k.false (omega arith) f (omega arith) (omega arith) _ _ refl (sym c.wide.ensures)

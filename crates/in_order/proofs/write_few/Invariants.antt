@@ -1,5 +1,5 @@
 -- The loop's invariant: the m elements that are left are still to come, in their order of what is left of the number.
-use Prim.Native.Nat.{◌-◌, ◌≤◌}
+use Prim.Native.Nat.{◌≤◌}
 use mathlib.Core.Path.{◌≡◌}
 use lib.ListN.{length}
 use Rattle.orders.specs.Orders.{in_order, elements_at}
