@@ -12,12 +12,11 @@ ghost use Rattle.std.specs.Prelude.{ℕ, ◌≤◌, ◌<◌, ◌≡◌, List, le
 ghost use Rattle.language.specs.Limits.{desk};
 ghost use Rattle.language.specs.Trees.{Expr};
 ghost use Rattle.expressions.specs.Standing.{Here};
-ghost use Rattle.clash.specs.Chains.{Chained};
 ghost use Rattle.clash.specs.Walking.{Bounds, Stand};
 ghost use Rattle.clash.specs.Sweeping.{FirstShares};
 ghost use Rattle.clash.specs.Judging.{verdict_of, Two};
 
-use crate::pairs::{CHAINS, STOPS, add, narrow};
+use crate::pairs::{CHAINS, STOPS, Stops, narrow};
 use crate::sweeps::{leads_from, settle};
 use crate::walking::{Places, walk_on};
 use charts::{Chart, chart};
@@ -37,22 +36,16 @@ fn first_shares(
     chart: &Chart,
     classes: &[u16; STATES],
     at: Places,
-    left: &[u16; STOPS],
-    right: &[u16; STOPS],
-    links: &[u16; STOPS],
-    heads: &[u16; CHAINS],
-    n: usize,
+    met: &Stops,
     marks: &[bool; STOPS],
     empty: &[bool; STOPS],
     term: bool,
 ) -> bool
-    requires { Bounds at (length chart.now.words.now) × Chained left.now right.now links.now heads.now n × (0 < n) }
-    ensures { FirstShares chart.now.words.now classes.now at left.now right.now n marks.now empty.now term result }
+    requires { Bounds at (length chart.now.words.now) × (0 < met.now.count) }
+    ensures { FirstShares chart.now.words.now classes.now at met.now.left met.now.right met.now.count marks.now empty.now term result }
 {
     if term {
-        return leads_from(
-            chart, classes, at, left, right, links, heads, n, marks, empty, 0,
-        );
+        return leads_from(chart, classes, at, met, marks, empty, 0);
     }
     marks[0]
 }
@@ -62,27 +55,24 @@ fn judge_classed(chart: &Chart, classes: &[u16; STATES], at: Places, term: bool)
     requires { Bounds at (length chart.now.words.now) }
     ensures { (R S : Expr) → Stand chart.now.words.now classes.now at R S → result ≡ verdict_of term R S }
 {
-    let mut left = [0; STOPS];
-    let mut right = [0; STOPS];
-    let mut links = [0; STOPS];
-    let mut heads = [0; CHAINS];
+    let mut met = Stops {
+        left: [0; STOPS],
+        right: [0; STOPS],
+        links: [0; STOPS],
+        heads: [0; CHAINS],
+        count: 0,
+    };
     let one = narrow(2 * at.at);
     let other = narrow(2 * at.other);
-    add(&mut left, &mut right, &mut links, &mut heads, 0, one, other);
+    met.add(one, other);
     let mut empty = [false; STOPS];
-    let n = walk_on(
-        chart, classes, at, &mut left, &mut right, &mut links, &mut heads, &mut empty,
-    );
-    if PAIRS < n {
+    walk_on(chart, classes, at, &mut met, &mut empty);
+    if PAIRS < met.count {
         return Verdict::Long;
     }
     let mut marks = empty;
-    settle(
-        chart, classes, at, &left, &right, &links, &heads, n, &mut marks,
-    );
-    let shares = first_shares(
-        chart, classes, at, &left, &right, &links, &heads, n, &marks, &empty, term,
-    );
+    settle(chart, classes, at, &met, &mut marks);
+    let shares = first_shares(chart, classes, at, &met, &marks, &empty, term);
     if shares {
         return Verdict::Shares;
     }

@@ -6,7 +6,7 @@ pub returns-then-i-eq0 : goal.returns-then-i-eq0
 returns-then-i-eq0 c = known-none c.find-i.ensures c.if-i-eq0.true
 
 pub bounds-marks-i : goal.bounds-marks-i
-bounds-marks-i c = known-low c.requires c.find-i.ensures c.if-i-eq0.false
+bounds-marks-i c = known-low c.args.met.now.chained c.find-i.ensures c.if-i-eq0.false
 
 pub returns : goal.returns
-returns c = known_at _ c.requires c.find-i.ensures c.if-i-eq0.false
+returns c = known_at _ c.args.met.now.chained c.find-i.ensures c.if-i-eq0.false

@@ -1,6 +1,6 @@
 use native.Mathlib.Omega.{arith}
 use Rattle.clash.proofs.Chaining.{starts, less, unmet, in-room, in_array, step, hit}
-use Rattle.clash.proofs.pairs.find.Goals as goal
+use Rattle.clash.proofs.pairs.Stops.find.Goals as goal
 
 pub loop-x-init : goal.loop-x-init
 loop-x-init c = search (starts)
@@ -17,8 +17,8 @@ returns-then-stands c = search (hit)
 pub overflow_sub-x-in-loop-x : goal.overflow_sub-x-in-loop-x
 overflow_sub-x-in-loop-x c = omega arith
 
-pub bounds-links-x : goal.bounds-links-x
-bounds-links-x c = search (in_array)
+pub bounds-self-x : goal.bounds-self-x
+bounds-self-x c = search (in_array)
 
 pub loop-x-smaller : goal.loop-x-smaller
 loop-x-smaller c = search (less)
