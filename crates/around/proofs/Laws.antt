@@ -13,8 +13,7 @@ use Rattle.language.specs.Question.{Asked}
 use Rattle.rules.specs.Answer.{zeros, overwritten}
 use Rattle.answers.specs.declared.Tally.{Tally}
 use Rattle.reader.specs.Checking.{checked}
-use Rattle.outcomes.specs.declared.Checked.{Checked}
-use Rattle.outcomes.specs.declared.Checked.TheVariants.{Refused}
+use Rattle.std.specs.Prelude.{Result, Err}
 use Rattle.outcomes.specs.declared.Outcome.{Outcome}
 use Rattle.outcomes.specs.declared.Solved.{Solved}
 use Rattle.around.specs.declared.Ran.{Ran}
@@ -26,14 +25,14 @@ use Rattle.around.specs.Rooms.{Settles}
 -- ---- before
 
 module _ (work answer : ℕ) (a : Asked) where
-  abbrev checked_by : Bool → Bool → Checked
-  checked_by x y = elim x [ true ↦ Refused ShortSlice | false ↦ elim y [ true ↦ Refused ShortSlice | false ↦ checked a ] ]
+  abbrev checked_by : Bool → Bool → Result (Unit {0}) Refusal
+  checked_by x y = elim x [ true ↦ Err ShortSlice | false ↦ elim y [ true ↦ Err ShortSlice | false ↦ checked a ] ]
 
-  pub short-work : work < desk.room → Refused ShortSlice ≡ readied work answer a
+  pub short-work : work < desk.room → Err ShortSlice ≡ readied work answer a
   unfolding readied
   short-work h = sym (ap (λ x. checked_by x (ltb answer desk.room)) (lt-ltb work desk.room h))
 
-  pub short-answer : desk.room ≤ work → answer < desk.room → Refused ShortSlice ≡ readied work answer a
+  pub short-answer : desk.room ≤ work → answer < desk.room → Err ShortSlice ≡ readied work answer a
   unfolding readied
   short-answer h i = sym (ap (λ x. checked_by x (ltb answer desk.room)) (le-ltb work desk.room h) ∙ ap (λ y. checked_by false y) (lt-ltb answer desk.room i))
 
@@ -60,14 +59,6 @@ module _ (r : Ran) (work answer cleared : List ℕ) (ec : cleared ≡ overwritte
       ∙ sym (ap (λ r. told_by r work answer) er)
 
 -- ---- the room of a trail
-
--- zeros up to the end
-past_end : (ws : List ℕ) → drop (length ws) ws ≡ []
-past_end [] = refl
-past_end (w ∷ ws) = past_end ws
-
-pub none-behind : (ws : List ℕ) → replicate (length ws) 0 ++ drop (length ws) ws ≡ replicate (length ws) 0
-none-behind ws = ap (λ v. replicate (length ws) 0 ++ v) (past_end ws) ∙ append-nil (replicate (length ws) 0)
 
 pub settled-done : (r : Ran) (n : ℕ) (t : Tally) (old : List ℕ) → r ≡ Done n t → Settles r old old
 settled-done r n t old e = subst (λ r. Settles r old old) (sym e) refl

@@ -1,7 +1,7 @@
 // What comes before a run and after it.
 #![tactic(auto)]
 
-ghost use Rattle.std.specs.Prelude.{◌≤◌, ◌≡◌, length, replicate};
+ghost use Rattle.std.specs.Prelude.{◌≤◌, ◌≡◌, length};
 ghost use Rattle.language.specs.Limits.{desk};
 ghost use Rattle.language.specs.Question.{read_question};
 ghost use Rattle.around.specs.Told.{refused_by, verdict_for, told_by};
@@ -11,7 +11,7 @@ ghost use Rattle.around.specs.Rooms.{Settles};
 use answers::Tally;
 use language::Refusal;
 use language::limits::ROOM;
-use outcomes::{Checked, Outcome, Solved};
+use outcomes::{Outcome, Solved};
 use reader::read_question;
 use slices::clear;
 
@@ -71,27 +71,16 @@ pub fn tell(ran: Ran, work: &mut [u16], answer: &mut [u16]) -> Solved
 }
 
 // Whether a run can begin, with slices of so many words.
-pub fn ready(question: &[u16], work: usize, answer: usize) -> Checked
+pub fn ready(question: &[u16], work: usize, answer: usize) -> Result<(), Refusal>
     ensures { result ≡ readied work answer (read_question desk question.now) }
 {
     if work < ROOM {
-        return Checked::Refused(Refusal::ShortSlice);
+        return Err(Refusal::ShortSlice);
     }
     if answer < ROOM {
-        return Checked::Refused(Refusal::ShortSlice);
+        return Err(Refusal::ShortSlice);
     }
     read_question(question)
-}
-
-// Zeros in all words.
-fn wipe(s: &mut [u16])
-    ensures { s.new ≡ replicate (length s.old) 0 }
-{
-    let mut i = 0;
-    while i < s.len() {
-        s[i] = 0;
-        i += 1;
-    }
 }
 
 // After a refusal the room is cleared.
@@ -100,6 +89,6 @@ pub fn settle(ran: Ran, out: &mut [u16])
 {
     match ran {
         Ran::Done(_, _) => {}
-        Ran::Stopped(_) => wipe(out),
+        Ran::Stopped(_) => out.fill(0),
     }
 }

@@ -17,7 +17,7 @@ ghost use Rattle.language.specs.Question.{rising};
 use handing::clear_words;
 use language::limits::{QUESTION, ROOM, SHEETS};
 use language::{Refusal, wide};
-use outcomes::{Checked, outcome_number};
+use outcomes::outcome_number;
 use slices::clear;
 use word_bytes::{take_words, word_at, write_words_at};
 
@@ -221,25 +221,25 @@ fn answer_day(sheet: &[u8], work: &mut [u16], answer: &mut [u16], room: &mut [u8
 }
 
 // Answers a day's sheet: what comes back, and what the room and the two lent slices then hold, is what `day` says of them.
-pub fn solve_day(sheet: &[u8], work: &mut [u16], answer: &mut [u16], room: &mut [u8]) -> Checked
+pub fn solve_day(sheet: &[u8], work: &mut [u16], answer: &mut [u16], room: &mut [u8]) -> Result<(), Refusal>
     ensures result_value { checked_numbers result ≡ day_numbers (day desk (length work.old) (length answer.old) (length room.old / 2) (words_in sheet.now)) }
     ensures room_after { (room.new ≡ room_leaves (day desk (length work.old) (length answer.old) (length room.old / 2) (words_in sheet.now)) room.old) × (work.new ≡ slice_leaves (day desk (length work.old) (length answer.old) (length room.old / 2) (words_in sheet.now)) work.old) × (answer.new ≡ slice_leaves (day desk (length work.old) (length answer.old) (length room.old / 2) (words_in sheet.now)) answer.old) }
 {
     if work.len() < ROOM {
-        return Checked::Refused(Refusal::ShortSlice);
+        return Err(Refusal::ShortSlice);
     }
     if answer.len() < ROOM {
-        return Checked::Refused(Refusal::ShortSlice);
+        return Err(Refusal::ShortSlice);
     }
     if !laid(sheet) {
-        return Checked::Refused(Refusal::SheetLayout);
+        return Err(Refusal::SheetLayout);
     }
     let fits = answer_day(sheet, work, answer, room);
     clear(work);
     clear(answer);
     if fits {
-        return Checked::Fine;
+        return Ok(());
     }
     clear_words(room);
-    Checked::Refused(Refusal::LongAnswers)
+    Err(Refusal::LongAnswers)
 }

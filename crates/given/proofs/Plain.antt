@@ -25,7 +25,8 @@ use Rattle.language.proofs.Laws.{hedges-read}
 use Rattle.language.proofs.Sizes.{hedge-some}
 use Rattle.meaning.specs.Complete.{Complete, nil, tree, complete_words}
 use Rattle.meaning.specs.Values.{with_node, complete, Form, a_term, a_name, fits, fitting, value_of}
-use Rattle.trees.specs.declared.Read.TheVariants.{Next, Stop}
+use Rattle.std.specs.Prelude.{Ok, Err}
+use Rattle.std.specs.List.{list_all}
 use Rattle.trees.specs.Places.{placed}
 use Rattle.given.specs.Checking.{is_some, plain_on, plain_words, of_form, Of, Judged, OneTerm}
 
@@ -45,20 +46,13 @@ module _ (s : ℕ) where
 
 -- ---- word by word
 
-module _ (s : ℕ) (ws : List ℕ) (i : ℕ) where
-  plain_here : i < length ws → plain_words s (drop i ws) ≡ (plain_on s (kind_of desk (get_or ws i 0)) && plain_words s (drop (i + 1) ws))
-  unfolding plain_words
-  plain_here p = rw (add-one, drop-cons ws i 0 p)
+abbrev pub is_plain_at : ℕ → ℕ → Bool
+is_plain_at s w = plain_on s (kind_of desk w)
 
-  pub plain-on : i < length ws → (b : Bool) → b ≡ plain_on s (kind_of desk (get_or ws i 0)) → b ≡ true → plain_words s (drop (i + 1) ws) ≡ plain_words s (drop i ws)
-  plain-on p b e t = sym (plain_here p ∙ ap (λ b. b && plain_words s (drop (i + 1) ws)) (sym e ∙ t))
-
-  pub plain-fails : i < length ws → (b : Bool) → b ≡ plain_on s (kind_of desk (get_or ws i 0)) → b ≡ false → false ≡ plain_words s (drop i ws)
-  plain-fails p b e t = sym (plain_here p ∙ ap (λ b. b && plain_words s (drop (i + 1) ws)) (sym e ∙ t))
-
-  pub plain_done : length ws ≤ i → true ≡ plain_words s (drop i ws)
-  unfolding plain_words
-  plain_done p = sym (ap (plain_words s) (drop_of_length-le ws p))
+pub plain_all : (s : ℕ) (ws : List ℕ) → plain_words s ws ≡ list_all (is_plain_at s) ws
+unfolding plain_words
+plain_all s [] = refl
+plain_all s (w ∷ ws) = ap (λ b. plain_on s (kind_of desk w) && b) (plain_all s ws)
 
 node-some : (f : Sym) (x y : Option Complete) → is_some (with_node f x y) ≡ (is_some x && is_some y)
 node-some f none y = refl
@@ -172,27 +166,27 @@ module _ (n : Counts) (ws : List ℕ) where
 
   -- ---- from the place where reading ended
 
-  pub judged-stop : (q : ℕ) → placed 0 (read_hedge desk ws) ≡ Stop q → Judged n ws false
+  pub judged-stop : (q : ℕ) → placed 0 (read_hedge desk ws) ≡ Err q → Judged n ws false
   unfolding placed
   judged-stop q e = on (read_hedge desk ws) refl e
     where
-      on : (x : Got Hedge) → read_hedge desk ws ≡ x → placed 0 x ≡ Stop q → Judged n ws false
+      on : (x : Got Hedge) → read_hedge desk ws ≡ x → placed 0 x ≡ Err q → Judged n ws false
       on (got h k) i e = absurd (let z : ◌≡◌ {A = ℕ} 0 1 = cc in omega arith)
       on (stop k) i e = no-got k i
 
-  pub judged-short : (q : ℕ) → placed 0 (read_hedge desk ws) ≡ Next q → (q ≡ length ws → ⊥) → Judged n ws false
+  pub judged-short : (q : ℕ) → placed 0 (read_hedge desk ws) ≡ Ok q → (q ≡ length ws → ⊥) → Judged n ws false
   unfolding placed
   judged-short q e x = on (read_hedge desk ws) refl e
     where
-      on : (y : Got Hedge) → read_hedge desk ws ≡ y → placed 0 y ≡ Next q → Judged n ws false
+      on : (y : Got Hedge) → read_hedge desk ws ≡ y → placed 0 y ≡ Ok q → Judged n ws false
       on (got h k) i e = let z : 0 + k ≡ q = cc in not-all h k i (λ y. x (omega arith))
       on (stop k) i e = absurd (let z : ◌≡◌ {A = ℕ} 0 1 = cc in omega arith)
 
-  pub judged-all : (q : ℕ) → placed 0 (read_hedge desk ws) ≡ Next q → q ≡ length ws → (r : Bool) → r ≡ plain_words n.symbols ws → Judged n ws r
+  pub judged-all : (q : ℕ) → placed 0 (read_hedge desk ws) ≡ Ok q → q ≡ length ws → (r : Bool) → r ≡ plain_words n.symbols ws → Judged n ws r
   unfolding placed
   judged-all q e x r p = on (read_hedge desk ws) refl e
     where
-      on : (y : Got Hedge) → read_hedge desk ws ≡ y → placed 0 y ≡ Next q → Judged n ws r
+      on : (y : Got Hedge) → read_hedge desk ws ≡ y → placed 0 y ≡ Ok q → Judged n ws r
       on (got h k) i e = let z : 0 + k ≡ q = cc in all h k i (omega arith) r p
       on (stop k) i e = absurd (let z : ◌≡◌ {A = ℕ} 0 1 = cc in omega arith)
 
@@ -245,7 +239,7 @@ module _ (ws : List ℕ) where
       }
 
   -- the children end where reading them ends
-  children-end : (h : Hedge) (g : Complete) (s : Split h g) → placed 1 (read_hedge desk (drop 1 ws)) ≡ Next (1 + length (hedge_words s.c))
+  children-end : (h : Hedge) (g : Complete) (s : Split h g) → placed 1 (read_hedge desk (drop 1 ws)) ≡ Ok (1 + length (hedge_words s.c))
   unfolding placed
   children-end h g s = ap (λ l. placed 1 (read_hedge desk l)) s.rest ∙ ap (placed 1) ((hedges-read desk).read_back s.c (hedge_words s.r) s.fine)
 
@@ -253,7 +247,7 @@ module _ (ws : List ℕ) where
   last f u nil n m e = eq-eqb n (m - 1) (omega arith)
   last f u (tree g c r) n m e = ne_eqb n (m - 1) (let a = length-append (complete_words c) (complete_words r) in let b = some_words c in omega arith)
 
-  pub term-next : (q : ℕ) → 2 ≤ length ws → placed 1 (read_hedge desk (drop 1 ws)) ≡ Next q → OneTerm ws (eqb q (length ws - 1))
+  pub term-next : (q : ℕ) → 2 ≤ length ws → placed 1 (read_hedge desk (drop 1 ws)) ≡ Ok q → OneTerm ws (eqb q (length ws - 1))
   term-next q p e = record {
     each = λ h g o.
         let s = split p h g o in
@@ -262,5 +256,5 @@ module _ (ws : List ℕ) where
         last s.f s.u s.v q (length ws) (omega (arith, s.size)) ∙ ap (fits a_term) s.whole;
   }
 
-  pub term-stop : (q : ℕ) → 2 ≤ length ws → placed 1 (read_hedge desk (drop 1 ws)) ≡ Stop q → OneTerm ws false
+  pub term-stop : (q : ℕ) → 2 ≤ length ws → placed 1 (read_hedge desk (drop 1 ws)) ≡ Err q → OneTerm ws false
   term-stop q p e = record { each = λ h g o. absurd (let z : ◌≡◌ {A = ℕ} 0 1 = cc (children-end h g (split p h g o)) in omega arith) }

@@ -14,15 +14,13 @@ fn rises(w: &[u16], at: usize, stop: usize, from: usize) -> bool
     requires { (at ≤ stop) × (stop ≤ length w.now) }
     ensures { result ≡ rising from (between at stop w.now) (length w.now) }
 {
-    let mut i = at;
     let mut last = from;
-    while i < stop {
+    for i in at..stop {
         let next = wide(w[i]);
         if next < last {
             return false;
         }
         last = next;
-        i += 1;
     }
     last == w.len()
 }

@@ -25,8 +25,7 @@ use Rattle.header.specs.Heading.{header_of}
 use Rattle.reader.specs.Checking.{checked, asked_numbers}
 use Rattle.reader.proofs.Answers.{as-checked, question-asked, question-refused}
 use Rattle.outcomes.specs.Numbers.{checked_numbers}
-use Rattle.outcomes.specs.declared.Checked.{Checked}
-use Rattle.outcomes.specs.declared.Checked.TheVariants.{Fine, Refused}
+use Rattle.std.specs.Prelude.{Result, Ok, Err}
 use Rattle.replay.specs.Replay.{Triple}
 use Rattle.named_steps.specs.declared.Stepping.{Stepping}
 use Rattle.named_steps.specs.declared.Stepping.TheVariants as stepping
@@ -59,7 +58,7 @@ pub record One (ws : List ℕ) : Type 0 where
   pub short : length (between 7 (length ws) ws) ≤ desk.question
   pub asked : (number : ℕ) (t : Triple) → naming_of desk number t (read_question desk ws) ≡ named_at desk number (signature (counts_of ws)) t conj
 
-module _ (ws : List ℕ) (e : Fine ≡ checked (read_question desk ws)) where
+module _ (ws : List ℕ) (e : Ok tt ≡ checked (read_question desk ws)) where
   abbrev q : Question
   q = (question-asked ws e).0
 
@@ -98,8 +97,8 @@ module _ (ws : List ℕ) (e : Fine ≡ checked (read_question desk ws)) where
       }
 
 -- the same from what the calls said
-module _ (ws : List ℕ) (r : Checked) (n : checked_numbers r ≡ asked_numbers (read_question desk ws)) (e : r ≡ Fine) where
-  pub was-fine : Fine ≡ checked (read_question desk ws)
+module _ (ws : List ℕ) (r : Result (Unit {0}) Refusal) (n : checked_numbers r ≡ asked_numbers (read_question desk ws)) (e : r ≡ Ok tt) where
+  pub was-fine : Ok tt ≡ checked (read_question desk ws)
   was-fine = sym e ∙ as-checked r (read_question desk ws) n
 
   pub is_one : (h : Header) → h ≡ header_of ws → h.alternatives ≡ 1 → One ws
@@ -122,7 +121,7 @@ module _ (number : ℕ) (t : Triple) (ws work : List ℕ) where
   unfolding naming
   long-work h = ap by (le-ltb (length work) desk.room h)
 
-  pub refused-unread : (x : Refusal) → Refused x ≡ checked (read_question desk ws) → naming_of desk number t (read_question desk ws) ≡ unread x
+  pub refused-unread : (x : Refusal) → Err x ≡ checked (read_question desk ws) → naming_of desk number t (read_question desk ws) ≡ unread x
   refused-unread x e = ap (naming_of desk number t) (question-refused ws x e)
 
 -- ---- after the step, in a cleared room

@@ -14,7 +14,6 @@ ghost use Rattle.named_steps.specs.Leaves.{Leaves, leaves};
 use header::read_header;
 use language::limits::ROOM;
 use language::{Refusal, Signature};
-use outcomes::Checked;
 use reader::read_question;
 use slices::clear;
 use steps::take_step;
@@ -70,8 +69,8 @@ pub fn step_named(
         return Stepping::Refused(Refusal::ShortSlice);
     }
     match read_question(question) {
-        Checked::Refused(r) => Stepping::Refused(r),
-        Checked::Fine => {
+        Err(r) => Stepping::Refused(r),
+        Ok(()) => {
             let h = read_header(question);
             if h.alternatives != 1 {
                 return Stepping::Refused(Refusal::CountRange);

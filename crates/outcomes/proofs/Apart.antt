@@ -2,13 +2,12 @@
 use Prim.Native.Nat.{ℕ}
 use mathlib.Core.Path.{◌≡◌, refl, sym, ap, ap₂, ◌∙◌}
 use lib.Dec.{eqb}
+use Rattle.std.specs.Prelude.{Result, Ok, Err}
 use Rattle.language.specs.declared.Refusal.{Refusal}
 use Rattle.language.specs.declared.Refusal.TheVariants.{ShortSlice, QuestionLength, CountRange, BadOffset, NotLiterals, Undeclared, LongResult, LongWaiting, LineRoom, StepLimit, FillingLayout, FillingValue, LongLiteral, NoSuchLine, OpenLine, LongExample, NotText, ManyNames, LongText, OtherNumbers, LongWalk, SheetLayout, LongAnswers, BadStep, ShortTrail, LongTrail, TrailRoom}
 use Rattle.language.specs.Kinds.{pick}
 use Rattle.language.specs.Numbers.{number_of, place_of}
 use Rattle.outcomes.specs.Numbers.{checked_numbers, outcome_number, outcome_place, outcome_value, SolveNumbers, solved_numbers, tried_numbers, shown_numbers}
-use Rattle.outcomes.specs.declared.Checked.{Checked}
-use Rattle.outcomes.specs.declared.Checked.TheVariants as checked
 use Rattle.outcomes.specs.declared.Outcome.{Outcome}
 use Rattle.outcomes.specs.declared.Outcome.TheVariants.{Refused, NoLine, AllSolved, SomeOpen}
 use Rattle.outcomes.specs.declared.Solved.{Solved}
@@ -67,14 +66,14 @@ refusals-apart r s e f = sym (told-refused r (λ x. x) r) ∙ ap₂ (told r (λ 
 
 -- ---- reading
 
-abbrev checked_by : ℕ × ℕ → Checked
-checked_by n = told checked.Fine checked.Refused n.0 n.1
+abbrev checked_by : ℕ × ℕ → Result (Unit {0}) Refusal
+checked_by n = told (Ok tt) Err n.0 n.1
 
-checked-back : (c : Checked) → checked_by (checked_numbers c) ≡ c
-checked-back checked.Fine = refl
-checked-back (checked.Refused r) = told-refused checked.Fine checked.Refused r
+checked-back : (c : Result (Unit {0}) Refusal) → checked_by (checked_numbers c) ≡ c
+checked-back (Ok u) = refl
+checked-back (Err r) = told-refused (Ok tt) Err r
 
-pub checked-apart : (c d : Checked) → checked_numbers c ≡ checked_numbers d → c ≡ d
+pub checked-apart : (c d : Result (Unit {0}) Refusal) → checked_numbers c ≡ checked_numbers d → c ≡ d
 checked-apart c d e = sym (checked-back c) ∙ ap checked_by e ∙ checked-back d
 
 -- ---- solving

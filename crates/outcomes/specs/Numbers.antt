@@ -1,9 +1,8 @@
 -- This paper's number and values for each case of what a call answers with: the number of the table, 0 where nothing is refused, the value, 0 of
 -- a refusal, and the place of the mistake, 0 where there is none. Together they tell the cases of an answer apart (`proofs/Apart.antt`).
-use Rattle.std.specs.Prelude.{ℕ}
+use Rattle.std.specs.Prelude.{ℕ, Result, Ok, Err}
+use Rattle.language.specs.declared.Refusal.{Refusal}
 use Rattle.language.specs.Numbers.{number_of, place_of}
-use Rattle.outcomes.specs.declared.Checked.{Checked}
-use Rattle.outcomes.specs.declared.Checked.TheVariants as checked
 use Rattle.outcomes.specs.declared.Outcome.{Outcome}
 use Rattle.outcomes.specs.declared.Outcome.TheVariants.{Refused, NoLine, AllSolved, SomeOpen}
 use Rattle.outcomes.specs.declared.Solved.{Solved}
@@ -14,15 +13,15 @@ use Rattle.outcomes.specs.declared.Shown.TheVariants.{Shows, Denied}
 
 -- ---- reading: it has no value
 
-abbrev pub checked_number : Checked → ℕ
-checked_number checked.Fine = 0
-checked_number (checked.Refused r) = number_of r
+abbrev pub checked_number : Result (Unit {0}) Refusal → ℕ
+checked_number (Ok u) = 0
+checked_number (Err r) = number_of r
 
-abbrev pub checked_place : Checked → ℕ
-checked_place checked.Fine = 0
-checked_place (checked.Refused r) = place_of r
+abbrev pub checked_place : Result (Unit {0}) Refusal → ℕ
+checked_place (Ok u) = 0
+checked_place (Err r) = place_of r
 
-abbrev pub checked_numbers : Checked → ℕ × ℕ
+abbrev pub checked_numbers : Result (Unit {0}) Refusal → ℕ × ℕ
 checked_numbers c = (checked_number c, checked_place c)
 
 -- ---- solving: "the refusal or (none, all solved, some open), lines, open lines and steps"

@@ -7,20 +7,13 @@ ghost use Rattle.outcomes.specs.Numbers.{checked_number, outcome_number, tried_n
 use language::Refusal;
 use refusals::number;
 
-// What comes of reading a question or a filling.
-#[derive(Clone, Copy)]
-pub enum Checked {
-    Fine,
-    Refused(Refusal),
-}
-
-// The number that comes back for it: 0 for words that are not refused.
-pub fn verdict_number(verdict: Checked) -> u16
+// The number that comes back for reading a question or a filling: 0 for words that are not refused.
+pub fn verdict_number(verdict: Result<(), Refusal>) -> u16
     ensures { result ≡ checked_number verdict }
 {
     match verdict {
-        Checked::Fine => 0,
-        Checked::Refused(refusal) => number(refusal),
+        Ok(()) => 0,
+        Err(mistake) => number(mistake),
     }
 }
 

@@ -11,7 +11,7 @@ use Rattle.rules.specs.Step.{Spot}
 use Rattle.rules.specs.Run.{numbered, Outcome, run_by, run}
 use Rattle.rules.specs.Answer.{Solving, unread, ran, solving_of, solving}
 use Rattle.reader.proofs.Answers.{question-asked}
-use Rattle.outcomes.specs.declared.Checked.TheVariants.{Refused}
+use Rattle.std.specs.Prelude.{Err}
 use Rattle.replay.specs.Trail.{trail, trail_words, run_trail}
 use Rattle.replay.specs.Replay.{replay}
 use Rattle.replay.specs.Calls.{solving_trail_of, solving_trail, trail_of, trail_leaves, replaying_of, replaying}
@@ -49,7 +49,7 @@ module _ (told : List ℕ) (work answer room : ℕ) (ws : List ℕ) where
   abbrev asked : Asked
   asked = read_question desk ws
 
-  pub calls-unread : (course : Course) (x : Refusal) → Refused x ≡ readied work answer asked → calling course told work answer room ws ≡ unread x
+  pub calls-unread : (course : Course) (x : Refusal) → Err x ≡ readied work answer asked → calling course told work answer room ws ≡ unread x
   unfolding solving solving_trail replaying
   calls-unread First x e = not-ready work answer asked x e (of First told room) (of-refused First told room)
   calls-unread Noted x e = not-ready work answer asked x e (of Noted told room) (of-refused Noted told room)

@@ -17,8 +17,7 @@ use Rattle.rules.specs.Answer.{count_open, zeros, verdict_of, Solving, answered,
 use Rattle.rules.specs.Answer as rules
 use Rattle.answers.specs.declared.Tally.{Tally}
 use Rattle.reader.specs.Checking.{checked}
-use Rattle.outcomes.specs.declared.Checked.{Checked}
-use Rattle.outcomes.specs.declared.Checked.TheVariants.{Fine, Refused}
+use Rattle.std.specs.Prelude.{Result, Ok, Err}
 use Rattle.outcomes.specs.declared.Outcome as outcome
 use Rattle.outcomes.specs.declared.Solved.{Solved}
 use Rattle.outcomes.specs.Numbers.{solved_numbers}
@@ -109,20 +108,20 @@ Refuses of = (r : Refusal) → of (refuses r) ≡ unread r
 pub record Readied (work answer : ℕ) (a : Asked) : Type 0 where
   pub work-fits : desk.room ≤ work
   pub answer-fits : desk.room ≤ answer
-  pub fine : Fine ≡ checked a
+  pub fine : Ok tt ≡ checked a
 
 module _ (work answer : ℕ) (a : Asked) where
-  abbrev checked_by : Bool → Bool → Checked
-  checked_by x y = elim x [ true ↦ Refused ShortSlice | false ↦ elim y [ true ↦ Refused ShortSlice | false ↦ checked a ] ]
+  abbrev checked_by : Bool → Bool → Result (Unit {0}) Refusal
+  checked_by x y = elim x [ true ↦ Err ShortSlice | false ↦ elim y [ true ↦ Err ShortSlice | false ↦ checked a ] ]
 
-  apart : {A : Type 0} {x : Refusal} → ◌≡◌ {A = Checked} (Refused x) Fine → A
+  apart : {A : Type 0} {x : Refusal} → ◌≡◌ {A = Result (Unit {0}) Refusal} (Err x) (Ok tt) → A
   apart e = absurd (let z : ◌≡◌ {A = ℕ} 0 1 = cc in omega arith)
 
-  pub is-ready : Fine ≡ readied work answer a → Readied work answer a
+  pub is-ready : Ok tt ≡ readied work answer a → Readied work answer a
   unfolding readied
   is-ready e = go (ltb work desk.room) refl (ltb answer desk.room) refl e
     where
-      go : (x : Bool) → ltb work desk.room ≡ x → (y : Bool) → ltb answer desk.room ≡ y → Fine ≡ checked_by x y → Readied work answer a
+      go : (x : Bool) → ltb work desk.room ≡ x → (y : Bool) → ltb answer desk.room ≡ y → Ok tt ≡ checked_by x y → Readied work answer a
       go true d y f e = apart (sym e)
       go false d true f e = apart (sym e)
       go false d false f e = record { work-fits = ltb-false work desk.room d; answer-fits = ltb-false answer desk.room f; fine = e }
@@ -131,18 +130,18 @@ module _ (work answer : ℕ) (a : Asked) where
   ready-goes p s =
       ap (λ x. lent_by x (ltb answer desk.room) s) (le-ltb work desk.room p.work-fits) ∙ ap (λ y. lent_by false y s) (le-ltb answer desk.room p.answer-fits)
 
-  pub not-ready : (x : Refusal) → Refused x ≡ readied work answer a → (of : Asked → Solving) → Refuses of → lent_for work answer (of a) ≡ unread x
+  pub not-ready : (x : Refusal) → Err x ≡ readied work answer a → (of : Asked → Solving) → Refuses of → lent_for work answer (of a) ≡ unread x
   unfolding readied checked
   not-ready x e of q = go (ltb work desk.room) (ltb answer desk.room) e
     where
-      same : {x y : Refusal} → ◌≡◌ {A = Checked} (Refused x) (Refused y) → y ≡ x
+      same : {x y : Refusal} → ◌≡◌ {A = Result (Unit {0}) Refusal} (Err x) (Err y) → y ≡ x
       same e = cc
 
-      read : (a : Asked) → Refused x ≡ checked a → of a ≡ unread x
+      read : (a : Asked) → Err x ≡ checked a → of a ≡ unread x
       read (asks q') e = apart e
       read (refuses r) e = q r ∙ ap unread (same e)
 
-      go : (b c : Bool) → Refused x ≡ checked_by b c → lent_by b c (of a) ≡ unread x
+      go : (b c : Bool) → Err x ≡ checked_by b c → lent_by b c (of a) ≡ unread x
       go true c e = ap unread (same e)
       go false true e = ap unread (same e)
       go false false e = read a e

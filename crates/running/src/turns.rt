@@ -1,12 +1,11 @@
 // The run of a question, turn by turn, on one of the three courses.
-ghost use Rattle.std.specs.Prelude.{◌+◌, ◌≤◌, ◌<◌, ◌≡◌, length};
+ghost use Rattle.std.specs.Prelude.{◌+◌, ◌≤◌, ◌<◌, ◌≡◌, length, Ok};
 ghost use Rattle.language.specs.Limits.{desk};
 ghost use Rattle.language.specs.Question.{read_question};
 ghost use Rattle.frames.specs.Frames.{frame, framed_length};
 ghost use Rattle.counts.specs.Tables.{afresh};
 ghost use Rattle.steps.specs.Asking.{RuleAt};
 ghost use Rattle.reader.specs.Checking.{checked};
-ghost use Rattle.outcomes.specs.declared.Checked.TheVariants.{Fine};
 ghost use Rattle.running.specs.Courses.{Roomy};
 ghost use Rattle.running.specs.Turning.{Advances, FirstOf, Taken, TurnsWith, TurnsFirst, Awaits, Begun, GoesOn, Runs};
 
@@ -155,7 +154,7 @@ pub fn run(
     out: &mut [u16],
     course: Course,
 ) -> Ran
-    requires { (Fine ≡ checked (read_question desk question.now)) × (desk.room ≤ length work.old) × (desk.room ≤ length answer.old) }
+    requires { (Ok tt ≡ checked (read_question desk question.now)) × (desk.room ≤ length work.old) × (desk.room ≤ length answer.old) }
     ensures { Runs course told.now (read_question desk question.now) work.old answer.old out.old result work.new answer.new out.new }
 {
     let at = lay_out(question, work);

@@ -19,9 +19,7 @@ use Rattle.meaning.specs.Values as values
 use Rattle.rules.specs.Answer.{zeros, overwritten}
 use Rattle.rules.specs.Calls.{Trying, decides, given-up, trying_with, trying_of, trying}
 use Rattle.header.specs.declared.Header.{Header}
-use Rattle.outcomes.specs.declared.Checked.{Checked}
-use Rattle.outcomes.specs.declared.Checked.TheVariants.{Fine}
-use Rattle.outcomes.specs.declared.Checked.TheVariants as checked-as
+use Rattle.std.specs.Prelude.{Result, Ok, Err}
 use Rattle.header.specs.Heading.{header_of, counts_in}
 use Rattle.reader.specs.Checking.{checked}
 use Rattle.given.specs.Checking.{given}
@@ -66,26 +64,26 @@ module _ (h : Header) (fs ws : List ℕ) where
   pub asked-counts : AskedQuestion h ws → counts_fit desk (counts_in h) h.alternatives ≡ true
   asked-counts a = ap (λ h. counts_fit desk (counts_in h) h.alternatives) a.head ∙ (passed desk ws a.q a.read).counts-fit
 
-  pub asked-refused : {w : List ℕ} {c : Checked} {r : Refusal} → c ≡ given (read_filling desk (counts_in h) fs) → c ≡ checked-as.Refused r → TriedAsked h fs ws (Refused r) w w
+  pub asked-refused : {w : List ℕ} {c : Result (Unit {0}) Refusal} {r : Refusal} → c ≡ given (read_filling desk (counts_in h) fs) → c ≡ Err r → TriedAsked h fs ws (Refused r) w w
   unfolding given
   asked-refused {w} {c} {r} e f = record { each = λ q p i. on q (read_filling desk q.counts fs) (sym f ∙ e ∙ ap (λ n. given (read_filling desk n fs)) (sym (counts-are q p i))) }
     where
-      on : (q : Question) (g : Given) → checked-as.Refused r ≡ given g → Outcome (trying_with desk q g) (Refused r) w w
+      on : (q : Question) (g : Given) → Err r ≡ given g → Outcome (trying_with desk q g) (Refused r) w w
       on q (gives ρ) e = absurd (let z : ◌≡◌ {A = ℕ} 0 1 = cc in omega arith)
       on q (values.refuses s) e = let z : r ≡ s = cc in (ap Refused z, refl)
 
-  fine-gives : {c : Checked} → c ≡ given (read_filling desk (counts_in h) fs) → c ≡ Fine → (ρ : Filling) × (read_filling desk (counts_in h) fs ≡ gives ρ)
+  fine-gives : {c : Result (Unit {0}) Refusal} → c ≡ given (read_filling desk (counts_in h) fs) → c ≡ Ok tt → (ρ : Filling) × (read_filling desk (counts_in h) fs ≡ gives ρ)
   unfolding given
   fine-gives {c} e f = on (read_filling desk (counts_in h) fs) refl (sym f ∙ e)
     where
-      on : (g : Given) → read_filling desk (counts_in h) fs ≡ g → Fine ≡ given g → (ρ : Filling) × (read_filling desk (counts_in h) fs ≡ gives ρ)
+      on : (g : Given) → read_filling desk (counts_in h) fs ≡ g → Ok tt ≡ given g → (ρ : Filling) × (read_filling desk (counts_in h) fs ≡ gives ρ)
       on (gives ρ) i e = (ρ, i)
       on (values.refuses s) i e = absurd (let z : ◌≡◌ {A = ℕ} 0 1 = cc in omega arith)
 
-  pub asked-some : {c : Checked} → c ≡ given (read_filling desk (counts_in h) fs) → c ≡ Fine → AskedQuestion h ws → SomeQuestion h fs ws
+  pub asked-some : {c : Result (Unit {0}) Refusal} → c ≡ given (read_filling desk (counts_in h) fs) → c ≡ Ok tt → AskedQuestion h ws → SomeQuestion h fs ws
   asked-some e f a = let (ρ, g) = fine-gives e f in record { q = a.q; ρ = ρ; it = record { read = a.read; head = a.head; given = g } }
 
-  pub asked-given : {c : Checked} {t : Tried} {w w' : List ℕ} → c ≡ given (read_filling desk (counts_in h) fs) → c ≡ Fine → TriedGiven h fs ws t w w' → TriedAsked h fs ws t w w'
+  pub asked-given : {c : Result (Unit {0}) Refusal} {t : Tried} {w w' : List ℕ} → c ≡ given (read_filling desk (counts_in h) fs) → c ≡ Ok tt → TriedGiven h fs ws t w w' → TriedAsked h fs ws t w w'
   asked-given {t = t} {w} {w'} e f a = record {
     each = λ q p i.
         let (ρ, g) = fine-gives e f in
@@ -104,29 +102,29 @@ module _ (ws fs w : List ℕ) where
     unfolding trying
     reads_on = rw (trying, le-ltb (length w) desk.room p)
 
-    pub refused-question : {c : Checked} {r : Refusal} → c ≡ checked (read_question desk ws) → c ≡ checked-as.Refused r → ToldOutcome (trying desk (length w) ws fs) (Refused r) w w
+    pub refused-question : {c : Result (Unit {0}) Refusal} {r : Refusal} → c ≡ checked (read_question desk ws) → c ≡ Err r → ToldOutcome (trying desk (length w) ws fs) (Refused r) w w
     unfolding checked
     refused-question {c} {r} e f = told-outcome (trying desk (length w) ws fs) (Refused r) w w (subst (λ x. Outcome x (Refused r) w w) (sym reads_on) (on (read_question desk ws) (sym f ∙ e)))
       where
-        on : (a : Asked) → checked-as.Refused r ≡ checked a → Outcome (trying_of desk a fs) (Refused r) w w
+        on : (a : Asked) → Err r ≡ checked a → Outcome (trying_of desk a fs) (Refused r) w w
         on (asks q) e = absurd (let z : ◌≡◌ {A = ℕ} 0 1 = cc in omega arith)
         on (refuses s) e = let z : r ≡ s = cc in (ap Refused z, refl)
 
-    pub fine-asks : {c : Checked} → c ≡ checked (read_question desk ws) → c ≡ Fine → (q : Question) × (read_question desk ws ≡ asks q)
+    pub fine-asks : {c : Result (Unit {0}) Refusal} → c ≡ checked (read_question desk ws) → c ≡ Ok tt → (q : Question) × (read_question desk ws ≡ asks q)
     unfolding checked
     fine-asks {c} e f = on (read_question desk ws) refl (sym f ∙ e)
       where
-        on : (a : Asked) → read_question desk ws ≡ a → Fine ≡ checked a → (q : Question) × (read_question desk ws ≡ asks q)
+        on : (a : Asked) → read_question desk ws ≡ a → Ok tt ≡ checked a → (q : Question) × (read_question desk ws ≡ asks q)
         on (asks q) i e = (q, i)
         on (refuses s) i e = absurd (let z : ◌≡◌ {A = ℕ} 0 1 = cc in omega arith)
 
-    pub question-long : {c : Checked} → c ≡ checked (read_question desk ws) → c ≡ Fine → 6 ≤ length ws
+    pub question-long : {c : Result (Unit {0}) Refusal} → c ≡ checked (read_question desk ws) → c ≡ Ok tt → 6 ≤ length ws
     question-long e f = let (q, i) = fine-asks e f in (ranges desk ws q i).long
 
-    pub question-asked : {c : Checked} {h : Header} → c ≡ checked (read_question desk ws) → c ≡ Fine → h ≡ header_of ws → AskedQuestion h ws
+    pub question-asked : {c : Result (Unit {0}) Refusal} {h : Header} → c ≡ checked (read_question desk ws) → c ≡ Ok tt → h ≡ header_of ws → AskedQuestion h ws
     question-asked e f g = let (q, i) = fine-asks e f in record { q = q; read = i; head = g }
 
-    pub question-tried : {c : Checked} {h : Header} {t : Tried} {w' : List ℕ} → c ≡ checked (read_question desk ws) → c ≡ Fine → h ≡ header_of ws → TriedAsked h fs ws t w w' → ToldOutcome (trying desk (length w) ws fs) t w w'
+    pub question-tried : {c : Result (Unit {0}) Refusal} {h : Header} {t : Tried} {w' : List ℕ} → c ≡ checked (read_question desk ws) → c ≡ Ok tt → h ≡ header_of ws → TriedAsked h fs ws t w w' → ToldOutcome (trying desk (length w) ws fs) t w w'
     question-tried {t = t} {w'} e f g a =
         let (q, i) = fine-asks e f in
         told-outcome (trying desk (length w) ws fs) t w w' (subst (λ x. Outcome x t w w') (sym (reads_on ∙ ap (λ x. trying_of desk x fs) i)) (a.each q i g))

@@ -12,9 +12,8 @@ ghost use Rattle.trying.specs.Outcome.{ToldOutcome, TriedGiven, TriedAsked};
 use header::Header;
 use language::limits::{LITERAL, ROOM};
 use language::{Refusal, Signature, wide};
-use outcomes::{Checked, Tried};
+use outcomes::Tried;
 use slices::clear;
-use trees::Read;
 
 // ---- A literal.
 
@@ -23,8 +22,8 @@ fn first_end(literal: &[u16]) -> usize
     ensures { FirstEnd literal.now result }
 {
     match trees::read_hedge(literal, 1) {
-        Read::Next(end) => end,
-        Read::Stop(place) => place,
+        Ok(end) => end,
+        Err(place) => place,
     }
 }
 
@@ -115,8 +114,8 @@ fn literal_end(conj: &[u16], at: usize) -> usize
     ensures { LiteralEnd conj.now at result }
 {
     match trees::read_literal(conj, at) {
-        Read::Next(end) => end,
-        Read::Stop(place) => place,
+        Ok(end) => end,
+        Err(place) => place,
     }
 }
 
@@ -221,8 +220,8 @@ fn try_asked<'a>(h: Header, question: &'a [u16], filling: &'a [u16], work: &mut 
     ensures { TriedAsked h filling.now question.now result work.old work.new }
 {
     match given::read_filling(h, filling) {
-        Checked::Refused(refusal) => Tried::Refused(refusal),
-        Checked::Fine => try_given(h, question, filling, work),
+        Err(refusal) => Tried::Refused(refusal),
+        Ok(()) => try_given(h, question, filling, work),
     }
 }
 
@@ -234,8 +233,8 @@ pub fn try_filling<'a>(question: &'a [u16], filling: &'a [u16], work: &mut [u16]
         return Tried::Refused(Refusal::ShortSlice);
     }
     match reader::read_question(question) {
-        Checked::Refused(mistake) => Tried::Refused(mistake),
-        Checked::Fine => {
+        Err(mistake) => Tried::Refused(mistake),
+        Ok(()) => {
             let h = header::read_header(question);
             try_asked(h, question, filling, work)
         }

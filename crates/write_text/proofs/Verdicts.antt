@@ -6,7 +6,6 @@ use mathlib.Core.List.{List}
 use native.Mathlib.Omega.{arith}
 use lib.ListN.{length}
 use borrow.Author.Tests.{le-leb, lt-leb}
-use Rattle.std.specs.Prelude.{Result, Ok}
 use Rattle.language.specs.declared.Refusal.{Refusal}
 use Rattle.language.specs.declared.Refusal.TheVariants.{LongText, OtherNumbers}
 use Rattle.language.specs.Limits.{desk}
@@ -14,8 +13,7 @@ use Rattle.language.specs.Kinds.{pick}
 use Rattle.language.specs.Trees.{Question}
 use Rattle.language.specs.Question.{asks, refuses, read_question}
 use Rattle.language.proofs.Bools.{holds, fails}
-use Rattle.outcomes.specs.declared.Checked.{Checked}
-use Rattle.outcomes.specs.declared.Checked.TheVariants.{Fine, Refused}
+use Rattle.std.specs.Prelude.{Result, Ok, Err}
 use Rattle.outcomes.specs.Numbers.{checked_numbers}
 use Rattle.reader.specs.Checking.{asked_numbers}
 use Rattle.reader.proofs.Answers.{as-checked, question-asked, question-refused}
@@ -27,7 +25,7 @@ use Rattle.write_text.specs.Writes.{written_by, left_by}
 -- ---- the question's check
 
 module _ (w : List ℕ) where
-  pub fine-question : (c : Checked) → checked_numbers c ≡ asked_numbers (read_question desk w) → c ≡ Fine → IsQuestion w
+  pub fine-question : (c : Result (Unit {0}) Refusal) → checked_numbers c ≡ asked_numbers (read_question desk w) → c ≡ Ok tt → IsQuestion w
   fine-question c e f = let (q, i) = question-asked w (sym f ∙ as-checked c _ e) in record { question = q; read = i }
 
   -- ---- what comes back, and what the room holds
@@ -54,7 +52,7 @@ module _ (w : List ℕ) where
   unfolding lent
   too_long room t p = ap (λ b. pick b (gives t) (denies LongText)) (lt-leb (length t) room p)
 
-  pub ends-refused : {room : List ℕ} {r : Refusal} (c : Checked) → checked_numbers c ≡ asked_numbers (read_question desk w) → c ≡ Refused r → Ends room (written_by (denies r)) room
+  pub ends-refused : {room : List ℕ} {r : Refusal} (c : Result (Unit {0}) Refusal) → checked_numbers c ≡ asked_numbers (read_question desk w) → c ≡ Err r → Ends room (written_by (denies r)) room
   ends-refused {room} {r} c e f = ends room (denies r) (denied (length room) r (question-refused w r (sym f ∙ as-checked c _ e)))
 
   abbrev text_of : IsQuestion w → List ℕ
