@@ -1,6 +1,5 @@
 -- For all places of the words where the expression there ends, and whether it is nullable.
 use Rattle.std.specs.Prelude.{ℕ, ◌<◌, ◌≤◌, ◌≡◌, Bool, false, List, eqb, length, get_or}
-use Rattle.std.proofs.Props.{props}
 use Rattle.expressions.specs.declared.Part.{Part}
 use Rattle.expressions.specs.Standing.{Parted}
 
@@ -21,7 +20,3 @@ pub record Charts (k ends : List ℕ) (nulls : List Bool) (ends' : List ℕ) (nu
   pub nulls-long : length nulls' ≡ length nulls
   pub ends-kept : (i : ℕ) → length k ≤ i → get_or ends' i 0 ≡ get_or ends i 0
   pub nulls-kept : (i : ℕ) → length k ≤ i → get_or nulls' i false ≡ get_or nulls i false
-
--- there is one proof of it at the most
-pub charted_one : (at : ℕ) (k ends : List ℕ) (nulls : List Bool) → IsProp (ChartedFrom at k ends nulls)
-charted_one at k ends nulls = Prim.hlevel props

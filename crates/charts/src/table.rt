@@ -1,5 +1,6 @@
 // Words with their whole chart, as all that walks in expressions is handed it.
-ghost use Rattle.charts.specs.Charted.{ChartedFrom, charted_one};
+ghost use Rattle.std.proofs.Props.{props};
+ghost use Rattle.charts.specs.Charted.{ChartedFrom};
 
 use crate::part_at;
 use expressions::Part;
@@ -10,7 +11,7 @@ pub struct Chart<'a> {
     pub words: &'a [u16],
     pub ends: &'a [usize],
     pub nulls: &'a [bool],
-    pub ghost charted: { ChartedFrom 0 words.now ends.now nulls.now } by { charted_one 0 words.now ends.now nulls.now },
+    pub ghost charted: { ChartedFrom 0 words.now ends.now nulls.now } by { Prim.hlevel props },
 }
 
 impl<'a> Chart<'a> {

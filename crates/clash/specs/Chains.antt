@@ -1,6 +1,5 @@
 -- The pairs met so far, in the order they were met, chained by a sum of their two numbers. Heads and links hold a place plus one; 0 ends a chain.
 use Rattle.std.specs.Prelude.{ℕ, suc, ◌+◌, ◌*◌, ◌%◌, ◌<◌, ◌≤◌, ◌≡◌, Bool, true, false, List, length, get_or}
-use Rattle.std.proofs.Props.{props}
 use Rattle.language.specs.Limits.{walked_pairs}
 
 -- room for as many pairs as a walk may reach, and for the one that is too many
@@ -36,10 +35,6 @@ pub record Chained (left right links heads : List ℕ) (n : ℕ) : Type 0 where
   pub link-past : (i j : ℕ) → i < n → j < i → chain_at left right j ≡ chain_at left right i → j < get_or links i 0
   pub link-in : (i : ℕ) → i < n → get_or links i 0 ≤ i
   pub link-chain : (i j : ℕ) → i < n → get_or links i 0 ≡ suc j → chain_at left right j ≡ chain_at left right i
-
--- there is one proof of it at the most
-pub chained_one : (left right links heads : List ℕ) (n : ℕ) → IsProp (Chained left right links heads n)
-chained_one left right links heads n = Prim.hlevel props
 
 -- whether it is
 pub record Tested (left right : List ℕ) (a b i : ℕ) (r : Bool) : Type 0 where

@@ -1,8 +1,9 @@
 // The pairs of states that a walk has met, in the order in which it met them. A pair is looked for only among those of its chain, by a number made of
 // its two states. Heads and links hold a place plus one; 0 ends a chain.
 ghost use Rattle.std.specs.Prelude.{◌≡◌, ◌+◌, ◌<◌, ◌≤◌, set};
+ghost use Rattle.std.proofs.Props.{props};
 ghost use Rattle.language.specs.Limits.{walked_pairs};
-ghost use Rattle.clash.specs.Chains.{chain_of, Chained, chained_one};
+ghost use Rattle.clash.specs.Chains.{chain_of, Chained};
 
 use language::limits::PAIRS;
 use language::wide;
@@ -36,7 +37,7 @@ pub(crate) struct Stops {
     pub links: [u16; STOPS],
     pub heads: [u16; CHAINS],
     pub count: usize,
-    pub ghost chained: { Chained left right links heads count } by { chained_one left right links heads count },
+    pub ghost chained: { Chained left right links heads count } by { Prim.hlevel props },
 }
 
 impl Stops {
