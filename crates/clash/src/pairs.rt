@@ -6,7 +6,6 @@ ghost use Rattle.language.specs.Limits.{walked_pairs};
 ghost use Rattle.clash.specs.Chains.{chain_of, Chained};
 
 use language::limits::PAIRS;
-use language::wide;
 
 // Room for one pair more than a walk may reach: so many show that it is too long.
 pub(crate) const STOPS: usize = PAIRS + 1;
@@ -59,12 +58,12 @@ impl Stops {
         ensures { Found self.now.left self.now.right self.now.count a b result }
     {
         let h = chain_of(a, b);
-        let mut x = wide(self.heads[h]);
+        let mut x = usize::from(self.heads[h]);
         while x != 0 {
             if self.stands(x - 1, a, b) {
                 return x;
             }
-            x = wide(self.links[x - 1]);
+            x = usize::from(self.links[x - 1]);
         }
         0
     }

@@ -12,7 +12,6 @@ use crate::walking::Places;
 use bools::{and, or};
 use charts::Chart;
 use language::limits::QUESTION;
-use language::wide;
 use state_classes::STATES;
 
 // Whether a pair is one of the first n, and is marked.
@@ -62,7 +61,7 @@ fn leads_with(
     ensures { LeadsWith k.now classes.now met.now.left met.now.right met.now.count inner.now rest.now p qs.now count result }
 {
     for j in 0..count {
-        if leads(k, classes, met, inner, rest, p, wide(qs[j])) {
+        if leads(k, classes, met, inner, rest, p, usize::from(qs[j])) {
             return true;
         }
     }
@@ -85,7 +84,7 @@ fn leads_of(
     ensures { LeadsOf k.now classes.now met.now.left met.now.right met.now.count inner.now rest.now ps.now ones qs.now others result }
 {
     for i in 0..ones {
-        if leads_with(k, classes, met, inner, rest, wide(ps[i]), qs, others) {
+        if leads_with(k, classes, met, inner, rest, usize::from(ps[i]), qs, others) {
             return true;
         }
     }
@@ -108,8 +107,8 @@ pub(crate) fn leads_from(
     let k = chart.words;
     let mut ps = [0; QUESTION];
     let mut qs = [0; QUESTION];
-    let a = wide(met.left[i]);
-    let b = wide(met.right[i]);
+    let a = usize::from(met.left[i]);
+    let b = usize::from(met.right[i]);
     let x = symbols_after(chart, at.at, at.end, a, &mut ps);
     let y = symbols_after(chart, at.other, at.last, b, &mut qs);
     leads_of(k, classes, met, inner, rest, &ps, x.count, &qs, y.count)

@@ -10,7 +10,6 @@ use crate::symbols::symbols_after;
 use bools::and;
 use charts::Chart;
 use language::limits::{PAIRS, QUESTION};
-use language::wide;
 use state_classes::STATES;
 
 // The two pairs that the symbols at p and q lead to, where these are one symbol.
@@ -37,7 +36,7 @@ fn meet_with(
     ensures { Grown (TwinWith k.now classes.now p qs.now count) met.old.left met.old.right met.old.count met.new.left met.new.right met.new.count }
 {
     for j in 0..count {
-        meet_twin(k, classes, p, wide(qs[j]), met);
+        meet_twin(k, classes, p, usize::from(qs[j]), met);
     }
 }
 
@@ -55,7 +54,7 @@ fn meet_all(
     ensures { Grown (TwinOf k.now classes.now ps.now ones qs.now others) met.old.left met.old.right met.old.count met.new.left met.new.right met.new.count }
 {
     for i in 0..ones {
-        meet_with(k, classes, wide(ps[i]), qs, others, met);
+        meet_with(k, classes, usize::from(ps[i]), qs, others, met);
     }
 }
 
@@ -105,8 +104,8 @@ pub(crate) fn walk_on(
         if PAIRS < met.count {
             return;
         }
-        let a = wide(met.left[i]);
-        let b = wide(met.right[i]);
+        let a = usize::from(met.left[i]);
+        let b = usize::from(met.right[i]);
         empty[i] = go_on(chart, classes, at, a, b, met);
         i += 1;
     }

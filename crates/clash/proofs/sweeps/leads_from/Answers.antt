@@ -23,4 +23,4 @@ pub leads_of-requires : goal.leads_of-requires
 leads_of-requires c = (c.requires.0.few, c.symbols_after-x.ensures.listed, c.symbols_after-y.ensures.listed)
 
 pub returns : goal.returns
-returns c = leads-from _ c.wide-a.ensures c.wide-b.ensures c.symbols_after-x.ensures c.symbols_after-y.ensures refl refl c.leads_of.ensures
+returns c = leads-from _ c.from-a.ensures c.from-b.ensures c.symbols_after-x.ensures c.symbols_after-y.ensures refl refl c.leads_of.ensures

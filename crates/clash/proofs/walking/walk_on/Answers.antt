@@ -26,7 +26,7 @@ pub loop-i-smaller : goal.loop-i-smaller
 loop-i-smaller c = let f = c.loop-i.met.chained.few in let l = c.loop-i-test.true in omega arith
 
 pub loop-i-preserved : goal.loop-i-preserved
-loop-i-preserved c = let f = c.loop-i.met.chained.few in let l = c.loop-i-test.true in let e = c.loop-i.invariant.1 in let p = c.requires.2 in (walks_more c.loop-i.invariant.0 l c.wide-a.ensures c.wide-b.ensures c.go_on.ensures (omega arith), length-set c.loop-i.empty _ _ ∙ e)
+loop-i-preserved c = let f = c.loop-i.met.chained.few in let l = c.loop-i-test.true in let e = c.loop-i.invariant.1 in let p = c.requires.2 in (walks_more c.loop-i.invariant.0 l c.from-a.ensures c.from-b.ensures c.go_on.ensures (omega arith), length-set c.loop-i.empty _ _ ∙ e)
 
 pub returns : goal.returns
 returns c = (gone-all c.loop-i.invariant.0 c.loop-i-test.false, c.loop-i.invariant.1 ∙ c.requires.2)
