@@ -31,10 +31,9 @@ pub fn lay_out(question: &[u16], work: &mut [u16]) -> usize
     requires { (length question.now ≤ desk.question) × (laid_out 5 (get_or question.now 4 0) question.now ≡ true) × (desk.room ≤ length work.old) }
     ensures { Laid work.old result (in_order 0 (parts 5 (get_or question.now 4 0) question.now)) work.new }
 {
-    let mut i = wide(question[4]);
+    let n = wide(question[4]);
     let mut at: usize = ROOM;
-    while 0 < i {
-        i -= 1;
+    for i in (0..n).rev() {
         let from = wide(question[i + 5]);
         let to = wide(question[i + 6]);
         at = push(question, from, to, i as u16, work, at);

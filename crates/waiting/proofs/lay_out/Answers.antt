@@ -14,7 +14,7 @@ bounds-question-4 c = let t = laid-length 5 _ _ c.requires.1 in omega arith
 
 pub loop-i-init : goal.loop-i-init
 loop-i-init c = let q = c.args.question.now in
-    let e = c.wide-i.ensures in
+    let e = c.wide-n.ensures in
     let t = laid-length 5 _ _ c.requires.1 in
     (omega arith, omega arith, omega arith, rw e (laid_none q c.requires.1 c.args.work.now))
 
