@@ -49,20 +49,17 @@ fn write_few(k: &[u16], all: Places, n: usize, number: usize, out: &mut [u16], a
     ensures { Wrote out.old at (elements_at k.now (in_order n number all.at)) out.new result }
 {
     let mut ps = all;
-    let mut m = n;
     let mut j = number;
     let mut e = at;
-    while m != 0 {
-        let rest = m - 1;
+    for rest in (0..n).rev() {
         let block = count_orders(rest);
-        let d = j / block % m;
+        let d = j / block % (rest + 1);
         let row = ps.at;
         let p = row[d];
         let end = element_end(k, p);
         e = copy(k, p, end, out, e);
         ps = without(ps, d);
         j = j % block;
-        m = rest;
     }
     e
 }
@@ -80,14 +77,13 @@ pub fn write_order(
     ensures { Wrote out.old at (ordered k.now from n number) out.new result }
 {
     let mut p = from;
-    let mut m = n;
     let mut e = at;
-    while 8 < m {
+    for _ in 8..n {
         let end = element_end(k, p);
         e = copy(k, p, end, out, e);
         p = end;
-        m -= 1;
     }
+    let m = n.min(8);
     let few = places_of(k, p, m);
     write_few(k, few, m, number, out, e)
 }

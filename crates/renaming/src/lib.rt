@@ -31,6 +31,7 @@ fn rename(
     ensures { Wrote out.old at (renamed old new (slice from to k.now)) out.new result }
 {
     let end = within(k, to);
+    // kept: e is where the next word goes, in another slice than i, and is the answer
     let mut e = at;
     for i in from..end {
         out[e] = rename_word(k[i], old, new);
