@@ -12,7 +12,7 @@ use elimination_plans::plan_elimination;
 use finds::all_terms;
 use language::Signature;
 use plans::{Piece, Plan, Ways, Within, inner};
-use recipes::{few, full, plan_drop};
+use recipes::{few, full, plan_drop, single};
 use rules::places::{AT_D0, AT_D1, AT_D2, AT_DEL1, AT_DEL2, AT_R1};
 use sharing::{Spots, first_shared};
 use views::View;
@@ -32,11 +32,7 @@ fn plan_r1(v: View) -> Plan
         0,
         0,
     );
-    Plan {
-        ways: Ways::One(0),
-        first,
-        second: first,
-    }
+    single(Ways::One(0), first)
 }
 
 // The parts from..to and start..end are equal.
@@ -53,11 +49,7 @@ fn equate(v: View, from: usize, to: usize, start: usize, end: usize) -> Plan
         0,
         0,
     );
-    Plan {
-        ways: Ways::One(0),
-        first,
-        second: first,
-    }
+    single(Ways::One(0), first)
 }
 
 // The hedge variable is struck from both sides.
@@ -104,11 +96,7 @@ fn strike_out(v: View, s: Spots) -> Plan
         0,
         0,
     );
-    Plan {
-        ways: Ways::One(0),
-        first,
-        second: first,
-    }
+    single(Ways::One(0), first)
 }
 
 // The first element that the children share is struck.
@@ -147,11 +135,7 @@ fn reorder(v: View, left: Within, right: Within, n: usize) -> Plan
         0,
         0,
     );
-    Plan {
-        ways: Ways::Orders(n),
-        first,
-        second: first,
-    }
+    single(Ways::Orders(n), first)
 }
 
 // The terms of T are counted.
@@ -190,11 +174,7 @@ fn plan_d2(v: View) -> Plan
         0,
         0,
     );
-    Plan {
-        ways: Ways::One(0),
-        first,
-        second: first,
-    }
+    single(Ways::One(0), first)
 }
 
 // The results of the rule of that place in the list, which applies.

@@ -9,7 +9,7 @@ ghost use Rattle.membership_plans.specs.Planned.{Is, Answered, RuleApplies};
 
 use finds::all_terms;
 use plans::{Piece, Plan, Recipe, Ways, Within, inner};
-use recipes::{few, full, plan_drop};
+use recipes::{few, full, plan_drop, single};
 use rules::places::{AT_M1, AT_M3, AT_M4, AT_M5, AT_M6, AT_M7, AT_M10, AT_M11, AT_M12, AT_R2};
 use views::Shape;
 
@@ -44,11 +44,7 @@ fn plan_r2(s: Shape) -> Plan
         0,
         0,
     );
-    Plan {
-        ways: Ways::One(0),
-        first,
-        second: first,
-    }
+    single(Ways::One(0), first)
 }
 
 // p = ε for each place of a hedge variable, which vanishes everywhere else.
@@ -68,11 +64,7 @@ fn plan_m1(k: &[u16], s: Shape) -> Plan
         part.to,
         0,
     );
-    Plan {
-        ways: Ways::One(0),
-        first,
-        second: first,
-    }
+    single(Ways::One(0), first)
 }
 
 // p in f(R), H = ε.
@@ -145,11 +137,7 @@ fn plan_m4(k: &[u16], s: Shape) -> Plan
     let h = s.h;
     let part = inner(k, s.expr, s.end);
     let first = member_in(s, h.from, h.to, part.from, s.end);
-    Plan {
-        ways: Ways::One(0),
-        first,
-        second: first,
-    }
+    single(Ways::One(0), first)
 }
 
 // H in R.
@@ -160,11 +148,7 @@ fn plan_m11(k: &[u16], s: Shape) -> Plan
     let children = inner(k, h.from, h.to);
     let part = inner(k, s.expr, s.end);
     let first = member_in(s, children.from, children.to, part.from, s.end);
-    Plan {
-        ways: Ways::One(0),
-        first,
-        second: first,
-    }
+    single(Ways::One(0), first)
 }
 
 // T' in R for each order T' of the n elements of T.
@@ -189,11 +173,7 @@ fn reorder(s: Shape, children: Within, part: Within, n: usize) -> Plan
         0,
         0,
     );
-    Plan {
-        ways: Ways::Orders(n),
-        first,
-        second: first,
-    }
+    single(Ways::Orders(n), first)
 }
 
 // The terms of T are counted.
@@ -312,11 +292,7 @@ fn plan_m10(k: &[u16], s: Shape) -> Plan
         left.from,
         s.expr,
     );
-    Plan {
-        ways: Ways::One(right.from),
-        first,
-        second: first,
-    }
+    single(Ways::One(right.from), first)
 }
 
 // The results of the rule of that place in the list, which applies; M2's are made by monomials, and have no plan.

@@ -1,8 +1,8 @@
-// A recipe put together from its pieces, and the plan that leaves nothing.
+// A recipe put together from its pieces, and a plan of one recipe.
 #![tactic(auto)]
 
 ghost use Rattle.std.specs.Prelude.{◌≡◌};
-ghost use Rattle.plans.specs.Slots.{full_recipe, few_recipe, drop_plan};
+ghost use Rattle.plans.specs.Slots.{full_recipe, few_recipe, single, drop_plan};
 
 use plans::{Piece, Plan, Recipe, Slot, Ways};
 
@@ -67,15 +67,22 @@ pub fn few(
     )
 }
 
+// A plan of one recipe.
+pub fn single(ways: Ways, first: Recipe) -> Plan
+    ensures { result ≡ single ways first }
+{
+    Plan {
+        ways,
+        first,
+        second: first,
+    }
+}
+
 // No result.
 pub fn plan_drop() -> Plan
     ensures { result ≡ drop_plan }
 {
     let none = Piece::Copy(0, 0);
     let first = few(none, none, none, none, none, 0, 0, 0);
-    Plan {
-        ways: Ways::Drop,
-        first,
-        second: first,
-    }
+    single(Ways::Drop, first)
 }
