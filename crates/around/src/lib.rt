@@ -15,11 +15,11 @@ use outcomes::{Outcome, Solved};
 use reader::read_question;
 use slices::clear;
 
-// What a run comes to: the steps made and the lines, or a refusal.
+// What a run that no refusal stopped comes to: the steps made and the lines.
 #[derive(Clone, Copy)]
-pub enum Ran {
-    Done(usize, Tally),
-    Stopped(Refusal),
+pub struct Ran {
+    pub steps: usize,
+    pub tally: Tally,
 }
 
 // A refusal reports 0 for all three.
@@ -48,22 +48,23 @@ fn verdict_of(t: Tally) -> Outcome
 }
 
 // What a run that came to this is told as. The work slice is cleared, and after a refusal the answer slice too.
-pub fn tell(ran: Ran, work: &mut [u16], answer: &mut [u16]) -> Solved
+pub fn tell(ran: Result<Ran, Refusal>, work: &mut [u16], answer: &mut [u16]) -> Solved
     requires { (desk.room ≤ length work.old) × (desk.room ≤ length answer.old) }
     ensures { (result, work.new, answer.new) ≡ told_by ran work.old answer.old }
 {
     clear(work);
     match ran {
-        Ran::Done(steps, t) => {
+        Ok(r) => {
+            let t = r.tally;
             let outcome = verdict_of(t);
             Solved {
                 outcome,
                 lines: t.lines,
                 open: t.open,
-                steps,
+                steps: r.steps,
             }
         }
-        Ran::Stopped(e) => {
+        Err(e) => {
             clear(answer);
             refused(e)
         }
@@ -84,11 +85,10 @@ pub fn ready(question: &[u16], work: usize, answer: usize) -> Result<(), Refusal
 }
 
 // After a refusal the room is cleared.
-pub fn settle(ran: Ran, out: &mut [u16])
+pub fn settle(ran: Result<Ran, Refusal>, out: &mut [u16])
     ensures { Settles ran out.old out.new }
 {
-    match ran {
-        Ran::Done(_, _) => {}
-        Ran::Stopped(_) => out.fill(0),
+    if ran.is_err() {
+        out.fill(0);
     }
 }

@@ -2,16 +2,9 @@
 use crate::places::{minus, past, plus};
 use crate::rooms::{BODY, carry, head};
 use language::limits::{QUESTION, ROOM};
-use named_steps::{Stepping, step_named};
+use named_steps::step_named;
 use rules::places::AT_CLASH;
 use words::word;
-
-fn is_made(s: Stepping) -> bool {
-    match s {
-        Stepping::Made(_) => true,
-        Stepping::Refused(_) => false,
-    }
-}
 
 // Whether the first so many words of a question's room are a question whose first literal clashes.
 fn clashes(two: &[u16], n: usize) -> bool {
@@ -19,7 +12,7 @@ fn clashes(two: &[u16], n: usize) -> bool {
         return false;
     }
     let mut work = [0u16; ROOM];
-    is_made(step_named(&two[0..n], 0, AT_CLASH as u16, 0, 0, &mut work))
+    step_named(&two[0..n], 0, AT_CLASH as u16, 0, 0, &mut work).is_ok()
 }
 
 // Whether two literals clash by themselves.

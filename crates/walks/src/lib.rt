@@ -10,7 +10,7 @@ mod shown;
 
 use language::limits::{QUESTION, ROOM};
 use language::wide;
-use named_steps::{Stepping, step_named};
+use named_steps::step_named;
 use places::{literal_from, minus, plus};
 use print::{number, say};
 use rooms::{
@@ -153,8 +153,8 @@ fn step(
     let side = word(trail, plus(from, 2));
     let mut work = [0u16; ROOM];
     match step_named(one, f.number, rule, literal, side, &mut work) {
-        Stepping::Made(begin) => stepped(out, one, names, trail, &work, begin, f, waiting, p),
-        Stepping::Refused(_) => over(p),
+        Ok(begin) => stepped(out, one, names, trail, &work, begin, f, waiting, p),
+        Err(_) => over(p),
     }
 }
 
