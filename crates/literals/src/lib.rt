@@ -17,13 +17,10 @@ pub fn literal_place(k: &[u16], number: usize) -> usize
     ensures { (c : Conj) → fine_conj desk c → k.now ≡ conj_words c → result ≡ words_before number c }
 {
     let mut i = 0;
-    // kept: the walk goes on where next_literal says and ends with the words; left tells how many literals are still to be passed
-    let mut left = number;
-    while i < k.len() {
-        if left == 0 {
+    for _ in 0..number {
+        if k.len() <= i {
             return i;
         }
-        left -= 1;
         i = next_literal(k, i);
     }
     i

@@ -1,16 +1,15 @@
-use Prim.Native.Nat.{ℕ, ◌+◌, ◌-◌, ◌/◌, ◌≤◌}
+use Prim.Native.Nat.{ℕ, ◌+◌, ◌/◌, ◌≤◌}
 use native.Mathlib.Omega.{arith}
 use mathlib.Core.Path.{◌≡◌, refl, ap, ◌∙◌}
 use mathlib.Core.List.{List}
 use lib.ListN.{length, length-replicate}
 use Rattle.language.specs.Limits.{desk}
-use Rattle.language.specs.Trees.{Conj}
 use Rattle.language.specs.Writing.{conj_words}
 use Rattle.language.proofs.Sizes.{literal-three}
 use Rattle.views.proofs.Seen.{literal-next}
 use Rattle.views.proofs.LiteralWalks.{walk-starts, walk_here, walk-to, walk_ends}
-use Rattle.folding.proofs.Twice.{twice_from, twice-is}
-use Rattle.folding.proofs.Tables.{Table, table_empty}
+use Rattle.folding.proofs.Twice.{twice-is}
+use Rattle.folding.proofs.Tables.{table_empty}
 use Rattle.folding.proofs.Noting.{falls-on, falls-empty, zeros, noted, literal-within}
 use Rattle.folding.proofs.first_twice.Invariants.{Known}
 use Rattle.folding.proofs.first_twice.Goals as goal
