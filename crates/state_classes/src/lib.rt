@@ -49,15 +49,13 @@ fn key_of(chart: &Chart, at: usize, s: usize) -> u16
     ensures { Keyed chart.now.words.now at s result }
 {
     let t = tail_of(chart, at, s);
-    let o = lay_open(chart, t);
-    if o.none {
+    let Some(o) = lay_open(chart, t) else {
         return 1;
+    };
+    match take_apart(chart, t, o) {
+        Ok(c) => words_at(chart, c.part),
+        Err(part) => words_at(chart, part),
     }
-    let c = take_apart(chart, t, o);
-    if c.can {
-        return words_at(chart, c.part);
-    }
-    words_at(chart, o.part)
 }
 
 // Whether a number is that of a state that means what s means. x and y are the keys of the two, which are looked at first.
