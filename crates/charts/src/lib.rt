@@ -115,6 +115,7 @@ pub fn level_of(chart: &Chart, at: usize, j: usize) -> usize
     ensures { Leveled chart.now.words.now at j result }
 {
     let k = chart.words;
+    // kept: goes on to the part in which the symbol stands, which may be many places further
     let mut x = at;
     let mut l = at;
     while x < j {

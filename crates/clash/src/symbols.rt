@@ -10,6 +10,7 @@ use charts::Chart;
 use language::limits::QUESTION;
 
 // How many symbols can be read next, and whether nothing need be read.
+// kept: both are told of every state, so that neither is missing where the other is not.
 #[derive(Clone, Copy)]
 pub struct Symbols {
     pub count: usize,

@@ -99,6 +99,7 @@ pub(crate) fn walk_on(
     requires { Bounds at (length chart.now.words.now) × (met.old.count ≡ 1) × (length empty.old ≡ stops) }
     ensures { Gone chart.now.words.now classes.now at met.old.left met.old.right met.new.left met.new.right empty.new met.new.count × (length empty.new ≡ stops) }
 {
+    // kept: more is met while the loop goes on, so that no range tells its end
     let mut i = 0;
     while i < met.count {
         if PAIRS < met.count {

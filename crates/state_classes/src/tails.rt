@@ -27,6 +27,7 @@ fn peel(chart: &Chart, at: usize, p: usize) -> Option<Cut>
     ensures { Peeled chart.now.words.now at p result }
 {
     let k = chart.words;
+    // kept: goes on to the part behind which the symbol stands, which may be many places further
     let mut x = at;
     while x < k.len() {
         let w = k[x];
@@ -71,6 +72,7 @@ fn same_at(chart: &Chart, a: usize, b: usize) -> bool
 }
 
 // An expression in the words, or what is left of it after a symbol.
+// kept: both kinds have a place, by which the recursion of `same` goes down, so that an enum would ask for it by a match each time.
 #[derive(Clone, Copy)]
 pub struct Tail {
     pub at: usize,
@@ -79,6 +81,7 @@ pub struct Tail {
 }
 
 // A tail laid open that is not nothing: one expression in the words, or a concatenation, by its second part, and where the rest of it is left.
+// kept: both kinds have a value of their own.
 #[derive(Clone, Copy)]
 pub enum Laid {
     One(usize),
