@@ -39,6 +39,7 @@ pub fn all_terms(k: &[u16], at: usize) -> Terms
     let mut i = at;
     let mut n: usize = 0;
     let mut x = word(k, at);
+    // kept: the place goes on by where an element ends; n only counts those passed.
     while is_term(x) {
         i = element_end(k, i);
         n += 1;
@@ -57,6 +58,7 @@ fn up_to_word(k: &[u16], at: usize, p: usize) -> Option<usize>
     let mut i = at;
     let mut n: usize = 0;
     let mut x = word(k, at);
+    // kept: the place goes on by where an element ends; n only counts those passed.
     while is_term(x) {
         let e = element_end(k, i);
         if stands(k, i, e, p) {
