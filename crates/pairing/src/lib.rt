@@ -15,7 +15,7 @@ ghost use Rattle.pairing.specs.Here.{Here, PairHere, Known, PairKnown};
 use filling::{fill_in, filled_len};
 use language::limits::{FILLING, QUESTION, ROOM};
 use outcomes::{outcome_number, shown_length, shown_number, verdict_number};
-use patterns::{Asked, Pair};
+use patterns::{Pair, Unasked};
 use word_bytes::write_words_at;
 use words::word;
 
@@ -38,14 +38,12 @@ fn first_settled(answer: &[u16], lines: usize) -> usize
     requires { lines < 65536 }
     ensures { result ≡ marked_from answer.now 0 lines }
 {
-    let mut i: usize = 0;
-    while i < lines {
+    for i in 0..lines {
         if settled(answer, i) {
             return i;
         }
-        i += 1;
     }
-    i
+    lines
 }
 
 // The report's bytes, into the room from the word `at` on: each word of the pattern becomes its value, by way of the scratch.
@@ -63,13 +61,11 @@ fn write_report<'a>(
     requires pattern_in_bounds { 2 * (at + length (filled terms hedges filling.now pattern.now)) ≤ length room.old }
     ensures { room.new ≡ sets room.old (2 * at) (bytes_of (filled terms hedges filling.now pattern.now)) }
 {
-    let mut i: usize = 0;
     let mut to = at;
-    while i < pattern.len() {
+    for i in 0..pattern.len() {
         let n = fill_in(filling, &pattern[i..i + 1], terms, hedges, scratch, 0);
         write_words_at(&scratch[0..n], room, to);
         to += n;
-        i += 1;
     }
 }
 
@@ -194,9 +190,9 @@ pub fn meet(word: u16, first: &[u8], second: &[u8], room: &mut [u8], at: usize, 
 {
     let mut question = [0u16; QUESTION];
     match patterns::ask(word, first, second, &mut question) {
-        Asked::TooMany => 25,
-        Asked::TooLong => 2,
-        Asked::Asks(p) => {
+        Err(Unasked::TooMany) => 25,
+        Err(Unasked::TooLong) => 2,
+        Ok(p) => {
             let n = p.len;
             decide(&question[0..n], p, room, at, size)
         }
