@@ -6,8 +6,8 @@ ghost use Rattle.std.specs.Prelude.{◌≤◌, length};
 use files::arguments::{LONGEST, argument, wrong_use};
 use files::status::{Status, found};
 use files::{Loaded, SHEET, load_question};
+use language::Refusal;
 use language::limits::{FILLING, QUESTION, ROOM};
-use outcomes::Shown;
 use prompt::parse;
 use replies::{no_question, refuse};
 use wording::answer::filling;
@@ -22,7 +22,7 @@ fn show_words(rt: &HostRuntime, question: &[u16], room: &[u16], names: &[u8], n:
 // Says what an example came to.
 fn shown<'a>(
     rt: &HostRuntime,
-    s: Shown,
+    s: Result<usize, Refusal>,
     question: &'a [u16],
     room: &'a [u16],
     text: &'a [u8],
@@ -30,11 +30,11 @@ fn shown<'a>(
     i: usize,
 ) -> Status {
     match s {
-        Shown::Shows(n) => {
+        Ok(n) => {
             show_words(rt, question, room, names, n);
             found()
         }
-        Shown::Denied(r) => refuse(rt, r, question, text, i),
+        Err(r) => refuse(rt, r, question, text, i),
     }
 }
 

@@ -47,59 +47,43 @@ pub fn outcome_number(outcome: Outcome) -> u16
     }
 }
 
-// What comes of trying a filling.
-#[derive(Clone, Copy)]
-pub enum Tried {
-    Yes,
-    No,
-    Refused(Refusal),
-}
-
-// The number in the table, 0 for none.
-pub fn tried_number(tried: Tried) -> u16
+// Trying a filling answers whether it meets the question, or why that is refused. The number in the table, 0 for none.
+pub fn tried_number(tried: Result<bool, Refusal>) -> u16
     ensures { result ≡ tried_number tried }
 {
     match tried {
-        Tried::Yes => 0,
-        Tried::No => 0,
-        Tried::Refused(refusal) => number(refusal),
+        Ok(_yes) => 0,
+        Err(refusal) => number(refusal),
     }
 }
 
 // 1 for yes, and else 0.
-pub fn tried_value(tried: Tried) -> u16
+pub fn tried_value(tried: Result<bool, Refusal>) -> u16
     ensures { result ≡ tried_value tried }
 {
     match tried {
-        Tried::Yes => 1,
-        Tried::No => 0,
-        Tried::Refused(_) => 0,
+        Ok(true) => 1,
+        Ok(false) => 0,
+        Err(_refusal) => 0,
     }
 }
 
-// The length of the filling that the room holds, or why there is none.
-#[derive(Clone, Copy)]
-pub enum Shown {
-    Shows(usize),
-    Denied(Refusal),
-}
-
-// The number that stands in the table, 0 for a filling.
-pub fn shown_number(shown: Shown) -> u16
+// Showing an example answers the length of the filling that the room holds, or why there is none. The number in the table, 0 for a filling.
+pub fn shown_number(shown: Result<usize, Refusal>) -> u16
     ensures { result ≡ shown_number shown }
 {
     match shown {
-        Shown::Shows(_) => 0,
-        Shown::Denied(e) => number(e),
+        Ok(_length) => 0,
+        Err(e) => number(e),
     }
 }
 
 // The filling's length, 0 for a refusal.
-pub fn shown_length(shown: Shown) -> usize
+pub fn shown_length(shown: Result<usize, Refusal>) -> usize
     ensures { result ≡ shown_length shown }
 {
     match shown {
-        Shown::Shows(n) => n,
-        Shown::Denied(_) => 0,
+        Ok(n) => n,
+        Err(_) => 0,
     }
 }

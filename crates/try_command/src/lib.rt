@@ -3,22 +3,28 @@
 
 use files::status::{Status, failed, found, nothing};
 use files::{TOO_MANY, load, load_question};
+use language::Refusal;
 use language::limits::{FILLING, QUESTION, ROOM};
-use outcomes::Tried;
 use print::say;
 use replies::{no_question, refuse};
 
-fn tell<'a>(rt: &HostRuntime, t: Tried, question: &'a [u16], text: &'a [u8], i: usize) -> Status {
+fn tell<'a>(
+    rt: &HostRuntime,
+    t: Result<bool, Refusal>,
+    question: &'a [u16],
+    text: &'a [u8],
+    i: usize,
+) -> Status {
     match t {
-        Tried::Yes => {
+        Ok(true) => {
             say(rt.stdout(), b"yes: the filling meets the question\n");
             found()
         }
-        Tried::No => {
+        Ok(false) => {
             say(rt.stdout(), b"no: the filling does not meet the question\n");
             nothing()
         }
-        Tried::Refused(r) => refuse(rt, r, question, text, i),
+        Err(r) => refuse(rt, r, question, text, i),
     }
 }
 

@@ -33,6 +33,7 @@ pub fn desk_place(question: &[u8]) -> u32
     let n = take_words(question, &mut words);
     match reader::read_question(&words[..n]) {
         Ok(()) => 0,
+        // kept: the cast is proved to keep the number, and `u32::try_from(..).unwrap()` would say no more
         Err(r) => place(r) as u32,
     }
 }
