@@ -7,7 +7,6 @@ ghost use Rattle.language.specs.Reading.{read_conj};
 ghost use Rattle.language.specs.Question.{laid_out, parts, read_all};
 ghost use Rattle.trees.specs.Places.{placed};
 
-use language::wide;
 use trees::read_literal;
 
 // A conjunction: literals, to the last word.
@@ -27,10 +26,10 @@ pub fn read_all(w: &[u16], n: u16) -> Result<usize, usize>
     requires { laid_out 5 n w.now ≡ true }
     ensures { result ≡ placed (6 + n) (read_all desk (parts 5 n w.now)) }
 {
-    let stop = wide(n) + 6;
+    let stop = usize::from(n) + 6;
     let mut from = stop;
     for i in 6..stop {
-        let to = wide(w[i]);
+        let to = usize::from(w[i]);
         read_conj(&w[from..to]).map_err(|more| from + more)?;
         from = to;
     }

@@ -6,7 +6,6 @@ ghost use Rattle.std.proofs.Math.Seq.{slice};
 ghost use Rattle.counts.specs.Tables.{times, table, count_at, one_in, one_out, added, removed};
 
 use language::limits::LAST_FUNCTION;
-use language::wide;
 
 // A place for each word up to the last of a variable.
 pub const TABLE: usize = LAST_FUNCTION as usize + 1;
@@ -39,7 +38,7 @@ pub fn count_in(k: &[u16], from: usize, to: usize, t: &mut [u16; TABLE])
     ensures { t.new ≡ added (slice from to k.now) t.old }
 {
     for i in from..to {
-        one_in(wide(k[i]), t);
+        one_in(usize::from(k[i]), t);
     }
 }
 
@@ -49,7 +48,7 @@ pub fn count_out(k: &[u16], from: usize, to: usize, t: &mut [u16; TABLE])
     ensures { t.new ≡ removed (slice from to k.now) t.old }
 {
     for i in from..to {
-        one_out(wide(k[i]), t);
+        one_out(usize::from(k[i]), t);
     }
 }
 

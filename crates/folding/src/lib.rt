@@ -12,7 +12,6 @@ ghost use Rattle.folding.specs.Twice.{until_same, first_twice};
 ghost use Rattle.folding.specs.Chains.{bucket, Falls, Sought, Noted};
 
 use language::limits::QUESTION;
-use language::wide;
 use words::{next_literal, same_part};
 
 // The chains of the table: a literal's words say in which chain its place is.
@@ -32,7 +31,7 @@ fn chain_of(k: &[u16], from: usize, to: usize) -> usize
 {
     let mut s: usize = 0;
     for i in from..to {
-        s = (s * 1664525 + wide(k[i])) % 4294967296;
+        s = (s * 1664525 + usize::from(k[i])) % 4294967296;
     }
     s / 4194304
 }
@@ -49,7 +48,7 @@ fn seek(k: &[u16], next: &[u16; LITERALS], first: usize, at: usize, end: usize) 
         if same_part(k, at, end, q, q + len) {
             return q;
         }
-        p = wide(next[q / SHORTEST]);
+        p = usize::from(next[q / SHORTEST]);
     }
     k.len()
 }
@@ -67,7 +66,7 @@ fn note(
 {
     let h = chain_of(k, at, end);
     let first = heads[h];
-    let p = seek(k, next, wide(first), at, end);
+    let p = seek(k, next, usize::from(first), at, end);
     if p < k.len() {
         return p;
     }

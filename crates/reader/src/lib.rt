@@ -10,8 +10,8 @@ ghost use Rattle.reader.specs.Checking.{asked_numbers};
 
 use conjunctions::read_all;
 use header::{Header, laid_out, read_header};
+use language::Refusal;
 use language::limits::{ALTERNATIVES, EACH, QUESTION};
-use language::{Refusal, wide};
 use undeclared::find_undeclared;
 
 // Whether the counts are in range.
@@ -58,7 +58,7 @@ pub fn read_question(question: &[u16]) -> Result<(), Refusal>
         return Err(Refusal::BadOffset);
     }
     read_all(question, n).map_err(Refusal::NotLiterals)?;
-    match find_undeclared(h, question, wide(n) + 6) {
+    match find_undeclared(h, question, usize::from(n) + 6) {
         Some(at) => Err(Refusal::Undeclared(at)),
         None => Ok(()),
     }

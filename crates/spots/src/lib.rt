@@ -11,7 +11,7 @@ ghost use Rattle.views.specs.Standing.{Stands};
 ghost use Rattle.finds.specs.Walks.{run_word, Spotted};
 ghost use Rattle.finds.specs.Places.{HasTerm, Under, Inside};
 
-use language::{HedgeVar, Kind, TermVar, classify, run_word, term_word, wide};
+use language::{HedgeVar, Kind, TermVar, classify, run_word, term_word};
 use spans::element_end;
 use words::{stands, word};
 
@@ -68,7 +68,7 @@ fn word_inside(k: &[u16], at: usize, p: usize) -> Option<usize>
     let mut i = element_end(k, at);
     let mut x = word(k, i);
     while x != 0 {
-        if wide(x) == p {
+        if usize::from(x) == p {
             return Some(i);
         }
         i = element_end(k, i);

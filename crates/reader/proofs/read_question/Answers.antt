@@ -34,11 +34,11 @@ returns-in_err-map_err c = let (at, e) = err-of c.read_all.result c.in_err-map_e
 pub returns-in-Some : goal.returns-in-Some
 returns-in-Some c = let r = ok-of c.read_all.result c.in_ok-map_err.ensures.variant in
     number-wrong _ c.if-question-lt6.false c.if-question-gt-QUESTION.false _ c.read_header-h.ensures (sym c.counts_fit.ensures ∙ c.if-not-counts_fit.false)
-    (sym c.laid_out.ensures ∙ c.if-not-laid_out.false) _ (sym c.read_all.ensures ∙ r.1) _ c.wide.ensures _
+    (sym c.laid_out.ensures ∙ c.if-not-laid_out.false) _ (sym c.read_all.ensures ∙ r.1) _ c.from.ensures _
     (sym c.find_undeclared.ensures ∙ c.in-Some.is)
 
 pub returns-in-None : goal.returns-in-None
 returns-in-None c = let r = ok-of c.read_all.result c.in_ok-map_err.ensures.variant in
     nothing-wrong _ c.if-question-lt6.false c.if-question-gt-QUESTION.false _ c.read_header-h.ensures (sym c.counts_fit.ensures ∙ c.if-not-counts_fit.false)
-    (sym c.laid_out.ensures ∙ c.if-not-laid_out.false) _ (sym c.read_all.ensures ∙ r.1) _ c.wide.ensures
+    (sym c.laid_out.ensures ∙ c.if-not-laid_out.false) _ (sym c.read_all.ensures ∙ r.1) _ c.from.ensures
     (sym c.find_undeclared.ensures ∙ c.in-None.is)
