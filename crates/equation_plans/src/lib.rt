@@ -99,6 +99,14 @@ fn strike_out(v: View, s: Spots) -> Plan
     single(Ways::One(0), first)
 }
 
+// Where no element is shared; the rule is asked only where one is.
+const NOWHERE: Spots = Spots {
+    left: 0,
+    after: 0,
+    right: 0,
+    behind: 0,
+};
+
 // The first element that the children share is struck.
 fn plan_del2(k: &[u16], v: View) -> Plan
     ensures { result ≡ del2_plan k.now v }
@@ -107,10 +115,8 @@ fn plan_del2(k: &[u16], v: View) -> Plan
     let r = v.r;
     let left = inner(k, l.from, l.to);
     let right = inner(k, r.from, r.to);
-    match first_shared(k, left.from, right.from) {
-        Some(s) => strike_out(v, s),
-        None => plan_drop(),
-    }
+    let spots = first_shared(k, left.from, right.from).unwrap_or(NOWHERE);
+    strike_out(v, spots)
 }
 
 // H = T' for each order T' of the n elements of T.

@@ -14,7 +14,7 @@ use Rattle.plans.specs.declared.Plan.{Plan}
 use Rattle.views.specs.declared.View.{View}
 use Rattle.plans.specs.declared.Within.{Within}
 use Rattle.views.specs.Looks.{body_words}
-use Rattle.plans.specs.Slots.{nothing, full_recipe, few_recipe, single, tabled, drop_plan, inner_of, children_of}
+use Rattle.plans.specs.Slots.{nothing, full_recipe, few_recipe, single, tabled, inner_of, children_of}
 use Rattle.finds.specs.Walks.{size}
 use Rattle.sharing.specs.declared.Spots.{Spots}
 use Rattle.sharing.specs.Shared.{first_shared}
@@ -48,8 +48,9 @@ struck_out v s = single (One 0) (full_recipe (Copy 0 v.at)
     (Word 5000) (Copy v.l.from s.left) (Copy s.after v.l.to) (Copy v.r.from s.right) (Copy s.behind v.r.to)
     (Copy v.end v.len) nothing nothing nothing nothing nothing 0 0 0)
 
+-- where nothing is shared all four places are the first
 abbrev pub struck_where : View → Option Spots → Plan
-struck_where v None = drop_plan
+struck_where v None = struck_out v (record { left = 0; after = 0; right = 0; behind = 0 })
 struck_where v (Some s) = struck_out v s
 
 abbrev pub del2_plan : List ℕ → View → Plan
