@@ -8,7 +8,7 @@ use example_command::example_file;
 use files::arguments::{count, is, is_last, warn_of, wrong_use};
 use files::status::{Status, found};
 use overlap_table::overlap_file;
-use print::warn;
+use print::say;
 use replay_command::replay_file;
 use solve_command::solve_file;
 use text_commands::{text_file, words_file};
@@ -23,7 +23,7 @@ fn solve_asked(rt: &HostRuntime, i: usize) -> Status
     if is_last(rt, i + 1) {
         return solve_file(rt, i + 1);
     }
-    wrong_use(rt, b"solve takes a file")
+    wrong_use(rt, "solve takes a file")
 }
 
 fn try_asked(rt: &HostRuntime, i: usize) -> Status
@@ -34,7 +34,7 @@ fn try_asked(rt: &HostRuntime, i: usize) -> Status
     }
     wrong_use(
         rt,
-        b"try takes a file with a question and a file with a filling",
+        "try takes a file with a question and a file with a filling",
     )
 }
 
@@ -48,7 +48,7 @@ fn example_asked(rt: &HostRuntime, i: usize) -> Status
     } else if is_last(rt, i + 2) {
         return example_file(rt, i + 1, i + 2, false);
     }
-    wrong_use(rt, b"example takes a file and the number of a line")
+    wrong_use(rt, "example takes a file and the number of a line")
 }
 
 fn walk_asked(rt: &HostRuntime, i: usize) -> Status
@@ -57,7 +57,7 @@ fn walk_asked(rt: &HostRuntime, i: usize) -> Status
     if is_last(rt, i + 1) {
         return walk_file(rt, i + 1);
     }
-    wrong_use(rt, b"walk takes a file")
+    wrong_use(rt, "walk takes a file")
 }
 
 fn trail_asked(rt: &HostRuntime, i: usize) -> Status
@@ -66,7 +66,7 @@ fn trail_asked(rt: &HostRuntime, i: usize) -> Status
     if is_last(rt, i + 1) {
         return trail_file(rt, i + 1);
     }
-    wrong_use(rt, b"trail takes a file")
+    wrong_use(rt, "trail takes a file")
 }
 
 fn replay_asked(rt: &HostRuntime, i: usize) -> Status
@@ -77,7 +77,7 @@ fn replay_asked(rt: &HostRuntime, i: usize) -> Status
     }
     wrong_use(
         rt,
-        b"replay takes a file with a question and a file with a trail",
+        "replay takes a file with a question and a file with a trail",
     )
 }
 
@@ -85,7 +85,7 @@ fn day_asked(rt: &HostRuntime, i: usize) -> Status
     requires { i < 9 }
 {
     if count(rt) <= i + 1 {
-        return wrong_use(rt, b"day takes files, with a question in each");
+        return wrong_use(rt, "day takes files, with a question in each");
     }
     day_files(rt, i + 1)
 }
@@ -96,7 +96,7 @@ fn overlap_asked(rt: &HostRuntime, i: usize) -> Status
     if is_last(rt, i + 1) {
         return overlap_file(rt, i + 1);
     }
-    wrong_use(rt, b"overlap takes a file, with a sheet of live rules")
+    wrong_use(rt, "overlap takes a file, with a sheet of live rules")
 }
 
 fn text_asked(rt: &HostRuntime, i: usize) -> Status
@@ -105,7 +105,7 @@ fn text_asked(rt: &HostRuntime, i: usize) -> Status
     if is_last(rt, i + 1) {
         return text_file(rt, i + 1);
     }
-    wrong_use(rt, b"text takes a file")
+    wrong_use(rt, "text takes a file")
 }
 
 fn words_asked(rt: &HostRuntime, i: usize) -> Status
@@ -114,7 +114,7 @@ fn words_asked(rt: &HostRuntime, i: usize) -> Status
     if is_last(rt, i + 1) {
         return words_file(rt, i + 1);
     }
-    wrong_use(rt, b"words takes a file")
+    wrong_use(rt, "words takes a file")
 }
 
 // What asks for no question.
@@ -128,14 +128,14 @@ fn other_asked(rt: &HostRuntime, i: usize) -> Status {
         return found();
     }
     if count(rt) <= i {
-        return wrong_use(rt, b"no command is given");
+        return wrong_use(rt, "no command is given");
     }
-    warn(rt.stderr(), b"desk: no command ");
+    say(rt.stderr(), b"desk: no command ");
     warn_of(rt, i);
-    warn(rt.stderr(), b"\n");
+    say(rt.stderr(), b"\n");
     wrong_use(
         rt,
-        b"the commands are solve, try, example, walk, trail, replay, day, overlap, text and words",
+        "the commands are solve, try, example, walk, trail, replay, day, overlap, text and words",
     )
 }
 

@@ -1,6 +1,6 @@
--- `notation::past_hedge` meets its contract: the depth is at most the words passed.
+-- `notation::Writer::past_hedge` meets its contract: the depth is at most the words passed.
 use Rattle.std.proofs.Common.{length, ◌-◌, ◌≤◌}
-use Rattle.notation.proofs.past_hedge.Given as goal
+use Rattle.notation.proofs.Writer.past_hedge.Given as goal
 
 abbrev pub invariant-loop-at : goal.invariant-loop-at
 invariant-loop-at l = (l.from ≤ l.at) × (l.depth ≤ l.at)
