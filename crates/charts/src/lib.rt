@@ -2,7 +2,7 @@
 // is found that a symbol is a symbol of.
 #![tactic(auto)]
 
-mod table;
+pub mod table;
 
 ghost use Rattle.std.specs.Prelude.{◌+◌, ◌≤◌, ◌<◌, ◌≡◌, false, eqb, leb, length};
 ghost use Rattle.language.specs.Kinds.{pick};
@@ -10,7 +10,7 @@ ghost use Rattle.expressions.specs.Standing.{Parted};
 ghost use Rattle.charts.specs.Charted.{ChartedFrom, Charts};
 ghost use Rattle.charts.specs.Levels.{Lowered, Leveled};
 
-pub use crate::table::Chart;
+use crate::table::Chart;
 use bools::{and, or};
 use expressions::Part;
 

@@ -3,7 +3,8 @@ ghost use Rattle.std.specs.Prelude.{◌+◌, ◌≤◌, ◌<◌, ◌≡◌, leng
 ghost use Rattle.language.specs.Kinds.{pick};
 ghost use Rattle.clash.specs.Marks.{Begun, Resumed};
 
-use charts::{Chart, later};
+use charts::later;
+use charts::table::Chart;
 
 // One mark.
 fn mark(marks: &mut [bool], at: usize)

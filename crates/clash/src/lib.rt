@@ -19,7 +19,8 @@ ghost use Rattle.clash.specs.Judging.{verdict_of, Two};
 use crate::pairs::{CHAINS, STOPS, Stops, narrow};
 use crate::sweeps::{leads_from, settle};
 use crate::walking::{Places, walk_on};
-use charts::{Chart, chart};
+use charts::chart;
+use charts::table::Chart;
 use language::limits::{PAIRS, QUESTION};
 use state_classes::{STATES, class_all};
 

@@ -3,7 +3,8 @@ ghost use Rattle.std.specs.Prelude.{◌≤◌, length};
 ghost use Rattle.clash.specs.Following.{Followed};
 
 use crate::follow::{begin, resume};
-use charts::{Chart, level_of};
+use charts::level_of;
+use charts::table::Chart;
 
 // Marks the symbols that can be read next in a state of the expression at a place. Whether nothing need be read.
 pub(crate) fn follow(chart: &Chart, at: usize, s: usize, marks: &mut [bool]) -> bool

@@ -10,7 +10,7 @@ use crate::pairs::{STOPS, Stops};
 use crate::symbols::symbols_after;
 use crate::walking::Places;
 use bools::{and, or};
-use charts::Chart;
+use charts::table::Chart;
 use language::limits::QUESTION;
 use state_classes::STATES;
 

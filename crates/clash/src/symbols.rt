@@ -6,7 +6,7 @@ ghost use Rattle.clash.specs.Symbols.{Collected, Symboled};
 
 use crate::pairs::narrow;
 use crate::states::follow;
-use charts::Chart;
+use charts::table::Chart;
 use language::limits::QUESTION;
 
 // How many symbols can be read next, and whether nothing need be read.

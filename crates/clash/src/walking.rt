@@ -8,7 +8,7 @@ ghost use Rattle.clash.specs.Walking.{Twin, TwinWith, TwinOf, Bounds, Went, Gone
 use crate::pairs::{STOPS, Stops};
 use crate::symbols::symbols_after;
 use bools::and;
-use charts::Chart;
+use charts::table::Chart;
 use language::limits::{PAIRS, QUESTION};
 use state_classes::STATES;
 

@@ -8,7 +8,7 @@ ghost use Rattle.language.specs.Limits.{desk};
 ghost use Rattle.state_classes.specs.Classes.{StateTest, Liked, Classed, Tabled, KeptTo, Changed, Expressed, state_room, Counted, Keyed, KeyedTo};
 
 use crate::tails::{lay_open, same_state, tail_of, take_apart};
-use charts::Chart;
+use charts::table::Chart;
 use language::limits::QUESTION;
 use words::word;
 

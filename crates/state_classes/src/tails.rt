@@ -5,7 +5,8 @@ ghost use Rattle.language.specs.Kinds.{pick};
 ghost use Rattle.state_classes.specs.Tails.{Peeled, Alike, Opened, SplitOf, Nothing, both_one, Same, TailOf, SameState};
 
 use bools::and;
-use charts::{Chart, level_of};
+use charts::level_of;
+use charts::table::Chart;
 use words::{same_part, word};
 
 // Of what is left after a symbol in an expression: the place of its last part, and that of the expression in which what is before it is left.
