@@ -22,10 +22,7 @@ const HEAD: usize = 4;
 fn first_word(n: u32) -> u16
     ensures { result ≡ word_from n }
 {
-    if n < 65536 {
-        return n as u16;
-    }
-    65535
+    u16::try_from(n).unwrap_or(u16::MAX)
 }
 
 // Whether two rules can meet, by their patterns' bytes: 100 they cannot, 101 it is not settled, 200 and the words of a report that both match, which

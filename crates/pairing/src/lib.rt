@@ -19,18 +19,12 @@ use patterns::{Pair, Unasked};
 use word_bytes::write_words_at;
 use words::word;
 
-fn wide(n: u16) -> u32
-    ensures { result ≡ n }
-{
-    n as u32
-}
-
 // The mark of a line stands where its offset says.
 fn settled(answer: &[u16], line: usize) -> bool
     requires { line + 2 < 18446744073709551616 }
     ensures { result ≡ eqb (get_or answer.now (get_or answer.now (line + 2) 0) 0) 1 }
 {
-    word(answer, language::wide(word(answer, line + 2))) == 1
+    word(answer, usize::from(word(answer, line + 2))) == 1
 }
 
 // The first line of an answer that is marked settled; the number of lines where none is.
@@ -69,6 +63,7 @@ fn write_report<'a>(
     }
 }
 
+// kept: the number is promised to fit, so that `u32::try_from` would bring a case that never comes.
 fn narrow(n: usize) -> u32
     requires { n ≤ (desk.filling + desk.question) * desk.question }
     ensures { result ≡ n }
@@ -109,7 +104,7 @@ fn unfair(question: &[u16]) -> u32
         return 5;
     }
     if k <= 3 {
-        return wide(k);
+        return u32::from(k);
     }
     5
 }
@@ -132,7 +127,7 @@ fn show<'a>(
     let s = example::example(question, line, false, work, answer, &mut own);
     let k = shown_number(s);
     if k != 0 {
-        return wide(k);
+        return u32::from(k);
     }
     let n = shown_length(s);
     report(
@@ -158,9 +153,9 @@ fn settle<'a>(question: &'a [u16], p: Pair, room: &mut [u8], at: usize, size: us
     let outcome = s.outcome;
     let k = outcome_number(outcome);
     if k != 0 {
-        return wide(k);
+        return u32::from(k);
     }
-    let lines = language::wide(word(&answer, 0));
+    let lines = usize::from(word(&answer, 0));
     if lines == 0 {
         return 100;
     }

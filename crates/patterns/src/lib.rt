@@ -131,6 +131,7 @@ fn is_term(bytes: &[u8]) -> bool
 }
 
 // A number as a word.
+// kept: the number is promised to fit, so that `u16::try_from` would bring a case that never comes.
 fn short(n: usize) -> u16
     requires { n < 65536 }
     ensures { result ≡ n }

@@ -24,14 +24,12 @@ fn put_elements(w: &[u16], from: usize, end: usize, out: &mut [u8], stop: usize,
     requires { (from ≤ end) × (end ≤ length w.now) }
     ensures { Laid stop out.old to (flat 0 (between from end w.now)) out.new result }
 {
-    let mut i = from;
     let mut n = to;
     let mut s = 0;
-    while i < end {
+    for i in from..end {
         let x = w[i];
         n = put_word(out, stop, n, s, x);
         s = after(x);
-        i += 1;
     }
     n
 }
