@@ -16,26 +16,14 @@ use try_command::try_file;
 use walk_commands::{trail_file, walk_file};
 use wording::help::{help, version};
 
-// The command that argument `i` names takes the file behind it, and to solve a question nothing more.
-fn solve_asked(rt: &HostRuntime, i: usize) -> Status
-    requires { i < 9 }
+// What a command does whose last word is argument `last`, or what it takes.
+fn up_to<F: Fn() -> Status>(rt: &HostRuntime, last: usize, takes: &str, does: F) -> Status
+    requires { F.IsAlwaysCallable does }
 {
-    if is_last(rt, i + 1) {
-        return solve_file(rt, i + 1);
+    if is_last(rt, last) {
+        return does();
     }
-    wrong_use(rt, "solve takes a file")
-}
-
-fn try_asked(rt: &HostRuntime, i: usize) -> Status
-    requires { i < 9 }
-{
-    if is_last(rt, i + 2) {
-        return try_file(rt, i + 1, i + 2);
-    }
-    wrong_use(
-        rt,
-        "try takes a file with a question and a file with a filling",
-    )
+    wrong_use(rt, takes)
 }
 
 fn example_asked(rt: &HostRuntime, i: usize) -> Status
@@ -51,36 +39,6 @@ fn example_asked(rt: &HostRuntime, i: usize) -> Status
     wrong_use(rt, "example takes a file and the number of a line")
 }
 
-fn walk_asked(rt: &HostRuntime, i: usize) -> Status
-    requires { i < 9 }
-{
-    if is_last(rt, i + 1) {
-        return walk_file(rt, i + 1);
-    }
-    wrong_use(rt, "walk takes a file")
-}
-
-fn trail_asked(rt: &HostRuntime, i: usize) -> Status
-    requires { i < 9 }
-{
-    if is_last(rt, i + 1) {
-        return trail_file(rt, i + 1);
-    }
-    wrong_use(rt, "trail takes a file")
-}
-
-fn replay_asked(rt: &HostRuntime, i: usize) -> Status
-    requires { i < 9 }
-{
-    if is_last(rt, i + 2) {
-        return replay_file(rt, i + 1, i + 2);
-    }
-    wrong_use(
-        rt,
-        "replay takes a file with a question and a file with a trail",
-    )
-}
-
 fn day_asked(rt: &HostRuntime, i: usize) -> Status
     requires { i < 9 }
 {
@@ -88,33 +46,6 @@ fn day_asked(rt: &HostRuntime, i: usize) -> Status
         return wrong_use(rt, "day takes files, with a question in each");
     }
     day_files(rt, i + 1)
-}
-
-fn overlap_asked(rt: &HostRuntime, i: usize) -> Status
-    requires { i < 9 }
-{
-    if is_last(rt, i + 1) {
-        return overlap_file(rt, i + 1);
-    }
-    wrong_use(rt, "overlap takes a file, with a sheet of live rules")
-}
-
-fn text_asked(rt: &HostRuntime, i: usize) -> Status
-    requires { i < 9 }
-{
-    if is_last(rt, i + 1) {
-        return text_file(rt, i + 1);
-    }
-    wrong_use(rt, "text takes a file")
-}
-
-fn words_asked(rt: &HostRuntime, i: usize) -> Status
-    requires { i < 9 }
-{
-    if is_last(rt, i + 1) {
-        return words_file(rt, i + 1);
-    }
-    wrong_use(rt, "words takes a file")
 }
 
 // What asks for no question.
@@ -144,9 +75,9 @@ fn form_asked(rt: &HostRuntime, i: usize) -> Status
     requires { i < 9 }
 {
     if is(rt, i, b"text") {
-        text_asked(rt, i)
+        up_to(rt, i + 1, "text takes a file", || text_file(rt, i + 1))
     } else if is(rt, i, b"words") {
-        words_asked(rt, i)
+        up_to(rt, i + 1, "words takes a file", || words_file(rt, i + 1))
     } else {
         other_asked(rt, i)
     }
@@ -157,11 +88,16 @@ fn steps_asked(rt: &HostRuntime, i: usize) -> Status
     requires { i < 9 }
 {
     if is(rt, i, b"walk") {
-        walk_asked(rt, i)
+        up_to(rt, i + 1, "walk takes a file", || walk_file(rt, i + 1))
     } else if is(rt, i, b"trail") {
-        trail_asked(rt, i)
+        up_to(rt, i + 1, "trail takes a file", || trail_file(rt, i + 1))
     } else if is(rt, i, b"replay") {
-        replay_asked(rt, i)
+        up_to(
+            rt,
+            i + 2,
+            "replay takes a file with a question and a file with a trail",
+            || replay_file(rt, i + 1, i + 2),
+        )
     } else {
         form_asked(rt, i)
     }
@@ -172,15 +108,25 @@ fn run(rt: &HostRuntime, i: usize) -> Status
     requires { i < 9 }
 {
     if is(rt, i, b"solve") {
-        solve_asked(rt, i)
+        up_to(rt, i + 1, "solve takes a file", || solve_file(rt, i + 1))
     } else if is(rt, i, b"try") {
-        try_asked(rt, i)
+        up_to(
+            rt,
+            i + 2,
+            "try takes a file with a question and a file with a filling",
+            || try_file(rt, i + 1, i + 2),
+        )
     } else if is(rt, i, b"example") {
         example_asked(rt, i)
     } else if is(rt, i, b"day") {
         day_asked(rt, i)
     } else if is(rt, i, b"overlap") {
-        overlap_asked(rt, i)
+        up_to(
+            rt,
+            i + 1,
+            "overlap takes a file, with a sheet of live rules",
+            || overlap_file(rt, i + 1),
+        )
     } else {
         steps_asked(rt, i)
     }
