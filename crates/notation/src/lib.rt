@@ -2,7 +2,7 @@
 // symbol, a1~ one whose parts come in any order, () nothing at all. Where it came as a text, all is written as a text is, in that text's own names.
 #![tactic(auto)]
 
-ghost use Rattle.std.specs.Prelude.{◌≤◌};
+ghost use Rattle.std.specs.Prelude.{◌≤◌, ◌/◌, ◌%◌, ◌≡◌};
 
 mod names;
 
@@ -67,7 +67,9 @@ pub struct Writer<'a> {
 
 impl<'a> Writer<'a> {
     // For a question that begins with this word, which counts its symbols.
-    pub fn new(out: Stdout, first: u16, names: &'a [u8]) -> Writer<'a> {
+    pub fn new(out: Stdout, first: u16, names: &'a [u8]) -> Writer<'a>
+        ensures { (result.signature.symbols ≡ first % 256) × (result.signature.unordered ≡ first / 256) }
+    {
         let signature = Signature {
             symbols: first % 256,
             unordered: first / 256,
