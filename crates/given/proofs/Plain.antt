@@ -26,7 +26,6 @@ use Rattle.language.proofs.Sizes.{hedge-some}
 use Rattle.meaning.specs.Complete.{Complete, nil, tree, complete_words}
 use Rattle.meaning.specs.Values.{with_node, complete, Form, a_term, a_name, fits, fitting, value_of}
 use Rattle.std.specs.Prelude.{Ok, Err}
-use Rattle.std.specs.List.{list_all}
 use Rattle.trees.specs.Places.{placed}
 use Rattle.given.specs.Checking.{is_some, plain_on, plain_words, of_form, Of, Judged, OneTerm}
 
@@ -46,13 +45,20 @@ module _ (s : ℕ) where
 
 -- ---- word by word
 
-abbrev pub is_plain_at : ℕ → ℕ → Bool
-is_plain_at s w = plain_on s (kind_of desk w)
+module _ (s : ℕ) (ws : List ℕ) (i : ℕ) where
+  plain_here : i < length ws → plain_words s (drop i ws) ≡ (plain_on s (kind_of desk (get_or ws i 0)) && plain_words s (drop (i + 1) ws))
+  unfolding plain_words
+  plain_here p = rw (add-one, drop-cons ws i 0 p)
 
-pub plain_all : (s : ℕ) (ws : List ℕ) → plain_words s ws ≡ list_all (is_plain_at s) ws
-unfolding plain_words
-plain_all s [] = refl
-plain_all s (w ∷ ws) = ap (λ b. plain_on s (kind_of desk w) && b) (plain_all s ws)
+  pub plain-on : i < length ws → (b : Bool) → b ≡ plain_on s (kind_of desk (get_or ws i 0)) → b ≡ true → plain_words s (drop (i + 1) ws) ≡ plain_words s (drop i ws)
+  plain-on p b e t = sym (plain_here p ∙ ap (λ b. b && plain_words s (drop (i + 1) ws)) (sym e ∙ t))
+
+  pub plain-fails : i < length ws → (b : Bool) → b ≡ plain_on s (kind_of desk (get_or ws i 0)) → b ≡ false → false ≡ plain_words s (drop i ws)
+  plain-fails p b e t = sym (plain_here p ∙ ap (λ b. b && plain_words s (drop (i + 1) ws)) (sym e ∙ t))
+
+  pub plain_done : length ws ≤ i → true ≡ plain_words s (drop i ws)
+  unfolding plain_words
+  plain_done p = sym (ap (plain_words s) (drop_of_length-le ws p))
 
 node-some : (f : Sym) (x y : Option Complete) → is_some (with_node f x y) ≡ (is_some x && is_some y)
 node-some f none y = refl

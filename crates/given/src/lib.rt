@@ -27,7 +27,12 @@ fn is_plain_word(word: u16, symbols: u16) -> bool
 fn is_plain(words: &[u16], symbols: u16) -> bool
     ensures { result ≡ plain_words symbols words.now }
 {
-    words.iter().all(|word| is_plain_word(*word, symbols))
+    for i in 0..words.len() {
+        if !is_plain_word(words[i], symbols) {
+            return false;
+        }
+    }
+    true
 }
 
 // A hedge and its 0, without variables, all of whose symbols are declared.

@@ -1,10 +1,17 @@
--- `given::is_plain` meets its contract: each word is plain.
-use mathlib.Core.Path.{sym, ◌∙◌}
-use Rattle.std.proofs.Common.{rules, tests}
-use Rattle.std.proofs.lemmas.Iterator.{YieldsList-from_slice}
-use Rattle.std.proofs.lemmas.Iterator.Search.{all_from_yields_List}
-use Rattle.given.proofs.Plain.{is_plain_at, plain_all}
+use Prim.Native.Nat.{◌-◌}
+use mathlib.Core.Path.{refl, ◌∙◌}
+use native.Mathlib.Omega.{arith}
+use Rattle.given.proofs.Plain.{plain-on, plain-fails, plain_done}
 use Rattle.given.proofs.is_plain.Goals as goal
 
+pub loop-i-init : goal.loop-i-init
+loop-i-init c = refl
+
+pub returns-then-not-is_plain_word : goal.returns-then-not-is_plain_word
+returns-then-not-is_plain_word c = plain-fails _ c.args.words.now c.loop-i.i (omega arith) _ c.is_plain_word.ensures c.if-not-is_plain_word.true ∙ c.loop-i.invariant
+
+pub loop-i-preserved : goal.loop-i-preserved
+loop-i-preserved c = plain-on _ c.args.words.now c.loop-i.i (omega arith) _ c.is_plain_word.ensures c.if-not-is_plain_word.false ∙ c.loop-i.invariant
+
 pub returns : goal.returns
-returns c = all_from_yields_List (is_plain_at c.args.symbols) _ _ c.all.result c.all.ensures.ran (YieldsList-from_slice c.args.words.now cc) (λ x b q k. search (rules, tests)) ∙ sym (plain_all c.args.symbols c.args.words.now)
+returns c = plain_done _ c.args.words.now c.loop-i.i (omega arith) ∙ c.loop-i.invariant
