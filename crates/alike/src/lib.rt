@@ -4,28 +4,12 @@
 ghost use Rattle.std.specs.Prelude.{◌≤◌, length};
 ghost use Rattle.language.specs.Limits.{desk};
 ghost use Rattle.passing.specs.Places.{Hedge, Term};
-ghost use Rattle.alike.specs.Tasks.{SameWords, Passed, Fitted, Found, Compared, Pair, Decided};
+ghost use Rattle.alike.specs.Tasks.{Passed, Fitted, Found, Compared, Pair, Decided};
 
 use bools::or;
 use language::limits::LITERAL;
 use language::{Signature, Sym, any_unordered, is_unordered};
 use passing::{clear, skip};
-
-fn equal(a: &[u16], b: &[u16]) -> bool
-    ensures { SameWords a.now b.now result }
-{
-    if a.len() != b.len() {
-        return false;
-    }
-    let mut i: usize = 0;
-    while i < a.len() {
-        if a[i] != b[i] {
-            return false;
-        }
-        i += 1;
-    }
-    true
-}
 
 // The first tree from y on that is not taken, or the end of the hedge.
 fn next(w: &[u16], y: usize, k: &[bool]) -> usize
@@ -116,7 +100,7 @@ pub fn same(w: &[u16], mid: usize, s: Signature) -> bool
     ensures { Decided s w.now mid result }
 {
     let end = w.len();
-    if equal(&w[0..mid], &w[mid..end]) {
+    if w[0..mid] == w[mid..end] {
         return true;
     }
     if !any_unordered(s) {

@@ -29,20 +29,22 @@ use Rattle.views.specs.declared.View.{View}
 use Rattle.views.specs.Variables.{variable_word, fine_var}
 use Rattle.views.proofs.Sides.{side-whole}
 use Rattle.views.proofs.Members.{member-hedge, elsewhere-sees}
-use Rattle.alone.specs.Lone.{lone_of, lone_word, lone, word_of, single_term, bare_functor, side_variable, lone_variable, alone_side}
-use Rattle.alone.specs.declared.Lone.{Lone}
-use Rattle.alone.specs.declared.Lone.TheVariants as one
+use Rattle.alone.specs.Lone.{held, lone_of, lone_word, lone, word_of, single_term, bare_functor, side_variable, lone_variable, alone_side}
+use Rattle.std.specs.Prelude as prelude
+use Rattle.std.specs.Prelude.{None}
+use Rattle.alone.specs.declared.Variable.{Variable}
+use Rattle.alone.specs.declared.Variable.TheVariants as one
 
 -- ---- what the tests of the code join to
 
-pub term-chosen : (l r : Look) (x : TermVar) (last s t : Bool) (y : Lone) → l ≡ Term x last → s ≡ single_term r → t ≡ (last && s) → y ≡ lone t (one.Term x) → y ≡ side_variable l r
+pub term-chosen : (l r : Look) (x : TermVar) (last s t : Bool) (y : prelude.Option Variable) → l ≡ Term x last → s ≡ single_term r → t ≡ (last && s) → y ≡ lone t (one.Term x) → y ≡ side_variable l r
 term-chosen l r x last s t y el es et ey = ey ∙ ap (λ t. lone t (one.Term x)) (et ∙ ap (λ s. last && s) es) ∙ ap (λ l. side_variable l r) (sym el)
 
 module _ (l r : Look) (name : Name) (last bare : Bool) (el : l ≡ Node name last bare) where
-  pub symbol-chosen : (f : Sym) → name ≡ Symbol f → one.Nothing ≡ side_variable l r
+  pub symbol-chosen : (f : Sym) → name ≡ Symbol f → None ≡ side_variable l r
   symbol-chosen f e = ap (λ n. side_variable (Node n last bare) r) (sym e) ∙ ap (λ l. side_variable l r) (sym el)
 
-  pub blank-chosen : (f : FunVar) (a b c : Bool) (y : Lone) → name ≡ Blank f → a ≡ bare_functor r → b ≡ (last && a) → c ≡ (bare && b) → y ≡ lone c (one.Blank f) → y ≡ side_variable l r
+  pub blank-chosen : (f : FunVar) (a b c : Bool) (y : prelude.Option Variable) → name ≡ Blank f → a ≡ bare_functor r → b ≡ (last && a) → c ≡ (bare && b) → y ≡ lone c (one.Blank f) → y ≡ side_variable l r
   blank-chosen f a b c y e ea eb ec ey =
       ey ∙ ap (λ t. lone t (one.Blank f)) (ec ∙ ap (λ t. bare && t) (eb ∙ ap (λ t. last && t) ea))
       ∙ ap (λ n. side_variable (Node n last bare) r) (sym e) ∙ ap (λ l. side_variable l r) (sym el)
@@ -61,7 +63,7 @@ bare-look (tvar x r) = refl
 bare-look (hvar p r) = refl
 bare-look (node f c r) = refl
 
-given-lone : (b : Bool) (v : Var) → lone b (lone_of (some v)) ≡ lone_of (given b v)
+given-lone : (b : Bool) (v : Var) → lone b (held v) ≡ lone_of (given b v)
 given-lone true v = refl
 given-lone false v = refl
 
@@ -95,7 +97,7 @@ and-true : (b : Bool) → (b && true) ≡ b
 and-true true = refl
 and-true false = refl
 
-not-bare : (a b : Bool) (f : FunVar) → lone (a && (b && false)) (one.Blank f) ≡ one.Nothing
+not-bare : (a b : Bool) (f : FunVar) → lone (a && (b && false)) (one.Blank f) ≡ None
 not-bare true true f = refl
 not-bare true false f = refl
 not-bare false b f = refl

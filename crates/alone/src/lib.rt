@@ -9,19 +9,18 @@ use language::{FunVar, HedgeVar, Name, TermVar, function_word, run_word, term_wo
 use views::{Look, View};
 use words::{elsewhere, stands};
 
-// The one variable that a hedge is, by its kind.
+// A variable, by its kind.
 #[derive(Clone, Copy)]
-pub enum Lone {
-    Nothing,
+pub enum Variable {
     Term(TermVar),
     Run(HedgeVar),
     Blank(FunVar),
 }
 
-fn chosen(t: bool, x: Lone) -> Lone
+fn chosen(t: bool, x: Variable) -> Option<Variable>
     ensures { result ≡ lone t x }
 {
-    if t { x } else { Lone::Nothing }
+    if t { Some(x) } else { None }
 }
 
 fn single_term(look: Look) -> bool
@@ -46,30 +45,32 @@ fn bare_functor(look: Look) -> bool
     }
 }
 
-// The variable that a side is, against the other side.
-pub fn side_variable(l: Look, r: Look) -> Lone
+// The one variable that a side is, against the other side.
+pub fn side_variable(l: Look, r: Look) -> Option<Variable>
     ensures { result ≡ side_variable l r }
 {
     match l {
-        Look::Empty => Lone::Nothing,
-        Look::Term(x, last) => chosen(and(last, single_term(r)), Lone::Term(x)),
-        Look::Run(p, last) => chosen(last, Lone::Run(p)),
+        Look::Empty => None,
+        Look::Term(x, last) => chosen(and(last, single_term(r)), Variable::Term(x)),
+        Look::Run(p, last) => chosen(last, Variable::Run(p)),
         Look::Node(name, last, bare) => match name {
-            Name::Symbol(_) => Lone::Nothing,
-            Name::Blank(f) => chosen(and(bare, and(last, bare_functor(r))), Lone::Blank(f)),
+            Name::Symbol(_) => None,
+            Name::Blank(f) => chosen(and(bare, and(last, bare_functor(r))), Variable::Blank(f)),
         },
     }
 }
 
 // The word of the variable, or 0 where there is none.
-pub fn lone_word(x: Lone) -> usize
+pub fn lone_word(x: Option<Variable>) -> usize
     ensures { result ≡ lone_word x }
 {
-    match x {
-        Lone::Nothing => 0,
-        Lone::Term(x) => term_word(x),
-        Lone::Run(p) => run_word(p),
-        Lone::Blank(f) => function_word(f),
+    let Some(v) = x else {
+        return 0;
+    };
+    match v {
+        Variable::Term(x) => term_word(x),
+        Variable::Run(p) => run_word(p),
+        Variable::Blank(f) => function_word(f),
     }
 }
 

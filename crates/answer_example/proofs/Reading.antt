@@ -6,6 +6,8 @@ use mathlib.Core.List.{List, [], ◌∷◌, ◌++◌}
 use native.Mathlib.Omega.{arith}
 use lib.ListN.{length, get_or, take, drop}
 use lib.Seq.{take-append_seam}
+use Rattle.std.specs.Prelude.{Result, Err}
+use Rattle.language.specs.declared.Refusal.{Refusal}
 use Rattle.language.specs.declared.Refusal.TheVariants.{NoSuchLine, OpenLine}
 use Rattle.language.specs.declared.Sym.{Sym}
 use Rattle.language.specs.Kinds.{pick}
@@ -23,8 +25,6 @@ use Rattle.answers.specs.Lined.{line_head}
 use Rattle.values.specs.Lines.{Line}
 use Rattle.values.specs.Values.{SettledLine}
 use Rattle.words.proofs.Parts.{drop_of, word-of}
-use Rattle.outcomes.specs.declared.Shown.{Shown}
-use Rattle.outcomes.specs.declared.Shown.TheVariants.{Denied}
 use Rattle.line_example.specs.Shown.{result_of, room_of}
 use Rattle.line_example.specs.Fillings.{LineShown}
 use Rattle.answer_example.specs.Answers.{Good, Answer, Answered, LineIn, WordsShown, PartShown, AnswerShown}
@@ -32,7 +32,7 @@ use Rattle.answer_example.proofs.Lines.{no_line, Place, whole, count-is, place_o
 
 -- ---- with the variables that the question declares
 
-pub words-shown : {question k old new : List ℕ} {old_sheets : Bool} {terms hedges functions : ℕ} {any : Sym} {r : Shown} → terms ≡ get_or question 1 0 → hedges ≡ get_or question 2 0 → functions ≡ get_or question 3 0
+pub words-shown : {question k old new : List ℕ} {old_sheets : Bool} {terms hedges functions : ℕ} {any : Sym} {r : Result ℕ Refusal} → terms ≡ get_or question 1 0 → hedges ≡ get_or question 2 0 → functions ≡ get_or question 3 0
     → ((n : Counts) → n.symbols ≡ get_or question 0 0 % 256 → any ≡ default_symbol old_sheets n) → LineShown k terms hedges functions any old new r → WordsShown question old_sheets k old new r
 words-shown {question} {old = old} d e f g s = record {
   result = λ c l t. s.result c (counts_of question) l t (record { terms = sym d; hedges = sym e; functions = sym f }) ∙ ap (λ z. result_of (filled z c)) (g (counts_of question) refl);
@@ -80,7 +80,7 @@ part-settled {answer} {from} {to} {mark} m z l = record {
 }
 
 module _ {question : List ℕ} {old_sheets : Bool} {answer old : List ℕ} {from to mark : ℕ} (m : mark ≡ get_or answer from 0) where
-  pub part-open : (mark ≡ 1 → ⊥) → PartShown question old_sheets answer from to old old (Denied OpenLine)
+  pub part-open : (mark ≡ 1 → ⊥) → PartShown question old_sheets answer from to old old (Err OpenLine)
   part-open n = record {
     result = λ c beyond e d g. ap (λ b. result_of (by-solved old_sheets (counts_of question) (length old) c.literals b)) (sym (is_open c beyond e));
     room = λ c beyond e d g. ap (λ b. room_of (by-solved old_sheets (counts_of question) (length old) c.literals b) old) (sym (is_open c beyond e));
@@ -89,7 +89,7 @@ module _ {question : List ℕ} {old_sheets : Bool} {answer old : List ℕ} {from
       is_open : (c : Numbered) (beyond : List ℕ) → drop from answer ≡ line_words c ++ beyond → solved c.literals ≡ false
       is_open c beyond e = by-other (solved c.literals) (λ z. n (mark-is answer from mark m c beyond e ∙ z))
 
-  pub part-shown : {new : List ℕ} {r : Shown} → mark ≡ 1 → WordsShown question old_sheets (take (to - (from + line_head)) (drop (from + line_head) answer)) old new r → PartShown question old_sheets answer from to old new r
+  pub part-shown : {new : List ℕ} {r : Result ℕ Refusal} → mark ≡ 1 → WordsShown question old_sheets (take (to - (from + line_head)) (drop (from + line_head) answer)) old new r → PartShown question old_sheets answer from to old new r
   part-shown z s = record {
     result = λ c beyond e d g.
         let y = is-solved answer from mark m z c beyond e in
@@ -105,7 +105,7 @@ module _ {answer : List ℕ} {lines w : ℕ} (d : w ≡ get_or answer 0 0) (e : 
   count : (ls : List Numbered) → Answer answer ls → lines ≡ length ls
   count ls a = e ∙ d ∙ count-is a
 
-  pub line-missing : {question : List ℕ} {old_sheets : Bool} {old : List ℕ} {line : ℕ} → lines ≤ line → AnswerShown question line old_sheets answer old old (Denied NoSuchLine)
+  pub line-missing : {question : List ℕ} {old_sheets : Bool} {old : List ℕ} {line : ℕ} → lines ≤ line → AnswerShown question line old_sheets answer old old (Err NoSuchLine)
   line-missing {question} {old_sheets} {old} {line} p = record {
     result = λ ls a. let n = count ls a in ap (λ m. result_of (shown desk old_sheets (counts_of question) (length old) m)) (sym (no_line ls line (omega arith)));
     room = λ ls a. let n = count ls a in ap (λ m. room_of (shown desk old_sheets (counts_of question) (length old) m) old) (sym (no_line ls line (omega arith)));
@@ -126,7 +126,7 @@ module _ {answer : List ℕ} {lines w : ℕ} (d : w ≡ get_or answer 0 0) (e : 
         let t = i ∙ h ∙ q.next in
         (omega arith, omega arith, omega arith, record { c = q.l; beyond = q.beyond; here = ap (λ j. drop j answer) d ∙ q.here; end = omega arith; good = q.good })
 
-    pub line-shown : {question : List ℕ} {old_sheets : Bool} {old new : List ℕ} {r : Shown} → PartShown question old_sheets answer from to old new r → AnswerShown question line old_sheets answer old new r
+    pub line-shown : {question : List ℕ} {old_sheets : Bool} {old new : List ℕ} {r : Result ℕ Refusal} → PartShown question old_sheets answer from to old new r → AnswerShown question line old_sheets answer old new r
     line-shown {question} {old_sheets} {old} s = record {
       result = λ ls a.
           let q = place ls a in

@@ -1,6 +1,7 @@
 -- An answer that stands in a slice, and what is known of its lines.
-use Rattle.std.specs.Prelude.{ℕ, ◌+◌, ◌%◌, ◌<◌, ◌≤◌, ◌≡◌, Bool, true, List, ◌++◌, length, get_or, drop}
+use Rattle.std.specs.Prelude.{ℕ, ◌+◌, ◌%◌, ◌<◌, ◌≤◌, ◌≡◌, Bool, true, List, ◌++◌, length, get_or, drop, Result}
 use Rattle.std.proofs.Math.Option.{some}
+use Rattle.language.specs.declared.Refusal.{Refusal}
 use Rattle.language.specs.Limits.{desk}
 use Rattle.language.specs.Trees.{Conj}
 use Rattle.language.specs.Writing.{conj_words}
@@ -15,7 +16,6 @@ use Rattle.rules.specs.Example.{default_symbol, example}
 use Rattle.rules.specs.Calls.{fitted, shown, line_at}
 use Rattle.answers.specs.Lined.{line_head}
 use Rattle.values.specs.Values.{Settled}
-use Rattle.outcomes.specs.declared.Shown.{Shown}
 use Rattle.line_example.specs.Shown.{result_of, room_of}
 
 pub record Good (l : Conj) : Type 0 where
@@ -45,7 +45,7 @@ pub record Ranged (question : List ℕ) : Type 0 where
   pub functions : get_or question 3 0 ≤ desk.each
 
 -- the example of the line that these words are, for old training sheets or not
-pub record WordsShown (question : List ℕ) (old_sheets : Bool) (k old new : List ℕ) (r : Shown) : Type 0 where
+pub record WordsShown (question : List ℕ) (old_sheets : Bool) (k old new : List ℕ) (r : Result ℕ Refusal) : Type 0 where
   pub result : (c : Conj) → Line k c → Settled c → r ≡ result_of (fitted desk (length old) (filling_words (counts_of question) (example (default_symbol old_sheets (counts_of question)) c)))
   pub room : (c : Conj) → Line k c → Settled c → new ≡ room_of (fitted desk (length old) (filling_words (counts_of question) (example (default_symbol old_sheets (counts_of question)) c))) old
 
@@ -58,13 +58,13 @@ pub record LineIn (answer : List ℕ) (from to : ℕ) : Type 0 where
   pub good : Good c.literals
 
 -- the example of the line whose mark, number and words are this part
-pub record PartShown (question : List ℕ) (old_sheets : Bool) (answer : List ℕ) (from to : ℕ) (old new : List ℕ) (r : Shown) : Type 0 where
+pub record PartShown (question : List ℕ) (old_sheets : Bool) (answer : List ℕ) (from to : ℕ) (old new : List ℕ) (r : Result ℕ Refusal) : Type 0 where
   pub result : (c : Numbered) (beyond : List ℕ) → drop from answer ≡ line_words c ++ beyond → to ≡ from + line_head + length (conj_words c.literals) → Good c.literals
       → r ≡ result_of (shown desk old_sheets (counts_of question) (length old) (some c))
   pub room : (c : Numbered) (beyond : List ℕ) → drop from answer ≡ line_words c ++ beyond → to ≡ from + line_head + length (conj_words c.literals) → Good c.literals
       → new ≡ room_of (shown desk old_sheets (counts_of question) (length old) (some c)) old
 
 -- the example of a line of an answer is shown, or why not
-pub record AnswerShown (question : List ℕ) (line : ℕ) (old_sheets : Bool) (answer old new : List ℕ) (r : Shown) : Type 0 where
+pub record AnswerShown (question : List ℕ) (line : ℕ) (old_sheets : Bool) (answer old new : List ℕ) (r : Result ℕ Refusal) : Type 0 where
   pub result : (ls : List Numbered) → Answer answer ls → r ≡ result_of (shown desk old_sheets (counts_of question) (length old) (line_at line ls))
   pub room : (ls : List Numbered) → Answer answer ls → new ≡ room_of (shown desk old_sheets (counts_of question) (length old) (line_at line ls)) old

@@ -9,9 +9,8 @@ ghost use Rattle.values.specs.Values.{SettledLine};
 ghost use Rattle.answer_example.specs.Answers.{Ranged, Answered, LineIn, WordsShown, PartShown, AnswerShown};
 
 use answers::LINE_HEAD;
-use language::{Refusal, Sym, wide};
+use language::{Refusal, Sym};
 use line_example::fill_line;
-use outcomes::Shown;
 use words::word;
 
 // The symbol that free blanks take: the last declared one, and for old training sheets the first.
@@ -24,13 +23,13 @@ fn default_symbol(symbols: u16, old: bool) -> Sym
 }
 
 // The example of the line that these words are, with the symbols and the variables that a question declares.
-fn show_words(question: &[u16], old: bool, k: &[u16], room: &mut [u16]) -> Shown
+fn show_words(question: &[u16], old: bool, k: &[u16], room: &mut [u16]) -> Result<usize, Refusal>
     requires { Ranged question.now × (length k.now ≤ 65536) × SettledLine k.now }
     ensures { WordsShown question.now old k.now room.old room.new result }
 {
-    let terms = wide(question[1]);
-    let hedges = wide(question[2]);
-    let functions = wide(question[3]);
+    let terms = usize::from(question[1]);
+    let hedges = usize::from(question[2]);
+    let functions = usize::from(question[3]);
     let any = default_symbol(question[0] % 256, old);
     fill_line(k, terms, hedges, functions, any, room)
 }
@@ -43,13 +42,13 @@ fn show_part(
     from: usize,
     to: usize,
     room: &mut [u16],
-) -> Shown
+) -> Result<usize, Refusal>
     requires { Ranged question.now × (from + line_head ≤ to) × (to ≤ length answer.now) × (to ≤ 65536) × LineIn answer.now from to }
     ensures { PartShown question.now old answer.now from to room.old room.new result }
 {
     let mark = word(answer, from);
     if mark != 1 {
-        return Shown::Denied(Refusal::OpenLine);
+        return Err(Refusal::OpenLine);
     }
     show_words(question, old, &answer[from + LINE_HEAD..to], room)
 }
@@ -61,15 +60,15 @@ pub fn show_line(
     old: bool,
     answer: &[u16],
     room: &mut [u16],
-) -> Shown
+) -> Result<usize, Refusal>
     requires { Ranged question.now × Answered answer.now }
     ensures { AnswerShown question.now line old answer.now room.old room.new result }
 {
-    let lines = wide(word(answer, 0));
+    let lines = usize::from(word(answer, 0));
     if lines <= line {
-        return Shown::Denied(Refusal::NoSuchLine);
+        return Err(Refusal::NoSuchLine);
     }
-    let from = wide(word(answer, line + 2));
-    let to = wide(word(answer, line + 3));
+    let from = usize::from(word(answer, line + 2));
+    let to = usize::from(word(answer, line + 3));
     show_part(question, old, answer, from, to, room)
 }

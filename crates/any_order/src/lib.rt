@@ -332,19 +332,16 @@ fn place<'a>(
         return possible(e, at, c, l, top, 0);
     }
     let end = kind + 2 + wide(w[kind + 1]);
-    let mut i = kind + 2;
-    while i < end {
+    for i in kind + 2..end {
         let p = wide(w[i]);
         if p < floor {
-            i += 1;
-        } else {
-            if !possible(e, at, c, l, kind, p) {
-                return false;
-            }
-            if attempt(e, at, w, l, c, top, kind, times, p) {
-                return true;
-            }
-            i += 1;
+            continue;
+        }
+        if !possible(e, at, c, l, kind, p) {
+            return false;
+        }
+        if attempt(e, at, w, l, c, top, kind, times, p) {
+            return true;
         }
     }
     false
@@ -355,10 +352,8 @@ fn mark(w: &[u16], kind: usize, end: usize, l: &mut [u16])
     requires { Markable w.now kind end l.old }
     ensures { Marked w.now kind end l.old l.new }
 {
-    let mut i = kind + 2;
-    while i < end {
+    for i in kind + 2..end {
         store(l, wide(w[i]), kind + 1);
-        i += 1;
     }
 }
 

@@ -32,9 +32,9 @@ use Rattle.views.proofs.Members.{member-hedge, elsewhere-sees}
 use Rattle.counts.specs.Tables.{table as places}
 use Rattle.counts.proofs.Own.{low}
 use Rattle.views.proofs.Sides.{side-stands, side-whole}
-use Rattle.finds.specs.declared.Found.{Found}
-use Rattle.finds.specs.declared.Spot.{Spot}
+use Rattle.std.specs.Prelude as prelude
 use Rattle.finds.specs.Walks.{Ahead, Spotted}
+use Rattle.finds.proofs.Searches.{ahead-some, spotted-some}
 use Rattle.plans.specs.Slots.{forth_in}
 use Rattle.plans.proofs.Sides.{children-stand}
 use Rattle.expressions.specs.Standing.{Here}
@@ -181,13 +181,13 @@ module _ {k : List ℕ} {v : View} {before : Conj} {l r : Hedge} {behind : Conj}
   run-below : {p : HedgeVar} → p ≡ run_of v.l.look → p.0 < desk.each
   run-below e = subst (λ (p : HedgeVar). p.0 < desk.each) (sym (read w.left run_of e)) (run-fine l w.left.fine)
 
-  pub spotted : {p : HedgeVar} → p ≡ run_of v.l.look → {t : Spot} → ((h : Hedge) (beyond : List ℕ) → p.0 < desk.each → Stands k v.r.from h beyond → Spotted p v.r.from t h)
-      → t.found ≡ is_some (inside (run_of (look_of l)) r)
-  spotted e q = (q r w.right.beyond (run-below e) (side-stands w.right)).found ∙ ap (λ (p : HedgeVar). is_some (inside p r)) (read w.left run_of e)
+  pub spotted : {p : HedgeVar} → p ≡ run_of v.l.look → {t : prelude.Option ℕ} → ((h : Hedge) (beyond : List ℕ) → p.0 < desk.each → Stands k v.r.from h beyond → Spotted p v.r.from t h)
+      → prelude.is_some t ≡ is_some (inside (run_of (look_of l)) r)
+  spotted e q = spotted-some (q r w.right.beyond (run-below e) (side-stands w.right)) ∙ ap (λ (p : HedgeVar). is_some (inside p r)) (read w.left run_of e)
 
-  pub ahead : {p : HedgeVar} → p ≡ run_of v.l.look → {t : Found} → ((h : Hedge) (beyond : List ℕ) → p.0 < desk.each → Stands k v.r.from h beyond → Ahead p t h)
-      → t.found ≡ is_some (up_to (run_of (look_of l)) r)
-  ahead e q = (q r w.right.beyond (run-below e) (side-stands w.right)).found ∙ ap (λ (p : HedgeVar). is_some (up_to p r)) (read w.left run_of e)
+  pub ahead : {p : HedgeVar} → p ≡ run_of v.l.look → {t : prelude.Option ℕ} → ((h : Hedge) (beyond : List ℕ) → p.0 < desk.each → Stands k v.r.from h beyond → Ahead p t h)
+      → prelude.is_some t ≡ is_some (up_to (run_of (look_of l)) r)
+  ahead e q = ahead-some (q r w.right.beyond (run-below e) (side-stands w.right)) ∙ ap (λ (p : HedgeVar). is_some (up_to p r)) (read w.left run_of e)
 
 -- ---- a membership
 

@@ -20,13 +20,11 @@ fn times_in(k: &[u16], from: usize, to: usize, x: usize) -> usize
     ensures { result ≡ times x (slice from to k.now) }
 {
     let mut n: usize = 0;
-    let mut i = from;
-    while i < to {
+    for i in from..to {
         if k.len() <= i {
             return n;
         }
         n += one_if(k[i], x);
-        i += 1;
     }
     n
 }

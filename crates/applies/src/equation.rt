@@ -117,8 +117,7 @@ fn children_shared(k: &[u16], v: View) -> bool
 {
     let c = inner(k, v.l.from, v.l.to);
     let d = inner(k, v.r.from, v.r.to);
-    let spots = first_shared(k, c.from, d.from);
-    spots.found
+    first_shared(k, c.from, d.from).is_some()
 }
 
 // Of a single term, the children are terms.
@@ -145,7 +144,7 @@ pub fn del3(k: &[u16], v: View) -> bool
     let l = v.l;
     let a = l.look;
     let spot = inside(k, v.r.from, run_of(a));
-    and(lone_run(a), spot.found)
+    and(lone_run(a), spot.is_some())
 }
 
 // D1: single terms with one unordered symbol, whose children share no element; on the right they are terms.
@@ -256,7 +255,7 @@ pub fn e4(k: &[u16], v: View) -> bool
     let a = l.look;
     let ahead = up_to(k, v.r.from, run_of(a));
     let last = is_last(a);
-    and(is_run(a), and(!last, ahead.found))
+    and(is_run(a), and(!last, ahead.is_some()))
 }
 
 // The function variable of the left side is in the others, and that of the right side too.

@@ -1,7 +1,7 @@
 // What comes before a run and after it.
 #![tactic(auto)]
 
-ghost use Rattle.std.specs.Prelude.{◌≤◌, ◌≡◌, length, replicate};
+ghost use Rattle.std.specs.Prelude.{◌≤◌, ◌≡◌, length};
 ghost use Rattle.language.specs.Limits.{desk};
 ghost use Rattle.language.specs.Question.{read_question};
 ghost use Rattle.around.specs.Told.{refused_by, verdict_for, told_by};
@@ -11,15 +11,15 @@ ghost use Rattle.around.specs.Rooms.{Settles};
 use answers::Tally;
 use language::Refusal;
 use language::limits::ROOM;
-use outcomes::{Checked, Outcome, Solved};
+use outcomes::{Outcome, Solved};
 use reader::read_question;
 use slices::clear;
 
-// What a run comes to: the steps made and the lines, or a refusal.
+// What a run that no refusal stopped comes to: the steps made and the lines.
 #[derive(Clone, Copy)]
-pub enum Ran {
-    Done(usize, Tally),
-    Stopped(Refusal),
+pub struct Ran {
+    pub steps: usize,
+    pub tally: Tally,
 }
 
 // A refusal reports 0 for all three.
@@ -48,22 +48,23 @@ fn verdict_of(t: Tally) -> Outcome
 }
 
 // What a run that came to this is told as. The work slice is cleared, and after a refusal the answer slice too.
-pub fn tell(ran: Ran, work: &mut [u16], answer: &mut [u16]) -> Solved
+pub fn tell(ran: Result<Ran, Refusal>, work: &mut [u16], answer: &mut [u16]) -> Solved
     requires { (desk.room ≤ length work.old) × (desk.room ≤ length answer.old) }
     ensures { (result, work.new, answer.new) ≡ told_by ran work.old answer.old }
 {
     clear(work);
     match ran {
-        Ran::Done(steps, t) => {
+        Ok(r) => {
+            let t = r.tally;
             let outcome = verdict_of(t);
             Solved {
                 outcome,
                 lines: t.lines,
                 open: t.open,
-                steps,
+                steps: r.steps,
             }
         }
-        Ran::Stopped(e) => {
+        Err(e) => {
             clear(answer);
             refused(e)
         }
@@ -71,35 +72,23 @@ pub fn tell(ran: Ran, work: &mut [u16], answer: &mut [u16]) -> Solved
 }
 
 // Whether a run can begin, with slices of so many words.
-pub fn ready(question: &[u16], work: usize, answer: usize) -> Checked
+pub fn ready(question: &[u16], work: usize, answer: usize) -> Result<(), Refusal>
     ensures { result ≡ readied work answer (read_question desk question.now) }
 {
     if work < ROOM {
-        return Checked::Refused(Refusal::ShortSlice);
+        return Err(Refusal::ShortSlice);
     }
     if answer < ROOM {
-        return Checked::Refused(Refusal::ShortSlice);
+        return Err(Refusal::ShortSlice);
     }
     read_question(question)
 }
 
-// Zeros in all words.
-fn wipe(s: &mut [u16])
-    ensures { s.new ≡ replicate (length s.old) 0 }
-{
-    let mut i = 0;
-    while i < s.len() {
-        s[i] = 0;
-        i += 1;
-    }
-}
-
 // After a refusal the room is cleared.
-pub fn settle(ran: Ran, out: &mut [u16])
+pub fn settle(ran: Result<Ran, Refusal>, out: &mut [u16])
     ensures { Settles ran out.old out.new }
 {
-    match ran {
-        Ran::Done(_, _) => {}
-        Ran::Stopped(_) => wipe(out),
+    if ran.is_err() {
+        out.fill(0);
     }
 }

@@ -6,19 +6,19 @@ ghost use Rattle.std.specs.Prelude.{◌≡◌, not, ◌&&◌, ◌||◌, eqb};
 pub fn and(a: bool, b: bool) -> bool
     ensures { result ≡ (a && b) }
 {
-    if a { b } else { false }
+    a && b
 }
 
 pub fn or(a: bool, b: bool) -> bool
     ensures { result ≡ (a || b) }
 {
-    if a { true } else { b }
+    a || b
 }
 
 pub fn neither(a: bool, b: bool) -> bool
     ensures { result ≡ not (a || b) }
 {
-    if a { false } else { !b }
+    !(a || b)
 }
 
 // Whether a number is not 0.

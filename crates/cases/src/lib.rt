@@ -9,12 +9,10 @@ use prompt::parse;
 pub fn line_end(text: &[u8], at: usize) -> usize
     ensures { Ends text.now at result }
 {
-    let mut i = at;
-    while i < text.len() {
+    for i in at..text.len() {
         if text[i] == b'\n' {
             return i;
         }
-        i += 1;
     }
     text.len()
 }

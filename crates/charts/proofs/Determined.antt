@@ -18,9 +18,14 @@ use Rattle.charts.specs.contracts.later as later-contract
 use Rattle.charts.proofs.later.Reads as later-reads
 use Rattle.charts.specs.contracts.level_of as level_of-contract
 use Rattle.charts.proofs.level_of.Reads as level_of-reads
+use Rattle.charts.specs.contracts.table.Chart.part as part-contract
+use Rattle.charts.proofs.table.Chart.part.Reads as part-reads
 
 part-at-determined : Determined part_at-contract.ended part_at-reads.Pre part_at-reads.Post
 part-at-determined κs a p o q e d = ap (λ z. (z, o.1)) (e.is ∙ sym d.is)
+
+part-of-chart-determined : Determined part-contract.ended part-reads.Pre part-reads.Post
+part-of-chart-determined κs a p o q e d = ap (λ z. (z, o.1)) (e.is ∙ sym d.is)
 
 later-determined : Determined later-contract.ended later-reads.Pre later-reads.Post
 later-determined κs a p o q e d = ap (λ z. (z, o.1)) (e ∙ sym d)

@@ -2,12 +2,15 @@
 // is found that a symbol is a symbol of.
 #![tactic(auto)]
 
+pub mod table;
+
 ghost use Rattle.std.specs.Prelude.{◌+◌, ◌≤◌, ◌<◌, ◌≡◌, false, eqb, leb, length};
 ghost use Rattle.language.specs.Kinds.{pick};
 ghost use Rattle.expressions.specs.Standing.{Parted};
 ghost use Rattle.charts.specs.Charted.{ChartedFrom, Charts};
 ghost use Rattle.charts.specs.Levels.{Lowered, Leveled};
 
+use crate::table::Chart;
 use bools::{and, or};
 use expressions::Part;
 
@@ -82,9 +85,7 @@ pub fn chart(k: &[u16], ends: &mut [usize], nulls: &mut [bool])
     requires { (length k.now ≤ length ends.old) × (length k.now ≤ length nulls.old) }
     ensures { Charts k.now ends.old nulls.old ends.new nulls.new }
 {
-    let mut i = k.len();
-    while 0 < i {
-        i -= 1;
+    for i in (0..k.len()).rev() {
         let p = part_by(k, ends, nulls, i);
         ends[i] = p.end;
         nulls[i] = p.null;
@@ -99,20 +100,22 @@ pub fn later(x: u16, mid: usize, p: usize) -> bool
 }
 
 // From a place towards a symbol further on: the part of a star, a concatenation or a choice in which it stands.
-fn lower(k: &[u16], ends: &[usize], nulls: &[bool], x: usize, j: usize) -> usize
-    requires { ChartedFrom 0 k.now ends.now nulls.now × (x < length k.now) }
-    ensures { Lowered k.now x j result }
+fn lower(chart: &Chart, x: usize, j: usize) -> usize
+    requires { x < length chart.now.words.now }
+    ensures { Lowered chart.now.words.now x j result }
 {
-    let a = part_at(k, ends, nulls, x + 1);
+    let k = chart.words;
+    let a = chart.part(x + 1);
     let mid = a.end;
     if later(k[x], mid, j) { mid } else { x + 1 }
 }
 
 // Where the expression stands that the symbol at j is a symbol of, in the expression at a place.
-pub fn level_of(k: &[u16], ends: &[usize], nulls: &[bool], at: usize, j: usize) -> usize
-    requires { ChartedFrom 0 k.now ends.now nulls.now }
-    ensures { Leveled k.now at j result }
+pub fn level_of(chart: &Chart, at: usize, j: usize) -> usize
+    ensures { Leveled chart.now.words.now at j result }
 {
+    let k = chart.words;
+    // kept: goes on to the part in which the symbol stands, which may be many places further
     let mut x = at;
     let mut l = at;
     while x < j {
@@ -123,7 +126,7 @@ pub fn level_of(k: &[u16], ends: &[usize], nulls: &[bool], at: usize, j: usize) 
             l = x + 1;
             x += 1;
         } else {
-            x = lower(k, ends, nulls, x, j);
+            x = lower(chart, x, j);
         }
     }
     l

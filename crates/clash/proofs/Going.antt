@@ -20,12 +20,11 @@ use Rattle.walk.proofs.Reached.{reach-on}
 use Rattle.expressions.specs.Standing.{Here}
 use Rattle.clash.specs.declared.symbols.Symbols.{Symbols}
 use Rattle.clash.specs.declared.walking.Places.{Places}
-use Rattle.clash.specs.declared.walking.Step.{Step}
 use Rattle.state_classes.specs.States.{Means, inside, after}
 use Rattle.state_classes.specs.Classes.{FirstState, Tabled}
 use Rattle.clash.specs.Symbols.{Takes, Reads, Symboled}
 use Rattle.clash.specs.Chains.{Kept, Grown}
-use Rattle.clash.specs.Walking.{TwinOf, Stand, Stop, Lists, Walked, Went, Gone}
+use Rattle.clash.specs.Walking.{Step, TwinOf, Stand, Stop, Lists, Walked, Went, Gone}
 use Rattle.state_classes.proofs.Meanings.{spot-word, spotted-place, spotted-stands}
 use Rattle.state_classes.proofs.Classing.{place-to}
 
@@ -175,7 +174,7 @@ pub record Walks (k classes : List ℕ) (at : Places) (left₀ right₀ left rig
   pub null : (R S : Expr) → Stand k classes at R S → Walked at R S left₀ right₀ 1 → (j : ℕ) → j < i → (p : Pair) → Stop at R S (get_or left j 0) (get_or right j 0) p
       → get_or empty j false ≡ (nullable p.0 && nullable p.1)
 
-pub walks-start : {k classes : List ℕ} {at : Places} {left right : List ℕ} {empty : List Bool} → Walks k classes at left right left right empty 1 0
+walks-start : {k classes : List ℕ} {at : Places} {left right : List ℕ} {empty : List Bool} → Walks k classes at left right left right empty 1 0
 walks-start =
     record {
       low = omega arith;
@@ -185,6 +184,10 @@ walks-start =
       on = λ R S st w l j z. absurd (omega arith);
       null = λ R S st w j z. absurd (omega arith);
     }
+
+-- where the first pair alone is met
+pub walks-first : {k classes : List ℕ} {at : Places} {left right : List ℕ} {empty : List Bool} {n : ℕ} → n ≡ 1 → Walks k classes at left right left right empty n 0
+walks-first {k} {classes} {at} {left} {right} {empty} e = subst (λ n. Walks k classes at left right left right empty n 0) (sym e) walks-start
 
 module _ {k classes : List ℕ} {at : Places} {left₀ right₀ left right left' right' : List ℕ} {empty : List Bool} {n i a b : ℕ} {r : Step}
     (w : Walks k classes at left₀ right₀ left right empty n i) (l : i < n) (ea : a ≡ get_or left i 0) (eb : b ≡ get_or right i 0) (g : Went k classes at a b left right n left' right' r)

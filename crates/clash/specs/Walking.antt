@@ -9,7 +9,6 @@ use Rattle.rules.specs.Walk.{Pair, onward}
 use Rattle.walk.specs.Reach.{Reach}
 use Rattle.expressions.specs.Standing.{Here}
 use Rattle.clash.specs.declared.walking.Places.{Places}
-use Rattle.clash.specs.declared.walking.Step.{Step}
 use Rattle.state_classes.specs.Classes.{FirstState, Tabled}
 use Rattle.clash.specs.Chains.{Kept, Just}
 
@@ -67,6 +66,14 @@ pub record Lists (at : Places) (R S : Expr) (left right : List ℕ) (n : ℕ) (p
 -- the first n are pairs that the walk reaches
 pub record Walked (at : Places) (R S : Expr) (left right : List ℕ) (n : ℕ) : Type 0 where
   pub each : (i : ℕ) → i < n → (p : Pair) × Stop at R S (get_or left i 0) (get_or right i 0) p × Reach R S p
+
+-- how many pairs are met then, and whether neither of the two states needs to read anything
+pub record Step : Type 0 where
+  pub count : ℕ
+  pub null : Bool
+
+abbrev pub step_to : ℕ → Bool → Step
+step_to n e = record { count = n; null = e }
 
 -- from the pair of a and b on
 pub record Went (k classes : List ℕ) (at : Places) (a b : ℕ) (left right : List ℕ) (n : ℕ) (left' right' : List ℕ) (r : Step) : Type 0 where

@@ -1,10 +1,10 @@
 // Which symbols of an expression can be read first, and which after another: marks on their places, by recursion over the expression's parts.
 ghost use Rattle.std.specs.Prelude.{◌+◌, ◌≤◌, ◌<◌, ◌≡◌, length, set, true, false, eqb};
 ghost use Rattle.language.specs.Kinds.{pick};
-ghost use Rattle.charts.specs.Charted.{ChartedFrom};
 ghost use Rattle.clash.specs.Marks.{Begun, Resumed};
 
-use charts::{later, part_at};
+use charts::later;
+use charts::table::Chart;
 
 // One mark.
 fn mark(marks: &mut [bool], at: usize)
@@ -22,10 +22,11 @@ pub(crate) fn shut(x: u16, null: bool) -> bool
 }
 
 // Marks the symbols of the expression at a place that can be read first.
-pub(crate) fn begin(k: &[u16], ends: &[usize], nulls: &[bool], at: usize, marks: &mut [bool])
-    requires { ChartedFrom 0 k.now ends.now nulls.now × (length k.now ≤ length marks.old) }
-    ensures { Begun k.now at marks.old marks.new }
+pub(crate) fn begin(chart: &Chart, at: usize, marks: &mut [bool])
+    requires { length chart.now.words.now ≤ length marks.old }
+    ensures { Begun chart.now.words.now at marks.old marks.new }
 {
+    let k = chart.words;
     if k.len() <= at {
         return;
     }
@@ -37,30 +38,24 @@ pub(crate) fn begin(k: &[u16], ends: &[usize], nulls: &[bool], at: usize, marks:
         mark(marks, at);
         return;
     }
-    begin(k, ends, nulls, at + 1, marks);
+    begin(chart, at + 1, marks);
     if x == 7003 {
         return;
     }
-    let a = part_at(k, ends, nulls, at + 1);
+    let a = chart.part(at + 1);
     let mid = a.end;
     if shut(x, a.null) {
         return;
     }
-    begin(k, ends, nulls, mid, marks);
+    begin(chart, mid, marks);
 }
 
 // Marks the symbols of the expression at a place that can be read after the one at p. Whether nothing more need be read.
-pub(crate) fn resume(
-    k: &[u16],
-    ends: &[usize],
-    nulls: &[bool],
-    at: usize,
-    p: usize,
-    marks: &mut [bool],
-) -> bool
-    requires { ChartedFrom 0 k.now ends.now nulls.now × (length k.now ≤ length marks.old) }
-    ensures { Resumed k.now at p marks.old marks.new result }
+pub(crate) fn resume(chart: &Chart, at: usize, p: usize, marks: &mut [bool]) -> bool
+    requires { length chart.now.words.now ≤ length marks.old }
+    ensures { Resumed chart.now.words.now at p marks.old marks.new result }
 {
+    let k = chart.words;
     if k.len() <= at {
         return false;
     }
@@ -71,22 +66,22 @@ pub(crate) fn resume(
     if x < 7000 {
         return true;
     }
-    let a = part_at(k, ends, nulls, at + 1);
+    let a = chart.part(at + 1);
     let mid = a.end;
     if later(x, mid, p) {
-        return resume(k, ends, nulls, mid, p, marks);
+        return resume(chart, mid, p, marks);
     }
-    let more = resume(k, ends, nulls, at + 1, p, marks);
+    let more = resume(chart, at + 1, p, marks);
     if x == 7002 {
         return more;
     }
     if more {
         if x == 7003 {
-            begin(k, ends, nulls, at + 1, marks);
+            begin(chart, at + 1, marks);
             return true;
         }
-        begin(k, ends, nulls, mid, marks);
-        let b = part_at(k, ends, nulls, mid);
+        begin(chart, mid, marks);
+        let b = chart.part(mid);
         return b.null;
     }
     false

@@ -12,16 +12,15 @@ ghost use Rattle.std.specs.Prelude.{ℕ, ◌≤◌, ◌<◌, ◌≡◌, List, le
 ghost use Rattle.language.specs.Limits.{desk};
 ghost use Rattle.language.specs.Trees.{Expr};
 ghost use Rattle.expressions.specs.Standing.{Here};
-ghost use Rattle.charts.specs.Charted.{ChartedFrom};
-ghost use Rattle.clash.specs.Chains.{Chained};
 ghost use Rattle.clash.specs.Walking.{Bounds, Stand};
 ghost use Rattle.clash.specs.Sweeping.{FirstShares};
 ghost use Rattle.clash.specs.Judging.{verdict_of, Two};
 
-use crate::pairs::{CHAINS, STOPS, add, narrow};
+use crate::pairs::{CHAINS, STOPS, Stops, narrow};
 use crate::sweeps::{leads_from, settle};
 use crate::walking::{Places, walk_on};
-use charts::{chart, part_at};
+use charts::chart;
+use charts::table::Chart;
 use language::limits::{PAIRS, QUESTION};
 use state_classes::{STATES, class_all};
 
@@ -35,64 +34,46 @@ pub enum Verdict {
 
 // Whether the first pair shares a hedge, or, for a term variable, a term: that is what a symbol leads to with nothing left after it in both.
 fn first_shares(
-    k: &[u16],
-    ends: &[usize],
-    nulls: &[bool],
+    chart: &Chart,
     classes: &[u16; STATES],
     at: Places,
-    left: &[u16; STOPS],
-    right: &[u16; STOPS],
-    links: &[u16; STOPS],
-    heads: &[u16; CHAINS],
-    n: usize,
+    met: &Stops,
     marks: &[bool; STOPS],
     empty: &[bool; STOPS],
     term: bool,
 ) -> bool
-    requires { ChartedFrom 0 k.now ends.now nulls.now × Bounds at (length k.now) × Chained left.now right.now links.now heads.now n × (0 < n) }
-    ensures { FirstShares k.now classes.now at left.now right.now n marks.now empty.now term result }
+    requires { Bounds at (length chart.now.words.now) × (0 < met.now.count) }
+    ensures { FirstShares chart.now.words.now classes.now at met.now.left met.now.right met.now.count marks.now empty.now term result }
 {
     if term {
-        return leads_from(
-            k, ends, nulls, classes, at, left, right, links, heads, n, marks, empty, 0,
-        );
+        return leads_from(chart, classes, at, met, marks, empty, 0);
     }
     marks[0]
 }
 
 // Of two expressions whose states are classed.
-fn judge_classed(
-    k: &[u16],
-    ends: &[usize],
-    nulls: &[bool],
-    classes: &[u16; STATES],
-    at: Places,
-    term: bool,
-) -> Verdict
-    requires { ChartedFrom 0 k.now ends.now nulls.now × Bounds at (length k.now) }
-    ensures { (R S : Expr) → Stand k.now classes.now at R S → result ≡ verdict_of term R S }
+fn judge_classed(chart: &Chart, classes: &[u16; STATES], at: Places, term: bool) -> Verdict
+    requires { Bounds at (length chart.now.words.now) }
+    ensures { (R S : Expr) → Stand chart.now.words.now classes.now at R S → result ≡ verdict_of term R S }
 {
-    let mut left = [0; STOPS];
-    let mut right = [0; STOPS];
-    let mut links = [0; STOPS];
-    let mut heads = [0; CHAINS];
+    let mut met = Stops {
+        left: [0; STOPS],
+        right: [0; STOPS],
+        links: [0; STOPS],
+        heads: [0; CHAINS],
+        count: 0,
+    };
     let one = narrow(2 * at.at);
     let other = narrow(2 * at.other);
-    add(&mut left, &mut right, &mut links, &mut heads, 0, one, other);
+    met.add(one, other);
     let mut empty = [false; STOPS];
-    let n = walk_on(
-        k, ends, nulls, classes, at, &mut left, &mut right, &mut links, &mut heads, &mut empty,
-    );
-    if PAIRS < n {
+    walk_on(chart, classes, at, &mut met, &mut empty);
+    if PAIRS < met.count {
         return Verdict::Long;
     }
     let mut marks = empty;
-    settle(
-        k, ends, nulls, classes, at, &left, &right, &links, &heads, n, &mut marks,
-    );
-    let shares = first_shares(
-        k, ends, nulls, classes, at, &left, &right, &links, &heads, n, &marks, &empty, term,
-    );
+    settle(chart, classes, at, &met, &mut marks);
+    let shares = first_shares(chart, classes, at, &met, &marks, &empty, term);
     if shares {
         return Verdict::Shares;
     }
@@ -108,18 +89,23 @@ pub fn judge(k: &[u16], at: usize, other: usize, term: bool) -> Verdict
     let mut ends = [0; QUESTION];
     let mut nulls = [false; QUESTION];
     chart(k, &mut ends, &mut nulls);
-    let a = part_at(k, &ends, &nulls, at);
-    let b = part_at(k, &ends, &nulls, other);
+    let charted = Chart {
+        words: k,
+        ends: &ends,
+        nulls: &nulls,
+    };
+    let a = charted.part(at);
+    let b = charted.part(other);
     let end = a.end;
     let last = b.end;
     let mut classes = [0; STATES];
-    class_all(k, &ends, &nulls, at, end, &mut classes);
-    class_all(k, &ends, &nulls, other, last, &mut classes);
+    class_all(&charted, at, end, &mut classes);
+    class_all(&charted, other, last, &mut classes);
     let places = Places {
         at,
         end,
         other,
         last,
     };
-    judge_classed(k, &ends, &nulls, &classes, places, term)
+    judge_classed(&charted, &classes, places, term)
 }

@@ -1,35 +1,24 @@
 // Which of the pairs of a walk have a hedge in both: those with the empty hedge, and those from which a symbol leads to two pairs that have one.
 ghost use Rattle.std.specs.Prelude.{◌+◌, ◌*◌, ◌≤◌, ◌<◌, ◌≡◌, length};
 ghost use Rattle.language.specs.Limits.{desk};
-ghost use Rattle.charts.specs.Charted.{ChartedFrom};
-ghost use Rattle.clash.specs.Chains.{Chained, stops};
+ghost use Rattle.clash.specs.Chains.{stops};
 ghost use Rattle.clash.specs.Symbols.{Listed};
 ghost use Rattle.clash.specs.Walking.{Bounds};
 ghost use Rattle.clash.specs.Sweeping.{Known, Leads, LeadsWith, LeadsOf, LeadsFrom, SweptAt, Swept, Settled};
 
-use crate::pairs::{CHAINS, STOPS, find};
+use crate::pairs::{STOPS, Stops};
 use crate::symbols::symbols_after;
 use crate::walking::Places;
 use bools::{and, or};
+use charts::table::Chart;
 use language::limits::QUESTION;
-use language::wide;
 use state_classes::STATES;
 
 // Whether a pair is one of the first n, and is marked.
-fn known(
-    left: &[u16; STOPS],
-    right: &[u16; STOPS],
-    links: &[u16; STOPS],
-    heads: &[u16; CHAINS],
-    n: usize,
-    marks: &[bool; STOPS],
-    a: u16,
-    b: u16,
-) -> bool
-    requires { Chained left.now right.now links.now heads.now n }
-    ensures { Known left.now right.now n marks.now a b result }
+fn known(met: &Stops, marks: &[bool; STOPS], a: u16, b: u16) -> bool
+    ensures { Known met.now.left met.now.right met.now.count marks.now a b result }
 {
-    let i = find(left, right, links, heads, n, a, b);
+    let i = met.find(a, b);
     if i == 0 {
         return false;
     }
@@ -40,40 +29,18 @@ fn known(
 fn leads(
     k: &[u16],
     classes: &[u16; STATES],
-    left: &[u16; STOPS],
-    right: &[u16; STOPS],
-    links: &[u16; STOPS],
-    heads: &[u16; CHAINS],
-    n: usize,
+    met: &Stops,
     inner: &[bool; STOPS],
     rest: &[bool; STOPS],
     p: usize,
     q: usize,
 ) -> bool
-    requires { (p < length k.now) × (q < length k.now) × (length k.now ≤ desk.question) × Chained left.now right.now links.now heads.now n }
-    ensures { Leads k.now classes.now left.now right.now n inner.now rest.now p q result }
+    requires { (p < length k.now) × (q < length k.now) × (length k.now ≤ desk.question) }
+    ensures { Leads k.now classes.now met.now.left met.now.right met.now.count inner.now rest.now p q result }
 {
     if k[p] == k[q] {
-        let x = known(
-            left,
-            right,
-            links,
-            heads,
-            n,
-            inner,
-            classes[2 * p + 2],
-            classes[2 * q + 2],
-        );
-        let y = known(
-            left,
-            right,
-            links,
-            heads,
-            n,
-            rest,
-            classes[2 * p + 1],
-            classes[2 * q + 1],
-        );
+        let x = known(met, inner, classes[2 * p + 2], classes[2 * q + 2]);
+        let y = known(met, rest, classes[2 * p + 1], classes[2 * q + 1]);
         return and(x, y);
     }
     false
@@ -83,38 +50,20 @@ fn leads(
 fn leads_with(
     k: &[u16],
     classes: &[u16; STATES],
-    left: &[u16; STOPS],
-    right: &[u16; STOPS],
-    links: &[u16; STOPS],
-    heads: &[u16; CHAINS],
-    n: usize,
+    met: &Stops,
     inner: &[bool; STOPS],
     rest: &[bool; STOPS],
     p: usize,
     qs: &[u16; QUESTION],
     count: usize,
 ) -> bool
-    requires { (p < length k.now) × (length k.now ≤ desk.question) × Listed (length k.now) qs.now count × Chained left.now right.now links.now heads.now n }
-    ensures { LeadsWith k.now classes.now left.now right.now n inner.now rest.now p qs.now count result }
+    requires { (p < length k.now) × (length k.now ≤ desk.question) × Listed (length k.now) qs.now count }
+    ensures { LeadsWith k.now classes.now met.now.left met.now.right met.now.count inner.now rest.now p qs.now count result }
 {
-    let mut j = 0;
-    while j < count {
-        if leads(
-            k,
-            classes,
-            left,
-            right,
-            links,
-            heads,
-            n,
-            inner,
-            rest,
-            p,
-            wide(qs[j]),
-        ) {
+    for j in 0..count {
+        if leads(k, classes, met, inner, rest, p, usize::from(qs[j])) {
             return true;
         }
-        j += 1;
     }
     false
 }
@@ -123,11 +72,7 @@ fn leads_with(
 fn leads_of(
     k: &[u16],
     classes: &[u16; STATES],
-    left: &[u16; STOPS],
-    right: &[u16; STOPS],
-    links: &[u16; STOPS],
-    heads: &[u16; CHAINS],
-    n: usize,
+    met: &Stops,
     inner: &[bool; STOPS],
     rest: &[bool; STOPS],
     ps: &[u16; QUESTION],
@@ -135,86 +80,56 @@ fn leads_of(
     qs: &[u16; QUESTION],
     others: usize,
 ) -> bool
-    requires { (length k.now ≤ desk.question) × Listed (length k.now) ps.now ones × Listed (length k.now) qs.now others × Chained left.now right.now links.now heads.now n }
-    ensures { LeadsOf k.now classes.now left.now right.now n inner.now rest.now ps.now ones qs.now others result }
+    requires { (length k.now ≤ desk.question) × Listed (length k.now) ps.now ones × Listed (length k.now) qs.now others }
+    ensures { LeadsOf k.now classes.now met.now.left met.now.right met.now.count inner.now rest.now ps.now ones qs.now others result }
 {
-    let mut i = 0;
-    while i < ones {
-        if leads_with(
-            k,
-            classes,
-            left,
-            right,
-            links,
-            heads,
-            n,
-            inner,
-            rest,
-            wide(ps[i]),
-            qs,
-            others,
-        ) {
+    for i in 0..ones {
+        if leads_with(k, classes, met, inner, rest, usize::from(ps[i]), qs, others) {
             return true;
         }
-        i += 1;
     }
     false
 }
 
 // Whether from the i-th pair a symbol leads to pairs that are marked.
 pub(crate) fn leads_from(
-    k: &[u16],
-    ends: &[usize],
-    nulls: &[bool],
+    chart: &Chart,
     classes: &[u16; STATES],
     at: Places,
-    left: &[u16; STOPS],
-    right: &[u16; STOPS],
-    links: &[u16; STOPS],
-    heads: &[u16; CHAINS],
-    n: usize,
+    met: &Stops,
     inner: &[bool; STOPS],
     rest: &[bool; STOPS],
     i: usize,
 ) -> bool
-    requires { ChartedFrom 0 k.now ends.now nulls.now × Bounds at (length k.now) × Chained left.now right.now links.now heads.now n × (i < n) }
-    ensures { LeadsFrom k.now classes.now at left.now right.now n inner.now rest.now i result }
+    requires { Bounds at (length chart.now.words.now) × (i < met.now.count) }
+    ensures { LeadsFrom chart.now.words.now classes.now at met.now.left met.now.right met.now.count inner.now rest.now i result }
 {
+    let k = chart.words;
     let mut ps = [0; QUESTION];
     let mut qs = [0; QUESTION];
-    let a = wide(left[i]);
-    let b = wide(right[i]);
-    let x = symbols_after(k, ends, nulls, at.at, at.end, a, &mut ps);
-    let y = symbols_after(k, ends, nulls, at.other, at.last, b, &mut qs);
-    leads_of(
-        k, classes, left, right, links, heads, n, inner, rest, &ps, x.count, &qs, y.count,
-    )
+    let a = usize::from(met.left[i]);
+    let b = usize::from(met.right[i]);
+    let x = symbols_after(chart, at.at, at.end, a, &mut ps);
+    let y = symbols_after(chart, at.other, at.last, b, &mut qs);
+    leads_of(k, classes, met, inner, rest, &ps, x.count, &qs, y.count)
 }
 
 // The i-th pair is marked, if a symbol leads from it to marked pairs. Whether it was not marked and is now.
 fn sweep_at(
-    k: &[u16],
-    ends: &[usize],
-    nulls: &[bool],
+    chart: &Chart,
     classes: &[u16; STATES],
     at: Places,
-    left: &[u16; STOPS],
-    right: &[u16; STOPS],
-    links: &[u16; STOPS],
-    heads: &[u16; CHAINS],
-    n: usize,
+    met: &Stops,
     marks: &mut [bool; STOPS],
     i: usize,
 ) -> bool
-    requires { ChartedFrom 0 k.now ends.now nulls.now × Bounds at (length k.now) × Chained left.now right.now links.now heads.now n × (i < n) × (length marks.old ≡ stops) }
-    ensures { SweptAt k.now classes.now at left.now right.now n i marks.old marks.new result }
+    requires { Bounds at (length chart.now.words.now) × (i < met.now.count) × (length marks.old ≡ stops) }
+    ensures { SweptAt chart.now.words.now classes.now at met.now.left met.now.right met.now.count i marks.old marks.new result }
 {
     if marks[i] {
         return false;
     }
-    let found = leads_from(
-        k, ends, nulls, classes, at, left, right, links, heads, n, marks, marks, i,
-    );
+    let found = leads_from(chart, classes, at, met, marks, marks, i);
     if found {
         marks[i] = true;
         return true;
@@ -224,28 +139,18 @@ fn sweep_at(
 
 // One sweep over the pairs, the last first. Whether one was marked.
 fn sweep(
-    k: &[u16],
-    ends: &[usize],
-    nulls: &[bool],
+    chart: &Chart,
     classes: &[u16; STATES],
     at: Places,
-    left: &[u16; STOPS],
-    right: &[u16; STOPS],
-    links: &[u16; STOPS],
-    heads: &[u16; CHAINS],
-    n: usize,
+    met: &Stops,
     marks: &mut [bool; STOPS],
 ) -> bool
-    requires { ChartedFrom 0 k.now ends.now nulls.now × Bounds at (length k.now) × Chained left.now right.now links.now heads.now n × (length marks.old ≡ stops) }
-    ensures { Swept k.now classes.now at left.now right.now n marks.old marks.new result }
+    requires { Bounds at (length chart.now.words.now) × (length marks.old ≡ stops) }
+    ensures { Swept chart.now.words.now classes.now at met.now.left met.now.right met.now.count marks.old marks.new result }
 {
     let mut changed = false;
-    let mut i = n;
-    while 0 < i {
-        i -= 1;
-        let new = sweep_at(
-            k, ends, nulls, classes, at, left, right, links, heads, n, marks, i,
-        );
+    for i in (0..met.count).rev() {
+        let new = sweep_at(chart, classes, at, met, marks, i);
         changed = or(changed, new);
     }
     changed
@@ -253,25 +158,17 @@ fn sweep(
 
 // Sweep after sweep, until nothing more is marked.
 pub(crate) fn settle(
-    k: &[u16],
-    ends: &[usize],
-    nulls: &[bool],
+    chart: &Chart,
     classes: &[u16; STATES],
     at: Places,
-    left: &[u16; STOPS],
-    right: &[u16; STOPS],
-    links: &[u16; STOPS],
-    heads: &[u16; CHAINS],
-    n: usize,
+    met: &Stops,
     marks: &mut [bool; STOPS],
 )
-    requires { ChartedFrom 0 k.now ends.now nulls.now × Bounds at (length k.now) × Chained left.now right.now links.now heads.now n × (length marks.old ≡ stops) }
-    ensures { Settled k.now classes.now at left.now right.now n marks.old marks.new }
+    requires { Bounds at (length chart.now.words.now) × (length marks.old ≡ stops) }
+    ensures { Settled chart.now.words.now classes.now at met.now.left met.now.right met.now.count marks.old marks.new }
 {
     let mut more = true;
     while more {
-        more = sweep(
-            k, ends, nulls, classes, at, left, right, links, heads, n, marks,
-        );
+        more = sweep(chart, classes, at, met, marks);
     }
 }

@@ -2,14 +2,15 @@
 ghost use Rattle.std.specs.Prelude.{◌+◌, ◌≤◌, ◌<◌, ◌≡◌, length, set};
 ghost use Rattle.language.specs.Kinds.{pick};
 ghost use Rattle.language.specs.Limits.{desk};
-ghost use Rattle.charts.specs.Charted.{ChartedFrom};
 ghost use Rattle.clash.specs.Symbols.{Collected, Symboled};
 
 use crate::pairs::narrow;
 use crate::states::follow;
+use charts::table::Chart;
 use language::limits::QUESTION;
 
 // How many symbols can be read next, and whether nothing need be read.
+// kept: both are told of every state, so that neither is missing where the other is not.
 #[derive(Clone, Copy)]
 pub struct Symbols {
     pub count: usize,
@@ -34,29 +35,25 @@ fn collect(marks: &[bool; QUESTION], from: usize, to: usize, list: &mut [u16; QU
     ensures { Collected marks.now from to list.new result }
 {
     let mut n = 0;
-    let mut i = from;
-    while i < to {
+    for i in from..to {
         n = collect_one(marks[i], i, list, n);
-        i += 1;
     }
     n
 }
 
 // The symbols that can be read next in a state of the expression from `at` to `end`.
 pub(crate) fn symbols_after(
-    k: &[u16],
-    ends: &[usize],
-    nulls: &[bool],
+    chart: &Chart,
     at: usize,
     end: usize,
     s: usize,
     list: &mut [u16; QUESTION],
 ) -> Symbols
-    requires { ChartedFrom 0 k.now ends.now nulls.now × (at ≤ end) × (end ≤ length k.now) × (length k.now ≤ desk.question) × (length list.old ≡ desk.question) }
-    ensures { Symboled k.now at end s list.new result }
+    requires { (at ≤ end) × (end ≤ length chart.now.words.now) × (length chart.now.words.now ≤ desk.question) × (length list.old ≡ desk.question) }
+    ensures { Symboled chart.now.words.now at end s list.new result }
 {
     let mut marks = [false; QUESTION];
-    let null = follow(k, ends, nulls, at, s, &mut marks);
+    let null = follow(chart, at, s, &mut marks);
     let count = collect(&marks, at, end, list);
     Symbols { count, null }
 }

@@ -1,54 +1,26 @@
 // The walk from two expressions: from each pair of states that it has met on to the pairs that symbols lead to which can be read next in both.
 ghost use Rattle.std.specs.Prelude.{◌+◌, ◌*◌, ◌≤◌, ◌<◌, ◌≡◌, length};
 ghost use Rattle.language.specs.Limits.{desk};
-ghost use Rattle.charts.specs.Charted.{ChartedFrom};
-ghost use Rattle.clash.specs.Chains.{Chained, Grown, stops};
+ghost use Rattle.clash.specs.Chains.{Grown, stops};
 ghost use Rattle.clash.specs.Symbols.{Listed};
-ghost use Rattle.clash.specs.Walking.{Twin, TwinWith, TwinOf, Bounds, Went, Gone};
+ghost use Rattle.clash.specs.Walking.{Twin, TwinWith, TwinOf, Bounds, Went, Gone, step_to};
 
-use crate::pairs::{CHAINS, STOPS, meet};
+use crate::pairs::{STOPS, Stops};
 use crate::symbols::symbols_after;
 use bools::and;
+use charts::table::Chart;
 use language::limits::{PAIRS, QUESTION};
-use language::wide;
 use state_classes::STATES;
 
 // The two pairs that the symbols at p and q lead to, where these are one symbol.
-fn meet_twin(
-    k: &[u16],
-    classes: &[u16; STATES],
-    p: usize,
-    q: usize,
-    left: &mut [u16; STOPS],
-    right: &mut [u16; STOPS],
-    links: &mut [u16; STOPS],
-    heads: &mut [u16; CHAINS],
-    n: usize,
-) -> usize
-    requires { (p < length k.now) × (q < length k.now) × (length k.now ≤ desk.question) × Chained left.old right.old links.old heads.old n }
-    ensures { Grown (Twin k.now classes.now p q) left.old right.old n left.new right.new result × Chained left.new right.new links.new heads.new result }
+fn meet_twin(k: &[u16], classes: &[u16; STATES], p: usize, q: usize, met: &mut Stops)
+    requires { (p < length k.now) × (q < length k.now) × (length k.now ≤ desk.question) }
+    ensures { Grown (Twin k.now classes.now p q) met.old.left met.old.right met.old.count met.new.left met.new.right met.new.count }
 {
     if k[p] == k[q] {
-        let x = meet(
-            left,
-            right,
-            links,
-            heads,
-            n,
-            classes[2 * p + 2],
-            classes[2 * q + 2],
-        );
-        return meet(
-            left,
-            right,
-            links,
-            heads,
-            x,
-            classes[2 * p + 1],
-            classes[2 * q + 1],
-        );
+        met.meet(classes[2 * p + 2], classes[2 * q + 2]);
+        met.meet(classes[2 * p + 1], classes[2 * q + 1]);
     }
-    n
 }
 
 // Those that the symbol at p leads to with each of a list.
@@ -58,22 +30,14 @@ fn meet_with(
     p: usize,
     qs: &[u16; QUESTION],
     count: usize,
-    left: &mut [u16; STOPS],
-    right: &mut [u16; STOPS],
-    links: &mut [u16; STOPS],
-    heads: &mut [u16; CHAINS],
-    from: usize,
-) -> usize
-    requires { (p < length k.now) × (length k.now ≤ desk.question) × Listed (length k.now) qs.now count × Chained left.old right.old links.old heads.old from }
-    ensures { Grown (TwinWith k.now classes.now p qs.now count) left.old right.old from left.new right.new result × Chained left.new right.new links.new heads.new result }
+    met: &mut Stops,
+)
+    requires { (p < length k.now) × (length k.now ≤ desk.question) × Listed (length k.now) qs.now count }
+    ensures { Grown (TwinWith k.now classes.now p qs.now count) met.old.left met.old.right met.old.count met.new.left met.new.right met.new.count }
 {
-    let mut n = from;
-    let mut j = 0;
-    while j < count {
-        n = meet_twin(k, classes, p, wide(qs[j]), left, right, links, heads, n);
-        j += 1;
+    for j in 0..count {
+        meet_twin(k, classes, p, usize::from(qs[j]), met);
     }
-    n
 }
 
 // Those that each symbol of the one list leads to with each of the other.
@@ -84,33 +48,14 @@ fn meet_all(
     ones: usize,
     qs: &[u16; QUESTION],
     others: usize,
-    left: &mut [u16; STOPS],
-    right: &mut [u16; STOPS],
-    links: &mut [u16; STOPS],
-    heads: &mut [u16; CHAINS],
-    from: usize,
-) -> usize
-    requires { (length k.now ≤ desk.question) × Listed (length k.now) ps.now ones × Listed (length k.now) qs.now others × Chained left.old right.old links.old heads.old from }
-    ensures { Grown (TwinOf k.now classes.now ps.now ones qs.now others) left.old right.old from left.new right.new result × Chained left.new right.new links.new heads.new result }
+    met: &mut Stops,
+)
+    requires { (length k.now ≤ desk.question) × Listed (length k.now) ps.now ones × Listed (length k.now) qs.now others }
+    ensures { Grown (TwinOf k.now classes.now ps.now ones qs.now others) met.old.left met.old.right met.old.count met.new.left met.new.right met.new.count }
 {
-    let mut n = from;
-    let mut i = 0;
-    while i < ones {
-        n = meet_with(
-            k,
-            classes,
-            wide(ps[i]),
-            qs,
-            others,
-            left,
-            right,
-            links,
-            heads,
-            n,
-        );
-        i += 1;
+    for i in 0..ones {
+        meet_with(k, classes, usize::from(ps[i]), qs, others, met);
     }
-    n
 }
 
 // Where the two expressions stand, from their first word to the place after their last.
@@ -122,72 +67,47 @@ pub struct Places {
     pub last: usize,
 }
 
-// The pair of states a and b: where it goes on to is listed.
+// The pair of states a and b: where it goes on to is listed. Whether neither of the two needs to read anything.
 fn go_on(
-    k: &[u16],
-    ends: &[usize],
-    nulls: &[bool],
+    chart: &Chart,
     classes: &[u16; STATES],
     at: Places,
     a: usize,
     b: usize,
-    left: &mut [u16; STOPS],
-    right: &mut [u16; STOPS],
-    links: &mut [u16; STOPS],
-    heads: &mut [u16; CHAINS],
-    n: usize,
-) -> Step
-    requires { ChartedFrom 0 k.now ends.now nulls.now × Bounds at (length k.now) × Chained left.old right.old links.old heads.old n }
-    ensures { Went k.now classes.now at a b left.old right.old n left.new right.new result × Chained left.new right.new links.new heads.new result.count }
+    met: &mut Stops,
+) -> bool
+    requires { Bounds at (length chart.now.words.now) }
+    ensures { Went chart.now.words.now classes.now at a b met.old.left met.old.right met.old.count met.new.left met.new.right (step_to met.new.count result) }
 {
+    let k = chart.words;
     let mut ps = [0; QUESTION];
     let mut qs = [0; QUESTION];
-    let x = symbols_after(k, ends, nulls, at.at, at.end, a, &mut ps);
-    let y = symbols_after(k, ends, nulls, at.other, at.last, b, &mut qs);
-    let count = meet_all(
-        k, classes, &ps, x.count, &qs, y.count, left, right, links, heads, n,
-    );
-    let null = and(x.null, y.null);
-    Step { count, null }
-}
-
-// How many pairs are met then, and whether neither of the two states needs to read anything.
-#[derive(Clone, Copy)]
-pub struct Step {
-    pub count: usize,
-    pub null: bool,
+    let x = symbols_after(chart, at.at, at.end, a, &mut ps);
+    let y = symbols_after(chart, at.other, at.last, b, &mut qs);
+    meet_all(k, classes, &ps, x.count, &qs, y.count, met);
+    and(x.null, y.null)
 }
 
 // From the first pair on, until nothing new is met or there are too many. Which pairs have the empty hedge in both is noted.
 pub(crate) fn walk_on(
-    k: &[u16],
-    ends: &[usize],
-    nulls: &[bool],
+    chart: &Chart,
     classes: &[u16; STATES],
     at: Places,
-    left: &mut [u16; STOPS],
-    right: &mut [u16; STOPS],
-    links: &mut [u16; STOPS],
-    heads: &mut [u16; CHAINS],
+    met: &mut Stops,
     empty: &mut [bool; STOPS],
-) -> usize
-    requires { ChartedFrom 0 k.now ends.now nulls.now × Bounds at (length k.now) × Chained left.old right.old links.old heads.old 1 × (length empty.old ≡ stops) }
-    ensures { Gone k.now classes.now at left.old right.old left.new right.new empty.new result × Chained left.new right.new links.new heads.new result × (length empty.new ≡ stops) }
+)
+    requires { Bounds at (length chart.now.words.now) × (met.old.count ≡ 1) × (length empty.old ≡ stops) }
+    ensures { Gone chart.now.words.now classes.now at met.old.left met.old.right met.new.left met.new.right empty.new met.new.count × (length empty.new ≡ stops) }
 {
-    let mut n = 1;
+    // kept: more is met while the loop goes on, so that no range tells its end
     let mut i = 0;
-    while i < n {
-        if PAIRS < n {
-            return n;
+    while i < met.count {
+        if PAIRS < met.count {
+            return;
         }
-        let a = wide(left[i]);
-        let b = wide(right[i]);
-        let r = go_on(
-            k, ends, nulls, classes, at, a, b, left, right, links, heads, n,
-        );
-        empty[i] = r.null;
-        n = r.count;
+        let a = usize::from(met.left[i]);
+        let b = usize::from(met.right[i]);
+        empty[i] = go_on(chart, classes, at, a, b, met);
         i += 1;
     }
-    n
 }

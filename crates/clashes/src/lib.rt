@@ -34,12 +34,10 @@ fn mentions(k: &[u16], from: usize, to: usize, s: Signature) -> bool
     requires { to ≤ length k.now }
     ensures { result ≡ some_unordered s (slice from to k.now) }
 {
-    let mut i = from;
-    while i < to {
+    for i in from..to {
         if unordered_word(k[i], s) {
             return true;
         }
-        i += 1;
     }
     false
 }

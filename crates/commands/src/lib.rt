@@ -8,7 +8,7 @@ use example_command::example_file;
 use files::arguments::{count, is, is_last, warn_of, wrong_use};
 use files::status::{Status, found};
 use overlap_table::overlap_file;
-use print::warn;
+use print::say;
 use replay_command::replay_file;
 use solve_command::solve_file;
 use text_commands::{text_file, words_file};
@@ -16,26 +16,14 @@ use try_command::try_file;
 use walk_commands::{trail_file, walk_file};
 use wording::help::{help, version};
 
-// The command that argument `i` names takes the file behind it, and to solve a question nothing more.
-fn solve_asked(rt: &HostRuntime, i: usize) -> Status
-    requires { i < 9 }
+// What a command does whose last word is argument `last`, or what it takes.
+fn up_to<F: Fn() -> Status>(rt: &HostRuntime, last: usize, takes: &str, does: F) -> Status
+    requires { F.IsAlwaysCallable does }
 {
-    if is_last(rt, i + 1) {
-        return solve_file(rt, i + 1);
+    if is_last(rt, last) {
+        return does();
     }
-    wrong_use(rt, b"solve takes a file")
-}
-
-fn try_asked(rt: &HostRuntime, i: usize) -> Status
-    requires { i < 9 }
-{
-    if is_last(rt, i + 2) {
-        return try_file(rt, i + 1, i + 2);
-    }
-    wrong_use(
-        rt,
-        b"try takes a file with a question and a file with a filling",
-    )
+    wrong_use(rt, takes)
 }
 
 fn example_asked(rt: &HostRuntime, i: usize) -> Status
@@ -48,73 +36,16 @@ fn example_asked(rt: &HostRuntime, i: usize) -> Status
     } else if is_last(rt, i + 2) {
         return example_file(rt, i + 1, i + 2, false);
     }
-    wrong_use(rt, b"example takes a file and the number of a line")
-}
-
-fn walk_asked(rt: &HostRuntime, i: usize) -> Status
-    requires { i < 9 }
-{
-    if is_last(rt, i + 1) {
-        return walk_file(rt, i + 1);
-    }
-    wrong_use(rt, b"walk takes a file")
-}
-
-fn trail_asked(rt: &HostRuntime, i: usize) -> Status
-    requires { i < 9 }
-{
-    if is_last(rt, i + 1) {
-        return trail_file(rt, i + 1);
-    }
-    wrong_use(rt, b"trail takes a file")
-}
-
-fn replay_asked(rt: &HostRuntime, i: usize) -> Status
-    requires { i < 9 }
-{
-    if is_last(rt, i + 2) {
-        return replay_file(rt, i + 1, i + 2);
-    }
-    wrong_use(
-        rt,
-        b"replay takes a file with a question and a file with a trail",
-    )
+    wrong_use(rt, "example takes a file and the number of a line")
 }
 
 fn day_asked(rt: &HostRuntime, i: usize) -> Status
     requires { i < 9 }
 {
     if count(rt) <= i + 1 {
-        return wrong_use(rt, b"day takes files, with a question in each");
+        return wrong_use(rt, "day takes files, with a question in each");
     }
     day_files(rt, i + 1)
-}
-
-fn overlap_asked(rt: &HostRuntime, i: usize) -> Status
-    requires { i < 9 }
-{
-    if is_last(rt, i + 1) {
-        return overlap_file(rt, i + 1);
-    }
-    wrong_use(rt, b"overlap takes a file, with a sheet of live rules")
-}
-
-fn text_asked(rt: &HostRuntime, i: usize) -> Status
-    requires { i < 9 }
-{
-    if is_last(rt, i + 1) {
-        return text_file(rt, i + 1);
-    }
-    wrong_use(rt, b"text takes a file")
-}
-
-fn words_asked(rt: &HostRuntime, i: usize) -> Status
-    requires { i < 9 }
-{
-    if is_last(rt, i + 1) {
-        return words_file(rt, i + 1);
-    }
-    wrong_use(rt, b"words takes a file")
 }
 
 // What asks for no question.
@@ -128,14 +59,14 @@ fn other_asked(rt: &HostRuntime, i: usize) -> Status {
         return found();
     }
     if count(rt) <= i {
-        return wrong_use(rt, b"no command is given");
+        return wrong_use(rt, "no command is given");
     }
-    warn(rt.stderr(), b"desk: no command ");
+    say(rt.stderr(), b"desk: no command ");
     warn_of(rt, i);
-    warn(rt.stderr(), b"\n");
+    say(rt.stderr(), b"\n");
     wrong_use(
         rt,
-        b"the commands are solve, try, example, walk, trail, replay, day, overlap, text and words",
+        "the commands are solve, try, example, walk, trail, replay, day, overlap, text and words",
     )
 }
 
@@ -144,9 +75,9 @@ fn form_asked(rt: &HostRuntime, i: usize) -> Status
     requires { i < 9 }
 {
     if is(rt, i, b"text") {
-        text_asked(rt, i)
+        up_to(rt, i + 1, "text takes a file", || text_file(rt, i + 1))
     } else if is(rt, i, b"words") {
-        words_asked(rt, i)
+        up_to(rt, i + 1, "words takes a file", || words_file(rt, i + 1))
     } else {
         other_asked(rt, i)
     }
@@ -157,11 +88,16 @@ fn steps_asked(rt: &HostRuntime, i: usize) -> Status
     requires { i < 9 }
 {
     if is(rt, i, b"walk") {
-        walk_asked(rt, i)
+        up_to(rt, i + 1, "walk takes a file", || walk_file(rt, i + 1))
     } else if is(rt, i, b"trail") {
-        trail_asked(rt, i)
+        up_to(rt, i + 1, "trail takes a file", || trail_file(rt, i + 1))
     } else if is(rt, i, b"replay") {
-        replay_asked(rt, i)
+        up_to(
+            rt,
+            i + 2,
+            "replay takes a file with a question and a file with a trail",
+            || replay_file(rt, i + 1, i + 2),
+        )
     } else {
         form_asked(rt, i)
     }
@@ -172,15 +108,25 @@ fn run(rt: &HostRuntime, i: usize) -> Status
     requires { i < 9 }
 {
     if is(rt, i, b"solve") {
-        solve_asked(rt, i)
+        up_to(rt, i + 1, "solve takes a file", || solve_file(rt, i + 1))
     } else if is(rt, i, b"try") {
-        try_asked(rt, i)
+        up_to(
+            rt,
+            i + 2,
+            "try takes a file with a question and a file with a filling",
+            || try_file(rt, i + 1, i + 2),
+        )
     } else if is(rt, i, b"example") {
         example_asked(rt, i)
     } else if is(rt, i, b"day") {
         day_asked(rt, i)
     } else if is(rt, i, b"overlap") {
-        overlap_asked(rt, i)
+        up_to(
+            rt,
+            i + 1,
+            "overlap takes a file, with a sheet of live rules",
+            || overlap_file(rt, i + 1),
+        )
     } else {
         steps_asked(rt, i)
     }

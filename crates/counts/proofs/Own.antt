@@ -2,7 +2,7 @@
 use mathlib.Core.Path.{◌≡◌, refl, sym, ap, ◌∙◌}
 use mathlib.Core.Bool.{Bool, true, false, not, ◌||◌}
 use mathlib.Core.List.{List, ◌∷◌, ◌++◌}
-use Prim.Native.Nat.{ℕ, suc, ◌+◌, ◌<◌}
+use Prim.Native.Nat.{ℕ, ◌+◌, ◌<◌}
 use native.Mathlib.Omega.{arith}
 use lib.Dec.{eqb, ltb}
 use lib.ListN.{get_or}
@@ -19,7 +19,7 @@ use Rattle.views.specs.Variables.{variable_word, fine_var}
 use Rattle.views.specs.Standing.{LiteralAt}
 use Rattle.views.proofs.Words.{words_append}
 use Rattle.rules.proofs.FineParts.{fine-append}
-use Rattle.counts.specs.Counts.{count_hedge, count_conj}
+use Rattle.counts.specs.Counts.{count_hedge}
 use Rattle.counts.specs.Tables.{table, count_at, afresh, Tallied, Beside}
 use Rattle.counts.proofs.Times.{times-conj, count-append, some-conj, some-hedge, none_of, more-than-one, just-one}
 use Rattle.counts.proofs.Added.{counted, at-afresh}

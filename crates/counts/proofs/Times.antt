@@ -3,7 +3,7 @@ use mathlib.Core.Path.{◌≡◌, refl, sym, ap, ◌∙◌, subst}
 use mathlib.Core.Bool.{Bool, true, false, not, ◌||◌, false≢true}
 use mathlib.Core.List.{List, [], ◌∷◌, ◌++◌}
 use mathlib.Core.Logic.{inl, inr}
-use Prim.Native.Nat.{ℕ, suc, ◌+◌, ◌<◌, ◌≤◌}
+use Prim.Native.Nat.{ℕ, suc, ◌+◌, ◌≤◌}
 use native.Mathlib.Omega.{arith}
 use lib.Dec.{eqb, ltb}
 use lib.ListN.{length}
@@ -11,7 +11,7 @@ use borrow.Author.Tests.{lt-ltb, le-ltb, eq-eqb, ne_eqb}
 use Rattle.language.specs.Limits.{desk}
 use Rattle.language.specs.Kinds.{pick}
 use Rattle.language.specs.Trees.{Hedge, ε, tvar, hvar, node, Expr, eps, cat, alt, star, over, Literal, eqn, mem, Conj, Var, tv, hv, eq_v, in_functor, holds, in_literal, in_conj}
-use Rattle.language.specs.Writing.{functor_word, hedge_words, expr_words, literal_words, conj_words}
+use Rattle.language.specs.Writing.{hedge_words, expr_words, literal_words, conj_words}
 use Rattle.language.specs.Fine.{fine_hedge, fine_expr, fine_literal, fine_conj}
 use Rattle.views.specs.Variables.{variable_word, fine_var}
 use Rattle.views.proofs.Members.{or_assoc, at-term, at-run, at-functor, other}

@@ -6,7 +6,6 @@ ghost use Rattle.std.proofs.Math.Seq.{slice};
 ghost use Rattle.counts.specs.Tables.{times, table, count_at, one_in, one_out, added, removed};
 
 use language::limits::LAST_FUNCTION;
-use language::wide;
 
 // A place for each word up to the last of a variable.
 pub const TABLE: usize = LAST_FUNCTION as usize + 1;
@@ -38,10 +37,8 @@ pub fn count_in(k: &[u16], from: usize, to: usize, t: &mut [u16; TABLE])
     requires { (to ≤ length k.now) × (length t.old ≡ table) × ((x : ℕ) → get_or t.old x 0 + (to - from) < 65536) }
     ensures { t.new ≡ added (slice from to k.now) t.old }
 {
-    let mut i = from;
-    while i < to {
-        one_in(wide(k[i]), t);
-        i += 1;
+    for i in from..to {
+        one_in(usize::from(k[i]), t);
     }
 }
 
@@ -50,10 +47,8 @@ pub fn count_out(k: &[u16], from: usize, to: usize, t: &mut [u16; TABLE])
     requires { (to ≤ length k.now) × (length t.old ≡ table) × ((x : ℕ) → x < table → times x (slice from to k.now) ≤ get_or t.old x 0) }
     ensures { t.new ≡ removed (slice from to k.now) t.old }
 {
-    let mut i = from;
-    while i < to {
-        one_out(wide(k[i]), t);
-        i += 1;
+    for i in from..to {
+        one_out(usize::from(k[i]), t);
     }
 }
 

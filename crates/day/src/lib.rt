@@ -15,9 +15,9 @@ ghost use Rattle.day.specs.Written.{written, Ended, Kept};
 ghost use Rattle.language.specs.Question.{rising};
 
 use handing::clear_words;
+use language::Refusal;
 use language::limits::{QUESTION, ROOM, SHEETS};
-use language::{Refusal, wide};
-use outcomes::{Checked, outcome_number};
+use outcomes::outcome_number;
 use slices::clear;
 use word_bytes::{take_words, word_at, write_words_at};
 
@@ -28,8 +28,8 @@ fn offset(sheet: &[u8], i: usize) -> usize
     requires { (2 * (2 * i + 3) ≤ length sheet.now) × (i ≤ 65536) }
     ensures { (result ≡ get_or (words_of sheet.now) (2 * i + 1) 0 + 65536 * get_or (words_of sheet.now) (2 * i + 2) 0) × (result < 4294967296) }
 {
-    let low = wide(word_at(sheet, 2 * i + 1));
-    let high = wide(word_at(sheet, 2 * i + 2));
+    let low = usize::from(word_at(sheet, 2 * i + 1));
+    let high = usize::from(word_at(sheet, 2 * i + 2));
     low + 65536 * high
 }
 
@@ -39,14 +39,12 @@ fn rises(sheet: &[u8], n: usize) -> bool
     ensures { result ≡ rising (parts_at n) (undoubled n (drop 3 (words_of sheet.now))) (length sheet.now / 2) }
 {
     let mut from = 2 * n + 3;
-    let mut i = 0;
-    while i < n {
+    for i in 0..n {
         let to = offset(sheet, i + 1);
         if to < from {
             return false;
         }
         from = to;
-        i += 1;
     }
     from == sheet.len() / 2
 }
@@ -76,7 +74,7 @@ fn laid(sheet: &[u8]) -> bool
     if sheet.len() < 2 {
         return false;
     }
-    let n = wide(word_at(sheet, 0));
+    let n = usize::from(word_at(sheet, 0));
     if SHEETS < n {
         return false;
     }
@@ -91,7 +89,7 @@ fn answer_end(number: u16, lines: usize, answer: &[u16]) -> usize
     ensures { result ≡ pick (eqb number 0) (get_or answer.now (lines + 2) 0) 0 }
 {
     if number == 0 {
-        return wide(answer[lines + 2]);
+        return usize::from(answer[lines + 2]);
     }
     0
 }
@@ -136,9 +134,8 @@ fn put_offset(room: &mut [u8], i: usize, n: usize)
     requires { (2 * (2 * i + 3) ≤ length room.old) × (n < 4294967296) × (i ≤ 65536) }
     ensures { room.new ≡ sets room.old (2 * (2 * i + 1)) (bytes_of (doubled (n ∷ []))) }
 {
-    let mut pair = [0u16; 2];
-    pair[0] = (n % 65536) as u16;
-    pair[1] = (n / 65536) as u16;
+    // kept: the casts are proved to keep the halves, and `u16::try_from(..).unwrap()` would say no more
+    let pair = [(n % 65536) as u16, (n / 65536) as u16];
     write_words_at(&pair, room, 2 * i + 1);
 }
 
@@ -147,9 +144,7 @@ fn put_word(room: &mut [u8], at: usize, w: u16)
     requires { 2 * (at + 1) ≤ length room.old }
     ensures { room.new ≡ sets room.old (2 * at) (bytes_of (w ∷ [])) }
 {
-    let mut one = [0u16; 1];
-    one[0] = w;
-    write_words_at(&one, room, at);
+    write_words_at(&[w], room, at);
 }
 
 // The words of a part, from the place `at` on.
@@ -167,7 +162,7 @@ fn begin(room: &mut [u8], n: u16)
     ensures { room.new ≡ written n room.old [] }
 {
     put_word(room, 0, n);
-    put_offset(room, 0, 2 * wide(n) + 3);
+    put_offset(room, 0, 2 * usize::from(n) + 3);
 }
 
 // The part of a question, from the place `at` on, and where it ends.
@@ -190,10 +185,9 @@ fn answer_all(
     requires { (sheet_laid desk (words_in sheet.now) ≡ true) × (count ≡ count_of (words_in sheet.now)) × (desk.room ≤ length work.old) × (desk.room ≤ length answer.old) × (2 * parts_at count ≤ length room.old) × (room.old ≡ written count room.old []) }
     ensures { Ended (answers_of desk (length work.old) (length answer.old) (sheet_parts (words_in sheet.now))) room.old result room.new × Kept work.old work.new × Kept answer.old answer.new }
 {
-    let n = wide(count);
+    let n = usize::from(count);
     let mut at = 2 * n + 3;
-    let mut i = 0;
-    while i < n {
+    for i in 0..n {
         let p = solve_part(sheet, i, work, answer);
         let len = p.len;
         let next = at + 1 + len;
@@ -202,7 +196,6 @@ fn answer_all(
         }
         place(room, i, at, p.number, &answer[..len]);
         at = next;
-        i += 1;
     }
     true
 }
@@ -213,7 +206,7 @@ fn answer_day(sheet: &[u8], work: &mut [u16], answer: &mut [u16], room: &mut [u8
     ensures { Ended (answers_of desk (length work.old) (length answer.old) (sheet_parts (words_in sheet.now))) room.old result room.new × Kept work.old work.new × Kept answer.old answer.new }
 {
     let n = word_at(sheet, 0);
-    if room.len() / 2 < 2 * wide(n) + 3 {
+    if room.len() / 2 < 2 * usize::from(n) + 3 {
         return false;
     }
     begin(room, n);
@@ -221,25 +214,30 @@ fn answer_day(sheet: &[u8], work: &mut [u16], answer: &mut [u16], room: &mut [u8
 }
 
 // Answers a day's sheet: what comes back, and what the room and the two lent slices then hold, is what `day` says of them.
-pub fn solve_day(sheet: &[u8], work: &mut [u16], answer: &mut [u16], room: &mut [u8]) -> Checked
+pub fn solve_day(
+    sheet: &[u8],
+    work: &mut [u16],
+    answer: &mut [u16],
+    room: &mut [u8],
+) -> Result<(), Refusal>
     ensures result_value { checked_numbers result ≡ day_numbers (day desk (length work.old) (length answer.old) (length room.old / 2) (words_in sheet.now)) }
     ensures room_after { (room.new ≡ room_leaves (day desk (length work.old) (length answer.old) (length room.old / 2) (words_in sheet.now)) room.old) × (work.new ≡ slice_leaves (day desk (length work.old) (length answer.old) (length room.old / 2) (words_in sheet.now)) work.old) × (answer.new ≡ slice_leaves (day desk (length work.old) (length answer.old) (length room.old / 2) (words_in sheet.now)) answer.old) }
 {
     if work.len() < ROOM {
-        return Checked::Refused(Refusal::ShortSlice);
+        return Err(Refusal::ShortSlice);
     }
     if answer.len() < ROOM {
-        return Checked::Refused(Refusal::ShortSlice);
+        return Err(Refusal::ShortSlice);
     }
     if !laid(sheet) {
-        return Checked::Refused(Refusal::SheetLayout);
+        return Err(Refusal::SheetLayout);
     }
     let fits = answer_day(sheet, work, answer, room);
     clear(work);
     clear(answer);
     if fits {
-        return Checked::Fine;
+        return Ok(());
     }
     clear_words(room);
-    Checked::Refused(Refusal::LongAnswers)
+    Err(Refusal::LongAnswers)
 }

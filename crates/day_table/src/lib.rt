@@ -6,8 +6,8 @@ use files::status::{Status, failed, found};
 use files::{TOO_MANY, load_question};
 use language::limits::{QUESTION, ROOM};
 use outcomes::outcome_number;
-use print::{warn, warn_number};
-use std::io::{IsTerminal, Stderr};
+use print::say;
+use std::io::IsTerminal;
 use wording::table::{beside, heading, outcome_row, unread_row};
 
 // How many bytes argument `i` has.
@@ -18,17 +18,7 @@ fn length_of(rt: &HostRuntime, i: usize) -> usize {
 
 // How wide the column of the files is: as the longest name among the arguments from `i` on, or as its heading.
 fn widest(rt: &HostRuntime, i: usize) -> usize {
-    let n = count(rt);
-    let mut most = 4;
-    let mut j = i;
-    while j < n {
-        let k = length_of(rt, j);
-        if most < k {
-            most = k;
-        }
-        j += 1;
-    }
-    most
+    (i..count(rt)).fold(4, |most, j| length_of(rt, j).max(most))
 }
 
 // Which argument names the file, how wide the column of files is, and which question of how many it is.
@@ -40,25 +30,19 @@ struct Place {
     count: usize,
 }
 
-fn watched(err: Stderr) -> bool {
-    err.is_terminal()
-}
-
 // How far it is, in a line of its own where a person looks on, and its end.
 fn progress(rt: &HostRuntime, r: Place) {
-    if watched(rt.stderr()) {
-        warn(rt.stderr(), b"\rsolving question ");
-        warn_number(rt.stderr(), r.number as u64);
-        warn(rt.stderr(), b" of ");
-        warn_number(rt.stderr(), r.count as u64);
-        warn(rt.stderr(), b": ");
+    if rt.stderr().is_terminal() {
+        let number = r.number;
+        let count = r.count;
+        let _ = eprint!(rt; "\rsolving question {number} of {count}: ");
         warn_of(rt, r.file);
     }
 }
 
 fn no_progress(rt: &HostRuntime) {
-    if watched(rt.stderr()) {
-        warn(rt.stderr(), b"\r\x1b[K");
+    if rt.stderr().is_terminal() {
+        say(rt.stderr(), b"\r\x1b[K");
     }
 }
 
@@ -77,40 +61,35 @@ fn solve_row(rt: &HostRuntime, question: &[u16], r: Place) -> bool {
     no_progress(rt);
     name(rt, r);
     outcome_row(rt.stdout(), s);
-    let outcome = s.outcome;
-    outcome_number(outcome) == 0
+    outcome_number(s.outcome) == 0
 }
 
 // The row of a file, and whether its question is answered.
 fn row(rt: &HostRuntime, r: Place) -> bool {
     let mut buf = [0u8; TOO_MANY];
     let mut words = [0u16; 2 * QUESTION];
-    let t = load_question(rt, r.file, &mut buf, &mut words);
-    if !t.fine {
-        name(rt, r);
-        unread_row(rt.stdout(), t.number);
-        return false;
+    match load_question(rt, r.file, &mut buf, &mut words) {
+        Ok(t) => solve_row(rt, &words[0..t.words], r),
+        Err(u) => {
+            name(rt, r);
+            unread_row(rt.stdout(), u.refusal);
+            false
+        }
     }
-    let n = t.words;
-    solve_row(rt, &words[0..n], r)
 }
 
 // The rows of the files that the arguments from `first` on name, and whether every question is answered.
 fn rows(rt: &HostRuntime, first: usize, width: usize) -> bool {
     let n = count(rt);
     let mut all = true;
-    let mut i = first;
-    while i < n {
+    for i in first..n {
         let r = Place {
             file: i,
             width,
             number: i - first + 1,
             count: n - first,
         };
-        if !row(rt, r) {
-            all = false;
-        }
-        i += 1;
+        all &= row(rt, r);
     }
     all
 }

@@ -6,6 +6,7 @@ use mathlib.Core.Logic.{◌⊎◌, ◌↔◌}
 use mathlib.Core.List.{List}
 use mathlib.Core.Option.{some}
 use lib.ListN.{length, take, get_or}
+use Rattle.std.specs.Prelude.{Ok, Err, true}
 use Rattle.language.specs.declared.Refusal.{Refusal}
 use Rattle.language.specs.declared.Refusal.TheVariants.{LongLiteral, LongExample}
 use Rattle.language.specs.Limits.{desk}
@@ -18,8 +19,6 @@ use Rattle.rules.specs.Each.{Each}
 use Rattle.lines.specs.Matching.{Matching}
 use Rattle.outcomes.specs.declared.Outcome.TheVariants.{Refused, NoLine}
 use Rattle.outcomes.specs.Numbers.{SolveNumbers, outcome_number, solved_numbers, shown_numbers}
-use Rattle.outcomes.specs.declared.Tried.TheVariants as tried
-use Rattle.outcomes.specs.declared.Shown.TheVariants.{Shows, Denied}
 use Rattle.word_bytes.specs.Bytes.{words_of, words_in}
 use Rattle.host.specs.Numbers.{asks_old}
 use Rattle.demands.specs.Solves.{Solve}
@@ -57,7 +56,7 @@ solve-given = goal.solve-given
 pub try-tells : (t : Try) → TryTells t
 try-tells = goal.try-tells
 
-pub try-given : (t : Try) (e : Refusal) → (t.returned ≡ tried.Refused e) ↔ First (TryFault (length t.work) t.question t.filling) e
+pub try-given : (t : Try) (e : Refusal) → (t.returned ≡ Err e) ↔ First (TryFault (length t.work) t.question t.filling) e
 try-given = goal.try-given
 
 -- The example refuses as solving does, or the line that is read off the answer decides: 14, 15, 16, or its example in the room;
@@ -66,7 +65,7 @@ example-tells = showing.tells
 
 -- and 1 to 10 and 21 come back exactly when the table says so.
 pub example-given : (c : Example) (e : Refusal) → SolvingNumber (number_of e)
-    → (c.returned ≡ Denied e) ↔ First (SolveFault (length c.work) (length c.answer) c.question) e
+    → (c.returned ≡ Err e) ↔ First (SolveFault (length c.work) (length c.answer) c.question) e
 example-given = showing.example-given
 
 -- The place that comes back with 5 and 6 is that of the mistake: for 5 the first word that cannot continue a literal, or the conjunction's end, and
@@ -74,10 +73,10 @@ example-given = showing.example-given
 pub solve-place : (c : Solve) (e : Refusal) → c.returned.outcome ≡ Refused e → RightPlace desk c.question e
 solve-place = places.solve-right
 
-pub try-place : (t : Try) (e : Refusal) → t.returned ≡ tried.Refused e → RightPlace desk t.question e
+pub try-place : (t : Try) (e : Refusal) → t.returned ≡ Err e → RightPlace desk t.question e
 try-place = places.try-right
 
-pub example-place : (c : Example) (e : Refusal) → c.returned ≡ Denied e → RightPlace desk c.question e
+pub example-place : (c : Example) (e : Refusal) → c.returned ≡ Err e → RightPlace desk c.question e
 example-place = places.example-right
 
 -- ---- demand 2 and demand 3, of an answer
@@ -120,12 +119,12 @@ try-as-before = was.try-before
 -- ---- demand 3, of an example
 
 -- A length comes back only for a settled line, and then the room's words are read back as a filling that meets that very line;
-pub shows-only-so : (c : Example) (m : ℕ) → c.returned ≡ Shows m
+pub shows-only-so : (c : Example) (m : ℕ) → c.returned ≡ Ok m
     → (p : Promised c.question c.answer_left) × (k : Line) × (nth_line c.line p.lines ≡ some k) × (k.mark ≡ 1) × RoomShows c.old_sheets p.asked.counts k m c.room c.room_left
 shows-only-so = showing.shows-so
 
 -- and 16 only where the line's example is longer than the room lent or than a filling may be.
-pub long-only-so : (c : Example) → c.returned ≡ Denied LongExample
+pub long-only-so : (c : Example) → c.returned ≡ Err LongExample
     → (p : Promised c.question c.answer_left) × (k : Line) × (nth_line c.line p.lines ≡ some k) × (k.mark ≡ 1)
     × ((desk.filling < length (example_words c.old_sheets p.asked.counts k)) ⊎ (length c.room < length (example_words c.old_sheets p.asked.counts k)))
 long-only-so = showing.long-so
@@ -144,8 +143,8 @@ pub try-agrees : (t : Try) {question answer : List ℕ} → t.question ≡ quest
 try-agrees = trying.agrees
 
 -- The words that an example showed, tried on the same question, get yes, or 13 where a literal filled in is too long.
-pub shown-then-tried : (t : Try) (c : Example) (m : ℕ) → c.returned ≡ Shows m → t.question ≡ c.question → t.filling ≡ take m c.room_left
-    → desk.room ≤ length t.work → (t.returned ≡ tried.Yes) ⊎ (t.returned ≡ tried.Refused LongLiteral)
+pub shown-then-tried : (t : Try) (c : Example) (m : ℕ) → c.returned ≡ Ok m → t.question ≡ c.question → t.filling ≡ take m c.room_left
+    → desk.room ≤ length t.work → (t.returned ≡ Ok true) ⊎ (t.returned ≡ Err LongLiteral)
 shown-then-tried = trying.shown-tried
 
 -- ---- the same for the C program, on bytes

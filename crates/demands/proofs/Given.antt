@@ -7,6 +7,7 @@ use mathlib.Core.List.{List}
 use native.Mathlib.Omega.{arith}
 use lib.Dec.{lit≤, ltb}
 use lib.ListN.{length}
+use Rattle.std.specs.Prelude.{Result, Ok, Err}
 use Rattle.language.specs.declared.Refusal.{Refusal}
 use Rattle.language.specs.declared.Refusal.TheVariants.{ShortSlice, FillingLayout, FillingValue, LongLiteral}
 use Rattle.language.specs.Limits.{desk}
@@ -23,8 +24,6 @@ use Rattle.outcomes.specs.declared.Outcome.{Outcome}
 use Rattle.outcomes.specs.declared.Outcome.TheVariants.{Refused}
 use Rattle.outcomes.specs.declared.Solved.{Solved}
 use Rattle.solver.specs.Leaves.{verdict, leaves}
-use Rattle.outcomes.specs.declared.Tried.{Tried}
-use Rattle.outcomes.specs.declared.Tried.TheVariants as tried
 use Rattle.trying.specs.Outcome.{Answers, Outcome as Tries}
 use Rattle.demands.specs.Solves.{Solve}
 use Rattle.demands.specs.Tries.{Try}
@@ -74,20 +73,20 @@ module _ (t : Try) (e : Refusal) where
   abbrev Faults : Refusal → Type 0
   Faults = TryFault (length t.work) t.question t.filling
 
-  tried-one : {r : Refusal} {o : Tried} → o ≡ tried.Refused r → o ≡ tried.Refused e → r ≡ e
+  tried-one : {r : Refusal} {o : Result Bool Refusal} → o ≡ Err r → o ≡ Err e → r ≡ e
   tried-one p q = cc
 
-  pub not-tried : {A P : Type 0} {o : Tried} → Answers P o → o ≡ tried.Refused e → A
+  pub not-tried : {A P : Type 0} {o : Result Bool Refusal} → Answers P o → o ≡ Err e → A
   not-tried (inl a) d = absurd (let b = a.0 in let z : ◌≡◌ {A = ℕ} 0 1 = cc in omega arith)
   not-tried (inr a) d = absurd (let b = a.0 in let z : ◌≡◌ {A = ℕ} 0 1 = cc in omega arith)
 
-  pub try-given : (t.returned ≡ tried.Refused e) ↔ First Faults e
+  pub try-given : (t.returned ≡ Err e) ↔ First Faults e
   try-given = by (trying desk (length t.work) t.question t.filling) (try-said t) (try-judged (length t.work) t.question t.filling)
     where
-      by : (v : Trying) → Tries v t.returned t.work t.work_left → TryJudged (length t.work) t.question t.filling v → (t.returned ≡ tried.Refused e) ↔ First Faults e
+      by : (v : Trying) → Tries v t.returned t.work t.work_left → TryJudged (length t.work) t.question t.filling v → (t.returned ≡ Err e) ↔ First Faults e
       by (decides q ρ) o j = (λ d. not-tried o.0 d, λ g. absurd (j e g.here))
-      by (calls.unread r) o j = (λ d. rw (← tried-one o.0 d) j, λ g. o.0 ∙ ap tried.Refused (first_one Faults (place_for t.question) (try-place (length t.work) t.question t.filling) r e j g))
-      by (calls.given-up r) o j = (λ d. rw (← tried-one o.0 d) j, λ g. o.0 ∙ ap tried.Refused (first_one Faults (place_for t.question) (try-place (length t.work) t.question t.filling) r e j g))
+      by (calls.unread r) o j = (λ d. rw (← tried-one o.0 d) j, λ g. o.0 ∙ ap Err (first_one Faults (place_for t.question) (try-place (length t.work) t.question t.filling) r e j g))
+      by (calls.given-up r) o j = (λ d. rw (← tried-one o.0 d) j, λ g. o.0 ∙ ap Err (first_one Faults (place_for t.question) (try-place (length t.work) t.question t.filling) r e j g))
 
 -- ---- which numbers trying gives, and what it leaves
 
@@ -138,7 +137,7 @@ try-tells t = by (trying desk (length t.work) t.question t.filling) (try-said t)
     number r (inr (inl i)) = let z = ap number_of i in inr (omega arith, omega arith)
     number r (inr (inr i)) = let z = ap number_of i in inr (omega arith, omega arith)
 
-    decided : {P : Type 0} {r : Tried} → Answers P r → (r ≡ tried.Yes) ⊎ (r ≡ tried.No)
+    decided : {P : Type 0} {r : Result Bool Refusal} → Answers P r → (r ≡ Ok true) ⊎ (r ≡ Ok false)
     decided (inl a) = inl a.0
     decided (inr a) = inr a.0
 

@@ -7,6 +7,7 @@ use mathlib.Core.List.{List}
 use native.Mathlib.Omega.{arith}
 use lib.Dec.{ltb}
 use lib.ListN.{length}
+use Rattle.std.specs.Prelude.{Result, Err}
 use Rattle.language.specs.declared.Refusal.{Refusal}
 use Rattle.language.specs.declared.Refusal.TheVariants.{ShortSlice, QuestionLength, CountRange, BadOffset, NotLiterals, Undeclared, LongResult, LongWaiting, LineRoom, StepLimit, FillingLayout, FillingValue, LongLiteral, NoSuchLine, OpenLine, LongExample, NotText, ManyNames, LongText, OtherNumbers, LongWalk, SheetLayout, LongAnswers, BadStep, ShortTrail, LongTrail, TrailRoom}
 use Rattle.language.specs.Limits.{desk}
@@ -26,9 +27,6 @@ use Rattle.rules.proofs.Stopping.{RunStopsBy, run-stops-by}
 use Rattle.language.specs.Question as question
 use Rattle.outcomes.specs.declared.Outcome.TheVariants.{Refused}
 use Rattle.outcomes.specs.declared.Solved.{Solved}
-use Rattle.outcomes.specs.declared.Tried.{Tried}
-use Rattle.outcomes.specs.declared.Tried.TheVariants as tried
-use Rattle.outcomes.specs.declared.Shown.TheVariants.{Denied}
 use Rattle.solver.specs.Leaves.{leaves}
 use Rattle.trying.specs.Outcome.{Outcome as Tries}
 use Rattle.word_bytes.specs.Bytes.{words_in}
@@ -152,10 +150,10 @@ solve-right c e d = by (solving desk (length c.work) (length c.answer) c.questio
     by (unread r) f h = subst (RightPlace desk c.question) (one (unread r) r refl f) h
     by (given-up r) f h = subst (RightPlace desk c.question) (one (given-up r) r refl f) h
 
-pub try-right : (t : Try) (e : Refusal) → t.returned ≡ tried.Refused e → RightPlace desk t.question e
+pub try-right : (t : Try) (e : Refusal) → t.returned ≡ Err e → RightPlace desk t.question e
 try-right t e d = by (trying desk (length t.work) t.question t.filling) (try-said t) (trying-right t.question (length t.work) t.filling)
   where
-    one : {r : Refusal} {o : Tried} → o ≡ tried.Refused r → o ≡ tried.Refused e → r ≡ e
+    one : {r : Refusal} {o : Result Bool Refusal} → o ≡ Err r → o ≡ Err e → r ≡ e
     one p q = cc
 
     by : (v : Trying) → Tries v t.returned t.work t.work_left → TriesRight t.question v → RightPlace desk t.question e
@@ -163,10 +161,10 @@ try-right t e d = by (trying desk (length t.work) t.question t.filling) (try-sai
     by (calls.unread r) o h = subst (RightPlace desk t.question) (one o.0 d) h
     by (calls.given-up r) o h = subst (RightPlace desk t.question) (one o.0 d) h
 
-pub example-right : (c : Example) (e : Refusal) → c.returned ≡ Denied e → RightPlace desk c.question e
+pub example-right : (c : Example) (e : Refusal) → c.returned ≡ Err e → RightPlace desk c.question e
 example-right c e d = by (solving desk (length c.work) (length c.answer) c.question) (says c) (solving-right c.question (length c.work) (length c.answer))
   where
-    one : {r : Refusal} → c.returned ≡ Denied r → r ≡ e
+    one : {r : Refusal} → c.returned ≡ Err r → r ≡ e
     one p = cc
 
     by : (v : Solving) → ◌≡◌ {A = Left} (c.returned, c.work_left, c.answer_left, c.room_left) (left c v) → SolvesRight c.question v → RightPlace desk c.question e

@@ -3,11 +3,12 @@ use mathlib.Core.Path.{◌≡◌}
 use Prim.Native.Nat.{ℕ}
 use mathlib.Core.List.{List}
 use lib.ListN.{length}
+use Rattle.std.specs.Prelude.{Result}
+use Rattle.language.specs.declared.Refusal.{Refusal}
 use Rattle.language.specs.Limits.{desk}
 use Rattle.rules.specs.Answer.{solving}
 use Rattle.rules.specs.Calls.{trying}
 use Rattle.outcomes.specs.declared.Solved.{Solved}
-use Rattle.outcomes.specs.declared.Shown.{Shown}
 use Rattle.solver.specs.Leaves.{leaves}
 use Rattle.solver.proofs.Told.{leaves-told}
 use Rattle.trying.specs.Outcome.{Outcome}
@@ -24,5 +25,5 @@ solve-said c = leaves-told (c.returned, c.work_left, c.answer_left) (solving des
 pub try-said : (t : Try) → Outcome (trying desk (length t.work) t.question t.filling) t.returned t.work t.work_left
 try-said t = outcome-told (trying desk (length t.work) t.question t.filling) t.returned t.work t.work_left t.said
 
-pub example-said : (c : Example) → ◌≡◌ {A = Shown × List ℕ × List ℕ × List ℕ} (c.returned, c.work_left, c.answer_left, c.room_left) (exhibits c.line c.old_sheets c.question c.work c.answer c.room)
+pub example-said : (c : Example) → ◌≡◌ {A = Result ℕ Refusal × List ℕ × List ℕ × List ℕ} (c.returned, c.work_left, c.answer_left, c.room_left) (exhibits c.line c.old_sheets c.question c.work c.answer c.room)
 example-said c = exhibits-told (c.returned, c.work_left, c.answer_left, c.room_left) c.line c.old_sheets c.question c.work c.answer c.room c.said

@@ -8,6 +8,7 @@ use mathlib.Core.Option.{Option, none, some}
 use native.Mathlib.Omega.{arith}
 use lib.Dec.{ltb}
 use lib.ListN.{length}
+use Rattle.std.specs.Prelude.{Result, Ok, Err}
 use Rattle.language.specs.declared.Refusal.{Refusal}
 use Rattle.language.specs.declared.Refusal.TheVariants.{NoSuchLine, OpenLine, LongExample}
 use Rattle.language.specs.Numbers.{number_of}
@@ -23,8 +24,6 @@ use Rattle.rules.specs.Calls.{line_at, shows, denied, fitted, shown, showing_of,
 use Rattle.exact.proofs.Declared.{read-declared}
 use Rattle.outcomes.specs.Numbers.{outcome_number}
 use Rattle.solver.specs.Leaves.{leaves}
-use Rattle.outcomes.specs.declared.Shown.{Shown}
-use Rattle.outcomes.specs.declared.Shown.TheVariants.{Shows, Denied}
 use Rattle.line_example.specs.Shown.{result_of, room_of}
 use Rattle.example.specs.Exhibits.{exhibits}
 use Rattle.answer_example.specs.Answers.{Answer}
@@ -48,18 +47,18 @@ use Rattle.demands.proofs.Solving.{solves}
 
 -- what comes back, the two slices and the room
 abbrev pub Left : Type 0
-Left = Shown × List ℕ × List ℕ × List ℕ
+Left = Result ℕ Refusal × List ℕ × List ℕ × List ℕ
 
 -- where there is an answer, a refusal has a number from 14 to 16
-pub late-number : (old_sheets : Bool) (n : Counts) (room : ℕ) (e : Refusal) (o : Option Numbered) → result_of (shown desk old_sheets n room o) ≡ Denied e → (14 ≤ number_of e) × (number_of e ≤ 16)
+pub late-number : (old_sheets : Bool) (n : Counts) (room : ℕ) (e : Refusal) (o : Option Numbered) → result_of (shown desk old_sheets n room o) ≡ Err e → (14 ≤ number_of e) × (number_of e ≤ 16)
 late-number old_sheets n room e none d = let z : NoSuchLine ≡ e = cc in let y = ap number_of z in (omega arith, omega arith)
 late-number old_sheets n room e (some k) d = go (solved k.literals) d
   where
-    at_room : (ws : List ℕ) (b : Bool) → result_of (elim b [ true ↦ denied LongExample | false ↦ shows ws ]) ≡ Denied e → (14 ≤ number_of e) × (number_of e ≤ 16)
+    at_room : (ws : List ℕ) (b : Bool) → result_of (elim b [ true ↦ denied LongExample | false ↦ shows ws ]) ≡ Err e → (14 ≤ number_of e) × (number_of e ≤ 16)
     at_room ws true d = let z : LongExample ≡ e = cc in let y = ap number_of z in (omega arith, omega arith)
     at_room ws false d = absurd (let z : ◌≡◌ {A = ℕ} 0 1 = cc in omega arith)
 
-    go : (b : Bool) → result_of (elim b [ true ↦ fitted desk room (filling_words n (example (default_symbol old_sheets n) k.literals)) | false ↦ denied OpenLine ]) ≡ Denied e → (14 ≤ number_of e) × (number_of e ≤ 16)
+    go : (b : Bool) → result_of (elim b [ true ↦ fitted desk room (filling_words n (example (default_symbol old_sheets n) k.literals)) | false ↦ denied OpenLine ]) ≡ Err e → (14 ≤ number_of e) × (number_of e ≤ 16)
     go true d = at_room (filling_words n (example (default_symbol old_sheets n) k.literals)) (ltb desk.filling (length (filling_words n (example (default_symbol old_sheets n) k.literals))) || ltb room (length (filling_words n (example (default_symbol old_sheets n) k.literals)))) d
     go false d = let z : OpenLine ≡ e = cc in let y = ap number_of z in (omega arith, omega arith)
 
@@ -127,27 +126,27 @@ module _ (c : Example) where
           (ap (λ (x : Left). x.2) e ∙ ap (λ ks. overwritten desk (answer_words desk ks) c.answer) (sym (ap numbered_of t.from.lines ∙ numbered-back ls)))
 
   -- 1 to 10 and 21 come back exactly when the table says so, as from solving
-  pub example-given : (e : Refusal) → SolvingNumber (number_of e) → (c.returned ≡ Denied e) ↔ First (SolveFault (length c.work) (length c.answer) c.question) e
+  pub example-given : (e : Refusal) → SolvingNumber (number_of e) → (c.returned ≡ Err e) ↔ First (SolveFault (length c.work) (length c.answer) c.question) e
   example-given e few = by comes says (solve-judged (length c.work) (length c.answer) c.question)
     where
-      same : {r : Refusal} {o : Shown} → o ≡ Denied r → o ≡ Denied e → r ≡ e
+      same : {r : Refusal} {o : Result ℕ Refusal} → o ≡ Err r → o ≡ Err e → r ≡ e
       same p q = cc
 
       by : (v : Solving) → came ≡ left v → SolveJudged (length c.work) (length c.answer) c.question v
-          → (c.returned ≡ Denied e) ↔ First (SolveFault (length c.work) (length c.answer) c.question) e
+          → (c.returned ≡ Err e) ↔ First (SolveFault (length c.work) (length c.answer) c.question) e
       by (answered ls n) f j = (
         λ d. absurd (let p = late-number c.old_sheets (counts_of c.question) (length c.room) e (line_at c.line ls) (sym (ap (λ (x : Left). x.0) f) ∙ d) in of-line p.0 p.1 few),
         λ g. absurd (j e g.here),
       )
-      by (unread r) f j = let is = ap (λ (x : Left). x.0) f in (λ d. rw (← same is d) j, λ g. is ∙ ap Denied (first_one (SolveFault (length c.work) (length c.answer) c.question) (place_for c.question) (solve-place (length c.work) (length c.answer) c.question) r e j g))
-      by (given-up r) f j = let is = ap (λ (x : Left). x.0) f in (λ d. rw (← same is d) j, λ g. is ∙ ap Denied (first_one (SolveFault (length c.work) (length c.answer) c.question) (place_for c.question) (solve-place (length c.work) (length c.answer) c.question) r e j g))
+      by (unread r) f j = let is = ap (λ (x : Left). x.0) f in (λ d. rw (← same is d) j, λ g. is ∙ ap Err (first_one (SolveFault (length c.work) (length c.answer) c.question) (place_for c.question) (solve-place (length c.work) (length c.answer) c.question) r e j g))
+      by (given-up r) f j = let is = ap (λ (x : Left). x.0) f in (λ d. rw (← same is d) j, λ g. is ∙ ap Err (first_one (SolveFault (length c.work) (length c.answer) c.question) (place_for c.question) (solve-place (length c.work) (length c.answer) c.question) r e j g))
 
   -- a length comes back only with a filling of so many words that meets the line asked for,
-  pub shows-so : (m : ℕ) → c.returned ≡ Shows m
+  pub shows-so : (m : ℕ) → c.returned ≡ Ok m
       → (p : Promised c.question c.answer_left) × (k : Line) × (nth_line c.line p.lines ≡ some k) × (k.mark ≡ 1) × RoomShows c.old_sheets p.asked.counts k m c.room c.room_left
   shows-so m e = by tells
     where
-      no : {A : Type 0} {r : Refusal} → c.returned ≡ Denied r → A
+      no : {A : Type 0} {r : Refusal} → c.returned ≡ Err r → A
       no d = absurd (let z : ◌≡◌ {A = ℕ} 0 1 = cc in omega arith)
 
       by : ExampleTells c
@@ -159,7 +158,7 @@ module _ (c : Example) where
       by (told p (is-shown k j there mark _ _ _ d s) _ _) = let z : j ≡ m = cc in (p, k, there, mark, rw z at s)
 
   -- and 16 only where the line is settled and its example is longer than the room lent or than a filling may be
-  pub long-so : c.returned ≡ Denied LongExample
+  pub long-so : c.returned ≡ Err LongExample
       → (p : Promised c.question c.answer_left) × (k : Line) × (nth_line c.line p.lines ≡ some k) × (k.mark ≡ 1)
       × ((desk.filling < length (example_words c.old_sheets p.asked.counts k)) ⊎ (length c.room < length (example_words c.old_sheets p.asked.counts k)))
   long-so e = by tells

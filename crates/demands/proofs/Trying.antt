@@ -9,6 +9,7 @@ use native.Mathlib.Omega.{arith}
 use borrow.Author.Tests.{le-ltb}
 use lib.Dec.{ltb}
 use lib.ListN.{length, take}
+use Rattle.std.specs.Prelude.{Result, Ok, Err}
 use Rattle.language.specs.declared.Refusal.{Refusal}
 use Rattle.language.specs.declared.Refusal.TheVariants.{ShortSlice, LongLiteral}
 use Rattle.language.specs.declared.Signature.{Signature}
@@ -20,10 +21,7 @@ use Rattle.meaning.specs.Values.{Given, gives, read_filling}
 use Rattle.meaning.specs.Values as values
 use Rattle.rules.specs.Calls.{Trying, decides, too_long, trying_with, trying_of, trying}
 use Rattle.rules.specs.Calls as calls
-use Rattle.outcomes.specs.declared.Tried.{Tried}
-use Rattle.outcomes.specs.declared.Tried.TheVariants as tried
 use Rattle.trying.specs.Outcome.{Answers, Outcome}
-use Rattle.outcomes.specs.declared.Shown.TheVariants.{Shows}
 use Rattle.demands.specs.Tries.{Try}
 use Rattle.demands.specs.Examples.{Example}
 use Rattle.demands.specs.Answers.{Line, MeetsLine, MeetsLines, nth_line}
@@ -32,16 +30,16 @@ use Rattle.demands.specs.Tells.{TryAgrees}
 use Rattle.demands.proofs.Said.{try-said}
 use Rattle.demands.proofs.Showing.{shows-so}
 
-abbrev pub Decided : Tried → Type 0
-Decided r = (r ≡ tried.Yes) ⊎ (r ≡ tried.No)
+abbrev pub Decided : Result Bool Refusal → Type 0
+Decided r = (r ≡ Ok true) ⊎ (r ≡ Ok false)
 
-not-refused : {A : Type 0} {r : Tried} {e : Refusal} → Decided r → r ≡ tried.Refused e → A
+not-refused : {A : Type 0} {r : Result Bool Refusal} {e : Refusal} → Decided r → r ≡ Err e → A
 not-refused (inl d) f = absurd (let z : ◌≡◌ {A = ℕ} 0 1 = cc in omega arith)
 not-refused (inr d) f = absurd (let z : ◌≡◌ {A = ℕ} 0 1 = cc in omega arith)
 
 -- ---- yes and no
 
-module _ (q : Question) (fs w w' : List ℕ) (r : Tried) (d : Decided r) where
+module _ (q : Question) (fs w w' : List ℕ) (r : Result Bool Refusal) (d : Decided r) where
   -- the words are read as a filling, and the answer is what the meaning says of it
   abbrev pub Decides : Type 0
   Decides = (ρ : Filling) × (read_filling desk q.counts fs ≡ gives ρ) × Answers (MeetsQuestion ρ q) r
@@ -62,11 +60,11 @@ module _ (q : Question) (fs w w' : List ℕ) (r : Tried) (d : Decided r) where
       go true x = not-refused d x.0
       go false x = by-given (read_filling desk q.counts fs) refl (subst (λ a. Outcome (trying_of desk a fs) r w w') asked x)
 
-pub yes-meets : {P : Type 0} {r : Tried} → r ≡ tried.Yes → Answers P r → P
+pub yes-meets : {P : Type 0} {r : Result Bool Refusal} → r ≡ Ok true → Answers P r → P
 yes-meets e (inl a) = a.1
 yes-meets e (inr a) = absurd (let d = a.0 in let z : ◌≡◌ {A = ℕ} 0 1 = cc in omega arith)
 
-pub no-meets : {P : Type 0} {r : Tried} → r ≡ tried.No → Answers P r → P → ⊥
+pub no-meets : {P : Type 0} {r : Result Bool Refusal} → r ≡ Ok false → Answers P r → P → ⊥
 no-meets e (inl a) = absurd (let d = a.0 in let z : ◌≡◌ {A = ℕ} 0 1 = cc in omega arith)
 no-meets e (inr a) = a.1
 
@@ -92,8 +90,8 @@ module _ (t : Try) where
   abbrev TriedAs : Trying → Type 0
   TriedAs x = Outcome x t.returned t.work t.work_left
 
-  pub shown-tried : (c : Example) (m : ℕ) → c.returned ≡ Shows m → t.question ≡ c.question → t.filling ≡ take m c.room_left → desk.room ≤ length t.work
-      → (t.returned ≡ tried.Yes) ⊎ (t.returned ≡ tried.Refused LongLiteral)
+  pub shown-tried : (c : Example) (m : ℕ) → c.returned ≡ Ok m → t.question ≡ c.question → t.filling ≡ take m c.room_left → desk.room ≤ length t.work
+      → (t.returned ≡ Ok true) ⊎ (t.returned ≡ Err LongLiteral)
   unfolding trying
   shown-tried c m e same words long =
       let (p, k, there, _, s) = shows-so c m e in
@@ -108,6 +106,6 @@ module _ (t : Try) where
       (le-ltb (length t.work) desk.room long) (try-said t))))
     where
       by : (q : Question) (ρ : Filling) → MeetsQuestion ρ q → (b : Bool) → TriedAs (elim b [ true ↦ calls.given-up LongLiteral | false ↦ decides q ρ ])
-          → (t.returned ≡ tried.Yes) ⊎ (t.returned ≡ tried.Refused LongLiteral)
+          → (t.returned ≡ Ok true) ⊎ (t.returned ≡ Err LongLiteral)
       by q ρ met true o = inr o.0
       by q ρ met false o = elim o.0 [ inl y ↦ inl y.0 | inr n ↦ absurd (n.1 met) ]

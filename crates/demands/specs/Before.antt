@@ -1,5 +1,5 @@
 -- What the calls told before there were unordered symbols: by the rules and the meaning of that time, which know no signature.
-use Rattle.std.specs.Prelude.{ℕ, ◌≡◌, ◌⊎◌, Bool, List, [], ◌∷◌, length}
+use Rattle.std.specs.Prelude.{ℕ, ◌≡◌, ◌⊎◌, Bool, List, [], ◌∷◌, length, Ok, true, false}
 use Rattle.language.specs.Limits.{desk}
 use Rattle.language.specs.Trees.{Literal, eqn, mem, Conj, Question}
 use Rattle.language.specs.Question.{counts_of}
@@ -10,7 +10,6 @@ use Rattle.rules.specs.Answer.{Solving}
 use Rattle.rules.specs.Ordered.{ordered_solving}
 use Rattle.rules.specs.Calls.{showing_of}
 use Rattle.outcomes.specs.Numbers.{SolveNumbers}
-use Rattle.outcomes.specs.declared.Tried.TheVariants.{Yes, No}
 use Rattle.solver.specs.Leaves.{leaves, told_leaves}
 use Rattle.line_example.specs.Shown.{numbers_of, room_of}
 use Rattle.demands.specs.Tries.{Try}
@@ -43,5 +42,5 @@ PlainMeetsOne ρ [] = ⊥
 PlainMeetsOne ρ (k ∷ ks) = PlainMeetsAll ρ k ⊎ PlainMeetsOne ρ ks
 
 pub record TriedBefore (t : Try) (q : Question) : Type 0 where
-  pub yes : t.returned ≡ Yes → (ρ : Filling) × (read_filling desk q.counts t.filling ≡ gives ρ) × PlainMeetsOne ρ q.alternatives
-  pub no : t.returned ≡ No → (ρ : Filling) × (read_filling desk q.counts t.filling ≡ gives ρ) × (PlainMeetsOne ρ q.alternatives → ⊥)
+  pub yes : t.returned ≡ Ok true → (ρ : Filling) × (read_filling desk q.counts t.filling ≡ gives ρ) × PlainMeetsOne ρ q.alternatives
+  pub no : t.returned ≡ Ok false → (ρ : Filling) × (read_filling desk q.counts t.filling ≡ gives ρ) × (PlainMeetsOne ρ q.alternatives → ⊥)

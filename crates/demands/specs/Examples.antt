@@ -1,6 +1,6 @@
 -- A call example(question, line, old, work, answer, room) that came back: nothing is known of it but what its contract says.
-use Rattle.std.specs.Prelude.{ℕ, ◌≡◌, Bool, List}
-use Rattle.outcomes.specs.declared.Shown.{Shown}
+use Rattle.std.specs.Prelude.{ℕ, ◌≡◌, Bool, List, Result}
+use Rattle.language.specs.declared.Refusal.{Refusal}
 use Rattle.outcomes.specs.Numbers.{shown_numbers}
 use Rattle.example.specs.Exhibits.{told_exhibits}
 use Rattle.example.specs.contracts.example as example-contract
@@ -15,7 +15,7 @@ pub record Example : Type 0 where
   pub work : List ℕ
   pub answer : List ℕ
   pub room : List ℕ
-  pub returned : Shown
+  pub returned : Result ℕ Refusal
   pub work_left : List ℕ
   pub answer_left : List ℕ
   pub room_left : List ℕ

@@ -1,5 +1,5 @@
 -- What each call on bytes tells, as a C program sees it: its number, and the words of the bytes it lent.
-use Rattle.std.specs.Prelude.{ℕ, ◌+◌, ◌*◌, ◌/◌, ◌≡◌, ◌⊎◌, Bool, List, ◌++◌, length, drop}
+use Rattle.std.specs.Prelude.{ℕ, ◌+◌, ◌*◌, ◌/◌, ◌≡◌, ◌⊎◌, Bool, List, ◌++◌, length, drop, Result, Ok, Err}
 use Rattle.std.proofs.Math.Option.{Option}
 use Rattle.language.specs.declared.Refusal.{Refusal}
 use Rattle.language.specs.Limits.{desk}
@@ -9,8 +9,6 @@ use Rattle.language.specs.Trees.{Counts, signature}
 use Rattle.meaning.specs.Meaning.{Filling}
 use Rattle.meaning.specs.Values.{gives, read_filling}
 use Rattle.rules.specs.Answer.{answer_words, zeros}
-use Rattle.outcomes.specs.declared.Shown.{Shown}
-use Rattle.outcomes.specs.declared.Shown.TheVariants.{Shows, Denied}
 use Rattle.word_bytes.specs.Bytes.{words_of, bytes_of, words_in}
 use Rattle.host.specs.Numbers.{asks_old}
 use Rattle.demands.specs.Columns.{Column, unchanged, zeroed, as-solved, column}
@@ -45,13 +43,13 @@ pub record DeskTryAgrees {question answer : List ℕ} (p : Promised question ans
   pub no : number ≡ 100 → (ρ : Filling) × (read_filling desk p.asked.counts (words_in filling) ≡ gives ρ) × (MeetsLines (signature p.asked.counts) ρ p.lines → ⊥)
 
 -- "100 and the filling's length in words, and below stand the refusals"
-abbrev pub host_number : Shown → ℕ
-host_number (Shows m) = 100 + m
-host_number (Denied r) = number_of r
+abbrev pub host_number : Result ℕ Refusal → ℕ
+host_number (Ok m) = 100 + m
+host_number (Err r) = number_of r
 
 -- what desk_example tells, by the line that is read off an answer's bytes
 pub record BytesTold (old_sheets : Bool) (n : Counts) (l : Option Line) (old : List ℕ) (number : ℕ) (new : List ℕ) : Type 0 where
-  pub result : Shown
+  pub result : Result ℕ Refusal
   pub is : number ≡ host_number result
   pub tells : Told old_sheets n (words_of old) l result (words_of new)
 

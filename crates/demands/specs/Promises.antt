@@ -1,6 +1,7 @@
 -- What is promised of an answer and of an example, as a caller sees them: over the words alone.
-use Rattle.std.specs.Prelude.{ℕ, ◌≤◌, ◌<◌, ◌≡◌, ◌⊎◌, ◌↔◌, Bool, List, length, take, drop}
+use Rattle.std.specs.Prelude.{ℕ, ◌≤◌, ◌<◌, ◌≡◌, ◌⊎◌, ◌↔◌, Bool, List, length, take, drop, Result, Ok, Err}
 use Rattle.std.proofs.Math.Option.{Option, none, some}
+use Rattle.language.specs.declared.Refusal.{Refusal}
 use Rattle.language.specs.declared.Refusal.TheVariants.{NoSuchLine, OpenLine, LongExample}
 use Rattle.language.specs.Limits.{desk}
 use Rattle.language.specs.Trees.{Counts, signature, Question}
@@ -16,8 +17,6 @@ use Rattle.lines.specs.Matching.{Matching}
 use Rattle.lines.specs.Fillings.{Agree}
 use Rattle.outcomes.specs.declared.Solved.{Solved}
 use Rattle.solver.specs.Leaves.{verdict_for}
-use Rattle.outcomes.specs.declared.Shown.{Shown}
-use Rattle.outcomes.specs.declared.Shown.TheVariants.{Shows, Denied}
 use Rattle.demands.specs.Answers.{Line, numbered_of, read_answer, MeetsLine, MeetsLines, MeetsLinesOf, opens}
 
 -- Demand 2: the lines are those of the published rules, in their order, with their marks and numbers, after as many steps.
@@ -73,10 +72,10 @@ pub record RoomShows (old_sheets : Bool) (n : Counts) (l : Line) (m : ℕ) (old 
 
 -- What asking for the example of a line comes to, by the line that is read off the answer; the room before and after. There is no such line: 14.
 -- It is open: 15. Its example is longer than the room or than a filling may be: 16. And else the room shows it.
-pub data Told (old_sheets : Bool) (n : Counts) (old : List ℕ) (l : Option Line) (r : Shown) (new : List ℕ) : Type 0 where
-  missing : l ≡ none → r ≡ Denied NoSuchLine → new ≡ old → Told old_sheets n old l r new
-  is_open : (k : Line) → l ≡ some k → k.mark ≡ 2 → r ≡ Denied OpenLine → new ≡ old → Told old_sheets n old l r new
+pub data Told (old_sheets : Bool) (n : Counts) (old : List ℕ) (l : Option Line) (r : Result ℕ Refusal) (new : List ℕ) : Type 0 where
+  missing : l ≡ none → r ≡ Err NoSuchLine → new ≡ old → Told old_sheets n old l r new
+  is_open : (k : Line) → l ≡ some k → k.mark ≡ 2 → r ≡ Err OpenLine → new ≡ old → Told old_sheets n old l r new
   too_long : (k : Line) → l ≡ some k → k.mark ≡ 1 → (desk.filling < length (example_words old_sheets n k)) ⊎ (length old < length (example_words old_sheets n k))
-      → r ≡ Denied LongExample → new ≡ old → Told old_sheets n old l r new
+      → r ≡ Err LongExample → new ≡ old → Told old_sheets n old l r new
   shown : (k : Line) (m : ℕ) → l ≡ some k → k.mark ≡ 1 → m ≡ length (example_words old_sheets n k) → m ≤ desk.filling → m ≤ length old
-      → r ≡ Shows m → RoomShows old_sheets n k m old new → Told old_sheets n old l r new
+      → r ≡ Ok m → RoomShows old_sheets n k m old new → Told old_sheets n old l r new

@@ -1,8 +1,8 @@
 -- A call try_filling(question, filling, work) that came back: nothing is known of it but what its contract says.
-use Rattle.std.specs.Prelude.{ℕ, List, length}
+use Rattle.std.specs.Prelude.{ℕ, List, length, Result, Bool}
+use Rattle.language.specs.declared.Refusal.{Refusal}
 use Rattle.language.specs.Limits.{desk}
 use Rattle.rules.specs.Calls.{trying}
-use Rattle.outcomes.specs.declared.Tried.{Tried}
 use Rattle.trying.specs.Outcome.{ToldOutcome}
 use Rattle.trying.specs.contracts.try_filling as try-filling-contract
 use Rattle.trying.proofs.try_filling.Reads as try-filling-reads
@@ -13,7 +13,7 @@ pub record Try : Type 0 where
   pub question : List ℕ
   pub filling : List ℕ
   pub work : List ℕ
-  pub returned : Tried
+  pub returned : Result Bool Refusal
   pub work_left : List ℕ
   pub said : ToldOutcome (trying desk (length work) question filling) returned work work_left
 

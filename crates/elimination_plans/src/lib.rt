@@ -2,18 +2,14 @@
 #![tactic(auto)]
 
 ghost use Rattle.std.specs.Prelude.{◌+◌, ◌≡◌};
-ghost use Rattle.language.specs.declared.HedgeVar.{HedgeVar};
-ghost use Rattle.language.specs.Trees.{Hedge, hvar};
-ghost use Rattle.views.specs.Looks.{look_of};
 ghost use Rattle.rules.specs.Rules.{E3, E4, Del3};
-ghost use Rattle.plans.specs.Slots.{drop_plan};
 ghost use Rattle.equation_recipes.specs.Recipes.{eliminated, e1_plan, e5_plan, e6_plan, e7_plan, cut_plan, e3_plan, e4_plan, del3_plan, spot_of};
 ghost use Rattle.equation_recipes.specs.Planned.{Is, Planning, RuleApplies, Further};
 
 use finds::{all_terms, up_to};
-use language::{HedgeVar, Signature};
+use language::Signature;
 use plans::{Piece, Plan, Ways, inner};
-use recipes::{few, full};
+use recipes::{few, full, plan_drop, single};
 use rules::places::{AT_DEL3, AT_E1, AT_E2, AT_E3, AT_E4, AT_E5, AT_E6, AT_E7};
 use spots::inside;
 use views::{Look, View};
@@ -34,11 +30,7 @@ fn eliminate(v: View, until: usize, cut: usize) -> Plan
         until,
         r.from,
     );
-    Plan {
-        ways: Ways::One(cut),
-        first,
-        second: first,
-    }
+    single(Ways::One(cut), first)
 }
 
 // t stands for x, or H for p.
@@ -87,11 +79,7 @@ fn plan_e6(k: &[u16], v: View) -> Plan
         left.from,
         r.from,
     );
-    Plan {
-        ways: Ways::One(right.from),
-        first,
-        second: first,
-    }
+    single(Ways::One(right.from), first)
 }
 
 // X() = f(), f(H1) = f(H2) for each symbol f, which stands for X in all others.
@@ -118,11 +106,7 @@ fn plan_e7(k: &[u16], v: View, symbols: u16) -> Plan
         left.from,
         0,
     );
-    Plan {
-        ways: Ways::Names(symbols),
-        first,
-        second: first,
-    }
+    single(Ways::Names(symbols), first)
 }
 
 // p = T1, H = (T2,..) for each of so many cuts, and T1 stands for p in all others.
@@ -149,11 +133,7 @@ fn cut_by(v: View, cuts: usize) -> Plan
         l.rest,
         r.from,
     );
-    Plan {
-        ways: Ways::Cuts(r.from, cuts),
-        first,
-        second: first,
-    }
+    single(Ways::Cuts(r.from, cuts), first)
 }
 
 // A cut behind each term of T, and one before them.
@@ -166,29 +146,18 @@ fn plan_e3(k: &[u16], v: View) -> Plan
     cut_by(v, cuts)
 }
 
-// The hedge variable that a side begins with.
-fn run_of(look: Look) -> HedgeVar
-    ensures { (p : HedgeVar) (h : Hedge) → look ≡ look_of (hvar p h) → result ≡ p }
-{
-    match look {
-        Look::Empty => HedgeVar(0),
-        Look::Term(_, _) => HedgeVar(0),
-        Look::Run(p, _) => p,
-        Look::Node(_, _, _) => HedgeVar(0),
-    }
-}
-
 // A cut behind each term of T up to the one that holds p, and one before them.
 fn plan_e4(k: &[u16], v: View) -> Plan
     ensures { Is E4 k.now v (e4_plan v) result }
 {
-    let l = v.l;
     let r = v.r;
-    let look = l.look;
-    let p = run_of(look);
-    let ahead = up_to(k, r.from, p);
-    let cuts = ahead.count + 1;
-    cut_by(v, cuts)
+    let Look::Run(p, _) = v.l.look else {
+        return plan_drop();
+    };
+    let Some(n) = up_to(k, r.from, p) else {
+        return plan_drop();
+    };
+    cut_by(v, n + 1)
 }
 
 // The hedge variable at the place i is struck, and what stands around it is empty.
@@ -215,36 +184,21 @@ fn strike(k: &[u16], v: View, i: usize) -> Plan
         0,
         0,
     );
-    Plan {
-        ways: Ways::One(0),
-        first,
-        second: first,
-    }
+    single(Ways::One(0), first)
 }
 
 // H1 = ε, H2 = ε.
 fn plan_del3(k: &[u16], v: View) -> Plan
     ensures { Is Del3 k.now v (λ l r. del3_plan k.now v (spot_of v l r)) result }
 {
-    let l = v.l;
     let r = v.r;
-    let look = l.look;
-    let p = run_of(look);
-    let spot = inside(k, r.from, p);
-    strike(k, v, spot.place)
-}
-
-// No result.
-fn plan_drop() -> Plan
-    ensures { result ≡ drop_plan }
-{
-    let none = Piece::Copy(0, 0);
-    let first = few(none, none, none, none, none, 0, 0, 0);
-    Plan {
-        ways: Ways::Drop,
-        first,
-        second: first,
-    }
+    let Look::Run(p, _) = v.l.look else {
+        return plan_drop();
+    };
+    let Some(i) = inside(k, r.from, p) else {
+        return plan_drop();
+    };
+    strike(k, v, i)
 }
 
 // The results of the rule of that place in the list, which applies and is none of those that move parts.

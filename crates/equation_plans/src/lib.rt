@@ -12,7 +12,7 @@ use elimination_plans::plan_elimination;
 use finds::all_terms;
 use language::Signature;
 use plans::{Piece, Plan, Ways, Within, inner};
-use recipes::{few, full};
+use recipes::{few, full, plan_drop, single};
 use rules::places::{AT_D0, AT_D1, AT_D2, AT_DEL1, AT_DEL2, AT_R1};
 use sharing::{Spots, first_shared};
 use views::View;
@@ -32,11 +32,7 @@ fn plan_r1(v: View) -> Plan
         0,
         0,
     );
-    Plan {
-        ways: Ways::One(0),
-        first,
-        second: first,
-    }
+    single(Ways::One(0), first)
 }
 
 // The parts from..to and start..end are equal.
@@ -53,11 +49,7 @@ fn equate(v: View, from: usize, to: usize, start: usize, end: usize) -> Plan
         0,
         0,
     );
-    Plan {
-        ways: Ways::One(0),
-        first,
-        second: first,
-    }
+    single(Ways::One(0), first)
 }
 
 // The hedge variable is struck from both sides.
@@ -104,12 +96,16 @@ fn strike_out(v: View, s: Spots) -> Plan
         0,
         0,
     );
-    Plan {
-        ways: Ways::One(0),
-        first,
-        second: first,
-    }
+    single(Ways::One(0), first)
 }
+
+// Where no element is shared; the rule is asked only where one is.
+const NOWHERE: Spots = Spots {
+    left: 0,
+    after: 0,
+    right: 0,
+    behind: 0,
+};
 
 // The first element that the children share is struck.
 fn plan_del2(k: &[u16], v: View) -> Plan
@@ -119,8 +115,8 @@ fn plan_del2(k: &[u16], v: View) -> Plan
     let r = v.r;
     let left = inner(k, l.from, l.to);
     let right = inner(k, r.from, r.to);
-    let s = first_shared(k, left.from, right.from);
-    strike_out(v, s)
+    let spots = first_shared(k, left.from, right.from).unwrap_or(NOWHERE);
+    strike_out(v, spots)
 }
 
 // H = T' for each order T' of the n elements of T.
@@ -145,11 +141,7 @@ fn reorder(v: View, left: Within, right: Within, n: usize) -> Plan
         0,
         0,
     );
-    Plan {
-        ways: Ways::Orders(n),
-        first,
-        second: first,
-    }
+    single(Ways::Orders(n), first)
 }
 
 // The terms of T are counted.
@@ -188,11 +180,7 @@ fn plan_d2(v: View) -> Plan
         0,
         0,
     );
-    Plan {
-        ways: Ways::One(0),
-        first,
-        second: first,
-    }
+    single(Ways::One(0), first)
 }
 
 // The results of the rule of that place in the list, which applies.

@@ -37,7 +37,6 @@ use Rattle.finds.specs.declared.Terms.{Terms}
 use Rattle.finds.specs.Walks.{Counted}
 use Rattle.finds.proofs.Widths.{size-width}
 use Rattle.sharing.specs.declared.Spots.{Spots}
-use Rattle.sharing.specs.Shared.{first_shared}
 use Rattle.sharing.proofs.Shared.{CutOut, shares, cut-behind}
 use Rattle.orders.specs.Orders.{ordered, renamed}
 use Rattle.plans.specs.Results.{numbered, results_of}
@@ -47,7 +46,7 @@ use Rattle.plans.proofs.Planned.{answered, planned, it-found, one-result}
 use Rattle.plans.proofs.Replaced.{set_self, name-conj, name-hedge, name-self}
 use Rattle.plans.proofs.Sides.{side-functor, side-children, side-forth, inner-stands}
 use Rattle.plans.proofs.InOrder.{each-order}
-use Rattle.equation_recipes.specs.Recipes.{left_inner, right_inner, struck_out, del2_plan, reordered, d1_plan, e7_plan}
+use Rattle.equation_recipes.specs.Recipes.{left_inner, right_inner, struck_out, struck_where, del2_plan, reordered, d1_plan, e7_plan}
 use Rattle.equation_recipes.specs.Planned.{Is}
 use Rattle.equation_recipes.proofs.Plain.{Makes}
 
@@ -110,8 +109,9 @@ del2-plans σ k v before behind l r w = planned
     let y : functor_word b.0 ≡ functor_word (symbol f) = ap functor_word e ∙ ap (λ i. 3000 + i) (sym (eqb-true f.0 g.0 ((test-true (eqb f.0 g.0)).0 same))) in
     let us = body_words cut.left.out.before in
     let xs = body_words cut.right.out.before in
-    answers (one-result k before behind (del2_plan k v).first (del2_plan k v).first 0 (plain (eqn (node (symbol f) c.0 ε) (node (symbol f) c.1 ε) ∷ []))
-    (struck-words w (first_shared k (left_inner k v).from (right_inner k v).from) f c.0 c.1 us (hedge_words cut.left.out.behind) xs (hedge_words cut.right.out.behind)
+    answers (ap (λ o. results_of k (struck_where v o)) cut.told
+    ∙ one-result k before behind (struck_out v cut.spots).first (struck_out v cut.spots).first 0 (plain (eqn (node (symbol f) c.0 ε) (node (symbol f) c.1 ε) ∷ []))
+    (struck-words w cut.spots f c.0 c.1 us (hedge_words cut.left.out.behind) xs (hedge_words cut.right.out.behind)
     (words-before a.0 a.1 w.left p m s cut.left ∙ ap (λ i. i ∷ us) x) (words-behind a.0 a.1 w.left p m s cut.left) (words_left a.0 a.1 w.left p m s cut.left)
     (words-before b.0 b.1 w.right q n t cut.right ∙ ap (λ i. i ∷ xs) y) (words-behind b.0 b.1 w.right q n t cut.right) (words_left b.0 b.1 w.right q n t cut.right))))
 

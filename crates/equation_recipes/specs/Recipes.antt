@@ -1,7 +1,8 @@
 -- What each rule of equations makes of the words k, by the places of the view v. A plan says with numbers what the rule says with trees: the
 -- others, copied or under the substitution, and between them the new equations. Where a rule looks into its sides, l and r say how far.
-use Rattle.std.specs.Prelude.{ℕ, suc, ◌+◌, List, [], ◌∷◌, length}
-use Rattle.std.proofs.Math.Option.{Option, none, some}
+use Rattle.std.specs.Prelude.{ℕ, suc, ◌+◌, List, [], ◌∷◌, length, Option, Some, None}
+use Rattle.std.proofs.Math.Option as maybe
+use Rattle.std.proofs.Math.Option.{none, some}
 use Rattle.language.specs.declared.Signature.{Signature}
 use Rattle.language.specs.Trees.{Hedge, ε, tvar, hvar, node}
 use Rattle.rules.specs.Looks.{up_to, inside}
@@ -47,8 +48,13 @@ struck_out v s = single (One 0) (full_recipe (Copy 0 v.at)
     (Word 5000) (Copy v.l.from s.left) (Copy s.after v.l.to) (Copy v.r.from s.right) (Copy s.behind v.r.to)
     (Copy v.end v.len) nothing nothing nothing nothing nothing 0 0 0)
 
+-- where nothing is shared all four places are the first
+abbrev pub struck_where : View → Option Spots → Plan
+struck_where v None = struck_out v (record { left = 0; after = 0; right = 0; behind = 0 })
+struck_where v (Some s) = struck_out v s
+
 abbrev pub del2_plan : List ℕ → View → Plan
-del2_plan k v = struck_out v (first_shared k (left_inner k v).from (right_inner k v).from)
+del2_plan k v = struck_where v (first_shared k (left_inner k v).from (right_inner k v).from)
 
 -- D1: the left side's children = the n elements of the right side's, in each order; a and b are the parts within the sides
 abbrev pub reordered : View → Within → Within → ℕ → Plan
@@ -112,7 +118,7 @@ struck v i j = single (One 0) (full_recipe (Copy 0 v.at)
 -- ---- how far a rule looks into the right side, where the left begins with the hedge variable p
 
 -- what stands before what was found
-abbrev pub ahead : Option (Hedge × Hedge) → Hedge
+abbrev pub ahead : maybe.Option (Hedge × Hedge) → Hedge
 ahead none = ε
 ahead (some a) = a.0
 

@@ -41,8 +41,7 @@ fn rank_shuffled(k: &[u16], v: View) -> usize
     let r = v.r;
     let c = inner(k, l.from, l.to);
     let d = inner(k, r.from, r.to);
-    let shared = first_shared(k, c.from, d.from);
-    if shared.found {
+    if first_shared(k, c.from, d.from).is_some() {
         return AT_DEL2;
     }
     let terms = all_terms(k, d.from);

@@ -47,8 +47,7 @@ fn rank_lonely(k: &[u16], table: &[u16; TABLE], v: View, p: HedgeVar) -> usize
         if has_term(k, r.from) {
             return AT_F2;
         }
-        let spot = inside(k, r.from, p);
-        if spot.found {
+        if inside(k, r.from, p).is_some() {
             return AT_DEL3;
         }
         return NO_RULE;
@@ -85,8 +84,7 @@ fn rank_leading(k: &[u16], v: View, p: HedgeVar) -> usize
         return AT_E3;
     }
     let r = v.r;
-    let ahead = up_to(k, r.from, p);
-    if ahead.found {
+    if up_to(k, r.from, p).is_some() {
         return AT_E4;
     }
     NO_RULE

@@ -6,14 +6,13 @@ use mathlib.Core.List.{List, [], ◌∷◌}
 use types.Run.{OneOf}
 use denote.Enum.Declared.{tag_of}
 use lib.ListN.{length}
+use Rattle.std.specs.Prelude.{Result, Err}
 use Rattle.language.specs.declared.Refusal.{Refusal}
 use Rattle.language.specs.Limits.{desk}
 use Rattle.rules.specs.Answer.{Solving, solving}
 use Rattle.rules.specs.Calls.{showing}
 use Rattle.outcomes.specs.declared.Outcome.TheVariants.{Refused}
 use Rattle.outcomes.specs.declared.Solved.{Solved}
-use Rattle.outcomes.specs.declared.Shown.{Shown}
-use Rattle.outcomes.specs.declared.Shown.TheVariants.{Denied}
 use Rattle.outcomes.specs.Numbers.{solved_numbers, shown_numbers}
 use Rattle.outcomes.specs.contracts.Outcome.{the_type}
 use Rattle.solver.specs.Leaves.{told_leaves}
@@ -26,7 +25,7 @@ module _ (question work answer : List ℕ) (s : Solved) {w a : List ℕ} (solved
   abbrev comes : Solving
   comes = solving desk (length work) (length answer) question
 
-  pub solved-refused : (room : List ℕ) (line : ℕ) (old_sheets : Bool) {r : Refusal} → s.outcome ≡ Refused r → (shown_numbers (Denied r), w, a, room) ≡ told_exhibits line old_sheets question work answer room
+  pub solved-refused : (room : List ℕ) (line : ℕ) (old_sheets : Bool) {r : Refusal} → s.outcome ≡ Refused r → (shown_numbers (Err r), w, a, room) ≡ told_exhibits line old_sheets question work answer room
   unfolding told_exhibits showing
   solved-refused room line old_sheets d = shown-refused comes question work answer (lines_end (length work) (length answer) question) s solved room line old_sheets d
 
@@ -34,6 +33,6 @@ module _ (question work answer : List ℕ) (s : Solved) {w a : List ℕ} (solved
     pub solved-ready : Ranged question × Answered a
     solved-ready = ready comes question work answer (lines_end (length work) (length answer) question) s solved m
 
-    pub solved-shown : (room : List ℕ) (line : ℕ) (old_sheets : Bool) {new : List ℕ} {r : Shown} → AnswerShown question line old_sheets a room new r → (shown_numbers r, w, a, new) ≡ told_exhibits line old_sheets question work answer room
+    pub solved-shown : (room : List ℕ) (line : ℕ) (old_sheets : Bool) {new : List ℕ} {r : Result ℕ Refusal} → AnswerShown question line old_sheets a room new r → (shown_numbers r, w, a, new) ≡ told_exhibits line old_sheets question work answer room
     unfolding told_exhibits showing
     solved-shown room line old_sheets h = shown-answer comes question work answer (lines_end (length work) (length answer) question) s solved m room line old_sheets h

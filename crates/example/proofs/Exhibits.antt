@@ -7,6 +7,7 @@ use native.Mathlib.Omega.{arith}
 use types.Run.{OneOf, miss}
 use denote.Enum.Declared.{tag_of}
 use lib.ListN.{length, drop}
+use Rattle.std.specs.Prelude.{Result, Err}
 use Rattle.language.specs.declared.Refusal.{Refusal}
 use Rattle.language.specs.Limits.{desk}
 use Rattle.language.specs.Question.{counts_of}
@@ -20,8 +21,6 @@ use Rattle.outcomes.specs.Numbers.{solved_numbers, shown_numbers}
 use Rattle.solver.specs.Leaves.{verdict, leaves, told_leaves}
 use Rattle.solver.proofs.Told.{leaves-told}
 use Rattle.outcomes.specs.contracts.Outcome.{the_type}
-use Rattle.outcomes.specs.declared.Shown.{Shown}
-use Rattle.outcomes.specs.declared.Shown.TheVariants.{Denied}
 use Rattle.line_example.specs.Shown.{result_of, room_of}
 use Rattle.answer_example.specs.Answers.{Answer, Answered, Ranged, AnswerShown}
 use Rattle.example.specs.Exhibits.{exhibited, told_exhibited}
@@ -49,14 +48,14 @@ Left = Solved × List ℕ × List ℕ
 
 -- after a refusal nothing is shown
 refused-by : (question work answer room : List ℕ) (line : ℕ) (old_sheets : Bool) (v : Solving) (l : Left) (r : Refusal) → l ≡ leaves v work answer → l.0.outcome ≡ Refused r
-    → (Denied r, l.1, l.2, room) ≡ exhibited v line old_sheets question work answer room
+    → (Err r, l.1, l.2, room) ≡ exhibited v line old_sheets question work answer room
 refused-by question work answer room line old_sheets (answered ls n) l r e d = absurd (no-refusal (verdict_of ls) r (sym (ap (λ (x : Left). x.0.outcome) e) ∙ d))
 refused-by question work answer room line old_sheets (unread q) l r e d =
     let z = same-refusal (sym (ap (λ (x : Left). x.0.outcome) e) ∙ d) in
-    ap (λ (x : Left). (Denied r, x.1, x.2, room)) e ∙ ap (λ t. (Denied t, work, answer, room)) (sym z)
+    ap (λ (x : Left). (Err r, x.1, x.2, room)) e ∙ ap (λ t. (Err t, work, answer, room)) (sym z)
 refused-by question work answer room line old_sheets (given-up q) l r e d =
     let z = same-refusal (sym (ap (λ (x : Left). x.0.outcome) e) ∙ d) in
-    ap (λ (x : Left). (Denied r, x.1, x.2, room)) e ∙ ap (λ t. (Denied t, (leaves (given-up q) work answer).1, (leaves (given-up q) work answer).2, room)) (sym z)
+    ap (λ (x : Left). (Err r, x.1, x.2, room)) e ∙ ap (λ t. (Err t, (leaves (given-up q) work answer).1, (leaves (given-up q) work answer).2, room)) (sym z)
 
 -- an answer stands in the slice
 Answers : Solving → List ℕ → Type 0
@@ -69,9 +68,9 @@ module _ (v : Solving) (question work answer : List ℕ) (ends : (ls : List Numb
     left : ◌≡◌ {A = Left} (s, w, a) (leaves v work answer)
     left = leaves-told (s, w, a) v work answer solved
 
-    pub shown-refused : (room : List ℕ) (line : ℕ) (old_sheets : Bool) {r : Refusal} → s.outcome ≡ Refused r → (shown_numbers (Denied r), w, a, room) ≡ told_exhibited v line old_sheets question work answer room
+    pub shown-refused : (room : List ℕ) (line : ℕ) (old_sheets : Bool) {r : Refusal} → s.outcome ≡ Refused r → (shown_numbers (Err r), w, a, room) ≡ told_exhibited v line old_sheets question work answer room
     shown-refused room line old_sheets {r} d =
-        told-exhibited v (Denied r, w, a, room) line old_sheets question work answer room (refused-by question work answer room line old_sheets v (s, w, a) r left d)
+        told-exhibited v (Err r, w, a, room) line old_sheets question work answer room (refused-by question work answer room line old_sheets v (s, w, a) r left d)
 
     answers : ((r : Refusal) → s.outcome ≡ Refused r → ⊥) → Answers v a
     unfolding Answers
@@ -89,7 +88,7 @@ module _ (v : Solving) (question work answer : List ℕ) (ends : (ls : List Numb
       unfolding Answers
       ready = let (ls, n, d, g) = answers (not-refused s.outcome m) in ((ends ls n d).ranged, record { ls = ls; is = g })
 
-      pub shown-answer : (room : List ℕ) (line : ℕ) (old_sheets : Bool) {new : List ℕ} {r : Shown} → AnswerShown question line old_sheets a room new r → (shown_numbers r, w, a, new) ≡ told_exhibited v line old_sheets question work answer room
+      pub shown-answer : (room : List ℕ) (line : ℕ) (old_sheets : Bool) {new : List ℕ} {r : Result ℕ Refusal} → AnswerShown question line old_sheets a room new r → (shown_numbers r, w, a, new) ≡ told_exhibited v line old_sheets question work answer room
       unfolding Answers
       shown-answer room line old_sheets {new} {r} h =
           let (ls, n, d, g) = answers (not-refused s.outcome m) in

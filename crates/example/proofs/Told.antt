@@ -4,18 +4,19 @@ use mathlib.Core.Path.{◌≡◌, refl, sym, ap, ◌∙◌}
 use mathlib.Core.Bool.{Bool}
 use mathlib.Core.List.{List}
 use lib.ListN.{length}
+use Rattle.std.specs.Prelude.{Result}
+use Rattle.language.specs.declared.Refusal.{Refusal}
 use Rattle.language.specs.Limits.{desk}
 use Rattle.language.specs.Question.{counts_of}
 use Rattle.rules.specs.Answer.{Solving, solving}
 use Rattle.rules.specs.Calls.{Showing, shows, denied, showing_of, showing}
-use Rattle.outcomes.specs.declared.Shown.{Shown}
 use Rattle.outcomes.specs.Numbers.{shown_numbers}
 use Rattle.outcomes.proofs.Apart.{shown-apart}
 use Rattle.line_example.specs.Shown.{numbers_of, result_of}
 use Rattle.example.specs.Exhibits.{exhibits, told_exhibits, exhibited, told_exhibited}
 
 abbrev Left : Type 0
-Left = Shown × List ℕ × List ℕ × List ℕ
+Left = Result ℕ Refusal × List ℕ × List ℕ × List ℕ
 
 abbrev Told : Type 0
 Told = (ℕ × ℕ × ℕ) × List ℕ × List ℕ × List ℕ

@@ -6,8 +6,8 @@ ghost use Rattle.std.specs.Prelude.{◌≤◌, length};
 use files::arguments::{LONGEST, argument, wrong_use};
 use files::status::{Status, found};
 use files::{Loaded, SHEET, load_question};
+use language::Refusal;
 use language::limits::{FILLING, QUESTION, ROOM};
-use outcomes::Shown;
 use prompt::parse;
 use replies::{no_question, refuse};
 use wording::answer::filling;
@@ -20,31 +20,31 @@ fn show_words(rt: &HostRuntime, question: &[u16], room: &[u16], names: &[u8], n:
 }
 
 // Says what an example came to.
-fn shown<'a>(
+fn shown(
     rt: &HostRuntime,
-    s: Shown,
-    question: &'a [u16],
-    room: &'a [u16],
-    text: &'a [u8],
-    names: &'a [u8],
+    s: Result<usize, Refusal>,
+    question: &[u16],
+    room: &[u16],
+    text: &[u8],
+    names: &[u8],
     i: usize,
 ) -> Status {
     match s {
-        Shown::Shows(n) => {
+        Ok(n) => {
             show_words(rt, question, room, names, n);
             found()
         }
-        Shown::Denied(r) => refuse(rt, r, question, text, i),
+        Err(r) => refuse(rt, r, question, text, i),
     }
 }
 
-fn show<'a>(
+fn show(
     rt: &HostRuntime,
-    question: &'a [u16],
+    question: &[u16],
     line: usize,
     old: bool,
-    text: &'a [u8],
-    names: &'a [u8],
+    text: &[u8],
+    names: &[u8],
     i: usize,
 ) -> Status {
     let mut work = [0u16; ROOM];
@@ -54,43 +54,42 @@ fn show<'a>(
     shown(rt, s, question, &room, text, names, i)
 }
 
-fn place(n: u16) -> usize {
-    n as usize
-}
-
 // The example of the line that argument `j` names, for old training sheets or not.
-fn show_line<'a>(
+fn show_line(
     rt: &HostRuntime,
-    question: &'a [u16],
+    question: &[u16],
     old: bool,
-    buf: &'a [u8],
+    buf: &[u8],
     t: Loaded,
     i: usize,
     j: usize,
 ) -> Status
     requires { (t.bytes ≤ length buf.now) × (t.named ≤ length buf.now) }
 {
-    let m = t.bytes;
-    let k = t.named;
     let mut said = [0u8; LONGEST];
     let n = argument(rt, j, &mut said);
     let mut line = [0u16; 1];
     let p = parse(&said[..n], &mut line);
     if p.line != 0 {
-        return wrong_use(rt, b"a line is named by a number, and the first is 0");
+        return wrong_use(rt, "a line is named by a number, and the first is 0");
     }
-    show(rt, question, place(line[0]), old, &buf[0..m], &buf[0..k], i)
+    show(
+        rt,
+        question,
+        usize::from(line[0]),
+        old,
+        &buf[0..t.bytes],
+        &buf[0..t.named],
+        i,
+    )
 }
 
 // The example of the line that argument `j` names, of the question in the file that argument `i` names.
 pub fn example_file(rt: &HostRuntime, i: usize, j: usize, old: bool) -> Status {
     let mut buf = [0u8; SHEET];
     let mut words = [0u16; 2 * QUESTION];
-    let t = load_question(rt, i, &mut buf, &mut words);
-    let n = t.words;
-    let m = t.bytes;
-    if !t.fine {
-        return no_question(rt, t.number, &buf[0..m], i);
+    match load_question(rt, i, &mut buf, &mut words) {
+        Ok(t) => show_line(rt, &words[0..t.words], old, &buf, t, i, j),
+        Err(u) => no_question(rt, u.refusal, &buf[0..u.bytes], i),
     }
-    show_line(rt, &words[0..n], old, &buf, t, i, j)
 }

@@ -2,7 +2,7 @@
 // No contract can say what that is (docs/PROMISES.md); what is proved is that it fits and that reading it ends.
 #![tactic(auto)]
 
-ghost use Rattle.std.specs.Prelude.{◌≤◌, ◌≡◌, length, IfOk};
+ghost use Rattle.std.specs.Prelude.{◌≤◌, ◌≡◌, length, IfOk, IfSome, MatchResult};
 
 pub mod arguments;
 pub mod status;
@@ -10,9 +10,9 @@ pub mod status;
 use arguments::{LONGEST, argument, is};
 use collecting::{ALL, collect};
 use language::Refusal;
-use print::{warn, warn_number};
+use print::say;
 use prompt::parse;
-use read_text::{Reading, read_text};
+use read_text::read_text;
 use std::fs::File;
 use std::io::{Read, Stderr, Write};
 use std::{io, str};
@@ -20,8 +20,6 @@ use word_bytes::write_words;
 
 // More bytes than a file may have: as many as there is room for, and one more.
 pub const TOO_MANY: usize = 65536;
-
-const NOT_READ: usize = SHEET + 1;
 
 // The bytes of the shelves of a text's names.
 const SHELVES: usize = 2 * ALL;
@@ -35,10 +33,7 @@ const CLOSED: i32 = 9;
 const NO_TEXT: i32 = 84;
 
 fn is_dash(path: &[u8]) -> bool {
-    if path.len() != 1 {
-        return false;
-    }
-    path[0] == b'-'
+    path == b"-".as_slice()
 }
 
 // Bytes from where they are read, as far as there is room for them, and how many they are. A folder can be opened and not read.
@@ -70,12 +65,7 @@ fn read_file(rt: &HostRuntime, path: &[u8], buf: &mut [u8]) -> io::Result<usize>
 
 // Whether an argument before argument `i` asks for standard input.
 fn is_used(rt: &HostRuntime, i: usize) -> bool {
-    for j in 1..i {
-        if is(rt, j, b"-") {
-            return true;
-        }
-    }
-    false
+    (1..i).any(|j| is(rt, j, b"-"))
 }
 
 // Standard input can be read once: who asks for it again is told that it is closed, and gets no empty file.
@@ -100,12 +90,15 @@ fn read(rt: &HostRuntime, i: usize, path: &[u8], buf: &mut [u8]) -> io::Result<u
 }
 
 fn name(err: Stderr, path: &[u8]) {
-    warn(err, b"desk: ");
-    if is_dash(path) {
-        warn(err, b"standard input");
-        return;
-    }
-    warn(err, path);
+    say(err, b"desk: ");
+    say(
+        err,
+        if is_dash(path) {
+            b"standard input"
+        } else {
+            path
+        },
+    );
 }
 
 // Says which file argument `i` names.
@@ -118,13 +111,8 @@ pub fn name_of(rt: &HostRuntime, i: usize) {
 // Says where something stands in the file of argument `i` that is no word.
 fn complain(rt: &HostRuntime, i: usize, line: usize, column: usize) {
     name_of(rt, i);
-    warn(rt.stderr(), b", line ");
-    warn_number(rt.stderr(), line as u64);
-    warn(rt.stderr(), b", column ");
-    warn_number(rt.stderr(), column as u64);
-    warn(
-        rt.stderr(),
-        b": not a word. Words are numbers from 0 to 65535, with blanks between them; # begins a remark.\n",
+    let _ = eprintln!(rt;
+        ", line {line}, column {column}: not a word. Words are numbers from 0 to 65535, with blanks between them; # begins a remark."
     );
 }
 
@@ -145,148 +133,77 @@ fn fail(err: Stderr, path: &[u8], why: io::Error) {
     let mut text = [0u8; 128];
     let mut room = &mut text[..];
     let _ = write!(room, "{why}");
-    warn(err, b"desk: ");
-    warn(err, path);
-    warn(err, b": ");
-    warn(err, &text[..reason_end(&text)]);
-    warn(err, b"\n");
+    say(err, b"desk: ");
+    say(err, path);
+    say(err, b": ");
+    say(err, &text[..reason_end(&text)]);
+    say(err, b"\n");
 }
 
-// The bytes of the file that argument `i` names, at the start of `buf`, and how many they are, or more than there is room for where they were not read:
-// that is said.
-fn fetch(rt: &HostRuntime, i: usize, buf: &mut [u8]) -> usize {
+// The bytes of the file that argument `i` names, at the start of `buf`, and how many they are: none where they were not read, which is said.
+fn fetch(rt: &HostRuntime, i: usize, buf: &mut [u8]) -> Option<usize>
+    ensures { IfSome result (λ n. n ≤ length buf.new) }
+{
     let mut path = [0u8; LONGEST];
     let n = argument(rt, i, &mut path);
     match read(rt, i, &path[..n], buf) {
-        Ok(got) => {
-            if TOO_MANY <= got {
-                name(rt.stderr(), &path[..n]);
-                warn(rt.stderr(), b": more than 65,535 bytes\n");
-                return NOT_READ;
-            }
-            got
+        Ok(got) if TOO_MANY <= got => {
+            name(rt.stderr(), &path[..n]);
+            say(rt.stderr(), b": more than 65,535 bytes\n");
+            None
         }
+        Ok(got) => Some(got),
         Err(why) => {
             fail(rt.stderr(), &path[..n], why);
-            NOT_READ
+            None
         }
     }
 }
 
-// How many words were taken from some bytes. Where none could be, the number of a refusal, or 0 where the reason is said.
-#[derive(Clone, Copy)]
-struct Taken {
-    fine: bool,
-    number: u16,
-    words: usize,
-}
-
-fn not_taken(number: u16) -> Taken
-    ensures { result.words ≡ 0 }
+// Words in decimal, from the file of argument `i`: how many. Where something else stands there, that is said.
+fn in_decimal(
+    rt: &HostRuntime,
+    i: usize,
+    bytes: &[u8],
+    words: &mut [u16],
+) -> Result<usize, Option<Refusal>>
+    ensures { IfOk result (λ n. n ≤ length words.new) }
 {
-    Taken {
-        fine: false,
-        number,
-        words: 0,
-    }
-}
-
-// The first bytes of a buffer.
-fn first<'a>(buf: &'a [u8], n: usize) -> &'a [u8] {
-    if n <= buf.len() {
-        return &buf[0..n];
-    }
-    buf
-}
-
-// Words in decimal, from the file of argument `i`.
-fn in_decimal(rt: &HostRuntime, i: usize, buf: &[u8], n: usize, words: &mut [u16]) -> Taken
-    ensures { result.words ≤ length words.new }
-{
-    let t = parse(first(buf, n), words);
+    let t = parse(bytes, words);
     if t.line != 0 {
         complain(rt, i, t.line, t.column);
-        return not_taken(0);
+        return Err(None);
     }
-    Taken {
-        fine: true,
-        number: 0,
-        words: t.words,
-    }
+    Ok(t.words)
 }
 
-fn refused(r: Refusal) -> Taken
-    ensures { result.words ≡ 0 }
+// The words of the question that a text is: how many.
+fn in_a_text(bytes: &[u8], words: &mut [u16]) -> Result<usize, Option<Refusal>>
+    ensures { IfOk result (λ n. n ≤ length words.new) }
 {
-    not_taken(refusals::number(r))
-}
-
-// So many words, where there is room for them.
-fn given(n: usize, room: usize) -> Taken
-    ensures { result.words ≤ room }
-{
-    if room < n {
-        return not_taken(0);
-    }
-    Taken {
-        fine: true,
-        number: 0,
-        words: n,
-    }
-}
-
-// The words of the question that a text is.
-fn in_a_text(buf: &[u8], n: usize, words: &mut [u16]) -> Taken
-    ensures { result.words ≤ length words.new }
-{
-    match read_text(first(buf, n), words) {
-        Reading::Given(m) => given(m, words.len()),
-        Reading::Refused(r) => refused(r),
+    match read_text(bytes, words) {
+        Ok(n) => Ok(n.min(words.len())),
+        Err(r) => Err(Some(r)),
     }
 }
 
 // Whether a byte stands among words, outside remarks.
 fn is_plain(b: u8) -> bool {
-    match b {
-        b'0'..=b'9' => true,
-        b' ' => true,
-        b'\t' => true,
-        b'\r' => true,
-        b'\n' => true,
-        _ => false,
-    }
+    matches!(b, b'0'..=b'9' | b' ' | b'\t' | b'\r' | b'\n')
 }
 
 // Whether a file is a text: the first byte that is no digit, blank or line end does not begin a remark, which only words have.
-fn holds_text(buf: &[u8], n: usize) -> bool {
-    let bytes = first(buf, n);
-    let mut i = 0;
-    while i < bytes.len() {
-        let b = bytes[i];
-        if !is_plain(b) {
-            return b != b'#';
-        }
-        i += 1;
-    }
-    false
-}
-
-fn narrow(n: usize) -> u16 {
-    if n < 65536 { n as u16 } else { 0 }
-}
-
-fn put(out: &mut [u16], at: usize, w: u16) {
-    if at < out.len() {
-        out[at] = w;
+fn holds_text(bytes: &[u8]) -> bool {
+    match bytes.iter().find(|b| !is_plain(**b)) {
+        Some(b) => *b != b'#',
+        None => false,
     }
 }
 
 // The places of the shelves as words: no file has more bytes than a word can count.
 fn narrowed(shelves: &[usize], out: &mut [u16]) {
-    let mut i = 0;
-    while i < shelves.len() {
-        put(out, i, narrow(shelves[i]));
-        i += 1;
+    for (word, place) in out.iter_mut().zip(shelves) {
+        *word = u16::try_from(*place).unwrap_or(0);
     }
 }
 
@@ -316,66 +233,83 @@ fn list_names(buf: &mut [u8], n: usize) -> usize
     n + SHELVES
 }
 
-// What was read of a file: how many bytes, how many of them and behind them are a text and its names, 0 where it is no text, and how many words they came
-// to. Where they came to none, the number of the refusal, or 0 where the reason is said already.
+// What was read of a file: how many bytes, how many of them and behind them are a text and its names, 0 where it is no text, and how many words they
+// came to.
 #[derive(Clone, Copy)]
 pub struct Loaded {
-    pub fine: bool,
-    pub number: u16,
     pub bytes: usize,
     pub named: usize,
     pub words: usize,
 }
 
-fn read_of(bytes: usize, named: usize, t: Taken) -> Loaded
-    ensures { (result.bytes ≡ bytes) × (result.named ≡ named) × (result.words ≡ t.words) }
-{
-    Loaded {
-        fine: t.fine,
-        number: t.number,
-        bytes,
-        named,
-        words: t.words,
-    }
+// Why a file came to no words: a text is refused, or the reason is said already. And how many bytes were read.
+#[derive(Clone, Copy)]
+pub struct Unread {
+    pub refusal: Option<Refusal>,
+    pub bytes: usize,
 }
 
-fn not_loaded() -> Loaded
-    ensures { (result.bytes ≡ 0) × (result.named ≡ 0) × (result.words ≡ 0) }
-{
-    Loaded {
-        fine: false,
-        number: 0,
-        bytes: 0,
-        named: 0,
-        words: 0,
-    }
-}
+const NOTHING_READ: Unread = Unread {
+    refusal: None,
+    bytes: 0,
+};
 
 // The bytes of the file that argument `i` names, at the start of `buf`, and their words.
-pub fn load(rt: &HostRuntime, i: usize, buf: &mut [u8], words: &mut [u16]) -> Loaded
-    ensures { (result.bytes ≤ length buf.new) × (result.words ≤ length words.new) }
+pub fn load(rt: &HostRuntime, i: usize, buf: &mut [u8], words: &mut [u16]) -> Result<Loaded, Unread>
+    ensures { MatchResult result (λ t. (t.bytes ≤ length buf.new) × (t.words ≤ length words.new)) (λ u. u.bytes ≤ length buf.new) }
 {
-    let n = fetch(rt, i, buf);
-    if buf.len() < n {
-        return not_loaded();
+    let Some(n) = fetch(rt, i, buf) else {
+        return Err(NOTHING_READ);
+    };
+    match in_decimal(rt, i, &buf[0..n], words) {
+        Ok(words) => Ok(Loaded {
+            bytes: n,
+            named: 0,
+            words,
+        }),
+        Err(refusal) => Err(Unread { refusal, bytes: n }),
     }
-    let t = in_decimal(rt, i, buf, n, words);
-    read_of(n, 0, t)
+}
+
+// A text of so many bytes as words, and its names behind it.
+fn load_text(n: usize, buf: &mut [u8], words: &mut [u16]) -> Result<Loaded, Unread>
+    requires { n ≤ length buf.old }
+    ensures { MatchResult result (λ t. (t.bytes ≤ length buf.new) × (t.named ≤ length buf.new) × (t.words ≤ length words.new)) (λ u. u.bytes ≤ length buf.new) }
+{
+    match in_a_text(&buf[0..n], words) {
+        Ok(words) => {
+            let named = list_names(buf, n);
+            Ok(Loaded {
+                bytes: n,
+                named,
+                words,
+            })
+        }
+        Err(refusal) => Err(Unread { refusal, bytes: n }),
+    }
 }
 
 // The same of a question, which may be a text: its names then stand behind it.
-pub fn load_question(rt: &HostRuntime, i: usize, buf: &mut [u8], words: &mut [u16]) -> Loaded
-    ensures { (result.bytes ≤ length buf.new) × (result.named ≤ length buf.new) × (result.words ≤ length words.new) }
+pub fn load_question(
+    rt: &HostRuntime,
+    i: usize,
+    buf: &mut [u8],
+    words: &mut [u16],
+) -> Result<Loaded, Unread>
+    ensures { MatchResult result (λ t. (t.bytes ≤ length buf.new) × (t.named ≤ length buf.new) × (t.words ≤ length words.new)) (λ u. u.bytes ≤ length buf.new) }
 {
-    let n = fetch(rt, i, buf);
-    if buf.len() < n {
-        return not_loaded();
+    let Some(n) = fetch(rt, i, buf) else {
+        return Err(NOTHING_READ);
+    };
+    if holds_text(&buf[0..n]) {
+        return load_text(n, buf, words);
     }
-    if holds_text(buf, n) {
-        let t = in_a_text(buf, n, words);
-        let named = list_names(buf, n);
-        return read_of(n, named, t);
+    match in_decimal(rt, i, &buf[0..n], words) {
+        Ok(words) => Ok(Loaded {
+            bytes: n,
+            named: 0,
+            words,
+        }),
+        Err(refusal) => Err(Unread { refusal, bytes: n }),
     }
-    let t = in_decimal(rt, i, buf, n, words);
-    read_of(n, 0, t)
 }

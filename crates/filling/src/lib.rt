@@ -35,20 +35,15 @@ fn term_end(words: &[u16], at: usize) -> usize
     ensures { TermEnd words.now at result }
 {
     let mut depth: usize = 1;
-    let mut i = at + 1;
-    while i < words.len() {
+    for i in at + 1..words.len() {
         match classify(words[i]) {
             Kind::End => {
-                i += 1;
                 if depth == 1 {
-                    return i;
+                    return i + 1;
                 }
                 depth -= 1;
             }
-            Kind::Symbol(_) => {
-                i += 1;
-                depth += 1;
-            }
+            Kind::Symbol(_) => depth += 1,
             _ => return at + 1,
         }
     }

@@ -15,12 +15,14 @@ use Rattle.language.specs.Trees.{Functor, symbol, fvar, Hedge, ε, tvar, hvar, n
 use Rattle.language.specs.Writing.{hedge_words}
 use Rattle.language.specs.Fine.{fine_hedge}
 use Rattle.rules.specs.Looks.{under, onto, around, inside, up_to}
-use Rattle.rules.specs.Solved.{is_some}
 use Rattle.views.specs.Looks.{head, tail, body_words}
 use Rattle.words.specs.Spans.{member, element_end}
 use Rattle.views.specs.Variables.{variable_word, fine_var}
 use Rattle.views.specs.Standing.{Stands}
-use Rattle.finds.specs.Walks.{size, Ahead, Spotted}
+use Rattle.std.specs.Prelude.{Some, None}
+use Rattle.std.specs.Prelude as told
+use Rattle.rules.specs.Solved.{is_some}
+use Rattle.finds.specs.Walks.{size, size_before, Ahead, place_from, Spotted}
 use Rattle.words.proofs.Parts.{part_none, part_of}
 use Rattle.views.proofs.Words.{join-nil, join-assoc, fine-head, first_word}
 use Rattle.views.proofs.Spans.{stands_word, stands-split, stands-place}
@@ -87,13 +89,6 @@ size-join (tvar x r) b = let h = size-join r b in omega arith
 size-join (hvar p r) b = let h = size-join r b in omega arith
 size-join (node f c r) b = let h = size-join r b in omega arith
 
-same-pair : {a b c d : Hedge} → ◌≡◌ {A = Pair} (some (a, b)) (some (c, d)) → a ≡ c
-same-pair e = ap first e
-  where
-    first : Pair → Hedge
-    first none = ε
-    first (some a) = a.0
-
 -- ---- the terms up to one that holds q
 
 head-part : {k : List ℕ} {i e x : ℕ} {q : HedgeVar} {h : Hedge} {beyond : List ℕ} {b : Bool} → fine_var desk (hv q) → x ≡ variable_word (hv q) → Stands k i h beyond → e ≡ element_end k i → b ≡ member x (slice i e k) → b ≡ holds (hv q) (head h)
@@ -149,15 +144,23 @@ module _ {k : List ℕ} {i e x n : ℕ} {q : HedgeVar} {h : Hedge} {beyond : Lis
     count = let a = size-join done (head left) in let c = size-head left t in let z = p.count in omega arith;
   }
 
-  pub without-found : {done left : Hedge} → b ≡ true → Stands k i left beyond → begins_term left ≡ true → Without q n h done left → Ahead q (record { found = true; count = n }) h
+  pub without-found : {done left : Hedge} → b ≡ true → Stands k i left beyond → begins_term left ≡ true → Without q n h done left → Ahead q (Some n) h
   without-found {done} {left} y s t p =
       let z : up_to q h ≡ some (done ⧺ ε, left) = p.same ∙ ap (onto (λ g. done ⧺ g)) (up_to-found q left t (sym (head-part f w s d m) ∙ y)) in
-      record { found = sym (ap is_some z); count = λ T rest u. p.count ∙ ap size (sym (join-nil done) ∙ same-pair (sym z ∙ u)) }
+      record { is = ap Some (p.count ∙ ap size (sym (join-nil done))) ∙ ap size_before (sym z) }
 
-pub without_end : {n : ℕ} {q : HedgeVar} {h done left : Hedge} → begins_term left ≡ false → Without q n h done left → Ahead q (record { found = false; count = 0 }) h
+pub without_end : {n : ℕ} {q : HedgeVar} {h done left : Hedge} → begins_term left ≡ false → Without q n h done left → Ahead q None h
 without_end {n} {q} {h} {done} {left} t p =
     let z : up_to q h ≡ none = p.same ∙ ap (onto (λ g. done ⧺ g)) (up_to-none q left t) in
-    record { found = sym (ap is_some z); count = λ T rest u. absurd (let y : ◌≡◌ {A = ℕ} 0 1 = cc in omega arith) }
+    record { is = ap size_before (sym z) }
+
+-- one is found exactly where there is one
+pub ahead-some : {q : HedgeVar} {t : told.Option ℕ} {h : Hedge} → Ahead q t h → told.is_some t ≡ is_some (up_to q h)
+ahead-some {q} {t} {h} a = ap told.is_some a.is ∙ go (up_to q h)
+  where
+    go : (m : Pair) → told.is_some (size_before m) ≡ is_some m
+    go none = refl
+    go (some b) = refl
 
 -- ---- q behind another element
 
@@ -202,12 +205,19 @@ module _ {k : List ℕ} {i x y : ℕ} {q : HedgeVar} {h : Hedge} {beyond : List 
         ∙ onto-join done (head left) (around q (tail left));
   }
 
-  pub behind-found : {at : ℕ} → fine_var desk (hv q) → x ≡ y → (p : Passed k at i beyond (Behind q h)) → Spotted q at (record { found = true; place = i }) h
+  pub behind-found : {at : ℕ} → fine_var desk (hv q) → x ≡ y → (p : Passed k at i beyond (Behind q h)) → Spotted q at (Some i) h
   behind-found {at} f b p =
       let z : inside q h ≡ some (p.done ⧺ ε, tail p.left) = p.keeps.same ∙ ap (onto (λ g. p.done ⧺ g)) (around_here q p.left f p.here.fine (sym (stands_word p.here) ∙ sym e ∙ b ∙ w)) in
-      record { found = sym (ap is_some z); place = λ a c u. p.place ∙ ap (λ g. at + length (body_words g)) (sym (join-nil p.done) ∙ same-pair (sym z ∙ u)) }
+      record { is = ap Some (p.place ∙ ap (λ g. at + length (body_words g)) (sym (join-nil p.done))) ∙ ap (place_from at) (sym z) }
 
-  pub behind-end : {at : ℕ} → x ≡ 0 → (p : Passed k at i beyond (Behind q h)) → Spotted q at (record { found = false; place = 0 }) h
+  pub behind-end : {at : ℕ} → x ≡ 0 → (p : Passed k at i beyond (Behind q h)) → Spotted q at None h
   behind-end {at} b p =
       let z : inside q h ≡ none = p.keeps.same ∙ ap (onto (λ g. p.done ⧺ g)) (around-none q p.left (sym (stands_word p.here) ∙ sym e ∙ b)) in
-      record { found = sym (ap is_some z); place = λ a c u. absurd (let v : ◌≡◌ {A = ℕ} 0 1 = cc in omega arith) }
+      record { is = ap (place_from at) (sym z) }
+
+pub spotted-some : {q : HedgeVar} {at : ℕ} {t : told.Option ℕ} {h : Hedge} → Spotted q at t h → told.is_some t ≡ is_some (inside q h)
+spotted-some {q} {at} {t} {h} a = ap told.is_some a.is ∙ go (inside q h)
+  where
+    go : (m : Pair) → told.is_some (place_from at m) ≡ is_some m
+    go none = refl
+    go (some b) = refl

@@ -10,8 +10,7 @@ use borrow.Author.Tests.{eq-eqb, ne_eqb}
 use Rattle.language.specs.Kinds.{pick}
 use Rattle.words.specs.Spans.{member, element_end}
 use Rattle.finds.specs.declared.Terms.{Terms}
-use Rattle.finds.specs.declared.Found.{Found}
-use Rattle.finds.specs.declared.Spot.{Spot}
+use Rattle.std.specs.Prelude.{Option, Some, None}
 use Rattle.finds.specs.Walks.{term_word, run_word}
 use Rattle.finds.specs.Places.{runs_end, HasTerm, terms_end, AllTerms, below_end, Under, free_end, UpTo, others_end, Inside}
 use Rattle.finds.proofs.Firsts.{Gone, gone-on, gone-end, Going, going_on, going_end}
@@ -71,8 +70,8 @@ module _ (k : List ℕ) (i : ℕ) {x : ℕ} (q : x ≡ get_or k i 0) where
     below_none z g = going_end (or-first (eqb (get_or k i 0) 0) (member v (slice (i + 1) (element_end k i) k)) (over z)) (λ n. sym (ap not (over z))) g
 
   module _ (p n : ℕ) {a : Bool} (r : a ≡ term_word x) where
-    abbrev found : Bool → Found
-    found c = pick c (record { found = true; count = n }) (record { found = false; count = 0 })
+    abbrev found : Bool → Option ℕ
+    found c = pick c (Some n) None
 
     module _ {e : ℕ} {b : Bool} (t : a ≡ true) (d : e ≡ element_end k i) (m : b ≡ member p (slice i e k)) where
       free-test : {c : Bool} → b ≡ c → free_end p k i ≡ c
@@ -82,16 +81,16 @@ module _ (k : List ℕ) (i : ℕ) {x : ℕ} (q : x ≡ get_or k i 0) where
       pub free_on : {at : ℕ} → b ≡ false → Gone k at (free_end p k) n i → Gone k at (free_end p k) (n + 1) e
       free_on u g = gone-on (free-test u) d g
 
-      pub free-found : {at : ℕ} → b ≡ true → Gone k at (free_end p k) n i → UpTo k at p (record { found = true; count = n })
+      pub free-found : {at : ℕ} → b ≡ true → Gone k at (free_end p k) n i → UpTo k at p (Some n)
       free-found u g = gone-end (free-test u) (sym (ap found (test term_word r t))) g
 
-    pub free-end : {at : ℕ} → a ≡ false → Gone k at (free_end p k) n i → UpTo k at p (record { found = false; count = 0 })
+    pub free-end : {at : ℕ} → a ≡ false → Gone k at (free_end p k) n i → UpTo k at p None
     unfolding free_end
     free-end t g = gone-end (or-first (not (term_word (get_or k i 0))) (member p (slice i (element_end k i) k)) (ap not (test term_word r t))) (sym (ap found (test term_word r t))) g
 
   -- ---- up to an element that is a word
-  abbrev spot : Bool → Spot
-  spot c = pick c (record { found = false; place = 0 }) (record { found = true; place = i })
+  abbrev spot : Bool → Option ℕ
+  spot c = pick c None (Some i)
 
   module _ (at p : ℕ) where
     others-test : (x ≡ 0 → ⊥) → {c : Bool} → eqb x p ≡ c → others_end p k i ≡ c
@@ -101,9 +100,9 @@ module _ (k : List ℕ) (i : ℕ) {x : ℕ} (q : x ≡ get_or k i 0) where
     pub others-on : {e : ℕ} → (x ≡ 0 → ⊥) → (x ≡ p → ⊥) → e ≡ element_end k i → Going k (element_end k at) (others_end p k) i → Going k (element_end k at) (others_end p k) e
     others-on nz ne d g = going_on (others-test nz (ne_eqb x p ne)) d g
 
-    pub others-found : (x ≡ 0 → ⊥) → x ≡ p → Going k (element_end k at) (others_end p k) i → Inside k at p (record { found = true; place = i })
+    pub others-found : (x ≡ 0 → ⊥) → x ≡ p → Going k (element_end k at) (others_end p k) i → Inside k at p (Some i)
     others-found nz e g = going_end (others-test nz (eq-eqb x p e)) (λ n. sym (ap spot (more nz))) g
 
-    pub others-none : x ≡ 0 → Going k (element_end k at) (others_end p k) i → Inside k at p (record { found = false; place = 0 })
+    pub others-none : x ≡ 0 → Going k (element_end k at) (others_end p k) i → Inside k at p None
     unfolding others_end
     others-none z g = going_end (or-first (eqb (get_or k i 0) 0) (eqb (get_or k i 0) p) (over z)) (λ n. sym (ap spot (over z))) g

@@ -1,11 +1,9 @@
 -- What a walk from element to element finds in a conjunction's words, whatever stands in them.
-use Rattle.std.specs.Prelude.{ℕ, zero, suc, ◌+◌, ◌<◌, ◌≡◌, Bool, true, false, not, ◌||◌, List, eqb, get_or}
+use Rattle.std.specs.Prelude.{ℕ, zero, suc, ◌+◌, ◌<◌, ◌≡◌, Bool, true, false, not, ◌||◌, List, eqb, get_or, Option, Some, None}
 use Rattle.std.proofs.Math.Seq.{slice}
 use Rattle.language.specs.Kinds.{pick}
 use Rattle.words.specs.Spans.{member, element_end}
 use Rattle.finds.specs.declared.Terms.{Terms}
-use Rattle.finds.specs.declared.Found.{Found}
-use Rattle.finds.specs.declared.Spot.{Spot}
 use Rattle.finds.specs.Walks.{term_word, run_word}
 
 -- the n-th place, element by element from i on
@@ -45,12 +43,12 @@ Under k at v r = Walked k at (below_end v k) (λ n i. not (eqb (get_or k i 0) 0)
 unfoldable pub free_end : ℕ → List ℕ → ℕ → Bool
 free_end p k i = not (term_word (get_or k i 0)) || member p (slice i (element_end k i) k)
 
-abbrev pub UpTo : List ℕ → ℕ → ℕ → Found → Type 0
-UpTo k at p t = Walked k at (free_end p k) (λ n i. pick (term_word (get_or k i 0)) (record { found = true; count = n }) (record { found = false; count = 0 })) t
+abbrev pub UpTo : List ℕ → ℕ → ℕ → Option ℕ → Type 0
+UpTo k at p t = Walked k at (free_end p k) (λ n i. pick (term_word (get_or k i 0)) (Some n) None) t
 
 -- behind the first element, up to one that is the word p
 unfoldable pub others_end : ℕ → List ℕ → ℕ → Bool
 others_end p k i = eqb (get_or k i 0) 0 || eqb (get_or k i 0) p
 
-abbrev pub Inside : List ℕ → ℕ → ℕ → Spot → Type 0
-Inside k at p t = Walked k (element_end k at) (others_end p k) (λ n i. pick (eqb (get_or k i 0) 0) (record { found = false; place = 0 }) (record { found = true; place = i })) t
+abbrev pub Inside : List ℕ → ℕ → ℕ → Option ℕ → Type 0
+Inside k at p t = Walked k (element_end k at) (others_end p k) (λ n i. pick (eqb (get_or k i 0) 0) None (Some i)) t

@@ -1,6 +1,7 @@
 -- What a walk along the elements of a hedge finds.
-use Rattle.std.specs.Prelude.{ℕ, suc, ◌+◌, ◌≡◌, Bool, true, false, length}
-use Rattle.std.proofs.Math.Option.{some}
+use Rattle.std.specs.Prelude.{ℕ, suc, ◌+◌, ◌≡◌, Bool, true, false, length, Option, Some, None}
+use Rattle.std.proofs.Math.Option as maybe
+use Rattle.std.proofs.Math.Option.{none, some}
 use Rattle.language.specs.declared.HedgeVar.{HedgeVar}
 use Rattle.language.specs.declared.Kind.{Kind}
 use Rattle.language.specs.declared.Kind.TheVariants.{End, Term, Run, Symbol, Function, Equation, Membership, Eps, Cat, Alt, Star, Other}
@@ -8,11 +9,8 @@ use Rattle.language.specs.Limits.{desk}
 use Rattle.language.specs.Kinds.{kind_of}
 use Rattle.language.specs.Trees.{Hedge, ε, tvar, hvar, node}
 use Rattle.rules.specs.Looks.{all_terms, up_to, inside}
-use Rattle.rules.specs.Solved.{is_some}
 use Rattle.views.specs.Looks.{body_words}
 use Rattle.finds.specs.declared.Terms.{Terms}
-use Rattle.finds.specs.declared.Found.{Found}
-use Rattle.finds.specs.declared.Spot.{Spot}
 
 -- a word that begins a term, and one that is a hedge variable's
 abbrev pub begins_by : Kind → Bool
@@ -61,12 +59,20 @@ pub record Counted (t : Terms) (h : Hedge) : Type 0 where
   pub all : t.all ≡ all_terms h
   pub count : t.all ≡ true → t.count ≡ size h
 
--- whether there is a first term that holds p, and how many terms stand before it
-pub record Ahead (p : HedgeVar) (t : Found) (h : Hedge) : Type 0 where
-  pub found : t.found ≡ is_some (up_to p h)
-  pub count : (T rest : Hedge) → up_to p h ≡ some (T, rest) → t.count ≡ size T
+-- how many elements stand before what was found
+abbrev pub size_before : maybe.Option (Hedge × Hedge) → Option ℕ
+size_before none = None
+size_before (some a) = Some (size a.0)
 
--- whether p stands at the top behind another element, and the place of the first such p in a hedge that stands at `at`
-pub record Spotted (p : HedgeVar) (at : ℕ) (t : Spot) (h : Hedge) : Type 0 where
-  pub found : t.found ≡ is_some (inside p h)
-  pub place : (a b : Hedge) → inside p h ≡ some (a, b) → t.place ≡ at + length (body_words a)
+-- how many terms stand before the first that holds p, where there is one
+pub record Ahead (p : HedgeVar) (t : Option ℕ) (h : Hedge) : Type 0 where
+  pub is : t ≡ size_before (up_to p h)
+
+-- the place of what was found in a hedge that stands at `at`
+abbrev pub place_from : ℕ → maybe.Option (Hedge × Hedge) → Option ℕ
+place_from at none = None
+place_from at (some a) = Some (at + length (body_words a.0))
+
+-- the place of the first p at the top behind another element in a hedge that stands at `at`, where there is one
+pub record Spotted (p : HedgeVar) (at : ℕ) (t : Option ℕ) (h : Hedge) : Type 0 where
+  pub is : t ≡ place_from at (inside p h)

@@ -2,7 +2,7 @@
 // such walks stand here, for those of `spots` too.
 #![tactic(auto)]
 
-ghost use Rattle.std.specs.Prelude.{ℕ, ◌+◌, ◌≤◌, ◌<◌, ◌≡◌, List, length};
+ghost use Rattle.std.specs.Prelude.{ℕ, ◌+◌, ◌≤◌, ◌<◌, ◌≡◌, List, length, IfSome};
 ghost use Rattle.language.specs.declared.HedgeVar.{HedgeVar};
 ghost use Rattle.language.specs.Limits.{desk};
 ghost use Rattle.language.specs.Trees.{Hedge, hv};
@@ -16,24 +16,11 @@ use spans::element_end;
 use words::{stands, word};
 
 // Whether a hedge is terms alone, and how many.
+// kept: `AllTerms` tells the count where other elements follow too, so that it is no `Option` of one.
 #[derive(Clone, Copy)]
 pub struct Terms {
     pub all: bool,
     pub count: usize,
-}
-
-// Whether a term is found, and how many stand before it.
-#[derive(Clone, Copy)]
-pub struct Found {
-    pub found: bool,
-    pub count: usize,
-}
-
-// Whether a word is found, and where.
-#[derive(Clone, Copy)]
-pub struct Spot {
-    pub found: bool,
-    pub place: usize,
 }
 
 fn is_term(x: u16) -> bool
@@ -52,6 +39,7 @@ pub fn all_terms(k: &[u16], at: usize) -> Terms
     let mut i = at;
     let mut n: usize = 0;
     let mut x = word(k, at);
+    // kept: the place goes on by where an element ends; n only counts those passed.
     while is_term(x) {
         i = element_end(k, i);
         n += 1;
@@ -63,34 +51,29 @@ pub fn all_terms(k: &[u16], at: usize) -> Terms
     }
 }
 
-// Whether terms stand up to one that holds the hedge variable whose word is p, and how many before it.
-fn up_to_word(k: &[u16], at: usize, p: usize) -> Found
-    ensures { ((q : HedgeVar) (h : Hedge) (beyond : List ℕ) → fine_var desk (hv q) → p ≡ variable_word (hv q) → Stands k.now at h beyond → Ahead q result h) × (result.count ≤ length k.now) × UpTo k.now at p result }
+// How many terms stand before the first that holds the hedge variable whose word is p, where they stand up to one.
+fn up_to_word(k: &[u16], at: usize, p: usize) -> Option<usize>
+    ensures { ((q : HedgeVar) (h : Hedge) (beyond : List ℕ) → fine_var desk (hv q) → p ≡ variable_word (hv q) → Stands k.now at h beyond → Ahead q result h) × IfSome result (λ n. n ≤ length k.now) × UpTo k.now at p result }
 {
     let mut i = at;
     let mut n: usize = 0;
     let mut x = word(k, at);
+    // kept: the place goes on by where an element ends; n only counts those passed.
     while is_term(x) {
         let e = element_end(k, i);
         if stands(k, i, e, p) {
-            return Found {
-                found: true,
-                count: n,
-            };
+            return Some(n);
         }
         i = e;
         n += 1;
         x = word(k, i);
     }
-    Found {
-        found: false,
-        count: 0,
-    }
+    None
 }
 
-// Whether terms stand up to one that holds the hedge variable, and how many before it.
-pub fn up_to(k: &[u16], at: usize, p: HedgeVar) -> Found
-    ensures { ((h : Hedge) (beyond : List ℕ) → p.0 < desk.each → Stands k.now at h beyond → Ahead p result h) × (result.count ≤ length k.now) × UpTo k.now at (2000 + p.0) result }
+// How many terms stand before the first that holds the hedge variable, where they stand up to one.
+pub fn up_to(k: &[u16], at: usize, p: HedgeVar) -> Option<usize>
+    ensures { ((h : Hedge) (beyond : List ℕ) → p.0 < desk.each → Stands k.now at h beyond → Ahead p result h) × IfSome result (λ n. n ≤ length k.now) × UpTo k.now at (2000 + p.0) result }
 {
     up_to_word(k, at, run_word(p))
 }

@@ -14,26 +14,17 @@ use counts::{TABLE, count_in, count_out};
 use frames::{FRAME, read_frame};
 use slices::copy;
 
-// The smaller of two numbers.
-fn smaller(a: usize, b: usize) -> usize
-    ensures { (result ≤ a) × (result ≤ b) }
-{
-    if a < b { a } else { b }
-}
-
 // Up to where the words are the same from their beginnings on: so many at most.
 fn same_before(k: &[u16], work: &[u16], from: usize, most: usize) -> usize
     requires { (most ≤ length k.now) × (from + most ≤ length work.now) }
     ensures { (result ≤ most) × Alike k.now work.now from result }
 {
-    let mut i: usize = 0;
-    while i < most {
+    for i in 0..most {
         if k[i] != work[from + i] {
             return i;
         }
-        i += 1;
     }
-    i
+    most
 }
 
 // How many words are the same up to their ends: so many at most.
@@ -41,14 +32,12 @@ fn same_behind(k: &[u16], end: usize, work: &[u16], to: usize, most: usize) -> u
     requires { (most ≤ end) × (end ≤ length k.now) × (most ≤ to) × (to ≤ length work.now) }
     ensures { (result ≤ most) × AlikeBack k.now end work.now to result }
 {
-    let mut i: usize = 0;
-    while i < most {
+    for i in 0..most {
         if k[end - 1 - i] != work[to - 1 - i] {
             return i;
         }
-        i += 1;
     }
-    i
+    most
 }
 
 // The words of the conjunction that waits first, in the place of `old` words of k, of which the table has the counts: k then begins with these
@@ -69,7 +58,7 @@ pub fn take_first(
     let n = read_frame(work, at);
     let from = at + FRAME;
     let to = from + n;
-    let most = smaller(old, n);
+    let most = old.min(n);
     let front = same_before(k, work, from, most);
     let back = same_behind(k, old, work, to, most - front);
     count_out(k, front, old - back, table);

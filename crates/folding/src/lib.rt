@@ -1,7 +1,7 @@
 // What the fold looks for in a conjunction's words: the earliest literal that stands there again, and where it stands again first.
 #![tactic(auto)]
 
-ghost use Rattle.std.specs.Prelude.{ℕ, ◌+◌, ◌-◌, ◌*◌, ◌≤◌, ◌<◌, min, ◌≡◌, length, get_or};
+ghost use Rattle.std.specs.Prelude.{ℕ, ◌+◌, ◌-◌, ◌*◌, ◌≤◌, ◌<◌, ◌≡◌, length, get_or};
 ghost use Rattle.std.proofs.Math.Seq.{slice};
 ghost use Rattle.language.specs.Limits.{desk};
 ghost use Rattle.language.specs.Trees.{Literal, Conj};
@@ -12,7 +12,6 @@ ghost use Rattle.folding.specs.Twice.{until_same, first_twice};
 ghost use Rattle.folding.specs.Chains.{bucket, Falls, Sought, Noted};
 
 use language::limits::QUESTION;
-use language::wide;
 use words::{next_literal, same_part};
 
 // The chains of the table: a literal's words say in which chain its place is.
@@ -24,12 +23,6 @@ const SHORTEST: usize = 3;
 
 const LITERALS: usize = QUESTION / SHORTEST;
 
-fn least(a: usize, b: usize) -> usize
-    ensures { result ≡ min a b }
-{
-    if a < b { a } else { b }
-}
-
 // The chain of a literal's words. The number is kept within 32 bits, so that nothing wraps; its upper bits depend on every word but the last, which is
 // the same in all literals of a kind.
 fn chain_of(k: &[u16], from: usize, to: usize) -> usize
@@ -37,10 +30,8 @@ fn chain_of(k: &[u16], from: usize, to: usize) -> usize
     ensures { (result ≡ bucket (slice from to k.now)) × (result < 1024) }
 {
     let mut s: usize = 0;
-    let mut i = from;
-    while i < to {
-        s = (s * 1664525 + wide(k[i])) % 4294967296;
-        i += 1;
+    for i in from..to {
+        s = (s * 1664525 + usize::from(k[i])) % 4294967296;
     }
     s / 4194304
 }
@@ -57,16 +48,9 @@ fn seek(k: &[u16], next: &[u16; LITERALS], first: usize, at: usize, end: usize) 
         if same_part(k, at, end, q, q + len) {
             return q;
         }
-        p = wide(next[q / SHORTEST]);
+        p = usize::from(next[q / SHORTEST]);
     }
     k.len()
-}
-
-fn narrow(x: usize) -> u16
-    requires { x ≤ desk.question }
-    ensures { result ≡ x }
-{
-    x as u16
 }
 
 // The earlier place of the literal at a place; where there is none, its place becomes the head of its chain, and the length is returned.
@@ -82,12 +66,12 @@ fn note(
 {
     let h = chain_of(k, at, end);
     let first = heads[h];
-    let p = seek(k, next, wide(first), at, end);
+    let p = seek(k, next, usize::from(first), at, end);
     if p < k.len() {
         return p;
     }
     next[at / SHORTEST] = first;
-    heads[h] = narrow(at + 1);
+    heads[h] = (at + 1) as u16;
     p
 }
 
@@ -105,7 +89,7 @@ pub fn first_twice(k: &[u16]) -> usize
     while i < k.len() {
         let end = next_literal(k, i);
         let p = note(k, &mut heads, &mut next, i, end);
-        best = least(best, p);
+        best = best.min(p);
         i = end;
     }
     best

@@ -5,8 +5,6 @@ ghost use Rattle.std.specs.Prelude.{◌≡◌, ◌<◌, ◌≤◌, ◌+◌, leng
 ghost use Rattle.std.proofs.lemmas.List.Edits.{sets};
 ghost use Rattle.frames.specs.Frames.{frame, frame_of, framed_length, framed_number};
 
-use language::wide;
-
 // How many words a frame has.
 pub const FRAME: usize = 2;
 
@@ -24,7 +22,7 @@ pub fn read_frame(work: &[u16], at: usize) -> usize
     requires { at + frame ≤ length work.now }
     ensures { result ≡ framed_length work.now at }
 {
-    wide(work[at])
+    usize::from(work[at])
 }
 
 // The number of the alternative that those words descend from.

@@ -25,7 +25,7 @@ use Rattle.language.proofs.Laws.{hedges-read}
 use Rattle.language.proofs.Sizes.{hedge-some}
 use Rattle.meaning.specs.Complete.{Complete, nil, tree, complete_words}
 use Rattle.meaning.specs.Values.{with_node, complete, Form, a_term, a_name, fits, fitting, value_of}
-use Rattle.trees.specs.declared.Read.TheVariants.{Next, Stop}
+use Rattle.std.specs.Prelude.{Ok, Err}
 use Rattle.trees.specs.Places.{placed}
 use Rattle.given.specs.Checking.{is_some, plain_on, plain_words, of_form, Of, Judged, OneTerm}
 
@@ -172,27 +172,27 @@ module _ (n : Counts) (ws : List ℕ) where
 
   -- ---- from the place where reading ended
 
-  pub judged-stop : (q : ℕ) → placed 0 (read_hedge desk ws) ≡ Stop q → Judged n ws false
+  pub judged-stop : (q : ℕ) → placed 0 (read_hedge desk ws) ≡ Err q → Judged n ws false
   unfolding placed
   judged-stop q e = on (read_hedge desk ws) refl e
     where
-      on : (x : Got Hedge) → read_hedge desk ws ≡ x → placed 0 x ≡ Stop q → Judged n ws false
+      on : (x : Got Hedge) → read_hedge desk ws ≡ x → placed 0 x ≡ Err q → Judged n ws false
       on (got h k) i e = absurd (let z : ◌≡◌ {A = ℕ} 0 1 = cc in omega arith)
       on (stop k) i e = no-got k i
 
-  pub judged-short : (q : ℕ) → placed 0 (read_hedge desk ws) ≡ Next q → (q ≡ length ws → ⊥) → Judged n ws false
+  pub judged-short : (q : ℕ) → placed 0 (read_hedge desk ws) ≡ Ok q → (q ≡ length ws → ⊥) → Judged n ws false
   unfolding placed
   judged-short q e x = on (read_hedge desk ws) refl e
     where
-      on : (y : Got Hedge) → read_hedge desk ws ≡ y → placed 0 y ≡ Next q → Judged n ws false
+      on : (y : Got Hedge) → read_hedge desk ws ≡ y → placed 0 y ≡ Ok q → Judged n ws false
       on (got h k) i e = let z : 0 + k ≡ q = cc in not-all h k i (λ y. x (omega arith))
       on (stop k) i e = absurd (let z : ◌≡◌ {A = ℕ} 0 1 = cc in omega arith)
 
-  pub judged-all : (q : ℕ) → placed 0 (read_hedge desk ws) ≡ Next q → q ≡ length ws → (r : Bool) → r ≡ plain_words n.symbols ws → Judged n ws r
+  pub judged-all : (q : ℕ) → placed 0 (read_hedge desk ws) ≡ Ok q → q ≡ length ws → (r : Bool) → r ≡ plain_words n.symbols ws → Judged n ws r
   unfolding placed
   judged-all q e x r p = on (read_hedge desk ws) refl e
     where
-      on : (y : Got Hedge) → read_hedge desk ws ≡ y → placed 0 y ≡ Next q → Judged n ws r
+      on : (y : Got Hedge) → read_hedge desk ws ≡ y → placed 0 y ≡ Ok q → Judged n ws r
       on (got h k) i e = let z : 0 + k ≡ q = cc in all h k i (omega arith) r p
       on (stop k) i e = absurd (let z : ◌≡◌ {A = ℕ} 0 1 = cc in omega arith)
 
@@ -245,7 +245,7 @@ module _ (ws : List ℕ) where
       }
 
   -- the children end where reading them ends
-  children-end : (h : Hedge) (g : Complete) (s : Split h g) → placed 1 (read_hedge desk (drop 1 ws)) ≡ Next (1 + length (hedge_words s.c))
+  children-end : (h : Hedge) (g : Complete) (s : Split h g) → placed 1 (read_hedge desk (drop 1 ws)) ≡ Ok (1 + length (hedge_words s.c))
   unfolding placed
   children-end h g s = ap (λ l. placed 1 (read_hedge desk l)) s.rest ∙ ap (placed 1) ((hedges-read desk).read_back s.c (hedge_words s.r) s.fine)
 
@@ -253,7 +253,7 @@ module _ (ws : List ℕ) where
   last f u nil n m e = eq-eqb n (m - 1) (omega arith)
   last f u (tree g c r) n m e = ne_eqb n (m - 1) (let a = length-append (complete_words c) (complete_words r) in let b = some_words c in omega arith)
 
-  pub term-next : (q : ℕ) → 2 ≤ length ws → placed 1 (read_hedge desk (drop 1 ws)) ≡ Next q → OneTerm ws (eqb q (length ws - 1))
+  pub term-next : (q : ℕ) → 2 ≤ length ws → placed 1 (read_hedge desk (drop 1 ws)) ≡ Ok q → OneTerm ws (eqb q (length ws - 1))
   term-next q p e = record {
     each = λ h g o.
         let s = split p h g o in
@@ -262,5 +262,5 @@ module _ (ws : List ℕ) where
         last s.f s.u s.v q (length ws) (omega (arith, s.size)) ∙ ap (fits a_term) s.whole;
   }
 
-  pub term-stop : (q : ℕ) → 2 ≤ length ws → placed 1 (read_hedge desk (drop 1 ws)) ≡ Stop q → OneTerm ws false
+  pub term-stop : (q : ℕ) → 2 ≤ length ws → placed 1 (read_hedge desk (drop 1 ws)) ≡ Err q → OneTerm ws false
   term-stop q p e = record { each = λ h g o. absurd (let z : ◌≡◌ {A = ℕ} 0 1 = cc (children-end h g (split p h g o)) in omega arith) }

@@ -1,6 +1,7 @@
 -- When the words of a value are of the form that its variable takes.
-use Rattle.std.specs.Prelude.{ℕ, ◌+◌, ◌≡◌, Bool, true, false, ◌&&◌, List, [], ◌∷◌, ltb, length}
+use Rattle.std.specs.Prelude.{ℕ, ◌+◌, ◌≡◌, Bool, true, false, ◌&&◌, List, [], ◌∷◌, ltb, length, Result, Ok, Err}
 use Rattle.std.proofs.Math.Option.{Option, none, some}
+use Rattle.language.specs.declared.Refusal.{Refusal}
 use Rattle.language.specs.declared.Kind.{Kind}
 use Rattle.language.specs.declared.Kind.TheVariants.{End, Term, Run, Symbol, Function, Equation, Membership, Eps, Cat, Alt, Star, Other}
 use Rattle.language.specs.Limits.{desk}
@@ -12,8 +13,6 @@ use Rattle.language.specs.Reading.{read_hedge}
 use Rattle.meaning.specs.Complete.{Complete}
 use Rattle.language.specs.Question.{parts}
 use Rattle.meaning.specs.Values.{complete, Form, a_term, a_hedge, a_name, fits, forms, variables, value_of, values_of, Given, gives, refuses}
-use Rattle.outcomes.specs.declared.Checked.{Checked}
-use Rattle.outcomes.specs.declared.Checked.TheVariants.{Fine, Refused}
 
 abbrev pub is_some : {A : Type 0} → Option A → Bool
 is_some none = false
@@ -74,6 +73,6 @@ unfoldable pub all_of_form : Counts → List ℕ → Bool
 all_of_form n fs = is_some (values_of desk n (forms n) (parts 1 (variables n) fs))
 
 -- a filling that is not refused is fine
-unfoldable pub given : Given → Checked
-given (gives ρ) = Fine
-given (refuses r) = Refused r
+unfoldable pub given : Given → Result (Unit {0}) Refusal
+given (gives ρ) = Ok tt
+given (refuses r) = Err r

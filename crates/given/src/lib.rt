@@ -12,8 +12,6 @@ ghost use Rattle.given.specs.Checking.{plain_on, plain_words, of_form, form_at, 
 use header::Header;
 use language::limits::FILLING;
 use language::{Kind, Refusal, classify, wide};
-use outcomes::Checked;
-use trees::Read;
 
 // No variable, and a symbol only if it is declared.
 fn is_plain_word(word: u16, symbols: u16) -> bool
@@ -29,12 +27,10 @@ fn is_plain_word(word: u16, symbols: u16) -> bool
 fn is_plain(words: &[u16], symbols: u16) -> bool
     ensures { result ≡ plain_words symbols words.now }
 {
-    let mut i: usize = 0;
-    while i < words.len() {
+    for i in 0..words.len() {
         if !is_plain_word(words[i], symbols) {
             return false;
         }
-        i += 1;
     }
     true
 }
@@ -44,13 +40,13 @@ fn is_complete(h: Header, value: &[u16]) -> bool
     ensures { Judged (counts_in h) value.now result }
 {
     match trees::read_hedge(value, 0) {
-        Read::Next(end) => {
+        Ok(end) => {
             if end != value.len() {
                 return false;
             }
             is_plain(value, h.symbols)
         }
-        Read::Stop(_) => false,
+        Err(_) => false,
     }
 }
 
@@ -62,8 +58,8 @@ fn is_term(value: &[u16]) -> bool
         return false;
     }
     match trees::read_hedge(value, 1) {
-        Read::Next(end) => end == value.len() - 1,
-        Read::Stop(_) => false,
+        Ok(end) => end == value.len() - 1,
+        Err(_) => false,
     }
 }
 
@@ -91,14 +87,12 @@ fn values_fit(h: Header, filling: &[u16], n: u16) -> bool
 {
     let stop = wide(n) + 2;
     let mut from = stop;
-    let mut i: usize = 2;
-    while i < stop {
+    for i in 2..stop {
         let to = wide(filling[i]);
         if !value_fits(h, &filling[from..to], i - 2) {
             return false;
         }
         from = to;
-        i += 1;
     }
     true
 }
@@ -111,25 +105,25 @@ fn count_variables(h: Header) -> u16
 }
 
 // Whether these words are a filling for a question with this header, or which of 11 and 12 is given.
-pub fn read_filling(h: Header, filling: &[u16]) -> Checked
+pub fn read_filling(h: Header, filling: &[u16]) -> Result<(), Refusal>
     requires { counts_fit desk (counts_in h) h.alternatives ≡ true }
     ensures { result ≡ given (read_filling desk (counts_in h) filling.now) }
 {
     if FILLING < filling.len() {
-        return Checked::Refused(Refusal::FillingLayout);
+        return Err(Refusal::FillingLayout);
     }
     if filling.len() < 1 {
-        return Checked::Refused(Refusal::FillingLayout);
+        return Err(Refusal::FillingLayout);
     }
     let n = count_variables(h);
     if filling[0] != n {
-        return Checked::Refused(Refusal::FillingLayout);
+        return Err(Refusal::FillingLayout);
     }
     if !header::laid_out(filling, 1, n) {
-        return Checked::Refused(Refusal::FillingLayout);
+        return Err(Refusal::FillingLayout);
     }
     if !values_fit(h, filling, n) {
-        return Checked::Refused(Refusal::FillingValue);
+        return Err(Refusal::FillingValue);
     }
-    Checked::Fine
+    Ok(())
 }

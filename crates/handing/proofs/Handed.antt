@@ -1,12 +1,15 @@
 -- What the host gets, by the number that came back.
-use Prim.Native.Nat.{ℕ, ◌+◌, ◌*◌, ◌≤◌, ◌<◌}
-use mathlib.Core.Path.{◌≡◌, ap, ◌∙◌}
-use mathlib.Core.Bool.{true, false}
+use Prim.Native.Nat.{ℕ, ◌+◌, ◌*◌, ◌≤◌, ◌<◌, min}
+use mathlib.Core.Path.{◌≡◌, refl, ap, ◌∙◌}
+use mathlib.Core.Bool.{Bool, true, false}
 use mathlib.Core.List.{List, ◌++◌}
 use native.Mathlib.Omega.{arith}
 use lib.ListN.{take, drop, replicate}
 use lib.Seq.{sets}
-use borrow.Author.Tests.{eq-eqb, ne_eqb, le-leb, lt-leb}
+use lib.Dec.{leb}
+use borrow.Author.Tests.{eq-eqb, ne_eqb, le-leb, lt-leb, leb-true, leb-false}
+use Rattle.std.proofs.Math.Nat.{min-eq_left, min-eq_right}
+use Rattle.language.specs.Kinds.{pick}
 use Rattle.language.specs.declared.Refusal.{Refusal}
 use Rattle.language.specs.Numbers.{number_of}
 use Rattle.language.proofs.Numbering.{each_number}
@@ -21,6 +24,14 @@ module _ (most lent : ℕ) where
   pub used-most : most < lent → used most lent ≡ most
   unfolding used
   used-most h = simp (lt-leb _ _ h)
+
+  pub used-min : min lent most ≡ used most lent
+  unfolding used
+  used-min = by (leb lent most) refl
+    where
+      by : (b : Bool) → leb lent most ≡ b → min lent most ≡ pick b lent most
+      by true e = min-eq_left (leb-true _ _ e)
+      by false e = min-eq_right (omega (arith, leb-false _ _ e))
 
 module _ (number value : ℕ) where
   pub number-value : number ≡ 0 → number_or number value ≡ 100 + value

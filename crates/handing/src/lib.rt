@@ -12,7 +12,7 @@ use word_bytes::write_words;
 pub fn most(limit: usize, n: usize) -> usize
     ensures { (result ≡ used limit n) × (result ≤ limit) × (result ≤ n) }
 {
-    if n <= limit { n } else { limit }
+    n.min(limit)
 }
 
 // The refusal's number, or 0.
@@ -28,9 +28,9 @@ pub fn told(number: u16, value: u16) -> u32
     ensures { result ≡ number_or number value }
 {
     if number == 0 {
-        return 100 + value as u32;
+        return 100 + u32::from(value);
     }
-    number as u32
+    u32::from(number)
 }
 
 // 1 to 6 leave all bytes as they are.
@@ -59,11 +59,7 @@ pub fn clear_words(room: &mut [u8])
     ensures { room.new ≡ replicate (word_bytes room.old) 0 ++ drop (word_bytes room.old) room.old }
 {
     let end = 2 * (room.len() / 2);
-    let mut i = 0;
-    while i < end {
-        room[i] = 0;
-        i += 1;
-    }
+    room[..end].fill(0);
 }
 
 // The trail's bytes after a call of that number and so many steps, from the desk's own trail: zeros after a refusal that changes bytes.

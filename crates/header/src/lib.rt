@@ -7,22 +7,20 @@ ghost use Rattle.language.specs.Question.{rising, laid_out, counts_of};
 ghost use Rattle.language.specs.Between.{between};
 ghost use Rattle.header.specs.Heading.{header_of};
 
-use language::{Signature, wide};
+use language::Signature;
 
 // Whether the offsets from place `at` up to `stop` never fall, from `from` on, and the last is the length.
 fn rises(w: &[u16], at: usize, stop: usize, from: usize) -> bool
     requires { (at ≤ stop) × (stop ≤ length w.now) }
     ensures { result ≡ rising from (between at stop w.now) (length w.now) }
 {
-    let mut i = at;
     let mut last = from;
-    while i < stop {
-        let next = wide(w[i]);
+    for i in at..stop {
+        let next = usize::from(w[i]);
         if next < last {
             return false;
         }
         last = next;
-        i += 1;
     }
     last == w.len()
 }
@@ -31,12 +29,12 @@ fn rises(w: &[u16], at: usize, stop: usize, from: usize) -> bool
 pub fn laid_out(w: &[u16], head: u16, n: u16) -> bool
     ensures { result ≡ laid_out head n w.now }
 {
-    let at = wide(head);
-    let first = at + wide(n) + 1;
+    let at = usize::from(head);
+    let first = at + usize::from(n) + 1;
     if w.len() < first {
         return false;
     }
-    if wide(w[at]) != first {
+    if usize::from(w[at]) != first {
         return false;
     }
     rises(w, at + 1, first, first)

@@ -29,7 +29,7 @@ pub fn desk_solve(question: &[u8], answer: &mut [u8]) -> u32
     let n = take_words(question, &mut words);
     let number = solved_number(solver::solve(&words[..n], &mut work, &mut own));
     put_answer(number, &own, answer);
-    number as u32
+    u32::from(number)
 }
 
 // The example in the desk's own room, and then in the bytes lent.
@@ -44,6 +44,7 @@ fn show(question: &[u16], line: usize, old: bool, own: &mut [u16], room: &mut [u
     let n = shown_length(s);
     // of a refusal that is 0, and nothing is written
     write_words(&own[..n], room);
+    // kept: the cast is proved to keep the number, and `u16::try_from(..).unwrap()` would say no more
     told(shown_number(s), n as u16)
 }
 
@@ -57,6 +58,7 @@ pub fn desk_example(question: &[u8], line: u32, old: u32, room: &mut [u8]) -> u3
     let mut own = [0u16; FILLING];
     let n = take_words(question, &mut words);
     let m = most(FILLING, room.len() / 2);
+    // kept: there is no `From<u32>` for `usize`
     show(&words[..n], line as usize, truth(old), &mut own[..m], room)
 }
 
@@ -67,5 +69,5 @@ pub fn desk_day(sheet: &[u8], room: &mut [u8]) -> u32
 {
     let mut own_work = [0u16; ROOM];
     let mut own_answer = [0u16; ROOM];
-    verdict_number(solve_day(sheet, &mut own_work, &mut own_answer, room)) as u32
+    u32::from(verdict_number(solve_day(sheet, &mut own_work, &mut own_answer, room)))
 }

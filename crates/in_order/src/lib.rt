@@ -23,12 +23,10 @@ fn places_of(k: &[u16], from: usize, n: usize) -> Places
     ensures { (length result.at ≡ 8) × Agree n result.at (places n k.now from) }
 {
     let mut at = [0; 8];
-    let mut i = 0;
     let mut p = from;
-    while i < n {
+    for i in 0..n {
         at[i] = p;
         p = element_end(k, p);
-        i += 1;
     }
     Places { at }
 }
@@ -39,10 +37,8 @@ fn without(ps: Places, d: usize) -> Places
     ensures { (length result.at ≡ 8) × Agree 7 result.at (drop_at d ps.at) }
 {
     let mut at = ps.at;
-    let mut i = d;
-    while i < 7 {
+    for i in d..7 {
         at[i] = at[i + 1];
-        i += 1;
     }
     Places { at }
 }
@@ -53,20 +49,17 @@ fn write_few(k: &[u16], all: Places, n: usize, number: usize, out: &mut [u16], a
     ensures { Wrote out.old at (elements_at k.now (in_order n number all.at)) out.new result }
 {
     let mut ps = all;
-    let mut m = n;
     let mut j = number;
     let mut e = at;
-    while m != 0 {
-        let rest = m - 1;
+    for rest in (0..n).rev() {
         let block = count_orders(rest);
-        let d = j / block % m;
+        let d = j / block % (rest + 1);
         let row = ps.at;
         let p = row[d];
         let end = element_end(k, p);
         e = copy(k, p, end, out, e);
         ps = without(ps, d);
         j = j % block;
-        m = rest;
     }
     e
 }
@@ -84,14 +77,13 @@ pub fn write_order(
     ensures { Wrote out.old at (ordered k.now from n number) out.new result }
 {
     let mut p = from;
-    let mut m = n;
     let mut e = at;
-    while 8 < m {
+    for _ in 8..n {
         let end = element_end(k, p);
         e = copy(k, p, end, out, e);
         p = end;
-        m -= 1;
     }
+    let m = n.min(8);
     let few = places_of(k, p, m);
     write_few(k, few, m, number, out, e)
 }

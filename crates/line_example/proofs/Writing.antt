@@ -8,6 +8,7 @@ use lib.Dec.{ltb}
 use lib.ListN.{length, drop, length-append}
 use lib.Seq.{sets-eq}
 use borrow.Author.Tests.{lt-ltb, le-ltb}
+use Rattle.std.specs.Prelude.{Ok, Err}
 use Rattle.language.specs.declared.Refusal.TheVariants.{LongExample}
 use Rattle.language.specs.declared.Sym.{Sym}
 use Rattle.language.specs.Limits.{desk}
@@ -22,7 +23,6 @@ use Rattle.values.specs.Values.{Settled}
 use Rattle.line_example.specs.Rows.{Makes, values_by, starts, KindLength, KindStarts, KindWritten}
 use Rattle.line_example.specs.declared.sorts.Sort.TheVariants.{Terms, Runs, Functions}
 use Rattle.line_example.specs.declared.sorts.Row.{Row}
-use Rattle.outcomes.specs.declared.Shown.TheVariants.{Shows, Denied}
 use Rattle.line_example.specs.Shown.{result_of, room_of}
 use Rattle.line_example.specs.Fillings.{values_of, table_of, Counted, FillingLength, TableWritten, ValuesWritten, LineShown}
 use Rattle.line_example.proofs.Tables.{joined-row, starts-row, offsets-starts, length-offsets, length-values}
@@ -174,24 +174,24 @@ module _ {k : List ℕ} {terms hedges functions r : ℕ} (m : FillingLength k te
   length-is : (any : Sym) (c : Conj) (n : Counts) → Line k c → Settled c → Counted n terms hedges functions → r ≡ length (filling_words n (example any c))
   length-is any c n s t q = m.each any c n s t q ∙ sym (ap length (filling-words any c t n) ∙ length-append (table_of any c n) (joined (values_of any c n)))
 
-  refused : {any : Sym} {old : List ℕ} → ((ws : List ℕ) → r ≡ length ws → fitted desk (length old) ws ≡ denied LongExample) → LineShown k terms hedges functions any old old (Denied LongExample)
+  refused : {any : Sym} {old : List ℕ} → ((ws : List ℕ) → r ≡ length ws → fitted desk (length old) ws ≡ denied LongExample) → LineShown k terms hedges functions any old old (Err LongExample)
   refused {any} {old} f = record {
     result = λ c n s t q. ap result_of (sym (f (filling_words n (example any c)) (length-is any c n s t q)));
     room = λ c n s t q. ap (λ z. room_of z old) (sym (f (filling_words n (example any c)) (length-is any c n s t q)));
   }
 
-  pub shown-long : {any : Sym} {old : List ℕ} → desk.filling < r → LineShown k terms hedges functions any old old (Denied LongExample)
+  pub shown-long : {any : Sym} {old : List ℕ} → desk.filling < r → LineShown k terms hedges functions any old old (Err LongExample)
   shown-long {any} {old} i = refused (λ ws e. too_long (length old) ws (omega arith))
 
-  pub shown-full : {any : Sym} {old : List ℕ} → length old < r → LineShown k terms hedges functions any old old (Denied LongExample)
+  pub shown-full : {any : Sym} {old : List ℕ} → length old < r → LineShown k terms hedges functions any old old (Err LongExample)
   shown-full {any} {old} i = refused (λ ws e. no_room (length old) ws (omega arith))
 
   pub shown-all : {any : Sym} {old mid new : List ℕ} {e d : ℕ} → r ≤ desk.filling → r ≤ length old → TableWritten k terms hedges functions old 0 mid e → ValuesWritten k terms hedges functions any mid e new d
-      → LineShown k terms hedges functions any old new (Shows r)
+      → LineShown k terms hedges functions any old new (Ok r)
   shown-all {any} {old} {mid} {new} i j a b = record {
     result = λ c n s t q.
         let z = length-is any c n s t q in
-        ap Shows z ∙ ap result_of (sym (has_room (length old) (filling_words n (example any c)) (omega arith) (omega arith)));
+        ap Ok z ∙ ap result_of (sym (has_room (length old) (filling_words n (example any c)) (omega arith) (omega arith)));
     room = λ c n s t q.
         let z = length-is any c n s t q in
         let ws = filling_words n (example any c) in

@@ -1,5 +1,6 @@
 -- The words of a line's example: a table of offsets, and the values.
-use Rattle.std.specs.Prelude.{ℕ, ◌+◌, ◌*◌, ◌<◌, ◌≤◌, ◌≡◌, List, ◌∷◌, ◌++◌, length}
+use Rattle.std.specs.Prelude.{ℕ, ◌+◌, ◌*◌, ◌<◌, ◌≤◌, ◌≡◌, List, ◌∷◌, ◌++◌, length, Result}
+use Rattle.language.specs.declared.Refusal.{Refusal}
 use Rattle.language.specs.declared.Sym.{Sym}
 use Rattle.language.specs.Limits.{desk}
 use Rattle.language.specs.Trees.{Conj, Counts, tv, hv, fv}
@@ -10,7 +11,6 @@ use Rattle.samples.specs.Laid.{Laid}
 use Rattle.values.specs.Lines.{Line}
 use Rattle.values.specs.Values.{Settled}
 use Rattle.line_example.specs.Rows.{values_by}
-use Rattle.outcomes.specs.declared.Shown.{Shown}
 use Rattle.line_example.specs.Shown.{result_of, room_of}
 
 -- the values of the term, hedge and function variables, where free blanks take the symbol `any`
@@ -39,6 +39,6 @@ pub record ValuesWritten (k : List ℕ) (terms hedges functions : ℕ) (any : Sy
   pub each : (c : Conj) (n : Counts) → Line k c → Settled c → Counted n terms hedges functions → Laid old at (joined (values_of any c n)) new e
 
 -- the example of a line is shown, or it is too long
-pub record LineShown (k : List ℕ) (terms hedges functions : ℕ) (any : Sym) (old new : List ℕ) (r : Shown) : Type 0 where
+pub record LineShown (k : List ℕ) (terms hedges functions : ℕ) (any : Sym) (old new : List ℕ) (r : Result ℕ Refusal) : Type 0 where
   pub result : (c : Conj) (n : Counts) → Line k c → Settled c → Counted n terms hedges functions → r ≡ result_of (fitted desk (length old) (filling_words n (example any c)))
   pub room : (c : Conj) (n : Counts) → Line k c → Settled c → Counted n terms hedges functions → new ≡ room_of (fitted desk (length old) (filling_words n (example any c))) old

@@ -10,7 +10,6 @@ ghost use Rattle.line_example.specs.Fillings.{FillingLength, TableWritten, Value
 
 use language::limits::FILLING;
 use language::{Refusal, Sym};
-use outcomes::Shown;
 use samples::put;
 use sorts::{Sort, short, values_len, write_starts, write_values};
 
@@ -64,18 +63,18 @@ pub fn fill_line(
     functions: usize,
     any: Sym,
     room: &mut [u16],
-) -> Shown
+) -> Result<usize, Refusal>
     requires { (length k.now ≤ 65536) × (terms ≤ desk.each) × (hedges ≤ desk.each) × (functions ≤ desk.each) × SettledLine k.now × (any.0 < desk.each) }
     ensures { LineShown k.now terms hedges functions any room.old room.new result }
 {
     let n = filling_len(k, terms, hedges, functions);
     if FILLING < n {
-        return Shown::Denied(Refusal::LongExample);
+        return Err(Refusal::LongExample);
     }
     if room.len() < n {
-        return Shown::Denied(Refusal::LongExample);
+        return Err(Refusal::LongExample);
     }
     let e = write_table(k, terms, hedges, functions, room);
     write_all(k, terms, hedges, functions, any, room, e);
-    Shown::Shows(n)
+    Ok(n)
 }

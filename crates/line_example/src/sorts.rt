@@ -19,10 +19,7 @@ pub struct Row {
 pub(crate) fn short(n: usize) -> u16
     ensures { n < 65536 → result ≡ n }
 {
-    if n < 65536 {
-        return n as u16;
-    }
-    0
+    u16::try_from(n).unwrap_or(0)
 }
 
 #[derive(Clone, Copy)]
@@ -49,11 +46,9 @@ pub(crate) fn values_len(k: &[u16], of: Sort, count: usize) -> usize
     requires { (length k.now ≤ 65536) × (count ≤ desk.each) × SettledLine k.now }
     ensures { KindLength k.now of count result }
 {
-    let mut j: usize = 0;
     let mut n: usize = 0;
-    while j < count {
+    for j in 0..count {
         n += value_len(k, numbered(of, j));
-        j += 1;
     }
     n
 }
@@ -70,13 +65,11 @@ pub(crate) fn write_starts(
     requires { (length k.now ≤ 65536) × (count ≤ desk.each) × (offset ≤ 4 * (10000000000 * desk.each)) × SettledLine k.now }
     ensures { KindStarts k.now of count out.old at offset out.new result }
 {
-    let mut j: usize = 0;
     let mut e = at;
     let mut next = offset;
-    while j < count {
+    for j in 0..count {
         e = put(out, e, short(next));
         next += value_len(k, numbered(of, j));
-        j += 1;
     }
     Row { to: e, next }
 }
@@ -93,11 +86,9 @@ pub(crate) fn write_values(
     requires { (count ≤ desk.each) × SettledLine k.now × (any.0 < desk.each) }
     ensures { KindWritten k.now of count any out.old at out.new result }
 {
-    let mut j: usize = 0;
     let mut e = at;
-    while j < count {
+    for j in 0..count {
         e = write_value(k, numbered(of, j), any, out, e);
-        j += 1;
     }
     e
 }

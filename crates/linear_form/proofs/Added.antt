@@ -8,13 +8,12 @@ use lib.Dec.{leb}
 use borrow.Author.Tests.{le-leb, lt-leb}
 use lib.ListN.{length, take, drop, set, length-append, length-drop, drop_of_length-le}
 use lib.Seq.{sets, slice, length-sets, sets-eq, drop_at, length-take-le, drop-set-lt}
+use Rattle.std.specs.Prelude.{Option, Some, None}
 use Rattle.language.specs.Kinds.{pick}
 use Rattle.language.specs.Limits.{desk}
 use Rattle.frames.specs.Frames.{frame, frame_of, in_frames}
 use Rattle.frames.proofs.Framing.{frames-append}
 use Rattle.plans.specs.Sizes.{Short, grown, sized_from, sized}
-use Rattle.plans.specs.declared.Size.{Size}
-use Rattle.plans.specs.declared.Size.TheVariants.{Fits, Over}
 use Rattle.slices.specs.Written.{Wrote}
 use Rattle.slices.proofs.Still.{wrote_as}
 use Rattle.linear_form.specs.declared.adding.Kept.{Kept}
@@ -27,23 +26,23 @@ use Rattle.linear_form.proofs.Written.{wrote-append}
 
 -- ---- counting
 
-pub tallied-append : (s : Size) (us vs : List (List ℕ)) → tallied s (us ++ vs) ≡ tallied (tallied s us) vs
+pub tallied-append : (s : Option ℕ) (us vs : List (List ℕ)) → tallied s (us ++ vs) ≡ tallied (tallied s us) vs
 tallied-append s [] vs = refl
 tallied-append s (u ∷ us) vs = tallied-append (counted s (length u)) us vs
 
-tallied-over : (ws : List (List ℕ)) → tallied Over ws ≡ Over
+tallied-over : (ws : List (List ℕ)) → tallied None ws ≡ None
 tallied-over [] = refl
 tallied-over (w ∷ ws) = tallied-over ws
 
-tallied-if : (b : Bool) (n : ℕ) (ws : List (List ℕ)) → tallied (Fits n) ws ≡ sized_from n ws → tallied (pick b (Fits n) Over) ws ≡ pick b (sized_from n ws) Over
+tallied-if : (b : Bool) (n : ℕ) (ws : List (List ℕ)) → tallied (Some n) ws ≡ sized_from n ws → tallied (pick b (Some n) None) ws ≡ pick b (sized_from n ws) None
 tallied-if true n ws e = e
 tallied-if false n ws e = tallied-over ws
 
-tallied-from : (n : ℕ) (ws : List (List ℕ)) → tallied (Fits n) ws ≡ sized_from n ws
+tallied-from : (n : ℕ) (ws : List (List ℕ)) → tallied (Some n) ws ≡ sized_from n ws
 tallied-from n [] = refl
 tallied-from n (w ∷ ws) = tallied-if (leb (length w) desk.question) (grown n (length w)) ws (tallied-from (grown n (length w)) ws)
 
-pub tallied-all : (ws : List (List ℕ)) → tallied (Fits 0) ws ≡ sized ws
+pub tallied-all : (ws : List (List ℕ)) → tallied (Some 0) ws ≡ sized ws
 unfolding sized
 tallied-all ws = tallied-from 0 ws
 
@@ -140,7 +139,7 @@ row-length k s p m r c w =
     let g = ap length r in
     omega arith
 
-pub tallied-one : (k : List ℕ) (s : Kept) (p : Spot) (size : Size) {one : ℕ} (m : Loose) → one ≡ length_by k (kept_length k s) p → slice p.place p.past k ≡ first_words m
+pub tallied-one : (k : List ℕ) (s : Kept) (p : Spot) (size : Option ℕ) {one : ℕ} (m : Loose) → one ≡ length_by k (kept_length k s) p → slice p.place p.past k ≡ first_words m
     → p.parts ≡ m.parts → p.words ≡ length m.words → counted size one ≡ tallied size (row_words k s m ∷ [])
 tallied-one k s p size m h e c w = ap (counted size) (h ∙ sym (length-by k s p) ∙ row-length k s p m (row_of k s p m e) c w)
 
@@ -163,15 +162,15 @@ added-one {k} {s} {p} {rest} {out} {t} {out'} {r} m a e c w =
 
 -- ---- how it comes to be
 
-pub counted-over : {size : Size} (l : ℕ) → size ≡ Over → Over ≡ counted size l
+pub counted-over : {size : Option ℕ} (l : ℕ) → size ≡ None → None ≡ counted size l
 counted-over l e = sym (ap (λ s. counted s l) e)
 
-module _ {size : Size} {l n : ℕ} (e : size ≡ Fits n) where
-  pub counted-long : desk.question < l → Over ≡ counted size l
-  counted-long h = sym (ap (λ s. counted s l) e ∙ ap (λ b. pick b (Fits (grown n l)) Over) (lt-leb l desk.question h))
+module _ {size : Option ℕ} {l n : ℕ} (e : size ≡ Some n) where
+  pub counted-long : desk.question < l → None ≡ counted size l
+  counted-long h = sym (ap (λ s. counted s l) e ∙ ap (λ b. pick b (Some (grown n l)) None) (lt-leb l desk.question h))
 
-  pub counted-more : {m : ℕ} → l ≤ desk.question → m ≡ grown n l → Fits m ≡ counted size l
-  counted-more h g = sym (ap (λ s. counted s l) e ∙ ap (λ b. pick b (Fits (grown n l)) Over) (le-leb l desk.question h) ∙ ap Fits (sym g))
+  pub counted-more : {m : ℕ} → l ≤ desk.question → m ≡ grown n l → Some m ≡ counted size l
+  counted-more h g = sym (ap (λ s. counted s l) e ∙ ap (λ b. pick b (Some (grown n l)) None) (le-leb l desk.question h) ∙ ap Some (sym g))
 
 words-length : (k : List ℕ) (s : Kept) (p : Spot) (ws : List ℕ) → length ws ≡ p.words → length (result_words k s p ws) ≡ result_length k s p
 unfolding result_words result_length

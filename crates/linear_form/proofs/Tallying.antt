@@ -6,6 +6,7 @@ use mathlib.Core.Logic.{inl, inr}
 use mathlib.Core.List.{List, [], ◌++◌, map, map-append, append-nil}
 use native.Mathlib.Omega.{arith}
 use lib.ListN.{length, get_or, length-append}
+use Rattle.std.specs.Prelude.{Option, Some}
 use Rattle.language.specs.Kinds.{pick}
 use Rattle.language.specs.Trees.{Expr, cat, star, over}
 use Rattle.language.specs.Writing.{expr_words, conj_words}
@@ -13,8 +14,6 @@ use Rattle.rules.specs.Looks.{is_eps}
 use Rattle.rules.specs.Expressions.{nullable}
 use Rattle.plans.specs.Sizes.{monomial_words}
 use Rattle.views.specs.declared.Shape.{Shape}
-use Rattle.plans.specs.declared.Size.{Size}
-use Rattle.plans.specs.declared.Size.TheVariants.{Fits}
 use Rattle.linear_form.specs.declared.adding.Kept.{Kept}
 use Rattle.linear_form.specs.declared.Outside.{Outside}
 use Rattle.linear_form.specs.declared.Counted.{Counted}
@@ -28,20 +27,20 @@ use Rattle.linear_form.proofs.Rows.{rows}
 use Rattle.linear_form.proofs.Joining.{Dec7001, is-cat, closed-by, open_by, joined-cat, joined-alt}
 use Rattle.linear_form.proofs.Added.{tallied-all, tallied-append, tallied-one}
 
-tallied-two : (size : Size) (us vs : List (List ℕ)) {m n : Size} → m ≡ tallied size us → n ≡ tallied m vs → n ≡ tallied size (us ++ vs)
+tallied-two : (size : Option ℕ) (us vs : List (List ℕ)) {m n : Option ℕ} → m ≡ tallied size us → n ≡ tallied m vs → n ≡ tallied size (us ++ vs)
 tallied-two size us vs a b = b ∙ ap (λ s. tallied s vs) a ∙ sym (tallied-append size us vs)
 
 -- ---- by the word
 
-module _ {k : List ℕ} {kept at : ℕ} {o : Outside} {size : Size} where
+module _ {k : List ℕ} {kept at : ℕ} {o : Outside} {size : Option ℕ} where
   pub tallies-end : length k ≤ at → Tallies k kept at o size (record { null = false; size = size })
   tallies-end z = record { each = λ s R w ws q g l. past_end (λ R w. TalliesOver k s R o.parts ws size (record { null = false; size = size })) z R w g }
 
   pub tallies-eps : get_or k at 0 ≡ 7000 → Tallies k kept at o size (record { null = true; size = size })
   tallies-eps z = record { each = λ s R w ws q g l. by-eps (λ R w. TalliesOver k s R o.parts ws size (record { null = true; size = size })) z (λ w. record { null = refl; size = refl }) R w g }
 
-module _ {k : List ℕ} {kept at : ℕ} {o : Outside} {size : Size} {mid : ℕ} (m : Past k (at + 1) mid) where
-  pub tallies-over : {one : ℕ} {more : Size} → get_or k at 0 < 7000 → one ≡ length_by k kept (record { place = at; past = mid; parts = o.parts; words = o.words })
+module _ {k : List ℕ} {kept at : ℕ} {o : Outside} {size : Option ℕ} {mid : ℕ} (m : Past k (at + 1) mid) where
+  pub tallies-over : {one : ℕ} {more : Option ℕ} → get_or k at 0 < 7000 → one ≡ length_by k kept (record { place = at; past = mid; parts = o.parts; words = o.words })
       → more ≡ counted size one → Tallies k kept at o size (record { null = false; size = more })
   tallies-over {one} {more} z a e =
       record {
@@ -132,11 +131,11 @@ module _ {k : List ℕ} {kept at : ℕ} {o : Outside} {size : Size} {mid : ℕ} 
 
 -- ---- the whole, with nothing outside
 
-pub tally-sizes : {k : List ℕ} (s : Shape) {t : Kept} {kept : ℕ} {r : Counted} → t ≡ kept_of s 0 → kept ≡ kept_length k t → Tallies k kept s.expr (record { parts = 0; words = 0 }) (Fits 0) r → Sized k s r.size
+pub tally-sizes : {k : List ℕ} (s : Shape) {t : Kept} {kept : ℕ} {r : Counted} → t ≡ kept_of s 0 → kept ≡ kept_length k t → Tallies k kept s.expr (record { parts = 0; words = 0 }) (Some 0) r → Sized k s r.size
 tally-sizes {k} s {t} {kept} {r} e q w =
     record {
       each = λ before h R behind v.
           (w.each t R (conj_words behind) [] q (record { fine = v.fine; words = v.here }) refl).size
-          ∙ ap (tallied (Fits 0)) (sym (rows v 0 ∙ ap (λ t. map (row_words k t) (met R 0 [])) (sym e)))
+          ∙ ap (tallied (Some 0)) (sym (rows v 0 ∙ ap (λ t. map (row_words k t) (met R 0 [])) (sym e)))
           ∙ tallied-all (monomial_words before h R behind);
     }

@@ -1,5 +1,5 @@
 -- The words of M2's results, monomial by monomial.
-use Rattle.std.specs.Prelude.{ℕ, ◌+◌, ◌-◌, ◌*◌, ◌≤◌, ◌≡◌, List, [], ◌∷◌, ◌++◌, leb, length, drop}
+use Rattle.std.specs.Prelude.{ℕ, ◌+◌, ◌-◌, ◌*◌, ◌≤◌, ◌≡◌, List, [], ◌∷◌, ◌++◌, leb, length, drop, Option, Some, None}
 use Rattle.std.proofs.Math.Seq.{slice}
 use Rattle.language.specs.Kinds.{pick}
 use Rattle.language.specs.Limits.{desk}
@@ -9,8 +9,6 @@ use Rattle.plans.specs.Sizes.{grown, sized, monomial_words, Ready}
 use Rattle.views.specs.Standing.{LiteralAt}
 use Rattle.views.specs.Views.{Shows, MembershipAt}
 use Rattle.views.specs.declared.Shape.{Shape}
-use Rattle.plans.specs.declared.Size.{Size}
-use Rattle.plans.specs.declared.Size.TheVariants.{Fits, Over}
 use Rattle.slices.specs.Written.{Wrote}
 use Rattle.linear_form.specs.declared.adding.Kept.{Kept}
 use Rattle.linear_form.specs.declared.adding.Spot.{Spot}
@@ -56,11 +54,11 @@ pub record Bounded (p : Spot) : Type 0 where
   pub short : p.words ≤ desk.question * desk.question
 
 -- a result more of l words, and several more
-abbrev pub counted : Size → ℕ → Size
-counted Over l = Over
-counted (Fits n) l = pick (leb l desk.question) (Fits (grown n l)) Over
+abbrev pub counted : Option ℕ → ℕ → Option ℕ
+counted None l = None
+counted (Some n) l = pick (leb l desk.question) (Some (grown n l)) None
 
-abbrev pub tallied : Size → List (List ℕ) → Size
+abbrev pub tallied : Option ℕ → List (List ℕ) → Option ℕ
 tallied s [] = s
 tallied s (w ∷ ws) = tallied (counted s (length w)) ws
 
@@ -88,7 +86,7 @@ pub record RoomFor (k : List ℕ) (s : Shape) (number : ℕ) (out : List ℕ) (a
   pub ready : Ready number (monomial_words membership.before membership.h membership.R membership.behind) out at
 
 -- all of them: their size, and that they are written
-pub record Sized (k : List ℕ) (s : Shape) (n : Size) : Type 0 where
+pub record Sized (k : List ℕ) (s : Shape) (n : Option ℕ) : Type 0 where
   pub each : (before : Conj) (h : Hedge) (R : Expr) (behind : Conj) → Shows k s before h R behind → n ≡ sized (monomial_words before h R behind)
 
 pub record Written (k : List ℕ) (s : Shape) (number : ℕ) (old : List ℕ) (at : ℕ) (new : List ℕ) (e : ℕ) : Type 0 where

@@ -1,5 +1,5 @@
 -- What the recursions over an expression's parts leave: the results of its monomials, counted, and written.
-use Rattle.std.specs.Prelude.{ℕ, suc, ◌+◌, ◌-◌, ◌≤◌, ◌≡◌, Bool, false, ◌&&◌, ◌||◌, List, ◌++◌, map, eqb, length, get_or}
+use Rattle.std.specs.Prelude.{ℕ, suc, ◌+◌, ◌-◌, ◌≤◌, ◌≡◌, Bool, false, ◌&&◌, ◌||◌, List, ◌++◌, map, eqb, length, get_or, Option}
 use Rattle.std.proofs.Math.Seq.{slice}
 use Rattle.language.specs.Kinds.{pick}
 use Rattle.language.specs.Limits.{desk}
@@ -14,7 +14,6 @@ use Rattle.linear_form.specs.declared.adding.Kept.{Kept}
 use Rattle.linear_form.specs.declared.Outside.{Outside}
 use Rattle.linear_form.specs.declared.Counted.{Counted}
 use Rattle.linear_form.specs.declared.Walked.{Walked}
-use Rattle.plans.specs.declared.Size.{Size}
 use Rattle.expressions.specs.Standing.{Here}
 use Rattle.linear_form.specs.Charted.{Past}
 use Rattle.monomials.specs.Loose.{met}
@@ -68,11 +67,11 @@ unfoldable pub joined : ℕ → Bool → Bool → Bool
 joined x a b = pick (eqb x 7001) (a && b) (a || b)
 
 -- R, which stands at the place, is passed, and the results of its monomials are counted; the words from outside are ws
-pub record TalliesOver (k : List ℕ) (s : Kept) (R : Expr) (n : ℕ) (ws : List ℕ) (before : Size) (r : Counted) : Type 0 where
+pub record TalliesOver (k : List ℕ) (s : Kept) (R : Expr) (n : ℕ) (ws : List ℕ) (before : Option ℕ) (r : Counted) : Type 0 where
   pub null : r.null ≡ nullable R
   pub size : r.size ≡ tallied before (map (row_words k s) (met R n ws))
 
-pub record Tallies (k : List ℕ) (kept at : ℕ) (o : Outside) (before : Size) (r : Counted) : Type 0 where
+pub record Tallies (k : List ℕ) (kept at : ℕ) (o : Outside) (before : Option ℕ) (r : Counted) : Type 0 where
   pub each : (s : Kept) (R : Expr) (beyond ws : List ℕ) → kept ≡ kept_length k s → Here k at R beyond → length ws ≡ o.words → TalliesOver k s R o.parts ws before r
 
 -- the results ls, which get this number, are written after the others where none is too long and there is room; the words from outside are ws

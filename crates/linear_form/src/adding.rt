@@ -8,7 +8,7 @@ ghost use Rattle.linear_form.specs.Rows.{kept_of, front_words, kept_length, leng
 
 use frames::{FRAME, write_frame};
 use language::limits::QUESTION;
-use plans::{Size, grow};
+use plans::grow;
 use slices::{copy, part_len};
 use views::Shape;
 
@@ -78,20 +78,15 @@ pub(crate) fn result_len(k: &[u16], kept: usize, p: Spot) -> usize
     kept + a + (b + p.words)
 }
 
-// A result more of so many words.
-pub(crate) fn count(size: Size, one: usize) -> Size
+// A result more of so many words. There is no size where a result is too long.
+pub(crate) fn count(size: Option<usize>, one: usize) -> Option<usize>
     ensures { result ≡ counted size one }
 {
-    match size {
-        Size::Over => Size::Over,
-        Size::Fits(n) => {
-            if QUESTION < one {
-                return Size::Over;
-            }
-            let more = grow(n, one);
-            Size::Fits(more)
-        }
+    let n = size?;
+    if QUESTION < one {
+        return None;
     }
+    Some(grow(n, one))
 }
 
 // What stands before the parts of a rest.
@@ -103,14 +98,9 @@ fn open_rest(out: &mut [u16], at: usize, parts: usize) -> usize
         out[at] = 7000;
         return at + 1;
     }
-    let mut left = parts - 1;
-    let mut e = at;
-    while left != 0 {
-        out[e] = 7001;
-        e += 1;
-        left -= 1;
-    }
-    e
+    let end = at + (parts - 1);
+    out[at..end].fill(7001);
+    end
 }
 
 // One word; the answer is the place after it.

@@ -42,9 +42,7 @@ pub(crate) fn chart(k: &[u16], ends: &mut [u16])
     requires { (length k.now ≤ desk.question) × (length k.now ≤ length ends.old) }
     ensures { ChartedFrom 0 k.now ends.new }
 {
-    let mut i = k.len();
-    while 0 < i {
-        i -= 1;
+    for i in (0..k.len()).rev() {
         let e = end_by_parts(k, ends, i);
         store(ends, i, e);
     }

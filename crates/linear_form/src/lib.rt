@@ -21,10 +21,9 @@ ghost use Rattle.linear_form.specs.Walks.{Widened, Enclosed, Handed, closes, joi
 
 use adding::{Kept, Spot, add_row, count, keeping, kept_len, result_len};
 use chart::{chart, expression_end};
+use language::Refusal;
 use language::limits::QUESTION;
-use plans::Size;
 use slices::copy;
-use taking::Stepped;
 use views::{Shape, show_membership};
 use words::word;
 
@@ -35,11 +34,12 @@ pub struct Outside {
     pub words: usize,
 }
 
-// Of an expression whose results were counted: whether it is nullable, and how many words the results take up to those of its monomials.
+// Of an expression whose results were counted: whether it is nullable, and how many words the results take up to those of its monomials, if none of
+// them is too long.
 #[derive(Clone, Copy)]
 pub struct Counted {
     pub null: bool,
-    pub size: Size,
+    pub size: Option<usize>,
 }
 
 // Of an expression whose results were written: whether it is nullable, and the place after those of its monomials.
@@ -121,7 +121,14 @@ fn join(x: u16, a: bool, b: bool) -> bool
 }
 
 // Passes the expression at a place, and counts the results of its monomials as it meets them, each of which keeps so many words.
-fn tally(k: &[u16], ends: &[u16], kept: usize, at: usize, o: Outside, size: Size) -> Counted
+fn tally(
+    k: &[u16],
+    ends: &[u16],
+    kept: usize,
+    at: usize,
+    o: Outside,
+    size: Option<usize>,
+) -> Counted
     requires { (length k.now ≤ desk.question) × ChartedFrom 0 k.now ends.now × (kept ≤ 4 * desk.question + 3) × (o.parts ≤ at) × (o.words ≤ desk.question * at) }
     ensures { Tallies k.now kept at o size result }
 {
@@ -221,8 +228,8 @@ fn walk(
     Walked { null, to: second }
 }
 
-// How many words M2's results take, each in its frame, whatever their number; or that one of them is too long.
-fn size_monomials(k: &[u16], s: Shape) -> Size
+// How many words M2's results take, each in its frame, whatever their number; none where one of them is too long.
+fn size_monomials(k: &[u16], s: Shape) -> Option<usize>
     requires k_len_bound { length k.now ≤ desk.question }
     requires membership_at { MembershipAt k.now s }
     ensures { Sized k.now s result }
@@ -232,7 +239,7 @@ fn size_monomials(k: &[u16], s: Shape) -> Size
     chart(k, &mut ends);
     let kept = kept_len(k, t);
     let o = Outside { parts: 0, words: 0 };
-    let w = tally(k, &ends, kept, s.expr, o, Size::Fits(0));
+    let w = tally(k, &ends, kept, s.expr, o, Some(0));
     w.size
 }
 
@@ -251,28 +258,24 @@ fn write_monomials(k: &[u16], s: Shape, number: u16, out: &mut [u16], at: usize)
     w.to
 }
 
-// The results of M2 at the membership at a place, right before `next`.
+// The results of M2 at the membership at a place, right before `next`; the answer is the place where they begin.
 pub fn step_monomials(
     k: &[u16],
     literal: usize,
     number: u16,
     out: &mut [u16],
     next: usize,
-) -> Stepped
+) -> Result<usize, Refusal>
     requires k_len_bound { (length k.now ≤ desk.question) × (literal < length k.now) × (next ≤ length out.old) × (next ≤ desk.room) }
     requires some_membership { SomeMembership k.now literal }
     ensures { (before : Conj) (h : Hedge) (R : Expr) (behind : Conj) → LiteralAt k.now literal before (mem h R) behind → Took number (monomial_words before h R behind) out.old next result out.new }
 {
     let s = show_membership(k, literal);
-    match size_monomials(k, s) {
-        Size::Over => Stepped::Long,
-        Size::Fits(n) => {
-            if next < n {
-                return Stepped::Room;
-            }
-            let at = next - n;
-            write_monomials(k, s, number, out, at);
-            Stepped::Done(at)
-        }
+    let n = size_monomials(k, s).ok_or(Refusal::LongResult)?;
+    if next < n {
+        return Err(Refusal::LongWaiting);
     }
+    let at = next - n;
+    write_monomials(k, s, number, out, at);
+    Ok(at)
 }

@@ -17,12 +17,10 @@ pub fn literal_place(k: &[u16], number: usize) -> usize
     ensures { (c : Conj) → fine_conj desk c → k.now ≡ conj_words c → result ≡ words_before number c }
 {
     let mut i = 0;
-    let mut left = number;
-    while i < k.len() {
-        if left == 0 {
+    for _ in 0..number {
+        if k.len() <= i {
             return i;
         }
-        left -= 1;
         i = next_literal(k, i);
     }
     i
@@ -34,6 +32,7 @@ pub fn literal_number(k: &[u16], at: usize) -> usize
     requires some_literal { SomeLiteral k.now at }
     ensures { (result ≤ at) × ((before : Conj) (l : Literal) (behind : Conj) → LiteralAt k.now at before l behind → result ≡ length before) }
 {
+    // kept: the walk goes on where next_literal says, so no range gives its places; n counts the literals passed
     let mut n = 0;
     let mut i = 0;
     while i < at {

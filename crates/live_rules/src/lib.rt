@@ -43,13 +43,11 @@ fn laid(sheet: &[u8], n: usize) -> bool
     ensures { result ≡ rules_laid n 2 (words_of sheet.now) }
 {
     let mut at: usize = 2;
-    let mut i: usize = 0;
-    while i < n {
+    for i in 0..n {
         if !rule_fits(sheet, at) {
             return false;
         }
         at = rule_end(sheet, at);
-        i += 1;
     }
     at == sheet.len() / 2
 }

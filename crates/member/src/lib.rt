@@ -38,6 +38,7 @@ struct Step {
 }
 
 // The place after an expression, the place after what was written, and whether there was no room for all.
+// kept: both places are used where it is full too, so that an Option would lose them.
 #[derive(Clone, Copy)]
 struct Fitted {
     pub end: usize,
@@ -53,6 +54,7 @@ struct Joined {
 }
 
 // Whether one of an expression's symbols will do; where none does, the place after it.
+// kept: the place goes with the answer no, so that an Option would say None for yes.
 #[derive(Clone, Copy)]
 struct Tried {
     pub end: usize,

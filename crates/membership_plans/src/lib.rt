@@ -4,28 +4,14 @@
 ghost use Rattle.std.specs.Prelude.{◌≡◌};
 ghost use Rattle.language.specs.declared.Signature.{Signature};
 ghost use Rattle.rules.specs.Rules.{M5, M6, M7, M12};
-ghost use Rattle.plans.specs.Slots.{drop_plan};
 ghost use Rattle.membership_plans.specs.Recipes.{r2_plan, m1_plan, m3_first, m3_second, m3_plan, member_in, m4_plan, m11_plan, reordered, m12_plan, m5_first, m5_second, shared, halved, m10_plan, expr_inner, mid_of};
 ghost use Rattle.membership_plans.specs.Planned.{Is, Answered, RuleApplies};
 
 use finds::all_terms;
 use plans::{Piece, Plan, Recipe, Ways, Within, inner};
-use recipes::{few, full};
+use recipes::{few, full, plan_drop, single};
 use rules::places::{AT_M1, AT_M3, AT_M4, AT_M5, AT_M6, AT_M7, AT_M10, AT_M11, AT_M12, AT_R2};
 use views::Shape;
-
-// No result.
-fn plan_drop() -> Plan
-    ensures { result ≡ drop_plan }
-{
-    let none = Piece::Copy(0, 0);
-    let first = few(none, none, none, none, none, 0, 0, 0);
-    Plan {
-        ways: Ways::Drop,
-        first,
-        second: first,
-    }
-}
 
 // One membership: the hedge from..to in the expression start..end.
 fn member_in(s: Shape, from: usize, to: usize, start: usize, end: usize) -> Recipe
@@ -58,11 +44,7 @@ fn plan_r2(s: Shape) -> Plan
         0,
         0,
     );
-    Plan {
-        ways: Ways::One(0),
-        first,
-        second: first,
-    }
+    single(Ways::One(0), first)
 }
 
 // p = ε for each place of a hedge variable, which vanishes everywhere else.
@@ -82,11 +64,7 @@ fn plan_m1(k: &[u16], s: Shape) -> Plan
         part.to,
         0,
     );
-    Plan {
-        ways: Ways::One(0),
-        first,
-        second: first,
-    }
+    single(Ways::One(0), first)
 }
 
 // p in f(R), H = ε.
@@ -159,11 +137,7 @@ fn plan_m4(k: &[u16], s: Shape) -> Plan
     let h = s.h;
     let part = inner(k, s.expr, s.end);
     let first = member_in(s, h.from, h.to, part.from, s.end);
-    Plan {
-        ways: Ways::One(0),
-        first,
-        second: first,
-    }
+    single(Ways::One(0), first)
 }
 
 // H in R.
@@ -174,11 +148,7 @@ fn plan_m11(k: &[u16], s: Shape) -> Plan
     let children = inner(k, h.from, h.to);
     let part = inner(k, s.expr, s.end);
     let first = member_in(s, children.from, children.to, part.from, s.end);
-    Plan {
-        ways: Ways::One(0),
-        first,
-        second: first,
-    }
+    single(Ways::One(0), first)
 }
 
 // T' in R for each order T' of the n elements of T.
@@ -203,11 +173,7 @@ fn reorder(s: Shape, children: Within, part: Within, n: usize) -> Plan
         0,
         0,
     );
-    Plan {
-        ways: Ways::Orders(n),
-        first,
-        second: first,
-    }
+    single(Ways::Orders(n), first)
 }
 
 // The terms of T are counted.
@@ -326,11 +292,7 @@ fn plan_m10(k: &[u16], s: Shape) -> Plan
         left.from,
         s.expr,
     );
-    Plan {
-        ways: Ways::One(right.from),
-        first,
-        second: first,
-    }
+    single(Ways::One(right.from), first)
 }
 
 // The results of the rule of that place in the list, which applies; M2's are made by monomials, and have no plan.

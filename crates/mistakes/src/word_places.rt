@@ -12,8 +12,7 @@ const AROUND: usize = 8;
 // Whether a text has more than n words.
 fn has_more(text: &[u8], n: usize) -> bool {
     let mut words = [0u16; 2 * QUESTION];
-    let t = parse(text, &mut words);
-    n < t.words
+    n < parse(text, &mut words).words
 }
 
 // A place of a text, halfway between two.
@@ -38,39 +37,24 @@ fn beginning(text: &[u8], n: usize) -> usize
             low = middle + 1;
         }
     }
-    if low > 0 { low - 1 } else { 0 }
-}
-
-fn is_digit(b: u8) -> bool {
-    if b < b'0' {
-        return false;
-    }
-    b <= b'9'
+    low.saturating_sub(1)
 }
 
 // Where the digits end that begin at a place.
-fn ending(text: &[u8], from: usize) -> usize
-    ensures { from ≤ result }
-{
-    let mut i = from;
-    while i < text.len() {
-        if !is_digit(text[i]) {
+fn ending(text: &[u8], from: usize) -> usize {
+    for i in from..text.len() {
+        if !text[i].is_ascii_digit() {
             return i;
         }
-        i += 1;
     }
-    i
-}
-
-fn most(a: usize, b: usize) -> usize {
-    if a < b { b } else { a }
+    text.len()
 }
 
 // Says where word n of a text stands, or what is right behind it, and shows the words around it. The text's name is said before.
 pub(crate) fn point(err: Stderr, text: &[u8], n: usize, past: bool) {
     let word = beginning(text, n);
     let at = if past { ending(text, word) } else { word };
-    let first = beginning(text, if n < AROUND { 0 } else { n - AROUND });
-    let last = beginning(text, if n < QUESTION { n + AROUND } else { n });
-    point_at(err, text, at, first, ending(text, most(last, at)), b'#');
+    let first = beginning(text, n.saturating_sub(AROUND));
+    let last = beginning(text, n.saturating_add(AROUND));
+    point_at(err, text, at, first, ending(text, last.max(at)), b'#');
 }

@@ -2,13 +2,14 @@
 use mathlib.Core.Path.{◌≡◌, sym, ap, ◌∙◌}
 use mathlib.Core.List.{List}
 use Prim.Native.Nat.{ℕ}
+use Rattle.std.specs.Prelude.{Result}
 use Rattle.language.proofs.Determined.{Determined}
-use Rattle.named_steps.specs.declared.Stepping.{Stepping}
+use Rattle.language.specs.declared.Refusal.{Refusal}
 use Rattle.named_steps.specs.contracts.step_named as step_named-contract
 use Rattle.named_steps.proofs.step_named.Reads as step_named-reads
 
 abbrev Left : Type 0
-Left = Stepping × List ℕ
+Left = Result ℕ Refusal × List ℕ
 
 step_named-determined : Determined step_named-contract.ended step_named-reads.Pre step_named-reads.Post
 step_named-determined κs a p o q e d =

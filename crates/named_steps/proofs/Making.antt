@@ -7,6 +7,7 @@ use mathlib.Core.List.{List, [], ◌∷◌, ◌++◌, map}
 use lib.Dec.{ltb}
 use lib.ListN.{length, length-append}
 use borrow.Author.Tests.{lt-ltb, le-ltb}
+use Rattle.std.specs.Prelude.{Some, Result, Ok, Err}
 use Rattle.language.specs.declared.Refusal.{Refusal}
 use Rattle.language.specs.declared.Refusal.TheVariants.{LongResult, LongWaiting, BadStep}
 use Rattle.language.specs.declared.Signature.{Signature}
@@ -18,22 +19,15 @@ use Rattle.rules.specs.Reply.{Reply, nothing, results, stops}
 use Rattle.rules.specs.Run.{all_of, waiting_size}
 use Rattle.replay.specs.Replay.{Triple}
 use Rattle.plans.specs.Sizes.{sized}
-use Rattle.plans.specs.declared.Size.TheVariants.{Fits}
 use Rattle.taking.proofs.Sizing.{fits-exact, fits-past, over-any_long, fits-any_long}
 use Rattle.views.specs.Standing.{LiteralAt}
 use Rattle.views.proofs.LiteralWalks.{stands_here, literal-some}
 use Rattle.search.specs.declared.Best.{Best}
 use Rattle.steps.specs.Asking.{RuleAt}
-use Rattle.taking.specs.declared.Stepped.{Stepped}
-use Rattle.taking.specs.declared.Stepped.TheVariants.{Long, Room, Done}
 use Rattle.taking.specs.Taking.{Took, long, room, done}
-use Rattle.telling.specs.declared.Chosen.{Chosen}
-use Rattle.telling.specs.declared.Chosen.TheVariants.{Step, Not}
 use Rattle.telling.specs.Telling.{named_reply, chosen_of, chosen_by, Applies}
 use Rattle.telling.specs.Telling as telling
 use Rattle.telling.proofs.Laws.{named-applies}
-use Rattle.named_steps.specs.declared.Stepping.{Stepping}
-use Rattle.named_steps.specs.declared.Stepping.TheVariants.{Made, Refused}
 use Rattle.named_steps.specs.Naming.{Naming, made, given-up, checked, replied, named_at}
 use Rattle.named_steps.specs.Leaves.{result_words, Leaves, refuses, makes}
 
@@ -45,8 +39,8 @@ pub record Chooses (σ : Signature) (c : Conj) (t : Triple) (b : Best) : Type 0 
   pub applies : Applies σ c b ks
   pub reply : named_reply σ t c ≡ results ks
 
-module _ (σ : Signature) (c : Conj) (t : Triple) (r : Chosen) (chosen : r ≡ chosen_by σ c t) where
-  pub chosen-step : (b : Best) → r ≡ Step b → Chooses σ c t b
+module _ (σ : Signature) (c : Conj) (t : Triple) (r : Result Best Refusal) (chosen : r ≡ chosen_by σ c t) where
+  pub chosen-step : (b : Best) → r ≡ Ok b → Chooses σ c t b
   unfolding chosen_by
   chosen-step b e = go (named_reply σ t c) refl chosen
     where
@@ -57,7 +51,7 @@ module _ (σ : Signature) (c : Conj) (t : Triple) (r : Chosen) (chosen : r ≡ c
           let z : telling.named c t ≡ b = cc in
           record { ks = ks; applies = subst (λ x. Applies σ c x ks) z (named-applies σ c t ks i); reply = i }
 
-  pub chosen-not : (number : ℕ) (x : Refusal) → r ≡ Not x → named_at desk number σ t c ≡ given-up x
+  pub chosen-not : (number : ℕ) (x : Refusal) → r ≡ Err x → named_at desk number σ t c ≡ given-up x
   unfolding chosen_by
   chosen-not number x e = go (named_reply σ t c) refl chosen
     where
@@ -97,45 +91,28 @@ waiting-words number (k ∷ ks) =
 abbrev checked_by : Bool → Bool → List Conj → Naming
 checked_by a b ks = elim a [ true ↦ given-up LongResult | false ↦ elim b [ true ↦ given-up LongWaiting | false ↦ made ks ] ]
 
-module _ (number : ℕ) (ks : List Conj) (old new : List ℕ) (r : Stepped) (took : Took number (map conj_words ks) old desk.room r new) where
+module _ (number : ℕ) (ks : List Conj) (old new : List ℕ) (r : Result ℕ Refusal) (took : Took number (map conj_words ks) old desk.room r new) where
   abbrev v : Naming
   v = checked desk number ks
 
-  pub leaves-long : r ≡ Long → Leaves number v old (Refused LongResult) new
-  leaves-long e = go took
-    where
-      go : Took number (map conj_words ks) old desk.room r new → Leaves number v old (Refused LongResult) new
-      go (long d o y) = refuses LongResult refl (ap (λ a. checked_by a (ltb desk.room (waiting_size (all_of number ks))) ks) (over-any_long ks (map conj_words ks) refl o)) y
-      go (room n d o i y) = absurd (let z : ◌≡◌ {A = ℕ} 0 1 = cc in omega arith)
-      go (done n at d o i y) = absurd (let z : ◌≡◌ {A = ℕ} 0 1 = cc in omega arith)
-
   -- 7 does not hold
-  fits : (n : ℕ) → sized (map conj_words ks) ≡ Fits n → v ≡ checked_by false (ltb desk.room (waiting_size (all_of number ks))) ks
+  fits : (n : ℕ) → sized (map conj_words ks) ≡ Some n → v ≡ checked_by false (ltb desk.room (waiting_size (all_of number ks))) ks
   fits n o = ap (λ a. checked_by a (ltb desk.room (waiting_size (all_of number ks))) ks) (fits-any_long ks (map conj_words ks) refl n o)
 
-  pub leaves-room : r ≡ Room → Leaves number v old (Refused LongWaiting) new
-  leaves-room e = go took
+  pub leaves-taken : Leaves number v old r new
+  leaves-taken = go took
     where
-      go : Took number (map conj_words ks) old desk.room r new → Leaves number v old (Refused LongWaiting) new
-      go (long d o y) = absurd (let z : ◌≡◌ {A = ℕ} 0 1 = cc in omega arith)
+      go : Took number (map conj_words ks) old desk.room r new → Leaves number v old r new
+      go (long d o y) = refuses LongResult d (ap (λ a. checked_by a (ltb desk.room (waiting_size (all_of number ks))) ks) (over-any_long ks (map conj_words ks) refl o)) y
       go (room n d o i y) =
           let x = fits-past number (map conj_words ks) n o i in
           let w = waiting-words number ks in
-          refuses LongWaiting refl (fits n o ∙ ap (λ b. checked_by false b ks) (lt-ltb desk.room (waiting_size (all_of number ks)) (omega arith))) y
-      go (done n at d o i y) = absurd (let z : ◌≡◌ {A = ℕ} 0 1 = cc in omega arith)
-
-  pub leaves-done : (at : ℕ) → r ≡ Done at → Leaves number v old (Made at) new
-  leaves-done at e = go took
-    where
-      go : Took number (map conj_words ks) old desk.room r new → Leaves number v old (Made at) new
-      go (long d o y) = absurd (let z : ◌≡◌ {A = ℕ} 0 1 = cc in omega arith)
-      go (room n d o i y) = absurd (let z : ◌≡◌ {A = ℕ} 0 1 = cc in omega arith)
-      go (done n a d o i y) =
-          let j : a ≡ at = cc in
+          refuses LongWaiting d (fits n o ∙ ap (λ b. checked_by false b ks) (lt-ltb desk.room (waiting_size (all_of number ks)) (omega arith))) y
+      go (done n at d o i y) =
           let x = fits-exact number (map conj_words ks) n o (omega arith) in
           let w = waiting-words number ks in
-          makes ks a (ap Made (sym j)) (fits n o ∙ ap (λ b. checked_by false b ks) (le-ltb desk.room (waiting_size (all_of number ks)) (omega arith))) (omega arith) y
+          makes ks at d (fits n o ∙ ap (λ b. checked_by false b ks) (le-ltb desk.room (waiting_size (all_of number ks)) (omega arith))) (omega arith) y
 
 -- by the reply
-pub leaves-as : (number : ℕ) (v u : Naming) (old : List ℕ) (r : Stepping) (new : List ℕ) → v ≡ u → Leaves number u old r new → Leaves number v old r new
+pub leaves-as : (number : ℕ) (v u : Naming) (old : List ℕ) (r : Result ℕ Refusal) (new : List ℕ) → v ≡ u → Leaves number u old r new → Leaves number v old r new
 leaves-as number v u old r new e p = subst (λ x. Leaves number x old r new) (sym e) p

@@ -7,6 +7,7 @@ use mathlib.Core.List.{List, [], ◌∷◌, ◌++◌, map, append_assoc, append-
 use lib.ListN.{length, take, drop, replicate, get_or, length-append, length-drop, length-replicate, replicate-append-replicate}
 use lib.Seq.{sets, sets-eq, take_at, drop_at}
 use borrow.Author.Tests.{lt-ltb, le-ltb}
+use Rattle.std.specs.Prelude.{Result, Ok, Err}
 use Rattle.language.specs.declared.Refusal.{Refusal}
 use Rattle.language.specs.declared.Refusal.TheVariants.{ShortSlice, CountRange}
 use Rattle.language.specs.declared.Signature.{Signature}
@@ -25,11 +26,7 @@ use Rattle.header.specs.Heading.{header_of}
 use Rattle.reader.specs.Checking.{checked, asked_numbers}
 use Rattle.reader.proofs.Answers.{as-checked, question-asked, question-refused}
 use Rattle.outcomes.specs.Numbers.{checked_numbers}
-use Rattle.outcomes.specs.declared.Checked.{Checked}
-use Rattle.outcomes.specs.declared.Checked.TheVariants.{Fine, Refused}
 use Rattle.replay.specs.Replay.{Triple}
-use Rattle.named_steps.specs.declared.Stepping.{Stepping}
-use Rattle.named_steps.specs.declared.Stepping.TheVariants as stepping
 use Rattle.named_steps.specs.Naming.{Naming, unread, named_at, of_one, naming_of, naming}
 use Rattle.named_steps.specs.Leaves.{result_words, begins, room_of, leaves, Leaves, makes}
 use Rattle.named_steps.specs.Leaves as left
@@ -59,7 +56,7 @@ pub record One (ws : List ℕ) : Type 0 where
   pub short : length (between 7 (length ws) ws) ≤ desk.question
   pub asked : (number : ℕ) (t : Triple) → naming_of desk number t (read_question desk ws) ≡ named_at desk number (signature (counts_of ws)) t conj
 
-module _ (ws : List ℕ) (e : Fine ≡ checked (read_question desk ws)) where
+module _ (ws : List ℕ) (e : Ok tt ≡ checked (read_question desk ws)) where
   abbrev q : Question
   q = (question-asked ws e).0
 
@@ -98,12 +95,16 @@ module _ (ws : List ℕ) (e : Fine ≡ checked (read_question desk ws)) where
       }
 
 -- the same from what the calls said
-module _ (ws : List ℕ) (r : Checked) (n : checked_numbers r ≡ asked_numbers (read_question desk ws)) (e : r ≡ Fine) where
-  pub was-fine : Fine ≡ checked (read_question desk ws)
+module _ (ws : List ℕ) (r : Result (Unit {0}) Refusal) (n : checked_numbers r ≡ asked_numbers (read_question desk ws)) (e : r ≡ Ok tt) where
+  pub was-fine : Ok tt ≡ checked (read_question desk ws)
   was-fine = sym e ∙ as-checked r (read_question desk ws) n
 
   pub is_one : (h : Header) → h ≡ header_of ws → h.alternatives ≡ 1 → One ws
   is_one h d k = of_one_lem ws was-fine (sym (ap (λ (h : Header). h.alternatives) d) ∙ k)
+
+-- what comes back, and what the lent slice then holds
+abbrev pub Left : Type 0
+Left = Result ℕ Refusal × List ℕ
 
 -- ---- before the step
 
@@ -111,7 +112,7 @@ module _ (number : ℕ) (t : Triple) (ws work : List ℕ) where
   abbrev by : Bool → Naming
   by b = elim b [ true ↦ unread ShortSlice | false ↦ naming_of desk number t (read_question desk ws) ]
 
-  pub unread-leaves : (x : Refusal) → naming desk (length work) number t ws ≡ unread x → (stepping.Refused x, work) ≡ leaves number (naming desk (length work) number t ws) work
+  pub unread-leaves : (x : Refusal) → naming desk (length work) number t ws ≡ unread x → ◌≡◌ {A = Left} (Err x, work) (leaves number (naming desk (length work) number t ws) work)
   unread-leaves x e = sym (ap (λ v. leaves number v work) e)
 
   pub short-work : length work < desk.room → naming desk (length work) number t ws ≡ unread ShortSlice
@@ -122,7 +123,7 @@ module _ (number : ℕ) (t : Triple) (ws work : List ℕ) where
   unfolding naming
   long-work h = ap by (le-ltb (length work) desk.room h)
 
-  pub refused-unread : (x : Refusal) → Refused x ≡ checked (read_question desk ws) → naming_of desk number t (read_question desk ws) ≡ unread x
+  pub refused-unread : (x : Refusal) → Err x ≡ checked (read_question desk ws) → naming_of desk number t (read_question desk ws) ≡ unread x
   refused-unread x e = ap (naming_of desk number t) (question-refused ws x e)
 
 -- ---- after the step, in a cleared room
@@ -146,10 +147,10 @@ room-kept : (work vs : List ℕ) (at : ℕ) → at + length vs ≡ desk.room →
 unfolding zeros
 room-kept work vs at e = zeros-before desk.room at vs (drop desk.room work) e
 
-pub step-leaves : (number : ℕ) (v : Naming) (work : List ℕ) (r : Stepping) (old new : List ℕ) → old ≡ cleared work → Leaves number v old r new → (r, new) ≡ leaves number v work
+pub step-leaves : (number : ℕ) (v : Naming) (work : List ℕ) (r : Result ℕ Refusal) (old new : List ℕ) → old ≡ cleared work → Leaves number v old r new → (r, new) ≡ leaves number v work
 step-leaves number v work r old new e (left.refuses x d i y) =
-    ap (λ r. (r, new)) d ∙ ap (λ n. (stepping.Refused x, n)) (y ∙ e) ∙ sym (ap (λ v. leaves number v work) i)
+    ap (λ r. (r, new)) d ∙ ap {B = Left} (λ n. (Err x, n)) (y ∙ e) ∙ sym (ap (λ v. leaves number v work) i)
 step-leaves number v work r old new e (makes ks at d i g y) =
     let z : at ≡ begins (result_words number ks) = omega arith in
-    ap (λ r. (r, new)) (d ∙ ap stepping.Made z) ∙ ap (λ n. (stepping.Made (begins (result_words number ks)), n)) (y ∙ ap (λ o. sets o at (result_words number ks)) e ∙ room-kept work (result_words number ks) at g)
+    ap (λ r. (r, new)) (d ∙ ap {B = Result ℕ Refusal} Ok z) ∙ ap {B = Left} (λ n. (Ok (begins (result_words number ks)), n)) (y ∙ ap (λ o. sets o at (result_words number ks)) e ∙ room-kept work (result_words number ks) at g)
     ∙ sym (ap (λ v. leaves number v work) i)

@@ -14,21 +14,12 @@ ghost use Rattle.named_steps.specs.Leaves.{Leaves, leaves};
 use header::read_header;
 use language::limits::ROOM;
 use language::{Refusal, Signature};
-use outcomes::Checked;
 use reader::read_question;
 use slices::clear;
 use steps::take_step;
-use taking::Stepped;
-use telling::{Chosen, named_step};
+use telling::named_step;
 
-// Where the results begin, or why there are none.
-#[derive(Clone, Copy)]
-pub enum Stepping {
-    Made(usize),
-    Refused(Refusal),
-}
-
-// The step of these three words, its results at the end of the room.
+// The step of these three words, its results at the end of the room; the answer is where they begin.
 fn make_step(
     k: &[u16],
     s: Signature,
@@ -37,25 +28,19 @@ fn make_step(
     literal: u16,
     side: u16,
     work: &mut [u16],
-) -> Stepping
+) -> Result<usize, Refusal>
     requires k_len_bound { (length k.now ≤ desk.question) × (desk.room ≤ length work.old) }
     requires conjunction { Conjunction k.now }
     ensures { (c : Conj) → fine_conj desk c → k.now ≡ conj_words c → Leaves number (named_at desk number s (triple_of rule literal side) c) work.old result work.new }
 {
-    match named_step(k, rule, literal, side, s) {
-        Chosen::Not(r) => Stepping::Refused(r),
-        Chosen::Step(b) => match take_step(k, b, s, number, work, ROOM) {
-            Stepped::Long => Stepping::Refused(Refusal::LongResult),
-            Stepped::Room => Stepping::Refused(Refusal::LongWaiting),
-            Stepped::Done(at) => Stepping::Made(at),
-        },
-    }
+    let b = named_step(k, rule, literal, side, s)?;
+    take_step(k, b, s, number, work, ROOM)
 }
 
 // The words of a question of one conjunction stand behind its header and its two offsets.
 const BODY: usize = 7;
 
-// Makes one named step of a question of one conjunction: what comes back, and what the lent slice then holds, is what `naming` says of them.
+// Makes one named step of a question of one conjunction. What comes back, where the results begin or why there are none, and what the lent slice then holds, is what `naming` says of them.
 pub fn step_named(
     question: &[u16],
     number: u16,
@@ -63,18 +48,18 @@ pub fn step_named(
     literal: u16,
     side: u16,
     work: &mut [u16],
-) -> Stepping
+) -> Result<usize, Refusal>
     ensures { (result, work.new) ≡ leaves number (naming desk (length work.old) number (triple_of rule literal side) question.now) work.old }
 {
     if work.len() < ROOM {
-        return Stepping::Refused(Refusal::ShortSlice);
+        return Err(Refusal::ShortSlice);
     }
     match read_question(question) {
-        Checked::Refused(r) => Stepping::Refused(r),
-        Checked::Fine => {
+        Err(r) => Err(r),
+        Ok(()) => {
             let h = read_header(question);
             if h.alternatives != 1 {
-                return Stepping::Refused(Refusal::CountRange);
+                return Err(Refusal::CountRange);
             }
             let s = Signature {
                 symbols: h.symbols,

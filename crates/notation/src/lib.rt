@@ -2,303 +2,296 @@
 // symbol, a1~ one whose parts come in any order, () nothing at all. Where it came as a text, all is written as a text is, in that text's own names.
 #![tactic(auto)]
 
-ghost use Rattle.std.specs.Prelude.{◌≤◌};
+ghost use Rattle.std.specs.Prelude.{◌≤◌, ◌/◌, ◌%◌, ◌≡◌};
 
 mod names;
 
-use language::{Kind, Signature, Sym, classify, is_unordered, wide};
-use names::{FUNCTIONS, HEDGES, SYMBOLS, TERMS, is_text, name};
-use print::{number, say};
+use language::{Kind, Signature, Sym, classify, is_unordered};
+use names::Sort;
+use print::say;
 use spans::element_end;
 use std::io::Stdout;
 use words::word;
 
-// A symbol, with a mark where it is unordered.
-fn symbol(out: Stdout, s: Signature, names: &[u8], f: Sym) {
-    name(out, names, SYMBOLS, wide(f.0), b"", b"a");
-    if is_unordered(s, f) {
-        say(out, b"~");
-    }
+// How much of an expression can stand at a place of a text without brackets: a list of choices, a choice, or less. For a question of words all have them.
+#[derive(Clone, Copy)]
+enum Level {
+    Listed,
+    Choice,
+    Tight,
 }
 
-// The name of a variable or a symbol.
-pub fn named(out: Stdout, s: Signature, names: &[u8], w: u16) {
-    match classify(w) {
-        Kind::Term(x) => name(out, names, TERMS, wide(x.0), b"?", b"x"),
-        Kind::Run(p) => name(out, names, HEDGES, wide(p.0), b"*", b"p"),
-        Kind::Symbol(f) => symbol(out, s, names, f),
-        Kind::Function(f) => name(out, names, FUNCTIONS, wide(f.0), b"%", b"X"),
-        _ => number(out, w as u64),
+impl Level {
+    // Whether brackets stand around an expression there.
+    fn brackets(self, kind: Kind) -> bool {
+        match kind {
+            Kind::Cat => !matches!(self, Level::Listed),
+            Kind::Alt => matches!(self, Level::Tight),
+            _ => false,
+        }
     }
-}
-
-// The name of variable i of a filling: term, hedge, function variables in order.
-pub fn variable(out: Stdout, names: &[u8], i: usize, terms: usize, hedges: usize) {
-    if i < terms {
-        name(out, names, TERMS, i, b"?", b"x");
-        return;
-    }
-    let j = i - terms;
-    if j < hedges {
-        name(out, names, HEDGES, j, b"*", b"p");
-        return;
-    }
-    name(out, names, FUNCTIONS, j - hedges, b"%", b"X");
 }
 
 // Whether a word has children, and a 0 behind them.
 fn has_children(w: u16) -> bool {
-    match classify(w) {
-        Kind::Symbol(_) => true,
-        Kind::Function(_) => true,
-        _ => false,
-    }
-}
-
-// A comma where another element follows.
-fn comma(out: Stdout, ws: &[u16], at: usize) {
-    if word(ws, at) != 0 {
-        say(out, b", ");
-    }
+    matches!(classify(w), Kind::Symbol(_) | Kind::Function(_))
 }
 
 // Whether children follow this word.
 fn opens(ws: &[u16], at: usize, w: u16) -> bool {
-    if has_children(w) {
-        return word(ws, at) != 0;
-    }
-    false
-}
-
-fn forward(ws: &[u16], at: usize) -> usize
-    ensures { at ≤ result }
-{
-    if at < ws.len() { at + 1 } else { at }
+    has_children(w) && word(ws, at) != 0
 }
 
 // The place after an element without children: a symbol or a function variable has a 0 of its own.
 fn after(ws: &[u16], at: usize, w: u16) -> usize
     ensures { at ≤ result }
 {
-    if has_children(w) {
-        return forward(ws, at);
+    if has_children(w) && at < ws.len() {
+        return at + 1;
     }
     at
-}
-
-// A hedge; the place after its 0.
-fn past_hedge(out: Stdout, s: Signature, names: &[u8], ws: &[u16], from: usize) -> usize
-    ensures { from ≤ result }
-{
-    let mut at = from;
-    let mut depth: usize = 0;
-    if word(ws, from) == 0 {
-        say(out, b"()");
-    }
-    while at < ws.len() {
-        let w = ws[at];
-        at += 1;
-        if w == 0 {
-            if depth == 0 {
-                return at;
-            }
-            depth -= 1;
-            say(out, b")");
-            comma(out, ws, at);
-        } else {
-            named(out, s, names, w);
-            if opens(ws, at, w) {
-                say(out, b"(");
-                depth += 1;
-            } else {
-                at = after(ws, at, w);
-                comma(out, ws, at);
-            }
-        }
-    }
-    at
-}
-
-// Whether a side is several elements in a text, where brackets stand around them.
-fn is_row(names: &[u8], ws: &[u16], from: usize) -> bool {
-    if word(ws, from) == 0 {
-        return false;
-    }
-    if is_text(names) {
-        return word(ws, element_end(ws, from)) != 0;
-    }
-    false
-}
-
-fn bracket(out: Stdout, stands: bool, text: &[u8]) {
-    if stands {
-        say(out, text);
-    }
-}
-
-// A hedge as a side; the place after its 0.
-fn side(out: Stdout, s: Signature, names: &[u8], ws: &[u16], from: usize) -> usize
-    ensures { from ≤ result }
-{
-    let row = is_row(names, ws, from);
-    bracket(out, row, b"(");
-    let end = past_hedge(out, s, names, ws, from);
-    bracket(out, row, b")");
-    end
-}
-
-// The hedge that begins here.
-pub fn hedge(out: Stdout, s: Signature, names: &[u8], ws: &[u16], from: usize) {
-    side(out, s, names, ws, from);
-}
-
-// How much of an expression can stand at a place of a text without brackets: a list of choices, a choice, or less. For a question of words all have them.
-const LISTED: u8 = 0;
-
-const CHOICE: u8 = 1;
-
-const TIGHT: u8 = 2;
-
-fn level(names: &[u8], of_text: u8) -> u8 {
-    if is_text(names) { of_text } else { TIGHT }
-}
-
-// That of the first part of an expression that begins with this word, and that of the second.
-fn first_level(names: &[u8], w: u16) -> u8 {
-    match w {
-        7001 => level(names, CHOICE),
-        7002 => TIGHT,
-        7003 => TIGHT,
-        _ => level(names, LISTED),
-    }
-}
-
-fn second_level(names: &[u8], w: u16) -> u8 {
-    if w == 7001 {
-        return level(names, LISTED);
-    }
-    level(names, CHOICE)
-}
-
-// Whether brackets stand around it.
-fn is_bracketed(w: u16, level: u8) -> bool {
-    match w {
-        7001 => LISTED < level,
-        7002 => CHOICE < level,
-        _ => false,
-    }
-}
-
-// A sign of expressions: that of texts, or that for a question of words.
-fn sign<'a>(out: Stdout, names: &'a [u8], of_text: &'a [u8], of_words: &'a [u8]) {
-    if is_text(names) {
-        say(out, of_text);
-        return;
-    }
-    say(out, of_words);
-}
-
-// What stands before the parts of an expression that begins with this word, between two of them, and behind them.
-fn before(out: Stdout, s: Signature, names: &[u8], w: u16, level: u8) {
-    match w {
-        7000 => sign(out, names, b"()", b"eps"),
-        7001 => bracket(out, is_bracketed(w, level), b"("),
-        7002 => bracket(out, is_bracketed(w, level), b"("),
-        7003 => say(out, b""),
-        _ => over(out, s, names, w),
-    }
-}
-
-fn over(out: Stdout, s: Signature, names: &[u8], w: u16) {
-    named(out, s, names, w);
-    say(out, b"(");
-}
-
-fn between(out: Stdout, names: &[u8], w: u16) {
-    if w == 7001 {
-        sign(out, names, b", ", b" . ");
-        return;
-    }
-    say(out, b" + ");
-}
-
-fn behind(out: Stdout, w: u16, level: u8) {
-    match w {
-        7001 => bracket(out, is_bracketed(w, level), b")"),
-        7002 => bracket(out, is_bracketed(w, level), b")"),
-        7003 => say(out, b"*"),
-        _ => say(out, b")"),
-    }
 }
 
 // A symbol over eps, which is written as the symbol alone.
-fn is_leaf(ws: &[u16], next: usize, w: u16) -> bool {
-    match classify(w) {
-        Kind::Symbol(_) => word(ws, next) == 7000,
-        _ => false,
-    }
+fn is_leaf(ws: &[u16], next: usize, kind: Kind) -> bool {
+    matches!(kind, Kind::Symbol(_)) && word(ws, next) == 7000
 }
 
-// An expression: R . S in a row, in a text R, S; R + S either, R* any number, a0(R) one term over R; the place after it.
-fn expression(out: Stdout, s: Signature, names: &[u8], ws: &[u16], at: usize, level: u8) -> usize
-    ensures { at ≤ result }
-{
-    if at >= ws.len() {
-        return at;
-    }
-    let w = ws[at];
-    let next = at + 1;
-    if is_leaf(ws, next, w) {
-        named(out, s, names, w);
-        return after(ws, next, w);
-    }
-    before(out, s, names, w, level);
-    if w == 7000 {
-        return next;
-    }
-    let middle = expression(out, s, names, ws, next, first_level(names, w));
-    if w == 7001 || w == 7002 {
-        between(out, names, w);
-        let end = expression(out, s, names, ws, middle, second_level(names, w));
-        behind(out, w, level);
-        return end;
-    }
-    behind(out, w, level);
-    middle
+// What trees are written out with: where to, which symbols are unordered, and the names of the text that the question came as (`names.rt`).
+#[derive(Clone, Copy)]
+pub struct Writer<'a> {
+    pub out: Stdout,
+    signature: Signature,
+    names: &'a [u8],
 }
 
-// A literal; the place after it.
-fn literal(out: Stdout, s: Signature, names: &[u8], ws: &[u16], at: usize) -> usize
-    ensures { at ≤ result }
-{
-    if at >= ws.len() {
-        return at;
+impl<'a> Writer<'a> {
+    // For a question that begins with this word, which counts its symbols.
+    pub fn new(out: Stdout, first: u16, names: &'a [u8]) -> Writer<'a>
+        ensures { (result.signature.symbols ≡ first % 256) × (result.signature.unordered ≡ first / 256) }
+    {
+        let signature = Signature {
+            symbols: first % 256,
+            unordered: first / 256,
+        };
+        Writer {
+            out,
+            signature,
+            names,
+        }
     }
-    let w = ws[at];
-    let middle = side(out, s, names, ws, at + 1);
-    if w == 5000 {
-        say(out, b" = ");
-        return side(out, s, names, ws, middle);
+
+    fn bracket(self, stands: bool, text: &[u8]) {
+        if stands {
+            say(self.out, text);
+        }
     }
-    say(out, b" in ");
-    expression(out, s, names, ws, middle, level(names, CHOICE))
-}
 
-// The literal that begins here.
-pub fn one_literal(out: Stdout, s: Signature, names: &[u8], ws: &[u16], at: usize) {
-    literal(out, s, names, ws, at);
-}
+    // A symbol, with a mark where it is unordered.
+    fn symbol(self, f: Sym) {
+        self.name(Sort::Symbol, usize::from(f.0));
+        self.bracket(is_unordered(self.signature, f), b"~");
+    }
 
-// The literals between two places, a row for each.
-pub fn literals(out: Stdout, s: Signature, names: &[u8], ws: &[u16], from: usize, to: usize) {
-    let mut at = from;
-    let mut left = to;
-    while left > from {
-        left -= 1;
-        if at < to {
-            say(out, b"  ");
-            at = literal(out, s, names, ws, at);
-            say(out, b"\n");
+    // The name of a variable or a symbol.
+    pub fn named(self, w: u16) {
+        match classify(w) {
+            Kind::Term(x) => self.name(Sort::Term, usize::from(x.0)),
+            Kind::Run(p) => self.name(Sort::Run, usize::from(p.0)),
+            Kind::Symbol(f) => self.symbol(f),
+            Kind::Function(f) => self.name(Sort::Function, usize::from(f.0)),
+            _ => {
+                let _ = print!(self.out; "{w}");
+            }
+        }
+    }
+
+    // The name of variable i of a filling: term, hedge, function variables in order.
+    pub fn variable(self, i: usize, terms: usize, hedges: usize) {
+        if i < terms {
+            self.name(Sort::Term, i);
+        } else if i - terms < hedges {
+            self.name(Sort::Run, i - terms);
+        } else {
+            self.name(Sort::Function, i - terms - hedges);
+        }
+    }
+
+    // A comma where another element follows.
+    fn comma(self, ws: &[u16], at: usize) {
+        self.bracket(word(ws, at) != 0, b", ");
+    }
+
+    // A hedge; the place after its 0.
+    fn past_hedge(self, ws: &[u16], from: usize) -> usize
+        ensures { from ≤ result }
+    {
+        let mut at = from;
+        let mut depth: usize = 0;
+        self.bracket(word(ws, from) == 0, b"()");
+        // kept: goes on by where an element ends, not by one
+        while at < ws.len() {
+            let w = ws[at];
+            at += 1;
+            if w == 0 {
+                if depth == 0 {
+                    return at;
+                }
+                depth -= 1;
+                say(self.out, b")");
+                self.comma(ws, at);
+            } else {
+                self.named(w);
+                if opens(ws, at, w) {
+                    say(self.out, b"(");
+                    depth += 1;
+                } else {
+                    at = after(ws, at, w);
+                    self.comma(ws, at);
+                }
+            }
+        }
+        at
+    }
+
+    // Whether a side is several elements in a text, where brackets stand around them.
+    fn is_row(self, ws: &[u16], from: usize) -> bool {
+        word(ws, from) != 0 && self.is_text() && word(ws, element_end(ws, from)) != 0
+    }
+
+    // A hedge as a side; the place after its 0.
+    fn side(self, ws: &[u16], from: usize) -> usize
+        ensures { from ≤ result }
+    {
+        let row = self.is_row(ws, from);
+        self.bracket(row, b"(");
+        let end = self.past_hedge(ws, from);
+        self.bracket(row, b")");
+        end
+    }
+
+    // The hedge that begins here.
+    pub fn hedge(self, ws: &[u16], from: usize) {
+        self.side(ws, from);
+    }
+
+    fn level(self, of_text: Level) -> Level {
+        if self.is_text() {
+            of_text
+        } else {
+            Level::Tight
+        }
+    }
+
+    // That of the first part of such an expression, and that of the second.
+    fn first_level(self, kind: Kind) -> Level {
+        match kind {
+            Kind::Cat => self.level(Level::Choice),
+            Kind::Alt | Kind::Star => Level::Tight,
+            _ => self.level(Level::Listed),
+        }
+    }
+
+    fn second_level(self, kind: Kind) -> Level {
+        match kind {
+            Kind::Cat => self.level(Level::Listed),
+            _ => self.level(Level::Choice),
+        }
+    }
+
+    // A sign of expressions: that of texts, or that for a question of words.
+    fn sign(self, of_text: &str, of_words: &str) {
+        let sign = if self.is_text() { of_text } else { of_words };
+        let _ = print!(self.out; "{sign}");
+    }
+
+    // What stands before the parts of such an expression, which begins with this word, between two of them, and behind them.
+    fn before(self, kind: Kind, w: u16, level: Level) {
+        match kind {
+            Kind::Eps => self.sign("()", "eps"),
+            Kind::Cat | Kind::Alt => self.bracket(level.brackets(kind), b"("),
+            Kind::Star => {}
+            _ => {
+                self.named(w);
+                say(self.out, b"(");
+            }
+        }
+    }
+
+    fn between(self, kind: Kind) {
+        match kind {
+            Kind::Cat => self.sign(", ", " . "),
+            _ => say(self.out, b" + "),
+        }
+    }
+
+    fn behind(self, kind: Kind, level: Level) {
+        match kind {
+            Kind::Cat | Kind::Alt => self.bracket(level.brackets(kind), b")"),
+            Kind::Star => say(self.out, b"*"),
+            _ => say(self.out, b")"),
+        }
+    }
+
+    // An expression: R . S in a row, in a text R, S; R + S either, R* any number, a0(R) one term over R; the place after it.
+    fn expression(self, ws: &[u16], at: usize, level: Level) -> usize
+        ensures { at ≤ result }
+    {
+        if at >= ws.len() {
+            return at;
+        }
+        let w = ws[at];
+        let next = at + 1;
+        let kind = classify(w);
+        if is_leaf(ws, next, kind) {
+            self.named(w);
+            return after(ws, next, w);
+        }
+        self.before(kind, w, level);
+        if w == 7000 {
+            return next;
+        }
+        let middle = self.expression(ws, next, self.first_level(kind));
+        if w == 7001 || w == 7002 {
+            self.between(kind);
+            let end = self.expression(ws, middle, self.second_level(kind));
+            self.behind(kind, level);
+            return end;
+        }
+        self.behind(kind, level);
+        middle
+    }
+
+    // A literal; the place after it.
+    fn literal(self, ws: &[u16], at: usize) -> usize
+        ensures { at ≤ result }
+    {
+        if at >= ws.len() {
+            return at;
+        }
+        let middle = self.side(ws, at + 1);
+        if ws[at] == 5000 {
+            say(self.out, b" = ");
+            return self.side(ws, middle);
+        }
+        say(self.out, b" in ");
+        self.expression(ws, middle, self.level(Level::Choice))
+    }
+
+    // The literal that begins here.
+    pub fn one_literal(self, ws: &[u16], at: usize) {
+        self.literal(ws, at);
+    }
+
+    // The literals between two places, a row for each.
+    pub fn literals(self, ws: &[u16], from: usize, to: usize) {
+        let mut at = from;
+        for _ in from..to {
+            if at < to {
+                say(self.out, b"  ");
+                at = self.literal(ws, at);
+                say(self.out, b"\n");
+            }
         }
     }
 }

@@ -2,84 +2,102 @@
 // them, two bytes for each place; where the question came as words it is empty.
 ghost use Rattle.std.specs.Prelude.{◌<◌};
 
+use crate::Writer;
 use collecting::ALL;
-use language::wide;
 use lexing::next;
-use print::{number, say};
-use std::io::Stdout;
+use print::say;
 use text_names::WIDTH;
 use word_bytes::word_at;
 
 // The bytes of all shelves.
 const SHELVES: usize = 2 * ALL;
 
-// Where the shelves of term, hedge and function variables and of symbols begin.
-pub(crate) const TERMS: usize = 0;
-
-pub(crate) const HEDGES: usize = WIDTH;
-
-pub(crate) const SYMBOLS: usize = 2 * WIDTH;
-
-pub(crate) const FUNCTIONS: usize = 3 * WIDTH;
-
-pub(crate) fn is_text(names: &[u8]) -> bool {
-    SHELVES <= names.len()
+// What has a name: each sort has a shelf of its own.
+#[derive(Clone, Copy)]
+pub(crate) enum Sort {
+    Term,
+    Run,
+    Symbol,
+    Function,
 }
 
-// What stands at a place of the shelves.
-fn shelved(names: &[u8], i: usize) -> usize
-    ensures { result < 65536 }
-{
-    if names.len() < SHELVES {
-        return 0;
+impl Sort {
+    // Where its shelf begins.
+    fn shelf(self) -> usize
+        ensures { result < 65536 }
+    {
+        match self {
+            Sort::Term => 0,
+            Sort::Run => WIDTH,
+            Sort::Symbol => 2 * WIDTH,
+            Sort::Function => 3 * WIDTH,
+        }
     }
-    if ALL <= i {
-        return 0;
-    }
-    let from = names.len() - SHELVES;
-    wide(word_at(&names[from..], i))
-}
 
-// The name that begins at a place of a text.
-fn own_name(out: Stdout, text: &[u8], at: usize) {
-    if text.len() < at {
-        return;
+    // The mark before its names in a text.
+    fn mark(self) -> &'static str {
+        match self {
+            Sort::Term => "?",
+            Sort::Run => "*",
+            Sort::Symbol => "",
+            Sort::Function => "%",
+        }
     }
-    let p = next(text, at);
-    let from = p.from;
-    let to = p.to;
-    if text.len() < to {
-        return;
-    }
-    if from < to {
-        say(out, &text[from..to]);
-    }
-}
 
-// The name that begins at a place of the text.
-fn name_at(out: Stdout, names: &[u8], at: usize) {
-    if SHELVES <= names.len() {
-        let n = names.len() - SHELVES;
-        own_name(out, &names[0..n], at);
+    // The letter before its numbers, for a question of words.
+    fn letter(self) -> char {
+        match self {
+            Sort::Term => 'x',
+            Sort::Run => 'p',
+            Sort::Symbol => 'a',
+            Sort::Function => 'X',
+        }
     }
 }
 
-// The name of number n on a shelf behind its mark, or, where that has none, a letter and the number.
-pub(crate) fn name<'a>(
-    out: Stdout,
-    names: &'a [u8],
-    shelf: usize,
-    n: usize,
-    mark: &'a [u8],
-    letter: &'a [u8],
-)
-    requires { shelf < 65536 }
-{
-    if n < shelved(names, shelf) {
-        say(out, mark);
-        name_at(out, names, shelved(names, shelf + 1 + n));
-        return;
+impl Writer<'_> {
+    pub(crate) fn is_text(self) -> bool {
+        SHELVES <= self.names.len()
     }
-    say(out, letter);
-    number(out, n as u64);
+
+    // What stands at a place of the shelves.
+    fn shelved(self, i: usize) -> usize
+        ensures { result < 65536 }
+    {
+        let names = self.names;
+        if names.len() < SHELVES || ALL <= i {
+            return 0;
+        }
+        let from = names.len() - SHELVES;
+        usize::from(word_at(&names[from..], i))
+    }
+
+    // The name that begins at a place of the text.
+    fn name_at(self, at: usize) {
+        let names = self.names;
+        if names.len() < SHELVES {
+            return;
+        }
+        let text = &names[..names.len() - SHELVES];
+        if text.len() < at {
+            return;
+        }
+        let p = next(text, at);
+        if let Some(name) = text.get(p.from..p.to) {
+            say(self.out, name);
+        }
+    }
+
+    // The name of number n on the shelf of a sort behind its mark, or, where that has none, a letter and the number.
+    pub(crate) fn name(self, sort: Sort, n: usize) {
+        let shelf = sort.shelf();
+        if n < self.shelved(shelf) {
+            let mark = sort.mark();
+            let _ = print!(self.out; "{mark}");
+            self.name_at(self.shelved(shelf + 1 + n));
+            return;
+        }
+        let letter = sort.letter();
+        let _ = print!(self.out; "{letter}{n}");
+    }
 }

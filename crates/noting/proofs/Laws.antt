@@ -2,9 +2,11 @@
 use Prim.Native.Nat.{ℕ, suc, ◌+◌, ◌*◌, ◌<◌, ◌≤◌}
 use native.Mathlib.Omega.{arith}
 use mathlib.Core.Path.{◌≡◌, refl, sym, ap, ◌∙◌}
+use mathlib.Core.Bool.{Bool, true, false}
 use mathlib.Core.List.{List, [], ◌∷◌, ◌++◌, append_assoc}
 use lib.ListN.{length, drop, set, length-set, length-drop}
 use lib.Seq.{drop-drop}
+use Rattle.std.specs.Int.{from_bool}
 use Rattle.language.specs.Kinds.{pick}
 use Rattle.rules.specs.Step.{Spot}
 use Rattle.replay.specs.Trail.{spot_words, trail_words}
@@ -13,6 +15,11 @@ use Rattle.noting.specs.Noting.{three_at}
 trail_more : (t u : List Spot) → trail_words (t ++ u) ≡ trail_words t ++ trail_words u
 trail_more [] u = refl
 trail_more (s ∷ t) u = ap (λ ws. spot_words s ++ ws) (trail_more t u)
+
+-- the word of a side: 1 where the sides are swapped, else 0
+pub side_word : (swap : Bool) → from_bool swap ≡ pick swap 1 0
+side_word true = refl
+side_word false = refl
 
 -- a word that is set leaves the length
 pub within : (ws : List ℕ) (i x j : ℕ) → j < length ws → j < length (set ws i x)

@@ -2,18 +2,10 @@
 #![tactic(auto)]
 
 ghost use Rattle.std.specs.Prelude.{◌*◌, ◌≤◌, ◌<◌, ◌≡◌, length};
-ghost use Rattle.language.specs.Kinds.{pick};
 ghost use Rattle.noting.specs.Noting.{Noted};
 
 // The words of a step.
 const TRIPLE: usize = 3;
-
-// 1 where the sides are swapped, else 0.
-fn side_of(swap: bool) -> u16
-    ensures { result ≡ pick swap 1 0 }
-{
-    if swap { 1 } else { 0 }
-}
 
 // Whether there is room for one step more, so many being noted; where there is, it is noted.
 pub fn note_step(trail: &mut [u16], made: usize, rule: usize, literal: usize, swap: bool) -> bool
@@ -24,9 +16,9 @@ pub fn note_step(trail: &mut [u16], made: usize, rule: usize, literal: usize, sw
     if trail.len() - from < TRIPLE {
         return false;
     }
-    let side = side_of(swap);
+    // kept: both numbers are promised to fit a word, so that `u16::try_from` would bring a case that never comes
     trail[from] = rule as u16;
     trail[from + 1] = literal as u16;
-    trail[from + 2] = side;
+    trail[from + 2] = u16::from(swap);
     true
 }

@@ -59,10 +59,10 @@ pub next-in-order : (k : List ℕ) (m j : ℕ) (ps : List ℕ) → Split (elemen
 next-in-order k m j ps = record { eq = refl }
 
 -- the same by what was found: how many orders those have that are left, and where the element ends
-pub next-found : (k : List ℕ) (m j : ℕ) (ps : List ℕ) → (m ≡ 0 → ⊥) → {block end : ℕ} → block ≡ factorial (m - 1) → end ≡ element_end k (get_or ps (j / block % m) 0)
-    → Split (elements_at k (in_order m j ps)) (slice (get_or ps (j / block % m) 0) end k) (elements_at k (in_order (m - 1) (j % block) (drop_at (j / block % m) ps)))
-next-found k zero j ps nz b e = absurd (nz refl)
-next-found k (suc r) j ps nz {block} {end} b e = let z : suc r - 1 ≡ r = omega arith in rw (e, b, z) (next-in-order k r j ps)
+pub next-found : (k : List ℕ) (m j : ℕ) (ps : List ℕ) → (m ≡ 0 → ⊥) → {w block end : ℕ} → w ≡ m → block ≡ factorial (m - 1) → end ≡ element_end k (get_or ps (j / block % w) 0)
+    → Split (elements_at k (in_order m j ps)) (slice (get_or ps (j / block % w) 0) end k) (elements_at k (in_order (m - 1) (j % block) (drop_at (j / block % w) ps)))
+next-found k zero j ps nz f b e = absurd (nz refl)
+next-found k (suc r) j ps nz {w} {block} {end} f b e = let z : suc r - 1 ≡ r = omega arith in rw (e, f, b, z) (next-in-order k r j ps)
 
 pub orders-some : (m : ℕ) → 0 < factorial m
 orders-some zero = omega arith

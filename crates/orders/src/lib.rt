@@ -30,10 +30,8 @@ pub fn order_len(k: &[u16], from: usize, n: usize) -> usize
     ensures { result ≡ length (ordered k.now from n 0) }
 {
     let mut end = from;
-    let mut m = n;
-    while m != 0 {
+    for _ in 0..n {
         end = element_end(k, end);
-        m -= 1;
     }
     part_len(k, from, end)
 }

@@ -2,20 +2,15 @@
 use Prim.Native.Nat.{ℕ}
 use mathlib.Core.Path.{◌≡◌, refl, sym, ap, ap₂, ◌∙◌}
 use lib.Dec.{eqb}
+use Rattle.std.specs.Prelude.{Result, Ok, Err, Bool, true, false}
 use Rattle.language.specs.declared.Refusal.{Refusal}
 use Rattle.language.specs.declared.Refusal.TheVariants.{ShortSlice, QuestionLength, CountRange, BadOffset, NotLiterals, Undeclared, LongResult, LongWaiting, LineRoom, StepLimit, FillingLayout, FillingValue, LongLiteral, NoSuchLine, OpenLine, LongExample, NotText, ManyNames, LongText, OtherNumbers, LongWalk, SheetLayout, LongAnswers, BadStep, ShortTrail, LongTrail, TrailRoom}
 use Rattle.language.specs.Kinds.{pick}
 use Rattle.language.specs.Numbers.{number_of, place_of}
 use Rattle.outcomes.specs.Numbers.{checked_numbers, outcome_number, outcome_place, outcome_value, SolveNumbers, solved_numbers, tried_numbers, shown_numbers}
-use Rattle.outcomes.specs.declared.Checked.{Checked}
-use Rattle.outcomes.specs.declared.Checked.TheVariants as checked
 use Rattle.outcomes.specs.declared.Outcome.{Outcome}
 use Rattle.outcomes.specs.declared.Outcome.TheVariants.{Refused, NoLine, AllSolved, SomeOpen}
 use Rattle.outcomes.specs.declared.Solved.{Solved}
-use Rattle.outcomes.specs.declared.Tried.{Tried}
-use Rattle.outcomes.specs.declared.Tried.TheVariants as tried
-use Rattle.outcomes.specs.declared.Shown.{Shown}
-use Rattle.outcomes.specs.declared.Shown.TheVariants.{Shows, Denied}
 
 -- ---- refusals
 
@@ -67,14 +62,14 @@ refusals-apart r s e f = sym (told-refused r (λ x. x) r) ∙ ap₂ (told r (λ 
 
 -- ---- reading
 
-abbrev checked_by : ℕ × ℕ → Checked
-checked_by n = told checked.Fine checked.Refused n.0 n.1
+abbrev checked_by : ℕ × ℕ → Result (Unit {0}) Refusal
+checked_by n = told (Ok tt) Err n.0 n.1
 
-checked-back : (c : Checked) → checked_by (checked_numbers c) ≡ c
-checked-back checked.Fine = refl
-checked-back (checked.Refused r) = told-refused checked.Fine checked.Refused r
+checked-back : (c : Result (Unit {0}) Refusal) → checked_by (checked_numbers c) ≡ c
+checked-back (Ok u) = refl
+checked-back (Err r) = told-refused (Ok tt) Err r
 
-pub checked-apart : (c d : Checked) → checked_numbers c ≡ checked_numbers d → c ≡ d
+pub checked-apart : (c d : Result (Unit {0}) Refusal) → checked_numbers c ≡ checked_numbers d → c ≡ d
 checked-apart c d e = sym (checked-back c) ∙ ap checked_by e ∙ checked-back d
 
 -- ---- solving
@@ -99,25 +94,25 @@ solved-apart s t e = sym (solved-back s) ∙ ap solved_by e ∙ solved-back t
 
 -- ---- trying a filling
 
-abbrev tried_by : ℕ × ℕ × ℕ → Tried
-tried_by n = told (pick (eqb n.2 0) tried.No tried.Yes) tried.Refused n.0 n.1
+abbrev tried_by : ℕ × ℕ × ℕ → Result Bool Refusal
+tried_by n = told (pick (eqb n.2 0) (Ok false) (Ok true)) Err n.0 n.1
 
-tried-back : (t : Tried) → tried_by (tried_numbers t) ≡ t
-tried-back tried.Yes = refl
-tried-back tried.No = refl
-tried-back (tried.Refused r) = told-refused tried.No tried.Refused r
+tried-back : (t : Result Bool Refusal) → tried_by (tried_numbers t) ≡ t
+tried-back (Ok true) = refl
+tried-back (Ok false) = refl
+tried-back (Err r) = told-refused (Ok false) Err r
 
-pub tried-apart : (t u : Tried) → tried_numbers t ≡ tried_numbers u → t ≡ u
+pub tried-apart : (t u : Result Bool Refusal) → tried_numbers t ≡ tried_numbers u → t ≡ u
 tried-apart t u e = sym (tried-back t) ∙ ap tried_by e ∙ tried-back u
 
 -- ---- the example of a line
 
-abbrev shown_by : ℕ × ℕ × ℕ → Shown
-shown_by n = told (Shows n.2) Denied n.0 n.1
+abbrev shown_by : ℕ × ℕ × ℕ → Result ℕ Refusal
+shown_by n = told (Ok n.2) Err n.0 n.1
 
-shown-back : (s : Shown) → shown_by (shown_numbers s) ≡ s
-shown-back (Shows n) = refl
-shown-back (Denied r) = told-refused (Shows 0) Denied r
+shown-back : (s : Result ℕ Refusal) → shown_by (shown_numbers s) ≡ s
+shown-back (Ok n) = refl
+shown-back (Err r) = told-refused (Ok 0) Err r
 
-pub shown-apart : (s t : Shown) → shown_numbers s ≡ shown_numbers t → s ≡ t
+pub shown-apart : (s t : Result ℕ Refusal) → shown_numbers s ≡ shown_numbers t → s ≡ t
 shown-apart s t e = sym (shown-back s) ∙ ap shown_by e ∙ shown-back t

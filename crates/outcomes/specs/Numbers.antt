@@ -1,28 +1,23 @@
 -- This paper's number and values for each case of what a call answers with: the number of the table, 0 where nothing is refused, the value, 0 of
 -- a refusal, and the place of the mistake, 0 where there is none. Together they tell the cases of an answer apart (`proofs/Apart.antt`).
-use Rattle.std.specs.Prelude.{ℕ}
+use Rattle.std.specs.Prelude.{ℕ, Result, Ok, Err, Bool, true, false}
+use Rattle.language.specs.declared.Refusal.{Refusal}
 use Rattle.language.specs.Numbers.{number_of, place_of}
-use Rattle.outcomes.specs.declared.Checked.{Checked}
-use Rattle.outcomes.specs.declared.Checked.TheVariants as checked
 use Rattle.outcomes.specs.declared.Outcome.{Outcome}
 use Rattle.outcomes.specs.declared.Outcome.TheVariants.{Refused, NoLine, AllSolved, SomeOpen}
 use Rattle.outcomes.specs.declared.Solved.{Solved}
-use Rattle.outcomes.specs.declared.Tried.{Tried}
-use Rattle.outcomes.specs.declared.Tried.TheVariants as tried
-use Rattle.outcomes.specs.declared.Shown.{Shown}
-use Rattle.outcomes.specs.declared.Shown.TheVariants.{Shows, Denied}
 
 -- ---- reading: it has no value
 
-abbrev pub checked_number : Checked → ℕ
-checked_number checked.Fine = 0
-checked_number (checked.Refused r) = number_of r
+abbrev pub checked_number : Result (Unit {0}) Refusal → ℕ
+checked_number (Ok u) = 0
+checked_number (Err r) = number_of r
 
-abbrev pub checked_place : Checked → ℕ
-checked_place checked.Fine = 0
-checked_place (checked.Refused r) = place_of r
+abbrev pub checked_place : Result (Unit {0}) Refusal → ℕ
+checked_place (Ok u) = 0
+checked_place (Err r) = place_of r
 
-abbrev pub checked_numbers : Checked → ℕ × ℕ
+abbrev pub checked_numbers : Result (Unit {0}) Refusal → ℕ × ℕ
 checked_numbers c = (checked_number c, checked_place c)
 
 -- ---- solving: "the refusal or (none, all solved, some open), lines, open lines and steps"
@@ -66,37 +61,37 @@ solved_numbers s = record {
 
 -- ---- trying a filling: 1 is yes, 0 is no
 
-abbrev pub tried_number : Tried → ℕ
-tried_number tried.Yes = 0
-tried_number tried.No = 0
-tried_number (tried.Refused r) = number_of r
+abbrev pub tried_number : Result Bool Refusal → ℕ
+tried_number (Ok true) = 0
+tried_number (Ok false) = 0
+tried_number (Err r) = number_of r
 
-abbrev pub tried_value : Tried → ℕ
-tried_value tried.Yes = 1
-tried_value tried.No = 0
-tried_value (tried.Refused r) = 0
+abbrev pub tried_value : Result Bool Refusal → ℕ
+tried_value (Ok true) = 1
+tried_value (Ok false) = 0
+tried_value (Err r) = 0
 
-abbrev pub tried_place : Tried → ℕ
-tried_place tried.Yes = 0
-tried_place tried.No = 0
-tried_place (tried.Refused r) = place_of r
+abbrev pub tried_place : Result Bool Refusal → ℕ
+tried_place (Ok true) = 0
+tried_place (Ok false) = 0
+tried_place (Err r) = place_of r
 
-abbrev pub tried_numbers : Tried → ℕ × ℕ × ℕ
+abbrev pub tried_numbers : Result Bool Refusal → ℕ × ℕ × ℕ
 tried_numbers t = (tried_number t, tried_place t, tried_value t)
 
 -- ---- the example of a line: the filling's length
 
-abbrev pub shown_number : Shown → ℕ
-shown_number (Shows n) = 0
-shown_number (Denied r) = number_of r
+abbrev pub shown_number : Result ℕ Refusal → ℕ
+shown_number (Ok n) = 0
+shown_number (Err r) = number_of r
 
-abbrev pub shown_length : Shown → ℕ
-shown_length (Shows n) = n
-shown_length (Denied r) = 0
+abbrev pub shown_length : Result ℕ Refusal → ℕ
+shown_length (Ok n) = n
+shown_length (Err r) = 0
 
-abbrev pub shown_place : Shown → ℕ
-shown_place (Shows n) = 0
-shown_place (Denied r) = place_of r
+abbrev pub shown_place : Result ℕ Refusal → ℕ
+shown_place (Ok n) = 0
+shown_place (Err r) = place_of r
 
-abbrev pub shown_numbers : Shown → ℕ × ℕ × ℕ
+abbrev pub shown_numbers : Result ℕ Refusal → ℕ × ℕ × ℕ
 shown_numbers s = (shown_number s, shown_place s, shown_length s)

@@ -7,20 +7,13 @@ ghost use Rattle.outcomes.specs.Numbers.{checked_number, outcome_number, tried_n
 use language::Refusal;
 use refusals::number;
 
-// What comes of reading a question or a filling.
-#[derive(Clone, Copy)]
-pub enum Checked {
-    Fine,
-    Refused(Refusal),
-}
-
-// The number that comes back for it: 0 for words that are not refused.
-pub fn verdict_number(verdict: Checked) -> u16
+// The number that comes back for reading a question or a filling: 0 for words that are not refused.
+pub fn verdict_number(verdict: Result<(), Refusal>) -> u16
     ensures { result ≡ checked_number verdict }
 {
     match verdict {
-        Checked::Fine => 0,
-        Checked::Refused(refusal) => number(refusal),
+        Ok(()) => 0,
+        Err(mistake) => number(mistake),
     }
 }
 
@@ -54,59 +47,43 @@ pub fn outcome_number(outcome: Outcome) -> u16
     }
 }
 
-// What comes of trying a filling.
-#[derive(Clone, Copy)]
-pub enum Tried {
-    Yes,
-    No,
-    Refused(Refusal),
-}
-
-// The number in the table, 0 for none.
-pub fn tried_number(tried: Tried) -> u16
+// Trying a filling answers whether it meets the question, or why that is refused. The number in the table, 0 for none.
+pub fn tried_number(tried: Result<bool, Refusal>) -> u16
     ensures { result ≡ tried_number tried }
 {
     match tried {
-        Tried::Yes => 0,
-        Tried::No => 0,
-        Tried::Refused(refusal) => number(refusal),
+        Ok(_yes) => 0,
+        Err(refusal) => number(refusal),
     }
 }
 
 // 1 for yes, and else 0.
-pub fn tried_value(tried: Tried) -> u16
+pub fn tried_value(tried: Result<bool, Refusal>) -> u16
     ensures { result ≡ tried_value tried }
 {
     match tried {
-        Tried::Yes => 1,
-        Tried::No => 0,
-        Tried::Refused(_) => 0,
+        Ok(true) => 1,
+        Ok(false) => 0,
+        Err(_refusal) => 0,
     }
 }
 
-// The length of the filling that the room holds, or why there is none.
-#[derive(Clone, Copy)]
-pub enum Shown {
-    Shows(usize),
-    Denied(Refusal),
-}
-
-// The number that stands in the table, 0 for a filling.
-pub fn shown_number(shown: Shown) -> u16
+// Showing an example answers the length of the filling that the room holds, or why there is none. The number in the table, 0 for a filling.
+pub fn shown_number(shown: Result<usize, Refusal>) -> u16
     ensures { result ≡ shown_number shown }
 {
     match shown {
-        Shown::Shows(_) => 0,
-        Shown::Denied(e) => number(e),
+        Ok(_length) => 0,
+        Err(e) => number(e),
     }
 }
 
 // The filling's length, 0 for a refusal.
-pub fn shown_length(shown: Shown) -> usize
+pub fn shown_length(shown: Result<usize, Refusal>) -> usize
     ensures { result ≡ shown_length shown }
 {
     match shown {
-        Shown::Shows(n) => n,
-        Shown::Denied(_) => 0,
+        Ok(n) => n,
+        Err(_) => 0,
     }
 }

@@ -22,10 +22,7 @@ const HEAD: usize = 4;
 fn first_word(n: u32) -> u16
     ensures { result ≡ word_from n }
 {
-    if n < 65536 {
-        return n as u16;
-    }
-    65535
+    u16::try_from(n).unwrap_or(u16::MAX)
 }
 
 // Whether two rules can meet, by their patterns' bytes: 100 they cannot, 101 it is not settled, 200 and the words of a report that both match, which
@@ -83,12 +80,10 @@ fn rows(
 {
     let mut at = to;
     let mut j = from;
-    let mut k: usize = 0;
-    while k < n {
+    for k in 0..n {
         row(word, sheet, i, j, size, room, at);
         j = rule_end(sheet, j);
         at += size + HEAD;
-        k += 1;
     }
     at
 }
@@ -100,10 +95,8 @@ fn all_rows(word: u16, sheet: &[u8], n: usize, size: usize, room: &mut [u8])
 {
     let mut at: usize = 0;
     let mut i: usize = 2;
-    let mut k = n;
-    while 0 < k {
+    for k in (0..n).rev() {
         let next = rule_end(sheet, i);
-        k -= 1;
         at = rows(word, sheet, i, next, k, size, room, at);
         i = next;
     }
@@ -115,10 +108,8 @@ fn pair_count(n: u32) -> u32
     ensures { (result ≡ pair_count n) × (result ≤ most_rules * most_rules) }
 {
     let mut pairs: u32 = 0;
-    let mut i: u32 = 0;
-    while i < n {
+    for i in 0..n {
         pairs += i;
-        i += 1;
     }
     pairs
 }

@@ -6,11 +6,10 @@ ghost use Rattle.std.specs.Prelude.{◌≤◌, length};
 use files::status::{Status, failed, found, nothing};
 use files::{TOO_MANY, load};
 use language::limits::FILLING;
-use language::{Signature, wide};
 use live_rules::{rule_end, sheet_number};
 use overlap_wording::{heading, met, no_pair, no_progress, not_met, pair, progress, refused, rest};
 use pairing::meet;
-use std::io::{IsTerminal, Stderr};
+use std::io::IsTerminal;
 use word_bytes::{take_words, word_at, write_words};
 
 // As many words as a text of 65,535 bytes can have.
@@ -38,17 +37,13 @@ struct Rules {
     b: u16,
 }
 
-// One more, among so few that they are always counted.
-fn more(n: usize) -> usize {
-    if n < 65536 { n + 1 } else { n }
-}
-
 // A word of the sheet, and 0 where it has none.
 fn word_of(sheet: &[u8], at: usize) -> u16 {
     if at < sheet.len() / 2 {
-        return word_at(sheet, at);
+        word_at(sheet, at)
+    } else {
+        0
     }
-    0
 }
 
 // The place behind the rule at a place, and its pattern: of no use where no rule stands there.
@@ -62,7 +57,7 @@ fn behind(sheet: &[u8], at: usize) -> usize {
     rule_end(sheet, at)
 }
 
-fn pattern<'a>(sheet: &'a [u8], at: usize) -> &'a [u8] {
+fn pattern(sheet: &[u8], at: usize) -> &[u8] {
     let to = behind(sheet, at);
     let end = sheet.len() / 2;
     if end < to {
@@ -77,19 +72,11 @@ fn pattern<'a>(sheet: &'a [u8], at: usize) -> &'a [u8] {
     &sheet[2 * (at + 2)..2 * to]
 }
 
-fn watched(err: Stderr) -> bool {
-    err.is_terminal()
-}
-
 // The report that is in the room, behind its two rules: zeros stand behind it.
 fn show(rt: &HostRuntime, word: u16, room: &[u8]) {
     let mut report = [0u16; FILLING];
     let n = take_words(room, &mut report);
-    let s = Signature {
-        symbols: word % 256,
-        unordered: word / 256,
-    };
-    met(rt.stdout(), s, &report[..n]);
+    met(rt.stdout(), word, &report[..n]);
 }
 
 // A row, for a pair that does not meet for sure; whether it is refused.
@@ -108,34 +95,22 @@ fn row(rt: &HostRuntime, r: Rules, word: u16, n: u32, room: &[u8]) -> bool {
 
 // What a pair came to, as a row or in a count.
 fn told(rt: &HostRuntime, r: Rules, word: u16, n: u32, room: &[u8], t: Tally) -> Tally {
-    let rows = t.rows;
-    let failed = t.failed;
-    let apart = t.apart;
+    let mut next = t;
     if n == 100 {
-        return Tally {
-            rows,
-            failed,
-            apart: more(apart),
-        };
+        next.apart = t.apart.saturating_add(1);
+        return next;
     }
+    next.rows = t.rows.saturating_add(1);
     if row(rt, r, word, n, room) {
-        return Tally {
-            rows: more(rows),
-            failed: more(failed),
-            apart,
-        };
+        next.failed = t.failed.saturating_add(1);
     }
-    Tally {
-        rows: more(rows),
-        failed,
-        apart,
-    }
+    next
 }
 
 fn ask(rt: &HostRuntime, sheet: &[u8], r: Rules, t: Tally) -> Tally {
     let mut room = [0u8; REPORT];
     let word = word_of(sheet, 0);
-    if watched(rt.stderr()) {
+    if rt.stderr().is_terminal() {
         progress(rt.stderr(), r.i, r.j);
     }
     let n = meet(
@@ -146,7 +121,7 @@ fn ask(rt: &HostRuntime, sheet: &[u8], r: Rules, t: Tally) -> Tally {
         0,
         FILLING,
     );
-    if watched(rt.stderr()) {
+    if rt.stderr().is_terminal() {
         no_progress(rt.stderr());
     }
     told(rt, r, word, n, &room, t)
@@ -154,8 +129,7 @@ fn ask(rt: &HostRuntime, sheet: &[u8], r: Rules, t: Tally) -> Tally {
 
 // The pair, where its actions are different or not, as is asked.
 fn sorted(rt: &HostRuntime, sheet: &[u8], r: Rules, different: bool, t: Tally) -> Tally {
-    let unlike = r.a != r.b;
-    if unlike == different {
+    if (r.a != r.b) == different {
         return ask(rt, sheet, r, t);
     }
     t
@@ -173,8 +147,7 @@ fn with_later(
 ) -> Tally {
     let mut t = before;
     let mut second = behind(sheet, at);
-    let mut j = more(i);
-    while j < n {
+    for j in i.saturating_add(1)..n {
         let r = Rules {
             i,
             first: at,
@@ -185,7 +158,6 @@ fn with_later(
         };
         t = sorted(rt, sheet, r, different, t);
         second = behind(sheet, second);
-        j += 1;
     }
     t
 }
@@ -195,11 +167,9 @@ fn section(rt: &HostRuntime, sheet: &[u8], n: usize, different: bool, before: Ta
     heading(rt.stdout(), different);
     let mut t = before;
     let mut at: usize = 2;
-    let mut i: usize = 0;
-    while i < n {
+    for i in 0..n {
         t = with_later(rt, sheet, i, at, n, different, t);
         at = behind(sheet, at);
-        i += 1;
     }
     if t.rows == before.rows {
         no_pair(rt.stdout());
@@ -225,7 +195,7 @@ fn all_pairs(rt: &HostRuntime, sheet: &[u8]) -> Status {
         refused(rt.stderr(), k);
         return failed();
     }
-    let n = wide(word_of(sheet, 1));
+    let n = usize::from(word_of(sheet, 1));
     let none = Tally {
         rows: 0,
         failed: 0,
@@ -248,10 +218,8 @@ fn sheet_of(rt: &HostRuntime, words: &[u16]) -> Status
 pub fn overlap_file(rt: &HostRuntime, i: usize) -> Status {
     let mut buf = [0u8; TOO_MANY];
     let mut words = [0u16; SHEET];
-    let t = load(rt, i, &mut buf, &mut words);
-    if !t.fine {
-        return failed();
+    match load(rt, i, &mut buf, &mut words) {
+        Ok(t) => sheet_of(rt, &words[0..t.words]),
+        Err(_) => failed(),
     }
-    let n = t.words;
-    sheet_of(rt, &words[0..n])
 }

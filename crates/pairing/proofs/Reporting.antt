@@ -9,6 +9,8 @@ use borrow.Author.Tests.{eq-eqb, ne_eqb, le-leb, lt-leb, lt-ltb, le-ltb}
 use lib.Dec.{eqb}
 use lib.ListN.{length, get_or, take, drop, length-append, length-take, length-drop, drop_of_length-le}
 use lib.Seq.{sets, drop-cons, length-sets, sets-eq, take_at}
+use Rattle.std.specs.Prelude.{Result}
+use Rattle.language.specs.declared.Refusal.{Refusal}
 use Rattle.language.specs.declared.Kind.{Kind}
 use Rattle.language.specs.declared.Kind.TheVariants.{End, Term, Run, Symbol, Function, Equation, Membership, Eps, Cat, Alt, Star, Other}
 use Rattle.language.specs.Between.{between}
@@ -18,7 +20,6 @@ use Rattle.language.specs.Numbers.{number_of}
 use Rattle.language.specs.Question.{Asked, asks, refuses}
 use Rattle.language.proofs.Stores.{sets-append}
 use Rattle.outcomes.specs.Numbers.{checked_numbers, checked_number}
-use Rattle.outcomes.specs.declared.Checked.{Checked}
 use Rattle.reader.specs.Checking.{asked_number, asked_numbers}
 use Rattle.demands.proofs.Between.{not-zero}
 use Rattle.filling.specs.Showing.{offset, ending, word_on, filled, ShowsOn, Shows, Written}
@@ -167,7 +168,7 @@ module _ (size : ℕ) (ws : List ℕ) (at : ℕ) (room : List ℕ) where
 
 -- ---- 2 or 3, and else 5
 
-module _ (a : Asked) (c : Checked) (e : checked_numbers c ≡ asked_numbers a) (k : ℕ) (ek : k ≡ checked_number c) where
+module _ (a : Asked) (c : Result (Unit {0}) Refusal) (e : checked_numbers c ≡ asked_numbers a) (k : ℕ) (ek : k ≡ checked_number c) where
   number : k ≡ asked_number a
   unfolding asked_numbers
   number = ek ∙ ap (λ (x : ℕ × ℕ). x.0) e

@@ -8,6 +8,7 @@ use mathlib.Core.Option.{some}
 use native.Mathlib.Omega.{arith}
 use lib.ListN.{length, take, drop, replicate, length-replicate}
 use lib.Seq.{take_at}
+use Rattle.std.specs.Prelude.{Ok}
 use Rattle.language.specs.Limits.{desk}
 use Rattle.language.specs.declared.Signature.{Signature}
 use Rattle.language.specs.Trees.{Hedge, Counts, signature, Question}
@@ -26,7 +27,6 @@ use Rattle.meaning.proofs.Same.{same-sym, same-≡, same-trans}
 use Rattle.rules.specs.Answer.{solving}
 use Rattle.rules.specs.Calls.{Showing, shows, showing}
 use Rattle.outcomes.specs.declared.Solved.{Solved}
-use Rattle.outcomes.specs.declared.Shown.TheVariants.{Shows}
 use Rattle.line_example.specs.Shown.{numbers_of, room_of}
 use Rattle.example.specs.Exhibits.{told_exhibits}
 use Rattle.solver.specs.Leaves.{leaves}
@@ -72,7 +72,7 @@ module _ (q : List ℕ) (line : ℕ) (fs : List ℕ) (e : showing desk false des
     work = clear desk.room;
     answer = clear desk.room;
     room = clear desk.filling;
-    returned = Shows (length fs);
+    returned = Ok (length fs);
     work_left = slices.1;
     answer_left = slices.2;
     room_left = fs ++ drop (length fs) (clear desk.filling);

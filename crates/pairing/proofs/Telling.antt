@@ -30,8 +30,9 @@ use Rattle.word_bytes.specs.Bytes.{bytes_of}
 use Rattle.patterns.specs.declared.Pair.{Pair}
 use Rattle.patterns.specs.Blanks.{blanks_in, counted, nothing, numbered_by, apart}
 use Rattle.patterns.specs.Terms.{one_term}
-use Rattle.patterns.specs.declared.Asked.{Asked}
-use Rattle.patterns.specs.declared.Asked.TheVariants.{TooMany, TooLong, Asks}
+use Rattle.std.specs.Prelude.{Result, Ok, Err}
+use Rattle.patterns.specs.declared.Unasked.{Unasked}
+use Rattle.patterns.specs.declared.Unasked.TheVariants.{TooMany, TooLong}
 use Rattle.patterns.specs.Pairs.{of_both, too_many, pair_words, asked, asked_words, asked_leaves}
 use Rattle.patterns.proofs.OneTerm.{one-term}
 use Rattle.pairing.specs.Meeting as meetings
@@ -181,20 +182,20 @@ module _ (size word : ℕ) (ps qs : List ℕ) (at : ℕ) (room : List ℕ) where
 
   -- what was answered of the question, by the two tests
   module _ (p : Pair) where
-    abbrev answer : Bool → Bool → Asked
-    answer b l = pick b TooMany (pick l TooLong (Asks p))
+    abbrev answer : Bool → Bool → Result Pair Unasked
+    answer b l = pick b (Err TooMany) (pick l (Err TooLong) (Ok p))
 
-    many-only : (b l : Bool) → answer b l ≡ TooMany → b ≡ true
+    many-only : (b l : Bool) → answer b l ≡ Err TooMany → b ≡ true
     many-only true l e = refl
     many-only false true e = absurd (let z : ◌≡◌ {A = ℕ} 0 1 = cc in omega arith)
     many-only false false e = absurd (let z : ◌≡◌ {A = ℕ} 0 1 = cc in omega arith)
 
-    long-only : (b l : Bool) → answer b l ≡ TooLong → (b ≡ false) × (l ≡ true)
+    long-only : (b l : Bool) → answer b l ≡ Err TooLong → (b ≡ false) × (l ≡ true)
     long-only true l e = absurd (let z : ◌≡◌ {A = ℕ} 0 1 = cc in omega arith)
     long-only false true e = (refl, refl)
     long-only false false e = absurd (let z : ◌≡◌ {A = ℕ} 0 1 = cc in omega arith)
 
-    asks-only : (b l : Bool) (x : Pair) → answer b l ≡ Asks x → (b ≡ false) × (l ≡ false) × (p ≡ x)
+    asks-only : (b l : Bool) (x : Pair) → answer b l ≡ Ok x → (b ≡ false) × (l ≡ false) × (p ≡ x)
     asks-only true l x e = absurd (let z : ◌≡◌ {A = ℕ} 0 1 = cc in omega arith)
     asks-only false true x e = absurd (let z : ◌≡◌ {A = ℕ} 0 1 = cc in omega arith)
     asks-only false false x e = (refl, refl, cc)
@@ -206,7 +207,7 @@ module _ (size word : ℕ) (ps qs : List ℕ) (at : ℕ) (room : List ℕ) where
   unfolding asked
   opened = refl
 
-  pub pair-many : asked word ps qs ≡ TooMany → Pairs 25 room
+  pub pair-many : asked word ps qs ≡ Err TooMany → Pairs 25 room
   unfolding meeting bytes_of
   pair-many e = rw (many-only whole (too_many (of_both word ps qs)) long (sym opened ∙ e)) (refl, refl)
 
@@ -216,7 +217,7 @@ module _ (size word : ℕ) (ps qs : List ℕ) (at : ℕ) (room : List ℕ) where
   either false = (refl, refl)
 
   -- a question that is too long is refused with 2, whatever the patterns are
-  pub pair-long : asked word ps qs ≡ TooLong → Pairs 2 room
+  pub pair-long : asked word ps qs ≡ Err TooLong → Pairs 2 room
   unfolding meeting bytes_of length_fits
   pair-long e =
       let (few, l) = long-only whole (too_many (of_both word ps qs)) long (sym opened ∙ e) in
@@ -228,7 +229,7 @@ module _ (size word : ℕ) (ps qs : List ℕ) (at : ℕ) (room : List ℕ) where
       let v : solving desk desk.room desk.room (pair_words word ps qs) ≡ unread QuestionLength = long-solving desk.room desk.room (pair_words word ps qs) (omega arith) (omega arith) ∙ ap (solving_of desk) r in
       rw (few, v, r) (either (one_term ps && one_term qs))
 
-  pub asks-so : (p : Pair) (question : List ℕ) → asked word ps qs ≡ Asks p → question ≡ pair_words word ps qs → Known word ps qs question p × (p.len ≡ length (pair_words word ps qs))
+  pub asks-so : (p : Pair) (question : List ℕ) → asked word ps qs ≡ Ok p → question ≡ pair_words word ps qs → Known word ps qs question p × (p.len ≡ length (pair_words word ps qs))
   asks-so p question e w =
       let (few, l, same) = asks-only whole (too_many (of_both word ps qs)) long p (sym opened ∙ e) in
       let n = pair-length word ps qs in
@@ -253,7 +254,7 @@ module _ (size word : ℕ) (ps qs : List ℕ) (at : ℕ) (room : List ℕ) where
     fair-so f r new t = rw (k.few, sym k.fair ∙ f) (subst (λ q. Told (meeting_of size word ps qs (solving desk desk.room desk.room q)) at room r new) k.words t)
 
   -- the words that were written
-  module _ (p : Pair) (e : asked word ps qs ≡ Asks p) (q q' : List ℕ) (lq : length q ≡ desk.question) (eq : q' ≡ asked_leaves word ps qs q) where
+  module _ (p : Pair) (e : asked word ps qs ≡ Ok p) (q q' : List ℕ) (lq : length q ≡ desk.question) (eq : q' ≡ asked_leaves word ps qs q) where
     pub asks-inside : p.len ≤ desk.question
     asks-inside = let (k, n) = asks-so p (pair_words word ps qs) e refl in let s = k.short in omega arith
 

@@ -15,22 +15,16 @@ ghost use Rattle.pairing.specs.Here.{Here, PairHere, Known, PairKnown};
 use filling::{fill_in, filled_len};
 use language::limits::{FILLING, QUESTION, ROOM};
 use outcomes::{outcome_number, shown_length, shown_number, verdict_number};
-use patterns::{Asked, Pair};
+use patterns::{Pair, Unasked};
 use word_bytes::write_words_at;
 use words::word;
-
-fn wide(n: u16) -> u32
-    ensures { result ≡ n }
-{
-    n as u32
-}
 
 // The mark of a line stands where its offset says.
 fn settled(answer: &[u16], line: usize) -> bool
     requires { line + 2 < 18446744073709551616 }
     ensures { result ≡ eqb (get_or answer.now (get_or answer.now (line + 2) 0) 0) 1 }
 {
-    word(answer, language::wide(word(answer, line + 2))) == 1
+    word(answer, usize::from(word(answer, line + 2))) == 1
 }
 
 // The first line of an answer that is marked settled; the number of lines where none is.
@@ -38,14 +32,12 @@ fn first_settled(answer: &[u16], lines: usize) -> usize
     requires { lines < 65536 }
     ensures { result ≡ marked_from answer.now 0 lines }
 {
-    let mut i: usize = 0;
-    while i < lines {
+    for i in 0..lines {
         if settled(answer, i) {
             return i;
         }
-        i += 1;
     }
-    i
+    lines
 }
 
 // The report's bytes, into the room from the word `at` on: each word of the pattern becomes its value, by way of the scratch.
@@ -63,16 +55,15 @@ fn write_report<'a>(
     requires pattern_in_bounds { 2 * (at + length (filled terms hedges filling.now pattern.now)) ≤ length room.old }
     ensures { room.new ≡ sets room.old (2 * at) (bytes_of (filled terms hedges filling.now pattern.now)) }
 {
-    let mut i: usize = 0;
     let mut to = at;
-    while i < pattern.len() {
+    for i in 0..pattern.len() {
         let n = fill_in(filling, &pattern[i..i + 1], terms, hedges, scratch, 0);
         write_words_at(&scratch[0..n], room, to);
         to += n;
-        i += 1;
     }
 }
 
+// kept: the number is promised to fit, so that `u32::try_from` would bring a case that never comes.
 fn narrow(n: usize) -> u32
     requires { n ≤ (desk.filling + desk.question) * desk.question }
     ensures { result ≡ n }
@@ -113,7 +104,7 @@ fn unfair(question: &[u16]) -> u32
         return 5;
     }
     if k <= 3 {
-        return wide(k);
+        return u32::from(k);
     }
     5
 }
@@ -136,7 +127,7 @@ fn show<'a>(
     let s = example::example(question, line, false, work, answer, &mut own);
     let k = shown_number(s);
     if k != 0 {
-        return wide(k);
+        return u32::from(k);
     }
     let n = shown_length(s);
     report(
@@ -162,9 +153,9 @@ fn settle<'a>(question: &'a [u16], p: Pair, room: &mut [u8], at: usize, size: us
     let outcome = s.outcome;
     let k = outcome_number(outcome);
     if k != 0 {
-        return wide(k);
+        return u32::from(k);
     }
-    let lines = language::wide(word(&answer, 0));
+    let lines = usize::from(word(&answer, 0));
     if lines == 0 {
         return 100;
     }
@@ -194,9 +185,9 @@ pub fn meet(word: u16, first: &[u8], second: &[u8], room: &mut [u8], at: usize, 
 {
     let mut question = [0u16; QUESTION];
     match patterns::ask(word, first, second, &mut question) {
-        Asked::TooMany => 25,
-        Asked::TooLong => 2,
-        Asked::Asks(p) => {
+        Err(Unasked::TooMany) => 25,
+        Err(Unasked::TooLong) => 2,
+        Ok(p) => {
             let n = p.len;
             decide(&question[0..n], p, room, at, size)
         }

@@ -34,9 +34,5 @@ pub fn clear(k: &mut [bool], from: usize, to: usize)
     requires to_in_bounds { to ≤ length k.old }
     ensures { Cleared k.old k.new from to }
 {
-    let mut i = from;
-    while i < to {
-        k[i] = false;
-        i += 1;
-    }
+    k[from..to].fill(false);
 }

@@ -16,8 +16,10 @@ use Rattle.language.specs.Trees.{Counts}
 use Rattle.language.proofs.Words.{Is, term, run, function, is}
 use Rattle.language.proofs.Stores.{sets-append}
 use Rattle.patterns.specs.declared.Numbers.{Numbers}
-use Rattle.patterns.specs.declared.Asked.{Asked}
-use Rattle.patterns.specs.declared.Asked.TheVariants.{TooMany, TooLong, Asks}
+use Rattle.std.specs.Prelude.{Result, Ok, Err}
+use Rattle.patterns.specs.declared.Pair.{Pair}
+use Rattle.patterns.specs.declared.Unasked.{Unasked}
+use Rattle.patterns.specs.declared.Unasked.TheVariants.{TooMany, TooLong}
 use Rattle.patterns.specs.Blanks.{before, Blanks, no_blanks, blanks_in, counted, nothing, numbered_on, numbered_by, apart}
 use Rattle.patterns.specs.Terms.{one_term}
 use Rattle.patterns.specs.Pairs.{of_both, too_many, pair_words, asked, asked_words, asked_leaves}
@@ -154,26 +156,26 @@ module _ (word : ℕ) (ps qs : List ℕ) where
   abbrev size : ℕ
   size = 10 + (length ps + length qs)
 
-  abbrev Answers : Asked → List ℕ → List ℕ → Type 0
+  abbrev Answers : Result Pair Unasked → List ℕ → List ℕ → Type 0
   Answers r old new = (r ≡ asked word ps qs) × (new ≡ asked_leaves word ps qs old)
 
-  answers : (r : Asked) (old new : List ℕ) → r ≡ asked word ps qs → new ≡ sets old 0 (asked_words r (pair_words word ps qs)) → Answers r old new
+  answers : (r : Result Pair Unasked) (old new : List ℕ) → r ≡ asked word ps qs → new ≡ sets old 0 (asked_words r (pair_words word ps qs)) → Answers r old new
   unfolding asked_leaves
   answers r old new e f = (e, f ∙ ap (λ r. sets old 0 (asked_words r (pair_words word ps qs))) e)
 
-  pub answers-many : too_many (of_both word ps qs) ≡ true → (q : List ℕ) → Answers TooMany q q
+  pub answers-many : too_many (of_both word ps qs) ≡ true → (q : List ℕ) → Answers (Err TooMany) q q
   unfolding asked
-  answers-many e q = answers TooMany q q (rw e refl) refl
+  answers-many e q = answers (Err TooMany) q q (rw e refl) refl
 
   module _ (ok : too_many (of_both word ps qs) ≡ false) where
-    pub answers-long : true ≡ ltb desk.question size → (q : List ℕ) → Answers TooLong q q
+    pub answers-long : true ≡ ltb desk.question size → (q : List ℕ) → Answers (Err TooLong) q q
     unfolding asked
-    answers-long e q = answers TooLong q q (rw (ok, sym e) refl) refl
+    answers-long e q = answers (Err TooLong) q q (rw (ok, sym e) refl) refl
 
     module _ (short : false ≡ ltb desk.question size) (n m : Numbers) (one other : List ℕ) (x : Noted ps n one) (y : Noted qs m other) where
       pub answers-asks : (len first terms hedges : ℕ) (a b fair : Bool) (q new : List ℕ) → first ≡ length ps → len ≡ 10 + (first + length qs) → terms ≡ n.terms + m.terms → hedges ≡ n.hedges + m.hedges
           → fair ≡ (a && b) → a ≡ one_term ps → b ≡ one_term qs → new ≡ sets q 0 (pair_words word ps qs)
-          → Answers (Asks (record { len = len; first = first; terms = terms; hedges = hedges; fair = fair })) q new
+          → Answers (Ok (record { len = len; first = first; terms = terms; hedges = hedges; fair = fair })) q new
       unfolding asked
       answers-asks len first terms hedges a b fair q new ef el et eh ea fa fb en =
           answers _ q new
@@ -190,25 +192,25 @@ test-is word ps qs n m one other x y r e = sym (e ∙ rw (x.terms, x.hedges, x.f
 
 module _ (word : ℕ) (ps qs u v : List ℕ) (eu : u ≡ ps) (ev : v ≡ qs) (n m : Numbers) (one other : List ℕ) (x : Noted u n one) (y : Noted v m other) (many : Bool)
     (em : many ≡ (ltb desk.each (n.terms + m.terms) || ltb desk.each (n.hedges + m.hedges) || ltb desk.each (n.functions + m.functions))) where
-  abbrev Comes : Asked → List ℕ → List ℕ → Type 0
+  abbrev Comes : Result Pair Unasked → List ℕ → List ℕ → Type 0
   Comes r old new = Answers word ps qs r old new
 
   both_equal : (P : List ℕ → List ℕ → Type 0) → P u v → P ps qs
   both_equal P p = subst (P ps) ev (subst (λ l. P l v) eu p)
 
-  pub ask-many : many ≡ true → (q : List ℕ) → Comes TooMany q q
+  pub ask-many : many ≡ true → (q : List ℕ) → Comes (Err TooMany) q q
   ask-many t q = answers-many word ps qs (both_equal (λ a b. too_many (of_both word a b) ≡ true) (test-is word u v n m one other x y many em ∙ t)) q
 
   pub ask-few : many ≡ false → too_many (of_both word u v) ≡ false
   ask-few t = test-is word u v n m one other x y many em ∙ t
 
-  pub ask-long : many ≡ false → (long : Bool) → long ≡ ltb desk.question (10 + (length u + length v)) → long ≡ true → (q : List ℕ) → Comes TooLong q q
+  pub ask-long : many ≡ false → (long : Bool) → long ≡ ltb desk.question (10 + (length u + length v)) → long ≡ true → (q : List ℕ) → Comes (Err TooLong) q q
   ask-long t long e l q =
       answers-long word ps qs (both_equal (λ a b. too_many (of_both word a b) ≡ false) (ask-few t)) (both_equal (λ a b. true ≡ ltb desk.question (10 + (length a + length b))) (sym l ∙ e)) q
 
   pub ask-asks : many ≡ false → (long : Bool) → long ≡ ltb desk.question (10 + (length u + length v)) → long ≡ false
       → (i j : ℕ) (a b fair : Bool) (q new : List ℕ) → i ≡ length u → j ≡ length v → fair ≡ (a && b) → a ≡ one_term u → b ≡ one_term v → new ≡ sets q 0 (pair_words word u v)
-      → Comes (Asks (record { len = 10 + (i + j); first = i; terms = n.terms + m.terms; hedges = n.hedges + m.hedges; fair = fair })) q new
+      → Comes (Ok (record { len = 10 + (i + j); first = i; terms = n.terms + m.terms; hedges = n.hedges + m.hedges; fair = fair })) q new
   ask-asks t long e l i j a b fair q new ei ej ef ea eb en =
-      both_equal (λ ps qs. Answers word ps qs (Asks (record { len = 10 + (i + j); first = i; terms = n.terms + m.terms; hedges = n.hedges + m.hedges; fair = fair })) q new)
+      both_equal (λ ps qs. Answers word ps qs (Ok (record { len = 10 + (i + j); first = i; terms = n.terms + m.terms; hedges = n.hedges + m.hedges; fair = fair })) q new)
       (answers-asks word u v (ask-few t) (sym l ∙ e) n m one other x y (10 + (i + j)) i (n.terms + m.terms) (n.hedges + m.hedges) a b fair q new ei (ap (λ j. 10 + (i + j)) ej) refl refl ef ea eb en)

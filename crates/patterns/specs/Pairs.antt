@@ -1,11 +1,12 @@
 -- The question of a pair of patterns: that they become the same report.
-use Rattle.std.specs.Prelude.{ℕ, ◌+◌, Bool, ◌&&◌, ◌||◌, List, [], ◌∷◌, ◌++◌, ltb, length}
+use Rattle.std.specs.Prelude.{ℕ, ◌+◌, Bool, ◌&&◌, ◌||◌, List, [], ◌∷◌, ◌++◌, ltb, length, Result, Ok, Err}
 use Rattle.std.proofs.lemmas.List.Edits.{sets}
 use Rattle.language.specs.Limits.{desk}
 use Rattle.language.specs.Kinds.{pick}
 use Rattle.language.specs.Trees.{Counts}
-use Rattle.patterns.specs.declared.Asked.{Asked}
-use Rattle.patterns.specs.declared.Asked.TheVariants.{TooMany, TooLong, Asks}
+use Rattle.patterns.specs.declared.Pair.{Pair}
+use Rattle.patterns.specs.declared.Unasked.{Unasked}
+use Rattle.patterns.specs.declared.Unasked.TheVariants.{TooMany, TooLong}
 use Rattle.patterns.specs.Blanks.{blanks_in, counted, together, nothing, apart}
 use Rattle.patterns.specs.Terms.{one_term}
 
@@ -26,17 +27,16 @@ pair_words word first second =
 
 -- ---- what writing it answers and leaves in the slice lent for it
 
-unfoldable pub asked : ℕ → List ℕ → List ℕ → Asked
+unfoldable pub asked : ℕ → List ℕ → List ℕ → Result Pair Unasked
 asked word first second =
     let n = of_both word first second in
-    pick (too_many n) TooMany
-    (pick (ltb desk.question (10 + (length first + length second))) TooLong
-    (Asks (record { len = 10 + (length first + length second); first = length first; terms = n.terms; hedges = n.hedges; fair = one_term first && one_term second })))
+    pick (too_many n) (Err TooMany)
+    (pick (ltb desk.question (10 + (length first + length second))) (Err TooLong)
+    (Ok (record { len = 10 + (length first + length second); first = length first; terms = n.terms; hedges = n.hedges; fair = one_term first && one_term second })))
 
-abbrev pub asked_words : Asked → List ℕ → List ℕ
-asked_words TooMany ws = []
-asked_words TooLong ws = []
-asked_words (Asks p) ws = ws
+abbrev pub asked_words : Result Pair Unasked → List ℕ → List ℕ
+asked_words (Err e) ws = []
+asked_words (Ok p) ws = ws
 
 unfoldable pub asked_leaves : ℕ → List ℕ → List ℕ → List ℕ → List ℕ
 asked_leaves word first second slice = sets slice 0 (asked_words (asked word first second) (pair_words word first second))

@@ -40,12 +40,11 @@ pub struct Pair {
     pub fair: bool,
 }
 
-// More blanks of one kind than a question has, more words than a question has, or the question.
+// Why two patterns have no question: more blanks of one kind than a question has, or more words.
 #[derive(Clone, Copy)]
-pub enum Asked {
+pub enum Unasked {
     TooMany,
     TooLong,
-    Asks(Pair),
 }
 
 // The bytes of whole words: none of them where their count is odd.
@@ -79,10 +78,8 @@ fn number_blanks(bytes: &[u8], table: &mut [usize]) -> Numbers
     let mut terms: usize = 0;
     let mut hedges: usize = 0;
     let mut functions: usize = 0;
-    let mut i: usize = 0;
-    while i < n {
+    for i in 0..n {
         let word = word_at(bytes, i);
-        i += 1;
         match classify(word) {
             Kind::Term(x) => terms = note(table, wide(x.0), terms),
             Kind::Run(p) => hedges = note(table, PLACES + wide(p.0), hedges),
@@ -104,13 +101,11 @@ fn closes(bytes: &[u8], at: usize, hedges: usize) -> bool
 {
     let n = bytes.len() / 2;
     let mut depth = hedges;
-    let mut i = at;
-    while i < n {
+    for i in at..n {
         if depth == 0 {
             return false;
         }
         let word = word_at(bytes, i);
-        i += 1;
         match classify(word) {
             Kind::End => depth -= 1,
             Kind::Term(_) | Kind::Run(_) => {}
@@ -136,6 +131,7 @@ fn is_term(bytes: &[u8]) -> bool
 }
 
 // A number as a word.
+// kept: the number is promised to fit, so that `u16::try_from` would bring a case that never comes.
 fn short(n: usize) -> u16
     requires { n < 65536 }
     ensures { result ≡ n }
@@ -175,10 +171,8 @@ fn write_apart(bytes: &[u8], table: &[usize], n: Numbers, question: &mut [u16], 
     ensures { (result ≡ at + length bytes.now / 2 + 1) × (question.new ≡ sets question.old at (map (renumbered_by n table.now) (words_of bytes.now) ++ (0 ∷ []))) }
 {
     let m = bytes.len() / 2;
-    let mut i: usize = 0;
-    while i < m {
+    for i in 0..m {
         question[at + i] = renumbered(word_at(bytes, i), table, n);
-        i += 1;
     }
     question[at + m] = 0;
     at + m + 1
@@ -274,7 +268,7 @@ fn write_pair(
 }
 
 // Makes the question of a pair of patterns, whose word 0 is `word`: whether their forms become the same report.
-pub fn ask(word: u16, first: &[u8], second: &[u8], question: &mut [u16]) -> Asked
+pub fn ask(word: u16, first: &[u8], second: &[u8], question: &mut [u16]) -> Result<Pair, Unasked>
     requires { desk.question ≤ length question.old }
     ensures value { result ≡ asked word (words_in first.now) (words_in second.now) }
     ensures question_after { question.new ≡ asked_leaves word (words_in first.now) (words_in second.now) question.old }
@@ -286,13 +280,13 @@ pub fn ask(word: u16, first: &[u8], second: &[u8], question: &mut [u16]) -> Aske
     let n = number_blanks(a, &mut one);
     let m = number_blanks(b, &mut other);
     if too_many(n, m) {
-        return Asked::TooMany;
+        return Err(Unasked::TooMany);
     }
     if too_long(a, b) {
-        return Asked::TooLong;
+        return Err(Unasked::TooLong);
     }
     write_pair(word, a, b, &one, &other, n, m, question);
-    Asked::Asks(Pair {
+    Ok(Pair {
         len: 10 + (a.len() / 2 + b.len() / 2),
         first: a.len() / 2,
         terms: n.terms + m.terms,

@@ -8,6 +8,7 @@ use lib.Dec.{leb}
 use lib.ListN.{length, get_or, length-append}
 use lib.Seq.{slice}
 use borrow.Author.Tests.{le-leb, lt-leb}
+use Rattle.std.specs.Prelude.{Some, None}
 use Rattle.language.specs.Limits.{desk}
 use Rattle.language.specs.Kinds.{pick}
 use Rattle.meaning.specs.Values.{numbers}
@@ -19,7 +20,6 @@ use Rattle.orders.proofs.Renamed.{length-renamed}
 use Rattle.plans.specs.declared.Piece.{Piece}
 use Rattle.plans.specs.declared.Piece.TheVariants.{Word, Copy, Put, ToCut, PutFromCut, Each, Ordered, Named}
 use Rattle.plans.specs.declared.Recipe.{Recipe}
-use Rattle.plans.specs.declared.Size.TheVariants.{Fits, Over}
 use Rattle.plans.specs.Results.{piece_words, slot_at, pieces_from, numbered, made}
 use Rattle.plans.specs.Sizes.{grown, grown_by, sized_from, sized}
 
@@ -64,9 +64,9 @@ pub grown-past : (m n l : ℕ) → desk.room < n → grown_by m n l ≡ n
 grown-past zero n l h = refl
 grown-past (suc m) n l h = ap (λ i. grown_by m i l) (grown-high n l h) ∙ grown-past m n l h
 
-pub grown-one : (m n l : ℕ) → (m ≡ 0 → ⊥) → {g : ℕ} → g ≡ grown n l → grown_by m n l ≡ grown_by (m - 1) g l
-grown-one zero n l nz e = absurd (nz refl)
-grown-one (suc m) n l nz {g} e = let z : suc m - 1 ≡ m = omega arith in rw (e, z) refl
+-- one more counted
+pub grown-one : (m j n l : ℕ) → m ≡ suc j → {g : ℕ} → g ≡ grown n l → grown_by m n l ≡ grown_by j g l
+grown-one m j n l e d = ap (λ i. grown_by i n l) e ∙ ap (λ i. grown_by j i l) (sym d)
 
 grown-enough : (m n l : ℕ) → desk.room < n + 2 * m → desk.room < grown_by m n l
 grown-enough zero n l h = omega arith
@@ -99,35 +99,35 @@ module _ (k : List ℕ) (r : Recipe) where
   abbrev rows : ℕ → ℕ → List (List ℕ)
   rows i m = map (numbered k r 0) (numbers i m)
 
-  from-alike : (m i n : ℕ) → length (made k r 0) ≤ desk.question → sized_from n (rows i m) ≡ Fits (grown_by m n (length (made k r 0)))
+  from-alike : (m i n : ℕ) → length (made k r 0) ≤ desk.question → sized_from n (rows i m) ≡ Some (grown_by m n (length (made k r 0)))
   from-alike zero i n h = refl
   from-alike (suc m) i n h =
       let e = numbered-length k r 0 i in
-      ap (λ l. pick (leb l desk.question) (sized_from (grown n l) (rows (suc i) m)) Over) e
-      ∙ ap (λ b. pick b (sized_from (grown n (length (made k r 0))) (rows (suc i) m)) Over) (le-leb (length (made k r 0)) desk.question h)
+      ap (λ l. pick (leb l desk.question) (sized_from (grown n l) (rows (suc i) m)) None) e
+      ∙ ap (λ b. pick b (sized_from (grown n (length (made k r 0))) (rows (suc i) m)) None) (le-leb (length (made k r 0)) desk.question h)
       ∙ from-alike m (suc i) (grown n (length (made k r 0))) h
 
   -- m results of one length
-  pub sized-alike : (m : ℕ) → length (made k r 0) ≤ desk.question → sized (rows 0 m) ≡ Fits (grown_by m 0 (length (made k r 0)))
+  pub sized-alike : (m : ℕ) → length (made k r 0) ≤ desk.question → sized (rows 0 m) ≡ Some (grown_by m 0 (length (made k r 0)))
   unfolding sized
   sized-alike m h = from-alike m 0 0 h
 
   -- one of them too long, where there is one
-  pub over-alike : (m : ℕ) → (m ≡ 0 → ⊥) → desk.question < length (made k r 0) → sized (rows 0 m) ≡ Over
+  pub over-alike : (m : ℕ) → (m ≡ 0 → ⊥) → desk.question < length (made k r 0) → sized (rows 0 m) ≡ None
   unfolding sized
   over-alike zero nz h = absurd (nz refl)
-  over-alike (suc m) nz h = ap (λ b. pick b (sized_from (grown 0 (length (made k r 0))) (rows 1 m)) Over) (lt-leb (length (made k r 0)) desk.question h)
+  over-alike (suc m) nz h = ap (λ b. pick b (sized_from (grown 0 (length (made k r 0))) (rows 1 m)) None) (lt-leb (length (made k r 0)) desk.question h)
 
   -- all orders are measured by those that are counted
   pub sized-orders : (n : ℕ) → sized (rows 0 (some_orders n)) ≡ sized (rows 0 (factorial n))
   sized-orders n = go (dec_le n 7) (dec_le (length (made k r 0)) desk.question)
     where
-      some : desk.question < length (made k r 0) → (m : ℕ) → 0 < m → sized (rows 0 m) ≡ Over
+      some : desk.question < length (made k r 0) → (m : ℕ) → 0 < m → sized (rows 0 m) ≡ None
       some h m p = over-alike m (λ z. omega arith) h
 
       go : Dec (n ≤ 7) → Dec (length (made k r 0) ≤ desk.question) → sized (rows 0 (some_orders n)) ≡ sized (rows 0 (factorial n))
       go (yes p) d = ap (λ m. sized (rows 0 m)) (sym (few-orders n refl refl p))
-      go (no p) (yes d) = sized-alike (some_orders n) d ∙ ap Fits (sym (grown-orders n (length (made k r 0)))) ∙ sym (sized-alike (factorial n) d)
+      go (no p) (yes d) = sized-alike (some_orders n) d ∙ ap Some (sym (grown-orders n (length (made k r 0)))) ∙ sym (sized-alike (factorial n) d)
       go (no p) (no d) =
           let s = orders-many n (omega arith) in
           let t = many-orders {n = n} (omega arith) in

@@ -1,5 +1,5 @@
 -- How long results are together, each in its frame.
-use Rattle.std.specs.Prelude.{ℕ, zero, suc, ◌+◌, ◌≤◌, List, [], ◌∷◌, map, leb, length}
+use Rattle.std.specs.Prelude.{ℕ, zero, suc, ◌+◌, ◌≤◌, List, [], ◌∷◌, map, leb, length, Option, Some, None}
 use Rattle.language.specs.declared.Refusal.TheVariants.{LongResult}
 use Rattle.language.specs.Limits.{desk}
 use Rattle.language.specs.Kinds.{pick}
@@ -11,17 +11,16 @@ use Rattle.rules.specs.Expressions.{linear}
 use Rattle.rules.specs.Step.{place}
 use Rattle.frames.specs.Frames.{frame, in_frames}
 use Rattle.views.specs.Looks.{head, tail}
-use Rattle.plans.specs.declared.Size.{Size}
-use Rattle.plans.specs.declared.Size.TheVariants.{Fits, Over}
 
--- the number of the table for each case, 0 where no result is too long, and the value: how many words they are
-abbrev pub size_number : Size → ℕ
-size_number (Fits n) = 0
-size_number Over = number_of LongResult
+-- A size is how many words results take, each in its frame (counted until they pass a lent slice); there is none where one of them is too long.
+-- Its number of the table, 0 where no result is too long, and its value: how many words they are.
+abbrev pub size_number : Option ℕ → ℕ
+size_number (Some n) = 0
+size_number None = number_of LongResult
 
-abbrev pub size_value : Size → ℕ
-size_value (Fits n) = n
-size_value Over = 0
+abbrev pub size_value : Option ℕ → ℕ
+size_value (Some n) = n
+size_value None = 0
 
 -- none passes the limit of a conjunction
 abbrev pub Short : List (List ℕ) → Type 0
@@ -44,11 +43,11 @@ grown_by zero n l = n
 grown_by (suc m) n l = grown_by m (grown n l) l
 
 -- n words and those of the results
-abbrev pub sized_from : ℕ → List (List ℕ) → Size
-sized_from n [] = Fits n
-sized_from n (w ∷ ws) = pick (leb (length w) desk.question) (sized_from (grown n (length w)) ws) Over
+abbrev pub sized_from : ℕ → List (List ℕ) → Option ℕ
+sized_from n [] = Some n
+sized_from n (w ∷ ws) = pick (leb (length w) desk.question) (sized_from (grown n (length w)) ws) None
 
-unfoldable pub sized : List (List ℕ) → Size
+unfoldable pub sized : List (List ℕ) → Option ℕ
 sized ws = sized_from 0 ws
 
 -- the words of a rule's results, in place

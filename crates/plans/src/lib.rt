@@ -57,13 +57,6 @@ pub struct Plan {
     pub second: Recipe,
 }
 
-// How many words the results take, each in its frame (counted until they pass a lent slice), or that one of them is too long.
-#[derive(Clone, Copy)]
-pub enum Size {
-    Fits(usize),
-    Over,
-}
-
 // A part of the words.
 #[derive(Clone, Copy)]
 pub struct Within {
@@ -78,19 +71,12 @@ fn forth(k: &[u16], i: usize) -> usize
     if i < k.len() { i + 1 } else { i }
 }
 
-// One place back.
-fn back(i: usize) -> usize
-    ensures { result ≡ i - 1 }
-{
-    if i == 0 { 0 } else { i - 1 }
-}
-
 // A part without its first and its last word.
 pub fn inner(k: &[u16], from: usize, to: usize) -> Within
     ensures { result ≡ inner_of k.now from to }
 {
     let start = forth(k, from);
-    let end = back(to);
+    let end = to.saturating_sub(1);
     Within {
         from: start,
         to: end,
@@ -111,13 +97,11 @@ pub fn grow_by(times: usize, one: usize) -> usize
     ensures { result ≡ grown_by times 0 one }
 {
     let mut n = 0;
-    let mut left = times;
-    while left != 0 {
+    for _made in 0..times {
         if ROOM < n {
             return n;
         }
         n = grow(n, one);
-        left -= 1;
     }
     n
 }

@@ -2,13 +2,15 @@
 use Prim.Native.Nat.{ℕ, zero, suc, ◌+◌, ◌-◌, ◌*◌, ◌<◌, ◌≤◌, min}
 use native.Mathlib.Omega.{arith}
 use mathlib.Core.Path.{◌≡◌, refl, sym, ap, ap₂, ◌∙◌, subst, fun_ext}
-use mathlib.Core.Bool.{Bool, true, false, not, ◌&&◌, ◌||◌}
+use mathlib.Core.Bool.{Bool, true, false, ◌&&◌, ◌||◌}
 use mathlib.Core.List.{List, [], ◌∷◌, ◌++◌, map}
 use mathlib.Core.Option.{Option, some}
 use lib.Dec.{ltb, leb}
 use lib.ListN.{length, take, drop, get_or, set, length-append, length-map}
 use lib.Seq.{sets, sets-eq, take-append_seam}
-use borrow.Author.Tests.{ltb-true, ltb-false, le-leb, lt-leb, not-true, not-false}
+use borrow.Author.Tests.{ltb-true, ltb-false, le-leb, lt-leb}
+use Rattle.std.specs.Prelude.{Some, None}
+use Rattle.std.specs.Prelude as std
 use Rattle.language.specs.declared.Refusal.TheVariants.{NotText, ManyNames, LongText}
 use Rattle.language.specs.Limits.{Limits}
 use Rattle.language.specs.Kinds.{pick}
@@ -28,8 +30,6 @@ use Rattle.texts.proofs.Accepted.{seventeen, not-seventeen}
 use Rattle.text_names.specs.Shelves.{name_at, listed, width, shelf_of, numbering, enter_all}
 use Rattle.collecting.specs.Collecting.{Taken}
 use Rattle.read_text.proofs.Tables.{all-of-them, too_many}
-use Rattle.text_words.specs.declared.Written.{Written}
-use Rattle.text_survey.specs.declared.Look.{Look}
 use Rattle.text_survey.specs.Surveys.{another, counts, survey_of, Surveyed}
 use Rattle.text_words.specs.Bodies.{words_of, ends_of, Body, ReadBody}
 use Rattle.text_words.proofs.Stores.{sets-++, set_before, ends-offsets, length-ends, length-words}
@@ -52,8 +52,8 @@ spelt-many (blank {ks} {l} {ls} e d) = ap (λ o. counts o (survey_of ls)) e ∙ 
 spelt-many (line {k} {ks} {l} {ls} {ts} e m d) = ap (λ o. counts o (survey_of ls)) e ∙ counts-line k ts (survey_of ls) m ∙ ap another (spelt-many d)
 
 -- a text that is not made of tokens is not of the grammar
-pub not-tokens : (L : Limits) (room : ℕ) (text : List ℕ) {v : Look} → Surveyed text v → not v.ok ≡ true → reads_text L room text ≡ denies NotText
-not-tokens L room text {v} s f = seventeen L room text (λ ks d. let e = spelt-many d in let g = s.bad (not-true v.ok f) in let z : ◌≡◌ {A = ℕ} 0 1 = cc in omega arith)
+pub not-tokens : (L : Limits) (room : ℕ) (text : List ℕ) {v : std.Option ℕ} → Surveyed text v → v ≡ None → reads_text L room text ≡ denies NotText
+not-tokens L room text {v} s f = seventeen L room text (λ ks d. let e = spelt-many d in let g = s.bad f in let z : ◌≡◌ {A = ℕ} 0 1 = cc in omega arith)
 
 -- ---- one of seven tests fails
 
@@ -224,26 +224,26 @@ one_more (suc n) = refl
 
 -- ---- the whole
 
-module _ (L : Limits) (one : 1 ≤ L.each) (text names₀ names zeros : List ℕ) (room : ℕ) {v : Look} (s : Surveyed text v) (o : not v.ok ≡ false) {w : Written} {words' : List ℕ}
-    (b : ReadBody (numbering L text names) text zeros (first_of L v.many) w words') (z : (c : Class) → get_or names₀ (shelf_of L c) 0 ≡ 0) (t : Taken L text names₀ names) where
-  pub not-lines : not w.ok ≡ true → reads_text L room text ≡ denies NotText
-  not-lines f = seventeen L room text (λ ks d. b.bad (not-true w.ok f) ks d)
+module _ (L : Limits) (one : 1 ≤ L.each) (text names₀ names zeros : List ℕ) (room : ℕ) {v : std.Option ℕ} (s : Surveyed text v) {many : ℕ} (o : v ≡ Some many) {w : std.Option ℕ} {words' : List ℕ}
+    (b : ReadBody (numbering L text names) text zeros (first_of L many) w words') (z : (c : Class) → get_or names₀ (shelf_of L c) 0 ≡ 0) (t : Taken L text names₀ names) where
+  pub not-lines : w ≡ None → reads_text L room text ≡ denies NotText
+  not-lines f = seventeen L room text (λ ks d. b.bad f ks d)
 
-  module _ (f : not w.ok ≡ false) where
-    trees : (ks : List Conj) × Lines ks (lines_of text) × Body (numbering L text names) zeros (first_of L v.many) ks w.n words'
-    trees = b.good (not-false w.ok f)
+  module _ {size : ℕ} (f : w ≡ Some size) where
+    trees : (ks : List Conj) × Lines ks (lines_of text) × Body (numbering L text names) zeros (first_of L many) ks size words'
+    trees = b.good size f
 
     abbrev ks : List Conj
     ks = trees.0
 
-    how-many : v.many ≡ length trees.0
-    how-many = same (s.good (not-false v.ok o)) (spelt-many trees.1)
+    how-many : many ≡ length trees.0
+    how-many = same (s.good many o) (spelt-many trees.1)
       where
         same : {x : Option ℕ} {n m : ℕ} → x ≡ some n → x ≡ some m → n ≡ m
         same e g = cc
 
-    module _ {m : Bool} (e : m ≡ many_of L names v.many) where
-      manyof : many_of L names v.many ≡ many_of L names (length trees.0)
+    module _ {m : Bool} (e : m ≡ many_of L names many) where
+      manyof : many_of L names many ≡ many_of L names (length trees.0)
       manyof = ap (many_of L names) how-many
 
       pub many-names : m ≡ true → reads_text L room text ≡ denies ManyNames
@@ -265,76 +265,76 @@ module _ (L : Limits) (one : 1 ≤ L.each) (text names₀ names zeros : List ℕ
         lines-few : length trees.0 ≤ L.alternatives
         lines-few = (none-full L text names₀ names z t trees.0 trees.1 few).1
 
-        first-is : first_of L v.many ≡ 6 + length trees.0
+        first-is : first_of L many ≡ 6 + length trees.0
         first-is = let h = how-many in let l = lines-few in omega arith
 
         js : List ℕ
         js = joined (words_of (numbering L text names) trees.0)
 
         words_are : question_words (counts_in trees.0) (numbered trees.0)
-            ≡ one_at_least (get_or names (2 * width L) 0) ∷ get_or names 0 0 ∷ get_or names (width L) 0 ∷ get_or names (3 * width L) 0 ∷ v.many ∷ (6 + v.many) ∷ (ends_of (first_of L v.many) (words_of (numbering L text names) trees.0) ++ joined (words_of (numbering L text names) trees.0))
+            ≡ one_at_least (get_or names (2 * width L) 0) ∷ get_or names 0 0 ∷ get_or names (width L) 0 ∷ get_or names (3 * width L) 0 ∷ many ∷ (6 + many) ∷ (ends_of (first_of L many) (words_of (numbering L text names) trees.0) ++ joined (words_of (numbering L text names) trees.0))
         unfolding question_words counts_in numbered
         words_are =
             let nf = (none-full L text names₀ names z t trees.0 trees.1 few).0 in
             let ci : (c : Class) → get_or names (shelf_of L c) 0 ≡ length (table trees.0 c) = λ c. count-is L text names₀ names z t trees.0 trees.1 c (nf c) in
             let wo = words-so L text names₀ names z t trees.0 trees.1 few in
             let wss = words_of (numbering L text names) trees.0 in
-            let ln : length (numbered trees.0) ≡ v.many = length-named (λ c n. place n (table trees.0 c)) trees.0 ∙ sym how-many in
-            let fi : first_of L v.many ≡ 6 + v.many = first-is ∙ ap (λ n. 6 + n) (sym how-many) in
+            let ln : length (numbered trees.0) ≡ many = length-named (λ c n. place n (table trees.0 c)) trees.0 ∙ sym how-many in
+            let fi : first_of L many ≡ 6 + many = first-is ∙ ap (λ n. 6 + n) (sym how-many) in
             ap₂ (λ a b. a ∷ b ∷ length (table trees.0 hedges) ∷ length (table trees.0 functions) ∷ length (numbered trees.0) ∷ (offsets_of (6 + length (numbered trees.0)) (map conj_words (numbered trees.0)) ++ joined (map conj_words (numbered trees.0))))
             (plain (at_least_one (length (table trees.0 symbols))) ∙ sym (one_more (get_or names (2 * width L) 0) ∙ ap at_least_one (ci symbols))) (sym (ci terms))
             ∙ ap₂ (λ a b. one_at_least (get_or names (2 * width L) 0) ∷ get_or names 0 0 ∷ a ∷ b ∷ length (numbered trees.0) ∷ (offsets_of (6 + length (numbered trees.0)) (map conj_words (numbered trees.0)) ++ joined (map conj_words (numbered trees.0)))) (sym (ci hedges)) (sym (ci functions))
             ∙ ap₂ (λ n l. one_at_least (get_or names (2 * width L) 0) ∷ get_or names 0 0 ∷ get_or names (width L) 0 ∷ get_or names (3 * width L) 0 ∷ n ∷ (offsets_of (6 + n) l ++ joined l)) ln (sym wo)
-            ∙ ap (λ l. one_at_least (get_or names (2 * width L) 0) ∷ get_or names 0 0 ∷ get_or names (width L) 0 ∷ get_or names (3 * width L) 0 ∷ v.many ∷ (l ++ joined wss)) (sym (ends-offsets (6 + v.many) wss))
-            ∙ ap (λ n. one_at_least (get_or names (2 * width L) 0) ∷ get_or names 0 0 ∷ get_or names (width L) 0 ∷ get_or names (3 * width L) 0 ∷ v.many ∷ (6 + v.many) ∷ (ends_of n wss ++ joined wss)) (sym fi)
+            ∙ ap (λ l. one_at_least (get_or names (2 * width L) 0) ∷ get_or names 0 0 ∷ get_or names (width L) 0 ∷ get_or names (3 * width L) 0 ∷ many ∷ (l ++ joined wss)) (sym (ends-offsets (6 + many) wss))
+            ∙ ap (λ n. one_at_least (get_or names (2 * width L) 0) ∷ get_or names 0 0 ∷ get_or names (width L) 0 ∷ get_or names (3 * width L) 0 ∷ many ∷ (6 + many) ∷ (ends_of n wss ++ joined wss)) (sym fi)
           where
             plain : (n : ℕ) → n + 256 * 0 ≡ n
             plain n = omega arith
 
-        long-is : length (question_words (counts_in trees.0) (numbered trees.0)) ≡ first_of L v.many + length js
+        long-is : length (question_words (counts_in trees.0) (numbered trees.0)) ≡ first_of L many + length js
         unfolding js
         long-is =
-            let le = length-ends (first_of L v.many) (words_of (numbering L text names) trees.0) in
+            let le = length-ends (first_of L many) (words_of (numbering L text names) trees.0) in
             let lw = length-words (numbering L text names) trees.0 in
-            let la = length-append (ends_of (first_of L v.many) (words_of (numbering L text names) trees.0)) (joined (words_of (numbering L text names) trees.0)) in
+            let la = length-append (ends_of (first_of L many) (words_of (numbering L text names) trees.0)) (joined (words_of (numbering L text names) trees.0)) in
             let lq = ap length words_are in
             let fi = first-is in
             omega arith
 
         module _ (lz : length zeros ≡ L.question + 1) where
-          placed : w.n ≡ min (L.question + 1) (length (question_words (counts_in trees.0) (numbered trees.0)))
+          placed : size ≡ min (L.question + 1) (length (question_words (counts_in trees.0) (numbered trees.0)))
           unfolding js
           placed = trees.2.place ∙ ap₂ min lz (sym long-is)
 
-          pub long-words : L.question < w.n → reads_text L room text ≡ denies LongText
+          pub long-words : L.question < size → reads_text L room text ≡ denies LongText
           unfolding fitted
           long-words p = within ∙ ap (λ x. pick (x && leb (length (question_words (counts_in trees.0) (numbered trees.0))) room) (gives (question_words (counts_in trees.0) (numbered trees.0))) (denies LongText)) (lt-leb (length (question_words (counts_in trees.0) (numbered trees.0))) L.question (let q = placed in omega arith))
 
-          module _ (p : w.n ≤ L.question) where
-            exact : length (question_words (counts_in trees.0) (numbered trees.0)) ≡ w.n
+          module _ (p : size ≤ L.question) where
+            exact : length (question_words (counts_in trees.0) (numbered trees.0)) ≡ size
             exact = let q = placed in omega arith
 
             short-enough : leb (length (question_words (counts_in trees.0) (numbered trees.0))) L.question ≡ true
             short-enough = le-leb (length (question_words (counts_in trees.0) (numbered trees.0))) L.question (let q = exact in omega arith)
 
-            pub long-room : room < w.n → reads_text L room text ≡ denies LongText
+            pub long-room : room < size → reads_text L room text ≡ denies LongText
             unfolding fitted
             long-room q =
                 within
                 ∙ ap₂ (λ x y. pick (x && y) (gives (question_words (counts_in trees.0) (numbered trees.0))) (denies LongText)) short-enough (lt-leb (length (question_words (counts_in trees.0) (numbered trees.0))) room (let r = exact in omega arith))
 
-            pub all_words : w.n ≤ room → {words'' : List ℕ} → words'' ≡ sets words' 0 (header_of L names v.many) → (reads_text L room text ≡ gives (take w.n words'')) × (length (take w.n words'') ≡ w.n)
+            pub all_words : size ≤ room → {words'' : List ℕ} → words'' ≡ sets words' 0 (header_of L names many) → (reads_text L room text ≡ gives (take size words'')) × (length (take size words'') ≡ size)
             unfolding fitted js
             all_words q {words''} h =
                 let ex = exact in
                 let li = long-is in
                 let fi = first-is in
                 let lw = length-words (numbering L text names) trees.0 in
-                let le = length-ends (first_of L v.many) (words_of (numbering L text names) trees.0) in
+                let le = length-ends (first_of L many) (words_of (numbering L text names) trees.0) in
                 let bw = trees.2.words (omega arith) (omega arith) in
-                let tk : take w.n words'' ≡ question_words (counts_in trees.0) (numbered trees.0) =
-                ap₂ take (sym ex ∙ li) (h ∙ ap (λ r. sets r 0 (header_of L names v.many)) bw)
-                ∙ all_laid zeros (ends_of (first_of L v.many) (words_of (numbering L text names) trees.0)) (joined (words_of (numbering L text names) trees.0)) _ _ _ _ _ _ (first_of L v.many) (omega arith) (omega arith)
+                let tk : take size words'' ≡ question_words (counts_in trees.0) (numbered trees.0) =
+                ap₂ take (sym ex ∙ li) (h ∙ ap (λ r. sets r 0 (header_of L names many)) bw)
+                ∙ all_laid zeros (ends_of (first_of L many) (words_of (numbering L text names) trees.0)) (joined (words_of (numbering L text names) trees.0)) _ _ _ _ _ _ (first_of L many) (omega arith) (omega arith)
                 ∙ sym words_are in (
                   within
                       ∙ ap₂ (λ x y. pick (x && y) (gives (question_words (counts_in trees.0) (numbered trees.0))) (denies LongText)) short-enough (le-leb (length (question_words (counts_in trees.0) (numbered trees.0))) room (omega arith))

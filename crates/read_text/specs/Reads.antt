@@ -1,15 +1,14 @@
 -- What comes back from reading a text into a room of words, and what the room holds then.
-use Rattle.std.specs.Prelude.{ℕ, zero, suc, ◌+◌, ◌*◌, min, Bool, ◌||◌, List, [], ◌∷◌, ltb, length, get_or}
+use Rattle.std.specs.Prelude.{ℕ, zero, suc, ◌+◌, ◌*◌, min, Bool, ◌||◌, List, [], ◌∷◌, Result, Ok, Err, ltb, length, get_or}
 use Rattle.std.proofs.lemmas.List.Edits.{sets}
+use Rattle.language.specs.declared.Refusal.{Refusal}
 use Rattle.language.specs.Limits.{Limits}
 use Rattle.texts.specs.Outcomes.{Outcome, gives, denies}
 use Rattle.text_names.specs.Shelves.{width}
-use Rattle.read_text.specs.declared.Reading.{Reading}
-use Rattle.read_text.specs.declared.Reading.TheVariants.{Given, Refused}
 
-abbrev pub reading_of : Outcome → Reading
-reading_of (gives ws) = Given (length ws)
-reading_of (denies r) = Refused r
+abbrev pub reading_of : Outcome → Result ℕ Refusal
+reading_of (gives ws) = Ok (length ws)
+reading_of (denies r) = Err r
 
 -- "each leaves the room untouched"
 abbrev pub left_by : Outcome → List ℕ → List ℕ

@@ -1,7 +1,7 @@
 // Reading a text: the words of its question, or 17, 18, 19.
 #![tactic(auto)]
 
-ghost use Rattle.std.specs.Prelude.{◌+◌, ◌*◌, ◌≤◌, ◌<◌, ◌≡◌, false, length, take};
+ghost use Rattle.std.specs.Prelude.{◌+◌, ◌*◌, ◌≤◌, ◌<◌, ◌≡◌, false, length};
 ghost use Rattle.std.proofs.lemmas.List.Edits.{sets};
 ghost use Rattle.language.specs.Limits.{desk};
 ghost use Rattle.texts.specs.Outcomes.{reads_text};
@@ -16,13 +16,6 @@ use text_survey::survey;
 use text_words::write_lines;
 
 const LINES: usize = ALTERNATIVES as usize;
-
-// How many words were given, or why none.
-#[derive(Clone, Copy)]
-pub enum Reading {
-    Given(usize),
-    Refused(Refusal),
-}
 
 // Whether there are more names of a class, or more lines, than a header can count.
 fn is_many(names: &[usize], many: usize) -> bool
@@ -78,46 +71,30 @@ fn write_header(names: &[usize], many: usize, words: &mut [u16])
     put_head(words, 5, (6 + many) as u16);
 }
 
-// The first words, copied to the room.
-fn copy(words: &[u16], n: usize, room: &mut [u16])
-    requires { (n ≤ length words.now) × (n ≤ length room.old) }
-    ensures { room.new ≡ sets room.old 0 (take n words.now) }
-{
-    let mut i = 0;
-    while i < n {
-        room[i] = words[i];
-        i += 1;
-    }
-}
-
-// The words of the question that a text is, in the room lent.
-pub fn read_text(text: &[u8], room: &mut [u16]) -> Reading
+// The words of the question that a text is, in the room lent, and how many they are; or why there are none.
+pub fn read_text(text: &[u8], room: &mut [u16]) -> Result<usize, Refusal>
     ensures value { result ≡ reading_of (reads_text desk (length room.old) text.now) }
     ensures room_after { room.new ≡ left_by (reads_text desk (length room.old) text.now) room.old }
 {
-    let v = survey(text);
-    if !v.ok {
-        return Reading::Refused(Refusal::NotText);
-    }
-    let many = v.many;
+    let Some(many) = survey(text) else {
+        return Err(Refusal::NotText);
+    };
     let mut names = [0usize; ALL];
     let mut words = [0u16; QUESTION + 1];
     collect(text, &mut names);
-    let w = write_lines(text, &names, &mut words, first_word(many));
-    if !w.ok {
-        return Reading::Refused(Refusal::NotText);
-    }
+    let Some(n) = write_lines(text, &names, &mut words, first_word(many)) else {
+        return Err(Refusal::NotText);
+    };
     if is_many(&names, many) {
-        return Reading::Refused(Refusal::ManyNames);
+        return Err(Refusal::ManyNames);
     }
-    let n = w.n;
     if QUESTION < n {
-        return Reading::Refused(Refusal::LongText);
+        return Err(Refusal::LongText);
     }
     if room.len() < n {
-        return Reading::Refused(Refusal::LongText);
+        return Err(Refusal::LongText);
     }
     write_header(&names, many, &mut words);
-    copy(&words, n, room);
-    Reading::Given(n)
+    room[..n].copy_from_slice(&words[..n]);
+    Ok(n)
 }

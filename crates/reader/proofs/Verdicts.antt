@@ -8,7 +8,7 @@ use native.Mathlib.Omega.{arith}
 use lib.ListN.{length, drop}
 use borrow.Author.Tests.{le-leb, lt-leb}
 use Rattle.language.specs.declared.Refusal.{Refusal}
-use Rattle.language.specs.declared.Refusal.TheVariants.{QuestionLength, CountRange, BadOffset, NotLiterals, Undeclared as NotDeclared}
+use Rattle.language.specs.declared.Refusal.TheVariants.{QuestionLength, CountRange, BadOffset, NotLiterals, Undeclared}
 use Rattle.language.specs.Limits.{desk}
 use Rattle.language.specs.Trees.{Conj}
 use Rattle.language.specs.Reading.{Got, got, stop}
@@ -18,26 +18,24 @@ use Rattle.language.proofs.Questions.{bad-length, bad-counts, bad-offset, bad-li
 use Rattle.language.proofs.Alternatives.{question-declared}
 use Rattle.header.specs.declared.Header.{Header}
 use Rattle.header.specs.Heading.{header_of, counts_in}
-use Rattle.undeclared.specs.declared.Scan.TheVariants.{Declared, Undeclared}
 use Rattle.undeclared.specs.Scanning.{first_undeclared}
-use Rattle.trees.specs.declared.Read.TheVariants.{Next, Stop}
+use Rattle.std.specs.Prelude.{Ok, Err, Some, None}
 use Rattle.trees.specs.Places.{placed}
-use Rattle.outcomes.specs.declared.Checked.TheVariants.{Fine, Refused}
 use Rattle.outcomes.specs.Numbers.{checked_numbers}
 use Rattle.reader.specs.Checking.{asked_numbers}
 use Rattle.undeclared.proofs.Scans.{scan-clean, scan-finds}
 
 module _ (ws : List ℕ) where
-  refused : (r : Refusal) → read_question desk ws ≡ refuses r → checked_numbers (Refused r) ≡ asked_numbers (read_question desk ws)
+  refused : (r : Refusal) → read_question desk ws ≡ refuses r → checked_numbers (Err r) ≡ asked_numbers (read_question desk ws)
   unfolding asked_numbers
   refused r e = sym (ap asked_numbers e)
 
-  pub too_short : length ws < 6 → checked_numbers (Refused QuestionLength) ≡ asked_numbers (read_question desk ws)
+  pub too_short : length ws < 6 → checked_numbers (Err QuestionLength) ≡ asked_numbers (read_question desk ws)
   unfolding length_fits
   too_short p = refused QuestionLength (bad-length desk ws (rw (lt-leb 6 (length ws) p)))
 
   module _ (l : 6 ≤ length ws) where
-    pub too_long : desk.question < length ws → checked_numbers (Refused QuestionLength) ≡ asked_numbers (read_question desk ws)
+    pub too_long : desk.question < length ws → checked_numbers (Err QuestionLength) ≡ asked_numbers (read_question desk ws)
     unfolding length_fits
     too_long p = refused QuestionLength (bad-length desk ws (rw (le-leb 6 (length ws) l, lt-leb (length ws) desk.question p)))
 
@@ -54,11 +52,11 @@ module _ (ws : List ℕ) where
         tabled : laid_out 5 h.alternatives ws ≡ laid_out 5 (alternatives_of ws) ws
         tabled = ap (λ (h : Header). laid_out 5 h.alternatives ws) e
 
-        pub counts-wrong : counts_fit desk (counts_in h) h.alternatives ≡ false → checked_numbers (Refused CountRange) ≡ asked_numbers (read_question desk ws)
+        pub counts-wrong : counts_fit desk (counts_in h) h.alternatives ≡ false → checked_numbers (Err CountRange) ≡ asked_numbers (read_question desk ws)
         counts-wrong c = refused CountRange (bad-counts desk ws fits (sym counted ∙ c))
 
         module _ (c : counts_fit desk (counts_in h) h.alternatives ≡ true) where
-          pub offsets-wrong : laid_out 5 h.alternatives ws ≡ false → checked_numbers (Refused BadOffset) ≡ asked_numbers (read_question desk ws)
+          pub offsets-wrong : laid_out 5 h.alternatives ws ≡ false → checked_numbers (Err BadOffset) ≡ asked_numbers (read_question desk ws)
           offsets-wrong o = refused BadOffset (bad-offset desk ws fits (sym counted ∙ c) (sym tabled ∙ o))
 
           module _ (o : laid_out 5 h.alternatives ws ≡ true) where
@@ -68,18 +66,18 @@ module _ (ws : List ℕ) where
             readings : placed (6 + h.alternatives) (read_all desk (parts 5 h.alternatives ws)) ≡ placed (body_at ws) (read_all desk (parts 5 (alternatives_of ws) ws))
             readings = ap (λ (h : Header). placed (6 + h.alternatives) (read_all desk (parts 5 h.alternatives ws))) e
 
-            pub literals-wrong : (at : ℕ) → placed (6 + h.alternatives) (read_all desk (parts 5 h.alternatives ws)) ≡ Stop at
-                → checked_numbers (Refused (NotLiterals at)) ≡ asked_numbers (read_question desk ws)
+            pub literals-wrong : (at : ℕ) → placed (6 + h.alternatives) (read_all desk (parts 5 h.alternatives ws)) ≡ Err at
+                → checked_numbers (Err (NotLiterals at)) ≡ asked_numbers (read_question desk ws)
             literals-wrong at r = on (read_all desk (parts 5 (alternatives_of ws) ws)) refl (sym readings ∙ r)
               where
-                on : (g : Got (List Conj)) → read_all desk (parts 5 (alternatives_of ws) ws) ≡ g → placed (body_at ws) g ≡ Stop at
-                    → checked_numbers (Refused (NotLiterals at)) ≡ asked_numbers (read_question desk ws)
+                on : (g : Got (List Conj)) → read_all desk (parts 5 (alternatives_of ws) ws) ≡ g → placed (body_at ws) g ≡ Err at
+                    → checked_numbers (Err (NotLiterals at)) ≡ asked_numbers (read_question desk ws)
                 on (stop m) i s =
                     refused (NotLiterals at) (bad-literals desk ws fits (sym counted ∙ c) (sym tabled ∙ o) m i ∙ ap (λ p. refuses (NotLiterals p)) (let z : body_at ws + m ≡ at = unfold placed in cc in z))
                 on (got ks m) i s = absurd (let z : ◌≡◌ {A = ℕ} 0 1 = unfold placed in cc in omega arith)
 
             -- the scan begins behind the table
-            module _ (end : ℕ) (r : placed (6 + h.alternatives) (read_all desk (parts 5 h.alternatives ws)) ≡ Next end) (m : ℕ) (f : m ≡ h.alternatives) where
+            module _ (end : ℕ) (r : placed (6 + h.alternatives) (read_all desk (parts 5 h.alternatives ws)) ≡ Ok end) (m : ℕ) (f : m ≡ h.alternatives) where
               behind : m + 6 ≡ body_at ws
               behind = let z = begins in omega arith
 
@@ -96,19 +94,19 @@ module _ (ws : List ℕ) where
               with-readings : {A : Type 0} → ((ks : List Conj) (k : ℕ) → read_all desk (parts 5 (alternatives_of ws) ws) ≡ got ks k → A) → A
               with-readings {A} t = on (read_all desk (parts 5 (alternatives_of ws) ws)) refl (sym readings ∙ r)
                 where
-                  on : (g : Got (List Conj)) → read_all desk (parts 5 (alternatives_of ws) ws) ≡ g → placed (body_at ws) g ≡ Next end → A
+                  on : (g : Got (List Conj)) → read_all desk (parts 5 (alternatives_of ws) ws) ≡ g → placed (body_at ws) g ≡ Ok end → A
                   on (stop k) i s = absurd (let z : ◌≡◌ {A = ℕ} 0 1 = unfold placed in cc in omega arith)
                   on (got ks k) i s = t ks k i
 
-              pub number-wrong : (at : ℕ) → first_undeclared desk (counts_in h) (m + 6) (drop (m + 6) ws) ≡ Undeclared at
-                  → checked_numbers (Refused (NotDeclared at)) ≡ asked_numbers (read_question desk ws)
+              pub number-wrong : (at : ℕ) → first_undeclared desk (counts_in h) (m + 6) (drop (m + 6) ws) ≡ Some at
+                  → checked_numbers (Err (Undeclared at)) ≡ asked_numbers (read_question desk ws)
               number-wrong at d = with-readings (λ ks k i.
                   let (u, p) = scan-finds (counts_in h) (m + 6) (drop (m + 6) ws) at d in
                   let q : m + 6 + undeclared_at desk (counts_in h) (drop (m + 6) ws) ≡ body_at ws + undeclared_at desk (counts_of ws) (drop (body_at ws) ws) =
                   ap (λ (h : Header). m + 6 + undeclared_at desk (counts_in h) (drop (m + 6) ws)) e ∙ ap (λ b. b + undeclared_at desk (counts_of ws) (drop b ws)) behind in
-                  refused (NotDeclared at)
-                  (not-declared desk ws fits (sym counted ∙ c) (sym tabled ∙ o) ks k i (sym (words-declared ks k i) ∙ u) ∙ ap (λ p. refuses (NotDeclared p)) (sym (p ∙ q))))
+                  refused (Undeclared at)
+                  (not-declared desk ws fits (sym counted ∙ c) (sym tabled ∙ o) ks k i (sym (words-declared ks k i) ∙ u) ∙ ap (λ p. refuses (Undeclared p)) (sym (p ∙ q))))
 
-              pub nothing-wrong : first_undeclared desk (counts_in h) (m + 6) (drop (m + 6) ws) ≡ Declared → checked_numbers Fine ≡ asked_numbers (read_question desk ws)
+              pub nothing-wrong : first_undeclared desk (counts_in h) (m + 6) (drop (m + 6) ws) ≡ None → checked_numbers (Ok tt) ≡ asked_numbers (read_question desk ws)
               unfolding asked_numbers
               nothing-wrong d = with-readings (λ ks k i. sym (ap asked_numbers (asked desk ws fits (sym counted ∙ c) (sym tabled ∙ o) ks k i (sym (words-declared ks k i) ∙ scan-clean (counts_in h) (m + 6) (drop (m + 6) ws) d))))

@@ -1,14 +1,13 @@
 -- What the checks of a question answer, in terms of the definition of a question.
-use Rattle.std.specs.Prelude.{ℕ}
+use Rattle.std.specs.Prelude.{ℕ, Result, Ok, Err}
+use Rattle.language.specs.declared.Refusal.{Refusal}
 use Rattle.language.specs.Numbers.{number_of}
 use Rattle.language.specs.Question.{Asked, asks, refuses, asked_place}
-use Rattle.outcomes.specs.declared.Checked.{Checked}
-use Rattle.outcomes.specs.declared.Checked.TheVariants.{Fine, Refused}
 
 -- a question that is not refused is fine
-unfoldable pub checked : Asked → Checked
-checked (asks q) = Fine
-checked (refuses r) = Refused r
+unfoldable pub checked : Asked → Result (Unit {0}) Refusal
+checked (asks q) = Ok tt
+checked (refuses r) = Err r
 
 -- the same in numbers: the number of the table, 0 for a question that is not refused, and the place of the mistake
 abbrev pub asked_number : Asked → ℕ

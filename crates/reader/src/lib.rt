@@ -10,11 +10,9 @@ ghost use Rattle.reader.specs.Checking.{asked_numbers};
 
 use conjunctions::read_all;
 use header::{Header, laid_out, read_header};
+use language::Refusal;
 use language::limits::{ALTERNATIVES, EACH, QUESTION};
-use language::{Refusal, wide};
-use outcomes::Checked;
-use trees::Read;
-use undeclared::{Scan, find_undeclared};
+use undeclared::find_undeclared;
 
 // Whether the counts are in range.
 fn counts_fit(h: Header) -> bool
@@ -42,28 +40,26 @@ fn counts_fit(h: Header) -> bool
 }
 
 // Whether a question can be worked on, or which of 2 to 6 is given, and at which place: in their order, each over the whole question.
-pub fn read_question(question: &[u16]) -> Checked
+pub fn read_question(question: &[u16]) -> Result<(), Refusal>
     ensures { checked_numbers result ≡ asked_numbers (read_question desk question.now) }
 {
     if question.len() < 6 {
-        return Checked::Refused(Refusal::QuestionLength);
+        return Err(Refusal::QuestionLength);
     }
     if QUESTION < question.len() {
-        return Checked::Refused(Refusal::QuestionLength);
+        return Err(Refusal::QuestionLength);
     }
     let h = read_header(question);
     if !counts_fit(h) {
-        return Checked::Refused(Refusal::CountRange);
+        return Err(Refusal::CountRange);
     }
     let n = h.alternatives;
     if !laid_out(question, 5, n) {
-        return Checked::Refused(Refusal::BadOffset);
+        return Err(Refusal::BadOffset);
     }
-    match read_all(question, n) {
-        Read::Stop(at) => Checked::Refused(Refusal::NotLiterals(at)),
-        Read::Next(_) => match find_undeclared(h, question, wide(n) + 6) {
-            Scan::Undeclared(at) => Checked::Refused(Refusal::Undeclared(at)),
-            Scan::Declared => Checked::Fine,
-        },
+    read_all(question, n).map_err(Refusal::NotLiterals)?;
+    match find_undeclared(h, question, usize::from(n) + 6) {
+        Some(at) => Err(Refusal::Undeclared(at)),
+        None => Ok(()),
     }
 }

@@ -1,10 +1,10 @@
-// A recipe put together from its pieces.
+// A recipe put together from its pieces, and a plan of one recipe.
 #![tactic(auto)]
 
 ghost use Rattle.std.specs.Prelude.{◌≡◌};
-ghost use Rattle.plans.specs.Slots.{full_recipe, few_recipe};
+ghost use Rattle.plans.specs.Slots.{full_recipe, few_recipe, single, drop_plan};
 
-use plans::{Piece, Recipe, Slot};
+use plans::{Piece, Plan, Recipe, Slot, Ways};
 
 // A recipe of twelve pieces.
 pub fn full(
@@ -65,4 +65,24 @@ pub fn few(
     full(
         a, b, c, d, e, none, none, none, none, none, none, none, old, until, new,
     )
+}
+
+// A plan of one recipe.
+pub fn single(ways: Ways, first: Recipe) -> Plan
+    ensures { result ≡ single ways first }
+{
+    Plan {
+        ways,
+        first,
+        second: first,
+    }
+}
+
+// No result.
+pub fn plan_drop() -> Plan
+    ensures { result ≡ drop_plan }
+{
+    let none = Piece::Copy(0, 0);
+    let first = few(none, none, none, none, none, 0, 0, 0);
+    single(Ways::Drop, first)
 }

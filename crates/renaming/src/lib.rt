@@ -31,11 +31,10 @@ fn rename(
     ensures { Wrote out.old at (renamed old new (slice from to k.now)) out.new result }
 {
     let end = within(k, to);
-    let mut i = from;
+    // kept: e is where the next word goes, in another slice than i, and is the answer
     let mut e = at;
-    while i < end {
+    for i in from..end {
         out[e] = rename_word(k[i], old, new);
-        i += 1;
         e += 1;
     }
     e

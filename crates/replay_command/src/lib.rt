@@ -8,8 +8,6 @@ use files::{Loaded, SHEET, TOO_MANY, load, load_question};
 use language::Refusal;
 use language::limits::{QUESTION, ROOM};
 use outcomes::{Outcome, Solved};
-use print::{warn, warn_number};
-use refusals::number;
 use replayer::replay;
 use replies::{no_question, refuse, solved};
 use word_bytes::write_words;
@@ -21,23 +19,12 @@ const TRIPLE: usize = 3;
 // As many words as a text of 65,535 bytes can have.
 const TOLD: usize = 32768;
 
-fn is_bad_step(r: Refusal) -> bool {
-    match r {
-        Refusal::BadStep => true,
-        _ => false,
-    }
-}
-
 // Whether a trail has a step that does not apply.
 fn is_wrong(question: &[u16], told: &[u8]) -> bool {
     let mut work = [0u16; ROOM];
     let mut answer = [0u16; ROOM];
     let s = replay(question, told, &mut work, &mut answer);
-    let outcome = s.outcome;
-    match outcome {
-        Outcome::Refused(r) => is_bad_step(r),
-        _ => false,
-    }
+    matches!(s.outcome, Outcome::Refused(Refusal::BadStep))
 }
 
 // The same of its first so many steps.
@@ -76,81 +63,69 @@ fn halved(question: &[u16], told: &[u8], b: Between) -> Between {
     }
 }
 
-// Four times.
-fn halved_on(question: &[u16], told: &[u8], b: Between) -> Between {
-    let c = halved(question, told, b);
-    let d = halved(question, told, c);
-    let e = halved(question, told, d);
-    halved(question, told, e)
-}
+// A text has fewer steps than so many halvings leave one of.
+const HALVINGS: usize = 16;
 
-// The first step that does not apply, from 1, of a trail that has one: a text has fewer steps than sixteen halvings leave one of.
+// The first step that does not apply, from 1, of a trail that has one.
 fn wrong_step(question: &[u16], told: &[u8]) -> usize {
-    let b = Between {
+    let mut b = Between {
         right: 0,
         wrong: told.len() / (2 * TRIPLE),
     };
-    let c = halved_on(question, told, b);
-    let d = halved_on(question, told, c);
-    let e = halved_on(question, told, d);
-    let f = halved_on(question, told, e);
-    f.wrong
-}
-
-// Says which step it is.
-fn at_step<'a>(rt: &HostRuntime, text: &'a [u8], n: usize) {
-    warn(rt.stderr(), text);
-    warn_number(rt.stderr(), n as u64);
-    warn(rt.stderr(), b".\n");
+    for _ in 0..HALVINGS {
+        b = halved(question, told, b);
+    }
+    b.wrong
 }
 
 // Why a trail is refused, and at which step, where that is known.
-fn denied<'a>(
+fn denied(
     rt: &HostRuntime,
     r: Refusal,
-    question: &'a [u16],
-    told: &'a [u8],
-    text: &'a [u8],
+    question: &[u16],
+    told: &[u8],
+    text: &[u8],
     i: usize,
 ) -> Status {
     match r {
         Refusal::BadStep => {
-            refusal(rt.stderr(), number(r) as u64);
-            at_step(rt, b"It is step ", wrong_step(question, told));
+            refusal(rt.stderr(), r);
+            let n = wrong_step(question, told);
+            let _ = eprintln!(rt; "It is step {n}.");
             failed()
         }
         Refusal::ShortTrail => {
-            refusal(rt.stderr(), number(r) as u64);
-            at_step(rt, b"Its whole steps are ", told.len() / (2 * TRIPLE));
+            refusal(rt.stderr(), r);
+            let n = told.len() / (2 * TRIPLE);
+            let _ = eprintln!(rt; "Its whole steps are {n}.");
             failed()
         }
         _ => refuse(rt, r, question, text, i),
     }
 }
 
-fn replayed<'a>(
+fn replayed(
     rt: &HostRuntime,
     s: Solved,
-    question: &'a [u16],
-    answer: &'a [u16],
-    told: &'a [u8],
-    text: &'a [u8],
-    names: &'a [u8],
+    question: &[u16],
+    answer: &[u16],
+    told: &[u8],
+    text: &[u8],
+    names: &[u8],
     i: usize,
 ) -> Status {
-    let outcome = s.outcome;
-    if let Outcome::Refused(r) = outcome {
+    if let Outcome::Refused(r) = s.outcome {
         return denied(rt, r, question, told, text, i);
     }
     solved(rt, s, question, answer, text, names, i)
 }
 
-fn replay_words<'a>(
+fn replay_words(
     rt: &HostRuntime,
-    question: &'a [u16],
-    told: &'a [u8],
-    text: &'a [u8],
-    names: &'a [u8],
+    question: &[u16],
+    told: &[u8],
+    text: &[u8],
+    names: &[u8],
     i: usize,
 ) -> Status {
     let mut work = [0u16; ROOM];
@@ -160,12 +135,12 @@ fn replay_words<'a>(
 }
 
 // Replays a trail's words, as the bytes that they are.
-fn replay_told<'a>(
+fn replay_told(
     rt: &HostRuntime,
-    question: &'a [u16],
-    trail: &'a [u16],
-    text: &'a [u8],
-    names: &'a [u8],
+    question: &[u16],
+    trail: &[u16],
+    text: &[u8],
+    names: &[u8],
     i: usize,
 ) -> Status
     requires { length trail.now ≤ 32768 }
@@ -177,37 +152,37 @@ fn replay_told<'a>(
 }
 
 // Replays the trail of the file that argument `j` names.
-fn replay_trail<'a>(
+fn replay_trail(
     rt: &HostRuntime,
-    question: &'a [u16],
-    buf: &'a [u8],
+    question: &[u16],
+    buf: &[u8],
     t: Loaded,
     i: usize,
     j: usize,
 ) -> Status
     requires { (t.bytes ≤ length buf.now) × (t.named ≤ length buf.now) }
 {
-    let m = t.bytes;
-    let k = t.named;
     let mut trail = [0u8; TOO_MANY];
     let mut words = [0u16; TOLD];
-    let told = load(rt, j, &mut trail, &mut words);
-    if !told.fine {
-        return failed();
+    match load(rt, j, &mut trail, &mut words) {
+        Ok(told) => replay_told(
+            rt,
+            question,
+            &words[0..told.words],
+            &buf[0..t.bytes],
+            &buf[0..t.named],
+            i,
+        ),
+        Err(_) => failed(),
     }
-    let n = told.words;
-    replay_told(rt, question, &words[0..n], &buf[0..m], &buf[0..k], i)
 }
 
 // The answer that the trail in the file of argument `j` leads to, of the question in the file that argument `i` names.
 pub fn replay_file(rt: &HostRuntime, i: usize, j: usize) -> Status {
     let mut buf = [0u8; SHEET];
     let mut words = [0u16; 2 * QUESTION];
-    let t = load_question(rt, i, &mut buf, &mut words);
-    let n = t.words;
-    let m = t.bytes;
-    if !t.fine {
-        return no_question(rt, t.number, &buf[0..m], i);
+    match load_question(rt, i, &mut buf, &mut words) {
+        Ok(t) => replay_trail(rt, &words[0..t.words], &buf, t, i, j),
+        Err(u) => no_question(rt, u.refusal, &buf[0..u.bytes], i),
     }
-    replay_trail(rt, &words[0..n], &buf, t, i, j)
 }

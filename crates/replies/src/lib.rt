@@ -15,24 +15,11 @@ use text_places::not_text;
 use wording::answer::answered;
 use wording::reasons::refusal;
 
-// The number of the refusal of what is no text.
-const NOT_TEXT: u16 = 17;
-
-fn wide(n: u16) -> u64 {
-    n as u64
-}
-
 // Says why a question is refused, and shows the word that is to blame, if one is. Its text is that of the file that argument `i` names.
-pub fn refuse<'a>(
-    rt: &HostRuntime,
-    r: Refusal,
-    question: &'a [u16],
-    text: &'a [u8],
-    i: usize,
-) -> Status
+pub fn refuse(rt: &HostRuntime, r: Refusal, question: &[u16], text: &[u8], i: usize) -> Status
     ensures { result ≡ Failed }
 {
-    refusal(rt.stderr(), wide(refusals::number(r)));
+    refusal(rt.stderr(), r);
     if refusals::place(r) != 0 {
         name_of(rt, i);
         mistake(rt.stderr(), r, question, text);
@@ -40,13 +27,13 @@ pub fn refuse<'a>(
     failed()
 }
 
-// Says why a file has no question: a text that is refused by this number, or for a reason that is said already.
-pub fn no_question(rt: &HostRuntime, number: u16, text: &[u8], i: usize) -> Status
+// Says why a file has no question: a text that is refused, or a reason that is said already.
+pub fn no_question(rt: &HostRuntime, why: Option<Refusal>, text: &[u8], i: usize) -> Status
     ensures { result ≡ Failed }
 {
-    if number != 0 {
-        refusal(rt.stderr(), wide(number));
-        if number == NOT_TEXT {
+    if let Some(r) = why {
+        refusal(rt.stderr(), r);
+        if let Refusal::NotText = r {
             name_of(rt, i);
             not_text(rt.stderr(), text);
         }
@@ -55,24 +42,23 @@ pub fn no_question(rt: &HostRuntime, number: u16, text: &[u8], i: usize) -> Stat
 }
 
 // Says what solving came to, in these names.
-pub fn solved<'a>(
+pub fn solved(
     rt: &HostRuntime,
     s: Solved,
-    question: &'a [u16],
-    answer: &'a [u16],
-    text: &'a [u8],
-    names: &'a [u8],
+    question: &[u16],
+    answer: &[u16],
+    text: &[u8],
+    names: &[u8],
     i: usize,
 ) -> Status
     ensures { result ≡ status_of s.outcome }
 {
-    let outcome = s.outcome;
-    match outcome {
+    match s.outcome {
         Outcome::Refused(r) => refuse(rt, r, question, text, i),
         Outcome::NoLine => {
             answered(
                 rt.stdout(),
-                b"none: nothing meets the question; desk walk shows why\n",
+                "none: nothing meets the question; desk walk shows why",
                 s,
                 question,
                 answer,
@@ -83,7 +69,7 @@ pub fn solved<'a>(
         Outcome::AllSolved => {
             answered(
                 rt.stdout(),
-                b"settled: every line can be met\n",
+                "settled: every line can be met",
                 s,
                 question,
                 answer,
@@ -94,7 +80,7 @@ pub fn solved<'a>(
         Outcome::SomeOpen => {
             answered(
                 rt.stdout(),
-                b"still open: there may be something that meets an open line, or nothing\n",
+                "still open: there may be something that meets an open line, or nothing",
                 s,
                 question,
                 answer,

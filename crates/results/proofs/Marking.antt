@@ -8,6 +8,7 @@ use lib.Dec.{eqb}
 use lib.ListN.{length, get_or, set, length-set}
 use lib.Seq.{get_or-set_same, get_or-set_other}
 use borrow.Author.Tests.{eqb-true, eqb-false}
+use Rattle.std.specs.Prelude.{Some, None}
 use Rattle.language.specs.declared.HedgeVar.{HedgeVar}
 use Rattle.language.specs.declared.Kind.{Kind}
 use Rattle.language.specs.declared.Kind.TheVariants.{End, Term, Run, Symbol, Function, Equation, Membership, Eps, Cat, Alt, Star, Other}
@@ -120,13 +121,17 @@ module _ {s : List Bool} {rest all : List ℕ} (m : Marking s rest all) where
         ∙ sym (ap (λ l. marked s x || member x l) e) ∙ m.told x;
   }
 
-  pub marking-done : rest ≡ [] → Marked all (record { only = true; set = s })
-  marking-done e = record { told = λ _ x. or-none (marked s x) ∙ sym (ap (λ l. marked s x || member x l) e) ∙ m.told x }
+  pub marking-done : rest ≡ [] → Marked all (Some s)
+  marking-done e = record {
+    told = λ set d x.
+        let z : s ≡ set = cc in
+        subst (λ s. marked s x ≡ member x all) z (or-none (marked s x) ∙ sym (ap (λ l. marked s x || member x l) e) ∙ m.told x);
+  }
     where
       or-none : (b : Bool) → b ≡ (b || false)
       or-none true = refl
       or-none false = refl
 
 -- where they are others too, nothing is said
-pub not-only : (s : List Bool) (all : List ℕ) → Marked all (record { only = false; set = s })
-not-only s all = record { told = λ e x. absurd (let z : ◌≡◌ {A = ℕ} 0 1 = cc in omega arith) }
+pub not-only : (all : List ℕ) → Marked all None
+not-only all = record { told = λ set e x. absurd (let z : ◌≡◌ {A = ℕ} 0 1 = cc in omega arith) }

@@ -3,12 +3,12 @@ use mathlib.Core.Path.{◌≡◌, refl, sym, subst, ap, ◌∙◌}
 use mathlib.Core.List.{List, [], ◌∷◌, append-nil}
 use Prim.Native.Nat.{ℕ}
 use native.Mathlib.Omega.{arith}
+use Rattle.std.specs.Prelude.{Option}
 use Rattle.plans.specs.Results.{ways_from, results_of}
 use Rattle.frames.specs.Frames.{in_frame, in_frames}
 use Rattle.plans.specs.Sizes.{sized_from, sized, Ready}
 use Rattle.plans.specs.declared.Plan.{Plan}
 use Rattle.plans.specs.declared.Ways.{Ways}
-use Rattle.plans.specs.declared.Size.{Size}
 use Rattle.slices.specs.Written.{Wrote}
 use Rattle.slices.proofs.Still.{wrote_as}
 
@@ -24,7 +24,7 @@ module _ (k : List ℕ) (p : Plan) (w : Ways) (e : p.ways ≡ w) where
   unfolding results_of
   planned = ap (ways_from k p.first p.second) e
 
-  pub sized-by : {s : Size} → s ≡ sized_from 0 results → s ≡ sized (results_of k p)
+  pub sized-by : {s : Option ℕ} → s ≡ sized_from 0 results → s ≡ sized (results_of k p)
   unfolding sized
   sized-by h = h ∙ ap sized (sym planned)
 

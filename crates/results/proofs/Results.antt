@@ -9,6 +9,7 @@ use native.Mathlib.Omega.{arith}
 use lib.Dec.{leb}
 use lib.ListN.{length, length-append}
 use borrow.Author.Tests.{le-leb, lt-leb}
+use Rattle.std.specs.Prelude.{Option, Some, None}
 use Rattle.language.specs.Limits.{desk}
 use Rattle.language.specs.Kinds.{pick}
 use Rattle.meaning.specs.Values.{numbers}
@@ -20,40 +21,38 @@ use Rattle.words.specs.Spans.{element_end, places}
 use Rattle.frames.specs.Frames.{in_frame, in_frames}
 use Rattle.plans.specs.Sizes.{Short, grown, sized_from}
 use Rattle.plans.specs.declared.Recipe.{Recipe}
-use Rattle.plans.specs.declared.Size.{Size}
-use Rattle.plans.specs.declared.Size.TheVariants.{Fits, Over}
 use Rattle.slices.proofs.Parts.{Split}
 
 -- ---- counting
 
 module _ (n : ℕ) (w : List ℕ) (ws : List (List ℕ)) (one : ℕ) (e : one ≡ length w) where
-  pub size-over : desk.question < one → Over ≡ sized_from n (w ∷ ws)
+  pub size-over : desk.question < one → None ≡ sized_from n (w ∷ ws)
   size-over h =
-      sym (ap (λ l. pick (leb l desk.question) (sized_from (grown n (length w)) ws) Over) (sym e) ∙ ap (λ b. pick b (sized_from (grown n (length w)) ws) Over) (lt-leb one desk.question h))
+      sym (ap (λ l. pick (leb l desk.question) (sized_from (grown n (length w)) ws) None) (sym e) ∙ ap (λ b. pick b (sized_from (grown n (length w)) ws) None) (lt-leb one desk.question h))
 
   pub size-more : one ≤ desk.question → (m : ℕ) → m ≡ grown n one → sized_from m ws ≡ sized_from n (w ∷ ws)
   size-more h m g =
       ap (λ m. sized_from m ws) (g ∙ ap (grown n) e)
-      ∙ sym (ap (λ l. pick (leb l desk.question) (sized_from (grown n (length w)) ws) Over) (sym e) ∙ ap (λ b. pick b (sized_from (grown n (length w)) ws) Over) (le-leb one desk.question h))
+      ∙ sym (ap (λ l. pick (leb l desk.question) (sized_from (grown n (length w)) ws) None) (sym e) ∙ ap (λ b. pick b (sized_from (grown n (length w)) ws) None) (le-leb one desk.question h))
 
 -- one result and then others
-abbrev pub then : Size → List (List ℕ) → Size
-then Over ws = Over
-then (Fits n) ws = sized_from n ws
+abbrev pub then : Option ℕ → List (List ℕ) → Option ℕ
+then None ws = None
+then (Some n) ws = sized_from n ws
 
 pub size-then : (n : ℕ) (w : List ℕ) (ws : List (List ℕ)) → then (sized_from n (w ∷ [])) ws ≡ sized_from n (w ∷ ws)
 size-then n w ws = go (leb (length w) desk.question)
   where
-    go : (b : Bool) → then (pick b (Fits (grown n (length w))) Over) ws ≡ pick b (sized_from (grown n (length w)) ws) Over
+    go : (b : Bool) → then (pick b (Some (grown n (length w))) None) ws ≡ pick b (sized_from (grown n (length w)) ws) None
     go true = refl
     go false = refl
 
 -- two results
-module _ (a b : List ℕ) (s : Size) (e : s ≡ sized_from 0 (a ∷ [])) where
-  pub two-over : s ≡ Over → Over ≡ sized_from 0 (a ∷ b ∷ [])
+module _ (a b : List ℕ) (s : Option ℕ) (e : s ≡ sized_from 0 (a ∷ [])) where
+  pub two-over : s ≡ None → None ≡ sized_from 0 (a ∷ b ∷ [])
   two-over f = sym (ap (λ s. then s (b ∷ [])) f) ∙ ap (λ s. then s (b ∷ [])) e ∙ size-then 0 a (b ∷ [])
 
-  pub two-more : (n : ℕ) → s ≡ Fits n → (t : Size) → t ≡ sized_from n (b ∷ []) → t ≡ sized_from 0 (a ∷ b ∷ [])
+  pub two-more : (n : ℕ) → s ≡ Some n → (t : Option ℕ) → t ≡ sized_from n (b ∷ []) → t ≡ sized_from 0 (a ∷ b ∷ [])
   two-more n f t g = g ∙ sym (ap (λ s. then s (b ∷ [])) f) ∙ ap (λ s. then s (b ∷ [])) e ∙ size-then 0 a (b ∷ [])
 
 -- results in a row
@@ -69,23 +68,27 @@ module _ (k : List ℕ) (r : Recipe) (n c : ℕ) where
   unfolding places
   cuts-none e = ap (λ n. cuts k r n c) e
 
-  module _ (nz : n ≡ 0 → ⊥) (d : ℕ) (e : d ≡ element_end k c) where
-    cuts-cons : cuts k r n c ≡ made k r c ∷ cuts k r (n - 1) d
+  module _ (left : ℕ) (some : n ≡ suc left) (d : ℕ) (e : d ≡ element_end k c) where
+    cuts-cons : cuts k r n c ≡ made k r c ∷ cuts k r left d
     unfolding places
-    cuts-cons = let z : n ≡ suc (n - 1) = omega arith in ap (λ m. cuts k r m c) z ∙ ap (λ d. made k r c ∷ cuts k r (n - 1) d) (sym e)
+    cuts-cons = ap (λ m. cuts k r m c) some ∙ ap (λ d. made k r c ∷ cuts k r left d) (sym e)
 
-    pub cuts-over : (m one : ℕ) → one ≡ length (made k r c) → desk.question < one → Over ≡ sized_from m (cuts k r n c)
-    cuts-over m one f h = size-over m (made k r c) (cuts k r (n - 1) d) one f h ∙ ap (sized_from m) (sym cuts-cons)
+    pub cuts-over : (m one : ℕ) → one ≡ length (made k r c) → desk.question < one → None ≡ sized_from m (cuts k r n c)
+    cuts-over m one f h = size-over m (made k r c) (cuts k r left d) one f h ∙ ap (sized_from m) (sym cuts-cons)
 
     pub cuts-more : (m one : ℕ) → one ≡ length (made k r c) → one ≤ desk.question → (m' : ℕ) → m' ≡ grown m one
-        → sized_from m' (cuts k r (n - 1) d) ≡ sized_from m (cuts k r n c)
-    cuts-more m one f h m' g = size-more m (made k r c) (cuts k r (n - 1) d) one f h m' g ∙ ap (sized_from m) (sym cuts-cons)
+        → sized_from m' (cuts k r left d) ≡ sized_from m (cuts k r n c)
+    cuts-more m one f h m' g = size-more m (made k r c) (cuts k r left d) one f h m' g ∙ ap (sized_from m) (sym cuts-cons)
 
-    pub cuts-split : (number : ℕ) → Split (in_frames number (cuts k r n c)) (in_frame number (made k r c)) (in_frames number (cuts k r (n - 1) d))
+    pub cuts-split : (number : ℕ) → Split (in_frames number (cuts k r n c)) (in_frame number (made k r c)) (in_frames number (cuts k r left d))
     cuts-split number = record { eq = ap (in_frames number) cuts-cons }
 
-    pub cuts-short : Short (cuts k r n c) → (length (made k r c) ≤ desk.question) × Short (cuts k r (n - 1) d)
+    pub cuts-short : Short (cuts k r n c) → (length (made k r c) ≤ desk.question) × Short (cuts k r left d)
     cuts-short s = subst Short cuts-cons s
+
+-- all of them are left at first
+pub cuts_all : (k : List ℕ) (r : Recipe) (n c : ℕ) → cuts k r n c ≡ cuts k r (n - 0) c
+cuts_all k r n c = let z : n ≡ n - 0 = omega arith in ap (λ m. cuts k r m c) z
 
 -- ---- a result for each number
 abbrev pub alike : List ℕ → Recipe → ℕ → ℕ → List (List ℕ)

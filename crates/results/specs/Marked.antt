@@ -1,12 +1,11 @@
 -- Hedge variables marked by their numbers, so that whether a word is one of many is one look and not a scan.
-use Rattle.std.specs.Prelude.{ℕ, ◌≡◌, Bool, true, false, List, [], ◌∷◌, get_or}
+use Rattle.std.specs.Prelude.{ℕ, ◌≡◌, Bool, true, false, List, [], ◌∷◌, get_or, Option, Some}
 use Rattle.language.specs.declared.Kind.{Kind}
 use Rattle.language.specs.declared.Kind.TheVariants.{End, Term, Run, Symbol, Function, Equation, Membership, Eps, Cat, Alt, Star, Other}
 use Rattle.language.specs.Limits.{desk}
 use Rattle.language.specs.Kinds.{pick, kind_of}
 use Rattle.words.specs.Spans.{member}
 use Rattle.plans.specs.declared.Recipe.{Recipe}
-use Rattle.results.specs.declared.replacing.Marks.{Marks}
 use Rattle.results.specs.declared.replacing.Swap.{Swap}
 
 -- a hedge variable's word whose number is marked
@@ -28,8 +27,8 @@ unfoldable pub marked : List Bool → ℕ → Bool
 marked set x = marked_by set (kind_of desk x)
 
 -- where the words are hedge variables alone, the marks say which
-pub record Marked (words : List ℕ) (m : Marks) : Type 0 where
-  pub told : m.only ≡ true → (x : ℕ) → marked m.set x ≡ member x words
+pub record Marked (words : List ℕ) (m : Option (List Bool)) : Type 0 where
+  pub told : (set : List Bool) → m ≡ Some set → (x : ℕ) → marked set x ≡ member x words
 
 -- what is written for one word
 unfoldable pub swapped : List ℕ → List ℕ → ℕ → List ℕ

@@ -24,11 +24,9 @@ pub fn empty_each(k: &[u16], from: usize, to: usize, out: &mut [u16], at: usize)
     ensures { Wrote out.old at (empty_each (slice from to k.now)) out.new result }
 {
     let end = within(k, to);
-    let mut i = from;
     let mut e = at;
-    while i < end {
+    for i in from..end {
         e = empty_one(k[i], out, e);
-        i += 1;
     }
     e
 }

@@ -16,74 +16,67 @@ ghost use Rattle.slices.specs.Written.{Wrote};
 ghost use Rattle.taking.specs.Taking.{Took};
 
 use language::limits::QUESTION;
-use language::wide;
+use language::{Refusal, wide};
 use making::{made_len, write_framed};
 use orders::count_orders;
-use plans::{Plan, Recipe, Size, Ways, grow, grow_by};
+use plans::{Plan, Recipe, Ways, grow, grow_by};
 use spans::element_end;
-use taking::Stepped;
 
-// n words and those of one result.
-fn size_one(k: &[u16], r: Recipe, cut: usize, n: usize) -> Size
+// n words and those of one result. As of all sizes here, there is none where a result is too long.
+fn size_one(k: &[u16], r: Recipe, cut: usize, n: usize) -> Option<usize>
     requires { length k.now ≤ desk.question }
     ensures { result ≡ sized_from n (made k.now r cut ∷ []) }
 {
     let one = made_len(k, r, cut);
     if QUESTION < one {
-        return Size::Over;
+        return None;
     }
-    let more = grow(n, one);
-    Size::Fits(more)
+    Some(grow(n, one))
 }
 
-fn size_two(k: &[u16], a: Recipe, b: Recipe) -> Size
+fn size_two(k: &[u16], a: Recipe, b: Recipe) -> Option<usize>
     requires { length k.now ≤ desk.question }
     ensures { result ≡ sized (made k.now a 0 ∷ made k.now b 0 ∷ []) }
 {
-    let s = size_one(k, a, 0, 0);
-    match s {
-        Size::Over => Size::Over,
-        Size::Fits(n) => size_one(k, b, 0, n),
-    }
+    let n = size_one(k, a, 0, 0)?;
+    size_one(k, b, 0, n)
 }
 
 // One result for each cut, element by element.
-fn size_cuts(k: &[u16], r: Recipe, cut: usize, times: usize) -> Size
+fn size_cuts(k: &[u16], r: Recipe, cut: usize, times: usize) -> Option<usize>
     requires { length k.now ≤ desk.question }
     ensures { result ≡ sized (map (made k.now r) (places times k.now cut)) }
 {
-    let mut left = times;
     let mut at = cut;
     let mut n: usize = 0;
-    while left != 0 {
+    for _done in 0..times {
         let one = made_len(k, r, at);
         if QUESTION < one {
-            return Size::Over;
+            return None;
         }
         n = grow(n, one);
         at = element_end(k, at);
-        left -= 1;
     }
-    Size::Fits(n)
+    Some(n)
 }
 
 // So many results that differ in their number alone: they are equally long.
-fn size_alike(k: &[u16], r: Recipe, times: usize) -> Size
+fn size_alike(k: &[u16], r: Recipe, times: usize) -> Option<usize>
     requires { length k.now ≤ desk.question }
     ensures { result ≡ sized (map (numbered k.now r 0) (numbers 0 times)) }
 {
     if times == 0 {
-        return Size::Fits(0);
+        return Some(0);
     }
     let one = made_len(k, r, 0);
     if QUESTION < one {
-        return Size::Over;
+        return None;
     }
-    Size::Fits(grow_by(times, one))
+    Some(grow_by(times, one))
 }
 
-// How many words a plan's results take, each in its frame; or that one of them is too long.
-fn size_results(k: &[u16], plan: Plan) -> Size
+// How many words a plan's results take, each in its frame (counted until they pass a lent slice); none where one of them is too long.
+fn size_results(k: &[u16], plan: Plan) -> Option<usize>
     requires { length k.now ≤ desk.question }
     ensures { result ≡ sized (results_of k.now plan) }
 {
@@ -91,7 +84,7 @@ fn size_results(k: &[u16], plan: Plan) -> Size
     let first = plan.first;
     let second = plan.second;
     match ways {
-        Ways::Drop => Size::Fits(0),
+        Ways::Drop => Some(0),
         Ways::One(cut) => size_one(k, first, cut, 0),
         Ways::Two => size_two(k, first, second),
         Ways::Cuts(cut, n) => size_cuts(k, first, cut, n),
@@ -112,13 +105,11 @@ fn write_cuts(
     requires { Ready number (map (made k.now r) (places times k.now cut)) out.old at }
     ensures { Wrote out.old at (in_frames number (map (made k.now r) (places times k.now cut))) out.new result }
 {
-    let mut left = times;
     let mut c = cut;
     let mut e = at;
-    while left != 0 {
+    for _done in 0..times {
         e = write_framed(k, r, c, 0, number, out, e);
         c = element_end(k, c);
-        left -= 1;
     }
     e
 }
@@ -136,11 +127,9 @@ fn write_alike(k: &[u16], r: Recipe, times: usize, number: u16, out: &mut [u16],
     requires { Ready number (map (numbered k.now r 0) (numbers 0 times)) out.old at }
     ensures { Wrote out.old at (in_frames number (map (numbered k.now r 0) (numbers 0 times))) out.new result }
 {
-    let mut i = 0;
     let mut e = at;
-    while i < times {
+    for i in 0..times {
         e = write_framed(k, r, 0, i, number, out, e);
-        i += 1;
     }
     e
 }
@@ -163,20 +152,22 @@ fn write_results(k: &[u16], plan: Plan, number: u16, out: &mut [u16], at: usize)
     }
 }
 
-// The results of a plan, right before `next`.
-pub fn step_planned(k: &[u16], plan: Plan, number: u16, out: &mut [u16], next: usize) -> Stepped
+// The results of a plan, right before `next`; the answer is the place where they begin.
+pub fn step_planned(
+    k: &[u16],
+    plan: Plan,
+    number: u16,
+    out: &mut [u16],
+    next: usize,
+) -> Result<usize, Refusal>
     requires { (length k.now ≤ desk.question) × (next ≤ length out.old) × (next ≤ desk.room) }
     ensures { Took number (results_of k.now plan) out.old next result out.new }
 {
-    match size_results(k, plan) {
-        Size::Over => Stepped::Long,
-        Size::Fits(n) => {
-            if next < n {
-                return Stepped::Room;
-            }
-            let at = next - n;
-            write_results(k, plan, number, out, at);
-            Stepped::Done(at)
-        }
+    let n = size_results(k, plan).ok_or(Refusal::LongResult)?;
+    if next < n {
+        return Err(Refusal::LongWaiting);
     }
+    let at = next - n;
+    write_results(k, plan, number, out, at);
+    Ok(at)
 }

@@ -74,12 +74,8 @@ pub(crate) fn made_len(k: &[u16], r: Recipe, cut: usize) -> usize
     };
     let m = note(k, s.old, s.until);
     let mut n: usize = 0;
-    let mut i = 0;
-    while i < 12 {
-        let slot = slots[i];
-        let p = slot.piece;
-        n += piece_len(k, s, cut, m, p);
-        i += 1;
+    for slot in &slots {
+        n += piece_len(k, s, cut, m, slot.piece);
     }
     n
 }
@@ -104,12 +100,8 @@ pub(crate) fn write_made(
     };
     let m = note(k, s.old, s.until);
     let mut e = at;
-    let mut i = 0;
-    while i < 12 {
-        let slot = slots[i];
-        let p = slot.piece;
-        e = write_piece(k, s, cut, nth, m, p, out, e);
-        i += 1;
+    for slot in &slots {
+        e = write_piece(k, s, cut, nth, m, slot.piece, out, e);
     }
     e
 }

@@ -13,12 +13,8 @@ use language::{Kind, classify, wide};
 use slices::{copy, part_len, within};
 use words::stands;
 
-// Which hedge variables a part has, where it has no other words.
-#[derive(Clone, Copy)]
-pub struct Marks {
-    pub only: bool,
-    pub set: [bool; PLACES],
-}
+// Which hedge variables a part has, by their numbers, where it has no other words.
+pub type Marks = Option<[bool; PLACES]>;
 
 // A recipe's substitution by itself, so that its pieces are not handed on with it: each word of the part old..until is replaced by the part from `new` to the cut.
 #[derive(Clone, Copy)]
@@ -34,28 +30,25 @@ pub fn note(k: &[u16], from: usize, to: usize) -> Marks
 {
     let mut set = [false; PLACES];
     let end = within(k, to);
-    let mut i = from;
-    while i < end {
+    for i in from..end {
         match classify(k[i]) {
             Kind::Run(p) => {
                 let n = wide(p.0);
                 set[n] = true;
-                i += 1;
             }
             _ => {
-                return Marks { only: false, set };
+                return None;
             }
         }
     }
-    Marks { only: true, set }
+    Some(set)
 }
 
-fn is_marked(m: Marks, x: u16) -> bool
-    ensures { result ≡ marked m.set x }
+fn is_marked(set: [bool; PLACES], x: u16) -> bool
+    ensures { result ≡ marked set x }
 {
     match classify(x) {
         Kind::Run(p) => {
-            let set = m.set;
             let n = wide(p.0);
             set[n]
         }
@@ -68,11 +61,10 @@ fn is_old(k: &[u16], old: usize, until: usize, m: Marks, x: u16) -> bool
     requires { Marked (slice old until k.now) m }
     ensures { result ≡ member x (slice old until k.now) }
 {
-    let only = m.only;
-    if only {
-        return is_marked(m, x);
+    match m {
+        Some(set) => is_marked(set, x),
+        None => stands(k, old, until, wide(x)),
     }
-    stands(k, old, until, wide(x))
 }
 
 // What stands for one word.
@@ -115,11 +107,9 @@ pub fn put(
     let until = s.until;
     let new = s.new;
     let end = within(k, to);
-    let mut i = from;
     let mut e = at;
-    while i < end {
+    for i in from..end {
         e = put_word(k, old, until, new, cut, m, k[i], out, e);
-        i += 1;
     }
     e
 }
@@ -141,12 +131,10 @@ pub fn put_len(k: &[u16], s: Swap, cut: usize, m: Marks, from: usize, to: usize)
     let new = s.new;
     let gain = part_len(k, new, cut);
     let end = within(k, to);
-    let mut i = from;
     let mut n: usize = 0;
-    while i < end {
+    for i in from..end {
         let found = is_old(k, old, until, m, k[i]);
         n += swap_len(found, gain);
-        i += 1;
     }
     n
 }

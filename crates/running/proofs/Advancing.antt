@@ -7,6 +7,7 @@ use mathlib.Core.List.{List, [], ◌∷◌, ◌++◌, map}
 use lib.Dec.{ltb}
 use lib.ListN.{length, length-append}
 use borrow.Author.Tests.{lt-ltb, le-ltb}
+use Rattle.std.specs.Prelude.{Result, Ok, Err}
 use Rattle.language.specs.declared.Refusal.{Refusal}
 use Rattle.language.specs.declared.Refusal.TheVariants.{LongResult, LongWaiting, LineRoom, LongWalk, TrailRoom}
 use Rattle.language.specs.declared.Signature.{Signature}
@@ -26,23 +27,17 @@ use Rattle.search.specs.declared.Best.{Best}
 use Rattle.search.specs.Ranking.{Found, nowhere, halted, somewhere, side_results}
 use Rattle.search.proofs.Pass.{searched}
 use Rattle.steps.specs.Asking.{RuleAt}
-use Rattle.taking.specs.declared.Stepped.{Stepped}
-use Rattle.taking.specs.declared.Stepped.TheVariants.{Long, Room, Done}
 use Rattle.taking.specs.Taking.{Took}
 use Rattle.telling.specs.Telling.{Applies}
 use Rattle.noting.specs.Noting.{there, roomless}
 use Rattle.noting.specs.Noting as noting
 use Rattle.running.specs.declared.moves.State.{State}
-use Rattle.running.specs.declared.moves.Turned.{Turned}
-use Rattle.running.specs.declared.moves.Turned.TheVariants.{On, Stop}
 use Rattle.running.specs.Running.{Running, Kept, stepped, Lines, more, full, Made}
 use Rattle.running.specs.Running as moves
 use Rattle.running.proofs.Going.{waiting_kept, lined-kept, took-made}
 use Rattle.courses.specs.declared.Course.{Course}
 use Rattle.courses.specs.declared.Course.TheVariants.{First, Noted, Told}
 use Rattle.running.specs.Courses.{left, goes, Guided, Below, Traces, Roomy, NotedStep, Chooses, refuses, makes}
-use Rattle.telling.specs.declared.Chosen.{Chosen}
-use Rattle.telling.specs.declared.Chosen.TheVariants.{Step, Not}
 use Rattle.running.proofs.Left.{left-line, left-stops, goes-long, goes-full, first_on, told-on, noted-short, noted-on}
 use Rattle.running.specs.Turning.{Guide, guide, left_of, goes_of, Noting, Trailed, Under, bound, Turns, on, stop}
 use Rattle.running.proofs.Trails.{trailed-line, noting-step, noting-length}
@@ -59,7 +54,7 @@ module _ (g : Guide) (old_work old_answer : List ℕ) (ls : List Numbered) (c : 
       ∙ ap (λ n. elim b [ true ↦ left g.course g.told (length g.old) s.signature n (ls ++ (c ∷ [])) w | false ↦ refused LineRoom ]) (sym a)
       ∙ ap (λ σ. elim b [ true ↦ left g.course g.told (length g.old) σ t.steps (ls ++ (c ∷ [])) w | false ↦ refused LineRoom ]) (sym d)
 
-  pub lined-turns : (r : Turned) (new : List ℕ) → Lines old_work old_answer ls c w s r work new → Turns g old_work old_answer ls (c ∷ w) s r work new out
+  pub lined-turns : (r : Result State Refusal) (new : List ℕ) → Lines old_work old_answer ls c w s r work new → Turns g old_work old_answer ls (c ∷ w) s r work new out
   lined-turns r new (full er f k l) = stop LineRoom er (sym (line-left false f s refl refl)) k l
   lined-turns r new (more t er p a d h f) =
       on t (ls ++ (c ∷ [])) w er
@@ -79,7 +74,7 @@ module _ (g : Guide) (old_work old_answer : List ℕ) (ls : List Numbered) (c : 
 -- ---- a refusal
 
 pub refused-turns : (g : Guide) (old_work old_answer : List ℕ) (ls w : List Numbered) (s : State) (work answer out : List ℕ) (x : Refusal)
-    → left_of g s ls w ≡ refused x → Kept old_work work → Kept old_answer answer → Turns g old_work old_answer ls w s (Stop x) work answer out
+    → left_of g s ls w ≡ refused x → Kept old_work work → Kept old_answer answer → Turns g old_work old_answer ls w s (Err x) work answer out
 refused-turns g old_work old_answer ls w s work answer out x e k l = stop x refl (sym e) k l
 
 -- ---- a step
@@ -123,7 +118,7 @@ module _ (course : Course) (told old : List ℕ) (whole : List Spot) (old_work o
     (b : Best) (ks : List Conj) (a : Applies s.signature c.literals b ks)
     (goes_on : left_of (guide course told old whole) s ls (c ∷ w) ≡ goes_of (guide course told old whole) s ls ks (all_of c.number ks ++ w))
     (below : Below course told s.steps) (fine : Each (fine_conj desk) ks) (traces : Traces course s.signature c.literals b ks a.before)
-    (r : Stepped) (new : List ℕ)
+    (r : Result ℕ Refusal) (new : List ℕ)
     (f : (before : Conj) (l : Literal) (behind : Conj) (ks : List Conj) → LiteralAt k b.at before l behind → side_results s.signature b.swap b.rank before l behind ≡ results ks
     → Took number (map conj_words ks) work next r new) where
   abbrev g : Guide
@@ -137,25 +132,21 @@ module _ (course : Course) (told old : List ℕ) (whole : List Spot) (old_work o
       took-made old_work old_answer ls c w s work answer u.running k ek next en ks fine (map conj_words ks) refl r new
       (subst (λ m. Took m (map conj_words ks) work next r new) eu (f a.before a.l a.behind ks here a.makes))
 
-  pub too_long : r ≡ Long → Turns g old_work old_answer ls (c ∷ w) s (Stop LongResult) new answer out
+  -- 7 or 8
+  pub not-taken : (x : Refusal) → r ≡ Err x → Turns g old_work old_answer ls (c ∷ w) s (Err x) new answer out
   unfolding goes_of
-  too_long er = go made
+  not-taken x er = go made
     where
-      go : Made old_work old_answer ls c w s ks r new answer → Turns g old_work old_answer ls (c ∷ w) s (Stop LongResult) new answer out
-      go (moves.long e x y z) = stop LongResult refl (sym (goes_on ∙ goes-long told (length old) s.signature s.steps ls ks (all_of c.number ks ++ w) course x)) y z
-      go (moves.room e x y z v) = absurd (let z : ◌≡◌ {A = ℕ} 0 1 = cc in omega arith)
-      go (moves.on at e p x y h) = absurd (let z : ◌≡◌ {A = ℕ} 0 1 = cc in omega arith)
+      go : Made old_work old_answer ls c w s ks r new answer → Turns g old_work old_answer ls (c ∷ w) s (Err x) new answer out
+      go (moves.long e y z v) =
+          let i : LongResult ≡ x = cc in
+          stop x refl (sym (goes_on ∙ goes-long told (length old) s.signature s.steps ls ks (all_of c.number ks ++ w) course y ∙ ap refused i)) z v
+      go (moves.room e y z v t) =
+          let i : LongWaiting ≡ x = cc in
+          stop x refl (sym (goes_on ∙ goes-full told (length old) s.signature s.steps ls ks (all_of c.number ks ++ w) course y z ∙ ap refused i)) v t
+      go (moves.on at e p y z h) = absurd (let z : ◌≡◌ {A = ℕ} 0 1 = cc in omega arith)
 
-  pub no_room : r ≡ Room → Turns g old_work old_answer ls (c ∷ w) s (Stop LongWaiting) new answer out
-  unfolding goes_of
-  no_room er = go made
-    where
-      go : Made old_work old_answer ls c w s ks r new answer → Turns g old_work old_answer ls (c ∷ w) s (Stop LongWaiting) new answer out
-      go (moves.long e x y z) = absurd (let z : ◌≡◌ {A = ℕ} 0 1 = cc in omega arith)
-      go (moves.room e x y z v) = stop LongWaiting refl (sym (goes_on ∙ goes-full told (length old) s.signature s.steps ls ks (all_of c.number ks ++ w) course x y)) z v
-      go (moves.on at e p x y h) = absurd (let z : ◌≡◌ {A = ℕ} 0 1 = cc in omega arith)
-
-  module _ (to : ℕ) (er : r ≡ Done to) where
+  module _ (to : ℕ) (er : r ≡ Ok to) where
     -- what is known of the results in place
     record Placed : Type 0 where
       runs : (n : ℕ) → Running old_work old_answer ls (all_of c.number ks ++ w) (stepped s to n) new answer
@@ -177,21 +168,21 @@ module _ (course : Course) (told old : List ℕ) (whole : List Spot) (old_work o
       settled : Settled course told old whole s.signature s.steps m ls c w ks noted out'
       settled = settles course told old whole s.signature s.steps m ls c w k b ks a.before a.l a.behind out noted out' em here placed.short placed.fits u.trailed below traces p
 
-      pub step-turns : noted ≡ true → Turns g old_work old_answer ls (c ∷ w) s (On (stepped s to m)) new answer out'
+      pub step-turns : noted ≡ true → Turns g old_work old_answer ls (c ∷ w) s (Ok (stepped s to m)) new answer out'
       unfolding left_of goes_of
       step-turns e = go settled
         where
-          go : Settled course told old whole s.signature s.steps m ls c w ks noted out' → Turns g old_work old_answer ls (c ∷ w) s (On (stepped s to m)) new answer out'
+          go : Settled course told old whole s.signature s.steps m ls c w ks noted out' → Turns g old_work old_answer ls (c ∷ w) s (Ok (stepped s to m)) new answer out'
           go (went x t q f h) =
               on (stepped s to m) ls (all_of c.number ks ++ w) refl (record { running = placed.runs m; trailed = t; guided = q }) (sym (goes_on ∙ f))
               (let y = placed.place in omega arith)
           go (unnoted x f) = absurd (true≢false (sym e ∙ x))
 
-      pub unnoted-turns : noted ≡ false → Turns g old_work old_answer ls (c ∷ w) s (Stop TrailRoom) new answer out'
+      pub unnoted-turns : noted ≡ false → Turns g old_work old_answer ls (c ∷ w) s (Err TrailRoom) new answer out'
       unfolding goes_of
       unnoted-turns e = go settled
         where
-          go : Settled course told old whole s.signature s.steps m ls c w ks noted out' → Turns g old_work old_answer ls (c ∷ w) s (Stop TrailRoom) new answer out'
+          go : Settled course told old whole s.signature s.steps m ls c w ks noted out' → Turns g old_work old_answer ls (c ∷ w) s (Err TrailRoom) new answer out'
           go (went x t q f h) = absurd (true≢false (sym x ∙ e))
           go (unnoted x f) =
               stop TrailRoom refl (sym (goes_on ∙ f)) (waiting_kept old_work to _ new (placed.runs m).waiting) (lined-kept old_answer ls s.tally answer (placed.runs m).lined)
@@ -238,13 +229,13 @@ pub record ChosenStep (course : Course) (told : List ℕ) (room : ℕ) (σ : Sig
   pub fine : Each (fine_conj desk) ks
   pub traces : Traces course σ c.literals b ks applies.before
 
-pub chosen-step : (course : Course) (told : List ℕ) (room : ℕ) (σ : Signature) (n : ℕ) (c : Numbered) (r : Chosen) (b : Best) → r ≡ Step b → Chooses course told room σ n c r
+pub chosen-step : (course : Course) (told : List ℕ) (room : ℕ) (σ : Signature) (n : ℕ) (c : Numbered) (r : Result Best Refusal) (b : Best) → r ≡ Ok b → Chooses course told room σ n c r
     → ChosenStep course told room σ n c b
 chosen-step course told room σ n c r b e (refuses x d f) = absurd (let z : ◌≡◌ {A = ℕ} 0 1 = cc in omega arith)
 chosen-step course told room σ n c r b e (makes x ks d a f h i t) =
     let z : x ≡ b = cc in subst (ChosenStep course told room σ n c) z (record { ks = ks; applies = a; goes_on = f; below = h; fine = i; traces = t })
 
-pub chosen-not : (course : Course) (told : List ℕ) (room : ℕ) (σ : Signature) (n : ℕ) (c : Numbered) (r : Chosen) (x : Refusal) → r ≡ Not x → Chooses course told room σ n c r
+pub chosen-not : (course : Course) (told : List ℕ) (room : ℕ) (σ : Signature) (n : ℕ) (c : Numbered) (r : Result Best Refusal) (x : Refusal) → r ≡ Err x → Chooses course told room σ n c r
     → (ls w : List Numbered) → left course told room σ n ls (c ∷ w) ≡ refused x
 chosen-not course told room σ n c r x e (refuses y d f) = λ ls w. let z : y ≡ x = cc in f ls w ∙ ap refused z
 chosen-not course told room σ n c r x e (makes b ks d a f h i t) = absurd (let z : ◌≡◌ {A = ℕ} 0 1 = cc in omega arith)
@@ -259,14 +250,14 @@ roomy Noted whole old σ n w out c b ks before t x = (let z = noting-length whol
 module _ (g : Guide) (old_work old_answer : List ℕ) (ls : List Numbered) (c : Numbered) (w : List Numbered) (s : State) (work answer out : List ℕ)
     (u : Under g old_work old_answer ls (c ∷ w) s work answer out) where
   -- it cannot be told whether a rule applies
-  pub not-told : (x : Refusal) → step s.signature c.literals ≡ stops x → Turns g old_work old_answer ls (c ∷ w) s (Stop x) work answer out
+  pub not-told : (x : Refusal) → step s.signature c.literals ≡ stops x → Turns g old_work old_answer ls (c ∷ w) s (Err x) work answer out
   unfolding left_of
   not-told x e =
       stop x refl (sym (left-stops g.told (length g.old) s.signature s.steps ls c w x e g.course)) (waiting_kept old_work s.at _ work u.running.waiting)
       (lined-kept old_answer ls s.tally answer u.running.lined)
 
   pub not_chosen : (x : Refusal) → ((ls w : List Numbered) → left g.course g.told (length g.old) s.signature s.steps ls (c ∷ w) ≡ refused x)
-      → Turns g old_work old_answer ls (c ∷ w) s (Stop x) work answer out
+      → Turns g old_work old_answer ls (c ∷ w) s (Err x) work answer out
   unfolding left_of
   not_chosen x f = stop x refl (sym (f ls w)) (waiting_kept old_work s.at _ work u.running.waiting) (lined-kept old_answer ls s.tally answer u.running.lined)
 

@@ -22,7 +22,7 @@ use Rattle.answers.specs.declared.Tally.{Tally}
 use Rattle.answers.specs.Lined.{Lined}
 use Rattle.reader.proofs.Answers.{question-asked}
 use Rattle.reader.specs.Checking.{checked}
-use Rattle.outcomes.specs.declared.Checked.TheVariants.{Fine}
+use Rattle.std.specs.Prelude.{Ok}
 use Rattle.rules.specs.Run.{numbered, size}
 use Rattle.rules.specs.Each.{Each}
 use Rattle.rules.proofs.Invariant.{each-numbered}
@@ -48,7 +48,7 @@ each-fine : (ks : List Conj) → fine_all desk ks → Each (fine_conj desk) ks
 each-fine [] p = tt
 each-fine (k ∷ ks) p = (p.0, each-fine ks p.1)
 
-module _ (ws : List ℕ) (e : Fine ≡ checked (read_question desk ws)) where
+module _ (ws : List ℕ) (e : Ok tt ≡ checked (read_question desk ws)) where
   asked : (q : Question) × (read_question desk ws ≡ asks q)
   asked = question-asked ws e
 

@@ -3,6 +3,7 @@ use Prim.Native.Nat.{ℕ, ◌*◌}
 use mathlib.Core.Path.{◌≡◌, refl, sym, ap, ◌∙◌, subst}
 use mathlib.Core.List.{List, [], ◌++◌}
 use lib.ListN.{length, drop, replicate}
+use Rattle.std.specs.Prelude.{Result, Err}
 use Rattle.language.specs.declared.Refusal.{Refusal}
 use Rattle.language.specs.Limits.{desk}
 use Rattle.language.specs.Trees.{Question}
@@ -11,7 +12,6 @@ use Rattle.rules.specs.Step.{Spot}
 use Rattle.rules.specs.Run.{numbered, Outcome, run_by, run}
 use Rattle.rules.specs.Answer.{Solving, unread, ran, solving_of, solving}
 use Rattle.reader.proofs.Answers.{question-asked}
-use Rattle.outcomes.specs.declared.Checked.TheVariants.{Refused}
 use Rattle.replay.specs.Trail.{trail, trail_words, run_trail}
 use Rattle.replay.specs.Replay.{replay}
 use Rattle.replay.specs.Calls.{solving_trail_of, solving_trail, trail_of, trail_leaves, replaying_of, replaying}
@@ -49,7 +49,7 @@ module _ (told : List ℕ) (work answer room : ℕ) (ws : List ℕ) where
   abbrev asked : Asked
   asked = read_question desk ws
 
-  pub calls-unread : (course : Course) (x : Refusal) → Refused x ≡ readied work answer asked → calling course told work answer room ws ≡ unread x
+  pub calls-unread : (course : Course) (x : Refusal) → Err x ≡ readied work answer asked → calling course told work answer room ws ≡ unread x
   unfolding solving solving_trail replaying
   calls-unread First x e = not-ready work answer asked x e (of First told room) (of-refused First told room)
   calls-unread Noted x e = not-ready work answer asked x e (of Noted told room) (of-refused Noted told room)
@@ -84,12 +84,12 @@ room-done First whole old n out p = p
 room-done Told whole old n out p = p
 room-done Noted whole old n out (words, count) = words ∙ ap (λ i. trail_words whole ++ drop i old) (sym (spot-length whole ∙ ap (λ i. 3 * i) count))
 
-module _ (course : Course) (told old : List ℕ) (whole : List Spot) (o : Outcome) (old_work old_answer : List ℕ) (r : Ran) (work answer out : List ℕ) where
+module _ (course : Course) (told old : List ℕ) (whole : List Spot) (o : Outcome) (old_work old_answer : List ℕ) (r : Result Ran Refusal) (work answer out : List ℕ) where
   pub room-told : Ends (guide course told old whole) o old_work old_answer r work answer out → length out ≡ length old → (new : List ℕ) → Settles r out new
       → new ≡ trail_leaves (ran o) (notes course (trail_words whole)) old
-  room-told (ended n t ls d f l k p) e new s =
+  room-told (ended n ls d f l k p) e new s =
       let z : new ≡ out = subst (λ r. Settles r out new) d s in
-      z ∙ room-done course whole old n out p ∙ sym (ap (λ v. trail_leaves v (notes course (trail_words whole)) old) (ap ran f))
+      z ∙ room-done course whole old n.steps out p ∙ sym (ap (λ v. trail_leaves v (notes course (trail_words whole)) old) (ap ran f))
   room-told (given-up x d f k l) e new s =
       let z : new ≡ replicate (length out) 0 = subst (λ r. Settles r out new) d s in
       z ∙ ap (λ n. replicate n 0) e ∙ sym (ap (λ v. trail_leaves v (notes course (trail_words whole)) old) (ap ran f))

@@ -9,6 +9,8 @@ use lib.Dec.{ltb}
 use lib.ListN.{length, drop}
 use lib.Seq.{slice, sets, drop-drop, drop_at}
 use borrow.Author.Tests.{lt-ltb, le-ltb}
+use Rattle.std.specs.Prelude.{Some, Result, Ok, Err}
+use Rattle.language.specs.declared.Refusal.{Refusal}
 use Rattle.language.specs.declared.Refusal.TheVariants.{LineRoom}
 use Rattle.language.specs.Limits.{desk}
 use Rattle.language.specs.Trees.{Conj}
@@ -20,7 +22,6 @@ use Rattle.rules.specs.Answer.{answer_words}
 use Rattle.rules.proofs.Each.{each-++}
 use Rattle.frames.specs.Frames.{frame, Block, framed, all_with, in_frames, framed_length, framed_number}
 use Rattle.plans.specs.Sizes.{sized}
-use Rattle.plans.specs.declared.Size.TheVariants.{Fits}
 use Rattle.taking.proofs.Sizing.{sized-fits, fits-exact, fits-past, over-any_long, fits-any_long}
 use Rattle.waiting.specs.Waiting.{Waiting}
 use Rattle.waiting.proofs.Blocks.{laid, first-length, first-number, first_block, first-room, rest-wait}
@@ -28,8 +29,6 @@ use Rattle.answers.specs.declared.Tally.{Tally}
 use Rattle.answers.specs.Lined.{line_head, Lined}
 use Rattle.answers.proofs.Rows.{count-more, lines-size-more, open-most, length-answer}
 use Rattle.running.specs.declared.moves.State.{State}
-use Rattle.running.specs.declared.moves.Turned.TheVariants.{On, Stop}
-use Rattle.taking.specs.declared.Stepped.{Stepped}
 use Rattle.taking.specs.Taking.{Took}
 use Rattle.taking.specs.Taking as took
 use Rattle.running.specs.Running.{block_of, Running, Kept, stepped, Lines, more, full, Made, long, room, on}
@@ -87,10 +86,10 @@ module _ (old_work old_answer : List ℕ) (ls : List Numbered) (c : Numbered) (w
 
     -- ---- a line
 
-    pub many-lines : desk.lines ≤ s.tally.lines → Lines old_work old_answer ls c w s (Stop LineRoom) work answer
+    pub many-lines : desk.lines ≤ s.tally.lines → Lines old_work old_answer ls c w s (Err LineRoom) work answer
     many-lines h = full refl (lines-many (ls ++ (c ∷ [])) (let a = p.lined.lines in let b = count-more ls c in omega arith)) kept-work kept-answer
 
-    pub long-line : s.tally.lines < desk.lines → desk.room < s.tally.end + line_head + length k → Lines old_work old_answer ls c w s (Stop LineRoom) work answer
+    pub long-line : s.tally.lines < desk.lines → desk.room < s.tally.end + line_head + length k → Lines old_work old_answer ls c w s (Err LineRoom) work answer
     long-line h g =
         let a = p.lined.lines in
         let b = p.lined.end in
@@ -100,7 +99,7 @@ module _ (old_work old_answer : List ℕ) (ls : List Numbered) (c : Numbered) (w
         full refl (lines-past (ls ++ (c ∷ [])) (omega arith) (omega arith)) kept-work kept-answer
 
     pub next-line : (u : Tally) (new : List ℕ) → length new ≡ length answer → Lined old_answer (ls ++ (c ∷ [])) u new
-        → Lines old_work old_answer ls c w s (On (record { at = next; steps = s.steps; tally = u; signature = s.signature })) work new
+        → Lines old_work old_answer ls c w s (Ok (record { at = next; steps = s.steps; tally = u; signature = s.signature })) work new
     next-line u new same l =
         more (record { at = next; steps = s.steps; tally = u; signature = s.signature }) refl
         (record {
@@ -117,7 +116,7 @@ module _ (old_work old_answer : List ℕ) (ls : List Numbered) (c : Numbered) (w
     -- ---- the results of a step
 
     module _ (ks : List Conj) (fine : Each (fine_conj desk) ks) (ws : List (List ℕ)) (ew : ws ≡ map conj_words ks) where
-      module _ (n : ℕ) (f : sized ws ≡ Fits n) where
+      module _ (n : ℕ) (f : sized ws ≡ Some n) where
         together : waiting_size (all_of c.number ks ++ w) + next ≡ length (in_frames c.number ws) + desk.room
         together =
             let a = waiting-append (all_of c.number ks) w in
@@ -161,7 +160,7 @@ module _ (old_work old_answer : List ℕ) (ls : List Numbered) (c : Numbered) (w
           below = let q = rests.place in omega arith
 
       -- what taking the step left
-      pub took-made : (r : Stepped) (new : List ℕ) → Took c.number ws work next r new → Made old_work old_answer ls c w s ks r new answer
+      pub took-made : (r : Result ℕ Refusal) (new : List ℕ) → Took c.number ws work next r new → Made old_work old_answer ls c w s ks r new answer
       took-made r new (took.long e o y) = long e (over-any_long ks ws ew o) (ap (drop desk.room) y ∙ kept-work) kept-answer
       took-made r new (took.room m e o i y) =
           room e (fits-any_long ks ws ew m o) (lt-ltb desk.room (waiting_size (all_of c.number ks ++ w)) (past m o i)) (ap (drop desk.room) y ∙ kept-work) kept-answer

@@ -4,6 +4,7 @@ use native.Mathlib.Omega.{arith}
 use mathlib.Core.Path.{◌≡◌, refl, sym, ap, ◌∙◌, subst}
 use mathlib.Core.List.{List, [], ◌∷◌}
 use lib.ListN.{length}
+use Rattle.std.specs.Prelude.{Result, Ok, Err}
 use Rattle.language.specs.declared.Refusal.{Refusal}
 use Rattle.language.specs.declared.Refusal.TheVariants.{LongTrail}
 use Rattle.language.specs.Limits.{desk}
@@ -11,13 +12,10 @@ use Rattle.rules.specs.Step.{Spot}
 use Rattle.rules.specs.Run.{Numbered, Outcome, refused}
 use Rattle.frames.specs.Frames.{frame, framed_length}
 use Rattle.running.specs.declared.moves.State.{State}
-use Rattle.running.specs.declared.moves.Turned.{Turned}
-use Rattle.running.specs.declared.moves.Turned.TheVariants.{On, Stop}
 use Rattle.running.proofs.Going.{waiting_kept, lined-kept, first-size, first_fits, open-fits, end_fits, work-fits, answer-fits}
 use Rattle.courses.specs.declared.Course.{Course}
 use Rattle.around.specs.declared.Ran.{Ran}
-use Rattle.around.specs.declared.Ran.TheVariants.{Stopped}
-use Rattle.running.specs.Courses.{Guided, Finishes, done, goes_on}
+use Rattle.running.specs.Courses.{Guided, ran_of, Finishes, done, goes_on}
 use Rattle.running.specs.Turning.{Guide, guide, left_of, Under, measure, Turns, on, stop, Awaits, Ends, ended, given-up}
 use Rattle.running.proofs.Trails.{trailed-ends}
 
@@ -68,23 +66,23 @@ module _ (course : Course) (told old : List ℕ) (whole : List Spot) (old_work o
   pub still-guided : Guided course told s.steps
   still-guided = gone.under.guided
 
-  pub run-over : desk.room ≤ s.at → (r : Ran) → Finishes told course s r → Ends g o old_work old_answer r work answer out
+  pub run-over : desk.room ≤ s.at → (r : Result Ran Refusal) → Finishes told course s r → Ends g o old_work old_answer r work answer out
   unfolding left_of
   run-over h r f = go gone.waits gone.under gone.same f
     where
       go : (w : List Numbered) → Under g old_work old_answer gone.lines w s work answer out → left_of g s gone.lines w ≡ o → Finishes told course s r
           → Ends g o old_work old_answer r work answer out
       go [] u e (done er d) =
-          ended s.steps s.tally gone.lines er (sym e ∙ d (length old) gone.lines) u.running.lined (waiting_kept old_work s.at [] work u.running.waiting)
+          ended (ran_of s) gone.lines er (sym e ∙ d (length old) gone.lines) u.running.lined (waiting_kept old_work s.at [] work u.running.waiting)
           (trailed-ends course whole old s.signature s.steps out u.trailed)
       go [] u e (goes_on er d) =
           given-up LongTrail er (sym e ∙ d (length old) gone.lines) (waiting_kept old_work s.at [] work u.running.waiting) (lined-kept old_answer gone.lines s.tally answer u.running.lined)
       go (c ∷ w) u e f = absurd (let z = u.running.waiting.place in omega arith)
 
-  module _ (h : s.at < desk.room) (r : Turned) (work' answer' out' : List ℕ)
+  module _ (h : s.at < desk.room) (r : Result State Refusal) (work' answer' out' : List ℕ)
       (f : (old : List ℕ) (whole : List Spot) (old_work old_answer : List ℕ) (ls : List Numbered) (c : Numbered) (w : List Numbered) → Under (guide course told old whole) old_work old_answer ls (c ∷ w) s work answer out
       → Turns (guide course told old whole) old_work old_answer ls (c ∷ w) s r work' answer' out') where
-    module _ (t : State) (er : r ≡ On t) where
+    module _ (t : State) (er : r ≡ Ok t) where
       moved : (Gone g old_work old_answer o t work' answer' out') × (measure course told t < measure course told s)
       moved = first_of _ h λ ls c w u e. go ls c w e (f old whole old_work old_answer ls c w u)
         where
@@ -101,13 +99,13 @@ module _ (course : Course) (told old : List ℕ) (whole : List Spot) (old_work o
       pub gone-less : measure course told t < measure course told s
       gone-less = moved.1
 
-    pub gone-stop : (x : Refusal) → r ≡ Stop x → Ends g o old_work old_answer (Stopped x) work' answer' out'
+    pub gone-stop : (x : Refusal) → r ≡ Err x → Ends g o old_work old_answer (Err x) work' answer' out'
     gone-stop x er = first_of _ h λ ls c w u e. go ls c w e (f old whole old_work old_answer ls c w u)
       where
         go : (ls : List Numbered) (c : Numbered) (w : List Numbered) → left_of g s ls (c ∷ w) ≡ o → Turns g old_work old_answer ls (c ∷ w) s r work' answer' out'
-            → Ends g o old_work old_answer (Stopped x) work' answer' out'
+            → Ends g o old_work old_answer (Err x) work' answer' out'
         go ls c w e (on y ms v d q same less) = absurd (let z : ◌≡◌ {A = ℕ} 0 1 = cc in omega arith)
         go ls c w e (stop y d z k l) = let i : y ≡ x = cc in given-up x refl (sym e ∙ sym z ∙ ap refused i) k l
 
-pub ends_as : {g : Guide} {o p : Outcome} {old_work old_answer : List ℕ} {r : Ran} {work answer out : List ℕ} → o ≡ p → Ends g o old_work old_answer r work answer out → Ends g p old_work old_answer r work answer out
+pub ends_as : {g : Guide} {o p : Outcome} {old_work old_answer : List ℕ} {r : Result Ran Refusal} {work answer out : List ℕ} → o ≡ p → Ends g o old_work old_answer r work answer out → Ends g p old_work old_answer r work answer out
 ends_as {g = g} {old_work = old_work} {old_answer} {r} {work} {answer} {out} e d = subst (λ o. Ends g o old_work old_answer r work answer out) e d

@@ -1,5 +1,5 @@
 -- A run under way on a course, and what a turn makes of it.
-use Rattle.std.specs.Prelude.{ℕ, ◌+◌, ◌*◌, ◌-◌, ◌<◌, ◌≤◌, ◌≡◌, List, [], ◌∷◌, ◌++◌, length, drop}
+use Rattle.std.specs.Prelude.{ℕ, ◌+◌, ◌*◌, ◌-◌, ◌<◌, ◌≤◌, ◌≡◌, List, [], ◌∷◌, ◌++◌, length, drop, Result, Ok, Err}
 use Rattle.std.proofs.Math.Seq.{slice}
 use Rattle.language.specs.declared.Refusal.{Refusal}
 use Rattle.language.specs.declared.Signature.{Signature}
@@ -17,15 +17,11 @@ use Rattle.replay.specs.Trail.{trail_from, trail_words, trail}
 use Rattle.search.specs.declared.Best.{Best}
 use Rattle.telling.specs.Telling.{Applies}
 use Rattle.running.specs.declared.moves.State.{State}
-use Rattle.running.specs.declared.moves.Turned.{Turned}
-use Rattle.running.specs.declared.moves.Turned.TheVariants.{On, Stop}
 use Rattle.running.specs.Running.{Running, Kept}
-use Rattle.answers.specs.declared.Tally.{Tally}
 use Rattle.answers.specs.Lined.{Lined}
 use Rattle.courses.specs.declared.Course.{Course}
 use Rattle.courses.specs.declared.Course.TheVariants.{First, Noted, Told}
 use Rattle.around.specs.declared.Ran.{Ran}
-use Rattle.around.specs.declared.Ran.TheVariants.{Done, Stopped}
 use Rattle.running.specs.Courses.{left, goes, Guided, Below, Traces}
 
 -- The course, the trail to follow, what the room for a trail held, and the trail of the whole run.
@@ -79,15 +75,15 @@ abbrev pub measure : Course → List ℕ → State → ℕ
 measure course told s = (bound course told - s.steps) * (desk.room + 1) + (desk.room - s.at)
 
 -- a turn: the run goes on with the same end, or that end is a refusal
-pub data Turns (g : Guide) (old_work old_answer : List ℕ) (ls w : List Numbered) (s : State) (r : Turned) (work answer out : List ℕ) : Type 0 where
-  on : (t : State) (ms v : List Numbered) → r ≡ On t → Under g old_work old_answer ms v t work answer out → left_of g t ms v ≡ left_of g s ls w
+pub data Turns (g : Guide) (old_work old_answer : List ℕ) (ls w : List Numbered) (s : State) (r : Result State Refusal) (work answer out : List ℕ) : Type 0 where
+  on : (t : State) (ms v : List Numbered) → r ≡ Ok t → Under g old_work old_answer ms v t work answer out → left_of g t ms v ≡ left_of g s ls w
       → measure g.course g.told t < measure g.course g.told s → Turns g old_work old_answer ls w s r work answer out
-  stop : (e : Refusal) → r ≡ Stop e → refused e ≡ left_of g s ls w → Kept old_work work → Kept old_answer answer → Turns g old_work old_answer ls w s r work answer out
+  stop : (e : Refusal) → r ≡ Err e → refused e ≡ left_of g s ls w → Kept old_work work → Kept old_answer answer → Turns g old_work old_answer ls w s r work answer out
 
 -- ---- the calls
 
 -- the step b of the first waiting conjunction, which has the words k and this number
-abbrev pub Advances : List ℕ → Best → ℕ → ℕ → Course → ℕ → State → List ℕ → List ℕ → Turned → List ℕ → List ℕ → Type 0
+abbrev pub Advances : List ℕ → Best → ℕ → ℕ → Course → ℕ → State → List ℕ → List ℕ → Result State Refusal → List ℕ → List ℕ → Type 0
 Advances k b number next course made s work out r work' out' =
     (told old : List ℕ) (whole : List Spot) (old_work old_answer : List ℕ) (ls : List Numbered) (c : Numbered) (w : List Numbered) (answer : List ℕ) (ks : List Conj)
     → Under (guide course told old whole) old_work old_answer ls (c ∷ w) s work answer out → k ≡ conj_words c.literals → number ≡ c.number → next ≡ s.at + frame + length k
@@ -113,13 +109,13 @@ pub record Taken (k table : List ℕ) (s : State) (work : List ℕ) : Type 0 whe
   pub words : k ≡ slice (s.at + frame) (s.at + frame + framed_length work s.at) work
   pub counts : table ≡ afresh k
 
-abbrev pub TurnsWith : List ℕ → ℕ → ℕ → Course → State → List ℕ → List ℕ → List ℕ → List ℕ → Turned → List ℕ → List ℕ → List ℕ → Type 0
+abbrev pub TurnsWith : List ℕ → ℕ → ℕ → Course → State → List ℕ → List ℕ → List ℕ → List ℕ → Result State Refusal → List ℕ → List ℕ → List ℕ → Type 0
 TurnsWith k number next course s work answer told out r work' answer' out' =
     (old : List ℕ) (whole : List Spot) (old_work old_answer : List ℕ) (ls : List Numbered) (c : Numbered) (w : List Numbered)
     → Under (guide course told old whole) old_work old_answer ls (c ∷ w) s work answer out → k ≡ conj_words c.literals → number ≡ c.number → next ≡ s.at + frame + length k
     → Turns (guide course told old whole) old_work old_answer ls (c ∷ w) s r work' answer' out'
 
-abbrev pub TurnsFirst : Course → List ℕ → State → List ℕ → List ℕ → List ℕ → Turned → List ℕ → List ℕ → List ℕ → Type 0
+abbrev pub TurnsFirst : Course → List ℕ → State → List ℕ → List ℕ → List ℕ → Result State Refusal → List ℕ → List ℕ → List ℕ → Type 0
 TurnsFirst course told s work answer out r work' answer' out' =
     (old : List ℕ) (whole : List Spot) (old_work old_answer : List ℕ) (ls : List Numbered) (c : Numbered) (w : List Numbered)
     → Under (guide course told old whole) old_work old_answer ls (c ∷ w) s work answer out
@@ -155,12 +151,12 @@ TrailEnds Noted whole old n now = (now ≡ trail_words whole ++ drop (3 * n) old
 TrailEnds Told whole old n now = now ≡ old
 
 -- the end o of a run, in the slices
-pub data Ends (g : Guide) (o : Outcome) (old_work old_answer : List ℕ) (r : Ran) (work answer out : List ℕ) : Type 0 where
-  ended : (n : ℕ) (t : Tally) (ls : List Numbered) → r ≡ Done n t → o ≡ finished ls n → Lined old_answer ls t answer → Kept old_work work
-      → TrailEnds g.course g.whole g.old n out → Ends g o old_work old_answer r work answer out
-  given-up : (e : Refusal) → r ≡ Stopped e → o ≡ refused e → Kept old_work work → Kept old_answer answer → Ends g o old_work old_answer r work answer out
+pub data Ends (g : Guide) (o : Outcome) (old_work old_answer : List ℕ) (r : Result Ran Refusal) (work answer out : List ℕ) : Type 0 where
+  ended : (d : Ran) (ls : List Numbered) → r ≡ Ok d → o ≡ finished ls d.steps → Lined old_answer ls d.tally answer → Kept old_work work
+      → TrailEnds g.course g.whole g.old d.steps out → Ends g o old_work old_answer r work answer out
+  given-up : (e : Refusal) → r ≡ Err e → o ≡ refused e → Kept old_work work → Kept old_answer answer → Ends g o old_work old_answer r work answer out
 
-abbrev pub GoesOn : Course → List ℕ → State → List ℕ → List ℕ → List ℕ → Ran → List ℕ → List ℕ → List ℕ → Type 0
+abbrev pub GoesOn : Course → List ℕ → State → List ℕ → List ℕ → List ℕ → Result Ran Refusal → List ℕ → List ℕ → List ℕ → Type 0
 GoesOn course told begin work answer out r work' answer' out' =
     (old : List ℕ) (whole : List Spot) (old_work old_answer : List ℕ) (ls w : List Numbered) → Under (guide course told old whole) old_work old_answer ls w begin work answer out
     → Ends (guide course told old whole) (left_of (guide course told old whole) begin ls w) old_work old_answer r work' answer' out'
@@ -175,6 +171,6 @@ conjunctions_of (asks q) = q.alternatives
 conjunctions_of (refuses r) = []
 
 -- the run of a question
-abbrev pub Runs : Course → List ℕ → Asked → List ℕ → List ℕ → List ℕ → Ran → List ℕ → List ℕ → List ℕ → Type 0
+abbrev pub Runs : Course → List ℕ → Asked → List ℕ → List ℕ → List ℕ → Result Ran Refusal → List ℕ → List ℕ → List ℕ → Type 0
 Runs course told a work answer out r work' answer' out' =
     Ends (guide course told out (trail desk (signature_of a) (conjunctions_of a))) (left course told (length out) (signature_of a) 0 [] (numbered 0 (conjunctions_of a))) work answer r work' answer' out'

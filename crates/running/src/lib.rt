@@ -16,7 +16,7 @@ ghost use Rattle.running.specs.Calling.{calling, notes};
 use crate::turns::run;
 use around::{ready, refused, settle, tell};
 use courses::Course;
-use outcomes::{Checked, Solved};
+use outcomes::Solved;
 
 // Runs a question on a course, `told` being the bytes of the trail to follow and `out` the room for one to be noted: what comes back, and what the three slices then hold, is what the course's definition says.
 pub fn run_course(
@@ -31,11 +31,11 @@ pub fn run_course(
     ensures out_after { out.new ≡ trail_leaves (calling course told.now (length work.old) (length answer.old) (length out.old) question.now) (notes course (trail_of desk (read_question desk question.now))) out.old }
 {
     match ready(question, work.len(), answer.len()) {
-        Checked::Fine => {
+        Ok(()) => {
             let ran = run(question, work, answer, told, out, course);
             settle(ran, out);
             tell(ran, work, answer)
         }
-        Checked::Refused(r) => refused(r),
+        Err(r) => refused(r),
     }
 }

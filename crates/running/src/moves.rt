@@ -23,13 +23,6 @@ pub struct State {
     pub signature: Signature,
 }
 
-// What a turn comes to: the run goes on, or stops with a refusal.
-#[derive(Clone, Copy)]
-pub enum Turned {
-    On(State),
-    Stop(Refusal),
-}
-
 // k, which is of that alternative and has these counts, becomes the next line, and `next` is where those that wait then begin.
 pub fn line(
     k: &[u16],
@@ -38,7 +31,7 @@ pub fn line(
     next: usize,
     answer: &mut [u16],
     s: State,
-) -> Turned
+) -> Result<State, Refusal>
     requires k_len_bound { (length k.now ≤ desk.question) × (s.tally.«open» ≤ s.tally.lines) × (s.tally.end ≤ desk.room) × (desk.room ≤ length answer.old) }
     requires conjunction { Conjunction k.now }
     requires table_value { table.now ≡ afresh k.now }
@@ -46,15 +39,15 @@ pub fn line(
 {
     let t = s.tally;
     if LINES <= t.lines {
-        return Turned::Stop(Refusal::LineRoom);
+        return Err(Refusal::LineRoom);
     }
     if ROOM < t.end + LINE_HEAD + k.len() {
-        return Turned::Stop(Refusal::LineRoom);
+        return Err(Refusal::LineRoom);
     }
     let solved = is_solved(k, table);
     let u = add_line(k, number, solved, t, answer);
     let signature = s.signature;
-    Turned::On(State {
+    Ok(State {
         at: next,
         steps: s.steps,
         tally: u,

@@ -17,31 +17,37 @@ use courses::Course;
 use language::limits::STEPS;
 use language::{Refusal, Signature};
 use search::Best;
-use telling::{Chosen, named_by};
+use telling::named_by;
 use word_bytes::word_at;
 
 // The bytes of a step in a trail: three words.
 const STEP_BYTES: usize = 6;
 
 // The step that was found, unless all steps are made.
-fn under_ceiling(b: Best, steps: usize) -> Chosen
+fn under_ceiling(b: Best, steps: usize) -> Result<Best, Refusal>
     ensures { result ≡ under_ceiling b steps }
 {
     if STEPS <= steps {
-        return Chosen::Not(Refusal::StepLimit);
+        return Err(Refusal::StepLimit);
     }
-    Chosen::Step(b)
+    Ok(b)
 }
 
 // The step that comes next in a trail, so many being behind.
-fn told_step(k: &[u16], table: &[u16; TABLE], told: &[u8], made: usize, s: Signature) -> Chosen
+fn told_step(
+    k: &[u16],
+    table: &[u16; TABLE],
+    told: &[u8],
+    made: usize,
+    s: Signature,
+) -> Result<Best, Refusal>
     requires made_in_bounds { (6 * made ≤ length told.now) × (length k.now ≤ desk.question) }
     requires conjunction { Conjunction k.now }
     requires table_value { table.now ≡ afresh k.now }
     ensures { (c : Conj) → fine_conj desk c → k.now ≡ conj_words c → result ≡ next_of s c (triples (drop (3 * made) (words_of told.now))) }
 {
     if told.len() - STEP_BYTES * made < STEP_BYTES {
-        return Chosen::Not(Refusal::ShortTrail);
+        return Err(Refusal::ShortTrail);
     }
     let from = 3 * made;
     let rule = word_at(told, from);
@@ -58,7 +64,7 @@ pub fn choose(
     told: &[u8],
     course: Course,
     s: State,
-) -> Chosen
+) -> Result<Best, Refusal>
     requires guided { Guided course told.now s.steps × (length k.now ≤ desk.question) }
     requires conjunction { Conjunction k.now }
     requires table_value { table.now ≡ afresh k.now }
@@ -75,19 +81,22 @@ pub fn choose(
 }
 
 // Nothing waits: the run is done, unless a trail goes on.
-pub fn finish(told: &[u8], course: Course, s: State) -> Ran
+pub fn finish(told: &[u8], course: Course, s: State) -> Result<Ran, Refusal>
     requires { Guided course told.now s.steps }
     ensures { Finishes told.now course s result }
 {
-    let tally = s.tally;
+    let ran = Ran {
+        steps: s.steps,
+        tally: s.tally,
+    };
     match course {
-        Course::First => Ran::Done(s.steps, tally),
-        Course::Noted => Ran::Done(s.steps, tally),
+        Course::First => Ok(ran),
+        Course::Noted => Ok(ran),
         Course::Told => {
             if STEP_BYTES * s.steps < told.len() {
-                return Ran::Stopped(Refusal::LongTrail);
+                return Err(Refusal::LongTrail);
             }
-            Ran::Done(s.steps, tally)
+            Ok(ran)
         }
     }
 }

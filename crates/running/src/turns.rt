@@ -1,16 +1,15 @@
 // The run of a question, turn by turn, on one of the three courses.
-ghost use Rattle.std.specs.Prelude.{◌+◌, ◌≤◌, ◌<◌, ◌≡◌, length};
+ghost use Rattle.std.specs.Prelude.{◌+◌, ◌≤◌, ◌<◌, ◌≡◌, length, Ok};
 ghost use Rattle.language.specs.Limits.{desk};
 ghost use Rattle.language.specs.Question.{read_question};
 ghost use Rattle.frames.specs.Frames.{frame, framed_length};
 ghost use Rattle.counts.specs.Tables.{afresh};
 ghost use Rattle.steps.specs.Asking.{RuleAt};
 ghost use Rattle.reader.specs.Checking.{checked};
-ghost use Rattle.outcomes.specs.declared.Checked.TheVariants.{Fine};
 ghost use Rattle.running.specs.Courses.{Roomy};
 ghost use Rattle.running.specs.Turning.{Advances, FirstOf, Taken, TurnsWith, TurnsFirst, Awaits, Begun, GoesOn, Runs};
 
-use crate::moves::{State, Turned, line};
+use crate::moves::{State, line};
 use crate::next_steps::{choose, finish};
 use answers::begin;
 use around::Ran;
@@ -24,11 +23,10 @@ use language::limits::{QUESTION, ROOM};
 use rules::places::NO_RULE;
 use search::{Best, find};
 use steps::take_step;
-use taking::Stepped;
-use telling::Chosen;
 use waiting::lay_out;
 
-// The step b is made in the place of k, unless a number stands against it; with it so many are made.
+// The step b is made in the place of k, unless a number stands against it; with it so many are made. As of all turns, the answer is the state in
+// which the run goes on, or the refusal that it stops with.
 fn advance(
     k: &[u16],
     b: Best,
@@ -39,28 +37,23 @@ fn advance(
     course: Course,
     made: usize,
     s: State,
-) -> Turned
+) -> Result<State, Refusal>
     requires k_len_bound { (length k.now ≤ desk.question) × (b.at < length k.now) × (next ≤ length work.old) × (next ≤ desk.room) × Roomy course b s.steps out.old }
     requires rule_at { RuleAt s.signature k.now b }
     ensures { Advances k.now b number next course made s work.old out.old result work.new out.new }
 {
     let tally = s.tally;
     let signature = s.signature;
-    match take_step(k, b, signature, number, work, next) {
-        Stepped::Long => Turned::Stop(Refusal::LongResult),
-        Stepped::Room => Turned::Stop(Refusal::LongWaiting),
-        Stepped::Done(at) => {
-            if note(k, b, s.steps, out, course) {
-                return Turned::On(State {
-                    at,
-                    steps: made,
-                    tally,
-                    signature,
-                });
-            }
-            Turned::Stop(Refusal::TrailRoom)
-        }
+    let at = take_step(k, b, signature, number, work, next)?;
+    if note(k, b, s.steps, out, course) {
+        return Ok(State {
+            at,
+            steps: made,
+            tally,
+            signature,
+        });
     }
+    Err(Refusal::TrailRoom)
 }
 
 // One turn, the first waiting conjunction being k, of that alternative, and the table having the counts of its variables.
@@ -75,7 +68,7 @@ fn turn_with(
     out: &mut [u16],
     course: Course,
     s: State,
-) -> Turned
+) -> Result<State, Refusal>
     requires k_len_bound { (length k.now ≤ desk.question) × (next ≤ desk.room) × (desk.room ≤ length work.old) × (s.tally.«open» ≤ s.tally.lines) × (s.tally.end ≤ desk.room) × (desk.room ≤ length answer.old) }
     requires first_of { FirstOf k.now number next course s work.old answer.old told.now out.old }
     requires table_value { table.now ≡ afresh k.now }
@@ -87,15 +80,11 @@ fn turn_with(
         return line(k, table, number, next, answer, s);
     }
     if NO_RULE < b.rank {
-        return Turned::Stop(Refusal::LongWalk);
+        return Err(Refusal::LongWalk);
     }
-    match choose(k, table, b, told, course, s) {
-        Chosen::Not(e) => Turned::Stop(e),
-        Chosen::Step(c) => {
-            let made = one_more(told, course, s.steps);
-            advance(k, c, number, work, next, out, course, made, s)
-        }
-    }
+    let c = choose(k, table, b, told, course, s)?;
+    let made = one_more(told, course, s.steps);
+    advance(k, c, number, work, next, out, course, made, s)
 }
 
 // One turn, the first waiting conjunction having been taken out, so that results can be written over its place, with the table of its counts.
@@ -108,7 +97,7 @@ fn turn(
     out: &mut [u16],
     course: Course,
     s: State,
-) -> Turned
+) -> Result<State, Refusal>
     requires at_bound { (s.at + frame + framed_length work.old s.at ≤ desk.room) × (framed_length work.old s.at ≤ desk.question) × (desk.room ≤ length work.old) × (s.tally.«open» ≤ s.tally.lines) × (s.tally.end ≤ desk.room) × (desk.room ≤ length answer.old) }
     requires awaits { Awaits course told.now s work.old answer.old out.old }
     requires taken { Taken k.now table.now s work.old }
@@ -128,7 +117,7 @@ fn go_on(
     out: &mut [u16],
     course: Course,
     begin: State,
-) -> Ran
+) -> Result<Ran, Refusal>
     requires { Begun course told.now begin work.old answer.old out.old }
     ensures { GoesOn course told.now begin work.old answer.old out.old result work.new answer.new out.new }
 {
@@ -138,10 +127,7 @@ fn go_on(
     let mut s = begin;
     while s.at < ROOM {
         n = take_first(work, s.at, &mut k, n, &mut table);
-        match turn(&k[0..n], &table, work, answer, told, out, course, s) {
-            Turned::On(t) => s = t,
-            Turned::Stop(e) => return Ran::Stopped(e),
-        }
+        s = turn(&k[0..n], &table, work, answer, told, out, course, s)?;
     }
     finish(told, course, s)
 }
@@ -154,8 +140,8 @@ pub fn run(
     told: &[u8],
     out: &mut [u16],
     course: Course,
-) -> Ran
-    requires { (Fine ≡ checked (read_question desk question.now)) × (desk.room ≤ length work.old) × (desk.room ≤ length answer.old) }
+) -> Result<Ran, Refusal>
+    requires { (Ok tt ≡ checked (read_question desk question.now)) × (desk.room ≤ length work.old) × (desk.room ≤ length answer.old) }
     ensures { Runs course told.now (read_question desk question.now) work.old answer.old out.old result work.new answer.new out.new }
 {
     let at = lay_out(question, work);

@@ -21,6 +21,7 @@ use rules::places::{AT_CLASH, AT_FOLD, NO_RULE, STOPS};
 use views::{see, show_membership, swapped};
 
 // The literal of the least rank so far: its rank, its place, and whether its equation is seen from the other side.
+// kept: `swap` is one of two sides, and no sign that a place is missing.
 #[derive(Clone, Copy)]
 pub struct Best {
     pub rank: usize,

@@ -3,7 +3,8 @@ use Prim.Native.Nat.{ℕ, zero, suc, ◌+◌, ◌<◌, ◌≤◌}
 use mathlib.Core.Path.{◌≡◌, refl, sym, subst, ap, ◌∙◌}
 use mathlib.Core.Bool.{Bool, true, false, ◌&&◌}
 use mathlib.Core.List.{List, [], ◌∷◌, ◌++◌, append_assoc}
-use mathlib.Core.Option.{Option, none, some, map}
+use mathlib.Core.Option as maybe
+use mathlib.Core.Option.{none, some, map}
 use native.Mathlib.Omega.{arith}
 use lib.Dec.{eqb, ltb}
 use lib.ListN.{length, get_or, drop, length-append, length-drop}
@@ -15,7 +16,7 @@ use Rattle.language.specs.Trees.{Hedge, ε, tvar, hvar, node, ◌⧺◌, same_wo
 use Rattle.language.specs.Writing.{hedge_words}
 use Rattle.language.specs.Fine.{fine_hedge}
 use Rattle.rules.specs.Looks.{onto}
-use Rattle.rules.specs.Solved.{is_some}
+use Rattle.rules.specs.Solved as rules
 use Rattle.rules.specs.Elements.{without, or_struck, struck, width}
 use Rattle.rules.proofs.Tests.{true-test}
 use Rattle.rules.proofs.Names.{same_words-is}
@@ -28,6 +29,7 @@ use Rattle.views.specs.Standing.{Stands}
 use Rattle.views.proofs.Words.{words-body, words-join, body-join, join-assoc, fine-head, fine-parts, first_word}
 use Rattle.views.proofs.Spans.{functor-some, stands_word, stands-split, stands-place, stands-next}
 use Rattle.views.proofs.Same.{same-hedges}
+use Rattle.std.specs.Prelude.{Option, Some, None, is_some}
 use Rattle.sharing.specs.declared.Spots.{Spots}
 use Rattle.sharing.specs.Shared.{equal_from, twice, shared_from, first_shared}
 use Rattle.sharing.proofs.Walks.{equal_over, equal-step, shared-over, shared_step}
@@ -41,14 +43,16 @@ pub record CutOut (at from to : ℕ) (e h r : Hedge) : Type 0 where
   pub after : to ≡ from + length (body_words e)
 
 -- both without one and the same, at its places
-pub record BothCut (at by : ℕ) (t : Spots) (h k : Hedge) (a : Hedge × Hedge) : Type 0 where
+pub record BothCut (at by : ℕ) (t : Option Spots) (h k : Hedge) (a : Hedge × Hedge) : Type 0 where
   pub shared : Hedge
-  pub left : CutOut at t.left t.after shared h a.0
-  pub right : CutOut by t.right t.behind shared k a.1
+  pub spots : Spots
+  pub told : t ≡ Some spots
+  pub left : CutOut at spots.left spots.after shared h a.0
+  pub right : CutOut by spots.right spots.behind shared k a.1
 
 -- t tells of h and k, which stand at `at` and `by`, what is struck out of them
-pub record Shares (at by : ℕ) (t : Spots) (h k : Hedge) : Type 0 where
-  pub found : t.found ≡ is_some (struck h k)
+pub record Shares (at by : ℕ) (t : Option Spots) (h k : Hedge) : Type 0 where
+  pub found : is_some t ≡ rules.is_some (struck h k)
   pub cut : (a : Hedge × Hedge) → struck h k ≡ some a → BothCut at by t h k a
 
 -- ---- the words of an element
@@ -139,13 +143,13 @@ module _ {i j : ℕ} {h : Hedge} (w : h ≡ head h ⧺ tail h) (p : j ≡ i + le
 -- ---- an element of the other hedge
 
 -- p is the place of the element that is taken out of h to leave r; or it is the length
-abbrev Told : List ℕ → ℕ → Hedge → Hedge → Option Hedge → ℕ → Type 0
+abbrev Told : List ℕ → ℕ → Hedge → Hedge → maybe.Option Hedge → ℕ → Type 0
 Told k i e h none p = ltb p (length k) ≡ false
 Told k i e h (some r) p = (ltb p (length k) ≡ true) × CutOut i p (element_end k p) e h r
 
 module _ {k : List ℕ} {i : ℕ} {h : Hedge} {beyond : List ℕ} (s : Stands k i h beyond) (nz : first_word h ≡ 0 → ⊥) (w : h ≡ head h ⧺ tail h) where
   module _ (e : Hedge) (p : ℕ) where
-    equal-later : (o : Option Hedge) → Told k (element_end k i) e (tail h) o p → Told k i e h (map (λ r. head h ⧺ r) o) p
+    equal-later : (o : maybe.Option Hedge) → Told k (element_end k i) e (tail h) o p → Told k i e h (map (λ r. head h ⧺ r) o) p
     equal-later none t = t
     equal-later (some r) t = (t.0, cut_later w (stands-place s) t.1)
 
@@ -172,23 +176,23 @@ module _ {k : List ℕ} (e : Hedge) (f : fine_hedge desk e) where
 
 -- ---- an element of both
 
-abbrev Tells : ℕ → ℕ → Hedge → Hedge → Option (Hedge × Hedge) → Spots → Type 0
-Tells i j h g none t = t.found ≡ false
-Tells i j h g (some a) t = (t.found ≡ true) × BothCut i j t h g a
+abbrev Tells : ℕ → ℕ → Hedge → Hedge → maybe.Option (Hedge × Hedge) → Option Spots → Type 0
+Tells i j h g none t = t ≡ None
+Tells i j h g (some a) t = BothCut i j t h g a
 
 module _ {k : List ℕ} {j : ℕ} (g : Hedge) {after : List ℕ} (other : Stands k j g after) where
   module _ {i : ℕ} {h : Hedge} {beyond : List ℕ} (s : Stands k i h beyond) (nz : first_word h ≡ 0 → ⊥) (w : h ≡ head h ⧺ tail h) where
-    module _ (rest : Spots) where
-      shared-later : (m : Option (Hedge × Hedge)) → Tells (element_end k i) j (tail h) g m rest → Tells i j h g (onto (λ r. head h ⧺ r) m) rest
+    module _ (rest : Option Spots) where
+      shared-later : (m : maybe.Option (Hedge × Hedge)) → Tells (element_end k i) j (tail h) g m rest → Tells i j h g (onto (λ r. head h ⧺ r) m) rest
       shared-later none t = t
-      shared-later (some a) t = (t.0, record { shared = t.1.shared; left = cut_later w (stands-place s) t.1.left; right = t.1.right })
+      shared-later (some a) t = record { shared = t.shared; spots = t.spots; told = t.told; left = cut_later w (stands-place s) t.left; right = t.right }
 
-      shared-by : (p : ℕ) (o : Option Hedge) → Told k j (head h) g o p → Tells (element_end k i) j (tail h) g (struck (tail h) g) rest
-          → Tells i j h g (or_struck (tail h) o (onto (λ r. head h ⧺ r) (struck (tail h) g))) (pick (ltb p (length k)) (twice k i p) rest)
-      shared-by p none y t = subst (λ b. Tells i j h g (onto (λ r. head h ⧺ r) (struck (tail h) g)) (pick b (twice k i p) rest)) (sym y) (shared-later (struck (tail h) g) t)
+      shared-by : (p : ℕ) (o : maybe.Option Hedge) → Told k j (head h) g o p → Tells (element_end k i) j (tail h) g (struck (tail h) g) rest
+          → Tells i j h g (or_struck (tail h) o (onto (λ r. head h ⧺ r) (struck (tail h) g))) (pick (ltb p (length k)) (Some (twice k i p)) rest)
+      shared-by p none y t = subst (λ b. Tells i j h g (onto (λ r. head h ⧺ r) (struck (tail h) g)) (pick b (Some (twice k i p)) rest)) (sym y) (shared-later (struck (tail h) g) t)
       shared-by p (some r) y t =
-          subst (λ b. Tells i j h g (some (tail h, r)) (pick b (twice k i p) rest)) (sym y.0)
-          (refl, record { shared = head h; left = cut-first w (stands-place s) (head h) refl; right = y.1 })
+          subst (λ b. Tells i j h g (some (tail h, r)) (pick b (Some (twice k i p)) rest)) (sym y.0)
+          (record { shared = head h; spots = twice k i p; told = refl; left = cut-first w (stands-place s) (head h) refl; right = y.1 })
 
     shared-one : (n : ℕ) → Tells (element_end k i) j (tail h) g (struck (tail h) g) (shared_from n k (element_end k i) j)
         → Tells i j h g (or_struck (tail h) (without (head h) g) (onto (λ r. head h ⧺ r) (struck (tail h) g))) (shared_from (suc n) k i j)
@@ -198,7 +202,7 @@ module _ {k : List ℕ} {j : ℕ} (g : Hedge) {after : List ℕ} (other : Stands
         (equal-told (head h) (fine-head h s.fine) (length k) g (steps-enough other) other) t)
 
   shared-told : (n : ℕ) {i : ℕ} (h : Hedge) {beyond : List ℕ} → width h ≤ n → Stands k i h beyond → Tells i j h g (struck h g) (shared_from n k i j)
-  shared-told n {i} ε l s = ap (λ t. t.found) (shared-over k i j refl (stands_word s) n)
+  shared-told n {i} ε l s = shared-over k i j refl (stands_word s) n
   shared-told zero (tvar x r) l s = absurd (omega arith)
   shared-told zero (hvar p r) l s = absurd (omega arith)
   shared-told zero (node f c r) l s = absurd (omega arith)
@@ -212,9 +216,9 @@ pub shares : {k : List ℕ} {i j : ℕ} (h g : Hedge) {beyond after : List ℕ} 
 unfolding first_shared
 shares {k} {i} {j} h g s o = go (struck h g) refl (shared-told g o (length k) h (steps-enough s) s)
   where
-    go : (m : Option (Hedge × Hedge)) → struck h g ≡ m → Tells i j h g m (shared_from (length k) k i j) → Shares i j (shared_from (length k) k i j) h g
-    go none e y = record { found = y ∙ ap is_some (sym e); cut = λ a d. absurd (let z : ◌≡◌ {A = ℕ} 0 1 = cc in omega arith) }
-    go (some b) e y = record { found = y.0 ∙ ap is_some (sym e); cut = λ a d. let z : b ≡ a = cc in subst (BothCut i j (shared_from (length k) k i j) h g) z y.1 }
+    go : (m : maybe.Option (Hedge × Hedge)) → struck h g ≡ m → Tells i j h g m (shared_from (length k) k i j) → Shares i j (shared_from (length k) k i j) h g
+    go none e y = record { found = ap is_some y ∙ ap rules.is_some (sym e); cut = λ a d. absurd (let z : ◌≡◌ {A = ℕ} 0 1 = cc in omega arith) }
+    go (some b) e y = record { found = ap is_some y.told ∙ ap rules.is_some (sym e); cut = λ a d. let z : b ≡ a = cc in subst (BothCut i j (shared_from (length k) k i j) h g) z y }
 
 -- the words before what is cut out, and what stands behind it
 module _ {k : List ℕ} {at from to : ℕ} {e h r : Hedge} {beyond : List ℕ} (s : Stands k at h beyond) (c : CutOut at from to e h r) where

@@ -12,7 +12,8 @@ use Rattle.language.specs.Kinds.{pick}
 use Rattle.words.specs.Spans.{opens, span, element_end}
 use Rattle.words.specs.Places.{same_list}
 use Rattle.words.proofs.Spans.{element-on, element-more}
-use Rattle.sharing.specs.Shared.{equal_from, nowhere, twice, shared_from}
+use Rattle.std.specs.Prelude.{Some, None}
+use Rattle.sharing.specs.Shared.{equal_from, twice, shared_from}
 
 -- ---- places
 
@@ -105,7 +106,7 @@ equal-step k ws i z s n = rw (z, s)
 -- ---- the first that is shared
 
 module _ (k : List ℕ) (i j : ℕ) {x : ℕ} (a : x ≡ get_or k i 0) where
-  pub shared-over : x ≡ 0 → (n : ℕ) → shared_from n k i j ≡ nowhere
+  pub shared-over : x ≡ 0 → (n : ℕ) → shared_from n k i j ≡ None
   unfolding shared_from
   shared-over z zero = refl
   shared-over z (suc n) = rw (eq-eqb _ 0 (sym a ∙ z))
@@ -117,7 +118,7 @@ module _ (k : List ℕ) (i j : ℕ) {x : ℕ} (a : x ≡ get_or k i 0) where
     there : p ≡ place
     there = s ∙ ap (λ m. equal_from (length k) k (slice i m k) j) d
 
-    pub shared-here : {q : ℕ} → p < length k → q ≡ element_end k p → (n : ℕ) → shared_from (suc n) k i j ≡ record { found = true; left = i; after = e; right = p; behind = q }
+    pub shared-here : {q : ℕ} → p < length k → q ≡ element_end k p → (n : ℕ) → shared_from (suc n) k i j ≡ Some (record { left = i; after = e; right = p; behind = q })
     unfolding shared_from
     shared-here {q} t w n = rw (ne_eqb _ 0 (λ q. nz (a ∙ q)), sym there, lt-ltb _ _ t, w, d)
 
@@ -126,6 +127,6 @@ module _ (k : List ℕ) (i j : ℕ) {x : ℕ} (a : x ≡ get_or k i 0) where
     shared-on t n = rw (ne_eqb _ 0 (λ q. nz (a ∙ q)), sym there, le-ltb p (length k) (omega arith), d)
 
 pub shared_step : (k : List ℕ) (i j : ℕ) {ws : List ℕ} → eqb (get_or k i 0) 0 ≡ false → slice i (element_end k i) k ≡ ws → (n : ℕ)
-    → shared_from (suc n) k i j ≡ pick (ltb (equal_from (length k) k ws j) (length k)) (twice k i (equal_from (length k) k ws j)) (shared_from n k (element_end k i) j)
+    → shared_from (suc n) k i j ≡ pick (ltb (equal_from (length k) k ws j) (length k)) (Some (twice k i (equal_from (length k) k ws j))) (shared_from n k (element_end k i) j)
 unfolding shared_from
 shared_step k i j z w n = rw (z, w)

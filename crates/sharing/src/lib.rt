@@ -9,10 +9,9 @@ ghost use Rattle.sharing.specs.Shared.{equal_from, first_shared};
 use spans::element_end;
 use words::{same_part, word};
 
-// Whether an element is shared; it stands from `left` to `after`, and again from `right` to `behind`.
+// Where a shared element stands: from `left` to `after`, and again from `right` to `behind`.
 #[derive(Clone, Copy)]
 pub struct Spots {
-    pub found: bool,
     pub left: usize,
     pub after: usize,
     pub right: usize,
@@ -49,7 +48,7 @@ fn equal_element(k: &[u16], from: usize, to: usize, at: usize) -> usize
 }
 
 // The first element that the hedges at two places share.
-pub fn first_shared(k: &[u16], left: usize, right: usize) -> Spots
+pub fn first_shared(k: &[u16], left: usize, right: usize) -> Option<Spots>
     ensures { result ≡ first_shared k.now left right }
 {
     let mut i = left;
@@ -59,22 +58,15 @@ pub fn first_shared(k: &[u16], left: usize, right: usize) -> Spots
         let p = equal_element(k, i, e, right);
         if p < k.len() {
             let q = element_end(k, p);
-            return Spots {
-                found: true,
+            return Some(Spots {
                 left: i,
                 after: e,
                 right: p,
                 behind: q,
-            };
+            });
         }
         i = e;
         x = word(k, i);
     }
-    Spots {
-        found: false,
-        left: 0,
-        after: 0,
-        right: 0,
-        behind: 0,
-    }
+    None
 }

@@ -13,15 +13,14 @@ use language::limits::ROOM;
 pub fn within(k: &[u16], to: usize) -> usize
     ensures { Within k.now to result }
 {
-    if to <= k.len() { to } else { k.len() }
+    to.min(k.len())
 }
 
 // How many words a part has.
 pub fn part_len(k: &[u16], from: usize, to: usize) -> usize
     ensures { result ≡ length (slice from to k.now) }
 {
-    let end = within(k, to);
-    if end <= from { 0 } else { end - from }
+    within(k, to).saturating_sub(from)
 }
 
 // A part as it is. The answer is the place after it.
@@ -30,14 +29,9 @@ pub fn copy(k: &[u16], from: usize, to: usize, out: &mut [u16], at: usize) -> us
     ensures { Wrote out.old at (slice from to k.now) out.new result }
 {
     let end = within(k, to);
-    let mut i = from;
-    let mut e = at;
-    while i < end {
-        out[e] = k[i];
-        i += 1;
-        e += 1;
-    }
-    e
+    let part = &k[from.min(end)..end];
+    out[at..at + part.len()].copy_from_slice(part);
+    at + part.len()
 }
 
 // A number as a word.
@@ -53,9 +47,5 @@ pub fn clear(s: &mut [u16])
     requires { desk.room ≤ length s.old }
     ensures { s.new ≡ overwritten desk (zeros desk) s.old }
 {
-    let mut i = 0;
-    while i < ROOM {
-        s[i] = 0;
-        i += 1;
-    }
+    s[..ROOM].fill(0);
 }

@@ -13,19 +13,8 @@ use std::io::{Read, Stdin, Stdout};
 // A slice that is lent may be longer than it has to be.
 const MOST: usize = ROOM + 808;
 
-fn number(out: Stdout, n: u64) {
-    print::number(out, n);
-    say(out, b" ");
-}
-
-fn wide(x: u16) -> u64 {
-    x as u64
-}
-
-fn place(x: u16) -> usize
-    ensures { result < 65536 }
-{
-    x as usize
+fn number(out: Stdout, n: usize) {
+    let _ = print!(out; "{n} ");
 }
 
 // The word that is lent at a place: never 0, and another one at the next.
@@ -34,10 +23,8 @@ fn lent(i: usize) -> u16 {
 }
 
 fn lend(s: &mut [u16]) {
-    let mut i = 0;
-    while i < s.len() {
-        s[i] = lent(i);
-        i += 1;
+    for (i, word) in s.iter_mut().enumerate() {
+        *word = lent(i);
     }
 }
 
@@ -46,14 +33,12 @@ fn zeros_end(s: &[u16], from: usize) -> usize
     requires { from ≤ length s.now }
     ensures { (from ≤ result) × (result ≤ length s.now) }
 {
-    let mut i = from;
-    while i < s.len() {
+    for i in from..s.len() {
         if s[i] != 0 {
             return i;
         }
-        i += 1;
     }
-    i
+    s.len()
 }
 
 // Where the words end that stand from a place on as they were lent.
@@ -61,14 +46,12 @@ fn lent_end(s: &[u16], from: usize) -> usize
     requires { from ≤ length s.now }
     ensures { (from ≤ result) × (result ≤ length s.now) }
 {
-    let mut i = from;
-    while i < s.len() {
+    for i in from..s.len() {
         if s[i] != lent(i) {
             return i;
         }
-        i += 1;
     }
-    i
+    s.len()
 }
 
 // From a place on: how many zeros, and how many words behind them as they were lent. A word that is neither makes the two too few.
@@ -77,51 +60,39 @@ fn left(out: Stdout, s: &[u16], from: usize)
 {
     let zeros = zeros_end(s, from);
     let end = lent_end(s, zeros);
-    number(out, (zeros - from) as u64);
-    number(out, (end - zeros) as u64);
+    number(out, zeros - from);
+    number(out, end - zeros);
 }
 
 // The words up to a place, and where they end.
 fn words(out: Stdout, s: &[u16], end: usize) -> usize
     ensures { result ≤ length s.now }
 {
-    let mut i = 0;
-    while i < s.len() {
-        if end <= i {
-            return i;
-        }
-        number(out, wide(s[i]));
-        i += 1;
+    let end = end.min(s.len());
+    for word in &s[..end] {
+        number(out, usize::from(*word));
     }
-    i
+    end
 }
 
 // The place after the last line of an answer.
 fn lines_end(answer: &[u16]) -> usize {
-    let at = place(words::word(answer, 0)) + 2;
-    place(words::word(answer, at))
+    let at = usize::from(words::word(answer, 0)) + 2;
+    usize::from(words::word(answer, at))
 }
 
 fn solved(out: Stdout, question: &[u16], work: &mut [u16], answer: &mut [u16]) {
     let s = solver::solve(question, work, answer);
-    let outcome = s.outcome;
-    let refusal = outcomes::outcome_number(outcome);
-    number(out, wide(refusal));
-    number(out, s.lines as u64);
-    number(out, s.open as u64);
-    number(out, s.steps as u64);
-    say(out, b"work ");
+    let refusal = outcomes::outcome_number(s.outcome);
+    let lines = s.lines;
+    let open = s.open;
+    let steps = s.steps;
+    let _ = print!(out; "{refusal} {lines} {open} {steps} work ");
     left(out, work, 0);
     say(out, b"answer ");
     let end = if refusal == 0 { lines_end(answer) } else { 0 };
     left(out, answer, words(out, answer, end));
     say(out, b"\n");
-}
-
-fn at_most(n: usize, most: usize) -> usize
-    ensures { result ≤ most }
-{
-    if n < most { n } else { most }
 }
 
 fn one(out: Stdout, line: &[u8]) {
@@ -134,8 +105,8 @@ fn one(out: Stdout, line: &[u8]) {
     if n < 2 {
         return;
     }
-    let w = at_most(place(words[0]), MOST);
-    let a = at_most(place(words[1]), MOST);
+    let w = usize::from(words[0]).min(MOST);
+    let a = usize::from(words[1]).min(MOST);
     solved(out, &words[2..n], &mut work[0..w], &mut answer[0..a]);
 }
 

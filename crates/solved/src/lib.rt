@@ -13,14 +13,14 @@ ghost use Rattle.alone.specs.Lone.{lone_variable};
 ghost use Rattle.counts.specs.Tables.{table as places, afresh, Tallied, Beside};
 ghost use Rattle.solved.specs.Members.{member_in, InMembers};
 
-use alone::{Lone, lone_word, side_variable};
+use alone::{Variable, lone_word, side_variable};
 use counts::{TABLE, count_in, once};
 use language::TermVar;
 use views::{Look, Shape, View, see, show_membership, swapped};
 use words::next_literal;
 
 // The variable whose membership it is: the one that the hedge would be against a single term.
-fn lone_variable(look: Look) -> Lone
+fn lone_variable(look: Look) -> Option<Variable>
     ensures { result ≡ lone_variable look }
 {
     side_variable(look, Look::Term(TermVar(0), true))

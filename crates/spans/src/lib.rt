@@ -23,17 +23,15 @@ fn passed(k: &[u16], at: usize, hedges: usize) -> usize
     requires { hedges ≤ 2 }
     ensures { result ≡ at + span hedges (drop at k.now) }
 {
-    let mut i = at;
     let mut need = hedges;
-    while need != 0 {
-        if k.len() <= i {
+    for i in at..k.len() {
+        if need == 0 {
             return i;
         }
         let more = opened(k[i]);
         need = need - 1 + more;
-        i += 1;
     }
-    i
+    at.max(k.len())
 }
 
 // The place after the hedge at a place.

@@ -11,8 +11,7 @@ ghost use Rattle.views.specs.Standing.{Stands};
 ghost use Rattle.finds.specs.Walks.{run_word, Spotted};
 ghost use Rattle.finds.specs.Places.{HasTerm, Under, Inside};
 
-use finds::Spot;
-use language::{HedgeVar, Kind, TermVar, classify, run_word, term_word, wide};
+use language::{HedgeVar, Kind, TermVar, classify, run_word, term_word};
 use spans::element_end;
 use words::{stands, word};
 
@@ -62,30 +61,24 @@ pub fn under(k: &[u16], at: usize, x: TermVar) -> bool
     word_under(k, at, term_word(x))
 }
 
-// Whether the hedge variable whose word is p stands at the top behind another element, and where it does so first.
-fn word_inside(k: &[u16], at: usize, p: usize) -> Spot
+// Where the hedge variable whose word is p first stands at the top behind another element.
+fn word_inside(k: &[u16], at: usize, p: usize) -> Option<usize>
     ensures { ((q : HedgeVar) (h : Hedge) (beyond : List ℕ) → fine_var desk (hv q) → p ≡ variable_word (hv q) → Stands k.now at h beyond → Spotted q at result h) × Inside k.now at p result }
 {
     let mut i = element_end(k, at);
     let mut x = word(k, i);
     while x != 0 {
-        if wide(x) == p {
-            return Spot {
-                found: true,
-                place: i,
-            };
+        if usize::from(x) == p {
+            return Some(i);
         }
         i = element_end(k, i);
         x = word(k, i);
     }
-    Spot {
-        found: false,
-        place: 0,
-    }
+    None
 }
 
-// Whether the hedge variable stands at the top behind another element, and where it does so first.
-pub fn inside(k: &[u16], at: usize, p: HedgeVar) -> Spot
+// Where the hedge variable first stands at the top behind another element.
+pub fn inside(k: &[u16], at: usize, p: HedgeVar) -> Option<usize>
     ensures { ((h : Hedge) (beyond : List ℕ) → p.0 < desk.each → Stands k.now at h beyond → Spotted p at result h) × Inside k.now at (2000 + p.0) result }
 {
     word_inside(k, at, run_word(p))

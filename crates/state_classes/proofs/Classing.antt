@@ -17,9 +17,8 @@ use Rattle.charts.specs.Levels.{place_of, Sought, nowhere, on_top, below, throug
 use Rattle.state_classes.specs.States.{Spotted, Means, itself, inside, after}
 use Rattle.expressions.specs.declared.Part.{Part}
 use Rattle.state_classes.specs.declared.tails.Tail.{Tail}
-use Rattle.state_classes.specs.declared.tails.Laid.{Laid}
 use Rattle.state_classes.specs.declared.tails.Split.{Split}
-use Rattle.state_classes.specs.Tails.{Opened, SplitOf, TailOf, SameState}
+use Rattle.state_classes.specs.Tails.{TailOf, SameState, OpenedNone, Apart, Whole}
 use Rattle.state_classes.specs.Classes.{StateTest, Liked, Classed, FirstState, Tabled, KeptTo, Changed, last_part, count_of, Counted, Keyed, KeyedTo}
 use Rattle.charts.proofs.Places.{place_in, cat-left, cat-right, alt-left, alt-right, over-here, over_below, sought-right, Right}
 use Rattle.state_classes.proofs.Meanings.{Stands, in-cat, in-alt, in-star, in-over, spotted-place, spotted-stands}
@@ -283,20 +282,19 @@ other-part (alt A B) n = refl
 other-part (star A) n = refl
 other-part (over f A) n = refl
 
-module _ {k : List ℕ} {at s : ℕ} {t : Tail} {o : Laid} (a : TailOf k at s t) (b : Opened k t o) where
-  pub key-none : o.none ≡ true → Keyed k at s 1
-  key-none e = record { each = λ R w h X m. ap (λ X. count_of (last_part X)) (sym (b.none X (a.each R w h X m) e)) }
+module _ {k : List ℕ} {at s : ℕ} {t : Tail} (a : TailOf k at s t) where
+  pub key-none : OpenedNone k t → Keyed k at s 1
+  key-none b = record { each = λ R w h X m. ap (λ X. count_of (last_part X)) (sym (b.none X (a.each R w h X m))) }
 
-  module _ {c : Split} (d : SplitOf k t o c) {r : ℕ} where
-    pub key-cat : c.can ≡ true → Counted k c.part r → Keyed k at s r
-    key-cat e f =
-        record { each = λ R w h X m. let j = d.yes X (a.each R w h X m) e in f.each j.second j.beyond j.stands ∙ ap (λ X. count_of (last_part X)) (sym j.is) }
+  pub key-cat : {c : Split} {r : ℕ} → Apart k t c → Counted k c.part r → Keyed k at s r
+  key-cat d f =
+      record { each = λ R w h X m. let j = d.yes X (a.each R w h X m) in f.each j.second j.beyond j.stands ∙ ap (λ X. count_of (last_part X)) (sym j.is) }
 
-    pub key-other : o.none ≡ false → c.can ≡ false → Counted k o.part r → Keyed k at s r
-    key-other z e f =
-        record {
-          each = λ R w h X m.
-              let i = a.each R w h X m in
-              let (v, g) = b.one X i z (d.only e) in
-              f.each X v g ∙ ap count_of (sym (other-part X (d.not X i e)));
-        }
+  pub key-other : {p r : ℕ} → Whole k t p → Counted k p r → Keyed k at s r
+  key-other d f =
+      record {
+        each = λ R w h X m.
+            let i = a.each R w h X m in
+            let (v, g) = d.one X i in
+            f.each X v g ∙ ap count_of (sym (other-part X (d.not X i)));
+      }

@@ -46,4 +46,4 @@ same-table {k} {old} {a} {b} {at} {end} x s t l m c d = ext_get_or 0 a b (l.long
         ]
 
 class_all-determined : Determined class_all-contract.ended class_all-reads.Pre class_all-reads.Post
-class_all-determined κs a p o q e d = ap (λ s. (tt, (tt, (tt, (tt, (tt, (tt, (s, tt)))))))) (same-table p.4 e.0 d.0 e.1 d.1 e.2 d.2)
+class_all-determined κs a p o q e d = ap (λ s. (tt, (tt, (tt, (tt, (s, tt)))))) (same-table p.3 e.0 d.0 e.1 d.1 e.2 d.2)

@@ -1,7 +1,7 @@
 -- Tails laid open, split and compared.
-use Prim.Native.Nat.{ℕ, ◌+◌, ◌-◌, ◌<◌, ◌≤◌}
+use Prim.Native.Nat.{ℕ, ◌+◌, ◌<◌, ◌≤◌}
 use mathlib.Core.Path.{◌≡◌, refl, sym, ap, ap₂, subst, ◌∙◌}
-use mathlib.Core.Bool.{Bool, true, false, ◌&&◌}
+use mathlib.Core.Bool.{Bool, true, false}
 use mathlib.Core.List.{List, [], ◌++◌}
 use native.Mathlib.Omega.{arith}
 use native.Mathlib.Decide.{dec_le}
@@ -13,7 +13,6 @@ use Rattle.language.specs.Limits.{desk}
 use Rattle.language.specs.Kinds.{pick}
 use Rattle.language.specs.Trees.{Expr, eps, cat}
 use Rattle.language.specs.Writing.{expr_words}
-use Rattle.language.proofs.Bools.{both_true}
 use Rattle.language.proofs.Laws.{expressions-read}
 use Rattle.rules.specs.Looks.{is_eps}
 use Rattle.words.specs.Places.{same_list}
@@ -26,7 +25,9 @@ use Rattle.state_classes.specs.declared.tails.Cut.{Cut}
 use Rattle.state_classes.specs.declared.tails.Tail.{Tail}
 use Rattle.state_classes.specs.declared.tails.Laid.{Laid}
 use Rattle.state_classes.specs.declared.tails.Split.{Split}
-use Rattle.state_classes.specs.Tails.{Left, Peeled, Compared, Alike, Is, Joined, Opened, SplitOf, Nothing, Same}
+use Rattle.std.specs.Prelude.{Option, None, Some}
+use Rattle.state_classes.specs.declared.tails.Laid.TheVariants.{One, Two}
+use Rattle.state_classes.specs.Tails.{Left, Spent, Rested, Compared, Alike, Is, Joined, OpenedNone, OpenedOne, OpenedTwo, Opened, both_one, Apart, Whole, Nothing, Same}
 use Rattle.state_classes.proofs.Peeling.{differ}
 
 -- ---- two places
@@ -76,23 +77,26 @@ behind-full B C e = ap (λ b. is_eps (pick b C (pick (is_eps C) B (cat C B)))) e
     go false = refl
 
 module _ {k : List ℕ} {t : Tail} where
-  pub opened-none : {a : Cut} → t.rest ≡ true → Peeled k t.at t.symbol a → a.done ≡ true → Opened k t (record { none = true; one = false; part = 0; next = 0 })
-  opened-none r p d =
-      record { further = λ z. differ z; none = λ X i _. p.none X (is-rest t r i) d; one = λ X i z. differ z; two = λ X i z. differ z }
+  pub opened-none : t.rest ≡ true → Spent k t.at t.symbol → OpenedNone k t
+  opened-none r p = record { none = λ X i. p.none X (is-rest t r i) }
 
-  pub opened-rest : {a b : Cut} → t.rest ≡ true → Peeled k t.at t.symbol a → a.done ≡ false → Peeled k a.next t.symbol b
-      → Opened k t (record { none = false; one = b.done; part = a.part; next = a.next })
-  opened-rest {a} {b} r p d q =
+  pub opened-one : {a : Cut} → t.rest ≡ true → Rested k t.at t.symbol a → Spent k a.next t.symbol → OpenedOne k t a.part
+  opened-one {a} r p q =
       record {
-        further = λ _. let (x, y, z) = p.further d in (z, λ _. (x, y));
-        none = λ X i z. differ (sym z);
-        one = λ X i _ z.
-            let m = p.some X (is-rest t r i) d in
-            let e = m.is ∙ ap (behind m.last) (q.none m.before m.left z) ∙ behind-nothing m.last m.full in
+        low = p.further.2;
+        one = λ X i.
+            let m = p.some X (is-rest t r i) in
+            let e = m.is ∙ ap (behind m.last) (q.none m.before m.left) ∙ behind-nothing m.last m.full in
             (m.beyond, subst (λ X. Here k a.part X m.beyond) (sym e) m.stands);
-        two = λ X i _ z.
-            let m = p.some X (is-rest t r i) d in
-            let n = q.some m.before m.left z in
+      }
+
+  pub opened-two : {a b : Cut} → t.rest ≡ true → Rested k t.at t.symbol a → Rested k a.next t.symbol b → OpenedTwo k t a
+  opened-two {a} {b} r p q =
+      record {
+        further = let (x, y, z) = p.further in (z, x, y);
+        two = λ X i.
+            let m = p.some X (is-rest t r i) in
+            let n = q.some m.before m.left in
             record {
               first = m.before;
               second = m.last;
@@ -103,9 +107,8 @@ module _ {k : List ℕ} {t : Tail} where
             };
       }
 
-  pub opened-whole : t.rest ≡ false → Opened k t (record { none = false; one = true; part = t.at; next = 0 })
-  opened-whole r =
-      record { further = λ _. (omega arith, λ z. differ z); none = λ X i z. differ (sym z); one = λ X i _ _. is_whole t r i; two = λ X i _ z. differ z }
+  pub opened-whole : t.rest ≡ false → OpenedOne k t t.at
+  opened-whole r = record { low = omega arith; one = λ X i. is_whole t r i }
 
 -- ---- taken apart
 
@@ -116,134 +119,132 @@ word_in k i e = go (dec_le (length k) i)
     go (yes h) = let z = get_or-eq_default k 0 h in absurd (omega arith)
     go (no h) = omega arith
 
-module _ {k : List ℕ} {t : Tail} {o : Laid} (p : Opened k t o) (n : o.none ≡ false) where
-  pub split_one : {a : Part} → o.one ≡ true → get_or k o.part 0 ≡ 7001 → Parted k (o.part + 1) a
-      → SplitOf k t o (record { can = true; rest = record { at = o.part + 1; symbol = t.symbol; rest = false }; part = a.end })
-  split_one {a} e z q =
+module _ {k : List ℕ} {t : Tail} {part : ℕ} (o : Laid) (is : o ≡ One part) (u : Opened k t (Some o)) where
+  p : OpenedOne k t part
+  p = subst (λ o. Opened k t (Some o)) is u
+
+  pub split_one : {a : Part} → get_or k part 0 ≡ 7001 → Parted k (part + 1) a → Apart k t (record { rest = record { at = part + 1; symbol = t.symbol; rest = false }; part = a.end })
+  split_one {a} z q =
       record {
-        further = λ _. let (x, y) = p.further n in let i = word_in k o.part z in (omega arith, omega arith);
-        yes = λ X i _. let (w, h) = p.one X i n e in cut X w h;
-        not = λ X i z. differ z;
-        only = λ z. differ z;
+        further = let x = p.low in let i = word_in k part z in (omega arith, omega arith);
+        yes = λ X i. let (w, h) = p.one X i in cut X w h;
       }
     where
-      cut : (X : Expr) (w : List ℕ) → Here k o.part X w → Joined k X (record { at = o.part + 1; symbol = t.symbol; rest = false }) a.end
+      cut : (X : Expr) (w : List ℕ) → Here k part X w → Joined k X (record { at = part + 1; symbol = t.symbol; rest = false }) a.end
       cut X w h =
-          by-cat (λ A v. X ≡ A → Joined k X (record { at = o.part + 1; symbol = t.symbol; rest = false }) a.end) z (λ A B v i f e.
+          by-cat (λ A v. X ≡ A → Joined k X (record { at = part + 1; symbol = t.symbol; rest = false }) a.end) z (λ A B v i f e.
           record { first = A; second = B; beyond = v; is = e; tail = (expr_words B ++ v, i); stands = second-of i f (q.each A _ i).end }) X w h refl
 
-  pub split-none : {r : Tail} {part : ℕ} → o.one ≡ true → (get_or k o.part 0 ≡ 7001 → ⊥) → SplitOf k t o (record { can = false; rest = r; part = part })
-  split-none e z =
+  pub split-none : (get_or k part 0 ≡ 7001 → ⊥) → Whole k t part
+  split-none z =
       record {
-        further = λ y. differ (sym y);
-        yes = λ X i y. differ (sym y);
-        not = λ X i _ A B f. let (w, h) = p.one X i n e in z (word-of k o.part (subst (λ X. Here k o.part X w) f h).words);
-        only = λ _. e;
+        one = p.one;
+        not = λ X i A B f. let (w, h) = p.one X i in z (word-of k part (subst (λ X. Here k part X w) f h).words);
       }
 
-  pub split-two : o.one ≡ false → SplitOf k t o (record { can = true; rest = record { at = o.next; symbol = t.symbol; rest = true }; part = o.part })
-  split-two e = record { further = λ _. (p.further n).1 e; yes = λ X i _. p.two X i n e; not = λ X i z. differ z; only = λ z. differ z }
+pub split-two : {k : List ℕ} {t : Tail} {c : Cut} → OpenedTwo k t c → Apart k t (record { rest = record { at = c.next; symbol = t.symbol; rest = true }; part = c.part })
+split-two p = record { further = let (x, y, z) = p.further in (y, z); yes = λ X i. p.two X i }
 
 -- ---- eps
 
 not-eps : {A : Type 0} (B C : Expr) → cat B C ≡ eps → A
 not-eps B C e = absurd (let z : ◌≡◌ {A = ℕ} 0 1 = cc in omega arith)
 
-module _ {k : List ℕ} {o : Laid} where
-  pub nothing-none : o.none ≡ true → Nothing k o true
-  nothing-none n = record { each = λ t p X i. record { yes = λ _. p.none X i n; not = λ z. differ z } }
-
-  pub nothing-one : {c : Bool} → o.none ≡ false → o.one ≡ true → c ≡ eqb (get_or k o.part 0) 7000 → Nothing k o c
-  nothing-one {c} n e d = record { each = λ t p X i. let (w, h) = p.one X i n e in told X w h }
+module _ {k : List ℕ} where
+  pub nothing-none : {o : Option Laid} → o ≡ None → Nothing k o true
+  nothing-none e = subst (λ o. Nothing k o true) (sym e) none
     where
-      told : (X : Expr) (w : List ℕ) → Here k o.part X w → Compared c X eps
+      none : Nothing k None true
+      none = record { each = λ t p X i. record { yes = λ _. p.none X i; not = λ z. differ z } }
+
+  pub nothing-one : {o : Option Laid} {part : ℕ} {c : Bool} → o ≡ Some (One part) → c ≡ eqb (get_or k part 0) 7000 → Nothing k o c
+  nothing-one {o} {part} {c} e d = subst (λ o. Nothing k o c) (sym e) one
+    where
+      told : (X : Expr) (w : List ℕ) → Here k part X w → Compared c X eps
       told X w h =
           record {
             yes = λ z. by-eps (λ A v. X ≡ A → X ≡ eps) (eqb-true _ 7000 (sym d ∙ z)) (λ v e. e) X w h refl;
-            not = λ z f. differ (sym (eq-eqb _ 7000 (word-of k o.part (subst (λ X. Here k o.part X w) f h).words)) ∙ sym d ∙ z);
+            not = λ z f. differ (sym (eq-eqb _ 7000 (word-of k part (subst (λ X. Here k part X w) f h).words)) ∙ sym d ∙ z);
           }
 
-  pub nothing-two : o.none ≡ false → o.one ≡ false → Nothing k o false
-  nothing-two n e = record { each = λ t p X i. record { yes = λ z. differ (sym z); not = λ _ f. let m = p.two X i n e in not-eps m.first m.second (sym m.is ∙ f) } }
+      one : Nothing k (Some (One part)) c
+      one = record { each = λ t p X i. let (w, h) = p.one X i in told X w h }
+
+  pub nothing-two : {o : Option Laid} {c : Cut} → o ≡ Some (Two c) → Nothing k o false
+  nothing-two {o} {c} e = subst (λ o. Nothing k o false) (sym e) two
+    where
+      two : Nothing k (Some (Two c)) false
+      two = record { each = λ t p X i. record { yes = λ z. differ (sym z); not = λ _ f. let m = p.two X i in not-eps m.first m.second (sym m.is ∙ f) } }
 
 -- ---- two tails
 
-module _ {k : List ℕ} {s t : Tail} {a b : Laid} (p : Opened k s a) (q : Opened k t b) where
-  pub same_left : {r : Bool} → a.none ≡ true → Nothing k b r → Same k s t r
-  same_left n c =
-      record { each = λ X Y i j. let e = p.none X i n in let d = c.each t q Y j in record { yes = λ z. e ∙ sym (d.yes z); not = λ z f. d.not z (sym f ∙ e) } }
+firsts : {A B C D : Expr} → cat A B ≡ cat C D → A ≡ C
+firsts e = cc
 
-  pub same-right : {r : Bool} → b.none ≡ true → Nothing k a r → Same k s t r
-  same-right n c =
-      record { each = λ X Y i j. let e = q.none Y j n in let d = c.each s p X i in record { yes = λ z. d.yes z ∙ sym e; not = λ z f. d.not z (f ∙ e) } }
+seconds : {A B C D : Expr} → cat A B ≡ cat C D → B ≡ D
+seconds e = cc
 
-  module _ (n : a.none ≡ false) (m : b.none ≡ false) where
-    pub same-ones : {r : Bool} → true ≡ (a.one && b.one) → Alike k a.part b.part r → Same k s t r
-    same-ones z c =
-        let (x, y) = both_true a.one b.one (sym z) in
-        record { each = λ X Y i j. let (w, h) = p.one X i n x in let (v, g) = q.one Y j m y in c.each X Y w v h g }
+some-is : {A : Type 0} {a b : A} → Some a ≡ Some b → a ≡ b
+some-is e = cc
 
-    module _ {c d : Split} (u : SplitOf k s a c) (v : SplitOf k t b d) where
-      -- the second parts differ, or they are the same and the rest decides
-      pub same_parts : {r : Bool} → true ≡ (c.can && d.can) → Alike k c.part d.part true → Same k c.rest d.rest r → Same k s t r
-      same_parts z e f =
-          let (x, y) = both_true c.can d.can (sym z) in
-          record {
-            each = λ X Y i j.
-                let g = u.yes X i x in
-                let h = v.yes Y j y in
-                let l = f.each g.first h.first g.tail h.tail in
-                let o = (e.each g.second h.second g.beyond h.beyond g.stands h.stands).yes refl in
-                record {
-                  yes = λ z. g.is ∙ ap₂ cat (l.yes z) o ∙ sym h.is;
-                  not = λ z w. l.not z (firsts (sym g.is ∙ w ∙ h.is));
-                };
-          }
-        where
-          firsts : {A B C D : Expr} → cat A B ≡ cat C D → A ≡ C
-          firsts e = cc
+module _ {k : List ℕ} {s t : Tail} where
+  pub same_left : {b : Option Laid} {r : Bool} → OpenedNone k s → Opened k t b → Nothing k b r → Same k s t r
+  same_left p q c =
+      record { each = λ X Y i j. let e = p.none X i in let d = c.each t q Y j in record { yes = λ z. e ∙ sym (d.yes z); not = λ z f. d.not z (sym f ∙ e) } }
 
-      pub same-differ : true ≡ (c.can && d.can) → Alike k c.part d.part false → Same k s t false
-      same-differ z e =
-          let (x, y) = both_true c.can d.can (sym z) in
-          record {
-            each = λ X Y i j.
-                let g = u.yes X i x in
-                let h = v.yes Y j y in
-                record {
-                  yes = λ z. differ (sym z);
-                  not = λ z w. (e.each g.second h.second g.beyond h.beyond g.stands h.stands).not refl (seconds (sym g.is ∙ w ∙ h.is));
-                };
-          }
-        where
-          seconds : {A B C D : Expr} → cat A B ≡ cat C D → B ≡ D
-          seconds e = cc
+  pub same-right : {a : Option Laid} {r : Bool} → Opened k s a → OpenedNone k t → Nothing k a r → Same k s t r
+  same-right p q c =
+      record { each = λ X Y i j. let e = q.none Y j in let d = c.each s p X i in record { yes = λ z. d.yes z ∙ sym e; not = λ z f. d.not z (f ∙ e) } }
 
-      other : (x y : Bool) → x ≡ true → false ≡ (x && y) → y ≡ false
-      other x y e z = sym (z ∙ ap (λ x. x && y) e)
+  -- the two places are those of the two expressions
+  pub same-ones : {p q : ℕ} {r : Bool} (a b : Laid) → both_one a b ≡ Some (p, q) → Opened k s (Some a) → Opened k t (Some b) → Alike k p q r → Same k s t r
+  same-ones {p} {q} {r} (One x) (One y) e u v c =
+      let l : x ≡ p = ap (λ (z : ℕ × ℕ). z.0) (some-is e) in
+      let m : y ≡ q = ap (λ (z : ℕ × ℕ). z.1) (some-is e) in
+      record { each = λ X Y i j. let (w, h) = u.one X i in let (z, g) = v.one Y j in c.each X Y w z (subst (λ n. Here k n X w) l h) (subst (λ n. Here k n Y z) m g) }
+  same-ones (One x) (Two d) e u v c = absurd (let z : ◌≡◌ {A = ℕ} 0 1 = cc in omega arith)
+  same-ones (Two d) (One y) e u v c = absurd (let z : ◌≡◌ {A = ℕ} 0 1 = cc in omega arith)
+  same-ones (Two c) (Two d) e u v f = absurd (let z : ◌≡◌ {A = ℕ} 0 1 = cc in omega arith)
 
-      swap : (x y : Bool) → (x && y) ≡ (y && x)
-      swap true true = refl
-      swap true false = refl
-      swap false true = refl
-      swap false false = refl
+  -- one of them is a concatenation, the other is not
+  pub same-whole : {p : ℕ} (a b : Laid) → both_one a b ≡ None → Opened k s (Some a) → Opened k t (Some b) → Whole k s p → Same k s t false
+  same-whole (One x) (One y) e u v c = absurd (let z : ◌≡◌ {A = ℕ} 0 1 = cc in omega arith)
+  same-whole (One x) (Two d) e u v c =
+      record { each = λ X Y i j. record { yes = λ z. differ (sym z); not = λ _ w. let g = v.two Y j in c.not X i g.first g.second (w ∙ g.is) } }
+  same-whole (Two d) b e u v c =
+      record { each = λ X Y i j. record { yes = λ z. differ (sym z); not = λ _ w. let g = u.two X i in c.not X i g.first g.second g.is } }
 
-      -- one of them is a concatenation, the other is not
-      pub same-neither : false ≡ (a.one && b.one) → false ≡ (c.can && d.can) → Same k s t false
-      same-neither o z = record { each = λ X Y i j. record { yes = λ e. differ (sym e); not = λ _ w. no X Y i j w } }
-        where
-          no : (X Y : Expr) → Is k s X → Is k t Y → X ≡ Y → ⊥
-          no X Y i j w = go c.can refl d.can refl
-            where
-              go : (x : Bool) → c.can ≡ x → (y : Bool) → d.can ≡ y → ⊥
-              go false e y f =
-                  let g = q.two Y j m (other a.one b.one (u.only e) o) in
-                  u.not X i e g.first g.second (w ∙ g.is)
-              go true e false f =
-                  let g = p.two X i n (other b.one a.one (v.only f) (o ∙ swap a.one b.one)) in
-                  v.not Y j f g.first g.second (sym w ∙ g.is)
-              go true e true f = differ (sym (z ∙ ap (λ x. x && d.can) e ∙ f))
+  pub same-other : {p : ℕ} (a b : Laid) → both_one a b ≡ None → Opened k s (Some a) → Opened k t (Some b) → Whole k t p → Same k s t false
+  same-other (One x) (One y) e u v c = absurd (let z : ◌≡◌ {A = ℕ} 0 1 = cc in omega arith)
+  same-other (Two d) (One y) e u v c =
+      record { each = λ X Y i j. record { yes = λ z. differ (sym z); not = λ _ w. let g = u.two X i in c.not Y j g.first g.second (sym w ∙ g.is) } }
+  same-other a (Two d) e u v c =
+      record { each = λ X Y i j. record { yes = λ z. differ (sym z); not = λ _ w. let g = v.two Y j in c.not Y j g.first g.second g.is } }
 
--- the words left fall
-pub falls-by : (n a b t : ℕ) → n - a ≡ t → a < b → a < n → n - b < t
-falls-by n a b t e h i = omega arith
+  module _ {c d : Split} (u : Apart k s c) (v : Apart k t d) where
+    -- the second parts differ, or they are the same and the rest decides
+    pub same_parts : {r : Bool} → Alike k c.part d.part true → Same k c.rest d.rest r → Same k s t r
+    same_parts e f =
+        record {
+          each = λ X Y i j.
+              let g = u.yes X i in
+              let h = v.yes Y j in
+              let l = f.each g.first h.first g.tail h.tail in
+              let o = (e.each g.second h.second g.beyond h.beyond g.stands h.stands).yes refl in
+              record {
+                yes = λ z. g.is ∙ ap₂ cat (l.yes z) o ∙ sym h.is;
+                not = λ z w. l.not z (firsts (sym g.is ∙ w ∙ h.is));
+              };
+        }
+
+    pub same-differ : Alike k c.part d.part false → Same k s t false
+    same-differ e =
+        record {
+          each = λ X Y i j.
+              let g = u.yes X i in
+              let h = v.yes Y j in
+              record {
+                yes = λ z. differ (sym z);
+                not = λ z w. (e.each g.second h.second g.beyond h.beyond g.stands h.stands).not refl (seconds (sym g.is ∙ w ∙ h.is));
+              };
+        }

@@ -18,9 +18,8 @@ use Rattle.expressions.specs.declared.Part.{Part}
 use Rattle.expressions.specs.Standing.{Here, Parted}
 use Rattle.expressions.proofs.Standing.{second-of, cases, by-star, by_over, past_end}
 use Rattle.walk.specs.Spots.{Spot, whole, behind, rest_at}
-use Rattle.state_classes.specs.declared.tails.Cut.{Cut}
 use Rattle.charts.specs.Levels.{place_of}
-use Rattle.state_classes.specs.Tails.{Left, Parts, Peeled}
+use Rattle.state_classes.specs.Tails.{Left, Parts, Spent, Rested}
 use Rattle.state_classes.proofs.Spots.{eps-spot, over-spot, star-spot, cat-spot, alt-spot, not_first, not-second}
 
 -- the test of a second part
@@ -41,30 +40,26 @@ goes-start k at p = record { after = omega arith; each = λ X l. l }
 goes_on : {k : List ℕ} {at p x y : ℕ} → x ≤ y → Goes k at p x → ((X : Expr) → Left k x p X → Left k y p X) → Goes k at p y
 goes_on h g f = record { after = let a = g.after in omega arith; each = λ X l. f X (g.each X l) }
 
--- the answers
-abbrev answer : Bool → ℕ → ℕ → Cut
-answer done part next = record { done = done; part = part; next = next }
-
 pub differ : {A : Type 0} → true ≡ false → A
 differ e = absurd (subst T e tt)
 
-ended : {k : List ℕ} {at p x part next : ℕ} → Goes k at p x → ((X : Expr) → Left k x p X → X ≡ eps) → Peeled k at p (answer true part next)
-ended g f = record { further = λ e. differ e; none = λ X l _. f X (g.each X l); some = λ X l e. differ e }
+ended : {k : List ℕ} {at p x : ℕ} → Goes k at p x → ((X : Expr) → Left k x p X → X ≡ eps) → Spent k at p
+ended g f = record { none = λ X l. f X (g.each X l) }
 
-parted : {k : List ℕ} {at p x part next : ℕ} → Goes k at p x → x < next → x < length k → x ≤ part → ((X : Expr) → Left k x p X → Parts k p X part next) → Peeled k at p (answer false part next)
-parted g h i o f = record { further = λ _. (let a = g.after in (omega arith, omega arith, omega arith)); none = λ X l e. differ (sym e); some = λ X l _. f X (g.each X l) }
+parted : {k : List ℕ} {at p x part next : ℕ} → Goes k at p x → x < next → x < length k → x ≤ part → ((X : Expr) → Left k x p X → Parts k p X part next) → Rested k at p (record { part = part; next = next })
+parted g h i o f = record { further = let a = g.after in (omega arith, omega arith, omega arith); some = λ X l. f X (g.each X l) }
 
 module _ {k : List ℕ} {at p x : ℕ} (g : Goes k at p x) where
   -- past the end
-  pub peeled-past : length k ≤ x → Peeled k at p (record { done = true; part = x; next = x })
+  pub peeled-past : length k ≤ x → Spent k at p
   peeled-past h = ended g (λ X l. past_end (λ A w. X ≡ eps) h (whole l.spot) l.beyond l.stands)
 
   -- the symbol
-  pub peeled-symbol : get_or k x 0 < 7000 → Peeled k at p (record { done = true; part = x; next = x })
+  pub peeled-symbol : get_or k x 0 < 7000 → Spent k at p
   peeled-symbol z = ended g (λ X l. l.is ∙ by_over (λ A w. whole l.spot ≡ A → rest_at l.spot ≡ eps) z (λ f y u A w h e. ap rest_at (over-spot l.spot f A e)) (whole l.spot) l.beyond l.stands refl)
 
   -- a star
-  pub peeled-star : x < length k → get_or k x 0 ≡ 7003 → Peeled k at p (record { done = false; part = x; next = x + 1 })
+  pub peeled-star : x < length k → get_or k x 0 ≡ 7003 → Rested k at p (record { part = x; next = x + 1 })
   peeled-star i z = parted g (omega arith) i (omega arith) (λ X l. by-star (λ A w. whole l.spot ≡ A → Parts k p X x (x + 1)) z (λ A w h e. one X l A w h e) (whole l.spot) l.beyond l.stands refl)
     where
       one : (X : Expr) (l : Left k x p X) (A : Expr) (w : List ℕ) → Here k (x + 1) A w → whole l.spot ≡ star A → Parts k p X x (x + 1)
@@ -109,7 +104,7 @@ module _ {k : List ℕ} {at p x : ℕ} (g : Goes k at p x) where
 
     module _ {b : Part} (h : p < q.end) (u : Parted k q.end b) where
       -- in the first part of a concatenation, whose second part is behind it
-      pub peeled-join : x < length k → pick b.bare false (eqb (get_or k x 0) 7001) ≡ true → Peeled k at p (record { done = false; part = q.end; next = x + 1 })
+      pub peeled-join : x < length k → pick b.bare false (eqb (get_or k x 0) 7001) ≡ true → Rested k at p (record { part = q.end; next = x + 1 })
       peeled-join i t = parted g (omega arith) i (let z = a.after in omega arith) (λ X l. go X l)
         where
           both : (n : Bool) → pick n false (eqb (get_or k x 0) 7001) ≡ true → (n ≡ false) × (get_or k x 0 ≡ 7001)

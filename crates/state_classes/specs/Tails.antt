@@ -1,5 +1,5 @@
 -- What is left after a symbol, laid open.
-use Rattle.std.specs.Prelude.{ℕ, ◌<◌, ◌≤◌, ◌≡◌, Bool, true, false, List, length}
+use Rattle.std.specs.Prelude.{Option, None, Some, Result, Ok, Err, ℕ, ◌<◌, ◌≤◌, ◌≡◌, Bool, true, false, List, length}
 use Rattle.language.specs.Trees.{Expr, eps, cat}
 use Rattle.rules.specs.Looks.{is_eps}
 use Rattle.expressions.specs.Standing.{Here}
@@ -7,6 +7,7 @@ use Rattle.walk.specs.Spots.{Spot, whole, behind, rest_at}
 use Rattle.state_classes.specs.declared.tails.Cut.{Cut}
 use Rattle.state_classes.specs.declared.tails.Tail.{Tail}
 use Rattle.state_classes.specs.declared.tails.Laid.{Laid}
+use Rattle.state_classes.specs.declared.tails.Laid.TheVariants.{One, Two}
 use Rattle.state_classes.specs.declared.tails.Split.{Split}
 use Rattle.charts.specs.Levels.{place_of}
 use Rattle.state_classes.specs.States.{Means}
@@ -29,10 +30,18 @@ pub record Parts (k : List ℕ) (p : ℕ) (X : Expr) (part next : ℕ) : Type 0 
   pub left : Left k next p before
   pub is : X ≡ behind last before
 
-pub record Peeled (k : List ℕ) (at p : ℕ) (r : Cut) : Type 0 where
-  pub further : r.done ≡ false → (at < r.next) × (at < length k) × (at ≤ r.part)
-  pub none : (X : Expr) → Left k at p X → r.done ≡ true → X ≡ eps
-  pub some : (X : Expr) → Left k at p X → r.done ≡ false → Parts k p X r.part r.next
+-- nothing is left
+pub record Spent (k : List ℕ) (at p : ℕ) : Type 0 where
+  pub none : (X : Expr) → Left k at p X → X ≡ eps
+
+-- something is
+pub record Rested (k : List ℕ) (at p : ℕ) (c : Cut) : Type 0 where
+  pub further : (at < c.next) × (at < length k) × (at ≤ c.part)
+  pub some : (X : Expr) → Left k at p X → Parts k p X c.part c.next
+
+abbrev pub Peeled : List ℕ → ℕ → ℕ → Option Cut → Type 0
+Peeled k at p None = Spent k at p
+Peeled k at p (Some c) = Rested k at p c
 
 -- ---- compared
 
@@ -58,22 +67,48 @@ pub record Joined (k : List ℕ) (X : Expr) (t : Tail) (part : ℕ) : Type 0 whe
   pub tail : Is k t first
   pub stands : Here k part second beyond
 
--- laid open: nothing; one expression that stands in the words; or a concatenation
-pub record Opened (k : List ℕ) (t : Tail) (r : Laid) : Type 0 where
-  pub further : r.none ≡ false → (t.at ≤ r.part) × (r.one ≡ false → (t.at < r.next) × (t.at < length k))
-  pub none : (X : Expr) → Is k t X → r.none ≡ true → X ≡ eps
-  pub one : (X : Expr) → Is k t X → r.none ≡ false → r.one ≡ true → (w : List ℕ) × Here k r.part X w
-  pub two : (X : Expr) → Is k t X → r.none ≡ false → r.one ≡ false → Joined k X (record { at = r.next; symbol = t.symbol; rest = true }) r.part
+-- laid open: nothing
+pub record OpenedNone (k : List ℕ) (t : Tail) : Type 0 where
+  pub none : (X : Expr) → Is k t X → X ≡ eps
 
--- split: a concatenation is, and nothing else
-pub record SplitOf (k : List ℕ) (t : Tail) (o : Laid) (r : Split) : Type 0 where
-  pub further : r.can ≡ true → (t.at < r.rest.at) × (t.at < length k)
-  pub yes : (X : Expr) → Is k t X → r.can ≡ true → Joined k X r.rest r.part
-  pub not : (X : Expr) → Is k t X → r.can ≡ false → (A B : Expr) → X ≡ cat A B → ⊥
-  pub only : r.can ≡ false → o.one ≡ true
+-- one expression that stands in the words
+pub record OpenedOne (k : List ℕ) (t : Tail) (p : ℕ) : Type 0 where
+  pub low : t.at ≤ p
+  pub one : (X : Expr) → Is k t X → (w : List ℕ) × Here k p X w
+
+-- or a concatenation
+pub record OpenedTwo (k : List ℕ) (t : Tail) (c : Cut) : Type 0 where
+  pub further : (t.at ≤ c.part) × (t.at < c.next) × (t.at < length k)
+  pub two : (X : Expr) → Is k t X → Joined k X (record { at = c.next; symbol = t.symbol; rest = true }) c.part
+
+abbrev pub Opened : List ℕ → Tail → Option Laid → Type 0
+Opened k t None = OpenedNone k t
+Opened k t (Some (One p)) = OpenedOne k t p
+Opened k t (Some (Two c)) = OpenedTwo k t c
+
+-- both are in the words
+abbrev pub both_one : Laid → Laid → Option (ℕ × ℕ)
+both_one (One p) (One q) = Some (p, q)
+both_one (One p) (Two d) = None
+both_one (Two c) (One q) = None
+both_one (Two c) (Two d) = None
+
+-- a concatenation, split
+pub record Apart (k : List ℕ) (t : Tail) (s : Split) : Type 0 where
+  pub further : (t.at < s.rest.at) × (t.at < length k)
+  pub yes : (X : Expr) → Is k t X → Joined k X s.rest s.part
+
+-- one expression, which is no concatenation
+pub record Whole (k : List ℕ) (t : Tail) (p : ℕ) : Type 0 where
+  pub one : (X : Expr) → Is k t X → (w : List ℕ) × Here k p X w
+  pub not : (X : Expr) → Is k t X → (A B : Expr) → X ≡ cat A B → ⊥
+
+abbrev pub SplitOf : List ℕ → Tail → Result Split ℕ → Type 0
+SplitOf k t (Ok s) = Apart k t s
+SplitOf k t (Err p) = Whole k t p
 
 -- r says whether what was laid open is eps
-pub record Nothing (k : List ℕ) (o : Laid) (r : Bool) : Type 0 where
+pub record Nothing (k : List ℕ) (o : Option Laid) (r : Bool) : Type 0 where
   pub each : (t : Tail) → Opened k t o → (X : Expr) → Is k t X → Compared r X eps
 
 -- of two tails

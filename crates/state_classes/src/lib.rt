@@ -5,11 +5,10 @@ mod tails;
 
 ghost use Rattle.std.specs.Prelude.{◌+◌, ◌*◌, ◌≤◌, ◌<◌, ◌≡◌, length};
 ghost use Rattle.language.specs.Limits.{desk};
-ghost use Rattle.charts.specs.Charted.{ChartedFrom};
 ghost use Rattle.state_classes.specs.Classes.{StateTest, Liked, Classed, Tabled, KeptTo, Changed, Expressed, state_room, Counted, Keyed, KeyedTo};
 
 use crate::tails::{lay_open, same_state, tail_of, take_apart};
-use charts::part_at;
+use charts::table::Chart;
 use language::limits::QUESTION;
 use words::word;
 
@@ -37,50 +36,37 @@ fn is_state(k: &[u16], first: usize, t: usize) -> bool
 }
 
 // How many words the expression at a place has.
-fn words_at(k: &[u16], ends: &[usize], nulls: &[bool], at: usize) -> u16
-    requires { ChartedFrom 0 k.now ends.now nulls.now }
-    ensures { Counted k.now at result }
+fn words_at(chart: &Chart, at: usize) -> u16
+    ensures { Counted chart.now.words.now at result }
 {
-    let p = part_at(k, ends, nulls, at);
+    let p = chart.part(at);
     let end = p.end;
     narrow((end - at) % 65536)
 }
 
 // A number that is one for all states that mean the same: the words of the second part of a concatenation, and of anything else its own.
-fn key_of(k: &[u16], ends: &[usize], nulls: &[bool], at: usize, s: usize) -> u16
-    requires { ChartedFrom 0 k.now ends.now nulls.now }
-    ensures { Keyed k.now at s result }
+fn key_of(chart: &Chart, at: usize, s: usize) -> u16
+    ensures { Keyed chart.now.words.now at s result }
 {
-    let t = tail_of(k, ends, nulls, at, s);
-    let o = lay_open(k, ends, nulls, t);
-    if o.none {
+    let t = tail_of(chart, at, s);
+    let Some(o) = lay_open(chart, t) else {
         return 1;
+    };
+    match take_apart(chart, t, o) {
+        Ok(c) => words_at(chart, c.part),
+        Err(part) => words_at(chart, part),
     }
-    let c = take_apart(k, ends, nulls, t, o);
-    if c.can {
-        return words_at(k, ends, nulls, c.part);
-    }
-    words_at(k, ends, nulls, o.part)
 }
 
 // Whether a number is that of a state that means what s means. x and y are the keys of the two, which are looked at first.
-fn is_like(
-    k: &[u16],
-    ends: &[usize],
-    nulls: &[bool],
-    at: usize,
-    first: usize,
-    s: usize,
-    t: usize,
-    x: u16,
-    y: u16,
-) -> bool
-    requires { ChartedFrom 0 k.now ends.now nulls.now × Keyed k.now at s x × Keyed k.now at t y }
-    ensures { Liked k.now at first s t result }
+fn is_like(chart: &Chart, at: usize, first: usize, s: usize, t: usize, x: u16, y: u16) -> bool
+    requires { Keyed chart.now.words.now at s x × Keyed chart.now.words.now at t y }
+    ensures { Liked chart.now.words.now at first s t result }
 {
+    let k = chart.words;
     if x == y {
         if is_state(k, first, t) {
-            return same_state(k, ends, nulls, at, s, t);
+            return same_state(chart, at, s, t);
         }
         return false;
     }
@@ -88,70 +74,50 @@ fn is_like(
 }
 
 // The first state of the expression at a place that means the same as s, whose key is x. The states before s have their keys.
-fn class_of(
-    k: &[u16],
-    ends: &[usize],
-    nulls: &[bool],
-    at: usize,
-    s: usize,
-    x: u16,
-    keys: &[u16; STATES],
-) -> usize
-    requires { ChartedFrom 0 k.now ends.now nulls.now × (at ≤ desk.question) × (s < state_room) × Keyed k.now at s x × KeyedTo k.now at s keys.now }
-    ensures { Classed k.now at s result }
+fn class_of(chart: &Chart, at: usize, s: usize, x: u16, keys: &[u16; STATES]) -> usize
+    requires { (at ≤ desk.question) × (s < state_room) × Keyed chart.now.words.now at s x × KeyedTo chart.now.words.now at s keys.now }
+    ensures { Classed chart.now.words.now at s result }
 {
     let first = 2 * at;
-    let mut t = first;
-    while t < s {
-        if is_like(k, ends, nulls, at, first, s, t, x, keys[t]) {
+    for t in first..s {
+        if is_like(chart, at, first, s, t, x, keys[t]) {
             return t;
         }
-        t += 1;
     }
     s
 }
 
 // The class of a number and its key, where it is that of a state.
 fn class_at(
-    k: &[u16],
-    ends: &[usize],
-    nulls: &[bool],
+    chart: &Chart,
     at: usize,
     first: usize,
     s: usize,
     classes: &mut [u16; STATES],
     keys: &mut [u16; STATES],
 )
-    requires charted_from { ChartedFrom 0 k.now ends.now nulls.now × (at ≤ desk.question) × (first ≡ 2 * at) × (first ≤ s) × (s < state_room) }
-    requires classes_len { (length classes.old ≡ state_room) × (length keys.old ≡ state_room) × KeyedTo k.now at s keys.old }
-    ensures { KeptTo s classes.old classes.new × (Tabled k.now at s classes.old → Tabled k.now at (s + 1) classes.new) × KeyedTo k.now at (s + 1) keys.new × (length keys.new ≡ state_room) × Changed k.now at (s + 1) classes.old classes.new }
+    requires places { (at ≤ desk.question) × (first ≡ 2 * at) × (first ≤ s) × (s < state_room) }
+    requires classes_len { (length classes.old ≡ state_room) × (length keys.old ≡ state_room) × KeyedTo chart.now.words.now at s keys.old }
+    ensures { KeptTo s classes.old classes.new × (Tabled chart.now.words.now at s classes.old → Tabled chart.now.words.now at (s + 1) classes.new) × KeyedTo chart.now.words.now at (s + 1) keys.new × (length keys.new ≡ state_room) × Changed chart.now.words.now at (s + 1) classes.old classes.new }
 {
+    let k = chart.words;
     if is_state(k, first, s) {
-        let x = key_of(k, ends, nulls, at, s);
-        let c = class_of(k, ends, nulls, at, s, x, keys);
+        let x = key_of(chart, at, s);
+        let c = class_of(chart, at, s, x, keys);
         classes[s] = narrow(c);
         keys[s] = x;
     }
 }
 
 // The classes of all states of the expression from `at` to `end`. All else in the table stays.
-pub fn class_all(
-    k: &[u16],
-    ends: &[usize],
-    nulls: &[bool],
-    at: usize,
-    end: usize,
-    classes: &mut [u16; STATES],
-)
-    requires { ChartedFrom 0 k.now ends.now nulls.now × (at ≤ end) × (end ≤ desk.question) × (length classes.old ≡ state_room) × Expressed k.now at end }
-    ensures { Tabled k.now at (2 * end + 1) classes.new × KeptTo (2 * at) classes.old classes.new × Changed k.now at (2 * end + 1) classes.old classes.new }
+pub fn class_all(chart: &Chart, at: usize, end: usize, classes: &mut [u16; STATES])
+    requires { (at ≤ end) × (end ≤ desk.question) × (length classes.old ≡ state_room) × Expressed chart.now.words.now at end }
+    ensures { Tabled chart.now.words.now at (2 * end + 1) classes.new × KeptTo (2 * at) classes.old classes.new × Changed chart.now.words.now at (2 * end + 1) classes.old classes.new }
 {
     let first = 2 * at;
     let last = 2 * end;
     let mut keys = [0; STATES];
-    let mut s = first;
-    while s <= last {
-        class_at(k, ends, nulls, at, first, s, classes, &mut keys);
-        s += 1;
+    for s in first..last + 1 {
+        class_at(chart, at, first, s, classes, &mut keys);
     }
 }

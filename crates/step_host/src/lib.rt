@@ -11,7 +11,7 @@ ghost use Rattle.step_host.specs.Refused.{refused_leaves};
 
 use language::Refusal;
 use language::limits::{ANSWER_BYTES, QUESTION, ROOM};
-use named_steps::{Stepping, step_named};
+use named_steps::step_named;
 use refusals::number;
 use word_bytes::{take_words, write_words};
 
@@ -62,10 +62,10 @@ pub fn desk_step(
     let l = word(literal);
     let s = word(side);
     match step_named(&words[..n], w, r, l, s, &mut own) {
-        Stepping::Made(at) => {
+        Ok(at) => {
             write_words(&own, room);
             100 + at as u32
         }
-        Stepping::Refused(x) => refuse(x, &own, room),
+        Err(x) => refuse(x, &own, room),
     }
 }

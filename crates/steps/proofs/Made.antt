@@ -17,7 +17,7 @@ use Rattle.views.specs.Standing.{LiteralAt}
 use Rattle.plans.specs.declared.Piece.TheVariants.{Copy}
 use Rattle.plans.specs.declared.Ways.TheVariants.{One}
 use Rattle.plans.specs.declared.Plan.{Plan}
-use Rattle.plans.specs.Results.{made, numbered, results_of}
+use Rattle.plans.specs.Results.{numbered, results_of}
 use Rattle.plans.specs.Sizes.{placed_words}
 use Rattle.plans.specs.Slots.{nothing, few_recipe, single}
 use Rattle.folding.specs.Twice.{until_same}

@@ -5,6 +5,8 @@ use mathlib.Core.Path.{◌≡◌, refl, sym, ap, ◌∙◌, subst}
 use mathlib.Core.Bool.{Bool, true, false}
 use mathlib.Core.List.{List, [], ◌∷◌, ◌++◌, map}
 use mathlib.Core.Option.{none, some}
+use Rattle.std.specs.Prelude.{Result}
+use Rattle.language.specs.declared.Refusal.{Refusal}
 use Rattle.language.specs.declared.Signature.{Signature}
 use Rattle.language.specs.Trees.{Hedge, ε, tvar, hvar, node, Expr, Literal, eqn, mem, Conj}
 use Rattle.language.specs.Writing.{conj_words}
@@ -20,7 +22,6 @@ use Rattle.plans.specs.Sizes.{placed_words, monomial_words}
 use Rattle.views.specs.Standing.{LiteralAt}
 use Rattle.search.specs.Ranking.{side_answer}
 use Rattle.taking.specs.Taking.{Took}
-use Rattle.taking.specs.declared.Stepped.{Stepped}
 
 -- ---- M2
 
@@ -40,7 +41,7 @@ no-equation σ true K l r = refl
 no-equation σ false K l r = refl
 
 -- where the rule is M2, the literal is a membership
-pub took-monomials : (σ : Signature) (number : ℕ) (k old new : List ℕ) (next at n : ℕ) (swap : Bool) (r : Stepped) → n ≡ at_m2
+pub took-monomials : (σ : Signature) (number : ℕ) (k old new : List ℕ) (next at n : ℕ) (swap : Bool) (r : Result ℕ Refusal) → n ≡ at_m2
     → ((before : Conj) (h : Hedge) (R : Expr) (behind : Conj) → LiteralAt k at before (mem h R) behind → Took number (monomial_words before h R behind) old next r new)
     → (before : Conj) (l : Literal) (behind : Conj) (bs : List Branch) → LiteralAt k at before l behind → side_answer σ swap n (before ++ behind) l ≡ some bs
     → Took number (placed_words before behind bs) old next r new

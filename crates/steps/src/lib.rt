@@ -17,7 +17,7 @@ ghost use Rattle.rules.specs.Places.{at_m2};
 
 use equation_plans::plan_equation;
 use folding::later_equal;
-use language::Signature;
+use language::{Refusal, Signature};
 use linear_form::step_monomials;
 use membership_plans::plan_membership;
 use plans::{Piece, Plan, Ways};
@@ -25,7 +25,6 @@ use recipes::few;
 use results::step_planned;
 use rules::places::{AT_CLASH, AT_FOLD, AT_M2};
 use search::Best;
-use taking::Stepped;
 use views::{see, show_membership, swapped};
 use words::next_literal;
 
@@ -77,7 +76,7 @@ fn plan_fold(k: &[u16], at: usize) -> Plan
 }
 
 // A step of the conjunction k, which has that number: the results of the rule of that rank at that literal, right before `next`, and of the same
-// number.
+// number. The answer is the place where they begin.
 pub fn take_step(
     k: &[u16],
     b: Best,
@@ -85,7 +84,7 @@ pub fn take_step(
     number: u16,
     out: &mut [u16],
     next: usize,
-) -> Stepped
+) -> Result<usize, Refusal>
     requires k_len_bound { (length k.now ≤ desk.question) × (b.at < length k.now) × (next ≤ length out.old) × (next ≤ desk.room) }
     requires rule_at { RuleAt s k.now b }
     ensures { (before : Conj) (l : Literal) (behind : Conj) (ks : List Conj) → LiteralAt k.now b.at before l behind → side_results s b.swap b.rank before l behind ≡ results ks → Took number (map conj_words ks) out.old next result out.new }
@@ -98,7 +97,7 @@ pub fn take_step(
     }
     if b.rank == AT_CLASH {
         // it leaves nothing
-        return Stepped::Done(next);
+        return Ok(next);
     }
     step_planned(k, plan_at(k, b, s), number, out, next)
 }

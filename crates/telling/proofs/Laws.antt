@@ -8,6 +8,8 @@ use mathlib.Core.Option.{Option, none, some}
 use lib.Dec.{eqb, ltb}
 use lib.ListN.{length, length-append}
 use borrow.Author.Tests.{ne_eqb, ltb-true, ltb-false}
+use Rattle.std.specs.Prelude.{Result, Ok, Err}
+use Rattle.language.specs.declared.Refusal.{Refusal}
 use Rattle.language.specs.declared.Refusal.TheVariants.{BadStep, LongWalk}
 use Rattle.language.specs.declared.Signature.{Signature}
 use Rattle.language.specs.Limits.{desk}
@@ -30,10 +32,9 @@ use Rattle.literals.specs.Places.{words_before}
 use Rattle.naming.specs.Naming.{makes, place_at, named_at}
 use Rattle.naming.proofs.Laws.{unmade}
 use Rattle.replay.specs.Replay.{Triple}
+use Rattle.search.specs.declared.Best.{Best}
 use Rattle.search.specs.Ranking.{pair_at, pair_answer, side_results}
 use Rattle.telling.specs.Telling.{triple_of, named_reply, named, chosen_of, chosen_by, Applies, ClashNamed, unnamed, too_long, clashes}
-use Rattle.telling.specs.declared.Chosen.{Chosen}
-use Rattle.telling.specs.declared.Chosen.TheVariants.{Step, Not}
 
 -- ---- the literal of a number
 
@@ -150,17 +151,17 @@ module _ (σ : Signature) (before : Conj) (l : Literal) (behind : Conj) where
   clash-replied swap v e d = ap (λ w. place_at (rules σ) at_clash w before l behind) e ∙ ap (each (map (λ (k : Conj). before ++ k))) (clash-replies σ l behind ∙ ap answer_of d)
 
   module _ (at : ℕ) (swap : Bool) where
-    pub clash-other-side : swap ≡ true → ClashNamed σ at swap before l behind (Not BadStep)
+    pub clash-other-side : swap ≡ true → ClashNamed σ at swap before l behind (Err BadStep)
     clash-other-side e = unnamed refl (clash-turned swap e)
 
     module _ (e : swap ≡ false) (v : Verdict) (f : v ≡ reply_of σ l behind) where
-      pub clash-shares : v ≡ Shares → ClashNamed σ at swap before l behind (Not BadStep)
+      pub clash-shares : v ≡ Shares → ClashNamed σ at swap before l behind (Err BadStep)
       clash-shares d = unnamed refl (clash-replied swap Shares e (sym f ∙ d))
 
-      pub clash-long : v ≡ Long → ClashNamed σ at swap before l behind (Not LongWalk)
+      pub clash-long : v ≡ Long → ClashNamed σ at swap before l behind (Err LongWalk)
       clash-long d = too_long refl (clash-replied swap Long e (sym f ∙ d))
 
-      pub clash-here : v ≡ Clashes → ClashNamed σ at swap before l behind (Step (record { rank = at_clash; at = at; swap = swap }))
+      pub clash-here : v ≡ Clashes → ClashNamed σ at swap before l behind (Ok (record { rank = at_clash; at = at; swap = swap }))
       clash-here d = clashes refl (clash-replied swap Clashes e (sym f ∙ d))
 
 -- ---- what three words name
@@ -197,7 +198,7 @@ module _ (σ : Signature) (k : List ℕ) (c : Conj) (fine : fine_conj desk c) (w
   best : record { rank = rank; at = at; swap = eqb d 1 } ≡ named c t
   best = ap (λ m. record { rank = m; at = at; swap = eqb d 1 }) en ∙ ap (λ m. record { rank = n; at = m; swap = eqb d 1 }) ea
 
-  pub past_all : length k ≤ at → Not BadStep ≡ chosen_by σ c t
+  pub past_all : length k ≤ at → Err BadStep ≡ chosen_by σ c t
   past_all g = chosen_is σ c t nothing (a-side σ n i d c h ∙ step-nowhere σ n i (eqb d 1) c (let z = ap length words in omega arith))
 
   module _ (g : at < length k) where
@@ -211,7 +212,7 @@ module _ (σ : Signature) (k : List ℕ) (c : Conj) (fine : fine_conj desk c) (w
     reply-is = a-side σ n i d c h ∙ step-here σ n i (eqb d 1) c here ∙ ap (λ m. named_at σ (eqb d 1) m here.before here.l here.behind) (sym en)
 
     -- the clash
-    pub told-clash : (r : Chosen) → rank ≡ at_clash
+    pub told-clash : (r : Result Best Refusal) → rank ≡ at_clash
         → ((before : Conj) (l : Literal) (behind : Conj) → LiteralAt k at before l behind → ClashNamed σ at (eqb d 1) before l behind r) → r ≡ chosen_by σ c t
     told-clash r e f = go (f here.before here.l here.behind literal-at)
       where
@@ -221,18 +222,18 @@ module _ (σ : Signature) (k : List ℕ) (c : Conj) (fine : fine_conj desk c) (w
         go : ClashNamed σ at (eqb d 1) here.before here.l here.behind r → r ≡ chosen_by σ c t
         go (unnamed x m) = x ∙ chosen_is σ c t nothing (reply ∙ m)
         go (too_long x m) = x ∙ chosen_is σ c t (stops LongWalk) (reply ∙ m)
-        go (clashes x m) = x ∙ ap (λ m. Step (record { rank = m; at = at; swap = eqb d 1 })) (sym e) ∙ ap Step best ∙ chosen_is σ c t (results []) (reply ∙ m)
+        go (clashes x m) = x ∙ ap {B = Result Best Refusal} (λ m. Ok (record { rank = m; at = at; swap = eqb d 1 })) (sym e) ∙ ap {B = Result Best Refusal} Ok best ∙ chosen_is σ c t (results []) (reply ∙ m)
 
     module _ (b : Bool) (f : (before : Conj) (l : Literal) (behind : Conj) → LiteralAt k at before l behind → b ≡ makes (named_at σ (eqb d 1) rank before l behind)) where
-      pub told_named : b ≡ true → Step (record { rank = rank; at = at; swap = eqb d 1 }) ≡ chosen_by σ c t
+      pub told_named : b ≡ true → Ok (record { rank = rank; at = at; swap = eqb d 1 }) ≡ chosen_by σ c t
       told_named e =
           let (ks, m) = makes-results (named_at σ (eqb d 1) rank here.before here.l here.behind) (sym (f here.before here.l here.behind literal-at) ∙ e) in
-          ap Step best ∙ chosen_is σ c t (results ks) (reply-is ∙ m)
+          ap {B = Result Best Refusal} Ok best ∙ chosen_is σ c t (results ks) (reply-is ∙ m)
 
-      pub told-wrong : (rank ≡ at_clash → ⊥) → b ≡ false → Not BadStep ≡ chosen_by σ c t
+      pub told-wrong : (rank ≡ at_clash → ⊥) → b ≡ false → Err BadStep ≡ chosen_by σ c t
       told-wrong z e = chosen_is σ c t nothing (reply-is ∙ unmade here.before here.behind σ rank z here.l (eqb d 1) (sym (f here.before here.l here.behind literal-at) ∙ e))
 
-pub no-such-side : (σ : Signature) (c : Conj) (n i d : ℕ) → 1 < d → Not BadStep ≡ chosen_by σ c (triple_of n i d)
+pub no-such-side : (σ : Signature) (c : Conj) (n i d : ℕ) → 1 < d → Err BadStep ≡ chosen_by σ c (triple_of n i d)
 no-such-side σ c n i d h = chosen_is σ c (triple_of n i d) nothing (no-side σ n i d c h)
 
 -- ---- what is named applies

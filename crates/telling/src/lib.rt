@@ -19,30 +19,23 @@ use naming::applies_at;
 use rules::places::AT_CLASH;
 use search::Best;
 
-// The step that is made, or why none is.
-#[derive(Clone, Copy)]
-pub enum Chosen {
-    Step(Best),
-    Not(Refusal),
-}
-
 // The clash at the literal at a place, which has no other side.
-fn named_clash(k: &[u16], at: usize, swap: bool, s: Signature) -> Chosen
+fn named_clash(k: &[u16], at: usize, swap: bool, s: Signature) -> Result<Best, Refusal>
     requires at_in_bounds { (at < length k.now) × (length k.now ≤ desk.question) }
     requires some_literal { SomeLiteral k.now at }
     ensures { (before : Conj) (l : Literal) (behind : Conj) → LiteralAt k.now at before l behind → ClashNamed s at swap before l behind result }
 {
     if swap {
-        return Chosen::Not(Refusal::BadStep);
+        return Err(Refusal::BadStep);
     }
     match test_behind(k, at, s) {
-        Verdict::Shares => Chosen::Not(Refusal::BadStep),
-        Verdict::Clashes => Chosen::Step(Best {
+        Verdict::Shares => Err(Refusal::BadStep),
+        Verdict::Clashes => Ok(Best {
             rank: AT_CLASH,
             at,
             swap,
         }),
-        Verdict::Long => Chosen::Not(Refusal::LongWalk),
+        Verdict::Long => Err(Refusal::LongWalk),
     }
 }
 
@@ -54,18 +47,18 @@ pub fn named_by(
     literal: u16,
     side: u16,
     s: Signature,
-) -> Chosen
+) -> Result<Best, Refusal>
     requires k_len_bound { length k.now ≤ desk.question }
     requires conjunction { Conjunction k.now }
     requires table_value { table.now ≡ afresh k.now }
     ensures { (c : Conj) → fine_conj desk c → k.now ≡ conj_words c → result ≡ chosen_by s c (triple_of rule literal side) }
 {
     if 1 < side {
-        return Chosen::Not(Refusal::BadStep);
+        return Err(Refusal::BadStep);
     }
     let at = literal_place(k, wide(literal));
     if k.len() <= at {
-        return Chosen::Not(Refusal::BadStep);
+        return Err(Refusal::BadStep);
     }
     let rank = wide(rule);
     let swap = side == 1;
@@ -73,13 +66,19 @@ pub fn named_by(
         return named_clash(k, at, swap, s);
     }
     if applies_at(rank, k, table, at, swap, s) {
-        return Chosen::Step(Best { rank, at, swap });
+        return Ok(Best { rank, at, swap });
     }
-    Chosen::Not(Refusal::BadStep)
+    Err(Refusal::BadStep)
 }
 
 // The same for a conjunction that stands by itself: its variables are counted first.
-pub fn named_step(k: &[u16], rule: u16, literal: u16, side: u16, s: Signature) -> Chosen
+pub fn named_step(
+    k: &[u16],
+    rule: u16,
+    literal: u16,
+    side: u16,
+    s: Signature,
+) -> Result<Best, Refusal>
     requires k_len_bound { length k.now ≤ desk.question }
     requires conjunction { Conjunction k.now }
     ensures { (c : Conj) → fine_conj desk c → k.now ≡ conj_words c → result ≡ chosen_by s c (triple_of rule literal side) }

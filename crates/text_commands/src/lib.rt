@@ -7,26 +7,26 @@ use language::limits::QUESTION;
 use print::say;
 use replies::{no_question, refuse};
 use wording::answer::words;
-use write_text::{Written, write_text};
+use write_text::write_text;
 
 // More bytes than the text of any question has.
 const BYTES: usize = 65536;
 
 // The first bytes of the room.
 fn say_first(rt: &HostRuntime, room: &[u8], n: usize) {
-    if n <= room.len() {
-        say(rt.stdout(), &room[0..n]);
+    if let Some(text) = room.get(0..n) {
+        say(rt.stdout(), text);
     }
 }
 
-fn write<'a>(rt: &HostRuntime, question: &'a [u16], text: &'a [u8], i: usize) -> Status {
+fn write(rt: &HostRuntime, question: &[u16], text: &[u8], i: usize) -> Status {
     let mut room = [0u8; BYTES];
     match write_text(question, &mut room) {
-        Written::Given(n) => {
+        Ok(n) => {
             say_first(rt, &room, n);
             found()
         }
-        Written::Refused(r) => refuse(rt, r, question, text, i),
+        Err(r) => refuse(rt, r, question, text, i),
     }
 }
 
@@ -35,26 +35,22 @@ fn list(rt: &HostRuntime, question: &[u16]) -> Status {
     found()
 }
 
-// The question of the file that argument `i` names, as a text or as words.
-fn with_question(rt: &HostRuntime, as_text: bool, i: usize) -> Status {
+// What is made of the question of the file that argument `i` names, and of its bytes.
+fn with_question<F: Fn(&[u16], &[u8]) -> Status>(rt: &HostRuntime, i: usize, made: F) -> Status
+    requires { F.IsAlwaysCallable made }
+{
     let mut buf = [0u8; TOO_MANY];
     let mut words = [0u16; 2 * QUESTION];
-    let t = load_question(rt, i, &mut buf, &mut words);
-    let n = t.words;
-    let m = t.bytes;
-    if !t.fine {
-        return no_question(rt, t.number, &buf[0..m], i);
+    match load_question(rt, i, &mut buf, &mut words) {
+        Ok(t) => made(&words[0..t.words], &buf[0..t.bytes]),
+        Err(u) => no_question(rt, u.refusal, &buf[0..u.bytes], i),
     }
-    if as_text {
-        return write(rt, &words[0..n], &buf[0..m], i);
-    }
-    list(rt, &words[0..n])
 }
 
 pub fn text_file(rt: &HostRuntime, i: usize) -> Status {
-    with_question(rt, true, i)
+    with_question(rt, i, |question, text| write(rt, question, text, i))
 }
 
 pub fn words_file(rt: &HostRuntime, i: usize) -> Status {
-    with_question(rt, false, i)
+    with_question(rt, i, |question, _| list(rt, question))
 }

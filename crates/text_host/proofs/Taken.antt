@@ -1,5 +1,5 @@
 -- What reading on words gives, told of the bytes.
-use Prim.Native.Nat.{ℕ, ◌/◌, ◌≤◌, min}
+use Prim.Native.Nat.{ℕ, ◌+◌, ◌/◌, ◌≤◌, min}
 use mathlib.Core.Path.{◌≡◌, refl, sym, ap, ap₂, ◌∙◌}
 use mathlib.Core.Bool.{Bool, true, false, ◌&&◌}
 use mathlib.Core.List.{List}
@@ -9,20 +9,20 @@ use lib.Dec.{leb}
 use lib.ListN.{length, take}
 use lib.Seq.{sets, sets-eq, length-sets, take_at}
 use borrow.Author.Tests.{leb-true, leb-false, le-leb, lt-leb}
+use Rattle.std.specs.Prelude.{Result, Err}
 use Rattle.language.specs.declared.Refusal.{Refusal}
 use Rattle.language.specs.declared.Refusal.TheVariants.{NotText, ManyNames, LongText}
 use Rattle.language.specs.Limits.{desk}
 use Rattle.language.specs.Kinds.{pick}
 use Rattle.language.specs.Trees.{Conj}
 use Rattle.language.specs.Question.{counts_fit}
+use Rattle.language.proofs.Numbering.{each_number}
 use Rattle.texts.specs.Texts.{parse}
 use Rattle.texts.specs.Numbering.{numbered, counts_in}
 use Rattle.texts.specs.Outcomes.{Outcome, gives, denies, question_words, fitted, counted, reads_text}
 use Rattle.word_bytes.specs.Bytes.{bytes_of}
-use Rattle.read_text.specs.declared.Reading.{Reading}
-use Rattle.read_text.specs.declared.Reading.TheVariants.{Refused}
 use Rattle.read_text.specs.Reads.{reading_of, left_by}
-use Rattle.text_host.specs.Texts.{reading_bytes, text_number, words_left, read_number, read_words}
+use Rattle.text_host.specs.Texts.{reading_bytes, text_number, words_left, given_number, given_words}
 
 -- ---- how long a question can be that is read
 
@@ -74,11 +74,11 @@ same room text = go (parse text) where
 
 -- ---- reading in the desk's own room
 
-numbers : (o : Outcome) → read_number (reading_of o) ≡ text_number o
+numbers : (o : Outcome) → given_number (reading_of o) ≡ text_number o
 numbers (gives ws) = refl
 numbers (denies r) = refl
 
-short : (room : ℕ) (o : Outcome) → Fits room o → (read_words (reading_of o) ≤ desk.question) × (read_words (reading_of o) ≤ room)
+short : (room : ℕ) (o : Outcome) → Fits room o → (given_words (reading_of o) ≤ desk.question) × (given_words (reading_of o) ≤ room)
 short room (gives ws) h = h
 short room (denies r) h = (omega arith, omega arith)
 
@@ -87,13 +87,17 @@ unfolding bytes_of
 none_written own bytes = refl
 
 -- a refusal has no words to write
-writes : (o : Outcome) (own bytes : List ℕ) → Fits (length own) o → sets bytes 0 (bytes_of (take (read_words (reading_of o)) (left_by o own))) ≡ words_left o bytes
+writes : (o : Outcome) (own bytes : List ℕ) → Fits (length own) o → sets bytes 0 (bytes_of (take (given_words (reading_of o)) (left_by o own))) ≡ words_left o bytes
 writes (gives ws) own bytes h = let m = h.1 in ap (λ l. sets bytes 0 (bytes_of l)) (ap (take (length ws)) (sets-eq ws own 0 (omega arith)) ∙ take_at ws _ (length ws) refl)
 writes (denies r) own bytes h = none_written own bytes
 
+told-short : (room : ℕ) (o : Outcome) → Fits room o → given_number (reading_of o) ≤ 100 + 65535
+told-short room (gives ws) h = let m = h.0 in omega arith
+told-short room (denies r) h = let t = each_number r in omega arith
+
 -- what `give` leaves of a refusal
-pub none-given : (own bytes : List ℕ) {r : Reading} {x : Refusal} → r ≡ Refused x → bytes ≡ sets bytes 0 (bytes_of (take (read_words r) own))
-none-given own bytes e = sym (ap (λ s. sets bytes 0 (bytes_of (take (read_words s) own))) e ∙ none_written own bytes)
+pub none-given : (own bytes : List ℕ) {r : Result ℕ Refusal} {x : Refusal} → r ≡ Err x → bytes ≡ sets bytes 0 (bytes_of (take (given_words r) own))
+none-given own bytes e = sym (ap (λ s. sets bytes 0 (bytes_of (take (given_words s) own))) e ∙ none_written own bytes)
 
 module _ (text own : List ℕ) where
   length-left : (o : Outcome) → length (left_by o own) ≡ length own
@@ -103,18 +107,21 @@ module _ (text own : List ℕ) where
   abbrev comes : Outcome
   comes = reads_text desk (length own) text
 
-  pub read_short : {r : Reading} → r ≡ reading_of comes → (read_words r ≤ desk.question) × (read_words r ≤ length own)
-  read_short e = let s = short (length own) comes (fits (length own) text) in let f = ap read_words e in (omega arith, omega arith)
+  pub read_short : {r : Result ℕ Refusal} → r ≡ reading_of comes → (given_words r ≤ desk.question) × (given_words r ≤ length own)
+  read_short e = let s = short (length own) comes (fits (length own) text) in let f = ap given_words e in (omega arith, omega arith)
+
+  pub read_told : {r : Result ℕ Refusal} → r ≡ reading_of comes → given_number r ≤ 100 + 65535
+  read_told e = let s = told-short (length own) comes (fits (length own) text) in let f = ap given_number e in omega arith
 
   -- reading changes no length
   pub read_left : {own' : List ℕ} → own' ≡ left_by comes own → length own' ≡ length own
   read_left e = ap length e ∙ length-left comes
 
-  pub read_done : {r : Reading} {own' : List ℕ} (bytes : List ℕ) {bytes' : List ℕ} {n : ℕ} → r ≡ reading_of comes → own' ≡ left_by comes own → n ≡ read_number r
-      → bytes' ≡ sets bytes 0 (bytes_of (take (read_words r) own')) → (n ≡ text_number comes) × (bytes' ≡ words_left comes bytes)
+  pub read_done : {r : Result ℕ Refusal} {own' : List ℕ} (bytes : List ℕ) {bytes' : List ℕ} {n : ℕ} → r ≡ reading_of comes → own' ≡ left_by comes own → n ≡ given_number r
+      → bytes' ≡ sets bytes 0 (bytes_of (take (given_words r) own')) → (n ≡ text_number comes) × (bytes' ≡ words_left comes bytes)
   read_done bytes e f g h = (
-    g ∙ ap read_number e ∙ numbers comes,
-    h ∙ ap₂ (λ s o. sets bytes 0 (bytes_of (take (read_words s) o))) e f ∙ writes comes own bytes (fits (length own) text),
+    g ∙ ap given_number e ∙ numbers comes,
+    h ∙ ap₂ (λ s o. sets bytes 0 (bytes_of (take (given_words s) o))) e f ∙ writes comes own bytes (fits (length own) text),
   )
 
 -- ---- and in the bytes lent

@@ -1,15 +1,12 @@
 -- What each call of the host on texts returns, and what it leaves in the room, for every input. Of a text that is written the latter is said where it is
 -- written (`left_by` in `write_text`).
-use Rattle.std.specs.Prelude.{ℕ, ◌+◌, ◌/◌, List, length}
+use Rattle.std.specs.Prelude.{ℕ, ◌+◌, ◌/◌, List, Result, Ok, Err, length}
 use Rattle.std.proofs.lemmas.List.Edits.{sets}
+use Rattle.language.specs.declared.Refusal.{Refusal}
 use Rattle.language.specs.Limits.{Limits}
 use Rattle.language.specs.Numbers.{number_of}
 use Rattle.texts.specs.Outcomes.{Outcome, gives, denies, reads_text, writes_text}
 use Rattle.word_bytes.specs.Bytes.{words_in, bytes_of}
-use Rattle.read_text.specs.declared.Reading.{Reading}
-use Rattle.read_text.specs.declared.Reading.TheVariants as read
-use Rattle.write_text.specs.declared.Written.{Written}
-use Rattle.write_text.specs.declared.Written.TheVariants.{Given, Refused}
 
 -- a room of so many bytes, and a question's bytes; an odd count of these is no question
 unfoldable pub writing_bytes : Limits → ℕ → List ℕ → Outcome
@@ -24,19 +21,15 @@ abbrev pub text_number : Outcome → ℕ
 text_number (gives bs) = 100 + length bs
 text_number (denies r) = number_of r
 
--- the same of what the call on words gives back
-abbrev pub written_number : Written → ℕ
-written_number (Given n) = 100 + n
-written_number (Refused r) = number_of r
-
-abbrev pub read_number : Reading → ℕ
-read_number (read.Given n) = 100 + n
-read_number (read.Refused r) = number_of r
+-- the same of what the calls on words give back
+abbrev pub given_number : Result ℕ Refusal → ℕ
+given_number (Ok n) = 100 + n
+given_number (Err r) = number_of r
 
 -- how many words were read: of a refusal none
-abbrev pub read_words : Reading → ℕ
-read_words (read.Given n) = n
-read_words (read.Refused r) = 0
+abbrev pub given_words : Result ℕ Refusal → ℕ
+given_words (Ok n) = n
+given_words (Err r) = 0
 
 -- the words read, as bytes at the start of the room; a refusal leaves it untouched
 abbrev pub words_left : Outcome → List ℕ → List ℕ

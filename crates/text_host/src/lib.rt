@@ -1,28 +1,29 @@
 // The host's calls on texts: bytes and numbers around the calls on words.
 #![tactic(auto)]
 
-ghost use Rattle.std.specs.Prelude.{◌+◌, ◌*◌, ◌≤◌, min, ◌≡◌, length, take};
+ghost use Rattle.std.specs.Prelude.{◌+◌, ◌*◌, ◌≤◌, ◌≡◌, length, take};
 ghost use Rattle.std.proofs.lemmas.List.Edits.{sets};
 ghost use Rattle.language.specs.Limits.{desk};
 ghost use Rattle.texts.specs.Outcomes.{reads_text};
 ghost use Rattle.word_bytes.specs.Bytes.{bytes_of};
 ghost use Rattle.write_text.specs.Writes.{left_by};
-ghost use Rattle.text_host.specs.Texts.{writing_bytes, reading_bytes, text_number, words_left, written_number, read_number, read_words};
+ghost use Rattle.text_host.specs.Texts.{writing_bytes, reading_bytes, text_number, words_left, given_number, given_words};
 
+use language::Refusal;
 use language::limits::QUESTION;
-use read_text::{Reading, read_text};
+use read_text::read_text;
 use refusals::number;
 use word_bytes::{take_words, write_words};
-use write_text::{Written, write_text};
+use write_text::write_text;
 
-// 100 and the bytes, or the refusal's number. No text has more bytes than a u32 can tell.
-fn told(w: Written) -> u32
-    requires { written_number w ≤ 100 + 65535 }
-    ensures { result ≡ written_number w }
+// 100 and how many bytes or words were given, or the refusal's number. No text has more bytes, and no question more words, than a u32 can tell.
+fn told(given: Result<usize, Refusal>) -> u32
+    requires { given_number given ≤ 100 + 65535 }
+    ensures { result ≡ given_number given }
 {
-    match w {
-        Written::Given(n) => 100 + n as u32,
-        Written::Refused(r) => number(r) as u32,
+    match given {
+        Ok(n) => 100 + n as u32,
+        Err(r) => u32::from(number(r)),
     }
 }
 
@@ -36,25 +37,14 @@ pub fn desk_write_text(question: &[u8], room: &mut [u8]) -> u32
     told(write_text(&words[..n], room))
 }
 
-// Of so many words, as many as a question ever has.
-fn most(n: usize) -> usize
-    ensures { result ≡ min desk.question n }
+// The words that were read, as bytes at the start of the room; of a refusal none.
+fn give(read: Result<usize, Refusal>, own: &[u16], room: &mut [u8])
+    requires { (given_words read ≤ length own.now) × (2 * length own.now ≤ length room.old) }
+    ensures { room.new ≡ sets room.old 0 (bytes_of (take (given_words read) own.now)) }
 {
-    if n <= QUESTION { n } else { QUESTION }
-}
-
-// 100 and the words, which are written to the room, or the refusal's number.
-fn give(r: Reading, own: &[u16], room: &mut [u8]) -> u32
-    requires { (read_words r ≤ desk.question) × (read_words r ≤ length own.now) × (2 * length own.now ≤ length room.old) }
-    ensures value { result ≡ read_number r }
-    ensures room_after { room.new ≡ sets room.old 0 (bytes_of (take (read_words r) own.now)) }
-{
-    match r {
-        Reading::Given(n) => {
-            write_words(&own[..n], room);
-            100 + n as u32
-        }
-        Reading::Refused(x) => number(x) as u32,
+    match read {
+        Ok(n) => write_words(&own[..n], room),
+        Err(_) => {}
     }
 }
 
@@ -64,7 +54,9 @@ fn read(text: &[u8], own: &mut [u16], room: &mut [u8]) -> u32
     ensures value { result ≡ text_number (reads_text desk (length own.old) text.now) }
     ensures room_after { room.new ≡ words_left (reads_text desk (length own.old) text.now) room.old }
 {
-    give(read_text(text, own), own, room)
+    let words = read_text(text, own);
+    give(words, own, room);
+    told(words)
 }
 
 // Reads a text as a question: 100 and its length in words, or the refusal's number.
@@ -73,6 +65,6 @@ pub fn desk_read_text(text: &[u8], room: &mut [u8]) -> u32
     ensures room_after { room.new ≡ words_left (reading_bytes desk (length room.old) text.now) room.old }
 {
     let mut own = [0u16; QUESTION];
-    let m = most(room.len() / 2);
+    let m = (room.len() / 2).min(QUESTION);
     read(text, &mut own[..m], room)
 }

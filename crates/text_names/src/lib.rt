@@ -55,14 +55,12 @@ fn number(text: &[u8], names: &[usize], base: usize, at: usize) -> usize
 {
     let first = base + 1;
     let end = first + names[base];
-    let mut i = first;
-    while i < end {
+    for i in first..end {
         if same_name(text, names[i], at) {
             return i - first;
         }
-        i += 1;
     }
-    i - first
+    end - first
 }
 
 // A name put on its shelf, where it is not there yet and there is room.

@@ -6,14 +6,10 @@
 
 ghost use Rattle.std.specs.Prelude.{◌<◌, ◌≤◌, length};
 
+use language::Refusal;
 use pointing::point_at;
-use print::warn;
-use read_text::{Reading, read_text};
-use refusals::number;
+use read_text::read_text;
 use std::io::Stderr;
-
-// The number of the refusal of what is no text.
-const NOT_TEXT: u16 = 17;
 
 // The most bytes of a file, twice: so many brackets can be open. And an ending.
 const WHOLE: usize = 2 * 65536 + 8;
@@ -21,102 +17,85 @@ const WHOLE: usize = 2 * 65536 + 8;
 // How many bytes are shown before and behind the one that is meant: a line may hold all bytes of a text.
 const AROUND: usize = 50;
 
+// What can stand where a beginning breaks off, before the brackets that close; and behind them.
+const FILLERS: [&[u8]; 2] = [b"", b"a"];
+
+const TAILS: [&[u8]; 5] = [b"", b"=a", b" in a", b"n a", b" a"];
+
 // Whether some bytes are a text, however many names or words it has.
 fn is_text(text: &[u8]) -> bool {
     let mut room = [0u16; 1];
-    match read_text(text, &mut room) {
-        Reading::Given(_) => true,
-        Reading::Refused(r) => number(r) != NOT_TEXT,
-    }
+    !matches!(read_text(text, &mut room), Err(Refusal::NotText))
 }
 
-// A byte put at a place, where there is room: the place after it.
-fn put(out: &mut [u8], at: usize, b: u8) -> usize {
-    if at < out.len() {
-        out[at] = b;
-        return at + 1;
-    }
-    at
+// Bytes behind each other, as far as there is room.
+// kept: a buffer with its length, since no program has a heap
+#[derive(Drop)]
+struct Whole {
+    bytes: [u8; WHOLE],
+    length: usize,
 }
 
-fn append(out: &mut [u8], from: usize, bytes: &[u8]) -> usize {
-    let mut at = from;
-    let mut i = 0;
-    while i < bytes.len() {
-        at = put(out, at, bytes[i]);
-        i += 1;
+impl Whole {
+    fn push(&mut self, b: u8) {
+        if self.length < WHOLE {
+            self.bytes[self.length] = b;
+            self.length += 1;
+        }
     }
-    at
-}
 
-// So many brackets that close.
-fn close(out: &mut [u8], from: usize, deep: usize) -> usize {
-    let mut at = from;
-    let mut left = deep;
-    while left > 0 {
-        at = put(out, at, b')');
-        left -= 1;
+    fn append(&mut self, bytes: &[u8]) {
+        for b in bytes {
+            self.push(*b);
+        }
     }
-    at
+
+    fn is_text(&self) -> bool {
+        is_text(&self.bytes[..self.length.min(WHOLE)])
+    }
 }
 
 // How many brackets are open behind a byte.
 fn open_behind(deep: usize, b: u8) -> usize {
     match b {
         b'\n' => 0,
-        b'(' => if deep < WHOLE { deep + 1 } else { deep },
-        b')' => if 0 < deep { deep - 1 } else { 0 },
+        b'(' => deep.saturating_add(1),
+        b')' => deep.saturating_sub(1),
         _ => deep,
     }
 }
 
 // How many brackets are open in the last line of a beginning.
 fn open_brackets(beginning: &[u8]) -> usize {
-    let mut deep = 0;
-    let mut i = 0;
-    while i < beginning.len() {
-        deep = open_behind(deep, beginning[i]);
-        i += 1;
-    }
-    deep
+    beginning.iter().fold(0, |deep, b| open_behind(deep, *b))
 }
 
 // Whether a beginning is a text with this ending: a filler, the brackets closed, a tail.
 fn ends_well(beginning: &[u8], filler: &[u8], deep: usize, tail: &[u8]) -> bool {
-    let mut whole = [0u8; WHOLE];
-    let a = append(&mut whole, 0, beginning);
-    let b = append(&mut whole, a, filler);
-    let c = close(&mut whole, b, deep);
-    let d = append(&mut whole, c, tail);
-    if whole.len() < d {
-        return false;
+    let mut whole = Whole {
+        bytes: [0; WHOLE],
+        length: 0,
+    };
+    whole.append(beginning);
+    whole.append(filler);
+    for _ in 0..deep {
+        whole.push(b')');
     }
-    is_text(&whole[0..d])
-}
-
-fn with_filler(beginning: &[u8], filler: &[u8], deep: usize) -> bool {
-    if ends_well(beginning, filler, deep, b"") {
-        return true;
-    }
-    if ends_well(beginning, filler, deep, b"=a") {
-        return true;
-    }
-    if ends_well(beginning, filler, deep, b" in a") {
-        return true;
-    }
-    if ends_well(beginning, filler, deep, b"n a") {
-        return true;
-    }
-    ends_well(beginning, filler, deep, b" a")
+    whole.append(tail);
+    whole.is_text()
 }
 
 // Whether a beginning can be continued to a text.
 fn can_go_on(beginning: &[u8]) -> bool {
     let deep = open_brackets(beginning);
-    if with_filler(beginning, b"", deep) {
-        return true;
+    for filler in FILLERS {
+        for tail in TAILS {
+            if ends_well(beginning, filler, deep, tail) {
+                return true;
+            }
+        }
     }
-    with_filler(beginning, b"a", deep)
+    false
 }
 
 // A place of a text, halfway between two.
@@ -144,33 +123,21 @@ fn first_wrong(text: &[u8]) -> usize
     low
 }
 
-fn before(at: usize) -> usize {
-    if at < AROUND { 0 } else { at - AROUND }
-}
-
-fn beyond(at: usize) -> usize {
-    if at < WHOLE { at + AROUND } else { at }
-}
-
-// What is wrong with a byte that cannot continue a text.
-fn wrong_byte(err: Stderr, b: u8) {
-    match b {
-        b'\n' => warn(err, b"the line breaks off here: something has to follow\n"),
-        _ => warn(err, b"up to here it can be a text; with this it cannot\n"),
+// What is wrong with what stands at a place, where a text cannot continue.
+fn wrong(at: Option<u8>) -> &'static str {
+    match at {
+        Some(b'\n') => "the line breaks off here: something has to follow",
+        Some(_) => "up to here it can be a text; with this it cannot",
+        None => "the text breaks off here: something has to follow",
     }
-}
-
-fn wrong(err: Stderr, text: &[u8], at: usize) {
-    if at < text.len() {
-        wrong_byte(err, text[at]);
-        return;
-    }
-    warn(err, b"the text breaks off here: something has to follow\n");
 }
 
 // Says where something that is no text stops being one, and shows it. Its name is said before.
 pub fn not_text(err: Stderr, text: &[u8]) {
     let at = first_wrong(text);
-    point_at(err, text, at, before(at), beyond(at), b'\n');
-    wrong(err, text, at);
+    let first = at.saturating_sub(AROUND);
+    let last = at.saturating_add(AROUND);
+    point_at(err, text, at, first, last, b'\n');
+    let wrong = wrong(text.get(at).copied());
+    let _ = println!(err; "{wrong}");
 }

@@ -8,6 +8,8 @@ use mathlib.Core.Option.{Option, none, some}
 use lib.Dec.{eqb}
 use lib.ListN.{length, drop, get_or, drop_of_length-le}
 use borrow.Author.Tests.{eq-eqb, ne_eqb, eqb-true, not-true, not-false}
+use Rattle.std.specs.Prelude.{Some, None}
+use Rattle.std.specs.Prelude as std
 use Rattle.language.specs.Kinds.{pick}
 use Rattle.language.specs.Trees.{fvar}
 use Rattle.grammar.specs.Tokens.{Token, one, run, functor, equals, comma, opens, closes, plus, times, Tokens, puts, name_token}
@@ -209,10 +211,10 @@ module _ {text : List ℕ} {at many : ℕ} (g : Lining text at many) {l : Seen} 
   unfolding survey_of
   split = ap survey_of (lines_split (drop at text)) ∙ ap (λ ls. counts (here text at) (survey_of ls)) s.same
 
-  pub survey-bad : not l.ok ≡ true → Surveyed text (record { ok = false; many = 0 })
+  pub survey-bad : not l.ok ≡ true → Surveyed text None
   survey-bad f = record {
-    few = omega arith;
-    good = λ y. absurd (let z : ◌≡◌ {A = ℕ} 0 1 = cc in omega arith);
+    few = λ n y. absurd (let z : ◌≡◌ {A = ℕ} 0 1 = cc in omega arith);
+    good = λ n y. absurd (let z : ◌≡◌ {A = ℕ} 0 1 = cc in omega arith);
     bad = λ y. broken;
     tells = sym (ap look_of broken);
   }
@@ -240,15 +242,18 @@ module _ {text : List ℕ} {at many : ℕ} (g : Lining text at many) {l : Seen} 
         on true e = omega arith
         on false e = omega arith
 
-    pub survey-ends : {k : ℕ} → k ≡ pick l.some (many + 1) many → length text ≤ l.to → Surveyed text (record { ok = true; many = k })
+    pub survey-ends : {k : ℕ} → k ≡ pick l.some (many + 1) many → length text ≤ l.to → Surveyed text (Some k)
     unfolding survey_of
     survey-ends {k} e p = record {
-      few = let a = g.few in let b = g.high in let c = few-more e in omega arith;
-      good = λ y. all;
+      few = λ n y. let a = g.few in let b = g.high in let c = few-more e in let d = counted-as y in omega arith;
+      good = λ n y. all ∙ ap some (counted-as y);
       bad = λ y. absurd (let z : ◌≡◌ {A = ℕ} 0 1 = cc in omega arith);
       tells = sym (ap look_of all);
     }
       where
+        counted-as : {n : ℕ} → ◌≡◌ {A = std.Option ℕ} (Some k) (Some n) → k ≡ n
+        counted-as y = cc
+
         nothing : more k (survey_of []) ≡ some k
         nothing = ap some (omega arith)
 

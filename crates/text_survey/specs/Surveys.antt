@@ -1,5 +1,6 @@
 -- The lines of a text that have a token, counted; or that some line is not all tokens.
-use Rattle.std.specs.Prelude.{ℕ, zero, suc, ◌+◌, ◌<◌, ◌≤◌, ◌≡◌, Bool, true, false, List, [], ◌∷◌, eqb, length, drop, get_or}
+use Rattle.std.specs.Prelude.{ℕ, zero, suc, ◌+◌, ◌<◌, ◌≤◌, ◌≡◌, Bool, true, false, List, [], ◌∷◌, eqb, length, drop, get_or, Some, None}
+use Rattle.std.specs.Prelude as std
 use Rattle.std.proofs.Math.Option.{Option, none, some}
 use Rattle.language.specs.Kinds.{pick}
 use Rattle.grammar.specs.Tokens.{Token, Tokens, tokens}
@@ -10,7 +11,6 @@ use Rattle.lexing.specs.Bytes.{others}
 use Rattle.lexing.specs.declared.Piece.{Piece}
 use Rattle.lexing.specs.Pieces.{here, next_of}
 use Rattle.text_survey.specs.declared.Seen.{Seen}
-use Rattle.text_survey.specs.declared.Look.{Look}
 
 abbrev pub another : Option ℕ → Option ℕ
 another none = none
@@ -67,12 +67,12 @@ pub record LineSeen (text : List ℕ) (at : ℕ) (r : Seen) : Type 0 where
 
 -- ---- a text
 
-abbrev pub look_of : Option ℕ → Look
-look_of none = record { ok = false; many = 0 }
-look_of (some n) = record { ok = true; many = n }
+abbrev pub look_of : Option ℕ → std.Option ℕ
+look_of none = None
+look_of (some n) = Some n
 
-pub record Surveyed (text : List ℕ) (r : Look) : Type 0 where
-  pub few : r.many ≤ length text + 1
-  pub good : r.ok ≡ true → survey_of (lines_of text) ≡ some r.many
-  pub bad : r.ok ≡ false → survey_of (lines_of text) ≡ none
+pub record Surveyed (text : List ℕ) (r : std.Option ℕ) : Type 0 where
+  pub few : (n : ℕ) → r ≡ Some n → n ≤ length text + 1
+  pub good : (n : ℕ) → r ≡ Some n → survey_of (lines_of text) ≡ some n
+  pub bad : r ≡ None → survey_of (lines_of text) ≡ none
   pub tells : r ≡ look_of (survey_of (lines_of text))

@@ -8,18 +8,12 @@ ghost use Rattle.text_survey.specs.Surveys.{step_of, LineSeen, Surveyed};
 use lexing::{Mark, next};
 
 // A line: whether it is made of tokens, whether it has one, and where it ends.
+// kept: `LineSeen` says of a line that is not made of tokens, too, where its tokens end (`low`, `high`, `same`, `tells`).
 #[derive(Clone, Copy)]
 pub struct Seen {
     pub ok: bool,
     pub some: bool,
     pub to: usize,
-}
-
-// A text: whether it is made of tokens, and how many lines have one.
-#[derive(Clone, Copy)]
-pub struct Look {
-    pub ok: bool,
-    pub many: usize,
 }
 
 fn step(mark: Mark) -> u8
@@ -75,8 +69,8 @@ fn one_more(many: usize, yes: bool, most: usize) -> usize
     many
 }
 
-// The whole text.
-pub fn survey(text: &[u8]) -> Look
+// The whole text: how many lines have a token, if it is made of tokens.
+pub fn survey(text: &[u8]) -> Option<usize>
     ensures { Surveyed text.now result }
 {
     let mut at = 0;
@@ -84,15 +78,12 @@ pub fn survey(text: &[u8]) -> Look
     loop {
         let l = line(text, at);
         if !l.ok {
-            return Look { ok: false, many: 0 };
+            return None;
         }
         many = one_more(many, l.some, text.len() + 1);
         let to = l.to;
         if text.len() <= to {
-            return Look {
-                ok: true,
-                many: many,
-            };
+            return Some(many);
         }
         at = to + 1;
     }

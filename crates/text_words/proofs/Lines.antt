@@ -1,5 +1,5 @@
 -- The loop over the lines of a text.
-use Prim.Native.Nat.{ℕ, ◌+◌, ◌-◌, ◌<◌, ◌≤◌}
+use Prim.Native.Nat.{ℕ, ◌+◌, ◌<◌, ◌≤◌}
 use native.Mathlib.Omega.{arith}
 use mathlib.Core.Path.{◌≡◌, refl, sym, ap, ap₂, ◌∙◌, subst}
 use mathlib.Core.Bool.{Bool, true, false, not}
@@ -8,6 +8,8 @@ use mathlib.Core.Option.{Option, none, some}
 use lib.ListN.{length, drop, set, length-set, length-append}
 use lib.Seq.{sets}
 use borrow.Author.Tests.{not-true, not-false}
+use Rattle.std.specs.Prelude.{Some, None}
+use Rattle.std.specs.Prelude as std
 use Rattle.language.specs.Limits.{Limits}
 use Rattle.language.specs.Trees.{Conj}
 use Rattle.language.specs.Writing.{conj_words}
@@ -29,7 +31,7 @@ use Rattle.text_survey.specs.declared.Seen.{Seen}
 use Rattle.text_survey.specs.Surveys.{counts, survey_of, LineSeen}
 use Rattle.text_survey.proofs.Scan.{behind-newline, none-behind}
 use Rattle.text_words.specs.declared.Took.{Took}
-use Rattle.text_words.specs.Bodies.{words_of, ends_of, LineTook, Body, Looped, Lined}
+use Rattle.text_words.specs.Bodies.{words_of, ends_of, LineRead, LineTook, Body, LinesRead, Looped, Lined}
 use Rattle.text_words.proofs.Stores.{sets-++, set_before, words_snoc, joined_snoc, ends_snoc, length-ends, length-words}
 
 false-true : {A : Type 0} {b : Bool} → b ≡ false → b ≡ true → A
@@ -38,34 +40,37 @@ false-true e f = absurd (let z : ◌≡◌ {A = ℕ} 0 1 = cc in omega arith)
 some_same : {o : Tokens} {us vs : List Token} → o ≡ some us → o ≡ some vs → us ≡ vs
 some_same e f = cc
 
+pub some-took : {s t : Took} → ◌≡◌ {A = std.Option Took} (Some s) (Some t) → s ≡ t
+some-took e = cc
+
 -- ---- one line
 
 module _ {ρ : Naming} {text room : List ℕ} {at i k : ℕ} (has : Bool) where
-  pub took-blank : k ≤ length room → not has ≡ true → LineTook ρ text room at i k has (record { ok = true; i = i; n = k }) room
+  pub took-blank : k ≤ length room → not has ≡ true → LineTook ρ text room at i k has (Some (record { i = i; n = k })) room
   took-blank p e = record {
-    fits = p;
+    fits = λ t y. subst (λ (s : Took). s.n ≤ length room) (some-took y) p;
     len = refl;
-    blank = λ f. (refl, refl, refl, refl);
-    good = λ f. false-true (not-true has e) f;
-    bad = λ f. false-true (not-true has e) f;
+    blank = λ f. (refl, refl);
+    good = λ f t y. false-true (not-true has e) f;
+    bad = λ f y. false-true (not-true has e) f;
   }
 
   module _ {w : Way} {room₁ : List ℕ} (r : ReadLine ρ text room at k w room₁) (e : not has ≡ false) where
-    pub took-bad : k ≤ length room → not w.ok ≡ true → LineTook ρ text room at i k has (record { ok = false; i = i; n = k }) room₁
-    took-bad p f = record {
-      fits = p;
+    pub took-bad : not w.ok ≡ true → LineTook ρ text room at i k has None room₁
+    took-bad f = record {
+      fits = λ t y. absurd (let z : ◌≡◌ {A = ℕ} 0 1 = cc in omega arith);
       len = r.len;
       blank = λ q. false-true q (not-false has e);
-      good = λ q y. absurd (let z : ◌≡◌ {A = ℕ} 0 1 = cc in omega arith);
+      good = λ q t y. absurd (let z : ◌≡◌ {A = ℕ} 0 1 = cc in omega arith);
       bad = λ q y c ts d m. r.bad (not-true w.ok f) c ts d m;
     }
 
-    pub took-line : not w.ok ≡ false → {room₂ : List ℕ} → room₂ ≡ set room₁ i w.n → LineTook ρ text room at i k has (record { ok = true; i = i + 1; n = w.n }) room₂
+    pub took-line : not w.ok ≡ false → {room₂ : List ℕ} → room₂ ≡ set room₁ i w.n → LineTook ρ text room at i k has (Some (record { i = i + 1; n = w.n })) room₂
     took-line f {room₂} s = record {
-      fits = r.fits;
+      fits = λ t y. subst (λ (s : Took). s.n ≤ length room) (some-took y) r.fits;
       len = ap length s ∙ length-set room₁ i w.n ∙ r.len;
       blank = λ q. false-true q (not-false has e);
-      good = λ q y. let g = r.good (not-false w.ok f) in (g.0, g.1, room₁, g.2, g.3, refl, g.4, s);
+      good = λ q t y. let g = r.good (not-false w.ok f) in subst (LineRead ρ text room at i k room₂) (some-took y) (g.0, g.1, room₁, g.2, g.3, refl, g.4, s);
       bad = λ q y. absurd (let z : ◌≡◌ {A = ℕ} 0 1 = cc in omega arith);
     }
 
@@ -196,95 +201,98 @@ module _ (L : Limits) (text names room : List ℕ) (first : ℕ) where
         let hi = g.high in
         (record { high = g.high; shelves = g.lined.shelves; begun = g.begun; place = omega arith; short = omega arith; clean = here-clean.0 }, omega arith)
 
-    module _ {t : Took} {room'' : List ℕ} (q : LineTook (numbering L text names) text room' at i k l.some t room'') where
-      pub body-bad : not t.ok ≡ true → Looped (numbering L text names) text room first (record { ok = false; i = t.i; n = 0 }) room''
+    module _ {o : std.Option Took} {room'' : List ℕ} (q : LineTook (numbering L text names) text room' at i k l.some o room'') where
+      pub body-bad : o ≡ None → Looped (numbering L text names) text room first None room''
       body-bad f = record {
         len = q.len ∙ g.len;
-        good = λ y. absurd (let z : ◌≡◌ {A = ℕ} 0 1 = cc in omega arith);
-        bad = λ y. (refl, λ ks m. on l.some refl ks m);
+        good = λ t y. absurd (let z : ◌≡◌ {A = ℕ} 0 1 = cc in omega arith);
+        bad = λ y ks m. on l.some refl ks m;
       }
         where
           on : (b : Bool) → l.some ≡ b → (ks : List Conj) → Lines ks (lines_of text) → ⊥
-          on false e ks m = false-true (not-true t.ok f) (q.blank e).0
+          on false e ks m = let b = (q.blank e).0 in let z : ◌≡◌ {A = ℕ} 0 1 = cc in omega arith
           on true e ks m =
               let b = g.back ks m in
               let w = s.full seen-ok e in
               let c = first-line (subst (Lines b.0) (lines_split (drop at text)) b.2) w.0 w.1 w.2 in
-              q.bad e (not-true t.ok f) c.0 (w.0 ∷ w.1) w.2 c.3
+              q.bad e f c.0 (w.0 ∷ w.1) w.2 c.3
 
-      -- the lines behind this one, with those before it
-      pub record After : Type 0 where
-        pub done : List Conj
-        pub many : t.i ≡ 6 + length done
-        pub fewer : t.i ≤ i + 1
-        pub begun : 1 ≤ t.n
-        pub body : Body (numbering L text names) room first done t.n room''
-        pub joins : (ks : List Conj) → Lines ks (others (drop at text)) → Lines (done ++ ks) (lines_of text)
-        pub back : (ks : List Conj) → Lines ks (lines_of text) → (js : List Conj) × (ks ≡ done ++ js) × Lines js (others (drop at text))
+      module _ {t : Took} (f : o ≡ Some t) where
+        -- the lines behind this one, with those before it
+        pub record After : Type 0 where
+          pub done : List Conj
+          pub many : t.i ≡ 6 + length done
+          pub fewer : t.i ≤ i + 1
+          pub begun : 1 ≤ t.n
+          pub body : Body (numbering L text names) room first done t.n room''
+          pub joins : (ks : List Conj) → Lines ks (others (drop at text)) → Lines (done ++ ks) (lines_of text)
+          pub back : (ks : List Conj) → Lines ks (lines_of text) → (js : List Conj) × (ks ≡ done ++ js) × Lines js (others (drop at text))
 
-      after : not t.ok ≡ false → After
-      after f = on l.some refl
-        where
-          on : (b : Bool) → l.some ≡ b → After
-          on false e =
-              let x = q.blank e in
-              let em = s.empty seen-ok e in
-              record {
-                done = g.done;
-                many = x.1 ∙ g.many;
-                fewer = let y = x.1 in omega arith;
-                begun = let y = x.2 in let z = g.begun in omega arith;
-                body = subst (λ r. Body ρ room first g.done t.n r) (sym x.3) (subst (λ n. Body ρ room first g.done n room') (sym x.2) g.body);
-                joins = λ ks m. g.joins ks (subst (Lines ks) (sym (lines_split (drop at text))) (blank em m));
-                back = λ ks m. let b = g.back ks m in (b.0, b.1, first-blank (subst (Lines b.0) (lines_split (drop at text)) b.2) em);
-              }
-          on true e =
-              let x = q.good e (not-false t.ok f) in
-              let w = s.full seen-ok e in
-              let ln : Line x.0 (w.0 ∷ w.1) = subst (Line x.0) (some_same x.3 w.2) x.4 in
-              record {
-                done = g.done ++ (x.0 ∷ []);
-                many = let y = x.5 in let z = g.many in let a = length-append g.done (x.0 ∷ []) in omega arith;
-                fewer = let y = x.5 in omega arith;
-                begun = let y = x.6.place in let z = g.begun in let p = k-place in let a = g.len in omega arith;
-                body = body_more ρ room first g.lined.place g.done x.0 g.len g.body g.many x.6 x.7;
-                joins = λ ks m.
-                    subst (λ js. Lines js (lines_of text)) (sym (append_assoc g.done (x.0 ∷ []) ks))
-                    (g.joins (x.0 ∷ ks) (subst (Lines (x.0 ∷ ks)) (sym (lines_split (drop at text))) (line w.2 ln m)));
-                back = λ ks m.
-                    let b = g.back ks m in
-                    let c = first-line (subst (Lines b.0) (lines_split (drop at text)) b.2) w.0 w.1 w.2 in
-                    (c.1, b.1 ∙ ap (λ js. g.done ++ js) (c.2 ∙ ap (λ y. y ∷ c.1) (one_line c.3 ln)) ∙ sym (append_assoc g.done (x.0 ∷ []) c.1), c.4);
-              }
+        after : After
+        after = on l.some refl
+          where
+            on : (b : Bool) → l.some ≡ b → After
+            on false e =
+                let x = q.blank e in
+                let ti : t.i ≡ i = ap (λ (s : Took). s.i) (sym (some-took (sym x.0 ∙ f))) in
+                let tn : t.n ≡ k = ap (λ (s : Took). s.n) (sym (some-took (sym x.0 ∙ f))) in
+                let em = s.empty seen-ok e in
+                record {
+                  done = g.done;
+                  many = ti ∙ g.many;
+                  fewer = let y = ti in omega arith;
+                  begun = let y = tn in let z = g.begun in omega arith;
+                  body = subst (λ r. Body ρ room first g.done t.n r) (sym x.1) (subst (λ n. Body ρ room first g.done n room') (sym tn) g.body);
+                  joins = λ ks m. g.joins ks (subst (Lines ks) (sym (lines_split (drop at text))) (blank em m));
+                  back = λ ks m. let b = g.back ks m in (b.0, b.1, first-blank (subst (Lines b.0) (lines_split (drop at text)) b.2) em);
+                }
+            on true e =
+                let x = q.good e t f in
+                let w = s.full seen-ok e in
+                let ln : Line x.0 (w.0 ∷ w.1) = subst (Line x.0) (some_same x.3 w.2) x.4 in
+                record {
+                  done = g.done ++ (x.0 ∷ []);
+                  many = let y = x.5 in let z = g.many in let a = length-append g.done (x.0 ∷ []) in omega arith;
+                  fewer = let y = x.5 in omega arith;
+                  begun = let y = x.6.place in let z = g.begun in let p = k-place in let a = g.len in omega arith;
+                  body = body_more ρ room first g.lined.place g.done x.0 g.len g.body g.many x.6 x.7;
+                  joins = λ ks m.
+                      subst (λ js. Lines js (lines_of text)) (sym (append_assoc g.done (x.0 ∷ []) ks))
+                      (g.joins (x.0 ∷ ks) (subst (Lines (x.0 ∷ ks)) (sym (lines_split (drop at text))) (line w.2 ln m)));
+                  back = λ ks m.
+                      let b = g.back ks m in
+                      let c = first-line (subst (Lines b.0) (lines_split (drop at text)) b.2) w.0 w.1 w.2 in
+                      (c.1, b.1 ∙ ap (λ js. g.done ++ js) (c.2 ∙ ap (λ y. y ∷ c.1) (one_line c.3 ln)) ∙ sym (append_assoc g.done (x.0 ∷ []) c.1), c.4);
+                }
 
-      pub body-ends : not t.ok ≡ false → length text ≤ l.to → Looped (numbering L text names) text room first (record { ok = true; i = t.i; n = t.n }) room''
-      body-ends f p =
-          let a = after f in
-          record {
-            len = q.len ∙ g.len;
-            good = λ y. (a.done, subst (λ ks. Lines ks (lines_of text)) (none_left a.done) (a.joins [] (subst (Lines []) (sym (s.same ∙ none-behind text l.to p)) no_line)), a.body, a.many);
-            bad = λ y. absurd (let z : ◌≡◌ {A = ℕ} 0 1 = cc in omega arith);
-          }
-        where
-          none_left : (ks : List Conj) → ks ++ [] ≡ ks
-          none_left [] = refl
-          none_left (k ∷ ks) = ap (λ js. k ∷ js) (none_left ks)
+        pub body-ends : length text ≤ l.to → Looped (numbering L text names) text room first (Some (record { i = t.i; n = t.n })) room''
+        body-ends p =
+            let a = after in
+            record {
+              len = q.len ∙ g.len;
+              good = λ u y. subst (LinesRead ρ text room first room'') (some-took y) (a.done, subst (λ ks. Lines ks (lines_of text)) (none_left a.done) (a.joins [] (subst (Lines []) (sym (s.same ∙ none-behind text l.to p)) no_line)), a.body, a.many);
+              bad = λ y. absurd (let z : ◌≡◌ {A = ℕ} 0 1 = cc in omega arith);
+            }
+          where
+            none_left : (ks : List Conj) → ks ++ [] ≡ ks
+            none_left [] = refl
+            none_left (k ∷ ks) = ap (λ js. k ∷ js) (none_left ks)
 
-      pub body-on : not t.ok ≡ false → l.to < length text → Going (l.to + 1) t.i t.n room''
-      body-on f p =
-          let a = after f in
-          let nl = behind-newline text l.to p (s.ends seen-ok p) in
-          let c = here-clean.1 in
-          record {
-            lined = g.lined;
-            len = q.len ∙ g.len;
-            high = omega arith;
-            few = let z = a.fewer in let w = g.few in let v = s.low in omega arith;
-            begun = a.begun;
-            clean = (c.0, ap survey_of (sym (s.same ∙ nl)) ∙ c.1);
-            done = a.done;
-            many = a.many;
-            body = a.body;
-            joins = λ ks m. a.joins ks (subst (Lines ks) (sym (s.same ∙ nl)) m);
-            back = λ ks m. let b = a.back ks m in (b.0, b.1, subst (Lines b.0) (s.same ∙ nl) b.2);
-          }
+        pub body-on : l.to < length text → Going (l.to + 1) t.i t.n room''
+        body-on p =
+            let a = after in
+            let nl = behind-newline text l.to p (s.ends seen-ok p) in
+            let c = here-clean.1 in
+            record {
+              lined = g.lined;
+              len = q.len ∙ g.len;
+              high = omega arith;
+              few = let z = a.fewer in let w = g.few in let v = s.low in omega arith;
+              begun = a.begun;
+              clean = (c.0, ap survey_of (sym (s.same ∙ nl)) ∙ c.1);
+              done = a.done;
+              many = a.many;
+              body = a.body;
+              joins = λ ks m. a.joins ks (subst (Lines ks) (sym (s.same ∙ nl)) m);
+              back = λ ks m. let b = a.back ks m in (b.0, b.1, subst (Lines b.0) (s.same ∙ nl) b.2);
+            }

@@ -1,5 +1,5 @@
 -- A literal, as the code reads it: an equation or a membership.
-use Prim.Native.Nat.{ℕ, suc, ◌-◌, ◌<◌, ◌≤◌}
+use Prim.Native.Nat.{ℕ, suc, ◌<◌, ◌≤◌}
 use native.Mathlib.Omega.{arith}
 use mathlib.Core.Path.{◌≡◌, refl, sym, ap, ap₂, ◌∙◌, subst}
 use mathlib.Core.Bool.{Bool, true, false, not, ◌&&◌}
@@ -11,7 +11,7 @@ use lib.Dec.{eqb}
 use borrow.Author.Tests.{eq-eqb, eqb-true, not-true, not-false}
 use Rattle.language.proofs.Bools.{both_true}
 use Rattle.language.specs.Limits.{Limits}
-use Rattle.language.specs.Trees.{Hedge, Expr, over, Literal, eqn, mem}
+use Rattle.language.specs.Trees.{Hedge, Expr, Literal, eqn, mem}
 use Rattle.language.specs.Writing.{hedge_words, expr_words, literal_words}
 use Rattle.grammar.specs.Tokens.{Token, equals, name_token}
 use Rattle.grammar.specs.Grammar.{begins, Spells, choice, Means, in_sym, Says, equal, member}

@@ -1,5 +1,6 @@
 -- The words of a text's lines from a place on, and where each conjunction ends from word 6 on.
-use Rattle.std.specs.Prelude.{ℕ, ◌+◌, ◌<◌, ◌≤◌, min, ◌≡◌, Bool, true, false, ◌&&◌, List, [], ◌∷◌, map, leb, ltb, length, set, replicate}
+use Rattle.std.specs.Prelude.{ℕ, ◌+◌, ◌<◌, ◌≤◌, min, ◌≡◌, Bool, true, false, ◌&&◌, List, [], ◌∷◌, map, leb, ltb, length, set, replicate, Some, None}
+use Rattle.std.specs.Prelude as std
 use Rattle.std.proofs.Math.Option.{Option, none, some}
 use Rattle.std.proofs.lemmas.List.Edits.{sets}
 use Rattle.language.specs.Limits.{Limits}
@@ -16,7 +17,6 @@ use Rattle.text_names.specs.Shelves.{Shelves}
 use Rattle.room_words.specs.Rooms.{Wrote}
 use Rattle.text_survey.specs.Surveys.{survey_of}
 use Rattle.text_words.specs.declared.Took.{Took}
-use Rattle.text_words.specs.declared.Written.{Written}
 
 -- the words of each conjunction
 abbrev pub words_of : Naming → List Conj → List (List ℕ)
@@ -27,13 +27,17 @@ abbrev pub ends_of : ℕ → List (List ℕ) → List ℕ
 ends_of at [] = []
 ends_of at (ws ∷ wss) = (at + length ws) ∷ ends_of (at + length ws) wss
 
+-- a line that has a token, and what was taken of it
+abbrev pub LineRead : Naming → List ℕ → List ℕ → ℕ → ℕ → ℕ → List ℕ → Took → Type 0
+LineRead ρ text room at i k room' t = (c : Conj) × (ts : List Token) × (room₁ : List ℕ) × (here text at ≡ some ts) × Line c ts × (t.i ≡ i + 1) × Wrote room k (conj_words (name_conj ρ c)) t.n room₁ × (room' ≡ set room₁ i t.n)
+
 -- a line, taken where it has a token
-pub record LineTook (ρ : Naming) (text room : List ℕ) (at i k : ℕ) (has : Bool) (r : Took) (room' : List ℕ) : Type 0 where
-  pub fits : r.n ≤ length room
+pub record LineTook (ρ : Naming) (text room : List ℕ) (at i k : ℕ) (has : Bool) (r : std.Option Took) (room' : List ℕ) : Type 0 where
+  pub fits : (t : Took) → r ≡ Some t → t.n ≤ length room
   pub len : length room' ≡ length room
-  pub blank : has ≡ false → (r.ok ≡ true) × (r.i ≡ i) × (r.n ≡ k) × (room' ≡ room)
-  pub good : has ≡ true → r.ok ≡ true → (c : Conj) × (ts : List Token) × (room₁ : List ℕ) × (here text at ≡ some ts) × Line c ts × (r.i ≡ i + 1) × Wrote room k (conj_words (name_conj ρ c)) r.n room₁ × (room' ≡ set room₁ i r.n)
-  pub bad : has ≡ true → r.ok ≡ false → (c : Conj) (ts : List Token) → here text at ≡ some ts → Line c ts → ⊥
+  pub blank : has ≡ false → (r ≡ Some (record { i = i; n = k })) × (room' ≡ room)
+  pub good : has ≡ true → (t : Took) → r ≡ Some t → LineRead ρ text room at i k room' t
+  pub bad : has ≡ true → r ≡ None → (c : Conj) (ts : List Token) → here text at ≡ some ts → Line c ts → ⊥
 
 -- where the words end that begin at `first`
 abbrev pub end_in : Naming → List ℕ → ℕ → List Conj → ℕ
@@ -48,11 +52,15 @@ pub record Body (ρ : Naming) (room : List ℕ) (first : ℕ) (ks : List Conj) (
   pub place : n ≡ min (length room) (first + length (joined (words_of ρ ks)))
   pub words : 6 + length ks ≤ first → first + length (joined (words_of ρ ks)) < length room → room' ≡ sets (sets room 6 (ends_of first (words_of ρ ks))) first (joined (words_of ρ ks))
 
+-- all lines, and what was taken of them
+abbrev pub LinesRead : Naming → List ℕ → List ℕ → ℕ → List ℕ → Took → Type 0
+LinesRead ρ text room first room' t = (ks : List Conj) × Lines ks (lines_of text) × Body ρ room first ks t.n room' × (t.i ≡ 6 + length ks)
+
 -- what the loop over the lines leaves
-pub record Looped (ρ : Naming) (text room : List ℕ) (first : ℕ) (r : Took) (room' : List ℕ) : Type 0 where
+pub record Looped (ρ : Naming) (text room : List ℕ) (first : ℕ) (r : std.Option Took) (room' : List ℕ) : Type 0 where
   pub len : length room' ≡ length room
-  pub good : r.ok ≡ true → (ks : List Conj) × Lines ks (lines_of text) × Body ρ room first ks r.n room' × (r.i ≡ 6 + length ks)
-  pub bad : r.ok ≡ false → (r.n ≡ 0) × ((ks : List Conj) → Lines ks (lines_of text) → ⊥)
+  pub good : (t : Took) → r ≡ Some t → LinesRead ρ text room first room' t
+  pub bad : r ≡ None → (ks : List Conj) → Lines ks (lines_of text) → ⊥
 
 -- ---- what is left in the end
 
@@ -60,23 +68,23 @@ abbrev pub cleared : List ℕ → List ℕ
 cleared room = replicate (length room) 0
 
 -- the offsets stand before the words, and there was room for all of these
-unfoldable pub kept_of : Bool → ℕ → ℕ → ℕ → ℕ → Bool
-kept_of ok i n first most = ok && (leb i first && ltb n most)
+unfoldable pub kept_of : ℕ → ℕ → ℕ → ℕ → Bool
+kept_of i n first most = leb i first && ltb n most
 
 abbrev pub Left : Type 0
-Left = Written × List ℕ
+Left = std.Option ℕ × List ℕ
 
-abbrev pub leaves : Bool → ℕ → List ℕ → Left
-leaves b n room = (record { ok = b; n = n }, room)
+abbrev pub leaves : std.Option ℕ → List ℕ → Left
+leaves r room = (r, room)
 
 abbrev pub written_of : Naming → List ℕ → ℕ → Option (List Conj) → Left
-written_of ρ room first none = leaves false 0 (cleared room)
-written_of ρ room first (some ks) = leaves true (end_in ρ room first ks) (pick (kept_of true (6 + length ks) (end_in ρ room first ks) first (length room)) (body_in ρ room first ks) (cleared room))
+written_of ρ room first none = leaves None (cleared room)
+written_of ρ room first (some ks) = leaves (Some (end_in ρ room first ks)) (pick (kept_of (6 + length ks) (end_in ρ room first ks) first (length room)) (body_in ρ room first ks) (cleared room))
 
-pub record ReadBody (ρ : Naming) (text room : List ℕ) (first : ℕ) (r : Written) (room' : List ℕ) : Type 0 where
+pub record ReadBody (ρ : Naming) (text room : List ℕ) (first : ℕ) (r : std.Option ℕ) (room' : List ℕ) : Type 0 where
   pub len : length room' ≡ length room
-  pub good : r.ok ≡ true → (ks : List Conj) × Lines ks (lines_of text) × Body ρ room first ks r.n room'
-  pub bad : r.ok ≡ false → (ks : List Conj) → Lines ks (lines_of text) → ⊥
+  pub good : (n : ℕ) → r ≡ Some n → (ks : List Conj) × Lines ks (lines_of text) × Body ρ room first ks n room'
+  pub bad : r ≡ None → (ks : List Conj) → Lines ks (lines_of text) → ⊥
   pub tells : ◌≡◌ {A = Left} (r, room') (written_of ρ room first (parse text))
 
 -- ---- what is asked

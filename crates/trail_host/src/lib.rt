@@ -36,6 +36,7 @@ fn note(question: &[u16], own: &mut [u16], answer: &mut [u8], trail: &mut [u8]) 
     let number = solved_number(s);
     put_answer(number, &lines, answer);
     put_trail(number, steps, own, trail);
+    // kept: the cast is proved to keep the number, and `u16::try_from(..).unwrap()` would say no more
     told(number, steps as u16)
 }
 
@@ -69,7 +70,7 @@ pub fn desk_replay(question: &[u8], trail: &[u8], answer: &mut [u8]) -> u32
     let n = take_words(question, &mut words);
     let number = solved_number(replay(&words[..n], trail, &mut work, &mut own));
     put_answer(number, &own, answer);
-    number as u32
+    u32::from(number)
 }
 
 // The example in the desk's own room, and then in the bytes lent.
@@ -91,6 +92,7 @@ fn show(
     let n = shown_length(s);
     // of a refusal that is 0, and nothing is written
     write_words(&own[..n], room);
+    // kept: the cast is proved to keep the number, and `u16::try_from(..).unwrap()` would say no more
     told(shown_number(s), n as u16)
 }
 
@@ -110,6 +112,7 @@ pub fn desk_example_trail(
     let mut own = [0u16; FILLING];
     let n = take_words(question, &mut words);
     let m = most(FILLING, room.len() / 2);
+    // kept: there is no `From<u32>` for `usize`
     show(
         &words[..n],
         trail,

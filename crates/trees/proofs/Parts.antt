@@ -19,21 +19,21 @@ use Rattle.language.proofs.Expressions.{expr-at}
 use Rattle.language.proofs.Formats.{Is, Right}
 use Rattle.language.proofs.Literals.{literals, literal-at, literal-some, right-literal}
 use Rattle.language.proofs.Conjunctions.{read_conj-step}
-use Rattle.trees.specs.declared.Read.TheVariants.{Next, Stop}
+use Rattle.std.specs.Prelude.{Ok, Err}
 use Rattle.trees.specs.Places.{placed}
 use Rattle.trees.proofs.Placing.{placed-after, placed-next, placed-none, moves, then_at, past, both_at, here, at-kind}
 
 module _ (w : List ℕ) (at : ℕ) where
-  pub past-term : length w ≤ at → Stop at ≡ placed at (read_term desk (drop at w))
+  pub past-term : length w ≤ at → Err at ≡ placed at (read_term desk (drop at w))
   past-term p = past w at (read_term desk) (unfold read_term in refl) p
 
-  pub past-hedge : length w ≤ at → Stop at ≡ placed at (read_hedge desk (drop at w))
+  pub past-hedge : length w ≤ at → Err at ≡ placed at (read_hedge desk (drop at w))
   past-hedge p = past w at (read_hedge desk) (read_hedge-step desk []) p
 
-  pub past-expr : length w ≤ at → Stop at ≡ placed at (read_expr desk (drop at w))
+  pub past-expr : length w ≤ at → Err at ≡ placed at (read_expr desk (drop at w))
   past-expr p = past w at (read_expr desk) (read_expr-step desk []) p
 
-  pub past-literal : length w ≤ at → Stop at ≡ placed at (read_literal desk (drop at w))
+  pub past-literal : length w ≤ at → Err at ≡ placed at (read_literal desk (drop at w))
   past-literal p = past w at (read_literal desk) (unfold read_literal in refl) p
 
   -- at a word of kind k
@@ -43,7 +43,7 @@ module _ (w : List ℕ) (at : ℕ) where
     to-term : placed at (term_on (read_hedge desk) k (drop (at + 1) w)) ≡ placed at (read_term desk (drop at w))
     to-term = at-kind w at (read_term desk) (term_on (read_hedge desk)) (term-at desk) p k e
 
-    pub term-variable : {x : TermVar} → k ≡ Term x → Next (at + 1) ≡ placed at (read_term desk (drop at w))
+    pub term-variable : {x : TermVar} → k ≡ Term x → Ok (at + 1) ≡ placed at (read_term desk (drop at w))
     unfolding placed
     term-variable i = ap (λ j. placed at (term_on (read_hedge desk) j (drop (at + 1) w))) (sym i) ∙ to-term
 
@@ -53,17 +53,17 @@ module _ (w : List ℕ) (at : ℕ) where
         each-kind (3 ∷ 4 ∷ []) (λ k. placed (at + 1) (read_hedge desk (drop (at + 1) w)) ≡ placed at (term_on (read_hedge desk) k (drop (at + 1) w))) tt tt tt (λ f. sym (placed-after at 1 _ _)) (λ X. sym (placed-after at 1 _ _)) tt tt tt tt tt tt tt k o
         ∙ to-term
 
-    pub term-none : Among (0 ∷ 2 ∷ 5 ∷ 6 ∷ 7 ∷ 8 ∷ 9 ∷ 10 ∷ 11 ∷ []) k → Stop at ≡ placed at (read_term desk (drop at w))
+    pub term-none : Among (0 ∷ 2 ∷ 5 ∷ 6 ∷ 7 ∷ 8 ∷ 9 ∷ 10 ∷ 11 ∷ []) k → Err at ≡ placed at (read_term desk (drop at w))
     term-none o =
         let n = placed-none Hedge at in
-        each-kind (0 ∷ 2 ∷ 5 ∷ 6 ∷ 7 ∷ 8 ∷ 9 ∷ 10 ∷ 11 ∷ []) (λ k. Stop at ≡ placed at (term_on (read_hedge desk) k (drop (at + 1) w))) n tt (λ p. n) tt tt n n n n n n n k o ∙ to-term
+        each-kind (0 ∷ 2 ∷ 5 ∷ 6 ∷ 7 ∷ 8 ∷ 9 ∷ 10 ∷ 11 ∷ []) (λ k. Err at ≡ placed at (term_on (read_hedge desk) k (drop (at + 1) w))) n tt (λ p. n) tt tt n n n n n n n k o ∙ to-term
 
     -- ---- a hedge
 
     to-hedge : placed at (hedge_on (read_hedge desk) k (drop (at + 1) w)) ≡ placed at (read_hedge desk (drop at w))
     to-hedge = at-kind w at (read_hedge desk) (hedge_on (read_hedge desk)) (hedge-at desk) p k e
 
-    pub hedge-end : k ≡ End → Next (at + 1) ≡ placed at (read_hedge desk (drop at w))
+    pub hedge-end : k ≡ End → Ok (at + 1) ≡ placed at (read_hedge desk (drop at w))
     unfolding placed
     hedge-end i = ap (λ j. placed at (hedge_on (read_hedge desk) j (drop (at + 1) w))) (sym i) ∙ to-hedge
 
@@ -84,23 +84,23 @@ module _ (w : List ℕ) (at : ℕ) where
         ∙ to-hedge
 
     -- which moves on
-    pub term-moves : Among (1 ∷ 3 ∷ 4 ∷ 5 ∷ 6 ∷ 7 ∷ 8 ∷ 9 ∷ 10 ∷ 11 ∷ []) k → (q : ℕ) → placed at (read_term desk (drop at w)) ≡ Next q → at < q
+    pub term-moves : Among (1 ∷ 3 ∷ 4 ∷ 5 ∷ 6 ∷ 7 ∷ 8 ∷ 9 ∷ 10 ∷ 11 ∷ []) k → (q : ℕ) → placed at (read_term desk (drop at w)) ≡ Ok q → at < q
     term-moves o q r =
-        each-kind (1 ∷ 3 ∷ 4 ∷ 5 ∷ 6 ∷ 7 ∷ 8 ∷ 9 ∷ 10 ∷ 11 ∷ []) (λ k. placed at (term_on (read_hedge desk) k (drop (at + 1) w)) ≡ Next q → at < q)
+        each-kind (1 ∷ 3 ∷ 4 ∷ 5 ∷ 6 ∷ 7 ∷ 8 ∷ 9 ∷ 10 ∷ 11 ∷ []) (λ k. placed at (term_on (read_hedge desk) k (drop (at + 1) w)) ≡ Ok q → at < q)
         tt (λ x e. let z : at + 1 ≡ q = unfold placed in cc in omega arith) tt (λ f. some _) (λ X. some _) none none none none none none none k o (to-term ∙ r)
       where
-        some : (f : Hedge → Hedge) → placed at (after 1 f (read_hedge desk (drop (at + 1) w))) ≡ Next q → at < q
+        some : (f : Hedge → Hedge) → placed at (after 1 f (read_hedge desk (drop (at + 1) w))) ≡ Ok q → at < q
         some f e = let m = moves (at + 1) (read_hedge desk (drop (at + 1) w)) q (sym (placed-after at 1 f _) ∙ e) in omega arith
 
-        none : placed {A = Hedge} at (stop 0) ≡ Next q → at < q
-        none e = let m : Stop at ≡ Next q = placed-none Hedge at ∙ e in absurd (let z : ◌≡◌ {A = ℕ} 0 1 = cc in omega arith)
+        none : placed {A = Hedge} at (stop 0) ≡ Ok q → at < q
+        none e = let m : Err at ≡ Ok q = placed-none Hedge at ∙ e in absurd (let z : ◌≡◌ {A = ℕ} 0 1 = cc in omega arith)
 
     -- ---- an expression
 
     to-expr : placed at (expr_on (read_expr desk) k (drop (at + 1) w)) ≡ placed at (read_expr desk (drop at w))
     to-expr = at-kind w at (read_expr desk) (expr_on (read_expr desk)) (expr-at desk) p k e
 
-    pub expr-eps : k ≡ Eps → Next (at + 1) ≡ placed at (read_expr desk (drop at w))
+    pub expr-eps : k ≡ Eps → Ok (at + 1) ≡ placed at (read_expr desk (drop at w))
     unfolding placed
     expr-eps i = ap (λ j. placed at (expr_on (read_expr desk) j (drop (at + 1) w))) (sym i) ∙ to-expr
 
@@ -121,10 +121,10 @@ module _ (w : List ℕ) (at : ℕ) where
         two : (f : Expr → Expr → Expr) → then_at (read_expr desk) w (placed (at + 1) (read_expr desk (drop (at + 1) w))) ≡ placed at (next (both f (read_expr desk) (read_expr desk) (drop (at + 1) w)))
         two f = both_at w (at + 1) f (read_expr desk) (read_expr desk) ∙ sym (placed-next at _)
 
-    pub expr-none : Among (0 ∷ 1 ∷ 2 ∷ 4 ∷ 5 ∷ 6 ∷ 11 ∷ []) k → Stop at ≡ placed at (read_expr desk (drop at w))
+    pub expr-none : Among (0 ∷ 1 ∷ 2 ∷ 4 ∷ 5 ∷ 6 ∷ 11 ∷ []) k → Err at ≡ placed at (read_expr desk (drop at w))
     expr-none o =
         let n = placed-none Expr at in
-        each-kind (0 ∷ 1 ∷ 2 ∷ 4 ∷ 5 ∷ 6 ∷ 11 ∷ []) (λ k. Stop at ≡ placed at (expr_on (read_expr desk) k (drop (at + 1) w))) n (λ x. n) (λ p. n) tt (λ X. n) n n tt tt tt tt n k o ∙ to-expr
+        each-kind (0 ∷ 1 ∷ 2 ∷ 4 ∷ 5 ∷ 6 ∷ 11 ∷ []) (λ k. Err at ≡ placed at (expr_on (read_expr desk) k (drop (at + 1) w))) n (λ x. n) (λ p. n) tt (λ X. n) n n tt tt tt tt n k o ∙ to-expr
 
     -- ---- a literal
 
@@ -137,24 +137,24 @@ module _ (w : List ℕ) (at : ℕ) where
     pub literal-membership : k ≡ Membership → then_at (read_expr desk) w (placed (at + 1) (read_hedge desk (drop (at + 1) w))) ≡ placed at (read_literal desk (drop at w))
     literal-membership i = both_at w (at + 1) mem (read_hedge desk) (read_expr desk) ∙ sym (placed-next at _) ∙ ap (λ j. placed at (literal_on desk j (drop (at + 1) w))) (sym i) ∙ to-literal
 
-    pub literal-none : Among (0 ∷ 1 ∷ 2 ∷ 3 ∷ 4 ∷ 7 ∷ 8 ∷ 9 ∷ 10 ∷ 11 ∷ []) k → Stop at ≡ placed at (read_literal desk (drop at w))
+    pub literal-none : Among (0 ∷ 1 ∷ 2 ∷ 3 ∷ 4 ∷ 7 ∷ 8 ∷ 9 ∷ 10 ∷ 11 ∷ []) k → Err at ≡ placed at (read_literal desk (drop at w))
     literal-none o =
         let n = placed-none Literal at in
-        each-kind (0 ∷ 1 ∷ 2 ∷ 3 ∷ 4 ∷ 7 ∷ 8 ∷ 9 ∷ 10 ∷ 11 ∷ []) (λ k. Stop at ≡ placed at (literal_on desk k (drop (at + 1) w))) n (λ x. n) (λ p. n) (λ f. n) (λ X. n) tt tt n n n n n k o ∙ to-literal
+        each-kind (0 ∷ 1 ∷ 2 ∷ 3 ∷ 4 ∷ 7 ∷ 8 ∷ 9 ∷ 10 ∷ 11 ∷ []) (λ k. Err at ≡ placed at (literal_on desk k (drop (at + 1) w))) n (λ x. n) (λ p. n) (λ f. n) (λ X. n) tt tt n n n n n k o ∙ to-literal
 
   -- ---- a conjunction
 
-  pub literal-moves : (q : ℕ) → placed at (read_literal desk (drop at w)) ≡ Next q → at < q
+  pub literal-moves : (q : ℕ) → placed at (read_literal desk (drop at w)) ≡ Ok q → at < q
   unfolding placed
   literal-moves q e = on (read_literal desk (drop at w)) (right-literal desk (drop at w)) e
     where
-      on : (g : Got Literal) → Right (Is (literals desk)) (read_literal desk) (drop at w) g → placed at g ≡ Next q → at < q
+      on : (g : Got Literal) → Right (Is (literals desk)) (read_literal desk) (drop at w) g → placed at g ≡ Ok q → at < q
       on (got l k) i e = let z : at + k ≡ q = cc in omega (arith, literal-some desk (drop at w) l k i)
       on (stop k) i e = absurd (let z : ◌≡◌ {A = ℕ} 0 1 = cc in omega arith)
 
   pub conj-literal : at < length w → then_at (read_conj desk) w (placed at (read_literal desk (drop at w))) ≡ placed at (read_conj desk (drop at w))
   conj-literal p = both_at w at ◌∷◌ (read_literal desk) (read_conj desk) ∙ ap (placed at) (sym (ap (read_conj desk) (here w at p) ∙ read_conj-step desk _ ∙ ap (both ◌∷◌ (read_literal desk) (read_conj desk)) (sym (here w at p))))
 
-  pub conj-end : length w ≤ at → Next at ≡ placed at (read_conj desk (drop at w))
+  pub conj-end : length w ≤ at → Ok at ≡ placed at (read_conj desk (drop at w))
   unfolding placed
-  conj-end p = ap Next (omega arith) ∙ ap (placed at) (sym (read_conj-step desk [])) ∙ ap (λ l. placed at (read_conj desk l)) (sym (drop_of_length-le w p))
+  conj-end p = ap Ok (omega arith) ∙ ap (placed at) (sym (read_conj-step desk [])) ∙ ap (λ l. placed at (read_conj desk l)) (sym (drop_of_length-le w p))

@@ -11,46 +11,50 @@ use Rattle.language.specs.declared.Kind.{Kind}
 use Rattle.language.specs.Limits.{desk}
 use Rattle.language.specs.Kinds.{kind_of}
 use Rattle.language.specs.Reading.{Got, got, stop, after, then, both, next, Reader}
-use Rattle.trees.specs.declared.Read.{Read}
-use Rattle.trees.specs.declared.Read.TheVariants.{Next, Stop}
+use Rattle.std.specs.Prelude.{Result, Ok, Err, IsErrAnd}
+use Rattle.std.proofs.lemmas.Result.{err_from_is_err_and}
 use Rattle.trees.specs.Places.{placed}
 
 -- n words, and then what was read
 pub placed-after : {A B : Type 0} (at n : ℕ) (f : A → B) (g : Got A) → placed at (after n f g) ≡ placed (at + n) g
 unfolding placed
-placed-after at n f (got a k) = ap Next (sym (add_assoc at n k))
-placed-after at n f (stop k) = ap Stop (sym (add_assoc at n k))
+placed-after at n f (got a k) = ap Ok (sym (add_assoc at n k))
+placed-after at n f (stop k) = ap Err (sym (add_assoc at n k))
 
 pub placed-next : {A : Type 0} (at : ℕ) (g : Got A) → placed at (next g) ≡ placed (at + 1) g
 unfolding placed
-placed-next at (got a k) = ap Next (sym (add_assoc at 1 k))
-placed-next at (stop k) = ap Stop (sym (add_assoc at 1 k))
+placed-next at (got a k) = ap Ok (sym (add_assoc at 1 k))
+placed-next at (stop k) = ap Err (sym (add_assoc at 1 k))
 
 -- nothing was read
-pub placed-none : (A : Type 0) (at : ℕ) → Stop at ≡ placed {A = A} at (stop 0)
+pub placed-none : (A : Type 0) (at : ℕ) → Err at ≡ placed {A = A} at (stop 0)
 unfolding placed
-placed-none A at = ap Stop (omega arith)
+placed-none A at = ap Err (omega arith)
 
 -- what is read after a first, by where that ended
-abbrev pub then_at : {A : Type 0} → Reader A → List ℕ → Read → Read
-then_at s w (Next q) = placed q (s (drop q w))
-then_at s w (Stop q) = Stop q
+abbrev pub then_at : {A : Type 0} → Reader A → List ℕ → Result ℕ ℕ → Result ℕ ℕ
+then_at s w (Ok q) = placed q (s (drop q w))
+then_at s w (Err q) = Err q
 
-pub goes_on : {A : Type 0} (s : Reader A) (w : List ℕ) (r : Read) (q : ℕ) → r ≡ Next q → placed q (s (drop q w)) ≡ then_at s w r
+pub goes_on : {A : Type 0} (s : Reader A) (w : List ℕ) (r : Result ℕ ℕ) (q : ℕ) → r ≡ Ok q → placed q (s (drop q w)) ≡ then_at s w r
 goes_on s w r q e = ap (then_at s w) (sym e)
 
-pub halts : {A : Type 0} (s : Reader A) (w : List ℕ) (r : Read) (q : ℕ) → r ≡ Stop q → Stop q ≡ then_at s w r
+pub halts : {A : Type 0} (s : Reader A) (w : List ℕ) (r : Result ℕ ℕ) (q : ℕ) → r ≡ Err q → Err q ≡ then_at s w r
 halts s w r q e = ap (then_at s w) (sym e)
 
+-- what `?` hands on is where the reader before it stopped
+pub handed : (r : Result ℕ ℕ) (q : ℕ) → IsErrAnd r (λ p. p ≡ q) → r ≡ Err q
+handed r q a = let e = err_from_is_err_and r a in e.1 ∙ ap Err e.2
+
 -- what was read ends at its place or after it
-pub moves : {A : Type 0} (at : ℕ) (g : Got A) (q : ℕ) → placed at g ≡ Next q → at ≤ q
+pub moves : {A : Type 0} (at : ℕ) (g : Got A) (q : ℕ) → placed at g ≡ Ok q → at ≤ q
 unfolding placed
 moves at (got a k) q e = let z : at + k ≡ q = cc in omega arith
 moves at (stop k) q e = absurd (let z : ◌≡◌ {A = ℕ} 0 1 = cc in omega arith)
 
 module _ (w : List ℕ) (at : ℕ) where
   -- past the last word
-  pub past : {A : Type 0} (r : Reader A) → r [] ≡ stop 0 → length w ≤ at → Stop at ≡ placed at (r (drop at w))
+  pub past : {A : Type 0} (r : Reader A) → r [] ≡ stop 0 → length w ≤ at → Err at ≡ placed at (r (drop at w))
   past {A} r e p = placed-none A at ∙ ap (placed at) (sym e) ∙ ap (λ l. placed at (r l)) (sym (drop_of_length-le w p))
 
   -- two in a row

@@ -14,8 +14,7 @@ use Rattle.language.specs.Numbers.{number_of, place_of}
 use Rattle.language.specs.Question.{refuses, asked_place, read_question}
 use Rattle.language.specs.Mistakes.{RightPlace}
 use Rattle.language.proofs.Mistakes.{place-right}
-use Rattle.outcomes.specs.declared.Checked.{Checked}
-use Rattle.outcomes.specs.declared.Checked.TheVariants.{Fine, Refused}
+use Rattle.std.specs.Prelude.{Result, Ok, Err}
 use Rattle.outcomes.specs.Numbers.{checked_numbers}
 use Rattle.reader.specs.Checking.{asked_numbers}
 use Rattle.reader.proofs.Answers.{as-checked, question-asked, question-refused}
@@ -40,15 +39,15 @@ fitting-short n ws = on (leb (length ws) n) refl
     on true e = leb-true (length ws) n e
     on false e = omega arith
 
-module _ (q ws : List ℕ) (lent : ws ≡ fitting desk.question (words_in q)) (c : Checked) (read : checked_numbers c ≡ asked_numbers (read_question desk ws)) where
+module _ (q ws : List ℕ) (lent : ws ≡ fitting desk.question (words_in q)) (c : Result (Unit {0}) Refusal) (read : checked_numbers c ≡ asked_numbers (read_question desk ws)) where
   same : read_question desk ws ≡ read_question desk (words_in q)
   same = ap (read_question desk) lent ∙ fitting-question (words_in q)
 
-  pub no-mistake : c ≡ Fine → 0 ≡ place_bytes desk q
+  pub no-mistake : c ≡ Ok tt → 0 ≡ place_bytes desk q
   unfolding place_bytes
   no-mistake f = let (a, i) = question-asked ws (sym f ∙ as-checked c _ read) in sym (ap asked_place (sym same ∙ i))
 
-  module _ {r : Refusal} (f : c ≡ Refused r) where
+  module _ {r : Refusal} (f : c ≡ Err r) where
     refused : read_question desk ws ≡ refuses r
     refused = question-refused ws r (sym f ∙ as-checked c _ read)
 

@@ -8,7 +8,7 @@ ghost use Rattle.try_host.specs.Host.{trying_bytes, TryNumber, place_bytes};
 
 use handing::told;
 use language::limits::{FILLING, QUESTION, ROOM};
-use outcomes::{Checked, tried_number, tried_value};
+use outcomes::{tried_number, tried_value};
 use refusals::place;
 use word_bytes::take_words;
 
@@ -32,7 +32,8 @@ pub fn desk_place(question: &[u8]) -> u32
     let mut words = [0u16; QUESTION];
     let n = take_words(question, &mut words);
     match reader::read_question(&words[..n]) {
-        Checked::Fine => 0,
-        Checked::Refused(r) => place(r) as u32,
+        Ok(()) => 0,
+        // kept: the cast is proved to keep the number, and `u32::try_from(..).unwrap()` would say no more
+        Err(r) => place(r) as u32,
     }
 }

@@ -21,8 +21,7 @@ use Rattle.language.proofs.Undeclared.{literal-declared}
 use Rattle.meaning.specs.Complete.{complete_words}
 use Rattle.meaning.specs.Meaning.{Filling, fill}
 use Rattle.rules.specs.Calls.{filled_size}
-use Rattle.trees.specs.declared.Read.{Read}
-use Rattle.trees.specs.declared.Read.TheVariants.{Next, Stop}
+use Rattle.std.specs.Prelude.{Result, Ok, Err}
 use Rattle.trees.specs.Places.{placed}
 use Rattle.filling.specs.Showing.{filled, Shows}
 use Rattle.filling.proofs.Values.{declared-shows}
@@ -34,15 +33,15 @@ use Rattle.trying.proofs.Parts.{becomes}
 -- ---- where a literal ends
 
 module _ (ws : List ℕ) (at : ℕ) where
-  ends : (l : Literal) (k : Conj) → fine_literal desk l → drop at ws ≡ literal_words l ++ conj_words k → placed at (read_literal desk (drop at ws)) ≡ Next (at + length (literal_words l))
+  ends : (l : Literal) (k : Conj) → fine_literal desk l → drop at ws ≡ literal_words l ++ conj_words k → placed at (read_literal desk (drop at ws)) ≡ Ok (at + length (literal_words l))
   unfolding placed
   ends l k f e = ap (λ l. placed at (read_literal desk l)) e ∙ ap (placed at) ((literals-read desk).read_back l (conj_words k) f)
 
-  pub literal-next : {r : Read} {q : ℕ} → r ≡ placed at (read_literal desk (drop at ws)) → r ≡ Next q → LiteralEnd ws at q
-  literal-next {r} {q} p e = record { each = λ l k f w. let z : Next q ≡ Next (at + length (literal_words l)) = sym e ∙ p ∙ ends l k f w in cc }
+  pub literal-next : {r : Result ℕ ℕ} {q : ℕ} → r ≡ placed at (read_literal desk (drop at ws)) → r ≡ Ok q → LiteralEnd ws at q
+  literal-next {r} {q} p e = record { each = λ l k f w. let z : Ok q ≡ Ok (at + length (literal_words l)) = sym e ∙ p ∙ ends l k f w in cc }
 
-  pub literal-stop : {r : Read} {q : ℕ} → r ≡ placed at (read_literal desk (drop at ws)) → r ≡ Stop q → LiteralEnd ws at q
-  literal-stop {r} {q} p e = record { each = λ l k f w. absurd (let x : Stop q ≡ Next (at + length (literal_words l)) = sym e ∙ p ∙ ends l k f w in let z : ◌≡◌ {A = ℕ} 0 1 = cc in omega arith) }
+  pub literal-stop : {r : Result ℕ ℕ} {q : ℕ} → r ≡ placed at (read_literal desk (drop at ws)) → r ≡ Err q → LiteralEnd ws at q
+  literal-stop {r} {q} p e = record { each = λ l k f w. absurd (let x : Err q ≡ Ok (at + length (literal_words l)) = sym e ∙ p ∙ ends l k f w in let z : ◌≡◌ {A = ℕ} 0 1 = cc in omega arith) }
 
 -- ---- the next literal
 

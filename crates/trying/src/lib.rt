@@ -11,10 +11,8 @@ ghost use Rattle.trying.specs.Outcome.{ToldOutcome, TriedGiven, TriedAsked};
 
 use header::Header;
 use language::limits::{LITERAL, ROOM};
-use language::{Refusal, Signature, wide};
-use outcomes::{Checked, Tried};
+use language::{Refusal, Signature};
 use slices::clear;
-use trees::Read;
 
 // ---- A literal.
 
@@ -23,8 +21,8 @@ fn first_end(literal: &[u16]) -> usize
     ensures { FirstEnd literal.now result }
 {
     match trees::read_hedge(literal, 1) {
-        Read::Next(end) => end,
-        Read::Stop(place) => place,
+        Ok(end) => end,
+        Err(place) => place,
     }
 }
 
@@ -78,8 +76,8 @@ fn meets_literal<'a>(h: Header, filling: &'a [u16], literal: &'a [u16], work: &m
     requires room_in_bounds { desk.room ≤ length work.old }
     ensures { LiteralMet (counts_in h) filling.now literal.now work.old work.new result }
 {
-    let terms = wide(h.terms);
-    let hedges = wide(h.hedges);
+    let terms = usize::from(h.terms);
+    let hedges = usize::from(h.hedges);
     let s = Signature {
         symbols: h.symbols,
         unordered: h.unordered,
@@ -115,8 +113,8 @@ fn literal_end(conj: &[u16], at: usize) -> usize
     ensures { LiteralEnd conj.now at result }
 {
     match trees::read_literal(conj, at) {
-        Read::Next(end) => end,
-        Read::Stop(place) => place,
+        Ok(end) => end,
+        Err(place) => place,
     }
 }
 
@@ -128,8 +126,8 @@ fn too_long<'a>(h: Header, filling: &'a [u16], conj: &'a [u16]) -> bool
     let mut i: usize = 0;
     while i < conj.len() {
         let end = literal_end(conj, i);
-        let terms = wide(h.terms);
-        let hedges = wide(h.hedges);
+        let terms = usize::from(h.terms);
+        let hedges = usize::from(h.hedges);
         if LITERAL < filling::filled_len(filling, &conj[i..end], terms, hedges) {
             return true;
         }
@@ -162,15 +160,13 @@ fn any_too_long<'a>(h: Header, filling: &'a [u16], question: &'a [u16]) -> bool
     requires { SomeQuestion h filling.now question.now }
     ensures { QuestionTooLong h filling.now question.now result }
 {
-    let n = wide(h.alternatives);
-    let mut i: usize = 0;
-    while i < n {
-        let from = wide(question[5 + i]);
-        let to = wide(question[6 + i]);
+    let n = usize::from(h.alternatives);
+    for i in 0..n {
+        let from = usize::from(question[5 + i]);
+        let to = usize::from(question[6 + i]);
         if too_long(h, filling, &question[from..to]) {
             return true;
         }
-        i += 1;
     }
     false
 }
@@ -181,15 +177,13 @@ fn meets_one<'a>(h: Header, filling: &'a [u16], question: &'a [u16], work: &mut 
     requires room_in_bounds { desk.room ≤ length work.old }
     ensures { QuestionMet h filling.now question.now work.old work.new result }
 {
-    let n = wide(h.alternatives);
-    let mut i: usize = 0;
-    while i < n {
-        let from = wide(question[5 + i]);
-        let to = wide(question[6 + i]);
+    let n = usize::from(h.alternatives);
+    for i in 0..n {
+        let from = usize::from(question[5 + i]);
+        let to = usize::from(question[6 + i]);
         if meets_all(h, filling, &question[from..to], work) {
             return true;
         }
-        i += 1;
     }
     false
 }
@@ -197,45 +191,56 @@ fn meets_one<'a>(h: Header, filling: &'a [u16], question: &'a [u16], work: &mut 
 // ---- The call.
 
 // For a question and a filling that are not refused: 13, or the answer.
-fn try_given<'a>(h: Header, question: &'a [u16], filling: &'a [u16], work: &mut [u16]) -> Tried
+fn try_given<'a>(
+    h: Header,
+    question: &'a [u16],
+    filling: &'a [u16],
+    work: &mut [u16],
+) -> Result<bool, Refusal>
     requires some_question { SomeQuestion h filling.now question.now }
     requires room_in_bounds { desk.room ≤ length work.old }
     ensures { TriedGiven h filling.now question.now result work.old work.new }
 {
     if any_too_long(h, filling, question) {
         clear(work);
-        return Tried::Refused(Refusal::LongLiteral);
+        return Err(Refusal::LongLiteral);
     }
     let met = meets_one(h, filling, question, work);
     clear(work);
-    if met {
-        return Tried::Yes;
-    }
-    Tried::No
+    Ok(met)
 }
 
 // For a question that is not refused: 11 and 12 come next.
-fn try_asked<'a>(h: Header, question: &'a [u16], filling: &'a [u16], work: &mut [u16]) -> Tried
+fn try_asked<'a>(
+    h: Header,
+    question: &'a [u16],
+    filling: &'a [u16],
+    work: &mut [u16],
+) -> Result<bool, Refusal>
     requires asked_question { AskedQuestion h question.now }
     requires room_in_bounds { desk.room ≤ length work.old }
     ensures { TriedAsked h filling.now question.now result work.old work.new }
 {
     match given::read_filling(h, filling) {
-        Checked::Refused(refusal) => Tried::Refused(refusal),
-        Checked::Fine => try_given(h, question, filling, work),
+        Err(refusal) => Err(refusal),
+        Ok(()) => try_given(h, question, filling, work),
     }
 }
 
 // Whether the filling meets the question; or 1 to 6, 11, 12 with the work slice as it was; or 13. Else it is left with zeros.
-pub fn try_filling<'a>(question: &'a [u16], filling: &'a [u16], work: &mut [u16]) -> Tried
+pub fn try_filling<'a>(
+    question: &'a [u16],
+    filling: &'a [u16],
+    work: &mut [u16],
+) -> Result<bool, Refusal>
     ensures { ToldOutcome (trying desk (length work.old) question.now filling.now) result work.old work.new }
 {
     if work.len() < ROOM {
-        return Tried::Refused(Refusal::ShortSlice);
+        return Err(Refusal::ShortSlice);
     }
     match reader::read_question(question) {
-        Checked::Refused(mistake) => Tried::Refused(mistake),
-        Checked::Fine => {
+        Err(mistake) => Err(mistake),
+        Ok(()) => {
             let h = header::read_header(question);
             try_asked(h, question, filling, work)
         }

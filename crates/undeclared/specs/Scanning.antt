@@ -1,13 +1,11 @@
 -- Where the first undeclared number stands.
-use Rattle.std.specs.Prelude.{ℕ, ◌+◌, List, [], ◌∷◌}
+use Rattle.std.specs.Prelude.{ℕ, ◌+◌, List, [], ◌∷◌, Option, Some, None}
 use Rattle.language.specs.Limits.{Limits}
 use Rattle.language.specs.Kinds.{pick}
 use Rattle.language.specs.Trees.{Counts}
 use Rattle.language.specs.Undeclared.{declared_word}
-use Rattle.undeclared.specs.declared.Scan.{Scan}
-use Rattle.undeclared.specs.declared.Scan.TheVariants.{Declared, Undeclared}
 
 -- in words that stand from `at` on
-unfoldable pub first_undeclared : Limits → Counts → ℕ → List ℕ → Scan
-first_undeclared L n at [] = Declared
-first_undeclared L n at (w ∷ ws) = pick (declared_word L n w) (first_undeclared L n (at + 1) ws) (Undeclared at)
+unfoldable pub first_undeclared : Limits → Counts → ℕ → List ℕ → Option ℕ
+first_undeclared L n at [] = None
+first_undeclared L n at (w ∷ ws) = pick (declared_word L n w) (first_undeclared L n (at + 1) ws) (Some at)

@@ -23,22 +23,14 @@ fn is_declared(h: Header, word: u16) -> bool
     }
 }
 
-// The place of the first undeclared number.
-#[derive(Clone, Copy)]
-pub enum Scan {
-    Declared,
-    Undeclared(usize),
-}
-
-pub fn find_undeclared(h: Header, w: &[u16], from: usize) -> Scan
+// The place of the first undeclared number from a place on, if there is one.
+pub fn find_undeclared(h: Header, w: &[u16], from: usize) -> Option<usize>
     ensures { result ≡ first_undeclared desk (counts_in h) from (drop from w.now) }
 {
-    let mut i = from;
-    while i < w.len() {
+    for i in from..w.len() {
         if !is_declared(h, w[i]) {
-            return Scan::Undeclared(i);
+            return Some(i);
         }
-        i += 1;
     }
-    Scan::Declared
+    None
 }

@@ -5,6 +5,8 @@ use mathlib.Core.Bool.{Bool, true, false, not, ◌||◌}
 use mathlib.Core.List.{List, [], ◌++◌}
 use mathlib.Core.Option.{Option, none, some}
 use native.Mathlib.Omega.{arith}
+use Rattle.std.specs.Prelude.{Some, None}
+use Rattle.std.specs.Prelude as std
 use lib.Dec.{eqb}
 use lib.ListN.{length, get_or, length-drop}
 use borrow.Author.Tests.{eq-eqb, ne_eqb}
@@ -24,10 +26,7 @@ use Rattle.words.proofs.Parts.{word-of}
 use Rattle.values.specs.Lines.{Named, Word, Held, held, unheld}
 use Rattle.values.specs.Binding.{sole_word, BoundBy, to, free}
 use Rattle.values.specs.declared.Variable.{Variable}
-use Rattle.values.specs.declared.bindings.Place.{Place}
-use Rattle.values.specs.declared.bindings.Place.TheVariants.{At, Nowhere}
-use Rattle.values.specs.declared.bindings.Bound.{Bound}
-use Rattle.values.specs.declared.bindings.Bound.TheVariants.{To, Free}
+use Rattle.values.specs.declared.bindings.Part.{Part}
 use Rattle.values.proofs.Walks.{literal-here}
 use Rattle.alone.proofs.Sides.{side-fine, word_some}
 
@@ -70,13 +69,13 @@ module _ {k : List ℕ} {u : View} {before behind : Conj} {l r : Hedge} {v : Var
   on-left : binds v (alone (before ++ behind) r (variable l r)) ≡ given (eqb y x) r
   on-left = sole (before ++ behind) r (variable l r) (side-fine l r s.left.fine) v x y w e
 
-  pub bound-left : y ≡ x → BoundBy k (binds v (solves (before ++ behind) (eqn l r))) (To u.r.from u.r.to)
+  pub bound-left : y ≡ x → BoundBy k (binds v (solves (before ++ behind) (eqn l r))) (Some (record { from = u.r.from; to = u.r.to }))
   bound-left z =
       to r s.right.beyond
       (ap (binds v) (first (alone (before ++ behind) r (variable l r)) _ (λ n. word_some v (sym w.is ∙ sym z ∙ e ∙ n))) ∙ on-left ∙ ap (λ b. given b r) (eq-eqb y x z))
       (side-stands s.right) s.right.to
 
-  pub free-left : (y ≡ x → ⊥) → (y ≡ 0 → ⊥) → BoundBy k (binds v (solves (before ++ behind) (eqn l r))) Free
+  pub free-left : (y ≡ x → ⊥) → (y ≡ 0 → ⊥) → BoundBy k (binds v (solves (before ++ behind) (eqn l r))) None
   free-left z n =
       free (ap (binds v) (first (alone (before ++ behind) r (variable l r)) _ (λ q. n (e ∙ q))) ∙ on-left ∙ ap (λ b. given b r) (ne_eqb y x z))
 
@@ -86,10 +85,10 @@ module _ {k : List ℕ} {u : View} {before behind : Conj} {l r : Hedge} {v : Var
         ap (binds v) (second (alone (before ++ behind) r (variable l r)) _ (sym e ∙ n))
         ∙ sole (before ++ behind) l (variable r l) (side-fine r l s.right.fine) v x z w d
 
-    pub bound-right : z ≡ x → BoundBy k (binds v (solves (before ++ behind) (eqn l r))) (To t.r.from t.r.to)
+    pub bound-right : z ≡ x → BoundBy k (binds v (solves (before ++ behind) (eqn l r))) (Some (record { from = t.r.from; to = t.r.to }))
     bound-right i = to l q.right.beyond (on-right ∙ ap (λ b. given b l) (eq-eqb z x i)) (side-stands q.right) q.right.to
 
-    pub free-right : (z ≡ x → ⊥) → BoundBy k (binds v (solves (before ++ behind) (eqn l r))) Free
+    pub free-right : (z ≡ x → ⊥) → BoundBy k (binds v (solves (before ++ behind) (eqn l r))) None
     free-right i = free (on-right ∙ ap (λ b. given b l) (ne_eqb z x i))
 
 -- ---- the literal
@@ -113,31 +112,31 @@ module _ {k : List ℕ} {at : ℕ} {before behind : Conj} where
   inside (eqn l r) a = omega (arith, length-drop at k, ap length (literal-here a))
   inside (mem h R) a = omega (arith, length-drop at k, ap length (literal-here a))
 
-  pub bound-past : {b : Bound} {l : Literal} (v : Var) → length k ≤ at → LiteralAt k at before l behind → BoundBy k (binds v (solves (before ++ behind) l)) b
+  pub bound-past : {b : std.Option Part} {l : Literal} (v : Var) → length k ≤ at → LiteralAt k at before l behind → BoundBy k (binds v (solves (before ++ behind) l)) b
   bound-past {b} {l} v i a = absurd (let n = inside l a in omega arith)
 
-  pub free_other : (l : Literal) (v : Var) → LiteralAt k at before l behind → (get_or k at 0 ≡ 5000 → ⊥) → BoundBy k (binds v (solves (before ++ behind) l)) Free
+  pub free_other : (l : Literal) (v : Var) → LiteralAt k at before l behind → (get_or k at 0 ≡ 5000 → ⊥) → BoundBy k (binds v (solves (before ++ behind) l)) None
   free_other (eqn l r) v a n = absurd (n (starts a))
   free_other (mem h R) v a n = free refl
 
   module _ (v : Var) {x : ℕ} {u : View} {y : ℕ} (z : get_or k at 0 ≡ 5000) (s : Seen k at u) (e : Solves k u y) where
-    pub in_left : (l : Literal) → LiteralAt k at before l behind → Word v x → y ≡ x → BoundBy k (binds v (solves (before ++ behind) l)) (To u.r.from u.r.to)
+    pub in_left : (l : Literal) → LiteralAt k at before l behind → Word v x → y ≡ x → BoundBy k (binds v (solves (before ++ behind) l)) (Some (record { from = u.r.from; to = u.r.to }))
     in_left (eqn l r) a w i = let q = s before l r behind a in bound-left q w (e before l r behind q) i
     in_left (mem h R) a w i = absurd (let g = starts a in omega arith)
 
-    pub not_left : (l : Literal) → LiteralAt k at before l behind → Word v x → (y ≡ x → ⊥) → (y ≡ 0 → ⊥) → BoundBy k (binds v (solves (before ++ behind) l)) Free
+    pub not_left : (l : Literal) → LiteralAt k at before l behind → Word v x → (y ≡ x → ⊥) → (y ≡ 0 → ⊥) → BoundBy k (binds v (solves (before ++ behind) l)) None
     not_left (eqn l r) a w i n = let q = s before l r behind a in free-left q w (e before l r behind q) i n
     not_left (mem h R) a w i n = free refl
 
     module _ {t : View} {c : ℕ} (n : y ≡ 0) (p : Swaps u t) (d : Solves k t c) where
-      pub in_right : (l : Literal) → LiteralAt k at before l behind → Word v x → c ≡ x → BoundBy k (binds v (solves (before ++ behind) l)) (To t.r.from t.r.to)
+      pub in_right : (l : Literal) → LiteralAt k at before l behind → Word v x → c ≡ x → BoundBy k (binds v (solves (before ++ behind) l)) (Some (record { from = t.r.from; to = t.r.to }))
       in_right (eqn l r) a w i =
           let q = s before l r behind a in
           let o = p k before behind l r q in
           bound-right q w (e before l r behind q) o n (d before r l behind o) i
       in_right (mem h R) a w i = absurd (let g = starts a in omega arith)
 
-      pub not_right : (l : Literal) → LiteralAt k at before l behind → Word v x → (c ≡ x → ⊥) → BoundBy k (binds v (solves (before ++ behind) l)) Free
+      pub not_right : (l : Literal) → LiteralAt k at before l behind → Word v x → (c ≡ x → ⊥) → BoundBy k (binds v (solves (before ++ behind) l)) None
       not_right (eqn l r) a w i =
           let q = s before l r behind a in
           let o = p k before behind l r q in
@@ -146,7 +145,7 @@ module _ {k : List ℕ} {at : ℕ} {before behind : Conj} where
 
 -- ---- the line
 
-pub bound-held : {k : List ℕ} {c : Conj} {v : Var} {x : Variable} {at : ℕ} {p : Place} {b : Bound} → Named v x → Held k c v p → p ≡ At at
+pub bound-held : {k : List ℕ} {c : Conj} {v : Var} {x : Variable} {at : ℕ} {p : std.Option ℕ} {b : std.Option Part} → Named v x → Held k c v p → p ≡ Some at
     → ((before : Conj) (l : Literal) (behind : Conj) (u : Var) → LiteralAt k at before l behind → Named u x → BoundBy k (binds u (solves (before ++ behind) l)) b) → BoundBy k (bound v [] c) b
 bound-held {k} {c} {v} {x} {at} {p} {b} w (held {at = i} before l behind a e) d g =
     let z : i ≡ at = cc in
@@ -154,6 +153,6 @@ bound-held {k} {c} {v} {x} {at} {p} {b} w (held {at = i} before l behind a e) d 
     rw e (g before l behind v q w)
 bound-held w (unheld e) d g = let z : ◌≡◌ {A = ℕ} 0 1 = cc in absurd (omega arith)
 
-pub bound-nowhere : {k : List ℕ} {c : Conj} {v : Var} {p : Place} → Held k c v p → p ≡ Nowhere → BoundBy k (bound v [] c) Free
+pub bound-nowhere : {k : List ℕ} {c : Conj} {v : Var} {p : std.Option ℕ} → Held k c v p → p ≡ None → BoundBy k (bound v [] c) None
 bound-nowhere (held before l behind a e) d = let z : ◌≡◌ {A = ℕ} 0 1 = cc in absurd (omega arith)
 bound-nowhere (unheld e) d = free e

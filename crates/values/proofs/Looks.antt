@@ -11,7 +11,8 @@ use Rattle.views.specs.Looks.{look_of}
 use Rattle.views.specs.Views.{Sees}
 use Rattle.views.specs.declared.View.{View}
 use Rattle.views.specs.Variables.{variable_word}
-use Rattle.alone.specs.declared.Lone.{Lone}
+use Rattle.std.specs.Prelude as prelude
+use Rattle.alone.specs.declared.Variable.{Variable}
 use Rattle.alone.specs.Lone.{lone_word, word_of, side_variable}
 use Rattle.alone.proofs.Sides.{word-lone, side-look}
 use Rattle.values.specs.Binding.{sole_word}
@@ -30,7 +31,7 @@ no_word (some b) e = absurd (let z : ◌≡◌ {A = ℕ} 0 1 = cc in omega arith
 
 module _ {k : List ℕ} {u : View} {before behind : Conj} {l r : Hedge} {t : Bool} (s : Sees k u before l r behind)
     (e : t ≡ is_some (alone (before ++ behind) r (variable l r))) where
-  pub solved-word : {x : Lone} {y : ℕ} → t ≡ true → x ≡ side_variable u.l.look u.r.look → y ≡ lone_word x → y ≡ sole_word (alone (before ++ behind) r (variable l r))
+  pub solved-word : {x : prelude.Option Variable} {y : ℕ} → t ≡ true → x ≡ side_variable u.l.look u.r.look → y ≡ lone_word x → y ≡ sole_word (alone (before ++ behind) r (variable l r))
   solved-word z d f =
       f ∙ ap lone_word (d ∙ ap (λ a. side_variable a u.r.look) s.left.look ∙ ap (side_variable (look_of l)) s.right.look ∙ side-look l r) ∙ word-lone (variable l r)
       ∙ sole-word (before ++ behind) r (variable l r) (sym e ∙ z)

@@ -6,6 +6,7 @@ use mathlib.Core.List.{List, [], ◌∷◌, ◌++◌, append_assoc}
 use mathlib.Core.Option.{some}
 use native.Mathlib.Omega.{arith}
 use lib.ListN.{length, drop, get_or}
+use Rattle.std.specs.Prelude.{Some, None}
 use lib.Seq.{slice}
 use Rattle.language.specs.Kinds.{pick}
 use Rattle.language.specs.Trees.{Hedge, Expr, Literal, eqn, mem, Conj, Var, holds, in_literal}
@@ -23,7 +24,6 @@ use Rattle.views.specs.Standing.{Stands, LiteralAt}
 use Rattle.words.proofs.Parts.{part_of, drop_of, word-of}
 use Rattle.views.proofs.Members.{member-hedge, member-literal}
 use Rattle.values.specs.Lines.{var_of, Named, Line, Word, Told, Expressed, expressed, unexpressed, Held, held, unheld, Walk}
-use Rattle.values.specs.declared.bindings.Place.TheVariants.{At, Nowhere}
 use Rattle.values.proofs.Walks.{literal-here, literal-ends, walk-literal, walk-next, walk_end}
 
 -- ---- at one literal
@@ -102,7 +102,7 @@ abbrev pub Binding : Conj → Var → Conj → Conj → Type 0
 Binding c v before behind = bound v [] c ≡ bound v before behind
 
 module _ {k : List ℕ} {at : ℕ} {c : Conj} {v : Var} {x : ℕ} (s : Line k c) (w : Word v x) where
-  pub expressed-here : {e : ℕ} → Walk k at c (Seeking c v) → at < length k → ShownAt k at v e → (e ≡ 0 → ⊥) → Expressed k c v (At e)
+  pub expressed-here : {e : ℕ} → Walk k at c (Seeking c v) → at < length k → ShownAt k at v e → (e ≡ 0 → ⊥) → Expressed k c v (Some e)
   expressed-here {e} t i g n = walk-literal s t i (λ before l behind a p.
       let f = (g before l behind a).there n in
       expressed (record { R = f.R; beyond = f.beyond; is = p ∙ f.is; here = f.here }))
@@ -110,10 +110,10 @@ module _ {k : List ℕ} {at : ℕ} {c : Conj} {v : Var} {x : ℕ} (s : Line k c)
   pub seeking-on : {e next : ℕ} → Walk k at c (Seeking c v) → at < length k → ShownAt k at v e → e ≡ 0 → next ≡ at + 1 + until_literal (drop (at + 1) k) → Walk k next c (Seeking c v)
   seeking-on {e} {next} t i g z n = walk-next s t i n (λ before l behind a p. p ∙ (g before l behind a).missing z)
 
-  pub expressed-nowhere : Walk k at c (Seeking c v) → length k ≤ at → Expressed k c v Nowhere
+  pub expressed-nowhere : Walk k at c (Seeking c v) → length k ≤ at → Expressed k c v None
   expressed-nowhere t i = walk_end s t i (λ before p. unexpressed p)
 
-  pub held-here : {next : ℕ} {b : Bool} → Walk k at c (Binding c v) → at < length k → next ≡ at + 1 + until_literal (drop (at + 1) k) → b ≡ member x (slice at next k) → b ≡ true → Held k c v (At at)
+  pub held-here : {next : ℕ} {b : Bool} → Walk k at c (Binding c v) → at < length k → next ≡ at + 1 + until_literal (drop (at + 1) k) → b ≡ member x (slice at next k) → b ≡ true → Held k c v (Some at)
   held-here {next} t i n q m = walk-literal s t i (λ before l behind a p.
       held before l behind a (p ∙ ap (λ b. pick b (binds v (solves (before ++ behind) l)) (bound v (before ++ (l ∷ [])) behind)) (sym (in-literal w a n) ∙ sym q ∙ m)))
 
@@ -121,5 +121,5 @@ module _ {k : List ℕ} {at : ℕ} {c : Conj} {v : Var} {x : ℕ} (s : Line k c)
   binding-on {next} t i n q m = walk-next s t i n (λ before l behind a p.
       p ∙ ap (λ b. pick b (binds v (solves (before ++ behind) l)) (bound v (before ++ (l ∷ [])) behind)) (sym (in-literal w a n) ∙ sym q ∙ m))
 
-  pub held-nowhere : Walk k at c (Binding c v) → length k ≤ at → Held k c v Nowhere
+  pub held-nowhere : Walk k at c (Binding c v) → length k ≤ at → Held k c v None
   held-nowhere t i = walk_end s t i (λ before p. unheld p)

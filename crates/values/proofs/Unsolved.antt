@@ -5,6 +5,8 @@ use mathlib.Core.Bool.{Bool, true, false}
 use mathlib.Core.List.{List, [], ◌∷◌}
 use mathlib.Core.Option.{none}
 use native.Mathlib.Omega.{arith}
+use Rattle.std.specs.Prelude.{Some, None}
+use Rattle.std.specs.Prelude as std
 use lib.ListN.{length}
 use Rattle.language.specs.declared.Sym.{Sym}
 use Rattle.language.specs.Trees.{Conj, Var, tv, hv, fv}
@@ -19,8 +21,6 @@ use Rattle.samples.proofs.Laid.{laid_none, laid-row, laid_as}
 use Rattle.samples.proofs.Standing.{body-here}
 use Rattle.values.specs.Lines.{var_of, Named, Line, Found, Expressed, expressed, unexpressed}
 use Rattle.values.specs.declared.Variable.{Variable}
-use Rattle.values.specs.declared.bindings.Place.{Place}
-use Rattle.values.specs.declared.bindings.Place.TheVariants.{At, Nowhere}
 use Rattle.values.specs.Spelling.{runs}
 use Rattle.values.specs.Values.{UnsolvedLength}
 
@@ -65,19 +65,19 @@ module _ {x : Variable} {b : Bool} (r : Runs x b) where
 -- ---- with an expression, and without
 
 -- what is told of a variable's expression
-abbrev pub Expresses : List ℕ → Variable → Place → Type 0
+abbrev pub Expresses : List ℕ → Variable → std.Option ℕ → Type 0
 Expresses k x p = (c : Conj) (v : Var) → Line k c → Named v x → Expressed k c v p
 
-found_at : {k : List ℕ} {c : Conj} {v : Var} {p : Place} {e : ℕ} → Expressed k c v p → p ≡ At e → Found k e (expression_of v c)
+found_at : {k : List ℕ} {c : Conj} {v : Var} {p : std.Option ℕ} {e : ℕ} → Expressed k c v p → p ≡ Some e → Found k e (expression_of v c)
 found_at {k} {c} {v} {p} {e} (expressed {e = i} f) d = let z : i ≡ e = cc in rw z at f
 found_at (unexpressed f) d = let z : ◌≡◌ {A = ℕ} 0 1 = cc in absurd (omega arith)
 
-not_found : {k : List ℕ} {c : Conj} {v : Var} {p : Place} → Expressed k c v p → p ≡ Nowhere → expression_of v c ≡ none
+not_found : {k : List ℕ} {c : Conj} {v : Var} {p : std.Option ℕ} → Expressed k c v p → p ≡ None → expression_of v c ≡ none
 not_found (expressed f) d = let z : ◌≡◌ {A = ℕ} 0 1 = cc in absurd (omega arith)
 not_found (unexpressed f) d = f
 
-module _ {k : List ℕ} {x : Variable} {p : Place} (t : Expresses k x p) where
-  module _ {e : ℕ} (d : p ≡ At e) where
+module _ {k : List ℕ} {x : Variable} {p : std.Option ℕ} (t : Expresses k x p) where
+  module _ {e : ℕ} (d : p ≡ Some e) where
     as-sample : (any : Sym) (c : Conj) (v : Var) (s : Line k c) (w : Named v x) → unsolved any c v ≡ sample (found_at (t c v s w) d).R
     as-sample any c v s w = ap (sampled any v) (found_at (t c v s w) d).is
 
@@ -90,7 +90,7 @@ module _ {k : List ℕ} {x : Variable} {p : Place} (t : Expresses k x p) where
     pub sample-laid : (any : Sym) {old new : List ℕ} {at : ℕ} {m : Wrote} → Written k e old at new m → (c : Conj) (v : Var) → Line k c → Named v x → Laid old at (body (unsolved any c v)) new m.to
     sample-laid any a c v s w = let f = found_at (t c v s w) d in laid_as (body-here f.here ∙ ap body (sym (as-sample any c v s w))) a.laid
 
-  module _ (d : p ≡ Nowhere) where
+  module _ (d : p ≡ None) where
     as-default : (any : Sym) (c : Conj) (v : Var) → Line k c → Named v x → unsolved any c v ≡ default any v
     as-default any c v s w = ap (sampled any v) (not_found (t c v s w) d)
 

@@ -1,5 +1,6 @@
 -- A line in words, and what is found in it of a variable.
-use Rattle.std.specs.Prelude.{ℕ, ◌+◌, ◌≡◌, List, [], ◌∷◌, ◌++◌, length}
+use Rattle.std.specs.Prelude.{ℕ, ◌+◌, ◌≡◌, List, [], ◌∷◌, ◌++◌, length, Some, None}
+use Rattle.std.specs.Prelude as std
 use Rattle.std.proofs.Math.Option.{Option, none, some}
 use Rattle.language.specs.Limits.{desk}
 use Rattle.language.specs.Trees.{Expr, Literal, Conj, Var, tv, hv, fv}
@@ -12,8 +13,6 @@ use Rattle.views.specs.Standing.{LiteralAt}
 use Rattle.expressions.specs.Standing.{Here}
 use Rattle.values.specs.declared.Variable.{Variable}
 use Rattle.values.specs.declared.Variable.TheVariants.{Term, Run, Function}
-use Rattle.values.specs.declared.bindings.Place.{Place}
-use Rattle.values.specs.declared.bindings.Place.TheVariants.{At, Nowhere}
 
 -- k are the words of c
 pub record Line (k : List ℕ) (c : Conj) : Type 0 where
@@ -49,14 +48,14 @@ pub record Told (k : List ℕ) (l : Literal) (behind : Conj) (v : Var) (r : ℕ)
   pub there : (r ≡ 0 → ⊥) → Found k r (expression_of v (l ∷ behind))
 
 -- the place of v's expression
-pub data Expressed (k : List ℕ) (c : Conj) (v : Var) : Place → Type 0 where
-  expressed : {e : ℕ} → Found k e (expression_of v c) → Expressed k c v (At e)
-  unexpressed : expression_of v c ≡ none → Expressed k c v Nowhere
+pub data Expressed (k : List ℕ) (c : Conj) (v : Var) : std.Option ℕ → Type 0 where
+  expressed : {e : ℕ} → Found k e (expression_of v c) → Expressed k c v (Some e)
+  unexpressed : expression_of v c ≡ none → Expressed k c v None
 
 -- the place of the first literal that holds v
-pub data Held (k : List ℕ) (c : Conj) (v : Var) : Place → Type 0 where
-  held : {at : ℕ} (before : Conj) (l : Literal) (behind : Conj) → LiteralAt k at before l behind → bound v [] c ≡ binds v (solves (before ++ behind) l) → Held k c v (At at)
-  unheld : bound v [] c ≡ none → Held k c v Nowhere
+pub data Held (k : List ℕ) (c : Conj) (v : Var) : std.Option ℕ → Type 0 where
+  held : {at : ℕ} (before : Conj) (l : Literal) (behind : Conj) → LiteralAt k at before l behind → bound v [] c ≡ binds v (solves (before ++ behind) l) → Held k c v (Some at)
+  unheld : bound v [] c ≡ none → Held k c v None
 
 -- a walk from literal to literal, come to `at`: c is what is passed and what is still to come, of which P holds
 pub record Walk (k : List ℕ) (at : ℕ) (c : Conj) (P : Conj → Conj → Type 0) : Type 0 where

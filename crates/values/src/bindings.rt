@@ -15,17 +15,11 @@ use language::{function_word, run_word, term_word};
 use views::{View, see, side_at, swapped};
 use words::{next_literal, stands};
 
+// The words from one place to another.
 #[derive(Clone, Copy)]
-pub enum Place {
-    At(usize),
-    Nowhere,
-}
-
-// What a variable is bound to: the part of a side, or nothing.
-#[derive(Clone, Copy)]
-pub enum Bound {
-    To(usize, usize),
-    Free,
+pub struct Part {
+    pub from: usize,
+    pub to: usize,
 }
 
 // The word of a variable.
@@ -58,33 +52,33 @@ fn expression_at(k: &[u16], at: usize, x: Variable) -> usize
 }
 
 // The place of the expression of the first membership that holds a variable.
-pub(crate) fn expression_of(k: &[u16], x: Variable) -> Place
+pub(crate) fn expression_of(k: &[u16], x: Variable) -> Option<usize>
     ensures { (c : Conj) (v : Var) → Line k.now c → Named v x → Expressed k.now c v result }
 {
     let mut at = 0;
     while at < k.len() {
         let e = expression_at(k, at, x);
         if e != 0 {
-            return Place::At(e);
+            return Some(e);
         }
         at = next_literal(k, at);
     }
-    Place::Nowhere
+    None
 }
 
 // The place of the first literal that holds a variable.
-fn holder(k: &[u16], x: Variable) -> Place
+fn holder(k: &[u16], x: Variable) -> Option<usize>
     ensures { (c : Conj) (v : Var) → Line k.now c → Named v x → Held k.now c v result }
 {
     let mut at = 0;
     while at < k.len() {
         let next = next_literal(k, at);
         if stands(k, at, next, word_of(x)) {
-            return Place::At(at);
+            return Some(at);
         }
         at = next;
     }
-    Place::Nowhere
+    None
 }
 
 // ---- what a variable is bound to
@@ -103,42 +97,48 @@ fn solved_side(k: &[u16], v: View) -> usize
     0
 }
 
-// What the literal at a place binds a variable to.
-fn bound_in(k: &[u16], at: usize, x: Variable) -> Bound
+// The part that the literal at a place binds a variable to.
+fn bound_in(k: &[u16], at: usize, x: Variable) -> Option<Part>
     ensures { (before : Conj) (l : Literal) (behind : Conj) (v : Var) → LiteralAt k.now at before l behind → Named v x → BoundBy k.now (binds v (solves (before ++ behind) l)) result }
 {
     if k.len() <= at {
-        return Bound::Free;
+        return None;
     }
     if k[at] != 5000 {
-        return Bound::Free;
+        return None;
     }
     let v = see(k, at);
     let y = solved_side(k, v);
     let w = word_of(x);
     if y == w {
         let r = v.r;
-        return Bound::To(r.from, r.to);
+        return Some(Part {
+            from: r.from,
+            to: r.to,
+        });
     }
     if y != 0 {
-        return Bound::Free;
+        return None;
     }
     let u = swapped(v);
     let z = solved_side(k, u);
     if z == w {
         let l = u.r;
-        return Bound::To(l.from, l.to);
+        return Some(Part {
+            from: l.from,
+            to: l.to,
+        });
     }
-    Bound::Free
+    None
 }
 
-// What a variable is bound to in its line.
-pub(crate) fn bound_to(k: &[u16], x: Variable) -> Bound
+// The part that a variable is bound to in its line.
+pub(crate) fn bound_to(k: &[u16], x: Variable) -> Option<Part>
     ensures { (c : Conj) (v : Var) → Line k.now c → Named v x → BoundBy k.now (bound v [] c) result }
 {
     let p = holder(k, x);
     match p {
-        Place::At(at) => bound_in(k, at, x),
-        Place::Nowhere => Bound::Free,
+        Some(at) => bound_in(k, at, x),
+        None => None,
     }
 }

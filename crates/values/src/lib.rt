@@ -16,7 +16,7 @@ ghost use Rattle.values.specs.Lines.{var_of, Named, Line};
 ghost use Rattle.values.specs.Spelling.{becomes, spelled, HedgeWord, HedgeWords, runs};
 ghost use Rattle.values.specs.Values.{Settled, SettledLine, value_words, UnsolvedLength, WordLength, PartLength, ValueLength};
 
-use bindings::{Bound, Place, bound_to, expression_of};
+use bindings::{bound_to, expression_of};
 use language::{FunVar, HedgeVar, Kind, Sym, TermVar, classify};
 use samples::{measure, put, write_sample};
 
@@ -72,11 +72,11 @@ fn unsolved_len(k: &[u16], x: Variable) -> usize
 {
     let p = expression_of(k, x);
     match p {
-        Place::At(e) => {
+        Some(e) => {
             let s = measure(k, e);
             s.words
         }
-        Place::Nowhere => default_len(x),
+        None => default_len(x),
     }
 }
 
@@ -86,11 +86,11 @@ fn write_unsolved(k: &[u16], x: Variable, any: Sym, out: &mut [u16], at: usize) 
 {
     let p = expression_of(k, x);
     match p {
-        Place::At(e) => {
+        Some(e) => {
             let w = write_sample(k, e, out, at);
             w.to
         }
-        Place::Nowhere => write_default(x, any, out, at),
+        None => write_default(x, any, out, at),
     }
 }
 
@@ -127,14 +127,12 @@ fn part_len(k: &[u16], from: usize, to: usize) -> usize
     requires { length k.now ≤ 65536 }
     ensures { PartLength k.now from to result }
 {
-    let mut i = from;
     let mut n: usize = 0;
-    while i < to {
+    for i in from..to {
         if k.len() <= i {
             return n;
         }
         n += word_len(k, k[i]);
-        i += 1;
     }
     n
 }
@@ -143,14 +141,12 @@ fn write_part(k: &[u16], from: usize, to: usize, any: Sym, out: &mut [u16], at: 
     requires { any.0 < desk.each }
     ensures { (c : Conj) → Line k.now c → Settled c → HedgeWords (slice from to k.now) → Laid out.old at (spelled (becomes (unsolved any c)) (slice from to k.now)) out.new result }
 {
-    let mut i = from;
     let mut e = at;
-    while i < to {
+    for i in from..to {
         if k.len() <= i {
             return e;
         }
         e = write_word(k, k[i], any, out, e);
-        i += 1;
     }
     e
 }
@@ -164,8 +160,8 @@ pub fn value_len(k: &[u16], x: Variable) -> usize
 {
     let b = bound_to(k, x);
     match b {
-        Bound::To(from, to) => part_len(k, from, to),
-        Bound::Free => unsolved_len(k, x) + 1,
+        Some(p) => part_len(k, p.from, p.to),
+        None => unsolved_len(k, x) + 1,
     }
 }
 
@@ -176,8 +172,8 @@ pub fn write_value(k: &[u16], x: Variable, any: Sym, out: &mut [u16], at: usize)
 {
     let b = bound_to(k, x);
     match b {
-        Bound::To(from, to) => write_part(k, from, to, any, out, at),
-        Bound::Free => {
+        Some(p) => write_part(k, p.from, p.to, any, out, at),
+        None => {
             let e = write_unsolved(k, x, any, out, at);
             put(out, e, 0)
         }

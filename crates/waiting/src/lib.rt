@@ -11,7 +11,6 @@ ghost use Rattle.waiting.specs.Waiting.{in_order, Laid};
 
 use frames::{FRAME, write_frame};
 use language::limits::ROOM;
-use language::wide;
 use slices::copy;
 
 // The part from..to as a block with that number, before those that wait from `at` on. The answer is where they now begin.
@@ -31,12 +30,11 @@ pub fn lay_out(question: &[u16], work: &mut [u16]) -> usize
     requires { (length question.now ≤ desk.question) × (laid_out 5 (get_or question.now 4 0) question.now ≡ true) × (desk.room ≤ length work.old) }
     ensures { Laid work.old result (in_order 0 (parts 5 (get_or question.now 4 0) question.now)) work.new }
 {
-    let mut i = wide(question[4]);
+    let n = usize::from(question[4]);
     let mut at: usize = ROOM;
-    while 0 < i {
-        i -= 1;
-        let from = wide(question[i + 5]);
-        let to = wide(question[i + 6]);
+    for i in (0..n).rev() {
+        let from = usize::from(question[i + 5]);
+        let to = usize::from(question[i + 6]);
         at = push(question, from, to, i as u16, work, at);
     }
     at

@@ -17,7 +17,7 @@ const TRIPLE: usize = 3;
 const TRAIL: usize = TRIPLE * STEPS;
 
 // The words of so many steps.
-fn first_steps<'a>(trail: &'a [u16], steps: usize) -> &'a [u16] {
+fn first_steps(trail: &[u16], steps: usize) -> &[u16] {
     if trail.len() / TRIPLE < steps {
         return trail;
     }
@@ -25,97 +25,88 @@ fn first_steps<'a>(trail: &'a [u16], steps: usize) -> &'a [u16] {
 }
 
 // Walks through an answer; its status is that of solving.
-fn walked<'a>(
+fn walked(
     rt: &HostRuntime,
     s: Solved,
-    question: &'a [u16],
-    answer: &'a [u16],
-    trail: &'a [u16],
-    text: &'a [u8],
-    names: &'a [u8],
+    question: &[u16],
+    answer: &[u16],
+    trail: &[u16],
+    text: &[u8],
+    names: &[u8],
     i: usize,
 ) -> Status {
-    let steps = s.steps;
-    let outcome = s.outcome;
-    match outcome {
-        Outcome::Refused(r) => refuse(rt, r, question, text, i),
-        Outcome::NoLine => {
-            walk(
-                rt.stdout(),
-                question,
-                answer,
-                first_steps(trail, steps),
-                names,
-            );
-            nothing()
-        }
-        _ => {
-            walk(
-                rt.stdout(),
-                question,
-                answer,
-                first_steps(trail, steps),
-                names,
-            );
-            found()
-        }
+    if let Outcome::Refused(r) = s.outcome {
+        return refuse(rt, r, question, text, i);
+    }
+    walk(
+        rt.stdout(),
+        question,
+        answer,
+        first_steps(trail, s.steps),
+        names,
+    );
+    match s.outcome {
+        Outcome::NoLine => nothing(),
+        _ => found(),
     }
 }
 
 // Writes a trail's words.
-fn written<'a>(
+fn written(
     rt: &HostRuntime,
     s: Solved,
-    question: &'a [u16],
-    trail: &'a [u16],
-    text: &'a [u8],
+    question: &[u16],
+    trail: &[u16],
+    text: &[u8],
     i: usize,
 ) -> Status {
-    let steps = s.steps;
-    let outcome = s.outcome;
-    match outcome {
+    match s.outcome {
         Outcome::Refused(r) => refuse(rt, r, question, text, i),
         _ => {
-            write_trail(rt.stdout(), first_steps(trail, steps));
+            write_trail(rt.stdout(), first_steps(trail, s.steps));
             found()
         }
     }
 }
 
 // The trail of a question, walked through or alone.
-fn with_trail<'a>(
+fn with_trail(
     rt: &HostRuntime,
-    question: &'a [u16],
+    question: &[u16],
     walks: bool,
-    buf: &'a [u8],
+    buf: &[u8],
     t: Loaded,
     i: usize,
 ) -> Status
     requires { (t.bytes ≤ length buf.now) × (t.named ≤ length buf.now) }
 {
-    let m = t.bytes;
-    let k = t.named;
     let mut work = [0u16; ROOM];
     let mut answer = [0u16; ROOM];
     let mut trail = [0u16; TRAIL];
     let s = solve_trail(question, &mut work, &mut answer, &mut trail);
     if walks {
-        return walked(rt, s, question, &answer, &trail, &buf[0..m], &buf[0..k], i);
+        return walked(
+            rt,
+            s,
+            question,
+            &answer,
+            &trail,
+            &buf[0..t.bytes],
+            &buf[0..t.named],
+            i,
+        );
     }
-    written(rt, s, question, &trail, &buf[0..m], i)
+    written(rt, s, question, &trail, &buf[0..t.bytes], i)
 }
 
 // The trail of the question in the file that argument `i` names, walked through or alone.
 fn with_question(rt: &HostRuntime, walks: bool, i: usize) -> Status {
     let mut buf = [0u8; SHEET];
     let mut words = [0u16; 2 * QUESTION];
-    let t = load_question(rt, i, &mut buf, &mut words);
-    let n = t.words;
-    let m = t.bytes;
-    if !t.fine {
-        return no_question(rt, t.number, &buf[0..m], i);
+    match load_question(rt, i, &mut buf, &mut words) {
+        Ok(t) => with_trail(rt, &words[0..t.words], walks, &buf, t, i),
+        Err(u) => no_question(rt, u.refusal, &buf[0..u.bytes], i),
     }
-    with_trail(rt, &words[0..n], walks, &buf, t, i)
 }
 
 // Every step of the answer of the question in the file that argument `i` names.

@@ -9,6 +9,7 @@ mod sentences;
 
 // A step of a conjunction's words: the rule's place in the list, the place of the literal's first word, whether its sides are swapped, and how many
 // results there are.
+// kept: `swap` says which side is meant, and nothing here may be missing
 #[derive(Clone, Copy)]
 pub struct Act {
     pub rule: usize,

@@ -3,114 +3,71 @@ use crate::Act;
 use crate::names::rule_name;
 use crate::reasons::reason;
 use crate::sentences::sentence;
-use language::Signature;
-use notation::one_literal;
-use print::{number, say};
+use notation::Writer;
+use print::say;
 use std::io::Stdout;
 
 // Deeper rows stand no further to the right than this.
 const DEEPEST: usize = 24;
 
-fn blanks(out: Stdout, n: usize) {
-    let mut i = 0;
-    while i < n {
-        say(out, b"  ");
-        i += 1;
-    }
-}
-
 fn indent(out: Stdout, depth: usize) {
-    if depth < DEEPEST {
-        blanks(out, depth);
-        return;
+    for _ in 0..depth.min(DEEPEST) {
+        say(out, b"  ");
     }
-    blanks(out, DEEPEST);
-}
-
-fn end(out: Stdout) {
-    say(out, b"\n");
 }
 
 // A literal in a row.
-pub fn literal_row(out: Stdout, s: Signature, names: &[u8], k: &[u16], at: usize, depth: usize) {
-    indent(out, depth);
-    one_literal(out, s, names, k, at);
-    end(out);
+pub fn literal_row(w: Writer<'_>, k: &[u16], at: usize, depth: usize) {
+    indent(w.out, depth);
+    w.one_literal(k, at);
+    say(w.out, b"\n");
 }
 
 // An alternative of the question, by its number.
 pub fn alternative(out: Stdout, i: usize, asks: bool) {
-    say(out, b"alternative ");
-    number(out, i as u64);
-    if asks {
-        say(out, b":\n");
-        return;
-    }
-    say(out, b": nothing is asked\n");
+    let rest = if asks { ":" } else { ": nothing is asked" };
+    let _ = println!(out; "alternative {i}{rest}");
 }
 
 // One of the cases that a step left, before its own steps.
 pub fn case_begins(out: Stdout, i: usize, step: usize, depth: usize) {
     indent(out, depth);
-    say(out, b"case ");
-    number(out, i as u64);
-    say(out, b" of step ");
-    number(out, step as u64);
-    say(out, b":\n");
+    let _ = println!(out; "case {i} of step {step}:");
 }
 
 // A step: its number, its rule and the literal that it acts on.
-pub fn step_begins(
-    out: Stdout,
-    s: Signature,
-    names: &[u8],
-    k: &[u16],
-    t: Act,
-    step: usize,
-    depth: usize,
-) {
-    indent(out, depth);
-    say(out, b"step ");
-    number(out, step as u64);
-    say(out, b", ");
-    rule_name(out, t.rule);
-    say(out, b": ");
-    one_literal(out, s, names, k, t.at);
-    end(out);
+pub fn step_begins(w: Writer<'_>, k: &[u16], t: Act, step: usize, depth: usize) {
+    indent(w.out, depth);
+    let rule = rule_name(t.rule);
+    let _ = print!(w.out; "step {step}, {rule}: ");
+    w.one_literal(k, t.at);
+    say(w.out, b"\n");
 }
 
 // Why it may be made.
-pub fn step_says(out: Stdout, s: Signature, names: &[u8], k: &[u16], t: Act, depth: usize) {
-    indent(out, depth);
-    sentence(out, s, names, k, t);
-    end(out);
+pub fn step_says(w: Writer<'_>, k: &[u16], t: Act, depth: usize) {
+    indent(w.out, depth);
+    sentence(w, k, t);
+    say(w.out, b"\n");
 }
 
 // Why nothing is left.
-pub fn dropped(out: Stdout, s: Signature, names: &[u8], k: &[u16], t: Act, depth: usize) {
-    indent(out, depth);
-    say(out, b"dropped: ");
-    reason(out, s, names, k, t);
-    end(out);
+pub fn dropped(w: Writer<'_>, k: &[u16], t: Act, depth: usize) {
+    indent(w.out, depth);
+    say(w.out, b"dropped: ");
+    reason(w, k, t);
+    say(w.out, b"\n");
 }
 
 // The same by two tests that clash.
-pub fn clashed(
-    out: Stdout,
-    s: Signature,
-    names: &[u8],
-    k: &[u16],
-    first: usize,
-    second: usize,
-    depth: usize,
-) {
-    indent(out, depth);
-    say(out, b"dropped: ");
-    one_literal(out, s, names, k, first);
-    say(out, b" and ");
-    one_literal(out, s, names, k, second);
-    say(out, b" share no report");
-    end(out);
+pub fn clashed(w: Writer<'_>, k: &[u16], first: usize, second: usize, depth: usize) {
+    indent(w.out, depth);
+    say(w.out, b"dropped: ");
+    w.one_literal(k, first);
+    say(w.out, b" and ");
+    w.one_literal(k, second);
+    say(w.out, b" share no report");
+    say(w.out, b"\n");
 }
 
 // What comes before the new literals of a result: the only one, or a case.
@@ -121,17 +78,15 @@ pub fn becomes(out: Stdout, depth: usize) {
 
 pub fn case_is(out: Stdout, i: usize, depth: usize) {
     indent(out, depth);
-    say(out, b"case ");
-    number(out, i as u64);
-    say(out, b": ");
+    let _ = print!(out; "case {i}: ");
 }
 
 // One more literal of a result, apart from the one before it.
-pub fn one_more(out: Stdout, s: Signature, names: &[u8], k: &[u16], at: usize, first: bool) {
+pub fn one_more(w: Writer<'_>, k: &[u16], at: usize, first: bool) {
     if !first {
-        say(out, b"; ");
+        say(w.out, b"; ");
     }
-    one_literal(out, s, names, k, at);
+    w.one_literal(k, at);
 }
 
 pub fn nothing_new(out: Stdout) {
@@ -139,22 +94,18 @@ pub fn nothing_new(out: Stdout) {
 }
 
 pub fn row_ends(out: Stdout) {
-    end(out);
+    say(out, b"\n");
 }
 
 // A branch that ends in a line of the answer.
 pub fn settled(out: Stdout, line: usize, depth: usize) {
     indent(out, depth);
-    say(out, b"settled: line ");
-    number(out, line as u64);
-    end(out);
+    let _ = println!(out; "settled: line {line}");
 }
 
 pub fn open(out: Stdout, line: usize, depth: usize) {
     indent(out, depth);
-    say(out, b"open: line ");
-    number(out, line as u64);
-    say(out, b", promises nothing\n");
+    let _ = println!(out; "open: line {line}, promises nothing");
 }
 
 // A branch that is too long to be asked about step by step.
@@ -166,16 +117,7 @@ pub fn too_long(out: Stdout, depth: usize) {
 // What the walk came to.
 pub fn summary(out: Stdout, lines: usize, open: usize, steps: usize) {
     if lines == 0 {
-        say(
-            out,
-            b"none: no report meets the question, and that is a promise\n",
-        );
+        let _ = println!(out; "none: no report meets the question, and that is a promise");
     }
-    say(out, b"lines ");
-    number(out, lines as u64);
-    say(out, b", open lines ");
-    number(out, open as u64);
-    say(out, b", steps ");
-    number(out, steps as u64);
-    end(out);
+    let _ = println!(out; "lines {lines}, open lines {open}, steps {steps}");
 }

@@ -14,6 +14,7 @@ use room_words::put_if;
 use text_names::own_word;
 
 // Whether it could be read, the place after it, and the number of words so far.
+// kept: `Walked` says of a side that could not be read, too, at which place and after how many words it broke off (`low`, `high`, `same`, `fits`, `tells`).
 #[derive(Clone, Copy)]
 pub struct Way {
     pub ok: bool,
@@ -21,6 +22,7 @@ pub struct Way {
     pub n: usize,
 }
 
+// kept as numbers, roles and stages: the tests below ask for ranges of them (`role < 3`, `2 <= stage`), where an enum would list each kind again.
 fn role(mark: Mark) -> u8
     ensures { result ≡ role_of mark }
 {

@@ -1,17 +1,10 @@
 // The two tests of a clash: the later one is found by asking of each, whether it clashes with the first.
-use crate::places::{minus, past, plus};
-use crate::rooms::{BODY, carry, head};
+use crate::places::{part, past};
+use crate::rooms::{BODY, head, put};
 use language::limits::{QUESTION, ROOM};
-use named_steps::{Stepping, step_named};
+use named_steps::step_named;
 use rules::places::AT_CLASH;
 use words::word;
-
-fn is_made(s: Stepping) -> bool {
-    match s {
-        Stepping::Made(_) => true,
-        Stepping::Refused(_) => false,
-    }
-}
 
 // Whether the first so many words of a question's room are a question whose first literal clashes.
 fn clashes(two: &[u16], n: usize) -> bool {
@@ -19,51 +12,45 @@ fn clashes(two: &[u16], n: usize) -> bool {
         return false;
     }
     let mut work = [0u16; ROOM];
-    is_made(step_named(&two[0..n], 0, AT_CLASH as u16, 0, 0, &mut work))
+    step_named(&two[0..n], 0, AT_CLASH as u16, 0, 0, &mut work).is_ok()
+}
+
+// The words of the literal at a place.
+fn literal(k: &[u16], at: usize) -> &[u16] {
+    part(k, at, past(k, at).saturating_sub(at))
 }
 
 // Whether two literals clash by themselves.
 fn pair_clashes(question: &[u16], k: &[u16], first: usize, second: usize) -> bool {
     let mut two = [0u16; QUESTION];
-    let n = minus(past(k, first), first);
-    let m = minus(past(k, second), second);
-    head(question, plus(n, m), &mut two);
-    carry(k, first, n, &mut two, BODY);
-    carry(k, second, m, &mut two, plus(BODY, n));
-    clashes(&two, plus(BODY, plus(n, m)))
+    let one = literal(k, first);
+    let other = literal(k, second);
+    let middle = BODY.saturating_add(one.len());
+    let end = middle.saturating_add(other.len());
+    head(question, end - BODY, &mut two);
+    put(one, &mut two, BODY);
+    put(other, &mut two, middle);
+    clashes(&two, end)
 }
 
 // Whether a test of the same variable alone stands there.
 fn same_variable(k: &[u16], first: usize, second: usize) -> bool {
-    if word(k, second) != 6000 {
-        return false;
-    }
-    if word(k, plus(second, 2)) != 0 {
-        return false;
-    }
-    word(k, plus(first, 1)) == word(k, plus(second, 1))
+    word(k, second) == 6000
+        && word(k, second.saturating_add(2)) == 0
+        && word(k, first.saturating_add(1)) == word(k, second.saturating_add(1))
 }
 
-fn is_partner(question: &[u16], k: &[u16], first: usize, second: usize) -> bool {
-    if same_variable(k, first, second) {
-        return pair_clashes(question, k, first, second);
-    }
-    false
-}
-
-// The first later test that clashes with the one at a place, or the length.
-pub(crate) fn partner(question: &[u16], k: &[u16], first: usize) -> usize {
+// The first later test that clashes with the one at a place.
+pub(crate) fn partner(question: &[u16], k: &[u16], first: usize) -> Option<usize> {
     let mut at = past(k, first);
-    let mut left = k.len();
-    while left > 0 {
+    for _ in 0..k.len() {
         if k.len() <= at {
-            return k.len();
+            return None;
         }
-        if is_partner(question, k, first, at) {
-            return at;
+        if same_variable(k, first, at) && pair_clashes(question, k, first, at) {
+            return Some(at);
         }
         at = past(k, at);
-        left -= 1;
     }
-    k.len()
+    None
 }

@@ -9,15 +9,14 @@ mod rooms;
 mod shown;
 
 use language::limits::{QUESTION, ROOM};
-use language::wide;
-use named_steps::{Stepping, step_named};
-use places::{literal_from, minus, plus};
-use print::{number, say};
+use named_steps::step_named;
+use notation::Writer;
+use places::{literal_from, part};
 use rooms::{
-    BODY, Frame, HEAD, WAITING, body, carry, head, is_line, is_settled, lay_out, narrow,
+    BODY, Frame, HEAD, WAITING, body, head, is_line, is_settled, lay_out, narrow, place, put,
     read_frame, wait,
 };
-use shown::{FRAME, case_number, count, heading, signature_of, told, words_of};
+use shown::{FRAME, Left, case_number, count, heading, told, words_of};
 use std::io::Stdout;
 use walk_wording::Act;
 use walk_wording::rows::{open, settled, summary, too_long};
@@ -39,29 +38,21 @@ fn depth_below(f: Frame, n: usize) -> u16 {
     if n == 1 {
         return f.depth;
     }
-    narrow(plus(wide(f.depth), 1))
+    narrow(usize::from(f.depth) + 1)
 }
 
 // How many words n results that are in their rooms take behind frames of a walk.
 fn taken(begin: usize, n: usize) -> usize {
-    plus(minus(ROOM, begin), plus(n, plus(n, n)))
+    ROOM.saturating_sub(begin)
+        .saturating_add(n.saturating_mul(HEAD - FRAME))
 }
 
 // The results put in place of the conjunction, from a place on.
-fn stack(
-    work: &[u16],
-    begin: usize,
-    n: usize,
-    step: usize,
-    f: Frame,
-    waiting: &mut [u16],
-    start: usize,
-) {
-    let mut at = begin;
+fn stack(left: Left<'_>, n: usize, step: usize, f: Frame, waiting: &mut [u16], start: usize) {
+    let mut at = left.begin;
     let mut to = start;
-    let mut i = 0;
-    while i < n {
-        let r = words_of(work, at);
+    for i in 0..n {
+        let r = words_of(left.work, at);
         let g = Frame {
             words: narrow(r.len()),
             number: f.number,
@@ -70,206 +61,160 @@ fn stack(
             step: narrow(step),
         };
         wait(r, 0, g, waiting, to);
-        at = plus(at, plus(FRAME, r.len()));
-        to = plus(to, plus(HEAD, r.len()));
-        i += 1;
+        at = at.saturating_add(FRAME).saturating_add(r.len());
+        to = to.saturating_add(HEAD).saturating_add(r.len());
     }
 }
 
-// Nothing more is walked.
-fn over(p: Place) -> Place {
-    Place {
-        at: WAITING,
-        made: p.made,
-        line: p.line,
-    }
+// What is walked through, and what it is written out with.
+#[derive(Clone, Copy)]
+struct Walker<'a> {
+    writer: Writer<'a>,
+    question: &'a [u16],
+    answer: &'a [u16],
+    trail: &'a [u16],
 }
 
-fn is_one(side: u16) -> bool {
-    side == 1
-}
+impl Walker<'_> {
+    // A word of the step that comes next in the trail: its rule, its literal, its side.
+    fn next(self, made: usize, i: usize) -> u16 {
+        word(self.trail, made.saturating_mul(TRIPLE).saturating_add(i))
+    }
 
-// The step that comes next in the trail, of a conjunction, with so many results.
-fn act(k: &[u16], trail: &[u16], made: usize, n: usize) -> Act {
-    let from = plus(made, plus(made, made));
-    Act {
-        rule: wide(word(trail, from)),
-        at: literal_from(k, wide(word(trail, plus(from, 1)))),
-        swap: is_one(word(trail, plus(from, 2))),
-        cases: n,
+    // That step, of a conjunction, with so many results.
+    fn act(self, k: &[u16], made: usize, n: usize) -> Act {
+        Act {
+            rule: usize::from(self.next(made, 0)),
+            at: literal_from(k, usize::from(self.next(made, 1))),
+            swap: self.next(made, 2) == 1,
+            cases: n,
+        }
     }
-}
 
-// The results of a step stand in the room from a place on: they are shown and wait.
-fn stepped(
-    out: Stdout,
-    one: &[u16],
-    names: &[u8],
-    trail: &[u16],
-    work: &[u16],
-    begin: usize,
-    f: Frame,
-    waiting: &mut [u16],
-    p: Place,
-) -> Place {
-    let literal = wide(word(trail, plus(plus(p.made, 1), plus(p.made, p.made))));
-    let k = body(one);
-    let n = count(work, begin);
-    let step = plus(p.made, 1);
-    told(
-        out,
-        one,
-        names,
-        literal,
-        act(k, trail, p.made, n),
-        work,
-        begin,
-        step,
-        f,
-    );
-    let next = plus(p.at, plus(HEAD, k.len()));
-    let at = minus(next, taken(begin, n));
-    stack(work, begin, n, step, f, waiting, at);
-    Place {
-        at,
-        made: step,
-        line: p.line,
+    // The results of a step stand in the room from a place on: they are shown and wait.
+    fn stepped(
+        self,
+        one: &[u16],
+        left: Left<'_>,
+        f: Frame,
+        waiting: &mut [u16],
+        p: Place,
+    ) -> Place {
+        let k = body(one);
+        let n = count(left.work, left.begin);
+        let step = p.made.saturating_add(1);
+        let literal = usize::from(self.next(p.made, 1));
+        told(
+            self.writer,
+            one,
+            literal,
+            self.act(k, p.made, n),
+            left,
+            step,
+            f,
+        );
+        let next = p.at.saturating_add(HEAD).saturating_add(k.len());
+        let at = next.saturating_sub(taken(left.begin, n));
+        stack(left, n, step, f, waiting, at);
+        Place {
+            at,
+            made: step,
+            line: p.line,
+        }
     }
-}
 
-// The step that comes next in the trail, of a question of one conjunction.
-fn step(
-    out: Stdout,
-    one: &[u16],
-    names: &[u8],
-    trail: &[u16],
-    f: Frame,
-    waiting: &mut [u16],
-    p: Place,
-) -> Place {
-    let from = plus(p.made, plus(p.made, p.made));
-    let rule = word(trail, from);
-    let literal = word(trail, plus(from, 1));
-    let side = word(trail, plus(from, 2));
-    let mut work = [0u16; ROOM];
-    match step_named(one, f.number, rule, literal, side, &mut work) {
-        Stepping::Made(begin) => stepped(out, one, names, trail, &work, begin, f, waiting, p),
-        Stepping::Refused(_) => over(p),
+    // The step that comes next in the trail, of a question of one conjunction: where the walk then stands, unless it cannot be made.
+    fn step(self, one: &[u16], f: Frame, waiting: &mut [u16], p: Place) -> Option<Place> {
+        let rule = self.next(p.made, 0);
+        let literal = self.next(p.made, 1);
+        let side = self.next(p.made, 2);
+        let mut work = [0u16; ROOM];
+        match step_named(one, f.number, rule, literal, side, &mut work) {
+            Ok(begin) => {
+                let left = Left { work: &work, begin };
+                Some(self.stepped(one, left, f, waiting, p))
+            }
+            Err(_) => None,
+        }
     }
-}
 
-// A branch that ends in the next line.
-fn line(out: Stdout, answer: &[u16], f: Frame, n: usize, p: Place) -> Place {
-    if is_settled(answer, p.line) {
-        settled(out, p.line, wide(f.depth));
-    } else {
-        open(out, p.line, wide(f.depth));
+    // A branch that ends in the next line.
+    fn line(self, f: Frame, n: usize, p: Place) -> Place {
+        let depth = usize::from(f.depth);
+        if is_settled(self.answer, p.line) {
+            settled(self.writer.out, p.line, depth);
+        } else {
+            open(self.writer.out, p.line, depth);
+        }
+        Place {
+            at: p.at.saturating_add(HEAD).saturating_add(n),
+            made: p.made,
+            line: p.line.saturating_add(1),
+        }
     }
-    Place {
-        at: plus(p.at, plus(HEAD, n)),
-        made: p.made,
-        line: plus(p.line, 1),
-    }
-}
 
-// The first waiting conjunction, as a question of its own.
-fn go_on(
-    out: Stdout,
-    one: &[u16],
-    names: &[u8],
-    answer: &[u16],
-    trail: &[u16],
-    f: Frame,
-    waiting: &mut [u16],
-    p: Place,
-) -> Place {
-    let k = body(one);
-    heading(out, signature_of(one), names, k, f);
-    if is_line(answer, p.line, one, BODY, k.len()) {
-        return line(out, answer, f, k.len(), p);
+    // The first waiting conjunction, as a question of its own.
+    fn go_on(self, one: &[u16], f: Frame, waiting: &mut [u16], p: Place) -> Option<Place> {
+        let k = body(one);
+        heading(self.writer, k, f);
+        if is_line(self.answer, p.line, k) {
+            return Some(self.line(f, k.len(), p));
+        }
+        self.step(one, f, waiting, p)
     }
-    step(out, one, names, trail, f, waiting, p)
-}
 
-// One turn of the walk: a step or a line.
-fn turn(
-    out: Stdout,
-    question: &[u16],
-    names: &[u8],
-    answer: &[u16],
-    trail: &[u16],
-    waiting: &mut [u16],
-    p: Place,
-) -> Place {
-    if WAITING <= p.at {
-        return p;
+    // One turn of the walk, a step or a line, unless it is over.
+    fn turn(self, waiting: &mut [u16], p: Place) -> Option<Place> {
+        if WAITING <= p.at {
+            return None;
+        }
+        let f = read_frame(waiting, p.at);
+        let n = usize::from(f.words);
+        if QUESTION - BODY < n {
+            too_long(self.writer.out, usize::from(f.depth));
+            return None;
+        }
+        let mut one = [0u16; QUESTION];
+        head(self.question, n, &mut one);
+        put(part(waiting, p.at.saturating_add(HEAD), n), &mut one, BODY);
+        self.go_on(&one[0..BODY + n], f, waiting, p)
     }
-    let f = read_frame(waiting, p.at);
-    let n = wide(f.words);
-    if QUESTION - BODY < n {
-        too_long(out, wide(f.depth));
-        return over(p);
-    }
-    let mut one = [0u16; QUESTION];
-    head(question, n, &mut one);
-    carry(waiting, plus(p.at, HEAD), n, &mut one, BODY);
-    go_on(out, &one[0..BODY + n], names, answer, trail, f, waiting, p)
-}
 
-// So many turns: every step and every line has one.
-fn turns(
-    out: Stdout,
-    question: &[u16],
-    names: &[u8],
-    answer: &[u16],
-    trail: &[u16],
-    waiting: &mut [u16],
-    n: usize,
-) {
-    let mut p = Place {
-        at: lay_out(question, waiting),
-        made: 0,
-        line: 0,
-    };
-    let mut left = n;
-    while left > 0 {
-        p = turn(out, question, names, answer, trail, waiting, p);
-        left -= 1;
+    // So many turns: every step and every line has one.
+    fn turns(self, n: usize) {
+        let mut waiting = [0u16; WAITING];
+        let mut p = Place {
+            at: lay_out(self.question, &mut waiting),
+            made: 0,
+            line: 0,
+        };
+        for _ in 0..n {
+            let Some(next) = self.turn(&mut waiting, p) else {
+                return;
+            };
+            p = next;
+        }
     }
 }
 
 // Walks through the answer of a question that was solved with this trail. `names` has the names of the text that it came as (crates/notation).
 pub fn walk(out: Stdout, question: &[u16], answer: &[u16], trail: &[u16], names: &[u8]) {
-    let mut waiting = [0u16; WAITING];
-    let steps = trail.len() / TRIPLE;
-    let lines = wide(word(answer, 0));
-    turns(
-        out,
+    let walker = Walker {
+        writer: Writer::new(out, word(question, 0), names),
         question,
-        names,
         answer,
         trail,
-        &mut waiting,
-        plus(steps, lines),
-    );
-    summary(out, lines, wide(word(answer, 1)), steps);
-}
-
-// A word in decimal, behind the one before it: three stand in a row.
-fn decimal(out: Stdout, w: u16, i: usize) {
-    number(out, w as u64);
-    if i % TRIPLE == TRIPLE - 1 {
-        say(out, b"\n");
-        return;
-    }
-    say(out, b" ");
+    };
+    let steps = trail.len() / TRIPLE;
+    let lines = place(answer, 0);
+    walker.turns(steps.saturating_add(lines));
+    summary(out, lines, place(answer, 1), steps);
 }
 
 // The words of a trail in decimal, a row for each step.
 pub fn write_trail(out: Stdout, trail: &[u16]) {
-    let mut i = 0;
-    while i < trail.len() {
-        decimal(out, trail[i], i);
-        i += 1;
+    for (i, w) in trail.iter().enumerate() {
+        let end = if i % TRIPLE == TRIPLE - 1 { '\n' } else { ' ' };
+        let _ = print!(out; "{w}{end}");
     }
 }

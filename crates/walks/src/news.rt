@@ -1,14 +1,16 @@
 // What a step made: of each result the literals that are new or not as they were.
-use crate::places::{literals_of, minus, past, plus, same};
-use language::Signature;
-use std::io::Stdout;
+use crate::places::{literals_of, past};
+use notation::Writer;
 use walk_wording::rows::{becomes, case_is, nothing_new, one_more, row_ends};
 
-// Which result it is, 0 for the only one, and how deep it stands.
+// Which result it is, 0 for the only one, and how deep it stands; and the words that the step had and those that it left.
 #[derive(Clone, Copy)]
-pub(crate) struct Row {
+pub(crate) struct News<'a> {
+    pub writer: Writer<'a>,
     pub case: usize,
     pub depth: usize,
+    pub k: &'a [u16],
+    pub r: &'a [u16],
 }
 
 // How far both conjunctions are passed, and how many literals were shown.
@@ -19,135 +21,83 @@ struct Passed {
     shown: usize,
 }
 
-fn begin(out: Stdout, row: Row) {
-    if row.case == 0 {
-        becomes(out, row.depth);
-        return;
-    }
-    case_is(out, row.case, row.depth);
-}
-
-fn show(out: Stdout, s: Signature, names: &[u8], r: &[u16], p: Passed, row: Row) {
-    if p.shown == 0 {
-        begin(out, row);
-    }
-    one_more(out, s, names, r, p.new, p.shown == 0);
-}
-
-// A literal that was there before.
-fn kept(
-    out: Stdout,
-    s: Signature,
-    names: &[u8],
-    k: &[u16],
-    r: &[u16],
-    p: Passed,
-    row: Row,
-) -> Passed {
-    let end = past(k, p.old);
-    let next = past(r, p.new);
-    let n = minus(end, p.old);
-    if minus(next, p.new) == n {
-        if same(k, p.old, r, p.new, n) {
-            return Passed {
-                old: end,
-                new: next,
-                shown: p.shown,
-            };
-        }
-    }
-    show(out, s, names, r, p, row);
-    Passed {
-        old: end,
-        new: next,
-        shown: plus(p.shown, 1),
-    }
-}
-
-// A literal that stands in the place of the old one.
-fn made(out: Stdout, s: Signature, names: &[u8], r: &[u16], p: Passed, row: Row) -> Passed {
-    show(out, s, names, r, p, row);
-    Passed {
-        old: p.old,
-        new: past(r, p.new),
-        shown: plus(p.shown, 1),
-    }
-}
-
-// So many that were there before.
-fn all_kept(
-    out: Stdout,
-    s: Signature,
-    names: &[u8],
-    k: &[u16],
-    r: &[u16],
-    from: Passed,
-    n: usize,
-    row: Row,
-) -> Passed {
-    let mut p = from;
-    let mut left = n;
-    while left > 0 {
-        p = kept(out, s, names, k, r, p, row);
-        left -= 1;
-    }
-    p
-}
-
-fn all_made(
-    out: Stdout,
-    s: Signature,
-    names: &[u8],
-    r: &[u16],
-    from: Passed,
-    n: usize,
-    row: Row,
-) -> Passed {
-    let mut p = from;
-    let mut left = n;
-    while left > 0 {
-        p = made(out, s, names, r, p, row);
-        left -= 1;
-    }
-    p
-}
-
-fn end(out: Stdout, shown: usize, row: Row) {
-    if shown == 0 {
-        if row.case == 0 {
+impl News<'_> {
+    fn begin(self) {
+        if self.case == 0 {
+            becomes(self.writer.out, self.depth);
             return;
         }
-        begin(out, row);
-        nothing_new(out);
+        case_is(self.writer.out, self.case, self.depth);
     }
-    row_ends(out);
-}
 
-// The result r of a step at literal i of k, which stands at a place: those before it and those behind it are there in the result too.
-pub(crate) fn result(
-    out: Stdout,
-    s: Signature,
-    names: &[u8],
-    k: &[u16],
-    i: usize,
-    at: usize,
-    r: &[u16],
-    row: Row,
-) {
-    let behind = minus(literals_of(k), plus(i, 1));
-    let middle = minus(literals_of(r), plus(i, behind));
-    let none = Passed {
-        old: 0,
-        new: 0,
-        shown: 0,
-    };
-    let p = all_kept(out, s, names, k, r, none, i, row);
-    let q = all_made(out, s, names, r, p, middle, row);
-    let there = Passed {
-        old: past(k, at),
-        new: q.new,
-        shown: q.shown,
-    };
-    let e = all_kept(out, s, names, k, r, there, behind, row);
-    end(out, e.shown, row);
+    // The literal of the result, which stands in the place of one that ends here.
+    fn show(self, p: Passed, end: usize) -> Passed {
+        if p.shown == 0 {
+            self.begin();
+        }
+        one_more(self.writer, self.r, p.new, p.shown == 0);
+        Passed {
+            old: end,
+            new: past(self.r, p.new),
+            shown: p.shown.saturating_add(1),
+        }
+    }
+
+    // So many that were there before: those that are not as they were are shown.
+    fn kept(self, from: Passed, n: usize) -> Passed {
+        let mut p = from;
+        for _ in 0..n {
+            let end = past(self.k, p.old);
+            let next = past(self.r, p.new);
+            if self.k.get(p.old..end) == self.r.get(p.new..next) {
+                p = Passed {
+                    old: end,
+                    new: next,
+                    shown: p.shown,
+                };
+            } else {
+                p = self.show(p, end);
+            }
+        }
+        p
+    }
+
+    // So many that stand in the place of the old one.
+    fn made(self, from: Passed, n: usize) -> Passed {
+        let mut p = from;
+        for _ in 0..n {
+            p = self.show(p, p.old);
+        }
+        p
+    }
+
+    fn end(self, shown: usize) {
+        if shown == 0 {
+            if self.case == 0 {
+                return;
+            }
+            self.begin();
+            nothing_new(self.writer.out);
+        }
+        row_ends(self.writer.out);
+    }
+
+    // The result of a step at literal i, which stands at a place: those before it and those behind it are there in the result too.
+    pub(crate) fn result(self, i: usize, at: usize) {
+        let behind = literals_of(self.k).saturating_sub(i.saturating_add(1));
+        let middle = literals_of(self.r).saturating_sub(i.saturating_add(behind));
+        let none = Passed {
+            old: 0,
+            new: 0,
+            shown: 0,
+        };
+        let p = self.kept(none, i);
+        let q = self.made(p, middle);
+        let there = Passed {
+            old: past(self.k, at),
+            new: q.new,
+            shown: q.shown,
+        };
+        self.end(self.kept(there, behind).shown);
+    }
 }

@@ -1,152 +1,123 @@
 // What is shown of a conjunction and of a step, in rows.
 use crate::clashing::partner;
-use crate::news::{Row, result};
-use crate::places::{minus, past, plus};
-use crate::rooms::{Frame, body};
+use crate::news::News;
+use crate::places::{part, past};
+use crate::rooms::{Frame, body, place};
 use language::limits::ROOM;
-use language::{Signature, wide};
+use notation::Writer;
 use rules::places::{AT_CLASH, AT_FOLD};
-use std::io::Stdout;
 use walk_wording::Act;
 use walk_wording::rows::{
     alternative, case_begins, clashed, dropped, literal_row, step_begins, step_says,
 };
-use words::word;
 
 // How many words stand before a result that a named step leaves.
 pub(crate) const FRAME: usize = 2;
 
-pub(crate) fn signature_of(question: &[u16]) -> Signature {
-    let first = word(question, 0);
-    Signature {
-        symbols: first % 256,
-        unordered: first / 256,
-    }
-}
-
 // Every literal of an alternative, a row for each.
-fn literals(out: Stdout, s: Signature, names: &[u8], k: &[u16]) {
+fn literals(w: Writer<'_>, k: &[u16]) {
     let mut at = 0;
-    let mut left = k.len();
-    while left > 0 {
-        if at < k.len() {
-            literal_row(out, s, names, k, at, 1);
+    for _ in 0..k.len() {
+        if k.len() <= at {
+            return;
         }
+        literal_row(w, k, at, 1);
         at = past(k, at);
-        left -= 1;
     }
 }
 
 // What a conjunction begins with: as an alternative, as a case, or as the only result of the step before.
-pub(crate) fn heading(out: Stdout, s: Signature, names: &[u8], k: &[u16], f: Frame) {
+pub(crate) fn heading(w: Writer<'_>, k: &[u16], f: Frame) {
     if f.step == 0 {
-        alternative(out, wide(f.number), k.len() > 0);
-        literals(out, s, names, k);
-        return;
+        alternative(w.out, usize::from(f.number), k.len() > 0);
+        literals(w, k);
+    } else if f.case > 0 {
+        let depth = usize::from(f.depth).saturating_sub(1);
+        case_begins(w.out, usize::from(f.case), usize::from(f.step), depth);
     }
-    if f.case > 0 {
-        case_begins(out, wide(f.case), wide(f.step), minus(wide(f.depth), 1));
-    }
+}
+
+// The place behind the result at a place, which stands behind its frame.
+fn behind(work: &[u16], at: usize) -> usize {
+    at.saturating_add(FRAME + place(work, at))
 }
 
 // The results, each behind its frame, from a place on: how many there are.
 pub(crate) fn count(work: &[u16], begin: usize) -> usize {
-    let mut n = 0;
     let mut at = begin;
-    let mut left = ROOM;
-    while left > 0 {
+    for n in 0..ROOM {
         if ROOM <= at {
             return n;
         }
-        at = plus(at, plus(FRAME, wide(word(work, at))));
-        n = plus(n, 1);
-        left -= 1;
+        at = behind(work, at);
     }
-    n
+    ROOM
 }
 
 // The words of the result at a place.
-pub(crate) fn words_of<'a>(work: &'a [u16], at: usize) -> &'a [u16] {
-    let from = plus(at, FRAME);
-    let to = plus(from, wide(word(work, at)));
-    if work.len() < to {
-        return &work[0..0];
-    }
-    if to < from {
-        return &work[0..0];
-    }
-    &work[from..to]
+pub(crate) fn words_of(work: &[u16], at: usize) -> &[u16] {
+    part(work, at.saturating_add(FRAME), place(work, at))
 }
 
 // Which case a result is: none where it is the only one.
 pub(crate) fn case_number(n: usize, i: usize) -> usize {
-    if n == 1 {
-        return 0;
-    }
-    plus(i, 1)
+    if n == 1 { 0 } else { i.saturating_add(1) }
+}
+
+// Results that a named step leaves in a room, from a place on.
+#[derive(Clone, Copy)]
+pub(crate) struct Left<'a> {
+    pub work: &'a [u16],
+    pub begin: usize,
 }
 
 // What each result has new.
-fn news_of(
-    out: Stdout,
-    s: Signature,
-    names: &[u8],
-    k: &[u16],
-    literal: usize,
-    t: Act,
-    work: &[u16],
-    begin: usize,
-    depth: usize,
-) {
-    let mut at = begin;
-    let mut i = 0;
-    while i < t.cases {
-        let r = words_of(work, at);
-        let row = Row {
+fn news_of(writer: Writer<'_>, k: &[u16], literal: usize, t: Act, left: Left<'_>, depth: usize) {
+    let mut at = left.begin;
+    for i in 0..t.cases {
+        let r = words_of(left.work, at);
+        let news = News {
+            writer,
             case: case_number(t.cases, i),
             depth,
+            k,
+            r,
         };
-        result(out, s, names, k, literal, t.at, r, row);
-        at = plus(at, plus(FRAME, r.len()));
-        i += 1;
+        news.result(literal, t.at);
+        at = at.saturating_add(FRAME).saturating_add(r.len());
     }
 }
 
 // Why nothing is left.
-fn ends(out: Stdout, s: Signature, names: &[u8], one: &[u16], k: &[u16], t: Act, depth: usize) {
+fn ends(w: Writer<'_>, one: &[u16], k: &[u16], t: Act, depth: usize) {
     if t.rule == AT_CLASH {
-        let second = partner(one, k, t.at);
-        if second < k.len() {
-            clashed(out, s, names, k, t.at, second, depth);
+        if let Some(second) = partner(one, k, t.at) {
+            clashed(w, k, t.at, second, depth);
             return;
         }
     }
-    dropped(out, s, names, k, t, depth);
+    dropped(w, k, t, depth);
 }
 
 // A step that was made of a question of one conjunction, in rows.
 pub(crate) fn told(
-    out: Stdout,
+    w: Writer<'_>,
     one: &[u16],
-    names: &[u8],
     literal: usize,
     t: Act,
-    work: &[u16],
-    begin: usize,
+    left: Left<'_>,
     step: usize,
     f: Frame,
 ) {
-    let s = signature_of(one);
     let k = body(one);
-    let depth = wide(f.depth);
-    step_begins(out, s, names, k, t, step, depth);
+    let depth = usize::from(f.depth);
+    step_begins(w, k, t, step, depth);
     if t.cases == 0 {
-        ends(out, s, names, one, k, t, plus(depth, 1));
+        ends(w, one, k, t, depth + 1);
         return;
     }
-    step_says(out, s, names, k, t, plus(depth, 1));
-    if t.rule == AT_FOLD {
-        return;
+    step_says(w, k, t, depth + 1);
+    if t.rule != AT_FOLD {
+        news_of(w, k, literal, t, left, depth + 1);
     }
-    news_of(out, s, names, k, literal, t, work, begin, plus(depth, 1));
 }

@@ -8,19 +8,15 @@ ghost use Rattle.word_bytes.specs.Bytes.{word_of, words_of, bytes_of, words_in, 
 fn word(low: u8, high: u8) -> u16
     ensures { result ≡ word_of low high }
 {
-    (low as u16) + 256 * (high as u16)
+    u16::from_le_bytes([low, high])
 }
 
-fn low(w: u16) -> u8
-    ensures { result ≡ w % 256 }
+// The low byte and the high byte of a word.
+fn halves(w: u16) -> (u8, u8)
+    ensures { (result.0 ≡ w % 256) × (result.1 ≡ w / 256) }
 {
-    (w % 256) as u8
-}
-
-fn high(w: u16) -> u8
-    ensures { result ≡ w / 256 }
-{
-    (w / 256) as u8
+    let [low, high] = w.to_le_bytes();
+    (low, high)
 }
 
 // The words of these bytes, at the start of `words`.
@@ -28,11 +24,8 @@ fn read_words(bytes: &[u8], words: &mut [u16])
     requires { length bytes.now / 2 ≤ length words.old }
     ensures { words.new ≡ sets words.old 0 (words_of bytes.now) }
 {
-    let n = bytes.len() / 2;
-    let mut i = 0;
-    while i < n {
+    for i in 0..bytes.len() / 2 {
         words[i] = word(bytes[2 * i], bytes[2 * i + 1]);
-        i += 1;
     }
 }
 
@@ -57,12 +50,10 @@ pub fn write_words_at(words: &[u16], bytes: &mut [u8], at: usize)
     requires { 2 * (at + length words.now) ≤ length bytes.old }
     ensures { bytes.new ≡ sets bytes.old (2 * at) (bytes_of words.now) }
 {
-    let mut i = 0;
-    while i < words.len() {
-        let w = words[i];
-        bytes[2 * (at + i)] = low(w);
-        bytes[2 * (at + i) + 1] = high(w);
-        i += 1;
+    for i in 0..words.len() {
+        let (low, high) = halves(words[i]);
+        bytes[2 * (at + i)] = low;
+        bytes[2 * (at + i) + 1] = high;
     }
 }
 

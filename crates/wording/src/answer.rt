@@ -3,119 +3,76 @@
 ghost use Rattle.std.specs.Prelude.{◌<◌};
 
 use answers::LINE_HEAD;
-use language::{Signature, wide};
-use notation::{hedge, literals, variable};
+use notation::Writer;
 use outcomes::Solved;
-use print::{number, say};
+use print::say;
 use std::io::Stdout;
 use words::word;
 
-// The signature of a question, from its first word.
-fn signature_of(question: &[u16]) -> Signature {
-    let first = word(question, 0);
-    Signature {
-        symbols: first % 256,
-        unordered: first / 256,
-    }
+// A word as a place or a count.
+fn place(ws: &[u16], i: usize) -> usize
+    ensures { result < 65536 }
+{
+    usize::from(word(ws, i))
 }
 
 // Line i of an answer: its place among the lines, its mark and the number of its alternative, then its literals.
-fn line(out: Stdout, s: Signature, names: &[u8], answer: &[u16], i: usize)
+fn line(w: Writer<'_>, answer: &[u16], i: usize)
     requires { i < 65536 }
 {
-    let from = wide(word(answer, i + 2));
-    let to = wide(word(answer, i + 3));
-    say(out, b"line ");
-    number(out, i as u64);
-    if word(answer, from) == 1 {
-        say(out, b", settled");
+    let from = place(answer, i + 2);
+    let to = place(answer, i + 3);
+    let mark = if word(answer, from) == 1 {
+        "settled"
     } else {
-        say(out, b", open");
-    }
-    say(out, b", of alternative ");
-    number(out, word(answer, from + 1) as u64);
-    say(out, b"\n");
+        "open"
+    };
+    let alternative = word(answer, from + 1);
+    let _ = println!(w.out; "line {i}, {mark}, of alternative {alternative}");
     let start = from + LINE_HEAD;
     if start >= to {
-        say(out, b"  every report meets it\n");
+        say(w.out, b"  every report meets it\n");
     }
-    literals(out, s, names, answer, start, to);
-}
-
-// Every line of an answer.
-fn lines(out: Stdout, s: Signature, names: &[u8], answer: &[u16]) {
-    let n = wide(word(answer, 0));
-    let mut i = 0;
-    while i < n {
-        line(out, s, names, answer, i);
-        i += 1;
-    }
-}
-
-fn count(out: Stdout, n: usize) {
-    number(out, n as u64);
-}
-
-fn counts(out: Stdout, s: Solved) {
-    say(out, b"lines ");
-    count(out, s.lines);
-    say(out, b", open lines ");
-    count(out, s.open);
-    say(out, b", steps ");
-    count(out, s.steps);
-    say(out, b"\n");
+    w.literals(answer, start, to);
 }
 
 // An answer: its verdict, its counts and its lines.
-pub fn answered<'a>(
+pub fn answered(
     out: Stdout,
-    verdict: &'a [u8],
+    verdict: &str,
     s: Solved,
-    question: &'a [u16],
-    answer: &'a [u16],
-    names: &'a [u8],
+    question: &[u16],
+    answer: &[u16],
+    names: &[u8],
 ) {
-    say(out, verdict);
-    counts(out, s);
-    lines(out, signature_of(question), names, answer);
-}
-
-// A word in decimal, apart from the one before it.
-fn decimal(out: Stdout, w: u16, i: usize) {
-    if i > 0 {
-        say(out, b" ");
+    let lines = s.lines;
+    let open = s.open;
+    let steps = s.steps;
+    let _ = println!(out; "{verdict}\nlines {lines}, open lines {open}, steps {steps}");
+    let w = Writer::new(out, word(question, 0), names);
+    for i in 0..place(answer, 0) {
+        line(w, answer, i);
     }
-    number(out, w as u64);
 }
 
 // Words in decimal, in a row.
 pub fn words(out: Stdout, ws: &[u16]) {
-    let mut i = 0;
-    while i < ws.len() {
-        decimal(out, ws[i], i);
-        i += 1;
+    for (i, w) in ws.iter().enumerate() {
+        let gap = if i > 0 { " " } else { "" };
+        let _ = print!(out; "{gap}{w}");
     }
     say(out, b"\n");
 }
 
 // A filling's values as remarks, and then its words, so that what is written here can be read again.
 pub fn filling(out: Stdout, question: &[u16], ws: &[u16], names: &[u8]) {
-    let s = signature_of(question);
-    let n = wide(word(ws, 0));
-    let mut i = 0;
-    while i < n {
+    let w = Writer::new(out, word(question, 0), names);
+    for i in 0..place(ws, 0) {
         say(out, b"# ");
-        variable(
-            out,
-            names,
-            i,
-            wide(word(question, 1)),
-            wide(word(question, 2)),
-        );
+        w.variable(i, place(question, 1), place(question, 2));
         say(out, b" = ");
-        hedge(out, s, names, ws, wide(word(ws, i + 1)));
+        w.hedge(ws, place(ws, i + 1));
         say(out, b"\n");
-        i += 1;
     }
     words(out, ws);
 }

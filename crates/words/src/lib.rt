@@ -6,8 +6,6 @@ ghost use Rattle.std.proofs.Math.Seq.{slice};
 ghost use Rattle.words.specs.Spans.{member};
 ghost use Rattle.words.specs.Places.{until_literal, same_list};
 
-use language::wide;
-
 // The word at a place, 0 past the end.
 pub fn word(k: &[u16], i: usize) -> u16
     ensures { result ≡ get_or k.now i 0 }
@@ -15,25 +13,15 @@ pub fn word(k: &[u16], i: usize) -> u16
     if i < k.len() { k[i] } else { 0 }
 }
 
-fn least(a: usize, b: usize) -> usize
-    ensures { result ≡ min a b }
-{
-    if a < b { a } else { b }
-}
-
 // Whether a word stands in a part.
 pub fn stands(k: &[u16], from: usize, to: usize, x: usize) -> bool
     ensures { result ≡ member x (slice from to k.now) }
 {
-    let mut i = from;
-    while i < to {
-        if k.len() <= i {
-            return false;
-        }
-        if wide(k[i]) == x {
+    let end = to.min(k.len());
+    for i in from..end {
+        if usize::from(k[i]) == x {
             return true;
         }
-        i += 1;
     }
     false
 }
@@ -43,17 +31,15 @@ pub fn next_literal(k: &[u16], at: usize) -> usize
     requires { at < length k.now }
     ensures { result ≡ at + 1 + until_literal (drop (at + 1) k.now) }
 {
-    let mut i = at + 1;
-    while i < k.len() {
+    for i in at + 1..k.len() {
         if k[i] == 5000 {
             return i;
         }
         if k[i] == 6000 {
             return i;
         }
-        i += 1;
     }
-    i
+    k.len()
 }
 
 // Whether a word stands before a literal or behind it.
@@ -70,18 +56,14 @@ pub fn elsewhere(k: &[u16], at: usize, end: usize, x: usize) -> bool
 pub fn same_part(k: &[u16], from: usize, to: usize, start: usize, end: usize) -> bool
     ensures { result ≡ same_list (slice from to k.now) (slice start end k.now) }
 {
-    let m = least(to, k.len());
-    let n = least(end, k.len());
-    let mut i = from;
+    let m = to.min(k.len());
+    let n = end.min(k.len());
+    // kept: j goes by hand beside i; a zip of both parts would stop at the shorter and leave their lengths, each cut off at the end, to be compared
     let mut j = start;
-    while i < m {
-        if n <= j {
+    for i in from..m {
+        if n <= j || k[i] != k[j] {
             return false;
         }
-        if k[i] != k[j] {
-            return false;
-        }
-        i += 1;
         j += 1;
     }
     n <= j

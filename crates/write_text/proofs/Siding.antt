@@ -18,8 +18,7 @@ use Rattle.language.specs.Between.{between}
 use Rattle.language.proofs.Laws.{hedges-read}
 use Rattle.language.proofs.Offsets.{between_cons}
 use Rattle.texts.specs.Writer.{is_empty}
-use Rattle.trees.specs.declared.Read.{Read}
-use Rattle.trees.specs.declared.Read.TheVariants.{Next, Stop}
+use Rattle.std.specs.Prelude.{Result, Ok, Err}
 use Rattle.trees.specs.Places.{placed}
 use Rattle.expressions.proofs.Standing.{word-of, tail_of}
 use Rattle.write_text.specs.Laid.{Laid}
@@ -138,11 +137,11 @@ empty-words (tvar x r) a b e = let s = some_words r in ne_eqb (a + 1) b (omega a
 empty-words (hvar p r) a b e = let s = some_words r in ne_eqb (a + 1) b (omega arith)
 empty-words (node f c r) a b e = let s = some_words r in let t = some_words c in let n = length-append (hedge_words c) (hedge_words r) in ne_eqb (a + 1) b (omega arith)
 
-place_of : (at : ℕ) (g : Got Hedge) (h : Hedge) (n e : ℕ) → g ≡ got h n → placed at g ≡ Next e → e ≡ at + n
+place_of : (at : ℕ) (g : Got Hedge) (h : Hedge) (n e : ℕ) → g ≡ got h n → placed at g ≡ Ok e → e ≡ at + n
 unfolding placed
 place_of at g h n e p q = let z = sym (ap (placed at) p) ∙ q in cc
 
-no_place : {A : Type 0} (at : ℕ) (g : Got Hedge) (h : Hedge) (n e : ℕ) → g ≡ got h n → placed at g ≡ Stop e → A
+no_place : {A : Type 0} (at : ℕ) (g : Got Hedge) (h : Hedge) (n e : ℕ) → g ≡ got h n → placed at g ≡ Err e → A
 unfolding placed
 no_place at g h n e p q = let z = sym (ap (placed at) p) ∙ q in absurd (let z : ◌≡◌ {A = ℕ} 0 1 = cc in omega arith)
 
@@ -154,10 +153,10 @@ module _ (w : List ℕ) (at : ℕ) where
   read-side h beyond s = ap (read_hedge desk) s.words ∙ (hedges-read desk).read_back h beyond s.fine
 
   -- what was read at a place lies within the words
-  pub side-within : (r : Read) (e : ℕ) → r ≡ placed at (read_hedge desk (drop at w)) → r ≡ Next e → (at < e) × (e ≤ length w)
+  pub side-within : (r : Result ℕ ℕ) (e : ℕ) → r ≡ placed at (read_hedge desk (drop at w)) → r ≡ Ok e → (at < e) × (e ≤ length w)
   side-within r e p q = on (read_hedge desk (drop at w)) refl (sym p ∙ q)
     where
-      on : (g : Got Hedge) → read_hedge desk (drop at w) ≡ g → placed at g ≡ Next e → (at < e) × (e ≤ length w)
+      on : (g : Got Hedge) → read_hedge desk (drop at w) ≡ g → placed at g ≡ Ok e → (at < e) × (e ≤ length w)
       on (got h n) i z =
           let f = (hedges-read desk).found (drop at w) h n i in
           let l = length-drop at w in
@@ -199,8 +198,8 @@ module _ (w : List ℕ) (at : ℕ) where
   low_word : {A : Type 0} (x : ℕ) (ws : List ℕ) → drop at w ≡ x ∷ ws → x < 3000 → 3000 ≤ get_or w at 0 → A
   low_word x ws e p q = let z = word-of w at e in absurd (omega arith)
 
-  module _ (last : ℕ) {m : ℕ} (g : Read) (p : 3000 ≤ get_or w at 0) (q : g ≡ placed (at + 1) (read_hedge desk (drop (at + 1) w))) where
-    pub one-functor : g ≡ Next m → Tells w at last (eqb m last)
+  module _ (last : ℕ) {m : ℕ} (g : Result ℕ ℕ) (p : 3000 ≤ get_or w at 0) (q : g ≡ placed (at + 1) (read_hedge desk (drop (at + 1) w))) where
+    pub one-functor : g ≡ Ok m → Tells w at last (eqb m last)
     one-functor z ε beyond s e = low_word 0 _ s.words (omega arith) p
     one-functor z (tvar x r) beyond s e = let b = s.fine.0 in low_word (1000 + x.0) _ s.words (omega arith) p
     one-functor z (hvar x r) beyond s e = let b = s.fine.0 in low_word (2000 + x.0) _ s.words (omega arith) p
@@ -210,7 +209,7 @@ module _ (w : List ℕ) (at : ℕ) where
         let t = some_words c in
         ap (λ k. eqb k last) (let z : m ≡ m - 1 + 1 = omega arith in z) ∙ empty-words r (m - 1) last (omega arith)
 
-    pub one-broken : g ≡ Stop m → Tells w at last false
+    pub one-broken : g ≡ Err m → Tells w at last false
     one-broken z ε beyond s e = refl
     one-broken z (tvar x r) beyond s e = let b = s.fine.0 in low_word (1000 + x.0) _ s.words (omega arith) p
     one-broken z (hvar x r) beyond s e = let b = s.fine.0 in low_word (2000 + x.0) _ s.words (omega arith) p
@@ -218,11 +217,11 @@ module _ (w : List ℕ) (at : ℕ) where
 
 -- ---- a side is written
 
-module _ {stop at to : ℕ} {w old : List ℕ} (g : Read) (q : g ≡ placed at (read_hedge desk (drop at w))) where
-  pub sided-none : {e : ℕ} → g ≡ Stop e → Sided stop w at old to old (record { end = at; to = to })
+module _ {stop at to : ℕ} {w old : List ℕ} (g : Result ℕ ℕ) (q : g ≡ placed at (read_hedge desk (drop at w))) where
+  pub sided-none : {e : ℕ} → g ≡ Err e → Sided stop w at old to old (record { end = at; to = to })
   sided-none {e} z = record { after = omega arith; each = λ h beyond s. no_place at _ h (length (hedge_words h)) e (read-side w at h beyond s) (sym q ∙ z) }
 
-  pub sided : {e n m k : ℕ} {last : ℕ} {one : Bool} {l₁ l₂ new : List ℕ} (a b : ℕ) → g ≡ Next e → last + 1 ≡ e → OneAt w at last one → a ≡ unless one 40 → Laid stop old to (given a) l₁ n
+  pub sided : {e n m k : ℕ} {last : ℕ} {one : Bool} {l₁ l₂ new : List ℕ} (a b : ℕ) → g ≡ Ok e → last + 1 ≡ e → OneAt w at last one → a ≡ unless one 40 → Laid stop old to (given a) l₁ n
       → Laid stop l₁ n (flat 0 (between at last w)) l₂ m → b ≡ unless one 41 → Laid stop l₂ m (given b) new k → Sided stop w at old to new (record { end = e; to = k })
   sided {e} {n} {m} {k} {last} {one} {l₁} {l₂} {new} a b z p o pa la lf pb lb = record {
     after = let y = side-within w at g e q z in omega arith;

@@ -13,27 +13,24 @@ use Rattle.language.specs.Kinds.{pick}
 use Rattle.language.specs.Trees.{Question}
 use Rattle.language.specs.Question.{asks, refuses, read_question}
 use Rattle.language.proofs.Bools.{holds, fails}
-use Rattle.outcomes.specs.declared.Checked.{Checked}
-use Rattle.outcomes.specs.declared.Checked.TheVariants.{Fine, Refused}
+use Rattle.std.specs.Prelude.{Result, Ok, Err}
 use Rattle.outcomes.specs.Numbers.{checked_numbers}
 use Rattle.reader.specs.Checking.{asked_numbers}
 use Rattle.reader.proofs.Answers.{as-checked, question-asked, question-refused}
 use Rattle.texts.specs.Writer.{all_text}
 use Rattle.texts.specs.Outcomes.{Outcome, gives, denies, as_read, lent, writes_text}
-use Rattle.write_text.specs.declared.Written.{Written}
-use Rattle.write_text.specs.declared.Written.TheVariants.{Given}
 use Rattle.write_text.specs.Standing.{IsQuestion, AllLined, Numbered}
 use Rattle.write_text.specs.Writes.{written_by, left_by}
 
 -- ---- the question's check
 
 module _ (w : List ℕ) where
-  pub fine-question : (c : Checked) → checked_numbers c ≡ asked_numbers (read_question desk w) → c ≡ Fine → IsQuestion w
+  pub fine-question : (c : Result (Unit {0}) Refusal) → checked_numbers c ≡ asked_numbers (read_question desk w) → c ≡ Ok tt → IsQuestion w
   fine-question c e f = let (q, i) = question-asked w (sym f ∙ as-checked c _ e) in record { question = q; read = i }
 
   -- ---- what comes back, and what the room holds
 
-  abbrev pub Ends : List ℕ → Written → List ℕ → Type 0
+  abbrev pub Ends : List ℕ → Result ℕ Refusal → List ℕ → Type 0
   Ends room v left = (v ≡ written_by (writes_text desk (length room) w)) × (left ≡ left_by (writes_text desk (length room) w) room)
 
   ends : (room : List ℕ) (o : Outcome) → writes_text desk (length room) w ≡ o → Ends room (written_by o) (left_by o room)
@@ -55,7 +52,7 @@ module _ (w : List ℕ) where
   unfolding lent
   too_long room t p = ap (λ b. pick b (gives t) (denies LongText)) (lt-leb (length t) room p)
 
-  pub ends-refused : {room : List ℕ} {r : Refusal} (c : Checked) → checked_numbers c ≡ asked_numbers (read_question desk w) → c ≡ Refused r → Ends room (written_by (denies r)) room
+  pub ends-refused : {room : List ℕ} {r : Refusal} (c : Result (Unit {0}) Refusal) → checked_numbers c ≡ asked_numbers (read_question desk w) → c ≡ Err r → Ends room (written_by (denies r)) room
   ends-refused {room} {r} c e f = ends room (denies r) (denied (length room) r (question-refused w r (sym f ∙ as-checked c _ e)))
 
   abbrev text_of : IsQuestion w → List ℕ
@@ -76,10 +73,10 @@ module _ (w : List ℕ) where
       pub ends-long : {room : List ℕ} → stop ≡ length room + 1 → e ≡ stop → Ends room (written_by (denies LongText)) room
       ends-long {room} s p = let c = reached in ends room (denies LongText) (lends room ∙ too_long (length room) (text_of q) (omega arith))
 
-      pub ends-written : {room new : List ℕ} {e' : ℕ} → stop ≡ length room + 1 → (e ≡ stop → ⊥) → AllLined stop w room new e' → Ends room (Given e) new
+      pub ends-written : {room new : List ℕ} {e' : ℕ} → stop ≡ length room + 1 → (e ≡ stop → ⊥) → AllLined stop w room new e' → Ends room (Ok e) new
       ends-written {room} {new} {e'} s p k =
           let c = reached in
           let i : length (text_of q) ≤ length room = omega arith in
           let o = ends room (gives (text_of q)) (lends room ∙ fits (length room) (text_of q) i) in
           let y : e ≡ length (text_of q) = omega arith in
-          (ap Given y ∙ o.0, (k q.question q.read).list (omega arith) ∙ o.1)
+          (ap Ok y ∙ o.0, (k q.question q.read).list (omega arith) ∙ o.1)

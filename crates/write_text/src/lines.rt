@@ -50,13 +50,11 @@ pub(crate) fn put_lines(w: &[u16], out: &mut [u8], stop: usize) -> usize
     ensures { AllLined stop w.now out.old out.new result }
 {
     let many = wide(w[4]);
-    let mut i = 0;
     let mut n = 0;
-    while i < many {
+    for i in 0..many {
         let from = wide(w[5 + i]);
         let to = wide(w[6 + i]);
         n = put_line(&w[from..to], out, stop, n);
-        i += 1;
     }
     n
 }

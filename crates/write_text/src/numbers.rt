@@ -39,15 +39,13 @@ fn are_counted(w: &[u16], from: usize, base: u16, least: u16, declared: u16) -> 
     requires { base ≤ 4000 }
     ensures { result ≡ counted_as least declared (in_order 0 (numbers_in base (drop from w.now))) }
 {
-    let mut i = from;
     let mut n = 0;
-    while i < w.len() {
+    for i in from..w.len() {
         let m = after_word(base, n, w[i]);
         if 1000 < m {
             return false;
         }
         n = m;
-        i += 1;
     }
     if n < least {
         return least == declared;

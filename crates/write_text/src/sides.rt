@@ -7,7 +7,7 @@ ghost use Rattle.write_text.specs.Standing.{OneAt, Sided};
 
 use crate::Wrote;
 use crate::bytes::{put, put_word};
-use trees::{Read, read_hedge};
+use trees::read_hedge;
 
 // What stands before the next word: a functor, or an element.
 fn after(x: u16) -> u8
@@ -24,14 +24,12 @@ fn put_elements(w: &[u16], from: usize, end: usize, out: &mut [u8], stop: usize,
     requires { (from ≤ end) × (end ≤ length w.now) }
     ensures { Laid stop out.old to (flat 0 (between from end w.now)) out.new result }
 {
-    let mut i = from;
     let mut n = to;
     let mut s = 0;
-    while i < end {
+    for i in from..end {
         let x = w[i];
         n = put_word(out, stop, n, s, x);
         s = after(x);
-        i += 1;
     }
     n
 }
@@ -50,8 +48,8 @@ fn is_one(w: &[u16], at: usize, last: usize) -> bool
         return at + 1 == last;
     }
     match read_hedge(w, at + 1) {
-        Read::Next(m) => m == last,
-        Read::Stop(_) => false,
+        Ok(m) => m == last,
+        Err(_) => false,
     }
 }
 
@@ -69,7 +67,7 @@ pub(crate) fn put_side(w: &[u16], at: usize, out: &mut [u8], stop: usize, to: us
     ensures { Sided stop w.now at out.old to out.new result }
 {
     match read_hedge(w, at) {
-        Read::Next(e) => {
+        Ok(e) => {
             let last = e - 1;
             let one = is_one(w, at, last);
             let n = put(out, stop, to, bracket(one, 40));
@@ -77,6 +75,6 @@ pub(crate) fn put_side(w: &[u16], at: usize, out: &mut [u8], stop: usize, to: us
             let k = put(out, stop, m, bracket(one, 41));
             Wrote { end: e, to: k }
         }
-        Read::Stop(_) => Wrote { end: at, to },
+        Err(_) => Wrote { end: at, to },
     }
 }

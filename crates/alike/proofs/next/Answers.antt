@@ -1,4 +1,3 @@
-use Prim.Native.Nat.{◌-◌}
 use native.Mathlib.Omega.{arith}
 use Rattle.passing.proofs.Standing.{hedge-lt, children, skipped-less}
 use Rattle.alike.proofs.Finding.{passes-start, passes_on, passes-free, passes-end}

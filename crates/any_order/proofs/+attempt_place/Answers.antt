@@ -1,9 +1,9 @@
-use Prim.Native.Nat.{ℕ, ◌+◌, ◌-◌}
+use Prim.Native.Nat.{ℕ, ◌+◌}
 use mathlib.Core.Bool.{not}
 use mathlib.Core.Path.{ap}
 use native.Mathlib.Omega.{arith}
 use borrow.Author.Rules.{rules}
-use lib.ListN.{length, get_or, length-set}
+use lib.ListN.{get_or, length-set}
 use Rattle.any_order.proofs.Placing.{few-of, ready_read, ready-bound, ready-lt, ready-some, ready-room, ready_on, on-less, bumped-one, restored, attempted, placed-top, loop-starts, loop-passed, loop-failed, loop-stuck, loop-found, loop-place, loop-none}
 use Rattle.any_order.proofs.+attempt_place.Goals as goal
 
@@ -82,8 +82,8 @@ place-bounds-w-kind t c = omega (arith, ready_read c.requires.ready c.if-kind-to
 pub place-overflow_add-end-2 : goal.place-overflow_add-end-2
 place-overflow_add-end-2 t c = omega (arith, ready_read c.requires.ready c.if-kind-top.false)
 
-pub place-overflow_add-i : goal.place-overflow_add-i
-place-overflow_add-i t c = omega (arith, ready_read c.requires.ready c.if-kind-top.false)
+pub place-overflow_step-i : goal.place-overflow_step-i
+place-overflow_step-i t c = omega (arith, ready_read c.requires.ready c.if-kind-top.false)
 
 pub place-loop-i-init : goal.place-loop-i-init
 place-loop-i-init t c = search (loop-starts)
@@ -94,35 +94,32 @@ place-offset_bounds-w-i t c = omega (arith, ready_read c.requires.ready c.if-kin
 pub place-bounds-w-i : goal.place-bounds-w-i
 place-bounds-w-i t c = omega (arith, ready_read c.requires.ready c.if-kind-top.false)
 
-pub place-overflow_add-i-then-p-floor : goal.place-overflow_add-i-then-p-floor
-place-overflow_add-i-then-p-floor t c = omega (arith, ready_read c.requires.ready c.if-kind-top.false)
-
 pub place-loop-i-preserved-then-p-floor : goal.place-loop-i-preserved-then-p-floor
 place-loop-i-preserved-then-p-floor t c = search (loop-passed)
 
-pub place-possible-requires-else-p-floor-clause-expression : goal.place-possible-requires-else-p-floor-clause-expression
-place-possible-requires-else-p-floor-clause-expression t c = search rules
+pub place-possible-requires-in-loop-i-clause-expression : goal.place-possible-requires-in-loop-i-clause-expression
+place-possible-requires-in-loop-i-clause-expression t c = search rules
 
-pub place-possible-requires-else-p-floor-clause-e_len_bound : goal.place-possible-requires-else-p-floor-clause-e_len_bound
-place-possible-requires-else-p-floor-clause-e_len_bound t c = omega arith
+pub place-possible-requires-in-loop-i-clause-e_len_bound : goal.place-possible-requires-in-loop-i-clause-e_len_bound
+place-possible-requires-in-loop-i-clause-e_len_bound t c = omega arith
 
-pub place-possible-requires-else-p-floor-clause-e_in_bounds : goal.place-possible-requires-else-p-floor-clause-e_in_bounds
-place-possible-requires-else-p-floor-clause-e_in_bounds t c = omega (arith, c.loop-i.invariant.long)
+pub place-possible-requires-in-loop-i-clause-e_in_bounds : goal.place-possible-requires-in-loop-i-clause-e_in_bounds
+place-possible-requires-in-loop-i-clause-e_in_bounds t c = omega (arith, c.loop-i.invariant.long)
 
-pub place-possible-requires-else-p-floor-clause-e_in_bounds_2 : goal.place-possible-requires-else-p-floor-clause-e_in_bounds_2
-place-possible-requires-else-p-floor-clause-e_in_bounds_2 t c = omega arith
+pub place-possible-requires-in-loop-i-clause-e_in_bounds_2 : goal.place-possible-requires-in-loop-i-clause-e_in_bounds_2
+place-possible-requires-in-loop-i-clause-e_in_bounds_2 t c = omega arith
 
-pub place-possible-requires-else-p-floor-clause-few : goal.place-possible-requires-else-p-floor-clause-few
-place-possible-requires-else-p-floor-clause-few t c = few-of c.loop-i.invariant.ready
+pub place-possible-requires-in-loop-i-clause-few : goal.place-possible-requires-in-loop-i-clause-few
+place-possible-requires-in-loop-i-clause-few t c = few-of c.loop-i.invariant.ready
 
-pub place-possible-requires-else-p-floor-clause-kind_bound : goal.place-possible-requires-else-p-floor-clause-kind_bound
-place-possible-requires-else-p-floor-clause-kind_bound t c = omega (arith, ready_read c.requires.ready c.if-kind-top.false)
+pub place-possible-requires-in-loop-i-clause-kind_bound : goal.place-possible-requires-in-loop-i-clause-kind_bound
+place-possible-requires-in-loop-i-clause-kind_bound t c = omega (arith, ready_read c.requires.ready c.if-kind-top.false)
 
 pub place-returns-then-not-possible-clause-placed : goal.place-returns-then-not-possible-clause-placed
-place-returns-then-not-possible-clause-placed t c = (loop-stuck c.wide-p.ensures c.loop-i.invariant c.wide.ensures c.loop-i-test.true c.if-kind-top.false c.possible-else-p-floor.ensures (ap not c.if-not-possible.true)).0
+place-returns-then-not-possible-clause-placed t c = (loop-stuck c.wide-p.ensures c.loop-i.invariant c.wide.ensures c.loop-i-test.true c.if-kind-top.false c.possible-in-loop-i.ensures (ap not c.if-not-possible.true)).0
 
 pub place-returns-then-not-possible-clause-c_unchanged : goal.place-returns-then-not-possible-clause-c_unchanged
-place-returns-then-not-possible-clause-c_unchanged t c = (loop-stuck c.wide-p.ensures c.loop-i.invariant c.wide.ensures c.loop-i-test.true c.if-kind-top.false c.possible-else-p-floor.ensures (ap not c.if-not-possible.true)).1
+place-returns-then-not-possible-clause-c_unchanged t c = (loop-stuck c.wide-p.ensures c.loop-i.invariant c.wide.ensures c.loop-i-test.true c.if-kind-top.false c.possible-in-loop-i.ensures (ap not c.if-not-possible.true)).1
 
 pub place-attempt-requires : goal.place-attempt-requires
 place-attempt-requires t c = (omega arith, (search rules, (omega arith, (omega (arith, c.loop-i.invariant.long), (omega arith, (c.loop-i.invariant.ready, (ready-lt c.requires.ready c.if-kind-top.false, loop-place c.wide-p.ensures c.loop-i.invariant c.wide.ensures c.loop-i-test.true c.if-kind-top.false)))))))
@@ -132,9 +129,6 @@ place-returns-then-attempt-clause-placed t c = (loop-found c.wide-p.ensures c.lo
 
 pub place-returns-then-attempt-clause-c_unchanged : goal.place-returns-then-attempt-clause-c_unchanged
 place-returns-then-attempt-clause-c_unchanged t c = (loop-found c.wide-p.ensures c.loop-i.invariant c.wide.ensures c.loop-i-test.true c.if-kind-top.false c.if-p-floor.false c.attempt.ensures.attempted c.attempt.ensures.c_unchanged c.if-attempt.true).1
-
-pub place-overflow_add-i-else-p-floor : goal.place-overflow_add-i-else-p-floor
-place-overflow_add-i-else-p-floor t c = omega (arith, ready_read c.requires.ready c.if-kind-top.false)
 
 pub place-loop-i-preserved : goal.place-loop-i-preserved
 place-loop-i-preserved t c = loop-failed c.wide-p.ensures c.loop-i.invariant c.attempt.ensures.attempted c.if-attempt.false c.attempt.ensures.c_unchanged

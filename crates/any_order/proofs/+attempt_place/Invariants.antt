@@ -11,6 +11,3 @@ decreases-place l = 2 * ((l.top - l.kind) * 65536 + l.times) + 1
 
 abbrev pub invariant-place-loop-i : goal.invariant-place-loop-i
 invariant-place-loop-i l = Loop l.e l.at l.w l.initial.c l.c l.l l.kind l.times l.floor l.top l.i
-
-abbrev pub decreases-place-loop-i : goal.decreases-place-loop-i
-decreases-place-loop-i l = l.end - l.i

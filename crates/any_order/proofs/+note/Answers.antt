@@ -1,4 +1,3 @@
-use Prim.Native.Nat.{◌-◌}
 use native.Mathlib.Omega.{arith}
 use Rattle.any_order.proofs.Noting.{listed-fits, listed-mark, listed-on, noted-none, noted_more}
 use Rattle.any_order.proofs.+note.Goals as goal

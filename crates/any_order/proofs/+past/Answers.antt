@@ -1,4 +1,3 @@
-use Prim.Native.Nat.{◌-◌}
 use native.Mathlib.Omega.{arith}
 use Rattle.any_order.proofs.Standing.{expression-lt, first, second, less, past-each, past-eps, past-over, past-star, past_two}
 use Rattle.any_order.proofs.+past.Goals as goal

@@ -1,4 +1,3 @@
-use Prim.Native.Nat.{◌-◌}
 use native.Mathlib.Omega.{arith}
 use Rattle.cases.proofs.Laws.{starts, passes, ends-here, ends_last}
 use Rattle.cases.proofs.line_end.Goals as goal

@@ -1,5 +1,4 @@
 use native.Mathlib.Omega.{arith}
-use Prim.Native.Nat.{◌-◌}
 use Rattle.charts.proofs.Levels.{way-start, way-lower, way-under, way_end, way-past}
 use Rattle.charts.proofs.level_of.Goals as goal
 
@@ -8,9 +7,6 @@ returns-then-k-x c = way-past c.if-k-x.true c.loop-x.invariant
 
 pub loop-x-preserved-then-k-x-lt7000 : goal.loop-x-preserved-then-k-x-lt7000
 loop-x-preserved-then-k-x-lt7000 c = way-under c.loop-x-test.true c.if-k-x.false c.if-k-x-lt7000.true c.loop-x.invariant
-
-pub lower-x-requires : goal.lower-x-requires
-lower-x-requires c = (c.requires, omega arith)
 
 pub loop-x-smaller : goal.loop-x-smaller
 loop-x-smaller c = let h = c.lower-x.ensures.further in omega arith

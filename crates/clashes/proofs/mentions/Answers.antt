@@ -1,6 +1,6 @@
 use Prim.Native.Nat.{◌-◌}
 use native.Mathlib.Omega.{arith}
-use mathlib.Core.Path.{refl, sym, ◌∙◌}
+use mathlib.Core.Path.{sym, ◌∙◌}
 use Rattle.clashes.proofs.Unordered.{some-none, some-here, some_next}
 use Rattle.clashes.proofs.mentions.Goals as goal
 
@@ -14,6 +14,3 @@ loop-i-preserved c = let p = c.requires in
 
 pub returns : goal.returns
 returns c = some-none _ _ _ _ c.loop-i-test.false ∙ c.loop-i.invariant
-
-pub loop-i-init : goal.loop-i-init
-loop-i-init c = refl

@@ -7,6 +7,3 @@ use Rattle.clashes.proofs.mentions.Given as goal
 
 abbrev pub invariant-loop-i : goal.invariant-loop-i
 invariant-loop-i l = some_unordered l.s (slice l.i l.to l.k) ≡ some_unordered l.s (slice l.from l.to l.k)
-
-abbrev pub decreases-loop-i : goal.decreases-loop-i
-decreases-loop-i l = l.to - l.i

@@ -8,6 +8,3 @@ use Rattle.counts.proofs.count_in.Given as goal
 
 abbrev pub invariant-loop-i : goal.invariant-loop-i
 invariant-loop-i l = (length l.t ≡ table) × ((x : ℕ) → get_or l.t x 0 + (l.to - l.i) < 65536) × (added (slice l.i l.to l.k) l.t ≡ added (slice l.from l.to l.k) l.initial.t)
-
-abbrev pub decreases-loop-i : goal.decreases-loop-i
-decreases-loop-i l = l.to - l.i

@@ -10,7 +10,7 @@ pub returns-then-sheet-lt2 : goal.returns-then-sheet-lt2
 returns-then-sheet-lt2 c = short-sheet _ c.if-sheet-ne0.false c.if-sheet-lt2.true
 
 pub returns-then-n-gt-SHEETS : goal.returns-then-n-gt-SHEETS
-returns-then-n-gt-SHEETS c = many-sheet _ c.if-sheet-ne0.false _ (c.wide-n.ensures ∙ c.word_at.ensures) c.if-n-gt-SHEETS.true
+returns-then-n-gt-SHEETS c = many-sheet _ c.if-sheet-ne0.false _ (c.from-n.ensures ∙ c.word_at.ensures) c.if-n-gt-SHEETS.true
 
 pub returns : goal.returns
-returns c = few-sheet _ c.if-sheet-ne0.false _ (c.wide-n.ensures ∙ c.word_at.ensures) c.if-n-gt-SHEETS.false _ c.table.ensures
+returns c = few-sheet _ c.if-sheet-ne0.false _ (c.from-n.ensures ∙ c.word_at.ensures) c.if-n-gt-SHEETS.false _ c.table.ensures

@@ -1,5 +1,5 @@
 -- `day::rises` meets its contract. The loop keeps what is to be returned.
-use Prim.Native.Nat.{◌≤◌, ◌-◌, ◌/◌}
+use Prim.Native.Nat.{◌/◌}
 use mathlib.Core.Path.{◌≡◌}
 use lib.ListN.{length, drop}
 use Rattle.language.specs.Question.{rising}
@@ -9,7 +9,4 @@ use Rattle.day.proofs.Headers.{rest}
 use Rattle.day.proofs.rises.Given as goal
 
 abbrev pub invariant-loop-i : goal.invariant-loop-i
-invariant-loop-i l = (l.i ≤ l.n) × (rising l.from (rest (words_of l.sheet) l.n l.i) (length l.sheet / 2) ≡ rising (parts_at l.n) (undoubled l.n (drop 3 (words_of l.sheet))) (length l.sheet / 2))
-
-abbrev pub decreases-loop-i : goal.decreases-loop-i
-decreases-loop-i l = l.n - l.i
+invariant-loop-i l = rising l.from (rest (words_of l.sheet) l.n l.i) (length l.sheet / 2) ≡ rising (parts_at l.n) (undoubled l.n (drop 3 (words_of l.sheet))) (length l.sheet / 2)

@@ -6,4 +6,4 @@ use Rattle.equation_recipes.specs.Recipes.{tried}
 use Rattle.elimination_plans.proofs.plan_e7.Goals as goal
 
 pub returns : goal.returns
-returns c = ap (single _) c.full-first.ensures ∙ ap (λ (a : Within). tried c.args.v a c.args.symbols) c.inner-left.ensures
+returns c = c.single.ensures ∙ ap (single _) c.full-first.ensures ∙ ap (λ (a : Within). tried c.args.v a c.args.symbols) c.inner-left.ensures

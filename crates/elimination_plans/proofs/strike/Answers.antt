@@ -7,4 +7,4 @@ use Rattle.elimination_plans.proofs.strike.Goals as goal
 
 pub returns : goal.returns
 returns c = let a = c.args in
-    ap (single _) c.full-first.ensures ∙ ap (λ (b : Within). struck a.v a.i b.from) c.inner-behind.ensures
+    c.single.ensures ∙ ap (single _) c.full-first.ensures ∙ ap (λ (b : Within). struck a.v a.i b.from) c.inner-behind.ensures

@@ -1,4 +1,3 @@
-use Prim.Native.Nat.{◌-◌}
 use native.Mathlib.Omega.{arith}
 use Rattle.filling.proofs.Writes.{writing-starts, writing-fits, writing-on, writing-ends}
 use Rattle.filling.proofs.fill_in.Goals as goal

@@ -1,4 +1,3 @@
-use Prim.Native.Nat.{◌-◌}
 use native.Mathlib.Omega.{arith}
 use Rattle.filling.proofs.Filled.{counted-starts, counted-fits, counted-on, counted-ends}
 use Rattle.filling.proofs.filled_len.Goals as goal

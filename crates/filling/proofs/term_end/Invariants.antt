@@ -1,11 +1,6 @@
 -- `filling::term_end` meets its contract. The invariant: what is still to come makes up the term's words.
-use Prim.Native.Nat.{◌-◌}
-use lib.ListN.{length}
 use Rattle.filling.proofs.Terms.{Closing}
 use Rattle.filling.proofs.term_end.Given as goal
 
 abbrev pub invariant-loop-i : goal.invariant-loop-i
 invariant-loop-i l = Closing l.words l.at l.depth l.i
-
-abbrev pub decreases-loop-i : goal.decreases-loop-i
-decreases-loop-i l = length l.words - l.i

@@ -1,6 +1,5 @@
 use native.Mathlib.Omega.{arith}
 use mathlib.Core.Path.{refl, sym, ◌∙◌}
-use Prim.Native.Nat.{◌-◌}
 use Rattle.finds.proofs.Walks.{pass-start, pass_on, goes_on, term-some, word-term, word-empty, all_terms-on, all_terms-end}
 use Rattle.finds.proofs.Firsts.{gone-start}
 use Rattle.finds.proofs.Stops.{terms-on, terms-end}

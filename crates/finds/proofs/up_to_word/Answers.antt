@@ -1,6 +1,5 @@
 use native.Mathlib.Omega.{arith}
 use mathlib.Core.Path.{sym, ◌∙◌}
-use Prim.Native.Nat.{◌-◌}
 use Rattle.finds.proofs.Walks.{pass-start, pass_on, goes_on, term-some, word-term}
 use Rattle.finds.proofs.Searches.{without-start, without_on, without-found, without_end}
 use Rattle.finds.proofs.Firsts.{gone-start}

@@ -1,16 +1,15 @@
-use Prim.Native.Nat.{ℕ, ◌+◌, ◌-◌, ◌/◌, ◌≤◌}
+use Prim.Native.Nat.{ℕ, ◌+◌, ◌/◌, ◌≤◌}
 use native.Mathlib.Omega.{arith}
 use mathlib.Core.Path.{◌≡◌, refl, ap, ◌∙◌}
 use mathlib.Core.List.{List}
 use lib.ListN.{length, length-replicate}
 use Rattle.language.specs.Limits.{desk}
-use Rattle.language.specs.Trees.{Conj}
 use Rattle.language.specs.Writing.{conj_words}
 use Rattle.language.proofs.Sizes.{literal-three}
 use Rattle.views.proofs.Seen.{literal-next}
 use Rattle.views.proofs.LiteralWalks.{walk-starts, walk_here, walk-to, walk_ends}
-use Rattle.folding.proofs.Twice.{twice_from, twice-is}
-use Rattle.folding.proofs.Tables.{Table, table_empty}
+use Rattle.folding.proofs.Twice.{twice-is}
+use Rattle.folding.proofs.Tables.{table_empty}
 use Rattle.folding.proofs.Noting.{falls-on, falls-empty, zeros, noted, literal-within}
 use Rattle.folding.proofs.first_twice.Invariants.{Known}
 use Rattle.folding.proofs.first_twice.Goals as goal
@@ -36,10 +35,10 @@ pub loop-i-preserved : goal.loop-i-preserved
 loop-i-preserved c = let e = c.next_literal-end.ensures in (
   falls-on c.note-p.ensures (walk_here c.args.k.now c.requires.conjunction.conj c.requires.conjunction.fine c.requires.conjunction.words c.loop-i.i (Known c.args.k.now c.loop-i.heads c.loop-i.next c.loop-i.best) (c.loop-i.i + 3 ≤ c.next_literal-end.result) (c.loop-i.invariant.1 c.requires.conjunction.conj c.requires.conjunction.fine c.requires.conjunction.words) c.loop-i-test.true (λ done l rest p d. let z = e ∙ literal-next p in let y = literal-three l in omega arith)) c.loop-i.invariant.0,
   λ x f w.
-      walk-to c.args.k.now x f w c.loop-i.i (Known c.args.k.now c.loop-i.heads c.loop-i.next c.loop-i.best) (Known c.args.k.now _ _ c.least-best.result) _ (c.loop-i.invariant.1 x f w) c.loop-i-test.true
+      walk-to c.args.k.now x f w c.loop-i.i (Known c.args.k.now c.loop-i.heads c.loop-i.next c.loop-i.best) (Known c.args.k.now _ _ c.min-best.result) _ (c.loop-i.invariant.1 x f w) c.loop-i-test.true
       (λ done l rest p d.
       let n = noted p _ (e ∙ literal-next p) d.0 c.loop-i.invariant.0 c.loop-i.best d.1 _ _ _ c.note-p.ensures in
-      (e ∙ literal-next p, (n.0, c.least-best.ensures ∙ n.1))),
+      (e ∙ literal-next p, (n.0, c.min-best.ensures ∙ n.1))),
 )
 
 pub returns : goal.returns

@@ -11,12 +11,12 @@ returns-then-same_part c = met (c.loop-p.invariant.1 _ (here (omega arith))) (sy
 
 pub loop-p-smaller : goal.loop-p-smaller
 loop-p-smaller c = let q = c.loop-p.p - 1 in
-    let z = c.requires.4 (q / 3) in let x = in_row q in let y = c.wide-p.ensures in omega arith
+    let z = c.requires.4 (q / 3) in let x = in_row q in let y = c.from-p.ensures in omega arith
 
 pub loop-p-preserved : goal.loop-p-preserved
 loop-p-preserved c = let z = c.requires.4 ((c.loop-p.p - 1) / 3) in
     let x = in_row (c.loop-p.p - 1) in
-    let y = c.wide-p.ensures in (
+    let y = c.from-p.ensures in (
       omega arith,
       λ q r. c.loop-p.invariant.1 q (further (c.loop-p.p - 1) (omega arith) (subst (λ n. Held c.args.next.now n q) y r)),
       left-on c.args.k.now c.args.next.now c.args.first c.args.at c.args.end c.loop-p.p c.loop-p.invariant.2 (c.loop-p.p - 1) _ (omega arith) y (sym c.same_part.ensures ∙ c.if-same_part.false),

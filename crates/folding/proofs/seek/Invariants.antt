@@ -1,5 +1,5 @@
 -- `seek`: what is left of the chain was not compared yet.
-use Prim.Native.Nat.{ℕ, ◌-◌, ◌≤◌}
+use Prim.Native.Nat.{ℕ, ◌≤◌}
 use Rattle.folding.specs.Chains.{Held}
 use Rattle.folding.proofs.Chains.{Left}
 use Rattle.folding.proofs.seek.Given as goal

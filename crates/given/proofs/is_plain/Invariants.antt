@@ -7,6 +7,3 @@ use Rattle.given.proofs.is_plain.Given as goal
 
 abbrev pub invariant-loop-i : goal.invariant-loop-i
 invariant-loop-i l = plain_words l.symbols (drop l.i l.words) ≡ plain_words l.symbols l.words
-
-abbrev pub decreases-loop-i : goal.decreases-loop-i
-decreases-loop-i l = length l.words - l.i

@@ -7,8 +7,8 @@ use Rattle.given.proofs.is_term.Goals as goal
 pub returns-then-value-lt2 : goal.returns-then-value-lt2
 returns-then-value-lt2 c = few_words _ (omega arith)
 
-pub returns-in-Next : goal.returns-in-Next
-returns-in-Next c = term-next _ _ (omega arith) (sym c.read_hedge.ensures ∙ c.in-Next.is)
+pub returns-in-Ok : goal.returns-in-Ok
+returns-in-Ok c = term-next _ _ (omega arith) (sym c.read_hedge.ensures ∙ c.in-Ok.is)
 
-pub returns-in-Stop : goal.returns-in-Stop
-returns-in-Stop c = term-stop _ _ (omega arith) (sym c.read_hedge.ensures ∙ c.in-Stop.is)
+pub returns-in-Err : goal.returns-in-Err
+returns-in-Err c = term-stop _ _ (omega arith) (sym c.read_hedge.ensures ∙ c.in-Err.is)

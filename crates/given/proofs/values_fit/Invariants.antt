@@ -9,7 +9,4 @@ use Rattle.given.proofs.Forms.{value_test}
 use Rattle.given.proofs.values_fit.Given as goal
 
 abbrev pub invariant-loop-i : goal.invariant-loop-i
-invariant-loop-i l = (2 ≤ l.i) × (l.i ≤ l.stop) × (l.stop ≡ l.n + 2) × (l.stop ≤ length l.filling) × (l.n ≡ variables (counts_in l.h)) × Walk (passing (value_test (counts_in l.h))) 1 l.n l.filling l.i l.from
-
-abbrev pub decreases-loop-i : goal.decreases-loop-i
-decreases-loop-i l = l.stop - l.i
+invariant-loop-i l = (l.stop ≡ l.n + 2) × (l.stop ≤ length l.filling) × (l.n ≡ variables (counts_in l.h)) × Walk (passing (value_test (counts_in l.h))) 1 l.n l.filling l.i l.from

@@ -25,10 +25,10 @@ module _ (w : List ℕ) (head n h m : ℕ) (eh : h ≡ head) (em : m ≡ n) wher
     rest z = sym (laid-rest h m w p (sym e ∙ z)) ∙ same
 
 pub returns-then-w-first : goal.returns-then-w-first
-returns-then-w-first c = short _ _ _ _ _ c.wide-at.ensures c.wide.ensures c.if-w-first.true
+returns-then-w-first c = short _ _ _ _ _ c.from-at.ensures c.from.ensures c.if-w-first.true
 
-pub returns-then-wide-first : goal.returns-then-wide-first
-returns-then-wide-first c = elsewhere _ _ _ _ _ c.wide-at.ensures c.wide.ensures c.if-w-first.false _ c.wide-2.ensures c.if-wide-first.true
+pub returns-then-from-first : goal.returns-then-from-first
+returns-then-from-first c = elsewhere _ _ _ _ _ c.from-at.ensures c.from.ensures c.if-w-first.false _ c.from-2.ensures c.if-from-first.true
 
 pub returns : goal.returns
-returns c = c.rises.ensures ∙ rest _ _ _ _ _ c.wide-at.ensures c.wide.ensures c.if-w-first.false _ c.wide-2.ensures c.if-wide-first.false
+returns c = c.rises.ensures ∙ rest _ _ _ _ _ c.from-at.ensures c.from.ensures c.if-w-first.false _ c.from-2.ensures c.if-from-first.false

@@ -1,6 +1,6 @@
 -- `host::desk_solve` meets its contract: the words lent come to what the bytes come to.
 use Prim.Native.Nat.{ℕ}
-use mathlib.Core.Path.{◌≡◌}
+use mathlib.Core.Path.{◌≡◌, ◌∙◌}
 use mathlib.Core.List.{List}
 use lib.ListN.{length, replicate, length-replicate}
 use Rattle.language.specs.Limits.{desk}
@@ -17,7 +17,7 @@ long : length clear ≡ desk.room
 long = length-replicate {A = ℕ} desk.room 0
 
 pub returns-clause-value : goal.returns-clause-value
-returns-clause-value c = (solved-told _ _ c.if-answer-lt-ANSWER_BYTES.false _ clear clear _ _ _ _ c.take_words-n.ensures.words_after.0 long long c.solve.ensures c.solved_number-number.ensures _ c.solve.auto.answer c.put_answer.ensures).0
+returns-clause-value c = c.from.ensures ∙ (solved-told _ _ c.if-answer-lt-ANSWER_BYTES.false _ clear clear _ _ _ _ c.take_words-n.ensures.words_after.0 long long c.solve.ensures c.solved_number-number.ensures _ c.solve.auto.answer c.put_answer.ensures).0
 
 pub returns-clause-answer_after : goal.returns-clause-answer_after
 returns-clause-answer_after c = (solved-told _ _ c.if-answer-lt-ANSWER_BYTES.false _ clear clear _ _ _ _ c.take_words-n.ensures.words_after.0 long long c.solve.ensures c.solved_number-number.ensures _ c.solve.auto.answer c.put_answer.ensures).1

@@ -1,4 +1,3 @@
-use Prim.Native.Nat.{◌-◌}
 use native.Mathlib.Omega.{arith}
 use Rattle.orders.proofs.Rows.{moving-none, moving-one, moved}
 use Rattle.in_order.proofs.without.Goals as goal

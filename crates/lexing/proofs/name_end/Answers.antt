@@ -1,4 +1,3 @@
-use Prim.Native.Nat.{◌-◌}
 use native.Mathlib.Omega.{arith}
 use mathlib.Core.Path.{sym, ◌∙◌}
 use borrow.Author.Rules.{rules}
@@ -16,4 +15,4 @@ pub loop-i-preserved : goal.loop-i-preserved
 loop-i-preserved c = walk-on name_byte _ _ _ c.loop-i.invariant (omega arith) (sym c.is_name_byte.ensures ∙ c.if-not-is_name_byte.false)
 
 pub returns : goal.returns
-returns c = walk_ends name_byte _ _ _ c.loop-i.invariant (omega arith)
+returns c = let e = walk_ends name_byte _ _ _ c.loop-i.invariant (omega arith) in let w = c.loop-i.invariant.within in omega arith

@@ -1,12 +1,7 @@
 -- `lexing::skip` meets its contract: along the blanks.
-use Prim.Native.Nat.{◌-◌}
-use lib.ListN.{length}
 use Rattle.grammar.specs.Tokens.{blank}
 use Rattle.lexing.proofs.Laws.{Walk}
 use Rattle.lexing.proofs.skip.Given as goal
 
 abbrev pub invariant-loop-i : goal.invariant-loop-i
 invariant-loop-i l = Walk blank l.text l.at l.i
-
-abbrev pub decreases-loop-i : goal.decreases-loop-i
-decreases-loop-i l = length l.text - l.i

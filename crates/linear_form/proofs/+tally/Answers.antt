@@ -1,5 +1,4 @@
 use native.Mathlib.Omega.{arith}
-use Prim.Native.Nat.{◌-◌}
 use mathlib.Core.Path.{sym, ◌∙◌}
 use Rattle.linear_form.proofs.Charting.{chart-from}
 use Rattle.linear_form.proofs.Tallying.{tallies-end, tallies-eps, tallies-over, tallies-star, tallies-first, tallies-both}

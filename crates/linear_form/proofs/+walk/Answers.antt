@@ -1,5 +1,4 @@
 use native.Mathlib.Omega.{arith}
-use Prim.Native.Nat.{◌-◌}
 use mathlib.Core.Path.{sym, ◌∙◌}
 use Rattle.linear_form.proofs.Charting.{chart-from}
 use Rattle.linear_form.proofs.Walking.{walks-end, walks-eps, walks-over, walks-star, walks-first, walks-both}

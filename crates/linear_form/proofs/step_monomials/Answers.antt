@@ -8,7 +8,8 @@ use Rattle.views.specs.Standing.{LiteralAt}
 use Rattle.views.specs.Views.{Shows, MembershipAt}
 use Rattle.plans.specs.Sizes.{monomial_words}
 use Rattle.linear_form.specs.Rows.{SomeMembership}
-use Rattle.taking.proofs.Taken.{took-long, took-room, took-ready, took-done}
+use Rattle.std.proofs.lemmas.Result.{err_from_is_err_and}
+use Rattle.taking.proofs.Taken.{took-size, took-long, took-room, took-ready, took-done}
 use Rattle.linear_form.proofs.step_monomials.Goals as goal
 
 -- the membership, shown
@@ -24,30 +25,35 @@ size_monomials-requires c = record {
 
 pub write_monomials-requires : goal.write_monomials-requires
 write_monomials-requires c = let d = c.requires.k_len_bound in
-    let m = shown-at c.args.k.now c.args.literal _ c.show_membership-s.ensures.0 c.requires.some_membership in record {
+    let m = shown-at c.args.k.now c.args.literal _ c.show_membership-s.ensures.0 c.requires.some_membership in
+    let ws = monomial_words m.before m.h m.R m.behind in
+    let e = c.size_monomials.ensures.each m.before m.h m.R m.behind m.shows in
+    record {
       k_len_bound = (d.0, omega arith);
       room_for = record {
         membership = m;
-        ready =
-            took-ready _ (monomial_words m.before m.h m.R m.behind) c.args.out.now c.args.next _
-            (c.size_monomials.ensures.each m.before m.h m.R m.behind m.shows) _ c.in-Fits.is c.if-next-n.false d.3 d.2;
+        ready = took-ready _ ws c.args.out.now c.args.next _ e _ (took-size c.ok_or.ensures.value c.in_ok-n.was) c.if-next-n.false d.3 d.2;
       };
     }
 
+pub returns-in_err-n : goal.returns-in_err-n
+returns-in_err-n c = λ before h R behind p.
+    let s = c.show_membership-s.ensures.0 before h R behind p in
+    let r = err_from_is_err_and c.from_residual.result c.from_residual.ensures.1 in
+    rw (r.1, r.2) (took-long _ (monomial_words before h R behind) _ _ _ (c.size_monomials.ensures.each before h R behind s) c.ok_or.ensures.value c.in_err-n.was)
+
 pub returns-then-next-n : goal.returns-then-next-n
 returns-then-next-n c = λ before h R behind p.
-    let s = c.show_membership-s.ensures.0 before h R behind p in
-    took-room _ (monomial_words before h R behind) _ _ _ (c.size_monomials.ensures.each before h R behind s) _ c.in-Fits.is c.if-next-n.true
+    let e = c.size_monomials.ensures.each before h R behind (c.show_membership-s.ensures.0 before h R behind p) in
+    let ws = monomial_words before h R behind in
+    took-room _ ws _ _ _ e _ (took-size c.ok_or.ensures.value c.in_ok-n.was) c.if-next-n.true
 
-pub returns-in-Over : goal.returns-in-Over
-returns-in-Over c = λ before h R behind p.
-    let s = c.show_membership-s.ensures.0 before h R behind p in
-    took-long _ (monomial_words before h R behind) _ _ _ (c.size_monomials.ensures.each before h R behind s) c.in-Over.is
-
-pub returns-else-next-n : goal.returns-else-next-n
-returns-else-next-n c = λ before h R behind p.
+pub returns : goal.returns
+returns c = λ before h R behind p.
     let s = c.show_membership-s.ensures.0 before h R behind p in
     let d = c.requires.k_len_bound in
     let e = c.size_monomials.ensures.each before h R behind s in
-    took-done _ (monomial_words before h R behind) c.args.out.now c.args.next _ e _ c.in-Fits.is c.if-next-n.false _ _
-    (c.write_monomials.ensures.each before h R behind s (took-ready _ (monomial_words before h R behind) c.args.out.now c.args.next _ e _ c.in-Fits.is c.if-next-n.false d.3 d.2))
+    let ws = monomial_words before h R behind in
+    let f = took-size c.ok_or.ensures.value c.in_ok-n.was in
+    took-done _ ws c.args.out.now c.args.next _ e _ f c.if-next-n.false _ _
+    (c.write_monomials.ensures.each before h R behind s (took-ready _ ws c.args.out.now c.args.next _ e _ f c.if-next-n.false d.3 d.2))

@@ -1,4 +1,3 @@
-use Prim.Native.Nat.{◌-◌}
 use native.Mathlib.Omega.{arith}
 use Rattle.literals.proofs.Walks.{counted-starts, counted-more, counted-within, counted-all}
 use Rattle.literals.proofs.literal_number.Goals as goal

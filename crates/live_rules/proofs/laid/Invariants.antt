@@ -7,7 +7,4 @@ use Rattle.live_rules.specs.Layout.{rules_laid}
 use Rattle.live_rules.proofs.laid.Given as goal
 
 abbrev pub invariant-loop-i : goal.invariant-loop-i
-invariant-loop-i l = (l.i ≤ l.n) × (l.at ≤ length l.sheet / 2) × (rules_laid (l.n - l.i) l.at (words_of l.sheet) ≡ rules_laid l.n 2 (words_of l.sheet))
-
-abbrev pub decreases-loop-i : goal.decreases-loop-i
-decreases-loop-i l = l.n - l.i
+invariant-loop-i l = (l.at ≤ length l.sheet / 2) × (rules_laid (l.n - l.i) l.at (words_of l.sheet) ≡ rules_laid l.n 2 (words_of l.sheet))

@@ -7,4 +7,4 @@ use Rattle.membership_plans.proofs.plan_m1.Goals as goal
 
 pub returns : goal.returns
 returns c = let a = c.args in
-    ap (single _) c.few-first.ensures ∙ ap (λ (b : Within). vanished a.s b.to) c.inner-part.ensures
+    c.single.ensures ∙ ap (single _) c.few-first.ensures ∙ ap (λ (b : Within). vanished a.s b.to) c.inner-part.ensures

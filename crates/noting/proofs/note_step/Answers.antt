@@ -1,10 +1,10 @@
 -- `note_step`: there is room for three words, or there is none.
 use Prim.Native.Nat.{◌+◌, ◌*◌}
 use native.Mathlib.Omega.{arith}
-use mathlib.Core.Path.{refl, ap}
+use mathlib.Core.Path.{refl, ap, ◌∙◌}
 use lib.ListN.{set}
 use Rattle.noting.specs.Noting.{three_at, there, roomless}
-use Rattle.noting.proofs.Laws.{within}
+use Rattle.noting.proofs.Laws.{side_word, within}
 use Rattle.noting.proofs.note_step.Goals as goal
 
 pub returns-then-trail-from-lt-TRIPLE : goal.returns-then-trail-from-lt-TRIPLE
@@ -18,4 +18,4 @@ bounds-trail-from-3 c = within (set c.args.trail.now (3 * c.args.made) c.args.ru
     (within c.args.trail.now (3 * c.args.made) c.args.rule (3 * c.args.made + 2) (let z = c.if-trail-from-lt-TRIPLE.false in let y = c.requires.0 in omega arith))
 
 pub returns : goal.returns
-returns c = there refl (let z = c.if-trail-from-lt-TRIPLE.false in let y = c.requires.0 in omega arith) (ap (λ d. three_at c.args.trail.now (3 * c.args.made) c.args.rule c.args.literal d) c.side_of-side.ensures)
+returns c = there refl (let z = c.if-trail-from-lt-TRIPLE.false in let y = c.requires.0 in omega arith) (ap (λ d. three_at c.args.trail.now (3 * c.args.made) c.args.rule c.args.literal d) (c.from.ensures ∙ side_word c.args.swap))

@@ -3,5 +3,5 @@ use mathlib.Core.Path.{sym, ap, ◌∙◌}
 use Rattle.outcomes.specs.Numbers.{checked_number}
 use Rattle.outcomes.proofs.verdict_number.Goals as goal
 
-pub returns-in-Refused : goal.returns-in-Refused
-returns-in-Refused c = c.number.ensures ∙ sym (ap checked_number c.in-Refused.is)
+pub returns-in-Err : goal.returns-in-Err
+returns-in-Err c = c.number.ensures ∙ sym (ap checked_number c.in-Err.is)

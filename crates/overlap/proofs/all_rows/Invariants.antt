@@ -4,6 +4,3 @@ use Rattle.overlap.proofs.all_rows.Given as goal
 
 abbrev pub invariant-loop-k : goal.invariant-loop-k
 invariant-loop-k l = Tabling l.size l.word l.sheet l.n l.initial.room l.room l.at l.i l.k
-
-abbrev pub decreases-loop-k : goal.decreases-loop-k
-decreases-loop-k l = l.k

@@ -5,10 +5,10 @@ use native.Mathlib.Omega.{arith}
 use Rattle.overlap.proofs.pair_count.Goals as goal
 
 pub loop-i-preserved : goal.loop-i-preserved
-loop-i-preserved c = (omega arith, one-rule-more _ _ c.loop-i.invariant.1, omega arith)
+loop-i-preserved c = (one-rule-more _ _ c.loop-i.invariant.0, omega arith)
 
 pub returns : goal.returns
-returns c = (c.loop-i.invariant.1 ∙ ap pair_count (let z : c.loop-i.i ≡ c.args.n = omega arith in z), omega arith)
+returns c = (c.loop-i.invariant.0 ∙ ap pair_count (let z : c.loop-i.i ≡ c.args.n = omega arith in z), omega arith)
 
 pub loop-i-init : goal.loop-i-init
-loop-i-init c = (omega arith, no_pairs, omega arith)
+loop-i-init c = (no_pairs, omega arith)

@@ -6,7 +6,4 @@ use Rattle.overlap.specs.Lengths.{pair_count}
 use Rattle.overlap.proofs.pair_count.Given as goal
 
 abbrev pub invariant-loop-i : goal.invariant-loop-i
-invariant-loop-i l = (l.i ≤ l.n) × (l.pairs ≡ pair_count l.i) × (l.pairs ≤ l.i * most_rules)
-
-abbrev pub decreases-loop-i : goal.decreases-loop-i
-decreases-loop-i l = l.n - l.i
+invariant-loop-i l = (l.pairs ≡ pair_count l.i) × (l.pairs ≤ l.i * most_rules)

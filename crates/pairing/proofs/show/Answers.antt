@@ -13,7 +13,7 @@ abbrev clear : List ℕ
 clear = replicate desk.filling 0
 
 pub returns-then-k-ne0 : goal.returns-then-k-ne0
-returns-then-k-ne0 c = λ word ps qs x. show-refused c.args.question.now c.args.work.now c.args.answer.now clear _ _ _ c.args.line _ c.requires.1 c.requires.2 refl c.example-s.ensures c.args.p word ps qs x _ _ _ _ _ c.shown_number-k.ensures c.if-k-ne0.true c.wide.ensures
+returns-then-k-ne0 c = λ word ps qs x. show-refused c.args.question.now c.args.work.now c.args.answer.now clear _ _ _ c.args.line _ c.requires.1 c.requires.2 refl c.example-s.ensures c.args.p word ps qs x _ _ _ _ _ c.shown_number-k.ensures c.if-k-ne0.true c.from.ensures
 
 pub slice_bounds-report-end : goal.slice_bounds-report-end
 slice_bounds-report-end c = let k = c.example-s.auto.room in let z = show-few c.args.question.now c.args.work.now c.args.answer.now clear _ _ _ c.args.line _ c.requires.1 c.requires.2 refl c.example-s.ensures c.args.p (sym c.shown_number-k.ensures ∙ c.if-k-ne0.false) _ c.shown_length-n.ensures in omega arith

@@ -7,7 +7,7 @@ pub returns-then-k-eq0 : goal.returns-then-k-eq0
 returns-then-k-eq0 c = early-fine _ c.read_question.result c.read_question.ensures _ c.verdict_number-k.ensures c.if-k-eq0.true
 
 pub returns-then-k-le3 : goal.returns-then-k-le3
-returns-then-k-le3 c = early-so _ c.read_question.result c.read_question.ensures _ c.verdict_number-k.ensures c.if-k-eq0.false (omega arith) _ c.wide.ensures
+returns-then-k-le3 c = early-so _ c.read_question.result c.read_question.ensures _ c.verdict_number-k.ensures c.if-k-eq0.false (omega arith) _ c.from.ensures
 
 pub returns : goal.returns
 returns c = early-late _ c.read_question.result c.read_question.ensures _ c.verdict_number-k.ensures c.if-k-eq0.false (omega arith)

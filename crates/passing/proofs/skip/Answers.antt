@@ -1,4 +1,3 @@
-use Prim.Native.Nat.{◌-◌}
 use native.Mathlib.Omega.{arith}
 use Rattle.passing.proofs.Rows.{passing-starts, passing-depth, passing-on, passing-ends}
 use Rattle.passing.proofs.skip.Goals as goal

@@ -1,10 +1,8 @@
--- The loop's invariant: so many are left to be counted on from n. Past the room nothing is.
+-- The loop's invariant: as many as are not made are left to be counted on from n. Past the room nothing is.
 use mathlib.Core.Path.{◌≡◌}
+use Prim.Native.Nat.{◌-◌}
 use Rattle.plans.specs.Sizes.{grown_by}
 use Rattle.plans.proofs.grow_by.Given as goal
 
-abbrev pub invariant-loop-left : goal.invariant-loop-left
-invariant-loop-left l = grown_by l.left l.n l.one ≡ grown_by l.times 0 l.one
-
-abbrev pub decreases-loop-left : goal.decreases-loop-left
-decreases-loop-left l = l.left
+abbrev pub invariant-loop-made : goal.invariant-loop-made
+invariant-loop-made l = grown_by (l.times - l._made) l.n l.one ≡ grown_by l.times 0 l.one

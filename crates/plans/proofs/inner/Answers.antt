@@ -8,4 +8,4 @@ abbrev part : ℕ → ℕ → Within
 part from to = record { from = from; to = to }
 
 pub returns : goal.returns
-returns c = ap (λ (i : ℕ). part i c.back-end.result) c.forth-start.ensures ∙ ap (part _) c.back-end.ensures
+returns c = ap (λ (i : ℕ). part i c.saturating_sub-end.result) c.forth-start.ensures ∙ ap (part _) c.saturating_sub-end.ensures

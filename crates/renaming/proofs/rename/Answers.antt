@@ -1,4 +1,3 @@
-use Prim.Native.Nat.{◌-◌}
 use lib.Seq.{slice}
 use native.Mathlib.Omega.{arith}
 use Rattle.slices.proofs.Still.{still-all, still-none, still-fits, still-run, wrote-word}

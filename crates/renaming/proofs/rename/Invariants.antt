@@ -1,5 +1,4 @@
 -- The loop's invariant: the words of the rest of the part are still to come.
-use Prim.Native.Nat.{◌-◌}
 use lib.Seq.{slice}
 use Rattle.slices.proofs.Still.{Still}
 use Rattle.orders.specs.Orders.{renamed}
@@ -7,6 +6,3 @@ use Rattle.renaming.proofs.rename.Given as goal
 
 abbrev pub invariant-loop-i : goal.invariant-loop-i
 invariant-loop-i l = Still l.initial.out l.at (renamed l.old l.new (slice l.from l.to l.k)) l.out l.e (renamed l.old l.new (slice l.i l.to l.k))
-
-abbrev pub decreases-loop-i : goal.decreases-loop-i
-decreases-loop-i l = l.end - l.i

@@ -8,6 +8,3 @@ use Rattle.results.proofs.write_alike.Given as goal
 
 abbrev pub invariant-loop-i : goal.invariant-loop-i
 invariant-loop-i l = Still l.initial.out l.at (in_frames l.number (alike l.k l.r 0 l.times)) l.out l.e (in_frames l.number (alike l.k l.r l.i (l.times - l.i))) × Short (alike l.k l.r l.i (l.times - l.i))
-
-abbrev pub decreases-loop-i : goal.decreases-loop-i
-decreases-loop-i l = l.times - l.i

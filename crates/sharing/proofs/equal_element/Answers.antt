@@ -1,4 +1,3 @@
-use Prim.Native.Nat.{◌-◌}
 use native.Mathlib.Omega.{arith}
 use borrow.Author.Rules.{rules}
 use Rattle.sharing.proofs.Walks.{goes_on, still-start, still-found, still-over, still-on, equal_over, equal-here, equal-on}

@@ -1,34 +1,13 @@
-use Prim.Native.Nat.{◌-◌}
-use mathlib.Core.Path.{◌≡◌, refl, ap, ◌∙◌}
+-- `clear`: zeros as far as the room goes, and the rest as it was.
+use mathlib.Core.Path.{ap, ◌∙◌}
 use mathlib.Core.List.{◌++◌}
-use native.Mathlib.Omega.{arith}
-use lib.ListN.{drop, set, replicate, length-set}
-use borrow.Author.Fill.{fill_more}
+use lib.ListN.{drop, replicate}
+use lib.Seq.{length-take-le}
 use Rattle.language.specs.Limits.{desk}
 use Rattle.rules.specs.Answer.{zeros}
 use Rattle.slices.proofs.clear.Goals as goal
 
-pub loop-i-preserved : goal.loop-i-preserved
-loop-i-preserved c = let l = c.loop-i in
-    (omega arith, ap (λ x. set x l.i 0) l.invariant.1 ∙ fill_more l.i 0 c.args.s.now (omega arith), simp length-set l.invariant.2)
-
 pub returns : goal.returns
 unfolding zeros
-returns c = let l = c.loop-i in
-    let z : l.i ≡ desk.room = omega arith in
-    l.invariant.1 ∙ ap (λ n. replicate n 0 ++ drop n c.args.s.now) z
-
-pub loop-i-init : goal.loop-i-init
-loop-i-init c = (omega arith, refl, refl)
-
-pub offset_bounds-s-i : goal.offset_bounds-s-i
-offset_bounds-s-i c = omega arith
-
-pub bounds-s-i : goal.bounds-s-i
-bounds-s-i c = omega arith
-
-pub overflow_add-i : goal.overflow_add-i
-overflow_add-i c = omega arith
-
-pub loop-i-smaller : goal.loop-i-smaller
-loop-i-smaller c = omega arith
+returns c =
+    ap (λ l. l ++ drop desk.room c.args.s.now) (c.fill.ensures.after (λ y e. e) ∙ ap (λ n. replicate n 0) (length-take-le desk.room c.args.s.now c.requires))

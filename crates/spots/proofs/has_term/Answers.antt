@@ -1,7 +1,6 @@
 use native.Mathlib.Omega.{arith}
 use mathlib.Core.Path.{refl, sym, ap, ◌∙◌}
 use mathlib.Core.Bool.{not}
-use Prim.Native.Nat.{◌-◌}
 use Rattle.finds.proofs.Walks.{pass-start, pass_on, goes_on, run-some, word-run, word-empty, has_term-on, has_term-end}
 use Rattle.finds.proofs.Firsts.{going_start}
 use Rattle.finds.proofs.Stops.{runs_on, runs-end}

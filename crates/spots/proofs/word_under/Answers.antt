@@ -1,6 +1,5 @@
 use native.Mathlib.Omega.{arith}
 use mathlib.Core.Path.{refl, ◌∙◌}
-use Prim.Native.Nat.{◌-◌}
 use Rattle.finds.proofs.Walks.{pass-start, pass_on, goes_on}
 use Rattle.finds.proofs.Searches.{under-found, under-on, under-end}
 use Rattle.finds.proofs.Firsts.{going_start}

@@ -1,5 +1,5 @@
 -- `named_step`: the words counted afresh are the table of `named_by`.
-use Prim.Native.Nat.{ℕ, ◌-◌}
+use Prim.Native.Nat.{ℕ}
 use native.Mathlib.Omega.{arith}
 use lib.ListN.{length-replicate}
 use Rattle.counts.specs.Tables.{table as places}

@@ -1,5 +1,5 @@
 -- `text_host::desk_read_text` meets its contract: the words lent come to what the bytes come to.
-use Prim.Native.Nat.{ℕ, ◌≤◌}
+use Prim.Native.Nat.{ℕ, ◌/◌, ◌≤◌, min}
 use mathlib.Core.Path.{◌≡◌, ap, ◌∙◌, sym, subst}
 use mathlib.Core.List.{List}
 use native.Mathlib.Omega.{arith}
@@ -20,11 +20,12 @@ within : (m : ℕ) → m ≤ desk.question → length (take m clear) ≡ m
 within m h = length-take-le m clear (subst (λ n. m ≤ n) (sym (length-replicate {A = ℕ} desk.question 0)) h)
 
 pub read-requires : goal.read-requires
-read-requires c = let n : length (take c.most-m.result clear) ≡ c.most-m.result = within _ (omega arith) in omega arith
+read-requires c = let n : length (take c.min-m.result clear) ≡ c.min-m.result = within _ (omega arith) in omega arith
 
 pub returns : goal.returns
-returns c = let n : length (take c.most-m.result clear) ≡ c.most-m.result = within _ (omega arith) in
-    let e = read-bytes c.args.text.now c.args.room.now _ (n ∙ c.most-m.ensures) in
+returns c = let n : length (take c.min-m.result clear) ≡ c.min-m.result = within _ (omega arith) in
+    let least : c.min-m.result ≡ min desk.question (length c.args.room.now / 2) = omega arith in
+    let e = read-bytes c.args.text.now c.args.room.now _ (n ∙ least) in
     record {
       value = c.read.ensures.value ∙ ap text_number e;
       room_after = c.read.ensures.room_after ∙ ap (λ (o : Outcome). words_left o c.args.room.now) e;

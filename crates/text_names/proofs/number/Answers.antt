@@ -1,4 +1,3 @@
-use Prim.Native.Nat.{◌-◌}
 use native.Mathlib.Omega.{arith}
 use borrow.Author.Rules.{rules}
 use Rattle.text_names.proofs.Shelving.{looking-starts, looking-found, looking-on, looking-ends}
@@ -28,12 +27,6 @@ overflow_sub-result c = omega arith
 pub returns-then-same_name : goal.returns-then-same_name
 returns-then-same_name c = looking-found _ _ _ _ _ c.loop-i.invariant (omega arith) c.same_name.ensures c.if-same_name.true
 
-pub overflow_add-i : goal.overflow_add-i
-overflow_add-i c = omega arith
-
-pub loop-i-smaller : goal.loop-i-smaller
-loop-i-smaller c = omega arith
-
 pub loop-i-preserved : goal.loop-i-preserved
 loop-i-preserved c = looking-on _ _ _ _ _ c.loop-i.invariant (omega arith) c.same_name.ensures c.if-same_name.false
 
@@ -41,4 +34,4 @@ pub overflow_sub-result-2 : goal.overflow_sub-result-2
 overflow_sub-result-2 c = omega arith
 
 pub returns : goal.returns
-returns c = looking-ends _ _ _ _ _ c.loop-i.invariant (omega arith)
+returns c = let e = looking-ends _ _ _ _ _ c.loop-i.invariant (omega arith) in let h = c.loop-i.invariant.high in let d = c.loop-i.invariant.end_is in omega arith

@@ -1,11 +1,7 @@
 -- `text_names::number` meets its contract: along the shelf.
-use Prim.Native.Nat.{◌-◌}
 use Rattle.language.specs.Limits.{desk}
 use Rattle.text_names.proofs.Shelving.{Looking}
 use Rattle.text_names.proofs.number.Given as goal
 
 abbrev pub invariant-loop-i : goal.invariant-loop-i
 invariant-loop-i l = Looking desk l.text l.names l.base l.at l.first l.end l.i
-
-abbrev pub decreases-loop-i : goal.decreases-loop-i
-decreases-loop-i l = l.end - l.i

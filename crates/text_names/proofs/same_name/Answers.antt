@@ -1,4 +1,3 @@
-use Prim.Native.Nat.{◌-◌}
 use native.Mathlib.Omega.{arith}
 use mathlib.Core.Path.{◌∙◌}
 use Rattle.text_names.proofs.Letters.{alike-starts, apart, both_end, alike-on, first_ends}

@@ -1,4 +1,3 @@
-use Prim.Native.Nat.{◌-◌}
 use Rattle.text_survey.proofs.Scan.{line-starts, line-less, line_on_lem, line-ends}
 use Rattle.text_survey.proofs.line.Goals as goal
 

@@ -1,6 +1,3 @@
-use mathlib.Core.Bool.{not}
-use mathlib.Core.Path.{ap}
-use Prim.Native.Nat.{◌-◌}
 use Rattle.text_survey.proofs.Scan.{survey-starts, survey-bad, survey-ends, survey-on}
 use native.Mathlib.Omega.{arith}
 use Rattle.text_survey.proofs.survey.Goals as goal

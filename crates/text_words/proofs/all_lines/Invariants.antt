@@ -5,8 +5,8 @@ use Rattle.language.specs.Limits.{desk}
 use Rattle.text_words.proofs.Lines.{Going}
 use Rattle.text_words.proofs.all_lines.Given as goal
 
-abbrev pub invariant-loop-l : goal.invariant-loop-l
-invariant-loop-l l = Going desk l.text l.names l.initial.room l.first l.at l.i l.k l.room
+abbrev pub invariant-loop-t : goal.invariant-loop-t
+invariant-loop-t l = Going desk l.text l.names l.initial.room l.first l.at l.i l.k l.room
 
-abbrev pub decreases-loop-l : goal.decreases-loop-l
-decreases-loop-l l = length l.text - l.at
+abbrev pub decreases-loop-t : goal.decreases-loop-t
+decreases-loop-t l = length l.text - l.at

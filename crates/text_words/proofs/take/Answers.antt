@@ -8,7 +8,7 @@ pub returns-then-not-has : goal.returns-then-not-has
 returns-then-not-has c = (took-blank c.args.has c.requires.0.place (ap not c.if-not-has.true))
 
 pub returns-then-not-w : goal.returns-then-not-w
-returns-then-not-w c = (took-bad c.args.has c.conjunction-w.ensures (ap not c.if-not-has.false) c.requires.0.place c.if-not-w.true)
+returns-then-not-w c = (took-bad c.args.has c.conjunction-w.ensures (ap not c.if-not-has.false) c.if-not-w.true)
 
 pub returns : goal.returns
 returns c = (took-line c.args.has c.conjunction-w.ensures (ap not c.if-not-has.false) c.if-not-w.false c.put_head.ensures)

@@ -1,6 +1,6 @@
 -- `trail_host::desk_replay` meets its contract: the words lent come to what the bytes come to.
 use Prim.Native.Nat.{ℕ}
-use mathlib.Core.Path.{◌≡◌, refl}
+use mathlib.Core.Path.{◌≡◌, refl, ◌∙◌}
 use mathlib.Core.List.{List}
 use lib.ListN.{length, replicate, length-replicate}
 use Rattle.language.specs.Limits.{desk}
@@ -16,7 +16,7 @@ long : length clear ≡ desk.room
 long = length-replicate {A = ℕ} desk.room 0
 
 pub returns-clause-value : goal.returns-clause-value
-returns-clause-value c = (let a = c.args in
+returns-clause-value c = c.from.ensures ∙ (let a = c.args in
     replayed a.question.now a.trail.now a.answer.now c.if-answer-lt-ANSWER_BYTES.false _ clear clear _ _ _ c.take_words-n.ensures.words_after.0 long long c.replay.ensures _ _ _
     c.solved_number-number.ensures c.replay.auto.answer refl c.put_answer.ensures).0
 

@@ -1,10 +1,9 @@
 use borrow.Enum.Refused.{opened}
-use Prim.Native.Nat.{◌-◌}
 use mathlib.Core.Path.{refl, sym, ◌∙◌}
 use native.Mathlib.Omega.{arith}
 use Rattle.language.specs.Limits.{desk}
-use Rattle.language.specs.Reading.{read_hedge, read_term}
-use Rattle.trees.proofs.Placing.{goes_on, halts}
+use Rattle.language.specs.Reading.{read_hedge}
+use Rattle.trees.proofs.Placing.{goes_on, halts, handed}
 use Rattle.trees.proofs.Parts.{past-term, term-variable, term-functor, term-none, past-hedge, hedge-end, hedge-variable, hedge-term, term-moves}
 use Rattle.trees.proofs.+read_hedge_read_term.Goals as goal
 
@@ -24,14 +23,14 @@ pub read_hedge-read_term-requires : goal.read_hedge-read_term-requires
 read_hedge-read_term-requires t c = (omega arith, tt)
 
 pub read_hedge-loop-i-smaller : goal.read_hedge-loop-i-smaller
-read_hedge-loop-i-smaller t c = let m = term-moves _ _ (omega arith) _ c.classify.ensures (opened c.in_default.in_default-own.keys3) _ (sym c.read_term.ensures ∙ c.in-Next.is) in omega arith
+read_hedge-loop-i-smaller t c = let m = term-moves _ _ (omega arith) _ c.classify.ensures (opened c.in_default.in_default-own.keys3) _ (sym c.read_term.ensures ∙ c.in_ok-i-in_default.was) in omega arith
 
 pub read_hedge-loop-i-preserved : goal.read_hedge-loop-i-preserved
-read_hedge-loop-i-preserved t c = let m = term-moves _ _ (omega arith) _ c.classify.ensures (opened c.in_default.in_default-own.keys3) _ (sym c.read_term.ensures ∙ c.in-Next.is) in
-    (omega arith, goes_on (read_hedge desk) c.args.w.now _ _ (sym c.read_term.ensures ∙ c.in-Next.is) ∙ hedge-term _ _ (omega arith) _ c.classify.ensures (opened c.in_default.in_default-own.keys3) ∙ c.loop-i.invariant.1)
+read_hedge-loop-i-preserved t c = let m = term-moves _ _ (omega arith) _ c.classify.ensures (opened c.in_default.in_default-own.keys3) _ (sym c.read_term.ensures ∙ c.in_ok-i-in_default.was) in
+    (omega arith, goes_on (read_hedge desk) c.args.w.now _ _ (sym c.read_term.ensures ∙ c.in_ok-i-in_default.was) ∙ hedge-term _ _ (omega arith) _ c.classify.ensures (opened c.in_default.in_default-own.keys3) ∙ c.loop-i.invariant.1)
 
-pub read_hedge-returns-in-Stop : goal.read_hedge-returns-in-Stop
-read_hedge-returns-in-Stop t c = halts (read_hedge desk) _ _ _ (sym c.read_term.ensures ∙ c.in-Stop.is) ∙ hedge-term _ _ (omega arith) _ c.classify.ensures (opened c.in_default.in_default-own.keys3) ∙ c.loop-i.invariant.1
+pub read_hedge-returns-in_err-i-in_default : goal.read_hedge-returns-in_err-i-in_default
+read_hedge-returns-in_err-i-in_default t c = handed _ _ c.from_residual.ensures.1 ∙ halts (read_hedge desk) _ _ _ (sym c.read_term.ensures ∙ c.in_err-i-in_default.was) ∙ hedge-term _ _ (omega arith) _ c.classify.ensures (opened c.in_default.in_default-own.keys3) ∙ c.loop-i.invariant.1
 
 pub read_hedge-returns : goal.read_hedge-returns
 read_hedge-returns t c = past-hedge _ _ (omega arith) ∙ c.loop-i.invariant.1

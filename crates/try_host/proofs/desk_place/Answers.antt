@@ -4,13 +4,13 @@ use borrow.Author.Rules.{rules}
 use Rattle.try_host.proofs.Places.{no-mistake, its-place, place_short}
 use Rattle.try_host.proofs.desk_place.Goals as goal
 
-pub returns-in-Fine : goal.returns-in-Fine
-returns-in-Fine c = no-mistake _ _ c.take_words-n.ensures.words_after.0 _ c.read_question.ensures c.in-Fine.is
+pub returns-in-Ok : goal.returns-in-Ok
+returns-in-Ok c = no-mistake _ _ c.take_words-n.ensures.words_after.0 _ c.read_question.ensures c.in-Ok.is
 
-pub returns-in-Refused : goal.returns-in-Refused
-returns-in-Refused c = c.place.ensures ∙ its-place _ _ c.take_words-n.ensures.words_after.0 _ c.read_question.ensures c.in-Refused.is
+pub returns-in-Err : goal.returns-in-Err
+returns-in-Err c = c.place.ensures ∙ its-place _ _ c.take_words-n.ensures.words_after.0 _ c.read_question.ensures c.in-Err.is
 
 pub overflow_cast-result : goal.overflow_cast-result
-overflow_cast-result c = let h = place_short _ _ c.take_words-n.ensures.words_after.0 _ c.read_question.ensures c.in-Refused.is in
+overflow_cast-result c = let h = place_short _ _ c.take_words-n.ensures.words_after.0 _ c.read_question.ensures c.in-Err.is in
     let e = c.place.ensures in
     search rules

@@ -21,26 +21,26 @@ slice_bounds-filled_len-end c = let x = scan-here _ _ _ c.loop-i.invariant c.lit
     search rules
 
 pub filled_len-requires-clause-filling_len_bound : goal.filled_len-requires-clause-filling_len_bound
-filled_len-requires-clause-filling_len_bound c = let r = scan-ready _ _ _ c.loop-i.invariant c.literal_end-end.ensures (omega arith) c.wide-terms.ensures c.wide-hedges.ensures in
+filled_len-requires-clause-filling_len_bound c = let r = scan-ready _ _ _ c.loop-i.invariant c.literal_end-end.ensures (omega arith) c.from-terms.ensures c.from-hedges.ensures in
     r.0
 
 pub filled_len-requires-clause-words_len_bound : goal.filled_len-requires-clause-words_len_bound
-filled_len-requires-clause-words_len_bound c = let r = scan-ready _ _ _ c.loop-i.invariant c.literal_end-end.ensures (omega arith) c.wide-terms.ensures c.wide-hedges.ensures in
+filled_len-requires-clause-words_len_bound c = let r = scan-ready _ _ _ c.loop-i.invariant c.literal_end-end.ensures (omega arith) c.from-terms.ensures c.from-hedges.ensures in
     r.1
 
 pub filled_len-requires-clause-shows : goal.filled_len-requires-clause-shows
-filled_len-requires-clause-shows c = let r = scan-ready _ _ _ c.loop-i.invariant c.literal_end-end.ensures (omega arith) c.wide-terms.ensures c.wide-hedges.ensures in
+filled_len-requires-clause-shows c = let r = scan-ready _ _ _ c.loop-i.invariant c.literal_end-end.ensures (omega arith) c.from-terms.ensures c.from-hedges.ensures in
     r.2
 
 pub returns-then-filled_len-gt-LITERAL : goal.returns-then-filled_len-gt-LITERAL
-returns-then-filled_len-gt-LITERAL c = scan-over _ _ _ c.loop-i.invariant c.literal_end-end.ensures (omega arith) c.wide-terms.ensures c.wide-hedges.ensures c.filled_len.ensures (omega arith)
+returns-then-filled_len-gt-LITERAL c = scan-over _ _ _ c.loop-i.invariant c.literal_end-end.ensures (omega arith) c.from-terms.ensures c.from-hedges.ensures c.filled_len.ensures (omega arith)
 
 pub loop-i-smaller : goal.loop-i-smaller
 loop-i-smaller c = let x = scan-here _ _ _ c.loop-i.invariant c.literal_end-end.ensures (omega arith) in
     search rules
 
 pub loop-i-preserved : goal.loop-i-preserved
-loop-i-preserved c = scan-on _ _ _ c.loop-i.invariant c.literal_end-end.ensures (omega arith) c.wide-terms.ensures c.wide-hedges.ensures c.filled_len.ensures (omega arith)
+loop-i-preserved c = scan-on _ _ _ c.loop-i.invariant c.literal_end-end.ensures (omega arith) c.from-terms.ensures c.from-hedges.ensures c.filled_len.ensures (omega arith)
 
 pub loop-i-init : goal.loop-i-init
 loop-i-init c = scan-starts _ _ _ c.requires

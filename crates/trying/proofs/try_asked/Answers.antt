@@ -8,12 +8,12 @@ read_filling-requires c = asked-counts _ c.args.filling.now _ c.requires.asked_q
 
 pub try_given-requires : goal.try_given-requires
 try_given-requires c = record {
-  some_question = asked-some _ _ _ c.read_filling.ensures c.in-Fine.is c.requires.asked_question;
+  some_question = asked-some _ _ _ c.read_filling.ensures c.in-Ok.is c.requires.asked_question;
   room_in_bounds = search rules;
 }
 
-pub returns-in-Refused : goal.returns-in-Refused
-returns-in-Refused c = asked-refused _ _ _ c.read_filling.ensures c.in-Refused.is
+pub returns-in-Err : goal.returns-in-Err
+returns-in-Err c = asked-refused _ _ _ c.read_filling.ensures c.in-Err.is
 
-pub returns-in-Fine : goal.returns-in-Fine
-returns-in-Fine c = asked-given _ _ _ c.read_filling.ensures c.in-Fine.is c.try_given.ensures
+pub returns-in-Ok : goal.returns-in-Ok
+returns-in-Ok c = asked-given _ _ _ c.read_filling.ensures c.in-Ok.is c.try_given.ensures

@@ -10,18 +10,18 @@ returns-then-work-lt-ROOM c = short-slice _ _ c.args.work.now (omega arith)
 
 pub read_header-h-requires : goal.read_header-h-requires
 read_header-h-requires c = let a = c.args in
-    let l = question-long a.question.now a.filling.now a.work.now (omega arith) (as-checked c.read_question.result _ c.read_question.ensures) c.in-Fine.is in
+    let l = question-long a.question.now a.filling.now a.work.now (omega arith) (as-checked c.read_question.result _ c.read_question.ensures) c.in-Ok.is in
     search rules
 
 pub try_asked-requires : goal.try_asked-requires
 try_asked-requires c = let a = c.args in
     record {
-      asked_question = question-asked a.question.now a.filling.now a.work.now (omega arith) (as-checked c.read_question.result _ c.read_question.ensures) c.in-Fine.is c.read_header-h.ensures;
+      asked_question = question-asked a.question.now a.filling.now a.work.now (omega arith) (as-checked c.read_question.result _ c.read_question.ensures) c.in-Ok.is c.read_header-h.ensures;
       room_in_bounds = search rules;
     }
 
-pub returns-in-Refused : goal.returns-in-Refused
-returns-in-Refused c = refused-question _ _ c.args.work.now (omega arith) (as-checked c.read_question.result _ c.read_question.ensures) c.in-Refused.is
+pub returns-in-Err : goal.returns-in-Err
+returns-in-Err c = refused-question _ _ c.args.work.now (omega arith) (as-checked c.read_question.result _ c.read_question.ensures) c.in-Err.is
 
-pub returns-in-Fine : goal.returns-in-Fine
-returns-in-Fine c = question-tried _ _ _ (omega arith) (as-checked c.read_question.result _ c.read_question.ensures) c.in-Fine.is c.read_header-h.ensures c.try_asked.ensures
+pub returns-in-Ok : goal.returns-in-Ok
+returns-in-Ok c = question-tried _ _ _ (omega arith) (as-checked c.read_question.result _ c.read_question.ensures) c.in-Ok.is c.read_header-h.ensures c.try_asked.ensures

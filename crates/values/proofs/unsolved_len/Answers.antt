@@ -2,8 +2,8 @@
 use Rattle.values.proofs.Unsolved.{sample-length, default-length}
 use Rattle.values.proofs.unsolved_len.Goals as goal
 
-pub returns-in-At : goal.returns-in-At
-returns-in-At c = let t = c.expression_of-p.ensures in search (sample-length)
+pub returns-in-Some : goal.returns-in-Some
+returns-in-Some c = let t = c.expression_of-p.ensures in search (sample-length)
 
-pub returns-in-Nowhere : goal.returns-in-Nowhere
-returns-in-Nowhere c = default-length c.expression_of-p.ensures c.in-Nowhere.is c.default_len.ensures
+pub returns-in-None : goal.returns-in-None
+returns-in-None c = default-length c.expression_of-p.ensures c.in-None.is c.default_len.ensures

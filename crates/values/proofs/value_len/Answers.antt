@@ -6,8 +6,8 @@ use Rattle.values.proofs.value_len.Goals as goal
 pub overflow_add-result : goal.overflow_add-result
 overflow_add-result c = omega arith
 
-pub returns-in-To : goal.returns-in-To
-returns-in-To c = let t = c.bound_to-b.ensures in search (bound-length)
+pub returns-in-Some : goal.returns-in-Some
+returns-in-Some c = let t = c.bound_to-b.ensures in search (bound-length)
 
-pub returns-in-Free : goal.returns-in-Free
-returns-in-Free c = free-length c.bound_to-b.ensures c.in-Free.is c.requires.0 c.unsolved_len.ensures
+pub returns-in-None : goal.returns-in-None
+returns-in-None c = free-length c.bound_to-b.ensures c.in-None.is c.requires.0 c.unsolved_len.ensures

@@ -1,4 +1,3 @@
-use Prim.Native.Nat.{◌-◌}
 use mathlib.Core.Path.{refl}
 use native.Mathlib.Omega.{arith}
 use Rattle.values.proofs.Parts.{writing_start, writing-next, writing-done, writing-past}
@@ -9,12 +8,6 @@ loop-i-init c = (refl, writing_start)
 
 pub returns-then-k-i : goal.returns-then-k-i
 returns-then-k-i c = writing-past c.loop-i.invariant.1 c.if-k-i.true
-
-pub overflow_add-i : goal.overflow_add-i
-overflow_add-i c = omega arith
-
-pub loop-i-smaller : goal.loop-i-smaller
-loop-i-smaller c = omega arith
 
 pub loop-i-preserved : goal.loop-i-preserved
 loop-i-preserved c = (omega arith, writing-next c.loop-i.invariant.1 c.loop-i-test.true c.if-k-i.false c.write_word-e.ensures)

@@ -14,7 +14,7 @@ bounds-question-4 c = let t = laid-length 5 _ _ c.requires.1 in omega arith
 
 pub loop-i-init : goal.loop-i-init
 loop-i-init c = let q = c.args.question.now in
-    let e = c.wide-i.ensures in
+    let e = c.from-n.ensures in
     let t = laid-length 5 _ _ c.requires.1 in
     (omega arith, omega arith, omega arith, rw e (laid_none q c.requires.1 c.args.work.now))
 
@@ -22,8 +22,8 @@ pub push-at-requires : goal.push-at-requires
 push-at-requires c = let q = c.args.question.now in
     let l = c.loop-i in
     let d = part-before q c.requires.1 (l.i - 1) (omega arith) in
-    let f = c.wide-from.ensures in
-    let t = c.wide-to.ensures in
+    let f = c.from-from.ensures in
+    let t = c.from-to.ensures in
     let low = d.low in
     let high = d.high in
     let e : l.i - 1 + 6 ≡ l.i + 5 = omega arith in
@@ -35,8 +35,8 @@ pub loop-i-preserved : goal.loop-i-preserved
 loop-i-preserved c = let q = c.args.question.now in
     let l = c.loop-i in
     let d = part-before q c.requires.1 (l.i - 1) (omega arith) in
-    let f = c.wide-from.ensures in
-    let t = c.wide-to.ensures in
+    let f = c.from-from.ensures in
+    let t = c.from-to.ensures in
     let low = d.low in
     let high = d.high in
     let e : l.i - 1 + 6 ≡ l.i + 5 = omega arith in

@@ -1,12 +1,9 @@
 -- `next_literal`: from each place passed the next literal is the same.
-use Prim.Native.Nat.{◌+◌, ◌-◌, ◌≤◌}
+use Prim.Native.Nat.{◌+◌}
 use mathlib.Core.Path.{◌≡◌}
-use lib.ListN.{length, drop}
+use lib.ListN.{drop}
 use Rattle.words.specs.Places.{until_literal}
 use Rattle.words.proofs.next_literal.Given as goal
 
 abbrev pub invariant-loop-i : goal.invariant-loop-i
-invariant-loop-i l = (l.i ≤ length l.k) × (l.i + until_literal (drop l.i l.k) ≡ l.at + 1 + until_literal (drop (l.at + 1) l.k))
-
-abbrev pub decreases-loop-i : goal.decreases-loop-i
-decreases-loop-i l = length l.k - l.i
+invariant-loop-i l = l.i + until_literal (drop l.i l.k) ≡ l.at + 1 + until_literal (drop (l.at + 1) l.k)

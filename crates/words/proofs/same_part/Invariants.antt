@@ -1,13 +1,8 @@
 -- `same_part`: what is left of the two parts is compared, word by word.
 use mathlib.Core.Path.{◌≡◌}
-use Prim.Native.Nat.{◌-◌, min}
-use lib.ListN.{length}
 use lib.Seq.{slice}
 use Rattle.words.specs.Places.{same_list}
 use Rattle.words.proofs.same_part.Given as goal
 
 abbrev pub invariant-loop-i : goal.invariant-loop-i
-invariant-loop-i l = (l.m ≡ min l.to (length l.k)) × (l.n ≡ min l.end (length l.k)) × (same_list (slice l.i l.to l.k) (slice l.j l.end l.k) ≡ same_list (slice l.from l.to l.k) (slice l.start l.end l.k))
-
-abbrev pub decreases-loop-i : goal.decreases-loop-i
-decreases-loop-i l = l.m - l.i
+invariant-loop-i l = same_list (slice l.i l.to l.k) (slice l.j l.end l.k) ≡ same_list (slice l.from l.to l.k) (slice l.start l.end l.k)

@@ -1,7 +1,5 @@
 use native.Mathlib.Omega.{arith}
-use Prim.Native.Nat.{◌-◌}
 use mathlib.Core.Path.{sym, ◌∙◌}
-use Rattle.charts.proofs.Charting.{chart-from}
 use Rattle.clash.proofs.Beginning.{begun-end, begun-eps, begun-over, begun-star, begun-shut, begun-both}
 use Rattle.clash.proofs.follow.+begin.Goals as goal
 
@@ -18,19 +16,16 @@ pub returns-then-x-lt7000 : goal.returns-then-x-lt7000
 returns-then-x-lt7000 t c = begun-over c.if-x-lt7000.true c.mark.ensures
 
 pub begin-requires : goal.begin-requires
-begin-requires t c = (omega arith, (c.requires.0, omega arith))
+begin-requires t c = (omega arith, omega arith)
 
 pub returns-then-x-eq7003 : goal.returns-then-x-eq7003
 returns-then-x-eq7003 t c = begun-star c.if-x-eq7003.true c.begin.ensures
 
-pub part_at-a-requires : goal.part_at-a-requires
-part_at-a-requires t c = chart-from (omega arith) c.requires.0
-
 pub returns-then-shut : goal.returns-then-shut
-returns-then-shut t c = begun-shut c.part_at-a.ensures c.begin.ensures (sym c.shut.ensures ∙ c.if-shut.true)
+returns-then-shut t c = begun-shut c.part-a.ensures c.begin.ensures (sym c.shut.ensures ∙ c.if-shut.true)
 
 pub begin-requires-2 : goal.begin-requires-2
-begin-requires-2 t c = let a = c.part_at-a.ensures.after in (omega arith, (c.requires.0, omega arith))
+begin-requires-2 t c = let a = c.part-a.ensures.after in (omega arith, omega arith)
 
 pub returns : goal.returns
-returns t c = begun-both c.part_at-a.ensures c.if-x-eq7000.false c.if-x-lt7000.false c.if-x-eq7003.false c.begin.ensures (sym c.shut.ensures ∙ c.if-shut.false) c.begin-2.ensures
+returns t c = begun-both c.part-a.ensures c.if-x-eq7000.false c.if-x-lt7000.false c.if-x-eq7003.false c.begin.ensures (sym c.shut.ensures ∙ c.if-shut.false) c.begin-2.ensures

@@ -4,4 +4,4 @@ use lib.ListN.{length}
 use Rattle.clash.proofs.follow.+begin.Given as goal
 
 abbrev pub decreases-begin : goal.decreases-begin
-decreases-begin l = length l.k.now - l.at
+decreases-begin l = length l.chart.now.words.now - l.at

@@ -4,4 +4,4 @@ use lib.ListN.{length}
 use Rattle.clash.proofs.follow.+resume.Given as goal
 
 abbrev pub decreases-resume : goal.decreases-resume
-decreases-resume l = length l.k.now - l.at
+decreases-resume l = length l.chart.now.words.now - l.at

@@ -1,4 +1,3 @@
-use Prim.Native.Nat.{◌-◌}
 use mathlib.Core.Path.{◌∙◌}
 use Rattle.clash.proofs.Flagging.{sweeping-start, sweeping-more, sweeping-less, settled}
 use Rattle.clash.proofs.sweeps.settle.Goals as goal
@@ -7,7 +6,7 @@ pub loop-more-init : goal.loop-more-init
 loop-more-init c = sweeping-start
 
 pub sweep-more-requires : goal.sweep-more-requires
-sweep-more-requires c = (c.requires.0, c.requires.1, c.requires.2, c.loop-more.invariant.swelled.long ∙ c.requires.3)
+sweep-more-requires c = (c.requires.0, c.loop-more.invariant.swelled.long ∙ c.requires.1)
 
 pub loop-more-smaller : goal.loop-more-smaller
 loop-more-smaller c = sweeping-less _ _ c.loop-more-test.true c.sweep-more.ensures

@@ -1,6 +1,5 @@
 -- The marks that are followed, collected.
 use native.Mathlib.Omega.{arith}
-use borrow.Author.Rules.{rules}
 use lib.ListN.{length-replicate}
 use mathlib.Core.Bool.{Bool, false}
 use Rattle.language.specs.Limits.{desk}
@@ -8,14 +7,11 @@ use Rattle.clash.proofs.Collecting.{blank}
 use Rattle.clash.proofs.Listing.{symboled}
 use Rattle.clash.proofs.symbols.symbols_after.Goals as goal
 
-pub slice_bounds-follow-end : goal.slice_bounds-follow-end
-slice_bounds-follow-end c = search rules
-
 pub follow-null-requires : goal.follow-null-requires
-follow-null-requires c = let e = length-replicate {A = Bool} desk.question false in (c.requires.0, omega arith)
+follow-null-requires c = let e = length-replicate {A = Bool} desk.question false in omega arith
 
 pub collect-count-requires : goal.collect-count-requires
-collect-count-requires c = (c.requires.1, omega arith, c.requires.4)
+collect-count-requires c = (c.requires.0, omega arith, c.requires.3)
 
 pub returns : goal.returns
-returns c = symboled _ _ _ _ _ _ _ _ _ (blank desk.question) (length-replicate {A = Bool} desk.question false) (omega arith) c.requires.2 c.follow-null.ensures c.collect-count.ensures
+returns c = symboled _ _ _ _ _ _ _ _ _ (blank desk.question) (length-replicate {A = Bool} desk.question false) (omega arith) c.requires.1 c.follow-null.ensures c.collect-count.ensures

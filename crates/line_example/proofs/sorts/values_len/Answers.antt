@@ -1,4 +1,3 @@
-use Prim.Native.Nat.{◌-◌}
 use native.Mathlib.Omega.{arith}
 use Rattle.line_example.proofs.Rows.{named-numbered, summed-start, summed-next, summed-done}
 use Rattle.line_example.proofs.sorts.values_len.Goals as goal
@@ -11,12 +10,6 @@ value_len-n-requires c = let p = c.requires in (p.0, p.2, named-numbered c.args.
 
 pub overflow_add-n : goal.overflow_add-n
 overflow_add-n c = let f = c.loop-j.invariant.few in let g = c.value_len-n.ensures.few in omega arith
-
-pub overflow_add-j : goal.overflow_add-j
-overflow_add-j c = omega arith
-
-pub loop-j-smaller : goal.loop-j-smaller
-loop-j-smaller c = omega arith
 
 pub loop-j-preserved : goal.loop-j-preserved
 loop-j-preserved c = let p = c.requires.1 in let t = c.loop-j-test.true in summed-next c.loop-j.invariant (c.numbered.ensures (omega arith)) t c.value_len-n.ensures

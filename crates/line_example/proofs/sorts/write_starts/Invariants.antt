@@ -1,5 +1,4 @@
 -- Where the values of one kind begin is written one by one, each offset the one before and its value's length.
-use Prim.Native.Nat.{◌-◌}
 use mathlib.Core.Path.{◌≡◌}
 use lib.ListN.{length}
 use Rattle.line_example.proofs.Rows.{Started}
@@ -7,6 +6,3 @@ use Rattle.line_example.proofs.sorts.write_starts.Given as goal
 
 abbrev pub invariant-loop-j : goal.invariant-loop-j
 invariant-loop-j l = (length l.out ≡ length l.initial.out) × Started l.k l.of l.count l.initial.out l.at l.offset l.j l.out l.e l.next
-
-abbrev pub decreases-loop-j : goal.decreases-loop-j
-decreases-loop-j l = l.count - l.j

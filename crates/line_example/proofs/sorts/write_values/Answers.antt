@@ -1,4 +1,3 @@
-use Prim.Native.Nat.{◌-◌}
 use mathlib.Core.Path.{refl}
 use native.Mathlib.Omega.{arith}
 use Rattle.line_example.proofs.Rows.{named-numbered, written_start, written_next, written-done}
@@ -9,12 +8,6 @@ loop-j-init c = (refl, written_start)
 
 pub write_value-e-requires : goal.write_value-e-requires
 write_value-e-requires c = let p = c.requires in (p.1, named-numbered c.args.of c.loop-j-test.true p.0 c.numbered.ensures, p.2)
-
-pub overflow_add-j : goal.overflow_add-j
-overflow_add-j c = omega arith
-
-pub loop-j-smaller : goal.loop-j-smaller
-loop-j-smaller c = omega arith
 
 pub loop-j-preserved : goal.loop-j-preserved
 loop-j-preserved c = let p = c.requires.0 in let t = c.loop-j-test.true in (omega arith, written_next c.loop-j.invariant.1 (c.numbered.ensures (omega arith)) t c.write_value-e.ensures)

@@ -1,4 +1,3 @@
-use Prim.Native.Nat.{◌-◌}
 use Rattle.results.proofs.Replaced.{each_step, each_none}
 use Rattle.slices.proofs.Still.{still-all, still-none, still-fits, still-run}
 use Rattle.results.proofs.emptying.empty_each.Goals as goal

@@ -13,7 +13,7 @@ bounds-set-n c = let w = c.wide-n.ensures in
     omega arith
 
 pub returns-in-Run : goal.returns-in-Run
-returns-in-Run c = ap (λ n. get_or c.args.m.set n false) c.wide-n.ensures ∙ marked-run _ _ c.classify.ensures _ c.in-Run.is
+returns-in-Run c = ap (λ n. get_or c.args.set n false) c.wide-n.ensures ∙ marked-run _ _ c.classify.ensures _ c.in-Run.is
 
 pub returns-in_default : goal.returns-in_default
 returns-in_default c = marked-none _ _ c.classify.ensures (opened c.in_default.in_default-own.keys2)

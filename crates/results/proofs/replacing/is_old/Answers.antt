@@ -4,9 +4,9 @@ use lib.Seq.{slice}
 use Rattle.words.specs.Spans.{member}
 use Rattle.results.proofs.replacing.is_old.Goals as goal
 
-pub returns-then-only : goal.returns-then-only
-returns-then-only c = c.is_marked.ensures ∙ c.requires.told c.if-only.true _
+pub returns-in-Some : goal.returns-in-Some
+returns-in-Some c = c.is_marked.ensures ∙ c.requires.told _ c.in-Some.is _
 
-pub returns : goal.returns
-returns c = let a = c.args in
+pub returns-in-None : goal.returns-in-None
+returns-in-None c = let a = c.args in
     c.stands.ensures ∙ ap (λ x. member x (slice a.old a.until a.k.now)) c.wide.ensures

@@ -1,4 +1,4 @@
-use Prim.Native.Nat.{◌+◌, ◌-◌}
+use Prim.Native.Nat.{◌+◌}
 use mathlib.Core.Path.{refl, sym, subst}
 use mathlib.Core.Bool.{true}
 use lib.ListN.{set}
@@ -28,4 +28,4 @@ pub loop-i-init : goal.loop-i-init
 loop-i-init c = none-marked _ _ refl refl
 
 pub returns-in_default : goal.returns-in_default
-returns-in_default c = not-only _ _
+returns-in_default c = not-only _

@@ -1,12 +1,7 @@
 -- The loop's invariant: a word of the part is marked or stands in what is left of it.
-use Prim.Native.Nat.{◌-◌}
-use lib.ListN.{set}
 use lib.Seq.{slice}
 use Rattle.results.proofs.Marking.{Marking}
 use Rattle.results.proofs.replacing.note.Given as goal
 
 abbrev pub invariant-loop-i : goal.invariant-loop-i
 invariant-loop-i l = Marking l.set (slice l.i l.to l.k) (slice l.from l.to l.k)
-
-abbrev pub decreases-loop-i : goal.decreases-loop-i
-decreases-loop-i l = l.end - l.i

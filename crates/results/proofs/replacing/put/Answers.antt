@@ -1,4 +1,3 @@
-use Prim.Native.Nat.{◌-◌}
 use Rattle.plans.specs.Results.{changed}
 use Rattle.slices.proofs.Still.{still-all, still-none, still-fits, still-run}
 use Rattle.results.proofs.Replaced.{put_step, put-none}

@@ -1,5 +1,4 @@
 -- The loop's invariant: what stands for the rest of the part is still to come.
-use Prim.Native.Nat.{◌-◌}
 use lib.Seq.{slice}
 use Rattle.plans.specs.Results.{replaced}
 use Rattle.slices.proofs.Still.{Still}
@@ -7,6 +6,3 @@ use Rattle.results.proofs.replacing.put.Given as goal
 
 abbrev pub invariant-loop-i : goal.invariant-loop-i
 invariant-loop-i l = Still l.initial.out l.at (replaced (slice l.old l.until l.k) (slice l.new l.cut l.k) (slice l.from l.to l.k)) l.out l.e (replaced (slice l.old l.until l.k) (slice l.new l.cut l.k) (slice l.i l.to l.k))
-
-abbrev pub decreases-loop-i : goal.decreases-loop-i
-decreases-loop-i l = l.end - l.i

@@ -2,6 +2,7 @@ use mathlib.Core.Path.{refl, ◌∙◌}
 use Prim.Native.Nat.{ℕ}
 use native.Mathlib.Omega.{arith}
 use lib.ListN.{length-replicate}
+use Rattle.std.proofs.lemmas.Result.{err_from_is_err_and}
 use Rattle.language.specs.Limits.{desk}
 use Rattle.counts.proofs.Added.{afresh-none}
 use Rattle.running.proofs.Gone.{turn-ready, still-guided, run-over, gone-on, gone-less, gone-stop}
@@ -50,7 +51,7 @@ turn-requires-clause-taken c = let b = c.requires in
 
 pub loop-s-smaller : goal.loop-s-smaller
 loop-s-smaller c = let b = c.requires in
-    gone-less _ _ b.old b.whole b.old_work b.old_answer _ _ _ _ _ (c.loop-s.invariant.3 b.old b.whole b.old_work b.old_answer b.lines b.waits b.under) c.loop-s-test.true _ _ _ _ c.turn.ensures _ c.in-On.is
+    gone-less _ _ b.old b.whole b.old_work b.old_answer _ _ _ _ _ (c.loop-s.invariant.3 b.old b.whole b.old_work b.old_answer b.lines b.waits b.under) c.loop-s-test.true _ _ _ _ c.turn.ensures _ c.in_ok-s.was
 
 pub loop-s-preserved : goal.loop-s-preserved
 loop-s-preserved c = let b = c.requires in
@@ -61,14 +62,17 @@ loop-s-preserved c = let b = c.requires in
       c.turn.auto.work ∙ c.loop-s.invariant.0,
       c.turn.auto.answer ∙ c.loop-s.invariant.1,
       c.turn.auto.out ∙ c.loop-s.invariant.2,
-      (λ old whole old_work old_answer ls w u. gone-on _ _ old whole old_work old_answer _ _ _ _ _ (c.loop-s.invariant.3 old whole old_work old_answer ls w u) c.loop-s-test.true _ _ _ _ c.turn.ensures _ c.in-On.is),
+      (λ old whole old_work old_answer ls w u. gone-on _ _ old whole old_work old_answer _ _ _ _ _ (c.loop-s.invariant.3 old whole old_work old_answer ls w u) c.loop-s-test.true _ _ _ _ c.turn.ensures _ c.in_ok-s.was),
       still-long c.loop-s.k _ _ c.loop-s.s c.loop-s.work c.take_first-n.result n (omega arith) (omega arith) c.take_first-n.ensures.k_after c.take_first-n.ensures.table_after ∙ l,
       omega arith,
       still-counted c.loop-s.k _ _ c.loop-s.s c.loop-s.work c.take_first-n.result n (omega arith) (omega arith) c.take_first-n.ensures.k_after c.take_first-n.ensures.table_after,
     )
 
-pub returns-in-Stop : goal.returns-in-Stop
-returns-in-Stop c = λ old whole old_work old_answer ls w u. gone-stop _ _ old whole old_work old_answer _ _ _ _ _ (c.loop-s.invariant.3 old whole old_work old_answer ls w u) c.loop-s-test.true _ _ _ _ c.turn.ensures _ c.in-Stop.is
+pub returns-in_err-s : goal.returns-in_err-s
+returns-in_err-s c = λ old whole old_work old_answer ls w u.
+    let p = err_from_is_err_and c.from_residual.result c.from_residual.ensures.1 in
+    rw (p.1, p.2)
+    (gone-stop _ _ old whole old_work old_answer _ _ _ _ _ (c.loop-s.invariant.3 old whole old_work old_answer ls w u) c.loop-s-test.true _ _ _ _ c.turn.ensures _ c.in_err-s.was)
 
 pub finish-requires : goal.finish-requires
 finish-requires c = let b = c.requires in still-guided _ _ b.old b.whole b.old_work b.old_answer _ _ _ _ _ (c.loop-s.invariant.3 b.old b.whole b.old_work b.old_answer b.lines b.waits b.under)

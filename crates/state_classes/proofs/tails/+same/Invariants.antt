@@ -4,4 +4,4 @@ use lib.ListN.{length}
 use Rattle.state_classes.proofs.tails.+same.Given as goal
 
 abbrev pub decreases-same : goal.decreases-same
-decreases-same l = length l.k.now - l.s.at
+decreases-same l = length l.chart.now.words.now - l.s.at

@@ -1,7 +1,5 @@
 use native.Mathlib.Omega.{arith}
 use mathlib.Core.Path.{sym, ◌∙◌}
-use Prim.Native.Nat.{◌-◌}
-use Rattle.charts.proofs.Charting.{chart-from}
 use Rattle.state_classes.proofs.Peeling.{goes-start, goes-second, goes_first, peeled-past, peeled-symbol, peeled-star, peeled-join}
 use Rattle.state_classes.proofs.tails.peel.Goals as goal
 
@@ -11,23 +9,17 @@ returns-then-w-lt7000 c = peeled-symbol c.loop-x.invariant c.if-w-lt7000.true
 pub returns-then-w-eq7003 : goal.returns-then-w-eq7003
 returns-then-w-eq7003 c = peeled-star c.loop-x.invariant c.loop-x-test.true c.if-w-eq7003.true
 
-pub part_at-a-requires : goal.part_at-a-requires
-part_at-a-requires c = chart-from (omega arith) c.requires
-
 pub loop-x-smaller-then-mid-p : goal.loop-x-smaller-then-mid-p
-loop-x-smaller-then-mid-p c = let z = c.part_at-a.ensures.after in omega arith
+loop-x-smaller-then-mid-p c = let z = c.part-a.ensures.after in omega arith
 
 pub loop-x-preserved-then-mid-p : goal.loop-x-preserved-then-mid-p
-loop-x-preserved-then-mid-p c = goes-second c.loop-x.invariant c.part_at-a.ensures c.if-w-lt7000.false c.if-w-eq7003.false c.if-mid-p.true
-
-pub part_at-b-requires : goal.part_at-b-requires
-part_at-b-requires c = chart-from (omega arith) c.requires
+loop-x-preserved-then-mid-p c = goes-second c.loop-x.invariant c.part-a.ensures c.if-w-lt7000.false c.if-w-eq7003.false c.if-mid-p.true
 
 pub returns-then-adds : goal.returns-then-adds
-returns-then-adds c = peeled-join c.loop-x.invariant c.part_at-a.ensures c.if-w-lt7000.false c.if-w-eq7003.false c.if-mid-p.false c.part_at-b.ensures c.loop-x-test.true (sym c.adds.ensures ∙ c.if-adds.true)
+returns-then-adds c = peeled-join c.loop-x.invariant c.part-a.ensures c.if-w-lt7000.false c.if-w-eq7003.false c.if-mid-p.false c.part-b.ensures c.loop-x-test.true (sym c.adds.ensures ∙ c.if-adds.true)
 
 pub loop-x-preserved : goal.loop-x-preserved
-loop-x-preserved c = goes_first c.loop-x.invariant c.part_at-a.ensures c.if-w-lt7000.false c.if-w-eq7003.false c.if-mid-p.false c.part_at-b.ensures (sym c.adds.ensures ∙ c.if-adds.false)
+loop-x-preserved c = goes_first c.loop-x.invariant c.part-a.ensures c.if-w-lt7000.false c.if-w-eq7003.false c.if-mid-p.false c.part-b.ensures (sym c.adds.ensures ∙ c.if-adds.false)
 
 pub returns : goal.returns
 returns c = peeled-past c.loop-x.invariant c.loop-x-test.false

@@ -1,6 +1,3 @@
-use mathlib.Core.Bool.{not}
-use mathlib.Core.Path.{ap}
-use Prim.Native.Nat.{◌-◌}
 use Rattle.language.specs.Limits.{desk}
 use Rattle.text_words.proofs.Rows.{literals-start, literals-bad, literals_end, literals-less, literals-on}
 use Rattle.text_words.proofs.conjunction.literals.Goals as goal

@@ -1,6 +1,4 @@
 -- `text_words::literal::right_side` meets its contract: no side, and one with what stands behind it.
-use mathlib.Core.Bool.{not}
-use mathlib.Core.Path.{ap}
 use Rattle.language.specs.Limits.{desk}
 use Rattle.text_words.proofs.Sides.{no-right-side, right_side}
 use Rattle.text_words.proofs.literal.right_side.Goals as goal

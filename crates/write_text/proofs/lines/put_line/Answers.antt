@@ -1,5 +1,4 @@
 use Rattle.write_text.proofs.Lining.{lined-empty, lining-starts, lining-on, lining_ends}
-use Prim.Native.Nat.{◌-◌}
 use native.Mathlib.Omega.{arith}
 use Rattle.write_text.proofs.lines.put_line.Goals as goal
 

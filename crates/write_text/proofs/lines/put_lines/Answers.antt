@@ -1,6 +1,5 @@
 use Rattle.write_text.proofs.Lining.{question-long, table-within, within-question, listing-on, listing-ends}
 use mathlib.Core.Path.{refl}
-use Prim.Native.Nat.{◌-◌}
 use native.Mathlib.Omega.{arith}
 use borrow.Author.Rules.{rules}
 use Rattle.write_text.proofs.lines.put_lines.Goals as goal
@@ -22,9 +21,6 @@ loop-i-preserved c = let m = c.loop-i.invariant.0 in (m, listing-on c.loop-i.inv
 
 pub returns : goal.returns
 returns c = let m = c.loop-i.invariant.0 in listing-ends c.loop-i.invariant.1 (omega arith)
-
-pub loop-i-smaller : goal.loop-i-smaller
-loop-i-smaller c = omega arith
 
 pub slice_bounds-put_line-count : goal.slice_bounds-put_line-count
 slice_bounds-put_line-count c = let m = c.loop-i.invariant.0 in let s = within-question c.requires _ _ _ (omega arith) c.wide-from.ensures c.wide-to.ensures in search rules

@@ -1,6 +1,5 @@
 use Rattle.write_text.proofs.Counting.{counting-on, out_of_order, too_few, enough}
 use mathlib.Core.Path.{refl}
-use Prim.Native.Nat.{◌-◌}
 use native.Mathlib.Omega.{arith}
 use Rattle.write_text.proofs.numbers.are_counted.Goals as goal
 
@@ -21,6 +20,3 @@ returns c = enough c.loop-i.invariant c.args.least c.args.declared (omega arith)
 
 pub loop-i-init : goal.loop-i-init
 loop-i-init c = record { small = omega arith; left = refl }
-
-pub loop-i-smaller : goal.loop-i-smaller
-loop-i-smaller c = omega arith

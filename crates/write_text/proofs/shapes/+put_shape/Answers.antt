@@ -1,5 +1,4 @@
 use native.Mathlib.Omega.{arith}
-use Prim.Native.Nat.{◌-◌}
 use Rattle.write_text.proofs.Shaping.{shaped-end, shaped-eps, shaped-one, shaped-two}
 use Rattle.write_text.proofs.shapes.+put_shape.Goals as goal
 

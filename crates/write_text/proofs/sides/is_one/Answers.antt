@@ -11,8 +11,8 @@ returns-then-at-last c = record { tells = one-empty _ _ c.args.last c.if-at-last
 pub returns-then-w-at-lt3000 : goal.returns-then-w-at-lt3000
 returns-then-w-at-lt3000 c = record { tells = one-variable _ _ c.args.last c.if-at-last.false c.if-w-at-lt3000.true }
 
-pub returns-in-Next : goal.returns-in-Next
-returns-in-Next c = record { tells = one-functor _ _ c.args.last _ c.if-w-at-lt3000.false c.read_hedge.ensures c.in-Next.is }
+pub returns-in-Ok : goal.returns-in-Ok
+returns-in-Ok c = record { tells = one-functor _ _ c.args.last _ c.if-w-at-lt3000.false c.read_hedge.ensures c.in-Ok.is }
 
-pub returns-in-Stop : goal.returns-in-Stop
-returns-in-Stop c = record { tells = one-broken _ _ c.args.last _ c.if-w-at-lt3000.false c.read_hedge.ensures c.in-Stop.is }
+pub returns-in-Err : goal.returns-in-Err
+returns-in-Err c = record { tells = one-broken _ _ c.args.last _ c.if-w-at-lt3000.false c.read_hedge.ensures c.in-Err.is }

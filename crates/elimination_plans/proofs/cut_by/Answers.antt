@@ -1,7 +1,0 @@
--- The plan is that of the recipe.
-use mathlib.Core.Path.{ap}
-use Rattle.plans.specs.Slots.{single}
-use Rattle.elimination_plans.proofs.cut_by.Goals as goal
-
-pub returns : goal.returns
-returns c = ap (single _) c.full-first.ensures

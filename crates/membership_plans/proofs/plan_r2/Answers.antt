@@ -1,7 +1,0 @@
--- The plan is that of the recipe.
-use mathlib.Core.Path.{ap}
-use Rattle.plans.specs.Slots.{single}
-use Rattle.membership_plans.proofs.plan_r2.Goals as goal
-
-pub returns : goal.returns
-returns c = ap (single _) c.few-first.ensures

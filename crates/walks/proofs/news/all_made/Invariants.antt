@@ -1,9 +1,0 @@
--- `walks::news::all_made` is safe and ends.
-use Rattle.std.proofs.Common.{◌≤◌}
-use Rattle.walks.proofs.news.all_made.Given as goal
-
-abbrev pub invariant-loop-left : goal.invariant-loop-left
-invariant-loop-left l = l.left ≤ l.n
-
-abbrev pub decreases-loop-left : goal.decreases-loop-left
-decreases-loop-left l = l.left

@@ -1,9 +1,0 @@
--- `wording::answer::words` is safe and ends.
-use Rattle.std.proofs.Common.{length, ◌-◌, ◌≤◌}
-use Rattle.wording.proofs.answer.words.Given as goal
-
-abbrev pub invariant-loop-i : goal.invariant-loop-i
-invariant-loop-i l = l.i ≤ length l.ws
-
-abbrev pub decreases-loop-i : goal.decreases-loop-i
-decreases-loop-i l = length l.ws - l.i
