@@ -2,9 +2,9 @@
 use Prim.Native.Nat.{ℕ, ◌<◌, ◌≤◌}
 use mathlib.Core.Path.{◌≡◌, refl, sym, ap, ◌∙◌}
 use mathlib.Core.Bool.{Bool, true, false, true≢false}
-use mathlib.Core.List.{List}
+use mathlib.Core.List.{List, [], ◌∷◌, ◌++◌, append-nil}
 use lib.Dec.{ltb}
-use lib.ListN.{length, replicate}
+use lib.ListN.{length, drop, replicate}
 use borrow.Author.Tests.{lt-ltb, le-ltb}
 use Rattle.std.specs.Prelude.{Result, Ok, Err, is_err}
 use Rattle.language.specs.declared.Refusal.{Refusal}
@@ -57,6 +57,14 @@ module _ (r : Result Ran Refusal) (work answer cleared : List ℕ) (ec : cleared
       ∙ sym (ap (λ r. told_by r work answer) er)
 
 -- ---- the room of a trail
+
+-- zeros up to the end
+past_end : (ws : List ℕ) → drop (length ws) ws ≡ []
+past_end [] = refl
+past_end (w ∷ ws) = past_end ws
+
+pub none-behind : (ws : List ℕ) → replicate (length ws) 0 ++ drop (length ws) ws ≡ replicate (length ws) 0
+none-behind ws = ap (λ v. replicate (length ws) 0 ++ v) (past_end ws) ∙ append-nil (replicate (length ws) 0)
 
 pub settled-done : (r : Result Ran Refusal) (old : List ℕ) → is_err r ≡ false → Settles r old old
 settled-done (Ok d) old e = refl

@@ -1,7 +1,7 @@
 // What comes before a run and after it.
 #![tactic(auto)]
 
-ghost use Rattle.std.specs.Prelude.{◌≤◌, ◌≡◌, length};
+ghost use Rattle.std.specs.Prelude.{◌≤◌, ◌≡◌, length, replicate};
 ghost use Rattle.language.specs.Limits.{desk};
 ghost use Rattle.language.specs.Question.{read_question};
 ghost use Rattle.around.specs.Told.{refused_by, verdict_for, told_by};
@@ -84,11 +84,20 @@ pub fn ready(question: &[u16], work: usize, answer: usize) -> Result<(), Refusal
     read_question(question)
 }
 
+// Zeros in all words.
+fn wipe(s: &mut [u16])
+    ensures { s.new ≡ replicate (length s.old) 0 }
+{
+    for i in 0..s.len() {
+        s[i] = 0;
+    }
+}
+
 // After a refusal the room is cleared.
 pub fn settle(ran: Result<Ran, Refusal>, out: &mut [u16])
     ensures { Settles ran out.old out.new }
 {
     if ran.is_err() {
-        out.fill(0);
+        wipe(out);
     }
 }

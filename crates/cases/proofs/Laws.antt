@@ -1,6 +1,6 @@
 -- Going along a line keeps where it ends.
 use Prim.Native.Nat.{ℕ, ◌+◌, ◌<◌, ◌≤◌}
-use mathlib.Core.Path.{◌≡◌, refl, sym, ap, ◌∙◌}
+use mathlib.Core.Path.{◌≡◌, refl, sym, ap, subst, ◌∙◌}
 use mathlib.Core.List.{List, []}
 use native.Mathlib.Numerals.{add-one}
 use native.Mathlib.Omega.{arith}
@@ -44,3 +44,7 @@ module _ (text : List ℕ) (at : ℕ) where
           inside = omega arith;
           ahead = λ q. q;
         }
+
+    -- a line without an end ends where the text does
+    pub ends-as : {e : ℕ} → e ≡ length text → length text ≤ i → Ends text at e
+    ends-as {e} q p = subst (Ends text at) (sym q) (ends_last p)

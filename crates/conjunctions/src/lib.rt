@@ -15,7 +15,10 @@ fn read_conj(w: &[u16]) -> Result<usize, usize>
 {
     let mut i = 0;
     while i < w.len() {
-        i = read_literal(w, i)?;
+        match read_literal(w, i) {
+            Ok(after) => i = after,
+            Err(place) => return Err(place),
+        }
     }
     Ok(i)
 }

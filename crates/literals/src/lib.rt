@@ -16,11 +16,14 @@ pub fn literal_place(k: &[u16], number: usize) -> usize
     requires { Conjunction k.now }
     ensures { (c : Conj) → fine_conj desk c → k.now ≡ conj_words c → result ≡ words_before number c }
 {
+    // kept: the literal that is there and none each have a way out of their own, so that a wrong answer of either can be tried
     let mut i = 0;
-    for _ in 0..number {
-        if k.len() <= i {
+    let mut left = number;
+    while i < k.len() {
+        if left == 0 {
             return i;
         }
+        left -= 1;
         i = next_literal(k, i);
     }
     i

@@ -6,6 +6,7 @@
 mod word_places;
 
 use crate::word_places::point;
+use language::limits::QUESTION;
 use language::{Kind, Refusal, classify};
 use std::fmt;
 use std::io::Stderr;
@@ -40,6 +41,11 @@ impl fmt::Display for Part {
     }
 }
 
+// No conjunction is as deep as a question is long.
+fn deeper(depth: usize) -> usize {
+    depth.saturating_add(1).min(QUESTION)
+}
+
 fn begin(kind: Kind) -> Part {
     match kind {
         Kind::Equation => Part::Hedge(Hedge::FirstSide, 0),
@@ -61,7 +67,7 @@ fn in_hedge(hedge: Hedge, depth: usize, kind: Kind) -> Part {
     match kind {
         Kind::End if depth == 0 => behind(hedge),
         Kind::End => Part::Hedge(hedge, depth - 1),
-        Kind::Symbol(_) | Kind::Function(_) => Part::Hedge(hedge, depth.saturating_add(1)),
+        Kind::Symbol(_) | Kind::Function(_) => Part::Hedge(hedge, deeper(depth)),
         _ => Part::Hedge(hedge, depth),
     }
 }
@@ -77,7 +83,7 @@ fn end(left: usize) -> Part {
 fn in_expression(left: usize, kind: Kind) -> Part {
     match kind {
         Kind::Eps => end(left),
-        Kind::Cat | Kind::Alt => Part::Expression(left.saturating_add(1)),
+        Kind::Cat | Kind::Alt => Part::Expression(deeper(left)),
         _ => Part::Expression(left),
     }
 }

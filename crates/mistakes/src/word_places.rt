@@ -41,13 +41,15 @@ fn beginning(text: &[u8], n: usize) -> usize
 }
 
 // Where the digits end that begin at a place.
-fn ending(text: &[u8], from: usize) -> usize {
+fn ending(text: &[u8], from: usize) -> usize
+    ensures { from ≤ result }
+{
     for i in from..text.len() {
         if !text[i].is_ascii_digit() {
             return i;
         }
     }
-    text.len()
+    from.max(text.len())
 }
 
 // Says where word n of a text stands, or what is right behind it, and shows the words around it. The text's name is said before.
@@ -55,6 +57,6 @@ pub(crate) fn point(err: Stderr, text: &[u8], n: usize, past: bool) {
     let word = beginning(text, n);
     let at = if past { ending(text, word) } else { word };
     let first = beginning(text, n.saturating_sub(AROUND));
-    let last = beginning(text, n.saturating_add(AROUND));
+    let last = beginning(text, if n < QUESTION { n + AROUND } else { n });
     point_at(err, text, at, first, ending(text, last.max(at)), b'#');
 }

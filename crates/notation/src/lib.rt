@@ -68,7 +68,7 @@ pub struct Writer<'a> {
 impl<'a> Writer<'a> {
     // For a question that begins with this word, which counts its symbols.
     pub fn new(out: Stdout, first: u16, names: &'a [u8]) -> Writer<'a>
-        ensures { (result.signature.symbols ≡ first % 256) × (result.signature.unordered ≡ first / 256) }
+        ensures { result ≡ record { out = out; signature = record { symbols = first % 256; unordered = first / 256 }; names = names.entry } }
     {
         let signature = Signature {
             symbols: first % 256,
@@ -81,20 +81,24 @@ impl<'a> Writer<'a> {
         }
     }
 
-    fn bracket(self, stands: bool, text: &[u8]) {
+    fn bracket(&self, stands: bool, text: &[u8]) {
         if stands {
             say(self.out, text);
         }
     }
 
     // A symbol, with a mark where it is unordered.
-    fn symbol(self, f: Sym) {
+    fn symbol(&self, f: Sym) {
         self.name(Sort::Symbol, usize::from(f.0));
         self.bracket(is_unordered(self.signature, f), b"~");
     }
 
     // The name of a variable or a symbol.
     pub fn named(self, w: u16) {
+        self.written(w);
+    }
+
+    fn written(&self, w: u16) {
         match classify(w) {
             Kind::Term(x) => self.name(Sort::Term, usize::from(x.0)),
             Kind::Run(p) => self.name(Sort::Run, usize::from(p.0)),
@@ -175,7 +179,7 @@ impl<'a> Writer<'a> {
         self.side(ws, from);
     }
 
-    fn level(self, of_text: Level) -> Level {
+    fn level(&self, of_text: Level) -> Level {
         if self.is_text() {
             of_text
         } else {
@@ -184,7 +188,7 @@ impl<'a> Writer<'a> {
     }
 
     // That of the first part of such an expression, and that of the second.
-    fn first_level(self, kind: Kind) -> Level {
+    fn first_level(&self, kind: Kind) -> Level {
         match kind {
             Kind::Cat => self.level(Level::Choice),
             Kind::Alt | Kind::Star => Level::Tight,
@@ -192,7 +196,7 @@ impl<'a> Writer<'a> {
         }
     }
 
-    fn second_level(self, kind: Kind) -> Level {
+    fn second_level(&self, kind: Kind) -> Level {
         match kind {
             Kind::Cat => self.level(Level::Listed),
             _ => self.level(Level::Choice),
@@ -200,32 +204,32 @@ impl<'a> Writer<'a> {
     }
 
     // A sign of expressions: that of texts, or that for a question of words.
-    fn sign(self, of_text: &str, of_words: &str) {
+    fn sign(&self, of_text: &str, of_words: &str) {
         let sign = if self.is_text() { of_text } else { of_words };
         let _ = print!(self.out; "{sign}");
     }
 
     // What stands before the parts of such an expression, which begins with this word, between two of them, and behind them.
-    fn before(self, kind: Kind, w: u16, level: Level) {
+    fn before(&self, kind: Kind, w: u16, level: Level) {
         match kind {
             Kind::Eps => self.sign("()", "eps"),
             Kind::Cat | Kind::Alt => self.bracket(level.brackets(kind), b"("),
             Kind::Star => {}
             _ => {
-                self.named(w);
+                self.written(w);
                 say(self.out, b"(");
             }
         }
     }
 
-    fn between(self, kind: Kind) {
+    fn between(&self, kind: Kind) {
         match kind {
             Kind::Cat => self.sign(", ", " . "),
             _ => say(self.out, b" + "),
         }
     }
 
-    fn behind(self, kind: Kind, level: Level) {
+    fn behind(&self, kind: Kind, level: Level) {
         match kind {
             Kind::Cat | Kind::Alt => self.bracket(level.brackets(kind), b")"),
             Kind::Star => say(self.out, b"*"),
@@ -233,8 +237,9 @@ impl<'a> Writer<'a> {
         }
     }
 
+    // The writer is lent here and below, not copied: each level of an expression would keep a copy for every call on the stack.
     // An expression: R . S in a row, in a text R, S; R + S either, R* any number, a0(R) one term over R; the place after it.
-    fn expression(self, ws: &[u16], at: usize, level: Level) -> usize
+    fn expression(&self, ws: &[u16], at: usize, level: Level) -> usize
         ensures { at ≤ result }
     {
         if at >= ws.len() {
@@ -244,7 +249,7 @@ impl<'a> Writer<'a> {
         let next = at + 1;
         let kind = classify(w);
         if is_leaf(ws, next, kind) {
-            self.named(w);
+            self.written(w);
             return after(ws, next, w);
         }
         self.before(kind, w, level);

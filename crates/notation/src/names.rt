@@ -56,12 +56,12 @@ impl Sort {
 }
 
 impl Writer<'_> {
-    pub(crate) fn is_text(self) -> bool {
+    pub(crate) fn is_text(&self) -> bool {
         SHELVES <= self.names.len()
     }
 
     // What stands at a place of the shelves.
-    fn shelved(self, i: usize) -> usize
+    fn shelved(&self, i: usize) -> usize
         ensures { result < 65536 }
     {
         let names = self.names;
@@ -73,7 +73,7 @@ impl Writer<'_> {
     }
 
     // The name that begins at a place of the text.
-    fn name_at(self, at: usize) {
+    fn name_at(&self, at: usize) {
         let names = self.names;
         if names.len() < SHELVES {
             return;
@@ -89,7 +89,7 @@ impl Writer<'_> {
     }
 
     // The name of number n on the shelf of a sort behind its mark, or, where that has none, a letter and the number.
-    pub(crate) fn name(self, sort: Sort, n: usize) {
+    pub(crate) fn name(&self, sort: Sort, n: usize) {
         let shelf = sort.shelf();
         if n < self.shelved(shelf) {
             let mark = sort.mark();

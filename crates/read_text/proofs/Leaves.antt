@@ -1,15 +1,17 @@
 -- The small calls: at least one, too many, words copied.
-use Prim.Native.Nat.{ℕ, zero, suc, ◌+◌, ◌*◌, ◌<◌, ◌≤◌}
+use Prim.Native.Nat.{ℕ, zero, suc, ◌+◌, ◌-◌, ◌*◌, ◌<◌, ◌≤◌}
 use native.Mathlib.Omega.{arith}
+use native.Mathlib.Numerals.{add-one}
 use mathlib.Core.Path.{◌≡◌, refl, sym, ap, ◌∙◌}
 use mathlib.Core.Bool.{Bool, true, false, ◌||◌}
-use mathlib.Core.List.{List, ◌++◌}
+use mathlib.Core.List.{List, [], ◌∷◌, ◌++◌}
 use lib.Dec.{ltb}
-use lib.ListN.{length, take, drop, get_or}
-use lib.Seq.{sets, sets-eq, length-take-le}
+use lib.ListN.{length, take, get_or, set, length-take}
+use lib.Seq.{sets, take-suc, length-sets}
 use borrow.Author.Tests.{lt-ltb, le-ltb, ltb-false}
 use Rattle.language.specs.Limits.{Limits}
 use Rattle.text_names.specs.Shelves.{width}
+use Rattle.text_words.proofs.Stores.{sets-++}
 use Rattle.read_text.specs.Reads.{many_of, one_at_least}
 
 pub some-already : (n : ℕ) → (n ≡ 0 → ⊥) → n ≡ one_at_least n
@@ -44,11 +46,34 @@ module _ (L : Limits) (names : List ℕ) (many : ℕ) where
 
 -- ---- words copied
 
-pub copied : (room words : List ℕ) {new : List ℕ} {n : ℕ} → n ≤ length words → n ≤ length room → new ≡ take n words → new ++ drop n room ≡ sets room 0 (take n words)
-copied room words {new} {n} p q e =
-    let l = length-take-le n words p in
-    ap (λ r. r ++ drop n room) e
-    ∙ sym (sets-eq (take n words) room 0 (omega arith) ∙ ap (λ k. take n words ++ drop k room) (let z : 0 + length (take n words) ≡ n = omega arith in z))
+pub record Copying (words room : List ℕ) (n i : ℕ) (room' : List ℕ) : Type 0 where
+  pub high : i ≤ n
+  pub within : n ≤ length words
+  pub fits : n ≤ length room
+  pub same : room' ≡ sets room 0 (take i words)
+
+pub copy-starts : {words room : List ℕ} {n : ℕ} → n ≤ length words → n ≤ length room → Copying words room n 0 room
+copy-starts p q = record { high = omega arith; within = p; fits = q; same = refl }
+
+pub copy-length : {words room : List ℕ} {n i : ℕ} {room' : List ℕ} → Copying words room n i room' → length room' ≡ length room
+copy-length {words} {room} {n} {i} g = ap length g.same ∙ length-sets room 0 (take i words)
+
+pub copy-on : {words room : List ℕ} {n i : ℕ} {room' : List ℕ} → Copying words room n i room' → i < n → Copying words room n (i + 1) (set room' i (get_or words i 0))
+copy-on {words} {room} {n} {i} {room'} g p = record {
+  high = omega arith;
+  within = g.within;
+  fits = g.fits;
+  same =
+      let w = g.within in
+      let l : length (take i words) ≡ i = length-take i words ∙ (let z : Prim.Native.Nat.min i (length words) ≡ i = omega arith in z) in
+      ap (λ r. set r i (get_or words i 0)) g.same
+      ∙ ap (λ k. set (sets room 0 (take i words)) k (get_or words i 0)) (let z : i ≡ 0 + length (take i words) = omega arith in z)
+      ∙ sets-++ room 0 (take i words) (get_or words i 0 ∷ [])
+      ∙ ap (sets room 0) (sym (take-suc words i 0 (omega arith)) ∙ ap (λ k. take k words) (sym (add-one i)));
+}
+
+pub copy-ends : {words room : List ℕ} {n i : ℕ} {room' : List ℕ} → Copying words room n i room' → n ≤ i → room' ≡ sets room 0 (take n words)
+copy-ends {words} {room} {n} {i} g p = g.same ∙ ap (λ k. sets room 0 (take k words)) (let h = g.high in let z : i ≡ n = omega arith in z)
 
 -- ---- counts that fit a word
 

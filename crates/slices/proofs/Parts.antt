@@ -1,12 +1,11 @@
 -- Parts of a list of words whose end lies within the list: the first word and the rest, nothing, and how long.
 use mathlib.Core.Path.{◌≡◌, sym, ap, ◌∙◌}
 use mathlib.Core.List.{List, [], ◌∷◌, ◌++◌}
-use Prim.Native.Nat.{ℕ, ◌+◌, ◌-◌, ◌<◌, ◌≤◌, min}
-use native.Mathlib.Decide.{dec_le}
+use Prim.Native.Nat.{ℕ, ◌+◌, ◌-◌, ◌<◌, ◌≤◌}
 use native.Mathlib.Numerals.{add-one}
 use native.Mathlib.Omega.{arith}
 use lib.ListN.{length, get_or, drop, take, length-drop, drop_of_length-le}
-use lib.Seq.{slice, slice-cons, length-slice, take_all, take-length, length-take-le, take-add, drop-append_seam}
+use lib.Seq.{slice, slice-cons, length-slice, take_all, take-length, length-take-le}
 use Rattle.slices.specs.Written.{Within}
 
 -- ws is us and then vs; a record, so that the three are found from it
@@ -37,22 +36,6 @@ module _ {k : List ℕ} {to e : ℕ} (w : Within k to e) where
 
   pub part_none : (i : ℕ) → e ≤ i → slice i to k ≡ []
   part_none i h = sym (same-part i) ∙ drop_of_length-le (take e k) {i = i} (let l = length-take-le e k w.low in omega arith)
-
-  -- the part is the words from its beginning on, so many
-  pub part-at : (i : ℕ) {m : ℕ} → m ≡ min i e → take (e - m) (drop m k) ≡ slice i to k
-  part-at i {m} q = go (dec_le i e)
-    where
-      go : Dec (i ≤ e) → take (e - m) (drop m k) ≡ slice i to k
-      go (yes p) =
-          let z : m ≡ i = omega arith in
-          let y : i + (e - i) ≡ e = omega arith in
-          let l : i ≡ length (take i k) = sym (length-take-le i k (let b = w.low in omega arith)) in
-          ap (λ j. take (e - j) (drop j k)) z
-          ∙ sym (ap (λ j. drop i (take j k)) (sym y) ∙ ap (drop i) (take-add i (e - i) k) ∙ ap (λ j. drop j (take i k ++ take (e - i) (drop i k))) l ∙ drop-append_seam (take i k) (take (e - i) (drop i k)))
-          ∙ same-part i
-      go (no p) =
-          let z : e - m ≡ 0 = omega arith in
-          ap (λ j. take j (drop m k)) z ∙ sym (part_none i (omega arith))
 
 -- all of a list is a part
 pub part-whole : (k : List ℕ) → slice 0 (length k) k ≡ k

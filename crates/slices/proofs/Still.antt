@@ -1,10 +1,10 @@
 -- The invariant of every writer: which words are still to come, and from which place on.
 use mathlib.Core.Path.{◌≡◌, refl, sym, ap, ◌∙◌}
-use mathlib.Core.List.{List, [], ◌∷◌, ◌++◌, append_assoc}
-use Prim.Native.Nat.{ℕ, suc, ◌+◌, ◌-◌, ◌<◌, ◌≤◌}
+use mathlib.Core.List.{List, [], ◌∷◌}
+use Prim.Native.Nat.{ℕ, suc, ◌+◌, ◌<◌, ◌≤◌}
 use native.Mathlib.Omega.{arith}
-use lib.ListN.{length, take, drop, set, length-append}
-use lib.Seq.{sets, sets-eq, drop-drop, length-sets, set_comm}
+use lib.ListN.{length, set, length-append}
+use lib.Seq.{sets, length-sets, set_comm}
 use Rattle.language.proofs.Stores.{sets-append}
 use Rattle.slices.specs.Written.{Wrote}
 use Rattle.slices.proofs.Parts.{Split}
@@ -55,16 +55,6 @@ module _ {old : List ℕ} {at : ℕ} {all new : List ℕ} {e : ℕ} {ws : List �
 -- one word
 pub wrote-word : (l : List ℕ) (e x : ℕ) → Wrote l e (x ∷ []) (set l e x) (e + 1)
 wrote-word l e x = record { end = refl; list = refl }
-
--- words at once
-pub wrote_at_once : {out ws part new : List ℕ} {at : ℕ} → part ≡ ws → new ≡ part → at + length ws ≤ length out
-    → Wrote out at ws (take at out ++ (new ++ drop (at + length part - at) (drop at out))) (at + length part)
-wrote_at_once {out} {ws} {part} {new} {at} p e h =
-    let z : at + length part - at ≡ length ws = (let q : length part ≡ length ws = ap length p in omega arith) in
-    record {
-      end = ap (λ l. at + length l) p;
-      list = rw (sets-eq ws out at h, append_assoc, z, drop-drop (length ws) at out) (ap (λ l. take at out ++ (l ++ drop (at + length ws) out)) (e ∙ p));
-    }
 
 -- ---- the same words, said otherwise
 module _ {ws vs : List ℕ} (z : ws ≡ vs) where

@@ -28,10 +28,14 @@ pub fn copy(k: &[u16], from: usize, to: usize, out: &mut [u16], at: usize) -> us
     requires { at + length (slice from to k.now) ≤ length out.old }
     ensures { Wrote out.old at (slice from to k.now) out.new result }
 {
+    // kept: std's copy needs memmove from who links the desk, which nothing else here does
     let end = within(k, to);
-    let part = &k[from.min(end)..end];
-    out[at..at + part.len()].copy_from_slice(part);
-    at + part.len()
+    let mut e = at;
+    for i in from..end {
+        out[e] = k[i];
+        e += 1;
+    }
+    e
 }
 
 // A number as a word.

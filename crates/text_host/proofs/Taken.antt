@@ -1,5 +1,5 @@
 -- What reading on words gives, told of the bytes.
-use Prim.Native.Nat.{ℕ, ◌+◌, ◌/◌, ◌≤◌, min}
+use Prim.Native.Nat.{ℕ, ◌/◌, ◌≤◌, min}
 use mathlib.Core.Path.{◌≡◌, refl, sym, ap, ap₂, ◌∙◌}
 use mathlib.Core.Bool.{Bool, true, false, ◌&&◌}
 use mathlib.Core.List.{List}
@@ -16,7 +16,6 @@ use Rattle.language.specs.Limits.{desk}
 use Rattle.language.specs.Kinds.{pick}
 use Rattle.language.specs.Trees.{Conj}
 use Rattle.language.specs.Question.{counts_fit}
-use Rattle.language.proofs.Numbering.{each_number}
 use Rattle.texts.specs.Texts.{parse}
 use Rattle.texts.specs.Numbering.{numbered, counts_in}
 use Rattle.texts.specs.Outcomes.{Outcome, gives, denies, question_words, fitted, counted, reads_text}
@@ -91,10 +90,6 @@ writes : (o : Outcome) (own bytes : List ℕ) → Fits (length own) o → sets b
 writes (gives ws) own bytes h = let m = h.1 in ap (λ l. sets bytes 0 (bytes_of l)) (ap (take (length ws)) (sets-eq ws own 0 (omega arith)) ∙ take_at ws _ (length ws) refl)
 writes (denies r) own bytes h = none_written own bytes
 
-told-short : (room : ℕ) (o : Outcome) → Fits room o → given_number (reading_of o) ≤ 100 + 65535
-told-short room (gives ws) h = let m = h.0 in omega arith
-told-short room (denies r) h = let t = each_number r in omega arith
-
 -- what `give` leaves of a refusal
 pub none-given : (own bytes : List ℕ) {r : Result ℕ Refusal} {x : Refusal} → r ≡ Err x → bytes ≡ sets bytes 0 (bytes_of (take (given_words r) own))
 none-given own bytes e = sym (ap (λ s. sets bytes 0 (bytes_of (take (given_words s) own))) e ∙ none_written own bytes)
@@ -109,9 +104,6 @@ module _ (text own : List ℕ) where
 
   pub read_short : {r : Result ℕ Refusal} → r ≡ reading_of comes → (given_words r ≤ desk.question) × (given_words r ≤ length own)
   read_short e = let s = short (length own) comes (fits (length own) text) in let f = ap given_words e in (omega arith, omega arith)
-
-  pub read_told : {r : Result ℕ Refusal} → r ≡ reading_of comes → given_number r ≤ 100 + 65535
-  read_told e = let s = told-short (length own) comes (fits (length own) text) in let f = ap given_number e in omega arith
 
   -- reading changes no length
   pub read_left : {own' : List ℕ} → own' ≡ left_by comes own → length own' ≡ length own

@@ -16,7 +16,7 @@ use refusals::number;
 use word_bytes::{take_words, write_words};
 use write_text::write_text;
 
-// 100 and how many bytes or words were given, or the refusal's number. No text has more bytes, and no question more words, than a u32 can tell.
+// 100 and how many bytes were written, or the refusal's number. No text has more bytes than a u32 can tell.
 fn told(given: Result<usize, Refusal>) -> u32
     requires { given_number given ≤ 100 + 65535 }
     ensures { result ≡ given_number given }
@@ -37,14 +37,18 @@ pub fn desk_write_text(question: &[u8], room: &mut [u8]) -> u32
     told(write_text(&words[..n], room))
 }
 
-// The words that were read, as bytes at the start of the room; of a refusal none.
-fn give(read: Result<usize, Refusal>, own: &[u16], room: &mut [u8])
-    requires { (given_words read ≤ length own.now) × (2 * length own.now ≤ length room.old) }
-    ensures { room.new ≡ sets room.old 0 (bytes_of (take (given_words read) own.now)) }
+// 100 and the words that were read, which are written to the room, or the refusal's number.
+fn give(read: Result<usize, Refusal>, own: &[u16], room: &mut [u8]) -> u32
+    requires { (given_words read ≤ desk.question) × (given_words read ≤ length own.now) × (2 * length own.now ≤ length room.old) }
+    ensures value { result ≡ given_number read }
+    ensures room_after { room.new ≡ sets room.old 0 (bytes_of (take (given_words read) own.now)) }
 {
     match read {
-        Ok(n) => write_words(&own[..n], room),
-        Err(_) => {}
+        Ok(n) => {
+            write_words(&own[..n], room);
+            100 + n as u32
+        }
+        Err(r) => u32::from(number(r)),
     }
 }
 
@@ -54,9 +58,7 @@ fn read(text: &[u8], own: &mut [u16], room: &mut [u8]) -> u32
     ensures value { result ≡ text_number (reads_text desk (length own.old) text.now) }
     ensures room_after { room.new ≡ words_left (reads_text desk (length own.old) text.now) room.old }
 {
-    let words = read_text(text, own);
-    give(words, own, room);
-    told(words)
+    give(read_text(text, own), own, room)
 }
 
 // Reads a text as a question: 100 and its length in words, or the refusal's number.

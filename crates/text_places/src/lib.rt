@@ -59,7 +59,7 @@ impl Whole {
 fn open_behind(deep: usize, b: u8) -> usize {
     match b {
         b'\n' => 0,
-        b'(' => deep.saturating_add(1),
+        b'(' => deep.saturating_add(1).min(WHOLE),
         b')' => deep.saturating_sub(1),
         _ => deep,
     }
@@ -136,7 +136,7 @@ fn wrong(at: Option<u8>) -> &'static str {
 pub fn not_text(err: Stderr, text: &[u8]) {
     let at = first_wrong(text);
     let first = at.saturating_sub(AROUND);
-    let last = at.saturating_add(AROUND);
+    let last = if at < WHOLE { at + AROUND } else { at };
     point_at(err, text, at, first, last, b'\n');
     let wrong = wrong(text.get(at).copied());
     let _ = println!(err; "{wrong}");

@@ -1,7 +1,7 @@
 -- The call, step by step: what each return answers and leaves.
 use Prim.Native.Nat.{ℕ, ◌<◌, ◌≤◌}
 use mathlib.Core.Path.{◌≡◌, refl, sym, ap, subst, ◌∙◌}
-use mathlib.Core.Logic.{◌↔◌, inl, inr}
+use mathlib.Core.Logic.{inl, inr}
 use mathlib.Core.Bool.{Bool, true, false}
 use mathlib.Core.List.{List}
 use native.Mathlib.Omega.{arith}
@@ -33,10 +33,6 @@ use Rattle.trying.proofs.Told.{told-outcome}
 abbrev decided : Question → Filling → Bool → Trying
 decided q ρ b = elim b [ true ↦ given-up LongLiteral | false ↦ decides q ρ ]
 
-answers : {P : Type 0} (met : Bool) → (met ≡ true) ↔ P → Answers P (Ok met)
-answers true (to, from) = inl (refl, to refl)
-answers false (to, from) = inr (refl, λ z. let e : false ≡ true = from z in cc)
-
 module _ (h : Header) (fs ws : List ℕ) where
   counts-are : (q : Question) → read_question desk ws ≡ asks q → h ≡ header_of ws → q.counts ≡ counts_in h
   counts-are q r e = (passed desk ws q r).counts ∙ ap counts_in (sym e)
@@ -55,8 +51,11 @@ module _ (h : Header) (fs ws : List ℕ) where
             (subst (λ n. Answers (MeetsOne (signature n) ρ q.alternatives) t) (sym (counts-are q x.read x.head)) (a q ρ x), c ∙ keeps-cleared m.keeps);
       }
 
-      pub given-met : TriedGiven h fs ws (Ok met) w w'
-      given-met = says (λ q ρ x. answers met (m.each q ρ x))
+      pub given_yes : met ≡ true → TriedGiven h fs ws (Ok true) w w'
+      given_yes y = says (λ q ρ x. let (to, from) = m.each q ρ x in inl (refl, to y))
+
+      pub given-no : met ≡ false → TriedGiven h fs ws (Ok false) w w'
+      given-no y = says (λ q ρ x. let (to, from) = m.each q ρ x in inr (refl, λ z. absurd (let o : ◌≡◌ {A = ℕ} 0 1 = cc (from z) in omega arith)))
 
   -- ---- the question is not refused
 

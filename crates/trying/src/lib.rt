@@ -207,7 +207,10 @@ fn try_given<'a>(
     }
     let met = meets_one(h, filling, question, work);
     clear(work);
-    Ok(met)
+    if met {
+        return Ok(true);
+    }
+    Ok(false)
 }
 
 // For a question that is not refused: 11 and 12 come next.

@@ -1,6 +1,6 @@
 // The two tests of a clash: the later one is found by asking of each, whether it clashes with the first.
 use crate::places::{part, past};
-use crate::rooms::{BODY, head, put};
+use crate::rooms::{BODY, carry, head};
 use language::limits::{QUESTION, ROOM};
 use named_steps::step_named;
 use rules::places::AT_CLASH;
@@ -28,8 +28,8 @@ fn pair_clashes(question: &[u16], k: &[u16], first: usize, second: usize) -> boo
     let middle = BODY.saturating_add(one.len());
     let end = middle.saturating_add(other.len());
     head(question, end - BODY, &mut two);
-    put(one, &mut two, BODY);
-    put(other, &mut two, middle);
+    carry(one, 0, one.len(), &mut two, BODY);
+    carry(other, 0, other.len(), &mut two, middle);
     clashes(&two, end)
 }
 

@@ -11,9 +11,9 @@ mod shown;
 use language::limits::{QUESTION, ROOM};
 use named_steps::step_named;
 use notation::Writer;
-use places::{literal_from, part};
+use places::literal_from;
 use rooms::{
-    BODY, Frame, HEAD, WAITING, body, head, is_line, is_settled, lay_out, narrow, place, put,
+    BODY, Frame, HEAD, WAITING, body, carry, head, is_line, is_settled, lay_out, narrow, place,
     read_frame, wait,
 };
 use shown::{FRAME, Left, case_number, count, heading, told, words_of};
@@ -176,7 +176,7 @@ impl Walker<'_> {
         }
         let mut one = [0u16; QUESTION];
         head(self.question, n, &mut one);
-        put(part(waiting, p.at.saturating_add(HEAD), n), &mut one, BODY);
+        carry(waiting, p.at.saturating_add(HEAD), n, &mut one, BODY);
         self.go_on(&one[0..BODY + n], f, waiting, p)
     }
 

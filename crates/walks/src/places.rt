@@ -1,5 +1,5 @@
 // Places among words, whatever stands there.
-use words::next_literal;
+use words::{next_literal, word};
 
 // The place of the literal behind the one at a place.
 pub(crate) fn past(k: &[u16], at: usize) -> usize {
@@ -26,4 +26,9 @@ pub(crate) fn literals_of(k: &[u16]) -> usize {
 // So many words from a place on, or none where there are fewer.
 pub(crate) fn part(k: &[u16], from: usize, n: usize) -> &[u16] {
     k.get(from..from.saturating_add(n)).unwrap_or(&[])
+}
+
+// Whether some words stand from a place on, where 0 stands behind the last.
+pub(crate) fn stand(k: &[u16], from: usize, words: &[u16]) -> bool {
+    (0..words.len()).all(|i| word(k, from.saturating_add(i)) == words[i])
 }

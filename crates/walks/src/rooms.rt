@@ -1,7 +1,7 @@
 // Words put into rooms: the conjunctions that wait, each behind a frame, and the question of one of them alone.
 ghost use Rattle.std.specs.Prelude.{◌<◌};
 
-use crate::places::part;
+use crate::places::stand;
 use answers::LINE_HEAD;
 use words::word;
 
@@ -44,21 +44,20 @@ pub(crate) fn place(k: &[u16], i: usize) -> usize
     usize::from(word(k, i))
 }
 
-// Words put at a place, as far as there is room.
-pub(crate) fn put(words: &[u16], out: &mut [u16], at: usize) {
-    for (room, w) in out.iter_mut().skip(at).zip(words) {
-        *room = *w;
+// So many words from one place to another, as far as there is room; behind the last that there is they are 0.
+pub(crate) fn carry(k: &[u16], from: usize, n: usize, out: &mut [u16], to: usize) {
+    for i in 0..n {
+        if let Some(room) = out.get_mut(to.saturating_add(i)) {
+            *room = word(k, from.saturating_add(i));
+        }
     }
 }
 
 // The words from a place on, as many as the frame says, behind it.
 pub(crate) fn wait(k: &[u16], from: usize, f: Frame, out: &mut [u16], at: usize) {
-    put(&[f.words, f.number, f.depth, f.case, f.step], out, at);
-    put(
-        part(k, from, usize::from(f.words)),
-        out,
-        at.saturating_add(HEAD),
-    );
+    let head = [f.words, f.number, f.depth, f.case, f.step];
+    carry(&head, 0, HEAD, out, at);
+    carry(k, from, usize::from(f.words), out, at.saturating_add(HEAD));
 }
 
 pub(crate) fn read_frame(k: &[u16], at: usize) -> Frame {
@@ -104,7 +103,7 @@ pub(crate) fn is_line(answer: &[u16], line: usize, k: &[u16]) -> bool {
     }
     let start = place(answer, line.saturating_add(2)) + LINE_HEAD;
     let end = place(answer, line.saturating_add(3));
-    answer.get(start..end) == Some(k)
+    end.saturating_sub(start) == k.len() && stand(answer, start, k)
 }
 
 // Whether that line is settled.
@@ -114,6 +113,6 @@ pub(crate) fn is_settled(answer: &[u16], line: usize) -> bool {
 
 // The header of a question of one conjunction of so many words, which declares what another one does.
 pub(crate) fn head(question: &[u16], n: usize, out: &mut [u16]) {
-    put(part(question, 0, 4), out, 0);
-    put(&[1, 7, narrow(BODY.saturating_add(n))], out, 4);
+    carry(question, 0, 4, out, 0);
+    carry(&[1, 7, narrow(BODY.saturating_add(n))], 0, 3, out, 4);
 }

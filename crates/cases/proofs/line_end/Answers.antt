@@ -1,5 +1,5 @@
 use native.Mathlib.Omega.{arith}
-use Rattle.cases.proofs.Laws.{starts, passes, ends-here, ends_last}
+use Rattle.cases.proofs.Laws.{starts, passes, ends-here, ends-as}
 use Rattle.cases.proofs.line_end.Goals as goal
 
 pub loop-i-init : goal.loop-i-init
@@ -12,4 +12,4 @@ pub loop-i-preserved : goal.loop-i-preserved
 loop-i-preserved c = passes _ _ c.loop-i.invariant (omega arith) c.if-text-i-eq10.false
 
 pub returns : goal.returns
-returns c = ends_last _ _ c.loop-i.invariant (omega arith)
+returns c = ends-as _ _ c.loop-i.invariant (omega arith) (omega arith)

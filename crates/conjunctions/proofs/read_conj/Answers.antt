@@ -2,7 +2,7 @@ use mathlib.Core.Path.{refl, sym, ◌∙◌}
 use native.Mathlib.Omega.{arith}
 use Rattle.language.specs.Limits.{desk}
 use Rattle.language.specs.Reading.{read_conj}
-use Rattle.trees.proofs.Placing.{goes_on, halts, handed}
+use Rattle.trees.proofs.Placing.{goes_on, halts}
 use Rattle.trees.proofs.Parts.{literal-moves, conj-literal, conj-end}
 use Rattle.conjunctions.proofs.read_conj.Goals as goal
 
@@ -10,13 +10,13 @@ pub loop-i-init : goal.loop-i-init
 loop-i-init c = refl
 
 pub loop-i-smaller : goal.loop-i-smaller
-loop-i-smaller c = let m = literal-moves _ _ _ (sym c.read_literal.ensures ∙ c.in_ok-i.was) in omega arith
+loop-i-smaller c = let m = literal-moves _ _ _ (sym c.read_literal.ensures ∙ c.in-Ok.is) in omega arith
 
 pub loop-i-preserved : goal.loop-i-preserved
-loop-i-preserved c = goes_on (read_conj desk) _ _ _ (sym c.read_literal.ensures ∙ c.in_ok-i.was) ∙ conj-literal _ _ (omega arith) ∙ c.loop-i.invariant
+loop-i-preserved c = goes_on (read_conj desk) _ _ _ (sym c.read_literal.ensures ∙ c.in-Ok.is) ∙ conj-literal _ _ (omega arith) ∙ c.loop-i.invariant
 
-pub returns-in_err-i : goal.returns-in_err-i
-returns-in_err-i c = handed _ _ c.from_residual.ensures.1 ∙ halts (read_conj desk) _ _ _ (sym c.read_literal.ensures ∙ c.in_err-i.was) ∙ conj-literal _ _ (omega arith) ∙ c.loop-i.invariant
+pub returns-in-Err : goal.returns-in-Err
+returns-in-Err c = halts (read_conj desk) _ _ _ (sym c.read_literal.ensures ∙ c.in-Err.is) ∙ conj-literal _ _ (omega arith) ∙ c.loop-i.invariant
 
 pub returns : goal.returns
 returns c = conj-end _ _ (omega arith) ∙ c.loop-i.invariant

@@ -1,28 +1,19 @@
-use Prim.Native.Nat.{ℕ, ◌+◌, ◌-◌}
-use mathlib.Core.Path.{◌≡◌, subst}
-use native.Mathlib.Decide.{dec_lt}
+use Prim.Native.Nat.{◌-◌}
 use native.Mathlib.Omega.{arith}
-use lib.ListN.{length}
-use Rattle.views.proofs.LiteralWalks.{Walked}
-use Rattle.literals.proofs.Walks.{Left, left-starts, left-none, left_less, left-ends}
+use Rattle.literals.proofs.Walks.{left-starts, left-none, left_less, left-ends}
 use Rattle.literals.proofs.literal_place.Goals as goal
 
-pub loop-init : goal.loop-init
-loop-init c = λ x f e. subst (λ (m : ℕ). Walked (Left c.args.number x m 0) x 0) (let z : c.args.number ≡ c.args.number - 0 = omega arith in z) (left-starts c.args.number x)
+pub loop-i-init : goal.loop-i-init
+loop-i-init c = λ x f e. left-starts _ x
 
-pub returns-then-k-i : goal.returns-then-k-i
-returns-then-k-i c = λ x f e. left-ends _ _ x f e _ _ (c.loop.invariant x f e) c.if-k-i.true
+pub returns-then-left-eq0 : goal.returns-then-left-eq0
+returns-then-left-eq0 c = λ x f e. left-none _ _ x f e _ _ (c.loop-i.invariant x f e) c.loop-i-test.true c.if-left-eq0.true
 
-pub loop-preserved : goal.loop-preserved
-loop-preserved c = λ x f e.
-    subst (λ (m : ℕ). Walked (Left c.args.number x m c.next_literal-i.result) x c.next_literal-i.result)
-    (let z : c.args.number - c.loop.counter - 1 ≡ c.args.number - (c.loop.counter + 1) = omega arith in z)
-    (left_less _ _ x f e _ _ (c.loop.invariant x f e) c.if-k-i.false (λ z. omega arith) _ c.next_literal-i.ensures)
+pub loop-i-smaller : goal.loop-i-smaller
+loop-i-smaller c = let z = c.next_literal-i.ensures in omega arith
+
+pub loop-i-preserved : goal.loop-i-preserved
+loop-i-preserved c = λ x f e. left_less _ _ x f e _ _ (c.loop-i.invariant x f e) c.loop-i-test.true c.if-left-eq0.false _ c.next_literal-i.ensures
 
 pub returns : goal.returns
-returns c = λ x f e.
-    let w = c.loop.invariant x f e in
-    elim (dec_lt c.loop.i (length c.args.k.now)) [
-      | yes p ↦ left-none _ _ x f e _ _ w p (omega arith)
-      | no p ↦ left-ends _ _ x f e _ _ w (omega arith)
-    ]
+returns c = λ x f e. left-ends _ _ x f e _ _ (c.loop-i.invariant x f e) c.loop-i-test.false

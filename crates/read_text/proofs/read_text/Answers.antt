@@ -4,7 +4,6 @@ use lib.ListN.{length-replicate}
 use Prim.Native.Nat.{ℕ, ◌+◌, ◌*◌}
 use Rattle.language.specs.Limits.{desk}
 use Rattle.collecting.proofs.Zeros.{empty-shelves}
-use Rattle.read_text.proofs.Leaves.{copied}
 use Rattle.read_text.proofs.Whole.{done-tokens, lined, done-lines, done-many, done-long, done-room, done-given}
 use native.Mathlib.Omega.{arith}
 use Rattle.read_text.proofs.read_text.Goals as goal
@@ -49,10 +48,10 @@ pub write_header-requires : goal.write_header-requires
 write_header-requires c = (omega (arith, c.collect.ensures.len, length-replicate {A = ℕ} (4 * (desk.each + 2)) 0), sym c.is_many.ensures ∙ c.if-is_many.false)
 
 pub returns-clause-value : goal.returns-clause-value
-returns-clause-value c = (done-given _ _ _ _ _ c.survey.ensures c.in-Some.is refl c.collect.ensures c.first_word.ensures c.write_lines.ensures c.in-Some-write_lines.is c.is_many.ensures c.if-is_many.false (length-replicate {A = ℕ} (desk.question + 1) 0) c.if-n-gt-QUESTION.false c.if-room-n.false c.write_header.ensures (copied _ _ (omega arith) c.if-room-n.false c.copy_from_slice.ensures.after)).0
+returns-clause-value c = (done-given _ _ _ _ _ c.survey.ensures c.in-Some.is refl c.collect.ensures c.first_word.ensures c.write_lines.ensures c.in-Some-write_lines.is c.is_many.ensures c.if-is_many.false (length-replicate {A = ℕ} (desk.question + 1) 0) c.if-n-gt-QUESTION.false c.if-room-n.false c.write_header.ensures c.copy.ensures).0
 
 pub returns-clause-room_after : goal.returns-clause-room_after
-returns-clause-room_after c = (done-given _ _ _ _ _ c.survey.ensures c.in-Some.is refl c.collect.ensures c.first_word.ensures c.write_lines.ensures c.in-Some-write_lines.is c.is_many.ensures c.if-is_many.false (length-replicate {A = ℕ} (desk.question + 1) 0) c.if-n-gt-QUESTION.false c.if-room-n.false c.write_header.ensures (copied _ _ (omega arith) c.if-room-n.false c.copy_from_slice.ensures.after)).1
+returns-clause-room_after c = (done-given _ _ _ _ _ c.survey.ensures c.in-Some.is refl c.collect.ensures c.first_word.ensures c.write_lines.ensures c.in-Some-write_lines.is c.is_many.ensures c.if-is_many.false (length-replicate {A = ℕ} (desk.question + 1) 0) c.if-n-gt-QUESTION.false c.if-room-n.false c.write_header.ensures c.copy.ensures).1
 
 pub collect-requires : goal.collect-requires
 collect-requires c = empty-shelves refl
